@@ -1,0 +1,29 @@
+-- Cells of boxes, as facts and as tests.
+use Rattle.std.proofs.Common.{arith, rules, ◌≡◌, ◌<◌, ◌≤◌, ◌+◌, ℕ, Bool, true, false, ◌&&◌, refl}
+use Rattle.std.proofs.lemmas.Bool.{and_parts, and_from, leb-true, ltb-true, le-leb, lt-ltb}
+use Rattle.rectangle_pack.specs.Boxes.{Cuboid, Cell, IsCellOf, is_cell_of, AreApart, is_within}
+
+within-true : (first long place : ℕ) → is_within first long place ≡ true → (first ≤ place) × (place < first + long)
+within-true first long place h = let p = and_parts _ _ h in (leb-true _ _ p.0, ltb-true _ _ p.1)
+
+within-from : (first long place : ℕ) → first ≤ place → place < first + long → is_within first long place ≡ true
+within-from first long place p q = and_from _ _ (le-leb _ _ p) (lt-ltb _ _ q)
+
+-- the test says what the fact says
+pub is_cell_of-true : (c : Cell) (b : Cuboid) → is_cell_of c b ≡ true → IsCellOf c b
+unfolding is_cell_of
+is_cell_of-true c b h =
+    let p = and_parts _ _ h in
+    let q = and_parts _ _ p.0 in
+    let x = within-true b.x b.whd.width c.i q.0 in
+    let y = within-true b.y b.whd.height c.j q.1 in
+    let z = within-true b.z b.whd.depth c.k p.1 in
+    record { from_x = x.0; below_x = x.1; from_y = y.0; below_y = y.1; from_z = z.0; below_z = z.1 }
+
+pub is_cell_of-from : (c : Cell) (b : Cuboid) → IsCellOf c b → is_cell_of c b ≡ true
+unfolding is_cell_of
+is_cell_of-from c b h =
+    and_from _ _ (and_from _ _ (within-from b.x b.whd.width c.i h.from_x h.below_x) (within-from b.y b.whd.height c.j h.from_y h.below_y)) (within-from b.z b.whd.depth c.k h.from_z h.below_z)
+
+pub AreApart-sym : (a b : Cuboid) → AreApart a b → AreApart b a
+AreApart-sym a b h = record { none = λ c p q. h.none c q p }

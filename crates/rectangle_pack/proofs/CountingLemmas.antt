@@ -1,0 +1,108 @@
+-- Counts of an element's passes, and what counts of cells say of boxes.
+use Rattle.std.proofs.Common.{arith, ◌≡◌, ◌↔◌, ℕ, ◌+◌, ◌<◌, ◌≤◌, Bool, true, false, List, [], ◌∷◌, ◌++◌, length, cond, refl, IsTrue, ◌⊎◌, inl, inr, get_or}
+use Rattle.std.specs.List.{All, Any, AllPairs, count_by, list_any}
+use Rattle.std.proofs.lemmas.List.Elements.{All-nil, All-cons}
+use Rattle.std.proofs.lemmas.List.Kept.{AllPairs-cons}
+use Rattle.std.proofs.lemmas.List.Sums.{sum_by-append, count_by-le-length}
+use Rattle.std.proofs.lemmas.List.Folds.{Any-from_list_any, list_any-from_Any}
+use Rattle.rectangle_pack.specs.Boxes.{Cuboid, Cell, IsCellOf, AreApart, is_cell_of}
+use Rattle.rectangle_pack.specs.Counting.{times_filled, Tiles, AreAllApart, Cover}
+use Rattle.rectangle_pack.proofs.BoxesLemmas.{is_cell_of-true, is_cell_of-from}
+
+module _ {X : Type 0} (p : X → Bool) where
+  pub count-cons : (x : X) (xs : List X) → count_by p (x ∷ xs) ≡ cond (p x) 1 0 + count_by p xs
+  count-cons x xs = omega (arith, sum_by-append (λ x. cond (p x) 1 0) (x ∷ []) xs)
+
+  pub count-append : (xs ys : List X) → count_by p (xs ++ ys) ≡ count_by p xs + count_by p ys
+  count-append xs ys = sum_by-append (λ x. cond (p x) 1 0) xs ys
+
+  pub count_yes : (x : X) (xs : List X) → p x ≡ true → count_by p (x ∷ xs) ≡ 1 + count_by p xs
+  count_yes x xs t = let k : cond {A = ℕ} (p x) 1 0 ≡ 1 = rw t refl in omega (arith, k, count-cons x xs)
+
+  pub count_no : (x : X) (xs : List X) → p x ≡ false → count_by p (x ∷ xs) ≡ count_by p xs
+  count_no x xs t = let k : cond {A = ℕ} (p x) 1 0 ≡ 0 = rw t refl in omega (arith, k, count-cons x xs)
+
+  -- none passes
+  count_none : (xs : List X) → count_by p xs ≤ 0 → All (λ x. ¬ (IsTrue (p x))) xs
+  count_none [] h = All-nil (λ x. ¬ (IsTrue (p x)))
+  count_none (x ∷ xs) h = All-cons (λ x. ¬ (IsTrue (p x))) x xs (λ t. absurd (omega (arith, count_yes x xs t))) (count_none xs (omega (arith, count-cons x xs)))
+
+  -- at most one passes
+  count_once : (xs : List X) → count_by p xs ≤ 1 → AllPairs (λ a b. ¬ (IsTrue (p a) × IsTrue (p b))) xs
+  count_once [] h = λ i j d lt below both. absurd (omega arith)
+  count_once (x ∷ xs) h = AllPairs-cons (λ a b. ¬ (IsTrue (p a) × IsTrue (p b))) x xs
+      (λ k d below both. count_none xs (omega (arith, count_yes x xs both.0)) k d below both.1)
+      (count_once xs (omega (arith, count-cons x xs)))
+
+  -- the count beside the test that some element passes
+  abbrev Counts : List X → Type 0
+  Counts xs = ((0 < count_by p xs) × (list_any p xs ≡ true)) ⊎ ((count_by p xs ≡ 0) × (list_any p xs ≡ false))
+
+  counted_step : (x : X) (xs : List X) (b : Bool) → p x ≡ b → Counts xs → Counts (x ∷ xs)
+  counted_step x xs true e c = inl (omega (arith, count_yes x xs e), rw e refl)
+  counted_step x xs false e (inl c) = inl (omega (arith, count_no x xs e), rw e c.1)
+  counted_step x xs false e (inr c) = inr (omega (arith, count_no x xs e), rw e c.1)
+
+  counted : (xs : List X) → Counts xs
+  counted [] = inr (refl, refl)
+  counted (x ∷ xs) = counted_step x xs (p x) refl (counted xs)
+
+  some_from_count : (xs : List X) → 0 < count_by p xs → Any (λ x. IsTrue (p x)) xs
+  some_from_count xs h = elim (counted xs) [ inl c ↦ Any-from_list_any p xs c.1 | inr c ↦ absurd (omega arith) ]
+
+  count_from_some : (xs : List X) → Any (λ x. IsTrue (p x)) xs → 0 < count_by p xs
+  count_from_some xs h = let e = list_any-from_Any p xs h in elim (counted xs) [ inl c ↦ c.0 | inr c ↦ cc ]
+
+-- the pieces of a count of cells
+pub filled-append : (c : Cell) (xs ys : List Cuboid) → times_filled c (xs ++ ys) ≡ times_filled c xs + times_filled c ys
+unfolding times_filled
+filled-append c xs ys = count-append (is_cell_of c) xs ys
+
+pub filled-cons : (c : Cell) (b : Cuboid) (bs : List Cuboid) → times_filled c (b ∷ bs) ≡ times_filled c (b ∷ []) + times_filled c bs
+filled-cons c b bs = filled-append c (b ∷ []) bs
+
+pub filled-nil : (c : Cell) → times_filled c [] ≡ 0
+unfolding times_filled
+filled-nil c = refl
+
+pub filled_yes : (c : Cell) (b : Cuboid) (bs : List Cuboid) → IsCellOf c b → times_filled c (b ∷ bs) ≡ 1 + times_filled c bs
+unfolding times_filled
+filled_yes c b bs h = count_yes (is_cell_of c) b bs (is_cell_of-from c b h)
+
+-- one box has a cell at most once
+pub filled_one : (c : Cell) (b : Cuboid) → times_filled c (b ∷ []) ≤ 1
+unfolding times_filled
+filled_one c b = count_by-le-length (is_cell_of c) (b ∷ [])
+
+-- a box that has a counted cell has it
+pub cell_from_filled : (c : Cell) (b : Cuboid) → 0 < times_filled c (b ∷ []) → IsCellOf c b
+unfolding times_filled
+cell_from_filled c b h = by (is_cell_of c b) refl
+  where
+    by : (t : Bool) → is_cell_of c b ≡ t → IsCellOf c b
+    by true e = is_cell_of-true c b e
+    by false e = absurd (omega (arith, count_no (is_cell_of c) b [] e))
+
+-- where no cell is in two of the boxes, no two of them share one
+pub apart_from_counts : (boxes : List Cuboid) → ((c : Cell) → times_filled c boxes ≤ 1) → AreAllApart boxes
+unfolding times_filled
+apart_from_counts boxes h = λ i j d lt below. record { none = λ c a b. count_once (is_cell_of c) boxes (h c) i j d lt below (is_cell_of-from c _ a, is_cell_of-from c _ b) }
+
+pub tiles_apart : (boxes : List Cuboid) (whole : Cuboid) → Tiles boxes whole → AreAllApart boxes
+tiles_apart boxes whole t = apart_from_counts boxes (λ c. omega (arith, t.same c, filled_one c whole))
+
+pub some_from_filled : (c : Cell) (boxes : List Cuboid) → 0 < times_filled c boxes → Any (IsCellOf c) boxes
+unfolding times_filled
+some_from_filled c boxes h =
+    let some = some_from_count (is_cell_of c) boxes h in
+    (some.0, some.1, some.2, some.3, is_cell_of-true c _ some.4)
+
+pub filled_from_some : (c : Cell) (boxes : List Cuboid) → Any (IsCellOf c) boxes → 0 < times_filled c boxes
+unfolding times_filled
+filled_from_some c boxes some = count_from_some (is_cell_of c) boxes (some.0, some.1, some.2, some.3, is_cell_of-from c _ some.4)
+
+pub tiles_cover : (boxes : List Cuboid) (whole : Cuboid) → Tiles boxes whole → Cover boxes whole
+tiles_cover boxes whole t = λ c. (
+  (λ h. some_from_filled c boxes (omega (arith, filled_yes c whole [] h, filled-nil c, t.same c))),
+  (λ a. cell_from_filled c whole (omega (arith, t.same c, filled_from_some c boxes a))),
+)

@@ -1,0 +1,147 @@
+-- What the pieces of a cut have in common with the section.
+use Rattle.std.proofs.Common.{◌≡◌, ℕ, ◌+◌, ◌-◌, ◌<◌, ◌≤◌, Bool, true, false, ◌&&◌, cond, nat_le, nat_lt, List, [], ◌∷◌, ◌++◌, refl, sym, ◌∙◌, ap, arith, length, subst, length-append, take, get_or}
+use Rattle.std.specs.Bool.{◌==◌, if◌then◌else◌}
+use Rattle.std.specs.Prelude.{All, map}
+use Rattle.std.specs.declared.cmp.Ordering.{Ordering}
+use Rattle.std.proofs.lemmas.Bool.{and_parts, eqb-true}
+use Rattle.std.proofs.lemmas.List.Elements.{All-nil, All-cons}
+use Rattle.std.proofs.Math.Seq.{get_or-append_seam}
+use Rattle.std.proofs.lemmas.Bool.Decides.{nat_tests}
+use Rattle.rectangle_pack.specs.Boxes.{Axis, AxisX, AxisY, AxisZ, Size, Cuboid, Cell, Holds, extent, start, is_within, is_cell_of}
+use Rattle.rectangle_pack.specs.Cuts.{is_same, is_before, placed, piece_start, piece_extent, piece, pieces, orders, cuts}
+use Rattle.rectangle_pack.specs.Choice.{MayChoose}
+use Rattle.rectangle_pack.specs.Counting.{times_filled, Tiles}
+
+-- where a place lies on one axis: in the box, in the rest of the section, or outside
+pub data Third : Type 0 where
+  Low High Out : Third
+
+abbrev pub low : Third → Bool
+low Low = true
+low High = false
+low Out = false
+
+abbrev pub high : Third → Bool
+high Low = false
+high High = true
+high Out = false
+
+abbrev pub in_section : Third → Bool
+in_section Low = true
+in_section High = true
+in_section Out = false
+
+record Lies (first long size place : ℕ) : Type 0 where
+  pub third : Third
+  pub in_low : is_within first size place ≡ low third
+  pub in_high : is_within (first + size) (long - size) place ≡ high third
+  pub in_all : is_within first long place ≡ in_section third
+
+lies_by : (first long size place : ℕ) (fits : size ≤ long) (p q : Bool) → is_within first size place ≡ p → is_within (first + size) (long - size) place ≡ q → Lies first long size place
+lies_by first long size place fits true true e f =
+    let never : ⊥ = grind (arith, nat_tests) in absurd never
+lies_by first long size place fits true false e f = record { third = Low; in_low = e; in_high = f; in_all = grind (arith, nat_tests) }
+lies_by first long size place fits false true e f = record { third = High; in_low = e; in_high = f; in_all = grind (arith, nat_tests) }
+lies_by first long size place fits false false e f = record { third = Out; in_low = e; in_high = f; in_all = grind (arith, nat_tests) }
+
+lies : (first long size place : ℕ) → size ≤ long → Lies first long size place
+lies first long size place fits = lies_by first long size place fits _ _ refl refl
+
+-- whether the piece of the axis a has such a place on the axis b
+abbrev pub has_third : List Axis → Axis → Axis → Third → Bool
+has_third order a b t = if is_same a b then high t else if is_before order b a then low t else in_section t
+
+piece_has : (s : Cuboid) (m : Size) (order : List Axis) (a b : Axis) (place : ℕ) (l : Lies (start b s) (extent b s.whd) (extent b m) place)
+    → is_within (piece_start s m a b) (piece_extent s m order a b) place ≡ has_third order a b l.third
+unfolding piece_start piece_extent
+piece_has s m order a b place l =
+    elim (is_same a b) as (λ q. is_within (if q then start b s + extent b m else start b s) (if q then extent b s.whd - extent b m else if is_before order b a then extent b m else extent b s.whd) place ≡ if q then high l.third else if is_before order b a then low l.third else in_section l.third) [
+      | true ↦ l.in_high
+      | false ↦ elim (is_before order b a) as (λ q. is_within (start b s) (if q then extent b m else extent b s.whd) place ≡ if q then low l.third else in_section l.third) [
+          | true ↦ l.in_low
+          | false ↦ l.in_all
+        ]
+    ]
+
+-- whether the piece of the axis a has a cell that lies so on the three axes
+abbrev pub has_thirds : List Axis → Axis → Third → Third → Third → Bool
+has_thirds order a x y z = has_third order a AxisX x && has_third order a AxisY y && has_third order a AxisZ z
+
+-- whether the box and the three pieces have such a cell as often as the section
+abbrev pub fills_once : List Axis → Third → Third → Third → Bool
+fills_once order x y z =
+    (0 + cond (low x && low y && low z) 1 0 + cond (has_thirds order AxisX x y z) 1 0 + cond (has_thirds order AxisY x y z) 1 0 + cond (has_thirds order AxisZ x y z) 1 0)
+    == (0 + cond (in_section x && in_section y && in_section z) 1 0)
+
+abbrev pub FillsOnce : List Axis → Type 0
+FillsOnce order = (x y z : Third) → fills_once order x y z ≡ true
+
+abbrev at_each : (Third → Bool) → Bool
+at_each p = p Low && p High && p Out
+
+-- what is tested at each third holds at each
+at_third : (p : Third → Bool) → at_each p ≡ true → (t : Third) → p t ≡ true
+at_third p h Low = (and_parts _ _ (and_parts _ _ h).0).0
+at_third p h High = (and_parts _ _ (and_parts _ _ h).0).1
+at_third p h Out = (and_parts _ _ h).1
+
+abbrev test_order : List Axis → Bool
+test_order order = at_each (λ x. at_each (λ y. at_each (λ z. fills_once order x y z)))
+
+once_in : (order : List Axis) → test_order order ≡ true → FillsOnce order
+once_in order h x y z = at_third (λ z. fills_once order x y z) (at_third (λ y. at_each (λ z. fills_once order x y z)) (at_third (λ x. at_each (λ y. at_each (λ z. fills_once order x y z))) h x) y) z
+
+-- the cut in such an order fills the section
+fills_tiles : (order : List Axis) → FillsOnce order → (s : Cuboid) (m : Size) → Holds s m → Tiles (placed s m ∷ pieces s m order) s
+unfolding times_filled is_cell_of pieces piece start extent
+fills_tiles order once s m h = record {
+  same = λ c.
+      let x = lies (start AxisX s) (extent AxisX s.whd) (extent AxisX m) c.i h.wide in
+      let y = lies (start AxisY s) (extent AxisY s.whd) (extent AxisY m) c.j h.high in
+      let z = lies (start AxisZ s) (extent AxisZ s.whd) (extent AxisZ m) c.k h.deep in
+      simp (
+        piece_has s m order AxisX AxisX c.i x, piece_has s m order AxisX AxisY c.j y, piece_has s m order AxisX AxisZ c.k z,
+        piece_has s m order AxisY AxisX c.i x, piece_has s m order AxisY AxisY c.j y, piece_has s m order AxisY AxisZ c.k z,
+        piece_has s m order AxisZ AxisX c.i x, piece_has s m order AxisZ AxisY c.j y, piece_has s m order AxisZ AxisZ c.k z,
+        x.in_low, x.in_all, y.in_low, y.in_all, z.in_low, z.in_all,
+      ) (eqb-true _ _ (once x.third y.third z.third));
+}
+
+abbrev test_orders : List (List Axis) → Bool
+test_orders [] = true
+test_orders (order ∷ others) = test_order order && test_orders others
+
+-- what each tested order has, each cut in one of them has
+all_cuts : (P : List Cuboid → Type 0) (s : Cuboid) (m : Size) → ((order : List Axis) → FillsOnce order → P (pieces s m order))
+    → (tested : List (List Axis)) → test_orders tested ≡ true → All P (map (pieces s m) tested)
+all_cuts P s m h [] all = All-nil P
+all_cuts P s m h (order ∷ others) all =
+    let both = and_parts _ _ all in
+    All-cons P (pieces s m order) (map (pieces s m) others) (h order (once_in order both.0)) (all_cuts P s m h others both.1)
+
+-- the six orders are tested
+all_six : (P : List Cuboid → Type 0) (s : Cuboid) (m : Size) → ((order : List Axis) → FillsOnce order → P (pieces s m order)) → All P (cuts s m)
+unfolding cuts
+all_six P s m h = all_cuts P s m h orders refl
+
+-- what holds of each element holds of one in the middle
+All-middle : {X : Type 0} (P : X → Type 0) (xs before after : List X) (x : X) → xs ≡ before ++ x ∷ after → All P xs → P x
+All-middle P xs before after x e h =
+    let at : P (get_or (before ++ x ∷ after) (length before) x) = subst (λ ys. (k : ℕ) → k < length ys → P (get_or ys k x)) e (λ k l. h k x l) (length before) (simp length-append (omega arith)) in
+    subst P (get_or-append_seam before x after x) at
+
+-- what each order has, the chosen cut has
+pub chosen_has : {R : List Cuboid → List Cuboid → Ordering → Type 0} (P : List Cuboid → Type 0) (s : Cuboid) (m : Size) (cut : List Cuboid) → ((order : List Axis) → FillsOnce order → P (pieces s m order)) → MayChoose R (cuts s m) cut → P cut
+chosen_has P s m cut h choice = All-middle P (cuts s m) choice.before choice.after cut choice.listed (all_six P s m h)
+
+pub chosen_tiles : {R : List Cuboid → List Cuboid → Ordering → Type 0} (s : Cuboid) (m : Size) (cut : List Cuboid) → Holds s m → MayChoose R (cuts s m) cut → Tiles (placed s m ∷ cut) s
+chosen_tiles s m cut h choice = chosen_has (λ p. Tiles (placed s m ∷ p) s) s m cut (λ order once. fills_tiles order once s m h) choice
+
+pub length-cuts : (s : Cuboid) (m : Size) → length (cuts s m) ≡ 6
+unfolding cuts
+length-cuts s m = refl
+
+-- six are all of them
+pub take_cuts : (s : Cuboid) (m : Size) → take 6 (cuts s m) ≡ cuts s m
+unfolding cuts
+take_cuts s m = refl

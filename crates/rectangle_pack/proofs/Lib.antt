@@ -1,0 +1,4 @@
+pub mod BoxesLemmas
+pub mod CountingLemmas
+pub mod CutsLemmas
+pub mod PassLemmas

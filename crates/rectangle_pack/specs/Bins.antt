@@ -1,0 +1,27 @@
+-- Bins: a size and a list of free sections.
+use Rattle.std.specs.Prelude.{ℕ, List, All, AllPairs}
+use Rattle.rectangle_pack.specs.Boxes.{Size, Cuboid, IsInside, AreApart}
+
+-- a bin as callers see it
+pub record Bin : Type 0 where
+  pub size : Size
+  pub sections : List Cuboid
+
+-- a bin, and how many sections its list has room for
+pub record Held : Type 0 where
+  pub bin : Bin
+  pub room : ℕ
+
+-- each free section is inside the bin, and no two share a cell
+pub record IsSound (size : Size) (sections : List Cuboid) : Type 0 where
+  pub inside : All (IsInside size) sections
+  pub apart : AllPairs AreApart sections
+
+-- the box is inside the bin and shares no cell with a free section
+pub record IsAccepted (bin : Bin) (box : Cuboid) : Type 0 where
+  pub inside : IsInside bin.size box
+  pub apart : All (λ s. AreApart s box) bin.sections
+
+-- the one section of a new bin: all of it
+abbrev pub whole : Size → Cuboid
+whole size = record { x = 0; y = 0; z = 0; whd = size }

@@ -1,0 +1,52 @@
+-- Collections of boxes to place, and the groups that they are in.
+use Rattle.std.specs.Prelude.{◌≡◌, ℕ, ◌<◌, List, [], ◌∷◌, ◌++◌, length, map, All, IsSome, IsSomeAnd, count_by, unwrap_or}
+use Rattle.std.specs.declared.cmp.Ordering.{Ordering}
+use Rattle.std.specs.declared.cmp.Ordering.TheVariants.{Equal}
+use Rattle.std.specs.declared.vec.Vec.{Vec}
+use Rattle.std.specs.Map.{lookup, values_of}
+use Rattle.std.specs.Ordering.{is_eq}
+use Rattle.std.specs.BTreeMap.{is_at, insert_entry}
+use Rattle.rectangle_pack.specs.Boxes.{Size}
+use Rattle.rectangle_pack.specs.declared.grouped_rects_to_place.Group.{Group}
+use Rattle.rectangle_pack.specs.declared.grouped_rects_to_place.Group.TheVariants.{Ungrouped, Grouped}
+
+-- the sizes of ids, and the lists of groups, each in the order of its keys
+pub record Collection (Id G : Type 0) : Type 0 where
+  pub sizes : List (Id × Size)
+  pub groups : List (Group G Id × List Id)
+
+-- the entries of a map, with the items of each vector
+abbrev pub lists_of : {K X A : Type 0} → List (K × Vec X A) → List (K × List X)
+lists_of es = map (λ e. (e.0, e.1.items)) es
+
+-- each id of the list has a size
+abbrev pub HaveSizes : {Id : Type 0} → (Id → Id → Ordering) → List (Id × Size) → List Id → Type 0
+HaveSizes cmp sizes ids = All (λ id. IsSome (lookup (is_at (cmp id)) sizes)) ids
+
+-- each group has a member, and each of its members has a size
+abbrev pub MembersHaveSizes : {Id K : Type 0} → (Id → Id → Ordering) → List (Id × Size) → List (K × List Id) → Type 0
+MembersHaveSizes cmp sizes groups = All (λ ids. (0 < length ids) × HaveSizes cmp sizes ids) (values_of groups)
+
+module _ {Id G : Type 0} (cmp : Id → Id → Ordering) (group_cmp : Group G Id → Group G Id → Ordering) where
+  -- the size of the id is set, under a key that equals it, and the others stay
+  abbrev pub SetsSize : List (Id × Size) → List (Id × Size) → Id → Size → Type 0
+  SetsSize old new id size = (key : Id) × (cmp id key ≡ Equal) × (new ≡ insert_entry cmp old key size)
+
+  -- a push without groups: the size is set, and the id stands alone in the entry of its own
+  pub record PushesAlone (old new : Collection Id G) (id : Id) (size : Size) : Type 0 where
+    pub sizes : SetsSize old.sizes new.sizes id size
+    pub groups : (key : Id) × (member : Id) × (cmp id key ≡ Equal) × (cmp id member ≡ Equal) × (new.groups ≡ insert_entry group_cmp old.groups (Ungrouped key) (member ∷ []))
+
+  -- how often a group occurs in the given list
+  abbrev pub times_named : List G → Group G Id → ℕ
+  times_named named group = count_by (λ n. is_eq (group_cmp group (Grouped n))) named
+
+  -- a list is the one of before, followed by the id so often
+  abbrev pub Appends : List Id → Id → ℕ → List Id → Type 0
+  Appends before id times list = (tail : List Id) × (list ≡ before ++ tail) × (length tail ≡ times) × All (λ x. cmp id x ≡ Equal) tail
+
+  -- a push with a list of groups: the size is set, each named group's list is its old one, or the empty one, followed by the id as often as the group is named, and the rest stays
+  pub record PushesInto (old new : Collection Id G) (id : Id) (named : List G) (size : Size) : Type 0 where
+    pub sizes : SetsSize old.sizes new.sizes id size
+    pub named_groups : (group : Group G Id) → 0 < times_named named group → IsSomeAnd (lookup (is_at (group_cmp group)) new.groups) (Appends (unwrap_or (lookup (is_at (group_cmp group)) old.groups) []) id (times_named named group))
+    pub other_groups : (group : Group G Id) → times_named named group ≡ 0 → lookup (is_at (group_cmp group)) new.groups ≡ lookup (is_at (group_cmp group)) old.groups

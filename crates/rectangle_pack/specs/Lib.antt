@@ -1,0 +1,13 @@
+pub mod Boxes
+pub mod Cuts
+pub mod Choice
+pub mod SmallestBox
+pub mod Fitting
+pub mod Counting
+pub mod Steps
+pub mod Bins
+pub mod Groups
+pub mod Orders
+pub mod Placed
+pub mod Packing
+pub mod Texts

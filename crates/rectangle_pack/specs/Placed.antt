@@ -1,0 +1,32 @@
+-- What a packing placed.
+use Rattle.std.specs.Prelude.{◌≡◌, List, [], ◌∷◌, ◌++◌, map, All, MatchOption, false}
+use Rattle.std.specs.List.{AllZip}
+use Rattle.std.specs.declared.cmp.Ordering.{Ordering}
+use Rattle.std.specs.declared.cmp.Ordering.TheVariants.{Equal}
+use Rattle.std.specs.Map.{lookup}
+use Rattle.std.specs.BTreeMap.{is_at}
+use Rattle.std.specs.Ordering.{is_eq}
+use Rattle.rectangle_pack.specs.Boxes.{Cuboid}
+use Rattle.rectangle_pack.specs.declared.pack.Placement.{Placement}
+
+module _ {Id B : Type 0} (cmp : Id → Id → Ordering) (bin_cmp : B → B → Ordering) where
+  -- each id of a group at the location of its turn, all in this bin
+  pub record AreNamed (ids : List Id) (here : B) (locations : List Cuboid) (placements : List (Placement Id B)) : Type 0 where
+    pub named : AllZip (λ id p. cmp id p.id ≡ Equal) ids placements
+    pub together : All (λ p. bin_cmp here p.bin ≡ Equal) placements
+    pub at : map (λ p. p.location) placements ≡ locations
+
+  -- this bin and location are those of the last placement of the id
+  pub record IsLastOf (placements : List (Placement Id B)) (id : Id) (found : B × Cuboid) : Type 0 where
+    pub before : List (Placement Id B)
+    pub last : Placement Id B
+    pub after : List (Placement Id B)
+    pub splits : placements ≡ before ++ last ∷ after
+    pub same : cmp id last.id ≡ Equal
+    pub later : All (λ p. is_eq (cmp id p.id) ≡ false) after
+    pub bin : bin_cmp last.bin found.0 ≡ Equal
+    pub location : found.1 ≡ last.location
+
+  -- each id that was placed is found at its last placement, and no other id is found
+  pub record AreLastPlacements (placements : List (Placement Id B)) (found : List (Id × (B × Cuboid))) : Type 0 where
+    pub each : (id : Id) → MatchOption (lookup (is_at (cmp id)) found) (All (λ p. is_eq (cmp id p.id) ≡ false) placements) (IsLastOf placements id)

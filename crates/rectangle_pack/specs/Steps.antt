@@ -1,0 +1,55 @@
+-- One step of a list of sections, and one trial.
+use Rattle.std.specs.Prelude.{◌≡◌, ℕ, ◌+◌, List, [], ◌∷◌, ◌++◌, length, All, ◌⊎◌, nat_le, if◌then◌else◌, map, filter}
+use Rattle.std.specs.List.{AllZip, zip}
+use Rattle.std.specs.declared.cmp.Ordering.{Ordering}
+use Rattle.rectangle_pack.specs.Boxes.{Size, Cuboid, Holds, has_cells}
+use Rattle.rectangle_pack.specs.Cuts.{placed}
+use Rattle.rectangle_pack.specs.Choice.{IsAllowedCut}
+
+-- a rated box before the first whose rate is no greater
+abbrev pub put_in : ℕ × Cuboid → List (ℕ × Cuboid) → List (ℕ × Cuboid)
+put_in p [] = p ∷ []
+put_in p (q ∷ qs) = if nat_le q.0 p.0 then p ∷ q ∷ qs else q ∷ put_in p qs
+
+-- of any two the one with the greater rate first, and at equal rates the one listed first
+abbrev pub by_falling_rate : List (ℕ × Cuboid) → List (ℕ × Cuboid)
+by_falling_rate [] = []
+by_falling_rate (p ∷ ps) = put_in p (by_falling_rate ps)
+
+-- the pieces that a cut leaves, for one rate of each: by falling rate, without those that have no cells
+pub record AreLeft (MayRate : Size → ℕ → Type 0) (cut left : List Cuboid) : Type 0 where
+  pub rates : List ℕ
+  pub rated : AllZip (λ piece rate. MayRate piece.whd rate) cut rates
+  pub are : left ≡ filter has_cells (map (λ p. p.1) (by_falling_rate (zip rates cut)))
+
+module _ (MayRate : Size → ℕ → Type 0) (MayPrefer : List Size → List Size → Ordering → Type 0) where
+  -- a member goes to the corner of the last section that holds it; the section makes way for the pieces left of an allowed cut, at the end of the list;
+  -- each section from there on is tested once
+  pub record IsStep (sections : List Cuboid) (member : Size) (location : Cuboid) (next : List Cuboid) (tests : ℕ) : Type 0 where
+    pub before : List Cuboid
+    pub section : Cuboid
+    pub after : List Cuboid
+    pub splits : sections ≡ before ++ section ∷ after
+    pub held : Holds section member
+    pub newest : All (λ s. ¬ Holds s member) after
+    pub location_is : location ≡ placed section member
+    pub cut : List Cuboid
+    pub allowed : IsAllowedCut MayPrefer section member cut
+    pub left : List Cuboid
+    pub are_left : AreLeft MayRate cut left
+    pub next_is : next ≡ before ++ after ++ left
+    pub tests_are : tests ≡ 1 + length after
+
+  -- the trial is done: each member has its step, in order
+  abbrev pub IsDone : List Cuboid → List Size → List Cuboid → List Cuboid → ℕ → Type 0
+  IsDone sections [] locations last tests = (locations ≡ []) × (last ≡ sections) × (tests ≡ 0)
+  IsDone sections (m ∷ ms) [] last tests = ⊥
+  IsDone sections (m ∷ ms) (l ∷ ls) last tests =
+      (next : List Cuboid) × (one : ℕ) × (others : ℕ) × IsStep sections m l next one × IsDone next ms ls last others × (tests ≡ one + others)
+
+  -- the trial is stuck: no section of the list, as it stands then, holds the next member
+  abbrev pub IsStuck : List Cuboid → List Size → ℕ → Type 0
+  IsStuck sections [] tests = ⊥
+  IsStuck sections (m ∷ ms) tests =
+      (All (λ s. ¬ Holds s m) sections × (tests ≡ length sections))
+      ⊎ ((l : Cuboid) × (next : List Cuboid) × (one : ℕ) × (others : ℕ) × IsStep sections m l next one × IsStuck next ms others × (tests ≡ one + others))

@@ -1,0 +1,245 @@
+//! Free sections of a bin, and how a box is placed into one.
+ghost use Rattle.std.specs.Prelude.{◌≡◌, ◌∷◌, List, IfOk};
+ghost use Rattle.std.specs.Borrow.{Bor};
+ghost use Rattle.rectangle_pack.specs.Boxes.{Size, Holds, FitsU32};
+ghost use Rattle.rectangle_pack.specs.Cuts.{placed, cuts, sizes_of};
+ghost use Rattle.rectangle_pack.specs.Choice.{MayCompare, IsAllowedCut};
+ghost use Rattle.rectangle_pack.specs.SmallestBox.{Rates, AreRates, smallest, second_smallest, IsSmallestOrder};
+ghost use Rattle.rectangle_pack.specs.Fitting.{IsFitAnswer};
+ghost use Rattle.rectangle_pack.specs.Counting.{Tiles, AreAllApart, Cover};
+
+use crate::packed_location::PackedLocation;
+use crate::rect_to_insert::RectToInsert;
+use crate::width_height_depth::WidthHeightDepth;
+use std::cmp::Ordering;
+use std::error::Error;
+use std::fmt;
+use std::marker::Model;
+
+/// Compares the pieces of two cuts: `Greater` where those of the first are better.
+///
+/// The better cut is the one whose smallest piece is smaller, as the heuristic says; at a tie the one whose
+/// second smallest piece is smaller. The largest piece never decides.
+pub fn contains_smallest_box<H>(
+    container1: [WidthHeightDepth; 3],
+    container2: [WidthHeightDepth; 3],
+    heuristic: &H,
+) -> Ordering
+where
+    H: Fn(WidthHeightDepth) -> u128,
+    requires { H.IsAlwaysCallable heuristic.now }
+    ensures { IsSmallestOrder (H.post heuristic.now) container1 container2 result }
+{
+    let (smallest1, second1) = two_smallest(container1, heuristic);
+    let (smallest2, second2) = two_smallest(container2, heuristic);
+    match smallest2.cmp(&smallest1) {
+        Ordering::Equal => second2.cmp(&second1),
+        order => order,
+    }
+}
+
+// The smallest and the second smallest of what the heuristic answers on the three sizes.
+fn two_smallest<H>(container: [WidthHeightDepth; 3], heuristic: &H) -> (u128, u128)
+where
+    H: Fn(WidthHeightDepth) -> u128,
+    requires { H.IsAlwaysCallable heuristic.now }
+    ensures { (rates : Rates) × AreRates (H.post heuristic.now) container rates × (result.0 ≡ smallest rates) × (result.1 ≡ second_smallest rates) }
+{
+    let [right, above, behind] = container;
+    let (a, b, c) = (heuristic(right), heuristic(above), heuristic(behind));
+    (a.min(b).min(c), a.min(b).max(a.max(b).min(c)))
+}
+
+/// A part of a bin: its corner and its size, in cells.
+///
+/// Sections are ordered by x, then by y, then by z, then by size.
+#[derive(Debug, Clone, Copy, PartialEq, Eq, Default, PartialOrd, Ord)]
+pub struct BinSection {
+    x: u32,
+    y: u32,
+    z: u32,
+    whd: WidthHeightDepth,
+}
+
+impl Model for BinSection {
+    ghost use Rattle.rectangle_pack.specs.Boxes.{Cuboid};
+
+    ghost Value = { Cuboid };
+
+    ghost view = { λ a. record { x = a.x; y = a.y; z = a.z; whd = a.whd } };
+
+    ghost inverse = { λ s. record { x = s.x; y = s.y; z = s.z; whd = s.whd } };
+}
+
+/// Why a box was not placed into a section.
+#[derive(Debug, Clone, Copy, PartialEq, Eq)]
+pub enum BinSectionError {
+    /// The box is wider than the section.
+    PlacementWiderThanBinSection,
+    /// The box is not wider, but taller than the section.
+    PlacementTallerThanBinSection,
+    /// The box is neither wider nor taller, but deeper than the section.
+    PlacementDeeperThanBinSection,
+}
+
+impl BinSection {
+    /// The section with this corner and size; any numbers will do.
+    pub fn new(x: u32, y: u32, z: u32, whd: WidthHeightDepth) -> Self
+        ensures { result ≡ record { x = x; y = y; z = z; whd = whd } }
+    {
+        BinSection { x, y, z, whd }
+    }
+
+    /// The corner's place on the x axis.
+    pub fn x(&self) -> u32
+        ensures { result ≡ self.now.x }
+    {
+        self.x
+    }
+
+    /// The corner's place on the y axis.
+    pub fn y(&self) -> u32
+        ensures { result ≡ self.now.y }
+    {
+        self.y
+    }
+
+    /// The corner's place on the z axis.
+    pub fn z(&self) -> u32
+        ensures { result ≡ self.now.z }
+    {
+        self.z
+    }
+
+    /// The size, in cells.
+    pub fn whd(&self) -> WidthHeightDepth
+        ensures { result ≡ self.now.whd }
+    {
+        self.whd
+    }
+
+    /// Places a box at the section's corner and cuts what is left of the section into three pieces,
+    /// right of the box, above it and behind it; empty pieces are given too.
+    ///
+    /// The comparison is shown the sizes of the pieces of two cuts, in this order, and the heuristic; it answers
+    /// `Greater` where the first cut is better. Of the six cuts in their order, the first is taken up, and each
+    /// later one in its place unless the one taken up is `Greater`.
+    ///
+    /// The caller sees to it that corner and size of the section add up to at most `u32::MAX` on each axis.
+    /// An error says on which axis the box is too large; no closure was asked then.
+    ///
+    /// ```
+    /// let section = BinSection::new(0, 0, 0, WidthHeightDepth::new(100, 100, 1));
+    /// let rect = RectToInsert::new(50, 90, 1);
+    /// let (location, [right, above, behind]) =
+    ///     section.try_place(&rect, &contains_smallest_box, &volume_heuristic)?;
+    /// ```
+    pub fn try_place<H, C>(
+        &self,
+        incoming: &RectToInsert,
+        container_comparison_fn: &C,
+        heuristic_fn: &H,
+    ) -> Result<(PackedLocation, [BinSection; 3]), BinSectionError>
+    where
+        H: Fn(WidthHeightDepth) -> u128,
+        C: Fn([WidthHeightDepth; 3], [WidthHeightDepth; 3], &H) -> Ordering,
+        requires ends { FitsU32 self.now }
+        requires comparable { (a b : List Size) (h : Bor H) → h.now ≡ heuristic_fn.now → C.pre container_comparison_fn.now a b h }
+        ensures fits { IsFitAnswer self.now incoming.now result }
+        ensures location { IfOk result (λ p. p.0 ≡ placed self.now incoming.now) }
+        ensures tiles { IfOk result (λ p. Tiles (p.0 ∷ p.1) self.now) }
+        ensures apart { IfOk result (λ p. AreAllApart (p.0 ∷ p.1)) }
+        ensures covers { IfOk result (λ p. Cover (p.0 ∷ p.1) self.now) }
+        ensures pieces { IfOk result (λ p. IsAllowedCut (MayCompare C.Fn container_comparison_fn.now heuristic_fn.now) self.now incoming.now p.1) }
+    {
+        self.check_fit(incoming)?;
+        let cuts = self.cuts(incoming);
+        let mut best = cuts[0];
+        for next in 1..6 {
+            let challenger = cuts[next];
+            let order = container_comparison_fn(sizes(&best), sizes(&challenger), heuristic_fn);
+            if order != Ordering::Greater {
+                best = challenger;
+            }
+        }
+        let whd = WidthHeightDepth::from(*incoming);
+        Ok((PackedLocation::new(self.x, self.y, self.z, whd), best))
+    }
+
+    // The error where the section does not hold the box.
+    fn check_fit(&self, incoming: &RectToInsert) -> Result<(), BinSectionError>
+        ensures { IsFitAnswer self.now incoming.now result }
+    {
+        if incoming.width() > self.whd.width() {
+            return Err(BinSectionError::PlacementWiderThanBinSection);
+        }
+        if incoming.height() > self.whd.height() {
+            return Err(BinSectionError::PlacementTallerThanBinSection);
+        }
+        if incoming.depth() > self.whd.depth() {
+            return Err(BinSectionError::PlacementDeeperThanBinSection);
+        }
+        Ok(())
+    }
+
+    // The pieces right, above and behind, for each of the six orders of cutting.
+    #[tactic(auto, unfolding(crate::specs::Boxes::extent, crate::specs::Boxes::start, crate::specs::Cuts::piece_start, crate::specs::Cuts::piece_extent, crate::specs::Cuts::piece, crate::specs::Cuts::pieces, crate::specs::Cuts::cuts))]
+    fn cuts(&self, incoming: &RectToInsert) -> [[BinSection; 3]; 6]
+        requires ends { FitsU32 self.now }
+        requires holds { Holds self.now incoming.now }
+        ensures { result ≡ cuts self.now incoming.now }
+    {
+        let (w, h, d) = (incoming.width(), incoming.height(), incoming.depth());
+        let (width, height, depth) = (self.whd.width(), self.whd.height(), self.whd.depth());
+        let (x, y, z) = (self.x, self.y, self.z);
+        let right = |height, depth| section(x + w, y, z, width - w, height, depth);
+        let above = |width, depth| section(x, y + h, z, width, height - h, depth);
+        let behind = |width, height| section(x, y, z + d, width, height, depth - d);
+        [
+            [right(height, depth), above(w, depth), behind(w, h)],
+            [right(h, depth), above(width, depth), behind(w, h)],
+            [right(height, depth), above(w, d), behind(w, height)],
+            [right(height, d), above(w, d), behind(width, height)],
+            [right(h, d), above(width, depth), behind(width, h)],
+            [right(h, d), above(width, d), behind(width, height)],
+        ]
+    }
+}
+
+fn section(x: u32, y: u32, z: u32, width: u32, height: u32, depth: u32) -> BinSection
+    ensures { result ≡ record { x = x; y = y; z = z; whd = record { width = width; height = height; depth = depth } } }
+{
+    BinSection::new(x, y, z, WidthHeightDepth::of(width, height, depth))
+}
+
+fn sizes(sections: &[BinSection; 3]) -> [WidthHeightDepth; 3]
+    ensures { result ≡ sizes_of sections.now }
+{
+    [sections[0].whd(), sections[1].whd(), sections[2].whd()]
+}
+
+impl fmt::Display for BinSectionError {
+    ghost use Rattle.std.specs.Prelude.{Some};
+    ghost use Rattle.rectangle_pack.specs.Texts.{fitting_text};
+
+    ghost output = { λ e. Some (fitting_text e) };
+
+    fn fmt<W: fmt::Write>(&self, f: &mut fmt::Formatter<W>) -> fmt::Result {
+        match self {
+            BinSectionError::PlacementWiderThanBinSection => write!(
+                f,
+                "Can not place a rectangle inside of a bin that is wider than that rectangle."
+            ),
+            BinSectionError::PlacementTallerThanBinSection => write!(
+                f,
+                "Can not place a rectangle inside of a bin that is taller than that rectangle."
+            ),
+            BinSectionError::PlacementDeeperThanBinSection => write!(
+                f,
+                "Can not place a rectangle inside of a bin that is deeper than that rectangle."
+            ),
+        }
+    }
+}
+
+impl Error for BinSectionError {}

@@ -1,0 +1,12 @@
+//! Heuristics: what a size is worth.
+ghost use Rattle.std.specs.Prelude.{◌≡◌};
+ghost use Rattle.rectangle_pack.specs.Boxes.{volume_of};
+
+use crate::width_height_depth::WidthHeightDepth;
+
+/// The volume of the box, in cells.
+pub fn volume_heuristic(whd: WidthHeightDepth) -> u128
+    ensures { result ≡ volume_of whd }
+{
+    whd.volume()
+}
