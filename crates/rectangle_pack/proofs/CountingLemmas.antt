@@ -1,7 +1,7 @@
 -- Counts of an element's passes, and what counts of cells say of boxes.
-use Rattle.std.proofs.Common.{arith, ◌≡◌, ◌↔◌, ℕ, ◌+◌, ◌<◌, ◌≤◌, Bool, true, false, List, [], ◌∷◌, ◌++◌, length, cond, refl, IsTrue, ◌⊎◌, inl, inr, get_or}
+use Rattle.std.proofs.Common.{arith, ◌≡◌, ◌↔◌, ℕ, zero, suc, ◌+◌, ◌<◌, ◌≤◌, Bool, true, false, List, [], ◌∷◌, ◌++◌, length, cond, refl, IsTrue, ◌⊎◌, inl, inr, get_or}
 use Rattle.std.specs.List.{All, Any, AllPairs, count_by, list_any}
-use Rattle.std.proofs.lemmas.List.Elements.{All-nil, All-cons}
+use Rattle.std.proofs.lemmas.List.Elements.{All-nil, All-cons, All-head, All-tail}
 use Rattle.std.proofs.lemmas.List.Kept.{AllPairs-cons}
 use Rattle.std.proofs.lemmas.List.Sums.{sum_by-append, count_by-le-length}
 use Rattle.std.proofs.lemmas.List.Folds.{Any-from_list_any, list_any-from_Any}
@@ -106,3 +106,29 @@ tiles_cover boxes whole t = λ c. (
   (λ h. some_from_filled c boxes (omega (arith, filled_yes c whole [] h, filled-nil c, t.same c))),
   (λ a. cell_from_filled c whole (omega (arith, t.same c, filled_from_some c boxes a))),
 )
+
+AllPairs-head : {X : Type 0} (R : X → X → Type 0) (x : X) (xs : List X) → AllPairs R (x ∷ xs) → All (R x) xs
+AllPairs-head R x xs h k d within = h zero (suc k) d (omega arith) (omega arith)
+
+AllPairs-tail : {X : Type 0} (R : X → X → Type 0) (x : X) (xs : List X) → AllPairs R (x ∷ xs) → AllPairs R xs
+AllPairs-tail R x xs h i j d below within = h (suc i) (suc j) d (omega arith) (omega arith)
+
+-- boxes that are apart from one that has the cell do not have it
+unfilled : (c : Cell) (b : Cuboid) → IsCellOf c b → (bs : List Cuboid) → All (AreApart b) bs → times_filled c bs ≡ 0
+unfolding times_filled
+unfilled c b h [] all = refl
+unfilled c b h (e ∷ bs) all = by (unfilled c b h bs (All-tail (AreApart b) e bs all)) (is_cell_of c e) refl
+  where
+    by : count_by (is_cell_of c) bs ≡ 0 → (t : Bool) → is_cell_of c e ≡ t → count_by (is_cell_of c) (e ∷ bs) ≡ 0
+    by ih true q = absurd ((All-head (AreApart b) e bs all).none c h (is_cell_of-true c e q))
+    by ih false q = omega (arith, count_no (is_cell_of c) e bs q, ih)
+
+-- where no two boxes share a cell, each is in at most one
+pub counts_from_apart : (c : Cell) (boxes : List Cuboid) → AreAllApart boxes → times_filled c boxes ≤ 1
+unfolding times_filled
+counts_from_apart c [] h = omega arith
+counts_from_apart c (b ∷ bs) h = by (counts_from_apart c bs (AllPairs-tail AreApart b bs h)) (is_cell_of c b) refl
+  where
+    by : count_by (is_cell_of c) bs ≤ 1 → (t : Bool) → is_cell_of c b ≡ t → count_by (is_cell_of c) (b ∷ bs) ≤ 1
+    by ih true q = let none : count_by (is_cell_of c) bs ≡ 0 = unfilled c b (is_cell_of-true c b q) bs (AllPairs-head AreApart b bs h) in omega (arith, count_yes (is_cell_of c) b bs q)
+    by ih false q = omega (arith, count_no (is_cell_of c) b bs q)

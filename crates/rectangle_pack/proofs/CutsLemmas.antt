@@ -145,3 +145,46 @@ length-cuts s m = refl
 pub take_cuts : (s : Cuboid) (m : Size) → take 6 (cuts s m) ≡ cuts s m
 unfolding cuts
 take_cuts s m = refl
+
+-- a piece ends where the section does, or before
+ends_by : (s : Cuboid) (m : Size) (order : List Axis) (a b : Axis) → extent b m ≤ extent b s.whd → piece_start s m a b + piece_extent s m order a b ≤ start b s + extent b s.whd
+unfolding piece_start piece_extent
+ends_by s m order a b fits =
+    elim (is_same a b) as (λ q. (if q then start b s + extent b m else start b s) + (if q then extent b s.whd - extent b m else if is_before order b a then extent b m else extent b s.whd) ≤ start b s + extent b s.whd) [
+      | true ↦ omega arith
+      | false ↦ elim (is_before order b a) as (λ q. start b s + (if q then extent b m else extent b s.whd) ≤ start b s + extent b s.whd) [
+          | true ↦ omega arith
+          | false ↦ omega arith
+        ]
+    ]
+
+-- the ends of a box are no greater than those of the other, on each axis
+pub record EndsBy (b other : Cuboid) : Type 0 where
+  pub by_x : b.x + b.whd.width ≤ other.x + other.whd.width
+  pub by_y : b.y + b.whd.height ≤ other.y + other.whd.height
+  pub by_z : b.z + b.whd.depth ≤ other.z + other.whd.depth
+
+piece_ends : (s : Cuboid) (m : Size) (order : List Axis) (a : Axis) → Holds s m → EndsBy (piece s m order a) s
+unfolding piece start extent
+piece_ends s m order a h = record {
+  by_x = ends_by s m order a AxisX h.wide;
+  by_y = ends_by s m order a AxisY h.high;
+  by_z = ends_by s m order a AxisZ h.deep;
+}
+
+-- each piece of the chosen cut ends by the section's end
+pub chosen_ends : {R : List Cuboid → List Cuboid → Ordering → Type 0} (s : Cuboid) (m : Size) (cut : List Cuboid) → Holds s m → MayChoose R (cuts s m) cut → All (λ b. EndsBy b s) cut
+unfolding pieces
+chosen_ends s m cut h choice =
+    let P : Cuboid → Type 0 = λ b. EndsBy b s in
+    chosen_has (All P) s m cut
+    (λ order once.
+        All-cons P (piece s m order AxisX) (piece s m order AxisY ∷ piece s m order AxisZ ∷ []) (piece_ends s m order AxisX h)
+        (All-cons P (piece s m order AxisY) (piece s m order AxisZ ∷ []) (piece_ends s m order AxisY h)
+        (All-cons P (piece s m order AxisZ) [] (piece_ends s m order AxisZ h) (All-nil P))))
+    choice
+
+-- a cut has three pieces
+pub length-chosen : {R : List Cuboid → List Cuboid → Ordering → Type 0} (s : Cuboid) (m : Size) (cut : List Cuboid) → MayChoose R (cuts s m) cut → length cut ≡ 3
+unfolding pieces
+length-chosen s m cut choice = chosen_has (λ p. length p ≡ 3) s m cut (λ order once. refl) choice

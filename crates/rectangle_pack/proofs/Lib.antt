@@ -2,3 +2,5 @@ pub mod BoxesLemmas
 pub mod CountingLemmas
 pub mod CutsLemmas
 pub mod PassLemmas
+pub mod StepsLemmas
+pub mod TrialLemmas

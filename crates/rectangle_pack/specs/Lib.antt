@@ -10,4 +10,5 @@ pub mod Groups
 pub mod Orders
 pub mod Placed
 pub mod Packing
+pub mod Journal
 pub mod Texts

@@ -1,7 +1,7 @@
 //! Free sections of a bin, and how a box is placed into one.
-ghost use Rattle.std.specs.Prelude.{◌≡◌, ◌∷◌, List, IfOk};
+ghost use Rattle.std.specs.Prelude.{◌≡◌, ◌↔◌, ◌∷◌, List, IfOk, IsTrue};
 ghost use Rattle.std.specs.Borrow.{Bor};
-ghost use Rattle.rectangle_pack.specs.Boxes.{Size, Holds, FitsU32};
+ghost use Rattle.rectangle_pack.specs.Boxes.{Size, Holds, FitsU32, has_cells};
 ghost use Rattle.rectangle_pack.specs.Cuts.{placed, cuts, sizes_of};
 ghost use Rattle.rectangle_pack.specs.Choice.{MayCompare, IsAllowedCut};
 ghost use Rattle.rectangle_pack.specs.SmallestBox.{Rates, AreRates, smallest, second_smallest, IsSmallestOrder};
@@ -164,6 +164,22 @@ impl BinSection {
         }
         let whd = WidthHeightDepth::from(*incoming);
         Ok((PackedLocation::new(self.x, self.y, self.z, whd), best))
+    }
+
+    // Whether the section holds the box.
+    pub(crate) fn holds(&self, incoming: &RectToInsert) -> bool
+        ensures { IsTrue result ↔ Holds self.now incoming.now }
+    {
+        incoming.width() <= self.whd.width()
+            && incoming.height() <= self.whd.height()
+            && incoming.depth() <= self.whd.depth()
+    }
+
+    // Whether none of the section's sizes is 0.
+    pub(crate) fn has_cells(&self) -> bool
+        ensures { result ≡ has_cells self.now }
+    {
+        self.whd.width() > 0 && self.whd.height() > 0 && self.whd.depth() > 0
     }
 
     // The error where the section does not hold the box.

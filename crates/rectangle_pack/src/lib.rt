@@ -3,16 +3,21 @@
 
 pub mod bin_section;
 pub mod box_size_heuristics;
+pub mod fit_tests;
 pub mod grouped_rects_to_place;
 pub mod pack;
 pub mod packed_location;
 pub mod rect_to_insert;
+pub mod target_bin;
+mod trial;
 pub mod width_height_depth;
 
 pub use bin_section::{BinSection, BinSectionError, contains_smallest_box};
 pub use box_size_heuristics::volume_heuristic;
+pub use fit_tests::FitTests;
 pub use grouped_rects_to_place::Group;
 pub use pack::Placement;
 pub use packed_location::{PackedLocation, RotatedBy};
 pub use rect_to_insert::RectToInsert;
+pub use target_bin::TargetBin;
 pub use width_height_depth::WidthHeightDepth;

@@ -1,0 +1,163 @@
+-- What a step and a trial keep.
+use Rattle.std.proofs.Common.{◌≡◌, ℕ, ◌+◌, ◌-◌, ◌<◌, ◌≤◌, Bool, true, false, cond, nat_le, List, [], ◌∷◌, ◌++◌, length, arith, refl, ap, sym, ◌∙◌, subst, length-append, ◌⊎◌, inl, inr}
+use Rattle.std.specs.Prelude.{All, AllPairs, map, filter}
+use Rattle.std.specs.Bool.{if◌then◌else◌}
+use Rattle.std.specs.List.{AllZip, zip, count_by, sum_by}
+use Rattle.std.specs.List.Sorted.{IsPermutation}
+use Rattle.std.specs.declared.cmp.Ordering.{Ordering}
+use Rattle.std.proofs.lemmas.List.Elements.{All-nil, All-cons, All-head, All-tail, All-append, All-filter, All-same, All-weaker}
+use Rattle.std.proofs.lemmas.List.Sums.{length-filter, count_by-le-length}
+use Rattle.std.proofs.lemmas.List.Sorted.{IsPermutation-refl, IsPermutation-cons, IsPermutation-trans, IsPermutation-append_left, IsPermutation-middle, IsPermutation-map, All-permutation, length_permutation, sum_by-IsPermutation}
+use Rattle.rectangle_pack.specs.Boxes.{Size, Cuboid, Cell, IsCellOf, Holds, FitsU32, IsInside, AreApart, is_cell_of, has_cells}
+use Rattle.rectangle_pack.specs.Bins.{IsSound}
+use Rattle.rectangle_pack.specs.Cuts.{placed}
+use Rattle.rectangle_pack.specs.Counting.{times_filled}
+use Rattle.rectangle_pack.specs.Steps.{put_in, by_falling_rate, AreLeft, IsStep, IsDone}
+use Rattle.rectangle_pack.proofs.BoxesLemmas.{has_cells-from}
+use Rattle.rectangle_pack.proofs.CountingLemmas.{count-cons, count_yes, count_no, filled-append, filled-cons, filled-nil, filled_yes, apart_from_counts, counts_from_apart}
+use Rattle.rectangle_pack.proofs.CutsLemmas.{EndsBy, chosen_ends, chosen_tiles, length-chosen}
+
+-- putting in only moves elements
+IsPermutation-put_in : (p : ℕ × Cuboid) (ps : List (ℕ × Cuboid)) → IsPermutation (p ∷ ps) (put_in p ps)
+IsPermutation-put_in p [] = IsPermutation-refl (p ∷ [])
+IsPermutation-put_in p (q ∷ qs) =
+    elim (nat_le q.0 p.0) as (λ b. IsPermutation (p ∷ q ∷ qs) (if b then p ∷ q ∷ qs else q ∷ put_in p qs)) [
+      | true ↦ IsPermutation-refl (p ∷ q ∷ qs)
+      | false ↦ IsPermutation-trans (p ∷ q ∷ qs) (q ∷ p ∷ qs) (q ∷ put_in p qs)
+          (IsPermutation-append_left qs (p ∷ q ∷ []) (q ∷ p ∷ []) (IsPermutation-middle (p ∷ []) q []))
+          (IsPermutation-cons q (p ∷ qs) (put_in p qs) (IsPermutation-put_in p qs))
+    ]
+
+IsPermutation-by_falling_rate : (ps : List (ℕ × Cuboid)) → IsPermutation ps (by_falling_rate ps)
+IsPermutation-by_falling_rate [] = IsPermutation-refl []
+IsPermutation-by_falling_rate (p ∷ ps) =
+    IsPermutation-trans (p ∷ ps) (p ∷ by_falling_rate ps) (put_in p (by_falling_rate ps))
+    (IsPermutation-cons p ps (by_falling_rate ps) (IsPermutation-by_falling_rate ps))
+    (IsPermutation-put_in p (by_falling_rate ps))
+
+map-zip : (R : Cuboid → ℕ → Type 0) (cut : List Cuboid) (rates : List ℕ) → AllZip R cut rates → map (λ p. p.1) (zip rates cut) ≡ cut
+map-zip R [] [] h = refl
+map-zip R [] (r ∷ rates) h = absurd h
+map-zip R (b ∷ cut) [] h = absurd h
+map-zip R (b ∷ cut) (r ∷ rates) h = ap (λ bs. b ∷ bs) (map-zip R cut rates h.1)
+
+-- the pieces that are left, before those without cells are left out, are those of the cut in another order
+ordered : {MayRate : Size → ℕ → Type 0} (cut left : List Cuboid) (h : AreLeft MayRate cut left) → IsPermutation cut (map (λ p. p.1) (by_falling_rate (zip h.rates cut)))
+ordered {MayRate} cut left h =
+    let moved : IsPermutation (map (λ p. p.1) (zip h.rates cut)) (map (λ p. p.1) (by_falling_rate (zip h.rates cut))) =
+      IsPermutation-map (λ p. p.1) (zip h.rates cut) (by_falling_rate (zip h.rates cut)) (IsPermutation-by_falling_rate (zip h.rates cut)) in
+    rw (map-zip (λ piece rate. MayRate piece.whd rate) cut h.rates h.rated) at moved
+
+pub All-left : {MayRate : Size → ℕ → Type 0} (P : Cuboid → Type 0) (cut left : List Cuboid) → AreLeft MayRate cut left → All P cut → All P left
+All-left {MayRate} P cut left h all =
+    All-same P left _ h.are (All-filter has_cells P _ (All-permutation P cut _ (ordered {MayRate = MayRate} cut left h) all))
+
+pub length-left : {MayRate : Size → ℕ → Type 0} (cut left : List Cuboid) → AreLeft MayRate cut left → length left ≤ length cut
+length-left {MayRate} cut left h =
+    let bs : List Cuboid = map (λ p. p.1) (by_falling_rate (zip h.rates cut)) in
+    omega (arith, ap length h.are, length-filter has_cells bs, count_by-le-length has_cells bs, length_permutation cut bs (ordered {MayRate = MayRate} cut left h))
+
+-- boxes without cells do not count
+filled-filter : (c : Cell) (bs : List Cuboid) → times_filled c (filter has_cells bs) ≡ times_filled c bs
+unfolding times_filled
+filled-filter c [] = refl
+filled-filter c (b ∷ bs) = by (filled-filter c bs) (has_cells b) refl (is_cell_of c b) refl
+  where
+    by : count_by (is_cell_of c) (filter has_cells bs) ≡ count_by (is_cell_of c) bs → (t : Bool) → has_cells b ≡ t → (i : Bool) → is_cell_of c b ≡ i → count_by (is_cell_of c) (cond t (b ∷ filter has_cells bs) (filter has_cells bs)) ≡ count_by (is_cell_of c) (b ∷ bs)
+    by ih true e i f = omega (arith, count-cons (is_cell_of c) b (filter has_cells bs), count-cons (is_cell_of c) b bs)
+    by ih false e true f = let yes : has_cells b ≡ true = has_cells-from c b f in cc
+    by ih false e false f = omega (arith, count_no (is_cell_of c) b bs f)
+
+filled-permutation : (c : Cell) (bs es : List Cuboid) → IsPermutation bs es → times_filled c es ≡ times_filled c bs
+unfolding times_filled
+filled-permutation c bs es h = sum_by-IsPermutation (λ b. cond (is_cell_of c b) 1 0) bs es h
+
+-- what is left of a cut fills the same cells
+pub filled-left : {MayRate : Size → ℕ → Type 0} (c : Cell) (cut left : List Cuboid) → AreLeft MayRate cut left → times_filled c left ≡ times_filled c cut
+filled-left {MayRate} c cut left h =
+    ap (times_filled c) h.are ∙ filled-filter c _ ∙ filled-permutation c cut _ (ordered {MayRate = MayRate} cut left h)
+
+-- the parts of a list cut at an element
+pub All-front : {X : Type 0} (P : X → Type 0) (xs ys : List X) → All P (xs ++ ys) → All P xs
+All-front P [] ys h = All-nil P
+All-front P (x ∷ xs) ys h = All-cons P x xs (All-head P x (xs ++ ys) h) (All-front P xs ys (All-tail P x (xs ++ ys) h))
+
+pub All-back : {X : Type 0} (P : X → Type 0) (xs ys : List X) → All P (xs ++ ys) → All P ys
+All-back P [] ys h = h
+All-back P (x ∷ xs) ys h = All-back P xs ys (All-tail P x (xs ++ ys) h)
+
+module _ (MayRate : Size → ℕ → Type 0) (MayPrefer : List Size → List Size → Ordering → Type 0) where
+  -- what passes from a section to each box that ends by it holds after a step
+  IsStep-keeps : (P : Cuboid → Type 0) (sections : List Cuboid) (m : Size) (l : Cuboid) (next : List Cuboid) (n : ℕ)
+      → ((b s : Cuboid) → EndsBy b s → P s → P b)
+      → IsStep MayRate MayPrefer sections m l next n → All P sections → All P next
+  IsStep-keeps P sections m l next n passes step h =
+      let all : All P (step.before ++ step.section ∷ step.after) = All-same P _ sections (sym step.splits) h in
+      let back : All P (step.section ∷ step.after) = All-back P step.before (step.section ∷ step.after) all in
+      let here : P step.section = All-head P step.section step.after back in
+      let pieces : All P step.cut = All-weaker (λ b. EndsBy b step.section) P (λ b ends. passes b step.section ends here) step.cut (chosen_ends step.section m step.cut step.held step.allowed) in
+      All-same P next _ step.next_is
+      (All-append P (step.before ++ step.after) step.left
+      (All-append P step.before step.after (All-front P step.before (step.section ∷ step.after) all) (All-tail P step.section step.after back))
+      (All-left {MayRate = MayRate} P step.cut step.left step.are_left pieces))
+
+  pub IsStep-fits : (sections : List Cuboid) (m : Size) (l : Cuboid) (next : List Cuboid) (n : ℕ) → IsStep MayRate MayPrefer sections m l next n → All FitsU32 sections → All FitsU32 next
+  IsStep-fits sections m l next n = IsStep-keeps FitsU32 sections m l next n
+      (λ b s ends fits. record { fits_x = omega arith; fits_y = omega arith; fits_z = omega arith })
+
+  pub IsStep-inside : (size : Size) (sections : List Cuboid) (m : Size) (l : Cuboid) (next : List Cuboid) (n : ℕ) → IsStep MayRate MayPrefer sections m l next n → All (IsInside size) sections → All (IsInside size) next
+  IsStep-inside size sections m l next n = IsStep-keeps (IsInside size) sections m l next n
+      (λ b s ends inside. record { within_x = omega arith; within_y = omega arith; within_z = omega arith })
+
+  -- a step makes a list longer by at most two
+  pub length-step : (sections : List Cuboid) (m : Size) (l : Cuboid) (next : List Cuboid) (n : ℕ) → IsStep MayRate MayPrefer sections m l next n → length next ≤ length sections + 2
+  length-step sections m l next n step =
+      omega (
+        arith,
+        ap length step.next_is,
+        ap length step.splits,
+        length-left {MayRate = MayRate} step.cut step.left step.are_left,
+        length-chosen step.section m step.cut step.allowed,
+        length-append (step.before ++ step.after) step.left,
+        length-append step.before step.after,
+        length-append step.before (step.section ∷ step.after),
+      )
+
+  -- a step fills each cell as often as before, with the placed box
+  pub filled-step : (c : Cell) (sections : List Cuboid) (m : Size) (l : Cuboid) (next : List Cuboid) (n : ℕ) → IsStep MayRate MayPrefer sections m l next n
+      → times_filled c next + times_filled c (l ∷ []) ≡ times_filled c sections
+  filled-step c sections m l next n step =
+      omega (
+        arith,
+        ap (times_filled c) step.next_is,
+        ap (times_filled c) step.splits,
+        filled-append c (step.before ++ step.after) step.left,
+        filled-append c step.before step.after,
+        filled-append c step.before (step.section ∷ step.after),
+        filled-cons c step.section step.after,
+        filled-left {MayRate = MayRate} c step.cut step.left step.are_left,
+        (chosen_tiles step.section m step.cut step.held step.allowed).same c,
+        filled-cons c (placed step.section m) step.cut,
+        ap (λ b. times_filled c (b ∷ [])) step.location_is,
+      )
+
+  -- and so does a trial
+  pub filled-done : (c : Cell) (sections : List Cuboid) (ms : List Size) (ls last : List Cuboid) (n : ℕ) → IsDone MayRate MayPrefer sections ms ls last n
+      → times_filled c last + times_filled c ls ≡ times_filled c sections
+  filled-done c sections [] ls last n done = omega (arith, ap (times_filled c) done.0, ap (times_filled c) done.1, filled-nil c)
+  filled-done c sections (m ∷ ms) [] last n done = absurd done
+  filled-done c sections (m ∷ ms) (l ∷ ls) last n (next, one, others, step, done, count) =
+      omega (arith, filled-step c sections m l next one step, filled-done c next ms ls last others done, filled-cons c l ls)
+
+  IsDone-inside : (size : Size) (sections : List Cuboid) (ms : List Size) (ls last : List Cuboid) (n : ℕ) → IsDone MayRate MayPrefer sections ms ls last n → All (IsInside size) sections → All (IsInside size) last
+  IsDone-inside size sections [] ls last n done h = All-same (IsInside size) last sections done.1 h
+  IsDone-inside size sections (m ∷ ms) [] last n done h = absurd done
+  IsDone-inside size sections (m ∷ ms) (l ∷ ls) last n (next, one, others, step, done, count) h =
+      IsDone-inside size next ms ls last others done (IsStep-inside size sections m l next one step h)
+
+  -- a trial leaves a sound list sound
+  pub IsSound-done : (size : Size) (sections : List Cuboid) (ms : List Size) (ls last : List Cuboid) (n : ℕ) → IsDone MayRate MayPrefer sections ms ls last n → IsSound size sections → IsSound size last
+  IsSound-done size sections ms ls last n done sound = record {
+    inside = IsDone-inside size sections ms ls last n done sound.inside;
+    apart = apart_from_counts last (λ c. omega (arith, filled-done c sections ms ls last n done, counts_from_apart c sections sound.apart));
+  }

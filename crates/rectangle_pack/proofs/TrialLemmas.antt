@@ -1,0 +1,150 @@
+-- Steps by index, and the undoing of noted steps.
+use Rattle.std.proofs.Common.{◌≡◌, ℕ, suc, ◌+◌, ◌-◌, ◌<◌, ◌≤◌, List, [], ◌∷◌, ◌++◌, length, get_or, take, drop, arith, rules, refl, ap, sym, ◌∙◌, subst, length-drop, add-one, append_assoc, inl, inr}
+use Rattle.std.specs.Prelude.{All, remove, map, filter}
+use Rattle.std.specs.List.{AllWithin, HoldsAt}
+use Rattle.std.proofs.Math.Seq.{split_at}
+use Rattle.std.proofs.lemmas.List.{get_or-drop, take_more}
+use Rattle.rectangle_pack.specs.Orders.{saturated}
+use Rattle.rectangle_pack.specs.declared.trial.Note.{Note}
+use Rattle.rectangle_pack.specs.Boxes.{Size, Cuboid, Holds, has_cells}
+use Rattle.rectangle_pack.specs.Cuts.{placed}
+use Rattle.rectangle_pack.specs.Choice.{IsAllowedCut}
+use Rattle.std.specs.declared.cmp.Ordering.{Ordering}
+use Rattle.rectangle_pack.specs.Steps.{by_falling_rate, IsStep, IsDone, IsStuck, AreLeft}
+use Rattle.rectangle_pack.specs.Journal.{before_note, before_notes, CanUndo, CanUndoOne}
+
+All-from_within_end : {X : Type 0} (P : X → Type 0) (xs : List X) (low : ℕ) → AllWithin P xs low (length xs) → All P (drop low xs)
+All-from_within_end P xs low h k d within =
+    let n = length-drop low xs in
+    subst P (sym (get_or-drop low xs k d)) (h (low + k) d (omega arith) (omega arith))
+
+pub IsStep-at : (MayRate : Size → ℕ → Type 0) (MayPrefer : List Size → List Size → Ordering → Type 0) (sections : List Cuboid) (member : Size) (i : ℕ) (s : Cuboid)
+    (cut left next : List Cuboid) → i < length sections → s ≡ get_or sections i s
+    → HoldsAt (λ t. Holds t member) sections i
+    → AllWithin (λ t. ¬ Holds t member) sections (i + 1) (length sections)
+    → IsAllowedCut MayPrefer s member cut → AreLeft MayRate cut left → next ≡ remove sections i ++ left
+    → IsStep MayRate MayPrefer sections member (placed s member) next (length sections - i)
+IsStep-at MayRate MayPrefer sections member i s cut left next within read held newest allowed are_left same = record {
+  before = take i sections;
+  section = s;
+  after = drop (suc i) sections;
+  splits = subst (λ (t : Cuboid). sections ≡ take i sections ++ t ∷ drop (suc i) sections) (sym read) (split_at sections i s within);
+  held = subst (λ (t : Cuboid). Holds t member) (sym read) (held s);
+  newest = subst (λ (n : ℕ). All (λ t. ¬ Holds t member) (drop n sections)) (add-one i) (All-from_within_end (λ t. ¬ Holds t member) sections (i + 1) newest);
+  location_is = refl;
+  cut = cut;
+  allowed = allowed;
+  left = left;
+  are_left = are_left;
+  next_is = same;
+  tests_are = let n = length-drop (suc i) sections in omega arith;
+}
+
+-- the last noted step is undone first
+pub before_notes-push : (notes : List Note) (note : Note) (sections : List Cuboid)
+    → before_notes (notes ++ note ∷ []) sections ≡ before_notes notes (before_note note sections)
+before_notes-push [] note sections = refl
+before_notes-push (n ∷ notes) note sections = ap (before_note n) (before_notes-push notes note sections)
+
+pub CanUndo-pop : (room : ℕ) (notes : List Note) (note : Note) (sections : List Cuboid)
+    → CanUndo room (notes ++ note ∷ []) sections → CanUndoOne room note sections × CanUndo room notes (before_note note sections)
+CanUndo-pop room [] note sections h = (h.0, tt)
+CanUndo-pop room (n ∷ notes) note sections h =
+    let rest = CanUndo-pop room notes note sections h.1 in
+    (rest.0, (subst (CanUndoOne room n) (before_notes-push notes note sections) h.0, rest.1))
+
+pub CanUndo-push : (room : ℕ) (notes : List Note) (note : Note) (sections : List Cuboid)
+    → CanUndoOne room note sections → CanUndo room notes (before_note note sections) → CanUndo room (notes ++ note ∷ []) sections
+CanUndo-push room [] note sections one h = (one, tt)
+CanUndo-push room (n ∷ notes) note sections one h =
+    (subst (CanUndoOne room n) (sym (before_notes-push notes note sections)) h.0, CanUndo-push room notes note sections one h.1)
+
+-- by the clause of `pop` on the items
+pub CanUndo-popped : (room : ℕ) (old notes : List Note) (note : Note) (sections : List Cuboid) → old ≡ notes ++ note ∷ []
+    → CanUndo room old sections → CanUndoOne room note sections × CanUndo room notes (before_note note sections)
+CanUndo-popped room old notes note sections same h =
+    CanUndo-pop room notes note sections (subst (λ (ns : List Note). CanUndo room ns sections) same h)
+
+pub before_notes-popped : (old notes : List Note) (note : Note) (sections : List Cuboid) → old ≡ notes ++ note ∷ []
+    → before_notes old sections ≡ before_notes notes (before_note note sections)
+before_notes-popped old notes note sections same =
+    ap (λ (ns : List Note). before_notes ns sections) same ∙ before_notes-push notes note sections
+
+pub CanUndoOne-more : (room more : ℕ) (note : Note) (sections : List Cuboid) → room ≤ more → CanUndoOne room note sections → CanUndoOne more note sections
+CanUndoOne-more room more note sections le one = record { pushed = one.pushed; index = one.index; fits = omega arith }
+
+pub CanUndo-more : (room more : ℕ) (notes : List Note) (sections : List Cuboid) → room ≤ more → CanUndo room notes sections → CanUndo more notes sections
+CanUndo-more room more [] sections le h = tt
+CanUndo-more room more (n ∷ notes) sections le h =
+    (CanUndoOne-more room more n (before_notes notes sections) le h.0, CanUndo-more room more notes sections le h.1)
+
+-- one more member is placed
+pub IsDone-push : (MayRate : Size → ℕ → Type 0) (MayPrefer : List Size → List Size → Ordering → Type 0) (sections : List Cuboid) (ms : List Size) (ls : List Cuboid) (mid : List Cuboid) (n : ℕ)
+    (m : Size) (l : Cuboid) (next : List Cuboid) (one : ℕ)
+    → IsDone MayRate MayPrefer sections ms ls mid n → IsStep MayRate MayPrefer mid m l next one → IsDone MayRate MayPrefer sections (ms ++ m ∷ []) (ls ++ l ∷ []) next (n + one)
+IsDone-push MayRate MayPrefer sections [] [] mid n m l next one done step =
+    (next, one, 0, subst (λ (s : List Cuboid). IsStep MayRate MayPrefer s m l next one) done.1 step, (refl, refl, refl), (let e = done.2 in omega arith))
+IsDone-push MayRate MayPrefer sections [] (l' ∷ ls) mid n m l next one done step = absurd (let e = done.0 in cc)
+IsDone-push MayRate MayPrefer sections (m' ∷ ms) [] mid n m l next one done step = absurd done
+IsDone-push MayRate MayPrefer sections (m' ∷ ms) (l' ∷ ls) mid n m l next one (s, first, rest, head, tail, count) step =
+    (s, first, rest + one, head, IsDone-push MayRate MayPrefer s ms ls mid rest m l next one tail step, omega arith)
+
+-- the next member finds no section
+pub IsStuck-after : (MayRate : Size → ℕ → Type 0) (MayPrefer : List Size → List Size → Ordering → Type 0) (sections : List Cuboid) (ms : List Size) (ls : List Cuboid) (mid : List Cuboid) (n : ℕ)
+    (m : Size) (others : List Size)
+    → IsDone MayRate MayPrefer sections ms ls mid n → All (λ t. ¬ Holds t m) mid → IsStuck MayRate MayPrefer sections (ms ++ m ∷ others) (n + length mid)
+IsStuck-after MayRate MayPrefer sections [] ls mid n m others done none =
+    inl (subst (λ (s : List Cuboid). All (λ t. ¬ Holds t m) s) done.1 none, (let e = ap length done.1 in let z = done.2 in omega arith))
+IsStuck-after MayRate MayPrefer sections (m' ∷ ms) [] mid n m others done none = absurd done
+IsStuck-after MayRate MayPrefer sections (m' ∷ ms) (l' ∷ ls) mid n m others (s, first, rest, head, tail, count) none =
+    inr (l', s, first, rest + length mid, head, IsStuck-after MayRate MayPrefer s ms ls mid rest m others tail none, omega arith)
+
+-- the step of the loop over the members
+pub IsDone-more : (MayRate : Size → ℕ → Type 0) (MayPrefer : List Size → List Size → Ordering → Type 0) (sections : List Cuboid) (ms : List Size) (i : ℕ) (m : Size) (ls : List Cuboid) (mid : List Cuboid) (n : ℕ)
+    (l : Cuboid) (ls' : List Cuboid) (next : List Cuboid) (one : ℕ) → i < length ms → m ≡ get_or ms i m
+    → IsDone MayRate MayPrefer sections (take i ms) ls mid n → IsStep MayRate MayPrefer mid m l next one → ls' ≡ ls ++ l ∷ []
+    → IsDone MayRate MayPrefer sections (take (i + 1) ms) ls' next (n + one)
+IsDone-more MayRate MayPrefer sections ms i m ls mid n l ls' next one within read done step same =
+    subst (λ (xs : List Cuboid). IsDone MayRate MayPrefer sections (take (i + 1) ms) xs next (n + one)) (sym same)
+    (subst (λ (xs : List Size). IsDone MayRate MayPrefer sections xs (ls ++ l ∷ []) next (n + one)) (sym (take_more ms i m within ∙ ap (λ x. take i ms ++ x ∷ []) (sym read)))
+    (IsDone-push MayRate MayPrefer sections (take i ms) ls mid n m l next one done step))
+
+pub IsStuck-at : (MayRate : Size → ℕ → Type 0) (MayPrefer : List Size → List Size → Ordering → Type 0) (sections : List Cuboid) (ms : List Size) (i : ℕ) (m : Size) (ls : List Cuboid) (mid : List Cuboid) (n : ℕ)
+    → i < length ms → m ≡ get_or ms i m → IsDone MayRate MayPrefer sections (take i ms) ls mid n → All (λ t. ¬ Holds t m) mid
+    → IsStuck MayRate MayPrefer sections ms (n + length mid)
+IsStuck-at MayRate MayPrefer sections ms i m ls mid n within read done none =
+    subst (λ (xs : List Size). IsStuck MayRate MayPrefer sections xs (n + length mid)) (sym (split_at ms i m within ∙ ap (λ x. take i ms ++ x ∷ drop (suc i) ms) (sym read)))
+    (IsStuck-after MayRate MayPrefer sections (take i ms) ls mid n m (drop (suc i) ms) done none)
+
+pub saturated-add : (t s u a b : ℕ) → s ≡ saturated (t + a) → u ≡ saturated (s + b) → u ≡ saturated (t + (a + b))
+saturated-add t s u a b first second = omega arith
+
+-- one more noted step
+pub before_notes-more : (notes notes' : List Note) (note : Note) (first mid next : List Cuboid) → notes' ≡ notes ++ note ∷ []
+    → before_note note next ≡ mid → before_notes notes mid ≡ first → before_notes notes' next ≡ first
+before_notes-more notes notes' note first mid next same one before =
+    before_notes-popped notes' notes note next same ∙ ap (before_notes notes) one ∙ before
+
+pub CanUndo-noted : (room more : ℕ) (notes notes' : List Note) (note : Note) (mid next : List Cuboid) → notes' ≡ notes ++ note ∷ []
+    → before_note note next ≡ mid → room ≤ more → CanUndoOne more note next → CanUndo room notes mid → CanUndo more notes' next
+CanUndo-noted room more notes notes' note mid next same one le can before =
+    subst (λ (ns : List Note). CanUndo more ns next) (sym same)
+    (CanUndo-push more notes note next can (subst (CanUndo more notes) (sym one) (CanUndo-more room more notes mid le before)))
+
+pub IsDone-none : (MayRate : Size → ℕ → Type 0) (MayPrefer : List Size → List Size → Ordering → Type 0) (sections : List Cuboid) (ms : List Size) → length ms ≡ 0 → IsDone MayRate MayPrefer sections ms [] sections 0
+IsDone-none MayRate MayPrefer sections [] e = (refl, refl, refl)
+IsDone-none MayRate MayPrefer sections (m ∷ ms) e = absurd (omega arith)
+
+-- a list of three, by its elements
+pub three_of : {X : Type 0} (xs : List X) (a b c : X) → length xs ≡ 3 → a ≡ get_or xs 0 a → b ≡ get_or xs 1 b → c ≡ get_or xs 2 c → xs ≡ a ∷ b ∷ c ∷ []
+three_of [] a b c n x y z = absurd (omega arith)
+three_of (p ∷ []) a b c n x y z = absurd (omega arith)
+three_of (p ∷ q ∷ []) a b c n x y z = absurd (omega arith)
+three_of (p ∷ q ∷ r ∷ []) a b c n x y z = rw (x, y, z) refl
+three_of (p ∷ q ∷ r ∷ s ∷ xs) a b c n x y z = absurd (omega arith)
+
+-- what is left of a cut, for rates of its three pieces
+pub AreLeft-three : (MayRate : Size → ℕ → Type 0) (cut : List Cuboid) (a b c : Cuboid) (i j k : ℕ) → cut ≡ a ∷ b ∷ c ∷ [] → MayRate a.whd i → MayRate b.whd j → MayRate c.whd k
+    → AreLeft MayRate cut (filter has_cells (map (λ p. p.1) (by_falling_rate ((i, a) ∷ (j, b) ∷ (k, c) ∷ []))))
+AreLeft-three MayRate cut a b c i j k same x y z = subst (λ bs. AreLeft MayRate bs (filter has_cells (map (λ p. p.1) (by_falling_rate ((i, a) ∷ (j, b) ∷ (k, c) ∷ []))))) (sym same)
+    (record { rates = i ∷ j ∷ k ∷ []; rated = (x, (y, (z, tt))); are = refl })

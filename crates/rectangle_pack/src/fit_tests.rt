@@ -1,0 +1,44 @@
+//! Counts of fit tests.
+ghost use Rattle.std.specs.Prelude.{◌≡◌, ◌+◌};
+ghost use Rattle.rectangle_pack.specs.Orders.{saturated};
+
+use std::marker::Model;
+
+/// How many fit tests were made: a member that is placed costs one for its section and one for each section after
+/// it, a member that is stuck costs one for each section of the list. It stays at the greatest `u128`.
+#[derive(Debug, PartialEq, Drop)]
+pub struct FitTests {
+    count: u128,
+}
+
+impl Model for FitTests {
+    ghost use Rattle.std.specs.Prelude.{ℕ};
+
+    ghost Value = { ℕ };
+
+    ghost view = { λ t. t.count };
+
+    ghost inverse = { λ n. record { count = n } };
+}
+
+impl FitTests {
+    /// No test was made.
+    pub fn new() -> Self
+        ensures { result ≡ 0 }
+    {
+        FitTests { count: 0 }
+    }
+
+    /// The number of tests.
+    pub fn count(&self) -> u128
+        ensures { result ≡ self.now }
+    {
+        self.count
+    }
+
+    pub(crate) fn add(&mut self, tests: usize)
+        ensures { self.new ≡ saturated (self.old + tests) }
+    {
+        self.count = self.count.saturating_add(tests as u128);
+    }
+}

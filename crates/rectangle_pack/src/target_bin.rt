@@ -1,0 +1,150 @@
+//! Bins and their free sections.
+ghost use Rattle.std.specs.Prelude.{ℕ, ◌≡◌, ◌+◌, ◌≤◌, ◌<◌, ◌++◌, ◌∷◌, [], List, IfOk, OnOk, OnErr, IfNone, IfSome, IsOk, length, remove, filter, All, AllPairs};
+ghost use Rattle.std.specs.Borrow.{Bor};
+ghost use Rattle.rectangle_pack.specs.Boxes.{Size, has_cells};
+ghost use Rattle.rectangle_pack.specs.Bins.{whole, IsSound, IsAccepted};
+ghost use Rattle.rectangle_pack.specs.Choice.{MayCompare};
+ghost use Rattle.rectangle_pack.specs.Orders.{saturated};
+ghost use Rattle.rectangle_pack.specs.Steps.{IsDone, IsStuck};
+ghost use Rattle.rectangle_pack.specs.Journal.{before_notes, CanUndo};
+
+use crate::bin_section::BinSection;
+use crate::fit_tests::FitTests;
+use crate::packed_location::PackedLocation;
+use crate::rect_to_insert::RectToInsert;
+use crate::trial::{Note, run_trial, undo};
+use crate::width_height_depth::WidthHeightDepth;
+use std::alloc::{AllocError, Allocator, Global};
+use std::cmp::Ordering;
+use std::marker::Model;
+
+/// A bin: its size, and the list of its free sections. Each free section is inside the bin, and no two share a cell.
+#[derive(Drop)]
+#[derive_where(Debug)]
+pub struct TargetBin<A: Allocator + Copy = Global> {
+    max_size: WidthHeightDepth,
+    available_bin_sections: Vec<BinSection, A>,
+}
+
+impl<A: Allocator + Copy> Model for TargetBin<A> {
+    ghost use Rattle.std.specs.Vec.{vec_capacity};
+    ghost use Rattle.rectangle_pack.specs.Bins.{Held, IsSound};
+
+    ghost Value = { Held };
+
+    ghost view = { λ b. record { bin = record { size = b.max_size; sections = b.available_bin_sections.items }; room = vec_capacity b.available_bin_sections } };
+
+    ghost invariant = { λ b. IsSound b.max_size b.available_bin_sections.items };
+}
+
+impl<A: Allocator + Copy> TargetBin<A> {
+    /// A bin of this size with one free section, which is all of it; any size will do.
+    pub fn new(alloc: A, width: u32, height: u32, depth: u32) -> Result<Self, AllocError>
+        ensures size { IfOk result (λ b. b.bin.size ≡ record { width = width; height = height; depth = depth }) }
+        ensures sections { IfOk result (λ b. b.bin.sections ≡ whole b.bin.size ∷ []) }
+    {
+        let max_size = WidthHeightDepth::of(width, height, depth);
+        let mut available_bin_sections = Vec::new(alloc);
+        available_bin_sections.push(BinSection::new(0, 0, 0, max_size))?;
+        Ok(TargetBin {
+            max_size,
+            available_bin_sections,
+        })
+    }
+
+    /// The size of the bin, in cells.
+    pub fn max_size(&self) -> WidthHeightDepth
+        ensures { result ≡ self.now.bin.size }
+    {
+        self.max_size
+    }
+
+    /// The free sections, the newest last.
+    pub fn available_bin_sections(&self) -> &Vec<BinSection, A>
+        ensures items { result.now.items ≡ self.now.bin.sections }
+        ensures sound { IsSound self.now.bin.size self.now.bin.sections }
+    {
+        &self.available_bin_sections
+    }
+
+    /// One trial: places the members in order, each into the newest section that holds it, and answers their
+    /// locations; `None` where some member finds no section. `None` and an error leave the bin as it was.
+    ///
+    /// The counter grows by the fit tests of the trial. An error is want of memory; without members none is taken.
+    pub fn place_all<H, C>(
+        &mut self,
+        members: &[RectToInsert],
+        heuristic: &H,
+        comparison: &C,
+        tests: &mut FitTests,
+    ) -> Result<Option<Vec<PackedLocation, A>>, AllocError>
+    where
+        H: Fn(WidthHeightDepth) -> u128,
+        C: Fn([WidthHeightDepth; 3], [WidthHeightDepth; 3], &H) -> Ordering,
+        requires callable { H.IsAlwaysCallable heuristic.now }
+        requires comparable { (a b : List Size) (h : Bor H) → h.now ≡ heuristic.now → C.pre comparison.now a b h }
+        ensures size { self.new.bin.size ≡ self.old.bin.size }
+        ensures done { IfOk result (λ o. IfSome o (λ v. (count : ℕ) × IsDone (H.post heuristic.now) (MayCompare C.Fn comparison.now heuristic.now) self.old.bin.sections members.now v.items self.new.bin.sections count × (tests.new ≡ saturated (tests.old + count)))) }
+        ensures stuck { IfOk result (λ o. IfNone o ((count : ℕ) × IsStuck (H.post heuristic.now) (MayCompare C.Fn comparison.now heuristic.now) self.old.bin.sections members.now count × (tests.new ≡ saturated (tests.old + count)))) }
+        ensures unchanged { IfOk result (λ o. IfNone o (self.new.bin ≡ self.old.bin)) }
+        ensures err { OnErr result (self.new.bin ≡ self.old.bin) }
+        ensures err_counts { OnErr result (tests.new ≡ tests.old) }
+        ensures no_members { length members.now ≡ 0 → IsOk result }
+    {
+        let mut notes = Vec::new(*self.available_bin_sections.allocator());
+        self.place_noted(members, heuristic, comparison, tests, &mut notes)
+    }
+
+    // One trial; where it is done, what undoes it is noted. The room is made before the first step.
+    pub(crate) fn place_noted<H, C>(
+        &mut self,
+        members: &[RectToInsert],
+        heuristic: &H,
+        comparison: &C,
+        tests: &mut FitTests,
+        notes: &mut Vec<Note, A>,
+    ) -> Result<Option<Vec<PackedLocation, A>>, AllocError>
+    where
+        H: Fn(WidthHeightDepth) -> u128,
+        C: Fn([WidthHeightDepth; 3], [WidthHeightDepth; 3], &H) -> Ordering,
+        requires callable { H.IsAlwaysCallable heuristic.now }
+        requires comparable { (a b : List Size) (h : Bor H) → h.now ≡ heuristic.now → C.pre comparison.now a b h }
+        requires no_notes { notes.old.items ≡ [] }
+        ensures size { self.new.bin.size ≡ self.old.bin.size }
+        ensures room { self.old.room ≤ self.new.room }
+        ensures done { IfOk result (λ o. IfSome o (λ v. (count : ℕ) × IsDone (H.post heuristic.now) (MayCompare C.Fn comparison.now heuristic.now) self.old.bin.sections members.now v.items self.new.bin.sections count × (tests.new ≡ saturated (tests.old + count)))) }
+        ensures before { IfOk result (λ o. IfSome o (λ v. before_notes notes.new.items self.new.bin.sections ≡ self.old.bin.sections)) }
+        ensures can_undo { IfOk result (λ o. IfSome o (λ v. CanUndo self.new.room notes.new.items self.new.bin.sections)) }
+        ensures stuck { IfOk result (λ o. IfNone o ((count : ℕ) × IsStuck (H.post heuristic.now) (MayCompare C.Fn comparison.now heuristic.now) self.old.bin.sections members.now count × (tests.new ≡ saturated (tests.old + count)))) }
+        ensures unchanged { IfOk result (λ o. IfNone o (self.new.bin ≡ self.old.bin)) }
+        ensures err { OnErr result ((self.new.bin ≡ self.old.bin) × (tests.new ≡ tests.old)) }
+        ensures no_members { length members.now ≡ 0 → IsOk result }
+        ensures sound { IsSound self.old.bin.size self.old.bin.sections }
+    {
+        let mut locations = Vec::new(*self.available_bin_sections.allocator());
+        locations.reserve(members.len())?;
+        notes.reserve(members.len())?;
+        self.available_bin_sections.reserve(members.len() * 2)?;
+        let done = run_trial(
+            &mut self.available_bin_sections,
+            members,
+            heuristic,
+            comparison,
+            tests,
+            notes,
+            &mut locations,
+        );
+        if done { Ok(Some(locations)) } else { Ok(None) }
+    }
+
+    // Undoes a noted trial. Takes no memory.
+    pub(crate) fn undo_notes(&mut self, notes: &mut Vec<Note, A>)
+        requires can { CanUndo self.old.room notes.old.items self.old.bin.sections }
+        requires sound { IsSound self.old.bin.size (before_notes notes.old.items self.old.bin.sections) }
+        ensures size { self.new.bin.size ≡ self.old.bin.size }
+        ensures sections { self.new.bin.sections ≡ before_notes notes.old.items self.old.bin.sections }
+        ensures room { self.old.room ≤ self.new.room }
+    {
+        undo(&mut self.available_bin_sections, notes);
+    }
+}
