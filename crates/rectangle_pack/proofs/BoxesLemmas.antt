@@ -1,7 +1,7 @@
 -- Cells of boxes, as facts and as tests.
-use Rattle.std.proofs.Common.{arith, rules, ◌≡◌, ◌<◌, ◌≤◌, ◌+◌, ℕ, Bool, true, false, ◌&&◌, refl}
+use Rattle.std.proofs.Common.{arith, rules, ◌≡◌, ◌<◌, ◌≤◌, ◌+◌, ℕ, Bool, true, false, ◌&&◌, refl, max}
 use Rattle.std.proofs.lemmas.Bool.{and_parts, and_from, leb-true, ltb-true, le-leb, lt-ltb}
-use Rattle.rectangle_pack.specs.Boxes.{Size, Cuboid, Cell, IsCellOf, is_cell_of, AreApart, IsInside, FitsU32, is_within, has_cells}
+use Rattle.rectangle_pack.specs.Boxes.{Size, Cuboid, Cell, IsCellOf, is_cell_of, SharesCell, AreApart, SpansMeet, IsInside, FitsU32, is_within, has_cells}
 
 within-true : (first long place : ℕ) → is_within first long place ≡ true → (first ≤ place) × (place < first + long)
 within-true first long place h = let p = and_parts _ _ h in (leb-true _ _ p.0, ltb-true _ _ p.1)
@@ -40,3 +40,26 @@ has_cells-from c b h =
 -- the facts of an inside box that a 32 bit bin gives
 pub FitsU32-inside : (size : Size) (b : Cuboid) → size.width < 4294967296 → size.height < 4294967296 → size.depth < 4294967296 → IsInside size b → FitsU32 b
 FitsU32-inside size b w h d i = record { fits_x = omega (arith, i.within_x); fits_y = omega (arith, i.within_y); fits_z = omega (arith, i.within_z) }
+
+-- the greater of the two corners is a cell of both
+pub SharesCell-from_spans : (a b : Cuboid)
+    → SpansMeet a.x a.whd.width b.x b.whd.width
+    → SpansMeet a.y a.whd.height b.y b.whd.height
+    → SpansMeet a.z a.whd.depth b.z b.whd.depth
+    → SharesCell a b
+SharesCell-from_spans a b x y z = record {
+  cell = record { i = max a.x b.x; j = max a.y b.y; k = max a.z b.z };
+  in_first = record { from_x = omega arith; below_x = x.0; from_y = omega arith; below_y = y.0; from_z = omega arith; below_z = z.0 };
+  in_second = record { from_x = omega arith; below_x = x.1; from_y = omega arith; below_y = y.1; from_z = omega arith; below_z = z.1 };
+}
+
+-- one axis on which the stretches do not meet is enough
+pub AreApart-from_spans : (a b : Cuboid)
+    → ¬ (SpansMeet a.x a.whd.width b.x b.whd.width × SpansMeet a.y a.whd.height b.y b.whd.height × SpansMeet a.z a.whd.depth b.z b.whd.depth)
+    → AreApart a b
+AreApart-from_spans a b unmet = record { none = λ c p q. unmet ((omega arith, omega arith), (omega arith, omega arith), (omega arith, omega arith)) }
+
+pub ruleset sharing = (SharesCell-from_spans, AreApart-from_spans)
+
+pub not_from_AreApart : (a b : Cuboid) → AreApart a b → ¬ SharesCell a b
+not_from_AreApart a b apart h = apart.none h.cell h.in_first h.in_second

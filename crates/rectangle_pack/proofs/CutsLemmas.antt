@@ -125,7 +125,7 @@ unfolding cuts
 all_six P s m h = all_cuts P s m h orders refl
 
 -- what holds of each element holds of one in the middle
-All-middle : {X : Type 0} (P : X → Type 0) (xs before after : List X) (x : X) → xs ≡ before ++ x ∷ after → All P xs → P x
+pub All-middle : {X : Type 0} (P : X → Type 0) (xs before after : List X) (x : X) → xs ≡ before ++ x ∷ after → All P xs → P x
 All-middle P xs before after x e h =
     let at : P (get_or (before ++ x ∷ after) (length before) x) = subst (λ ys. (k : ℕ) → k < length ys → P (get_or ys k x)) e (λ k l. h k x l) (length before) (simp length-append (omega arith)) in
     subst P (get_or-append_seam before x after x) at

@@ -1,5 +1,5 @@
 -- Sizes, boxes and their cells. All numbers are whole numbers without a bound: nothing wraps.
-use Rattle.std.specs.Prelude.{ℕ, ◌+◌, ◌*◌, ◌<◌, ◌≤◌, ◌&&◌, Bool, nat_le, nat_lt}
+use Rattle.std.specs.Prelude.{ℕ, ◌+◌, ◌*◌, ◌<◌, ◌≤◌, ◌&&◌, Bool, nat_le, nat_lt, max}
 
 -- the axes: x with widths, y with heights, z with depths
 pub data Axis : Type 0 where
@@ -54,6 +54,10 @@ pub record SharesCell (a b : Cuboid) : Type 0 where
   pub cell : Cell
   pub in_first : IsCellOf cell a
   pub in_second : IsCellOf cell b
+
+-- two stretches of an axis, each by its start and its length, have a place in common
+abbrev pub SpansMeet : ℕ → ℕ → ℕ → ℕ → Type 0
+SpansMeet start length other_start other_length = (max start other_start < start + length) × (max start other_start < other_start + other_length)
 
 -- no cell is a cell of both boxes
 pub record AreApart (a b : Cuboid) : Type 0 where

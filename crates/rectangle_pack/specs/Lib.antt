@@ -10,5 +10,6 @@ pub mod Groups
 pub mod Orders
 pub mod Placed
 pub mod Packing
+pub mod Pushes
 pub mod Journal
 pub mod Texts

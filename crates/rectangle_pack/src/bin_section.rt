@@ -1,12 +1,12 @@
 //! Free sections of a bin, and how a box is placed into one.
-ghost use Rattle.std.specs.Prelude.{◌≡◌, ◌↔◌, ◌∷◌, List, IfOk, IsTrue};
+ghost use Rattle.std.specs.Prelude.{◌≡◌, ◌↔◌, ◌∷◌, List, IfOk, IsTrue, MatchBool};
 ghost use Rattle.std.specs.Borrow.{Bor};
-ghost use Rattle.rectangle_pack.specs.Boxes.{Size, Holds, FitsU32, has_cells};
+ghost use Rattle.rectangle_pack.specs.Boxes.{Size, Holds, FitsU32, IsInside, SharesCell, AreApart, SpansMeet, has_cells};
 ghost use Rattle.rectangle_pack.specs.Cuts.{placed, cuts, sizes_of};
 ghost use Rattle.rectangle_pack.specs.Choice.{MayCompare, IsAllowedCut};
 ghost use Rattle.rectangle_pack.specs.SmallestBox.{Rates, AreRates, smallest, second_smallest, IsSmallestOrder};
 ghost use Rattle.rectangle_pack.specs.Fitting.{IsFitAnswer};
-ghost use Rattle.rectangle_pack.specs.Counting.{Tiles, AreAllApart, Cover};
+ghost use Rattle.rectangle_pack.specs.Counting.{Tiles, AreAllApart, Cover, HaveVolumeOf};
 
 use crate::packed_location::PackedLocation;
 use crate::rect_to_insert::RectToInsert;
@@ -149,6 +149,7 @@ impl BinSection {
         ensures location { IfOk result (λ p. p.0 ≡ placed self.now incoming.now) }
         ensures tiles { IfOk result (λ p. Tiles (p.0 ∷ p.1) self.now) }
         ensures apart { IfOk result (λ p. AreAllApart (p.0 ∷ p.1)) }
+        ensures volumes { IfOk result (λ p. HaveVolumeOf (p.0 ∷ p.1) self.now) }
         ensures covers { IfOk result (λ p. Cover (p.0 ∷ p.1) self.now) }
         ensures pieces { IfOk result (λ p. IsAllowedCut (MayCompare C.Fn container_comparison_fn.now heuristic_fn.now) self.now incoming.now p.1) }
     {
@@ -164,6 +165,26 @@ impl BinSection {
         }
         let whd = WidthHeightDepth::from(*incoming);
         Ok((PackedLocation::new(self.x, self.y, self.z, whd), best))
+    }
+
+    /// Whether the two sections share a cell, for all numbers; an empty section shares none.
+    #[tactic(auto, using(crate::proofs::BoxesLemmas::sharing))]
+    pub fn overlaps(&self, other: &BinSection) -> bool
+        ensures { MatchBool result (SharesCell self.now other.now) (AreApart self.now other.now) }
+    {
+        let wide = spans_meet(self.x, self.whd.width(), other.x, other.whd.width());
+        let high = spans_meet(self.y, self.whd.height(), other.y, other.whd.height());
+        let deep = spans_meet(self.z, self.whd.depth(), other.z, other.whd.depth());
+        wide && high && deep
+    }
+
+    // Whether the section ends inside a bin of this size.
+    pub(crate) fn is_inside(&self, size: &WidthHeightDepth) -> bool
+        ensures { IsTrue result ↔ IsInside size.now self.now }
+    {
+        u64::from(self.x) + u64::from(self.whd.width()) <= u64::from(size.width())
+            && u64::from(self.y) + u64::from(self.whd.height()) <= u64::from(size.height())
+            && u64::from(self.z) + u64::from(self.whd.depth()) <= u64::from(size.depth())
     }
 
     // Whether the section holds the box.
@@ -220,6 +241,15 @@ impl BinSection {
             [right(h, d), above(width, d), behind(width, height)],
         ]
     }
+}
+
+// Whether two stretches of an axis, each by its start and its length, have a place in common.
+fn spans_meet(start: u32, length: u32, other_start: u32, other_length: u32) -> bool
+    ensures { IsTrue result ↔ SpansMeet start length other_start other_length }
+{
+    let first = u64::from(start.max(other_start));
+    first < u64::from(start) + u64::from(length)
+        && first < u64::from(other_start) + u64::from(other_length)
 }
 
 fn section(x: u32, y: u32, z: u32, width: u32, height: u32, depth: u32) -> BinSection

@@ -19,5 +19,5 @@ pub use grouped_rects_to_place::Group;
 pub use pack::Placement;
 pub use packed_location::{PackedLocation, RotatedBy};
 pub use rect_to_insert::RectToInsert;
-pub use target_bin::TargetBin;
+pub use target_bin::{PushBinSectionError, TargetBin};
 pub use width_height_depth::WidthHeightDepth;

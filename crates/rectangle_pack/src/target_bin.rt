@@ -1,7 +1,8 @@
 //! Bins and their free sections.
-ghost use Rattle.std.specs.Prelude.{ℕ, ◌≡◌, ◌+◌, ◌≤◌, ◌<◌, ◌++◌, ◌∷◌, [], List, IfOk, OnOk, OnErr, IfNone, IfSome, IsOk, length, remove, filter, All, AllPairs};
+ghost use Rattle.std.specs.Prelude.{ℕ, ◌≡◌, ◌+◌, ◌≤◌, ◌<◌, ◌++◌, ◌∷◌, [], List, IfOk, OnOk, OnErr, IfNone, IfSome, IsOk, IsTrue, ◌↔◌, length, remove, filter, All, AllPairs};
 ghost use Rattle.std.specs.Borrow.{Bor};
-ghost use Rattle.rectangle_pack.specs.Boxes.{Size, has_cells};
+ghost use Rattle.rectangle_pack.specs.Boxes.{Size, IsInside, AreApart, has_cells};
+ghost use Rattle.rectangle_pack.specs.Pushes.{IsFirstSharing, IsPushAnswer};
 ghost use Rattle.rectangle_pack.specs.Bins.{whole, IsSound, IsAccepted};
 ghost use Rattle.rectangle_pack.specs.Choice.{MayCompare};
 ghost use Rattle.rectangle_pack.specs.Orders.{saturated};
@@ -12,11 +13,43 @@ use crate::bin_section::BinSection;
 use crate::fit_tests::FitTests;
 use crate::packed_location::PackedLocation;
 use crate::rect_to_insert::RectToInsert;
-use crate::trial::{Note, run_trial, undo};
+use crate::trial::{Note, push_pieces, run_trial, undo};
 use crate::width_height_depth::WidthHeightDepth;
 use std::alloc::{AllocError, Allocator, Global};
 use std::cmp::Ordering;
+use std::fmt;
 use std::marker::Model;
+
+/// Why a section was not given back to a bin. The section that was pushed comes with each.
+#[derive(Debug, Clone, Copy)]
+pub enum PushBinSectionError {
+    /// It is not inside the bin.
+    OutOfBounds(BinSection),
+    /// It is inside the bin and shares a cell with a free section, the first such one.
+    Overlaps {
+        remaining_section: BinSection,
+        new_section: BinSection,
+    },
+    /// The bin accepts it, and memory for the list was refused.
+    OutOfMemory(BinSection),
+}
+
+impl fmt::Display for PushBinSectionError {
+    fn fmt<W: fmt::Write>(&self, f: &mut fmt::Formatter<W>) -> fmt::Result {
+        match self {
+            PushBinSectionError::OutOfBounds(section) => f.debug_tuple("BinSection").field(section).finish(),
+            PushBinSectionError::Overlaps {
+                remaining_section,
+                new_section,
+            } => f
+                .debug_struct("Overlaps")
+                .field("remaining_section", remaining_section)
+                .field("new_section", new_section)
+                .finish(),
+            PushBinSectionError::OutOfMemory(_) => write!(f, "Out of memory."),
+        }
+    }
+}
 
 /// A bin: its size, and the list of its free sections. Each free section is inside the bin, and no two share a cell.
 #[derive(Drop)]
@@ -35,6 +68,19 @@ impl<A: Allocator + Copy> Model for TargetBin<A> {
     ghost view = { λ b. record { bin = record { size = b.max_size; sections = b.available_bin_sections.items }; room = vec_capacity b.available_bin_sections } };
 
     ghost invariant = { λ b. IsSound b.max_size b.available_bin_sections.items };
+}
+
+// The first section that shares a cell with the given one.
+fn first_sharing(sections: &[BinSection], section: &BinSection) -> Option<BinSection>
+    ensures none { IfNone result (All (λ s. AreApart s section.now) sections.now) }
+    ensures first { IfSome result (IsFirstSharing sections.now section.now) }
+{
+    for s in sections {
+        if s.overlaps(section) {
+            return Some(*s);
+        }
+    }
+    None
 }
 
 impl<A: Allocator + Copy> TargetBin<A> {
@@ -65,6 +111,82 @@ impl<A: Allocator + Copy> TargetBin<A> {
         ensures sound { IsSound self.now.bin.size self.now.bin.sections }
     {
         &self.available_bin_sections
+    }
+
+    /// An equal bin, with a list of its own.
+    pub fn clone(&self) -> Result<Self, AllocError>
+        ensures { IfOk result (λ b. b.bin ≡ self.now.bin) }
+    {
+        let mut available_bin_sections = Vec::new(*self.available_bin_sections.allocator());
+        available_bin_sections.extend_from_slice(self.available_bin_sections.as_slice())?;
+        Ok(TargetBin {
+            max_size: self.max_size,
+            available_bin_sections,
+        })
+    }
+
+    /// Whether the section is inside the bin and shares no cell with a free section.
+    pub fn accepts(&self, section: &BinSection) -> bool
+        ensures { IsTrue result ↔ IsAccepted self.now.bin section.now }
+    {
+        section.is_inside(&self.max_size)
+            && first_sharing(self.available_bin_sections.as_slice(), section).is_none()
+    }
+
+    /// Takes the section at the index out of the list, which closes up. The caller sees to it that the index is
+    /// below the length of the list.
+    pub fn remove_filled_section(&mut self, idx: usize)
+        requires { idx < length self.old.bin.sections }
+        ensures { self.new.bin ≡ record self.old.bin { sections = remove self.old.bin.sections idx } }
+    {
+        self.available_bin_sections.remove(idx);
+    }
+
+    /// Puts those of the three sections that are not empty at the end of the list, in this order. An error is want
+    /// of memory, and leaves the bin as it was.
+    ///
+    /// The caller sees to it that they are inside the bin and share no cell with each other or with a free section.
+    pub fn add_new_sections(&mut self, sections: [BinSection; 3]) -> Result<(), AllocError>
+        requires inside { All (IsInside self.old.bin.size) (filter has_cells sections) }
+        requires apart { AllPairs AreApart (self.old.bin.sections ++ filter has_cells sections) }
+        ensures ok { OnOk result (self.new.bin ≡ record self.old.bin { sections = self.old.bin.sections ++ filter has_cells sections }) }
+        ensures err { OnErr result (self.new.bin ≡ self.old.bin) }
+    {
+        self.available_bin_sections.reserve(3)?;
+        push_pieces(&mut self.available_bin_sections, sections);
+        Ok(())
+    }
+
+    /// Gives a section back: puts it at the end of the list where the bin accepts it. An error leaves the bin as it
+    /// was; an empty section inside the bin is accepted.
+    pub fn push_available_bin_section(&mut self, bin_section: BinSection) -> Result<(), PushBinSectionError>
+        ensures { IsPushAnswer self.old.bin bin_section result self.new.bin }
+    {
+        if !bin_section.is_inside(&self.max_size) {
+            return Err(PushBinSectionError::OutOfBounds(bin_section));
+        }
+        let sections = self.available_bin_sections.as_slice();
+        if let Some(remaining_section) = first_sharing(sections, &bin_section) {
+            return Err(PushBinSectionError::Overlaps {
+                remaining_section,
+                new_section: bin_section,
+            });
+        }
+        match self.push_available_bin_section_unchecked(bin_section) {
+            Ok(()) => Ok(()),
+            Err(_) => Err(PushBinSectionError::OutOfMemory(bin_section)),
+        }
+    }
+
+    /// Puts a section at the end of the list. The caller sees to it that the bin accepts it. An error is want of
+    /// memory, and leaves the bin as it was.
+    pub fn push_available_bin_section_unchecked(&mut self, bin_section: BinSection) -> Result<(), AllocError>
+        requires { IsAccepted self.old.bin bin_section }
+        ensures ok { OnOk result (self.new.bin ≡ record self.old.bin { sections = self.old.bin.sections ++ bin_section ∷ [] }) }
+        ensures err { OnErr result (self.new.bin ≡ self.old.bin) }
+    {
+        self.available_bin_sections.push(bin_section)?;
+        Ok(())
     }
 
     /// One trial: places the members in order, each into the newest section that holds it, and answers their

@@ -5,6 +5,7 @@ use Rattle.rectangle_pack.specs.Choice.{MayCompare, MayChoose}
 use Rattle.rectangle_pack.specs.Counting.{Tiles}
 use Rattle.rectangle_pack.proofs.PassLemmas.{pass_start, pass_keeps, pass_moves, not_greater, is_greater}
 use Rattle.rectangle_pack.proofs.CutsLemmas.{chosen_tiles, length-cuts, take_cuts}
+use Rattle.rectangle_pack.proofs.VolumesLemmas.{chosen_volumes}
 use Rattle.rectangle_pack.proofs.CountingLemmas.{tiles_apart, tiles_cover}
 use Rattle.rectangle_pack.proofs.bin_section.BinSection.try_place.Goals as goal
 use Rattle.rectangle_pack.proofs.bin_section.BinSection.try_place.Goals.{then-ne, else-ne}
@@ -43,3 +44,8 @@ returns-clause-apart g c = tiles_apart _ _ (returns-clause-tiles g c)
 
 pub returns-clause-covers : goal.returns-clause-covers
 returns-clause-covers g c = tiles_cover _ _ (returns-clause-tiles g c)
+
+pub returns-clause-volumes : goal.returns-clause-volumes
+returns-clause-volumes g c =
+    let corner : c.new.result ≡ placed c.args.self.now c.args.incoming.now = search rules in
+    rw corner (chosen_volumes c.args.self.now c.args.incoming.now c.loop-next.best (search rules) (returns-clause-pieces g c))

@@ -1,0 +1,92 @@
+//! What a line says.
+ghost use Rattle.std.specs.Prelude.{◌≡◌, ◌^◌, MatchOption};
+ghost use Rattle.packrun.specs.Words.{IsNumberBelow, number_of};
+
+use std::str;
+use std::str::SplitAsciiWhitespace;
+
+/// The sizes that a line names, in cells.
+#[derive(Clone, Copy, Debug, PartialEq, Eq, Drop)]
+pub struct Size {
+    pub width: u32,
+    pub height: u32,
+    pub depth: u32,
+}
+
+/// What a line says, in its words as they were read.
+#[derive(Drop)]
+pub enum Command<'a> {
+    /// A line without words.
+    Nothing,
+    /// A new bin.
+    Bin {
+        name: &'a str,
+        size: Size,
+    },
+    /// A box to place, in the groups that the other words name.
+    Rect {
+        id: &'a str,
+        size: Size,
+        groups: SplitAsciiWhitespace<'a>,
+    },
+    /// Places the boxes.
+    Pack,
+}
+
+/// What the line says, or `None` where it is bad.
+pub fn parse(line: &[u8]) -> Option<Command<'_>> {
+    if !line.iter().all(|byte| may_stand(*byte)) {
+        return None;
+    }
+    let mut words = str::from_utf8(line).ok()?.split_ascii_whitespace();
+    let command = match words.next() {
+        None => Command::Nothing,
+        Some("bin") => Command::Bin {
+            name: words.next()?,
+            size: next_size(&mut words)?,
+        },
+        Some("rect") => {
+            return Some(Command::Rect {
+                id: words.next()?,
+                size: next_size(&mut words)?,
+                groups: words,
+            });
+        }
+        Some("pack") => Command::Pack,
+        Some(_) => return None,
+    };
+    match words.next() {
+        None => Some(command),
+        Some(_) => None,
+    }
+}
+
+// A byte of a word, or one that separates words.
+fn may_stand(byte: u8) -> bool {
+    byte == b' ' || byte == b'\t' || byte == b'\r' || byte.is_ascii_graphic()
+}
+
+fn next_size(words: &mut SplitAsciiWhitespace<'_>) -> Option<Size> {
+    Some(Size {
+        width: parse_side(words.next()?)?,
+        height: parse_side(words.next()?)?,
+        depth: parse_side(words.next()?)?,
+    })
+}
+
+fn parse_side(word: &str) -> Option<u32>
+    ensures { MatchOption result (¬ (IsNumberBelow (2 ^ 32) word.now)) (λ n. IsNumberBelow (2 ^ 32) word.now × (n ≡ number_of word.now)) }
+{
+    u32::try_from(parse_number(word)?).ok()
+}
+
+/// The number that decimal digits say, with any zeros before it.
+pub fn parse_number(word: &str) -> Option<u64>
+    ensures { MatchOption result (¬ (IsNumberBelow (2 ^ 64) word.now)) (λ n. IsNumberBelow (2 ^ 64) word.now × (n ≡ number_of word.now)) }
+{
+    // What `parse` takes beside digits is a sign in front.
+    if word.as_bytes().first() == Some(&b'+') {
+        return None;
+    }
+    word.parse::<u64>().ok()
+}

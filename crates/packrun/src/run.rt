@@ -1,0 +1,99 @@
+//! Commands, a line each, from a reader to a writer.
+
+use crate::command::parse;
+use crate::outcome::Outcome;
+use crate::stop::Stop;
+use crate::store::Store;
+use std::alloc::Allocator;
+use std::io::{BufRead, BufReader, BufWriter, Read, Write};
+
+// The most bytes that a line may have, its LF not counted.
+const LONGEST_LINE: usize = 4096;
+
+/// Obeys the commands of `reader`, a line each, and prints to `writer`.
+///
+/// Lines are numbered from 1, and placements from 0. What lines before the end printed stands. Where the last line
+/// of a run cannot be printed, the outcome is `IoFailed`.
+pub fn run_lines<R: Read, W: Write, A: Allocator + Copy>(
+    alloc: A,
+    reader: &mut R,
+    writer: &mut W,
+) -> Outcome {
+    let Ok(mut out) = BufWriter::new(alloc, &mut *writer) else {
+        return end(Err(Stop::NoMemory), writer);
+    };
+    let ended = obey_all(alloc, reader, &mut out);
+    let outcome = end(ended, &mut out);
+    // Not dropped: a drop would write again what could not be written.
+    let _ = out.into_parts();
+    outcome
+}
+
+// Obeys each line, until the input ends or something stops it. What is printed is flushed before each read.
+fn obey_all<R: Read, W: Write, A: Allocator + Copy>(
+    alloc: A,
+    reader: &mut R,
+    out: &mut W,
+) -> Result<(), Stop> {
+    let mut store = Store::new(alloc, 0);
+    let Ok(mut input) = BufReader::new(alloc, reader) else {
+        return Err(Stop::NoMemory);
+    };
+    // With this room a line takes no memory, so an error of `read_until` is the reader's.
+    let mut line = Vec::with_capacity(alloc, LONGEST_LINE + 1)?;
+    let mut total = 0u64;
+    for number in 1..=u64::MAX {
+        if !input.buffer().contains(&b'\n') {
+            out.flush()?;
+        }
+        line.clear();
+        let count = input
+            .by_ref()
+            .take(LONGEST_LINE as u64 + 1)
+            .read_until(b'\n', &mut line)?;
+        if count == 0 {
+            return Ok(());
+        }
+        let Some(sum) = total.checked_add(count as u64) else {
+            return Err(Stop::IoFailed);
+        };
+        total = sum;
+        obey_line(&mut store, number, line.as_slice(), out)?;
+    }
+    Err(Stop::IoFailed)
+}
+
+fn obey_line<W: Write, A: Allocator + Copy>(
+    store: &mut Store<A>,
+    number: u64,
+    line: &[u8],
+    out: &mut W,
+) -> Result<(), Stop> {
+    let line = line.strip_suffix(b"\n").unwrap_or(line);
+    if line.len() > LONGEST_LINE {
+        return Err(Stop::BadLine(number));
+    }
+    match parse(line) {
+        Some(command) => store.obey(command, out),
+        None => Err(Stop::BadLine(number)),
+    }
+}
+
+// Prints the last line, where the end has one.
+fn end<W: Write>(ended: Result<(), Stop>, out: &mut W) -> Outcome {
+    let (outcome, printed) = match ended {
+        Ok(()) => (Outcome::Done, Ok(())),
+        Err(Stop::BadLine(number)) => {
+            (
+                Outcome::BadLine(number),
+                writeln!(out, "line {number} is bad"),
+            )
+        }
+        Err(Stop::NoMemory) => (Outcome::NoMemory, writeln!(out, "Out of memory.")),
+        Err(Stop::IoFailed) => return Outcome::IoFailed,
+    };
+    if printed.is_err() || out.flush().is_err() {
+        return Outcome::IoFailed;
+    }
+    outcome
+}

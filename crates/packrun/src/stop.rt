@@ -1,0 +1,34 @@
+//! Why a run ends before its input does.
+
+use std::alloc::{AllocError, AllocFailed};
+use std::io;
+
+/// Why a run ends before its input does.
+#[derive(Clone, Copy, Debug, PartialEq, Eq, Drop)]
+pub enum Stop {
+    /// The line with this number is bad.
+    BadLine(u64),
+    /// Memory was refused.
+    NoMemory,
+    /// A read or a write failed, or the input is too long.
+    IoFailed,
+}
+
+impl From<AllocError> for Stop {
+    fn from(_error: AllocError) -> Stop {
+        Stop::NoMemory
+    }
+}
+
+impl<T: Drop> From<AllocFailed<T>> for Stop {
+    fn from(_error: AllocFailed<T>) -> Stop {
+        Stop::NoMemory
+    }
+}
+
+// What a reader or a writer answers. A buffer that could not be made is told apart where it is made.
+impl From<io::Error> for Stop {
+    fn from(_error: io::Error) -> Stop {
+        Stop::IoFailed
+    }
+}

@@ -1,0 +1,113 @@
+//! Whole runs over memory.
+
+mod failures;
+mod packings;
+mod reading;
+
+use crate::outcome::Outcome;
+use crate::run::run_lines;
+use std::alloc::Global;
+use std::io;
+use std::io::{Cursor, Read, Write};
+use std::process::Abort;
+use std::test::Fail;
+
+// Gives its bytes in pieces, and fails once so many reads were good.
+#[derive(Drop)]
+struct Pieces<'a> {
+    bytes: &'a [u8],
+    piece: usize,
+    good_reads: u64,
+}
+
+impl Read for Pieces<'_> {
+    fn read(&mut self, buf: &mut [u8]) -> io::Result<usize> {
+        if self.good_reads == 0 {
+            return Err(io::Error::from(io::ErrorKind::Other));
+        }
+        self.good_reads -= 1;
+        let most = self.piece.min(buf.len());
+        self.bytes.read(&mut buf[..most])
+    }
+}
+
+// Keeps what is written, and fails once so many writes were good.
+#[derive(Drop)]
+struct Kept {
+    bytes: Cursor<[u8; 512]>,
+    good_writes: u64,
+}
+
+impl Kept {
+    fn new(good_writes: u64) -> Kept {
+        Kept {
+            bytes: Cursor::new([0; 512]),
+            good_writes,
+        }
+    }
+
+    fn written(&self) -> &[u8] {
+        let all = self.bytes.get_ref();
+        let count = (self.bytes.position() as usize).min(all.len());
+        &all[..count]
+    }
+}
+
+impl Write for Kept {
+    fn write(&mut self, buf: &[u8]) -> io::Result<usize> {
+        if self.good_writes == 0 {
+            return Err(io::Error::from(io::ErrorKind::Other));
+        }
+        self.good_writes -= 1;
+        self.bytes.write(buf)
+    }
+
+    fn flush(&mut self) -> io::Result<()> {
+        Ok(())
+    }
+}
+
+// The input, whole and in pieces, prints this and ends so.
+fn says(
+    rt: &impl Abort,
+    alloc: Global,
+    input: &[u8],
+    output: &str,
+    outcome: Outcome,
+) -> Result<(), Fail> {
+    let mut whole = input;
+    let mut written = Vec::new(alloc);
+    assert_eq!(rt;
+        run_lines(alloc, &mut whole, &mut written),
+        outcome,
+        "{output}"
+    );
+    assert_eq!(rt; written.as_slice(), output.as_bytes(), "{output}");
+    for piece in [1, 2, 3, 7] {
+        let mut reader = Pieces {
+            bytes: input,
+            piece,
+            good_reads: u64::MAX,
+        };
+        written.clear();
+        assert_eq!(rt;
+            run_lines(alloc, &mut reader, &mut written),
+            outcome,
+            "{output}"
+        );
+        assert_eq!(rt; written.as_slice(), output.as_bytes(), "{output}");
+    }
+    Ok(())
+}
+
+#[test]
+fn statuses(rt: HostRuntime) {
+    for (outcome, status) in [
+        (Outcome::Done, 0),
+        (Outcome::IoFailed, 1),
+        (Outcome::BadLine(7), 2),
+        (Outcome::NoMemory, 3),
+    ] {
+        assert_eq!(rt; outcome.status(), status);
+    }
+}

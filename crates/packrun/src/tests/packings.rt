@@ -1,0 +1,100 @@
+//! What packings print.
+
+use super::says;
+use crate::command::parse;
+use crate::outcome::Outcome;
+use crate::store::Store;
+use std::test::Fail;
+
+#[test]
+fn one_box(rt: HostRuntime) -> Result<(), Fail> {
+    says(
+        &rt,
+        rt.alloc(),
+        b"bin a 100 100 1\nrect one 50 90 1\npack\n",
+        "ok\nok\n0 one a 0 0 0 50 90 1\npacked 1\n",
+        Outcome::Done,
+    )
+}
+
+#[test]
+fn newest_section_first(rt: HostRuntime) -> Result<(), Fail> {
+    says(
+        &rt,
+        rt.alloc(),
+        b"bin a 100 100 1\nrect one 60 95 1\nrect two 40 10 1\nrect three 1 1 1\npack\n",
+        "ok\nok\nok\nok\n0 one a 0 0 0 60 95 1\n1 two a 60 0 0 40 10 1\n2 three a 60 10 0 1 1 1\npacked 3\n",
+        Outcome::Done,
+    )
+}
+
+#[test]
+fn groups_and_bins(rt: HostRuntime) -> Result<(), Fail> {
+    says(
+        &rt,
+        rt.alloc(),
+        b"bin A 2048 2048 255\nbin B 4096 4096 1020\nrect one 10 20 255 g\nrect two 5 50 255 g\nrect three 30 30 255\npack\n",
+        "ok\nok\nok\nok\nok\n0 three A 0 0 0 30 30 255\n1 one A 30 0 0 10 20 255\n2 two A 0 30 0 5 50 255\npacked 3\n",
+        Outcome::Done,
+    )
+}
+
+// Numbers go on from packing to packing, and each packing begins with an empty collection.
+#[test]
+fn several_packings(rt: HostRuntime) -> Result<(), Fail> {
+    says(
+        &rt,
+        rt.alloc(),
+        b"pack\nbin a 10 10 1\nrect p 4 10 1\npack\nrect q 6 10 1\npack\npack\n",
+        "packed 0\nok\nok\n0 p a 0 0 0 4 10 1\npacked 1\nok\n1 q a 4 0 0 6 10 1\npacked 1\npacked 0\n",
+        Outcome::Done,
+    )
+}
+
+// The box is kept, and placed once there is a bin for it.
+#[test]
+fn kept_collection(rt: HostRuntime) -> Result<(), Fail> {
+    says(
+        &rt,
+        rt.alloc(),
+        b"rect one 4 4 1\npack\nbin a 3 3 1\nbin a 9 9 1\npack\nbin b 4 4 1\npack\nrect three 1 1",
+        "ok\nrefused: Not enough space to place all of the rectangles.\nok\nrefused: bin a exists\nrefused: Not enough space to place all of the rectangles.\nok\n0 one b 0 0 0 4 4 1\npacked 1\nline 8 is bad\n",
+        Outcome::BadLine(8),
+    )
+}
+
+// A box goes once into each group that its line names, as often as it is named.
+#[test]
+fn box_in_several_groups(rt: HostRuntime) -> Result<(), Fail> {
+    says(
+        &rt,
+        rt.alloc(),
+        b"bin a 8 8 1\nrect one 4 4 1 0 1\npack\n",
+        "ok\nok\n0 one a 0 0 0 4 4 1\n1 one a 4 0 0 4 4 1\npacked 2\n",
+        Outcome::Done,
+    )
+}
+
+// The greatest number is never given.
+#[test]
+fn last_numbers(rt: HostRuntime) -> Result<(), Fail> {
+    let alloc = rt.alloc();
+    let mut store = Store::new(alloc, u64::MAX - 1);
+    let mut written = Vec::new(alloc);
+    for line in [
+        "bin a 8 8 1",
+        "rect one 4 4 1",
+        "pack",
+        "pack",
+        "rect two 4 4 1",
+        "pack",
+        "pack",
+    ] {
+        let command = parse(line.as_bytes()).ok_or("a bad line")?;
+        assert!(rt; store.obey(command, &mut written).is_ok());
+    }
+    let printed =
+        "ok\nok\n18446744073709551614 one a 0 0 0 4 4 1\npacked 1\npacked 0\nok\nrefused: numbers are used up\nrefused: numbers are used up\n";
+    assert_eq!(rt; written.as_slice(), printed.as_bytes());
+    Ok(())
+}

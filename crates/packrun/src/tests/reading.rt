@@ -1,0 +1,118 @@
+//! How lines are read.
+
+use super::says;
+use crate::outcome::Outcome;
+use std::test::Fail;
+
+#[test]
+fn good_lines(rt: HostRuntime) -> Result<(), Fail> {
+    let alloc = rt.alloc();
+    for (input, output) in [
+        ("", ""),
+        ("\n \t\r\n", ""),
+        ("pack", "packed 0\n"),
+        (
+            "\t bin\ra 007 2 1 \r\nrect\tb 7 02 1\r\n\rpack\t",
+            "ok\nok\n0 b a 0 0 0 7 2 1\npacked 1\n",
+        ),
+        (
+            "bin !\"~ 1 1 1\nbin !\"~ 2 2 2\nbin pack 1 1 1\nbin PACK 0 0 0\n",
+            "ok\nrefused: bin !\"~ exists\nok\nok\n",
+        ),
+        (
+            "bin a 4294967295 1 1\nrect bin 04294967295 1 1\npack\n",
+            "ok\nok\n0 bin a 0 0 0 4294967295 1 1\npacked 1\n",
+        ),
+        (
+            "bin z 0 5 1\nrect e 0 5 1\npack\n",
+            "ok\nok\n0 e z 0 0 0 0 5 1\npacked 1\n",
+        ),
+    ] {
+        says(&rt, alloc, input.as_bytes(), output, Outcome::Done)?;
+    }
+    Ok(())
+}
+
+#[test]
+fn blank_lines_count(rt: HostRuntime) -> Result<(), Fail> {
+    says(
+        &rt,
+        rt.alloc(),
+        b"bin a 007 2 1\n\nbin b 1 1\nbin c 1 1 1\n",
+        "ok\nline 3 is bad\n",
+        Outcome::BadLine(3),
+    )
+}
+
+#[test]
+fn bad_lines(rt: HostRuntime) -> Result<(), Fail> {
+    let alloc = rt.alloc();
+    for input in [
+        "bin",
+        "bin a",
+        "bin a 1 1",
+        "bin a 1 1 1 1",
+        "bin a 4294967296 1 1",
+        "bin a 1 4294967296 1",
+        "bin a 1 1 4294967296",
+        "bin a 18446744073709551616 1 1",
+        "bin a -1 1 1",
+        "bin a +1 1 1",
+        "bin a 1x 1 1",
+        "bin a 1_0 1 1",
+        "bin a 0x1 1 1",
+        "rect",
+        "rect a 1 1",
+        "rect a 1 1 g",
+        "rect a -1 1 1 g",
+        "Pack",
+        "pack 1",
+        "packs",
+        "unpack a",
+        "bin a\u{7f} 1 1 1",
+        "bin \u{e9} 1 1 1",
+        "bin\0 a 1 1 1",
+        "\u{b}",
+        "\u{c}",
+    ] {
+        says(
+            &rt,
+            alloc,
+            input.as_bytes(),
+            "line 1 is bad\n",
+            Outcome::BadLine(1),
+        )?;
+    }
+    says(
+        &rt,
+        alloc,
+        b"bin \xff 1 1 1",
+        "line 1 is bad\n",
+        Outcome::BadLine(1),
+    )
+}
+
+// A line of 4096 bytes is the longest; a longer one is bad, whatever it says.
+#[test]
+fn longest_lines(rt: HostRuntime) -> Result<(), Fail> {
+    let alloc = rt.alloc();
+    for (length, output, outcome) in [
+        (4096, "ok\npacked 0\n", Outcome::Done),
+        (4097, "line 1 is bad\n", Outcome::BadLine(1)),
+        (20000, "line 1 is bad\n", Outcome::BadLine(1)),
+    ] {
+        let mut line = Vec::new(alloc);
+        line.extend_from_slice(b"bin a 7 1 1")?;
+        line.resize(length, b' ')?;
+        says(
+            &rt,
+            alloc,
+            line.as_slice(),
+            output.strip_suffix("packed 0\n").unwrap_or(output),
+            outcome,
+        )?;
+        line.extend_from_slice(b"\npack")?;
+        says(&rt, alloc, line.as_slice(), output, outcome)?;
+    }
+    Ok(())
+}

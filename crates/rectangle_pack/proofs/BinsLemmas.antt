@@ -1,0 +1,53 @@
+-- What keeps the sections of a bin sound, and what a bin accepts.
+use Rattle.std.proofs.Common.{◌≡◌, ℕ, suc, ◌+◌, ◌<◌, ◌≤◌, List, [], ◌∷◌, ◌++◌, length, get_or, take, drop, arith, rules, refl, subst, sym, ap}
+use Rattle.std.specs.Prelude.{All, AllPairs, remove, Option, Some, None, IfNone, IfSome, IsTrue, is_some, not, true, false, Bool, ◌↔◌}
+use Rattle.std.proofs.Math.Seq.{split_at}
+use Rattle.std.proofs.lemmas.List.Quantifiers.{all_pairs_push, all_pairs_remove}
+use Rattle.std.proofs.lemmas.List.Elements.{All-push, All-append, All-take, All-drop, All-head}
+use Rattle.rectangle_pack.specs.Boxes.{Size, Cuboid, IsInside, AreApart, SharesCell}
+use Rattle.rectangle_pack.specs.Bins.{IsSound, IsAccepted, Bin}
+use Rattle.rectangle_pack.specs.Pushes.{IsFirstSharing}
+use Rattle.rectangle_pack.proofs.BoxesLemmas.{not_from_AreApart}
+use Rattle.rectangle_pack.proofs.StepsLemmas.{All-back}
+
+pub IsSound-remove : (size : Size) (sections : List Cuboid) (i : ℕ) → i < length sections → IsSound size sections → IsSound size (remove sections i)
+IsSound-remove size sections i within sound = record {
+  inside = All-append (IsInside size) (take i sections) (drop (suc i) sections) (All-take (IsInside size) i sections sound.inside) (All-drop (IsInside size) (suc i) sections sound.inside);
+  apart = all_pairs_remove AreApart sections i within sound.apart;
+}
+
+pub IsSound-push : (size : Size) (sections : List Cuboid) (s : Cuboid) → IsSound size sections → IsAccepted (record { size = size; sections = sections }) s → IsSound size (sections ++ s ∷ [])
+IsSound-push size sections s sound accepted = record {
+  inside = All-push (IsInside size) sections s sound.inside accepted.inside;
+  apart = all_pairs_push AreApart sections s sound.apart accepted.apart;
+}
+
+-- a section that shares a cell with the box stands in the way
+pub not_accepted : (bin : Bin) (box first : Cuboid) → IsFirstSharing bin.sections box first → ¬ IsAccepted bin box
+not_accepted bin box first found accepted =
+    let apart : All (λ s. AreApart s box) (found.before ++ first ∷ found.after) = rw found.splits at accepted.apart in
+    not_from_AreApart first box (All-head (λ s. AreApart s box) first found.after (All-back (λ s. AreApart s box) found.before (first ∷ found.after) apart)) found.shares
+
+-- the first that shares a cell, where all before it do not
+pub first_at : (sections : List Cuboid) (box : Cuboid) (i : ℕ) (s : Cuboid) → i < length sections → s ≡ get_or sections i s → All (λ t. AreApart t box) (take i sections) → SharesCell s box → IsFirstSharing sections box s
+first_at sections box i s within read apart shares = record {
+  before = take i sections;
+  after = drop (suc i) sections;
+  splits = subst (λ (t : Cuboid). sections ≡ take i sections ++ t ∷ drop (suc i) sections) (sym read) (split_at sections i s within);
+  shares = shares;
+  apart = apart;
+}
+
+not_true : (r : Bool) → not r ≡ false → r ≡ true
+not_true true h = refl
+not_true false h = cc
+
+not_false : (r : Bool) → not r ≡ true → r ≡ true → ⊥
+not_false true h t = cc
+not_false false h t = cc
+
+-- a box inside a bin is accepted where no section stands in the way
+pub accepts_by : (bin : Bin) (box : Cuboid) (found : Option Cuboid) (r : Bool) → is_some found ≡ not r → IsInside bin.size box
+    → IfNone found (All (λ s. AreApart s box) bin.sections) → IfSome found (IsFirstSharing bin.sections box) → IsTrue r ↔ IsAccepted bin box
+accepts_by bin box None r e inside apart first = (λ t. record { inside = inside; apart = apart }, λ accepted. not_true r (sym e))
+accepts_by bin box (Some s) r e inside apart first = (λ t. absurd (not_false r (sym e) t), λ accepted. absurd (not_accepted bin box s first accepted))
