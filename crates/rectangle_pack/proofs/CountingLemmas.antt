@@ -7,6 +7,7 @@ use Rattle.std.proofs.lemmas.List.Sums.{sum_by-append, count_by-le-length}
 use Rattle.std.proofs.lemmas.List.Folds.{Any-from_list_any, list_any-from_Any}
 use Rattle.rectangle_pack.specs.Boxes.{Cuboid, Cell, IsCellOf, AreApart, is_cell_of}
 use Rattle.rectangle_pack.specs.Counting.{times_filled, Tiles, AreAllApart, Cover}
+use Rattle.rectangle_pack.specs.Keeping.{KeepCells}
 use Rattle.rectangle_pack.proofs.BoxesLemmas.{is_cell_of-true, is_cell_of-from}
 
 module _ {X : Type 0} (p : X → Bool) where
@@ -132,3 +133,13 @@ counts_from_apart c (b ∷ bs) h = by (counts_from_apart c bs (AllPairs-tail Are
     by : count_by (is_cell_of c) bs ≤ 1 → (t : Bool) → is_cell_of c b ≡ t → count_by (is_cell_of c) (b ∷ bs) ≤ 1
     by ih true q = let none : count_by (is_cell_of c) bs ≡ 0 = unfilled c b (is_cell_of-true c b q) bs (AllPairs-head AreApart b bs h) in omega (arith, count_yes (is_cell_of c) b bs q)
     by ih false q = omega (arith, count_no (is_cell_of c) b bs q)
+
+-- boxes that fill each cell as often as others that are apart keep the cells
+pub KeepCells-from_counts : (old new : List Cuboid) → AreAllApart old → ((c : Cell) → times_filled c new ≡ times_filled c old) → KeepCells old new
+KeepCells-from_counts old new apart same = record {
+  apart = apart_from_counts new (λ c. omega (arith, same c, counts_from_apart c old apart));
+  cells = λ c. (
+    (λ some. some_from_filled c new (omega (arith, same c, filled_from_some c old some))),
+    (λ some. some_from_filled c old (omega (arith, same c, filled_from_some c new some))),
+  );
+}

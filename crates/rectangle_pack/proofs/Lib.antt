@@ -2,7 +2,9 @@ pub mod BinsLemmas
 pub mod BoxesLemmas
 pub mod CountingLemmas
 pub mod CutsLemmas
+pub mod OrderLemmas
 pub mod PassLemmas
+pub mod SmallestBoxLemmas
 pub mod StepsLemmas
 pub mod TrialLemmas
 pub mod VolumesLemmas

@@ -11,10 +11,11 @@ use Rattle.std.proofs.lemmas.List.Sorted.{IsPermutation-refl, IsPermutation-cons
 use Rattle.rectangle_pack.specs.Boxes.{Size, Cuboid, Cell, IsCellOf, Holds, FitsU32, IsInside, AreApart, is_cell_of, has_cells}
 use Rattle.rectangle_pack.specs.Bins.{IsSound}
 use Rattle.rectangle_pack.specs.Cuts.{placed}
-use Rattle.rectangle_pack.specs.Counting.{times_filled}
+use Rattle.rectangle_pack.specs.Counting.{times_filled, AreAllApart}
+use Rattle.rectangle_pack.specs.Keeping.{KeepCells}
 use Rattle.rectangle_pack.specs.Steps.{put_in, by_falling_rate, AreLeft, IsStep, IsDone}
 use Rattle.rectangle_pack.proofs.BoxesLemmas.{has_cells-from}
-use Rattle.rectangle_pack.proofs.CountingLemmas.{count-cons, count_yes, count_no, filled-append, filled-cons, filled-nil, filled_yes, apart_from_counts, counts_from_apart}
+use Rattle.rectangle_pack.proofs.CountingLemmas.{count-cons, count_yes, count_no, filled-append, filled-cons, filled-nil, filled_yes, apart_from_counts, counts_from_apart, KeepCells-from_counts}
 use Rattle.rectangle_pack.proofs.CutsLemmas.{EndsBy, chosen_ends, chosen_tiles, length-chosen}
 
 -- putting in only moves elements
@@ -161,3 +162,7 @@ module _ (MayRate : Size → ℕ → Type 0) (MayPrefer : List Size → List Siz
     inside = IsDone-inside size sections ms ls last n done sound.inside;
     apart = apart_from_counts last (λ c. omega (arith, filled-done c sections ms ls last n done, counts_from_apart c sections sound.apart));
   }
+
+  -- and keeps the cells
+  pub KeepCells-done : (sections : List Cuboid) (ms : List Size) (ls last : List Cuboid) (n : ℕ) → AreAllApart sections → IsDone MayRate MayPrefer sections ms ls last n → KeepCells sections (last ++ ls)
+  KeepCells-done sections ms ls last n apart done = KeepCells-from_counts sections (last ++ ls) apart (λ c. omega (arith, filled-append c last ls, filled-done c sections ms ls last n done))

@@ -1,4 +1,6 @@
 -- Sizes, boxes and their cells. All numbers are whole numbers without a bound: nothing wraps.
+use Rattle.std.specs.declared.cmp.Ordering.{Ordering}
+use Rattle.std.specs.Ordering.{nat_cmp, ordering_then}
 use Rattle.std.specs.Prelude.{ℕ, ◌+◌, ◌*◌, ◌<◌, ◌≤◌, ◌&&◌, Bool, nat_le, nat_lt, max}
 
 -- the axes: x with widths, y with heights, z with depths
@@ -29,6 +31,14 @@ unfoldable pub start : Axis → Cuboid → ℕ
 start AxisX b = b.x
 start AxisY b = b.y
 start AxisZ b = b.z
+
+-- sizes by width, then by height, then by depth
+abbrev pub size_order : Size → Size → Ordering
+size_order a b = ordering_then (nat_cmp a.width b.width) (ordering_then (nat_cmp a.height b.height) (nat_cmp a.depth b.depth))
+
+-- boxes by x, then by y, then by z, then by size
+abbrev pub section_order : Cuboid → Cuboid → Ordering
+section_order a b = ordering_then (nat_cmp a.x b.x) (ordering_then (nat_cmp a.y b.y) (ordering_then (nat_cmp a.z b.z) (size_order a.whd b.whd)))
 
 -- how many cells a size has
 abbrev pub volume_of : Size → ℕ

@@ -1,5 +1,5 @@
 -- The choice among the six cuts, by a comparison of the sizes of their pieces.
-use Rattle.std.specs.Prelude.{◌≡◌, ◌≢◌, List, [], ◌∷◌, ◌++◌, All, Any, ◌⊎◌, Contains}
+use Rattle.std.specs.Prelude.{◌≡◌, ◌≢◌, ℕ, List, [], ◌∷◌, ◌++◌, All, Any, ◌⊎◌, Contains}
 use Rattle.std.specs.Ordering.{ordering_reverse}
 use Rattle.std.specs.declared.cmp.Ordering.{Ordering}
 use Rattle.std.specs.declared.cmp.Ordering.TheVariants.{Greater}
@@ -13,6 +13,11 @@ pub record MayCompare {C H : Type 0} (g : Shared C (List Size × (List Size × (
   pub shown : Bor H
   pub shows : shown.now ≡ heuristic
   pub says : g.post comparison (first, (second, (shown, tt))) r
+
+-- a heuristic that has at most one answer on each size
+pub record IsFunction (MayRate : Size → ℕ → Type 0) : Type 0 where
+  pub rate : Size → ℕ
+  pub only : (size : Size) (answer : ℕ) → MayRate size answer → answer ≡ rate size
 
 module _ {A : Type 0} (MayAnswer : A → A → Ordering → Type 0) where
   -- the answer on these two may be something else than Greater

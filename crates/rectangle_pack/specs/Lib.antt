@@ -4,6 +4,7 @@ pub mod Choice
 pub mod SmallestBox
 pub mod Fitting
 pub mod Counting
+pub mod Keeping
 pub mod Steps
 pub mod Bins
 pub mod Groups

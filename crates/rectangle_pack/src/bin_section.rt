@@ -1,9 +1,11 @@
 //! Free sections of a bin, and how a box is placed into one.
-ghost use Rattle.std.specs.Prelude.{◌≡◌, ◌↔◌, ◌∷◌, List, IfOk, IsTrue, MatchBool};
+ghost use Rattle.std.specs.Prelude.{◌≡◌, ◌↔◌, ◌∷◌, List, IfOk, IsTrue, true};
+ghost use Rattle.std.specs.Bool.{OnFalse};
 ghost use Rattle.std.specs.Borrow.{Bor};
-ghost use Rattle.rectangle_pack.specs.Boxes.{Size, Holds, FitsU32, IsInside, SharesCell, AreApart, SpansMeet, has_cells};
+ghost use Rattle.std.specs.Cmp.{IsTotalOrder};
+ghost use Rattle.rectangle_pack.specs.Boxes.{Size, Cuboid, section_order, Holds, FitsU32, IsInside, SharesCell, AreApart, SpansMeet, has_cells};
 ghost use Rattle.rectangle_pack.specs.Cuts.{placed, cuts, sizes_of};
-ghost use Rattle.rectangle_pack.specs.Choice.{MayCompare, IsAllowedCut};
+ghost use Rattle.rectangle_pack.specs.Choice.{MayCompare, IsAllowedCut, IsFunction, IsTotalPreorderOn};
 ghost use Rattle.rectangle_pack.specs.SmallestBox.{Rates, AreRates, smallest, second_smallest, IsSmallestOrder};
 ghost use Rattle.rectangle_pack.specs.Fitting.{IsFitAnswer};
 ghost use Rattle.rectangle_pack.specs.Counting.{Tiles, AreAllApart, Cover, HaveVolumeOf};
@@ -170,7 +172,8 @@ impl BinSection {
     /// Whether the two sections share a cell, for all numbers; an empty section shares none.
     #[tactic(auto, using(crate::proofs::BoxesLemmas::sharing))]
     pub fn overlaps(&self, other: &BinSection) -> bool
-        ensures { MatchBool result (SharesCell self.now other.now) (AreApart self.now other.now) }
+        ensures shares { IsTrue result ↔ SharesCell self.now other.now }
+        ensures apart { OnFalse result (AreApart self.now other.now) }
     {
         let wide = spans_meet(self.x, self.whd.width(), other.x, other.whd.width());
         let high = spans_meet(self.y, self.whd.height(), other.y, other.whd.height());
@@ -289,3 +292,26 @@ impl fmt::Display for BinSectionError {
 }
 
 impl Error for BinSectionError {}
+
+/// A law: sections are in a total order, by x, then by y, then by z, then by size, in which two are equal where they
+/// are the same.
+pub fn sections_are_ordered()
+    ensures total { IsTotalOrder ⟦<BinSection as Ord>⟧.cmp }
+    ensures by_field { (a b : Cuboid) → ⟦<BinSection as Ord>⟧.cmp a b ≡ section_order a b }
+    ensures equal { (a b : Cuboid) → (⟦<BinSection as Ord>⟧.cmp a b ≡ Ordering.Equal) ↔ (a ≡ b) }
+    ensures equality { (a b : Cuboid) → (⟦<BinSection as PartialEq>⟧.eq a b ≡ true) ↔ (a ≡ b) }
+{
+}
+
+/// A law: a box shares a cell with another where the other shares one with it.
+pub fn sharing_is_symmetric()
+    ensures { (a b : Cuboid) → SharesCell a b → SharesCell b a }
+{
+}
+
+/// A law: with a heuristic that has one answer on each size, `contains_smallest_box` is a total preorder on any
+/// triples of sizes, so that `try_place` takes a cut than which none is better.
+pub fn smallest_box_is_preorder<H: Fn(WidthHeightDepth) -> u128>(heuristic: &H)
+    ensures { IsFunction (H.post heuristic.now) → (xs : List (List Size)) → (compare : List Size → List Size → Ordering) × IsTotalPreorderOn (IsSmallestOrder (H.post heuristic.now)) xs compare }
+{
+}

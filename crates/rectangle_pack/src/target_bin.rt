@@ -1,12 +1,14 @@
 //! Bins and their free sections.
 ghost use Rattle.std.specs.Prelude.{ℕ, ◌≡◌, ◌+◌, ◌≤◌, ◌<◌, ◌++◌, ◌∷◌, [], List, IfOk, OnOk, OnErr, IfNone, IfSome, IsOk, IsTrue, ◌↔◌, length, remove, filter, All, AllPairs};
 ghost use Rattle.std.specs.Borrow.{Bor};
-ghost use Rattle.rectangle_pack.specs.Boxes.{Size, IsInside, AreApart, has_cells};
+ghost use Rattle.rectangle_pack.specs.Boxes.{Size, Cuboid, IsInside, AreApart, has_cells};
 ghost use Rattle.rectangle_pack.specs.Pushes.{IsFirstSharing, IsPushAnswer};
 ghost use Rattle.rectangle_pack.specs.Bins.{whole, IsSound, IsAccepted};
 ghost use Rattle.rectangle_pack.specs.Choice.{MayCompare};
+ghost use Rattle.rectangle_pack.specs.Counting.{AreAllApart};
+ghost use Rattle.rectangle_pack.specs.Keeping.{KeepCells};
 ghost use Rattle.rectangle_pack.specs.Orders.{saturated};
-ghost use Rattle.rectangle_pack.specs.Steps.{IsDone, IsStuck};
+ghost use Rattle.rectangle_pack.specs.Steps.{IsStep, IsDone, IsStuck};
 ghost use Rattle.rectangle_pack.specs.Journal.{before_notes, CanUndo};
 
 use crate::bin_section::BinSection;
@@ -269,4 +271,23 @@ impl<A: Allocator + Copy> TargetBin<A> {
     {
         undo(&mut self.available_bin_sections, notes);
     }
+}
+
+/// A law: a step makes a list of sections longer by at most two.
+pub fn step_adds_at_most_two<H, C>(heuristic: &H, comparison: &C)
+where
+    H: Fn(WidthHeightDepth) -> u128,
+    C: Fn([WidthHeightDepth; 3], [WidthHeightDepth; 3], &H) -> Ordering,
+    ensures { (sections next : List Cuboid) (member : Size) (location : Cuboid) (tests : ℕ) → IsStep (H.post heuristic.now) (MayCompare C.Fn comparison.now heuristic.now) sections member location next tests → length next ≤ length sections + 2 }
+{
+}
+
+/// A law: where no two sections of a list share a cell, a trial that is done keeps the cells. The free cells of
+/// before are the free cells of after and the cells of the locations, and no two of these boxes share one.
+pub fn trial_keeps_cells<H, C>(heuristic: &H, comparison: &C)
+where
+    H: Fn(WidthHeightDepth) -> u128,
+    C: Fn([WidthHeightDepth; 3], [WidthHeightDepth; 3], &H) -> Ordering,
+    ensures { (sections last locations : List Cuboid) (members : List Size) (tests : ℕ) → AreAllApart sections → IsDone (H.post heuristic.now) (MayCompare C.Fn comparison.now heuristic.now) sections members locations last tests → KeepCells sections (last ++ locations) }
+{
 }

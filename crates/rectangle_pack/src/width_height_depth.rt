@@ -1,7 +1,9 @@
 //! Sizes.
-ghost use Rattle.std.specs.Prelude.{◌≡◌, ◌<◌};
-ghost use Rattle.rectangle_pack.specs.Boxes.{volume_of};
+ghost use Rattle.std.specs.Prelude.{◌≡◌, ◌<◌, ◌↔◌, true};
+ghost use Rattle.std.specs.Cmp.{IsTotalOrder};
+ghost use Rattle.rectangle_pack.specs.Boxes.{Size, volume_of, size_order};
 
+use std::cmp::Ordering;
 use std::marker::Model;
 
 /// The size of a box: its width, height and depth, in cells.
@@ -73,4 +75,14 @@ impl WidthHeightDepth {
     {
         self.width as u128 * self.height as u128 * self.depth as u128
     }
+}
+
+/// A law: sizes are in a total order, by width, then by height, then by depth, in which two are equal where they are
+/// the same.
+pub fn sizes_are_ordered()
+    ensures total { IsTotalOrder ⟦<WidthHeightDepth as Ord>⟧.cmp }
+    ensures by_field { (a b : Size) → ⟦<WidthHeightDepth as Ord>⟧.cmp a b ≡ size_order a b }
+    ensures equal { (a b : Size) → (⟦<WidthHeightDepth as Ord>⟧.cmp a b ≡ Ordering.Equal) ↔ (a ≡ b) }
+    ensures equality { (a b : Size) → (⟦<WidthHeightDepth as PartialEq>⟧.eq a b ≡ true) ↔ (a ≡ b) }
+{
 }

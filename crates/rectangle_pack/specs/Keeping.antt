@@ -1,0 +1,9 @@
+-- Boxes that make way for others and keep the cells.
+use Rattle.std.specs.Prelude.{◌↔◌, List, Any}
+use Rattle.rectangle_pack.specs.Boxes.{Cuboid, Cell, IsCellOf}
+use Rattle.rectangle_pack.specs.Counting.{AreAllApart}
+
+-- no two of the new boxes share a cell, and a cell is in one of them exactly where it is in one of the old ones
+pub record KeepCells (old new : List Cuboid) : Type 0 where
+  pub apart : AreAllApart new
+  pub cells : (c : Cell) → Any (IsCellOf c) old ↔ Any (IsCellOf c) new
