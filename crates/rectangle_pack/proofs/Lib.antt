@@ -2,6 +2,8 @@ pub mod BinsLemmas
 pub mod BoxesLemmas
 pub mod CountingLemmas
 pub mod CutsLemmas
+pub mod KeepingLemmas
+pub mod MapsLemmas
 pub mod OrderLemmas
 pub mod PassLemmas
 pub mod SmallestBoxLemmas

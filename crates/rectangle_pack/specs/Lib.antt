@@ -12,5 +12,6 @@ pub mod Orders
 pub mod Placed
 pub mod Packing
 pub mod Pushes
+pub mod Results
 pub mod Journal
 pub mod Texts

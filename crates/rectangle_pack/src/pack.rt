@@ -1,6 +1,19 @@
 //! Packing.
+ghost use Rattle.std.specs.Prelude.{◌≡◌, ◌∷◌, [], List, All, Some};
+ghost use Rattle.std.specs.Map.{lookup};
+ghost use Rattle.std.specs.BTreeMap.{is_at};
+ghost use Rattle.rectangle_pack.specs.declared.pack.Placement.{Placement};
+ghost use Rattle.rectangle_pack.specs.Boxes.{Size, Holds};
+ghost use Rattle.rectangle_pack.specs.Bins.{Bin};
+ghost use Rattle.rectangle_pack.specs.Choice.{MayCompare};
+ghost use Rattle.rectangle_pack.specs.Groups.{Collection};
+ghost use Rattle.rectangle_pack.specs.Keeping.{KeepsEachBin};
+ghost use Rattle.rectangle_pack.specs.Packing.{PackingDone, PackingRefused};
 
+use crate::grouped_rects_to_place::Group;
 use crate::packed_location::PackedLocation;
+use crate::width_height_depth::WidthHeightDepth;
+use std::cmp::Ordering;
 
 /// A box that was placed: its id, its bin and where it stands there.
 #[derive(Debug, PartialEq, Drop)]
@@ -15,4 +28,25 @@ pub struct Placement<Id, BinId> {
 pub enum RectanglePackError {
     NotEnoughBinSpace,
     OutOfMemory,
+}
+
+/// A law: a packing that is done keeps the cells of each bin whose free sections share no cell. The bin's size stays,
+/// its free cells of before are its free cells of after and the cells of the boxes placed in it, and no two of these
+/// share one.
+pub fn packing_keeps_cells<Id: Ord, BinId: Ord, GroupId: Ord, H, C>(heuristic: &H, comparison: &C)
+where
+    H: Fn(WidthHeightDepth) -> u128,
+    C: Fn([WidthHeightDepth; 3], [WidthHeightDepth; 3], &H) -> Ordering,
+    ensures { (all : Collection Id GroupId) (old new : List (BinId × Bin)) (placements : List (Placement Id BinId)) → PackingDone ⟦<Group<GroupId, Id> as Ord>⟧.cmp Id.cmp BinId.cmp (H.post heuristic.now) (MayCompare C.Fn comparison.now heuristic.now) all old placements new → KeepsEachBin BinId.cmp old placements new }
+{
+}
+
+/// A law: where the refused group has one entry, no free section of any bin, as the groups before it left them,
+/// holds its box.
+pub fn refused_box_is_held_nowhere<Id: Ord, BinId: Ord, GroupId: Ord, H, C>(heuristic: &H, comparison: &C)
+where
+    H: Fn(WidthHeightDepth) -> u128,
+    C: Fn([WidthHeightDepth; 3], [WidthHeightDepth; 3], &H) -> Ordering,
+    ensures { (all : Collection Id GroupId) (old new : List (BinId × Bin)) → (refused : PackingRefused ⟦<Group<GroupId, Id> as Ord>⟧.cmp Id.cmp BinId.cmp (H.post heuristic.now) (MayCompare C.Fn comparison.now heuristic.now) all old new) → (size : Size) → refused.stops.next.sizes ≡ size ∷ [] → (id : BinId) (bin : Bin) → lookup (is_at (BinId.cmp id)) new ≡ Some bin → All (λ s. ¬ Holds s size) bin.sections }
+{
 }
