@@ -54,6 +54,14 @@ record Kept {Id B : Type 0} (bin_cmp : B → B → Ordering) (old : List (B × B
   pub size : after.size ≡ before.size
   pub filled : (c : Cell) → times_filled c after.sections + times_filled c (placed_in bin_cmp placements id) ≡ times_filled c before.sections
 
+none_from : {X : Type 0} (o : Option X) → (IsSome o → ⊥) → o ≡ None
+none_from None h = refl
+none_from (Some x) h = absurd (h refl)
+
+not_some : {X : Type 0} (o : Option X) → o ≡ None → IsSome o → ⊥
+not_some None h some = cc
+not_some (Some x) h some = cc
+
 module _ {Id B : Type 0} (cmp : Id → Id → Ordering) (bin_cmp : B → B → Ordering) (MayRate : Size → ℕ → Type 0) (MayPrefer : List Size → List Size → Ordering → Type 0) (o : IsTotalOrder bin_cmp) where
   -- one group that is placed
   placed_kept : (order : List B) (group : Members Id) (old : List (B × Bin)) (placements : List (Placement Id B)) (new : List (B × Bin)) → IsPlaced cmp bin_cmp MayRate MayPrefer order group old placements new
@@ -99,16 +107,6 @@ module _ {Id B : Type 0} (cmp : Id → Id → Ordering) (bin_cmp : B → B → O
         filled = λ c. rw (joined, placed_in-append bin_cmp first others q) (omega (arith, head.filled c, tail.filled c, filled-append c (placed_in bin_cmp first q) (placed_in bin_cmp others q)));
       }
 
-  pub KeepsEachBin-placed : (order : List B) (gs : List (Members Id)) (old : List (B × Bin)) (placements : List (Placement Id B)) (new : List (B × Bin)) → AreAllPlaced cmp bin_cmp MayRate MayPrefer order gs old placements new
-      → KeepsEachBin bin_cmp old placements new
-  KeepsEachBin-placed order gs old placements new h = record {
-    each = λ q before was apart.
-        let kept = all_kept order gs old placements new h q before was in
-        (kept.after, kept.found, kept.size,
-          KeepCells-from_counts before.sections (kept.after.sections ++ placed_in bin_cmp placements q) apart
-            (λ c. omega (arith, kept.filled c, filled-append c kept.after.sections (placed_in bin_cmp placements q))));
-  }
-
   -- a bin that is there after a packing was there before it
   was_there : (order : List B) (gs : List (Members Id)) (old : List (B × Bin)) (placements : List (Placement Id B)) (new : List (B × Bin)) → AreAllPlaced cmp bin_cmp MayRate MayPrefer order gs old placements new
       → (q : B) → IsSome (lookup (is_at (bin_cmp q)) new) → IsSome (lookup (is_at (bin_cmp q)) old)
@@ -123,6 +121,17 @@ module _ {Id B : Type 0} (cmp : Id → Id → Ordering) (bin_cmp : B → B → O
       by : (b : Bool) → is_eq (bin_cmp placed.here q) ≡ b → IsSome (lookup (is_at (bin_cmp q)) next) → IsSome (lookup (is_at (bin_cmp q)) old)
       by true e h = rw (← lookup-equal o placed.here q ((Equal-is _).0 e) old, placed.found) refl
       by false e h = rw (seen, e) at h
+
+  pub KeepsEachBin-placed : (order : List B) (gs : List (Members Id)) (old : List (B × Bin)) (placements : List (Placement Id B)) (new : List (B × Bin)) → AreAllPlaced cmp bin_cmp MayRate MayPrefer order gs old placements new
+      → KeepsEachBin bin_cmp old placements new
+  KeepsEachBin-placed order gs old placements new h = record {
+    each = λ q before was apart.
+        let kept = all_kept order gs old placements new h q before was in
+        (kept.after, kept.found, kept.size,
+          KeepCells-from_counts before.sections (kept.after.sections ++ placed_in bin_cmp placements q) apart
+            (λ c. omega (arith, kept.filled c, filled-append c kept.after.sections (placed_in bin_cmp placements q))));
+    absent = λ q none. none_from _ (λ some. not_some _ none (was_there order gs old placements new h q some));
+  }
 
   -- what holds of each bin of an order holds of each bin
   at_each : (P : B → Type 0) → ((x y : B) → bin_cmp x y ≡ Equal → P y → P x) → (es : List (B × Bin)) (unsorted : List (ℕ × B)) → AllZip (λ bin entry. (bin_cmp bin.0 entry.1 ≡ Equal) × MayRate bin.1.size entry.0) es unsorted

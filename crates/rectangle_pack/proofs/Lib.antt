@@ -1,11 +1,15 @@
+pub mod AppendLemmas
 pub mod BinsLemmas
 pub mod BoxesLemmas
 pub mod CountingLemmas
 pub mod CutsLemmas
+pub mod GroupsLemmas
 pub mod KeepingLemmas
+pub mod ListsLemmas
 pub mod MapsLemmas
 pub mod OrderLemmas
 pub mod PassLemmas
+pub mod RestoreLemmas
 pub mod SmallestBoxLemmas
 pub mod StepsLemmas
 pub mod TrialLemmas

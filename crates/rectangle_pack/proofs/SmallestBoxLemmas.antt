@@ -1,17 +1,18 @@
 -- With one answer on each size, the smallest box gives a total preorder.
 use Rattle.std.proofs.Common.{rules, arith, ◌≡◌, ◌≢◌, ℕ, refl, List, [], ◌∷◌, slice_index_or}
-use Rattle.std.specs.Ordering.{nat_cmp, ordering_reverse}
+use Rattle.std.specs.Ordering.{nat_cmp, ordering_reverse, ordering_then}
 use Rattle.std.specs.declared.cmp.Ordering.{Ordering}
 use Rattle.std.specs.declared.cmp.Ordering.TheVariants.{Less, Equal, Greater}
 use Rattle.std.proofs.lemmas.Bool.Decides.{nat_tests}
-use Rattle.rectangle_pack.specs.SmallestBox.{and_then, Rates, AreRates, smallest_order, smallest, second_smallest, IsSmallestOrder}
-use Rattle.rectangle_pack.specs.Boxes.{Size}
-use Rattle.rectangle_pack.specs.Choice.{IsTotalPreorderOn}
+use Rattle.rectangle_pack.specs.SmallestBox.{Rates, AreRates, smallest_order, smallest, second_smallest, IsSmallestOrder}
+use Rattle.rectangle_pack.specs.Boxes.{Size, Cuboid}
+use Rattle.rectangle_pack.specs.Cuts.{sizes_of}
+use Rattle.rectangle_pack.specs.Choice.{IsPreorderOnCuts}
 
-swapped : (p q r s : ℕ) → and_then (nat_cmp p q) (nat_cmp r s) ≡ ordering_reverse (and_then (nat_cmp q p) (nat_cmp s r))
+swapped : (p q r s : ℕ) → ordering_then (nat_cmp p q) (nat_cmp r s) ≡ ordering_reverse (ordering_then (nat_cmp q p) (nat_cmp s r))
 swapped p q r s = grind (arith, nat_tests)
 
-transitive : (p q r x y z : ℕ) → and_then (nat_cmp p q) (nat_cmp x y) ≢ Greater → and_then (nat_cmp q r) (nat_cmp y z) ≢ Greater → and_then (nat_cmp p r) (nat_cmp x z) ≢ Greater
+transitive : (p q r x y z : ℕ) → ordering_then (nat_cmp p q) (nat_cmp x y) ≢ Greater → ordering_then (nat_cmp q r) (nat_cmp y z) ≢ Greater → ordering_then (nat_cmp p r) (nat_cmp x z) ≢ Greater
 transitive p q r x y z f g = grind (arith, nat_tests)
 
 -- where one answer is allowed at each size, the order is a total preorder
@@ -30,9 +31,25 @@ module _ (MayRate : Size → ℕ → Type 0) (rate : Size → ℕ) (only : (s : 
   same_rates (x ∷ y ∷ z ∷ []) t h = rw (← only x t.right h.0, ← only y t.above h.1.0, ← only z t.behind h.1.1.0) refl
   same_rates (x ∷ y ∷ z ∷ u ∷ xs) t h = absurd h.1.1.1
 
-  pub smallest_is_preorder : (xs : List (List Size)) → IsTotalPreorderOn (IsSmallestOrder MayRate) xs (λ a b. smallest_order (rates a) (rates b))
-  smallest_is_preorder xs = record {
-    only = λ a b r i j o. rw (o.answer_is, same_rates a o.rates_first o.rated_first, same_rates b o.rates_second o.rated_second) refl;
-    swapped = λ a b i j. swapped (smallest (rates a)) (smallest (rates b)) (second_smallest (rates a)) (second_smallest (rates b));
-    transitive = λ a b c i j k f g. transitive (smallest (rates c)) (smallest (rates b)) (smallest (rates a)) (second_smallest (rates c)) (second_smallest (rates b)) (second_smallest (rates a)) g f;
+  order_of : List Cuboid → List Cuboid → Ordering
+  order_of a b = smallest_order (rates (sizes_of a)) (rates (sizes_of b))
+
+  pub smallest_is_preorder : (MayPrefer : List Size → List Size → Ordering → Type 0) → ((a b : List Size) (r : Ordering) → MayPrefer a b r → IsSmallestOrder MayRate a b r) → IsPreorderOnCuts MayPrefer
+  unfolding order_of
+  smallest_is_preorder MayPrefer answers = record {
+    compare = λ section member. order_of;
+    preorder = λ section member held. record {
+      only = λ a b r i j says.
+          let o = answers (sizes_of a) (sizes_of b) r says in
+          rw (o.answer_is, same_rates (sizes_of a) o.rates_first o.rated_first, same_rates (sizes_of b) o.rates_second o.rated_second) refl;
+      swapped = λ a b i j.
+          let p = rates (sizes_of a) in
+          let q = rates (sizes_of b) in
+          swapped (smallest p) (smallest q) (second_smallest p) (second_smallest q);
+      transitive = λ a b c i j k f g.
+          let p = rates (sizes_of a) in
+          let q = rates (sizes_of b) in
+          let r = rates (sizes_of c) in
+          transitive (smallest r) (smallest q) (smallest p) (second_smallest r) (second_smallest q) (second_smallest p) g f;
+    };
   }

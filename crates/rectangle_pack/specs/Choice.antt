@@ -5,7 +5,7 @@ use Rattle.std.specs.declared.cmp.Ordering.{Ordering}
 use Rattle.std.specs.declared.cmp.Ordering.TheVariants.{Greater}
 use Rattle.std.specs.Fn.{Shared}
 use denote.Ref.{Bor}
-use Rattle.rectangle_pack.specs.Boxes.{Size, Cuboid}
+use Rattle.rectangle_pack.specs.Boxes.{Size, Cuboid, Holds}
 use Rattle.rectangle_pack.specs.Cuts.{cuts, sizes_of}
 
 -- the comparison may answer r on these two triples, with this heuristic
@@ -45,3 +45,8 @@ module _ {A : Type 0} (MayAnswer : A → A → Ordering → Type 0) where
 -- the pieces are those of a cut that the comparison allows
 abbrev pub IsAllowedCut : (List Size → List Size → Ordering → Type 0) → Cuboid → Size → List Cuboid → Type 0
 IsAllowedCut MayPrefer section size pieces = MayChoose (λ a b. MayPrefer (sizes_of a) (sizes_of b)) (cuts section size) pieces
+
+-- the comparison is a total preorder on the six cuts of each section round each size that it holds
+pub record IsPreorderOnCuts (MayPrefer : List Size → List Size → Ordering → Type 0) : Type 0 where
+  pub compare : Cuboid → Size → List Cuboid → List Cuboid → Ordering
+  pub preorder : (section : Cuboid) (member : Size) → Holds section member → IsTotalPreorderOn (λ a b. MayPrefer (sizes_of a) (sizes_of b)) (cuts section member) (compare section member)

@@ -15,7 +15,7 @@ pub record Tiles (boxes : List Cuboid) (whole : Cuboid) : Type 0 where
 abbrev pub AreAllApart : List Cuboid → Type 0
 AreAllApart boxes = AllPairs AreApart boxes
 
--- a cell is in the whole exactly where it is in one of the boxes
+-- a cell is in the whole exactly where it is in some of the boxes
 abbrev pub Cover : List Cuboid → Cuboid → Type 0
 Cover boxes whole = (c : Cell) → IsCellOf c whole ↔ Any (IsCellOf c) boxes
 

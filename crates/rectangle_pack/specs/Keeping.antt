@@ -1,5 +1,5 @@
 -- Boxes that make way for others and keep the cells.
-use Rattle.std.specs.Prelude.{◌≡◌, ◌↔◌, List, ◌++◌, Any, Some, map, filter}
+use Rattle.std.specs.Prelude.{◌≡◌, ◌↔◌, List, ◌++◌, Any, Some, None, map, filter}
 use Rattle.std.specs.declared.cmp.Ordering.{Ordering}
 use Rattle.std.specs.Map.{lookup}
 use Rattle.std.specs.BTreeMap.{is_at}
@@ -8,7 +8,7 @@ use Rattle.rectangle_pack.specs.Boxes.{Cuboid, Cell, IsCellOf}
 use Rattle.rectangle_pack.specs.Bins.{Bin}
 use Rattle.rectangle_pack.specs.Counting.{AreAllApart}
 
--- no two of the new boxes share a cell, and a cell is in one of them exactly where it is in one of the old ones
+-- no two of the new boxes share a cell, and a cell is in some of them exactly where it is in some of the old ones
 pub record KeepCells (old new : List Cuboid) : Type 0 where
   pub apart : AreAllApart new
   pub cells : (c : Cell) → Any (IsCellOf c) old ↔ Any (IsCellOf c) new
@@ -17,7 +17,8 @@ pub record KeepCells (old new : List Cuboid) : Type 0 where
 abbrev pub placed_in : {Id B : Type 0} → (B → B → Ordering) → List (Placement Id B) → B → List Cuboid
 placed_in bin_cmp placements id = map (λ p. p.location) (filter (λ p. is_at (bin_cmp p.bin) id) placements)
 
--- each bin whose free sections share no cell keeps its size, and its free cells are free or placed in it
+-- each bin whose free sections share no cell keeps its size, and its free cells are free or placed in it; no bin is added
 pub record KeepsEachBin {Id B : Type 0} (bin_cmp : B → B → Ordering) (old : List (B × Bin)) (placements : List (Placement Id B)) (new : List (B × Bin)) : Type 0 where
   pub each : (id : B) (before : Bin) → lookup (is_at (bin_cmp id)) old ≡ Some before → AreAllApart before.sections
       → (after : Bin) × (lookup (is_at (bin_cmp id)) new ≡ Some after) × (after.size ≡ before.size) × KeepCells before.sections (after.sections ++ placed_in bin_cmp placements id)
+  pub absent : (id : B) → lookup (is_at (bin_cmp id)) old ≡ None → lookup (is_at (bin_cmp id)) new ≡ None

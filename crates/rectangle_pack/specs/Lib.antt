@@ -8,6 +8,7 @@ pub mod Keeping
 pub mod Steps
 pub mod Bins
 pub mod Groups
+pub mod Lists
 pub mod Orders
 pub mod Placed
 pub mod Packing

@@ -59,14 +59,14 @@ module _ {Id B : Type 0} (cmp : Id → Id → Ordering) (bin_cmp : B → B → O
     pub record AreGroups (sizes : List (Id × Size)) (lists : List (K × List Id)) (order : List (ℕ × K)) (groups : List (Members Id)) : Type 0 where
       pub each : AllZip (λ entry group. (lookup (is_at (group_cmp entry.1)) lists ≡ Some group.ids) × AllZip (λ id size. lookup (is_at (cmp id)) sizes ≡ Some size) group.ids group.sizes) order groups
 
-    -- a beginning of the group order is placed, and the next group is refused
+    -- a beginning of the group order is placed, and the next group is refused; `taken` names them, the refused one last
     pub record StopsAfter (sizes : List (Id × Size)) (lists : List (K × List Id)) (group_order : List (ℕ × K)) (order : List B) (old new : List (B × Bin)) : Type 0 where
-      pub first : List (ℕ × K)
+      pub taken : List (ℕ × K)
       pub later : List (ℕ × K)
-      pub order_is : group_order ≡ first ++ later
+      pub order_is : group_order ≡ taken ++ later
       pub beginning : List (Members Id)
       pub next : Members Id
-      pub listed : AreGroups sizes lists first (beginning ++ next ∷ [])
+      pub listed : AreGroups sizes lists taken (beginning ++ next ∷ [])
       pub placements : List (Placement Id B)
       pub placed : AreAllPlaced order beginning old placements new
       pub refused : IsRefused order next new

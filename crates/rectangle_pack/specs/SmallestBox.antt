@@ -1,9 +1,8 @@
--- The comparison that prefers the cut with the smallest pieces.
+-- The comparison that prefers the cut whose smallest piece is smallest.
 use Rattle.std.specs.Prelude.{◌≡◌, ℕ, List, [], ◌∷◌, min, max}
-use Rattle.std.specs.Ordering.{nat_cmp}
+use Rattle.std.specs.Ordering.{nat_cmp, ordering_then}
 use Rattle.std.specs.List.{AllZip}
 use Rattle.std.specs.declared.cmp.Ordering.{Ordering}
-use Rattle.std.specs.declared.cmp.Ordering.TheVariants.{Less, Equal, Greater}
 use Rattle.rectangle_pack.specs.Boxes.{Size}
 
 -- what a heuristic answers on the three sizes of a cut
@@ -20,15 +19,9 @@ smallest r = min (min r.right r.above) r.behind
 abbrev pub second_smallest : Rates → ℕ
 second_smallest r = max (min r.right r.above) (min (max r.right r.above) r.behind)
 
--- the second answer where the first is Equal
-abbrev pub and_then : Ordering → Ordering → Ordering
-and_then Less r = Less
-and_then Equal r = r
-and_then Greater r = Greater
-
 -- the second's smallest to the first's, and at a tie the second smallest; the third never decides
 abbrev pub smallest_order : Rates → Rates → Ordering
-smallest_order a b = and_then (nat_cmp (smallest b) (smallest a)) (nat_cmp (second_smallest b) (second_smallest a))
+smallest_order a b = ordering_then (nat_cmp (smallest b) (smallest a)) (nat_cmp (second_smallest b) (second_smallest a))
 
 -- each rate is one that may be answered on its size
 abbrev pub AreRates : (Size → ℕ → Type 0) → List Size → Rates → Type 0

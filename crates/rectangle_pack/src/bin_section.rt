@@ -5,7 +5,7 @@ ghost use Rattle.std.specs.Borrow.{Bor};
 ghost use Rattle.std.specs.Cmp.{IsTotalOrder};
 ghost use Rattle.rectangle_pack.specs.Boxes.{Size, Cuboid, section_order, Holds, FitsU32, IsInside, SharesCell, AreApart, SpansMeet, has_cells};
 ghost use Rattle.rectangle_pack.specs.Cuts.{placed, cuts, sizes_of};
-ghost use Rattle.rectangle_pack.specs.Choice.{MayCompare, IsAllowedCut, IsFunction, IsTotalPreorderOn};
+ghost use Rattle.rectangle_pack.specs.Choice.{MayCompare, IsAllowedCut, IsFunction, IsPreorderOnCuts};
 ghost use Rattle.rectangle_pack.specs.SmallestBox.{Rates, AreRates, smallest, second_smallest, IsSmallestOrder};
 ghost use Rattle.rectangle_pack.specs.Fitting.{IsFitAnswer};
 ghost use Rattle.rectangle_pack.specs.Counting.{Tiles, AreAllApart, Cover, HaveVolumeOf};
@@ -74,7 +74,7 @@ impl Model for BinSection {
 }
 
 /// Why a box was not placed into a section.
-#[derive(Debug, Clone, Copy, PartialEq, Eq)]
+#[derive(Debug, PartialEq, Eq, Drop)]
 pub enum BinSectionError {
     /// The box is wider than the section.
     PlacementWiderThanBinSection,
@@ -309,9 +309,12 @@ pub fn sharing_is_symmetric()
 {
 }
 
-/// A law: with a heuristic that has one answer on each size, `contains_smallest_box` is a total preorder on any
-/// triples of sizes, so that `try_place` takes a cut than which none is better.
-pub fn smallest_box_is_preorder<H: Fn(WidthHeightDepth) -> u128>(heuristic: &H)
-    ensures { IsFunction (H.post heuristic.now) → (xs : List (List Size)) → (compare : List Size → List Size → Ordering) × IsTotalPreorderOn (IsSmallestOrder (H.post heuristic.now)) xs compare }
+/// A law: with a heuristic that has one answer on each size, a comparison that answers as `contains_smallest_box`
+/// does is a total preorder on the cuts of each section, so that `try_place` takes a cut than which none is better.
+pub fn smallest_box_is_preorder<H, C>(heuristic: &H, comparison: &C)
+where
+    H: Fn(WidthHeightDepth) -> u128,
+    C: Fn([WidthHeightDepth; 3], [WidthHeightDepth; 3], &H) -> Ordering,
+    ensures { IsFunction (H.post heuristic.now) → ((a b : List Size) (r : Ordering) → MayCompare C.Fn comparison.now heuristic.now a b r → IsSmallestOrder (H.post heuristic.now) a b r) → IsPreorderOnCuts (MayCompare C.Fn comparison.now heuristic.now) }
 {
 }

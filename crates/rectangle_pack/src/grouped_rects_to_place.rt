@@ -1,8 +1,220 @@
 //! Boxes in groups.
+ghost use Rattle.std.specs.Prelude.{◌≡◌, ◌<◌, ◌↔◌, List, [], true, length, map, All, IsTrue, OnOk, OnErr, IfOk, IsSome, MatchOption, vec_len};
+ghost use Rattle.std.specs.declared.cmp.Ordering.TheVariants.{Less, Equal, Greater};
+ghost use Rattle.std.specs.Option.{ForSome};
+ghost use Rattle.std.specs.List.Sorted.{IsStrictlySortedBy};
+ghost use Rattle.std.specs.Map.{lookup, keys_of};
+ghost use Rattle.std.specs.BTreeMap.{get, is_at, insert_entry};
+ghost use Rattle.rectangle_pack.specs.Groups.{PushesAlone, PushesInto, MembersHaveSizes, lists_of};
+ghost use Rattle.rectangle_pack.specs.declared.grouped_rects_to_place.Group.TheVariants.{Ungrouped, Grouped};
+
+use crate::lists::{append_each, forget_empty, make_rooms};
+use crate::rect_to_insert::RectToInsert;
+use std::alloc::{AllocError, Allocator, Global};
+use std::collections::BTreeMap;
+use std::marker::Model;
 
 /// A group of boxes that go into one bin together: a box of its own, or the boxes of a named group.
 #[derive(Debug, Clone, PartialEq, Eq, PartialOrd, Ord, Drop)]
 pub enum Group<GroupId, Id> {
+    /// The box of this id, alone.
     Ungrouped(Id),
+    /// The boxes that were pushed into the group of this name.
     Grouped(GroupId),
+}
+
+/// A law: every `Ungrouped` group stands before every `Grouped` one, and within each they go by id. Two groups are
+/// equal where their order says so.
+pub fn groups_are_ordered<GroupId: Ord, Id: Ord>()
+    ensures ungrouped_first { (a : Id) → (b : GroupId) → ⟦<Group<GroupId, Id> as Ord>⟧.cmp (Ungrouped a) (Grouped b) ≡ Less }
+    ensures grouped_last { (a : GroupId) → (b : Id) → ⟦<Group<GroupId, Id> as Ord>⟧.cmp (Grouped a) (Ungrouped b) ≡ Greater }
+    ensures ungrouped_by_id { (a b : Id) → ⟦<Group<GroupId, Id> as Ord>⟧.cmp (Ungrouped a) (Ungrouped b) ≡ Id.cmp a b }
+    ensures grouped_by_id { (a b : GroupId) → ⟦<Group<GroupId, Id> as Ord>⟧.cmp (Grouped a) (Grouped b) ≡ GroupId.cmp a b }
+    ensures same_where_equal { (a b : Group GroupId Id) → (⟦<Group<GroupId, Id> as Ord>⟧.cmp a b ≡ Equal) ↔ (⟦<Group<GroupId, Id> as PartialEq>⟧.eq a b ≡ true) }
+{}
+
+/// Boxes that are to be placed, each under its id and in one or more groups.
+#[derive(Drop)]
+#[derive_where(Debug; Id, GroupId)]
+pub struct GroupedRectsToPlace<Id: Ord, GroupId: Ord, A: Allocator + Copy = Global> {
+    rects: BTreeMap<Id, RectToInsert, A>,
+    groups: BTreeMap<Group<GroupId, Id>, Vec<Id, A>, A>,
+    #[derive_where(skip)]
+    alloc: A,
+}
+
+// Each group has a member, and each member has a size.
+impl<Id: Ord, GroupId: Ord, A: Allocator + Copy> Model for GroupedRectsToPlace<Id, GroupId, A> {
+    ghost use Rattle.rectangle_pack.specs.Groups.{Collection, MembersHaveSizes, lists_of};
+
+    ghost Value = { Collection Id GroupId };
+
+    ghost view = { λ s. record { sizes = s.rects.entries; groups = lists_of s.groups.entries } };
+
+    ghost invariant = { λ s. MembersHaveSizes Id.cmp s.rects.entries (lists_of s.groups.entries) };
+}
+
+impl<Id: Ord + Clone + Drop, GroupId: Ord + Clone + Drop, A: Allocator + Copy> GroupedRectsToPlace<
+    Id,
+    GroupId,
+    A,
+> {
+    /// An empty collection, whose memory is to come from `alloc`. This takes no memory.
+    pub fn new(alloc: A) -> Self
+        ensures { result ≡ record { sizes = []; groups = [] } }
+    {
+        GroupedRectsToPlace {
+            rects: BTreeMap::new(alloc),
+            groups: BTreeMap::new(alloc),
+            alloc,
+        }
+    }
+
+    /// The ids of each group, in the order in which they were pushed.
+    pub fn groups(&self) -> &BTreeMap<Group<GroupId, Id>, Vec<Id, A>, A>
+        ensures entries { lists_of result.now.entries ≡ self.now.groups }
+        ensures members { MembersHaveSizes Id.cmp self.now.sizes (lists_of result.now.entries) }
+    {
+        &self.groups
+    }
+
+    /// The box of each id.
+    pub fn rects(&self) -> &BTreeMap<Id, RectToInsert, A>
+        ensures { result.now.entries ≡ self.now.sizes }
+    {
+        &self.rects
+    }
+
+    /// Takes in the box `inbound` under the id `inbound_id`, in place of a box that it may have had.
+    ///
+    /// With `None` the id forms a group of its own. With a list it is appended to each group of the list, once for
+    /// each time that the group is in the list. It also stays in the groups that it was in before.
+    ///
+    /// The caller sees to it that a given list is not empty, and that clones of ids equal their originals.
+    /// `AllocError` says that a growth or a clone was refused. The collection is then as it was.
+    pub fn push_rect(
+        &mut self,
+        inbound_id: Id,
+        group_ids: Option<Vec<GroupId, A>>,
+        inbound: RectToInsert,
+    ) -> Result<(), AllocError>
+        requires ids { (a b : Id) → Id.is_clone a b → IsTrue (Id.eq a b) }
+        requires group_ids { (a b : GroupId) → GroupId.is_clone a b → IsTrue (GroupId.eq a b) }
+        requires given { ForSome group_ids (λ named. 0 < vec_len named) }
+        ensures ok { OnOk result (MatchOption group_ids
+            (PushesAlone Id.cmp ⟦<Group<GroupId, Id> as Ord>⟧.cmp self.old self.new inbound_id inbound)
+            (λ named. PushesInto Id.cmp ⟦<Group<GroupId, Id> as Ord>⟧.cmp self.old self.new inbound_id named.items inbound)) }
+        ensures err { OnErr result (self.new ≡ self.old) }
+    {
+        match group_ids {
+            None => self.push_alone(inbound_id, inbound),
+            Some(group_ids) => self.push_grouped(inbound_id, group_ids, inbound),
+        }
+    }
+
+    // A refused insert of the size hands the id back, which is then the key of the list to take back.
+    fn push_alone(&mut self, inbound_id: Id, inbound: RectToInsert) -> Result<(), AllocError>
+        requires ids { (a b : Id) → Id.is_clone a b → IsTrue (Id.eq a b) }
+        ensures ok { OnOk result (PushesAlone Id.cmp ⟦<Group<GroupId, Id> as Ord>⟧.cmp self.old self.new inbound_id inbound) }
+        ensures err { OnErr result (self.new ≡ self.old) }
+    {
+        let key = Group::Ungrouped(inbound_id.clone()?);
+        let mut list = Vec::with_capacity(self.alloc, 1)?;
+        list.push_reserved(inbound_id.clone()?);
+        let before = self.groups.insert(key, list)?;
+        match self.rects.insert(inbound_id, inbound) {
+            Ok(_) => {
+                drop(before);
+                Ok(())
+            }
+            Err(failed) => {
+                restore(&mut self.groups, &Group::Ungrouped(failed.value.0), before);
+                Err(AllocError)
+            }
+        }
+    }
+
+    // Room is made first in the lists of all groups, so that nothing can fail after the size is set.
+    fn push_grouped(
+        &mut self,
+        inbound_id: Id,
+        group_ids: Vec<GroupId, A>,
+        inbound: RectToInsert,
+    ) -> Result<(), AllocError>
+        requires ids { (a b : Id) → Id.is_clone a b → IsTrue (Id.eq a b) }
+        requires group_ids { (a b : GroupId) → GroupId.is_clone a b → IsTrue (GroupId.eq a b) }
+        requires given { 0 < vec_len group_ids }
+        ensures ok { OnOk result (PushesInto Id.cmp ⟦<Group<GroupId, Id> as Ord>⟧.cmp self.old self.new inbound_id group_ids.items inbound) }
+        ensures err { OnErr result (self.new ≡ self.old) }
+    {
+        let keys = named_groups(self.alloc, group_ids)?;
+        let members = clones(self.alloc, &inbound_id, keys.len())?;
+        if make_rooms(&mut self.groups, keys.as_slice(), self.alloc).is_err() {
+            forget_empty(&mut self.groups);
+            return Err(AllocError);
+        }
+        match self.rects.insert(inbound_id, inbound) {
+            Ok(_) => {
+                append_each(&mut self.groups, keys.as_slice(), members);
+                Ok(())
+            }
+            Err(_) => {
+                forget_empty(&mut self.groups);
+                Err(AllocError)
+            }
+        }
+    }
+}
+
+// Takes back an insert at an equal key, where `before` is what it answered.
+fn restore<K: Ord + Drop, V: Drop, A: Allocator + Copy>(
+    map: &mut BTreeMap<K, V, A>,
+    key: &K,
+    before: Option<V>,
+)
+    requires has { IsSome (get K.cmp map.old key.now) }
+    ensures { (was : List (K × V)) → (k : K) → (v : V) → IsStrictlySortedBy K.cmp (keys_of was) → K.cmp key.now k ≡ Equal
+        → before ≡ lookup (is_at (K.cmp k)) was → map.old.entries ≡ insert_entry K.cmp was k v → map.new.entries ≡ was }
+{
+    match before {
+        None => {
+            map.remove(key);
+        }
+        Some(value) => {
+            match map.get_mut(key) {
+                Some(place) => *place = value,
+                None => unreachable!(),
+            }
+        }
+    }
+}
+
+// The groups of these names.
+fn named_groups<Id: Drop, GroupId: Drop, A: Allocator + Copy>(
+    alloc: A,
+    group_ids: Vec<GroupId, A>,
+) -> Result<Vec<Group<GroupId, Id>, A>, AllocError>
+    ensures { IfOk result (λ groups. groups.items ≡ map Grouped group_ids.items) }
+{
+    group_ids
+        .into_iter()
+        .map(|id| Group::Grouped(id))
+        .collect(alloc)
+}
+
+// So many clones of the id.
+fn clones<Id: Ord + Clone + Drop, A: Allocator + Copy>(
+    alloc: A,
+    id: &Id,
+    count: usize,
+) -> Result<Vec<Id, A>, AllocError>
+    requires ids { (a b : Id) → Id.is_clone a b → IsTrue (Id.eq a b) }
+    ensures count { IfOk result (λ all. length all.items ≡ count) }
+    ensures clones { IfOk result (λ all. All (λ x. Id.cmp id.now x ≡ Equal) all.items) }
+{
+    let mut all = Vec::with_capacity(alloc, count)?;
+    for _ in 0..count {
+        all.push_reserved(id.clone()?);
+    }
+    Ok(all)
 }

@@ -23,7 +23,7 @@ use std::fmt;
 use std::marker::Model;
 
 /// Why a section was not given back to a bin. The section that was pushed comes with each.
-#[derive(Debug, Clone, Copy)]
+#[derive(Debug, Drop)]
 pub enum PushBinSectionError {
     /// It is not inside the bin.
     OutOfBounds(BinSection),

@@ -1,0 +1,61 @@
+-- Maps from keys to vectors, seen as maps from keys to lists.
+use Rattle.std.proofs.Common.{◌≡◌, List, [], ◌∷◌, length, refl, ap, cond, true, false, Bool}
+use Rattle.std.specs.Prelude.{Some, None, filter, nat_lt}
+use Rattle.std.specs.declared.cmp.Ordering.{Ordering}
+use Rattle.std.specs.declared.cmp.Ordering.TheVariants.{Less, Equal, Greater}
+use Rattle.std.specs.declared.vec.Vec.{Vec}
+use Rattle.std.specs.Cmp.{IsTotalOrder}
+use Rattle.std.specs.Option.{option_map}
+use Rattle.std.specs.Map.{lookup, set_value, keys_of}
+use Rattle.std.specs.Ordering.{match_ordering, is_eq}
+use Rattle.std.specs.BTreeMap.{is_at, insert_entry}
+use Rattle.rectangle_pack.specs.Groups.{lists_of}
+use Rattle.rectangle_pack.specs.Lists.{filled}
+
+-- an insert, seen as lists
+pub lists_of-insert_entry : {K X A : Type 0} (cmp : K → K → Ordering) (es : List (K × Vec X A)) (k : K) (v : Vec X A) → lists_of (insert_entry cmp es k v) ≡ insert_entry cmp (lists_of es) k v.items
+lists_of-insert_entry cmp [] k v = refl
+lists_of-insert_entry cmp (e ∷ es) k v = elim (cmp k e.0) as (λ o. lists_of (match_ordering o ((k, v) ∷ e ∷ es) ((e.0, v) ∷ es) (e ∷ insert_entry cmp es k v)) ≡ match_ordering o ((k, v.items) ∷ (e.0, e.1.items) ∷ lists_of es) ((e.0, v.items) ∷ lists_of es) ((e.0, e.1.items) ∷ insert_entry cmp (lists_of es) k v.items))
+    [ Less ↦ refl | Equal ↦ refl | Greater ↦ ap (λ l. (e.0, e.1.items) ∷ l) (lists_of-insert_entry cmp es k v) ]
+
+-- a value written over one with the same items
+pub lists_of-set_value : {K X A : Type 0} (test : K → Bool) (es : List (K × Vec X A)) (v w : Vec X A) → lookup test es ≡ Some v → w.items ≡ v.items → lists_of (set_value test es w) ≡ lists_of es
+lists_of-set_value test [] v w found same = refl
+lists_of-set_value test (e ∷ es) v w found same = at (test e.0) found (lists_of-set_value test es v w)
+  where
+    at : (b : Bool) → cond b (Some e.1) (lookup test es) ≡ Some v → (lookup test es ≡ Some v → w.items ≡ v.items → lists_of (set_value test es w) ≡ lists_of es) → lists_of (cond b ((e.0, w) ∷ es) (e ∷ set_value test es w)) ≡ (e.0, e.1.items) ∷ lists_of es
+    at true h ih = let i : e.1 ≡ v = cc in rw (same, i) refl
+    at false h ih = ap (λ l. (e.0, e.1.items) ∷ l) (ih h same)
+
+-- a new key with an empty list
+pub filled-insert_entry : {K X : Type 0} (cmp : K → K → Ordering) (es : List (K × List X)) (k : K) → lookup (is_at (cmp k)) es ≡ None → filled (insert_entry cmp es k []) ≡ filled es
+filled-insert_entry cmp [] k absent = refl
+filled-insert_entry {X = X} cmp (e ∷ es) k absent = at (cmp k e.0) absent (filled-insert_entry cmp es k)
+  where
+    at : (o : Ordering) → cond (is_eq o) (Some e.1) (lookup (is_at (cmp k)) es) ≡ None → (lookup (is_at (cmp k)) es ≡ None → filled (insert_entry cmp es k []) ≡ filled es) → filled (match_ordering o ((k, []) ∷ e ∷ es) ((e.0, []) ∷ es) (e ∷ insert_entry cmp es k [])) ≡ filled (e ∷ es)
+    at Less h ih = refl
+    at Equal h ih = absurd cc
+    at Greater h ih = rw (ih h) refl
+
+-- the entries with an item, seen as lists
+pub lists_of-filter : {K X A : Type 0} (es : List (K × Vec X A)) → lists_of (filter (λ e. nat_lt 0 (length e.1.items)) es) ≡ filled (lists_of es)
+lists_of-filter [] = refl
+lists_of-filter (e ∷ es) = at (nat_lt 0 (length e.1.items)) (lists_of-filter es)
+  where
+    at : (b : Bool) → lists_of (filter (λ e. nat_lt 0 (length e.1.items)) es) ≡ filled (lists_of es) → lists_of (cond b (e ∷ filter (λ e. nat_lt 0 (length e.1.items)) es) (filter (λ e. nat_lt 0 (length e.1.items)) es)) ≡ cond b ((e.0, e.1.items) ∷ filled (lists_of es)) (filled (lists_of es))
+    at true ih = ap (λ l. (e.0, e.1.items) ∷ l) ih
+    at false ih = ih
+
+-- the keys are those of the map
+pub keys-lists : {K X A : Type 0} (es : List (K × Vec X A)) → keys_of (lists_of es) ≡ keys_of es
+keys-lists [] = refl
+keys-lists (e ∷ es) = ap (λ ks. e.0 ∷ ks) (keys-lists es)
+
+-- a list that a key has, by the vector that it has
+pub lookup-lists : {K X A : Type 0} (test : K → Bool) (es : List (K × Vec X A)) → lookup test (lists_of es) ≡ option_map (λ v. v.items) (lookup test es)
+lookup-lists test [] = refl
+lookup-lists test (e ∷ es) = at (test e.0) (lookup-lists test es)
+  where
+    at : (b : Bool) → lookup test (lists_of es) ≡ option_map (λ v. v.items) (lookup test es) → cond b (Some e.1.items) (lookup test (lists_of es)) ≡ option_map (λ v. v.items) (cond b (Some e.1) (lookup test es))
+    at true ih = refl
+    at false ih = ih

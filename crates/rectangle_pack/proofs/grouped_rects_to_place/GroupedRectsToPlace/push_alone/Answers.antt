@@ -1,0 +1,56 @@
+use Rattle.std.proofs.Common.{rules, ◌≡◌, [], ◌∷◌, sym, ◌∙◌, true, refl}
+use Rattle.std.specs.Cmp.{Equal-is, tied_back}
+use Rattle.std.specs.declared.cmp.Ordering.TheVariants.{Equal}
+use Rattle.std.proofs.lemmas.Cmp.{tied_itself}
+use Rattle.rectangle_pack.specs.declared.grouped_rects_to_place.Group.TheVariants.{Ungrouped}
+use Rattle.rectangle_pack.proofs.ListsLemmas.{lists_of-insert_entry}
+use Rattle.rectangle_pack.proofs.GroupsLemmas.{MembersHaveSizes-alone, IsSome-cond}
+use Rattle.rectangle_pack.proofs.grouped_rects_to_place.GroupedRectsToPlace.push_alone.Goals as goal
+
+pub invariant_of-self-in-Ok : goal.invariant_of-self-in-Ok
+invariant_of-self-in-Ok g c =
+    let items : c.push_reserved.new.self.items ≡ c.in_ok-clone-2.field-0 ∷ [] = search rules in
+    let alike : g.Id.PartialEq.eq c.args.inbound_id c.in_ok-clone-2.field-0 ≡ true = search rules in
+    let same : g.Id.Ord.cmp c.args.inbound_id c.in_ok-clone-2.field-0 ≡ Equal = (Equal-is _).0 (sym (g.met.Id.Ord.matches_eq _ _) ∙ alike) in
+    rw c.in_ok-before.ensures.entries
+    (MembersHaveSizes-alone g.Id.Ord.cmp _ c.self.inside.rects.entries c.insert-2.new.self.entries c.self.inside.groups.entries (Ungrouped c.in_ok-clone.field-0) c.push_reserved.new.self c.in_ok-clone-2.field-0 items c.self.invariant
+    (λ q had. rw (c.in-Ok.ensures.updates.0 q) (IsSome-cond _ _ _ had))
+    (rw (c.in-Ok.ensures.updates.0 c.in_ok-clone-2.field-0, same) refl))
+
+pub restore-requires : goal.restore-requires
+restore-requires g c =
+    let cmp = g.Id.Ord.cmp in
+    let alike : g.Id.PartialEq.eq c.args.inbound_id c.in_ok-clone.field-0 ≡ true = search rules in
+    let same : cmp c.args.inbound_id c.in_ok-clone.field-0 ≡ Equal = (Equal-is _).0 (sym (g.met.Id.Ord.matches_eq _ _) ∙ alike) in
+    record { has = rw (c.in-Err.ensures.value_returned, c.in_ok-before.ensures.updates.0 (Ungrouped c.args.inbound_id), tied_back g.met.Id.Ord.total _ _ same) refl }
+
+pub invariant_of-self-in-Err : goal.invariant_of-self-in-Err
+invariant_of-self-in-Err g c =
+    let alike : g.Id.PartialEq.eq c.args.inbound_id c.in_ok-clone.field-0 ≡ true = search rules in
+    let same : g.Id.Ord.cmp c.args.inbound_id c.in_ok-clone.field-0 ≡ Equal = (Equal-is _).0 (sym (g.met.Id.Ord.matches_eq _ _) ∙ alike) in
+    let e = c.restore.ensures c.self.inside.groups.entries (Ungrouped c.in_ok-clone.field-0) c.push_reserved.new.self c.in_ok-before.ensures.was_ordered (rw c.in-Err.ensures.value_returned same) c.in_ok-before.ensures.old c.in_ok-before.ensures.entries in
+    rw (e, c.in-Err.ensures.err) c.self.invariant
+
+pub returns-in-Ok-clause-ok : goal.returns-in-Ok-clause-ok
+returns-in-Ok-clause-ok g c =
+    let items : c.push_reserved.new.self.items ≡ c.in_ok-clone-2.field-0 ∷ [] = search rules in
+    let key : g.Id.PartialEq.eq c.args.inbound_id c.in_ok-clone.field-0 ≡ true = search rules in
+    let member : g.Id.PartialEq.eq c.args.inbound_id c.in_ok-clone-2.field-0 ≡ true = search rules in
+    rw (← c.self.view_is)
+    (record {
+      sizes = (c.args.inbound_id, tied_itself g.met.Id.Ord.total c.args.inbound_id, c.in-Ok.ensures.entries);
+      groups = (
+        c.in_ok-clone.field-0,
+        c.in_ok-clone-2.field-0,
+        (Equal-is _).0 (sym (g.met.Id.Ord.matches_eq _ _) ∙ key),
+        (Equal-is _).0 (sym (g.met.Id.Ord.matches_eq _ _) ∙ member),
+        rw (c.in_ok-before.ensures.entries, lists_of-insert_entry, items) refl,
+      );
+    })
+
+pub returns-in-Err-clause-err : goal.returns-in-Err-clause-err
+returns-in-Err-clause-err g c =
+    let alike : g.Id.PartialEq.eq c.args.inbound_id c.in_ok-clone.field-0 ≡ true = search rules in
+    let same : g.Id.Ord.cmp c.args.inbound_id c.in_ok-clone.field-0 ≡ Equal = (Equal-is _).0 (sym (g.met.Id.Ord.matches_eq _ _) ∙ alike) in
+    let e = c.restore.ensures c.self.inside.groups.entries (Ungrouped c.in_ok-clone.field-0) c.push_reserved.new.self c.in_ok-before.ensures.was_ordered (rw c.in-Err.ensures.value_returned same) c.in_ok-before.ensures.old c.in_ok-before.ensures.entries in
+    rw (e, c.in-Err.ensures.err) c.self.view_is
