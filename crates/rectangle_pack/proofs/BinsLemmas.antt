@@ -1,6 +1,6 @@
 -- What keeps the sections of a bin sound, and what a bin accepts.
-use Rattle.std.proofs.Common.{◌≡◌, ℕ, suc, ◌+◌, ◌<◌, ◌≤◌, List, [], ◌∷◌, ◌++◌, length, get_or, take, drop, arith, rules, refl, subst, sym, ap}
-use Rattle.std.specs.Prelude.{All, AllPairs, remove, Option, Some, None, IfNone, IfSome, IsTrue, is_some, not, true, false, Bool, ◌↔◌}
+use Rattle.std.proofs.Common.{◌≡◌, ℕ, suc, ◌<◌, List, [], ◌∷◌, ◌++◌, length, get_or, take, drop, refl, subst, sym}
+use Rattle.std.specs.Prelude.{All, remove, Option, Some, None, IfNone, IfSome, IsTrue, is_some, not, true, false, Bool, ◌↔◌}
 use Rattle.std.proofs.Math.Seq.{split_at}
 use Rattle.std.proofs.lemmas.List.Quantifiers.{all_pairs_push, all_pairs_remove}
 use Rattle.std.proofs.lemmas.List.Elements.{All-push, All-append, All-take, All-drop, All-head}

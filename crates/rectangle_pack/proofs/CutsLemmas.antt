@@ -1,5 +1,5 @@
 -- What the pieces of a cut have in common with the section.
-use Rattle.std.proofs.Common.{◌≡◌, ℕ, ◌+◌, ◌-◌, ◌<◌, ◌≤◌, Bool, true, false, ◌&&◌, cond, nat_le, nat_lt, List, [], ◌∷◌, ◌++◌, refl, sym, ◌∙◌, ap, arith, length, subst, length-append, take, get_or}
+use Rattle.std.proofs.Common.{◌≡◌, ℕ, ◌+◌, ◌-◌, ◌<◌, ◌≤◌, Bool, true, false, ◌&&◌, cond, List, [], ◌∷◌, ◌++◌, refl, arith, length, subst, length-append, take, get_or}
 use Rattle.std.specs.Bool.{◌==◌, if◌then◌else◌}
 use Rattle.std.specs.Prelude.{All, map}
 use Rattle.std.specs.declared.cmp.Ordering.{Ordering}
@@ -7,7 +7,7 @@ use Rattle.std.proofs.lemmas.Bool.{and_parts, eqb-true}
 use Rattle.std.proofs.lemmas.List.Elements.{All-nil, All-cons}
 use Rattle.std.proofs.Math.Seq.{get_or-append_seam}
 use Rattle.std.proofs.lemmas.Bool.Decides.{nat_tests}
-use Rattle.rectangle_pack.specs.Boxes.{Axis, AxisX, AxisY, AxisZ, Size, Cuboid, Cell, Holds, extent, start, is_within, is_cell_of}
+use Rattle.rectangle_pack.specs.Boxes.{Axis, AxisX, AxisY, AxisZ, Size, Cuboid, Holds, extent, start, is_within, is_cell_of}
 use Rattle.rectangle_pack.specs.Cuts.{is_same, is_before, placed, piece_start, piece_extent, piece, pieces, orders, cuts}
 use Rattle.rectangle_pack.specs.Choice.{MayChoose}
 use Rattle.rectangle_pack.specs.Counting.{times_filled, Tiles}
@@ -58,9 +58,9 @@ piece_has s m order a b place l =
     elim (is_same a b) as (λ q. is_within (if q then start b s + extent b m else start b s) (if q then extent b s.whd - extent b m else if is_before order b a then extent b m else extent b s.whd) place ≡ if q then high l.third else if is_before order b a then low l.third else in_section l.third) [
       | true ↦ l.in_high
       | false ↦ elim (is_before order b a) as (λ q. is_within (start b s) (if q then extent b m else extent b s.whd) place ≡ if q then low l.third else in_section l.third) [
-          | true ↦ l.in_low
-          | false ↦ l.in_all
-        ]
+        | true ↦ l.in_low
+        | false ↦ l.in_all
+      ]
     ]
 
 -- whether the piece of the axis a has a cell that lies so on the three axes
@@ -100,10 +100,21 @@ fills_tiles order once s m h = record {
       let y = lies (start AxisY s) (extent AxisY s.whd) (extent AxisY m) c.j h.high in
       let z = lies (start AxisZ s) (extent AxisZ s.whd) (extent AxisZ m) c.k h.deep in
       simp (
-        piece_has s m order AxisX AxisX c.i x, piece_has s m order AxisX AxisY c.j y, piece_has s m order AxisX AxisZ c.k z,
-        piece_has s m order AxisY AxisX c.i x, piece_has s m order AxisY AxisY c.j y, piece_has s m order AxisY AxisZ c.k z,
-        piece_has s m order AxisZ AxisX c.i x, piece_has s m order AxisZ AxisY c.j y, piece_has s m order AxisZ AxisZ c.k z,
-        x.in_low, x.in_all, y.in_low, y.in_all, z.in_low, z.in_all,
+        piece_has s m order AxisX AxisX c.i x,
+        piece_has s m order AxisX AxisY c.j y,
+        piece_has s m order AxisX AxisZ c.k z,
+        piece_has s m order AxisY AxisX c.i x,
+        piece_has s m order AxisY AxisY c.j y,
+        piece_has s m order AxisY AxisZ c.k z,
+        piece_has s m order AxisZ AxisX c.i x,
+        piece_has s m order AxisZ AxisY c.j y,
+        piece_has s m order AxisZ AxisZ c.k z,
+        x.in_low,
+        x.in_all,
+        y.in_low,
+        y.in_all,
+        z.in_low,
+        z.in_all,
       ) (eqb-true _ _ (once x.third y.third z.third));
 }
 
@@ -153,9 +164,9 @@ ends_by s m order a b fits =
     elim (is_same a b) as (λ q. (if q then start b s + extent b m else start b s) + (if q then extent b s.whd - extent b m else if is_before order b a then extent b m else extent b s.whd) ≤ start b s + extent b s.whd) [
       | true ↦ omega arith
       | false ↦ elim (is_before order b a) as (λ q. start b s + (if q then extent b m else extent b s.whd) ≤ start b s + extent b s.whd) [
-          | true ↦ omega arith
-          | false ↦ omega arith
-        ]
+        | true ↦ omega arith
+        | false ↦ omega arith
+      ]
     ]
 
 -- the ends of a box are no greater than those of the other, on each axis
@@ -179,9 +190,9 @@ chosen_ends s m cut h choice =
     let P : Cuboid → Type 0 = λ b. EndsBy b s in
     chosen_has (All P) s m cut
     (λ order once.
-        All-cons P (piece s m order AxisX) (piece s m order AxisY ∷ piece s m order AxisZ ∷ []) (piece_ends s m order AxisX h)
-        (All-cons P (piece s m order AxisY) (piece s m order AxisZ ∷ []) (piece_ends s m order AxisY h)
-        (All-cons P (piece s m order AxisZ) [] (piece_ends s m order AxisZ h) (All-nil P))))
+    All-cons P (piece s m order AxisX) (piece s m order AxisY ∷ piece s m order AxisZ ∷ []) (piece_ends s m order AxisX h)
+    (All-cons P (piece s m order AxisY) (piece s m order AxisZ ∷ []) (piece_ends s m order AxisY h)
+    (All-cons P (piece s m order AxisZ) [] (piece_ends s m order AxisZ h) (All-nil P))))
     choice
 
 -- a cut has three pieces

@@ -15,8 +15,8 @@ use Rattle.std.proofs.lemmas.List.Sorted.{All-permutation, IsPermutation-map, Is
 use Rattle.rectangle_pack.specs.declared.pack.Placement.{Placement}
 use Rattle.rectangle_pack.specs.Boxes.{Size, Cuboid, Cell, Holds}
 use Rattle.rectangle_pack.specs.Bins.{Bin}
-use Rattle.rectangle_pack.specs.Counting.{times_filled, AreAllApart}
-use Rattle.rectangle_pack.specs.Keeping.{KeepCells, KeepsEachBin, placed_in}
+use Rattle.rectangle_pack.specs.Counting.{times_filled}
+use Rattle.rectangle_pack.specs.Keeping.{KeepsEachBin, placed_in}
 use Rattle.rectangle_pack.specs.Orders.{IsBinOrder}
 use Rattle.rectangle_pack.specs.Packing.{Members, IsPlaced, IsStuckIn, IsRefused, AreAllPlaced}
 use Rattle.rectangle_pack.specs.Steps.{IsStuck}
@@ -70,10 +70,13 @@ module _ {Id B : Type 0} (cmp : Id → Id → Ordering) (bin_cmp : B → B → O
     where
       after : Bin
       after = record { size = h.bin.size; sections = h.last }
+
       seen : lookup (is_at (bin_cmp q)) new ≡ cond (is_eq (bin_cmp h.here q)) (Some after) (lookup (is_at (bin_cmp q)) old)
       seen = ap (lookup (is_at (bin_cmp q))) h.new_is ∙ lookup-written o h.here old h.bin after q h.found
+
       tests : (b : Bool) → is_eq (bin_cmp h.here q) ≡ b → All (λ (p : Placement Id B). is_at (bin_cmp p.bin) q ≡ b) placements
       tests b e = All-weaker (λ (p : Placement Id B). bin_cmp h.here p.bin ≡ Equal) (λ (p : Placement Id B). is_at (bin_cmp p.bin) q ≡ b) (λ p same. rw (← o.congr h.here p.bin q same) e) placements h.named.together
+
       by : (b : Bool) → is_eq (bin_cmp h.here q) ≡ b → Kept bin_cmp old placements new q before
       by true e =
           let equal : bin_cmp h.here q ≡ Equal = (Equal-is _).0 e in
@@ -116,8 +119,10 @@ module _ {Id B : Type 0} (cmp : Id → Id → Ordering) (bin_cmp : B → B → O
     where
       after : Bin
       after = record { size = placed.bin.size; sections = placed.last }
+
       seen : lookup (is_at (bin_cmp q)) next ≡ cond (is_eq (bin_cmp placed.here q)) (Some after) (lookup (is_at (bin_cmp q)) old)
       seen = ap (lookup (is_at (bin_cmp q))) placed.new_is ∙ lookup-written o placed.here old placed.bin after q placed.found
+
       by : (b : Bool) → is_eq (bin_cmp placed.here q) ≡ b → IsSome (lookup (is_at (bin_cmp q)) next) → IsSome (lookup (is_at (bin_cmp q)) old)
       by true e h = rw (← lookup-equal o placed.here q ((Equal-is _).0 e) old, placed.found) refl
       by false e h = rw (seen, e) at h
@@ -126,10 +131,13 @@ module _ {Id B : Type 0} (cmp : Id → Id → Ordering) (bin_cmp : B → B → O
       → KeepsEachBin bin_cmp old placements new
   KeepsEachBin-placed order gs old placements new h = record {
     each = λ q before was apart.
-        let kept = all_kept order gs old placements new h q before was in
-        (kept.after, kept.found, kept.size,
+        let kept = all_kept order gs old placements new h q before was in (
+          kept.after,
+          kept.found,
+          kept.size,
           KeepCells-from_counts before.sections (kept.after.sections ++ placed_in bin_cmp placements q) apart
-            (λ c. omega (arith, kept.filled c, filled-append c kept.after.sections (placed_in bin_cmp placements q))));
+              (λ c. omega (arith, kept.filled c, filled-append c kept.after.sections (placed_in bin_cmp placements q))),
+        );
     absent = λ q none. none_from _ (λ some. not_some _ none (was_there order gs old placements new h q some));
   }
 
@@ -155,19 +163,24 @@ module _ {Id B : Type 0} (cmp : Id → Id → Ordering) (bin_cmp : B → B → O
     where
       P : B → Type 0
       P id = IfSome (lookup (is_at (bin_cmp id)) new) (λ (b : Bin). All (λ s. ¬ Holds s size) b.sections)
+
       same : (x y : B) → bin_cmp x y ≡ Equal → P y → P x
       same x y e h = rw (lookup-equal o x y e new) h
+
       one_stuck : (sections : List Cuboid) (tests : ℕ) → IsStuck MayRate MayPrefer sections (size ∷ []) tests → All (λ s. ¬ Holds s size) sections
       one_stuck sections tests (inl none) = none.0
       one_stuck sections tests (inr some) = absurd some.5
+
       in_each : (id : B) → IsStuckIn cmp bin_cmp MayRate MayPrefer new group id → P id
       in_each id stuck = by (lookup (is_at (bin_cmp id)) new) stuck
         where
           by : (found : Option Bin) → IfSome found (λ (b : Bin). (tests : ℕ) × IsStuck MayRate MayPrefer b.sections group.sizes tests) → IfSome found (λ (b : Bin). All (λ s. ¬ Holds s size) b.sections)
           by None h = tt
           by (Some b) (tests, h) = one_stuck b.sections tests (rw one at h)
+
       each : All P (map (λ (entry : ℕ × B). entry.1) bin_order)
       each = All-weaker (IsStuckIn cmp bin_cmp MayRate MayPrefer new group) P in_each (map (λ (entry : ℕ × B). entry.1) bin_order) refused
+
       unsorted : All P (map (λ (entry : ℕ × B). entry.1) by_bins.unsorted)
       unsorted = All-permutation P (map (λ (entry : ℕ × B). entry.1) bin_order) (map (λ (entry : ℕ × B). entry.1) by_bins.unsorted)
           (IsPermutation-map (λ (entry : ℕ × B). entry.1) bin_order by_bins.unsorted (IsPermutation-sym by_bins.unsorted bin_order by_bins.permutation)) each

@@ -1,5 +1,5 @@
 -- One pass over a list that keeps a best.
-use Rattle.std.proofs.Common.{◌≡◌, ◌≢◌, List, [], ◌∷◌, ◌++◌, refl, sym, ◌∙◌, ap, append_assoc, inl, inr, length, length-append, arith, not, true, false, get_or}
+use Rattle.std.proofs.Common.{◌≡◌, ◌≢◌, List, [], ◌∷◌, ◌++◌, refl, append_assoc, inl, inr, length, length-append, arith, not, true, false, get_or}
 use Rattle.std.specs.List.{Contains}
 use Rattle.std.specs.Ordering.{ordering_reverse}
 use Rattle.std.proofs.lemmas.List.Elements.{Contains-append_left, All-contains_itself}
@@ -8,11 +8,9 @@ use Rattle.std.specs.Bool.{◌==◌}
 use Rattle.std.proofs.Math.Seq.{get_or-append_seam}
 use Rattle.std.specs.declared.cmp.Ordering.{Ordering}
 use Rattle.std.specs.declared.cmp.Ordering.TheVariants.{Less, Equal, Greater}
-use Rattle.std.specs.List.{All, Any}
+use Rattle.std.specs.List.{Any}
 use Rattle.std.proofs.lemmas.List.Elements.{All-nil, All-push}
-use Rattle.std.proofs.lemmas.List.Quantifiers.{Any-push}
-use Rattle.std.proofs.lemmas.Grind.{common_steps}
-use Rattle.rectangle_pack.specs.Choice.{MayLose, MayChoose, IsTotalPreorderOn}
+use Rattle.rectangle_pack.specs.Choice.{MayChoose, IsTotalPreorderOn}
 
 -- an element between two lists is one of the whole
 Any-middle : {X : Type 0} (P : X → Type 0) (xs : List X) (y : X) (ys : List X) → P y → Any P (xs ++ y ∷ ys)

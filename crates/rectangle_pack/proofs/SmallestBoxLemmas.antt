@@ -1,8 +1,8 @@
 -- With one answer on each size, the smallest box gives a total preorder.
-use Rattle.std.proofs.Common.{rules, arith, ◌≡◌, ◌≢◌, ℕ, refl, List, [], ◌∷◌, slice_index_or}
+use Rattle.std.proofs.Common.{arith, ◌≡◌, ◌≢◌, ℕ, refl, List, [], ◌∷◌, slice_index_or}
 use Rattle.std.specs.Ordering.{nat_cmp, ordering_reverse, ordering_then}
 use Rattle.std.specs.declared.cmp.Ordering.{Ordering}
-use Rattle.std.specs.declared.cmp.Ordering.TheVariants.{Less, Equal, Greater}
+use Rattle.std.specs.declared.cmp.Ordering.TheVariants.{Greater}
 use Rattle.std.proofs.lemmas.Bool.Decides.{nat_tests}
 use Rattle.rectangle_pack.specs.SmallestBox.{Rates, AreRates, smallest_order, smallest, second_smallest, IsSmallestOrder}
 use Rattle.rectangle_pack.specs.Boxes.{Size, Cuboid}

@@ -1,21 +1,21 @@
 -- What a step and a trial keep.
-use Rattle.std.proofs.Common.{◌≡◌, ℕ, ◌+◌, ◌-◌, ◌<◌, ◌≤◌, Bool, true, false, cond, nat_le, List, [], ◌∷◌, ◌++◌, length, arith, refl, ap, sym, ◌∙◌, subst, length-append, ◌⊎◌, inl, inr}
-use Rattle.std.specs.Prelude.{All, AllPairs, map, filter}
+use Rattle.std.proofs.Common.{◌≡◌, ℕ, ◌+◌, ◌≤◌, Bool, true, false, cond, nat_le, List, [], ◌∷◌, ◌++◌, length, arith, refl, ap, sym, ◌∙◌, length-append}
+use Rattle.std.specs.Prelude.{All, map, filter}
 use Rattle.std.specs.Bool.{if◌then◌else◌}
-use Rattle.std.specs.List.{AllZip, zip, count_by, sum_by}
+use Rattle.std.specs.List.{AllZip, zip, count_by}
 use Rattle.std.specs.List.Sorted.{IsPermutation}
 use Rattle.std.specs.declared.cmp.Ordering.{Ordering}
 use Rattle.std.proofs.lemmas.List.Elements.{All-nil, All-cons, All-head, All-tail, All-append, All-filter, All-same, All-weaker}
 use Rattle.std.proofs.lemmas.List.Sums.{length-filter, count_by-le-length}
 use Rattle.std.proofs.lemmas.List.Sorted.{IsPermutation-refl, IsPermutation-cons, IsPermutation-trans, IsPermutation-append_left, IsPermutation-middle, IsPermutation-map, All-permutation, length_permutation, sum_by-IsPermutation}
-use Rattle.rectangle_pack.specs.Boxes.{Size, Cuboid, Cell, IsCellOf, Holds, FitsU32, IsInside, AreApart, is_cell_of, has_cells}
+use Rattle.rectangle_pack.specs.Boxes.{Size, Cuboid, Cell, FitsU32, IsInside, is_cell_of, has_cells}
 use Rattle.rectangle_pack.specs.Bins.{IsSound}
 use Rattle.rectangle_pack.specs.Cuts.{placed}
 use Rattle.rectangle_pack.specs.Counting.{times_filled, AreAllApart}
 use Rattle.rectangle_pack.specs.Keeping.{KeepCells}
 use Rattle.rectangle_pack.specs.Steps.{put_in, by_falling_rate, AreLeft, IsStep, IsDone}
 use Rattle.rectangle_pack.proofs.BoxesLemmas.{has_cells-from}
-use Rattle.rectangle_pack.proofs.CountingLemmas.{count-cons, count_yes, count_no, filled-append, filled-cons, filled-nil, filled_yes, apart_from_counts, counts_from_apart, KeepCells-from_counts}
+use Rattle.rectangle_pack.proofs.CountingLemmas.{count-cons, count_no, filled-append, filled-cons, filled-nil, apart_from_counts, counts_from_apart, KeepCells-from_counts}
 use Rattle.rectangle_pack.proofs.CutsLemmas.{EndsBy, chosen_ends, chosen_tiles, length-chosen}
 
 -- putting in only moves elements
@@ -46,7 +46,7 @@ map-zip R (b ∷ cut) (r ∷ rates) h = ap (λ bs. b ∷ bs) (map-zip R cut rate
 ordered : {MayRate : Size → ℕ → Type 0} (cut left : List Cuboid) (h : AreLeft MayRate cut left) → IsPermutation cut (map (λ p. p.1) (by_falling_rate (zip h.rates cut)))
 ordered {MayRate} cut left h =
     let moved : IsPermutation (map (λ p. p.1) (zip h.rates cut)) (map (λ p. p.1) (by_falling_rate (zip h.rates cut))) =
-      IsPermutation-map (λ p. p.1) (zip h.rates cut) (by_falling_rate (zip h.rates cut)) (IsPermutation-by_falling_rate (zip h.rates cut)) in
+    IsPermutation-map (λ p. p.1) (zip h.rates cut) (by_falling_rate (zip h.rates cut)) (IsPermutation-by_falling_rate (zip h.rates cut)) in
     rw (map-zip (λ piece rate. MayRate piece.whd rate) cut h.rates h.rated) at moved
 
 pub All-left : {MayRate : Size → ℕ → Type 0} (P : Cuboid → Type 0) (cut left : List Cuboid) → AreLeft MayRate cut left → All P cut → All P left

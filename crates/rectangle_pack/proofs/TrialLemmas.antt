@@ -1,5 +1,5 @@
 -- Steps by index, and the undoing of noted steps.
-use Rattle.std.proofs.Common.{◌≡◌, ℕ, suc, ◌+◌, ◌-◌, ◌<◌, ◌≤◌, List, [], ◌∷◌, ◌++◌, length, get_or, take, drop, arith, rules, refl, ap, sym, ◌∙◌, subst, length-drop, add-one, append_assoc, inl, inr}
+use Rattle.std.proofs.Common.{◌≡◌, ℕ, suc, ◌+◌, ◌-◌, ◌<◌, ◌≤◌, List, [], ◌∷◌, ◌++◌, length, get_or, take, drop, arith, refl, ap, sym, ◌∙◌, subst, length-drop, add-one, inl, inr}
 use Rattle.std.specs.Prelude.{All, remove, map, filter}
 use Rattle.std.specs.List.{AllWithin, HoldsAt}
 use Rattle.std.proofs.Math.Seq.{split_at}

@@ -1,5 +1,5 @@
 -- Covering a box by boxes, as counts of how often each cell is filled.
-use Rattle.std.specs.Prelude.{◌≡◌, ◌↔◌, ℕ, ◌+◌, List, [], ◌∷◌, Any, AllPairs, count_by}
+use Rattle.std.specs.Prelude.{◌≡◌, ◌↔◌, ℕ, List, [], ◌∷◌, Any, AllPairs, count_by}
 use Rattle.std.specs.List.{sum_by}
 use Rattle.rectangle_pack.specs.Boxes.{Cuboid, Cell, IsCellOf, AreApart, is_cell_of, volume_of}
 

@@ -1,12 +1,7 @@
 -- Notes of steps, by which steps are undone in place.
-use Rattle.std.specs.Prelude.{◌≡◌, ℕ, ◌-◌, ◌<◌, ◌≤◌, List, [], ◌∷◌, length, take, insert, reverse}
-use Rattle.std.specs.declared.cmp.Ordering.{Ordering}
-use Rattle.std.specs.Map.{lookup, set_value}
-use Rattle.std.specs.BTreeMap.{is_at}
-use Rattle.std.specs.Prelude.{Some}
+use Rattle.std.specs.Prelude.{ℕ, ◌-◌, ◌<◌, ◌≤◌, List, [], ◌∷◌, length, take, insert}
 use Rattle.rectangle_pack.specs.declared.trial.Note.{Note}
 use Rattle.rectangle_pack.specs.Boxes.{Cuboid}
-use Rattle.rectangle_pack.specs.Bins.{Bin, Held, IsSound}
 
 -- the list before a noted step: without the pieces that it pushed, and with the section that it removed at its index
 abbrev pub before_note : Note → List Cuboid → List Cuboid

@@ -1,5 +1,5 @@
 -- What a packing placed.
-use Rattle.std.specs.Prelude.{◌≡◌, List, [], ◌∷◌, ◌++◌, map, All, MatchOption, false}
+use Rattle.std.specs.Prelude.{◌≡◌, List, ◌∷◌, ◌++◌, map, All, MatchOption, false}
 use Rattle.std.specs.List.{AllZip}
 use Rattle.std.specs.declared.cmp.Ordering.{Ordering}
 use Rattle.std.specs.declared.cmp.Ordering.TheVariants.{Equal}

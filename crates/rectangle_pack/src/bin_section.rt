@@ -300,14 +300,12 @@ pub fn sections_are_ordered()
     ensures by_field { (a b : Cuboid) → ⟦<BinSection as Ord>⟧.cmp a b ≡ section_order a b }
     ensures equal { (a b : Cuboid) → (⟦<BinSection as Ord>⟧.cmp a b ≡ Ordering.Equal) ↔ (a ≡ b) }
     ensures equality { (a b : Cuboid) → (⟦<BinSection as PartialEq>⟧.eq a b ≡ true) ↔ (a ≡ b) }
-{
-}
+{}
 
 /// A law: a box shares a cell with another where the other shares one with it.
 pub fn sharing_is_symmetric()
     ensures { (a b : Cuboid) → SharesCell a b → SharesCell b a }
-{
-}
+{}
 
 /// A law: with a heuristic that has one answer on each size, a comparison that answers as `contains_smallest_box`
 /// does is a total preorder on the cuts of each section, so that `try_place` takes a cut than which none is better.
@@ -316,5 +314,4 @@ where
     H: Fn(WidthHeightDepth) -> u128,
     C: Fn([WidthHeightDepth; 3], [WidthHeightDepth; 3], &H) -> Ordering,
     ensures { IsFunction (H.post heuristic.now) → ((a b : List Size) (r : Ordering) → MayCompare C.Fn comparison.now heuristic.now a b r → IsSmallestOrder (H.post heuristic.now) a b r) → IsPreorderOnCuts (MayCompare C.Fn comparison.now heuristic.now) }
-{
-}
+{}

@@ -38,15 +38,16 @@ where
     H: Fn(WidthHeightDepth) -> u128,
     C: Fn([WidthHeightDepth; 3], [WidthHeightDepth; 3], &H) -> Ordering,
     ensures { (all : Collection Id GroupId) (old new : List (BinId × Bin)) (placements : List (Placement Id BinId)) → PackingDone ⟦<Group<GroupId, Id> as Ord>⟧.cmp Id.cmp BinId.cmp (H.post heuristic.now) (MayCompare C.Fn comparison.now heuristic.now) all old placements new → KeepsEachBin BinId.cmp old placements new }
-{
-}
+{}
 
 /// A law: where the refused group has one entry, no free section of any bin, as the groups before it left them,
 /// holds its box.
-pub fn refused_box_is_held_nowhere<Id: Ord, BinId: Ord, GroupId: Ord, H, C>(heuristic: &H, comparison: &C)
+pub fn refused_box_is_held_nowhere<Id: Ord, BinId: Ord, GroupId: Ord, H, C>(
+    heuristic: &H,
+    comparison: &C,
+)
 where
     H: Fn(WidthHeightDepth) -> u128,
     C: Fn([WidthHeightDepth; 3], [WidthHeightDepth; 3], &H) -> Ordering,
     ensures { (all : Collection Id GroupId) (old new : List (BinId × Bin)) → (refused : PackingRefused ⟦<Group<GroupId, Id> as Ord>⟧.cmp Id.cmp BinId.cmp (H.post heuristic.now) (MayCompare C.Fn comparison.now heuristic.now) all old new) → (size : Size) → refused.stops.next.sizes ≡ size ∷ [] → (id : BinId) (bin : Bin) → lookup (is_at (BinId.cmp id)) new ≡ Some bin → All (λ s. ¬ Holds s size) bin.sections }
-{
-}
+{}

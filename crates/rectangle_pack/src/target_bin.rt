@@ -39,7 +39,10 @@ pub enum PushBinSectionError {
 impl fmt::Display for PushBinSectionError {
     fn fmt<W: fmt::Write>(&self, f: &mut fmt::Formatter<W>) -> fmt::Result {
         match self {
-            PushBinSectionError::OutOfBounds(section) => f.debug_tuple("BinSection").field(section).finish(),
+            PushBinSectionError::OutOfBounds(section) => f
+                .debug_tuple("BinSection")
+                .field(section)
+                .finish(),
             PushBinSectionError::Overlaps {
                 remaining_section,
                 new_section,
@@ -161,7 +164,10 @@ impl<A: Allocator + Copy> TargetBin<A> {
 
     /// Gives a section back: puts it at the end of the list where the bin accepts it. An error leaves the bin as it
     /// was; an empty section inside the bin is accepted.
-    pub fn push_available_bin_section(&mut self, bin_section: BinSection) -> Result<(), PushBinSectionError>
+    pub fn push_available_bin_section(
+        &mut self,
+        bin_section: BinSection,
+    ) -> Result<(), PushBinSectionError>
         ensures { IsPushAnswer self.old.bin bin_section result self.new.bin }
     {
         if !bin_section.is_inside(&self.max_size) {
@@ -182,7 +188,10 @@ impl<A: Allocator + Copy> TargetBin<A> {
 
     /// Puts a section at the end of the list. The caller sees to it that the bin accepts it. An error is want of
     /// memory, and leaves the bin as it was.
-    pub fn push_available_bin_section_unchecked(&mut self, bin_section: BinSection) -> Result<(), AllocError>
+    pub fn push_available_bin_section_unchecked(
+        &mut self,
+        bin_section: BinSection,
+    ) -> Result<(), AllocError>
         requires { IsAccepted self.old.bin bin_section }
         ensures ok { OnOk result (self.new.bin ≡ record self.old.bin { sections = self.old.bin.sections ++ bin_section ∷ [] }) }
         ensures err { OnErr result (self.new.bin ≡ self.old.bin) }
@@ -279,8 +288,7 @@ where
     H: Fn(WidthHeightDepth) -> u128,
     C: Fn([WidthHeightDepth; 3], [WidthHeightDepth; 3], &H) -> Ordering,
     ensures { (sections next : List Cuboid) (member : Size) (location : Cuboid) (tests : ℕ) → IsStep (H.post heuristic.now) (MayCompare C.Fn comparison.now heuristic.now) sections member location next tests → length next ≤ length sections + 2 }
-{
-}
+{}
 
 /// A law: where no two sections of a list share a cell, a trial that is done keeps the cells. The free cells of
 /// before are the free cells of after and the cells of the locations, and no two of these boxes share one.
@@ -289,5 +297,4 @@ where
     H: Fn(WidthHeightDepth) -> u128,
     C: Fn([WidthHeightDepth; 3], [WidthHeightDepth; 3], &H) -> Ordering,
     ensures { (sections last locations : List Cuboid) (members : List Size) (tests : ℕ) → AreAllApart sections → IsDone (H.post heuristic.now) (MayCompare C.Fn comparison.now heuristic.now) sections members locations last tests → KeepCells sections (last ++ locations) }
-{
-}
+{}

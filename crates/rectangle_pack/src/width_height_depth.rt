@@ -84,5 +84,4 @@ pub fn sizes_are_ordered()
     ensures by_field { (a b : Size) → ⟦<WidthHeightDepth as Ord>⟧.cmp a b ≡ size_order a b }
     ensures equal { (a b : Size) → (⟦<WidthHeightDepth as Ord>⟧.cmp a b ≡ Ordering.Equal) ↔ (a ≡ b) }
     ensures equality { (a b : Size) → (⟦<WidthHeightDepth as PartialEq>⟧.eq a b ≡ true) ↔ (a ≡ b) }
-{
-}
+{}

@@ -1,6 +1,5 @@
-use Rattle.std.proofs.Common.{rules, arith, ◌≡◌, List, ℕ, suc, [], ◌∷◌, length, get_or}
+use Rattle.std.proofs.Common.{rules, arith, ◌≡◌, List, [], ◌∷◌, length, get_or}
 use Rattle.std.specs.List.{AllZip}
-use Rattle.rectangle_pack.specs.SmallestBox.{Rates, AreRates}
 use Rattle.rectangle_pack.proofs.bin_section.two_smallest.Goals as goal
 
 -- a fact of each of three elements

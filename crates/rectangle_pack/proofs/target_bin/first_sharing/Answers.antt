@@ -1,4 +1,4 @@
-use Rattle.std.proofs.Common.{◌≡◌, refl, take, sym, add-one}
+use Rattle.std.proofs.Common.{refl, take}
 use Rattle.std.proofs.lemmas.List.{take_more}
 use Rattle.std.proofs.lemmas.List.Elements.{All-push}
 use Rattle.rectangle_pack.specs.Boxes.{AreApart}
@@ -14,4 +14,4 @@ loop-s-preserved c =
     let sections = c.args.sections.now in
     let i = c.loop-s.s-index in
     rw (take_more sections i c.s-item.result c.loop-s-test.true, ← c.s-item.is)
-      (All-push (λ s. AreApart s c.args.section.now) (take i sections) c.s-item.result c.loop-s.invariant c.if-overlaps.ensures.apart)
+    (All-push (λ s. AreApart s c.args.section.now) (take i sections) c.s-item.result c.loop-s.invariant c.if-overlaps.ensures.apart)

@@ -1,8 +1,7 @@
-use Rattle.std.proofs.Common.{rules, ◌≡◌, ◌∷◌, ◌++◌, [], List, refl, sym, ◌∙◌, ap, length}
-use Rattle.std.specs.Prelude.{map, filter, remove}
+use Rattle.std.proofs.Common.{rules, ◌∷◌, [], List}
+use Rattle.std.specs.Prelude.{map, filter}
 use Rattle.rectangle_pack.specs.Boxes.{Cuboid, has_cells}
 use Rattle.rectangle_pack.specs.Steps.{by_falling_rate}
-use Rattle.rectangle_pack.specs.Cuts.{placed}
 use Rattle.rectangle_pack.proofs.CutsLemmas.{length-chosen}
 use Rattle.rectangle_pack.proofs.TrialLemmas.{IsStep-at, AreLeft-three, three_of}
 use Rattle.rectangle_pack.proofs.trial.place_at.Goals as goal
@@ -16,8 +15,8 @@ returns-clause-step g c =
     let allowed = rw c.unwrap.ensures at c.try_place-placed.ensures.pieces in
     let three = three_of cut c.index-unwrap-0.result c.index-unwrap-1.result c.index-unwrap-2.result (length-chosen s m cut allowed) c.index-unwrap-0.is c.index-unwrap-1.is c.index-unwrap-2.is in
     rw at (IsStep-at _ _ c.args.sections.now.items m c.args.index s cut
-        (filter has_cells (map (λ p. p.1) (by_falling_rate ((c.heuristic.result, c.index-unwrap-0.result) ∷ (c.heuristic-2.result, c.index-unwrap-1.result) ∷ (c.heuristic-3.result, c.index-unwrap-2.result) ∷ []))))
-        c.push_pieces.new.sections.items
-        c.requires.index (search rules) c.requires.holds c.requires.newest allowed
-        (AreLeft-three _ cut c.index-unwrap-0.result c.index-unwrap-1.result c.index-unwrap-2.result c.heuristic.result c.heuristic-2.result c.heuristic-3.result three (search rules) (search rules) (search rules))
-        (search rules))
+    (filter has_cells (map (λ p. p.1) (by_falling_rate ((c.heuristic.result, c.index-unwrap-0.result) ∷ (c.heuristic-2.result, c.index-unwrap-1.result) ∷ (c.heuristic-3.result, c.index-unwrap-2.result) ∷ []))))
+    c.push_pieces.new.sections.items
+    c.requires.index (search rules) c.requires.holds c.requires.newest allowed
+    (AreLeft-three _ cut c.index-unwrap-0.result c.index-unwrap-1.result c.index-unwrap-2.result c.heuristic.result c.heuristic-2.result c.heuristic-3.result three (search rules) (search rules) (search rules))
+    (search rules))

@@ -1,4 +1,4 @@
-use Rattle.std.proofs.Common.{rules, arith, refl, ◌≡◌, ◌+◌, ◌++◌, ◌∷◌, [], length, vec_capacity}
+use Rattle.std.proofs.Common.{rules, arith, refl, ◌+◌, length}
 use Rattle.rectangle_pack.proofs.TrialLemmas.{CanUndo-more, IsDone-more, IsStuck-at, saturated-add, before_notes-more, CanUndo-noted}
 use Rattle.rectangle_pack.proofs.StepsLemmas.{IsStep-fits, length-step}
 use Rattle.rectangle_pack.proofs.trial.run_trial.Goals as goal

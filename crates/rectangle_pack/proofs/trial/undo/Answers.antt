@@ -1,4 +1,4 @@
-use Rattle.std.proofs.Common.{arith, vec_capacity, sym, ◌∙◌}
+use Rattle.std.proofs.Common.{arith, sym, ◌∙◌}
 use Rattle.rectangle_pack.proofs.TrialLemmas.{CanUndo-popped, CanUndoOne-more, before_notes-popped}
 use Rattle.rectangle_pack.proofs.trial.undo.Goals as goal
 

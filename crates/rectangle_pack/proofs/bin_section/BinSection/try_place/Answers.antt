@@ -1,8 +1,6 @@
-use Rattle.std.proofs.Common.{arith, rules, ◌≡◌, ◌<◌, ◌∷◌, [], length, add-one, refl, sym, ◌∙◌, ap}
+use Rattle.std.proofs.Common.{arith, rules, ◌≡◌, ◌<◌, [], length, add-one, refl, sym, ◌∙◌}
 use Rattle.std.proofs.Math.Seq.{take-suc}
-use Rattle.rectangle_pack.specs.Cuts.{placed, cuts, sizes_of}
-use Rattle.rectangle_pack.specs.Choice.{MayCompare, MayChoose}
-use Rattle.rectangle_pack.specs.Counting.{Tiles}
+use Rattle.rectangle_pack.specs.Cuts.{placed, cuts}
 use Rattle.rectangle_pack.proofs.PassLemmas.{pass_start, pass_keeps, pass_moves, not_greater, is_greater}
 use Rattle.rectangle_pack.proofs.CutsLemmas.{chosen_tiles, length-cuts, take_cuts}
 use Rattle.rectangle_pack.proofs.VolumesLemmas.{chosen_volumes}

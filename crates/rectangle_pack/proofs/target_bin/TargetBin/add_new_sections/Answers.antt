@@ -10,4 +10,4 @@ invariant_of-self-2 g c =
     let inside = subst (λ held. All (IsInside held.bin.size) new) (sym c.self.view_is) c.requires.inside in
     let apart = subst (λ held. AllPairs AreApart (held.bin.sections ++ new)) (sym c.self.view_is) c.requires.apart in
     rw (c.push_pieces.ensures.items, c.reserve.ensures.items)
-      (record { inside = All-append (IsInside c.self.inside.max_size) c.self.inside.available_bin_sections.items new c.self.invariant.inside inside; apart = apart })
+    (record { inside = All-append (IsInside c.self.inside.max_size) c.self.inside.available_bin_sections.items new c.self.invariant.inside inside; apart = apart })
