@@ -3,10 +3,14 @@ pub mod BinsLemmas
 pub mod BoxesLemmas
 pub mod CountingLemmas
 pub mod CutsLemmas
+pub mod GroupOrderLemmas
 pub mod GroupsLemmas
 pub mod KeepingLemmas
 pub mod ListsLemmas
 pub mod MapsLemmas
+pub mod OneOrderLemmas
+pub mod OnePackingLemmas
+pub mod OneResultLemmas
 pub mod OrderLemmas
 pub mod PassLemmas
 pub mod RestoreLemmas

@@ -28,7 +28,7 @@ is_greater Equal h = cc
 is_greater Greater h = refl
 
 -- an element in the middle is contained
-Contains-middle : {X : Type 0} (xs : List X) (y : X) (ys : List X) → Contains (xs ++ y ∷ ys) y
+pub Contains-middle : {X : Type 0} (xs : List X) (y : X) (ys : List X) → Contains (xs ++ y ∷ ys) y
 Contains-middle xs y ys = (length xs, simp length-append (omega arith), get_or-append_seam xs y ys y)
 
 module _ {A : Type 0} (R : A → A → Ordering → Type 0) where

@@ -9,6 +9,7 @@ ghost use Rattle.rectangle_pack.specs.Choice.{MayCompare};
 ghost use Rattle.rectangle_pack.specs.Groups.{Collection};
 ghost use Rattle.rectangle_pack.specs.Keeping.{KeepsEachBin};
 ghost use Rattle.rectangle_pack.specs.Packing.{PackingDone, PackingRefused};
+ghost use Rattle.rectangle_pack.specs.Results.{ClosuresDecide, AreAlike};
 
 use crate::grouped_rects_to_place::Group;
 use crate::packed_location::PackedLocation;
@@ -50,4 +51,31 @@ where
     H: Fn(WidthHeightDepth) -> u128,
     C: Fn([WidthHeightDepth; 3], [WidthHeightDepth; 3], &H) -> Ordering,
     ensures { (all : Collection Id GroupId) (old new : List (BinId × Bin)) → (refused : PackingRefused ⟦<Group<GroupId, Id> as Ord>⟧.cmp Id.cmp BinId.cmp (H.post heuristic.now) (MayCompare C.Fn comparison.now heuristic.now) all old new) → (size : Size) → refused.stops.next.sizes ≡ size ∷ [] → (id : BinId) (bin : Bin) → lookup (is_at (BinId.cmp id)) new ≡ Some bin → All (λ s. ¬ Holds s size) bin.sections }
+{}
+
+/// A law: with a heuristic that has one answer on each size and a comparison that is a total preorder on the cuts, a
+/// packing has one result. Equal collections, bins and closures give the same lists and, where the packing is done,
+/// the same locations; none is both done and refused.
+pub fn packing_has_one_result<Id, BinId, GroupId, H, C>(heuristic: &H, comparison: &C)
+where
+    Id: Ord,
+    BinId: Ord,
+    GroupId: Ord,
+    H: Fn(WidthHeightDepth) -> u128,
+    C: Fn([WidthHeightDepth; 3], [WidthHeightDepth; 3], &H) -> Ordering,
+    ensures done { ClosuresDecide (H.post heuristic.now) (MayCompare C.Fn comparison.now heuristic.now)
+        → (all : Collection Id GroupId) (old m n : List (BinId × Bin)) (p q : List (Placement Id BinId))
+        → PackingDone ⟦<Group<GroupId, Id> as Ord>⟧.cmp Id.cmp BinId.cmp (H.post heuristic.now) (MayCompare C.Fn comparison.now heuristic.now) all old p m
+        → PackingDone ⟦<Group<GroupId, Id> as Ord>⟧.cmp Id.cmp BinId.cmp (H.post heuristic.now) (MayCompare C.Fn comparison.now heuristic.now) all old q n
+        → (m ≡ n) × AreAlike Id.cmp BinId.cmp p q }
+    ensures refused { ClosuresDecide (H.post heuristic.now) (MayCompare C.Fn comparison.now heuristic.now)
+        → (all : Collection Id GroupId) (old m n : List (BinId × Bin))
+        → PackingRefused ⟦<Group<GroupId, Id> as Ord>⟧.cmp Id.cmp BinId.cmp (H.post heuristic.now) (MayCompare C.Fn comparison.now heuristic.now) all old m
+        → PackingRefused ⟦<Group<GroupId, Id> as Ord>⟧.cmp Id.cmp BinId.cmp (H.post heuristic.now) (MayCompare C.Fn comparison.now heuristic.now) all old n
+        → m ≡ n }
+    ensures not_both { ClosuresDecide (H.post heuristic.now) (MayCompare C.Fn comparison.now heuristic.now)
+        → (all : Collection Id GroupId) (old m n : List (BinId × Bin)) (p : List (Placement Id BinId))
+        → PackingDone ⟦<Group<GroupId, Id> as Ord>⟧.cmp Id.cmp BinId.cmp (H.post heuristic.now) (MayCompare C.Fn comparison.now heuristic.now) all old p m
+        → PackingRefused ⟦<Group<GroupId, Id> as Ord>⟧.cmp Id.cmp BinId.cmp (H.post heuristic.now) (MayCompare C.Fn comparison.now heuristic.now) all old n
+        → ⊥ }
 {}
