@@ -18,3 +18,6 @@ pub mod SmallestBoxLemmas
 pub mod StepsLemmas
 pub mod TrialLemmas
 pub mod VolumesLemmas
+pub mod PackingOrderLemmas
+pub mod JournalLemmas
+pub mod PackLemmas

@@ -16,3 +16,5 @@ pub mod Pushes
 pub mod Results
 pub mod Journal
 pub mod Texts
+pub mod TrialJournal
+pub mod PackErrors

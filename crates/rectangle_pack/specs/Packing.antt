@@ -1,8 +1,8 @@
 -- One packing: each group whole into the first bin that takes it.
-use Rattle.std.specs.Prelude.{◌≡◌, ℕ, ◌<◌, List, [], ◌∷◌, ◌++◌, length, map, All, Some, IfSome}
+use Rattle.std.specs.Prelude.{◌≡◌, ℕ, ◌<◌, List, [], ◌∷◌, ◌++◌, length, map, sum, All, Some, IfSome}
 use Rattle.std.specs.declared.cmp.Ordering.{Ordering}
 use Rattle.std.specs.List.{AllZip}
-use Rattle.std.specs.Map.{lookup, set_value}
+use Rattle.std.specs.Map.{lookup, set_value, values_of}
 use Rattle.std.specs.BTreeMap.{is_at}
 use Rattle.rectangle_pack.specs.declared.grouped_rects_to_place.Group.{Group}
 use Rattle.rectangle_pack.specs.declared.pack.Placement.{Placement}
@@ -16,6 +16,10 @@ use Rattle.rectangle_pack.specs.Steps.{IsDone, IsStuck}
 -- a map of bins, without the room that each list has
 abbrev pub bins_of : {B : Type 0} → List (B × Held) → List (B × Bin)
 bins_of es = map (λ e. (e.0, e.1.bin)) es
+
+-- how many entries the groups of a collection have
+abbrev pub entries_of : {Id G : Type 0} → Collection Id G → ℕ
+entries_of all = sum (map length (values_of all.groups))
 
 -- a group as a trial sees it: its ids, in order, and their sizes
 pub record Members (Id : Type 0) : Type 0 where

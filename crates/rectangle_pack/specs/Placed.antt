@@ -8,6 +8,15 @@ use Rattle.std.specs.BTreeMap.{is_at}
 use Rattle.std.specs.Ordering.{is_eq}
 use Rattle.rectangle_pack.specs.Boxes.{Cuboid}
 use Rattle.rectangle_pack.specs.declared.pack.Placement.{Placement}
+use Rattle.rectangle_pack.specs.declared.pack.RectanglePackOk.{RectanglePackOk}
+
+-- the placements that a packing answers, in the order in which they were made
+abbrev pub placements_of : {Id B A : Type 0} → RectanglePackOk Id B A → List (Placement Id B)
+placements_of ok = ok.placements.items
+
+-- the bin and the location that a packing answers for each id, in the order of ids
+abbrev pub locations_of : {Id B A : Type 0} → RectanglePackOk Id B A → List (Id × (B × Cuboid))
+locations_of ok = ok.packed_locations.entries
 
 module _ {Id B : Type 0} (cmp : Id → Id → Ordering) (bin_cmp : B → B → Ordering) where
   -- each id of a group at the location of its turn, all in this bin

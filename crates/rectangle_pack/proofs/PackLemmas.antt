@@ -1,0 +1,266 @@
+-- groups that are placed
+use Rattle.std.proofs.Common.{◌≡◌, ℕ, suc, ◌+◌, ◌<◌, ◌≤◌, List, [], ◌∷◌, ◌++◌, length, take, drop, refl, ap, sym, ◌∙◌, subst, cond, true, false, Bool, arith, get_or, append_assoc, append-nil}
+use Rattle.std.specs.Prelude.{Option, Some, None, map, All, IfSome, nat_eq, Result, Ok, Err, IfOk, MatchBool, MatchOption}
+use Rattle.std.specs.declared.cmp.Ordering.{Ordering}
+use Rattle.std.specs.declared.cmp.Ordering.TheVariants.{Less, Equal, Greater}
+use Rattle.std.specs.Ordering.{ordering_reverse, is_eq}
+use Rattle.std.specs.Cmp.{IsTotalOrder, Equal-is}
+use Rattle.std.specs.List.{AllZip, sum_by}
+use Rattle.std.specs.Bool.{OnTrue}
+use Rattle.std.proofs.lemmas.List.Sums.{sum_by-cons}
+use Rattle.std.proofs.lemmas.List.{length-append}
+use Rattle.std.specs.Map.{lookup, set_value}
+use Rattle.std.specs.Option.{option_map}
+use Rattle.std.specs.BTreeMap.{is_at}
+use Rattle.std.proofs.Math.Seq.{split_at}
+use Rattle.std.proofs.lemmas.List.{take_more, map-append, take-append-drop}
+use Rattle.std.proofs.lemmas.Map.Views.{IfSome-lookup_from_All}
+use Rattle.std.specs.declared.vec.Vec.{Vec}
+use Rattle.std.specs.declared.cmp.Reverse.{Reverse}
+use Rattle.std.specs.Borrow.{Bor}
+use Rattle.std.specs.Map.{values_of}
+use Rattle.rectangle_pack.specs.Groups.{lists_of, HaveSizes, MembersHaveSizes}
+use Rattle.rectangle_pack.specs.Orders.{keys_of_order, entries_at}
+use Rattle.std.proofs.lemmas.List.Elements.{All-push, All-nil, All-weaker}
+use Rattle.rectangle_pack.specs.declared.pack.DoneTrial.{DoneTrial}
+use Rattle.rectangle_pack.specs.declared.pack.Placement.{Placement}
+use Rattle.rectangle_pack.specs.Bins.{Bin, Held, IsSound}
+use Rattle.rectangle_pack.specs.Packing.{bins_of, Members, IsPlaced, IsStuckIn, IsRefused, AreAllPlaced, AreGroups, StopsAfter}
+use Rattle.rectangle_pack.specs.Boxes.{Size, Cuboid}
+use Rattle.rectangle_pack.specs.Journal.{before_notes, CanUndo}
+use Rattle.rectangle_pack.specs.Steps.{IsDone}
+use Rattle.rectangle_pack.specs.Placed.{AreNamed, IsLastOf, AreLastPlacements}
+use Rattle.rectangle_pack.specs.TrialJournal.{GoesBack}
+use Rattle.rectangle_pack.proofs.PackingOrderLemmas.{AllZip-more}
+use Rattle.rectangle_pack.proofs.MapsLemmas.{lookup-equal, set_value-equal}
+use Rattle.rectangle_pack.proofs.JournalLemmas.{bins_of-set_value, lookup-bins_of, IsRoomier-grown, IsRoomier-bins, GoesBack-more, GoesBack-pushed}
+
+-- a trial that is stuck, or refused memory, may leave its bin more room
+pub GoesBack-grown : {B A : Type 0} (cmp : B → B → Ordering) (now : List (B × Held)) (journal : List (DoneTrial B A)) (id : B) (v w : Held) (start : List (B × Bin))
+    → lookup (is_at (cmp id)) now ≡ Some v → w.bin ≡ v.bin → v.room ≤ w.room → GoesBack cmp now journal start → GoesBack cmp (set_value (is_at (cmp id)) now w) journal start
+GoesBack-grown cmp now journal id v w start found same more h =
+    GoesBack-more cmp now _ journal start (IsRoomier-grown (is_at (cmp id)) now v w found (record { bin = same; room = more })) h
+
+-- and its sections stay
+pub bins_of-grown : {B : Type 0} (test : B → Bool) (now : List (B × Held)) (v w : Held) → lookup test now ≡ Some v → w.bin ≡ v.bin → v.room ≤ w.room → bins_of (set_value test now w) ≡ bins_of now
+bins_of-grown test now v w found same more = IsRoomier-bins now (set_value test now w) (IsRoomier-grown test now v w found (record { bin = same; room = more }))
+
+-- a trial that is done and noted
+pub GoesBack-done : {B A : Type 0} {cmp : B → B → Ordering} → IsTotalOrder cmp → (now : List (B × Held)) (journal new : List (DoneTrial B A)) (id : B) (e : DoneTrial B A) (v w : Held) (start : List (B × Bin))
+    → cmp id e.bin ≡ Equal → lookup (is_at (cmp id)) now ≡ Some v → new ≡ journal ++ e ∷ []
+    → w.bin.size ≡ v.bin.size → before_notes e.notes.items w.bin.sections ≡ v.bin.sections → CanUndo w.room e.notes.items w.bin.sections → IsSound v.bin.size v.bin.sections → v.room ≤ w.room
+    → GoesBack cmp now journal start → GoesBack cmp (set_value (is_at (cmp id)) now w) new start
+GoesBack-done {B} {cmp} o now journal new id e v w start equal found pushed size before can sound more h =
+    let there : lookup (is_at (cmp e.bin)) now ≡ Some v = sym (lookup-equal o id e.bin equal now) ∙ found in
+    rw (set_value-equal o id e.bin equal now w)
+    (GoesBack-pushed cmp now journal new e v w start pushed there
+    (record { can = can; sound = rw (size, before) sound })
+    (record { bin = rw (size, before) refl; room = more })
+    h)
+
+-- what a look-up finds, without its room
+pub found-bins_of : {B : Type 0} (test : B → Bool) (now : List (B × Held)) (old : List (B × Bin)) (v : Held) → bins_of now ≡ old → lookup test now ≡ Some v → lookup test old ≡ Some v.bin
+found-bins_of test now old v same found = rw (← same) (lookup-bins_of test now ∙ ap (option_map (λ (h : Held). h.bin)) found)
+
+-- the names of an order, split at an index
+names-split : {B : Type 0} (order : List (ℕ × B)) (i : ℕ) (o : ℕ × B) → i < length order → o ≡ get_or order i o → map (λ (x : ℕ × B). x.1) order ≡ map (λ (x : ℕ × B). x.1) (take i order) ++ o.1 ∷ map (λ (x : ℕ × B). x.1) (drop (suc i) order)
+names-split {B} order i o within is =
+    let split : order ≡ take i order ++ o ∷ drop (suc i) order = subst (λ z. order ≡ take i order ++ z ∷ drop (suc i) order) (sym is) (split_at order i o within) in
+    ap (map (λ (x : ℕ × B). x.1)) split ∙ map-append (λ (x : ℕ × B). x.1) (take i order) (o ∷ drop (suc i) order)
+
+-- a done trial has one location for each member
+pub IsDone-length : (MayRate : Size → ℕ → Type 0) (MayPrefer : List Size → List Size → Ordering → Type 0) (sections : List Cuboid) (ms : List Size) (ls : List Cuboid) (last : List Cuboid) (n : ℕ) → IsDone MayRate MayPrefer sections ms ls last n → length ms ≡ length ls
+IsDone-length MayRate MayPrefer sections [] ls last n h = rw h.0 refl
+IsDone-length MayRate MayPrefer sections (m ∷ ms) [] last n h = absurd h
+IsDone-length MayRate MayPrefer sections (m ∷ ms) (l ∷ ls) last n (next, one, rest, step, done, count) = let e = IsDone-length MayRate MayPrefer next ms ls last rest done in omega arith
+
+-- one more name
+pub AreNamed-more : {Id B : Type 0} (cmp : Id → Id → Ordering) (bin_cmp : B → B → Ordering) (ids : List Id) (here : B) (locations : List Cuboid) (i : ℕ) (x id : Id) (bin : B) (e : Cuboid) (added : List (Placement Id B))
+    → i < length ids → i < length locations → x ≡ get_or ids i x → e ≡ get_or locations i e → cmp x id ≡ Equal → bin_cmp here bin ≡ Equal
+    → AreNamed cmp bin_cmp (take i ids) here (take i locations) added → AreNamed cmp bin_cmp (take (i + 1) ids) here (take (i + 1) locations) (added ++ record { id = id; bin = bin; location = e } ∷ [])
+AreNamed-more {Id} {B} cmp bin_cmp ids here locations i x id bin e added in_ids in_locations is is_location same same_bin h =
+    let p : Placement Id B = record { id = id; bin = bin; location = e } in record {
+      named = rw (take_more ids i x in_ids) (AllZip-more _ (take i ids) added (get_or ids i x) p h.named (rw (← is) same));
+      together = All-push (λ (y : Placement Id B). bin_cmp here y.bin ≡ Equal) added p h.together same_bin;
+      at = map-append (λ (y : Placement Id B). y.location) added (p ∷ []) ∙ rw (take_more locations i e in_locations, h.at, ← is_location) refl;
+    }
+
+-- the sizes of a list of ids
+abbrev pub AreSizesOf : {Id : Type 0} → (Id → Id → Ordering) → List (Id × Size) → List Id → List Size → Type 0
+AreSizesOf cmp sizes ids found = AllZip (λ id size. lookup (is_at (cmp id)) sizes ≡ Some size) ids found
+
+-- of which there are as many
+pub AreSizesOf-length : {Id : Type 0} (cmp : Id → Id → Ordering) (sizes : List (Id × Size)) (ids : List Id) (found : List Size) → AreSizesOf cmp sizes ids found → length ids ≡ length found
+AreSizesOf-length cmp sizes [] [] h = refl
+AreSizesOf-length cmp sizes [] (m ∷ ms) h = absurd h
+AreSizesOf-length cmp sizes (x ∷ xs) [] h = absurd h
+AreSizesOf-length cmp sizes (x ∷ xs) (m ∷ ms) h = let e = AreSizesOf-length cmp sizes xs ms h.1 in omega arith
+
+module _ {Id B : Type 0} (cmp : Id → Id → Ordering) (bin_cmp : B → B → Ordering) (MayRate : Size → ℕ → Type 0) (MayPrefer : List Size → List Size → Ordering → Type 0) where
+  -- the group is placed in the bin that the loop is at
+  pub IsPlaced-at : (order : List (ℕ × B)) (i : ℕ) (o : ℕ × B) (group : Members Id)
+      (now : List (B × Held)) (old : List (B × Bin)) (v w : Held) (locations : List Cuboid) (tests : ℕ) (added : List (Placement Id B))
+      → i < length order → o ≡ get_or order i o → bins_of now ≡ old
+      → All (IsStuckIn cmp bin_cmp MayRate MayPrefer old group) (map (λ (x : ℕ × B). x.1) (take i order))
+      → lookup (is_at (bin_cmp o.1)) now ≡ Some v → w.bin.size ≡ v.bin.size → IsDone MayRate MayPrefer v.bin.sections group.sizes locations w.bin.sections tests
+      → AreNamed cmp bin_cmp group.ids o.1 locations added
+      → IsPlaced cmp bin_cmp MayRate MayPrefer (map (λ (x : ℕ × B). x.1) order) group old added (bins_of (set_value (is_at (bin_cmp o.1)) now w))
+  IsPlaced-at order i o group now old v w locations tests added within is same stuck found size done named = record {
+    before = map (λ (x : ℕ × B). x.1) (take i order);
+    here = o.1;
+    after = map (λ (x : ℕ × B). x.1) (drop (suc i) order);
+    order_is = names-split order i o within is;
+    stuck = stuck;
+    bin = v.bin;
+    found = found-bins_of (is_at (bin_cmp o.1)) now old v same found;
+    last = w.bin.sections;
+    locations = locations;
+    tests = tests;
+    done = done;
+    named = named;
+    new_is =
+        let whole : w.bin ≡ record { size = v.bin.size; sections = w.bin.sections } = rw (← size) refl in
+        bins_of-set_value (is_at (bin_cmp o.1)) now w ∙ ap (λ es. set_value (is_at (bin_cmp o.1)) es w.bin) same ∙ ap (set_value (is_at (bin_cmp o.1)) old) whole;
+  }
+
+  -- one more bin is stuck
+  pub IsStuckIn-more : (old : List (B × Bin)) (group : Members Id) (order : List (ℕ × B)) (i : ℕ) (o : ℕ × B)
+      → i < length order → o ≡ get_or order i o → IsStuckIn cmp bin_cmp MayRate MayPrefer old group o.1
+      → All (IsStuckIn cmp bin_cmp MayRate MayPrefer old group) (map (λ (x : ℕ × B). x.1) (take i order)) → All (IsStuckIn cmp bin_cmp MayRate MayPrefer old group) (map (λ (x : ℕ × B). x.1) (take (i + 1) order))
+  IsStuckIn-more old group order i o within is here before =
+      let same : map (λ (x : ℕ × B). x.1) (take (i + 1) order) ≡ map (λ (x : ℕ × B). x.1) (take i order) ++ o.1 ∷ [] = ap (map (λ (x : ℕ × B). x.1)) (take_more order i o within) ∙ map-append (λ (x : ℕ × B). x.1) (take i order) (get_or order i o ∷ []) ∙ ap (λ (z : ℕ × B). map (λ (x : ℕ × B). x.1) (take i order) ++ z.1 ∷ []) (sym is) in
+      subst (λ ns. All (IsStuckIn cmp bin_cmp MayRate MayPrefer old group) ns) (sym same) (All-push (IsStuckIn cmp bin_cmp MayRate MayPrefer old group) (map (λ (x : ℕ × B). x.1) (take i order)) o.1 before here)
+
+  -- one more group is placed
+  pub AreAllPlaced-push : (order : List B) (gs : List (Members Id)) (g : Members Id) (old mid next : List (B × Bin)) (placements added : List (Placement Id B))
+      → AreAllPlaced cmp bin_cmp MayRate MayPrefer order gs old placements mid → IsPlaced cmp bin_cmp MayRate MayPrefer order g mid added next
+      → AreAllPlaced cmp bin_cmp MayRate MayPrefer order (gs ++ g ∷ []) old (placements ++ added) next
+  AreAllPlaced-push order [] g old mid next placements added done placed =
+      (added, next, [], rw (← done.1) placed, (refl, refl), ap (λ ps. ps ++ added) done.0 ∙ sym (append-nil added))
+  AreAllPlaced-push order (g' ∷ gs) g old mid next placements added (first, mid', rest, here, later, joined) placed =
+      (first, mid', rest ++ added, here, AreAllPlaced-push order gs g mid' mid next rest added later placed, rw joined (append_assoc first rest added))
+
+  module _ {K : Type 0} (group_cmp : K → K → Ordering) where
+    -- one more group is named
+    pub AreGroups-more : (sizes : List (Id × Size)) (lists : List (K × List Id)) (order : List (Reverse ℕ × Bor K)) (i : ℕ) (o : Reverse ℕ × Bor K) (gs : List (Members Id)) (group : Members Id)
+        → i < length order → o ≡ get_or order i o → lookup (is_at (group_cmp o.1.now)) lists ≡ Some group.ids → AreSizesOf cmp sizes group.ids group.sizes
+        → AreGroups cmp bin_cmp MayRate MayPrefer group_cmp sizes lists (keys_of_order (take i order)) gs → AreGroups cmp bin_cmp MayRate MayPrefer group_cmp sizes lists (keys_of_order (take (i + 1) order)) (gs ++ group ∷ [])
+    AreGroups-more sizes lists order i o gs group within is found sized h =
+        let f : Reverse ℕ × Bor K → ℕ × K = λ x. (x.0.0, x.1.now) in
+        let more : keys_of_order (take (i + 1) order) ≡ keys_of_order (take i order) ++ f o ∷ [] = ap (map f) (take_more order i o within) ∙ map-append f (take i order) (get_or order i o ∷ []) ∙ ap (λ z. map f (take i order) ++ f z ∷ []) (sym is) in
+        record { each = rw more (AllZip-more (λ (x : ℕ × K) (g : Members Id). (lookup (is_at (group_cmp x.1)) lists ≡ Some g.ids) × AreSizesOf cmp sizes g.ids g.sizes) (keys_of_order (take i order)) gs (f o) group h.each (found, sized)) }
+
+    -- the loop stops at a group that is refused
+    pub StopsAfter-at : (sizes : List (Id × Size)) (lists : List (K × List Id)) (order : List (Reverse ℕ × Bor K)) (bin_order : List B) (i : ℕ)
+        (gs : List (Members Id)) (next : Members Id) (old new mid : List (B × Bin)) (placements : List (Placement Id B))
+        → AreGroups cmp bin_cmp MayRate MayPrefer group_cmp sizes lists (keys_of_order (take i order)) (gs ++ next ∷ []) → AreAllPlaced cmp bin_cmp MayRate MayPrefer bin_order gs old placements mid → new ≡ mid
+        → IsRefused cmp bin_cmp MayRate MayPrefer bin_order next mid
+        → StopsAfter cmp bin_cmp MayRate MayPrefer group_cmp sizes lists (keys_of_order order) bin_order old new
+    StopsAfter-at sizes lists order bin_order i gs next old new mid placements listed placed same refused =
+        let f : Reverse ℕ × Bor K → ℕ × K = λ x. (x.0.0, x.1.now) in record {
+          taken = keys_of_order (take i order);
+          later = keys_of_order (drop i order);
+          order_is = ap (map f) (sym (take-append-drop i order)) ∙ map-append f (take i order) (drop i order);
+          beginning = gs;
+          next = next;
+          listed = listed;
+          placements = placements;
+          placed = rw same placed;
+          refused = rw same refused;
+        }
+
+-- the ids of a list that is found have sizes
+pub HaveSizes-found : {Id K : Type 0} (cmp : Id → Id → Ordering) (sizes : List (Id × Size)) (lists : List (K × List Id)) (test : K → Bool) (ids : List Id)
+    → MembersHaveSizes cmp sizes lists → lookup test lists ≡ Some ids → HaveSizes cmp sizes ids
+HaveSizes-found {Id} cmp sizes lists test ids h found =
+    let all : IfSome (lookup test lists) (HaveSizes cmp sizes) = IfSome-lookup_from_All (HaveSizes cmp sizes) test lists (All-weaker (λ (xs : List Id). (0 < length xs) × HaveSizes cmp sizes xs) (HaveSizes cmp sizes) (λ xs p. p.1) (values_of lists) h) in
+    rw found at all
+
+-- other facts on the two answers
+pub packed-weaker : {E P Q P' Q' : Type 0} (r : Result Bool E) → (P → P') → (Q → Q') → IfOk r (λ d. MatchBool d P Q) → IfOk r (λ d. MatchBool d P' Q')
+packed-weaker (Ok true) f g h = f h
+packed-weaker (Ok false) f g h = g h
+packed-weaker (Err e) f g h = tt
+
+-- a map that is not empty has lists
+pub lists-some : {K X A : Type 0} (es : List (K × Vec X A)) (b : Bool) → b ≡ nat_eq (length es) 0 → b ≡ false → lists_of es ≡ [] → ⊥
+lists-some [] b is not_so h = absurd cc
+lists-some (e ∷ es) b is not_so h = absurd cc
+
+-- and one that is has none
+pub lists-empty : {K X A : Type 0} (es : List (K × Vec X A)) (b : Bool) → b ≡ nat_eq (length es) 0 → b ≡ true → lists_of es ≡ []
+lists-empty [] b is so = refl
+lists-empty (e ∷ es) b is so = grind (arith, is, so)
+
+-- swapped arguments are as equal
+is_eq-reverse : (r : Ordering) → is_eq (ordering_reverse r) ≡ is_eq r
+is_eq-reverse Less = refl
+is_eq-reverse Equal = refl
+is_eq-reverse Greater = refl
+
+-- the last placement of each id, after one more placement, which is written under an id and a bin that equal its own
+pub AreLastPlacements-more : {Id B : Type 0} {cmp : Id → Id → Ordering} (bin_cmp : B → B → Ordering) → IsTotalOrder cmp → (placements : List (Placement Id B)) (p : Placement Id B) (key : Id) (bin : B) (old new : List (Id × (B × Cuboid)))
+    → cmp p.id key ≡ Equal → bin_cmp p.bin bin ≡ Equal
+    → ((id : Id) → lookup (is_at (cmp id)) new ≡ cond (is_at (cmp key) id) (Some (bin, p.location)) (lookup (is_at (cmp id)) old))
+    → AreLastPlacements cmp bin_cmp placements old → AreLastPlacements cmp bin_cmp (placements ++ p ∷ []) new
+AreLastPlacements-more {Id} {B} {cmp} bin_cmp o placements p key bin old new same same_bin updates h =
+    record { each = λ id. rw (updates id) (at id (is_eq (cmp key id)) (alike id) (lookup (is_at (cmp id)) old) (h.each id)) }
+  where
+    alike : (id : Id) → is_eq (cmp id p.id) ≡ is_eq (cmp key id)
+    alike id = ap is_eq (o.antisymm id p.id) ∙ is_eq-reverse (cmp p.id id) ∙ ap is_eq (o.congr p.id key id same)
+
+    at : (id : Id) (b : Bool) → is_eq (cmp id p.id) ≡ b → (found : Option (B × Cuboid))
+        → MatchOption found (All (λ q. is_eq (cmp id q.id) ≡ false) placements) (IsLastOf cmp bin_cmp placements id)
+        → MatchOption (cond b (Some (bin, p.location)) found) (All (λ q. is_eq (cmp id q.id) ≡ false) (placements ++ p ∷ [])) (IsLastOf cmp bin_cmp (placements ++ p ∷ []) id)
+    at id true hit found l = record { before = placements; last = p; after = []; splits = refl; same = (Equal-is _).0 hit; later = All-nil _; bin = same_bin; location = refl }
+    at id false miss None l = All-push (λ (q : Placement Id B). is_eq (cmp id q.id) ≡ false) placements p l miss
+    at id false miss (Some x) l = record {
+      before = l.before;
+      last = l.last;
+      after = l.after ++ p ∷ [];
+      splits = ap (λ ps. ps ++ p ∷ []) l.splits ∙ append_assoc l.before (l.last ∷ l.after) (p ∷ []);
+      same = l.same;
+      later = All-push (λ (q : Placement Id B). is_eq (cmp id q.id) ≡ false) l.after p l.later miss;
+      bin = l.bin;
+      location = l.location;
+    }
+
+-- related lists are equally long
+pub AllZip-length : {A B : Type 0} (R : A → B → Type 0) (xs : List A) (ys : List B) → AllZip R xs ys → length xs ≡ length ys
+AllZip-length R [] [] h = refl
+AllZip-length R [] (y ∷ ys) h = absurd h
+AllZip-length R (x ∷ xs) [] h = absurd h
+AllZip-length R (x ∷ xs) (y ∷ ys) h = let e = AllZip-length R xs ys h.1 in omega arith
+
+-- how many entries the groups have
+abbrev pub entries_in : {Id : Type 0} → List (Members Id) → ℕ
+entries_in groups = sum_by (λ (g : Members _). length g.ids) groups
+
+-- one placement for each entry of each group
+pub AreAllPlaced-length : {Id B : Type 0} (cmp : Id → Id → Ordering) (bin_cmp : B → B → Ordering) (MayRate : Size → ℕ → Type 0) (MayPrefer : List Size → List Size → Ordering → Type 0) (order : List B) (gs : List (Members Id)) (old new : List (B × Bin)) (placements : List (Placement Id B))
+    → AreAllPlaced cmp bin_cmp MayRate MayPrefer order gs old placements new → length placements ≡ entries_in gs
+AreAllPlaced-length cmp bin_cmp MayRate MayPrefer order [] old new placements h = rw h.0 refl
+AreAllPlaced-length {Id} {B} cmp bin_cmp MayRate MayPrefer order (g ∷ gs) old new placements (first, next, others, placed, later, joined) =
+    let one = AllZip-length (λ (id : Id) (p : Placement Id B). cmp id p.id ≡ Equal) g.ids first placed.named.named in
+    let rest = AreAllPlaced-length cmp bin_cmp MayRate MayPrefer order gs next new others later in
+    omega (arith, ap length joined, length-append first others, one, rest, sum_by-cons (λ (m : Members Id). length m.ids) g gs)
+
+-- the entries that an order names are those of its groups
+pub AreGroups-length : {Id B K : Type 0} (cmp : Id → Id → Ordering) (bin_cmp : B → B → Ordering) (MayRate : Size → ℕ → Type 0) (MayPrefer : List Size → List Size → Ordering → Type 0) (group_cmp : K → K → Ordering) (sizes : List (Id × Size)) (lists : List (K × List Id)) (order : List (ℕ × K)) (gs : List (Members Id))
+    → AreGroups cmp bin_cmp MayRate MayPrefer group_cmp sizes lists order gs → sum_by (entries_at group_cmp lists) order ≡ entries_in gs
+AreGroups-length {Id} {B} {K} cmp bin_cmp MayRate MayPrefer group_cmp sizes lists order gs h = at order gs h.each
+  where
+    at : (order : List (ℕ × K)) (gs : List (Members Id)) → AllZip (λ entry group. (lookup (is_at (group_cmp entry.1)) lists ≡ Some group.ids) × AreSizesOf cmp sizes group.ids group.sizes) order gs → sum_by (entries_at group_cmp lists) order ≡ entries_in gs
+    at [] [] h = refl
+    at [] (g ∷ gs) h = absurd h
+    at (o ∷ order) [] h = absurd h
+    at (o ∷ order) (g ∷ gs) h =
+        let here : entries_at group_cmp lists o ≡ length g.ids = rw h.0.0 refl in
+        let later = at order gs h.1 in
+        omega (arith, here, later, sum_by-cons (entries_at group_cmp lists) o order, sum_by-cons (λ (m : Members Id). length m.ids) g gs)
+
+-- another fact on the answer true
+pub done-weaker : {E P P' : Type 0} (Q : Type 0) (r : Result Bool E) → (P → P') → IfOk r (λ d. MatchBool d P Q) → IfOk r (λ d. OnTrue d P')
+done-weaker Q (Ok true) f h = f h
+done-weaker Q (Ok false) f h = tt
+done-weaker Q (Err e) f h = tt

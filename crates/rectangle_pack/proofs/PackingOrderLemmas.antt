@@ -1,0 +1,133 @@
+-- orders of groups and bins
+use Rattle.std.proofs.Common.{◌≡◌, ℕ, ◌+◌, ◌-◌, ◌^◌, ◌<◌, List, [], ◌∷◌, ◌++◌, length, refl, ap, sym, ◌∙◌, arith, min}
+use Rattle.std.specs.Prelude.{map, All}
+use Rattle.std.specs.declared.vec.Vec.{Vec}
+use Rattle.std.specs.Map.{values_of}
+use Rattle.std.proofs.lemmas.List.{get_or-map, length-map, map_push}
+use Rattle.std.proofs.Common.{Bor}
+use Rattle.std.specs.Iterator.{Yields}
+use Rattle.std.specs.Map.Iter.{TakesFirst, deref_pair}
+use Rattle.std.specs.Prelude.{Option, Some}
+use Rattle.std.proofs.lemmas.Map.Views.{All-turn}
+use Rattle.std.proofs.lemmas.List.Elements.{All-nil, All-cons, All-head, All-tail}
+use Rattle.std.specs.Option.{option_map}
+use Rattle.rectangle_pack.proofs.ListsLemmas.{lookup-lists}
+use Rattle.rectangle_pack.specs.Groups.{lists_of}
+use Rattle.std.specs.declared.cmp.Ordering.{Ordering}
+use Rattle.std.specs.List.Sorted.{IsSorted}
+use Rattle.std.specs.List.{AllZip, sum_by}
+use Rattle.std.specs.BTreeMap.{BTreeMap, IsOrdered}
+use Rattle.std.proofs.lemmas.Map.Entries.{btree_map_get_place}
+use Rattle.std.proofs.lemmas.List.Sums.{sum_by-cons}
+use Rattle.std.proofs.Common.{get_or}
+use Rattle.std.proofs.lemmas.Option.{slice_get-get_or}
+use Rattle.std.specs.Prelude.{sum}
+use Rattle.std.proofs.lemmas.List.Sums.{sum_by_push}
+use Rattle.rectangle_pack.specs.Orders.{saturated, entries_at}
+use Rattle.std.proofs.Common.{cond, true, false, Bool}
+use Rattle.std.specs.Prelude.{IsSome}
+use Rattle.std.specs.declared.cmp.Ordering.TheVariants.{Less, Equal, Greater}
+use Rattle.std.specs.Ordering.{ordering_reverse}
+use Rattle.std.specs.Cmp.{IsTotalOrder}
+use Rattle.std.specs.Map.{lookup}
+use Rattle.std.specs.BTreeMap.{is_at}
+use Rattle.std.specs.declared.cmp.Reverse.{Reverse}
+use Rattle.std.proofs.lemmas.List.Elements.{All-weaker}
+
+-- one more of each
+pub AllZip-more : {A B : Type 0} (R : A → B → Type 0) (xs : List A) (ys : List B) (x : A) (y : B) → AllZip R xs ys → R x y → AllZip R (xs ++ x ∷ []) (ys ++ y ∷ [])
+AllZip-more R [] [] x y h r = (r, tt)
+AllZip-more R [] (b ∷ ys) x y h r = absurd h
+AllZip-more R (a ∷ xs) [] x y h r = absurd h
+AllZip-more R (a ∷ xs) (b ∷ ys) x y h r = (h.0, AllZip-more R xs ys x y h.1 r)
+
+-- a sum that is cut at m at each step is the whole sum cut at m
+pub min-more : (n a m : ℕ) → min (min n m + a) m ≡ min (n + a) m
+min-more n a m = omega arith
+
+-- the saturated sum with one more rate
+pub saturated-more : (rates : List ℕ) (rate key next : ℕ) → key ≡ saturated (sum rates) → next ≡ saturated (key + rate) → next ≡ saturated (sum (rates ++ rate ∷ []))
+saturated-more rates rate key next is more = more ∙ ap (λ k. saturated (k + rate)) is ∙ min-more (sum rates) rate (2 ^ 128 - 1) ∙ ap saturated (sym (sum_by_push (λ x. x) rates rate))
+
+-- a list in order by what f reads, read by f
+pub IsSorted-map : {A B : Type 0} (R : B → B → Ordering) (f : A → B) (xs : List A) → IsSorted (λ x y. R (f x) (f y)) xs → IsSorted R (map f xs)
+IsSorted-map R f [] h = λ k d low up. absurd (omega arith)
+IsSorted-map {A} R f (x ∷ xs) h = λ k d low up.
+    let long : k + 1 < length (x ∷ xs) = simp length-map at up in
+    let here : k < length (x ∷ xs) = omega arith in
+    rw (get_or-map f (x ∷ xs) (k + 1) x d long, get_or-map f (x ∷ xs) k x d here) (h k x low long)
+
+-- what holds of each list holds of each vector's items
+pub All-lists_of : {K X A : Type 0} (P : List X → Type 0) (es : List (K × Vec X A)) → All P (values_of (lists_of es)) → All (λ e. P e.1.items) es
+All-lists_of P [] h = All-nil _
+All-lists_of {K} {X} {A} P (e ∷ es) h = All-cons (λ (e : K × Vec X A). P e.1.items) e es (All-head P e.1.items (values_of (lists_of es)) h) (All-lists_of P es (All-tail P e.1.items (values_of (lists_of es)) h))
+
+-- the list that a loop over a map is at
+pub items-turn : {K X A : Type 0} (P : List X → Type 0) (all : List (K × Vec X A)) (xs : List (Bor K × Bor (Vec X A))) (s t u : List (K × Vec X A)) (r : Option (Bor K × Bor (Vec X A))) (x : Bor K × Bor (Vec X A))
+    → All P (values_of (lists_of all)) → s ≡ all → Yields (TakesFirst deref_pair) s xs t → r ≡ Some x → TakesFirst deref_pair t r u → P x.1.now.items
+items-turn {K} {X} {A} P all xs s t u r x h = All-turn deref_pair (λ (e : K × Vec X A). P e.1.items) all xs s t u r x (All-lists_of P all h)
+
+-- the entries that a loop over a map has been at, with the next
+pub lists_of-turn : {K X A : Type 0} (xs : List (Bor K × Bor (Vec X A))) (x : Bor K × Bor (Vec X A)) → lists_of (map deref_pair (xs ++ x ∷ [])) ≡ lists_of (map deref_pair xs) ++ (x.0.now, x.1.now.items) ∷ []
+lists_of-turn xs x = ap lists_of (map_push deref_pair xs x) ∙ map_push (λ e. (e.0, e.1.items)) (map deref_pair xs) (deref_pair x)
+
+-- a relation to what a function makes of the second list
+pub AllZip-map_right : {A B C : Type 0} (R : A → C → Type 0) (f : B → C) (xs : List A) (ys : List B) → AllZip (λ x y. R x (f y)) xs ys → AllZip R xs (map f ys)
+AllZip-map_right R f [] [] h = tt
+AllZip-map_right R f [] (y ∷ ys) h = absurd h
+AllZip-map_right R f (x ∷ xs) [] h = absurd h
+AllZip-map_right R f (x ∷ xs) (y ∷ ys) h = (h.0, AllZip-map_right R f xs ys h.1)
+
+-- and of the first
+pub AllZip-map_left : {A B C : Type 0} (R : C → B → Type 0) (f : A → C) (xs : List A) (ys : List B) → AllZip (λ x y. R (f x) y) xs ys → AllZip R (map f xs) ys
+AllZip-map_left R f [] [] h = tt
+AllZip-map_left R f [] (y ∷ ys) h = absurd h
+AllZip-map_left R f (x ∷ xs) [] h = absurd h
+AllZip-map_left R f (x ∷ xs) (y ∷ ys) h = (h.0, AllZip-map_left R f xs ys h.1)
+
+-- each value equals itself
+pub cmp-self : {B : Type 0} {cmp : B → B → Ordering} → IsTotalOrder cmp → (x : B) → cmp x x ≡ Equal
+cmp-self {cmp = cmp} o x = at (cmp x x) (o.antisymm x x)
+  where
+    at : (r : Ordering) → r ≡ ordering_reverse r → r ≡ Equal
+    at Less h = absurd cc
+    at Equal h = refl
+    at Greater h = absurd cc
+
+-- what is found in a list is found in a longer one
+IsSome-cons : {X : Type 0} (b : Bool) (v : X) (o : Option X) → IsSome o → IsSome (cond b (Some v) o)
+IsSome-cons true v o h = refl
+IsSome-cons false v o h = h
+
+-- each name of the order has a list
+pub listed-zip : {K X A : Type 0} {cmp : K → K → Ordering} → IsTotalOrder cmp → (P : K × List X → Reverse ℕ × Bor K → Type 0) (es : List (K × Vec X A)) (ys : List (Reverse ℕ × Bor K)) → AllZip (λ e y. (y.1.now ≡ e.0) × P e y) (lists_of es) ys → All (λ y. IsSome (lookup (is_at (cmp y.1.now)) es)) ys
+listed-zip o P [] [] h = All-nil _
+listed-zip o P [] (y ∷ ys) h = absurd h
+listed-zip o P (e ∷ es) [] h = All-nil _
+listed-zip {K} {X} {A} {cmp = cmp} o P (e ∷ es) (y ∷ ys) h =
+    All-cons (λ (z : Reverse ℕ × Bor K). IsSome (lookup (is_at (cmp z.1.now)) (e ∷ es))) y ys
+    (rw (h.0.0, cmp-self o e.0) refl)
+    (All-weaker (λ (z : Reverse ℕ × Bor K). IsSome (lookup (is_at (cmp z.1.now)) es)) (λ (z : Reverse ℕ × Bor K). IsSome (lookup (is_at (cmp z.1.now)) (e ∷ es))) (λ z there. IsSome-cons (is_at (cmp z.1.now) e.0) e.1 (lookup (is_at (cmp z.1.now)) es) there) ys (listed-zip o P es ys h.1))
+
+-- a list that a key has, by the vector that it has
+pub list-found : {K X A : Type 0} (test : K → Bool) (es : List (K × Vec X A)) (v : Vec X A) → lookup test es ≡ Some v → lookup test (lists_of es) ≡ Some v.items
+list-found {X = X} {A = A} test es v found = lookup-lists test es ∙ ap (option_map (λ (w : Vec X A). w.items)) found
+
+-- each list of a map is found under its name
+pub lookup-each : {K X A : Type 0} {cmp : K → K → Ordering} → IsTotalOrder cmp → (m : BTreeMap K (Vec X A)) → IsOrdered cmp m → All (λ e. lookup (is_at (cmp e.0)) (lists_of m.entries) ≡ Some e.1.items) m.entries
+lookup-each {K} {X} {A} {cmp} o m ordered i d within =
+    let e = get_or m.entries i d in
+    list-found (is_at (cmp e.0)) m.entries e.1 (btree_map_get_place o m i e.0 e.1 ordered (slice_get-get_or m.entries i d within))
+
+-- as many entries as the lists have, one after another
+pub counted-zip : {K X A : Type 0} (cmp : K → K → Ordering) (P : K × List X → ℕ × K → Type 0) (lists : List (K × List X)) (es : List (K × Vec X A)) (ys : List (ℕ × K))
+    → AllZip (λ e y. (y.1 ≡ e.0) × P e y) (lists_of es) ys → All (λ e. lookup (is_at (cmp e.0)) lists ≡ Some e.1.items) es
+    → sum_by (entries_at cmp lists) ys ≡ sum (map length (values_of (lists_of es)))
+counted-zip cmp P lists [] [] h found = refl
+counted-zip cmp P lists [] (y ∷ ys) h found = absurd h
+counted-zip cmp P lists (e ∷ es) [] h found = absurd h
+counted-zip {K} {X} {A} cmp P lists (e ∷ es) (y ∷ ys) h found =
+    let Found : K × Vec X A → Type 0 = λ x. lookup (is_at (cmp x.0)) lists ≡ Some x.1.items in
+    let here : entries_at cmp lists y ≡ length e.1.items = rw (h.0.0, All-head Found e es found) refl in
+    let later : sum_by (entries_at cmp lists) ys ≡ sum (map length (values_of (lists_of es))) = counted-zip cmp P lists es ys h.1 (All-tail Found e es found) in
+    omega (arith, here, later, sum_by-cons (entries_at cmp lists) y ys, sum_by-cons (λ n. n) (length e.1.items) (map length (values_of (lists_of es))))

@@ -1,0 +1,26 @@
+use Rattle.std.proofs.Common.{◌≡◌, sym, ◌∙◌, true}
+use Rattle.std.specs.Prelude.{map}
+use Rattle.std.specs.Cmp.{Equal-is}
+use Rattle.std.specs.Map.Iter.{deref_pair}
+use Rattle.std.specs.declared.cmp.Ordering.TheVariants.{Equal}
+use Rattle.std.proofs.lemmas.List.{map_push}
+use Rattle.std.proofs.lemmas.Map.Iter.{iter_end}
+use Rattle.rectangle_pack.proofs.PackingOrderLemmas.{AllZip-more, AllZip-map_left}
+use Rattle.rectangle_pack.specs.Bins.{Held}
+use Rattle.rectangle_pack.proofs.orders.bin_order.Goals as goal
+
+pub loop-id-preserved : goal.loop-id-preserved
+loop-id-preserved g c =
+    let same : g.B.PartialEq.eq c.in-Some.id.now c.in_ok-clone.field-0 ≡ true = c.requires.bin_ids _ _ c.in_ok-clone.ensures.cases in
+    let equal : g.B.Ord.cmp c.in-Some.id.now c.in_ok-clone.field-0 ≡ Equal = (Equal-is _).0 (sym (g.met.B.Ord.matches_eq _ _) ∙ same) in
+    rw (map_push deref_pair c.loop-id.yielded (c.in-Some.id, c.in-Some.bin), c.in_ok-push.ensures.items) (AllZip-more _ (map deref_pair c.loop-id.yielded) c.loop-id.order.items (deref_pair (c.in-Some.id, c.in-Some.bin)) (c.heuristic.result, c.in_ok-clone.field-0) c.loop-id.invariant (equal, rw (← c.max_size.ensures) c.heuristic.ensures))
+
+pub returns : goal.returns
+returns g c =
+    let e : map deref_pair c.loop-id.yielded ≡ c.args.bins.now.entries = (iter_end deref_pair _ _ _ _ _ _ c.into_iter-id-iterator.ensures.into_iter_gives.0 c.loop-id.yielded_by c.in-None.is c.next.ensures.steps).0 in
+    record {
+      unsorted = c.loop-id.order.items;
+      each = rw (← e) (AllZip-map_left _ (λ (x : g.row.B.Denot × Held). (x.0, x.1.bin)) (map deref_pair c.loop-id.yielded) c.loop-id.order.items c.loop-id.invariant);
+      permutation = c.sort_unstable.ensures.permutation;
+      rising = c.sort_unstable.ensures.sorted;
+    }

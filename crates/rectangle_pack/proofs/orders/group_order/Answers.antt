@@ -1,0 +1,57 @@
+use Rattle.std.proofs.Common.{◌≡◌, ℕ, ◌<◌, length, refl, ◌∙◌}
+use Rattle.std.specs.Prelude.{map}
+use Rattle.std.specs.Map.Iter.{deref_pair}
+use Rattle.std.specs.Map.{values_of}
+use Rattle.std.proofs.lemmas.List.Elements.{All-weaker}
+use Rattle.std.proofs.lemmas.Map.Iter.{iter_end}
+use Rattle.rectangle_pack.specs.Groups.{lists_of}
+use Rattle.rectangle_pack.specs.Orders.{keys_of_order, entries_at, IsGroupKey}
+use Rattle.std.specs.List.{AllZip}
+use Rattle.rectangle_pack.specs.Groups.{HaveSizes}
+use Rattle.rectangle_pack.proofs.PackingOrderLemmas.{AllZip-more, AllZip-map_right, items-turn, lists_of-turn, listed-zip, counted-zip, lookup-each}
+use Rattle.std.specs.Map.{lookup}
+use Rattle.std.specs.BTreeMap.{is_at}
+use Rattle.std.specs.Prelude.{IsSome}
+use Rattle.std.specs.Borrow.{Bor}
+use Rattle.std.specs.declared.cmp.Reverse.{Reverse}
+use Rattle.std.proofs.lemmas.List.Sorted.{All-permutation, sum_by-IsPermutation}
+use Rattle.rectangle_pack.proofs.orders.group_order.Goals as goal
+
+pub group_key-requires-clause-known : goal.group_key-requires-clause-known
+group_key-requires-clause-known g c =
+    let cmp = g.Id.Ord.cmp in
+    let sizes = c.args.rects.now.entries in
+    let entries = c.args.lists.now.entries in
+    let all = All-weaker (λ ids. (0 < length ids) × HaveSizes cmp sizes ids) (HaveSizes cmp sizes) (λ ids p. p.1) (values_of (lists_of entries)) c.requires.sized in
+    let turn = items-turn (HaveSizes cmp sizes) entries _ _ _ _ _ _ all c.into_iter-group-iterator.ensures.into_iter_gives.0 c.loop-group.yielded_by c.in-Some.is c.next.ensures.steps in
+    rw c.as_slice.ensures.value turn
+
+pub loop-group-preserved : goal.loop-group-preserved
+loop-group-preserved g c =
+    rw (lists_of-turn c.loop-group.yielded (c.in-Some.group, c.in-Some.ids), c.in_ok-push.ensures.items)
+    (AllZip-more _ _ _ _ _ c.loop-group.invariant (refl, rw (← c.as_slice.ensures.value) c.group_key.ensures))
+
+pub returns-clause-order : goal.returns-clause-order
+returns-clause-order g c =
+    let e : map deref_pair c.loop-group.yielded ≡ c.args.lists.now.entries = (iter_end deref_pair _ _ _ _ _ _ c.into_iter-group-iterator.ensures.into_iter_gives.0 c.loop-group.yielded_by c.in-None.is c.next.ensures.steps).0 in
+    record {
+      unsorted = keys_of_order c.loop-group.order.items;
+      each = AllZip-map_right _ _ (lists_of c.args.lists.now.entries) c.loop-group.order.items (rw (← e) c.loop-group.invariant);
+      permutation = c.sort_falling.ensures.permutation;
+      falling = c.sort_falling.ensures.falling;
+    }
+
+pub returns-clause-listed : goal.returns-clause-listed
+returns-clause-listed g c =
+    let e : map deref_pair c.loop-group.yielded ≡ c.args.lists.now.entries = (iter_end deref_pair _ _ _ _ _ _ c.into_iter-group-iterator.ensures.into_iter_gives.0 c.loop-group.yielded_by c.in-None.is c.next.ensures.steps).0 in
+    All-permutation (λ (o : Reverse ℕ × Bor g.row.K.Denot). IsSome (lookup (is_at (g.K.Ord.cmp o.1.now)) c.args.lists.now.entries)) c.loop-group.order.items _ c.sort_falling.ensures.same
+    (listed-zip g.met.K.Ord.total _ c.args.lists.now.entries c.loop-group.order.items (rw e at c.loop-group.invariant))
+
+pub returns-clause-counted : goal.returns-clause-counted
+returns-clause-counted g c =
+    let e : map deref_pair c.loop-group.yielded ≡ c.args.lists.now.entries = (iter_end deref_pair _ _ _ _ _ _ c.into_iter-group-iterator.ensures.into_iter_gives.0 c.loop-group.yielded_by c.in-None.is c.next.ensures.steps).0 in
+    let lists = lists_of c.args.lists.now.entries in
+    let unsorted = keys_of_order c.loop-group.order.items in
+    let each : AllZip (λ e o. (o.1 ≡ e.0) × IsGroupKey (goal.H-post g c.args.heuristic.now) g.Id.Ord.cmp c.args.rects.now.entries e.1 o.0) lists unsorted = AllZip-map_right _ _ lists c.loop-group.order.items (rw (← e) c.loop-group.invariant) in
+    sum_by-IsPermutation (entries_at g.K.Ord.cmp lists) _ _ c.sort_falling.ensures.permutation
+    ∙ counted-zip g.K.Ord.cmp _ lists c.args.lists.now.entries unsorted each (lookup-each g.met.K.Ord.total c.args.lists.now c.len.ensures.ordered)

@@ -1,0 +1,68 @@
+use Rattle.std.proofs.Common.{◌≡◌, refl, arith, take, ◌++◌, ◌∷◌, [], List, ◌+◌, ℕ}
+use Rattle.std.specs.Prelude.{Some, map}
+use Rattle.std.specs.declared.cmp.Ordering.{Ordering}
+use Rattle.std.specs.Map.{lookup}
+use Rattle.std.specs.BTreeMap.{is_at}
+use Rattle.std.proofs.lemmas.List.{take_all}
+use Rattle.rectangle_pack.specs.Boxes.{Size}
+use Rattle.rectangle_pack.specs.Choice.{MayCompare}
+use Rattle.rectangle_pack.specs.Groups.{lists_of}
+use Rattle.rectangle_pack.specs.Packing.{bins_of, Members}
+use Rattle.rectangle_pack.proofs.PackLemmas.{AreSizesOf, HaveSizes-found, AreSizesOf-length, AreGroups-more, StopsAfter-at, AreAllPlaced-push}
+use Rattle.rectangle_pack.proofs.PackingOrderLemmas.{list-found}
+use Rattle.rectangle_pack.proofs.pack.place_groups.Goals as goal
+
+pub loop-group-init : goal.loop-group-init
+loop-group-init g c = record { done = ([], record { each = tt }, (c.requires.no_placements, refl)); back = λ start b. b }
+
+pub list_of-ids-requires : goal.list_of-ids-requires
+list_of-ids-requires g c = rw c.loop-group-item.is (c.requires.listed c.loop-group.group-index c.loop-group-item.result c.loop-group-test.true)
+
+pub sizes_of-requires : goal.sizes_of-requires
+sizes_of-requires g c =
+    rw c.as_slice.ensures.value (HaveSizes-found g.Id.Ord.cmp c.args.rects.now.entries (lists_of c.args.lists.now.entries) (is_at (g.K.Ord.cmp c.loop-group-item.result.1.now)) c.list_of-ids.result.now.items c.requires.sized
+    (list-found (is_at (g.K.Ord.cmp c.loop-group-item.result.1.now)) c.args.lists.now.entries c.list_of-ids.result.now c.list_of-ids.ensures))
+
+pub place_group-requires-clause-lengths : goal.place_group-requires-clause-lengths
+place_group-requires-clause-lengths g c =
+    rw (c.as_slice-in-loop-group.ensures.value, c.as_slice-in-loop-group-2.ensures.value) (AreSizesOf-length g.Id.Ord.cmp c.args.rects.now.entries c.list_of-ids.result.now.items c.in_ok-sizes.sizes.items (rw (← c.as_slice.ensures.value) c.in_ok-sizes.ensures))
+
+pub returns-then-not-branch-clause-packed : goal.returns-then-not-branch-clause-packed
+returns-then-not-branch-clause-packed g c =
+    let done = c.loop-group.invariant.done in
+    let placed = rw c.if-not-branch.true at c.in_ok-place_group.ensures.placed in
+    let ids = c.as_slice-in-loop-group.result.now in
+    let sizes = c.as_slice-in-loop-group-2.result.now in
+    let group : Members g.row.Id.Denot = record { ids = ids; sizes = sizes } in
+    let MayRate : Size → ℕ → Type 0 = goal.H-post g c.args.heuristic.now in
+    let MayPrefer : List Size → List Size → Ordering → Type 0 = MayCompare g.C.Fn c.args.comparison.now c.args.heuristic.now in
+    let found : lookup (is_at (g.K.Ord.cmp c.loop-group-item.result.1.now)) (lists_of c.args.lists.now.entries) ≡ Some ids = rw c.as_slice-in-loop-group.ensures.value (list-found (is_at (g.K.Ord.cmp c.loop-group-item.result.1.now)) c.args.lists.now.entries c.list_of-ids.result.now c.list_of-ids.ensures) in
+    let sized : AreSizesOf g.Id.Ord.cmp c.args.rects.now.entries ids sizes = rw (c.as_slice-in-loop-group.ensures.value, c.as_slice-in-loop-group-2.ensures.value, ← c.as_slice.ensures.value) c.in_ok-sizes.ensures in
+    StopsAfter-at g.Id.Ord.cmp g.B.Ord.cmp MayRate MayPrefer g.K.Ord.cmp c.args.rects.now.entries (lists_of c.args.lists.now.entries) c.args.groups.now (map (λ o. o.1) c.args.order.now) (c.loop-group.group-index + 1) done.0 group _ _ _ c.loop-group.progress.placements.items
+    (AreGroups-more g.Id.Ord.cmp g.B.Ord.cmp MayRate MayPrefer g.K.Ord.cmp c.args.rects.now.entries (lists_of c.args.lists.now.entries) c.args.groups.now c.loop-group.group-index c.loop-group-item.result done.0 group c.loop-group-test.true c.loop-group-item.is found sized done.1)
+    done.2 placed.1 placed.0
+
+pub loop-group-preserved : goal.loop-group-preserved
+loop-group-preserved g c =
+    let done = c.loop-group.invariant.done in
+    let placed = rw c.if-not-branch.false at c.in_ok-place_group.ensures.placed in
+    let ids = c.as_slice-in-loop-group.result.now in
+    let sizes = c.as_slice-in-loop-group-2.result.now in
+    let group : Members g.row.Id.Denot = record { ids = ids; sizes = sizes } in
+    let MayRate : Size → ℕ → Type 0 = goal.H-post g c.args.heuristic.now in
+    let MayPrefer : List Size → List Size → Ordering → Type 0 = MayCompare g.C.Fn c.args.comparison.now c.args.heuristic.now in
+    let found : lookup (is_at (g.K.Ord.cmp c.loop-group-item.result.1.now)) (lists_of c.args.lists.now.entries) ≡ Some ids = rw c.as_slice-in-loop-group.ensures.value (list-found (is_at (g.K.Ord.cmp c.loop-group-item.result.1.now)) c.args.lists.now.entries c.list_of-ids.result.now c.list_of-ids.ensures) in
+    let sized : AreSizesOf g.Id.Ord.cmp c.args.rects.now.entries ids sizes = rw (c.as_slice-in-loop-group.ensures.value, c.as_slice-in-loop-group-2.ensures.value, ← c.as_slice.ensures.value) c.in_ok-sizes.ensures in
+    record {
+      done = (
+        done.0 ++ group ∷ [],
+        AreGroups-more g.Id.Ord.cmp g.B.Ord.cmp MayRate MayPrefer g.K.Ord.cmp c.args.rects.now.entries (lists_of c.args.lists.now.entries) c.args.groups.now c.loop-group.group-index c.loop-group-item.result done.0 group c.loop-group-test.true c.loop-group-item.is found sized done.1,
+        rw placed.2 (AreAllPlaced-push g.Id.Ord.cmp g.B.Ord.cmp MayRate MayPrefer (map (λ o. o.1) c.args.order.now) done.0 group (bins_of c.args.bins.now.entries) (bins_of c.loop-group.bins.entries) (bins_of c.place_group.new.bins.entries) c.loop-group.progress.placements.items placed.0 done.2 placed.1),
+      );
+      back = λ start b. c.place_group.ensures.back start (c.loop-group.invariant.back start b);
+    }
+
+pub returns-clause-packed : goal.returns-clause-packed
+returns-clause-packed g c =
+    let e : take c.loop-group.group-index c.args.groups.now ≡ c.args.groups.now = take_all c.loop-group.group-index c.args.groups.now (omega arith) in
+    rw e at c.loop-group.invariant.done
