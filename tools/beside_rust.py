@@ -1,19 +1,20 @@
 #!/usr/bin/env python3
-"""beside_rust.py RUST PACKRUN [INPUTS] [SEED]: where the Rust crate and packrun put the same boxes.
+"""beside_rust.py RUST PACKRUN [INPUTS] [SEED] [single]: where the Rust crate and packrun put the same boxes.
 
 RUST is a program over the crate rectangle-pack 0.4.2 that reads the lines `bin`, `rect` and `pack` of packrun and
 prints `ID BIN X Y Z W H D` for each box that its packing names, then `packed K`, or `refused: ..`.
 Both get the same random inputs: bins, single boxes and groups, several packings. Compared is where each packing puts
-each id (the crate names one place an id, the last). An input ends where both refuse.
+each id (the crate names one place an id, the last). An input ends where both refuse. With `single` each input has one
+bin and single boxes.
 """
 import random
 import subprocess
 import sys
 
 
-def lines(r):
+def lines(r, single):
     """The lines of one input: one bin and single boxes in a third of them, else several bins and groups."""
-    single = r.random() < 0.33
+    single = r.random() < 0.33 or single
     deep = r.random() < 0.4
     side = 16 if deep else 64
     out = []
@@ -57,9 +58,10 @@ def main():
     rust, packrun = sys.argv[1:3]
     inputs = int(sys.argv[3]) if len(sys.argv) > 3 else 1000
     seed = sys.argv[4] if len(sys.argv) > 4 else "1"
+    single = sys.argv[5:] == ["single"]
     differ = packings = boxes = refused = 0
     for case in range(inputs):
-        text = lines(random.Random(f"{seed}/{case}"))
+        text = lines(random.Random(f"{seed}/{case}"), single)
         for theirs, ours in zip(answers(run(rust, text), False), answers(run(packrun, text), True), strict=True):
             if theirs != ours:
                 differ += 1
