@@ -1,8 +1,18 @@
-//! Whole runs over memory.
+//! Whole runs over memory, and the library that they rest on.
 
+mod cases;
+mod cuts;
+mod example;
 mod failures;
+mod groups;
+mod memory;
 mod packings;
+mod placements;
+mod pushes;
 mod reading;
+mod shapes;
+mod sizes;
+mod trials;
 
 use crate::outcome::Outcome;
 use crate::run::run_lines;

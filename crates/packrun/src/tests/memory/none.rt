@@ -1,0 +1,86 @@
+//! Calls that take no memory, while every request is refused.
+
+use crate::refusing::Refusing;
+use crate::tests::shapes::{has_list, section};
+use rectangle_pack::{
+    FitTests, GroupedRectsToPlace, RectToInsert, TargetBin, contains_smallest_box, pack_rects,
+    volume_heuristic,
+};
+use std::alloc::{AllocError, Allocator, Global};
+use std::collections::BTreeMap;
+use std::test::Fail;
+
+type Bins<A> = BTreeMap<u32, TargetBin<A>, A>;
+
+fn one_bin<A: Allocator + Copy>(alloc: A) -> Result<Bins<A>, AllocError> {
+    let mut bins = BTreeMap::new(alloc);
+    bins.insert(7, TargetBin::new(alloc, 4, 4, 1)?)?;
+    Ok(bins)
+}
+
+#[test]
+fn collections_and_packings_of_nothing(rt: HostRuntime) -> Result<(), Fail> {
+    let refusing = Refusing::new(rt.alloc(), 0);
+    let rects: GroupedRectsToPlace<u32, u32, &Refusing<Global>> = GroupedRectsToPlace::new(
+        &refusing,
+    );
+    let mut bins: Bins<&Refusing<Global>> = BTreeMap::new(&refusing);
+    let packed = pack_rects(
+        &refusing,
+        &rects,
+        &mut bins,
+        &volume_heuristic,
+        &contains_smallest_box,
+    )?;
+    assert!(rt; packed.placements().is_empty());
+    assert!(rt; packed.packed_locations().is_empty());
+    Ok(())
+}
+
+// The first allocator that grants enough for the bin refuses all that comes after it.
+#[test]
+fn packing_of_nothing_into_a_bin(rt: HostRuntime) -> Result<(), Fail> {
+    for granted in 0..10u64 {
+        let refusing = Refusing::new(rt.alloc(), granted);
+        if let Ok(mut bins) = one_bin(&refusing) {
+            assert_eq!(rt; refusing.left(), 0);
+            let rects: GroupedRectsToPlace<u32, u32, &Refusing<Global>> = GroupedRectsToPlace::new(
+                &refusing,
+            );
+            let packed = pack_rects(
+                &refusing,
+                &rects,
+                &mut bins,
+                &volume_heuristic,
+                &contains_smallest_box,
+            )?;
+            assert!(rt; packed.placements().is_empty());
+            return Ok(());
+        }
+    }
+    assert!(rt; false);
+    Ok(())
+}
+
+#[test]
+fn calls_of_a_bin(rt: HostRuntime) -> Result<(), Fail> {
+    let refusing = Refusing::new(rt.alloc(), 1);
+    let mut bin = TargetBin::new(&refusing, 4, 4, 1)?;
+    assert_eq!(rt; refusing.left(), 0);
+    let mut tests = FitTests::new();
+    let answer = bin.place_all(&[], &volume_heuristic, &contains_smallest_box, &mut tests)?;
+    assert!(rt; answer.is_some_and(|locations| locations.is_empty()));
+    let whole = section(0, 0, 0, 4, 4, 1);
+    assert!(rt; whole.overlaps(&whole));
+    assert!(rt; !bin.accepts(&whole));
+    let rect = RectToInsert::new(2, 2, 1);
+    assert!(rt;
+        whole
+            .try_place(&rect, &contains_smallest_box, &volume_heuristic)
+            .is_ok()
+    );
+    bin.remove_filled_section(0);
+    assert!(rt; bin.accepts(&whole));
+    assert!(rt; has_list(&bin, &[]));
+    Ok(())
+}

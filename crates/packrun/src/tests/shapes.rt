@@ -1,0 +1,48 @@
+//! Sections, locations and bins by their numbers: x, y, z, width, height, depth.
+ghost use Rattle.std.specs.Prelude.{◌≡◌};
+
+use rectangle_pack::{BinSection, PackedLocation, RectToInsert, TargetBin, WidthHeightDepth};
+use std::alloc::Allocator;
+
+/// A section with this corner and size; any of the numbers may be 0.
+pub fn section(x: u32, y: u32, z: u32, width: u32, height: u32, depth: u32) -> BinSection
+    ensures { result ≡ record { x = x; y = y; z = z; whd = record { width = width; height = height; depth = depth } } }
+{
+    let whd = WidthHeightDepth::from(RectToInsert::new(width, height, depth));
+    BinSection::new(x, y, z, whd)
+}
+
+/// The numbers of a section.
+pub fn numbers(section: &BinSection) -> [u32; 6] {
+    let whd = section.whd();
+    [
+        section.x(),
+        section.y(),
+        section.z(),
+        whd.width(),
+        whd.height(),
+        whd.depth(),
+    ]
+}
+
+/// The numbers of a location.
+pub fn place(location: &PackedLocation) -> [u32; 6] {
+    [
+        location.x(),
+        location.y(),
+        location.z(),
+        location.width(),
+        location.height(),
+        location.depth(),
+    ]
+}
+
+/// Whether these are the bin's free sections, in this order.
+pub fn has_list<A: Allocator + Copy>(bin: &TargetBin<A>, list: &[[u32; 6]]) -> bool {
+    let sections = bin.available_bin_sections();
+    sections.len() == list.len()
+        && sections
+            .iter()
+            .zip(list.iter())
+            .all(|(section, wanted)| numbers(section) == *wanted)
+}

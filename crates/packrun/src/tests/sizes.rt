@@ -1,0 +1,44 @@
+//! Sizes, sections and their orders.
+
+use super::shapes::section;
+use rectangle_pack::{BinSection, RectToInsert, WidthHeightDepth, volume_heuristic};
+
+#[test]
+fn volumes(rt: HostRuntime) {
+    let unit = WidthHeightDepth::new(2, 3, 5);
+    let largest = WidthHeightDepth::new(u32::MAX, u32::MAX, u32::MAX);
+    for (whd, volume) in [
+        (unit, 30),
+        (largest, 79228162458924105385300197375),
+        (WidthHeightDepth::default(), 0),
+    ] {
+        assert_eq!(rt; whd.volume(), volume);
+        assert_eq!(rt; volume_heuristic(whd), volume);
+    }
+}
+
+#[test]
+fn numbers_are_kept(rt: HostRuntime) {
+    let whd = WidthHeightDepth::new(1, 2, 3);
+    assert_eq!(rt; [whd.width(), whd.height(), whd.depth()], [1, 2, 3]);
+    let rect = RectToInsert::new(1, 2, 3);
+    assert_eq!(rt; [rect.width(), rect.height(), rect.depth()], [1, 2, 3]);
+    assert_eq!(rt; WidthHeightDepth::from(rect), whd);
+    let section = BinSection::new(4, 5, 6, whd);
+    assert_eq!(rt; [section.x(), section.y(), section.z()], [4, 5, 6]);
+    assert_eq!(rt; section.whd(), whd);
+}
+
+#[test]
+fn defaults_are_zero(rt: HostRuntime) {
+    let whd = WidthHeightDepth::default();
+    assert_eq!(rt; [whd.width(), whd.height(), whd.depth()], [0, 0, 0]);
+    assert_eq!(rt; BinSection::default(), section(0, 0, 0, 0, 0, 0));
+}
+
+// The first number that differs decides.
+#[test]
+fn orders(rt: HostRuntime) {
+    assert!(rt; WidthHeightDepth::new(1, 9, 9) < WidthHeightDepth::new(2, 1, 1));
+    assert!(rt; section(1, 9, 9, 9, 9, 9) < section(2, 0, 0, 0, 0, 0));
+}
