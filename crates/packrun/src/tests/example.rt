@@ -10,8 +10,9 @@ use std::test::Fail;
 #[test]
 fn readme(rt: HostRuntime) -> Result<(), Fail> {
     let alloc = rt.alloc();
-    let mut rects: GroupedRectsToPlace<&'static str, &'static str> =
-        GroupedRectsToPlace::new(alloc);
+    let mut rects: GroupedRectsToPlace<&'static str, &'static str> = GroupedRectsToPlace::new(
+        alloc,
+    );
     let sprites = vec![in alloc; "sprites"]?;
     rects.push_rect("hat", Some(sprites), RectToInsert::new(10, 20, 255))?;
     let sprites = vec![in alloc; "sprites"]?;
