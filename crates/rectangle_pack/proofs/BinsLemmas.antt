@@ -1,20 +1,14 @@
 -- What keeps the sections of a bin sound, and what a bin accepts.
 use Rattle.std.proofs.Common.{◌≡◌, ℕ, suc, ◌<◌, List, [], ◌∷◌, ◌++◌, length, get_or, take, drop, refl, subst, sym}
-use Rattle.std.specs.Prelude.{All, remove, Option, Some, None, IfNone, IfSome, IsTrue, is_some, not, true, false, Bool, ◌↔◌}
+use Rattle.std.specs.Prelude.{All, Option, Some, None, IfNone, IfSome, IsTrue, is_some, not, true, false, Bool, ◌↔◌}
 use Rattle.std.proofs.Math.Seq.{split_at}
-use Rattle.std.proofs.lemmas.List.Quantifiers.{all_pairs_push, all_pairs_remove}
-use Rattle.std.proofs.lemmas.List.Elements.{All-push, All-append, All-take, All-drop, All-head}
+use Rattle.std.proofs.lemmas.List.Quantifiers.{all_pairs_push}
+use Rattle.std.proofs.lemmas.List.Elements.{All-push, All-head}
 use Rattle.rectangle_pack.specs.Boxes.{Size, Cuboid, IsInside, AreApart, SharesCell}
 use Rattle.rectangle_pack.specs.Bins.{IsSound, IsAccepted, Bin}
 use Rattle.rectangle_pack.specs.Pushes.{IsFirstSharing}
 use Rattle.rectangle_pack.proofs.BoxesLemmas.{not_from_AreApart}
 use Rattle.rectangle_pack.proofs.StepsLemmas.{All-back}
-
-pub IsSound-remove : (size : Size) (sections : List Cuboid) (i : ℕ) → i < length sections → IsSound size sections → IsSound size (remove sections i)
-IsSound-remove size sections i within sound = record {
-  inside = All-append (IsInside size) (take i sections) (drop (suc i) sections) (All-take (IsInside size) i sections sound.inside) (All-drop (IsInside size) (suc i) sections sound.inside);
-  apart = all_pairs_remove AreApart sections i within sound.apart;
-}
 
 pub IsSound-push : (size : Size) (sections : List Cuboid) (s : Cuboid) → IsSound size sections → IsAccepted (record { size = size; sections = sections }) s → IsSound size (sections ++ s ∷ [])
 IsSound-push size sections s sound accepted = record {

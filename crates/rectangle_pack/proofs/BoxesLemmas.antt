@@ -1,7 +1,7 @@
 -- Cells of boxes, as facts and as tests.
 use Rattle.std.proofs.Common.{arith, ◌≡◌, ◌<◌, ◌≤◌, ◌+◌, ℕ, true, max}
 use Rattle.std.proofs.lemmas.Bool.{and_parts, and_from, leb-true, ltb-true, le-leb, lt-ltb}
-use Rattle.rectangle_pack.specs.Boxes.{Size, Cuboid, Cell, IsCellOf, is_cell_of, SharesCell, AreApart, SpansMeet, IsInside, FitsU32, is_within, has_cells}
+use Rattle.rectangle_pack.specs.Boxes.{Cuboid, Cell, IsCellOf, is_cell_of, SharesCell, AreApart, SpansMeet, is_within, has_cells}
 
 within-true : (first long place : ℕ) → is_within first long place ≡ true → (first ≤ place) × (place < first + long)
 within-true first long place h = let p = and_parts _ _ h in (leb-true _ _ p.0, ltb-true _ _ p.1)
@@ -25,9 +25,6 @@ unfolding is_cell_of
 is_cell_of-from c b h =
     and_from _ _ (and_from _ _ (within-from b.x b.whd.width c.i h.from_x h.below_x) (within-from b.y b.whd.height c.j h.from_y h.below_y)) (within-from b.z b.whd.depth c.k h.from_z h.below_z)
 
-pub AreApart-sym : (a b : Cuboid) → AreApart a b → AreApart b a
-AreApart-sym a b h = record { none = λ c p q. h.none c q p }
-
 -- a box that has a cell has cells
 pub has_cells-from : (c : Cell) (b : Cuboid) → is_cell_of c b ≡ true → has_cells b ≡ true
 has_cells-from c b h =
@@ -36,10 +33,6 @@ has_cells-from c b h =
   where
     positive : {a b n : ℕ} → a ≤ b → b < a + n → 0 < n
     positive p q = omega arith
-
--- the facts of an inside box that a 32 bit bin gives
-pub FitsU32-inside : (size : Size) (b : Cuboid) → size.width < 4294967296 → size.height < 4294967296 → size.depth < 4294967296 → IsInside size b → FitsU32 b
-FitsU32-inside size b w h d i = record { fits_x = omega (arith, i.within_x); fits_y = omega (arith, i.within_y); fits_z = omega (arith, i.within_z) }
 
 -- the greater of the two corners is a cell of both
 pub SharesCell-from_spans : (a b : Cuboid)

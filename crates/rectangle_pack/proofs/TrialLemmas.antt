@@ -131,10 +131,6 @@ CanUndo-noted room more notes notes' note mid next same one le can before =
     subst (λ (ns : List Note). CanUndo more ns next) (sym same)
     (CanUndo-push more notes note next can (subst (CanUndo more notes) (sym one) (CanUndo-more room more notes mid le before)))
 
-pub IsDone-none : (MayRate : Size → ℕ → Type 0) (MayPrefer : List Size → List Size → Ordering → Type 0) (sections : List Cuboid) (ms : List Size) → length ms ≡ 0 → IsDone MayRate MayPrefer sections ms [] sections 0
-IsDone-none MayRate MayPrefer sections [] e = (refl, refl, refl)
-IsDone-none MayRate MayPrefer sections (m ∷ ms) e = absurd (omega arith)
-
 -- a list of three, by its elements
 pub three_of : {X : Type 0} (xs : List X) (a b c : X) → length xs ≡ 3 → a ≡ get_or xs 0 a → b ≡ get_or xs 1 b → c ≡ get_or xs 2 c → xs ≡ a ∷ b ∷ c ∷ []
 three_of [] a b c n x y z = absurd (omega arith)

@@ -1,7 +1,7 @@
 -- Sizes, boxes and their cells. All numbers are whole numbers without a bound: nothing wraps.
 use Rattle.std.specs.declared.cmp.Ordering.{Ordering}
 use Rattle.std.specs.Ordering.{nat_cmp, ordering_then}
-use Rattle.std.specs.Prelude.{ℕ, ◌+◌, ◌*◌, ◌<◌, ◌≤◌, ◌&&◌, Bool, nat_le, nat_lt, max}
+use Rattle.std.specs.Prelude.{ℕ, ◌+◌, ◌*◌, ◌^◌, ◌<◌, ◌≤◌, ◌&&◌, Bool, nat_le, nat_lt, max}
 
 -- the axes: x with widths, y with heights, z with depths
 pub data Axis : Type 0 where
@@ -87,9 +87,9 @@ pub record Holds (section : Cuboid) (size : Size) : Type 0 where
 
 -- the corner and the size of the box add up to numbers of 32 bits
 pub record FitsU32 (b : Cuboid) : Type 0 where
-  pub fits_x : b.x + b.whd.width < 4294967296
-  pub fits_y : b.y + b.whd.height < 4294967296
-  pub fits_z : b.z + b.whd.depth < 4294967296
+  pub fits_x : b.x + b.whd.width < 2 ^ 32
+  pub fits_y : b.y + b.whd.height < 2 ^ 32
+  pub fits_z : b.z + b.whd.depth < 2 ^ 32
 
 -- whether a place lies on the stretch that begins at first and is so long
 abbrev pub is_within : ℕ → ℕ → ℕ → Bool
