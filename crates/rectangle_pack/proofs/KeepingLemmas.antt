@@ -1,6 +1,6 @@
 -- A packing keeps the cells of each bin.
 use Rattle.std.proofs.Common.{◌≡◌, ℕ, ◌+◌, List, [], ◌∷◌, ◌++◌, refl, ap, sym, ◌∙◌, cond, true, false, Bool, arith, inl, inr}
-use Rattle.std.specs.Prelude.{Option, Some, None, IsSome, IfSome, map, filter, All}
+use Rattle.std.specs.Prelude.{Option, Some, None, IsSome, IfSome, IsSomeAnd, map, filter, All}
 use Rattle.std.specs.List.{AllZip}
 use Rattle.std.specs.declared.cmp.Ordering.{Ordering}
 use Rattle.std.specs.declared.cmp.Ordering.TheVariants.{Equal}
@@ -110,6 +110,15 @@ module _ {Id B : Type 0} (cmp : Id → Id → Ordering) (bin_cmp : B → B → O
         filled = λ c. rw (joined, placed_in-append bin_cmp first others q) (omega (arith, head.filled c, tail.filled c, filled-append c (placed_in bin_cmp first q) (placed_in bin_cmp others q)));
       }
 
+  -- a bin that is there before a packing is there after it
+  pub stays_there : (order : List B) (gs : List (Members Id)) (old : List (B × Bin)) (placements : List (Placement Id B)) (new : List (B × Bin)) → AreAllPlaced cmp bin_cmp MayRate MayPrefer order gs old placements new
+      → (q : B) → IsSome (lookup (is_at (bin_cmp q)) old) → IsSome (lookup (is_at (bin_cmp q)) new)
+  stays_there order gs old placements new h q = by (lookup (is_at (bin_cmp q)) old) refl
+    where
+      by : (found : Option Bin) → lookup (is_at (bin_cmp q)) old ≡ found → IsSome found → IsSome (lookup (is_at (bin_cmp q)) new)
+      by None e some = cc
+      by (Some before) e some = rw (all_kept order gs old placements new h q before e).found refl
+
   -- a bin that is there after a packing was there before it
   was_there : (order : List B) (gs : List (Members Id)) (old : List (B × Bin)) (placements : List (Placement Id B)) (new : List (B × Bin)) → AreAllPlaced cmp bin_cmp MayRate MayPrefer order gs old placements new
       → (q : B) → IsSome (lookup (is_at (bin_cmp q)) new) → IsSome (lookup (is_at (bin_cmp q)) old)
@@ -174,8 +183,8 @@ module _ {Id B : Type 0} (cmp : Id → Id → Ordering) (bin_cmp : B → B → O
       in_each : (id : B) → IsStuckIn cmp bin_cmp MayRate MayPrefer new group id → P id
       in_each id stuck = by (lookup (is_at (bin_cmp id)) new) stuck
         where
-          by : (found : Option Bin) → IfSome found (λ (b : Bin). (tests : ℕ) × IsStuck MayRate MayPrefer b.sections group.sizes tests) → IfSome found (λ (b : Bin). All (λ s. ¬ Holds s size) b.sections)
-          by None h = tt
+          by : (found : Option Bin) → IsSomeAnd found (λ (b : Bin). (tests : ℕ) × IsStuck MayRate MayPrefer b.sections group.sizes tests) → IfSome found (λ (b : Bin). All (λ s. ¬ Holds s size) b.sections)
+          by None h = absurd h
           by (Some b) (tests, h) = one_stuck b.sections tests (rw one at h)
 
       each : All P (map (λ (entry : ℕ × B). entry.1) bin_order)

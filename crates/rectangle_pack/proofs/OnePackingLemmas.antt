@@ -1,6 +1,6 @@
 -- Where the closures are functions and the comparison is a total preorder on the cuts, a packing has one result.
 use Rattle.std.proofs.Common.{◌≡◌, ℕ, ◌+◌, ◌<◌, ◌≤◌, List, [], ◌∷◌, ◌++◌, refl, sym, ◌∙◌, ap, subst, arith, length, length-append, append-nil}
-use Rattle.std.specs.Prelude.{All, map, Option, Some, IfSome}
+use Rattle.std.specs.Prelude.{All, map, Option, Some, IsSomeAnd}
 use Rattle.std.specs.List.{AllZip}
 use Rattle.std.specs.declared.cmp.Ordering.{Ordering}
 use Rattle.std.specs.declared.cmp.Ordering.TheVariants.{Equal}
@@ -94,7 +94,7 @@ module _ {Id B : Type 0} (cmp : Id → Id → Ordering) (bin_cmp : B → B → O
     (decide : ClosuresDecide MayRate MayPrefer) (id_total : IsTotalOrder cmp) (bin_total : IsTotalOrder bin_cmp) where
   -- a trial is stuck in equal bins
   stuck_alike : (g : Members Id) (old : List (B × Bin)) (a b : B) → bin_cmp a b ≡ Equal → IsStuckIn cmp bin_cmp MayRate MayPrefer old g a → IsStuckIn cmp bin_cmp MayRate MayPrefer old g b
-  stuck_alike g old a b e h = subst (λ (x : Option Bin). IfSome x (λ (bin : Bin). (tests : ℕ) × IsStuck MayRate MayPrefer bin.sections g.sizes tests)) (lookup-equal bin_total a b e old) h
+  stuck_alike g old a b e h = subst (λ (x : Option Bin). IsSomeAnd x (λ (bin : Bin). (tests : ℕ) × IsStuck MayRate MayPrefer bin.sections g.sizes tests)) (lookup-equal bin_total a b e old) h
 
   refused_alike : (order1 order2 : List B) (g : Members Id) (bins : List (B × Bin)) → AllZip (λ a b. bin_cmp a b ≡ Equal) order1 order2
       → IsRefused cmp bin_cmp MayRate MayPrefer order1 g bins → IsRefused cmp bin_cmp MayRate MayPrefer order2 g bins
@@ -138,7 +138,7 @@ module _ {Id B : Type 0} (cmp : Id → Id → Ordering) (bin_cmp : B → B → O
   not_stuck_here : (g : Members Id) (old : List (B × Bin)) (here : B) (bin : Bin) (ls last : List Cuboid) (tests : ℕ) → lookup (is_at (bin_cmp here)) old ≡ Some bin
       → IsDone MayRate MayPrefer bin.sections g.sizes ls last tests → ¬ IsStuckIn cmp bin_cmp MayRate MayPrefer old g here
   not_stuck_here g old here bin ls last tests found done stuck =
-      let s : (n : ℕ) × IsStuck MayRate MayPrefer bin.sections g.sizes n = subst (λ (x : Option Bin). IfSome x (λ (b : Bin). (n : ℕ) × IsStuck MayRate MayPrefer b.sections g.sizes n)) found stuck in
+      let s : (n : ℕ) × IsStuck MayRate MayPrefer bin.sections g.sizes n = subst (λ (x : Option Bin). IsSomeAnd x (λ (b : Bin). (n : ℕ) × IsStuck MayRate MayPrefer b.sections g.sizes n)) found stuck in
       not_done_and_stuck MayRate MayPrefer decide bin.sections g.sizes ls last tests s.0 done s.1
 
   named_once : (ids : List Id) (here : B) (ps qs : List (Placement Id B)) → AllZip (λ id p. cmp id p.id ≡ Equal) ids ps → AllZip (λ id p. cmp id p.id ≡ Equal) ids qs

@@ -10,8 +10,9 @@ use Rattle.std.specs.Map.Iter.{TakesFirst, deref_pair}
 use Rattle.std.specs.Prelude.{Option, Some}
 use Rattle.std.proofs.lemmas.Map.Views.{All-turn}
 use Rattle.std.proofs.lemmas.List.Elements.{All-nil, All-cons, All-head, All-tail}
-use Rattle.std.specs.Option.{option_map}
+use Rattle.std.specs.Option.{is_some, option_map}
 use Rattle.rectangle_pack.proofs.ListsLemmas.{lookup-lists}
+use Rattle.rectangle_pack.proofs.MapsLemmas.{is_some-option_map}
 use Rattle.rectangle_pack.specs.Groups.{lists_of}
 use Rattle.std.specs.declared.cmp.Ordering.{Ordering}
 use Rattle.std.specs.List.Sorted.{IsSorted}
@@ -99,15 +100,21 @@ IsSome-cons : {X : Type 0} (b : Bool) (v : X) (o : Option X) → IsSome o → Is
 IsSome-cons true v o h = refl
 IsSome-cons false v o h = h
 
+-- what is named by keys that equal a map's is in the map
+pub found-zip : {K X Y : Type 0} {cmp : K → K → Ordering} → IsTotalOrder cmp → (name : Y → K) (P : K × X → Y → Type 0) → ((e : K × X) (y : Y) → P e y → cmp e.0 (name y) ≡ Equal) → (es : List (K × X)) (ys : List Y) → AllZip P es ys → All (λ y. IsSome (lookup (is_at (cmp (name y))) es)) ys
+found-zip o name P same [] [] h = All-nil _
+found-zip o name P same [] (y ∷ ys) h = absurd h
+found-zip o name P same (e ∷ es) [] h = All-nil _
+found-zip {K} {X} {Y} {cmp} o name P same (e ∷ es) (y ∷ ys) h =
+    All-cons (λ (z : Y). IsSome (lookup (is_at (cmp (name z))) (e ∷ es))) y ys
+    (rw (o.antisymm (name y) e.0, same e y h.0) refl)
+    (All-weaker (λ (z : Y). IsSome (lookup (is_at (cmp (name z))) es)) (λ (z : Y). IsSome (lookup (is_at (cmp (name z))) (e ∷ es))) (λ z there. IsSome-cons (is_at (cmp (name z)) e.0) e.1 (lookup (is_at (cmp (name z))) es) there) ys (found-zip o name P same es ys h.1))
+
 -- each name of the order has a list
 pub listed-zip : {K X A : Type 0} {cmp : K → K → Ordering} → IsTotalOrder cmp → (P : K × List X → Reverse ℕ × Bor K → Type 0) (es : List (K × Vec X A)) (ys : List (Reverse ℕ × Bor K)) → AllZip (λ e y. (y.1.now ≡ e.0) × P e y) (lists_of es) ys → All (λ y. IsSome (lookup (is_at (cmp y.1.now)) es)) ys
-listed-zip o P [] [] h = All-nil _
-listed-zip o P [] (y ∷ ys) h = absurd h
-listed-zip o P (e ∷ es) [] h = All-nil _
-listed-zip {K} {X} {A} {cmp = cmp} o P (e ∷ es) (y ∷ ys) h =
-    All-cons (λ (z : Reverse ℕ × Bor K). IsSome (lookup (is_at (cmp z.1.now)) (e ∷ es))) y ys
-    (rw (h.0.0, cmp-self o e.0) refl)
-    (All-weaker (λ (z : Reverse ℕ × Bor K). IsSome (lookup (is_at (cmp z.1.now)) es)) (λ (z : Reverse ℕ × Bor K). IsSome (lookup (is_at (cmp z.1.now)) (e ∷ es))) (λ z there. IsSome-cons (is_at (cmp z.1.now) e.0) e.1 (lookup (is_at (cmp z.1.now)) es) there) ys (listed-zip o P es ys h.1))
+listed-zip {K} {X} {A} {cmp} o P es ys h =
+    All-weaker (λ (y : Reverse ℕ × Bor K). IsSome (lookup (is_at (cmp y.1.now)) (lists_of es))) (λ (y : Reverse ℕ × Bor K). IsSome (lookup (is_at (cmp y.1.now)) es)) (λ y there. sym (ap is_some (lookup-lists (is_at (cmp y.1.now)) es) ∙ is_some-option_map (λ (v : Vec X A). v.items) (lookup (is_at (cmp y.1.now)) es)) ∙ there) ys
+    (found-zip o (λ (y : Reverse ℕ × Bor K). y.1.now) _ (λ e y r. rw r.0 (cmp-self o e.0)) (lists_of es) ys h)
 
 -- a list that a key has, by the vector that it has
 pub list-found : {K X A : Type 0} (test : K → Bool) (es : List (K × Vec X A)) (v : Vec X A) → lookup test es ≡ Some v → lookup test (lists_of es) ≡ Some v.items

@@ -1,5 +1,5 @@
 -- One packing: each group whole into the first bin that takes it.
-use Rattle.std.specs.Prelude.{◌≡◌, ℕ, ◌<◌, List, [], ◌∷◌, ◌++◌, length, map, sum, All, Some, IfSome}
+use Rattle.std.specs.Prelude.{◌≡◌, ℕ, ◌<◌, List, [], ◌∷◌, ◌++◌, length, map, sum, All, Some, IsSomeAnd}
 use Rattle.std.specs.declared.cmp.Ordering.{Ordering}
 use Rattle.std.specs.List.{AllZip}
 use Rattle.std.specs.Map.{lookup, set_value, values_of}
@@ -27,9 +27,9 @@ pub record Members (Id : Type 0) : Type 0 where
   pub sizes : List Size
 
 module _ {Id B : Type 0} (cmp : Id → Id → Ordering) (bin_cmp : B → B → Ordering) (MayRate : Size → ℕ → Type 0) (MayPrefer : List Size → List Size → Ordering → Type 0) where
-  -- the group's trial is stuck in the bin of this id
+  -- the bin of this id is there, and the group's trial is stuck in it
   abbrev pub IsStuckIn : List (B × Bin) → Members Id → B → Type 0
-  IsStuckIn bins group id = IfSome (lookup (is_at (bin_cmp id)) bins) (λ (bin : Bin). (tests : ℕ) × IsStuck MayRate MayPrefer bin.sections group.sizes tests)
+  IsStuckIn bins group id = IsSomeAnd (lookup (is_at (bin_cmp id)) bins) (λ (bin : Bin). (tests : ℕ) × IsStuck MayRate MayPrefer bin.sections group.sizes tests)
 
   -- the group is placed: its trial is done in a bin of the order and stuck in each bin before it; that bin's list becomes the trial's, and the rest stays
   pub record IsPlaced (order : List B) (group : Members Id) (old : List (B × Bin)) (placements : List (Placement Id B)) (new : List (B × Bin)) : Type 0 where

@@ -45,7 +45,8 @@ where
     A: Allocator + Copy,
     requires bin_ids { (a b : B) → B.is_clone a b → IsTrue (B.eq a b) }
     requires callable { H.IsAlwaysCallable heuristic.now }
-    ensures { IfOk result (λ v. IsBinOrder (H.post heuristic.now) B.cmp (bins_of bins.now.entries) v.items) }
+    ensures order { IfOk result (λ v. IsBinOrder (H.post heuristic.now) B.cmp (bins_of bins.now.entries) v.items) }
+    ensures found { IfOk result (λ v. All (λ o. IsSome (get B.cmp bins.now o.1)) v.items) }
 {
     let mut order = Vec::with_capacity(alloc, bins.len())?;
     for (id, bin) in bins {

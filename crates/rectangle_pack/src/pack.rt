@@ -207,6 +207,7 @@ where
     requires callable { H.IsAlwaysCallable heuristic.now }
     requires comparable { (a b : List Size) (h : Bor H) → h.now ≡ heuristic.now → C.pre comparison.now a b h }
     requires lengths { length ids.now ≡ length sizes.now }
+    requires found { All (λ o. IsSome (get B.cmp bins.old o.1)) order.now }
     ensures placed { IfOk result (λ placed. MatchBool placed
         ((added : List (Placement Id B)) × IsPlaced Id.cmp B.cmp (H.post heuristic.now) (MayCompare C.Fn comparison.now heuristic.now) (map (λ o. o.1) order.now) (record { ids = ids.now; sizes = sizes.now }) (bins_of bins.old.entries) added (bins_of bins.new.entries) × (progress.new.placements.items ≡ progress.old.placements.items ++ added))
         (IsRefused Id.cmp B.cmp (H.post heuristic.now) (MayCompare C.Fn comparison.now heuristic.now) (map (λ o. o.1) order.now) (record { ids = ids.now; sizes = sizes.now }) (bins_of bins.old.entries) × (bins_of bins.new.entries ≡ bins_of bins.old.entries) × (progress.new.placements.items ≡ progress.old.placements.items))) }
@@ -216,21 +217,20 @@ where
     for (_, id) in order {
         let name = id.clone()?;
         let mut notes = Vec::new(*progress.journal.allocator());
-        if let Some(bin) = bins.get_mut(id) {
-            let done = bin.place_noted(
-                sizes,
-                heuristic,
-                comparison,
-                &mut progress.tests,
-                &mut notes,
-            )?;
-            if let Some(locations) = done {
-                progress
-                    .journal
-                    .push_reserved(DoneTrial { bin: name, notes });
-                name_all(&mut progress.placements, ids, id, locations.as_slice())?;
-                return Ok(true);
-            }
+        let bin = bins.get_mut(id).unwrap();
+        let done = bin.place_noted(
+            sizes,
+            heuristic,
+            comparison,
+            &mut progress.tests,
+            &mut notes,
+        )?;
+        if let Some(locations) = done {
+            progress
+                .journal
+                .push_reserved(DoneTrial { bin: name, notes });
+            name_all(&mut progress.placements, ids, id, locations.as_slice())?;
+            return Ok(true);
         }
     }
     Ok(false)
@@ -260,6 +260,7 @@ where
     requires comparable { (a b : List Size) (h : Bor H) → h.now ≡ heuristic.now → C.pre comparison.now a b h }
     requires listed { All (λ o. IsSome (get K.cmp lists.now o.1.now)) groups.now }
     requires sized { MembersHaveSizes Id.cmp rects.now.entries (lists_of lists.now.entries) }
+    requires found { All (λ o. IsSome (get B.cmp bins.old o.1)) order.now }
     requires no_placements { progress.old.placements.items ≡ [] }
     ensures packed { IfOk result (λ done. MatchBool done
         ((gs : List (Members Id)) × AreGroups Id.cmp B.cmp (H.post heuristic.now) (MayCompare C.Fn comparison.now heuristic.now) K.cmp rects.now.entries (lists_of lists.now.entries) (keys_of_order groups.now) gs × AreAllPlaced Id.cmp B.cmp (H.post heuristic.now) (MayCompare C.Fn comparison.now heuristic.now) (map (λ o. o.1) order.now) gs (bins_of bins.old.entries) progress.new.placements.items (bins_of bins.new.entries))

@@ -1,11 +1,14 @@
-use Rattle.std.proofs.Common.{◌≡◌, sym, ◌∙◌, true}
-use Rattle.std.specs.Prelude.{map}
+use Rattle.std.proofs.Common.{◌≡◌, ℕ, sym, ◌∙◌, true}
+use Rattle.std.specs.Prelude.{map, IsSome}
+use Rattle.std.specs.Map.{lookup}
+use Rattle.std.specs.BTreeMap.{is_at}
+use Rattle.std.proofs.lemmas.List.Sorted.{All-permutation}
 use Rattle.std.specs.Cmp.{Equal-is}
 use Rattle.std.specs.Map.Iter.{deref_pair}
 use Rattle.std.specs.declared.cmp.Ordering.TheVariants.{Equal}
 use Rattle.std.proofs.lemmas.List.{map_push}
 use Rattle.std.proofs.lemmas.Map.Iter.{iter_end}
-use Rattle.rectangle_pack.proofs.PackingOrderLemmas.{AllZip-more, AllZip-map_left}
+use Rattle.rectangle_pack.proofs.PackingOrderLemmas.{AllZip-more, AllZip-map_left, found-zip}
 use Rattle.rectangle_pack.specs.Bins.{Held}
 use Rattle.rectangle_pack.proofs.orders.bin_order.Goals as goal
 
@@ -15,8 +18,8 @@ loop-id-preserved g c =
     let equal : g.B.Ord.cmp c.in-Some.id.now c.in_ok-clone.field-0 ≡ Equal = (Equal-is _).0 (sym (g.met.B.Ord.matches_eq _ _) ∙ same) in
     rw (map_push deref_pair c.loop-id.yielded (c.in-Some.id, c.in-Some.bin), c.in_ok-push.ensures.items) (AllZip-more _ (map deref_pair c.loop-id.yielded) c.loop-id.order.items (deref_pair (c.in-Some.id, c.in-Some.bin)) (c.heuristic.result, c.in_ok-clone.field-0) c.loop-id.invariant (equal, rw (← c.max_size.ensures) c.heuristic.ensures))
 
-pub returns : goal.returns
-returns g c =
+pub returns-clause-order : goal.returns-clause-order
+returns-clause-order g c =
     let e : map deref_pair c.loop-id.yielded ≡ c.args.bins.now.entries = (iter_end deref_pair _ _ _ _ _ _ c.into_iter-id-iterator.ensures.into_iter_gives.0 c.loop-id.yielded_by c.in-None.is c.next.ensures.steps).0 in
     record {
       unsorted = c.loop-id.order.items;
@@ -24,3 +27,9 @@ returns g c =
       permutation = c.sort_unstable.ensures.permutation;
       rising = c.sort_unstable.ensures.sorted;
     }
+
+pub returns-clause-found : goal.returns-clause-found
+returns-clause-found g c =
+    let e : map deref_pair c.loop-id.yielded ≡ c.args.bins.now.entries = (iter_end deref_pair _ _ _ _ _ _ c.into_iter-id-iterator.ensures.into_iter_gives.0 c.loop-id.yielded_by c.in-None.is c.next.ensures.steps).0 in
+    All-permutation (λ (o : ℕ × g.row.B.Denot). IsSome (lookup (is_at (g.B.Ord.cmp o.1)) c.args.bins.now.entries)) c.loop-id.order.items _ c.sort_unstable.ensures.permutation
+    (found-zip g.met.B.Ord.total (λ (o : ℕ × g.row.B.Denot). o.1) _ (λ b o r. r.0) c.args.bins.now.entries c.loop-id.order.items (rw e at c.loop-id.invariant))

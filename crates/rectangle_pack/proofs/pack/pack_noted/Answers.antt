@@ -26,6 +26,9 @@ returns-in_err-order-clause-no_groups g c = λ none. absurd (lists-some c.groups
 pub place_groups-requires-clause-listed : goal.place_groups-requires-clause-listed
 place_groups-requires-clause-listed g c = rw c.as_slice.ensures.value c.in_ok-groups.ensures.listed
 
+pub place_groups-requires-clause-found : goal.place_groups-requires-clause-found
+place_groups-requires-clause-found g c = rw c.as_slice-2.ensures.value c.in_ok-order.ensures.found
+
 pub place_groups-requires-clause-sized : goal.place_groups-requires-clause-sized
 place_groups-requires-clause-sized g c = rw c.rects-rects.ensures c.groups-lists.ensures.members
 
@@ -37,7 +40,7 @@ returns-clause-packed g c =
       bin_order = c.in_ok-order.order.items;
       groups = p.0;
       by_groups = rw (← c.rects-rects.ensures, ← c.groups-lists.ensures.entries) c.in_ok-groups.ensures.order;
-      by_bins = λ some. c.in_ok-order.ensures;
+      by_bins = λ some. c.in_ok-order.ensures.order;
       listed = rw (← c.rects-rects.ensures, ← c.groups-lists.ensures.entries, ← c.as_slice.ensures.value) p.1;
       placed = rw (← c.as_slice-2.ensures.value) p.2;
     })
@@ -45,7 +48,7 @@ returns-clause-packed g c =
       group_order = keys_of_order c.in_ok-groups.groups.items;
       bin_order = c.in_ok-order.order.items;
       by_groups = rw (← c.rects-rects.ensures, ← c.groups-lists.ensures.entries) c.in_ok-groups.ensures.order;
-      by_bins = c.in_ok-order.ensures;
+      by_bins = c.in_ok-order.ensures.order;
       stops = rw (← c.rects-rects.ensures, ← c.groups-lists.ensures.entries, ← c.as_slice.ensures.value, ← c.as_slice-2.ensures.value) q;
     })
     c.place_groups.ensures.packed

@@ -1,5 +1,5 @@
-use Rattle.std.proofs.Common.{◌≡◌, refl, arith, take, ◌++◌, ◌∷◌, [], List, ◌+◌, ℕ}
-use Rattle.std.specs.Prelude.{Some, map}
+use Rattle.std.proofs.Common.{◌≡◌, refl, sym, ◌∙◌, get_or, arith, take, ◌++◌, ◌∷◌, [], List, ◌+◌, ℕ}
+use Rattle.std.specs.Prelude.{Some, IsSome, map}
 use Rattle.std.specs.declared.cmp.Ordering.{Ordering}
 use Rattle.std.specs.Map.{lookup}
 use Rattle.std.specs.BTreeMap.{is_at}
@@ -8,6 +8,8 @@ use Rattle.rectangle_pack.specs.Boxes.{Size}
 use Rattle.rectangle_pack.specs.Choice.{MayCompare}
 use Rattle.rectangle_pack.specs.Groups.{lists_of}
 use Rattle.rectangle_pack.specs.Packing.{bins_of, Members}
+use Rattle.rectangle_pack.proofs.JournalLemmas.{is_some-bins_of}
+use Rattle.rectangle_pack.proofs.KeepingLemmas.{stays_there}
 use Rattle.rectangle_pack.proofs.PackLemmas.{AreSizesOf, HaveSizes-found, AreSizesOf-length, AreGroups-more, StopsAfter-at, AreAllPlaced-push}
 use Rattle.rectangle_pack.proofs.PackingOrderLemmas.{list-found}
 use Rattle.rectangle_pack.proofs.pack.place_groups.Goals as goal
@@ -26,6 +28,16 @@ sizes_of-requires g c =
 pub place_group-requires-clause-lengths : goal.place_group-requires-clause-lengths
 place_group-requires-clause-lengths g c =
     rw (c.as_slice-in-loop-group.ensures.value, c.as_slice-in-loop-group-2.ensures.value) (AreSizesOf-length g.Id.Ord.cmp c.args.rects.now.entries c.list_of-ids.result.now.items c.in_ok-sizes.sizes.items (rw (← c.as_slice.ensures.value) c.in_ok-sizes.ensures))
+
+pub place_group-requires-clause-found : goal.place_group-requires-clause-found
+place_group-requires-clause-found g c k d within =
+    let cmp = g.B.Ord.cmp in
+    let id = (get_or c.args.order.now k d).1 in
+    let old = c.args.bins.now.entries in
+    let now = c.loop-group.bins.entries in
+    let done = c.loop-group.invariant.done in
+    let before : IsSome (lookup (is_at (cmp id)) (bins_of old)) = is_some-bins_of (is_at (cmp id)) old ∙ c.requires.found k d within in
+    sym (is_some-bins_of (is_at (cmp id)) now) ∙ stays_there g.Id.Ord.cmp cmp _ _ g.met.B.Ord.total _ done.0 (bins_of old) _ (bins_of now) done.2 id before
 
 pub returns-then-not-branch-clause-packed : goal.returns-then-not-branch-clause-packed
 returns-then-not-branch-clause-packed g c =
