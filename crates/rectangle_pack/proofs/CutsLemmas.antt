@@ -7,7 +7,7 @@ use Rattle.std.proofs.lemmas.Bool.{and_parts, eqb-true}
 use Rattle.std.proofs.lemmas.List.Elements.{All-nil, All-cons}
 use Rattle.std.proofs.Math.Seq.{get_or-append_seam}
 use Rattle.std.proofs.lemmas.Bool.Decides.{nat_tests}
-use Rattle.rectangle_pack.specs.Boxes.{Axis, AxisX, AxisY, AxisZ, Size, Cuboid, Holds, extent, start, is_within, is_cell_of}
+use Rattle.rectangle_pack.specs.Boxes.{Axis, AxisX, AxisY, AxisZ, Size, Cuboid, Holds, IsU32, FitsU32, extent, start, is_within, is_cell_of}
 use Rattle.rectangle_pack.specs.Cuts.{is_same, is_before, placed, piece_start, piece_extent, piece, pieces, orders, cuts}
 use Rattle.rectangle_pack.specs.Choice.{MayChoose}
 use Rattle.rectangle_pack.specs.Counting.{times_filled, Tiles}
@@ -183,17 +183,24 @@ piece_ends s m order a h = record {
   by_z = ends_by s m order a AxisZ h.deep;
 }
 
--- each piece of the chosen cut ends by the section's end
-pub chosen_ends : {R : List Cuboid → List Cuboid → Ordering → Type 0} (s : Cuboid) (m : Size) (cut : List Cuboid) → Holds s m → MayChoose R (cuts s m) cut → All (λ b. EndsBy b s) cut
+-- each piece of each cut ends by the section's end
+pub cuts_end : (s : Cuboid) (m : Size) → Holds s m → All (All (λ b. EndsBy b s)) (cuts s m)
 unfolding pieces
-chosen_ends s m cut h choice =
+cuts_end s m h =
     let P : Cuboid → Type 0 = λ b. EndsBy b s in
-    chosen_has (All P) s m cut
+    all_six (All P) s m
     (λ order once.
     All-cons P (piece s m order AxisX) (piece s m order AxisY ∷ piece s m order AxisZ ∷ []) (piece_ends s m order AxisX h)
     (All-cons P (piece s m order AxisY) (piece s m order AxisZ ∷ []) (piece_ends s m order AxisY h)
     (All-cons P (piece s m order AxisZ) [] (piece_ends s m order AxisZ h) (All-nil P))))
-    choice
+
+-- and so each piece of the chosen cut
+pub chosen_ends : {R : List Cuboid → List Cuboid → Ordering → Type 0} (s : Cuboid) (m : Size) (cut : List Cuboid) → Holds s m → MayChoose R (cuts s m) cut → All (λ b. EndsBy b s) cut
+chosen_ends s m cut h choice = All-middle (All (λ b. EndsBy b s)) (cuts s m) choice.before choice.after cut choice.listed (cuts_end s m h)
+
+-- the size of a box that ends by one of 32 bits is of 32 bits
+pub u32_by_end : (b s : Cuboid) → FitsU32 s → EndsBy b s → IsU32 b.whd
+u32_by_end b s fits ends = record { wide = omega arith; high = omega arith; deep = omega arith }
 
 -- a cut has three pieces
 pub length-chosen : {R : List Cuboid → List Cuboid → Ordering → Type 0} (s : Cuboid) (m : Size) (cut : List Cuboid) → MayChoose R (cuts s m) cut → length cut ≡ 3

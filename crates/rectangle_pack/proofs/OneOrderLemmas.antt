@@ -1,21 +1,23 @@
 -- Where the heuristic is a function, two orders of the same groups or bins name equal ones, place by place.
 use Rattle.std.proofs.Common.{◌≡◌, ℕ, suc, ◌<◌, ◌≤◌, Bool, true, false, cond, List, [], ◌∷◌, ◌++◌, refl, sym, ◌∙◌, ap, arith, length, get_or}
-use Rattle.std.specs.Prelude.{All, map, Option, Some, None, IsSomeAnd, sum}
+use Rattle.std.specs.Prelude.{All, map, Option, Some, None, IfSome, IsSomeAnd, sum}
 use Rattle.std.specs.List.{AllZip, sum_by}
 use Rattle.std.specs.declared.cmp.Ordering.{Ordering}
 use Rattle.std.specs.declared.cmp.Ordering.TheVariants.{Less, Equal, Greater}
 use Rattle.std.specs.Ordering.{nat_cmp, ordering_then, ordering_reverse, is_lt, is_eq}
 use Rattle.std.specs.Cmp.{IsTotalOrder}
 use Rattle.std.specs.List.Sorted.{IsPermutation, IsSorted}
-use Rattle.std.specs.Map.{lookup}
+use Rattle.std.specs.Map.{lookup, values_of}
 use Rattle.std.specs.BTreeMap.{is_at}
 use Rattle.std.proofs.lemmas.Cmp.{nat_cmp_total, then_total, on_total, back_total, tied_itself}
 use Rattle.std.proofs.lemmas.List.Elements.{All-nil, All-cons, All-head, All-tail, All-weaker}
 use Rattle.std.proofs.lemmas.List.Sorted.{ranks_by, sorted_far, sum_by-IsPermutation}
 use Rattle.std.proofs.lemmas.List.Sums.{sum_by-cons}
-use Rattle.rectangle_pack.specs.Boxes.{Size}
+use Rattle.std.proofs.lemmas.Map.Views.{IfSome-lookup_from_All}
+use Rattle.rectangle_pack.specs.Boxes.{Size, IsU32}
 use Rattle.rectangle_pack.specs.Bins.{Bin}
 use Rattle.rectangle_pack.specs.Choice.{IsFunction}
+use Rattle.rectangle_pack.specs.Results.{IsBinU32}
 use Rattle.rectangle_pack.specs.Orders.{saturated, falling_then, rising_then, IsGroupKey, IsGroupOrder, IsBinOrder}
 
 -- what passes between elements that are alike holds of all
@@ -154,6 +156,13 @@ AllZip-join P Q S j (a ∷ elems) [] ys h k = absurd h
 AllZip-join P Q S j (a ∷ elems) (x ∷ xs) [] h k = absurd k
 AllZip-join P Q S j (a ∷ elems) (x ∷ xs) (y ∷ ys) h k = (j a x y h.0 k.0, AllZip-join P Q S j elems xs ys h.1 k.1)
 
+-- what holds of the value of each entry, beside what the entry has in common with another list's element
+AllZip-values : {K X Y : Type 0} (P : X → Type 0) (R : K × X → Y → Type 0) (es : List (K × X)) (ys : List Y) → All P (values_of es) → AllZip R es ys → AllZip (λ e y. P e.1 × R e y) es ys
+AllZip-values P R [] [] all h = tt
+AllZip-values P R [] (y ∷ ys) all h = absurd h
+AllZip-values P R (e ∷ es) [] all h = absurd h
+AllZip-values P R (e ∷ es) (y ∷ ys) all h = ((All-head P e.1 (values_of es) all, h.0), AllZip-values P R es ys (All-tail P e.1 (values_of es) all) h.1)
+
 pub same_from_zip : {X : Type 0} (xs ys : List X) → AllZip (λ x y. x ≡ y) xs ys → xs ≡ ys
 same_from_zip [] [] h = refl
 same_from_zip [] (y ∷ ys) h = absurd h
@@ -161,22 +170,22 @@ same_from_zip (x ∷ xs) [] h = absurd h
 same_from_zip (x ∷ xs) (y ∷ ys) h = let e = h.0 in let i = same_from_zip xs ys h.1 in cc
 
 module _ (MayRate : Size → ℕ → Type 0) (f : IsFunction MayRate) where
-  one_rate : (size : Option Size) (a b : ℕ) → IsSomeAnd size (λ s. MayRate s a) → IsSomeAnd size (λ s. MayRate s b) → a ≡ b
-  one_rate None a b h k = absurd h
-  one_rate (Some s) a b h k = f.only s a h ∙ sym (f.only s b k)
+  one_rate : (size : Option Size) (a b : ℕ) → IfSome size IsU32 → IsSomeAnd size (λ s. MayRate s a) → IsSomeAnd size (λ s. MayRate s b) → a ≡ b
+  one_rate None a b u h k = absurd h
+  one_rate (Some s) a b u h k = f.only s a u h ∙ sym (f.only s b u k)
 
   -- a list of ids has one key
-  one_group_key : {Id : Type 0} (cmp : Id → Id → Ordering) (sizes : List (Id × Size)) (ids : List Id) (a b : ℕ) → IsGroupKey MayRate cmp sizes ids a → IsGroupKey MayRate cmp sizes ids b → a ≡ b
-  one_group_key {Id} cmp sizes ids a b (r, h, e) (s, k, i) =
+  one_group_key : {Id : Type 0} (cmp : Id → Id → Ordering) (sizes : List (Id × Size)) (ids : List Id) (a b : ℕ) → All IsU32 (values_of sizes) → IsGroupKey MayRate cmp sizes ids a → IsGroupKey MayRate cmp sizes ids b → a ≡ b
+  one_group_key {Id} cmp sizes ids a b u (r, h, e) (s, k, i) =
       let P : Id → ℕ → Type 0 = λ id rate. IsSomeAnd (lookup (is_at (cmp id)) sizes) (λ size. MayRate size rate) in
-      let same : r ≡ s = same_from_zip r s (AllZip-join P P (λ x y. x ≡ y) (λ id x y. one_rate (lookup (is_at (cmp id)) sizes) x y) ids r s h k) in
+      let same : r ≡ s = same_from_zip r s (AllZip-join P P (λ x y. x ≡ y) (λ id x y. one_rate (lookup (is_at (cmp id)) sizes) x y (IfSome-lookup_from_All IsU32 (is_at (cmp id)) sizes u)) ids r s h k) in
       e ∙ ap (λ (xs : List ℕ). saturated (sum xs)) same ∙ sym i
 
   -- two orders of the same groups name equal groups, place by place
   pub one_group_order : {Id K : Type 0} (group_cmp : K → K → Ordering) (cmp : Id → Id → Ordering) (sizes : List (Id × Size)) (groups : List (K × List Id)) (o1 o2 : List (ℕ × K))
-      → IsTotalOrder group_cmp → IsGroupOrder MayRate group_cmp cmp sizes groups o1 → IsGroupOrder MayRate group_cmp cmp sizes groups o2
+      → All IsU32 (values_of sizes) → IsTotalOrder group_cmp → IsGroupOrder MayRate group_cmp cmp sizes groups o1 → IsGroupOrder MayRate group_cmp cmp sizes groups o2
       → AllZip (λ a b. group_cmp a.1 b.1 ≡ Equal) o1 o2
-  one_group_order {Id} {K} group_cmp cmp sizes groups o1 o2 total p q =
+  one_group_order {Id} {K} group_cmp cmp sizes groups o1 o2 u total p q =
       let R : ℕ × K → ℕ × K → Ordering = falling_then group_cmp in
       let P : K × List Id → ℕ × K → Type 0 = λ group entry. (entry.1 ≡ group.0) × IsGroupKey MayRate cmp sizes group.1 entry.0 in
       let start : AllZip (λ a b. R a b ≡ Equal) p.unsorted q.unsorted = AllZip-join P P (λ a b. R a b ≡ Equal) (λ g a b h k. alike_entries g a b h k) groups p.unsorted q.unsorted p.each q.each in
@@ -185,22 +194,23 @@ module _ (MayRate : Size → ℕ → Type 0) (f : IsFunction MayRate) where
     where
       alike_entries : (g : K × List Id) (a b : ℕ × K) → (a.1 ≡ g.0) × IsGroupKey MayRate cmp sizes g.1 a.0 → (b.1 ≡ g.0) × IsGroupKey MayRate cmp sizes g.1 b.0 → falling_then group_cmp a b ≡ Equal
       alike_entries g a b h k =
-          let keys = one_group_key cmp sizes g.1 a.0 b.0 h.1 k.1 in
+          let keys = one_group_key cmp sizes g.1 a.0 b.0 u h.1 k.1 in
           let names = h.0 ∙ sym k.0 in
           rw (keys, names) (tied_itself (falling_total total) b)
 
   -- and two orders of the same bins name equal bins
-  pub one_bin_order : {B : Type 0} (cmp : B → B → Ordering) (bins : List (B × Bin)) (o1 o2 : List (ℕ × B)) → IsTotalOrder cmp → IsBinOrder MayRate cmp bins o1 → IsBinOrder MayRate cmp bins o2
+  pub one_bin_order : {B : Type 0} (cmp : B → B → Ordering) (bins : List (B × Bin)) (o1 o2 : List (ℕ × B)) → All IsBinU32 (values_of bins) → IsTotalOrder cmp → IsBinOrder MayRate cmp bins o1 → IsBinOrder MayRate cmp bins o2
       → AllZip (λ a b. cmp a b ≡ Equal) (map (λ o. o.1) o1) (map (λ o. o.1) o2)
-  one_bin_order {B} cmp bins o1 o2 total p q =
+  one_bin_order {B} cmp bins o1 o2 u total p q =
       let R : ℕ × B → ℕ × B → Ordering = rising_then cmp in
       let P : B × Bin → ℕ × B → Type 0 = λ bin entry. (cmp bin.0 entry.1 ≡ Equal) × MayRate bin.1.size entry.0 in
-      let start : AllZip (λ a b. R a b ≡ Equal) p.unsorted q.unsorted = AllZip-join P P (λ a b. R a b ≡ Equal) (λ g a b h k. alike_entries g a b h k) bins p.unsorted q.unsorted p.each q.each in
+      let S : B × Bin → ℕ × B → Type 0 = λ bin entry. IsBinU32 bin.1 × P bin entry in
+      let start : AllZip (λ a b. R a b ≡ Equal) p.unsorted q.unsorted = AllZip-join S P (λ a b. R a b ≡ Equal) (λ g a b h k. alike_entries g a b h.0.size h.1 k) bins p.unsorted q.unsorted (AllZip-values IsBinU32 P bins p.unsorted u p.each) q.each in
       names o1 o2 (alike_sorted R (rising_total total) p.unsorted q.unsorted o1 o2 start p.permutation q.permutation p.rising q.rising)
     where
-      alike_entries : (e : B × Bin) (a b : ℕ × B) → (cmp e.0 a.1 ≡ Equal) × MayRate e.1.size a.0 → (cmp e.0 b.1 ≡ Equal) × MayRate e.1.size b.0 → rising_then cmp a b ≡ Equal
-      alike_entries e a b h k =
-          let keys = f.only e.1.size a.0 h.1 ∙ sym (f.only e.1.size b.0 k.1) in
+      alike_entries : (e : B × Bin) (a b : ℕ × B) → IsU32 e.1.size → (cmp e.0 a.1 ≡ Equal) × MayRate e.1.size a.0 → (cmp e.0 b.1 ≡ Equal) × MayRate e.1.size b.0 → rising_then cmp a b ≡ Equal
+      alike_entries e a b small h k =
+          let keys = f.only e.1.size a.0 small h.1 ∙ sym (f.only e.1.size b.0 small k.1) in
           let names : cmp a.1 b.1 ≡ Equal = sym (total.congr e.0 a.1 b.1 h.0) ∙ k.0 in
           rw (keys, tied_itself nat_cmp_total b.0, names) refl
 

@@ -1,25 +1,27 @@
 -- Where the closures are functions and the comparison is a total preorder on the cuts, a packing has one result.
 use Rattle.std.proofs.Common.{◌≡◌, ℕ, ◌+◌, ◌<◌, ◌≤◌, List, [], ◌∷◌, ◌++◌, refl, sym, ◌∙◌, ap, subst, arith, length, length-append, append-nil}
-use Rattle.std.specs.Prelude.{All, map, Option, Some, IsSomeAnd}
+use Rattle.std.specs.Prelude.{All, map, Option, Some, IfSome, IsSomeAnd}
 use Rattle.std.specs.List.{AllZip}
 use Rattle.std.specs.declared.cmp.Ordering.{Ordering}
 use Rattle.std.specs.declared.cmp.Ordering.TheVariants.{Equal}
 use Rattle.std.specs.Cmp.{IsTotalOrder}
-use Rattle.std.specs.Map.{lookup, set_value}
+use Rattle.std.specs.Map.{lookup, set_value, values_of}
 use Rattle.std.specs.BTreeMap.{is_at}
 use Rattle.std.proofs.lemmas.List.Elements.{All-head, All-tail, All-weaker}
+use Rattle.std.proofs.lemmas.Map.Views.{All-values-set_value, IfSome-lookup_from_All}
 use Rattle.rectangle_pack.specs.declared.grouped_rects_to_place.Group.{Group}
 use Rattle.rectangle_pack.specs.declared.pack.Placement.{Placement}
-use Rattle.rectangle_pack.specs.Boxes.{Size, Cuboid}
+use Rattle.rectangle_pack.specs.Boxes.{Size, Cuboid, FitsU32, IsInside}
 use Rattle.rectangle_pack.specs.Bins.{Bin}
 use Rattle.rectangle_pack.specs.Groups.{Collection}
 use Rattle.rectangle_pack.specs.Orders.{IsGroupOrder}
 use Rattle.rectangle_pack.specs.Placed.{AreNamed}
 use Rattle.rectangle_pack.specs.Steps.{IsDone, IsStuck}
 use Rattle.rectangle_pack.specs.Packing.{Members, IsStuckIn, IsPlaced, IsRefused, AreAllPlaced, AreGroups, PackingDone, PackingRefused}
-use Rattle.rectangle_pack.specs.Results.{ClosuresDecide, AreAlike}
+use Rattle.rectangle_pack.specs.Results.{ClosuresDecide, IsBinU32, AreU32, AreAlike}
 use Rattle.rectangle_pack.proofs.CutsLemmas.{All-middle}
 use Rattle.rectangle_pack.proofs.MapsLemmas.{lookup-equal, set_value-equal}
+use Rattle.rectangle_pack.proofs.StepsLemmas.{IsDone-inside}
 use Rattle.rectangle_pack.proofs.OneResultLemmas.{split_first, one_trial, not_done_and_stuck}
 use Rattle.rectangle_pack.proofs.OneOrderLemmas.{All-alike, AllZip-append, length-zip, AllZip-join, same_from_zip, one_group_order, one_bin_order}
 
@@ -85,6 +87,16 @@ split_alike R (x ∷ before) here after (y ∷ ys) h =
     let s = split_alike R before here after ys h.1 in
     record { front = y ∷ s.front; at = s.at; back = s.back; splits = ap (λ zs. y ∷ zs) s.splits; before_alike = (h.0, s.before_alike); alike = s.alike }
 
+-- a bin that a look-up finds is of 32 bits where each is
+found_u32 : {B : Type 0} (bin_cmp : B → B → Ordering) (bins : List (B × Bin)) (id : B) (bin : Bin) → lookup (is_at (bin_cmp id)) bins ≡ Some bin → All IsBinU32 (values_of bins) → IsBinU32 bin
+found_u32 bin_cmp bins id bin found all = subst (λ (x : Option Bin). IfSome x IsBinU32) found (IfSome-lookup_from_All IsBinU32 (is_at (bin_cmp id)) bins all)
+
+-- and so are the corners and sizes of its sections
+sections_fit : (bin : Bin) → IsBinU32 bin → All FitsU32 bin.sections
+sections_fit bin u =
+    let small = u.size in
+    All-weaker (IsInside bin.size) FitsU32 (λ s inside. record { fits_x = omega arith; fits_y = omega arith; fits_z = omega arith }) bin.sections u.inside
+
 -- what two packings share
 record SamePacking {Id B : Type 0} (cmp : Id → Id → Ordering) (bin_cmp : B → B → Ordering) (p q : List (Placement Id B)) (m n : List (B × Bin)) : Type 0 where
   pub bins : m ≡ n
@@ -135,11 +147,11 @@ module _ {Id B : Type 0} (cmp : Id → Id → Ordering) (bin_cmp : B → B → O
       (first, next, others, placed_alike order1 order2 g old next first h p, all_placed_alike order1 order2 gs next new others h rest, e)
 
   -- where a trial is done it is not stuck
-  not_stuck_here : (g : Members Id) (old : List (B × Bin)) (here : B) (bin : Bin) (ls last : List Cuboid) (tests : ℕ) → lookup (is_at (bin_cmp here)) old ≡ Some bin
+  not_stuck_here : (g : Members Id) (old : List (B × Bin)) (here : B) (bin : Bin) (ls last : List Cuboid) (tests : ℕ) → IsBinU32 bin → lookup (is_at (bin_cmp here)) old ≡ Some bin
       → IsDone MayRate MayPrefer bin.sections g.sizes ls last tests → ¬ IsStuckIn cmp bin_cmp MayRate MayPrefer old g here
-  not_stuck_here g old here bin ls last tests found done stuck =
+  not_stuck_here g old here bin ls last tests u found done stuck =
       let s : (n : ℕ) × IsStuck MayRate MayPrefer bin.sections g.sizes n = subst (λ (x : Option Bin). IsSomeAnd x (λ (b : Bin). (n : ℕ) × IsStuck MayRate MayPrefer b.sections g.sizes n)) found stuck in
-      not_done_and_stuck MayRate MayPrefer decide bin.sections g.sizes ls last tests s.0 done s.1
+      not_done_and_stuck MayRate MayPrefer decide bin.sections g.sizes ls last tests s.0 (sections_fit bin u) done s.1
 
   named_once : (ids : List Id) (here : B) (ps qs : List (Placement Id B)) → AllZip (λ id p. cmp id p.id ≡ Equal) ids ps → AllZip (λ id p. cmp id p.id ≡ Equal) ids qs
       → All (λ p. bin_cmp here p.bin ≡ Equal) ps → All (λ p. bin_cmp here p.bin ≡ Equal) qs → map (λ p. p.location) ps ≡ map (λ p. p.location) qs → AreAlike cmp bin_cmp ps qs
@@ -153,15 +165,26 @@ module _ {Id B : Type 0} (cmp : Id → Id → Ordering) (bin_cmp : B → B → O
       let ids_same : cmp p.id q.id ≡ Equal = sym (id_total.congr id p.id q.id h.0) ∙ k.0 in
       ((ids_same, same, cc), named_once ids here ps qs h.1 k.1 (All-tail (λ p. bin_cmp here p.bin ≡ Equal) p ps a) (All-tail (λ p. bin_cmp here p.bin ≡ Equal) q qs b) (cc))
 
+  -- bins of 32 bits stay so where a group is placed
+  placed_u32 : (order : List B) (g : Members Id) (old m : List (B × Bin)) (ps : List (Placement Id B)) → IsPlaced cmp bin_cmp MayRate MayPrefer order g old ps m → All IsBinU32 (values_of old) → All IsBinU32 (values_of m)
+  placed_u32 order g old m ps p u =
+      let bin = found_u32 bin_cmp old p.here p.bin p.found u in
+      let new : Bin = record p.bin { sections = p.last } in
+      subst (λ (es : List (B × Bin)). All IsBinU32 (values_of es)) (sym p.new_is)
+      (All-values-set_value (is_at (bin_cmp p.here)) IsBinU32 old new u
+      (record { size = bin.size; inside = IsDone-inside MayRate MayPrefer p.bin.size p.bin.sections g.sizes p.locations p.last p.tests p.done bin.inside }))
+
   -- a group is placed in one way
-  one_placed : (order : List B) (g : Members Id) (old m n : List (B × Bin)) (ps qs : List (Placement Id B))
+  one_placed : (order : List B) (g : Members Id) (old m n : List (B × Bin)) (ps qs : List (Placement Id B)) → All IsBinU32 (values_of old)
       → IsPlaced cmp bin_cmp MayRate MayPrefer order g old ps m → IsPlaced cmp bin_cmp MayRate MayPrefer order g old qs n → SamePacking cmp bin_cmp ps qs m n
-  one_placed order g old m n ps qs p q =
+  one_placed order g old m n ps qs u p q =
+      let p_bin = found_u32 bin_cmp old p.here p.bin p.found u in
+      let q_bin = found_u32 bin_cmp old q.here q.bin q.found u in
       let here : p.here ≡ q.here = split_first (IsStuckIn cmp bin_cmp MayRate MayPrefer old g) p.before p.here p.after q.before q.here q.after (sym p.order_is ∙ q.order_is) p.stuck q.stuck
-      (not_stuck_here g old p.here p.bin p.locations p.last p.tests p.found p.done) (not_stuck_here g old q.here q.bin q.locations q.last q.tests q.found q.done) in
+      (not_stuck_here g old p.here p.bin p.locations p.last p.tests p_bin p.found p.done) (not_stuck_here g old q.here q.bin q.locations q.last q.tests q_bin q.found q.done) in
       let found : Some p.bin ≡ Some q.bin = sym p.found ∙ ap (λ (id : B). lookup (is_at (bin_cmp id)) old) here ∙ q.found in
       let bin : p.bin ≡ q.bin = cc in
-      let trial = one_trial MayRate MayPrefer decide p.bin.sections g.sizes p.locations q.locations p.last q.last p.tests q.tests p.done
+      let trial = one_trial MayRate MayPrefer decide p.bin.sections g.sizes p.locations q.locations p.last q.last p.tests q.tests (sections_fit p.bin p_bin) p.done
       (subst (λ (b : Bin). IsDone MayRate MayPrefer b.sections g.sizes q.locations q.last q.tests) (sym bin) q.done) in
       record {
         bins = p.new_is ∙ ap (λ (id : B). set_value (is_at (bin_cmp id)) old (record p.bin { sections = p.last })) here
@@ -173,15 +196,15 @@ module _ {Id B : Type 0} (cmp : Id → Id → Ordering) (bin_cmp : B → B → O
       }
 
   -- and so are all groups
-  one_all_placed : (order : List B) (gs : List (Members Id)) (old m n : List (B × Bin)) (ps qs : List (Placement Id B))
+  one_all_placed : (order : List B) (gs : List (Members Id)) (old m n : List (B × Bin)) (ps qs : List (Placement Id B)) → All IsBinU32 (values_of old)
       → AreAllPlaced cmp bin_cmp MayRate MayPrefer order gs old ps m → AreAllPlaced cmp bin_cmp MayRate MayPrefer order gs old qs n → SamePacking cmp bin_cmp ps qs m n
-  one_all_placed order [] old m n ps qs p q = record {
+  one_all_placed order [] old m n ps qs u p q = record {
     bins = p.1 ∙ sym q.1;
     placements = subst (λ (x : List (Placement Id B)). AreAlike cmp bin_cmp x qs) (sym p.0) (subst (λ (x : List (Placement Id B)). AreAlike cmp bin_cmp [] x) (sym q.0) tt);
   }
-  one_all_placed order (g ∷ gs) old m n ps qs (first1, next1, others1, p, rest1, e1) (first2, next2, others2, q, rest2, e2) =
-      let one = one_placed order g old next1 next2 first1 first2 p q in
-      let others = one_all_placed order gs next1 m n others1 others2 rest1 (subst (λ (x : List (B × Bin)). AreAllPlaced cmp bin_cmp MayRate MayPrefer order gs x others2 n) (sym one.bins) rest2) in
+  one_all_placed order (g ∷ gs) old m n ps qs u (first1, next1, others1, p, rest1, e1) (first2, next2, others2, q, rest2, e2) =
+      let one = one_placed order g old next1 next2 first1 first2 u p q in
+      let others = one_all_placed order gs next1 m n others1 others2 (placed_u32 order g old next1 first1 p u) rest1 (subst (λ (x : List (B × Bin)). AreAllPlaced cmp bin_cmp MayRate MayPrefer order gs x others2 n) (sym one.bins) rest2) in
       let S : Placement Id B → Placement Id B → Type 0 = λ p q. (cmp p.id q.id ≡ Equal) × (bin_cmp p.bin q.bin ≡ Equal) × (p.location ≡ q.location) in
       record {
         bins = others.bins;
@@ -189,58 +212,58 @@ module _ {Id B : Type 0} (cmp : Id → Id → Ordering) (bin_cmp : B → B → O
             (AllZip-append S first1 first2 others1 others2 one.placements others.placements));
       }
 
-  one_placed_by : (order1 order2 : List B) (gs : List (Members Id)) (old m n : List (B × Bin)) (ps qs : List (Placement Id B)) → (0 < length gs → AllZip (λ a b. bin_cmp a b ≡ Equal) order1 order2)
+  one_placed_by : (order1 order2 : List B) (gs : List (Members Id)) (old m n : List (B × Bin)) (ps qs : List (Placement Id B)) → All IsBinU32 (values_of old) → (0 < length gs → AllZip (λ a b. bin_cmp a b ≡ Equal) order1 order2)
       → AreAllPlaced cmp bin_cmp MayRate MayPrefer order1 gs old ps m → AreAllPlaced cmp bin_cmp MayRate MayPrefer order2 gs old qs n → SamePacking cmp bin_cmp ps qs m n
-  one_placed_by order1 order2 [] old m n ps qs h p q = one_all_placed order1 [] old m n ps qs p q
-  one_placed_by order1 order2 (g ∷ gs) old m n ps qs h p q =
-      one_all_placed order2 (g ∷ gs) old m n ps qs (all_placed_alike order1 order2 (g ∷ gs) old m ps (h (omega arith)) p) q
+  one_placed_by order1 order2 [] old m n ps qs u h p q = one_all_placed order1 [] old m n ps qs u p q
+  one_placed_by order1 order2 (g ∷ gs) old m n ps qs u h p q =
+      one_all_placed order2 (g ∷ gs) old m n ps qs u (all_placed_alike order1 order2 (g ∷ gs) old m ps (h (omega arith)) p) q
 
-  not_placed_and_refused : (order : List B) (g : Members Id) (old new : List (B × Bin)) (ps : List (Placement Id B)) → IsPlaced cmp bin_cmp MayRate MayPrefer order g old ps new
+  not_placed_and_refused : (order : List B) (g : Members Id) (old new : List (B × Bin)) (ps : List (Placement Id B)) → All IsBinU32 (values_of old) → IsPlaced cmp bin_cmp MayRate MayPrefer order g old ps new
       → IsRefused cmp bin_cmp MayRate MayPrefer order g old → ⊥
-  not_placed_and_refused order g old new ps p refused =
-      not_stuck_here g old p.here p.bin p.locations p.last p.tests p.found p.done
+  not_placed_and_refused order g old new ps u p refused =
+      not_stuck_here g old p.here p.bin p.locations p.last p.tests (found_u32 bin_cmp old p.here p.bin p.found u) p.found p.done
       (All-middle (IsStuckIn cmp bin_cmp MayRate MayPrefer old g) order p.before p.after p.here p.order_is refused)
 
   -- two packings of the same groups stop at the same bins
-  one_stop : (order : List B) (b1 b2 : List (Members Id)) (g1 g2 : Members Id) (old m n : List (B × Bin)) (ps qs : List (Placement Id B)) → Agree (b1 ++ g1 ∷ []) (b2 ++ g2 ∷ [])
+  one_stop : (order : List B) (b1 b2 : List (Members Id)) (g1 g2 : Members Id) (old m n : List (B × Bin)) (ps qs : List (Placement Id B)) → All IsBinU32 (values_of old) → Agree (b1 ++ g1 ∷ []) (b2 ++ g2 ∷ [])
       → AreAllPlaced cmp bin_cmp MayRate MayPrefer order b1 old ps m → IsRefused cmp bin_cmp MayRate MayPrefer order g1 m
       → AreAllPlaced cmp bin_cmp MayRate MayPrefer order b2 old qs n → IsRefused cmp bin_cmp MayRate MayPrefer order g2 n → m ≡ n
-  one_stop order [] [] g1 g2 old m n ps qs h p r q s = p.1 ∙ sym q.1
-  one_stop order [] (b ∷ b2) g1 g2 old m n ps qs h p r (first, next, others, q, rest, e) s =
+  one_stop order [] [] g1 g2 old m n ps qs u h p r q s = p.1 ∙ sym q.1
+  one_stop order [] (b ∷ b2) g1 g2 old m n ps qs u h p r (first, next, others, q, rest, e) s =
       let here : IsRefused cmp bin_cmp MayRate MayPrefer order b old = subst (λ (g : Members Id). IsRefused cmp bin_cmp MayRate MayPrefer order g old) h.0
       (subst (λ (x : List (B × Bin)). IsRefused cmp bin_cmp MayRate MayPrefer order g1 x) p.1 r) in
-      absurd (not_placed_and_refused order b old next first q here)
-  one_stop order (a ∷ b1) [] g1 g2 old m n ps qs h (first, next, others, p, rest, e) r q s =
+      absurd (not_placed_and_refused order b old next first u q here)
+  one_stop order (a ∷ b1) [] g1 g2 old m n ps qs u h (first, next, others, p, rest, e) r q s =
       let here : IsRefused cmp bin_cmp MayRate MayPrefer order a old = subst (λ (g : Members Id). IsRefused cmp bin_cmp MayRate MayPrefer order g old) (sym h.0)
       (subst (λ (x : List (B × Bin)). IsRefused cmp bin_cmp MayRate MayPrefer order g2 x) q.1 s) in
-      absurd (not_placed_and_refused order a old next first p here)
-  one_stop order (a ∷ b1) (b ∷ b2) g1 g2 old m n ps qs h (first1, next1, others1, p, rest1, e1) r (first2, next2, others2, q, rest2, e2) s =
-      let one = one_placed order a old next1 next2 first1 first2 p (subst (λ (g : Members Id). IsPlaced cmp bin_cmp MayRate MayPrefer order g old first2 next2) (sym h.0) q) in
-      one_stop order b1 b2 g1 g2 next1 m n others1 others2 h.1 rest1 r
+      absurd (not_placed_and_refused order a old next first u p here)
+  one_stop order (a ∷ b1) (b ∷ b2) g1 g2 old m n ps qs u h (first1, next1, others1, p, rest1, e1) r (first2, next2, others2, q, rest2, e2) s =
+      let one = one_placed order a old next1 next2 first1 first2 u p (subst (λ (g : Members Id). IsPlaced cmp bin_cmp MayRate MayPrefer order g old first2 next2) (sym h.0) q) in
+      one_stop order b1 b2 g1 g2 next1 m n others1 others2 (placed_u32 order a old next1 first1 p u) h.1 rest1 r
       (subst (λ (x : List (B × Bin)). AreAllPlaced cmp bin_cmp MayRate MayPrefer order b2 x others2 n) (sym one.bins) rest2) s
 
   -- and none of them stops where another places all
-  not_done_and_stopped : (order : List B) (gs b : List (Members Id)) (g : Members Id) (old m n : List (B × Bin)) (ps qs : List (Placement Id B)) → Agree gs (b ++ g ∷ []) → length (b ++ g ∷ []) ≤ length gs
+  not_done_and_stopped : (order : List B) (gs b : List (Members Id)) (g : Members Id) (old m n : List (B × Bin)) (ps qs : List (Placement Id B)) → All IsBinU32 (values_of old) → Agree gs (b ++ g ∷ []) → length (b ++ g ∷ []) ≤ length gs
       → AreAllPlaced cmp bin_cmp MayRate MayPrefer order gs old ps m → AreAllPlaced cmp bin_cmp MayRate MayPrefer order b old qs n → IsRefused cmp bin_cmp MayRate MayPrefer order g n → ⊥
-  not_done_and_stopped order [] b g old m n ps qs h le p q s = absurd (omega (arith, length-append b (g ∷ [])))
-  not_done_and_stopped order (a ∷ gs) [] g old m n ps qs h le (first, next, others, p, rest, e) q s =
+  not_done_and_stopped order [] b g old m n ps qs u h le p q s = absurd (omega (arith, length-append b (g ∷ [])))
+  not_done_and_stopped order (a ∷ gs) [] g old m n ps qs u h le (first, next, others, p, rest, e) q s =
       let here : IsRefused cmp bin_cmp MayRate MayPrefer order a old = subst (λ (x : Members Id). IsRefused cmp bin_cmp MayRate MayPrefer order x old) (sym h.0)
       (subst (λ (x : List (B × Bin)). IsRefused cmp bin_cmp MayRate MayPrefer order g x) q.1 s) in
-      not_placed_and_refused order a old next first p here
-  not_done_and_stopped order (a ∷ gs) (c ∷ b) g old m n ps qs h le (first1, next1, others1, p, rest1, e1) (first2, next2, others2, q, rest2, e2) s =
-      let one = one_placed order a old next1 next2 first1 first2 p (subst (λ (x : Members Id). IsPlaced cmp bin_cmp MayRate MayPrefer order x old first2 next2) (sym h.0) q) in
-      not_done_and_stopped order gs b g next1 m n others1 others2 h.1 (omega arith) rest1
+      not_placed_and_refused order a old next first u p here
+  not_done_and_stopped order (a ∷ gs) (c ∷ b) g old m n ps qs u h le (first1, next1, others1, p, rest1, e1) (first2, next2, others2, q, rest2, e2) s =
+      let one = one_placed order a old next1 next2 first1 first2 u p (subst (λ (x : Members Id). IsPlaced cmp bin_cmp MayRate MayPrefer order x old first2 next2) (sym h.0) q) in
+      not_done_and_stopped order gs b g next1 m n others1 others2 (placed_u32 order a old next1 first1 p u) h.1 (omega arith) rest1
       (subst (λ (x : List (B × Bin)). AreAllPlaced cmp bin_cmp MayRate MayPrefer order b x others2 n) (sym one.bins) rest2) s
 
 module _ {Id B G : Type 0} (group_cmp : Group G Id → Group G Id → Ordering) (cmp : Id → Id → Ordering) (bin_cmp : B → B → Ordering) (MayRate : Size → ℕ → Type 0) (MayPrefer : List Size → List Size → Ordering → Type 0)
     (decide : ClosuresDecide MayRate MayPrefer) (group_total : IsTotalOrder group_cmp) (id_total : IsTotalOrder cmp) (bin_total : IsTotalOrder bin_cmp)
-    (all : Collection Id G) where
+    (all : Collection Id G) (old : List (B × Bin)) (u32 : AreU32 all old) where
   -- the groups that two packings take agree as far as both go
   agree_by : (o1 o2 f1 l1 f2 l2 : List (ℕ × Group G Id)) (g1 g2 : List (Members Id)) → IsGroupOrder MayRate group_cmp cmp all.sizes all.groups o1 → IsGroupOrder MayRate group_cmp cmp all.sizes all.groups o2
       → o1 ≡ f1 ++ l1 → o2 ≡ f2 ++ l2 → AreGroups cmp bin_cmp MayRate MayPrefer group_cmp all.sizes all.groups f1 g1 → AreGroups cmp bin_cmp MayRate MayPrefer group_cmp all.sizes all.groups f2 g2 → Agree g1 g2
   agree_by o1 o2 f1 l1 f2 l2 g1 g2 p q d e h k =
       let S : ℕ × Group G Id → ℕ × Group G Id → Type 0 = λ a b. group_cmp a.1 b.1 ≡ Equal in
-      let same : AllZip S o1 o2 = one_group_order MayRate decide.rates group_cmp cmp all.sizes all.groups o1 o2 group_total p q in
+      let same : AllZip S o1 o2 = one_group_order MayRate decide.rates group_cmp cmp all.sizes all.groups o1 o2 u32.sizes group_total p q in
       one_groups group_cmp cmp all.sizes all.groups group_total f1 l1 f2 l2 g1 g2
       (subst (λ (xs : List (ℕ × Group G Id)). AllZip S (f1 ++ l1) xs) e (subst (λ (xs : List (ℕ × Group G Id)). AllZip S xs o2) d same)) h.each k.each
 
@@ -248,37 +271,37 @@ module _ {Id B G : Type 0} (group_cmp : Group G Id → Group G Id → Ordering) 
   groups_length order gs h = length-zip _ order gs h.each
 
   orders_length : (o1 o2 : List (ℕ × Group G Id)) → IsGroupOrder MayRate group_cmp cmp all.sizes all.groups o1 → IsGroupOrder MayRate group_cmp cmp all.sizes all.groups o2 → length o1 ≡ length o2
-  orders_length o1 o2 p q = length-zip _ o1 o2 (one_group_order MayRate decide.rates group_cmp cmp all.sizes all.groups o1 o2 group_total p q)
+  orders_length o1 o2 p q = length-zip _ o1 o2 (one_group_order MayRate decide.rates group_cmp cmp all.sizes all.groups o1 o2 u32.sizes group_total p q)
 
   -- two packings that are done have one result
-  pub one_done : (old m n : List (B × Bin)) (ps qs : List (Placement Id B)) → PackingDone group_cmp cmp bin_cmp MayRate MayPrefer all old ps m → PackingDone group_cmp cmp bin_cmp MayRate MayPrefer all old qs n
+  pub one_done : (m n : List (B × Bin)) (ps qs : List (Placement Id B)) → PackingDone group_cmp cmp bin_cmp MayRate MayPrefer all old ps m → PackingDone group_cmp cmp bin_cmp MayRate MayPrefer all old qs n
       → (m ≡ n) × AreAlike cmp bin_cmp ps qs
-  one_done old m n ps qs p q =
+  one_done m n ps qs p q =
       let agree = agree_by p.group_order q.group_order p.group_order [] q.group_order [] p.groups q.groups p.by_groups q.by_groups (sym (append-nil p.group_order)) (sym (append-nil q.group_order)) p.listed q.listed in
       let long : length p.groups ≡ length q.groups =
       sym (groups_length p.group_order p.groups p.listed) ∙ orders_length p.group_order q.group_order p.by_groups q.by_groups ∙ groups_length q.group_order q.groups q.listed in
       let same = same_from_agree p.groups q.groups agree long in
-      let one = one_placed_by cmp bin_cmp MayRate MayPrefer decide id_total bin_total (map (λ o. o.1) p.bin_order) (map (λ o. o.1) q.bin_order) p.groups old m n ps qs
-      (λ some. one_bin_order MayRate decide.rates bin_cmp old p.bin_order q.bin_order bin_total (p.by_bins some) (q.by_bins (omega arith)))
+      let one = one_placed_by cmp bin_cmp MayRate MayPrefer decide id_total bin_total (map (λ o. o.1) p.bin_order) (map (λ o. o.1) q.bin_order) p.groups old m n ps qs u32.bins
+      (λ some. one_bin_order MayRate decide.rates bin_cmp old p.bin_order q.bin_order u32.bins bin_total (p.by_bins some) (q.by_bins (omega arith)))
       p.placed (subst (λ (gs : List (Members Id)). AreAllPlaced cmp bin_cmp MayRate MayPrefer (map (λ o. o.1) q.bin_order) gs old qs n) (sym same) q.placed) in
       (one.bins, one.placements)
 
   -- and so have two that are refused
-  pub one_refused : (old m n : List (B × Bin)) → PackingRefused group_cmp cmp bin_cmp MayRate MayPrefer all old m → PackingRefused group_cmp cmp bin_cmp MayRate MayPrefer all old n → m ≡ n
-  one_refused old m n p q =
+  pub one_refused : (m n : List (B × Bin)) → PackingRefused group_cmp cmp bin_cmp MayRate MayPrefer all old m → PackingRefused group_cmp cmp bin_cmp MayRate MayPrefer all old n → m ≡ n
+  one_refused m n p q =
       let agree = agree_by p.group_order q.group_order p.stops.taken p.stops.later q.stops.taken q.stops.later (p.stops.beginning ++ p.stops.next ∷ []) (q.stops.beginning ++ q.stops.next ∷ [])
       p.by_groups q.by_groups p.stops.order_is q.stops.order_is p.stops.listed q.stops.listed in
-      let bins = one_bin_order MayRate decide.rates bin_cmp old p.bin_order q.bin_order bin_total p.by_bins q.by_bins in
+      let bins = one_bin_order MayRate decide.rates bin_cmp old p.bin_order q.bin_order u32.bins bin_total p.by_bins q.by_bins in
       let order1 : List B = map (λ o. o.1) p.bin_order in
       let order2 : List B = map (λ o. o.1) q.bin_order in
-      one_stop cmp bin_cmp MayRate MayPrefer decide id_total bin_total order2 p.stops.beginning q.stops.beginning p.stops.next q.stops.next old m n p.stops.placements q.stops.placements agree
+      one_stop cmp bin_cmp MayRate MayPrefer decide id_total bin_total order2 p.stops.beginning q.stops.beginning p.stops.next q.stops.next old m n p.stops.placements q.stops.placements u32.bins agree
       (all_placed_alike cmp bin_cmp MayRate MayPrefer decide id_total bin_total order1 order2 p.stops.beginning old m p.stops.placements bins p.stops.placed)
       (refused_alike cmp bin_cmp MayRate MayPrefer decide id_total bin_total order1 order2 p.stops.next m bins p.stops.refused)
       q.stops.placed q.stops.refused
 
   -- a packing is not both done and refused
-  pub not_done_and_refused : (old m n : List (B × Bin)) (ps : List (Placement Id B)) → PackingDone group_cmp cmp bin_cmp MayRate MayPrefer all old ps m → PackingRefused group_cmp cmp bin_cmp MayRate MayPrefer all old n → ⊥
-  not_done_and_refused old m n ps p q =
+  pub not_done_and_refused : (m n : List (B × Bin)) (ps : List (Placement Id B)) → PackingDone group_cmp cmp bin_cmp MayRate MayPrefer all old ps m → PackingRefused group_cmp cmp bin_cmp MayRate MayPrefer all old n → ⊥
+  not_done_and_refused m n ps p q =
       let refused : List (Members Id) = q.stops.beginning ++ q.stops.next ∷ [] in
       let agree = agree_by p.group_order q.group_order p.group_order [] q.stops.taken q.stops.later p.groups refused p.by_groups q.by_groups (sym (append-nil p.group_order)) q.stops.order_is p.listed q.stops.listed in
       let long1 = groups_length p.group_order p.groups p.listed in
@@ -288,7 +311,7 @@ module _ {Id B G : Type 0} (group_cmp : Group G Id → Group G Id → Ordering) 
       let long5 = length-append q.stops.beginning (q.stops.next ∷ []) in
       let order1 : List B = map (λ o. o.1) p.bin_order in
       let order2 : List B = map (λ o. o.1) q.bin_order in
-      let bins = one_bin_order MayRate decide.rates bin_cmp old p.bin_order q.bin_order bin_total (p.by_bins (omega arith)) q.by_bins in
-      not_done_and_stopped cmp bin_cmp MayRate MayPrefer decide id_total bin_total order2 p.groups q.stops.beginning q.stops.next old m n ps q.stops.placements agree (omega arith)
+      let bins = one_bin_order MayRate decide.rates bin_cmp old p.bin_order q.bin_order u32.bins bin_total (p.by_bins (omega arith)) q.by_bins in
+      not_done_and_stopped cmp bin_cmp MayRate MayPrefer decide id_total bin_total order2 p.groups q.stops.beginning q.stops.next old m n ps q.stops.placements u32.bins agree (omega arith)
       (all_placed_alike cmp bin_cmp MayRate MayPrefer decide id_total bin_total order1 order2 p.groups old m ps bins p.placed)
       q.stops.placed q.stops.refused

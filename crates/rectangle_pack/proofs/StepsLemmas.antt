@@ -150,7 +150,7 @@ module _ (MayRate : Size → ℕ → Type 0) (MayPrefer : List Size → List Siz
   filled-done c sections (m ∷ ms) (l ∷ ls) last n (next, one, others, step, done, count) =
       omega (arith, filled-step c sections m l next one step, filled-done c next ms ls last others done, filled-cons c l ls)
 
-  IsDone-inside : (size : Size) (sections : List Cuboid) (ms : List Size) (ls last : List Cuboid) (n : ℕ) → IsDone MayRate MayPrefer sections ms ls last n → All (IsInside size) sections → All (IsInside size) last
+  pub IsDone-inside : (size : Size) (sections : List Cuboid) (ms : List Size) (ls last : List Cuboid) (n : ℕ) → IsDone MayRate MayPrefer sections ms ls last n → All (IsInside size) sections → All (IsInside size) last
   IsDone-inside size sections [] ls last n done h = All-same (IsInside size) last sections done.1 h
   IsDone-inside size sections (m ∷ ms) [] last n done h = absurd done
   IsDone-inside size sections (m ∷ ms) (l ∷ ls) last n (next, one, others, step, done, count) h =

@@ -85,6 +85,12 @@ pub record Holds (section : Cuboid) (size : Size) : Type 0 where
   pub high : size.height ≤ section.whd.height
   pub deep : size.depth ≤ section.whd.depth
 
+-- the three numbers of the size are numbers of 32 bits
+pub record IsU32 (size : Size) : Type 0 where
+  pub wide : size.width < 2 ^ 32
+  pub high : size.height < 2 ^ 32
+  pub deep : size.depth < 2 ^ 32
+
 -- the corner and the size of the box add up to numbers of 32 bits
 pub record FitsU32 (b : Cuboid) : Type 0 where
   pub fits_x : b.x + b.whd.width < 2 ^ 32

@@ -5,7 +5,7 @@ use Rattle.std.specs.declared.cmp.Ordering.{Ordering}
 use Rattle.std.specs.declared.cmp.Ordering.TheVariants.{Greater}
 use Rattle.std.specs.Fn.{Shared}
 use denote.Ref.{Bor}
-use Rattle.rectangle_pack.specs.Boxes.{Size, Cuboid, Holds}
+use Rattle.rectangle_pack.specs.Boxes.{Size, Cuboid, Holds, IsU32, FitsU32}
 use Rattle.rectangle_pack.specs.Cuts.{cuts, sizes_of}
 
 -- the comparison may answer r on these two triples, with this heuristic
@@ -14,10 +14,10 @@ pub record MayCompare {C H : Type 0} (g : Shared C (List Size × (List Size × (
   pub shows : shown.now ≡ heuristic
   pub says : g.post comparison (first, (second, (shown, tt))) r
 
--- a heuristic that has at most one answer on each size
+-- a heuristic that has at most one answer on each size of 32 bits
 pub record IsFunction (MayRate : Size → ℕ → Type 0) : Type 0 where
   pub rate : Size → ℕ
-  pub only : (size : Size) (answer : ℕ) → MayRate size answer → answer ≡ rate size
+  pub only : (size : Size) (answer : ℕ) → IsU32 size → MayRate size answer → answer ≡ rate size
 
 module _ {A : Type 0} (MayAnswer : A → A → Ordering → Type 0) where
   -- the answer on these two may be something else than Greater
@@ -46,7 +46,7 @@ module _ {A : Type 0} (MayAnswer : A → A → Ordering → Type 0) where
 abbrev pub IsAllowedCut : (List Size → List Size → Ordering → Type 0) → Cuboid → Size → List Cuboid → Type 0
 IsAllowedCut MayPrefer section size pieces = MayChoose (λ a b. MayPrefer (sizes_of a) (sizes_of b)) (cuts section size) pieces
 
--- the comparison is a total preorder on the six cuts of each section round each size that it holds
+-- the comparison is a total preorder on the six cuts of each section of 32 bits round each size that it holds
 pub record IsPreorderOnCuts (MayPrefer : List Size → List Size → Ordering → Type 0) : Type 0 where
   pub compare : Cuboid → Size → List Cuboid → List Cuboid → Ordering
-  pub preorder : (section : Cuboid) (member : Size) → Holds section member → IsTotalPreorderOn (λ a b. MayPrefer (sizes_of a) (sizes_of b)) (cuts section member) (compare section member)
+  pub preorder : (section : Cuboid) (member : Size) → FitsU32 section → Holds section member → IsTotalPreorderOn (λ a b. MayPrefer (sizes_of a) (sizes_of b)) (cuts section member) (compare section member)

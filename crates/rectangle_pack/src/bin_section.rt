@@ -1,9 +1,9 @@
 //! Free sections of a bin, and how a box is placed into one.
-ghost use Rattle.std.specs.Prelude.{◌≡◌, ◌↔◌, ◌∷◌, List, IfOk, IsTrue, true};
+ghost use Rattle.std.specs.Prelude.{◌≡◌, ◌↔◌, ◌∷◌, List, All, IfOk, IsTrue, true};
 ghost use Rattle.std.specs.Bool.{OnFalse};
 ghost use Rattle.std.specs.Borrow.{Bor};
 ghost use Rattle.std.specs.Cmp.{IsTotalOrder};
-ghost use Rattle.rectangle_pack.specs.Boxes.{Size, Cuboid, section_order, Holds, FitsU32, IsInside, SharesCell, AreApart, SpansMeet, has_cells};
+ghost use Rattle.rectangle_pack.specs.Boxes.{Size, Cuboid, section_order, Holds, IsU32, FitsU32, IsInside, SharesCell, AreApart, SpansMeet, has_cells};
 ghost use Rattle.rectangle_pack.specs.Cuts.{placed, cuts, sizes_of};
 ghost use Rattle.rectangle_pack.specs.Choice.{MayCompare, IsAllowedCut, IsFunction, IsPreorderOnCuts};
 ghost use Rattle.rectangle_pack.specs.SmallestBox.{Rates, AreRates, smallest, second_smallest, IsSmallestOrder};
@@ -313,5 +313,5 @@ pub fn smallest_box_is_preorder<H, C>(heuristic: &H, comparison: &C)
 where
     H: Fn(WidthHeightDepth) -> u128,
     C: Fn([WidthHeightDepth; 3], [WidthHeightDepth; 3], &H) -> Ordering,
-    ensures { IsFunction (H.post heuristic.now) → ((a b : List Size) (r : Ordering) → MayCompare C.Fn comparison.now heuristic.now a b r → IsSmallestOrder (H.post heuristic.now) a b r) → IsPreorderOnCuts (MayCompare C.Fn comparison.now heuristic.now) }
+    ensures { IsFunction (H.post heuristic.now) → ((a b : List Size) (r : Ordering) → All IsU32 a → All IsU32 b → MayCompare C.Fn comparison.now heuristic.now a b r → IsSmallestOrder (H.post heuristic.now) a b r) → IsPreorderOnCuts (MayCompare C.Fn comparison.now heuristic.now) }
 {}

@@ -16,7 +16,7 @@ ghost use Rattle.rectangle_pack.specs.PackErrors.{OnNoSpace, OnNoMemory};
 ghost use Rattle.rectangle_pack.specs.Placed.{AreNamed, AreLastPlacements, placements_of, locations_of};
 ghost use Rattle.rectangle_pack.specs.TrialJournal.{GoesBack};
 ghost use Rattle.rectangle_pack.specs.Keeping.{KeepsEachBin};
-ghost use Rattle.rectangle_pack.specs.Results.{ClosuresDecide, AreAlike};
+ghost use Rattle.rectangle_pack.specs.Results.{ClosuresDecide, AreU32, AreAlike};
 
 use crate::fit_tests::FitTests;
 use crate::grouped_rects_to_place::{Group, GroupedRectsToPlace};
@@ -464,7 +464,8 @@ where
 
 /// A law: with a heuristic that has one answer on each size and a comparison that is a total preorder on the cuts, a
 /// packing has one result. Equal collections, bins and closures give the same lists and, where the packing is done,
-/// the same locations; none is both done and refused.
+/// the same locations; none is both done and refused. `AreU32` holds of each collection and of all bins, by their
+/// types: their numbers are of 32 bits.
 pub fn packing_has_one_result<Id, BinId, GroupId, H, C>(heuristic: &H, comparison: &C)
 where
     Id: Ord,
@@ -474,16 +475,19 @@ where
     C: Fn([WidthHeightDepth; 3], [WidthHeightDepth; 3], &H) -> Ordering,
     ensures done { ClosuresDecide (H.post heuristic.now) (MayCompare C.Fn comparison.now heuristic.now)
         → (all : Collection Id GroupId) (old m n : List (BinId × Bin)) (p q : List (Placement Id BinId))
+        → AreU32 all old
         → PackingDone ⟦<Group<GroupId, Id> as Ord>⟧.cmp Id.cmp BinId.cmp (H.post heuristic.now) (MayCompare C.Fn comparison.now heuristic.now) all old p m
         → PackingDone ⟦<Group<GroupId, Id> as Ord>⟧.cmp Id.cmp BinId.cmp (H.post heuristic.now) (MayCompare C.Fn comparison.now heuristic.now) all old q n
         → (m ≡ n) × AreAlike Id.cmp BinId.cmp p q }
     ensures refused { ClosuresDecide (H.post heuristic.now) (MayCompare C.Fn comparison.now heuristic.now)
         → (all : Collection Id GroupId) (old m n : List (BinId × Bin))
+        → AreU32 all old
         → PackingRefused ⟦<Group<GroupId, Id> as Ord>⟧.cmp Id.cmp BinId.cmp (H.post heuristic.now) (MayCompare C.Fn comparison.now heuristic.now) all old m
         → PackingRefused ⟦<Group<GroupId, Id> as Ord>⟧.cmp Id.cmp BinId.cmp (H.post heuristic.now) (MayCompare C.Fn comparison.now heuristic.now) all old n
         → m ≡ n }
     ensures not_both { ClosuresDecide (H.post heuristic.now) (MayCompare C.Fn comparison.now heuristic.now)
         → (all : Collection Id GroupId) (old m n : List (BinId × Bin)) (p : List (Placement Id BinId))
+        → AreU32 all old
         → PackingDone ⟦<Group<GroupId, Id> as Ord>⟧.cmp Id.cmp BinId.cmp (H.post heuristic.now) (MayCompare C.Fn comparison.now heuristic.now) all old p m
         → PackingRefused ⟦<Group<GroupId, Id> as Ord>⟧.cmp Id.cmp BinId.cmp (H.post heuristic.now) (MayCompare C.Fn comparison.now heuristic.now) all old n
         → ⊥ }
