@@ -45,7 +45,10 @@ fn two_smallest<H>(container: [WidthHeightDepth; 3], heuristic: &H) -> (u128, u1
 where
     H: Fn(WidthHeightDepth) -> u128,
     requires { H.IsAlwaysCallable heuristic.now }
-    ensures { (rates : Rates) × AreRates (H.post heuristic.now) container rates × (result.0 ≡ smallest rates) × (result.1 ≡ second_smallest rates) }
+    ensures { (rates : Rates) ×
+        AreRates (H.post heuristic.now) container rates ×
+        (result.0 ≡ smallest rates) ×
+        (result.1 ≡ second_smallest rates) }
 {
     let [right, above, behind] = container;
     let (a, b, c) = (heuristic(right), heuristic(above), heuristic(behind));
@@ -153,7 +156,10 @@ impl BinSection {
         ensures apart { IfOk result (λ p. AreAllApart (p.0 ∷ p.1)) }
         ensures volumes { IfOk result (λ p. HaveVolumeOf (p.0 ∷ p.1) self.now) }
         ensures covers { IfOk result (λ p. Cover (p.0 ∷ p.1) self.now) }
-        ensures pieces { IfOk result (λ p. IsAllowedCut (MayCompare C.Fn container_comparison_fn.now heuristic_fn.now) self.now incoming.now p.1) }
+        ensures pieces { IfOk result
+            (λ p.
+            IsAllowedCut (MayCompare C.Fn container_comparison_fn.now heuristic_fn.now) self.now
+            incoming.now p.1) }
     {
         self.check_fit(incoming)?;
         let cuts = self.cuts(incoming);
@@ -313,5 +319,9 @@ pub fn smallest_box_is_preorder<H, C>(heuristic: &H, comparison: &C)
 where
     H: Fn(WidthHeightDepth) -> u128,
     C: Fn([WidthHeightDepth; 3], [WidthHeightDepth; 3], &H) -> Ordering,
-    ensures { IsFunction (H.post heuristic.now) → ((a b : List Size) (r : Ordering) → All IsU32 a → All IsU32 b → MayCompare C.Fn comparison.now heuristic.now a b r → IsSmallestOrder (H.post heuristic.now) a b r) → IsPreorderOnCuts (MayCompare C.Fn comparison.now heuristic.now) }
+    ensures { IsFunction (H.post heuristic.now) →
+        ((a b : List Size) (r : Ordering) → All IsU32 a → All IsU32 b →
+        MayCompare C.Fn comparison.now heuristic.now a b r →
+        IsSmallestOrder (H.post heuristic.now) a b r) →
+        IsPreorderOnCuts (MayCompare C.Fn comparison.now heuristic.now) }
 {}

@@ -30,7 +30,8 @@ pub fn groups_are_ordered<GroupId: Ord, Id: Ord>()
     ensures grouped_last { (a : GroupId) → (b : Id) → ⟦<Group<GroupId, Id> as Ord>⟧.cmp (Grouped a) (Ungrouped b) ≡ Greater }
     ensures ungrouped_by_id { (a b : Id) → ⟦<Group<GroupId, Id> as Ord>⟧.cmp (Ungrouped a) (Ungrouped b) ≡ Id.cmp a b }
     ensures grouped_by_id { (a b : GroupId) → ⟦<Group<GroupId, Id> as Ord>⟧.cmp (Grouped a) (Grouped b) ≡ GroupId.cmp a b }
-    ensures same_where_equal { (a b : Group GroupId Id) → (⟦<Group<GroupId, Id> as Ord>⟧.cmp a b ≡ Equal) ↔ (⟦<Group<GroupId, Id> as PartialEq>⟧.eq a b ≡ true) }
+    ensures same_where_equal { (a b : Group GroupId Id) →
+        (⟦<Group<GroupId, Id> as Ord>⟧.cmp a b ≡ Equal) ↔ (⟦<Group<GroupId, Id> as PartialEq>⟧.eq a b ≡ true) }
 {}
 
 /// Boxes that are to be placed, each under its id and in one or more groups.
@@ -101,9 +102,12 @@ impl<Id: Ord + Clone + Drop, GroupId: Ord + Clone + Drop, A: Allocator + Copy> G
         requires ids { (a b : Id) → Id.is_clone a b → IsTrue (Id.eq a b) }
         requires group_ids { (a b : GroupId) → GroupId.is_clone a b → IsTrue (GroupId.eq a b) }
         requires given { ForSome group_ids (λ named. 0 < vec_len named) }
-        ensures ok { OnOk result (MatchOption group_ids
+        ensures ok { OnOk result
+            (MatchOption group_ids
             (PushesAlone Id.cmp ⟦<Group<GroupId, Id> as Ord>⟧.cmp self.old self.new inbound_id inbound)
-            (λ named. PushesInto Id.cmp ⟦<Group<GroupId, Id> as Ord>⟧.cmp self.old self.new inbound_id named.items inbound)) }
+            (λ named.
+            PushesInto Id.cmp ⟦<Group<GroupId, Id> as Ord>⟧.cmp self.old self.new inbound_id
+            named.items inbound)) }
         ensures err { OnErr result (self.new ≡ self.old) }
     {
         match group_ids {
@@ -115,7 +119,8 @@ impl<Id: Ord + Clone + Drop, GroupId: Ord + Clone + Drop, A: Allocator + Copy> G
     // A refused insert of the size hands the id back, which is then the key of the list to take back.
     fn push_alone(&mut self, inbound_id: Id, inbound: RectToInsert) -> Result<(), AllocError>
         requires ids { (a b : Id) → Id.is_clone a b → IsTrue (Id.eq a b) }
-        ensures ok { OnOk result (PushesAlone Id.cmp ⟦<Group<GroupId, Id> as Ord>⟧.cmp self.old self.new inbound_id inbound) }
+        ensures ok { OnOk result
+            (PushesAlone Id.cmp ⟦<Group<GroupId, Id> as Ord>⟧.cmp self.old self.new inbound_id inbound) }
         ensures err { OnErr result (self.new ≡ self.old) }
     {
         let key = Group::Ungrouped(inbound_id.clone()?);
@@ -144,7 +149,9 @@ impl<Id: Ord + Clone + Drop, GroupId: Ord + Clone + Drop, A: Allocator + Copy> G
         requires ids { (a b : Id) → Id.is_clone a b → IsTrue (Id.eq a b) }
         requires group_ids { (a b : GroupId) → GroupId.is_clone a b → IsTrue (GroupId.eq a b) }
         requires given { 0 < vec_len group_ids }
-        ensures ok { OnOk result (PushesInto Id.cmp ⟦<Group<GroupId, Id> as Ord>⟧.cmp self.old self.new inbound_id group_ids.items inbound) }
+        ensures ok { OnOk result
+            (PushesInto Id.cmp ⟦<Group<GroupId, Id> as Ord>⟧.cmp self.old self.new inbound_id
+            group_ids.items inbound) }
         ensures err { OnErr result (self.new ≡ self.old) }
     {
         let keys = named_groups(self.alloc, group_ids)?;

@@ -98,7 +98,11 @@ fn append_at<K: Ord + Drop, T: Drop, A: Allocator + Copy>(
     item: T,
 )
     requires room { HasRoom (get K.cmp map.old key.now) 1 }
-    ensures here { (q : K) → is_eq (K.cmp key.now q) ≡ true → IsSomeAnd (get K.cmp map.old q) (λ v. IsSomeAnd (get K.cmp map.new q) (λ w. (w.items ≡ v.items ++ item ∷ []) × (vec_capacity w ≡ vec_capacity v))) }
+    ensures here { (q : K) → is_eq (K.cmp key.now q) ≡ true →
+        IsSomeAnd (get K.cmp map.old q)
+        (λ v.
+        IsSomeAnd (get K.cmp map.new q)
+        (λ w. (w.items ≡ v.items ++ item ∷ []) × (vec_capacity w ≡ vec_capacity v))) }
     ensures others { (q : K) → is_eq (K.cmp key.now q) ≡ false → get K.cmp map.new q ≡ get K.cmp map.old q }
     ensures ordered { IsOrdered K.cmp map.new }
 {

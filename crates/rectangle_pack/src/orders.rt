@@ -79,9 +79,15 @@ where
     A: Allocator + Copy,
     requires sized { MembersHaveSizes Id.cmp rects.now.entries (lists_of lists.now.entries) }
     requires callable { H.IsAlwaysCallable heuristic.now }
-    ensures order { IfOk result (λ v. IsGroupOrder (H.post heuristic.now) K.cmp Id.cmp rects.now.entries (lists_of lists.now.entries) (keys_of_order v.items)) }
+    ensures order { IfOk result
+        (λ v.
+        IsGroupOrder (H.post heuristic.now) K.cmp Id.cmp rects.now.entries (lists_of lists.now.entries)
+        (keys_of_order v.items)) }
     ensures listed { IfOk result (λ v. All (λ o. IsSome (get K.cmp lists.now o.1.now)) v.items) }
-    ensures counted { IfOk result (λ v. sum_by (entries_at K.cmp (lists_of lists.now.entries)) (keys_of_order v.items) ≡ sum (map length (values_of (lists_of lists.now.entries)))) }
+    ensures counted { IfOk result
+        (λ v.
+        sum_by (entries_at K.cmp (lists_of lists.now.entries)) (keys_of_order v.items) ≡
+        sum (map length (values_of (lists_of lists.now.entries)))) }
 {
     let mut order = Vec::with_capacity(alloc, lists.len())?;
     for (group, ids) in lists {

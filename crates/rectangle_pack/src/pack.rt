@@ -129,7 +129,8 @@ pub(crate) fn undo_all<B: Ord + Drop, A: Allocator + Copy>(
     journal: &mut Vec<DoneTrial<B, A>, A>,
 )
     requires { (start : List (B × Bin)) × GoesBack B.cmp bins.old.entries journal.old.items start }
-    ensures { (start : List (B × Bin)) → GoesBack B.cmp bins.old.entries journal.old.items start → bins_of bins.new.entries ≡ start }
+    ensures { (start : List (B × Bin)) → GoesBack B.cmp bins.old.entries journal.old.items start →
+        bins_of bins.new.entries ≡ start }
 {
     while let Some(done) = journal.pop() {
         let DoneTrial { bin, mut notes } = done;
@@ -154,7 +155,10 @@ where
     requires ids { (a b : Id) → Id.is_clone a b → IsTrue (Id.eq a b) }
     requires bin_ids { (a b : B) → B.is_clone a b → IsTrue (B.eq a b) }
     requires lengths { length ids.now ≡ length locations.now }
-    ensures { OnOk result ((added : List (Placement Id B)) × AreNamed Id.cmp B.cmp ids.now bin.now locations.now added × (placements.new.items ≡ placements.old.items ++ added)) }
+    ensures { OnOk result
+        ((added : List (Placement Id B)) ×
+        AreNamed Id.cmp B.cmp ids.now bin.now locations.now added ×
+        (placements.new.items ≡ placements.old.items ++ added)) }
 {
     for i in 0..ids.len() {
         let placement = Placement {
@@ -177,7 +181,8 @@ where
     Id: Ord,
     A: Allocator + Copy,
     requires { HaveSizes Id.cmp rects.now.entries ids.now }
-    ensures { IfOk result (λ v. AllZip (λ id size. lookup (is_at (Id.cmp id)) rects.now.entries ≡ Some size) ids.now v.items) }
+    ensures { IfOk result
+        (λ v. AllZip (λ id size. lookup (is_at (Id.cmp id)) rects.now.entries ≡ Some size) ids.now v.items) }
 {
     let mut sizes = Vec::with_capacity(alloc, ids.len())?;
     for id in ids {
@@ -208,10 +213,22 @@ where
     requires comparable { (a b : List Size) (h : Bor H) → h.now ≡ heuristic.now → C.pre comparison.now a b h }
     requires lengths { length ids.now ≡ length sizes.now }
     requires found { All (λ o. IsSome (get B.cmp bins.old o.1)) order.now }
-    ensures placed { IfOk result (λ placed. MatchBool placed
-        ((added : List (Placement Id B)) × IsPlaced Id.cmp B.cmp (H.post heuristic.now) (MayCompare C.Fn comparison.now heuristic.now) (map (λ o. o.1) order.now) (record { ids = ids.now; sizes = sizes.now }) (bins_of bins.old.entries) added (bins_of bins.new.entries) × (progress.new.placements.items ≡ progress.old.placements.items ++ added))
-        (IsRefused Id.cmp B.cmp (H.post heuristic.now) (MayCompare C.Fn comparison.now heuristic.now) (map (λ o. o.1) order.now) (record { ids = ids.now; sizes = sizes.now }) (bins_of bins.old.entries) × (bins_of bins.new.entries ≡ bins_of bins.old.entries) × (progress.new.placements.items ≡ progress.old.placements.items))) }
-    ensures back { (start : List (B × Bin)) → GoesBack B.cmp bins.old.entries progress.old.journal.items start → GoesBack B.cmp bins.new.entries progress.new.journal.items start }
+    ensures placed { IfOk result
+        (λ placed.
+        MatchBool placed
+        ((added : List (Placement Id B)) ×
+        IsPlaced Id.cmp B.cmp (H.post heuristic.now)
+        (MayCompare C.Fn comparison.now heuristic.now) (map (λ o. o.1) order.now)
+        (record { ids = ids.now; sizes = sizes.now }) (bins_of bins.old.entries) added
+        (bins_of bins.new.entries) ×
+        (progress.new.placements.items ≡ progress.old.placements.items ++ added))
+        (IsRefused Id.cmp B.cmp (H.post heuristic.now)
+        (MayCompare C.Fn comparison.now heuristic.now) (map (λ o. o.1) order.now)
+        (record { ids = ids.now; sizes = sizes.now }) (bins_of bins.old.entries) ×
+        (bins_of bins.new.entries ≡ bins_of bins.old.entries) ×
+        (progress.new.placements.items ≡ progress.old.placements.items))) }
+    ensures back { (start : List (B × Bin)) → GoesBack B.cmp bins.old.entries progress.old.journal.items start →
+        GoesBack B.cmp bins.new.entries progress.new.journal.items start }
 {
     progress.journal.reserve(1)?;
     for (_, id) in order {
@@ -262,10 +279,22 @@ where
     requires sized { MembersHaveSizes Id.cmp rects.now.entries (lists_of lists.now.entries) }
     requires found { All (λ o. IsSome (get B.cmp bins.old o.1)) order.now }
     requires no_placements { progress.old.placements.items ≡ [] }
-    ensures packed { IfOk result (λ done. MatchBool done
-        ((gs : List (Members Id)) × AreGroups Id.cmp B.cmp (H.post heuristic.now) (MayCompare C.Fn comparison.now heuristic.now) K.cmp rects.now.entries (lists_of lists.now.entries) (keys_of_order groups.now) gs × AreAllPlaced Id.cmp B.cmp (H.post heuristic.now) (MayCompare C.Fn comparison.now heuristic.now) (map (λ o. o.1) order.now) gs (bins_of bins.old.entries) progress.new.placements.items (bins_of bins.new.entries))
-        (StopsAfter Id.cmp B.cmp (H.post heuristic.now) (MayCompare C.Fn comparison.now heuristic.now) K.cmp rects.now.entries (lists_of lists.now.entries) (keys_of_order groups.now) (map (λ o. o.1) order.now) (bins_of bins.old.entries) (bins_of bins.new.entries))) }
-    ensures back { (start : List (B × Bin)) → GoesBack B.cmp bins.old.entries progress.old.journal.items start → GoesBack B.cmp bins.new.entries progress.new.journal.items start }
+    ensures packed { IfOk result
+        (λ done.
+        MatchBool done
+        ((gs : List (Members Id)) ×
+        AreGroups Id.cmp B.cmp (H.post heuristic.now)
+        (MayCompare C.Fn comparison.now heuristic.now) K.cmp rects.now.entries
+        (lists_of lists.now.entries) (keys_of_order groups.now) gs ×
+        AreAllPlaced Id.cmp B.cmp (H.post heuristic.now)
+        (MayCompare C.Fn comparison.now heuristic.now) (map (λ o. o.1) order.now) gs
+        (bins_of bins.old.entries) progress.new.placements.items (bins_of bins.new.entries))
+        (StopsAfter Id.cmp B.cmp (H.post heuristic.now)
+        (MayCompare C.Fn comparison.now heuristic.now) K.cmp rects.now.entries
+        (lists_of lists.now.entries) (keys_of_order groups.now) (map (λ o. o.1) order.now)
+        (bins_of bins.old.entries) (bins_of bins.new.entries))) }
+    ensures back { (start : List (B × Bin)) → GoesBack B.cmp bins.old.entries progress.old.journal.items start →
+        GoesBack B.cmp bins.new.entries progress.new.journal.items start }
 {
     for (_, group) in groups {
         let ids = list_of(lists, *group);
@@ -317,9 +346,16 @@ where
     requires comparable { (a b : List Size) (h : Bor H) → h.now ≡ heuristic.now → C.pre comparison.now a b h }
     requires no_placements { progress.old.placements.items ≡ [] }
     requires no_journal { progress.old.journal.items ≡ [] }
-    ensures packed { IfOk result (λ done. MatchBool done
-        (PackingDone ⟦<Group<GroupId, Id> as Ord>⟧.cmp Id.cmp BinId.cmp (H.post heuristic.now) (MayCompare C.Fn comparison.now heuristic.now) rects_to_place.now (bins_of target_bins.old.entries) progress.new.placements.items (bins_of target_bins.new.entries))
-        (PackingRefused ⟦<Group<GroupId, Id> as Ord>⟧.cmp Id.cmp BinId.cmp (H.post heuristic.now) (MayCompare C.Fn comparison.now heuristic.now) rects_to_place.now (bins_of target_bins.old.entries) (bins_of target_bins.new.entries))) }
+    ensures packed { IfOk result
+        (λ done.
+        MatchBool done
+        (PackingDone ⟦<Group<GroupId, Id> as Ord>⟧.cmp Id.cmp BinId.cmp (H.post heuristic.now)
+        (MayCompare C.Fn comparison.now heuristic.now) rects_to_place.now
+        (bins_of target_bins.old.entries) progress.new.placements.items
+        (bins_of target_bins.new.entries))
+        (PackingRefused ⟦<Group<GroupId, Id> as Ord>⟧.cmp Id.cmp BinId.cmp (H.post heuristic.now)
+        (MayCompare C.Fn comparison.now heuristic.now) rects_to_place.now
+        (bins_of target_bins.old.entries) (bins_of target_bins.new.entries))) }
     ensures back { GoesBack BinId.cmp target_bins.new.entries progress.new.journal.items (bins_of target_bins.old.entries) }
     ensures counted { IfOk result (λ done. OnTrue done (length progress.new.placements.items ≡ entries_of rects_to_place.now)) }
     ensures no_groups { rects_to_place.now.groups ≡ [] → (result ≡ Ok true) × (progress.new.placements.items ≡ []) }
@@ -407,11 +443,22 @@ where
     requires ids { (a b : Id) → Id.is_clone a b → IsTrue (Id.eq a b) }
     requires bin_ids { (a b : BinId) → BinId.is_clone a b → IsTrue (BinId.eq a b) }
     requires callable { H.IsAlwaysCallable box_size_heuristic.now }
-    requires comparable { (a b : List Size) (h : Bor H) → h.now ≡ box_size_heuristic.now → C.pre more_suitable_containers_fn.now a b h }
-    ensures packed { IfOk result (λ ok. PackingDone ⟦<Group<GroupId, Id> as Ord>⟧.cmp Id.cmp BinId.cmp (H.post box_size_heuristic.now) (MayCompare C.Fn more_suitable_containers_fn.now box_size_heuristic.now) rects_to_place.now (bins_of target_bins.old.entries) (placements_of ok) (bins_of target_bins.new.entries)) }
+    requires comparable { (a b : List Size) (h : Bor H) → h.now ≡ box_size_heuristic.now →
+        C.pre more_suitable_containers_fn.now a b h }
+    ensures packed { IfOk result
+        (λ ok.
+        PackingDone ⟦<Group<GroupId, Id> as Ord>⟧.cmp Id.cmp BinId.cmp (H.post box_size_heuristic.now)
+        (MayCompare C.Fn more_suitable_containers_fn.now box_size_heuristic.now) rects_to_place.now
+        (bins_of target_bins.old.entries) (placements_of ok) (bins_of target_bins.new.entries)) }
     ensures counted { IfOk result (λ ok. length (placements_of ok) ≡ entries_of rects_to_place.now) }
     ensures last { IfOk result (λ ok. AreLastPlacements Id.cmp BinId.cmp (placements_of ok) (locations_of ok)) }
-    ensures refused { IfErr result (λ e. OnNoSpace e (PackingRefused ⟦<Group<GroupId, Id> as Ord>⟧.cmp Id.cmp BinId.cmp (H.post box_size_heuristic.now) (MayCompare C.Fn more_suitable_containers_fn.now box_size_heuristic.now) rects_to_place.now (bins_of target_bins.old.entries) (bins_of target_bins.new.entries))) }
+    ensures refused { IfErr result
+        (λ e.
+        OnNoSpace e
+        (PackingRefused ⟦<Group<GroupId, Id> as Ord>⟧.cmp Id.cmp BinId.cmp
+        (H.post box_size_heuristic.now)
+        (MayCompare C.Fn more_suitable_containers_fn.now box_size_heuristic.now)
+        rects_to_place.now (bins_of target_bins.old.entries) (bins_of target_bins.new.entries))) }
     ensures no_memory { IfErr result (λ e. OnNoMemory e (bins_of target_bins.new.entries ≡ bins_of target_bins.old.entries)) }
     ensures no_groups { rects_to_place.now.groups ≡ [] → IsOk result }
 {
@@ -447,7 +494,10 @@ pub fn packing_keeps_cells<Id: Ord, BinId: Ord, GroupId: Ord, H, C>(heuristic: &
 where
     H: Fn(WidthHeightDepth) -> u128,
     C: Fn([WidthHeightDepth; 3], [WidthHeightDepth; 3], &H) -> Ordering,
-    ensures { (all : Collection Id GroupId) (old new : List (BinId × Bin)) (placements : List (Placement Id BinId)) → PackingDone ⟦<Group<GroupId, Id> as Ord>⟧.cmp Id.cmp BinId.cmp (H.post heuristic.now) (MayCompare C.Fn comparison.now heuristic.now) all old placements new → KeepsEachBin BinId.cmp old placements new }
+    ensures { (all : Collection Id GroupId) (old new : List (BinId × Bin)) (placements : List (Placement Id BinId)) →
+        PackingDone ⟦<Group<GroupId, Id> as Ord>⟧.cmp Id.cmp BinId.cmp (H.post heuristic.now)
+        (MayCompare C.Fn comparison.now heuristic.now) all old placements new →
+        KeepsEachBin BinId.cmp old placements new }
 {}
 
 /// A law: where the refused group has one entry, no free section of any bin, as the groups before it left them,
@@ -459,7 +509,12 @@ pub fn refused_box_is_held_nowhere<Id: Ord, BinId: Ord, GroupId: Ord, H, C>(
 where
     H: Fn(WidthHeightDepth) -> u128,
     C: Fn([WidthHeightDepth; 3], [WidthHeightDepth; 3], &H) -> Ordering,
-    ensures { (all : Collection Id GroupId) (old new : List (BinId × Bin)) → (refused : PackingRefused ⟦<Group<GroupId, Id> as Ord>⟧.cmp Id.cmp BinId.cmp (H.post heuristic.now) (MayCompare C.Fn comparison.now heuristic.now) all old new) → (size : Size) → refused.stops.next.sizes ≡ size ∷ [] → (id : BinId) (bin : Bin) → lookup (is_at (BinId.cmp id)) new ≡ Some bin → All (λ s. ¬ Holds s size) bin.sections }
+    ensures { (all : Collection Id GroupId) (old new : List (BinId × Bin)) →
+        (refused : PackingRefused ⟦<Group<GroupId, Id> as Ord>⟧.cmp Id.cmp BinId.cmp (H.post heuristic.now)
+        (MayCompare C.Fn comparison.now heuristic.now) all old new) →
+        (size : Size) → refused.stops.next.sizes ≡ size ∷ [] → (id : BinId) (bin : Bin) →
+        lookup (is_at (BinId.cmp id)) new ≡ Some bin →
+        All (λ s. ¬ Holds s size) bin.sections }
 {}
 
 /// A law: with a heuristic that has one answer on each size and a comparison that is a total preorder on the cuts, a
@@ -473,22 +528,27 @@ where
     GroupId: Ord,
     H: Fn(WidthHeightDepth) -> u128,
     C: Fn([WidthHeightDepth; 3], [WidthHeightDepth; 3], &H) -> Ordering,
-    ensures done { ClosuresDecide (H.post heuristic.now) (MayCompare C.Fn comparison.now heuristic.now)
-        → (all : Collection Id GroupId) (old m n : List (BinId × Bin)) (p q : List (Placement Id BinId))
-        → AreU32 all old
-        → PackingDone ⟦<Group<GroupId, Id> as Ord>⟧.cmp Id.cmp BinId.cmp (H.post heuristic.now) (MayCompare C.Fn comparison.now heuristic.now) all old p m
-        → PackingDone ⟦<Group<GroupId, Id> as Ord>⟧.cmp Id.cmp BinId.cmp (H.post heuristic.now) (MayCompare C.Fn comparison.now heuristic.now) all old q n
-        → (m ≡ n) × AreAlike Id.cmp BinId.cmp p q }
-    ensures refused { ClosuresDecide (H.post heuristic.now) (MayCompare C.Fn comparison.now heuristic.now)
-        → (all : Collection Id GroupId) (old m n : List (BinId × Bin))
-        → AreU32 all old
-        → PackingRefused ⟦<Group<GroupId, Id> as Ord>⟧.cmp Id.cmp BinId.cmp (H.post heuristic.now) (MayCompare C.Fn comparison.now heuristic.now) all old m
-        → PackingRefused ⟦<Group<GroupId, Id> as Ord>⟧.cmp Id.cmp BinId.cmp (H.post heuristic.now) (MayCompare C.Fn comparison.now heuristic.now) all old n
-        → m ≡ n }
-    ensures not_both { ClosuresDecide (H.post heuristic.now) (MayCompare C.Fn comparison.now heuristic.now)
-        → (all : Collection Id GroupId) (old m n : List (BinId × Bin)) (p : List (Placement Id BinId))
-        → AreU32 all old
-        → PackingDone ⟦<Group<GroupId, Id> as Ord>⟧.cmp Id.cmp BinId.cmp (H.post heuristic.now) (MayCompare C.Fn comparison.now heuristic.now) all old p m
-        → PackingRefused ⟦<Group<GroupId, Id> as Ord>⟧.cmp Id.cmp BinId.cmp (H.post heuristic.now) (MayCompare C.Fn comparison.now heuristic.now) all old n
-        → ⊥ }
+    ensures done { ClosuresDecide (H.post heuristic.now) (MayCompare C.Fn comparison.now heuristic.now) →
+        (all : Collection Id GroupId) (old m n : List (BinId × Bin)) (p q : List (Placement Id BinId)) →
+        AreU32 all old →
+        PackingDone ⟦<Group<GroupId, Id> as Ord>⟧.cmp Id.cmp BinId.cmp (H.post heuristic.now)
+        (MayCompare C.Fn comparison.now heuristic.now) all old p m →
+        PackingDone ⟦<Group<GroupId, Id> as Ord>⟧.cmp Id.cmp BinId.cmp (H.post heuristic.now)
+        (MayCompare C.Fn comparison.now heuristic.now) all old q n →
+        (m ≡ n) × AreAlike Id.cmp BinId.cmp p q }
+    ensures refused { ClosuresDecide (H.post heuristic.now) (MayCompare C.Fn comparison.now heuristic.now) →
+        (all : Collection Id GroupId) (old m n : List (BinId × Bin)) → AreU32 all old →
+        PackingRefused ⟦<Group<GroupId, Id> as Ord>⟧.cmp Id.cmp BinId.cmp (H.post heuristic.now)
+        (MayCompare C.Fn comparison.now heuristic.now) all old m →
+        PackingRefused ⟦<Group<GroupId, Id> as Ord>⟧.cmp Id.cmp BinId.cmp (H.post heuristic.now)
+        (MayCompare C.Fn comparison.now heuristic.now) all old n →
+        m ≡ n }
+    ensures not_both { ClosuresDecide (H.post heuristic.now) (MayCompare C.Fn comparison.now heuristic.now) →
+        (all : Collection Id GroupId) (old m n : List (BinId × Bin)) (p : List (Placement Id BinId)) →
+        AreU32 all old →
+        PackingDone ⟦<Group<GroupId, Id> as Ord>⟧.cmp Id.cmp BinId.cmp (H.post heuristic.now)
+        (MayCompare C.Fn comparison.now heuristic.now) all old p m →
+        PackingRefused ⟦<Group<GroupId, Id> as Ord>⟧.cmp Id.cmp BinId.cmp (H.post heuristic.now)
+        (MayCompare C.Fn comparison.now heuristic.now) all old n →
+        ⊥ }
 {}

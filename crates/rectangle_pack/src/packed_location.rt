@@ -7,7 +7,9 @@ use std::marker::Model;
 /// How a box is turned. Boxes are never turned, so it is always `ZeroDegrees`.
 #[derive(Debug, Clone, Copy, PartialEq)]
 pub enum RotatedBy {
+    /// As the box was given.
     ZeroDegrees,
+    /// By a quarter turn; never answered.
     NinetyDegrees,
 }
 

@@ -29,7 +29,9 @@ pub enum PushBinSectionError {
     OutOfBounds(BinSection),
     /// It is inside the bin and shares a cell with a free section, the first such one.
     Overlaps {
+        /// The free section in the way.
         remaining_section: BinSection,
+        /// The section that was pushed.
         new_section: BinSection,
     },
     /// The bin accepts it, and memory for the list was refused.
@@ -154,7 +156,9 @@ impl<A: Allocator + Copy> TargetBin<A> {
     pub fn add_new_sections(&mut self, sections: [BinSection; 3]) -> Result<(), AllocError>
         requires inside { All (IsInside self.old.bin.size) (filter has_cells sections) }
         requires apart { AllPairs AreApart (self.old.bin.sections ++ filter has_cells sections) }
-        ensures ok { OnOk result (self.new.bin ≡ record self.old.bin { sections = self.old.bin.sections ++ filter has_cells sections }) }
+        ensures ok { OnOk result
+            (self.new.bin ≡
+            record self.old.bin { sections = self.old.bin.sections ++ filter has_cells sections }) }
         ensures err { OnErr result (self.new.bin ≡ self.old.bin) }
     {
         self.available_bin_sections.reserve(3)?;
@@ -193,7 +197,8 @@ impl<A: Allocator + Copy> TargetBin<A> {
         bin_section: BinSection,
     ) -> Result<(), AllocError>
         requires { IsAccepted self.old.bin bin_section }
-        ensures ok { OnOk result (self.new.bin ≡ record self.old.bin { sections = self.old.bin.sections ++ bin_section ∷ [] }) }
+        ensures ok { OnOk result
+            (self.new.bin ≡ record self.old.bin { sections = self.old.bin.sections ++ bin_section ∷ [] }) }
         ensures err { OnErr result (self.new.bin ≡ self.old.bin) }
     {
         self.available_bin_sections.push(bin_section)?;
@@ -217,8 +222,21 @@ impl<A: Allocator + Copy> TargetBin<A> {
         requires callable { H.IsAlwaysCallable heuristic.now }
         requires comparable { (a b : List Size) (h : Bor H) → h.now ≡ heuristic.now → C.pre comparison.now a b h }
         ensures size { self.new.bin.size ≡ self.old.bin.size }
-        ensures done { IfOk result (λ o. IfSome o (λ v. (count : ℕ) × IsDone (H.post heuristic.now) (MayCompare C.Fn comparison.now heuristic.now) self.old.bin.sections members.now v.items self.new.bin.sections count × (tests.new ≡ saturated (tests.old + count)))) }
-        ensures stuck { IfOk result (λ o. IfNone o ((count : ℕ) × IsStuck (H.post heuristic.now) (MayCompare C.Fn comparison.now heuristic.now) self.old.bin.sections members.now count × (tests.new ≡ saturated (tests.old + count)))) }
+        ensures done { IfOk result
+            (λ o.
+            IfSome o
+            (λ v.
+            (count : ℕ) ×
+            IsDone (H.post heuristic.now) (MayCompare C.Fn comparison.now heuristic.now)
+            self.old.bin.sections members.now v.items self.new.bin.sections count ×
+            (tests.new ≡ saturated (tests.old + count)))) }
+        ensures stuck { IfOk result
+            (λ o.
+            IfNone o
+            ((count : ℕ) ×
+            IsStuck (H.post heuristic.now) (MayCompare C.Fn comparison.now heuristic.now)
+            self.old.bin.sections members.now count ×
+            (tests.new ≡ saturated (tests.old + count)))) }
         ensures unchanged { IfOk result (λ o. IfNone o (self.new.bin ≡ self.old.bin)) }
         ensures err { OnErr result (self.new.bin ≡ self.old.bin) }
         ensures err_counts { OnErr result (tests.new ≡ tests.old) }
@@ -245,10 +263,24 @@ impl<A: Allocator + Copy> TargetBin<A> {
         requires no_notes { notes.old.items ≡ [] }
         ensures size { self.new.bin.size ≡ self.old.bin.size }
         ensures room { self.old.room ≤ self.new.room }
-        ensures done { IfOk result (λ o. IfSome o (λ v. (count : ℕ) × IsDone (H.post heuristic.now) (MayCompare C.Fn comparison.now heuristic.now) self.old.bin.sections members.now v.items self.new.bin.sections count × (tests.new ≡ saturated (tests.old + count)))) }
-        ensures before { IfOk result (λ o. IfSome o (λ v. before_notes notes.new.items self.new.bin.sections ≡ self.old.bin.sections)) }
+        ensures done { IfOk result
+            (λ o.
+            IfSome o
+            (λ v.
+            (count : ℕ) ×
+            IsDone (H.post heuristic.now) (MayCompare C.Fn comparison.now heuristic.now)
+            self.old.bin.sections members.now v.items self.new.bin.sections count ×
+            (tests.new ≡ saturated (tests.old + count)))) }
+        ensures before { IfOk result
+            (λ o. IfSome o (λ v. before_notes notes.new.items self.new.bin.sections ≡ self.old.bin.sections)) }
         ensures can_undo { IfOk result (λ o. IfSome o (λ v. CanUndo self.new.room notes.new.items self.new.bin.sections)) }
-        ensures stuck { IfOk result (λ o. IfNone o ((count : ℕ) × IsStuck (H.post heuristic.now) (MayCompare C.Fn comparison.now heuristic.now) self.old.bin.sections members.now count × (tests.new ≡ saturated (tests.old + count)))) }
+        ensures stuck { IfOk result
+            (λ o.
+            IfNone o
+            ((count : ℕ) ×
+            IsStuck (H.post heuristic.now) (MayCompare C.Fn comparison.now heuristic.now)
+            self.old.bin.sections members.now count ×
+            (tests.new ≡ saturated (tests.old + count)))) }
         ensures unchanged { IfOk result (λ o. IfNone o (self.new.bin ≡ self.old.bin)) }
         ensures err { OnErr result ((self.new.bin ≡ self.old.bin) × (tests.new ≡ tests.old)) }
         ensures no_members { length members.now ≡ 0 → IsOk result }
@@ -287,7 +319,10 @@ pub fn step_adds_at_most_two<H, C>(heuristic: &H, comparison: &C)
 where
     H: Fn(WidthHeightDepth) -> u128,
     C: Fn([WidthHeightDepth; 3], [WidthHeightDepth; 3], &H) -> Ordering,
-    ensures { (sections next : List Cuboid) (member : Size) (location : Cuboid) (tests : ℕ) → IsStep (H.post heuristic.now) (MayCompare C.Fn comparison.now heuristic.now) sections member location next tests → length next ≤ length sections + 2 }
+    ensures { (sections next : List Cuboid) (member : Size) (location : Cuboid) (tests : ℕ) →
+        IsStep (H.post heuristic.now) (MayCompare C.Fn comparison.now heuristic.now) sections member location
+        next tests →
+        length next ≤ length sections + 2 }
 {}
 
 /// A law: where no two sections of a list share a cell, a trial that is done keeps the cells. The free cells of
@@ -296,5 +331,8 @@ pub fn trial_keeps_cells<H, C>(heuristic: &H, comparison: &C)
 where
     H: Fn(WidthHeightDepth) -> u128,
     C: Fn([WidthHeightDepth; 3], [WidthHeightDepth; 3], &H) -> Ordering,
-    ensures { (sections last locations : List Cuboid) (members : List Size) (tests : ℕ) → AreAllApart sections → IsDone (H.post heuristic.now) (MayCompare C.Fn comparison.now heuristic.now) sections members locations last tests → KeepCells sections (last ++ locations) }
+    ensures { (sections last locations : List Cuboid) (members : List Size) (tests : ℕ) → AreAllApart sections →
+        IsDone (H.post heuristic.now) (MayCompare C.Fn comparison.now heuristic.now) sections members locations
+        last tests →
+        KeepCells sections (last ++ locations) }
 {}

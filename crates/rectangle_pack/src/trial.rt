@@ -29,7 +29,11 @@ pub(crate) struct Note {
 // The index of the last section that holds a member.
 fn newest(sections: &[BinSection], member: &RectToInsert) -> Option<usize>
     ensures none { IfNone result (All (λ s. ¬ Holds s member.now) sections.now) }
-    ensures some { IfSome result (λ i. (i < length sections.now) × HoldsAt (λ s. Holds s member.now) sections.now i × AllWithin (λ s. ¬ Holds s member.now) sections.now (i + 1) (length sections.now)) }
+    ensures some { IfSome result
+        (λ i.
+        (i < length sections.now) ×
+        HoldsAt (λ s. Holds s member.now) sections.now i ×
+        AllWithin (λ s. ¬ Holds s member.now) sections.now (i + 1) (length sections.now)) }
 {
     for i in (0..sections.len()).rev() {
         if sections[i].holds(member) {
@@ -108,7 +112,8 @@ where
     requires fits { All FitsU32 sections.old.items }
     requires room { vec_len sections.old + 2 ≤ vec_capacity sections.old }
     ensures capacity { vec_capacity sections.old ≤ vec_capacity sections.new }
-    ensures step { IsStep (H.post heuristic.now) (MayCompare C.Fn comparison.now heuristic.now) sections.old.items member.now result.0 sections.new.items (length sections.old.items - index) }
+    ensures step { IsStep (H.post heuristic.now) (MayCompare C.Fn comparison.now heuristic.now) sections.old.items
+        member.now result.0 sections.new.items (length sections.old.items - index) }
     ensures before { before_note result.1 sections.new.items ≡ sections.old.items }
     ensures can_undo { CanUndoOne (vec_capacity sections.new) result.1 sections.new.items }
 {
@@ -148,9 +153,20 @@ where
     requires fits { All FitsU32 sections.old.items }
     requires room { vec_len sections.old + 2 ≤ vec_capacity sections.old }
     ensures capacity { vec_capacity sections.old ≤ vec_capacity sections.new }
-    ensures none { IfNone result (All (λ s. ¬ Holds s member.now) sections.old.items × (sections.new.items ≡ sections.old.items) × (tests.new ≡ saturated (tests.old + length sections.old.items))) }
-    ensures some { IfSome result (λ r. (count : ℕ) × IsStep (H.post heuristic.now) (MayCompare C.Fn comparison.now heuristic.now) sections.old.items member.now r.0 sections.new.items count × (tests.new ≡ saturated (tests.old + count))) }
-    ensures noted { IfSome result (λ r. (before_note r.1 sections.new.items ≡ sections.old.items) × CanUndoOne (vec_capacity sections.new) r.1 sections.new.items) }
+    ensures none { IfNone result
+        (All (λ s. ¬ Holds s member.now) sections.old.items ×
+        (sections.new.items ≡ sections.old.items) ×
+        (tests.new ≡ saturated (tests.old + length sections.old.items))) }
+    ensures some { IfSome result
+        (λ r.
+        (count : ℕ) ×
+        IsStep (H.post heuristic.now) (MayCompare C.Fn comparison.now heuristic.now) sections.old.items
+        member.now r.0 sections.new.items count ×
+        (tests.new ≡ saturated (tests.old + count))) }
+    ensures noted { IfSome result
+        (λ r.
+        (before_note r.1 sections.new.items ≡ sections.old.items) ×
+        CanUndoOne (vec_capacity sections.new) r.1 sections.new.items) }
 {
     let Some(index) = newest(sections.as_slice(), member) else {
         tests.add(sections.len());
@@ -206,8 +222,16 @@ where
     requires no_notes { notes.old.items ≡ [] }
     requires no_locations { locations.old.items ≡ [] }
     ensures capacity { vec_capacity sections.old ≤ vec_capacity sections.new }
-    ensures done { OnTrue result ((count : ℕ) × IsDone (H.post heuristic.now) (MayCompare C.Fn comparison.now heuristic.now) sections.old.items members.now locations.new.items sections.new.items count × (tests.new ≡ saturated (tests.old + count))) }
-    ensures stuck { OnFalse result ((count : ℕ) × IsStuck (H.post heuristic.now) (MayCompare C.Fn comparison.now heuristic.now) sections.old.items members.now count × (tests.new ≡ saturated (tests.old + count))) }
+    ensures done { OnTrue result
+        ((count : ℕ) ×
+        IsDone (H.post heuristic.now) (MayCompare C.Fn comparison.now heuristic.now) sections.old.items
+        members.now locations.new.items sections.new.items count ×
+        (tests.new ≡ saturated (tests.old + count))) }
+    ensures stuck { OnFalse result
+        ((count : ℕ) ×
+        IsStuck (H.post heuristic.now) (MayCompare C.Fn comparison.now heuristic.now) sections.old.items
+        members.now count ×
+        (tests.new ≡ saturated (tests.old + count))) }
     ensures kept { OnFalse result (sections.new.items ≡ sections.old.items) }
     ensures noted { OnTrue result (before_notes notes.new.items sections.new.items ≡ sections.old.items) }
     ensures can_undo { OnTrue result (CanUndo (vec_capacity sections.new) notes.new.items sections.new.items) }
