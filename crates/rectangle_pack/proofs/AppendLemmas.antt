@@ -14,7 +14,7 @@ use Rattle.std.proofs.lemmas.Cmp.{eq_by_cmp_equiv}
 use Rattle.std.proofs.lemmas.List.{append-nil}
 use Rattle.std.proofs.lemmas.List.Sums.{count_by_more_yes, count_by_more_no, sum_by-take-le, sum_by-cons}
 use Rattle.std.proofs.lemmas.List.Elements.{All-append, All-cons, All-nil, All-weaker, All-contains}
-use Rattle.rectangle_pack.specs.Lists.{times, items_of, HasRoom, AreAppended}
+use Rattle.rectangle_pack.specs.private.Lists.{times, items_of, HasRoom, AreAppended}
 
 module _ {K : Type 0} {cmp : K → K → Ordering} (o : IsTotalOrder cmp) (keys : List K) (i : ℕ) (k q : K) (inside : i < length keys) (at : k ≡ get_or keys i k) where
   -- the next key counts where it is equal

@@ -1,7 +1,8 @@
 -- Cells of boxes, as facts and as tests.
 use Rattle.std.proofs.Common.{arith, ◌≡◌, ◌<◌, ◌≤◌, ◌+◌, ℕ, true, max}
 use Rattle.std.proofs.lemmas.Bool.{and_parts, and_from, leb-true, ltb-true, le-leb, lt-ltb}
-use Rattle.rectangle_pack.specs.Boxes.{Cuboid, Cell, IsCellOf, is_cell_of, SharesCell, AreApart, SpansMeet, is_within, has_cells}
+use Rattle.rectangle_pack.specs.Boxes.{Cuboid, Cell, IsCellOf, is_cell_of, SharesCell, AreApart, is_within, has_cells}
+use Rattle.rectangle_pack.specs.private.Spans.{SpansMeet}
 
 within-true : (first long place : ℕ) → is_within first long place ≡ true → (first ≤ place) × (place < first + long)
 within-true first long place h = let p = and_parts _ _ h in (leb-true _ _ p.0, ltb-true _ _ p.1)

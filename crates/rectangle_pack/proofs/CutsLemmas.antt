@@ -4,11 +4,12 @@ use Rattle.std.specs.Bool.{◌==◌, if◌then◌else◌}
 use Rattle.std.specs.Prelude.{All, map}
 use Rattle.std.specs.declared.cmp.Ordering.{Ordering}
 use Rattle.std.proofs.lemmas.Bool.{and_parts, eqb-true}
-use Rattle.std.proofs.lemmas.List.Elements.{All-nil, All-cons}
+use Rattle.std.proofs.lemmas.List.Elements.{All-nil, All-cons, All-map, All-weaker, All-take}
 use Rattle.std.proofs.Math.Seq.{get_or-append_seam}
 use Rattle.std.proofs.lemmas.Bool.Decides.{nat_tests}
-use Rattle.rectangle_pack.specs.Boxes.{Axis, AxisX, AxisY, AxisZ, Size, Cuboid, Holds, IsU32, FitsU32, extent, start, is_within, is_cell_of}
-use Rattle.rectangle_pack.specs.Cuts.{is_same, is_before, placed, piece_start, piece_extent, piece, pieces, orders, cuts}
+use Rattle.rectangle_pack.specs.Boxes.{Axis, AxisX, AxisY, AxisZ, Size, Cuboid, IsPartOf, Holds, IsU32, FitsU32, extent, start, is_within, is_cell_of}
+use Rattle.rectangle_pack.specs.Closures.{AreThree}
+use Rattle.rectangle_pack.specs.Cuts.{is_same, is_before, placed, piece_start, piece_extent, piece, pieces, orders, cuts, sizes_of}
 use Rattle.rectangle_pack.specs.Choice.{MayChoose}
 use Rattle.rectangle_pack.specs.Counting.{times_filled, Tiles}
 
@@ -169,38 +170,59 @@ ends_by s m order a b fits =
       ]
     ]
 
--- the ends of a box are no greater than those of the other, on each axis
-pub record EndsBy (b other : Cuboid) : Type 0 where
-  pub by_x : b.x + b.whd.width ≤ other.x + other.whd.width
-  pub by_y : b.y + b.whd.height ≤ other.y + other.whd.height
-  pub by_z : b.z + b.whd.depth ≤ other.z + other.whd.depth
+-- and starts where it does, or after
+starts_from : (s : Cuboid) (m : Size) (a b : Axis) → start b s ≤ piece_start s m a b
+unfolding piece_start
+starts_from s m a b = elim (is_same a b) as (λ q. start b s ≤ (if q then start b s + extent b m else start b s)) [ true ↦ omega arith | false ↦ omega arith ]
 
-piece_ends : (s : Cuboid) (m : Size) (order : List Axis) (a : Axis) → Holds s m → EndsBy (piece s m order a) s
+piece_part : (s : Cuboid) (m : Size) (order : List Axis) (a : Axis) → Holds s m → IsPartOf (piece s m order a) s
 unfolding piece start extent
-piece_ends s m order a h = record {
-  by_x = ends_by s m order a AxisX h.wide;
-  by_y = ends_by s m order a AxisY h.high;
-  by_z = ends_by s m order a AxisZ h.deep;
+piece_part s m order a h = record {
+  from_x = starts_from s m a AxisX;
+  to_x = ends_by s m order a AxisX h.wide;
+  from_y = starts_from s m a AxisY;
+  to_y = ends_by s m order a AxisY h.high;
+  from_z = starts_from s m a AxisZ;
+  to_z = ends_by s m order a AxisZ h.deep;
 }
 
--- each piece of each cut ends by the section's end
-pub cuts_end : (s : Cuboid) (m : Size) → Holds s m → All (All (λ b. EndsBy b s)) (cuts s m)
+-- each piece of an order is a part of the section
+order_part : (s : Cuboid) (m : Size) (order : List Axis) → Holds s m → All (λ b. IsPartOf b s) (pieces s m order)
 unfolding pieces
-cuts_end s m h =
-    let P : Cuboid → Type 0 = λ b. EndsBy b s in
-    all_six (All P) s m
-    (λ order once.
-    All-cons P (piece s m order AxisX) (piece s m order AxisY ∷ piece s m order AxisZ ∷ []) (piece_ends s m order AxisX h)
-    (All-cons P (piece s m order AxisY) (piece s m order AxisZ ∷ []) (piece_ends s m order AxisY h)
-    (All-cons P (piece s m order AxisZ) [] (piece_ends s m order AxisZ h) (All-nil P))))
+order_part s m order h =
+    let P : Cuboid → Type 0 = λ b. IsPartOf b s in
+    All-cons P (piece s m order AxisX) (piece s m order AxisY ∷ piece s m order AxisZ ∷ []) (piece_part s m order AxisX h)
+    (All-cons P (piece s m order AxisY) (piece s m order AxisZ ∷ []) (piece_part s m order AxisY h)
+    (All-cons P (piece s m order AxisZ) [] (piece_part s m order AxisZ h) (All-nil P)))
+
+-- and so of each cut
+pub cuts_part : (s : Cuboid) (m : Size) → Holds s m → All (All (λ b. IsPartOf b s)) (cuts s m)
+cuts_part s m h = all_six (All (λ b. IsPartOf b s)) s m (λ order once. order_part s m order h)
 
 -- and so each piece of the chosen cut
-pub chosen_ends : {R : List Cuboid → List Cuboid → Ordering → Type 0} (s : Cuboid) (m : Size) (cut : List Cuboid) → Holds s m → MayChoose R (cuts s m) cut → All (λ b. EndsBy b s) cut
-chosen_ends s m cut h choice = All-middle (All (λ b. EndsBy b s)) (cuts s m) choice.before choice.after cut choice.listed (cuts_end s m h)
+pub chosen_part : {R : List Cuboid → List Cuboid → Ordering → Type 0} (s : Cuboid) (m : Size) (cut : List Cuboid) → Holds s m → MayChoose R (cuts s m) cut → All (λ b. IsPartOf b s) cut
+chosen_part s m cut h choice = All-middle (All (λ b. IsPartOf b s)) (cuts s m) choice.before choice.after cut choice.listed (cuts_part s m h)
 
--- the size of a box that ends by one of 32 bits is of 32 bits
-pub u32_by_end : (b s : Cuboid) → FitsU32 s → EndsBy b s → IsU32 b.whd
-u32_by_end b s fits ends = record { wide = omega arith; high = omega arith; deep = omega arith }
+-- the size of a part of a box of 32 bits is of 32 bits
+u32_by_part : (b s : Cuboid) → FitsU32 s → IsPartOf b s → IsU32 b.whd
+u32_by_part b s fits part = record { wide = omega arith; high = omega arith; deep = omega arith }
+
+-- each cut of a section of 32 bits has three pieces, with sizes of 32 bits
+cuts_three : (s : Cuboid) (m : Size) → FitsU32 s → Holds s m → All (λ cut. AreThree (sizes_of cut)) (cuts s m)
+unfolding pieces cuts
+cuts_three s m fits h = all_six (λ cut. AreThree (sizes_of cut)) s m (λ order once. record {
+  three = refl;
+  small = All-map IsU32 (λ b. b.whd) (pieces s m order) (All-weaker (λ b. IsPartOf b s) (λ b. IsU32 b.whd) (λ b. u32_by_part b s fits) (pieces s m order) (order_part s m order h));
+})
+
+pub nth_three : (s : Cuboid) (m : Size) (n : ℕ) → FitsU32 s → Holds s m → n < 6 → AreThree (sizes_of (get_or (cuts s m) n []))
+nth_three s m n fits h below = cuts_three s m fits h n [] (omega (arith, length-cuts s m))
+
+-- and so one that stands among the first of them
+pub taken_three : (s : Cuboid) (m : Size) (n : ℕ) (before after : List (List Cuboid)) (cut : List Cuboid) → FitsU32 s → Holds s m → take n (cuts s m) ≡ before ++ cut ∷ after → AreThree (sizes_of cut)
+taken_three s m n before after cut fits h listed =
+    let P : List Cuboid → Type 0 = λ cut. AreThree (sizes_of cut) in
+    All-middle P (take n (cuts s m)) before after cut listed (All-take P n (cuts s m) (cuts_three s m fits h))
 
 -- a cut has three pieces
 pub length-chosen : {R : List Cuboid → List Cuboid → Ordering → Type 0} (s : Cuboid) (m : Size) (cut : List Cuboid) → MayChoose R (cuts s m) cut → length cut ≡ 3

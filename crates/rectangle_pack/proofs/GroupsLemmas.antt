@@ -13,7 +13,7 @@ use Rattle.std.proofs.lemmas.List.Elements.{All-weaker, All-tail, All-head, All-
 use Rattle.std.proofs.lemmas.Map.Views.{All-values_from_lookup, IfSome-lookup_from_All, All-values-insert_entry}
 use Rattle.rectangle_pack.proofs.ListsLemmas.{lists_of-insert_entry, lookup-lists, keys-lists}
 use Rattle.rectangle_pack.specs.Groups.{lists_of}
-use Rattle.rectangle_pack.specs.Lists.{filled, times, items_of, HasRoom, AreAppended}
+use Rattle.rectangle_pack.specs.private.Lists.{filled, times, items_of, HasRoom, AreAppended}
 use Rattle.std.specs.List.Sorted.{IsStrictlySortedBy}
 use Rattle.std.proofs.lemmas.Map.Keys.{IsDistinct-from_sorted}
 use Rattle.std.proofs.lemmas.Cmp.{eq_by_cmp_equiv}

@@ -3,13 +3,14 @@ use Rattle.std.proofs.Common.{◌≡◌, ◌≤◌, List, [], ◌∷◌, ◌++�
 use Rattle.std.specs.Prelude.{Some, reverse}
 use Rattle.std.specs.declared.cmp.Ordering.{Ordering}
 use Rattle.std.proofs.lemmas.List.{reverse-append}
+use Rattle.std.specs.List.{AllZip}
 use Rattle.std.specs.Map.{lookup, set_value}
 use Rattle.std.specs.Option.{is_some, option_map}
 use Rattle.std.specs.BTreeMap.{is_at}
-use Rattle.rectangle_pack.specs.declared.pack.DoneTrial.{DoneTrial}
+use Rattle.rectangle_pack.specs.declared.pack.work.DoneTrial.{DoneTrial}
 use Rattle.rectangle_pack.specs.Bins.{Bin, Held}
 use Rattle.rectangle_pack.specs.Packing.{bins_of}
-use Rattle.rectangle_pack.specs.TrialJournal.{CanUndoTrial, before_trial, Undoes, GoesBack, IsRoomier}
+use Rattle.rectangle_pack.specs.private.TrialJournal.{CanUndoTrial, before_trial, Undoes, GoesBack}
 use Rattle.rectangle_pack.proofs.MapsLemmas.{is_some-option_map}
 use Rattle.rectangle_pack.proofs.TrialLemmas.{CanUndo-more}
 
@@ -34,6 +35,10 @@ lookup-bins_of test (e ∷ es) = at (test e.0) (lookup-bins_of test es)
 -- a bin is in a map exactly if it is in the map without room
 pub is_some-bins_of : {B : Type 0} (test : B → Bool) (es : List (B × Held)) → is_some (lookup test (bins_of es)) ≡ is_some (lookup test es)
 is_some-bins_of test es = ap is_some (lookup-bins_of test es) ∙ is_some-option_map (λ (h : Held). h.bin) (lookup test es)
+
+-- the same bins, with no less room
+abbrev pub IsRoomier : {B : Type 0} → List (B × Held) → List (B × Held) → Type 0
+IsRoomier now more = AllZip (λ a b. (b.0 ≡ a.0) × (b.1.bin ≡ a.1.bin) × (a.1.room ≤ b.1.room)) now more
 
 -- the same bin with no less room
 pub record IsMore (a b : Held) : Type 0 where

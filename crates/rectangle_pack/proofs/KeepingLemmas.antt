@@ -12,13 +12,13 @@ use Rattle.std.proofs.lemmas.Map.{lookup-set_value}
 use Rattle.std.proofs.lemmas.List.Elements.{All-head, All-tail, All-weaker, filter-append}
 use Rattle.std.proofs.lemmas.List.{map-append}
 use Rattle.std.proofs.lemmas.List.Sorted.{All-permutation, IsPermutation-map, IsPermutation-sym}
-use Rattle.rectangle_pack.specs.declared.pack.Placement.{Placement}
+use Rattle.rectangle_pack.specs.declared.pack.answer.Placement.{Placement}
 use Rattle.rectangle_pack.specs.Boxes.{Size, Cuboid, Cell, Holds}
 use Rattle.rectangle_pack.specs.Bins.{Bin}
 use Rattle.rectangle_pack.specs.Counting.{times_filled}
 use Rattle.rectangle_pack.specs.Keeping.{KeepsEachBin, placed_in}
 use Rattle.rectangle_pack.specs.Orders.{IsBinOrder}
-use Rattle.rectangle_pack.specs.Packing.{Members, IsPlaced, IsStuckIn, IsRefused, AreAllPlaced}
+use Rattle.rectangle_pack.specs.Packing.{Rules, Members, IsPlaced, IsStuckIn, IsRefused, AreAllPlaced}
 use Rattle.rectangle_pack.specs.Steps.{IsStuck}
 use Rattle.rectangle_pack.proofs.CountingLemmas.{filled-append, filled-nil, KeepCells-from_counts}
 use Rattle.rectangle_pack.proofs.StepsLemmas.{filled-done}
@@ -62,43 +62,43 @@ not_some : {X : Type 0} (o : Option X) → o ≡ None → IsSome o → ⊥
 not_some None h some = cc
 not_some (Some x) h some = cc
 
-module _ {Id B : Type 0} (cmp : Id → Id → Ordering) (bin_cmp : B → B → Ordering) (MayRate : Size → ℕ → Type 0) (MayPrefer : List Size → List Size → Ordering → Type 0) (o : IsTotalOrder bin_cmp) where
+module _ {Id B : Type 0} (rules : Rules Id B) (o : IsTotalOrder rules.bin_cmp) where
   -- one group that is placed
-  placed_kept : (order : List B) (group : Members Id) (old : List (B × Bin)) (placements : List (Placement Id B)) (new : List (B × Bin)) → IsPlaced cmp bin_cmp MayRate MayPrefer order group old placements new
-      → (q : B) (before : Bin) → lookup (is_at (bin_cmp q)) old ≡ Some before → Kept bin_cmp old placements new q before
-  placed_kept order group old placements new h q before was = by (is_eq (bin_cmp h.here q)) refl
+  placed_kept : (order : List B) (group : Members Id) (old : List (B × Bin)) (placements : List (Placement Id B)) (new : List (B × Bin)) → IsPlaced rules order group old placements new
+      → (q : B) (before : Bin) → lookup (is_at (rules.bin_cmp q)) old ≡ Some before → Kept rules.bin_cmp old placements new q before
+  placed_kept order group old placements new h q before was = by (is_eq (rules.bin_cmp h.here q)) refl
     where
       after : Bin
       after = record { size = h.bin.size; sections = h.last }
 
-      seen : lookup (is_at (bin_cmp q)) new ≡ cond (is_eq (bin_cmp h.here q)) (Some after) (lookup (is_at (bin_cmp q)) old)
-      seen = ap (lookup (is_at (bin_cmp q))) h.new_is ∙ lookup-written o h.here old h.bin after q h.found
+      seen : lookup (is_at (rules.bin_cmp q)) new ≡ cond (is_eq (rules.bin_cmp h.here q)) (Some after) (lookup (is_at (rules.bin_cmp q)) old)
+      seen = ap (lookup (is_at (rules.bin_cmp q))) h.new_is ∙ lookup-written o h.here old h.bin after q h.found
 
-      tests : (b : Bool) → is_eq (bin_cmp h.here q) ≡ b → All (λ (p : Placement Id B). is_at (bin_cmp p.bin) q ≡ b) placements
-      tests b e = All-weaker (λ (p : Placement Id B). bin_cmp h.here p.bin ≡ Equal) (λ (p : Placement Id B). is_at (bin_cmp p.bin) q ≡ b) (λ p same. rw (← o.congr h.here p.bin q same) e) placements h.named.together
+      tests : (b : Bool) → is_eq (rules.bin_cmp h.here q) ≡ b → All (λ (p : Placement Id B). is_at (rules.bin_cmp p.bin) q ≡ b) placements
+      tests b e = All-weaker (λ (p : Placement Id B). rules.bin_cmp h.here p.bin ≡ Equal) (λ (p : Placement Id B). is_at (rules.bin_cmp p.bin) q ≡ b) (λ p same. rw (← o.congr h.here p.bin q same) e) placements h.named.together
 
-      by : (b : Bool) → is_eq (bin_cmp h.here q) ≡ b → Kept bin_cmp old placements new q before
+      by : (b : Bool) → is_eq (rules.bin_cmp h.here q) ≡ b → Kept rules.bin_cmp old placements new q before
       by true e =
-          let equal : bin_cmp h.here q ≡ Equal = (Equal-is _).0 e in
+          let equal : rules.bin_cmp h.here q ≡ Equal = (Equal-is _).0 e in
           let same : Some before ≡ Some h.bin = sym was ∙ sym (lookup-equal o h.here q equal old) ∙ h.found in
           let is : before ≡ h.bin = cc in
-          let there : placed_in bin_cmp placements q ≡ h.locations = placed_in-here bin_cmp placements q (tests true e) ∙ h.named.at in
+          let there : placed_in rules.bin_cmp placements q ≡ h.locations = placed_in-here rules.bin_cmp placements q (tests true e) ∙ h.named.at in
           record {
             after = after;
             found = seen ∙ rw e refl;
             size = rw is refl;
-            filled = λ c. rw (is, there) (filled-done MayRate MayPrefer c h.bin.sections group.sizes h.locations h.last h.tests h.done);
+            filled = λ c. rw (is, there) (filled-done rules.may c h.bin.sections group.sizes h.locations h.last h.tests h.done);
           }
       by false e = record {
         after = before;
         found = seen ∙ rw e was;
         size = refl;
-        filled = λ c. rw (placed_in-none bin_cmp placements q (tests false e)) (omega (arith, filled-nil c));
+        filled = λ c. rw (placed_in-none rules.bin_cmp placements q (tests false e)) (omega (arith, filled-nil c));
       }
 
   -- all groups of a list
-  all_kept : (order : List B) (gs : List (Members Id)) (old : List (B × Bin)) (placements : List (Placement Id B)) (new : List (B × Bin)) → AreAllPlaced cmp bin_cmp MayRate MayPrefer order gs old placements new
-      → (q : B) (before : Bin) → lookup (is_at (bin_cmp q)) old ≡ Some before → Kept bin_cmp old placements new q before
+  all_kept : (order : List B) (gs : List (Members Id)) (old : List (B × Bin)) (placements : List (Placement Id B)) (new : List (B × Bin)) → AreAllPlaced rules order gs old placements new
+      → (q : B) (before : Bin) → lookup (is_at (rules.bin_cmp q)) old ≡ Some before → Kept rules.bin_cmp old placements new q before
   all_kept order [] old placements new h q before was = rw (h.0, h.1) (record { after = before; found = was; size = refl; filled = λ c. omega (arith, filled-nil c) })
   all_kept order (g ∷ gs) old placements new (first, next, others, placed, later, joined) q before was =
       let head = placed_kept order g old first next placed q before was in
@@ -107,88 +107,88 @@ module _ {Id B : Type 0} (cmp : Id → Id → Ordering) (bin_cmp : B → B → O
         after = tail.after;
         found = tail.found;
         size = tail.size ∙ head.size;
-        filled = λ c. rw (joined, placed_in-append bin_cmp first others q) (omega (arith, head.filled c, tail.filled c, filled-append c (placed_in bin_cmp first q) (placed_in bin_cmp others q)));
+        filled = λ c. rw (joined, placed_in-append rules.bin_cmp first others q) (omega (arith, head.filled c, tail.filled c, filled-append c (placed_in rules.bin_cmp first q) (placed_in rules.bin_cmp others q)));
       }
 
   -- a bin that is there before a packing is there after it
-  pub stays_there : (order : List B) (gs : List (Members Id)) (old : List (B × Bin)) (placements : List (Placement Id B)) (new : List (B × Bin)) → AreAllPlaced cmp bin_cmp MayRate MayPrefer order gs old placements new
-      → (q : B) → IsSome (lookup (is_at (bin_cmp q)) old) → IsSome (lookup (is_at (bin_cmp q)) new)
-  stays_there order gs old placements new h q = by (lookup (is_at (bin_cmp q)) old) refl
+  pub stays_there : (order : List B) (gs : List (Members Id)) (old : List (B × Bin)) (placements : List (Placement Id B)) (new : List (B × Bin)) → AreAllPlaced rules order gs old placements new
+      → (q : B) → IsSome (lookup (is_at (rules.bin_cmp q)) old) → IsSome (lookup (is_at (rules.bin_cmp q)) new)
+  stays_there order gs old placements new h q = by (lookup (is_at (rules.bin_cmp q)) old) refl
     where
-      by : (found : Option Bin) → lookup (is_at (bin_cmp q)) old ≡ found → IsSome found → IsSome (lookup (is_at (bin_cmp q)) new)
+      by : (found : Option Bin) → lookup (is_at (rules.bin_cmp q)) old ≡ found → IsSome found → IsSome (lookup (is_at (rules.bin_cmp q)) new)
       by None e some = cc
       by (Some before) e some = rw (all_kept order gs old placements new h q before e).found refl
 
   -- a bin that is there after a packing was there before it
-  was_there : (order : List B) (gs : List (Members Id)) (old : List (B × Bin)) (placements : List (Placement Id B)) (new : List (B × Bin)) → AreAllPlaced cmp bin_cmp MayRate MayPrefer order gs old placements new
-      → (q : B) → IsSome (lookup (is_at (bin_cmp q)) new) → IsSome (lookup (is_at (bin_cmp q)) old)
+  was_there : (order : List B) (gs : List (Members Id)) (old : List (B × Bin)) (placements : List (Placement Id B)) (new : List (B × Bin)) → AreAllPlaced rules order gs old placements new
+      → (q : B) → IsSome (lookup (is_at (rules.bin_cmp q)) new) → IsSome (lookup (is_at (rules.bin_cmp q)) old)
   was_there order [] old placements new h q some = rw (← h.1) some
   was_there order (g ∷ gs) old placements new (first, next, others, placed, later, joined) q some =
-      by (is_eq (bin_cmp placed.here q)) refl (was_there order gs next others new later q some)
+      by (is_eq (rules.bin_cmp placed.here q)) refl (was_there order gs next others new later q some)
     where
       after : Bin
       after = record { size = placed.bin.size; sections = placed.last }
 
-      seen : lookup (is_at (bin_cmp q)) next ≡ cond (is_eq (bin_cmp placed.here q)) (Some after) (lookup (is_at (bin_cmp q)) old)
-      seen = ap (lookup (is_at (bin_cmp q))) placed.new_is ∙ lookup-written o placed.here old placed.bin after q placed.found
+      seen : lookup (is_at (rules.bin_cmp q)) next ≡ cond (is_eq (rules.bin_cmp placed.here q)) (Some after) (lookup (is_at (rules.bin_cmp q)) old)
+      seen = ap (lookup (is_at (rules.bin_cmp q))) placed.new_is ∙ lookup-written o placed.here old placed.bin after q placed.found
 
-      by : (b : Bool) → is_eq (bin_cmp placed.here q) ≡ b → IsSome (lookup (is_at (bin_cmp q)) next) → IsSome (lookup (is_at (bin_cmp q)) old)
+      by : (b : Bool) → is_eq (rules.bin_cmp placed.here q) ≡ b → IsSome (lookup (is_at (rules.bin_cmp q)) next) → IsSome (lookup (is_at (rules.bin_cmp q)) old)
       by true e h = rw (← lookup-equal o placed.here q ((Equal-is _).0 e) old, placed.found) refl
       by false e h = rw (seen, e) at h
 
-  pub KeepsEachBin-placed : (order : List B) (gs : List (Members Id)) (old : List (B × Bin)) (placements : List (Placement Id B)) (new : List (B × Bin)) → AreAllPlaced cmp bin_cmp MayRate MayPrefer order gs old placements new
-      → KeepsEachBin bin_cmp old placements new
+  pub KeepsEachBin-placed : (order : List B) (gs : List (Members Id)) (old : List (B × Bin)) (placements : List (Placement Id B)) (new : List (B × Bin)) → AreAllPlaced rules order gs old placements new
+      → KeepsEachBin rules.bin_cmp old placements new
   KeepsEachBin-placed order gs old placements new h = record {
     each = λ q before was apart.
         let kept = all_kept order gs old placements new h q before was in (
           kept.after,
           kept.found,
           kept.size,
-          KeepCells-from_counts before.sections (kept.after.sections ++ placed_in bin_cmp placements q) apart
-              (λ c. omega (arith, kept.filled c, filled-append c kept.after.sections (placed_in bin_cmp placements q))),
+          KeepCells-from_counts before.sections (kept.after.sections ++ placed_in rules.bin_cmp placements q) apart
+              (λ c. omega (arith, kept.filled c, filled-append c kept.after.sections (placed_in rules.bin_cmp placements q))),
         );
     absent = λ q none. none_from _ (λ some. not_some _ none (was_there order gs old placements new h q some));
   }
 
   -- what holds of each bin of an order holds of each bin
-  at_each : (P : B → Type 0) → ((x y : B) → bin_cmp x y ≡ Equal → P y → P x) → (es : List (B × Bin)) (unsorted : List (ℕ × B)) → AllZip (λ bin entry. (bin_cmp bin.0 entry.1 ≡ Equal) × MayRate bin.1.size entry.0) es unsorted
-      → All P (map (λ entry. entry.1) unsorted) → (q : B) → IsSome (lookup (is_at (bin_cmp q)) es) → P q
+  at_each : (P : B → Type 0) → ((x y : B) → rules.bin_cmp x y ≡ Equal → P y → P x) → (es : List (B × Bin)) (unsorted : List (ℕ × B)) → AllZip (λ bin entry. (rules.bin_cmp bin.0 entry.1 ≡ Equal) × rules.may.rate bin.1.size entry.0) es unsorted
+      → All P (map (λ entry. entry.1) unsorted) → (q : B) → IsSome (lookup (is_at (rules.bin_cmp q)) es) → P q
   at_each P same [] [] each all q some = cc
   at_each P same [] (u ∷ us) each all q some = absurd each
   at_each P same (e ∷ es) [] each all q some = absurd each
-  at_each P same (e ∷ es) (u ∷ us) each all q some = by (is_eq (bin_cmp q e.0)) refl some (at_each P same es us each.1 (All-tail P u.1 (map (λ (entry : ℕ × B). entry.1) us) all) q)
+  at_each P same (e ∷ es) (u ∷ us) each all q some = by (is_eq (rules.bin_cmp q e.0)) refl some (at_each P same es us each.1 (All-tail P u.1 (map (λ (entry : ℕ × B). entry.1) us) all) q)
     where
-      by : (b : Bool) → is_eq (bin_cmp q e.0) ≡ b → IsSome (cond b (Some e.1) (lookup (is_at (bin_cmp q)) es)) → (IsSome (lookup (is_at (bin_cmp q)) es) → P q) → P q
+      by : (b : Bool) → is_eq (rules.bin_cmp q e.0) ≡ b → IsSome (cond b (Some e.1) (lookup (is_at (rules.bin_cmp q)) es)) → (IsSome (lookup (is_at (rules.bin_cmp q)) es) → P q) → P q
       by true t h ih = same q u.1 (o.congr q e.0 u.1 ((Equal-is _).0 t) ∙ each.0.0) (All-head P u.1 (map (λ (entry : ℕ × B). entry.1) us) all)
       by false t h ih = ih h
 
   -- a group with one member that is refused is held by no section of any bin
   pub none_holds : (bin_order : List (ℕ × B)) (old new : List (B × Bin)) (beginning : List (Members Id)) (placements : List (Placement Id B)) (group : Members Id) (size : Size)
-      → IsBinOrder MayRate bin_cmp old bin_order → AreAllPlaced cmp bin_cmp MayRate MayPrefer (map (λ entry. entry.1) bin_order) beginning old placements new
-      → IsRefused cmp bin_cmp MayRate MayPrefer (map (λ entry. entry.1) bin_order) group new → group.sizes ≡ size ∷ []
-      → (q : B) (bin : Bin) → lookup (is_at (bin_cmp q)) new ≡ Some bin → All (λ s. ¬ Holds s size) bin.sections
+      → IsBinOrder rules.may.rate rules.bin_cmp old bin_order → AreAllPlaced rules (map (λ entry. entry.1) bin_order) beginning old placements new
+      → IsRefused rules (map (λ entry. entry.1) bin_order) group new → group.sizes ≡ size ∷ []
+      → (q : B) (bin : Bin) → lookup (is_at (rules.bin_cmp q)) new ≡ Some bin → All (λ s. ¬ Holds s size) bin.sections
   none_holds bin_order old new beginning placements group size by_bins placed refused one q bin found =
       rw found at (at_each P same old by_bins.unsorted by_bins.each unsorted q (was_there (map (λ (entry : ℕ × B). entry.1) bin_order) beginning old placements new placed q (rw found refl)))
     where
       P : B → Type 0
-      P id = IfSome (lookup (is_at (bin_cmp id)) new) (λ (b : Bin). All (λ s. ¬ Holds s size) b.sections)
+      P id = IfSome (lookup (is_at (rules.bin_cmp id)) new) (λ (b : Bin). All (λ s. ¬ Holds s size) b.sections)
 
-      same : (x y : B) → bin_cmp x y ≡ Equal → P y → P x
+      same : (x y : B) → rules.bin_cmp x y ≡ Equal → P y → P x
       same x y e h = rw (lookup-equal o x y e new) h
 
-      one_stuck : (sections : List Cuboid) (tests : ℕ) → IsStuck MayRate MayPrefer sections (size ∷ []) tests → All (λ s. ¬ Holds s size) sections
+      one_stuck : (sections : List Cuboid) (tests : ℕ) → IsStuck rules.may sections (size ∷ []) tests → All (λ s. ¬ Holds s size) sections
       one_stuck sections tests (inl none) = none.0
       one_stuck sections tests (inr some) = absurd some.5
 
-      in_each : (id : B) → IsStuckIn cmp bin_cmp MayRate MayPrefer new group id → P id
-      in_each id stuck = by (lookup (is_at (bin_cmp id)) new) stuck
+      in_each : (id : B) → IsStuckIn rules new group id → P id
+      in_each id stuck = by (lookup (is_at (rules.bin_cmp id)) new) stuck
         where
-          by : (found : Option Bin) → IsSomeAnd found (λ (b : Bin). (tests : ℕ) × IsStuck MayRate MayPrefer b.sections group.sizes tests) → IfSome found (λ (b : Bin). All (λ s. ¬ Holds s size) b.sections)
+          by : (found : Option Bin) → IsSomeAnd found (λ (b : Bin). (tests : ℕ) × IsStuck rules.may b.sections group.sizes tests) → IfSome found (λ (b : Bin). All (λ s. ¬ Holds s size) b.sections)
           by None h = absurd h
           by (Some b) (tests, h) = one_stuck b.sections tests (rw one at h)
 
       each : All P (map (λ (entry : ℕ × B). entry.1) bin_order)
-      each = All-weaker (IsStuckIn cmp bin_cmp MayRate MayPrefer new group) P in_each (map (λ (entry : ℕ × B). entry.1) bin_order) refused
+      each = All-weaker (IsStuckIn rules new group) P in_each (map (λ (entry : ℕ × B). entry.1) bin_order) refused
 
       unsorted : All P (map (λ (entry : ℕ × B). entry.1) by_bins.unsorted)
       unsorted = All-permutation P (map (λ (entry : ℕ × B). entry.1) bin_order) (map (λ (entry : ℕ × B). entry.1) by_bins.unsorted)

@@ -8,8 +8,10 @@ pub mod GroupsLemmas
 pub mod KeepingLemmas
 pub mod ListsLemmas
 pub mod MapsLemmas
+pub mod OneLocationsLemmas
 pub mod OneOrderLemmas
 pub mod OnePackingLemmas
+pub mod OnePushLemmas
 pub mod OneResultLemmas
 pub mod OrderLemmas
 pub mod PassLemmas

@@ -9,7 +9,7 @@ use Rattle.std.specs.Map.{lookup, set_value, keys_of}
 use Rattle.std.specs.Ordering.{match_ordering, is_eq}
 use Rattle.std.specs.BTreeMap.{is_at, insert_entry}
 use Rattle.rectangle_pack.specs.Groups.{lists_of}
-use Rattle.rectangle_pack.specs.Lists.{filled}
+use Rattle.rectangle_pack.specs.private.Lists.{filled}
 
 -- an insert, seen as lists
 pub lists_of-insert_entry : {K X A : Type 0} (cmp : K → K → Ordering) (es : List (K × Vec X A)) (k : K) (v : Vec X A) → lists_of (insert_entry cmp es k v) ≡ insert_entry cmp (lists_of es) k v.items

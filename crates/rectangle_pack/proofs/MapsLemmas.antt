@@ -1,12 +1,14 @@
--- Look-ups and writes at keys that are equal.
-use Rattle.std.proofs.Common.{◌≡◌, List, [], ◌∷◌, refl}
+-- Look-ups and writes at keys that are equal, in maps that agree.
+use Rattle.std.proofs.Common.{◌≡◌, Bool, true, false, cond, List, [], ◌∷◌, refl, ◌∙◌, sym, ap}
 use Rattle.std.specs.Prelude.{Option, Some, None}
+use Rattle.std.specs.Ordering.{ordering_reverse, is_eq}
 use Rattle.std.specs.Option.{is_some, option_map}
 use Rattle.std.specs.declared.cmp.Ordering.{Ordering}
 use Rattle.std.specs.declared.cmp.Ordering.TheVariants.{Equal}
 use Rattle.std.specs.Cmp.{IsTotalOrder}
 use Rattle.std.specs.Map.{lookup, set_value}
 use Rattle.std.specs.BTreeMap.{is_at}
+use Rattle.rectangle_pack.specs.Results.{AreMapsAlike}
 
 pub lookup-equal : {K X : Type 0} {cmp : K → K → Ordering} → IsTotalOrder cmp → (x y : K) → cmp x y ≡ Equal → (es : List (K × X)) → lookup (is_at (cmp x)) es ≡ lookup (is_at (cmp y)) es
 lookup-equal o x y h [] = refl
@@ -15,6 +17,54 @@ lookup-equal o x y h (e ∷ es) = rw (o.congr x y e.0 h, lookup-equal o x y h es
 pub set_value-equal : {K X : Type 0} {cmp : K → K → Ordering} → IsTotalOrder cmp → (x y : K) → cmp x y ≡ Equal → (es : List (K × X)) (w : X) → set_value (is_at (cmp x)) es w ≡ set_value (is_at (cmp y)) es w
 set_value-equal o x y h [] w = refl
 set_value-equal o x y h (e ∷ es) w = rw (o.congr x y e.0 h, set_value-equal o x y h es w) refl
+
+-- an equal key compares alike on the right too
+pub congr_right : {K : Type 0} {cmp : K → K → Ordering} → IsTotalOrder cmp → (x y z : K) → cmp x y ≡ Equal → cmp z x ≡ cmp z y
+congr_right {K} {cmp} o x y z h = o.antisymm z x ∙ ap ordering_reverse (o.congr x y z h) ∙ sym (o.antisymm z y)
+
+-- both are there with values that are alike, or none is
+abbrev pub AreOptionsAlike : {X : Type 0} → (X → X → Type 0) → Option X → Option X → Type 0
+AreOptionsAlike Alike None None = Unit {0}
+AreOptionsAlike Alike None (Some y) = ⊥
+AreOptionsAlike Alike (Some x) None = ⊥
+AreOptionsAlike Alike (Some x) (Some y) = Alike x y
+
+same_from_options : {X : Type 0} (a b : Option X) → AreOptionsAlike (λ x y. x ≡ y) a b → a ≡ b
+same_from_options None None h = refl
+same_from_options None (Some y) h = absurd h
+same_from_options (Some x) None h = absurd h
+same_from_options (Some x) (Some y) h = ap (λ x. Some x) h
+
+same_test : {K : Type 0} {cmp : K → K → Ordering} → IsTotalOrder cmp → (x y e f : K) → cmp x y ≡ Equal → cmp e f ≡ Equal → is_eq (cmp x e) ≡ is_eq (cmp y f)
+same_test o x y e f h k = ap is_eq (o.congr x y e h ∙ congr_right o e f y k)
+
+module _ {K X : Type 0} {cmp : K → K → Ordering} (o : IsTotalOrder cmp) where
+  -- look-ups in maps that agree find values that are alike
+  pub lookup-alike : (Alike : X → X → Type 0) (x y : K) → cmp x y ≡ Equal → (es fs : List (K × X)) → AreMapsAlike cmp Alike es fs → AreOptionsAlike Alike (lookup (is_at (cmp x)) es) (lookup (is_at (cmp y)) fs)
+  lookup-alike Alike x y h [] [] m = tt
+  lookup-alike Alike x y h [] (f ∷ fs) m = absurd m
+  lookup-alike Alike x y h (e ∷ es) [] m = absurd m
+  lookup-alike Alike x y h (e ∷ es) (f ∷ fs) m = rw (same_test o x y e.0 f.0 h m.0.0) (at (is_eq (cmp y f.0)) (lookup-alike Alike x y h es fs m.1))
+    where
+      at : (b : Bool) → AreOptionsAlike Alike (lookup (is_at (cmp x)) es) (lookup (is_at (cmp y)) fs) → AreOptionsAlike Alike (cond b (Some e.1) (lookup (is_at (cmp x)) es)) (cond b (Some f.1) (lookup (is_at (cmp y)) fs))
+      at true i = m.0.1
+      at false i = i
+
+  -- and the same values where they are the same
+  pub lookup-same : (x y : K) → cmp x y ≡ Equal → (es fs : List (K × X)) → AreMapsAlike cmp (λ a b. a ≡ b) es fs → lookup (is_at (cmp x)) es ≡ lookup (is_at (cmp y)) fs
+  lookup-same x y h es fs m = same_from_options _ _ (lookup-alike (λ a b. a ≡ b) x y h es fs m)
+
+  -- maps agree after the same write
+  pub set_value-alike : (Alike : X → X → Type 0) (x y : K) (w : X) → Alike w w → cmp x y ≡ Equal → (es fs : List (K × X)) → AreMapsAlike cmp Alike es fs → AreMapsAlike cmp Alike (set_value (is_at (cmp x)) es w) (set_value (is_at (cmp y)) fs w)
+  set_value-alike Alike x y w a h [] [] m = tt
+  set_value-alike Alike x y w a h [] (f ∷ fs) m = absurd m
+  set_value-alike Alike x y w a h (e ∷ es) [] m = absurd m
+  set_value-alike Alike x y w a h (e ∷ es) (f ∷ fs) m = rw (same_test o x y e.0 f.0 h m.0.0) (at (is_eq (cmp y f.0)) (set_value-alike Alike x y w a h es fs m.1))
+    where
+      at : (b : Bool) → AreMapsAlike cmp Alike (set_value (is_at (cmp x)) es w) (set_value (is_at (cmp y)) fs w)
+          → AreMapsAlike cmp Alike (cond b ((e.0, w) ∷ es) (e ∷ set_value (is_at (cmp x)) es w)) (cond b ((f.0, w) ∷ fs) (f ∷ set_value (is_at (cmp y)) fs w))
+      at true i = ((m.0.0, a), m.1)
+      at false i = (m.0, i)
 
 -- what is mapped is there exactly if it was
 pub is_some-option_map : {X Y : Type 0} (f : X → Y) (o : Option X) → is_some (option_map f o) ≡ is_some o

@@ -1,5 +1,5 @@
 -- Where the heuristic is a function, two orders of the same groups or bins name equal ones, place by place.
-use Rattle.std.proofs.Common.{◌≡◌, ℕ, suc, ◌<◌, ◌≤◌, Bool, true, false, cond, List, [], ◌∷◌, ◌++◌, refl, sym, ◌∙◌, ap, arith, length, get_or}
+use Rattle.std.proofs.Common.{◌≡◌, ℕ, suc, ◌<◌, ◌≤◌, Bool, true, false, cond, List, [], ◌∷◌, ◌++◌, refl, sym, ◌∙◌, ap, subst, arith, length, get_or}
 use Rattle.std.specs.Prelude.{All, map, Option, Some, None, IfSome, IsSomeAnd, sum}
 use Rattle.std.specs.List.{AllZip, sum_by}
 use Rattle.std.specs.declared.cmp.Ordering.{Ordering}
@@ -14,10 +14,11 @@ use Rattle.std.proofs.lemmas.List.Elements.{All-nil, All-cons, All-head, All-tai
 use Rattle.std.proofs.lemmas.List.Sorted.{ranks_by, sorted_far, sum_by-IsPermutation}
 use Rattle.std.proofs.lemmas.List.Sums.{sum_by-cons}
 use Rattle.std.proofs.lemmas.Map.Views.{IfSome-lookup_from_All}
-use Rattle.rectangle_pack.specs.Boxes.{Size, IsU32}
+use Rattle.rectangle_pack.specs.Boxes.{Size}
 use Rattle.rectangle_pack.specs.Bins.{Bin}
 use Rattle.rectangle_pack.specs.Choice.{IsFunction}
-use Rattle.rectangle_pack.specs.Results.{IsBinU32}
+use Rattle.rectangle_pack.specs.Results.{AreMapsAlike, AreBinsAlike}
+use Rattle.rectangle_pack.proofs.MapsLemmas.{lookup-same}
 use Rattle.rectangle_pack.specs.Orders.{saturated, falling_then, rising_then, IsGroupKey, IsGroupOrder, IsBinOrder}
 
 -- what passes between elements that are alike holds of all
@@ -26,6 +27,23 @@ All-alike R P Q passes [] [] h all = All-nil Q
 All-alike R P Q passes [] (y ∷ ys) h all = absurd h
 All-alike R P Q passes (x ∷ xs) [] h all = absurd h
 All-alike R P Q passes (x ∷ xs) (y ∷ ys) h all = All-cons Q y ys (passes x y h.0 (All-head P x xs all)) (All-alike R P Q passes xs ys h.1 (All-tail P x xs all))
+
+-- what passes between elements that are alike holds beside another list
+pub AllZip-along : {X Y Z : Type 0} (E : X → Y → Type 0) (R : X → Z → Type 0) (S : Y → Z → Type 0) → ((x : X) (y : Y) (z : Z) → E x y → R x z → S y z)
+    → (xs : List X) (ys : List Y) (zs : List Z) → AllZip E xs ys → AllZip R xs zs → AllZip S ys zs
+AllZip-along E R S passes [] [] [] e h = tt
+AllZip-along E R S passes [] [] (z ∷ zs) e h = absurd h
+AllZip-along E R S passes [] (y ∷ ys) zs e h = absurd e
+AllZip-along E R S passes (x ∷ xs) [] zs e h = absurd e
+AllZip-along E R S passes (x ∷ xs) (y ∷ ys) [] e h = absurd h
+AllZip-along E R S passes (x ∷ xs) (y ∷ ys) (z ∷ zs) e h = (passes x y z e.0 h.0, AllZip-along E R S passes xs ys zs e.1 h.1)
+
+-- a relation turned round
+pub AllZip-back : {X Y : Type 0} (R : X → Y → Type 0) (S : Y → X → Type 0) → ((x : X) (y : Y) → R x y → S y x) → (xs : List X) (ys : List Y) → AllZip R xs ys → AllZip S ys xs
+AllZip-back R S turns [] [] h = tt
+AllZip-back R S turns [] (y ∷ ys) h = absurd h
+AllZip-back R S turns (x ∷ xs) [] h = absurd h
+AllZip-back R S turns (x ∷ xs) (y ∷ ys) h = (turns x y h.0, AllZip-back R S turns xs ys h.1)
 
 pub AllZip-append : {X Y : Type 0} (R : X → Y → Type 0) (xs : List X) (ys : List Y) (us : List X) (vs : List Y) → AllZip R xs ys → AllZip R us vs → AllZip R (xs ++ us) (ys ++ vs)
 AllZip-append R [] [] us vs h k = k
@@ -146,15 +164,17 @@ AllZip-weaker R S w [] (y ∷ ys) h = absurd h
 AllZip-weaker R S w (x ∷ xs) [] h = absurd h
 AllZip-weaker R S w (x ∷ xs) (y ∷ ys) h = (w x y h.0, AllZip-weaker R S w xs ys h.1)
 
--- what two lists that match one list have in common
-pub AllZip-join : {A X Y : Type 0} (P : A → X → Type 0) (Q : A → Y → Type 0) (S : X → Y → Type 0) → ((a : A) (x : X) (y : Y) → P a x → Q a y → S x y)
-    → (elems : List A) (xs : List X) (ys : List Y) → AllZip P elems xs → AllZip Q elems ys → AllZip S xs ys
-AllZip-join P Q S j [] [] [] h k = tt
-AllZip-join P Q S j [] (x ∷ xs) ys h k = absurd h
-AllZip-join P Q S j [] [] (y ∷ ys) h k = absurd k
-AllZip-join P Q S j (a ∷ elems) [] ys h k = absurd h
-AllZip-join P Q S j (a ∷ elems) (x ∷ xs) [] h k = absurd k
-AllZip-join P Q S j (a ∷ elems) (x ∷ xs) (y ∷ ys) h k = (j a x y h.0 k.0, AllZip-join P Q S j elems xs ys h.1 k.1)
+-- what two lists have in common that match lists that are alike
+pub AllZip-join : {A C X Y : Type 0} (E : A → C → Type 0) (P : A → X → Type 0) (Q : C → Y → Type 0) (S : X → Y → Type 0) → ((a : A) (c : C) (x : X) (y : Y) → E a c → P a x → Q c y → S x y)
+    → (elems : List A) (others : List C) (xs : List X) (ys : List Y) → AllZip E elems others → AllZip P elems xs → AllZip Q others ys → AllZip S xs ys
+AllZip-join E P Q S j [] [] [] [] e h k = tt
+AllZip-join E P Q S j [] [] [] (y ∷ ys) e h k = absurd k
+AllZip-join E P Q S j [] [] (x ∷ xs) ys e h k = absurd h
+AllZip-join E P Q S j [] (c ∷ others) xs ys e h k = absurd e
+AllZip-join E P Q S j (a ∷ elems) [] xs ys e h k = absurd e
+AllZip-join E P Q S j (a ∷ elems) (c ∷ others) [] ys e h k = absurd h
+AllZip-join E P Q S j (a ∷ elems) (c ∷ others) (x ∷ xs) [] e h k = absurd k
+AllZip-join E P Q S j (a ∷ elems) (c ∷ others) (x ∷ xs) (y ∷ ys) e h k = (j a c x y e.0 h.0 k.0, AllZip-join E P Q S j elems others xs ys e.1 h.1 k.1)
 
 -- what holds of the value of each entry, beside what the entry has in common with another list's element
 AllZip-values : {K X Y : Type 0} (P : X → Type 0) (R : K × X → Y → Type 0) (es : List (K × X)) (ys : List Y) → All P (values_of es) → AllZip R es ys → AllZip (λ e y. P e.1 × R e y) es ys
@@ -169,49 +189,60 @@ same_from_zip [] (y ∷ ys) h = absurd h
 same_from_zip (x ∷ xs) [] h = absurd h
 same_from_zip (x ∷ xs) (y ∷ ys) h = let e = h.0 in let i = same_from_zip xs ys h.1 in cc
 
-module _ (MayRate : Size → ℕ → Type 0) (f : IsFunction MayRate) where
-  one_rate : (size : Option Size) (a b : ℕ) → IfSome size IsU32 → IsSomeAnd size (λ s. MayRate s a) → IsSomeAnd size (λ s. MayRate s b) → a ≡ b
+module _ (IsMet : Size → Type 0) (MayRate : Size → ℕ → Type 0) (f : IsFunction (λ size answer. IsMet size × MayRate size answer)) where
+  one_rate : (size : Option Size) (a b : ℕ) → IfSome size IsMet → IsSomeAnd size (λ s. MayRate s a) → IsSomeAnd size (λ s. MayRate s b) → a ≡ b
   one_rate None a b u h k = absurd h
-  one_rate (Some s) a b u h k = f.only s a u h ∙ sym (f.only s b u k)
+  one_rate (Some s) a b u h k = f.only s a (u, h) ∙ sym (f.only s b (u, k))
 
-  -- a list of ids has one key
-  one_group_key : {Id : Type 0} (cmp : Id → Id → Ordering) (sizes : List (Id × Size)) (ids : List Id) (a b : ℕ) → All IsU32 (values_of sizes) → IsGroupKey MayRate cmp sizes ids a → IsGroupKey MayRate cmp sizes ids b → a ≡ b
-  one_group_key {Id} cmp sizes ids a b u (r, h, e) (s, k, i) =
-      let P : Id → ℕ → Type 0 = λ id rate. IsSomeAnd (lookup (is_at (cmp id)) sizes) (λ size. MayRate size rate) in
-      let same : r ≡ s = same_from_zip r s (AllZip-join P P (λ x y. x ≡ y) (λ id x y. one_rate (lookup (is_at (cmp id)) sizes) x y (IfSome-lookup_from_All IsU32 (is_at (cmp id)) sizes u)) ids r s h k) in
+  -- equal ids with the same sizes have one key
+  one_group_key : {Id : Type 0} {cmp : Id → Id → Ordering} → IsTotalOrder cmp → (sizes1 sizes2 : List (Id × Size)) (ids1 ids2 : List Id) (a b : ℕ) → All IsMet (values_of sizes1)
+      → AreMapsAlike cmp (λ x y. x ≡ y) sizes1 sizes2 → AllZip (λ x y. cmp x y ≡ Equal) ids1 ids2 → IsGroupKey MayRate cmp sizes1 ids1 a → IsGroupKey MayRate cmp sizes2 ids2 b → a ≡ b
+  one_group_key {Id} {cmp} o sizes1 sizes2 ids1 ids2 a b u alike ids (r, h, e) (s, k, i) =
+      let P : Id → ℕ → Type 0 = λ id rate. IsSomeAnd (lookup (is_at (cmp id)) sizes1) (λ size. MayRate size rate) in
+      let Q : Id → ℕ → Type 0 = λ id rate. IsSomeAnd (lookup (is_at (cmp id)) sizes2) (λ size. MayRate size rate) in
+      let same : r ≡ s = same_from_zip r s (AllZip-join (λ x y. cmp x y ≡ Equal) P Q (λ x y. x ≡ y)
+      (λ id other x y t m n. one_rate (lookup (is_at (cmp id)) sizes1) x y (IfSome-lookup_from_All IsMet (is_at (cmp id)) sizes1 u) m
+      (subst (λ (found : Option Size). IsSomeAnd found (λ size. MayRate size y)) (sym (lookup-same o id other t sizes1 sizes2 alike)) n)) ids1 ids2 r s ids h k) in
       e ∙ ap (λ (xs : List ℕ). saturated (sum xs)) same ∙ sym i
 
   -- two orders of the same groups name equal groups, place by place
-  pub one_group_order : {Id K : Type 0} (group_cmp : K → K → Ordering) (cmp : Id → Id → Ordering) (sizes : List (Id × Size)) (groups : List (K × List Id)) (o1 o2 : List (ℕ × K))
-      → All IsU32 (values_of sizes) → IsTotalOrder group_cmp → IsGroupOrder MayRate group_cmp cmp sizes groups o1 → IsGroupOrder MayRate group_cmp cmp sizes groups o2
-      → AllZip (λ a b. group_cmp a.1 b.1 ≡ Equal) o1 o2
-  one_group_order {Id} {K} group_cmp cmp sizes groups o1 o2 u total p q =
+  pub one_group_order : {Id K : Type 0} (group_cmp : K → K → Ordering) (cmp : Id → Id → Ordering) → IsTotalOrder group_cmp → IsTotalOrder cmp
+      → (sizes1 sizes2 : List (Id × Size)) (groups1 groups2 : List (K × List Id)) (o1 o2 : List (ℕ × K)) → All IsMet (values_of sizes1)
+      → AreMapsAlike cmp (λ x y. x ≡ y) sizes1 sizes2 → AreMapsAlike group_cmp (λ x y. AllZip (λ i j. cmp i j ≡ Equal) x y) groups1 groups2
+      → IsGroupOrder MayRate group_cmp cmp sizes1 groups1 o1 → IsGroupOrder MayRate group_cmp cmp sizes2 groups2 o2 → AllZip (λ a b. group_cmp a.1 b.1 ≡ Equal) o1 o2
+  one_group_order {Id} {K} group_cmp cmp total id_total sizes1 sizes2 groups1 groups2 o1 o2 u sizes groups p q =
       let R : ℕ × K → ℕ × K → Ordering = falling_then group_cmp in
-      let P : K × List Id → ℕ × K → Type 0 = λ group entry. (entry.1 ≡ group.0) × IsGroupKey MayRate cmp sizes group.1 entry.0 in
-      let start : AllZip (λ a b. R a b ≡ Equal) p.unsorted q.unsorted = AllZip-join P P (λ a b. R a b ≡ Equal) (λ g a b h k. alike_entries g a b h k) groups p.unsorted q.unsorted p.each q.each in
+      let E : K × List Id → K × List Id → Type 0 = λ g h. (group_cmp g.0 h.0 ≡ Equal) × AllZip (λ i j. cmp i j ≡ Equal) g.1 h.1 in
+      let P : K × List Id → ℕ × K → Type 0 = λ group entry. (entry.1 ≡ group.0) × IsGroupKey MayRate cmp sizes1 group.1 entry.0 in
+      let Q : K × List Id → ℕ × K → Type 0 = λ group entry. (entry.1 ≡ group.0) × IsGroupKey MayRate cmp sizes2 group.1 entry.0 in
+      let begin : AllZip (λ a b. R a b ≡ Equal) p.unsorted q.unsorted = AllZip-join E P Q (λ a b. R a b ≡ Equal) (λ g h a b t m n. alike_entries g h a b t m n) groups1 groups2 p.unsorted q.unsorted groups p.each q.each in
       AllZip-weaker (λ a b. R a b ≡ Equal) (λ a b. group_cmp a.1 b.1 ≡ Equal) (λ a b e. second_tied (nat_cmp b.0 a.0) (group_cmp a.1 b.1) e) o1 o2
-      (alike_sorted R (falling_total total) p.unsorted q.unsorted o1 o2 start p.permutation q.permutation p.falling q.falling)
+      (alike_sorted R (falling_total total) p.unsorted q.unsorted o1 o2 begin p.permutation q.permutation p.falling q.falling)
     where
-      alike_entries : (g : K × List Id) (a b : ℕ × K) → (a.1 ≡ g.0) × IsGroupKey MayRate cmp sizes g.1 a.0 → (b.1 ≡ g.0) × IsGroupKey MayRate cmp sizes g.1 b.0 → falling_then group_cmp a b ≡ Equal
-      alike_entries g a b h k =
-          let keys = one_group_key cmp sizes g.1 a.0 b.0 u h.1 k.1 in
-          let names = h.0 ∙ sym k.0 in
-          rw (keys, names) (tied_itself (falling_total total) b)
+      alike_entries : (g h : K × List Id) (a b : ℕ × K) → (group_cmp g.0 h.0 ≡ Equal) × AllZip (λ i j. cmp i j ≡ Equal) g.1 h.1
+          → (a.1 ≡ g.0) × IsGroupKey MayRate cmp sizes1 g.1 a.0 → (b.1 ≡ h.0) × IsGroupKey MayRate cmp sizes2 h.1 b.0 → falling_then group_cmp a b ≡ Equal
+      alike_entries g h a b t m n =
+          let keys : a.0 ≡ b.0 = one_group_key id_total sizes1 sizes2 g.1 h.1 a.0 b.0 u sizes t.1 m.1 n.1 in
+          rw (keys, m.0, n.0, tied_itself nat_cmp_total b.0, t.0) refl
 
   -- and two orders of the same bins name equal bins
-  pub one_bin_order : {B : Type 0} (cmp : B → B → Ordering) (bins : List (B × Bin)) (o1 o2 : List (ℕ × B)) → All IsBinU32 (values_of bins) → IsTotalOrder cmp → IsBinOrder MayRate cmp bins o1 → IsBinOrder MayRate cmp bins o2
+  pub one_bin_order : {B : Type 0} (cmp : B → B → Ordering) → IsTotalOrder cmp → (bins1 bins2 : List (B × Bin)) (o1 o2 : List (ℕ × B)) → All (λ (bin : Bin). IsMet bin.size) (values_of bins1)
+      → AreBinsAlike cmp bins1 bins2 → IsBinOrder MayRate cmp bins1 o1 → IsBinOrder MayRate cmp bins2 o2
       → AllZip (λ a b. cmp a b ≡ Equal) (map (λ o. o.1) o1) (map (λ o. o.1) o2)
-  one_bin_order {B} cmp bins o1 o2 u total p q =
+  one_bin_order {B} cmp total bins1 bins2 o1 o2 u alike p q =
       let R : ℕ × B → ℕ × B → Ordering = rising_then cmp in
+      let E : B × Bin → B × Bin → Type 0 = λ x y. (cmp x.0 y.0 ≡ Equal) × (x.1 ≡ y.1) in
       let P : B × Bin → ℕ × B → Type 0 = λ bin entry. (cmp bin.0 entry.1 ≡ Equal) × MayRate bin.1.size entry.0 in
-      let S : B × Bin → ℕ × B → Type 0 = λ bin entry. IsBinU32 bin.1 × P bin entry in
-      let start : AllZip (λ a b. R a b ≡ Equal) p.unsorted q.unsorted = AllZip-join S P (λ a b. R a b ≡ Equal) (λ g a b h k. alike_entries g a b h.0.size h.1 k) bins p.unsorted q.unsorted (AllZip-values IsBinU32 P bins p.unsorted u p.each) q.each in
-      names o1 o2 (alike_sorted R (rising_total total) p.unsorted q.unsorted o1 o2 start p.permutation q.permutation p.rising q.rising)
+      let S : B × Bin → ℕ × B → Type 0 = λ bin entry. IsMet bin.1.size × P bin entry in
+      let begin : AllZip (λ a b. R a b ≡ Equal) p.unsorted q.unsorted = AllZip-join E S P (λ a b. R a b ≡ Equal) (λ x y a b t h k. alike_entries x y a b h.0 t h.1 k) bins1 bins2 p.unsorted q.unsorted alike
+      (AllZip-values (λ (bin : Bin). IsMet bin.size) P bins1 p.unsorted u p.each) q.each in
+      names o1 o2 (alike_sorted R (rising_total total) p.unsorted q.unsorted o1 o2 begin p.permutation q.permutation p.rising q.rising)
     where
-      alike_entries : (e : B × Bin) (a b : ℕ × B) → IsU32 e.1.size → (cmp e.0 a.1 ≡ Equal) × MayRate e.1.size a.0 → (cmp e.0 b.1 ≡ Equal) × MayRate e.1.size b.0 → rising_then cmp a b ≡ Equal
-      alike_entries e a b small h k =
-          let keys = f.only e.1.size a.0 small h.1 ∙ sym (f.only e.1.size b.0 small k.1) in
-          let names : cmp a.1 b.1 ≡ Equal = sym (total.congr e.0 a.1 b.1 h.0) ∙ k.0 in
+      alike_entries : (x y : B × Bin) (a b : ℕ × B) → IsMet x.1.size → (cmp x.0 y.0 ≡ Equal) × (x.1 ≡ y.1) → (cmp x.0 a.1 ≡ Equal) × MayRate x.1.size a.0 → (cmp y.0 b.1 ≡ Equal) × MayRate y.1.size b.0 → rising_then cmp a b ≡ Equal
+      alike_entries x y a b met t h k =
+          let other : MayRate x.1.size b.0 = subst (λ (bin : Bin). MayRate bin.size b.0) (sym t.1) k.1 in
+          let keys : a.0 ≡ b.0 = f.only x.1.size a.0 (met, h.1) ∙ sym (f.only x.1.size b.0 (met, other)) in
+          let names : cmp a.1 b.1 ≡ Equal = sym (total.congr x.0 a.1 b.1 h.0) ∙ total.congr x.0 y.0 b.1 t.0 ∙ k.0 in
           rw (keys, tied_itself nat_cmp_total b.0, names) refl
 
       names : (xs ys : List (ℕ × B)) → AllZip (λ a b. rising_then cmp a b ≡ Equal) xs ys → AllZip (λ a b. cmp a b ≡ Equal) (map (λ o. o.1) xs) (map (λ o. o.1) ys)

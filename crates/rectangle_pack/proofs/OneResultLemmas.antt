@@ -5,14 +5,16 @@ use Rattle.std.specs.List.{AllZip, zip}
 use Rattle.std.specs.declared.cmp.Ordering.{Ordering}
 use Rattle.std.specs.declared.cmp.Ordering.TheVariants.{Greater}
 use Rattle.std.proofs.lemmas.List.Elements.{All-head, All-tail, All-contains, All-weaker}
-use Rattle.rectangle_pack.specs.Boxes.{Size, Cuboid, Holds, IsU32, FitsU32, has_cells}
+use Rattle.rectangle_pack.specs.Closures.{Answers}
+use Rattle.rectangle_pack.specs.Boxes.{Size, Cuboid, IsPartOf, Holds, has_cells}
+use Rattle.rectangle_pack.specs.Bins.{Bin}
 use Rattle.rectangle_pack.specs.Cuts.{placed, cuts, sizes_of}
 use Rattle.rectangle_pack.specs.Choice.{IsFunction, IsTotalPreorderOn, MayChoose, IsAllowedCut}
 use Rattle.rectangle_pack.specs.Steps.{by_falling_rate, AreLeft, IsStep, IsDone, IsStuck}
-use Rattle.rectangle_pack.specs.Results.{ClosuresDecide}
-use Rattle.rectangle_pack.proofs.CutsLemmas.{All-middle, EndsBy, chosen_ends, u32_by_end}
+use Rattle.rectangle_pack.specs.Results.{MayBeCut, MayBeRated, ClosuresDecide}
+use Rattle.rectangle_pack.proofs.CutsLemmas.{All-middle, chosen_part}
 use Rattle.rectangle_pack.proofs.PassLemmas.{Contains-middle}
-use Rattle.rectangle_pack.proofs.StepsLemmas.{IsStep-fits}
+use Rattle.rectangle_pack.proofs.StepsLemmas.{IsStep-keeps}
 
 -- a list is split once at the last element of a kind
 pub record SameSplit {X : Type 0} (b1 : List X) (x1 : X) (a1 b2 : List X) (x2 : X) (a2 : List X) : Type 0 where
@@ -71,49 +73,70 @@ pub record SameTrial (ls1 last1 : List Cuboid) (t1 : ℕ) (ls2 last2 : List Cubo
   pub last : last1 ≡ last2
   pub tests : t1 ≡ t2
 
--- a function has one list of answers on sizes of 32 bits
-pub one_rates : {MayRate : Size → ℕ → Type 0} (f : IsFunction MayRate) (cut : List Cuboid) (rates : List ℕ) → All (λ b. IsU32 b.whd) cut → AllZip (λ piece rate. MayRate piece.whd rate) cut rates → rates ≡ map (λ b. f.rate b.whd) cut
-one_rates f [] [] u h = refl
-one_rates f [] (r ∷ rates) u h = absurd h
-one_rates f (b ∷ cut) [] u h = absurd h
-one_rates f (b ∷ cut) (r ∷ rates) u h =
-    let e = f.only b.whd r (All-head (λ b. IsU32 b.whd) b cut u) h.0 in
-    let i = one_rates f cut rates (All-tail (λ b. IsU32 b.whd) b cut u) h.1 in
+-- a function has one list of answers on sizes that are met
+pub one_rates : {IsMet : Size → Type 0} {MayRate : Size → ℕ → Type 0} (f : IsFunction (λ size answer. IsMet size × MayRate size answer)) (cut : List Cuboid) (rates : List ℕ) → All (λ b. IsMet b.whd) cut → AllZip (λ piece rate. MayRate piece.whd rate) cut rates → rates ≡ map (λ b. f.rate b.whd) cut
+one_rates {IsMet} f [] [] u h = refl
+one_rates {IsMet} f [] (r ∷ rates) u h = absurd h
+one_rates {IsMet} f (b ∷ cut) [] u h = absurd h
+one_rates {IsMet} f (b ∷ cut) (r ∷ rates) u h =
+    let e = f.only b.whd r (All-head (λ b. IsMet b.whd) b cut u, h.0) in
+    let i = one_rates {IsMet = IsMet} f cut rates (All-tail (λ b. IsMet b.whd) b cut u) h.1 in
     cc
 
 -- so one list of pieces is left of a cut
-pub one_left : {MayRate : Size → ℕ → Type 0} (f : IsFunction MayRate) (cut left1 left2 : List Cuboid) → All (λ b. IsU32 b.whd) cut → AreLeft MayRate cut left1 → AreLeft MayRate cut left2 → left1 ≡ left2
-one_left {MayRate} f cut left1 left2 u p q =
-    let e : p.rates ≡ q.rates = one_rates {MayRate = MayRate} f cut p.rates u p.rated ∙ sym (one_rates {MayRate = MayRate} f cut q.rates u q.rated) in
+pub one_left : {IsMet : Size → Type 0} {MayRate : Size → ℕ → Type 0} (f : IsFunction (λ size answer. IsMet size × MayRate size answer)) (cut left1 left2 : List Cuboid) → All (λ b. IsMet b.whd) cut → AreLeft MayRate cut left1 → AreLeft MayRate cut left2 → left1 ≡ left2
+one_left {IsMet} {MayRate} f cut left1 left2 u p q =
+    let e : p.rates ≡ q.rates = one_rates {IsMet = IsMet} {MayRate = MayRate} f cut p.rates u p.rated ∙ sym (one_rates {IsMet = IsMet} {MayRate = MayRate} f cut q.rates u q.rated) in
     p.are ∙ ap (λ (rates : List ℕ). filter has_cells (map (λ p. p.1) (by_falling_rate (zip rates cut)))) e ∙ sym q.are
 
-module _ (MayRate : Size → ℕ → Type 0) (MayPrefer : List Size → List Size → Ordering → Type 0) (decide : ClosuresDecide MayRate MayPrefer) where
-  one_cut : (s1 s2 : Cuboid) (m : Size) (cut1 cut2 : List Cuboid) → s1 ≡ s2 → FitsU32 s1 → Holds s1 m → IsAllowedCut MayPrefer s1 m cut1 → IsAllowedCut MayPrefer s2 m cut2 → cut1 ≡ cut2
-  one_cut s1 s2 m cut1 cut2 e fits held p q =
-      one_choice (λ a b. MayPrefer (sizes_of a) (sizes_of b)) (cuts s1 m) cut1 cut2 (decide.prefers.compare s1 m) (decide.prefers.preorder s1 m fits held) p (subst (λ (s : Cuboid). IsAllowedCut MayPrefer s m cut2) (sym e) q)
+-- a part of what may be cut may be cut
+pub MayBeCut-part : (bins : List Bin) (b s : Cuboid) → IsPartOf b s → MayBeCut bins s → MayBeCut bins b
+MayBeCut-part bins b s part (i, bin, lt, at, (j, free, below, is, inside)) = (
+  i,
+  bin,
+  lt,
+  at,
+  (
+    j,
+    free,
+    below,
+    is,
+    record { from_x = omega arith; to_x = omega arith; from_y = omega arith; to_y = omega arith; from_z = omega arith; to_z = omega arith },
+  ),
+)
 
-  pub one_step : (sections : List Cuboid) (m : Size) (l1 l2 : Cuboid) (n1 n2 : List Cuboid) (t1 t2 : ℕ) → All FitsU32 sections
-      → IsStep MayRate MayPrefer sections m l1 n1 t1 → IsStep MayRate MayPrefer sections m l2 n2 t2 → SameStep l1 n1 t1 l2 n2 t2
-  one_step sections m l1 l2 n1 n2 t1 t2 u p q =
+-- and its size may be rated
+pub MayBeRated-part : (boxes : List Size) (bins : List Bin) (b : Cuboid) → MayBeCut bins b → MayBeRated boxes bins b.whd
+MayBeRated-part boxes bins b (i, bin, lt, at, (j, free, below, is, part)) =
+    inr (i, bin, lt, at, inr (j, free, below, is, record { wide = omega arith; high = omega arith; deep = omega arith }))
+
+module _ (boxes : List Size) (bins : List Bin) (may : Answers) (decide : ClosuresDecide boxes bins may) where
+  one_cut : (s1 s2 : Cuboid) (m : Size) (cut1 cut2 : List Cuboid) → s1 ≡ s2 → MayBeCut bins s1 → Contains boxes m → Holds s1 m → IsAllowedCut may.prefer s1 m cut1 → IsAllowedCut may.prefer s2 m cut2 → cut1 ≡ cut2
+  one_cut s1 s2 m cut1 cut2 e met box held p q =
+      one_choice (λ a b. may.prefer (sizes_of a) (sizes_of b)) (cuts s1 m) cut1 cut2 (decide.prefers.compare s1 m) (decide.prefers.preorder s1 m (met, box) held) p (subst (λ (s : Cuboid). IsAllowedCut may.prefer s m cut2) (sym e) q)
+
+  pub one_step : (sections : List Cuboid) (m : Size) (l1 l2 : Cuboid) (n1 n2 : List Cuboid) (t1 t2 : ℕ) → All (MayBeCut bins) sections → Contains boxes m
+      → IsStep may sections m l1 n1 t1 → IsStep may sections m l2 n2 t2 → SameStep l1 n1 t1 l2 n2 t2
+  one_step sections m l1 l2 n1 n2 t1 t2 u box p q =
       let s = split_last (λ s. Holds s m) p.before p.section p.after q.before q.section q.after (sym p.splits ∙ q.splits) p.held q.held p.newest q.newest in
-      let fits : FitsU32 p.section = All-middle FitsU32 sections p.before p.after p.section p.splits u in
-      let c = one_cut p.section q.section m p.cut q.cut s.at fits p.held p.allowed q.allowed in
-      let small = All-weaker (λ b. EndsBy b p.section) (λ b. IsU32 b.whd) (λ b. u32_by_end b p.section fits) p.cut (chosen_ends p.section m p.cut p.held p.allowed) in
-      let left = one_left {MayRate = MayRate} decide.rates p.cut p.left q.left small p.are_left (subst (λ (cut : List Cuboid). AreLeft MayRate cut q.left) (sym c) q.are_left) in
+      let met : MayBeCut bins p.section = All-middle (MayBeCut bins) sections p.before p.after p.section p.splits u in
+      let c = one_cut p.section q.section m p.cut q.cut s.at met box p.held p.allowed q.allowed in
+      let rated = All-weaker (λ b. IsPartOf b p.section) (λ b. MayBeRated boxes bins b.whd) (λ b part. MayBeRated-part boxes bins b (MayBeCut-part bins b p.section part met)) p.cut (chosen_part p.section m p.cut p.held p.allowed) in
+      let left = one_left {IsMet = MayBeRated boxes bins} {MayRate = may.rate} decide.rates p.cut p.left q.left rated p.are_left (subst (λ (cut : List Cuboid). AreLeft may.rate cut q.left) (sym c) q.are_left) in
       record {
         location = p.location_is ∙ ap (λ s. placed s m) s.at ∙ sym q.location_is;
         next = (let a = p.next_is in let b = q.next_is in let e = s.before in let g = s.after in cc);
         tests = p.tests_are ∙ ap (λ (xs : List Cuboid). 1 + length xs) s.after ∙ sym q.tests_are;
       }
 
-  pub one_trial : (sections : List Cuboid) (ms : List Size) (ls1 ls2 last1 last2 : List Cuboid) (t1 t2 : ℕ) → All FitsU32 sections
-      → IsDone MayRate MayPrefer sections ms ls1 last1 t1 → IsDone MayRate MayPrefer sections ms ls2 last2 t2 → SameTrial ls1 last1 t1 ls2 last2 t2
-  one_trial sections [] ls1 ls2 last1 last2 t1 t2 u p q = record { locations = p.0 ∙ sym q.0; last = p.1 ∙ sym q.1; tests = p.2 ∙ sym q.2 }
-  one_trial sections (m ∷ ms) [] ls2 last1 last2 t1 t2 u p q = absurd p
-  one_trial sections (m ∷ ms) (l1 ∷ ls1) [] last1 last2 t1 t2 u p q = absurd q
-  one_trial sections (m ∷ ms) (l1 ∷ ls1) (l2 ∷ ls2) last1 last2 t1 t2 u (n1, i1, j1, s1, d1, e1) (n2, i2, j2, s2, d2, e2) =
-      let s = one_step sections m l1 l2 n1 n2 i1 i2 u s1 s2 in
-      let t = one_trial n1 ms ls1 ls2 last1 last2 j1 j2 (IsStep-fits MayRate MayPrefer sections m l1 n1 i1 s1 u) d1 (subst (λ (n : List Cuboid). IsDone MayRate MayPrefer n ms ls2 last2 j2) (sym s.next) d2) in
+  pub one_trial : (sections : List Cuboid) (ms : List Size) (ls1 ls2 last1 last2 : List Cuboid) (t1 t2 : ℕ) → All (MayBeCut bins) sections → All (Contains boxes) ms
+      → IsDone may sections ms ls1 last1 t1 → IsDone may sections ms ls2 last2 t2 → SameTrial ls1 last1 t1 ls2 last2 t2
+  one_trial sections [] ls1 ls2 last1 last2 t1 t2 u among p q = record { locations = p.0 ∙ sym q.0; last = p.1 ∙ sym q.1; tests = p.2 ∙ sym q.2 }
+  one_trial sections (m ∷ ms) [] ls2 last1 last2 t1 t2 u among p q = absurd p
+  one_trial sections (m ∷ ms) (l1 ∷ ls1) [] last1 last2 t1 t2 u among p q = absurd q
+  one_trial sections (m ∷ ms) (l1 ∷ ls1) (l2 ∷ ls2) last1 last2 t1 t2 u among (n1, i1, j1, s1, d1, e1) (n2, i2, j2, s2, d2, e2) =
+      let s = one_step sections m l1 l2 n1 n2 i1 i2 u (All-head (Contains boxes) m ms among) s1 s2 in
+      let t = one_trial n1 ms ls1 ls2 last1 last2 j1 j2 (IsStep-keeps may (MayBeCut bins) sections m l1 n1 i1 (MayBeCut-part bins) s1 u) (All-tail (Contains boxes) m ms among) d1 (subst (λ (n : List Cuboid). IsDone may n ms ls2 last2 j2) (sym s.next) d2) in
       record {
         locations = (let a = s.location in let b = t.locations in cc);
         last = t.last;
@@ -121,11 +144,11 @@ module _ (MayRate : Size → ℕ → Type 0) (MayPrefer : List Size → List Siz
       }
 
   -- a trial is not both done and stuck
-  pub not_done_and_stuck : (sections : List Cuboid) (ms : List Size) (ls last : List Cuboid) (t1 t2 : ℕ) → All FitsU32 sections → IsDone MayRate MayPrefer sections ms ls last t1 → IsStuck MayRate MayPrefer sections ms t2 → ⊥
-  not_done_and_stuck sections [] ls last t1 t2 u d s = s
-  not_done_and_stuck sections (m ∷ ms) [] last t1 t2 u d s = d
-  not_done_and_stuck sections (m ∷ ms) (l ∷ ls) last t1 t2 u (n, i, j, step, d, e) (inl (none, count)) =
+  pub not_done_and_stuck : (sections : List Cuboid) (ms : List Size) (ls last : List Cuboid) (t1 t2 : ℕ) → All (MayBeCut bins) sections → All (Contains boxes) ms → IsDone may sections ms ls last t1 → IsStuck may sections ms t2 → ⊥
+  not_done_and_stuck sections [] ls last t1 t2 u among d s = s
+  not_done_and_stuck sections (m ∷ ms) [] last t1 t2 u among d s = d
+  not_done_and_stuck sections (m ∷ ms) (l ∷ ls) last t1 t2 u among (n, i, j, step, d, e) (inl (none, count)) =
       All-middle (λ s. ¬ Holds s m) sections step.before step.after step.section step.splits none step.held
-  not_done_and_stuck sections (m ∷ ms) (l ∷ ls) last t1 t2 u (n, i, j, step, d, e) (inr (l2, n2, i2, j2, step2, s, e2)) =
-      let same = one_step sections m l l2 n n2 i i2 u step step2 in
-      not_done_and_stuck n ms ls last j j2 (IsStep-fits MayRate MayPrefer sections m l n i step u) d (subst (λ (x : List Cuboid). IsStuck MayRate MayPrefer x ms j2) (sym same.next) s)
+  not_done_and_stuck sections (m ∷ ms) (l ∷ ls) last t1 t2 u among (n, i, j, step, d, e) (inr (l2, n2, i2, j2, step2, s, e2)) =
+      let same = one_step sections m l l2 n n2 i i2 u (All-head (Contains boxes) m ms among) step step2 in
+      not_done_and_stuck n ms ls last j j2 (IsStep-keeps may (MayBeCut bins) sections m l n i (MayBeCut-part bins) step u) (All-tail (Contains boxes) m ms among) d (subst (λ (x : List Cuboid). IsStuck may x ms j2) (sym same.next) s)

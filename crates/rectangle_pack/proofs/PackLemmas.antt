@@ -9,7 +9,8 @@ use Rattle.std.specs.List.{AllZip, sum_by}
 use Rattle.std.specs.Bool.{OnTrue}
 use Rattle.std.proofs.lemmas.List.Sums.{sum_by-cons}
 use Rattle.std.proofs.lemmas.List.{length-append}
-use Rattle.std.specs.Map.{lookup, set_value}
+use Rattle.std.specs.Map.{lookup, set_value, keys_of}
+use Rattle.std.specs.List.Sorted.{IsStrictlySortedBy}
 use Rattle.std.specs.Option.{option_map}
 use Rattle.std.specs.BTreeMap.{is_at}
 use Rattle.std.proofs.Math.Seq.{split_at}
@@ -19,18 +20,19 @@ use Rattle.std.specs.declared.vec.Vec.{Vec}
 use Rattle.std.specs.declared.cmp.Reverse.{Reverse}
 use Rattle.std.specs.Borrow.{Bor}
 use Rattle.std.specs.Map.{values_of}
+use Rattle.rectangle_pack.specs.Closures.{Answers}
 use Rattle.rectangle_pack.specs.Groups.{lists_of, HaveSizes, MembersHaveSizes}
-use Rattle.rectangle_pack.specs.Orders.{keys_of_order, entries_at}
+use Rattle.rectangle_pack.specs.private.Orders.{keys_of_order, entries_at}
 use Rattle.std.proofs.lemmas.List.Elements.{All-push, All-nil, All-weaker}
-use Rattle.rectangle_pack.specs.declared.pack.DoneTrial.{DoneTrial}
-use Rattle.rectangle_pack.specs.declared.pack.Placement.{Placement}
+use Rattle.rectangle_pack.specs.declared.pack.work.DoneTrial.{DoneTrial}
+use Rattle.rectangle_pack.specs.declared.pack.answer.Placement.{Placement}
 use Rattle.rectangle_pack.specs.Bins.{Bin, Held, IsSound}
-use Rattle.rectangle_pack.specs.Packing.{bins_of, Members, IsPlaced, IsStuckIn, IsRefused, AreAllPlaced, AreGroups, StopsAfter}
+use Rattle.rectangle_pack.specs.Packing.{Rules, bins_of, Members, IsPlaced, IsStuckIn, IsRefused, AreAllPlaced, AreGroups, StopsAfter}
 use Rattle.rectangle_pack.specs.Boxes.{Size, Cuboid}
-use Rattle.rectangle_pack.specs.Journal.{before_notes, CanUndo}
+use Rattle.rectangle_pack.specs.private.Journal.{before_notes, CanUndo}
 use Rattle.rectangle_pack.specs.Steps.{IsDone}
 use Rattle.rectangle_pack.specs.Placed.{AreNamed, IsLastOf, AreLastPlacements}
-use Rattle.rectangle_pack.specs.TrialJournal.{GoesBack}
+use Rattle.rectangle_pack.specs.private.TrialJournal.{GoesBack}
 use Rattle.rectangle_pack.proofs.PackingOrderLemmas.{AllZip-more}
 use Rattle.rectangle_pack.proofs.MapsLemmas.{lookup-equal, set_value-equal}
 use Rattle.rectangle_pack.proofs.JournalLemmas.{bins_of-set_value, lookup-bins_of, IsRoomier-grown, IsRoomier-bins, GoesBack-more, GoesBack-pushed}
@@ -69,10 +71,10 @@ names-split {B} order i o within is =
     ap (map (λ (x : ℕ × B). x.1)) split ∙ map-append (λ (x : ℕ × B). x.1) (take i order) (o ∷ drop (suc i) order)
 
 -- a done trial has one location for each member
-pub IsDone-length : (MayRate : Size → ℕ → Type 0) (MayPrefer : List Size → List Size → Ordering → Type 0) (sections : List Cuboid) (ms : List Size) (ls : List Cuboid) (last : List Cuboid) (n : ℕ) → IsDone MayRate MayPrefer sections ms ls last n → length ms ≡ length ls
-IsDone-length MayRate MayPrefer sections [] ls last n h = rw h.0 refl
-IsDone-length MayRate MayPrefer sections (m ∷ ms) [] last n h = absurd h
-IsDone-length MayRate MayPrefer sections (m ∷ ms) (l ∷ ls) last n (next, one, rest, step, done, count) = let e = IsDone-length MayRate MayPrefer next ms ls last rest done in omega arith
+pub IsDone-length : (may : Answers) (sections : List Cuboid) (ms : List Size) (ls : List Cuboid) (last : List Cuboid) (n : ℕ) → IsDone may sections ms ls last n → length ms ≡ length ls
+IsDone-length may sections [] ls last n h = rw h.0 refl
+IsDone-length may sections (m ∷ ms) [] last n h = absurd h
+IsDone-length may sections (m ∷ ms) (l ∷ ls) last n (next, one, rest, step, done, count) = let e = IsDone-length may next ms ls last rest done in omega arith
 
 -- one more name
 pub AreNamed-more : {Id B : Type 0} (cmp : Id → Id → Ordering) (bin_cmp : B → B → Ordering) (ids : List Id) (here : B) (locations : List Cuboid) (i : ℕ) (x id : Id) (bin : B) (e : Cuboid) (added : List (Placement Id B))
@@ -96,15 +98,15 @@ AreSizesOf-length cmp sizes [] (m ∷ ms) h = absurd h
 AreSizesOf-length cmp sizes (x ∷ xs) [] h = absurd h
 AreSizesOf-length cmp sizes (x ∷ xs) (m ∷ ms) h = let e = AreSizesOf-length cmp sizes xs ms h.1 in omega arith
 
-module _ {Id B : Type 0} (cmp : Id → Id → Ordering) (bin_cmp : B → B → Ordering) (MayRate : Size → ℕ → Type 0) (MayPrefer : List Size → List Size → Ordering → Type 0) where
+module _ {Id B : Type 0} (rules : Rules Id B) where
   -- the group is placed in the bin that the loop is at
   pub IsPlaced-at : (order : List (ℕ × B)) (i : ℕ) (o : ℕ × B) (group : Members Id)
       (now : List (B × Held)) (old : List (B × Bin)) (v w : Held) (locations : List Cuboid) (tests : ℕ) (added : List (Placement Id B))
       → i < length order → o ≡ get_or order i o → bins_of now ≡ old
-      → All (IsStuckIn cmp bin_cmp MayRate MayPrefer old group) (map (λ (x : ℕ × B). x.1) (take i order))
-      → lookup (is_at (bin_cmp o.1)) now ≡ Some v → w.bin.size ≡ v.bin.size → IsDone MayRate MayPrefer v.bin.sections group.sizes locations w.bin.sections tests
-      → AreNamed cmp bin_cmp group.ids o.1 locations added
-      → IsPlaced cmp bin_cmp MayRate MayPrefer (map (λ (x : ℕ × B). x.1) order) group old added (bins_of (set_value (is_at (bin_cmp o.1)) now w))
+      → All (IsStuckIn rules old group) (map (λ (x : ℕ × B). x.1) (take i order))
+      → lookup (is_at (rules.bin_cmp o.1)) now ≡ Some v → w.bin.size ≡ v.bin.size → IsDone rules.may v.bin.sections group.sizes locations w.bin.sections tests
+      → AreNamed rules.id_cmp rules.bin_cmp group.ids o.1 locations added
+      → IsPlaced rules (map (λ (x : ℕ × B). x.1) order) group old added (bins_of (set_value (is_at (rules.bin_cmp o.1)) now w))
   IsPlaced-at order i o group now old v w locations tests added within is same stuck found size done named = record {
     before = map (λ (x : ℕ × B). x.1) (take i order);
     here = o.1;
@@ -112,7 +114,7 @@ module _ {Id B : Type 0} (cmp : Id → Id → Ordering) (bin_cmp : B → B → O
     order_is = names-split order i o within is;
     stuck = stuck;
     bin = v.bin;
-    found = found-bins_of (is_at (bin_cmp o.1)) now old v same found;
+    found = found-bins_of (is_at (rules.bin_cmp o.1)) now old v same found;
     last = w.bin.sections;
     locations = locations;
     tests = tests;
@@ -120,21 +122,21 @@ module _ {Id B : Type 0} (cmp : Id → Id → Ordering) (bin_cmp : B → B → O
     named = named;
     new_is =
         let whole : w.bin ≡ record { size = v.bin.size; sections = w.bin.sections } = rw (← size) refl in
-        bins_of-set_value (is_at (bin_cmp o.1)) now w ∙ ap (λ es. set_value (is_at (bin_cmp o.1)) es w.bin) same ∙ ap (set_value (is_at (bin_cmp o.1)) old) whole;
+        bins_of-set_value (is_at (rules.bin_cmp o.1)) now w ∙ ap (λ es. set_value (is_at (rules.bin_cmp o.1)) es w.bin) same ∙ ap (set_value (is_at (rules.bin_cmp o.1)) old) whole;
   }
 
   -- one more bin is stuck
   pub IsStuckIn-more : (old : List (B × Bin)) (group : Members Id) (order : List (ℕ × B)) (i : ℕ) (o : ℕ × B)
-      → i < length order → o ≡ get_or order i o → IsStuckIn cmp bin_cmp MayRate MayPrefer old group o.1
-      → All (IsStuckIn cmp bin_cmp MayRate MayPrefer old group) (map (λ (x : ℕ × B). x.1) (take i order)) → All (IsStuckIn cmp bin_cmp MayRate MayPrefer old group) (map (λ (x : ℕ × B). x.1) (take (i + 1) order))
+      → i < length order → o ≡ get_or order i o → IsStuckIn rules old group o.1
+      → All (IsStuckIn rules old group) (map (λ (x : ℕ × B). x.1) (take i order)) → All (IsStuckIn rules old group) (map (λ (x : ℕ × B). x.1) (take (i + 1) order))
   IsStuckIn-more old group order i o within is here before =
       let same : map (λ (x : ℕ × B). x.1) (take (i + 1) order) ≡ map (λ (x : ℕ × B). x.1) (take i order) ++ o.1 ∷ [] = ap (map (λ (x : ℕ × B). x.1)) (take_more order i o within) ∙ map-append (λ (x : ℕ × B). x.1) (take i order) (get_or order i o ∷ []) ∙ ap (λ (z : ℕ × B). map (λ (x : ℕ × B). x.1) (take i order) ++ z.1 ∷ []) (sym is) in
-      subst (λ ns. All (IsStuckIn cmp bin_cmp MayRate MayPrefer old group) ns) (sym same) (All-push (IsStuckIn cmp bin_cmp MayRate MayPrefer old group) (map (λ (x : ℕ × B). x.1) (take i order)) o.1 before here)
+      subst (λ ns. All (IsStuckIn rules old group) ns) (sym same) (All-push (IsStuckIn rules old group) (map (λ (x : ℕ × B). x.1) (take i order)) o.1 before here)
 
   -- one more group is placed
   pub AreAllPlaced-push : (order : List B) (gs : List (Members Id)) (g : Members Id) (old mid next : List (B × Bin)) (placements added : List (Placement Id B))
-      → AreAllPlaced cmp bin_cmp MayRate MayPrefer order gs old placements mid → IsPlaced cmp bin_cmp MayRate MayPrefer order g mid added next
-      → AreAllPlaced cmp bin_cmp MayRate MayPrefer order (gs ++ g ∷ []) old (placements ++ added) next
+      → AreAllPlaced rules order gs old placements mid → IsPlaced rules order g mid added next
+      → AreAllPlaced rules order (gs ++ g ∷ []) old (placements ++ added) next
   AreAllPlaced-push order [] g old mid next placements added done placed =
       (added, next, [], rw (← done.1) placed, (refl, refl), ap (λ ps. ps ++ added) done.0 ∙ sym (append-nil added))
   AreAllPlaced-push order (g' ∷ gs) g old mid next placements added (first, mid', rest, here, later, joined) placed =
@@ -143,19 +145,19 @@ module _ {Id B : Type 0} (cmp : Id → Id → Ordering) (bin_cmp : B → B → O
   module _ {K : Type 0} (group_cmp : K → K → Ordering) where
     -- one more group is named
     pub AreGroups-more : (sizes : List (Id × Size)) (lists : List (K × List Id)) (order : List (Reverse ℕ × Bor K)) (i : ℕ) (o : Reverse ℕ × Bor K) (gs : List (Members Id)) (group : Members Id)
-        → i < length order → o ≡ get_or order i o → lookup (is_at (group_cmp o.1.now)) lists ≡ Some group.ids → AreSizesOf cmp sizes group.ids group.sizes
-        → AreGroups cmp bin_cmp MayRate MayPrefer group_cmp sizes lists (keys_of_order (take i order)) gs → AreGroups cmp bin_cmp MayRate MayPrefer group_cmp sizes lists (keys_of_order (take (i + 1) order)) (gs ++ group ∷ [])
+        → i < length order → o ≡ get_or order i o → lookup (is_at (group_cmp o.1.now)) lists ≡ Some group.ids → AreSizesOf rules.id_cmp sizes group.ids group.sizes
+        → AreGroups rules.id_cmp group_cmp sizes lists (keys_of_order (take i order)) gs → AreGroups rules.id_cmp group_cmp sizes lists (keys_of_order (take (i + 1) order)) (gs ++ group ∷ [])
     AreGroups-more sizes lists order i o gs group within is found sized h =
         let f : Reverse ℕ × Bor K → ℕ × K = λ x. (x.0.0, x.1.now) in
         let more : keys_of_order (take (i + 1) order) ≡ keys_of_order (take i order) ++ f o ∷ [] = ap (map f) (take_more order i o within) ∙ map-append f (take i order) (get_or order i o ∷ []) ∙ ap (λ z. map f (take i order) ++ f z ∷ []) (sym is) in
-        record { each = rw more (AllZip-more (λ (x : ℕ × K) (g : Members Id). (lookup (is_at (group_cmp x.1)) lists ≡ Some g.ids) × AreSizesOf cmp sizes g.ids g.sizes) (keys_of_order (take i order)) gs (f o) group h.each (found, sized)) }
+        record { each = rw more (AllZip-more (λ (x : ℕ × K) (g : Members Id). (lookup (is_at (group_cmp x.1)) lists ≡ Some g.ids) × AreSizesOf rules.id_cmp sizes g.ids g.sizes) (keys_of_order (take i order)) gs (f o) group h.each (found, sized)) }
 
     -- the loop stops at a group that is refused
     pub StopsAfter-at : (sizes : List (Id × Size)) (lists : List (K × List Id)) (order : List (Reverse ℕ × Bor K)) (bin_order : List B) (i : ℕ)
         (gs : List (Members Id)) (next : Members Id) (old new mid : List (B × Bin)) (placements : List (Placement Id B))
-        → AreGroups cmp bin_cmp MayRate MayPrefer group_cmp sizes lists (keys_of_order (take i order)) (gs ++ next ∷ []) → AreAllPlaced cmp bin_cmp MayRate MayPrefer bin_order gs old placements mid → new ≡ mid
-        → IsRefused cmp bin_cmp MayRate MayPrefer bin_order next mid
-        → StopsAfter cmp bin_cmp MayRate MayPrefer group_cmp sizes lists (keys_of_order order) bin_order old new
+        → AreGroups rules.id_cmp group_cmp sizes lists (keys_of_order (take i order)) (gs ++ next ∷ []) → AreAllPlaced rules bin_order gs old placements mid → new ≡ mid
+        → IsRefused rules bin_order next mid
+        → StopsAfter rules group_cmp sizes lists (keys_of_order order) bin_order old new
     StopsAfter-at sizes lists order bin_order i gs next old new mid placements listed placed same refused =
         let f : Reverse ℕ × Bor K → ℕ × K = λ x. (x.0.0, x.1.now) in record {
           taken = keys_of_order (take i order);
@@ -199,12 +201,12 @@ is_eq-reverse Equal = refl
 is_eq-reverse Greater = refl
 
 -- the last placement of each id, after one more placement, which is written under an id and a bin that equal its own
-pub AreLastPlacements-more : {Id B : Type 0} {cmp : Id → Id → Ordering} (bin_cmp : B → B → Ordering) → IsTotalOrder cmp → (placements : List (Placement Id B)) (p : Placement Id B) (key : Id) (bin : B) (old new : List (Id × (B × Cuboid)))
+pub AreLastPlacements-more : {Id B : Type 0} {cmp : Id → Id → Ordering} (bin_cmp : B → B → Ordering) → IsTotalOrder cmp → (placements : List (Placement Id B)) (p : Placement Id B) (key : Id) (bin : B) (old new : List (Id × (B × Cuboid))) → IsStrictlySortedBy cmp (keys_of new)
     → cmp p.id key ≡ Equal → bin_cmp p.bin bin ≡ Equal
     → ((id : Id) → lookup (is_at (cmp id)) new ≡ cond (is_at (cmp key) id) (Some (bin, p.location)) (lookup (is_at (cmp id)) old))
     → AreLastPlacements cmp bin_cmp placements old → AreLastPlacements cmp bin_cmp (placements ++ p ∷ []) new
-AreLastPlacements-more {Id} {B} {cmp} bin_cmp o placements p key bin old new same same_bin updates h =
-    record { each = λ id. rw (updates id) (at id (is_eq (cmp key id)) (alike id) (lookup (is_at (cmp id)) old) (h.each id)) }
+AreLastPlacements-more {Id} {B} {cmp} bin_cmp o placements p key bin old new ascend same same_bin updates h =
+    record { ascend = ascend; each = λ id. rw (updates id) (at id (is_eq (cmp key id)) (alike id) (lookup (is_at (cmp id)) old) (h.each id)) }
   where
     alike : (id : Id) → is_eq (cmp id p.id) ≡ is_eq (cmp key id)
     alike id = ap is_eq (o.antisymm id p.id) ∙ is_eq-reverse (cmp p.id id) ∙ ap is_eq (o.congr p.id key id same)
@@ -237,18 +239,18 @@ abbrev pub entries_in : {Id : Type 0} → List (Members Id) → ℕ
 entries_in groups = sum_by (λ (g : Members _). length g.ids) groups
 
 -- one placement for each entry of each group
-pub AreAllPlaced-length : {Id B : Type 0} (cmp : Id → Id → Ordering) (bin_cmp : B → B → Ordering) (MayRate : Size → ℕ → Type 0) (MayPrefer : List Size → List Size → Ordering → Type 0) (order : List B) (gs : List (Members Id)) (old new : List (B × Bin)) (placements : List (Placement Id B))
-    → AreAllPlaced cmp bin_cmp MayRate MayPrefer order gs old placements new → length placements ≡ entries_in gs
-AreAllPlaced-length cmp bin_cmp MayRate MayPrefer order [] old new placements h = rw h.0 refl
-AreAllPlaced-length {Id} {B} cmp bin_cmp MayRate MayPrefer order (g ∷ gs) old new placements (first, next, others, placed, later, joined) =
-    let one = AllZip-length (λ (id : Id) (p : Placement Id B). cmp id p.id ≡ Equal) g.ids first placed.named.named in
-    let rest = AreAllPlaced-length cmp bin_cmp MayRate MayPrefer order gs next new others later in
+pub AreAllPlaced-length : {Id B : Type 0} (rules : Rules Id B) (order : List B) (gs : List (Members Id)) (old new : List (B × Bin)) (placements : List (Placement Id B))
+    → AreAllPlaced rules order gs old placements new → length placements ≡ entries_in gs
+AreAllPlaced-length rules order [] old new placements h = rw h.0 refl
+AreAllPlaced-length {Id} {B} rules order (g ∷ gs) old new placements (first, next, others, placed, later, joined) =
+    let one = AllZip-length (λ (id : Id) (p : Placement Id B). rules.id_cmp id p.id ≡ Equal) g.ids first placed.named.named in
+    let rest = AreAllPlaced-length rules order gs next new others later in
     omega (arith, ap length joined, length-append first others, one, rest, sum_by-cons (λ (m : Members Id). length m.ids) g gs)
 
 -- the entries that an order names are those of its groups
-pub AreGroups-length : {Id B K : Type 0} (cmp : Id → Id → Ordering) (bin_cmp : B → B → Ordering) (MayRate : Size → ℕ → Type 0) (MayPrefer : List Size → List Size → Ordering → Type 0) (group_cmp : K → K → Ordering) (sizes : List (Id × Size)) (lists : List (K × List Id)) (order : List (ℕ × K)) (gs : List (Members Id))
-    → AreGroups cmp bin_cmp MayRate MayPrefer group_cmp sizes lists order gs → sum_by (entries_at group_cmp lists) order ≡ entries_in gs
-AreGroups-length {Id} {B} {K} cmp bin_cmp MayRate MayPrefer group_cmp sizes lists order gs h = at order gs h.each
+pub AreGroups-length : {Id K : Type 0} (cmp : Id → Id → Ordering) (group_cmp : K → K → Ordering) (sizes : List (Id × Size)) (lists : List (K × List Id)) (order : List (ℕ × K)) (gs : List (Members Id))
+    → AreGroups cmp group_cmp sizes lists order gs → sum_by (entries_at group_cmp lists) order ≡ entries_in gs
+AreGroups-length {Id} {K} cmp group_cmp sizes lists order gs h = at order gs h.each
   where
     at : (order : List (ℕ × K)) (gs : List (Members Id)) → AllZip (λ entry group. (lookup (is_at (group_cmp entry.1)) lists ≡ Some group.ids) × AreSizesOf cmp sizes group.ids group.sizes) order gs → sum_by (entries_at group_cmp lists) order ≡ entries_in gs
     at [] [] h = refl

@@ -4,11 +4,11 @@ use Rattle.std.specs.Prelude.{All, map, filter}
 use Rattle.std.specs.Bool.{if◌then◌else◌}
 use Rattle.std.specs.List.{AllZip, zip, count_by}
 use Rattle.std.specs.List.Sorted.{IsPermutation}
-use Rattle.std.specs.declared.cmp.Ordering.{Ordering}
 use Rattle.std.proofs.lemmas.List.Elements.{All-nil, All-cons, All-head, All-tail, All-append, All-filter, All-same, All-weaker}
 use Rattle.std.proofs.lemmas.List.Sums.{length-filter, count_by-le-length}
 use Rattle.std.proofs.lemmas.List.Sorted.{IsPermutation-refl, IsPermutation-cons, IsPermutation-trans, IsPermutation-append_left, IsPermutation-middle, IsPermutation-map, All-permutation, length_permutation, sum_by-IsPermutation}
-use Rattle.rectangle_pack.specs.Boxes.{Size, Cuboid, Cell, FitsU32, IsInside, is_cell_of, has_cells}
+use Rattle.rectangle_pack.specs.Closures.{Answers}
+use Rattle.rectangle_pack.specs.Boxes.{Size, Cuboid, Cell, FitsU32, IsInside, IsPartOf, is_cell_of, has_cells}
 use Rattle.rectangle_pack.specs.Bins.{IsSound}
 use Rattle.rectangle_pack.specs.Cuts.{placed}
 use Rattle.rectangle_pack.specs.Counting.{times_filled, AreAllApart}
@@ -16,7 +16,7 @@ use Rattle.rectangle_pack.specs.Keeping.{KeepCells}
 use Rattle.rectangle_pack.specs.Steps.{put_in, by_falling_rate, AreLeft, IsStep, IsDone}
 use Rattle.rectangle_pack.proofs.BoxesLemmas.{has_cells-from}
 use Rattle.rectangle_pack.proofs.CountingLemmas.{count-cons, count_no, filled-append, filled-cons, filled-nil, apart_from_counts, counts_from_apart, KeepCells-from_counts}
-use Rattle.rectangle_pack.proofs.CutsLemmas.{EndsBy, chosen_ends, chosen_tiles, length-chosen}
+use Rattle.rectangle_pack.proofs.CutsLemmas.{chosen_part, chosen_tiles, length-chosen}
 
 -- putting in only moves elements
 IsPermutation-put_in : (p : ℕ × Cuboid) (ps : List (ℕ × Cuboid)) → IsPermutation (p ∷ ps) (put_in p ps)
@@ -87,37 +87,33 @@ pub All-back : {X : Type 0} (P : X → Type 0) (xs ys : List X) → All P (xs ++
 All-back P [] ys h = h
 All-back P (x ∷ xs) ys h = All-back P xs ys (All-tail P x (xs ++ ys) h)
 
-module _ (MayRate : Size → ℕ → Type 0) (MayPrefer : List Size → List Size → Ordering → Type 0) where
-  -- what passes from a section to each box that ends by it holds after a step
-  IsStep-keeps : (P : Cuboid → Type 0) (sections : List Cuboid) (m : Size) (l : Cuboid) (next : List Cuboid) (n : ℕ)
-      → ((b s : Cuboid) → EndsBy b s → P s → P b)
-      → IsStep MayRate MayPrefer sections m l next n → All P sections → All P next
+module _ (may : Answers) where
+  -- what passes from a section to each part of it holds after a step
+  pub IsStep-keeps : (P : Cuboid → Type 0) (sections : List Cuboid) (m : Size) (l : Cuboid) (next : List Cuboid) (n : ℕ)
+      → ((b s : Cuboid) → IsPartOf b s → P s → P b)
+      → IsStep may sections m l next n → All P sections → All P next
   IsStep-keeps P sections m l next n passes step h =
       let all : All P (step.before ++ step.section ∷ step.after) = All-same P _ sections (sym step.splits) h in
       let back : All P (step.section ∷ step.after) = All-back P step.before (step.section ∷ step.after) all in
       let here : P step.section = All-head P step.section step.after back in
-      let pieces : All P step.cut = All-weaker (λ b. EndsBy b step.section) P (λ b ends. passes b step.section ends here) step.cut (chosen_ends step.section m step.cut step.held step.allowed) in
+      let pieces : All P step.cut = All-weaker (λ b. IsPartOf b step.section) P (λ b ends. passes b step.section ends here) step.cut (chosen_part step.section m step.cut step.held step.allowed) in
       All-same P next _ step.next_is
       (All-append P (step.before ++ step.after) step.left
       (All-append P step.before step.after (All-front P step.before (step.section ∷ step.after) all) (All-tail P step.section step.after back))
-      (All-left {MayRate = MayRate} P step.cut step.left step.are_left pieces))
+      (All-left {MayRate = may.rate} P step.cut step.left step.are_left pieces))
 
-  pub IsStep-fits : (sections : List Cuboid) (m : Size) (l : Cuboid) (next : List Cuboid) (n : ℕ) → IsStep MayRate MayPrefer sections m l next n → All FitsU32 sections → All FitsU32 next
+  pub IsStep-fits : (sections : List Cuboid) (m : Size) (l : Cuboid) (next : List Cuboid) (n : ℕ) → IsStep may sections m l next n → All FitsU32 sections → All FitsU32 next
   IsStep-fits sections m l next n = IsStep-keeps FitsU32 sections m l next n
       (λ b s ends fits. record { fits_x = omega arith; fits_y = omega arith; fits_z = omega arith })
 
-  pub IsStep-inside : (size : Size) (sections : List Cuboid) (m : Size) (l : Cuboid) (next : List Cuboid) (n : ℕ) → IsStep MayRate MayPrefer sections m l next n → All (IsInside size) sections → All (IsInside size) next
-  IsStep-inside size sections m l next n = IsStep-keeps (IsInside size) sections m l next n
-      (λ b s ends inside. record { within_x = omega arith; within_y = omega arith; within_z = omega arith })
-
   -- a step makes a list longer by at most two
-  pub length-step : (sections : List Cuboid) (m : Size) (l : Cuboid) (next : List Cuboid) (n : ℕ) → IsStep MayRate MayPrefer sections m l next n → length next ≤ length sections + 2
+  pub length-step : (sections : List Cuboid) (m : Size) (l : Cuboid) (next : List Cuboid) (n : ℕ) → IsStep may sections m l next n → length next ≤ length sections + 2
   length-step sections m l next n step =
       omega (
         arith,
         ap length step.next_is,
         ap length step.splits,
-        length-left {MayRate = MayRate} step.cut step.left step.are_left,
+        length-left {MayRate = may.rate} step.cut step.left step.are_left,
         length-chosen step.section m step.cut step.allowed,
         length-append (step.before ++ step.after) step.left,
         length-append step.before step.after,
@@ -125,7 +121,7 @@ module _ (MayRate : Size → ℕ → Type 0) (MayPrefer : List Size → List Siz
       )
 
   -- a step fills each cell as often as before, with the placed box
-  pub filled-step : (c : Cell) (sections : List Cuboid) (m : Size) (l : Cuboid) (next : List Cuboid) (n : ℕ) → IsStep MayRate MayPrefer sections m l next n
+  pub filled-step : (c : Cell) (sections : List Cuboid) (m : Size) (l : Cuboid) (next : List Cuboid) (n : ℕ) → IsStep may sections m l next n
       → times_filled c next + times_filled c (l ∷ []) ≡ times_filled c sections
   filled-step c sections m l next n step =
       omega (
@@ -136,33 +132,39 @@ module _ (MayRate : Size → ℕ → Type 0) (MayPrefer : List Size → List Siz
         filled-append c step.before step.after,
         filled-append c step.before (step.section ∷ step.after),
         filled-cons c step.section step.after,
-        filled-left {MayRate = MayRate} c step.cut step.left step.are_left,
+        filled-left {MayRate = may.rate} c step.cut step.left step.are_left,
         (chosen_tiles step.section m step.cut step.held step.allowed).same c,
         filled-cons c (placed step.section m) step.cut,
         ap (λ b. times_filled c (b ∷ [])) step.location_is,
       )
 
   -- and so does a trial
-  pub filled-done : (c : Cell) (sections : List Cuboid) (ms : List Size) (ls last : List Cuboid) (n : ℕ) → IsDone MayRate MayPrefer sections ms ls last n
+  pub filled-done : (c : Cell) (sections : List Cuboid) (ms : List Size) (ls last : List Cuboid) (n : ℕ) → IsDone may sections ms ls last n
       → times_filled c last + times_filled c ls ≡ times_filled c sections
   filled-done c sections [] ls last n done = omega (arith, ap (times_filled c) done.0, ap (times_filled c) done.1, filled-nil c)
   filled-done c sections (m ∷ ms) [] last n done = absurd done
   filled-done c sections (m ∷ ms) (l ∷ ls) last n (next, one, others, step, done, count) =
       omega (arith, filled-step c sections m l next one step, filled-done c next ms ls last others done, filled-cons c l ls)
 
-  pub IsDone-inside : (size : Size) (sections : List Cuboid) (ms : List Size) (ls last : List Cuboid) (n : ℕ) → IsDone MayRate MayPrefer sections ms ls last n → All (IsInside size) sections → All (IsInside size) last
-  IsDone-inside size sections [] ls last n done h = All-same (IsInside size) last sections done.1 h
-  IsDone-inside size sections (m ∷ ms) [] last n done h = absurd done
-  IsDone-inside size sections (m ∷ ms) (l ∷ ls) last n (next, one, others, step, done, count) h =
-      IsDone-inside size next ms ls last others done (IsStep-inside size sections m l next one step h)
+  pub IsDone-keeps : (P : Cuboid → Type 0) (sections : List Cuboid) (ms : List Size) (ls last : List Cuboid) (n : ℕ)
+      → ((b s : Cuboid) → IsPartOf b s → P s → P b)
+      → IsDone may sections ms ls last n → All P sections → All P last
+  IsDone-keeps P sections [] ls last n passes done h = All-same P last sections done.1 h
+  IsDone-keeps P sections (m ∷ ms) [] last n passes done h = absurd done
+  IsDone-keeps P sections (m ∷ ms) (l ∷ ls) last n passes (next, one, others, step, done, count) h =
+      IsDone-keeps P next ms ls last others passes done (IsStep-keeps P sections m l next one passes step h)
+
+  IsDone-inside : (size : Size) (sections : List Cuboid) (ms : List Size) (ls last : List Cuboid) (n : ℕ) → IsDone may sections ms ls last n → All (IsInside size) sections → All (IsInside size) last
+  IsDone-inside size sections ms ls last n = IsDone-keeps (IsInside size) sections ms ls last n
+      (λ b s part inside. record { within_x = omega arith; within_y = omega arith; within_z = omega arith })
 
   -- a trial leaves a sound list sound
-  pub IsSound-done : (size : Size) (sections : List Cuboid) (ms : List Size) (ls last : List Cuboid) (n : ℕ) → IsDone MayRate MayPrefer sections ms ls last n → IsSound size sections → IsSound size last
+  pub IsSound-done : (size : Size) (sections : List Cuboid) (ms : List Size) (ls last : List Cuboid) (n : ℕ) → IsDone may sections ms ls last n → IsSound size sections → IsSound size last
   IsSound-done size sections ms ls last n done sound = record {
     inside = IsDone-inside size sections ms ls last n done sound.inside;
     apart = apart_from_counts last (λ c. omega (arith, filled-done c sections ms ls last n done, counts_from_apart c sections sound.apart));
   }
 
   -- and keeps the cells
-  pub KeepCells-done : (sections : List Cuboid) (ms : List Size) (ls last : List Cuboid) (n : ℕ) → AreAllApart sections → IsDone MayRate MayPrefer sections ms ls last n → KeepCells sections (last ++ ls)
+  pub KeepCells-done : (sections : List Cuboid) (ms : List Size) (ls last : List Cuboid) (n : ℕ) → AreAllApart sections → IsDone may sections ms ls last n → KeepCells sections (last ++ ls)
   KeepCells-done sections ms ls last n apart done = KeepCells-from_counts sections (last ++ ls) apart (λ c. omega (arith, filled-append c last ls, filled-done c sections ms ls last n done))

@@ -4,27 +4,27 @@ use Rattle.std.specs.Prelude.{All, remove, map, filter}
 use Rattle.std.specs.List.{AllWithin, HoldsAt}
 use Rattle.std.proofs.Math.Seq.{split_at}
 use Rattle.std.proofs.lemmas.List.{get_or-drop, take_more}
+use Rattle.rectangle_pack.specs.Closures.{Answers}
 use Rattle.rectangle_pack.specs.Orders.{saturated}
 use Rattle.rectangle_pack.specs.declared.trial.Note.{Note}
 use Rattle.rectangle_pack.specs.Boxes.{Size, Cuboid, Holds, has_cells}
 use Rattle.rectangle_pack.specs.Cuts.{placed}
 use Rattle.rectangle_pack.specs.Choice.{IsAllowedCut}
-use Rattle.std.specs.declared.cmp.Ordering.{Ordering}
 use Rattle.rectangle_pack.specs.Steps.{by_falling_rate, IsStep, IsDone, IsStuck, AreLeft}
-use Rattle.rectangle_pack.specs.Journal.{before_note, before_notes, CanUndo, CanUndoOne}
+use Rattle.rectangle_pack.specs.private.Journal.{before_note, before_notes, CanUndo, CanUndoOne}
 
 All-from_within_end : {X : Type 0} (P : X → Type 0) (xs : List X) (low : ℕ) → AllWithin P xs low (length xs) → All P (drop low xs)
 All-from_within_end P xs low h k d within =
     let n = length-drop low xs in
     subst P (sym (get_or-drop low xs k d)) (h (low + k) d (omega arith) (omega arith))
 
-pub IsStep-at : (MayRate : Size → ℕ → Type 0) (MayPrefer : List Size → List Size → Ordering → Type 0) (sections : List Cuboid) (member : Size) (i : ℕ) (s : Cuboid)
+pub IsStep-at : (may : Answers) (sections : List Cuboid) (member : Size) (i : ℕ) (s : Cuboid)
     (cut left next : List Cuboid) → i < length sections → s ≡ get_or sections i s
     → HoldsAt (λ t. Holds t member) sections i
     → AllWithin (λ t. ¬ Holds t member) sections (i + 1) (length sections)
-    → IsAllowedCut MayPrefer s member cut → AreLeft MayRate cut left → next ≡ remove sections i ++ left
-    → IsStep MayRate MayPrefer sections member (placed s member) next (length sections - i)
-IsStep-at MayRate MayPrefer sections member i s cut left next within read held newest allowed are_left same = record {
+    → IsAllowedCut may.prefer s member cut → AreLeft may.rate cut left → next ≡ remove sections i ++ left
+    → IsStep may sections member (placed s member) next (length sections - i)
+IsStep-at may sections member i s cut left next within read held newest allowed are_left same = record {
   before = take i sections;
   section = s;
   after = drop (suc i) sections;
@@ -79,42 +79,42 @@ CanUndo-more room more (n ∷ notes) sections le h =
     (CanUndoOne-more room more n (before_notes notes sections) le h.0, CanUndo-more room more notes sections le h.1)
 
 -- one more member is placed
-pub IsDone-push : (MayRate : Size → ℕ → Type 0) (MayPrefer : List Size → List Size → Ordering → Type 0) (sections : List Cuboid) (ms : List Size) (ls : List Cuboid) (mid : List Cuboid) (n : ℕ)
+pub IsDone-push : (may : Answers) (sections : List Cuboid) (ms : List Size) (ls : List Cuboid) (mid : List Cuboid) (n : ℕ)
     (m : Size) (l : Cuboid) (next : List Cuboid) (one : ℕ)
-    → IsDone MayRate MayPrefer sections ms ls mid n → IsStep MayRate MayPrefer mid m l next one → IsDone MayRate MayPrefer sections (ms ++ m ∷ []) (ls ++ l ∷ []) next (n + one)
-IsDone-push MayRate MayPrefer sections [] [] mid n m l next one done step =
-    (next, one, 0, subst (λ (s : List Cuboid). IsStep MayRate MayPrefer s m l next one) done.1 step, (refl, refl, refl), (let e = done.2 in omega arith))
-IsDone-push MayRate MayPrefer sections [] (l' ∷ ls) mid n m l next one done step = absurd (let e = done.0 in cc)
-IsDone-push MayRate MayPrefer sections (m' ∷ ms) [] mid n m l next one done step = absurd done
-IsDone-push MayRate MayPrefer sections (m' ∷ ms) (l' ∷ ls) mid n m l next one (s, first, rest, head, tail, count) step =
-    (s, first, rest + one, head, IsDone-push MayRate MayPrefer s ms ls mid rest m l next one tail step, omega arith)
+    → IsDone may sections ms ls mid n → IsStep may mid m l next one → IsDone may sections (ms ++ m ∷ []) (ls ++ l ∷ []) next (n + one)
+IsDone-push may sections [] [] mid n m l next one done step =
+    (next, one, 0, subst (λ (s : List Cuboid). IsStep may s m l next one) done.1 step, (refl, refl, refl), (let e = done.2 in omega arith))
+IsDone-push may sections [] (l' ∷ ls) mid n m l next one done step = absurd (let e = done.0 in cc)
+IsDone-push may sections (m' ∷ ms) [] mid n m l next one done step = absurd done
+IsDone-push may sections (m' ∷ ms) (l' ∷ ls) mid n m l next one (s, first, rest, head, tail, count) step =
+    (s, first, rest + one, head, IsDone-push may s ms ls mid rest m l next one tail step, omega arith)
 
 -- the next member finds no section
-pub IsStuck-after : (MayRate : Size → ℕ → Type 0) (MayPrefer : List Size → List Size → Ordering → Type 0) (sections : List Cuboid) (ms : List Size) (ls : List Cuboid) (mid : List Cuboid) (n : ℕ)
+pub IsStuck-after : (may : Answers) (sections : List Cuboid) (ms : List Size) (ls : List Cuboid) (mid : List Cuboid) (n : ℕ)
     (m : Size) (others : List Size)
-    → IsDone MayRate MayPrefer sections ms ls mid n → All (λ t. ¬ Holds t m) mid → IsStuck MayRate MayPrefer sections (ms ++ m ∷ others) (n + length mid)
-IsStuck-after MayRate MayPrefer sections [] ls mid n m others done none =
+    → IsDone may sections ms ls mid n → All (λ t. ¬ Holds t m) mid → IsStuck may sections (ms ++ m ∷ others) (n + length mid)
+IsStuck-after may sections [] ls mid n m others done none =
     inl (subst (λ (s : List Cuboid). All (λ t. ¬ Holds t m) s) done.1 none, (let e = ap length done.1 in let z = done.2 in omega arith))
-IsStuck-after MayRate MayPrefer sections (m' ∷ ms) [] mid n m others done none = absurd done
-IsStuck-after MayRate MayPrefer sections (m' ∷ ms) (l' ∷ ls) mid n m others (s, first, rest, head, tail, count) none =
-    inr (l', s, first, rest + length mid, head, IsStuck-after MayRate MayPrefer s ms ls mid rest m others tail none, omega arith)
+IsStuck-after may sections (m' ∷ ms) [] mid n m others done none = absurd done
+IsStuck-after may sections (m' ∷ ms) (l' ∷ ls) mid n m others (s, first, rest, head, tail, count) none =
+    inr (l', s, first, rest + length mid, head, IsStuck-after may s ms ls mid rest m others tail none, omega arith)
 
 -- the step of the loop over the members
-pub IsDone-more : (MayRate : Size → ℕ → Type 0) (MayPrefer : List Size → List Size → Ordering → Type 0) (sections : List Cuboid) (ms : List Size) (i : ℕ) (m : Size) (ls : List Cuboid) (mid : List Cuboid) (n : ℕ)
+pub IsDone-more : (may : Answers) (sections : List Cuboid) (ms : List Size) (i : ℕ) (m : Size) (ls : List Cuboid) (mid : List Cuboid) (n : ℕ)
     (l : Cuboid) (ls' : List Cuboid) (next : List Cuboid) (one : ℕ) → i < length ms → m ≡ get_or ms i m
-    → IsDone MayRate MayPrefer sections (take i ms) ls mid n → IsStep MayRate MayPrefer mid m l next one → ls' ≡ ls ++ l ∷ []
-    → IsDone MayRate MayPrefer sections (take (i + 1) ms) ls' next (n + one)
-IsDone-more MayRate MayPrefer sections ms i m ls mid n l ls' next one within read done step same =
-    subst (λ (xs : List Cuboid). IsDone MayRate MayPrefer sections (take (i + 1) ms) xs next (n + one)) (sym same)
-    (subst (λ (xs : List Size). IsDone MayRate MayPrefer sections xs (ls ++ l ∷ []) next (n + one)) (sym (take_more ms i m within ∙ ap (λ x. take i ms ++ x ∷ []) (sym read)))
-    (IsDone-push MayRate MayPrefer sections (take i ms) ls mid n m l next one done step))
+    → IsDone may sections (take i ms) ls mid n → IsStep may mid m l next one → ls' ≡ ls ++ l ∷ []
+    → IsDone may sections (take (i + 1) ms) ls' next (n + one)
+IsDone-more may sections ms i m ls mid n l ls' next one within read done step same =
+    subst (λ (xs : List Cuboid). IsDone may sections (take (i + 1) ms) xs next (n + one)) (sym same)
+    (subst (λ (xs : List Size). IsDone may sections xs (ls ++ l ∷ []) next (n + one)) (sym (take_more ms i m within ∙ ap (λ x. take i ms ++ x ∷ []) (sym read)))
+    (IsDone-push may sections (take i ms) ls mid n m l next one done step))
 
-pub IsStuck-at : (MayRate : Size → ℕ → Type 0) (MayPrefer : List Size → List Size → Ordering → Type 0) (sections : List Cuboid) (ms : List Size) (i : ℕ) (m : Size) (ls : List Cuboid) (mid : List Cuboid) (n : ℕ)
-    → i < length ms → m ≡ get_or ms i m → IsDone MayRate MayPrefer sections (take i ms) ls mid n → All (λ t. ¬ Holds t m) mid
-    → IsStuck MayRate MayPrefer sections ms (n + length mid)
-IsStuck-at MayRate MayPrefer sections ms i m ls mid n within read done none =
-    subst (λ (xs : List Size). IsStuck MayRate MayPrefer sections xs (n + length mid)) (sym (split_at ms i m within ∙ ap (λ x. take i ms ++ x ∷ drop (suc i) ms) (sym read)))
-    (IsStuck-after MayRate MayPrefer sections (take i ms) ls mid n m (drop (suc i) ms) done none)
+pub IsStuck-at : (may : Answers) (sections : List Cuboid) (ms : List Size) (i : ℕ) (m : Size) (ls : List Cuboid) (mid : List Cuboid) (n : ℕ)
+    → i < length ms → m ≡ get_or ms i m → IsDone may sections (take i ms) ls mid n → All (λ t. ¬ Holds t m) mid
+    → IsStuck may sections ms (n + length mid)
+IsStuck-at may sections ms i m ls mid n within read done none =
+    subst (λ (xs : List Size). IsStuck may sections xs (n + length mid)) (sym (split_at ms i m within ∙ ap (λ x. take i ms ++ x ∷ drop (suc i) ms) (sym read)))
+    (IsStuck-after may sections (take i ms) ls mid n m (drop (suc i) ms) done none)
 
 pub saturated-add : (t s u a b : ℕ) → s ≡ saturated (t + a) → u ≡ saturated (s + b) → u ≡ saturated (t + (a + b))
 saturated-add t s u a b first second = omega arith

@@ -1,7 +1,7 @@
 -- Sizes, boxes and their cells. All numbers are whole numbers without a bound: nothing wraps.
 use Rattle.std.specs.declared.cmp.Ordering.{Ordering}
 use Rattle.std.specs.Ordering.{nat_cmp, ordering_then}
-use Rattle.std.specs.Prelude.{ℕ, ◌+◌, ◌*◌, ◌^◌, ◌<◌, ◌≤◌, ◌&&◌, Bool, nat_le, nat_lt, max}
+use Rattle.std.specs.Prelude.{ℕ, ◌+◌, ◌*◌, ◌^◌, ◌<◌, ◌≤◌, ◌&&◌, Bool, nat_le, nat_lt}
 
 -- the axes: x with widths, y with heights, z with depths
 pub data Axis : Type 0 where
@@ -65,10 +65,6 @@ pub record SharesCell (a b : Cuboid) : Type 0 where
   pub in_first : IsCellOf cell a
   pub in_second : IsCellOf cell b
 
--- two stretches of an axis, each by its start and its length, have a place in common
-abbrev pub SpansMeet : ℕ → ℕ → ℕ → ℕ → Type 0
-SpansMeet start length other_start other_length = (max start other_start < start + length) × (max start other_start < other_start + other_length)
-
 -- no cell is a cell of both boxes
 pub record AreApart (a b : Cuboid) : Type 0 where
   pub none : (c : Cell) → IsCellOf c a → IsCellOf c b → ⊥
@@ -78,6 +74,15 @@ pub record IsInside (size : Size) (b : Cuboid) : Type 0 where
   pub within_x : b.x + b.whd.width ≤ size.width
   pub within_y : b.y + b.whd.height ≤ size.height
   pub within_z : b.z + b.whd.depth ≤ size.depth
+
+-- a part of the other box: on each axis it starts no earlier and ends no later
+pub record IsPartOf (b other : Cuboid) : Type 0 where
+  pub from_x : other.x ≤ b.x
+  pub to_x : b.x + b.whd.width ≤ other.x + other.whd.width
+  pub from_y : other.y ≤ b.y
+  pub to_y : b.y + b.whd.height ≤ other.y + other.whd.height
+  pub from_z : other.z ≤ b.z
+  pub to_z : b.z + b.whd.depth ≤ other.z + other.whd.depth
 
 -- none of the three numbers of the size is greater than the section's
 pub record Holds (section : Cuboid) (size : Size) : Type 0 where

@@ -1,9 +1,7 @@
 -- The orders in which a packing takes groups and bins. Each key is chosen once, so an order is a list of pairs of key and name.
-use Rattle.std.specs.Prelude.{◌≡◌, ℕ, ◌-◌, ◌^◌, List, [], length, map, sum, min, IsSomeAnd, unwrap_or}
+use Rattle.std.specs.Prelude.{◌≡◌, ℕ, ◌-◌, ◌^◌, List, sum, min, IsSomeAnd}
 use Rattle.std.specs.declared.cmp.Ordering.{Ordering}
 use Rattle.std.specs.declared.cmp.Ordering.TheVariants.{Equal}
-use Rattle.std.specs.declared.cmp.Reverse.{Reverse}
-use Rattle.std.specs.Borrow.{Bor}
 use Rattle.std.specs.List.{AllZip}
 use Rattle.std.specs.Ordering.{nat_cmp, ordering_then}
 use Rattle.std.specs.List.Sorted.{IsPermutation, IsSorted}
@@ -23,14 +21,6 @@ falling_then cmp a b = ordering_then (nat_cmp b.0 a.0) (cmp a.1 b.1)
 -- by rising key, and at equal keys by name
 abbrev pub rising_then : {B : Type 0} → (B → B → Ordering) → ℕ × B → ℕ × B → Ordering
 rising_then cmp a b = ordering_then (nat_cmp a.0 b.0) (cmp a.1 b.1)
-
--- an order of references, as keys and what they point to
-abbrev pub keys_of_order : {K : Type 0} → List (Reverse ℕ × Bor K) → List (ℕ × K)
-keys_of_order order = map (λ o. (o.0.0, o.1.now)) order
-
--- how many entries the list has that an order names
-abbrev pub entries_at : {Id K : Type 0} → (K → K → Ordering) → List (K × List Id) → ℕ × K → ℕ
-entries_at group_cmp lists o = length (unwrap_or (lookup (is_at (group_cmp o.1)) lists) [])
 
 module _ (MayRate : Size → ℕ → Type 0) where
   -- the key is the saturated sum of one rate for each id of the list, each a rate of the id's size

@@ -3,12 +3,13 @@ use Rattle.std.specs.Prelude.{◌≡◌, List, ◌∷◌, ◌++◌, map, All, Ma
 use Rattle.std.specs.List.{AllZip}
 use Rattle.std.specs.declared.cmp.Ordering.{Ordering}
 use Rattle.std.specs.declared.cmp.Ordering.TheVariants.{Equal}
-use Rattle.std.specs.Map.{lookup}
+use Rattle.std.specs.List.Sorted.{IsStrictlySortedBy}
+use Rattle.std.specs.Map.{lookup, keys_of}
 use Rattle.std.specs.BTreeMap.{is_at}
 use Rattle.std.specs.Ordering.{is_eq}
 use Rattle.rectangle_pack.specs.Boxes.{Cuboid}
-use Rattle.rectangle_pack.specs.declared.pack.Placement.{Placement}
-use Rattle.rectangle_pack.specs.declared.pack.RectanglePackOk.{RectanglePackOk}
+use Rattle.rectangle_pack.specs.declared.pack.answer.Placement.{Placement}
+use Rattle.rectangle_pack.specs.declared.pack.answer.RectanglePackOk.{RectanglePackOk}
 
 -- the placements that a packing answers, in the order in which they were made
 abbrev pub placements_of : {Id B A : Type 0} → RectanglePackOk Id B A → List (Placement Id B)
@@ -36,6 +37,7 @@ module _ {Id B : Type 0} (cmp : Id → Id → Ordering) (bin_cmp : B → B → O
     pub bin : bin_cmp last.bin found.0 ≡ Equal
     pub location : found.1 ≡ last.location
 
-  -- each id that was placed is found at its last placement, and no other id is found
+  -- the ids ascend; each id that was placed is found at its last placement, and no other id is found
   pub record AreLastPlacements (placements : List (Placement Id B)) (found : List (Id × (B × Cuboid))) : Type 0 where
+    pub ascend : IsStrictlySortedBy cmp (keys_of found)
     pub each : (id : Id) → MatchOption (lookup (is_at (cmp id)) found) (All (λ p. is_eq (cmp id p.id) ≡ false) placements) (IsLastOf placements id)

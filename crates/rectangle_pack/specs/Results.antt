@@ -1,30 +1,59 @@
 -- When a packing has one result.
-use Rattle.std.specs.Prelude.{◌≡◌, ℕ, List, All}
+use Rattle.std.specs.Prelude.{◌≡◌, List, ◌⊎◌, Any, Contains}
 use Rattle.std.specs.List.{AllZip}
-use Rattle.std.specs.Map.{values_of}
 use Rattle.std.specs.declared.cmp.Ordering.{Ordering}
 use Rattle.std.specs.declared.cmp.Ordering.TheVariants.{Equal}
-use Rattle.rectangle_pack.specs.declared.pack.Placement.{Placement}
-use Rattle.rectangle_pack.specs.Boxes.{Size, IsU32, IsInside}
+use Rattle.rectangle_pack.specs.declared.grouped_rects_to_place.Group.{Group}
+use Rattle.rectangle_pack.specs.declared.pack.answer.Placement.{Placement}
+use Rattle.rectangle_pack.specs.Boxes.{Size, Cuboid, Holds, IsPartOf}
 use Rattle.rectangle_pack.specs.Bins.{Bin}
+use Rattle.rectangle_pack.specs.Closures.{Answers}
 use Rattle.rectangle_pack.specs.Choice.{IsFunction, IsPreorderOnCuts}
 use Rattle.rectangle_pack.specs.Groups.{Collection}
+use Rattle.rectangle_pack.specs.Packing.{Rules, PackingDone, PackingRefused}
 
--- the heuristic has one answer on each size, and the comparison is a total preorder on the cuts
-pub record ClosuresDecide (MayRate : Size → ℕ → Type 0) (MayPrefer : List Size → List Size → Ordering → Type 0) : Type 0 where
-  pub rates : IsFunction MayRate
-  pub prefers : IsPreorderOnCuts MayPrefer
+-- what may be cut up in a packing into these bins: the free sections, and their parts
+abbrev pub MayBeCut : List Bin → Cuboid → Type 0
+MayBeCut bins section = Any (λ (bin : Bin). Any (IsPartOf section) bin.sections) bins
 
--- the bin's size is of 32 bits, and each free section is inside the bin
-pub record IsBinU32 (bin : Bin) : Type 0 where
-  pub size : IsU32 bin.size
-  pub inside : All (IsInside bin.size) bin.sections
+-- what may be rated in a packing of boxes of these sizes into these bins: the size of a box, of a bin, or of a part of a free section, which the section holds
+abbrev pub MayBeRated : List Size → List Bin → Size → Type 0
+MayBeRated boxes bins size = Contains boxes size ⊎ Any (λ (bin : Bin). (size ≡ bin.size) ⊎ Any (λ s. Holds s size) bin.sections) bins
 
--- what each collection and each map of bins is: of 32 bits
-pub record AreU32 {Id B G : Type 0} (all : Collection Id G) (old : List (B × Bin)) : Type 0 where
-  pub sizes : All IsU32 (values_of all.sizes)
-  pub bins : All IsBinU32 (values_of old)
+-- the heuristic has one answer on each size that may be rated, and the comparison is a total preorder on the cuts of each section that may be cut round each box
+pub record ClosuresDecide (boxes : List Size) (bins : List Bin) (may : Answers) : Type 0 where
+  pub rates : IsFunction (λ size answer. MayBeRated boxes bins size × may.rate size answer)
+  pub prefers : IsPreorderOnCuts (λ section member. MayBeCut bins section × Contains boxes member) may.prefer
+
+-- two maps agree entry by entry: keys that are equal, and values that are alike
+abbrev pub AreMapsAlike : {K X : Type 0} → (K → K → Ordering) → (X → X → Type 0) → List (K × X) → List (K × X) → Type 0
+AreMapsAlike cmp Alike xs ys = AllZip (λ x y. (cmp x.0 y.0 ≡ Equal) × Alike x.1 y.1) xs ys
+
+-- the same bins under ids that are equal
+abbrev pub AreBinsAlike : {B : Type 0} → (B → B → Ordering) → List (B × Bin) → List (B × Bin) → Type 0
+AreBinsAlike bin_cmp xs ys = AreMapsAlike bin_cmp (λ a b. a ≡ b) xs ys
+
+-- the same sizes under ids that are equal, and lists of equal ids under groups that are equal
+pub record AreCollectionsAlike {Id G : Type 0} (group_cmp : Group G Id → Group G Id → Ordering) (cmp : Id → Id → Ordering) (one other : Collection Id G) : Type 0 where
+  pub sizes : AreMapsAlike cmp (λ a b. a ≡ b) one.sizes other.sizes
+  pub groups : AreMapsAlike group_cmp (λ a b. AllZip (λ x y. cmp x y ≡ Equal) a b) one.groups other.groups
 
 -- the same locations, place by place, under ids and bins that are equal
 abbrev pub AreAlike : {Id B : Type 0} → (Id → Id → Ordering) → (B → B → Ordering) → List (Placement Id B) → List (Placement Id B) → Type 0
 AreAlike cmp bin_cmp ps qs = AllZip (λ p q. (cmp p.id q.id ≡ Equal) × (bin_cmp p.bin q.bin ≡ Equal) × (p.location ≡ q.location)) ps qs
+
+-- the same locations, in bins that are equal, under ids that are equal
+abbrev pub AreLocationsAlike : {Id B : Type 0} → (Id → Id → Ordering) → (B → B → Ordering) → List (Id × (B × Cuboid)) → List (Id × (B × Cuboid)) → Type 0
+AreLocationsAlike cmp bin_cmp xs ys = AreMapsAlike cmp (λ a b. (bin_cmp a.0 b.0 ≡ Equal) × (a.1 ≡ b.1)) xs ys
+
+module _ {Id B G : Type 0} (group_cmp : Group G Id → Group G Id → Ordering) (rules : Rules Id B) where
+  -- two packings, each of its collection into its bins: where both are done, or both refused, what they leave is alike; and not one is done and the other refused
+  pub record HaveOneResult (all other_all : Collection Id G) (bins other_bins : List (B × Bin)) : Type 0 where
+    pub done : (ps qs : List (Placement Id B)) (m n : List (B × Bin)) → PackingDone group_cmp rules all bins ps m
+        → PackingDone group_cmp rules other_all other_bins qs n → AreBinsAlike rules.bin_cmp m n × AreAlike rules.id_cmp rules.bin_cmp ps qs
+    pub refused : (m n : List (B × Bin)) → PackingRefused group_cmp rules all bins m
+        → PackingRefused group_cmp rules other_all other_bins n → AreBinsAlike rules.bin_cmp m n
+    pub not_done_and_refused : (ps : List (Placement Id B)) (m n : List (B × Bin)) → PackingDone group_cmp rules all bins ps m
+        → PackingRefused group_cmp rules other_all other_bins n → ⊥
+    pub not_refused_and_done : (qs : List (Placement Id B)) (m n : List (B × Bin)) → PackingRefused group_cmp rules all bins m
+        → PackingDone group_cmp rules other_all other_bins qs n → ⊥

@@ -1,7 +1,7 @@
 -- One step of a list of sections, and one trial.
 use Rattle.std.specs.Prelude.{◌≡◌, ℕ, ◌+◌, List, [], ◌∷◌, ◌++◌, length, All, ◌⊎◌, nat_le, if◌then◌else◌, map, filter}
 use Rattle.std.specs.List.{AllZip, zip}
-use Rattle.std.specs.declared.cmp.Ordering.{Ordering}
+use Rattle.rectangle_pack.specs.Closures.{Answers}
 use Rattle.rectangle_pack.specs.Boxes.{Size, Cuboid, Holds, has_cells}
 use Rattle.rectangle_pack.specs.Cuts.{placed}
 use Rattle.rectangle_pack.specs.Choice.{IsAllowedCut}
@@ -22,7 +22,7 @@ pub record AreLeft (MayRate : Size → ℕ → Type 0) (cut left : List Cuboid) 
   pub rated : AllZip (λ piece rate. MayRate piece.whd rate) cut rates
   pub are : left ≡ filter has_cells (map (λ p. p.1) (by_falling_rate (zip rates cut)))
 
-module _ (MayRate : Size → ℕ → Type 0) (MayPrefer : List Size → List Size → Ordering → Type 0) where
+module _ (may : Answers) where
   -- a member goes to the corner of the last section that holds it; the section makes way for the pieces left of an allowed cut, at the end of the list;
   -- each section from there on is tested once
   pub record IsStep (sections : List Cuboid) (member : Size) (location : Cuboid) (next : List Cuboid) (tests : ℕ) : Type 0 where
@@ -34,9 +34,9 @@ module _ (MayRate : Size → ℕ → Type 0) (MayPrefer : List Size → List Siz
     pub newest : All (λ s. ¬ Holds s member) after
     pub location_is : location ≡ placed section member
     pub cut : List Cuboid
-    pub allowed : IsAllowedCut MayPrefer section member cut
+    pub allowed : IsAllowedCut may.prefer section member cut
     pub left : List Cuboid
-    pub are_left : AreLeft MayRate cut left
+    pub are_left : AreLeft may.rate cut left
     pub next_is : next ≡ before ++ after ++ left
     pub tests_are : tests ≡ 1 + length after
 

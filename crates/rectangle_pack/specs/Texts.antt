@@ -2,8 +2,8 @@
 use Rattle.std.specs.Prelude.{ℕ, List, codes}
 use Rattle.rectangle_pack.specs.declared.bin_section.BinSectionError.{BinSectionError}
 use Rattle.rectangle_pack.specs.declared.bin_section.BinSectionError.TheVariants.{PlacementWiderThanBinSection, PlacementTallerThanBinSection, PlacementDeeperThanBinSection}
-use Rattle.rectangle_pack.specs.declared.pack.RectanglePackError.{RectanglePackError}
-use Rattle.rectangle_pack.specs.declared.pack.RectanglePackError.TheVariants.{NotEnoughBinSpace, OutOfMemory}
+use Rattle.rectangle_pack.specs.declared.pack.answer.RectanglePackError.{RectanglePackError}
+use Rattle.rectangle_pack.specs.declared.pack.answer.RectanglePackError.TheVariants.{NotEnoughBinSpace, OutOfMemory}
 
 -- where the box is too large for the section; the words are the crate's
 abbrev pub fitting_text : BinSectionError → List ℕ

@@ -1,11 +1,12 @@
 //! Free sections of a bin, and how a box is placed into one.
-ghost use Rattle.std.specs.Prelude.{◌≡◌, ◌↔◌, ◌∷◌, List, All, IfOk, IsTrue, true};
+ghost use Rattle.std.specs.Prelude.{◌≡◌, ◌↔◌, ◌∷◌, List, IfOk, IsTrue, true};
 ghost use Rattle.std.specs.Bool.{OnFalse};
-ghost use Rattle.std.specs.Borrow.{Bor};
 ghost use Rattle.std.specs.Cmp.{IsTotalOrder};
-ghost use Rattle.rectangle_pack.specs.Boxes.{Size, Cuboid, section_order, Holds, IsU32, FitsU32, IsInside, SharesCell, AreApart, SpansMeet, has_cells};
+ghost use Rattle.rectangle_pack.specs.Boxes.{Size, Cuboid, section_order, Holds, FitsU32, IsInside, SharesCell, AreApart, has_cells};
+ghost use Rattle.rectangle_pack.specs.private.Spans.{SpansMeet};
+ghost use Rattle.rectangle_pack.specs.Closures.{CanRate, CanCompare, MayRateBy, MayCompare};
 ghost use Rattle.rectangle_pack.specs.Cuts.{placed, cuts, sizes_of};
-ghost use Rattle.rectangle_pack.specs.Choice.{MayCompare, IsAllowedCut, IsFunction, IsPreorderOnCuts};
+ghost use Rattle.rectangle_pack.specs.Choice.{IsAllowedCut, IsFunction, IsTotalPreorder, IsPreorderOnCuts};
 ghost use Rattle.rectangle_pack.specs.SmallestBox.{Rates, AreRates, smallest, second_smallest, IsSmallestOrder};
 ghost use Rattle.rectangle_pack.specs.Fitting.{IsFitAnswer};
 ghost use Rattle.rectangle_pack.specs.Counting.{Tiles, AreAllApart, Cover, HaveVolumeOf};
@@ -20,8 +21,8 @@ use std::marker::Model;
 
 /// Compares the pieces of two cuts: `Greater` where those of the first are better.
 ///
-/// The better cut is the one whose smallest piece is smaller, as the heuristic says; at a tie the one whose
-/// second smallest piece is smaller. The largest piece never decides.
+/// The better cut is the one whose smallest piece is smaller, as the heuristic says; at a tie the
+/// one whose second smallest piece is smaller. The largest piece never decides.
 pub fn contains_smallest_box<H>(
     container1: [WidthHeightDepth; 3],
     container2: [WidthHeightDepth; 3],
@@ -29,7 +30,7 @@ pub fn contains_smallest_box<H>(
 ) -> Ordering
 where
     H: Fn(WidthHeightDepth) -> u128,
-    requires { H.IsAlwaysCallable heuristic.now }
+    requires { CanRate H.Fn heuristic.now }
     ensures { IsSmallestOrder (H.post heuristic.now) container1 container2 result }
 {
     let (smallest1, second1) = two_smallest(container1, heuristic);
@@ -40,18 +41,32 @@ where
     }
 }
 
+// What the heuristic answers on a size.
+fn rate<H>(size: WidthHeightDepth, heuristic: &H) -> u128
+where
+    H: Fn(WidthHeightDepth) -> u128,
+    requires { CanRate H.Fn heuristic.now }
+    ensures { H.post heuristic.now size result }
+{
+    heuristic(size)
+}
+
 // The smallest and the second smallest of what the heuristic answers on the three sizes.
 fn two_smallest<H>(container: [WidthHeightDepth; 3], heuristic: &H) -> (u128, u128)
 where
     H: Fn(WidthHeightDepth) -> u128,
-    requires { H.IsAlwaysCallable heuristic.now }
+    requires { CanRate H.Fn heuristic.now }
     ensures { (rates : Rates) ×
         AreRates (H.post heuristic.now) container rates ×
         (result.0 ≡ smallest rates) ×
         (result.1 ≡ second_smallest rates) }
 {
     let [right, above, behind] = container;
-    let (a, b, c) = (heuristic(right), heuristic(above), heuristic(behind));
+    let (a, b, c) = (
+        rate(right, heuristic),
+        rate(above, heuristic),
+        rate(behind, heuristic),
+    );
     (a.min(b).min(c), a.min(b).max(a.max(b).min(c)))
 }
 
@@ -126,12 +141,13 @@ impl BinSection {
     /// Places a box at the section's corner and cuts what is left of the section into three pieces,
     /// right of the box, above it and behind it; empty pieces are given too.
     ///
-    /// The comparison is shown the sizes of the pieces of two cuts, in this order, and the heuristic; it answers
-    /// `Greater` where the first cut is better. Of the six cuts in their order, the first is taken up, and each
-    /// later one in its place unless the one taken up is `Greater`.
+    /// The comparison is shown the sizes of the pieces of two cuts, in this order, and the
+    /// heuristic; it answers `Greater` where the first cut is better. Of the six cuts in their
+    /// order, the first is taken up, and each later one in its place unless the one taken up is
+    /// `Greater`.
     ///
-    /// The caller sees to it that corner and size of the section add up to at most `u32::MAX` on each axis.
-    /// An error says on which axis the box is too large; no closure was asked then.
+    /// The caller sees to it that corner and size of the section add up to at most `u32::MAX` on
+    /// each axis. An error says on which axis the box is too large; no closure was asked then.
     ///
     /// ```
     /// let section = BinSection::new(0, 0, 0, WidthHeightDepth::new(100, 100, 1));
@@ -149,7 +165,7 @@ impl BinSection {
         H: Fn(WidthHeightDepth) -> u128,
         C: Fn([WidthHeightDepth; 3], [WidthHeightDepth; 3], &H) -> Ordering,
         requires ends { FitsU32 self.now }
-        requires comparable { (a b : List Size) (h : Bor H) → h.now ≡ heuristic_fn.now → C.pre container_comparison_fn.now a b h }
+        requires comparable { CanCompare C.Fn container_comparison_fn.now heuristic_fn.now }
         ensures fits { IsFitAnswer self.now incoming.now result }
         ensures location { IfOk result (λ p. p.0 ≡ placed self.now incoming.now) }
         ensures tiles { IfOk result (λ p. Tiles (p.0 ∷ p.1) self.now) }
@@ -262,7 +278,8 @@ fn spans_meet(start: u32, length: u32, other_start: u32, other_length: u32) -> b
 }
 
 fn section(x: u32, y: u32, z: u32, width: u32, height: u32, depth: u32) -> BinSection
-    ensures { result ≡ record { x = x; y = y; z = z; whd = record { width = width; height = height; depth = depth } } }
+    ensures { let whd : Size = record { width = width; height = height; depth = depth } in
+        result ≡ record { x = x; y = y; z = z; whd = whd } }
 {
     BinSection::new(x, y, z, WidthHeightDepth::of(width, height, depth))
 }
@@ -299,8 +316,8 @@ impl fmt::Display for BinSectionError {
 
 impl Error for BinSectionError {}
 
-/// A law: sections are in a total order, by x, then by y, then by z, then by size, in which two are equal where they
-/// are the same.
+/// A law: sections are in a total order, by x, then by y, then by z, then by size, in which two are
+/// equal where they are the same.
 pub fn sections_are_ordered()
     ensures total { IsTotalOrder ⟦<BinSection as Ord>⟧.cmp }
     ensures by_field { (a b : Cuboid) → ⟦<BinSection as Ord>⟧.cmp a b ≡ section_order a b }
@@ -313,15 +330,18 @@ pub fn sharing_is_symmetric()
     ensures { (a b : Cuboid) → SharesCell a b → SharesCell b a }
 {}
 
-/// A law: with a heuristic that has one answer on each size, a comparison that answers as `contains_smallest_box`
-/// does is a total preorder on the cuts of each section, so that `try_place` takes a cut than which none is better.
+/// A law: with a heuristic that has one answer on each size, a comparison that answers as
+/// `contains_smallest_box` does is a total preorder on all triples of sizes, and so on the cuts of
+/// each section: `try_place` takes a cut than which none is better.
 pub fn smallest_box_is_preorder<H, C>(heuristic: &H, comparison: &C)
 where
     H: Fn(WidthHeightDepth) -> u128,
     C: Fn([WidthHeightDepth; 3], [WidthHeightDepth; 3], &H) -> Ordering,
-    ensures { IsFunction (H.post heuristic.now) →
-        ((a b : List Size) (r : Ordering) → All IsU32 a → All IsU32 b →
+    requires one_rate { IsFunction (MayRateBy H.Fn heuristic.now) }
+    requires smallest { (a b : List Size) (r : Ordering) →
         MayCompare C.Fn comparison.now heuristic.now a b r →
-        IsSmallestOrder (H.post heuristic.now) a b r) →
-        IsPreorderOnCuts (MayCompare C.Fn comparison.now heuristic.now) }
+        IsSmallestOrder (H.post heuristic.now) a b r }
+    ensures triples { IsTotalPreorder (MayCompare C.Fn comparison.now heuristic.now) }
+    ensures cuts { IsPreorderOnCuts (λ section member. Unit {0})
+        (MayCompare C.Fn comparison.now heuristic.now) }
 {}

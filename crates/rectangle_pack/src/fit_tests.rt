@@ -4,8 +4,9 @@ ghost use Rattle.rectangle_pack.specs.Orders.{saturated};
 
 use std::marker::Model;
 
-/// How many fit tests were made: a member that is placed costs one for its section and one for each section after
-/// it, a member that is stuck costs one for each section of the list. It stays at the greatest `u128`.
+/// How many fit tests were made: a member that is placed costs one for its section and one for each
+/// section after it, a member that is stuck costs one for each section of the list. It stays at the
+/// greatest `u128`.
 #[derive(Debug, PartialEq, Drop)]
 pub struct FitTests {
     count: u128,

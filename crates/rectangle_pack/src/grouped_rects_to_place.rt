@@ -5,7 +5,10 @@ ghost use Rattle.std.specs.Option.{ForSome};
 ghost use Rattle.std.specs.List.Sorted.{IsStrictlySortedBy};
 ghost use Rattle.std.specs.Map.{lookup, keys_of};
 ghost use Rattle.std.specs.BTreeMap.{get, is_at, insert_entry};
-ghost use Rattle.rectangle_pack.specs.Groups.{PushesAlone, PushesInto, MembersHaveSizes, lists_of};
+ghost use Rattle.rectangle_pack.specs.Groups.{Collection, PushesAlone, PushesInto, MembersHaveSizes, lists_of};
+ghost use Rattle.rectangle_pack.specs.Boxes.{Size};
+ghost use Rattle.rectangle_pack.specs.Results.{AreCollectionsAlike};
+ghost use Rattle.std.specs.List.{AllZip};
 ghost use Rattle.rectangle_pack.specs.declared.grouped_rects_to_place.Group.TheVariants.{Ungrouped, Grouped};
 
 use crate::lists::{append_each, forget_empty, make_rooms};
@@ -23,15 +26,20 @@ pub enum Group<GroupId, Id> {
     Grouped(GroupId),
 }
 
-/// A law: every `Ungrouped` group stands before every `Grouped` one, and within each they go by id. Two groups are
-/// equal where their order says so.
+/// A law: every `Ungrouped` group stands before every `Grouped` one, and within each they go by id.
+/// Two groups are equal where their order says so.
 pub fn groups_are_ordered<GroupId: Ord, Id: Ord>()
-    ensures ungrouped_first { (a : Id) → (b : GroupId) → ⟦<Group<GroupId, Id> as Ord>⟧.cmp (Ungrouped a) (Grouped b) ≡ Less }
-    ensures grouped_last { (a : GroupId) → (b : Id) → ⟦<Group<GroupId, Id> as Ord>⟧.cmp (Grouped a) (Ungrouped b) ≡ Greater }
-    ensures ungrouped_by_id { (a b : Id) → ⟦<Group<GroupId, Id> as Ord>⟧.cmp (Ungrouped a) (Ungrouped b) ≡ Id.cmp a b }
-    ensures grouped_by_id { (a b : GroupId) → ⟦<Group<GroupId, Id> as Ord>⟧.cmp (Grouped a) (Grouped b) ≡ GroupId.cmp a b }
+    ensures ungrouped_first { (a : Id) → (b : GroupId) →
+        ⟦<Group<GroupId, Id> as Ord>⟧.cmp (Ungrouped a) (Grouped b) ≡ Less }
+    ensures grouped_last { (a : GroupId) → (b : Id) →
+        ⟦<Group<GroupId, Id> as Ord>⟧.cmp (Grouped a) (Ungrouped b) ≡ Greater }
+    ensures ungrouped_by_id { (a b : Id) →
+        ⟦<Group<GroupId, Id> as Ord>⟧.cmp (Ungrouped a) (Ungrouped b) ≡ Id.cmp a b }
+    ensures grouped_by_id { (a b : GroupId) →
+        ⟦<Group<GroupId, Id> as Ord>⟧.cmp (Grouped a) (Grouped b) ≡ GroupId.cmp a b }
     ensures same_where_equal { (a b : Group GroupId Id) →
-        (⟦<Group<GroupId, Id> as Ord>⟧.cmp a b ≡ Equal) ↔ (⟦<Group<GroupId, Id> as PartialEq>⟧.eq a b ≡ true) }
+        (⟦<Group<GroupId, Id> as Ord>⟧.cmp a b ≡ Equal) ↔
+        (⟦<Group<GroupId, Id> as PartialEq>⟧.eq a b ≡ true) }
 {}
 
 /// Boxes that are to be placed, each under its id and in one or more groups.
@@ -86,13 +94,16 @@ impl<Id: Ord + Clone + Drop, GroupId: Ord + Clone + Drop, A: Allocator + Copy> G
         &self.rects
     }
 
-    /// Takes in the box `inbound` under the id `inbound_id`, in place of a box that it may have had.
+    /// Takes in the box `inbound` under the id `inbound_id`, in place of a box that it may have
+    /// had.
     ///
-    /// With `None` the id forms a group of its own. With a list it is appended to each group of the list, once for
-    /// each time that the group is in the list. It also stays in the groups that it was in before.
+    /// With `None` the id forms a group of its own. With a list it is appended to each group of the
+    /// list, once for each time that the group is in the list. It also stays in the groups that it
+    /// was in before.
     ///
-    /// The caller sees to it that a given list is not empty, and that clones of ids equal their originals.
-    /// `AllocError` says that a growth or a clone was refused. The collection is then as it was.
+    /// The caller sees to it that a given list is not empty, and that clones of ids equal their
+    /// originals. `AllocError` says that a growth or a clone was refused. The collection is then as
+    /// it was.
     pub fn push_rect(
         &mut self,
         inbound_id: Id,
@@ -103,11 +114,10 @@ impl<Id: Ord + Clone + Drop, GroupId: Ord + Clone + Drop, A: Allocator + Copy> G
         requires group_ids { (a b : GroupId) → GroupId.is_clone a b → IsTrue (GroupId.eq a b) }
         requires given { ForSome group_ids (λ named. 0 < vec_len named) }
         ensures ok { OnOk result
-            (MatchOption group_ids
-            (PushesAlone Id.cmp ⟦<Group<GroupId, Id> as Ord>⟧.cmp self.old self.new inbound_id inbound)
-            (λ named.
-            PushesInto Id.cmp ⟦<Group<GroupId, Id> as Ord>⟧.cmp self.old self.new inbound_id
-            named.items inbound)) }
+            (let groups = ⟦<Group<GroupId, Id> as Ord>⟧.cmp in
+            MatchOption group_ids
+            (PushesAlone Id.cmp groups self.old self.new inbound_id inbound)
+            (λ named. PushesInto Id.cmp groups self.old self.new inbound_id named.items inbound)) }
         ensures err { OnErr result (self.new ≡ self.old) }
     {
         match group_ids {
@@ -116,11 +126,13 @@ impl<Id: Ord + Clone + Drop, GroupId: Ord + Clone + Drop, A: Allocator + Copy> G
         }
     }
 
-    // A refused insert of the size hands the id back, which is then the key of the list to take back.
+    // A refused insert of the size hands the id back, which is then the key of the list to take
+    // back.
     fn push_alone(&mut self, inbound_id: Id, inbound: RectToInsert) -> Result<(), AllocError>
         requires ids { (a b : Id) → Id.is_clone a b → IsTrue (Id.eq a b) }
         ensures ok { OnOk result
-            (PushesAlone Id.cmp ⟦<Group<GroupId, Id> as Ord>⟧.cmp self.old self.new inbound_id inbound) }
+            (PushesAlone Id.cmp ⟦<Group<GroupId, Id> as Ord>⟧.cmp self.old self.new inbound_id
+            inbound) }
         ensures err { OnErr result (self.new ≡ self.old) }
     {
         let key = Group::Ungrouped(inbound_id.clone()?);
@@ -139,7 +151,8 @@ impl<Id: Ord + Clone + Drop, GroupId: Ord + Clone + Drop, A: Allocator + Copy> G
         }
     }
 
-    // Room is made first in the lists of all groups, so that nothing can fail after the size is set.
+    // Room is made first in the lists of all groups, so that nothing can fail after the size is
+    // set.
     fn push_grouped(
         &mut self,
         inbound_id: Id,
@@ -173,6 +186,29 @@ impl<Id: Ord + Clone + Drop, GroupId: Ord + Clone + Drop, A: Allocator + Copy> G
     }
 }
 
+/// A law: equal pushes into equal collections leave equal collections, where ids and groups are
+/// equal as their orders say.
+pub fn equal_pushes_leave_equal_collections<Id: Ord, GroupId: Ord>()
+    ensures alone { let groups = ⟦<Group<GroupId, Id> as Ord>⟧.cmp in
+        (old new other_old other_new : Collection Id GroupId) (id other_id : Id) (size : Size) →
+        AreCollectionsAlike groups Id.cmp old other_old →
+        Id.cmp id other_id ≡ Equal →
+        PushesAlone Id.cmp groups old new id size →
+        PushesAlone Id.cmp groups other_old other_new other_id size →
+        AreCollectionsAlike groups Id.cmp new other_new }
+    ensures grouped { let groups = ⟦<Group<GroupId, Id> as Ord>⟧.cmp in
+        (old new other_old other_new : Collection Id GroupId) (id other_id : Id)
+        (named other_named : List GroupId) (size : Size) →
+        AreCollectionsAlike groups Id.cmp old other_old →
+        Id.cmp id other_id ≡ Equal →
+        AllZip (λ a b. GroupId.cmp a b ≡ Equal) named other_named →
+        IsStrictlySortedBy groups (keys_of new.groups) →
+        IsStrictlySortedBy groups (keys_of other_new.groups) →
+        PushesInto Id.cmp groups old new id named size →
+        PushesInto Id.cmp groups other_old other_new other_id other_named size →
+        AreCollectionsAlike groups Id.cmp new other_new }
+{}
+
 // Takes back an insert at an equal key, where `before` is what it answered.
 fn restore<K: Ord + Drop, V: Drop, A: Allocator + Copy>(
     map: &mut BTreeMap<K, V, A>,
@@ -180,8 +216,11 @@ fn restore<K: Ord + Drop, V: Drop, A: Allocator + Copy>(
     before: Option<V>,
 )
     requires has { IsSome (get K.cmp map.old key.now) }
-    ensures { (was : List (K × V)) → (k : K) → (v : V) → IsStrictlySortedBy K.cmp (keys_of was) → K.cmp key.now k ≡ Equal
-        → before ≡ lookup (is_at (K.cmp k)) was → map.old.entries ≡ insert_entry K.cmp was k v → map.new.entries ≡ was }
+    ensures { (was : List (K × V)) (k : K) (v : V) → IsStrictlySortedBy K.cmp (keys_of was) →
+        K.cmp key.now k ≡ Equal →
+        before ≡ lookup (is_at (K.cmp k)) was →
+        map.old.entries ≡ insert_entry K.cmp was k v →
+        map.new.entries ≡ was }
 {
     match before {
         None => {

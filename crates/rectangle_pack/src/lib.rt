@@ -3,6 +3,7 @@
 
 pub mod bin_section;
 pub mod box_size_heuristics;
+mod closures;
 pub mod fit_tests;
 pub mod grouped_rects_to_place;
 mod lists;

@@ -4,10 +4,12 @@ ghost use Rattle.std.specs.BTreeMap.{get};
 ghost use Rattle.std.specs.List.{sum_by};
 ghost use Rattle.std.specs.Map.{values_of};
 ghost use Rattle.std.specs.List.Sorted.{IsPermutation, IsSorted};
-ghost use Rattle.rectangle_pack.specs.Orders.{IsGroupKey, IsBinOrder, IsGroupOrder, falling_then, keys_of_order, entries_at};
+ghost use Rattle.rectangle_pack.specs.Orders.{IsGroupKey, IsBinOrder, IsGroupOrder, falling_then};
+ghost use Rattle.rectangle_pack.specs.private.Orders.{keys_of_order, entries_at};
 ghost use Rattle.rectangle_pack.specs.Packing.{bins_of};
 ghost use Rattle.rectangle_pack.specs.Groups.{MembersHaveSizes, lists_of};
 
+use crate::closures::Ask;
 use crate::rect_to_insert::RectToInsert;
 use crate::target_bin::TargetBin;
 use crate::width_height_depth::WidthHeightDepth;
@@ -16,41 +18,42 @@ use std::cmp::Reverse;
 use std::collections::BTreeMap;
 
 // The saturating sum of the rates of the ids' sizes.
-fn group_key<Id, H, A>(ids: &[Id], rects: &BTreeMap<Id, RectToInsert, A>, heuristic: &H) -> u128
+fn group_key<Id, R, A>(ids: &[Id], rects: &BTreeMap<Id, RectToInsert, A>, rules: &R) -> u128
 where
     Id: Ord,
-    H: Fn(WidthHeightDepth) -> u128,
+    R: Ask,
     A: Allocator,
     requires known { All (λ id. IsSome (get Id.cmp rects.now id)) ids.now }
-    requires callable { H.IsAlwaysCallable heuristic.now }
-    ensures { IsGroupKey (H.post heuristic.now) Id.cmp rects.now.entries ids.now result }
+    requires callable { R.can_ask rules.now }
+    ensures { IsGroupKey (R.may rules.now).rate Id.cmp rects.now.entries ids.now result }
 {
     let mut key = 0u128;
     for id in ids {
         let size = WidthHeightDepth::from(*rects.get(id).unwrap());
-        key = key.saturating_add(heuristic(size));
+        key = key.saturating_add(rules.rate(size));
     }
     key
 }
 
 // All bins, by rising rate of their whole sizes and then by id.
-pub(crate) fn bin_order<B, H, A>(
+pub(crate) fn bin_order<B, R, A>(
     alloc: A,
     bins: &BTreeMap<B, TargetBin<A>, A>,
-    heuristic: &H,
+    rules: &R,
 ) -> Result<Vec<(u128, B), A>, AllocError>
 where
     B: Ord + Clone + Drop,
-    H: Fn(WidthHeightDepth) -> u128,
+    R: Ask,
     A: Allocator + Copy,
     requires bin_ids { (a b : B) → B.is_clone a b → IsTrue (B.eq a b) }
-    requires callable { H.IsAlwaysCallable heuristic.now }
-    ensures order { IfOk result (λ v. IsBinOrder (H.post heuristic.now) B.cmp (bins_of bins.now.entries) v.items) }
+    requires callable { R.can_ask rules.now }
+    ensures order { IfOk result
+        (λ v. IsBinOrder (R.may rules.now).rate B.cmp (bins_of bins.now.entries) v.items) }
     ensures found { IfOk result (λ v. All (λ o. IsSome (get B.cmp bins.now o.1)) v.items) }
 {
     let mut order = Vec::with_capacity(alloc, bins.len())?;
     for (id, bin) in bins {
-        order.push((heuristic(bin.max_size()), id.clone()?))?;
+        order.push((rules.rate(bin.max_size()), id.clone()?))?;
     }
     order.sort_unstable();
     Ok(order)
@@ -58,7 +61,8 @@ where
 
 // By falling key, and then by what the references point to.
 fn sort_falling<K: Ord, A: Allocator>(order: &mut Vec<(Reverse<u128>, &K), A>)
-    ensures permutation { IsPermutation (keys_of_order order.old.items) (keys_of_order order.new.items) }
+    ensures permutation { IsPermutation (keys_of_order order.old.items)
+        (keys_of_order order.new.items) }
     ensures same { IsPermutation order.old.items order.new.items }
     ensures falling { IsSorted (falling_then K.cmp) (keys_of_order order.new.items) }
 {
@@ -66,23 +70,23 @@ fn sort_falling<K: Ord, A: Allocator>(order: &mut Vec<(Reverse<u128>, &K), A>)
 }
 
 // All groups, by falling key and then by name.
-pub(crate) fn group_order<'a, Id, K, H, A>(
+pub(crate) fn group_order<'a, Id, K, R, A>(
     alloc: A,
     rects: &BTreeMap<Id, RectToInsert, A>,
     lists: &'a BTreeMap<K, Vec<Id, A>, A>,
-    heuristic: &H,
+    rules: &R,
 ) -> Result<Vec<(Reverse<u128>, &'a K), A>, AllocError>
 where
     Id: Ord,
     K: Ord,
-    H: Fn(WidthHeightDepth) -> u128,
+    R: Ask,
     A: Allocator + Copy,
     requires sized { MembersHaveSizes Id.cmp rects.now.entries (lists_of lists.now.entries) }
-    requires callable { H.IsAlwaysCallable heuristic.now }
+    requires callable { R.can_ask rules.now }
     ensures order { IfOk result
         (λ v.
-        IsGroupOrder (H.post heuristic.now) K.cmp Id.cmp rects.now.entries (lists_of lists.now.entries)
-        (keys_of_order v.items)) }
+        IsGroupOrder (R.may rules.now).rate K.cmp Id.cmp rects.now.entries
+        (lists_of lists.now.entries) (keys_of_order v.items)) }
     ensures listed { IfOk result (λ v. All (λ o. IsSome (get K.cmp lists.now o.1.now)) v.items) }
     ensures counted { IfOk result
         (λ v.
@@ -91,7 +95,7 @@ where
 {
     let mut order = Vec::with_capacity(alloc, lists.len())?;
     for (group, ids) in lists {
-        order.push((Reverse(group_key(ids.as_slice(), rects, heuristic)), group))?;
+        order.push((Reverse(group_key(ids.as_slice(), rects, rules)), group))?;
     }
     sort_falling(&mut order);
     Ok(order)

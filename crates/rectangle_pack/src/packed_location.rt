@@ -35,9 +35,21 @@ impl Model for PackedLocation {
 
     ghost view = { λ a. record { x = a.x; y = a.y; z = a.z; whd = a.whd } };
 
-    ghost invariant = { λ a. (a.x_axis_rotation ≡ ZeroDegrees) × (a.y_axis_rotation ≡ ZeroDegrees) × (a.z_axis_rotation ≡ ZeroDegrees) };
+    ghost invariant = { λ a.
+        (a.x_axis_rotation ≡ ZeroDegrees) ×
+        (a.y_axis_rotation ≡ ZeroDegrees) ×
+        (a.z_axis_rotation ≡ ZeroDegrees) };
 
-    ghost inverse = { λ s. record { x = s.x; y = s.y; z = s.z; whd = s.whd; x_axis_rotation = ZeroDegrees; y_axis_rotation = ZeroDegrees; z_axis_rotation = ZeroDegrees } };
+    ghost inverse = { λ s.
+        record {
+          x = s.x;
+          y = s.y;
+          z = s.z;
+          whd = s.whd;
+          x_axis_rotation = ZeroDegrees;
+          y_axis_rotation = ZeroDegrees;
+          z_axis_rotation = ZeroDegrees;
+        } };
 
     ghost use Rattle.std.proofs.Common.{ap, sym, ◌∙◌};
 

@@ -22,9 +22,18 @@ impl Model for RectToInsert {
 
     ghost view = { λ a. a.whd };
 
-    ghost invariant = { λ a. (a.allow_global_x_axis_rotation ≡ false) × (a.allow_global_y_axis_rotation ≡ false) × (a.allow_global_z_axis_rotation ≡ false) };
+    ghost invariant = { λ a.
+        (a.allow_global_x_axis_rotation ≡ false) ×
+        (a.allow_global_y_axis_rotation ≡ false) ×
+        (a.allow_global_z_axis_rotation ≡ false) };
 
-    ghost inverse = { λ s. record { whd = s; allow_global_x_axis_rotation = false; allow_global_y_axis_rotation = false; allow_global_z_axis_rotation = false } };
+    ghost inverse = { λ s.
+        record {
+          whd = s;
+          allow_global_x_axis_rotation = false;
+          allow_global_y_axis_rotation = false;
+          allow_global_z_axis_rotation = false;
+        } };
 
     ghost use Rattle.std.proofs.Common.{ap, sym, ◌∙◌};
 

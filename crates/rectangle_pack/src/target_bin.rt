@@ -1,17 +1,17 @@
 //! Bins and their free sections.
-ghost use Rattle.std.specs.Prelude.{ℕ, ◌≡◌, ◌+◌, ◌≤◌, ◌<◌, ◌++◌, ◌∷◌, [], List, IfOk, OnOk, OnErr, IfNone, IfSome, IsOk, IsTrue, ◌↔◌, length, remove, filter, All, AllPairs};
-ghost use Rattle.std.specs.Borrow.{Bor};
-ghost use Rattle.rectangle_pack.specs.Boxes.{Size, Cuboid, IsInside, AreApart, has_cells};
+ghost use Rattle.std.specs.Prelude.{ℕ, ◌≡◌, ◌+◌, ◌≤◌, ◌<◌, ◌++◌, ◌∷◌, [], List, IfOk, OnOk, OnErr, IfNone, IfSome, IsOk, IsTrue, ◌↔◌, length, remove, filter, All};
+ghost use Rattle.rectangle_pack.specs.Boxes.{Size, Cuboid, AreApart, has_cells};
+ghost use Rattle.rectangle_pack.specs.Closures.{AreCallable, answers};
 ghost use Rattle.rectangle_pack.specs.Pushes.{IsFirstSharing, IsPushAnswer};
 ghost use Rattle.rectangle_pack.specs.Bins.{whole, IsSound, IsAccepted};
-ghost use Rattle.rectangle_pack.specs.Choice.{MayCompare};
 ghost use Rattle.rectangle_pack.specs.Counting.{AreAllApart};
 ghost use Rattle.rectangle_pack.specs.Keeping.{KeepCells};
-ghost use Rattle.rectangle_pack.specs.Orders.{saturated};
-ghost use Rattle.rectangle_pack.specs.Steps.{IsStep, IsDone, IsStuck};
-ghost use Rattle.rectangle_pack.specs.Journal.{before_notes, CanUndo};
+ghost use Rattle.rectangle_pack.specs.Steps.{IsStep, IsDone};
+ghost use Rattle.rectangle_pack.specs.Trials.{IsTrialAnswer};
+ghost use Rattle.rectangle_pack.specs.private.Journal.{before_notes, CanUndo};
 
 use crate::bin_section::BinSection;
+use crate::closures::{Ask, Closures};
 use crate::fit_tests::FitTests;
 use crate::packed_location::PackedLocation;
 use crate::rect_to_insert::RectToInsert;
@@ -58,7 +58,8 @@ impl fmt::Display for PushBinSectionError {
     }
 }
 
-/// A bin: its size, and the list of its free sections. Each free section is inside the bin, and no two share a cell.
+/// A bin: its size, and the list of its free sections. Each free section is inside the bin, and no
+/// two share a cell.
 #[derive(Drop)]
 #[derive_where(Debug)]
 pub struct TargetBin<A: Allocator + Copy = Global> {
@@ -72,7 +73,11 @@ impl<A: Allocator + Copy> Model for TargetBin<A> {
 
     ghost Value = { Held };
 
-    ghost view = { λ b. record { bin = record { size = b.max_size; sections = b.available_bin_sections.items }; room = vec_capacity b.available_bin_sections } };
+    ghost view = { λ b.
+        record {
+          bin = record { size = b.max_size; sections = b.available_bin_sections.items };
+          room = vec_capacity b.available_bin_sections;
+        } };
 
     ghost invariant = { λ b. IsSound b.max_size b.available_bin_sections.items };
 }
@@ -93,7 +98,8 @@ fn first_sharing(sections: &[BinSection], section: &BinSection) -> Option<BinSec
 impl<A: Allocator + Copy> TargetBin<A> {
     /// A bin of this size with one free section, which is all of it; any size will do.
     pub fn new(alloc: A, width: u32, height: u32, depth: u32) -> Result<Self, AllocError>
-        ensures size { IfOk result (λ b. b.bin.size ≡ record { width = width; height = height; depth = depth }) }
+        ensures size { IfOk result
+            (λ b. b.bin.size ≡ record { width = width; height = height; depth = depth }) }
         ensures sections { IfOk result (λ b. b.bin.sections ≡ whole b.bin.size ∷ []) }
     {
         let max_size = WidthHeightDepth::of(width, height, depth);
@@ -140,22 +146,24 @@ impl<A: Allocator + Copy> TargetBin<A> {
             && first_sharing(self.available_bin_sections.as_slice(), section).is_none()
     }
 
-    /// Takes the section at the index out of the list, which closes up. The caller sees to it that the index is
-    /// below the length of the list.
+    /// Takes the section at the index out of the list, which closes up. The caller sees to it that
+    /// the index is below the length of the list.
     pub fn remove_filled_section(&mut self, idx: usize)
         requires { idx < length self.old.bin.sections }
-        ensures { self.new.bin ≡ record self.old.bin { sections = remove self.old.bin.sections idx } }
+        ensures { self.new.bin ≡
+            record self.old.bin { sections = remove self.old.bin.sections idx } }
     {
         self.available_bin_sections.remove(idx);
     }
 
-    /// Puts those of the three sections that are not empty at the end of the list, in this order. An error is want
-    /// of memory, and leaves the bin as it was.
+    /// Puts those of the three sections that are not empty at the end of the list, in this order.
+    /// An error is want of memory, and leaves the bin as it was.
     ///
-    /// The caller sees to it that they are inside the bin and share no cell with each other or with a free section.
+    /// The caller sees to it that the bin accepts each of those and that no two of them share a
+    /// cell.
     pub fn add_new_sections(&mut self, sections: [BinSection; 3]) -> Result<(), AllocError>
-        requires inside { All (IsInside self.old.bin.size) (filter has_cells sections) }
-        requires apart { AllPairs AreApart (self.old.bin.sections ++ filter has_cells sections) }
+        requires accepted { All (IsAccepted self.old.bin) (filter has_cells sections) }
+        requires apart { AreAllApart (filter has_cells sections) }
         ensures ok { OnOk result
             (self.new.bin ≡
             record self.old.bin { sections = self.old.bin.sections ++ filter has_cells sections }) }
@@ -166,8 +174,8 @@ impl<A: Allocator + Copy> TargetBin<A> {
         Ok(())
     }
 
-    /// Gives a section back: puts it at the end of the list where the bin accepts it. An error leaves the bin as it
-    /// was; an empty section inside the bin is accepted.
+    /// Gives a section back: puts it at the end of the list where the bin accepts it. An error
+    /// leaves the bin as it was; an empty section inside the bin is accepted.
     pub fn push_available_bin_section(
         &mut self,
         bin_section: BinSection,
@@ -190,25 +198,28 @@ impl<A: Allocator + Copy> TargetBin<A> {
         }
     }
 
-    /// Puts a section at the end of the list. The caller sees to it that the bin accepts it. An error is want of
-    /// memory, and leaves the bin as it was.
+    /// Puts a section at the end of the list. The caller sees to it that the bin accepts it. An
+    /// error is want of memory, and leaves the bin as it was.
     pub fn push_available_bin_section_unchecked(
         &mut self,
         bin_section: BinSection,
     ) -> Result<(), AllocError>
         requires { IsAccepted self.old.bin bin_section }
         ensures ok { OnOk result
-            (self.new.bin ≡ record self.old.bin { sections = self.old.bin.sections ++ bin_section ∷ [] }) }
+            (self.new.bin ≡
+            record self.old.bin { sections = self.old.bin.sections ++ bin_section ∷ [] }) }
         ensures err { OnErr result (self.new.bin ≡ self.old.bin) }
     {
         self.available_bin_sections.push(bin_section)?;
         Ok(())
     }
 
-    /// One trial: places the members in order, each into the newest section that holds it, and answers their
-    /// locations; `None` where some member finds no section. `None` and an error leave the bin as it was.
+    /// One trial: places the members in order, each into the newest section that holds it, and
+    /// answers their locations; `None` where some member finds no section. `None` and an error
+    /// leave the bin as it was.
     ///
-    /// The counter grows by the fit tests of the trial. An error is want of memory; without members none is taken.
+    /// The counter grows by the fit tests of the trial. An error is want of memory; without members
+    /// none is taken.
     pub fn place_all<H, C>(
         &mut self,
         members: &[RectToInsert],
@@ -219,70 +230,41 @@ impl<A: Allocator + Copy> TargetBin<A> {
     where
         H: Fn(WidthHeightDepth) -> u128,
         C: Fn([WidthHeightDepth; 3], [WidthHeightDepth; 3], &H) -> Ordering,
-        requires callable { H.IsAlwaysCallable heuristic.now }
-        requires comparable { (a b : List Size) (h : Bor H) → h.now ≡ heuristic.now → C.pre comparison.now a b h }
-        ensures size { self.new.bin.size ≡ self.old.bin.size }
-        ensures done { IfOk result
-            (λ o.
-            IfSome o
-            (λ v.
-            (count : ℕ) ×
-            IsDone (H.post heuristic.now) (MayCompare C.Fn comparison.now heuristic.now)
-            self.old.bin.sections members.now v.items self.new.bin.sections count ×
-            (tests.new ≡ saturated (tests.old + count)))) }
-        ensures stuck { IfOk result
-            (λ o.
-            IfNone o
-            ((count : ℕ) ×
-            IsStuck (H.post heuristic.now) (MayCompare C.Fn comparison.now heuristic.now)
-            self.old.bin.sections members.now count ×
-            (tests.new ≡ saturated (tests.old + count)))) }
-        ensures unchanged { IfOk result (λ o. IfNone o (self.new.bin ≡ self.old.bin)) }
-        ensures err { OnErr result (self.new.bin ≡ self.old.bin) }
-        ensures err_counts { OnErr result (tests.new ≡ tests.old) }
+        requires callable { AreCallable H.Fn C.Fn heuristic.now comparison.now }
+        ensures answer { IsTrialAnswer (answers H.Fn C.Fn heuristic.now comparison.now)
+            self.old.bin members.now tests.old result self.new.bin tests.new }
         ensures no_members { length members.now ≡ 0 → IsOk result }
     {
         let mut notes = Vec::new(*self.available_bin_sections.allocator());
-        self.place_noted(members, heuristic, comparison, tests, &mut notes)
+        let rules = Closures {
+            heuristic,
+            comparison,
+        };
+        self.place_noted(members, &rules, tests, &mut notes)
     }
 
     // One trial; where it is done, what undoes it is noted. The room is made before the first step.
-    pub(crate) fn place_noted<H, C>(
+    pub(crate) fn place_noted<R>(
         &mut self,
         members: &[RectToInsert],
-        heuristic: &H,
-        comparison: &C,
+        rules: &R,
         tests: &mut FitTests,
         notes: &mut Vec<Note, A>,
     ) -> Result<Option<Vec<PackedLocation, A>>, AllocError>
     where
-        H: Fn(WidthHeightDepth) -> u128,
-        C: Fn([WidthHeightDepth; 3], [WidthHeightDepth; 3], &H) -> Ordering,
-        requires callable { H.IsAlwaysCallable heuristic.now }
-        requires comparable { (a b : List Size) (h : Bor H) → h.now ≡ heuristic.now → C.pre comparison.now a b h }
+        R: Ask,
+        requires callable { R.can_ask rules.now }
         requires no_notes { notes.old.items ≡ [] }
-        ensures size { self.new.bin.size ≡ self.old.bin.size }
+        ensures answer { IsTrialAnswer (R.may rules.now) self.old.bin members.now
+            tests.old result self.new.bin tests.new }
         ensures room { self.old.room ≤ self.new.room }
-        ensures done { IfOk result
+        ensures before { IfOk result
             (λ o.
             IfSome o
-            (λ v.
-            (count : ℕ) ×
-            IsDone (H.post heuristic.now) (MayCompare C.Fn comparison.now heuristic.now)
-            self.old.bin.sections members.now v.items self.new.bin.sections count ×
-            (tests.new ≡ saturated (tests.old + count)))) }
-        ensures before { IfOk result
-            (λ o. IfSome o (λ v. before_notes notes.new.items self.new.bin.sections ≡ self.old.bin.sections)) }
-        ensures can_undo { IfOk result (λ o. IfSome o (λ v. CanUndo self.new.room notes.new.items self.new.bin.sections)) }
-        ensures stuck { IfOk result
+            (λ v. before_notes notes.new.items self.new.bin.sections ≡ self.old.bin.sections)) }
+        ensures can_undo { IfOk result
             (λ o.
-            IfNone o
-            ((count : ℕ) ×
-            IsStuck (H.post heuristic.now) (MayCompare C.Fn comparison.now heuristic.now)
-            self.old.bin.sections members.now count ×
-            (tests.new ≡ saturated (tests.old + count)))) }
-        ensures unchanged { IfOk result (λ o. IfNone o (self.new.bin ≡ self.old.bin)) }
-        ensures err { OnErr result ((self.new.bin ≡ self.old.bin) × (tests.new ≡ tests.old)) }
+            IfSome o (λ v. CanUndo self.new.room notes.new.items self.new.bin.sections)) }
         ensures no_members { length members.now ≡ 0 → IsOk result }
         ensures sound { IsSound self.old.bin.size self.old.bin.sections }
     {
@@ -293,8 +275,7 @@ impl<A: Allocator + Copy> TargetBin<A> {
         let done = run_trial(
             &mut self.available_bin_sections,
             members,
-            heuristic,
-            comparison,
+            rules,
             tests,
             notes,
             &mut locations,
@@ -305,9 +286,11 @@ impl<A: Allocator + Copy> TargetBin<A> {
     // Undoes a noted trial. Takes no memory.
     pub(crate) fn undo_notes(&mut self, notes: &mut Vec<Note, A>)
         requires can { CanUndo self.old.room notes.old.items self.old.bin.sections }
-        requires sound { IsSound self.old.bin.size (before_notes notes.old.items self.old.bin.sections) }
+        requires sound { IsSound self.old.bin.size
+            (before_notes notes.old.items self.old.bin.sections) }
         ensures size { self.new.bin.size ≡ self.old.bin.size }
-        ensures sections { self.new.bin.sections ≡ before_notes notes.old.items self.old.bin.sections }
+        ensures sections { self.new.bin.sections ≡
+            before_notes notes.old.items self.old.bin.sections }
         ensures room { self.old.room ≤ self.new.room }
     {
         undo(&mut self.available_bin_sections, notes);
@@ -320,19 +303,21 @@ where
     H: Fn(WidthHeightDepth) -> u128,
     C: Fn([WidthHeightDepth; 3], [WidthHeightDepth; 3], &H) -> Ordering,
     ensures { (sections next : List Cuboid) (member : Size) (location : Cuboid) (tests : ℕ) →
-        IsStep (H.post heuristic.now) (MayCompare C.Fn comparison.now heuristic.now) sections member location
-        next tests →
+        IsStep (answers H.Fn C.Fn heuristic.now comparison.now) sections member location next
+        tests →
         length next ≤ length sections + 2 }
 {}
 
-/// A law: where no two sections of a list share a cell, a trial that is done keeps the cells. The free cells of
-/// before are the free cells of after and the cells of the locations, and no two of these boxes share one.
+/// A law: where no two sections of a list share a cell, a trial that is done keeps the cells. The
+/// free cells of before are the free cells of after and the cells of the locations, and no two of
+/// these boxes share one.
 pub fn trial_keeps_cells<H, C>(heuristic: &H, comparison: &C)
 where
     H: Fn(WidthHeightDepth) -> u128,
     C: Fn([WidthHeightDepth; 3], [WidthHeightDepth; 3], &H) -> Ordering,
-    ensures { (sections last locations : List Cuboid) (members : List Size) (tests : ℕ) → AreAllApart sections →
-        IsDone (H.post heuristic.now) (MayCompare C.Fn comparison.now heuristic.now) sections members locations
-        last tests →
+    ensures { (sections last locations : List Cuboid) (members : List Size) (tests : ℕ) →
+        AreAllApart sections →
+        IsDone (answers H.Fn C.Fn heuristic.now comparison.now) sections members locations last
+        tests →
         KeepCells sections (last ++ locations) }
 {}

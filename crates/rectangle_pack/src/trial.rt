@@ -1,16 +1,15 @@
 //! One trial, on a list of sections, with notes by which it is undone.
-ghost use Rattle.std.specs.Prelude.{ℕ, ◌≡◌, ◌<◌, ◌≤◌, ◌+◌, ◌-◌, ◌*◌, ◌++◌, ◌∷◌, [], length, All, IfNone, IfSome, vec_len, map, filter, List, if◌then◌else◌};
+ghost use Rattle.std.specs.Prelude.{ℕ, ◌≡◌, ◌<◌, ◌≤◌, ◌+◌, ◌-◌, ◌*◌, ◌++◌, ◌∷◌, [], length, All, IfNone, IfSome, vec_len, map, filter};
 ghost use Rattle.std.specs.Vec.{vec_capacity};
 ghost use Rattle.std.specs.Bool.{OnTrue, OnFalse};
-ghost use Rattle.std.specs.Borrow.{Bor};
 ghost use Rattle.std.specs.List.{HoldsAt, AllWithin};
-ghost use Rattle.rectangle_pack.specs.Boxes.{Size, Holds, FitsU32, has_cells};
-ghost use Rattle.rectangle_pack.specs.Choice.{MayCompare};
+ghost use Rattle.rectangle_pack.specs.Boxes.{Holds, FitsU32, has_cells};
 ghost use Rattle.rectangle_pack.specs.Orders.{saturated};
 ghost use Rattle.rectangle_pack.specs.Steps.{by_falling_rate, IsStep, IsDone, IsStuck};
-ghost use Rattle.rectangle_pack.specs.Journal.{before_note, before_notes, CanUndoOne, CanUndo};
+ghost use Rattle.rectangle_pack.specs.private.Journal.{before_note, before_notes, CanUndoOne, CanUndo};
 
 use crate::bin_section::BinSection;
+use crate::closures::Ask;
 use crate::fit_tests::FitTests;
 use crate::packed_location::PackedLocation;
 use crate::rect_to_insert::RectToInsert;
@@ -93,37 +92,35 @@ pub(crate) fn push_pieces<A: Allocator>(sections: &mut Vec<BinSection, A>, piece
 }
 
 // Takes a section out of the list and pushes what is left of it round a member.
-fn place_at<A, H, C>(
+fn place_at<A, R>(
     sections: &mut Vec<BinSection, A>,
     index: usize,
     member: &RectToInsert,
-    heuristic: &H,
-    comparison: &C,
+    rules: &R,
 ) -> (PackedLocation, Note)
 where
     A: Allocator,
-    H: Fn(WidthHeightDepth) -> u128,
-    C: Fn([WidthHeightDepth; 3], [WidthHeightDepth; 3], &H) -> Ordering,
-    requires callable { H.IsAlwaysCallable heuristic.now }
-    requires comparable { (a b : List Size) (h : Bor H) → h.now ≡ heuristic.now → C.pre comparison.now a b h }
+    R: Ask,
+    requires callable { R.can_ask rules.now }
     requires index { index < length sections.old.items }
     requires holds { HoldsAt (λ s. Holds s member.now) sections.old.items index }
-    requires newest { AllWithin (λ s. ¬ Holds s member.now) sections.old.items (index + 1) (length sections.old.items) }
+    requires newest { AllWithin (λ s. ¬ Holds s member.now) sections.old.items (index + 1)
+        (length sections.old.items) }
     requires fits { All FitsU32 sections.old.items }
     requires room { vec_len sections.old + 2 ≤ vec_capacity sections.old }
     ensures capacity { vec_capacity sections.old ≤ vec_capacity sections.new }
-    ensures step { IsStep (H.post heuristic.now) (MayCompare C.Fn comparison.now heuristic.now) sections.old.items
-        member.now result.0 sections.new.items (length sections.old.items - index) }
+    ensures step { IsStep (R.may rules.now) sections.old.items member.now result.0
+        sections.new.items (length sections.old.items - index) }
     ensures before { before_note result.1 sections.new.items ≡ sections.old.items }
     ensures can_undo { CanUndoOne (vec_capacity sections.new) result.1 sections.new.items }
 {
     let section = sections.remove(index);
-    let placed = section.try_place(member, comparison, heuristic);
+    let placed = rules.place(&section, member);
     let (location, [right, above, behind]) = placed.unwrap();
     let pieces = by_falling_rate(
-        (heuristic(right.whd()), right),
-        (heuristic(above.whd()), above),
-        (heuristic(behind.whd()), behind),
+        (rules.rate(right.whd()), right),
+        (rules.rate(above.whd()), above),
+        (rules.rate(behind.whd()), behind),
     );
     let kept = sections.len();
     push_pieces(sections, pieces);
@@ -137,19 +134,16 @@ where
 }
 
 // Places one member, if some section holds it.
-fn place<A, H, C>(
+fn place<A, R>(
     sections: &mut Vec<BinSection, A>,
     member: &RectToInsert,
-    heuristic: &H,
-    comparison: &C,
+    rules: &R,
     tests: &mut FitTests,
 ) -> Option<(PackedLocation, Note)>
 where
     A: Allocator,
-    H: Fn(WidthHeightDepth) -> u128,
-    C: Fn([WidthHeightDepth; 3], [WidthHeightDepth; 3], &H) -> Ordering,
-    requires callable { H.IsAlwaysCallable heuristic.now }
-    requires comparable { (a b : List Size) (h : Bor H) → h.now ≡ heuristic.now → C.pre comparison.now a b h }
+    R: Ask,
+    requires callable { R.can_ask rules.now }
     requires fits { All FitsU32 sections.old.items }
     requires room { vec_len sections.old + 2 ≤ vec_capacity sections.old }
     ensures capacity { vec_capacity sections.old ≤ vec_capacity sections.new }
@@ -160,8 +154,7 @@ where
     ensures some { IfSome result
         (λ r.
         (count : ℕ) ×
-        IsStep (H.post heuristic.now) (MayCompare C.Fn comparison.now heuristic.now) sections.old.items
-        member.now r.0 sections.new.items count ×
+        IsStep (R.may rules.now) sections.old.items member.now r.0 sections.new.items count ×
         (tests.new ≡ saturated (tests.old + count))) }
     ensures noted { IfSome result
         (λ r.
@@ -173,7 +166,7 @@ where
         return None;
     };
     tests.add(sections.len() - index);
-    Some(place_at(sections, index, member, heuristic, comparison))
+    Some(place_at(sections, index, member, rules))
 }
 
 // Undoes one step.
@@ -200,21 +193,18 @@ pub(crate) fn undo<A: Allocator>(sections: &mut Vec<BinSection, A>, notes: &mut 
 }
 
 // One trial. The room that it needs is there; a stuck trial is undone.
-pub(crate) fn run_trial<A, H, C>(
+pub(crate) fn run_trial<A, R>(
     sections: &mut Vec<BinSection, A>,
     members: &[RectToInsert],
-    heuristic: &H,
-    comparison: &C,
+    rules: &R,
     tests: &mut FitTests,
     notes: &mut Vec<Note, A>,
     locations: &mut Vec<PackedLocation, A>,
 ) -> bool
 where
     A: Allocator,
-    H: Fn(WidthHeightDepth) -> u128,
-    C: Fn([WidthHeightDepth; 3], [WidthHeightDepth; 3], &H) -> Ordering,
-    requires callable { H.IsAlwaysCallable heuristic.now }
-    requires comparable { (a b : List Size) (h : Bor H) → h.now ≡ heuristic.now → C.pre comparison.now a b h }
+    R: Ask,
+    requires callable { R.can_ask rules.now }
     requires fits { All FitsU32 sections.old.items }
     requires room { vec_len sections.old + 2 * length members.now ≤ vec_capacity sections.old }
     requires note_room { length members.now ≤ vec_capacity notes.old }
@@ -224,21 +214,22 @@ where
     ensures capacity { vec_capacity sections.old ≤ vec_capacity sections.new }
     ensures done { OnTrue result
         ((count : ℕ) ×
-        IsDone (H.post heuristic.now) (MayCompare C.Fn comparison.now heuristic.now) sections.old.items
-        members.now locations.new.items sections.new.items count ×
+        IsDone (R.may rules.now) sections.old.items members.now locations.new.items
+        sections.new.items count ×
         (tests.new ≡ saturated (tests.old + count))) }
     ensures stuck { OnFalse result
         ((count : ℕ) ×
-        IsStuck (H.post heuristic.now) (MayCompare C.Fn comparison.now heuristic.now) sections.old.items
-        members.now count ×
+        IsStuck (R.may rules.now) sections.old.items members.now count ×
         (tests.new ≡ saturated (tests.old + count))) }
     ensures kept { OnFalse result (sections.new.items ≡ sections.old.items) }
-    ensures noted { OnTrue result (before_notes notes.new.items sections.new.items ≡ sections.old.items) }
-    ensures can_undo { OnTrue result (CanUndo (vec_capacity sections.new) notes.new.items sections.new.items) }
+    ensures noted { OnTrue result
+        (before_notes notes.new.items sections.new.items ≡ sections.old.items) }
+    ensures can_undo { OnTrue result
+        (CanUndo (vec_capacity sections.new) notes.new.items sections.new.items) }
 {
     let _counted = tests.count();
     for member in members {
-        match place(sections, member, heuristic, comparison, tests) {
+        match place(sections, member, rules, tests) {
             Some(step) => {
                 locations.push_reserved(step.0);
                 notes.push_reserved(step.1);

@@ -1,5 +1,6 @@
 //! The library as the README shows it.
 
+use rectangle_pack::pack::volume_packing_has_one_result;
 use rectangle_pack::{
     GroupedRectsToPlace, Placement, RectToInsert, TargetBin, contains_smallest_box, pack_rects,
     volume_heuristic,
@@ -34,4 +35,9 @@ fn readme(rt: HostRuntime) -> Result<(), Fail> {
         println!(rt; "{id} in {bin} at {x} {y} {z}")?;
     }
     Ok(())
+}
+
+#[test]
+fn the_law_takes_the_two_functions() {
+    volume_packing_has_one_result::<u32, u32, u32, _, _>(&volume_heuristic, &contains_smallest_box);
 }

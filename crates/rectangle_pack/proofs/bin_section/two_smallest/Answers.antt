@@ -12,8 +12,8 @@ zip_three R (x ∷ y ∷ z ∷ t ∷ xs) d e f u v w h a b c = absurd (omega ari
 
 pub returns : goal.returns
 returns g c = (
-  record { right = c.heuristic-a.result; above = c.heuristic-b.result; behind = c.heuristic-c.result },
-  zip_three _ c.args.container _ _ _ _ _ _ (omega arith) c.heuristic-a.ensures c.heuristic-b.ensures c.heuristic-c.ensures,
+  record { right = c.rate-a.result; above = c.rate-b.result; behind = c.rate-c.result },
+  zip_three _ c.args.container _ _ _ _ _ _ (omega arith) c.rate-a.ensures c.rate-b.ensures c.rate-c.ensures,
   search rules,
   search rules,
 )

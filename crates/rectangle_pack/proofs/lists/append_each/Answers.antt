@@ -6,7 +6,7 @@ use Rattle.std.proofs.lemmas.Cmp.{tied_itself}
 use Rattle.std.proofs.lemmas.List.{length-take-le}
 use Rattle.std.proofs.lemmas.List.Elements.{All-contains_itself}
 use Rattle.std.proofs.lemmas.List.Sums.{count_by-le-length}
-use Rattle.rectangle_pack.specs.Lists.{times}
+use Rattle.rectangle_pack.specs.private.Lists.{times}
 use Rattle.rectangle_pack.proofs.AppendLemmas.{AreAppended-none, AreAppended-step, HasRoom-left, times-more_same, times-more_le, All-front, All-last}
 use Rattle.rectangle_pack.proofs.lists.append_each.Goals as goal
 

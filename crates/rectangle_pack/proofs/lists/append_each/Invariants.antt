@@ -1,7 +1,7 @@
 use Rattle.std.proofs.Common.{◌≡◌, ◌+◌, ◌<◌, length, take}
 use Rattle.std.specs.Prelude.{All, Contains}
 use Rattle.std.specs.BTreeMap.{get, IsOrdered}
-use Rattle.rectangle_pack.specs.Lists.{times, AreAppended}
+use Rattle.rectangle_pack.specs.private.Lists.{times, AreAppended}
 use Rattle.rectangle_pack.proofs.lists.append_each.Given as goal
 
 abbrev pub invariant-loop-key : goal.invariant-loop-key

@@ -1,7 +1,7 @@
 use Rattle.std.proofs.Common.{◌≡◌, ◌<◌, length, take}
 use Rattle.std.specs.BTreeMap.{get}
 use Rattle.rectangle_pack.specs.Groups.{lists_of}
-use Rattle.rectangle_pack.specs.Lists.{filled, times, items_of, HasRoom}
+use Rattle.rectangle_pack.specs.private.Lists.{filled, times, items_of, HasRoom}
 use Rattle.rectangle_pack.proofs.lists.make_rooms.Given as goal
 
 abbrev pub invariant-loop-key : goal.invariant-loop-key

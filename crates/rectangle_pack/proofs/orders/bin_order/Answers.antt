@@ -16,7 +16,7 @@ pub loop-id-preserved : goal.loop-id-preserved
 loop-id-preserved g c =
     let same : g.B.PartialEq.eq c.in-Some.id.now c.in_ok-clone.field-0 ≡ true = c.requires.bin_ids _ _ c.in_ok-clone.ensures.cases in
     let equal : g.B.Ord.cmp c.in-Some.id.now c.in_ok-clone.field-0 ≡ Equal = (Equal-is _).0 (sym (g.met.B.Ord.matches_eq _ _) ∙ same) in
-    rw (map_push deref_pair c.loop-id.yielded (c.in-Some.id, c.in-Some.bin), c.in_ok-push.ensures.items) (AllZip-more _ (map deref_pair c.loop-id.yielded) c.loop-id.order.items (deref_pair (c.in-Some.id, c.in-Some.bin)) (c.heuristic.result, c.in_ok-clone.field-0) c.loop-id.invariant (equal, rw (← c.max_size.ensures) c.heuristic.ensures))
+    rw (map_push deref_pair c.loop-id.yielded (c.in-Some.id, c.in-Some.bin), c.in_ok-push.ensures.items) (AllZip-more _ (map deref_pair c.loop-id.yielded) c.loop-id.order.items (deref_pair (c.in-Some.id, c.in-Some.bin)) (c.rate.result, c.in_ok-clone.field-0) c.loop-id.invariant (equal, rw (← c.max_size.ensures) c.rate.ensures))
 
 pub returns-clause-order : goal.returns-clause-order
 returns-clause-order g c =

@@ -5,7 +5,8 @@ use Rattle.std.specs.Map.{values_of}
 use Rattle.std.proofs.lemmas.List.Elements.{All-weaker}
 use Rattle.std.proofs.lemmas.Map.Iter.{iter_end}
 use Rattle.rectangle_pack.specs.Groups.{lists_of}
-use Rattle.rectangle_pack.specs.Orders.{keys_of_order, entries_at, IsGroupKey}
+use Rattle.rectangle_pack.specs.Orders.{IsGroupKey}
+use Rattle.rectangle_pack.specs.private.Orders.{keys_of_order, entries_at}
 use Rattle.std.specs.List.{AllZip}
 use Rattle.rectangle_pack.specs.Groups.{HaveSizes}
 use Rattle.rectangle_pack.proofs.PackingOrderLemmas.{AllZip-more, AllZip-map_right, items-turn, lists_of-turn, listed-zip, counted-zip, lookup-each}
@@ -52,6 +53,6 @@ returns-clause-counted g c =
     let e : map deref_pair c.loop-group.yielded ≡ c.args.lists.now.entries = (iter_end deref_pair _ _ _ _ _ _ c.into_iter-group-iterator.ensures.into_iter_gives.0 c.loop-group.yielded_by c.in-None.is c.next.ensures.steps).0 in
     let lists = lists_of c.args.lists.now.entries in
     let unsorted = keys_of_order c.loop-group.order.items in
-    let each : AllZip (λ e o. (o.1 ≡ e.0) × IsGroupKey (goal.H-post g c.args.heuristic.now) g.Id.Ord.cmp c.args.rects.now.entries e.1 o.0) lists unsorted = AllZip-map_right _ _ lists c.loop-group.order.items (rw (← e) c.loop-group.invariant) in
+    let each : AllZip (λ e o. (o.1 ≡ e.0) × IsGroupKey (g.R.Ask.may c.args.rules.now).rate g.Id.Ord.cmp c.args.rects.now.entries e.1 o.0) lists unsorted = AllZip-map_right _ _ lists c.loop-group.order.items (rw (← e) c.loop-group.invariant) in
     sum_by-IsPermutation (entries_at g.K.Ord.cmp lists) _ _ c.sort_falling.ensures.permutation
     ∙ counted-zip g.K.Ord.cmp _ lists c.args.lists.now.entries unsorted each (lookup-each g.met.K.Ord.total c.args.lists.now c.len.ensures.ordered)

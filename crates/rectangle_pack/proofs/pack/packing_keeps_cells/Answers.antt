@@ -2,4 +2,4 @@ use Rattle.rectangle_pack.proofs.KeepingLemmas.{KeepsEachBin-placed}
 use Rattle.rectangle_pack.proofs.pack.packing_keeps_cells.Goals as goal
 
 pub returns : goal.returns
-returns g c = λ all old new placements done. KeepsEachBin-placed g.Id.Ord.cmp g.BinId.Ord.cmp _ _ g.met.BinId.Ord.total _ done.groups old placements new done.placed
+returns g c = λ all old new placements done. KeepsEachBin-placed _ g.met.BinId.Ord.total _ done.groups old placements new done.placed

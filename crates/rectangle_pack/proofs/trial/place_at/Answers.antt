@@ -11,12 +11,12 @@ returns-clause-step g c =
     let s = c.remove-section.result in
     let m = c.args.member.now in
     let cut : List Cuboid = c.unwrap.result.1 in
-    let at = rw c.unwrap.ensures at c.try_place-placed.ensures.location in
-    let allowed = rw c.unwrap.ensures at c.try_place-placed.ensures.pieces in
+    let at = rw c.unwrap.ensures at c.place-placed.ensures.location in
+    let allowed = rw c.unwrap.ensures at c.place-placed.ensures.pieces in
     let three = three_of cut c.index-unwrap-0.result c.index-unwrap-1.result c.index-unwrap-2.result (length-chosen s m cut allowed) c.index-unwrap-0.is c.index-unwrap-1.is c.index-unwrap-2.is in
-    rw at (IsStep-at _ _ c.args.sections.now.items m c.args.index s cut
-    (filter has_cells (map (λ p. p.1) (by_falling_rate ((c.heuristic.result, c.index-unwrap-0.result) ∷ (c.heuristic-2.result, c.index-unwrap-1.result) ∷ (c.heuristic-3.result, c.index-unwrap-2.result) ∷ []))))
+    rw at (IsStep-at _ c.args.sections.now.items m c.args.index s cut
+    (filter has_cells (map (λ p. p.1) (by_falling_rate ((c.rate.result, c.index-unwrap-0.result) ∷ (c.rate-2.result, c.index-unwrap-1.result) ∷ (c.rate-3.result, c.index-unwrap-2.result) ∷ []))))
     c.push_pieces.new.sections.items
     c.requires.index (search rules) c.requires.holds c.requires.newest allowed
-    (AreLeft-three _ cut c.index-unwrap-0.result c.index-unwrap-1.result c.index-unwrap-2.result c.heuristic.result c.heuristic-2.result c.heuristic-3.result three (search rules) (search rules) (search rules))
+    (AreLeft-three _ cut c.index-unwrap-0.result c.index-unwrap-1.result c.index-unwrap-2.result c.rate.result c.rate-2.result c.rate-3.result three (search rules) (search rules) (search rules))
     (search rules))

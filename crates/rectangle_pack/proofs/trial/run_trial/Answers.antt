@@ -26,7 +26,7 @@ returns-in-None-clause-stuck g c =
     let before = c.loop-member.invariant.placed in
     let none = c.in-None.ensures.none in (
       before.0 + length c.loop-member.sections.items,
-      IsStuck-at _ _ _ c.args.members.now c.loop-member.member-index c.member-item.result _ _ _ c.loop-member-test.true c.member-item.is before.1 none.0,
+      IsStuck-at _ _ c.args.members.now c.loop-member.member-index c.member-item.result _ _ _ c.loop-member-test.true c.member-item.is before.1 none.0,
       saturated-add c.args.tests.now c.loop-member.tests _ before.0 (length c.loop-member.sections.items) before.2 none.2,
     )
 
@@ -35,14 +35,14 @@ loop-member-preserved g c =
     let before = c.loop-member.invariant.placed in
     let some = c.in-Some.ensures.some in
     let noted = c.in-Some.ensures.noted in
-    let longer = length-step _ _ _ _ _ _ _ some.1 in
+    let longer = length-step _ _ _ _ _ _ some.1 in
     record {
       placed = (
         before.0 + some.0,
-        IsDone-more _ _ _ c.args.members.now c.loop-member.member-index c.member-item.result _ _ _ _ _ _ _ c.loop-member-test.true c.member-item.is before.1 some.1 (search rules),
+        IsDone-more _ _ c.args.members.now c.loop-member.member-index c.member-item.result _ _ _ _ _ _ _ c.loop-member-test.true c.member-item.is before.1 some.1 (search rules),
         saturated-add c.args.tests.now c.loop-member.tests _ before.0 some.0 before.2 some.2,
       );
-      fits = IsStep-fits _ _ _ _ _ _ _ some.1 c.loop-member.invariant.fits;
+      fits = IsStep-fits _ _ _ _ _ _ some.1 c.loop-member.invariant.fits;
       room = omega (arith, longer);
       grown = omega arith;
       note_count = search rules;

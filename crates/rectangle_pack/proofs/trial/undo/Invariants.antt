@@ -1,5 +1,5 @@
 use Rattle.std.proofs.Common.{◌≡◌, ◌≤◌, vec_len, vec_capacity}
-use Rattle.rectangle_pack.specs.Journal.{before_notes, CanUndo}
+use Rattle.rectangle_pack.specs.private.Journal.{before_notes, CanUndo}
 use Rattle.rectangle_pack.proofs.trial.undo.Given as goal
 
 abbrev pub invariant-loop-note : goal.invariant-loop-note

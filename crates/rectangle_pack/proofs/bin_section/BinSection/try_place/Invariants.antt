@@ -1,6 +1,7 @@
 use Rattle.std.proofs.Common.{take}
 use Rattle.rectangle_pack.specs.Cuts.{sizes_of}
-use Rattle.rectangle_pack.specs.Choice.{MayCompare, MayChoose}
+use Rattle.rectangle_pack.specs.Choice.{MayChoose}
+use Rattle.rectangle_pack.specs.Closures.{MayCompare}
 use Rattle.rectangle_pack.proofs.bin_section.BinSection.try_place.Given as goal
 
 abbrev pub invariant-loop-next : goal.invariant-loop-next

@@ -1,0 +1,94 @@
+use Rattle.std.proofs.Common.{◌≡◌, sym, ap, ◌∙◌, arith, take, length, ◌++◌}
+use Rattle.std.specs.Prelude.{Some, IsSome}
+use Rattle.std.specs.Option.{is_some, option_copied_mut}
+use Rattle.std.specs.Cmp.{Equal-is}
+use Rattle.std.specs.declared.cmp.Ordering.TheVariants.{Equal}
+use Rattle.std.specs.Map.{lookup}
+use Rattle.std.specs.BTreeMap.{is_at}
+use Rattle.std.proofs.lemmas.List.{take_all}
+use Rattle.rectangle_pack.specs.Packing.{rules_by, bins_of, Members}
+use Rattle.rectangle_pack.proofs.JournalLemmas.{is_some-bins_of}
+use Rattle.rectangle_pack.proofs.MapsLemmas.{is_some-option_map}
+use Rattle.rectangle_pack.proofs.PackLemmas.{GoesBack-grown, bins_of-grown, GoesBack-done, found-bins_of, IsPlaced-at, IsStuckIn-more, IsDone-length}
+use Rattle.rectangle_pack.proofs.pack.work.place_group.Goals as goal
+
+pub unwrap-bin-requires : goal.unwrap-bin-requires
+unwrap-bin-requires g c =
+    let test = is_at (g.B.Ord.cmp c.loop-id-item.result.1) in
+    let now = c.loop-id.bins.entries in
+    let old = c.args.bins.now.entries in
+    let there : IsSome (lookup test old) = rw c.loop-id-item.is (c.requires.found c.loop-id.id-index c.loop-id-item.result c.loop-id-test.true) in
+    sym (is_some-option_map _ c.get_mut.result) ∙ ap is_some c.get_mut.ensures.value ∙ sym (is_some-bins_of test now) ∙ ap (λ bs. is_some (lookup test bs)) c.loop-id.invariant.same ∙ is_some-bins_of test old ∙ there
+
+pub returns-in_err-done-clause-back : goal.returns-in_err-done-clause-back
+returns-in_err-done-clause-back g c start b =
+    let h = c.get_mut.follows.holds c.place_noted.new.self in
+    let found : lookup (is_at (g.B.Ord.cmp c.loop-id-item.result.1)) c.loop-id.bins.entries ≡ Some c.unwrap-bin.result.now = sym c.get_mut.ensures.value ∙ ap option_copied_mut c.unwrap-bin.ensures in
+    rw h.0 (GoesBack-grown g.B.Ord.cmp c.loop-id.bins.entries c.loop-id.progress.journal.items c.loop-id-item.result.1 c.unwrap-bin.result.now c.place_noted.new.self start found c.in_err-done.ensures.answer.0 c.place_noted.ensures.room (c.loop-id.invariant.back start b))
+
+pub name_all-requires-clause-lengths : goal.name_all-requires-clause-lengths
+name_all-requires-clause-lengths g c =
+    let done = rw c.in-Some.is at c.in_ok-done.ensures.answer in
+    c.requires.lengths ∙ IsDone-length _ _ _ _ _ _ done.1 ∙ ap length (sym c.as_slice.ensures.value)
+
+pub returns-in_err-name_all-clause-back : goal.returns-in_err-name_all-clause-back
+returns-in_err-name_all-clause-back g c start b =
+    let done = rw c.in-Some.is at c.in_ok-done.ensures.answer in
+    let h = c.get_mut.follows.holds c.place_noted.new.self in
+    let found : lookup (is_at (g.B.Ord.cmp c.loop-id-item.result.1)) c.loop-id.bins.entries ≡ Some c.unwrap-bin.result.now = sym c.get_mut.ensures.value ∙ ap option_copied_mut c.unwrap-bin.ensures in
+    let equal : g.B.Ord.cmp c.loop-id-item.result.1 c.in_ok-name.name ≡ Equal = (Equal-is _).0 (sym (g.met.B.Ord.matches_eq _ _) ∙ c.requires.bin_ids _ _ c.in_ok-name.ensures.cases) in
+    rw h.0 (GoesBack-done g.met.B.Ord.total c.loop-id.bins.entries c.loop-id.progress.journal.items c.push_reserved.new.self.items c.loop-id-item.result.1 (record { bin = c.in_ok-name.name; notes = c.place_noted.new.notes }) c.unwrap-bin.result.now c.place_noted.new.self start
+    equal found c.push_reserved.ensures.items done.2
+    (rw c.in-Some.is at c.in_ok-done.ensures.before) (rw c.in-Some.is at c.in_ok-done.ensures.can_undo) c.place_noted.ensures.sound c.place_noted.ensures.room (c.loop-id.invariant.back start b))
+
+pub returns-in-Some-clause-placed : goal.returns-in-Some-clause-placed
+returns-in-Some-clause-placed g c =
+    let h = c.get_mut.follows.holds c.place_noted.new.self in
+    let found : lookup (is_at (g.B.Ord.cmp c.loop-id-item.result.1)) c.loop-id.bins.entries ≡ Some c.unwrap-bin.result.now = sym c.get_mut.ensures.value ∙ ap option_copied_mut c.unwrap-bin.ensures in
+    let done = rw c.in-Some.is at c.in_ok-done.ensures.answer in
+    let named = c.in_ok-name_all.ensures in
+    let group : Members g.row.Id.Denot = record { ids = c.args.ids.now; sizes = c.args.sizes.now } in
+    let rules = rules_by g.Id.Ord.cmp g.B.Ord.cmp (g.R.Ask.may c.args.rules.now) in (
+      named.0,
+      rw (ap bins_of h.0) (IsPlaced-at rules c.args.order.now c.loop-id.id-index c.loop-id-item.result group c.loop-id.bins.entries (bins_of c.args.bins.now.entries) c.unwrap-bin.result.now c.place_noted.new.self c.in-Some.locations.items done.0 named.0
+          c.loop-id-test.true c.loop-id-item.is c.loop-id.invariant.same c.loop-id.invariant.stuck found done.2 done.1 (rw (← c.as_slice.ensures.value) named.1)),
+      named.2 ∙ ap (λ l. l ++ named.0) c.loop-id.invariant.placements,
+    )
+
+pub returns-in-Some-clause-back : goal.returns-in-Some-clause-back
+returns-in-Some-clause-back g c start b =
+    let done = rw c.in-Some.is at c.in_ok-done.ensures.answer in
+    let h = c.get_mut.follows.holds c.place_noted.new.self in
+    let found : lookup (is_at (g.B.Ord.cmp c.loop-id-item.result.1)) c.loop-id.bins.entries ≡ Some c.unwrap-bin.result.now = sym c.get_mut.ensures.value ∙ ap option_copied_mut c.unwrap-bin.ensures in
+    let equal : g.B.Ord.cmp c.loop-id-item.result.1 c.in_ok-name.name ≡ Equal = (Equal-is _).0 (sym (g.met.B.Ord.matches_eq _ _) ∙ c.requires.bin_ids _ _ c.in_ok-name.ensures.cases) in
+    rw h.0 (GoesBack-done g.met.B.Ord.total c.loop-id.bins.entries c.loop-id.progress.journal.items c.push_reserved.new.self.items c.loop-id-item.result.1 (record { bin = c.in_ok-name.name; notes = c.place_noted.new.notes }) c.unwrap-bin.result.now c.place_noted.new.self start
+    equal found c.push_reserved.ensures.items done.2
+    (rw c.in-Some.is at c.in_ok-done.ensures.before) (rw c.in-Some.is at c.in_ok-done.ensures.can_undo) c.place_noted.ensures.sound c.place_noted.ensures.room (c.loop-id.invariant.back start b))
+
+pub loop-id-preserved : goal.loop-id-preserved
+loop-id-preserved g c =
+    let cmp = g.B.Ord.cmp in
+    let o = c.loop-id-item.result in
+    let v = c.unwrap-bin.result.now in
+    let w = c.place_noted.new.self in
+    let now = c.loop-id.bins.entries in
+    let old = bins_of c.args.bins.now.entries in
+    let same = c.loop-id.invariant.same in
+    let group : Members g.row.Id.Denot = record { ids = c.args.ids.now; sizes = c.args.sizes.now } in
+    let rules = rules_by g.Id.Ord.cmp g.B.Ord.cmp (g.R.Ask.may c.args.rules.now) in
+    let h = c.get_mut.follows.holds w in
+    let found : lookup (is_at (cmp o.1)) now ≡ Some v = sym c.get_mut.ensures.value ∙ ap option_copied_mut c.unwrap-bin.ensures in
+    let stuck = rw c.in_default.is at c.in_ok-done.ensures.answer in
+    let unchanged = stuck.2 in
+    let there = found-bins_of (is_at (cmp o.1)) now old v same found in
+    record {
+      same = ap bins_of h.0 ∙ bins_of-grown _ now v w found unchanged c.place_noted.ensures.room ∙ same;
+      stuck = IsStuckIn-more rules old group c.args.order.now c.loop-id.id-index o c.loop-id-test.true c.loop-id-item.is (rw there (stuck.0, stuck.1)) c.loop-id.invariant.stuck;
+      placements = c.loop-id.invariant.placements;
+      back = λ start b. rw h.0 (GoesBack-grown cmp now c.loop-id.progress.journal.items o.1 v w start found unchanged c.place_noted.ensures.room (c.loop-id.invariant.back start b));
+    }
+
+pub returns-clause-placed : goal.returns-clause-placed
+returns-clause-placed g c =
+    let e : take c.loop-id.id-index c.args.order.now ≡ c.args.order.now = take_all c.loop-id.id-index c.args.order.now (omega arith) in
+    (rw e at c.loop-id.invariant.stuck, c.loop-id.invariant.same, c.loop-id.invariant.placements)

@@ -1,0 +1,16 @@
+-- What a trial in a bin answers, and what it leaves.
+use Rattle.std.specs.Prelude.{◌≡◌, ℕ, ◌+◌, List, Option, Some, None, Result, Ok, Err}
+use Rattle.std.specs.declared.vec.Vec.{Vec}
+use Rattle.rectangle_pack.specs.Boxes.{Size, Cuboid}
+use Rattle.rectangle_pack.specs.Bins.{Bin}
+use Rattle.rectangle_pack.specs.Closures.{Answers}
+use Rattle.rectangle_pack.specs.Orders.{saturated}
+use Rattle.rectangle_pack.specs.Steps.{IsDone, IsStuck}
+
+-- done: the bin has the trial's list; stuck, or out of memory: the bin is as it was. The tests are counted, except out of memory
+abbrev pub IsTrialAnswer : {A E : Type 0} → Answers → Bin → List Size → ℕ → Result (Option (Vec Cuboid A)) E → Bin → ℕ → Type 0
+IsTrialAnswer may old members counted (Ok (Some locations)) new counter =
+    (tests : ℕ) × IsDone may old.sections members locations.items new.sections tests × (new.size ≡ old.size) × (counter ≡ saturated (counted + tests))
+IsTrialAnswer may old members counted (Ok None) new counter =
+    (tests : ℕ) × IsStuck may old.sections members tests × (new ≡ old) × (counter ≡ saturated (counted + tests))
+IsTrialAnswer may old members counted (Err error) new counter = (new ≡ old) × (counter ≡ counted)

@@ -1,0 +1,6 @@
+-- Definitions that only the clauses of private functions use.
+pub mod Journal
+pub mod Lists
+pub mod Orders
+pub mod Spans
+pub mod TrialJournal

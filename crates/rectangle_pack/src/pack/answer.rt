@@ -1,0 +1,73 @@
+//! What a packing answers.
+ghost use Rattle.std.specs.Prelude.{◌≡◌};
+ghost use Rattle.rectangle_pack.specs.Placed.{placements_of, locations_of};
+
+use crate::packed_location::PackedLocation;
+use std::alloc::{Allocator, Global};
+use std::collections::BTreeMap;
+use std::error::Error;
+use std::fmt;
+
+/// A box that was placed: its id, its bin and where it stands there.
+#[derive(Debug, PartialEq, Drop)]
+pub struct Placement<Id, BinId> {
+    /// The id of the box, a clone of the one that it was pushed under.
+    pub id: Id,
+    /// The id of the bin.
+    pub bin: BinId,
+    /// The corner and the size of the box, in cells of the bin.
+    pub location: PackedLocation,
+}
+
+/// What a packing placed.
+#[derive(Drop)]
+#[derive_where(Debug, PartialEq; Id, BinId)]
+pub struct RectanglePackOk<Id: Ord, BinId, A: Allocator + Copy = Global> {
+    pub(crate) packed_locations: BTreeMap<Id, (BinId, PackedLocation), A>,
+    pub(crate) placements: Vec<Placement<Id, BinId>, A>,
+}
+
+impl<Id: Ord, BinId, A: Allocator + Copy> RectanglePackOk<Id, BinId, A> {
+    /// The bin and the location of each id. An id that is in several groups, or in one group
+    /// several times, is placed as often; here it is found at its last placement.
+    pub fn packed_locations(&self) -> &BTreeMap<Id, (BinId, PackedLocation), A>
+        ensures { result.now.entries ≡ locations_of self.now }
+    {
+        &self.packed_locations
+    }
+
+    /// All placements, in the order in which they were made: one for each entry of each group.
+    pub fn placements(&self) -> &[Placement<Id, BinId>]
+        ensures { result.now ≡ placements_of self.now }
+    {
+        self.placements.as_slice()
+    }
+}
+
+/// Why a packing failed.
+#[derive(Debug, PartialEq, Drop)]
+pub enum RectanglePackError {
+    /// Some group fits into no bin, as the groups before it left the bins. Those groups stay
+    /// placed.
+    NotEnoughBinSpace,
+    /// A growth or a clone was refused. The bins are as they were before the call.
+    OutOfMemory,
+}
+
+impl fmt::Display for RectanglePackError {
+    ghost use Rattle.std.specs.Prelude.{Some};
+    ghost use Rattle.rectangle_pack.specs.Texts.{packing_text};
+
+    ghost output = { λ e. Some (packing_text e) };
+
+    fn fmt<W: fmt::Write>(&self, f: &mut fmt::Formatter<W>) -> fmt::Result {
+        match self {
+            RectanglePackError::NotEnoughBinSpace => {
+                write!(f, "Not enough space to place all of the rectangles.")
+            }
+            RectanglePackError::OutOfMemory => write!(f, "Out of memory."),
+        }
+    }
+}
+
+impl Error for RectanglePackError {}

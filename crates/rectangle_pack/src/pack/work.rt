@@ -1,0 +1,326 @@
+//! One packing: group after group into the first bin that takes it, with notes by which it is
+//! undone.
+ghost use Rattle.std.specs.Prelude.{◌≡◌, ◌++◌, [], length, List, IsTrue, IfOk, OnOk, IsOk, IsSome, All, MatchBool, Ok, Some, map, true};
+ghost use Rattle.std.specs.BTreeMap.{get, is_at};
+ghost use Rattle.std.specs.Bool.{OnTrue};
+ghost use Rattle.std.specs.List.{AllZip};
+ghost use Rattle.std.specs.Map.{lookup};
+ghost use Rattle.rectangle_pack.specs.declared.pack.answer.Placement.{Placement};
+ghost use Rattle.rectangle_pack.specs.Bins.{Bin};
+ghost use Rattle.rectangle_pack.specs.Groups.{HaveSizes, MembersHaveSizes, lists_of};
+ghost use Rattle.rectangle_pack.specs.private.Orders.{keys_of_order};
+ghost use Rattle.rectangle_pack.specs.Packing.{rules_by, bins_of, entries_of, Members, IsPlaced, IsRefused, AreAllPlaced, AreGroups, StopsAfter, PackingDone, PackingRefused};
+ghost use Rattle.rectangle_pack.specs.Placed.{AreNamed, AreLastPlacements};
+ghost use Rattle.rectangle_pack.specs.private.TrialJournal.{GoesBack};
+
+use crate::closures::Ask;
+use crate::fit_tests::FitTests;
+use crate::grouped_rects_to_place::{Group, GroupedRectsToPlace};
+use crate::orders::{bin_order, group_order};
+use crate::pack::answer::Placement;
+use crate::packed_location::PackedLocation;
+use crate::rect_to_insert::RectToInsert;
+use crate::target_bin::TargetBin;
+use crate::trial::Note;
+use std::alloc::{AllocError, Allocator};
+use std::cmp::Reverse;
+use std::collections::BTreeMap;
+
+// A trial that was done, and how to undo it.
+#[derive(Drop)]
+pub(crate) struct DoneTrial<BinId, A: Allocator> {
+    pub bin: BinId,
+    pub notes: Vec<Note, A>,
+}
+
+// What a packing did so far: what it placed, how to undo it, and how many fit tests it made.
+#[derive(Drop)]
+pub(crate) struct Progress<Id, BinId, A: Allocator> {
+    pub placements: Vec<Placement<Id, BinId>, A>,
+    pub journal: Vec<DoneTrial<BinId, A>, A>,
+    pub tests: FitTests,
+}
+
+impl<Id, BinId, A: Allocator + Copy> Progress<Id, BinId, A> {
+    pub(crate) fn new(alloc: A) -> Self
+        ensures placements { result.placements.items ≡ [] }
+        ensures journal { result.journal.items ≡ [] }
+    {
+        Progress {
+            placements: Vec::new(alloc),
+            journal: Vec::new(alloc),
+            tests: FitTests::new(),
+        }
+    }
+}
+
+// Undoes all trials, from the last. Takes no memory.
+pub(crate) fn undo_all<B: Ord + Drop, A: Allocator + Copy>(
+    bins: &mut BTreeMap<B, TargetBin<A>, A>,
+    journal: &mut Vec<DoneTrial<B, A>, A>,
+)
+    requires { (start : List (B × Bin)) × GoesBack B.cmp bins.old.entries journal.old.items start }
+    ensures { (start : List (B × Bin)) → GoesBack B.cmp bins.old.entries journal.old.items start →
+        bins_of bins.new.entries ≡ start }
+{
+    while let Some(done) = journal.pop() {
+        let DoneTrial { bin, mut notes } = done;
+        match bins.get_mut(&bin) {
+            Some(place) => place.undo_notes(&mut notes),
+            None => unreachable!(),
+        }
+    }
+}
+
+// Names each location by the id of its turn and by the bin.
+fn name_all<Id, B, A>(
+    placements: &mut Vec<Placement<Id, B>, A>,
+    ids: &[Id],
+    bin: &B,
+    locations: &[PackedLocation],
+) -> Result<(), AllocError>
+where
+    Id: Ord + Clone + Drop,
+    B: Ord + Clone + Drop,
+    A: Allocator,
+    requires ids { (a b : Id) → Id.is_clone a b → IsTrue (Id.eq a b) }
+    requires bin_ids { (a b : B) → B.is_clone a b → IsTrue (B.eq a b) }
+    requires lengths { length ids.now ≡ length locations.now }
+    ensures { OnOk result
+        ((added : List (Placement Id B)) ×
+        AreNamed Id.cmp B.cmp ids.now bin.now locations.now added ×
+        (placements.new.items ≡ placements.old.items ++ added)) }
+{
+    for i in 0..ids.len() {
+        let placement = Placement {
+            id: ids[i].clone()?,
+            bin: bin.clone()?,
+            location: locations[i],
+        };
+        placements.push(placement)?;
+    }
+    Ok(())
+}
+
+// The boxes of a group's ids.
+fn sizes_of<Id, A>(
+    alloc: A,
+    ids: &[Id],
+    rects: &BTreeMap<Id, RectToInsert, A>,
+) -> Result<Vec<RectToInsert, A>, AllocError>
+where
+    Id: Ord,
+    A: Allocator + Copy,
+    requires { HaveSizes Id.cmp rects.now.entries ids.now }
+    ensures { IfOk result
+        (λ v.
+        AllZip (λ id size. lookup (is_at (Id.cmp id)) rects.now.entries ≡ Some size) ids.now
+        v.items) }
+{
+    let mut sizes = Vec::with_capacity(alloc, ids.len())?;
+    for id in ids {
+        sizes.push(*rects.get(id).unwrap())?;
+    }
+    Ok(sizes)
+}
+
+// Puts a group into the first bin of the order whose trial is done.
+fn place_group<Id, B, R, A>(
+    bins: &mut BTreeMap<B, TargetBin<A>, A>,
+    order: &[(u128, B)],
+    ids: &[Id],
+    sizes: &[RectToInsert],
+    rules: &R,
+    progress: &mut Progress<Id, B, A>,
+) -> Result<bool, AllocError>
+where
+    Id: Ord + Clone + Drop,
+    B: Ord + Clone + Drop,
+    R: Ask,
+    A: Allocator + Copy,
+    requires ids { (a b : Id) → Id.is_clone a b → IsTrue (Id.eq a b) }
+    requires bin_ids { (a b : B) → B.is_clone a b → IsTrue (B.eq a b) }
+    requires callable { R.can_ask rules.now }
+    requires lengths { length ids.now ≡ length sizes.now }
+    requires found { All (λ o. IsSome (get B.cmp bins.old o.1)) order.now }
+    ensures placed { IfOk result
+        (λ placed.
+        let by = rules_by Id.cmp B.cmp (R.may rules.now) in
+        let names = map (λ o. o.1) order.now in
+        let group : Members Id = record { ids = ids.now; sizes = sizes.now } in
+        let old = bins_of bins.old.entries in
+        let new = bins_of bins.new.entries in
+        MatchBool placed
+        ((added : List (Placement Id B)) ×
+        IsPlaced by names group old added new ×
+        (progress.new.placements.items ≡ progress.old.placements.items ++ added))
+        (IsRefused by names group old ×
+        (new ≡ old) ×
+        (progress.new.placements.items ≡ progress.old.placements.items))) }
+    ensures back { (start : List (B × Bin)) →
+        GoesBack B.cmp bins.old.entries progress.old.journal.items start →
+        GoesBack B.cmp bins.new.entries progress.new.journal.items start }
+{
+    progress.journal.reserve(1)?;
+    for (_, id) in order {
+        let name = id.clone()?;
+        let mut notes = Vec::new(*progress.journal.allocator());
+        let bin = bins.get_mut(id).unwrap();
+        let done = bin.place_noted(sizes, rules, &mut progress.tests, &mut notes)?;
+        if let Some(locations) = done {
+            progress
+                .journal
+                .push_reserved(DoneTrial { bin: name, notes });
+            name_all(&mut progress.placements, ids, id, locations.as_slice())?;
+            return Ok(true);
+        }
+    }
+    Ok(false)
+}
+
+// Places each group of an order, up to the first that is refused.
+fn place_groups<Id, B, K, R, A>(
+    rects: &BTreeMap<Id, RectToInsert, A>,
+    lists: &BTreeMap<K, Vec<Id, A>, A>,
+    groups: &[(Reverse<u128>, &K)],
+    order: &[(u128, B)],
+    bins: &mut BTreeMap<B, TargetBin<A>, A>,
+    rules: &R,
+    progress: &mut Progress<Id, B, A>,
+) -> Result<bool, AllocError>
+where
+    Id: Ord + Clone + Drop,
+    B: Ord + Clone + Drop,
+    K: Ord,
+    R: Ask,
+    A: Allocator + Copy,
+    requires ids { (a b : Id) → Id.is_clone a b → IsTrue (Id.eq a b) }
+    requires bin_ids { (a b : B) → B.is_clone a b → IsTrue (B.eq a b) }
+    requires callable { R.can_ask rules.now }
+    requires listed { All (λ o. IsSome (get K.cmp lists.now o.1.now)) groups.now }
+    requires sized { MembersHaveSizes Id.cmp rects.now.entries (lists_of lists.now.entries) }
+    requires found { All (λ o. IsSome (get B.cmp bins.old o.1)) order.now }
+    requires no_placements { progress.old.placements.items ≡ [] }
+    ensures packed { IfOk result
+        (λ done.
+        let by = rules_by Id.cmp B.cmp (R.may rules.now) in
+        let names = map (λ o. o.1) order.now in
+        let lists = lists_of lists.now.entries in
+        let groups = keys_of_order groups.now in
+        let old = bins_of bins.old.entries in
+        let new = bins_of bins.new.entries in
+        MatchBool done
+        ((gs : List (Members Id)) ×
+        AreGroups Id.cmp K.cmp rects.now.entries lists groups gs ×
+        AreAllPlaced by names gs old progress.new.placements.items new)
+        (StopsAfter by K.cmp rects.now.entries lists groups names old new)) }
+    ensures back { (start : List (B × Bin)) →
+        GoesBack B.cmp bins.old.entries progress.old.journal.items start →
+        GoesBack B.cmp bins.new.entries progress.new.journal.items start }
+{
+    for (_, group) in groups {
+        let ids = list_of(lists, *group);
+        let sizes = sizes_of(*progress.journal.allocator(), ids.as_slice(), rects)?;
+        if !place_group(
+            bins,
+            order,
+            ids.as_slice(),
+            sizes.as_slice(),
+            rules,
+            progress,
+        )? {
+            return Ok(false);
+        }
+    }
+    Ok(true)
+}
+
+// The list of a group that is there.
+fn list_of<'a, K: Ord, X, A: Allocator>(
+    lists: &'a BTreeMap<K, Vec<X, A>, A>,
+    key: &K,
+) -> &'a Vec<X, A>
+    requires { IsSome (get K.cmp lists.now key.now) }
+    ensures { get K.cmp lists.now key.now ≡ Some result.now }
+{
+    lists.get(key).unwrap()
+}
+
+// One packing, that can be undone whole; whether each group was placed.
+pub(crate) fn pack_noted<Id, BinId, GroupId, R, A>(
+    rects_to_place: &GroupedRectsToPlace<Id, GroupId, A>,
+    target_bins: &mut BTreeMap<BinId, TargetBin<A>, A>,
+    rules: &R,
+    progress: &mut Progress<Id, BinId, A>,
+) -> Result<bool, AllocError>
+where
+    Id: Ord + Clone + Drop,
+    BinId: Ord + Clone + Drop,
+    GroupId: Ord + Clone + Drop,
+    R: Ask,
+    A: Allocator + Copy,
+    requires ids { (a b : Id) → Id.is_clone a b → IsTrue (Id.eq a b) }
+    requires bin_ids { (a b : BinId) → BinId.is_clone a b → IsTrue (BinId.eq a b) }
+    requires callable { R.can_ask rules.now }
+    requires no_placements { progress.old.placements.items ≡ [] }
+    requires no_journal { progress.old.journal.items ≡ [] }
+    ensures packed { IfOk result
+        (λ done.
+        let groups = ⟦<Group<GroupId, Id> as Ord>⟧.cmp in
+        let by = rules_by Id.cmp BinId.cmp (R.may rules.now) in
+        let old = bins_of target_bins.old.entries in
+        let new = bins_of target_bins.new.entries in
+        MatchBool done
+        (PackingDone groups by rects_to_place.now old progress.new.placements.items new)
+        (PackingRefused groups by rects_to_place.now old new)) }
+    ensures back { GoesBack BinId.cmp target_bins.new.entries progress.new.journal.items
+        (bins_of target_bins.old.entries) }
+    ensures counted { IfOk result
+        (λ done.
+        OnTrue done
+        (length progress.new.placements.items ≡ entries_of rects_to_place.now)) }
+    ensures no_groups { rects_to_place.now.groups ≡ [] →
+        (result ≡ Ok true) × (progress.new.placements.items ≡ []) }
+{
+    let rects = rects_to_place.rects();
+    let lists = rects_to_place.groups();
+    if lists.is_empty() {
+        return Ok(true);
+    }
+    let alloc = *progress.journal.allocator();
+    let groups = group_order(alloc, rects, lists, rules)?;
+    let order = bin_order(alloc, target_bins, rules)?;
+    place_groups(
+        rects,
+        lists,
+        groups.as_slice(),
+        order.as_slice(),
+        target_bins,
+        rules,
+        progress,
+    )
+}
+
+// The last placement of each id.
+pub(crate) fn last_placements<Id, BinId, A>(
+    alloc: A,
+    placements: &[Placement<Id, BinId>],
+) -> Result<BTreeMap<Id, (BinId, PackedLocation), A>, AllocError>
+where
+    Id: Ord + Clone + Drop,
+    BinId: Ord + Clone + Drop,
+    A: Allocator + Copy,
+    requires ids { (a b : Id) → Id.is_clone a b → IsTrue (Id.eq a b) }
+    requires bin_ids { (a b : BinId) → BinId.is_clone a b → IsTrue (BinId.eq a b) }
+    ensures last { IfOk result (λ m. AreLastPlacements Id.cmp BinId.cmp placements.now m.entries) }
+    ensures no_placements { placements.now ≡ [] → IsOk result }
+{
+    let mut last = BTreeMap::new(alloc);
+    for placement in placements {
+        last.insert(
+            placement.id.clone()?,
+            (placement.bin.clone()?, placement.location),
+        )?;
+    }
+    Ok(last)
+}
