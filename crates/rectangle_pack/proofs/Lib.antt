@@ -15,6 +15,7 @@ pub mod OnePushLemmas
 pub mod OneResultLemmas
 pub mod OrderLemmas
 pub mod PassLemmas
+pub mod RanksLemmas
 pub mod RestoreLemmas
 pub mod SmallestBoxLemmas
 pub mod StepsLemmas

@@ -10,10 +10,11 @@ use Rattle.rectangle_pack.specs.Boxes.{Size, Cuboid, IsPartOf, Holds, has_cells}
 use Rattle.rectangle_pack.specs.Bins.{Bin}
 use Rattle.rectangle_pack.specs.Cuts.{placed, cuts, sizes_of}
 use Rattle.rectangle_pack.specs.Choice.{IsFunction, IsTotalPreorderOn, MayChoose, IsAllowedCut}
-use Rattle.rectangle_pack.specs.Steps.{by_falling_rate, AreLeft, IsStep, IsDone, IsStuck}
+use Rattle.rectangle_pack.specs.Steps.{AreRanked, AreLeft, IsStep, IsDone, IsStuck}
 use Rattle.rectangle_pack.specs.Results.{MayBeCut, MayBeRated, ClosuresDecide}
 use Rattle.rectangle_pack.proofs.CutsLemmas.{All-middle, chosen_part}
 use Rattle.rectangle_pack.proofs.PassLemmas.{Contains-middle}
+use Rattle.rectangle_pack.proofs.RanksLemmas.{ranked_once}
 use Rattle.rectangle_pack.proofs.StepsLemmas.{IsStep-keeps}
 
 -- a list is split once at the last element of a kind
@@ -87,7 +88,8 @@ one_rates {IsMet} f (b ∷ cut) (r ∷ rates) u h =
 pub one_left : {IsMet : Size → Type 0} {MayRate : Size → ℕ → Type 0} (f : IsFunction (λ size answer. IsMet size × MayRate size answer)) (cut left1 left2 : List Cuboid) → All (λ b. IsMet b.whd) cut → AreLeft MayRate cut left1 → AreLeft MayRate cut left2 → left1 ≡ left2
 one_left {IsMet} {MayRate} f cut left1 left2 u p q =
     let e : p.rates ≡ q.rates = one_rates {IsMet = IsMet} {MayRate = MayRate} f cut p.rates u p.rated ∙ sym (one_rates {IsMet = IsMet} {MayRate = MayRate} f cut q.rates u q.rated) in
-    p.are ∙ ap (λ (rates : List ℕ). filter has_cells (map (λ p. p.1) (by_falling_rate (zip rates cut)))) e ∙ sym q.are
+    let same : p.ranked ≡ q.ranked = ranked_once (zip p.rates cut) p.ranked q.ranked p.are_ranked (subst (λ (rates : List ℕ). AreRanked (zip rates cut) q.ranked) (sym e) q.are_ranked) in
+    p.are ∙ ap (λ (ranked : List (ℕ × Cuboid)). filter has_cells (map (λ p. p.1) ranked)) same ∙ sym q.are
 
 -- a part of what may be cut may be cut
 pub MayBeCut-part : (bins : List Bin) (b s : Cuboid) → IsPartOf b s → MayBeCut bins s → MayBeCut bins b

@@ -13,28 +13,11 @@ use Rattle.rectangle_pack.specs.Bins.{IsSound}
 use Rattle.rectangle_pack.specs.Cuts.{placed}
 use Rattle.rectangle_pack.specs.Counting.{times_filled, AreAllApart}
 use Rattle.rectangle_pack.specs.Keeping.{KeepCells}
-use Rattle.rectangle_pack.specs.Steps.{put_in, by_falling_rate, AreLeft, IsStep, IsDone}
+use Rattle.rectangle_pack.specs.Steps.{AreLeft, IsStep, IsDone}
 use Rattle.rectangle_pack.proofs.BoxesLemmas.{has_cells-from}
 use Rattle.rectangle_pack.proofs.CountingLemmas.{count-cons, count_no, filled-append, filled-cons, filled-nil, apart_from_counts, counts_from_apart, KeepCells-from_counts}
 use Rattle.rectangle_pack.proofs.CutsLemmas.{chosen_part, chosen_tiles, length-chosen}
-
--- putting in only moves elements
-IsPermutation-put_in : (p : ℕ × Cuboid) (ps : List (ℕ × Cuboid)) → IsPermutation (p ∷ ps) (put_in p ps)
-IsPermutation-put_in p [] = IsPermutation-refl (p ∷ [])
-IsPermutation-put_in p (q ∷ qs) =
-    elim (nat_le q.0 p.0) as (λ b. IsPermutation (p ∷ q ∷ qs) (if b then p ∷ q ∷ qs else q ∷ put_in p qs)) [
-      | true ↦ IsPermutation-refl (p ∷ q ∷ qs)
-      | false ↦ IsPermutation-trans (p ∷ q ∷ qs) (q ∷ p ∷ qs) (q ∷ put_in p qs)
-          (IsPermutation-append_left qs (p ∷ q ∷ []) (q ∷ p ∷ []) (IsPermutation-middle (p ∷ []) q []))
-          (IsPermutation-cons q (p ∷ qs) (put_in p qs) (IsPermutation-put_in p qs))
-    ]
-
-IsPermutation-by_falling_rate : (ps : List (ℕ × Cuboid)) → IsPermutation ps (by_falling_rate ps)
-IsPermutation-by_falling_rate [] = IsPermutation-refl []
-IsPermutation-by_falling_rate (p ∷ ps) =
-    IsPermutation-trans (p ∷ ps) (p ∷ by_falling_rate ps) (put_in p (by_falling_rate ps))
-    (IsPermutation-cons p ps (by_falling_rate ps) (IsPermutation-by_falling_rate ps))
-    (IsPermutation-put_in p (by_falling_rate ps))
+use Rattle.rectangle_pack.proofs.RanksLemmas.{IsPermutation-ranked}
 
 map-zip : (R : Cuboid → ℕ → Type 0) (cut : List Cuboid) (rates : List ℕ) → AllZip R cut rates → map (λ p. p.1) (zip rates cut) ≡ cut
 map-zip R [] [] h = refl
@@ -42,11 +25,11 @@ map-zip R [] (r ∷ rates) h = absurd h
 map-zip R (b ∷ cut) [] h = absurd h
 map-zip R (b ∷ cut) (r ∷ rates) h = ap (λ bs. b ∷ bs) (map-zip R cut rates h.1)
 
--- the pieces that are left, before those without cells are left out, are those of the cut in another order
-ordered : {MayRate : Size → ℕ → Type 0} (cut left : List Cuboid) (h : AreLeft MayRate cut left) → IsPermutation cut (map (λ p. p.1) (by_falling_rate (zip h.rates cut)))
+-- the pieces in their order are those of the cut
+ordered : {MayRate : Size → ℕ → Type 0} (cut left : List Cuboid) (h : AreLeft MayRate cut left) → IsPermutation cut (map (λ p. p.1) h.ranked)
 ordered {MayRate} cut left h =
-    let moved : IsPermutation (map (λ p. p.1) (zip h.rates cut)) (map (λ p. p.1) (by_falling_rate (zip h.rates cut))) =
-    IsPermutation-map (λ p. p.1) (zip h.rates cut) (by_falling_rate (zip h.rates cut)) (IsPermutation-by_falling_rate (zip h.rates cut)) in
+    let moved : IsPermutation (map (λ p. p.1) (zip h.rates cut)) (map (λ p. p.1) h.ranked) =
+    IsPermutation-map (λ p. p.1) (zip h.rates cut) h.ranked (IsPermutation-ranked (zip h.rates cut) h.ranked h.are_ranked) in
     rw (map-zip (λ piece rate. MayRate piece.whd rate) cut h.rates h.rated) at moved
 
 pub All-left : {MayRate : Size → ℕ → Type 0} (P : Cuboid → Type 0) (cut left : List Cuboid) → AreLeft MayRate cut left → All P cut → All P left
@@ -55,7 +38,7 @@ All-left {MayRate} P cut left h all =
 
 pub length-left : {MayRate : Size → ℕ → Type 0} (cut left : List Cuboid) → AreLeft MayRate cut left → length left ≤ length cut
 length-left {MayRate} cut left h =
-    let bs : List Cuboid = map (λ p. p.1) (by_falling_rate (zip h.rates cut)) in
+    let bs : List Cuboid = map (λ p. p.1) h.ranked in
     omega (arith, ap length h.are, length-filter has_cells bs, count_by-le-length has_cells bs, length_permutation cut bs (ordered {MayRate = MayRate} cut left h))
 
 -- boxes without cells do not count

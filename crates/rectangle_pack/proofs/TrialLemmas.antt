@@ -10,7 +10,9 @@ use Rattle.rectangle_pack.specs.declared.trial.Note.{Note}
 use Rattle.rectangle_pack.specs.Boxes.{Size, Cuboid, Holds, has_cells}
 use Rattle.rectangle_pack.specs.Cuts.{placed}
 use Rattle.rectangle_pack.specs.Choice.{IsAllowedCut}
-use Rattle.rectangle_pack.specs.Steps.{by_falling_rate, IsStep, IsDone, IsStuck, AreLeft}
+use Rattle.rectangle_pack.specs.Steps.{IsStep, IsDone, IsStuck, AreLeft}
+use Rattle.rectangle_pack.specs.private.Ranks.{by_falling_rate}
+use Rattle.rectangle_pack.proofs.RanksLemmas.{AreRanked-by_falling_rate}
 use Rattle.rectangle_pack.specs.private.Journal.{before_note, before_notes, CanUndo, CanUndoOne}
 
 All-from_within_end : {X : Type 0} (P : X → Type 0) (xs : List X) (low : ℕ) → AllWithin P xs low (length xs) → All P (drop low xs)
@@ -142,5 +144,13 @@ three_of (p ∷ q ∷ r ∷ s ∷ xs) a b c n x y z = absurd (omega arith)
 -- what is left of a cut, for rates of its three pieces
 pub AreLeft-three : (MayRate : Size → ℕ → Type 0) (cut : List Cuboid) (a b c : Cuboid) (i j k : ℕ) → cut ≡ a ∷ b ∷ c ∷ [] → MayRate a.whd i → MayRate b.whd j → MayRate c.whd k
     → AreLeft MayRate cut (filter has_cells (map (λ p. p.1) (by_falling_rate ((i, a) ∷ (j, b) ∷ (k, c) ∷ []))))
-AreLeft-three MayRate cut a b c i j k same x y z = subst (λ bs. AreLeft MayRate bs (filter has_cells (map (λ p. p.1) (by_falling_rate ((i, a) ∷ (j, b) ∷ (k, c) ∷ []))))) (sym same)
-    (record { rates = i ∷ j ∷ k ∷ []; rated = (x, (y, (z, tt))); are = refl })
+AreLeft-three MayRate cut a b c i j k same x y z =
+    let rated : List (ℕ × Cuboid) = (i, a) ∷ (j, b) ∷ (k, c) ∷ [] in
+    subst (λ bs. AreLeft MayRate bs (filter has_cells (map (λ p. p.1) (by_falling_rate rated)))) (sym same)
+    (record {
+      rates = i ∷ j ∷ k ∷ [];
+      rated = (x, (y, (z, tt)));
+      ranked = by_falling_rate rated;
+      are_ranked = AreRanked-by_falling_rate rated;
+      are = refl;
+    })

@@ -1,26 +1,23 @@
 -- One step of a list of sections, and one trial.
-use Rattle.std.specs.Prelude.{◌≡◌, ℕ, ◌+◌, List, [], ◌∷◌, ◌++◌, length, All, ◌⊎◌, nat_le, if◌then◌else◌, map, filter}
+use Rattle.std.specs.Prelude.{◌≡◌, ℕ, ◌+◌, ◌≤◌, ◌==◌, List, [], ◌∷◌, ◌++◌, length, All, AllPairs, ◌⊎◌, map, filter}
 use Rattle.std.specs.List.{AllZip, zip}
 use Rattle.rectangle_pack.specs.Closures.{Answers}
 use Rattle.rectangle_pack.specs.Boxes.{Size, Cuboid, Holds, has_cells}
 use Rattle.rectangle_pack.specs.Cuts.{placed}
 use Rattle.rectangle_pack.specs.Choice.{IsAllowedCut}
 
--- a rated box before the first whose rate is no greater
-abbrev pub put_in : ℕ × Cuboid → List (ℕ × Cuboid) → List (ℕ × Cuboid)
-put_in p [] = p ∷ []
-put_in p (q ∷ qs) = if nat_le q.0 p.0 then p ∷ q ∷ qs else q ∷ put_in p qs
+-- rated pieces in their order: of any two the one with the greater rate first, and those of one rate as they are listed
+pub record AreRanked (listed ranked : List (ℕ × Cuboid)) : Type 0 where
+  pub falling : AllPairs (λ p q. q.0 ≤ p.0) ranked
+  pub as_listed : (rate : ℕ) → filter (λ p. p.0 == rate) ranked ≡ filter (λ p. p.0 == rate) listed
 
--- of any two the one with the greater rate first, and at equal rates the one listed first
-abbrev pub by_falling_rate : List (ℕ × Cuboid) → List (ℕ × Cuboid)
-by_falling_rate [] = []
-by_falling_rate (p ∷ ps) = put_in p (by_falling_rate ps)
-
--- the pieces that a cut leaves, for one rate of each: by falling rate, without those that have no cells
+-- the pieces that a cut leaves, for one rate of each: in their order, without those that have no cells
 pub record AreLeft (MayRate : Size → ℕ → Type 0) (cut left : List Cuboid) : Type 0 where
   pub rates : List ℕ
   pub rated : AllZip (λ piece rate. MayRate piece.whd rate) cut rates
-  pub are : left ≡ filter has_cells (map (λ p. p.1) (by_falling_rate (zip rates cut)))
+  pub ranked : List (ℕ × Cuboid)
+  pub are_ranked : AreRanked (zip rates cut) ranked
+  pub are : left ≡ filter has_cells (map (λ p. p.1) ranked)
 
 module _ (may : Answers) where
   -- a member goes to the corner of the last section that holds it; the section makes way for the pieces left of an allowed cut, at the end of the list;

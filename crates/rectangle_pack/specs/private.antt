@@ -2,5 +2,6 @@
 pub mod Journal
 pub mod Lists
 pub mod Orders
+pub mod Ranks
 pub mod Spans
 pub mod TrialJournal

@@ -5,8 +5,9 @@ ghost use Rattle.std.specs.Bool.{OnTrue, OnFalse};
 ghost use Rattle.std.specs.List.{HoldsAt, AllWithin};
 ghost use Rattle.rectangle_pack.specs.Boxes.{Holds, FitsU32, has_cells};
 ghost use Rattle.rectangle_pack.specs.Orders.{saturated};
-ghost use Rattle.rectangle_pack.specs.Steps.{by_falling_rate, IsStep, IsDone, IsStuck};
+ghost use Rattle.rectangle_pack.specs.Steps.{IsStep, IsDone, IsStuck};
 ghost use Rattle.rectangle_pack.specs.private.Journal.{before_note, before_notes, CanUndoOne, CanUndo};
+ghost use Rattle.rectangle_pack.specs.private.Ranks.{by_falling_rate};
 
 use crate::bin_section::BinSection;
 use crate::closures::Ask;

@@ -1,7 +1,7 @@
 use Rattle.std.proofs.Common.{rules, ◌∷◌, [], List}
 use Rattle.std.specs.Prelude.{map, filter}
 use Rattle.rectangle_pack.specs.Boxes.{Cuboid, has_cells}
-use Rattle.rectangle_pack.specs.Steps.{by_falling_rate}
+use Rattle.rectangle_pack.specs.private.Ranks.{by_falling_rate}
 use Rattle.rectangle_pack.proofs.CutsLemmas.{length-chosen}
 use Rattle.rectangle_pack.proofs.TrialLemmas.{IsStep-at, AreLeft-three, three_of}
 use Rattle.rectangle_pack.proofs.trial.place_at.Goals as goal
