@@ -2,10 +2,9 @@
 use Rattle.std.proofs.Common.{◌≡◌, ℕ, ◌+◌, ◌<◌, ◌≤◌, List, [], ◌∷◌, ◌++◌, length, take, get_or, refl, ap, sym, ◌∙◌, arith, cond, true, false, Bool, append_assoc, length-append, subst}
 use Rattle.std.proofs.Math.ListN.{get_or-append}
 use Rattle.std.proofs.Math.Seq.{get_or-append_seam}
-use Rattle.std.specs.Prelude.{Option, Some, None, All, Contains, IsSomeAnd, IfSome, vec_len, map}
+use Rattle.std.specs.Prelude.{Option, Some, None, All, Contains, IsSome, IsSomeAnd, IfSome, is_some, unwrap_or, map}
 use Rattle.std.specs.Option.{option_map}
 use Rattle.std.specs.List.{sum_by}
-use Rattle.std.specs.Vec.{vec_capacity}
 use Rattle.std.specs.declared.cmp.Ordering.{Ordering}
 use Rattle.std.specs.declared.vec.Vec.{Vec}
 use Rattle.std.specs.Cmp.{IsTotalOrder}
@@ -14,7 +13,7 @@ use Rattle.std.proofs.lemmas.Cmp.{eq_by_cmp_equiv}
 use Rattle.std.proofs.lemmas.List.{append-nil}
 use Rattle.std.proofs.lemmas.List.Sums.{count_by_more_yes, count_by_more_no, sum_by-take-le, sum_by-cons}
 use Rattle.std.proofs.lemmas.List.Elements.{All-append, All-cons, All-nil, All-weaker, All-contains}
-use Rattle.rectangle_pack.specs.private.Lists.{times, items_of, HasRoom, AreAppended}
+use Rattle.rectangle_pack.specs.private.Lists.{times, items_of, AreAppended, IsAdded}
 
 module _ {K : Type 0} {cmp : K → K → Ordering} (o : IsTotalOrder cmp) (keys : List K) (i : ℕ) (k q : K) (inside : i < length keys) (at : k ≡ get_or keys i k) where
   -- the next key counts where it is equal
@@ -32,33 +31,37 @@ module _ {K : Type 0} {cmp : K → K → Ordering} (o : IsTotalOrder cmp) (keys 
 -- nothing is appended yet
 pub AreAppended-none : {X A : Type 0} (all : List X) (found : Option (Vec X A)) → AreAppended all 0 found found
 AreAppended-none all None = refl
-AreAppended-none all (Some v) = record { tail = []; joined = sym (append-nil v.items); long = refl; given = All-nil (Contains all); room = refl }
+AreAppended-none all (Some v) = record { tail = []; joined = sym (append-nil v.items); long = refl; given = All-nil (Contains all) }
 
 -- one more item is appended to what is found
 pub AreAppended-more : {X A : Type 0} (all : List X) (n : ℕ) (x : X) (old mid new : Option (Vec X A)) → Contains all x → AreAppended all n old mid
-    → IsSomeAnd mid (λ v. IsSomeAnd new (λ w. (w.items ≡ v.items ++ x ∷ []) × (vec_capacity w ≡ vec_capacity v))) → AreAppended all (n + 1) old new
+    → IsSomeAnd mid (λ v. IsSomeAnd new (λ w. w.items ≡ v.items ++ x ∷ [])) → AreAppended all (n + 1) old new
 AreAppended-more all n x None None new has so step = absurd step
 AreAppended-more all n x None (Some v) new has so step = absurd cc
 AreAppended-more all n x (Some u) None new has so step = absurd so
 AreAppended-more all n x (Some u) (Some v) None has so step = absurd step
 AreAppended-more all n x (Some u) (Some v) (Some w) has so step = record {
   tail = so.tail ++ x ∷ [];
-  joined = step.0 ∙ ap (λ l. l ++ x ∷ []) so.joined ∙ append_assoc u.items so.tail (x ∷ []);
+  joined = step ∙ ap (λ l. l ++ x ∷ []) so.joined ∙ append_assoc u.items so.tail (x ∷ []);
   long = length-append so.tail (x ∷ []) ∙ omega (arith, so.long);
   given = All-append (Contains all) so.tail (x ∷ []) so.given (All-cons (Contains all) x [] has (All-nil (Contains all)));
-  room = step.1 ∙ so.room;
 }
 
--- room for m items is left for one more while fewer are appended
-pub HasRoom-left : {X A : Type 0} (all : List X) (n m : ℕ) (old mid : Option (Vec X A)) → AreAppended all n old mid → HasRoom old m → n < m → HasRoom mid 1
-HasRoom-left all n m None mid so room fewer = absurd room
-HasRoom-left all n m (Some u) None so room fewer = absurd so
-HasRoom-left all n m (Some u) (Some v) so room fewer =
-    let before : vec_len u ≡ length u.items = u.ok.0 in
-    let after : vec_len v ≡ length v.items = v.ok.0 in
-    let longer : length v.items ≡ length u.items + n = ap length so.joined ∙ length-append u.items so.tail ∙ ap (λ k. length u.items + k) so.long in
-    let same : vec_capacity v ≡ vec_capacity u = so.room in
-    omega (arith, room, fewer)
+-- what was found is still found
+pub AreAppended-known : {X A : Type 0} (all : List X) (n : ℕ) (old new : Option (Vec X A)) → AreAppended all n old new → is_some new ≡ is_some old
+AreAppended-known all n None None so = refl
+AreAppended-known all n None (Some w) so = absurd cc
+AreAppended-known all n (Some v) None so = absurd so
+AreAppended-known all n (Some v) (Some w) so = refl
+
+-- room takes no item
+pub AreAppended-roomier : {X A : Type 0} (all : List X) (n : ℕ) (old mid new : Option (Vec X A)) → items_of new ≡ items_of mid → is_some new ≡ is_some mid → AreAppended all n old mid → AreAppended all n old new
+AreAppended-roomier all n None None None same known so = refl
+AreAppended-roomier all n None None (Some w) same known so = absurd cc
+AreAppended-roomier all n None (Some v) new same known so = absurd cc
+AreAppended-roomier all n (Some u) None new same known so = absurd so
+AreAppended-roomier all n (Some u) (Some v) None same known so = absurd cc
+AreAppended-roomier all n (Some u) (Some v) (Some w) same known so = record { tail = so.tail; joined = same ∙ so.joined; long = so.long; given = so.given }
 
 -- what holds of each of two joined lists holds of each of the first
 pub All-front : {X : Type 0} (P : X → Type 0) (xs ys : List X) → All P (xs ++ ys) → All P xs
@@ -71,7 +74,7 @@ All-last P xs x h = subst P (get_or-append_seam xs x [] x) (h (length xs) x (let
 -- one more item is appended at the equal keys, and nothing at the others
 pub AreAppended-step : {K X A : Type 0} {cmp : K → K → Ordering} (o : IsTotalOrder cmp) (keys : List K) (i : ℕ) (k q : K) → i < length keys → k ≡ get_or keys i k
     → (all : List X) (x : X) (old mid new : Option (Vec X A)) → Contains all x → AreAppended all (times cmp (take i keys) q) old mid
-    → (is_eq (cmp k q) ≡ true → IsSomeAnd mid (λ v. IsSomeAnd new (λ w. (w.items ≡ v.items ++ x ∷ []) × (vec_capacity w ≡ vec_capacity v))))
+    → (is_eq (cmp k q) ≡ true → IsSomeAnd mid (λ v. IsSomeAnd new (λ w. w.items ≡ v.items ++ x ∷ [])))
     → (is_eq (cmp k q) ≡ false → new ≡ mid)
     → AreAppended all (times cmp (take (i + 1) keys) q) old new
 AreAppended-step {cmp = cmp} o keys i k q inside at all x old mid new has so here others = by (is_eq (cmp k q)) refl
@@ -85,22 +88,12 @@ pub sum_by-map : {X Y : Type 0} (f : Y → ℕ) (g : X → Y) (xs : List X) → 
 sum_by-map f g [] = refl
 sum_by-map f g (x ∷ xs) = sum_by-cons f (g x) (map g xs) ∙ ap (λ n. f (g x) + n) (sum_by-map f g xs) ∙ sym (sum_by-cons (λ y. f (g y)) x xs)
 
-module _ {X A : Type 0} (P : X → Type 0) (all : List X) (each : All P all) (count : ℕ) where
-  -- a list with room gets its items
-  pub appended-named : (room : ℕ) (old mid new : Option (Vec X A)) → items_of mid ≡ items_of old → HasRoom mid room → AreAppended all count mid new
-      → IsSomeAnd (option_map (λ v. v.items) new) (λ list. (tail : List X) × (list ≡ items_of old ++ tail) × (length tail ≡ count) × All P tail)
-  appended-named room old None new same has so = absurd has
-  appended-named room old (Some v) None same has so = absurd so
-  appended-named room old (Some v) (Some w) same has so =
-      (so.tail, so.joined ∙ ap (λ l. l ++ so.tail) same, so.long, All-weaker (Contains all) P (λ x. All-contains P all x each) so.tail so.given)
-
-  -- what each of an old list's items is, is each of the new one's
-  pub appended-each : (old mid new : Option (Vec X A)) → items_of mid ≡ items_of old → All P (items_of old) → AreAppended all count mid new → IfSome (option_map (λ v. v.items) new) (All P)
-  appended-each old None None same was so = tt
-  appended-each old None (Some w) same was so = absurd cc
-  appended-each old (Some v) None same was so = absurd so
-  appended-each old (Some v) (Some w) same was so =
-      subst (All P) (sym so.joined) (All-append P v.items so.tail (subst (All P) (sym same) was) (All-weaker (Contains all) P (λ x. All-contains P all x each) so.tail so.given))
+-- a list that is there gets its items
+pub appended-named : {X A : Type 0} (all : List X) (count : ℕ) (old mid new : Option (Vec X A)) → items_of mid ≡ items_of old → IsSome mid → AreAppended all count mid new
+    → IsAdded all count (option_map (λ v. v.items) old) (option_map (λ v. v.items) new)
+appended-named all count old None new same has so = absurd cc
+appended-named all count old (Some v) None same has so = absurd so
+appended-named all count old (Some v) (Some w) same has so = (so.tail, so.joined ∙ ap (λ l. l ++ so.tail) same, so.long, so.given)
 
 -- a list that gets no items stays
 pub appended-other : {X A : Type 0} (all : List X) (old mid new : Option (Vec X A)) → mid ≡ old → AreAppended all 0 mid new → option_map (λ v. v.items) new ≡ option_map (λ v. v.items) old
@@ -113,11 +106,9 @@ appended-other all old (Some v) (Some w) same so =
     is_empty [] h = refl
     is_empty (y ∷ ys) h = absurd cc
 
--- a list that gets items is not empty
-pub appended-filled : {X A : Type 0} (all : List X) (n : ℕ) (mid new : Option (Vec X A)) → AreAppended all (n + 1) mid new → IfSome (option_map (λ v. v.items) new) (λ items. 0 < length items)
-appended-filled all n None None so = tt
-appended-filled all n None (Some w) so = absurd cc
-appended-filled all n (Some v) None so = absurd so
-appended-filled all n (Some v) (Some w) so =
-    let long : length w.items ≡ length v.items + length so.tail = ap length so.joined ∙ length-append v.items so.tail in
-    omega (arith, long, so.long)
+-- what each of an old list's items is, and each that is added, is each of the new one's, and it is not empty
+pub added-each : {X : Type 0} (P : X → Type 0) (all : List X) → All P all → (n : ℕ) (old new : Option (List X)) → All P (unwrap_or old []) → IsAdded all (n + 1) old new → IfSome new (λ items. (0 < length items) × All P items)
+added-each P all each n old None was so = tt
+added-each P all each n old (Some items) was (tail, joined, long, given) =
+    let longer : length items ≡ length (unwrap_or old []) + length tail = ap length joined ∙ length-append (unwrap_or old []) tail in
+    (omega (arith, longer, long), subst (All P) (sym joined) (All-append P (unwrap_or old []) tail was (All-weaker (Contains all) P (λ x. All-contains P all x each) tail given)))

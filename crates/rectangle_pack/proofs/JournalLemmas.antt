@@ -11,7 +11,7 @@ use Rattle.rectangle_pack.specs.declared.pack.work.DoneTrial.{DoneTrial}
 use Rattle.rectangle_pack.specs.Bins.{Bin, Held}
 use Rattle.rectangle_pack.specs.Packing.{bins_of}
 use Rattle.rectangle_pack.specs.private.TrialJournal.{CanUndoTrial, before_trial, Undoes, GoesBack}
-use Rattle.rectangle_pack.proofs.MapsLemmas.{is_some-option_map}
+use Rattle.rectangle_pack.proofs.MapsLemmas.{is_some-option_map, set_value-twice, lookup-set_here}
 use Rattle.rectangle_pack.proofs.TrialLemmas.{CanUndo-more}
 
 -- a bin that is written back, without its room
@@ -110,24 +110,6 @@ Undoes-more cmp (e ∷ es) now more start r h =
       CanUndoTrial-more e held larger m can,
       Undoes-more cmp es _ _ start (IsRoomier-set (is_at (cmp e.bin)) now more (before_trial e held) (before_trial e larger) r (before_trial-more e held larger m)) rest,
     )
-
--- what is written twice is what was written last
-pub set_value-twice : {K X : Type 0} (test : K → Bool) (es : List (K × X)) (v w : X) → set_value test (set_value test es v) w ≡ set_value test es w
-set_value-twice test [] v w = refl
-set_value-twice {K} {X} test (e ∷ es) v w = at (test e.0) (set_value-twice test es v w) refl
-  where
-    at : (b : Bool) → set_value test (set_value test es v) w ≡ set_value test es w → test e.0 ≡ b → set_value test (cond b ((e.0, v) ∷ es) (e ∷ set_value test es v)) w ≡ cond b ((e.0, w) ∷ es) (e ∷ set_value test es w)
-    at true ih t = rw t refl
-    at false ih t = rw (t, ih) refl
-
--- what was written is found
-pub lookup-set_here : {K X : Type 0} (test : K → Bool) (es : List (K × X)) (v w : X) → lookup test es ≡ Some v → lookup test (set_value test es w) ≡ Some w
-lookup-set_here test [] v w found = absurd cc
-lookup-set_here {K} {X} test (e ∷ es) v w found = at (test e.0) (lookup-set_here test es v w) refl found
-  where
-    at : (b : Bool) → (lookup test es ≡ Some v → lookup test (set_value test es w) ≡ Some w) → test e.0 ≡ b → cond b (Some e.1) (lookup test es) ≡ Some v → lookup test (cond b ((e.0, w) ∷ es) (e ∷ set_value test es w)) ≡ Some w
-    at true ih t g = rw t refl
-    at false ih t g = rw t (ih g)
 
 -- what a look-up finds, written back with a trial done
 pub Undoes-noted : {B A : Type 0} (cmp : B → B → Ordering) (e : DoneTrial B A) (es : List (DoneTrial B A)) (now : List (B × Held)) (v w : Held) (start : List (B × Bin))

@@ -19,6 +19,7 @@ pub mod RanksLemmas
 pub mod RestoreLemmas
 pub mod SmallestBoxLemmas
 pub mod StepsLemmas
+pub mod TakeBackLemmas
 pub mod TrialLemmas
 pub mod VolumesLemmas
 pub mod PackingOrderLemmas

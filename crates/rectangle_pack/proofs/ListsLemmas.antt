@@ -17,14 +17,14 @@ lists_of-insert_entry cmp [] k v = refl
 lists_of-insert_entry cmp (e ∷ es) k v = elim (cmp k e.0) as (λ o. lists_of (match_ordering o ((k, v) ∷ e ∷ es) ((e.0, v) ∷ es) (e ∷ insert_entry cmp es k v)) ≡ match_ordering o ((k, v.items) ∷ (e.0, e.1.items) ∷ lists_of es) ((e.0, v.items) ∷ lists_of es) ((e.0, e.1.items) ∷ insert_entry cmp (lists_of es) k v.items))
     [ Less ↦ refl | Equal ↦ refl | Greater ↦ ap (λ l. (e.0, e.1.items) ∷ l) (lists_of-insert_entry cmp es k v) ]
 
--- a value written over one with the same items
-pub lists_of-set_value : {K X A : Type 0} (test : K → Bool) (es : List (K × Vec X A)) (v w : Vec X A) → lookup test es ≡ Some v → w.items ≡ v.items → lists_of (set_value test es w) ≡ lists_of es
-lists_of-set_value test [] v w found same = refl
-lists_of-set_value test (e ∷ es) v w found same = at (test e.0) found (lists_of-set_value test es v w)
+-- a value that is written, seen as a list
+pub lists_of-set_value : {K X A : Type 0} (test : K → Bool) (es : List (K × Vec X A)) (w : Vec X A) → lists_of (set_value test es w) ≡ set_value test (lists_of es) w.items
+lists_of-set_value test [] w = refl
+lists_of-set_value test (e ∷ es) w = at (test e.0) (lists_of-set_value test es w)
   where
-    at : (b : Bool) → cond b (Some e.1) (lookup test es) ≡ Some v → (lookup test es ≡ Some v → w.items ≡ v.items → lists_of (set_value test es w) ≡ lists_of es) → lists_of (cond b ((e.0, w) ∷ es) (e ∷ set_value test es w)) ≡ (e.0, e.1.items) ∷ lists_of es
-    at true h ih = let i : e.1 ≡ v = cc in rw (same, i) refl
-    at false h ih = ap (λ l. (e.0, e.1.items) ∷ l) (ih h same)
+    at : (b : Bool) → lists_of (set_value test es w) ≡ set_value test (lists_of es) w.items → lists_of (cond b ((e.0, w) ∷ es) (e ∷ set_value test es w)) ≡ cond b ((e.0, w.items) ∷ lists_of es) ((e.0, e.1.items) ∷ set_value test (lists_of es) w.items)
+    at true ih = refl
+    at false ih = ap (λ l. (e.0, e.1.items) ∷ l) ih
 
 -- a new key with an empty list
 pub filled-insert_entry : {K X : Type 0} (cmp : K → K → Ordering) (es : List (K × List X)) (k : K) → lookup (is_at (cmp k)) es ≡ None → filled (insert_entry cmp es k []) ≡ filled es

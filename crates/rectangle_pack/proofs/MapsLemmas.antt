@@ -70,3 +70,21 @@ module _ {K X : Type 0} {cmp : K → K → Ordering} (o : IsTotalOrder cmp) wher
 pub is_some-option_map : {X Y : Type 0} (f : X → Y) (o : Option X) → is_some (option_map f o) ≡ is_some o
 is_some-option_map f None = refl
 is_some-option_map f (Some x) = refl
+
+-- what is written twice is what was written last
+pub set_value-twice : {K X : Type 0} (test : K → Bool) (es : List (K × X)) (v w : X) → set_value test (set_value test es v) w ≡ set_value test es w
+set_value-twice test [] v w = refl
+set_value-twice {K} {X} test (e ∷ es) v w = at (test e.0) (set_value-twice test es v w) refl
+  where
+    at : (b : Bool) → set_value test (set_value test es v) w ≡ set_value test es w → test e.0 ≡ b → set_value test (cond b ((e.0, v) ∷ es) (e ∷ set_value test es v)) w ≡ cond b ((e.0, w) ∷ es) (e ∷ set_value test es w)
+    at true ih t = rw t refl
+    at false ih t = rw (t, ih) refl
+
+-- what was written is found
+pub lookup-set_here : {K X : Type 0} (test : K → Bool) (es : List (K × X)) (v w : X) → lookup test es ≡ Some v → lookup test (set_value test es w) ≡ Some w
+lookup-set_here test [] v w found = absurd cc
+lookup-set_here {K} {X} test (e ∷ es) v w found = at (test e.0) (lookup-set_here test es v w) refl found
+  where
+    at : (b : Bool) → (lookup test es ≡ Some v → lookup test (set_value test es w) ≡ Some w) → test e.0 ≡ b → cond b (Some e.1) (lookup test es) ≡ Some v → lookup test (cond b ((e.0, w) ∷ es) (e ∷ set_value test es w)) ≡ Some w
+    at true ih t g = rw t refl
+    at false ih t g = rw t (ih g)

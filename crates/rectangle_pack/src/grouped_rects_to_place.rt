@@ -11,7 +11,7 @@ ghost use Rattle.rectangle_pack.specs.Results.{AreCollectionsAlike};
 ghost use Rattle.std.specs.List.{AllZip};
 ghost use Rattle.rectangle_pack.specs.declared.grouped_rects_to_place.Group.TheVariants.{Ungrouped, Grouped};
 
-use crate::lists::{append_each, forget_empty, make_rooms};
+use crate::lists::{add_each, forget_empty, take_back};
 use crate::rect_to_insert::RectToInsert;
 use std::alloc::{AllocError, Allocator, Global};
 use std::collections::BTreeMap;
@@ -151,8 +151,7 @@ impl<Id: Ord + Clone + Drop, GroupId: Ord + Clone + Drop, A: Allocator + Copy> G
         }
     }
 
-    // Room is made first in the lists of all groups, so that nothing can fail after the size is
-    // set.
+    // The size is set last; where that is refused, the members are taken back.
     fn push_grouped(
         &mut self,
         inbound_id: Id,
@@ -169,16 +168,14 @@ impl<Id: Ord + Clone + Drop, GroupId: Ord + Clone + Drop, A: Allocator + Copy> G
     {
         let keys = named_groups(self.alloc, group_ids)?;
         let members = clones(self.alloc, &inbound_id, keys.len())?;
-        if make_rooms(&mut self.groups, keys.as_slice(), self.alloc).is_err() {
+        if add_each(&mut self.groups, keys.as_slice(), members, self.alloc).is_err() {
             forget_empty(&mut self.groups);
             return Err(AllocError);
         }
         match self.rects.insert(inbound_id, inbound) {
-            Ok(_) => {
-                append_each(&mut self.groups, keys.as_slice(), members);
-                Ok(())
-            }
+            Ok(_) => Ok(()),
             Err(_) => {
+                take_back(&mut self.groups, keys.as_slice());
                 forget_empty(&mut self.groups);
                 Err(AllocError)
             }

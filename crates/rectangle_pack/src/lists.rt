@@ -1,11 +1,11 @@
-// Maps from keys to lists, where a list with no items stands for room that is made for a key.
-ghost use Rattle.std.specs.Prelude.{◌≡◌, ◌+◌, ◌<◌, ◌++◌, ◌∷◌, [], length, IsTrue, OnOk, IsSomeAnd, IsSome, true, false};
-ghost use Rattle.std.specs.Vec.{vec_capacity};
-ghost use Rattle.std.specs.BTreeMap.{get, IsOrdered};
+// Maps from keys to lists, where a key with no items is as good as none.
+ghost use Rattle.std.specs.Prelude.{◌≡◌, ◌<◌, ◌++◌, ◌∷◌, [], List, length, reverse, IsTrue, OnOk, OnErr, IsSomeAnd, IsSome, is_some, Some, true, false};
+ghost use Rattle.std.specs.BTreeMap.{get, is_at, IsOrdered};
+ghost use Rattle.std.specs.Map.{lookup, set_value};
 ghost use Rattle.std.specs.Cmp.{IsTotalOrder};
 ghost use Rattle.std.specs.Ordering.{is_eq};
 ghost use Rattle.rectangle_pack.specs.Groups.{lists_of};
-ghost use Rattle.rectangle_pack.specs.private.Lists.{filled, times, items_of, HasRoom, AreAppended};
+ghost use Rattle.rectangle_pack.specs.private.Lists.{filled, times, items_of, HasRoom, AreAppended, IsAdded, TakesBack, CanTakeBack};
 
 use std::alloc::{AllocError, Allocator};
 use std::collections::BTreeMap;
@@ -30,45 +30,8 @@ fn ensure_key<K: Ord + Clone + Drop, T: Drop, A: Allocator + Copy>(
     Ok(())
 }
 
-// Room for that many more items at the key.
-fn reserve_at<K: Ord + Drop, T: Drop, A: Allocator + Copy>(
-    map: &mut BTreeMap<K, Vec<T, A>, A>,
-    key: &K,
-    room: usize,
-) -> Result<(), AllocError>
-    requires has { IsSome (get K.cmp map.old key.now) }
-    ensures kept { lists_of map.new.entries ≡ lists_of map.old.entries }
-    ensures items { (q : K) → items_of (get K.cmp map.new q) ≡ items_of (get K.cmp map.old q) }
-    ensures others { (q : K) → is_eq (K.cmp key.now q) ≡ false →
-        get K.cmp map.new q ≡ get K.cmp map.old q }
-    ensures room { OnOk result (HasRoom (get K.cmp map.new key.now) room) }
-{
-    match map.get_mut(key) {
-        Some(list) => list.reserve(room),
-        None => unreachable!(),
-    }
-}
-
-// Makes the key known, with room for that many more items.
-fn make_room<K: Ord + Clone + Drop, T: Drop, A: Allocator + Copy>(
-    map: &mut BTreeMap<K, Vec<T, A>, A>,
-    key: &K,
-    room: usize,
-    alloc: A,
-) -> Result<(), AllocError>
-    requires clones_equal { (a b : K) → K.is_clone a b → IsTrue (K.eq a b) }
-    ensures kept { filled (lists_of map.new.entries) ≡ filled (lists_of map.old.entries) }
-    ensures items { (q : K) → items_of (get K.cmp map.new q) ≡ items_of (get K.cmp map.old q) }
-    ensures others { (q : K) → is_eq (K.cmp key.now q) ≡ false →
-        get K.cmp map.new q ≡ get K.cmp map.old q }
-    ensures room { OnOk result (HasRoom (get K.cmp map.new key.now) room) }
-{
-    ensure_key(map, key, alloc)?;
-    reserve_at(map, key, room)
-}
-
-// Makes each of the keys known, with room for an item for each key of the list.
-pub(crate) fn make_rooms<K: Ord + Clone + Drop, T: Drop, A: Allocator + Copy>(
+// Makes each of the keys known.
+fn ensure_keys<K: Ord + Clone + Drop, T: Drop, A: Allocator + Copy>(
     map: &mut BTreeMap<K, Vec<T, A>, A>,
     keys: &[K],
     alloc: A,
@@ -78,12 +41,11 @@ pub(crate) fn make_rooms<K: Ord + Clone + Drop, T: Drop, A: Allocator + Copy>(
     ensures items { (q : K) → items_of (get K.cmp map.new q) ≡ items_of (get K.cmp map.old q) }
     ensures others { (q : K) → times K.cmp keys.now q ≡ 0 →
         get K.cmp map.new q ≡ get K.cmp map.old q }
-    ensures rooms { OnOk result
-        ((q : K) → 0 < times K.cmp keys.now q →
-        HasRoom (get K.cmp map.new q) (length keys.now)) }
+    ensures has { OnOk result
+        ((q : K) → 0 < times K.cmp keys.now q → IsSome (get K.cmp map.new q)) }
 {
     for key in keys {
-        make_room(map, key, keys.len(), alloc)?;
+        ensure_key(map, key, alloc)?;
     }
     Ok(())
 }
@@ -97,6 +59,23 @@ pub(crate) fn forget_empty<K: Ord + Drop, T: Drop, A: Allocator + Copy>(
     map.retain(|_, list| !list.is_empty());
 }
 
+// Room for one more item at the key.
+fn reserve_at<K: Ord + Drop, T: Drop, A: Allocator + Copy>(
+    map: &mut BTreeMap<K, Vec<T, A>, A>,
+    key: &K,
+) -> Result<(), AllocError>
+    requires has { IsSome (get K.cmp map.old key.now) }
+    ensures kept { lists_of map.new.entries ≡ lists_of map.old.entries }
+    ensures items { (q : K) → items_of (get K.cmp map.new q) ≡ items_of (get K.cmp map.old q) }
+    ensures known { (q : K) → is_some (get K.cmp map.new q) ≡ is_some (get K.cmp map.old q) }
+    ensures room { OnOk result (HasRoom (get K.cmp map.new key.now) 1) }
+{
+    match map.get_mut(key) {
+        Some(list) => list.reserve(1),
+        None => unreachable!(),
+    }
+}
+
 // Appends the item within the room at the key.
 fn append_at<K: Ord + Drop, T: Drop, A: Allocator + Copy>(
     map: &mut BTreeMap<K, Vec<T, A>, A>,
@@ -106,11 +85,12 @@ fn append_at<K: Ord + Drop, T: Drop, A: Allocator + Copy>(
     requires room { HasRoom (get K.cmp map.old key.now) 1 }
     ensures here { (q : K) → is_eq (K.cmp key.now q) ≡ true →
         IsSomeAnd (get K.cmp map.old q)
-        (λ v.
-        IsSomeAnd (get K.cmp map.new q)
-        (λ w. (w.items ≡ v.items ++ item ∷ []) × (vec_capacity w ≡ vec_capacity v))) }
+        (λ v. IsSomeAnd (get K.cmp map.new q) (λ w. w.items ≡ v.items ++ item ∷ [])) }
     ensures others { (q : K) → is_eq (K.cmp key.now q) ≡ false →
         get K.cmp map.new q ≡ get K.cmp map.old q }
+    ensures back { (keys : List K) (start : List (K × List T)) →
+        TakesBack K.cmp keys (lists_of map.old.entries) start →
+        TakesBack K.cmp (key.now ∷ keys) (lists_of map.new.entries) start }
     ensures ordered { IsOrdered K.cmp map.new }
 {
     match map.get_mut(key) {
@@ -119,25 +99,99 @@ fn append_at<K: Ord + Drop, T: Drop, A: Allocator + Copy>(
     }
 }
 
-// Appends an item at each of the keys, within the room there.
-pub(crate) fn append_each<K: Ord + Drop, T: Drop, A: Allocator + Copy>(
+// Takes the last item at the key.
+fn take_last<K: Ord + Drop, T: Drop, A: Allocator + Copy>(
+    map: &mut BTreeMap<K, Vec<T, A>, A>,
+    key: &K,
+)
+    requires { IsSome (get K.cmp map.old key.now) }
+    ensures { (list : List T) (last : T) →
+        lookup (is_at (K.cmp key.now)) (lists_of map.old.entries) ≡ Some (list ++ last ∷ []) →
+        lists_of map.new.entries ≡
+        set_value (is_at (K.cmp key.now)) (lists_of map.old.entries) list }
+{
+    match map.get_mut(key) {
+        Some(list) => {
+            list.pop();
+        }
+        None => unreachable!(),
+    }
+}
+
+// Takes the last item at each of the keys, from the last key.
+pub(crate) fn take_back<K: Ord + Drop, T: Drop, A: Allocator + Copy>(
+    map: &mut BTreeMap<K, Vec<T, A>, A>,
+    keys: &[K],
+)
+    requires { (start : List (K × List T)) ×
+        TakesBack K.cmp (reverse keys.now) (lists_of map.old.entries) start }
+    ensures { (start : List (K × List T)) →
+        TakesBack K.cmp (reverse keys.now) (lists_of map.old.entries) start →
+        lists_of map.new.entries ≡ start }
+{
+    for i in (0..keys.len()).rev() {
+        take_last(map, &keys[i]);
+    }
+}
+
+// Appends an item at each of the keys, which are known; where memory is refused, at none.
+fn append_each<K: Ord + Drop, T: Drop, A: Allocator + Copy>(
     map: &mut BTreeMap<K, Vec<T, A>, A>,
     keys: &[K],
     mut items: Vec<T, A>,
-)
-    requires rooms { (q : K) → 0 < times K.cmp keys.now q →
-        HasRoom (get K.cmp map.old q) (length keys.now) }
+) -> Result<(), AllocError>
+    requires known { (q : K) → 0 < times K.cmp keys.now q → IsSome (get K.cmp map.old q) }
     requires enough { length items.items ≡ length keys.now }
-    ensures appended { (q : K) →
+    ensures appended { OnOk result
+        ((q : K) →
         AreAppended items.items (times K.cmp keys.now q) (get K.cmp map.old q)
-        (get K.cmp map.new q) }
-    ensures ordered { 0 < length keys.now → IsOrdered K.cmp map.new }
-    ensures lawful { IsTotalOrder K.cmp }
+        (get K.cmp map.new q)) }
+    ensures back { OnOk result
+        (TakesBack K.cmp (reverse keys.now) (lists_of map.new.entries)
+        (lists_of map.old.entries)) }
+    ensures kept { OnErr result (lists_of map.new.entries ≡ lists_of map.old.entries) }
+    ensures ordered { OnOk result (0 < length keys.now → IsOrdered K.cmp map.new) }
 {
-    for key in keys {
+    for (i, key) in keys.iter().enumerate() {
+        if reserve_at(map, key).is_err() {
+            take_back(map, &keys[..i]);
+            return Err(AllocError);
+        }
         match items.pop() {
             Some(item) => append_at(map, key, item),
             None => unreachable!(),
         }
     }
+    Ok(())
+}
+
+// Appends an item at each of the keys; where memory is refused, at none. New keys that have no
+// items may be left then.
+pub(crate) fn add_each<K: Ord + Clone + Drop, T: Drop, A: Allocator + Copy>(
+    map: &mut BTreeMap<K, Vec<T, A>, A>,
+    keys: &[K],
+    items: Vec<T, A>,
+    alloc: A,
+) -> Result<(), AllocError>
+    requires clones_equal { (a b : K) → K.is_clone a b → IsTrue (K.eq a b) }
+    requires enough { length items.items ≡ length keys.now }
+    ensures named { OnOk result
+        ((q : K) → 0 < times K.cmp keys.now q →
+        let at = lookup (is_at (K.cmp q)) in
+        IsAdded items.items (times K.cmp keys.now q) (at (lists_of map.old.entries))
+        (at (lists_of map.new.entries))) }
+    ensures others { OnOk result
+        ((q : K) → times K.cmp keys.now q ≡ 0 →
+        let at = lookup (is_at (K.cmp q)) in
+        at (lists_of map.new.entries) ≡ at (lists_of map.old.entries)) }
+    ensures back { OnOk result
+        (CanTakeBack K.cmp keys.now (lists_of map.new.entries)
+        (filled (lists_of map.old.entries))) }
+    ensures kept { OnErr result
+        (filled (lists_of map.new.entries) ≡ filled (lists_of map.old.entries)) }
+    ensures ordered { OnOk result (0 < length keys.now → IsOrdered K.cmp map.new) }
+    ensures lawful { IsTotalOrder K.cmp }
+{
+    ensure_keys(map, keys, alloc)?;
+    append_each(map, keys, items)
 }
