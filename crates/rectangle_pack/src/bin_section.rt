@@ -2,7 +2,7 @@
 ghost use Rattle.std.specs.Prelude.{◌≡◌, ◌↔◌, ◌∷◌, List, IfOk, IsTrue, true};
 ghost use Rattle.std.specs.Bool.{OnFalse};
 ghost use Rattle.std.specs.Cmp.{IsTotalOrder};
-ghost use Rattle.rectangle_pack.specs.Boxes.{Size, Cuboid, section_order, Holds, FitsU32, IsInside, SharesCell, AreApart, has_cells};
+ghost use Rattle.rectangle_pack.specs.Boxes.{Size, Cuboid, Cell, IsCellOf, is_cell_of, section_order, Holds, FitsU32, IsInside, SharesCell, AreApart, has_cells};
 ghost use Rattle.rectangle_pack.specs.private.Spans.{SpansMeet};
 ghost use Rattle.rectangle_pack.specs.Closures.{CanRate, CanCompare, MayRateBy, MayCompare};
 ghost use Rattle.rectangle_pack.specs.Cuts.{placed, cuts, sizes_of};
@@ -323,6 +323,11 @@ pub fn sections_are_ordered()
     ensures by_field { (a b : Cuboid) → ⟦<BinSection as Ord>⟧.cmp a b ≡ section_order a b }
     ensures equal { (a b : Cuboid) → (⟦<BinSection as Ord>⟧.cmp a b ≡ Ordering.Equal) ↔ (a ≡ b) }
     ensures equality { (a b : Cuboid) → (⟦<BinSection as PartialEq>⟧.eq a b ≡ true) ↔ (a ≡ b) }
+{}
+
+/// A law: the test that counts are made of answers whether a cell is a cell of a box.
+pub fn cell_test_is_membership()
+    ensures { (c : Cell) (b : Cuboid) → IsTrue (is_cell_of c b) ↔ IsCellOf c b }
 {}
 
 /// A law: a box shares a cell with another where the other shares one with it.

@@ -82,15 +82,22 @@ impl<Id: Ord + Clone + Drop, GroupId: Ord + Clone + Drop, A: Allocator + Copy> G
     /// The ids of each group, in the order in which they were pushed.
     pub fn groups(&self) -> &BTreeMap<Group<GroupId, Id>, Vec<Id, A>, A>
         ensures entries { lists_of result.now.entries ≡ self.now.groups }
-        ensures members { MembersHaveSizes Id.cmp self.now.sizes (lists_of result.now.entries) }
+        ensures ascend { IsStrictlySortedBy ⟦<Group<GroupId, Id> as Ord>⟧.cmp
+            (keys_of self.now.groups) }
+        ensures members { MembersHaveSizes Id.cmp self.now.sizes self.now.groups }
     {
+        // For the proof: the length of a map is asked for that its keys ascend.
+        let _ascend = self.groups.len();
         &self.groups
     }
 
     /// The box of each id.
     pub fn rects(&self) -> &BTreeMap<Id, RectToInsert, A>
-        ensures { result.now.entries ≡ self.now.sizes }
+        ensures entries { result.now.entries ≡ self.now.sizes }
+        ensures ascend { IsStrictlySortedBy Id.cmp (keys_of self.now.sizes) }
     {
+        // For the proof: the length of a map is asked for that its keys ascend.
+        let _ascend = self.rects.len();
         &self.rects
     }
 

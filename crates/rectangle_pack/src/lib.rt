@@ -4,7 +4,7 @@
 pub mod bin_section;
 pub mod box_size_heuristics;
 mod closures;
-pub mod fit_tests;
+mod fit_tests;
 pub mod grouped_rects_to_place;
 mod lists;
 mod orders;
@@ -15,12 +15,22 @@ pub mod target_bin;
 mod trial;
 pub mod width_height_depth;
 
-pub use bin_section::{BinSection, BinSectionError, contains_smallest_box};
+pub use bin_section::{
+    BinSection, BinSectionError, cell_test_is_membership, contains_smallest_box,
+    sections_are_ordered, sharing_is_symmetric, smallest_box_is_preorder,
+};
 pub use box_size_heuristics::volume_heuristic;
-pub use fit_tests::FitTests;
-pub use grouped_rects_to_place::{Group, GroupedRectsToPlace};
-pub use pack::{Placement, RectanglePackError, RectanglePackOk, pack_rects};
+pub use grouped_rects_to_place::{
+    Group, GroupedRectsToPlace, equal_pushes_leave_equal_collections, groups_are_ordered,
+};
+pub use pack::{
+    Placement, RectanglePackError, RectanglePackOk, locations_follow_placements, pack_rects,
+    packing_has_one_result, packing_keeps_cells, preorders_decide, refused_box_is_held_nowhere,
+    volume_packing_has_one_result,
+};
 pub use packed_location::{PackedLocation, RotatedBy};
 pub use rect_to_insert::RectToInsert;
-pub use target_bin::{PushBinSectionError, TargetBin};
-pub use width_height_depth::WidthHeightDepth;
+pub use target_bin::{
+    FitTests, PushBinSectionError, TargetBin, step_adds_at_most_two, trial_keeps_cells,
+};
+pub use width_height_depth::{WidthHeightDepth, sizes_are_ordered};

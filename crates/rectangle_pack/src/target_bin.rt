@@ -12,7 +12,7 @@ ghost use Rattle.rectangle_pack.specs.private.Journal.{before_notes, CanUndo};
 
 use crate::bin_section::BinSection;
 use crate::closures::{Ask, Closures};
-use crate::fit_tests::FitTests;
+pub use crate::fit_tests::FitTests;
 use crate::packed_location::PackedLocation;
 use crate::rect_to_insert::RectToInsert;
 use crate::trial::{Note, push_pieces, run_trial, undo};

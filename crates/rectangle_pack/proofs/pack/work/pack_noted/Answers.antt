@@ -30,7 +30,7 @@ pub place_groups-requires-clause-found : goal.place_groups-requires-clause-found
 place_groups-requires-clause-found g c = rw c.as_slice-2.ensures.value c.in_ok-order.ensures.found
 
 pub place_groups-requires-clause-sized : goal.place_groups-requires-clause-sized
-place_groups-requires-clause-sized g c = rw c.rects-rects.ensures c.groups-lists.ensures.members
+place_groups-requires-clause-sized g c = rw (c.rects-rects.ensures.entries, c.groups-lists.ensures.entries) c.groups-lists.ensures.members
 
 pub returns-clause-packed : goal.returns-clause-packed
 returns-clause-packed g c =
@@ -39,17 +39,17 @@ returns-clause-packed g c =
       group_order = keys_of_order c.in_ok-groups.groups.items;
       bin_order = c.in_ok-order.order.items;
       groups = p.0;
-      by_groups = rw (← c.rects-rects.ensures, ← c.groups-lists.ensures.entries) c.in_ok-groups.ensures.order;
+      by_groups = rw (← c.rects-rects.ensures.entries, ← c.groups-lists.ensures.entries) c.in_ok-groups.ensures.order;
       by_bins = λ some. c.in_ok-order.ensures.order;
-      listed = rw (← c.rects-rects.ensures, ← c.groups-lists.ensures.entries, ← c.as_slice.ensures.value) p.1;
+      listed = rw (← c.rects-rects.ensures.entries, ← c.groups-lists.ensures.entries, ← c.as_slice.ensures.value) p.1;
       placed = rw (← c.as_slice-2.ensures.value) p.2;
     })
     (λ q. record {
       group_order = keys_of_order c.in_ok-groups.groups.items;
       bin_order = c.in_ok-order.order.items;
-      by_groups = rw (← c.rects-rects.ensures, ← c.groups-lists.ensures.entries) c.in_ok-groups.ensures.order;
+      by_groups = rw (← c.rects-rects.ensures.entries, ← c.groups-lists.ensures.entries) c.in_ok-groups.ensures.order;
       by_bins = c.in_ok-order.ensures.order;
-      stops = rw (← c.rects-rects.ensures, ← c.groups-lists.ensures.entries, ← c.as_slice.ensures.value, ← c.as_slice-2.ensures.value) q;
+      stops = rw (← c.rects-rects.ensures.entries, ← c.groups-lists.ensures.entries, ← c.as_slice.ensures.value, ← c.as_slice-2.ensures.value) q;
     })
     c.place_groups.ensures.packed
 
