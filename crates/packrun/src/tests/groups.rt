@@ -214,3 +214,20 @@ fn rates_at_the_greatest_number(rt: HostRuntime) -> Result<(), Fail> {
         &|_: WidthHeightDepth| u128::MAX,
     )
 }
+
+// A push into 200 groups with one member each leaves no list with room for more than a few.
+#[test]
+fn room_grows_as_the_groups_named(rt: HostRuntime) -> Result<(), Fail> {
+    let alloc = rt.alloc();
+    let mut named = Vec::new(alloc);
+    for group in 0..200u32 {
+        named.push(group)?;
+    }
+    let mut all = GroupedRectsToPlace::new(alloc);
+    all.push_rect("One", Some(named), RectToInsert::new(1, 1, 1))?;
+    assert_eq!(rt; all.groups().len(), 200);
+    for members in all.groups().values() {
+        assert!(rt; members.capacity() <= 8, "{}", members.capacity());
+    }
+    Ok(())
+}
