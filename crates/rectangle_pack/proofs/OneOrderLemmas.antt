@@ -19,7 +19,8 @@ use Rattle.rectangle_pack.specs.Bins.{Bin}
 use Rattle.rectangle_pack.specs.Choice.{IsFunction}
 use Rattle.rectangle_pack.specs.Results.{AreMapsAlike, AreBinsAlike}
 use Rattle.rectangle_pack.proofs.MapsLemmas.{lookup-same}
-use Rattle.rectangle_pack.specs.Orders.{saturated, falling_then, rising_then, IsGroupKey, IsGroupOrder, IsBinOrder}
+use Rattle.rectangle_pack.specs.Numbers.{saturated}
+use Rattle.rectangle_pack.specs.Orders.{falling_then, rising_then, IsGroupKey, IsGroupOrder, IsBinOrder}
 
 -- what passes between elements that are alike holds of all
 pub All-alike : {X Y : Type 0} (R : X → Y → Type 0) (P : X → Type 0) (Q : Y → Type 0) → ((x : X) (y : Y) → R x y → P x → Q y) → (xs : List X) (ys : List Y) → AllZip R xs ys → All P xs → All Q ys

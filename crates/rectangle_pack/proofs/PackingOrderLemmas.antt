@@ -24,7 +24,7 @@ use Rattle.std.proofs.Common.{get_or}
 use Rattle.std.proofs.lemmas.Option.{slice_get-get_or}
 use Rattle.std.specs.Prelude.{sum}
 use Rattle.std.proofs.lemmas.List.Sums.{sum_by_push}
-use Rattle.rectangle_pack.specs.Orders.{saturated}
+use Rattle.rectangle_pack.specs.Numbers.{saturated}
 use Rattle.rectangle_pack.specs.private.Orders.{entries_at}
 use Rattle.std.proofs.Common.{cond, true, false, Bool}
 use Rattle.std.specs.Prelude.{IsSome}

@@ -1,4 +1,5 @@
 pub mod Boxes
+pub mod Numbers
 pub mod Cuts
 pub mod Closures
 pub mod Choice

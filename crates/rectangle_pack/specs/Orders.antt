@@ -1,5 +1,5 @@
 -- The orders in which a packing takes groups and bins. Each key is chosen once, so an order is a list of pairs of key and name.
-use Rattle.std.specs.Prelude.{◌≡◌, ℕ, ◌-◌, ◌^◌, List, sum, min, IsSomeAnd}
+use Rattle.std.specs.Prelude.{◌≡◌, ℕ, List, sum, IsSomeAnd}
 use Rattle.std.specs.declared.cmp.Ordering.{Ordering}
 use Rattle.std.specs.declared.cmp.Ordering.TheVariants.{Equal}
 use Rattle.std.specs.List.{AllZip}
@@ -9,10 +9,7 @@ use Rattle.std.specs.Map.{lookup}
 use Rattle.std.specs.BTreeMap.{is_at}
 use Rattle.rectangle_pack.specs.Boxes.{Size}
 use Rattle.rectangle_pack.specs.Bins.{Bin}
-
--- the lesser of a number and the greatest of 128 bits
-abbrev pub saturated : ℕ → ℕ
-saturated n = min n (2 ^ 128 - 1)
+use Rattle.rectangle_pack.specs.Numbers.{saturated}
 
 -- by falling key, and at equal keys by name
 abbrev pub falling_then : {K : Type 0} → (K → K → Ordering) → ℕ × K → ℕ × K → Ordering

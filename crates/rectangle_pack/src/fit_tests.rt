@@ -1,6 +1,6 @@
 //! Counts of fit tests.
 ghost use Rattle.std.specs.Prelude.{◌≡◌, ◌+◌};
-ghost use Rattle.rectangle_pack.specs.Orders.{saturated};
+ghost use Rattle.rectangle_pack.specs.Numbers.{saturated};
 
 use std::marker::Model;
 

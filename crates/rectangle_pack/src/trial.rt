@@ -4,7 +4,7 @@ ghost use Rattle.std.specs.Vec.{vec_capacity};
 ghost use Rattle.std.specs.Bool.{OnTrue, OnFalse};
 ghost use Rattle.std.specs.List.{HoldsAt, AllWithin};
 ghost use Rattle.rectangle_pack.specs.Boxes.{Holds, FitsU32, has_cells};
-ghost use Rattle.rectangle_pack.specs.Orders.{saturated};
+ghost use Rattle.rectangle_pack.specs.Numbers.{saturated};
 ghost use Rattle.rectangle_pack.specs.Steps.{IsStep, IsDone, IsStuck};
 ghost use Rattle.rectangle_pack.specs.private.Journal.{before_note, before_notes, CanUndoOne, CanUndo};
 ghost use Rattle.rectangle_pack.specs.private.Ranks.{by_falling_rate};

@@ -1,7 +1,7 @@
 use Rattle.std.proofs.Common.{◌≡◌, ◌≤◌, ◌+◌, ◌*◌, ◌-◌, ℕ, take, length, vec_len, vec_capacity}
 use Rattle.std.specs.Prelude.{All}
 use Rattle.rectangle_pack.specs.Boxes.{FitsU32}
-use Rattle.rectangle_pack.specs.Orders.{saturated}
+use Rattle.rectangle_pack.specs.Numbers.{saturated}
 use Rattle.rectangle_pack.specs.Steps.{IsDone}
 use Rattle.rectangle_pack.specs.private.Journal.{before_notes, CanUndo}
 use Rattle.rectangle_pack.proofs.trial.run_trial.Given as goal
