@@ -4,7 +4,7 @@ use Rattle.std.specs.Prelude.{map, All}
 use Rattle.std.specs.declared.vec.Vec.{Vec}
 use Rattle.std.specs.Map.{values_of}
 use Rattle.std.proofs.lemmas.List.{get_or-map, length-map, map_push}
-use Rattle.std.proofs.Common.{Bor}
+use Rattle.std.specs.Borrow.{Bor}
 use Rattle.std.specs.Iterator.{Yields}
 use Rattle.std.specs.Map.Iter.{TakesFirst, deref_pair}
 use Rattle.std.specs.Prelude.{Option, Some}

@@ -2,7 +2,7 @@
 use Rattle.std.specs.Prelude.{◌≡◌, ℕ, List, All, length}
 use Rattle.std.specs.declared.cmp.Ordering.{Ordering}
 use Rattle.std.specs.Fn.{Shared}
-use denote.Ref.{Bor}
+use Rattle.std.specs.Borrow.{Bor}
 use Rattle.rectangle_pack.specs.Boxes.{Size, IsU32}
 
 -- what a clause says of calls of a heuristic, and of a comparison: `H.Fn` and `C.Fn`

@@ -178,6 +178,7 @@ fn unstep<A: Allocator>(sections: &mut Vec<BinSection, A>, note: Note)
 {
     let kept = sections.len() - note.pushed;
     sections.truncate(kept);
+    // There is room for it, so it is not refused.
     let _ = sections.insert(note.index, note.section);
 }
 
@@ -228,6 +229,7 @@ where
     ensures can_undo { OnTrue result
         (CanUndo (vec_capacity sections.new) notes.new.items sections.new.items) }
 {
+    // For the proof alone: what is read is known to be of 128 bits.
     let _counted = tests.count();
     for member in members {
         match place(sections, member, rules, tests) {
