@@ -1,4 +1,6 @@
 //! Why a run ends before its input does.
+ghost use Rattle.std.specs.Prelude.{◌≡◌};
+ghost use Rattle.packrun.specs.declared.stop.Stop.TheVariants.{NoMemory, IoFailed};
 
 use std::alloc::{AllocError, AllocFailed};
 use std::io;
@@ -15,19 +17,26 @@ pub enum Stop {
 }
 
 impl From<AllocError> for Stop {
+    ghost from_gives = { λ _ stop. stop ≡ NoMemory };
+
     fn from(_error: AllocError) -> Stop {
         Stop::NoMemory
     }
 }
 
 impl<T: Drop> From<AllocFailed<T>> for Stop {
+    ghost from_gives = { λ _ stop. stop ≡ NoMemory };
+
     fn from(_error: AllocFailed<T>) -> Stop {
         Stop::NoMemory
     }
 }
 
-// What a reader or a writer answers. A buffer that could not be made is told apart where it is made.
+// What a reader or a writer answers. A buffer that could not be made is told apart where it is
+// made.
 impl From<io::Error> for Stop {
+    ghost from_gives = { λ _ stop. stop ≡ IoFailed };
+
     fn from(_error: io::Error) -> Stop {
         Stop::IoFailed
     }
