@@ -152,8 +152,21 @@ impl BinSection {
     /// ```
     /// let section = BinSection::new(0, 0, 0, WidthHeightDepth::new(100, 100, 1));
     /// let rect = RectToInsert::new(50, 90, 1);
-    /// let (location, [right, above, behind]) =
-    ///     section.try_place(&rect, &contains_smallest_box, &volume_heuristic)?;
+    /// let (location, [right, above, behind]) = section.try_place(
+    ///     &rect,
+    ///     &contains_smallest_box,
+    ///     &volume_heuristic,
+    /// )?;
+    /// assert_eq!(rt; (location.x(), location.y(), location.z()), (0, 0, 0));
+    /// assert_eq!(rt;
+    ///     right,
+    ///     BinSection::new(50, 0, 0, WidthHeightDepth::new(50, 100, 1))
+    /// );
+    /// assert_eq!(rt;
+    ///     above,
+    ///     BinSection::new(0, 90, 0, WidthHeightDepth::new(50, 10, 1))
+    /// );
+    /// assert_eq!(rt; behind.whd().volume(), 0);
     /// ```
     pub fn try_place<H, C>(
         &self,

@@ -111,6 +111,22 @@ impl<Id: Ord + Clone + Drop, GroupId: Ord + Clone + Drop, A: Allocator + Copy> G
     /// The caller sees to it that a given list is not empty, and that clones of ids equal their
     /// originals. `AllocError` says that a growth or a clone was refused. The collection is then as
     /// it was.
+    ///
+    /// ```
+    /// let mut rects: GroupedRectsToPlace<u32, &'static str> = GroupedRectsToPlace::new(alloc);
+    /// let groups = vec![in alloc; "menu", "game"]?;
+    /// rects.push_rect(7, Some(groups), RectToInsert::new(10, 20, 1))?;
+    /// let groups = vec![in alloc; "game"]?;
+    /// rects.push_rect(8, Some(groups), RectToInsert::new(5, 50, 1))?;
+    /// rects.push_rect(9, None, RectToInsert::new(30, 30, 1))?;
+    /// // Box 9 alone, and the boxes of the two groups.
+    /// assert_eq!(rt; rects.groups().len(), 3);
+    /// let game = rects
+    ///     .groups()
+    ///     .get(&Group::Grouped("game"))
+    ///     .ok_or("no such group")?;
+    /// assert_eq!(rt; game.as_slice(), [7, 8].as_slice());
+    /// ```
     pub fn push_rect(
         &mut self,
         inbound_id: Id,

@@ -43,12 +43,24 @@ use std::collections::BTreeMap;
 /// bins. `OutOfMemory` says that a growth or a clone was refused: the bins are as they were.
 ///
 /// ```
-/// let mut rects: GroupedRectsToPlace<u32, u32> = GroupedRectsToPlace::new(Global);
+/// let mut rects: GroupedRectsToPlace<u32, u32> = GroupedRectsToPlace::new(alloc);
 /// rects.push_rect(7, None, RectToInsert::new(2, 3, 1))?;
-/// let mut bins = BTreeMap::new(Global);
-/// bins.insert(1u32, TargetBin::new(Global, 10, 10, 1)?)?;
-/// let packed = pack_rects(Global, &rects, &mut bins, &volume_heuristic, &contains_smallest_box)?;
-/// assert_eq!(packed.placements().len(), 1);
+/// rects.push_rect(8, None, RectToInsert::new(4, 4, 1))?;
+/// let mut bins = BTreeMap::new(alloc);
+/// bins.insert(1u32, TargetBin::new(alloc, 10, 10, 1)?)?;
+/// let packed = pack_rects(
+///     alloc,
+///     &rects,
+///     &mut bins,
+///     &volume_heuristic,
+///     &contains_smallest_box,
+/// )?;
+/// // The larger box goes first, and the other one beside it.
+/// let ids = packed.placements().iter().map(|placed| placed.id);
+/// assert!(rt; ids.eq([8, 7]));
+/// let (bin, location) = packed.packed_locations().get(&7).ok_or("not placed")?;
+/// assert_eq!(rt; *bin, 1);
+/// assert_eq!(rt; (location.x(), location.y(), location.z()), (4, 0, 0));
 /// ```
 pub fn pack_rects<Id, BinId, GroupId, H, C, A>(
     alloc: A,

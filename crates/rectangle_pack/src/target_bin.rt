@@ -176,6 +176,27 @@ impl<A: Allocator + Copy> TargetBin<A> {
 
     /// Gives a section back: puts it at the end of the list where the bin accepts it. An error
     /// leaves the bin as it was; an empty section inside the bin is accepted.
+    ///
+    /// ```
+    /// let mut bin = TargetBin::new(alloc, 10, 10, 1)?;
+    /// let members = [RectToInsert::new(4, 10, 1)];
+    /// let mut tests = FitTests::new();
+    /// let placed = bin.place_all(
+    ///     &members,
+    ///     &volume_heuristic,
+    ///     &contains_smallest_box,
+    ///     &mut tests,
+    /// )?;
+    /// assert!(rt; placed.is_some());
+    /// // The box stands at (0, 0, 0). Its cells are free again once they are given back.
+    /// let given = BinSection::new(0, 0, 0, WidthHeightDepth::new(4, 10, 1));
+    /// bin.push_available_bin_section(given)?;
+    /// let rest = BinSection::new(4, 0, 0, WidthHeightDepth::new(6, 10, 1));
+    /// assert_eq!(rt;
+    ///     bin.available_bin_sections().as_slice(),
+    ///     [rest, given].as_slice()
+    /// );
+    /// ```
     pub fn push_available_bin_section(
         &mut self,
         bin_section: BinSection,
