@@ -1,6 +1,7 @@
 //! Whole runs over memory, and the library that they rest on.
 
 mod cases;
+mod closures;
 mod cuts;
 mod example;
 mod failures;
