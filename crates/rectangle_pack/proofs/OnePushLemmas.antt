@@ -54,7 +54,7 @@ module _ {Id G : Type 0} (group_cmp : Group G Id → Group G Id → Ordering) (c
   Same xs ys = AllZip (λ x y. cmp x y ≡ Equal) xs ys
 
   sizes_alike : (old other new other_new : List (Id × Size)) (id other_id : Id) (size : Size) → cmp id other_id ≡ Equal → AreMapsAlike cmp (λ a b. a ≡ b) old other
-      → SetsSize cmp group_cmp old new id size → SetsSize cmp group_cmp other other_new other_id size → AreMapsAlike cmp (λ a b. a ≡ b) new other_new
+      → SetsSize cmp old new id size → SetsSize cmp other other_new other_id size → AreMapsAlike cmp (λ a b. a ≡ b) new other_new
   sizes_alike old other new other_new id other_id size h alike (key, k, e) (other_key, l, f) =
       subst (λ (x : List (Id × Size)). AreMapsAlike cmp (λ a b. a ≡ b) x other_new) (sym e)
       (subst (λ (y : List (Id × Size)). AreMapsAlike cmp (λ a b. a ≡ b) (insert_entry cmp old key size) y) (sym f)
@@ -77,7 +77,7 @@ module _ {Id G : Type 0} (group_cmp : Group G Id → Group G Id → Ordering) (c
           (same_keys total id other_id member other_member h m n, tt) old.groups other.groups alike.groups))
 
   -- a group is named as often by names that are equal
-  times_alike : (q : Group G Id) (ns ms : List G) → AllZip (λ a b. name_cmp a b ≡ Equal) ns ms → times_named cmp group_cmp ns q ≡ times_named cmp group_cmp ms q
+  times_alike : (q : Group G Id) (ns ms : List G) → AllZip (λ a b. name_cmp a b ≡ Equal) ns ms → times_named group_cmp ns q ≡ times_named group_cmp ms q
   times_alike q [] [] h = refl
   times_alike q [] (m ∷ ms) h = absurd h
   times_alike q (n ∷ ns) [] h = absurd h
@@ -94,7 +94,7 @@ module _ {Id G : Type 0} (group_cmp : Group G Id → Group G Id → Ordering) (c
   or_none (Some x) (Some y) h = h
 
   appended : (before other_before : List Id) (id other_id : Id) (n m : ℕ) (u v : Option (List Id)) → Same before other_before → cmp id other_id ≡ Equal → n ≡ m
-      → IsSomeAnd u (Appends cmp group_cmp before id n) → IsSomeAnd v (Appends cmp group_cmp other_before other_id m) → AreOptionsAlike Same u v
+      → IsSomeAnd u (Appends cmp before id n) → IsSomeAnd v (Appends cmp other_before other_id m) → AreOptionsAlike Same u v
   appended before other_before id other_id n m None v b h e p q = absurd p
   appended before other_before id other_id n m (Some x) None b h e p q = absurd q
   appended before other_before id other_id n m (Some x) (Some y) b h e (tail, is, long, all) (other_tail, other_is, other_long, other_all) =
@@ -106,13 +106,13 @@ module _ {Id G : Type 0} (group_cmp : Group G Id → Group G Id → Ordering) (c
       → PushesInto cmp group_cmp old new id ns size → PushesInto cmp group_cmp other other_new other_id ms size → AreCollectionsAlike group_cmp cmp new other_new
   into_alike old new other other_new id other_id ns ms size alike h names up down p q = record {
     sizes = sizes_alike old.sizes other.sizes new.sizes other_new.sizes id other_id size h alike.sizes p.sizes q.sizes;
-    groups = maps_alike group_cmp group_total Same new.groups other_new.groups up down (λ k. at k (times_named cmp group_cmp ns k) refl);
+    groups = maps_alike group_cmp group_total Same new.groups other_new.groups up down (λ k. at k (times_named group_cmp ns k) refl);
   }
     where
       was : (k : Group G Id) → AreOptionsAlike Same (lookup (is_at (group_cmp k)) old.groups) (lookup (is_at (group_cmp k)) other.groups)
       was k = lookup-alike group_total Same k k (tied_itself group_total k) old.groups other.groups alike.groups
 
-      at : (k : Group G Id) (n : ℕ) → times_named cmp group_cmp ns k ≡ n → AreOptionsAlike Same (lookup (is_at (group_cmp k)) new.groups) (lookup (is_at (group_cmp k)) other_new.groups)
+      at : (k : Group G Id) (n : ℕ) → times_named group_cmp ns k ≡ n → AreOptionsAlike Same (lookup (is_at (group_cmp k)) new.groups) (lookup (is_at (group_cmp k)) other_new.groups)
       at k zero e = rw (p.other_groups k e, q.other_groups k (sym (times_alike k ns ms names) ∙ e)) (was k)
       at k (suc n) e =
           let same = times_alike k ns ms names in

@@ -25,7 +25,7 @@ module _ {A : Type 0} (MayAnswer : A → A → Ordering → Type 0) where
     pub swapped : (x y : A) → compare y x ≡ ordering_reverse (compare x y)
     pub transitive : (x y z : A) → compare x y ≢ Greater → compare y z ≢ Greater → compare x z ≢ Greater
 
-  -- on these elements there is one answer, swapped arguments give the reversed one, and "not Greater" is transitive
+  -- on these elements there is at most one answer, swapped arguments give the reversed one, and "not Greater" is transitive
   pub record IsTotalPreorderOn (xs : List A) (compare : A → A → Ordering) : Type 0 where
     pub only : (x y : A) (r : Ordering) → Contains xs x → Contains xs y → MayAnswer x y r → r ≡ compare x y
     pub swapped : (x y : A) → Contains xs x → Contains xs y → compare y x ≡ ordering_reverse (compare x y)

@@ -2,6 +2,7 @@
 use Rattle.std.specs.Prelude.{ℕ, ◌+◌, ◌-◌, Bool, true, false, List, [], ◌∷◌, map, if◌then◌else◌}
 use Rattle.rectangle_pack.specs.Boxes.{Axis, AxisX, AxisY, AxisZ, Size, Cuboid, extent, start}
 
+-- whether two axes are one
 abbrev pub is_same : Axis → Axis → Bool
 is_same AxisX AxisX = true
 is_same AxisY AxisY = true
@@ -21,7 +22,8 @@ placed section size = record section { whd = size }
 unfoldable pub piece_start : Cuboid → Size → Axis → Axis → ℕ
 piece_start section size a b = if is_same a b then start b section + extent b size else start b section
 
--- how far it runs there: over what is left beyond the box on its own axis, over the box on an axis that is cut before, and over the section on one that is cut after
+-- how far it runs there: over what is left beyond the box on its own axis, over the box on an axis that is cut before,
+-- and over the section on one that is cut after
 unfoldable pub piece_extent : Cuboid → Size → List Axis → Axis → Axis → ℕ
 piece_extent section size order a b =
     if is_same a b then extent b section.whd - extent b size else if is_before order b a then extent b size else extent b section.whd
@@ -54,5 +56,6 @@ orders =
 unfoldable pub cuts : Cuboid → Size → List (List Cuboid)
 cuts section size = map (pieces section size) orders
 
+-- the sizes of boxes
 abbrev pub sizes_of : List Cuboid → List Size
 sizes_of boxes = map (λ b. b.whd) boxes

@@ -27,26 +27,31 @@ HaveSizes cmp sizes ids = All (λ id. IsSome (lookup (is_at (cmp id)) sizes)) id
 abbrev pub MembersHaveSizes : {Id K : Type 0} → (Id → Id → Ordering) → List (Id × Size) → List (K × List Id) → Type 0
 MembersHaveSizes cmp sizes groups = All (λ ids. (0 < length ids) × HaveSizes cmp sizes ids) (values_of groups)
 
-module _ {Id G : Type 0} (cmp : Id → Id → Ordering) (group_cmp : Group G Id → Group G Id → Ordering) where
-  -- the size of the id is set, under a key that equals it, and the others stay
-  abbrev pub SetsSize : List (Id × Size) → List (Id × Size) → Id → Size → Type 0
-  SetsSize old new id size = (key : Id) × (cmp id key ≡ Equal) × (new ≡ insert_entry cmp old key size)
+-- the size of the id is set, under a key that equals it, and the others stay
+abbrev pub SetsSize : {Id : Type 0} → (Id → Id → Ordering) → List (Id × Size) → List (Id × Size) → Id → Size → Type 0
+SetsSize {Id} cmp old new id size = (key : Id) × (cmp id key ≡ Equal) × (new ≡ insert_entry cmp old key size)
 
+-- how often a group occurs in the given list
+abbrev pub times_named : {Id G : Type 0} → (Group G Id → Group G Id → Ordering) → List G → Group G Id → ℕ
+times_named group_cmp named group = count_by (λ n. is_eq (group_cmp group (Grouped n))) named
+
+-- a list is the one of before, followed by the id so often
+abbrev pub Appends : {Id : Type 0} → (Id → Id → Ordering) → List Id → Id → ℕ → List Id → Type 0
+Appends {Id} cmp before id times list = (tail : List Id) × (list ≡ before ++ tail) × (length tail ≡ times) × All (λ x. cmp id x ≡ Equal) tail
+
+module _ {Id G : Type 0} (cmp : Id → Id → Ordering) (group_cmp : Group G Id → Group G Id → Ordering) where
   -- a push without groups: the size is set, and the id stands alone in the entry of its own
   pub record PushesAlone (old new : Collection Id G) (id : Id) (size : Size) : Type 0 where
-    pub sizes : SetsSize old.sizes new.sizes id size
-    pub groups : (key : Id) × (member : Id) × (cmp id key ≡ Equal) × (cmp id member ≡ Equal) × (new.groups ≡ insert_entry group_cmp old.groups (Ungrouped key) (member ∷ []))
+    pub sizes : SetsSize cmp old.sizes new.sizes id size
+    pub groups : (key : Id) × (member : Id) × (cmp id key ≡ Equal) × (cmp id member ≡ Equal)
+        × (new.groups ≡ insert_entry group_cmp old.groups (Ungrouped key) (member ∷ []))
 
-  -- how often a group occurs in the given list
-  abbrev pub times_named : List G → Group G Id → ℕ
-  times_named named group = count_by (λ n. is_eq (group_cmp group (Grouped n))) named
-
-  -- a list is the one of before, followed by the id so often
-  abbrev pub Appends : List Id → Id → ℕ → List Id → Type 0
-  Appends before id times list = (tail : List Id) × (list ≡ before ++ tail) × (length tail ≡ times) × All (λ x. cmp id x ≡ Equal) tail
-
-  -- a push with a list of groups: the size is set, each named group's list is its old one, or the empty one, followed by the id as often as the group is named, and the rest stays
+  -- a push with a list of groups: the size is set, each named group's list is its old one, or the empty one,
+  -- followed by the id as often as the group is named, and the rest stays
   pub record PushesInto (old new : Collection Id G) (id : Id) (named : List G) (size : Size) : Type 0 where
-    pub sizes : SetsSize old.sizes new.sizes id size
-    pub named_groups : (group : Group G Id) → 0 < times_named named group → IsSomeAnd (lookup (is_at (group_cmp group)) new.groups) (Appends (unwrap_or (lookup (is_at (group_cmp group)) old.groups) []) id (times_named named group))
-    pub other_groups : (group : Group G Id) → times_named named group ≡ 0 → lookup (is_at (group_cmp group)) new.groups ≡ lookup (is_at (group_cmp group)) old.groups
+    pub sizes : SetsSize cmp old.sizes new.sizes id size
+    pub named_groups : (group : Group G Id) → 0 < times_named group_cmp named group
+        → IsSomeAnd (lookup (is_at (group_cmp group)) new.groups)
+        (Appends cmp (unwrap_or (lookup (is_at (group_cmp group)) old.groups) []) id (times_named group_cmp named group))
+    pub other_groups : (group : Group G Id) → times_named group_cmp named group ≡ 0
+        → lookup (is_at (group_cmp group)) new.groups ≡ lookup (is_at (group_cmp group)) old.groups

@@ -36,6 +36,7 @@ pub record Rules (Id B : Type 0) : Type 1 where
   pub bin_cmp : B → B → Ordering
   pub may : Answers
 
+-- these, as one
 abbrev pub rules_by : {Id B : Type 0} → (Id → Id → Ordering) → (B → B → Ordering) → Answers → Rules Id B
 rules_by cmp bin_cmp may = record { id_cmp = cmp; bin_cmp = bin_cmp; may = may }
 

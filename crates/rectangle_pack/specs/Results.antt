@@ -20,7 +20,8 @@ MayBeCut bins section = Any (λ (bin : Bin). Any (IsPartOf section) bin.sections
 abbrev pub MayBeRated : List Size → List Bin → Size → Type 0
 MayBeRated boxes bins size = Contains boxes size ⊎ Any (λ (bin : Bin). (size ≡ bin.size) ⊎ Any (λ s. Holds s size) bin.sections) bins
 
--- the heuristic has one answer on each size that may be rated, and the comparison is a total preorder on the cuts of each section that may be cut round each box
+-- the heuristic has at most one answer on each size that may be rated, and the comparison is a total preorder on the cuts
+-- of each section that may be cut, round each box
 pub record ClosuresDecide (boxes : List Size) (bins : List Bin) (may : Answers) : Type 0 where
   pub rates : IsFunction (λ size answer. MayBeRated boxes bins size × may.rate size answer)
   pub prefers : IsPreorderOnCuts (λ section member. MayBeCut bins section × Contains boxes member) may.prefer

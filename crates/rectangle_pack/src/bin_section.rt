@@ -22,7 +22,8 @@ use std::marker::Model;
 /// Compares the pieces of two cuts: `Greater` where those of the first are better.
 ///
 /// The better cut is the one whose smallest piece is smaller, as the heuristic says; at a tie the
-/// one whose second smallest piece is smaller. The largest piece never decides.
+/// one whose second smallest piece is smaller. The largest piece never decides. The caller sees to
+/// it that the heuristic may be called on every size.
 pub fn contains_smallest_box<H>(
     container1: [WidthHeightDepth; 3],
     container2: [WidthHeightDepth; 3],
@@ -147,7 +148,8 @@ impl BinSection {
     /// `Greater`.
     ///
     /// The caller sees to it that corner and size of the section add up to at most `u32::MAX` on
-    /// each axis. An error says on which axis the box is too large; no closure was asked then.
+    /// each axis, and that the comparison may be called on every two triples of sizes with this
+    /// heuristic. An error says on which axis the box is too large; no closure was asked then.
     ///
     /// ```
     /// let section = BinSection::new(0, 0, 0, WidthHeightDepth::new(100, 100, 1));

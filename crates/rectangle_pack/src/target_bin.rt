@@ -58,7 +58,7 @@ impl fmt::Display for PushBinSectionError {
     }
 }
 
-/// A bin: its size, and the list of its free sections. Each free section is inside the bin, and no
+/// A bin: its size, and the list of its free sections, in cells. Each free section is inside the bin, and no
 /// two share a cell.
 #[derive(Drop)]
 #[derive_where(Debug)]
@@ -96,7 +96,8 @@ fn first_sharing(sections: &[BinSection], section: &BinSection) -> Option<BinSec
 }
 
 impl<A: Allocator + Copy> TargetBin<A> {
-    /// A bin of this size with one free section, which is all of it; any size will do.
+    /// A bin of this size, in cells, with one free section, which is all of it; any size will do. An
+    /// error is want of memory.
     pub fn new(alloc: A, width: u32, height: u32, depth: u32) -> Result<Self, AllocError>
         ensures size { IfOk result
             (λ b. b.bin.size ≡ record { width = width; height = height; depth = depth }) }
@@ -126,7 +127,7 @@ impl<A: Allocator + Copy> TargetBin<A> {
         &self.available_bin_sections
     }
 
-    /// An equal bin, with a list of its own.
+    /// An equal bin, with a list of its own. An error is want of memory.
     pub fn clone(&self) -> Result<Self, AllocError>
         ensures { IfOk result (λ b. b.bin ≡ self.now.bin) }
     {
@@ -239,8 +240,9 @@ impl<A: Allocator + Copy> TargetBin<A> {
     /// answers their locations; `None` where some member finds no section. `None` and an error
     /// leave the bin as it was.
     ///
-    /// The counter grows by the fit tests of the trial. An error is want of memory; without members
-    /// none is taken.
+    /// The caller sees to it that the heuristic may be called on every size, and the comparison on
+    /// every two triples of sizes with this heuristic. The counter grows by the fit tests of the
+    /// trial. An error is want of memory; without members none is taken.
     pub fn place_all<H, C>(
         &mut self,
         members: &[RectToInsert],

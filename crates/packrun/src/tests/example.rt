@@ -1,9 +1,9 @@
 //! The examples of the README and of the library's documentation.
 
-use rectangle_pack::pack::volume_packing_has_one_result;
 use rectangle_pack::{
     BinSection, FitTests, Group, GroupedRectsToPlace, Placement, RectToInsert, TargetBin,
     WidthHeightDepth, contains_smallest_box, pack_rects, volume_heuristic,
+    volume_packing_has_one_result,
 };
 use std::collections::BTreeMap;
 use std::test::Fail;
