@@ -3,6 +3,7 @@ pub mod BinsLemmas
 pub mod BoxesLemmas
 pub mod CountingLemmas
 pub mod CutsLemmas
+pub mod ExclusionsLemmas
 pub mod GroupOrderLemmas
 pub mod GroupsLemmas
 pub mod KeepingLemmas

@@ -392,6 +392,7 @@ collections_back {Id} {G} {group_cmp} {cmp} group_total total one other h = reco
   sizes = alike_back total (λ x y. x ≡ y) (λ x y. x ≡ y) (λ x y e. sym e) one.sizes other.sizes h.sizes;
   groups = alike_back group_total (λ x y. AllZip (λ i j. cmp i j ≡ Equal) x y) (λ x y. AllZip (λ i j. cmp i j ≡ Equal) x y)
       (λ x y ids. AllZip-back (λ i j. cmp i j ≡ Equal) (λ i j. cmp i j ≡ Equal) (λ i j e. tied_back total i j e) x y ids) one.groups other.groups h.groups;
+  excluded = λ a b. sym (h.excluded a b);
 }
 
 -- so packings of inputs that are alike have one result

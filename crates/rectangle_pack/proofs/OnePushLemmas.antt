@@ -14,6 +14,7 @@ use Rattle.std.proofs.lemmas.List.Elements.{All-head, All-tail}
 use Rattle.rectangle_pack.specs.declared.grouped_rects_to_place.Group.{Group}
 use Rattle.rectangle_pack.specs.declared.grouped_rects_to_place.Group.TheVariants.{Ungrouped, Grouped}
 use Rattle.rectangle_pack.specs.Boxes.{Size}
+use Rattle.rectangle_pack.specs.Exclusions.{are_excluded}
 use Rattle.rectangle_pack.specs.Groups.{Collection, SetsSize, PushesAlone, PushesInto, Appends, times_named}
 use Rattle.rectangle_pack.specs.Results.{AreMapsAlike, AreCollectionsAlike}
 use Rattle.rectangle_pack.proofs.CountingLemmas.{count-cons}
@@ -60,11 +61,17 @@ module _ {Id G : Type 0} (group_cmp : Group G Id → Group G Id → Ordering) (c
       (subst (λ (y : List (Id × Size)). AreMapsAlike cmp (λ a b. a ≡ b) (insert_entry cmp old key size) y) (sym f)
       (insert-alike total (λ a b. a ≡ b) key other_key size size (same_keys total id other_id key other_key h k l) refl old other alike))
 
+  -- pushes leave the pairs that are excluded
+  excluded_alike : (old new other other_new : Collection Id G) → AreCollectionsAlike group_cmp cmp old other → new.partners ≡ old.partners → other_new.partners ≡ other.partners
+      → (a b : Group G Id) → are_excluded group_cmp new.partners a b ≡ are_excluded group_cmp other_new.partners a b
+  excluded_alike old new other other_new alike e f a b = rw (e, f) (alike.excluded a b)
+
   pub alone_alike : (old new other other_new : Collection Id G) (id other_id : Id) (size : Size) → AreCollectionsAlike group_cmp cmp old other → cmp id other_id ≡ Equal
       → PushesAlone cmp group_cmp old new id size → PushesAlone cmp group_cmp other other_new other_id size → AreCollectionsAlike group_cmp cmp new other_new
   alone_alike old new other other_new id other_id size alike h p q = record {
     sizes = sizes_alike old.sizes other.sizes new.sizes other_new.sizes id other_id size h alike.sizes p.sizes q.sizes;
     groups = put p.groups q.groups;
+    excluded = excluded_alike old new other other_new alike p.partners q.partners;
   }
     where
       put : (key : Id) × (member : Id) × (cmp id key ≡ Equal) × (cmp id member ≡ Equal) × (new.groups ≡ insert_entry group_cmp old.groups (Ungrouped key) (member ∷ []))
@@ -107,6 +114,7 @@ module _ {Id G : Type 0} (group_cmp : Group G Id → Group G Id → Ordering) (c
   into_alike old new other other_new id other_id ns ms size alike h names up down p q = record {
     sizes = sizes_alike old.sizes other.sizes new.sizes other_new.sizes id other_id size h alike.sizes p.sizes q.sizes;
     groups = maps_alike group_cmp group_total Same new.groups other_new.groups up down (λ k. at k (times_named group_cmp ns k) refl);
+    excluded = excluded_alike old new other other_new alike p.partners q.partners;
   }
     where
       was : (k : Group G Id) → AreOptionsAlike Same (lookup (is_at (group_cmp k)) old.groups) (lookup (is_at (group_cmp k)) other.groups)

@@ -1,5 +1,5 @@
 -- Collections of boxes to place, and the groups that they are in.
-use Rattle.std.specs.Prelude.{◌≡◌, ℕ, ◌<◌, List, [], ◌∷◌, ◌++◌, length, map, All, IsSome, IsSomeAnd, count_by, unwrap_or}
+use Rattle.std.specs.Prelude.{◌≡◌, ℕ, ◌<◌, ◌||◌, List, [], ◌∷◌, ◌++◌, length, map, All, IsSome, IsSomeAnd, count_by, unwrap_or}
 use Rattle.std.specs.declared.cmp.Ordering.{Ordering}
 use Rattle.std.specs.declared.cmp.Ordering.TheVariants.{Equal}
 use Rattle.std.specs.declared.vec.Vec.{Vec}
@@ -7,13 +7,15 @@ use Rattle.std.specs.Map.{lookup, values_of}
 use Rattle.std.specs.Ordering.{is_eq}
 use Rattle.std.specs.BTreeMap.{is_at, insert_entry}
 use Rattle.rectangle_pack.specs.Boxes.{Size}
+use Rattle.rectangle_pack.specs.Exclusions.{are_excluded, are_these}
 use Rattle.rectangle_pack.specs.declared.grouped_rects_to_place.Group.{Group}
 use Rattle.rectangle_pack.specs.declared.grouped_rects_to_place.Group.TheVariants.{Ungrouped, Grouped}
 
--- the sizes of ids, and the lists of groups, each in the order of its keys
+-- the sizes of ids, the lists of groups, and the groups that each group is excluded with, each in the order of its keys
 pub record Collection (Id G : Type 0) : Type 0 where
   pub sizes : List (Id × Size)
   pub groups : List (Group G Id × List Id)
+  pub partners : List (Group G Id × List (Group G Id))
 
 -- the entries of a map, with the items of each vector
 abbrev pub lists_of : {K X A : Type 0} → List (K × Vec X A) → List (K × List X)
@@ -43,6 +45,7 @@ module _ {Id G : Type 0} (cmp : Id → Id → Ordering) (group_cmp : Group G Id 
   -- a push without groups: the size is set, and the id stands alone in the entry of its own
   pub record PushesAlone (old new : Collection Id G) (id : Id) (size : Size) : Type 0 where
     pub sizes : SetsSize cmp old.sizes new.sizes id size
+    pub partners : new.partners ≡ old.partners
     pub groups : (key : Id) × (member : Id) × (cmp id key ≡ Equal) × (cmp id member ≡ Equal)
         × (new.groups ≡ insert_entry group_cmp old.groups (Ungrouped key) (member ∷ []))
 
@@ -50,8 +53,15 @@ module _ {Id G : Type 0} (cmp : Id → Id → Ordering) (group_cmp : Group G Id 
   -- followed by the id as often as the group is named, and the rest stays
   pub record PushesInto (old new : Collection Id G) (id : Id) (named : List G) (size : Size) : Type 0 where
     pub sizes : SetsSize cmp old.sizes new.sizes id size
+    pub partners : new.partners ≡ old.partners
     pub named_groups : (group : Group G Id) → 0 < times_named group_cmp named group
         → IsSomeAnd (lookup (is_at (group_cmp group)) new.groups)
         (Appends cmp (unwrap_or (lookup (is_at (group_cmp group)) old.groups) []) id (times_named group_cmp named group))
     pub other_groups : (group : Group G Id) → times_named group_cmp named group ≡ 0
         → lookup (is_at (group_cmp group)) new.groups ≡ lookup (is_at (group_cmp group)) old.groups
+
+  -- two groups are excluded: this pair is added, and nothing else is changed
+  pub record Excludes (old new : Collection Id G) (a b : Group G Id) : Type 0 where
+    pub sizes : new.sizes ≡ old.sizes
+    pub groups : new.groups ≡ old.groups
+    pub pairs : (x y : Group G Id) → are_excluded group_cmp new.partners x y ≡ (are_excluded group_cmp old.partners x y || are_these group_cmp a b x y)

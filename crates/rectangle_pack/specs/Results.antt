@@ -9,6 +9,7 @@ use Rattle.rectangle_pack.specs.Boxes.{Size, Cuboid, Holds, IsPartOf}
 use Rattle.rectangle_pack.specs.Bins.{Bin}
 use Rattle.rectangle_pack.specs.Closures.{Answers}
 use Rattle.rectangle_pack.specs.Choice.{IsFunction, IsPreorderOnCuts}
+use Rattle.rectangle_pack.specs.Exclusions.{are_excluded}
 use Rattle.rectangle_pack.specs.Groups.{Collection}
 use Rattle.rectangle_pack.specs.Packing.{Rules, PackingDone, PackingRefused}
 
@@ -34,10 +35,11 @@ AreMapsAlike cmp Alike xs ys = AllZip (λ x y. (cmp x.0 y.0 ≡ Equal) × Alike 
 abbrev pub AreBinsAlike : {B : Type 0} → (B → B → Ordering) → List (B × Bin) → List (B × Bin) → Type 0
 AreBinsAlike bin_cmp xs ys = AreMapsAlike bin_cmp (λ a b. a ≡ b) xs ys
 
--- the same sizes under ids that are equal, and lists of equal ids under groups that are equal
+-- the same sizes under ids that are equal, lists of equal ids under groups that are equal, and the same pairs of groups that are excluded
 pub record AreCollectionsAlike {Id G : Type 0} (group_cmp : Group G Id → Group G Id → Ordering) (cmp : Id → Id → Ordering) (one other : Collection Id G) : Type 0 where
   pub sizes : AreMapsAlike cmp (λ a b. a ≡ b) one.sizes other.sizes
   pub groups : AreMapsAlike group_cmp (λ a b. AllZip (λ x y. cmp x y ≡ Equal) a b) one.groups other.groups
+  pub excluded : (a b : Group G Id) → are_excluded group_cmp one.partners a b ≡ are_excluded group_cmp other.partners a b
 
 -- the same locations, place by place, under ids and bins that are equal
 abbrev pub AreAlike : {Id B : Type 0} → (Id → Id → Ordering) → (B → B → Ordering) → List (Placement Id B) → List (Placement Id B) → Type 0

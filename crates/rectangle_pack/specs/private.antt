@@ -1,4 +1,5 @@
 -- Definitions that only the clauses of private functions use.
+pub mod Exclusions
 pub mod Journal
 pub mod Lists
 pub mod Orders

@@ -1,16 +1,19 @@
 //! Boxes in groups.
-ghost use Rattle.std.specs.Prelude.{◌≡◌, ◌<◌, ◌↔◌, List, [], true, length, map, All, IsTrue, OnOk, OnErr, IfOk, IsSome, MatchOption, vec_len};
+ghost use Rattle.std.specs.Prelude.{◌≡◌, ◌<◌, ◌↔◌, List, [], true, false, length, map, All, IsTrue, OnOk, OnErr, IfOk, IsSome, IsOk, MatchOption, vec_len};
 ghost use Rattle.std.specs.declared.cmp.Ordering.TheVariants.{Less, Equal, Greater};
 ghost use Rattle.std.specs.Option.{ForSome};
 ghost use Rattle.std.specs.List.Sorted.{IsStrictlySortedBy};
 ghost use Rattle.std.specs.Map.{lookup, keys_of};
+ghost use Rattle.std.specs.Ordering.{is_eq};
 ghost use Rattle.std.specs.BTreeMap.{get, is_at, insert_entry};
-ghost use Rattle.rectangle_pack.specs.Groups.{Collection, PushesAlone, PushesInto, MembersHaveSizes, lists_of};
+ghost use Rattle.rectangle_pack.specs.Exclusions.{are_excluded};
+ghost use Rattle.rectangle_pack.specs.Groups.{Collection, PushesAlone, PushesInto, Excludes, MembersHaveSizes, lists_of};
 ghost use Rattle.rectangle_pack.specs.Boxes.{Size};
 ghost use Rattle.rectangle_pack.specs.Results.{AreCollectionsAlike};
 ghost use Rattle.std.specs.List.{AllZip};
 ghost use Rattle.rectangle_pack.specs.declared.grouped_rects_to_place.Group.TheVariants.{Ungrouped, Grouped};
 
+use crate::exclusions::Exclusions;
 use crate::lists::{add_each, forget_empty, take_back};
 use crate::rect_to_insert::RectToInsert;
 use std::alloc::{AllocError, Allocator, Global};
@@ -48,6 +51,7 @@ pub fn groups_are_ordered<GroupId: Ord, Id: Ord>()
 pub struct GroupedRectsToPlace<Id: Ord, GroupId: Ord, A: Allocator + Copy = Global> {
     rects: BTreeMap<Id, RectToInsert, A>,
     groups: BTreeMap<Group<GroupId, Id>, Vec<Id, A>, A>,
+    exclusions: Exclusions<Group<GroupId, Id>, A>,
     #[derive_where(skip)]
     alloc: A,
 }
@@ -58,7 +62,11 @@ impl<Id: Ord, GroupId: Ord, A: Allocator + Copy> Model for GroupedRectsToPlace<I
 
     ghost Value = { Collection Id GroupId };
 
-    ghost view = { λ s. record { sizes = s.rects.entries; groups = lists_of s.groups.entries } };
+    ghost view = { λ s. record {
+      sizes = s.rects.entries;
+      groups = lists_of s.groups.entries;
+      partners = s.exclusions;
+    } };
 
     ghost invariant = { λ s. MembersHaveSizes Id.cmp s.rects.entries (lists_of s.groups.entries) };
 }
@@ -70,11 +78,12 @@ impl<Id: Ord + Clone + Drop, GroupId: Ord + Clone + Drop, A: Allocator + Copy> G
 > {
     /// An empty collection, whose memory is to come from `alloc`. This takes no memory.
     pub fn new(alloc: A) -> Self
-        ensures { result ≡ record { sizes = []; groups = [] } }
+        ensures { result ≡ record { sizes = []; groups = []; partners = [] } }
     {
         GroupedRectsToPlace {
             rects: BTreeMap::new(alloc),
             groups: BTreeMap::new(alloc),
+            exclusions: Exclusions::new(alloc),
             alloc,
         }
     }
@@ -99,6 +108,45 @@ impl<Id: Ord + Clone + Drop, GroupId: Ord + Clone + Drop, A: Allocator + Copy> G
         // For the proof: the length of a map is asked for that its keys ascend.
         let _ascend = self.rects.len();
         &self.rects
+    }
+
+    /// Says that the two groups are excluded: within one packing neither goes into a bin that the
+    /// other went into. The groups need not be there yet. To name a pair again, in either order,
+    /// changes nothing.
+    ///
+    /// The caller sees to it that the two groups differ, and that clones of ids equal their
+    /// originals. `AllocError` says that a growth or a clone was refused. The collection is then as
+    /// it was.
+    pub fn exclude(
+        &mut self,
+        a: Group<GroupId, Id>,
+        b: Group<GroupId, Id>,
+    ) -> Result<(), AllocError>
+        requires ids { (a b : Id) → Id.is_clone a b → IsTrue (Id.eq a b) }
+        requires group_ids { (a b : GroupId) → GroupId.is_clone a b → IsTrue (GroupId.eq a b) }
+        requires different { is_eq (⟦<Group<GroupId, Id> as Ord>⟧.cmp a b) ≡ false }
+        ensures ok { OnOk result
+            (Excludes Id.cmp ⟦<Group<GroupId, Id> as Ord>⟧.cmp self.old self.new a b) }
+        ensures again { are_excluded ⟦<Group<GroupId, Id> as Ord>⟧.cmp self.old.partners a b ≡
+            true → IsOk result × (self.new ≡ self.old) }
+        ensures err { OnErr result (self.new ≡ self.old) }
+    {
+        self.exclusions.add(a, b)
+    }
+
+    /// Whether the two groups are excluded, in either order. This takes no memory.
+    pub fn excluded(&self, a: &Group<GroupId, Id>, b: &Group<GroupId, Id>) -> bool
+        ensures { result ≡
+            are_excluded ⟦<Group<GroupId, Id> as Ord>⟧.cmp self.now.partners a.now b.now }
+    {
+        self.exclusions.has(a, b)
+    }
+
+    // The pairs of groups that are excluded.
+    pub(crate) fn exclusions(&self) -> &Exclusions<Group<GroupId, Id>, A>
+        ensures { result.now ≡ self.now.partners }
+    {
+        &self.exclusions
     }
 
     /// Takes in the box `inbound` under the id `inbound_id`, in place of a box that it may have

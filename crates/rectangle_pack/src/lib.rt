@@ -4,6 +4,7 @@
 pub mod bin_section;
 pub mod box_size_heuristics;
 mod closures;
+mod exclusions;
 mod fit_tests;
 pub mod grouped_rects_to_place;
 mod lists;

@@ -68,6 +68,8 @@ fn reserve_at<K: Ord + Drop, T: Drop, A: Allocator + Copy>(
     ensures kept { lists_of map.new.entries ≡ lists_of map.old.entries }
     ensures items { (q : K) → items_of (get K.cmp map.new q) ≡ items_of (get K.cmp map.old q) }
     ensures known { (q : K) → is_some (get K.cmp map.new q) ≡ is_some (get K.cmp map.old q) }
+    ensures others { (q : K) → is_eq (K.cmp key.now q) ≡ false →
+        get K.cmp map.new q ≡ get K.cmp map.old q }
     ensures room { OnOk result (HasRoom (get K.cmp map.new key.now) 1) }
 {
     match map.get_mut(key) {
@@ -76,8 +78,25 @@ fn reserve_at<K: Ord + Drop, T: Drop, A: Allocator + Copy>(
     }
 }
 
+// Makes the key known, with room for one more item.
+pub(crate) fn make_room<K: Ord + Clone + Drop, T: Drop, A: Allocator + Copy>(
+    map: &mut BTreeMap<K, Vec<T, A>, A>,
+    key: &K,
+    alloc: A,
+) -> Result<(), AllocError>
+    requires clones_equal { (a b : K) → K.is_clone a b → IsTrue (K.eq a b) }
+    ensures kept { filled (lists_of map.new.entries) ≡ filled (lists_of map.old.entries) }
+    ensures items { (q : K) → items_of (get K.cmp map.new q) ≡ items_of (get K.cmp map.old q) }
+    ensures others { (q : K) → is_eq (K.cmp key.now q) ≡ false →
+        get K.cmp map.new q ≡ get K.cmp map.old q }
+    ensures room { OnOk result (HasRoom (get K.cmp map.new key.now) 1) }
+{
+    ensure_key(map, key, alloc)?;
+    reserve_at(map, key)
+}
+
 // Appends the item within the room at the key.
-fn append_at<K: Ord + Drop, T: Drop, A: Allocator + Copy>(
+pub(crate) fn append_at<K: Ord + Drop, T: Drop, A: Allocator + Copy>(
     map: &mut BTreeMap<K, Vec<T, A>, A>,
     key: &K,
     item: T,

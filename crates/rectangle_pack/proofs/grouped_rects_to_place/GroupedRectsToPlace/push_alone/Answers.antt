@@ -39,6 +39,7 @@ returns-in-Ok-clause-ok g c =
     rw (← c.self.view_is)
     (record {
       sizes = (c.args.inbound_id, tied_itself g.met.Id.Ord.total c.args.inbound_id, c.in-Ok.ensures.entries);
+      partners = refl;
       groups = (
         c.in_ok-clone.field-0,
         c.in_ok-clone-2.field-0,

@@ -77,6 +77,7 @@ returns-in-Ok-clause-ok g c =
     rw (← c.self.view_is)
     (record {
       sizes = (c.args.inbound_id, tied_itself g.met.Id.Ord.total c.args.inbound_id, c.in-Ok.ensures.entries);
+      partners = refl;
       named_groups = lists-added equal _ Grouped named keys is members c.in_ok-members.ensures.clones old new (on_ok _ c.add_each.result fine c.add_each.ensures.named);
       other_groups = lists-other _ Grouped named keys is old new (on_ok _ c.add_each.result fine c.add_each.ensures.others);
     })
