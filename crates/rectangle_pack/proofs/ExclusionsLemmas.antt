@@ -1,10 +1,9 @@
 -- Pairs that are listed at each other.
 use Rattle.std.proofs.Common.{◌≡◌, ◌<◌, Bool, true, false, ◌&&◌, ◌||◌, List, [], ◌∷◌, ◌++◌, length, refl, sym, ◌∙◌, ap, subst, arith, length-append}
-use Rattle.std.specs.Prelude.{Option, Some, None, IfSome, IsSomeAnd, unwrap_or, Result, Ok, Err, OnOk}
+use Rattle.std.specs.Prelude.{Option, Some, None, IfSome, IsSomeAnd, unwrap_or}
 use Rattle.std.specs.declared.cmp.Ordering.{Ordering}
 use Rattle.std.specs.declared.cmp.Ordering.TheVariants.{Less, Equal, Greater}
 use Rattle.std.specs.declared.vec.Vec.{Vec}
-use Rattle.std.specs.Vec.{vec_capacity}
 use Rattle.std.specs.Ordering.{ordering_reverse, is_eq}
 use Rattle.std.specs.Cmp.{IsTotalOrder, Equal-is}
 use Rattle.std.specs.Option.{option_map}
@@ -127,12 +126,12 @@ module _ {K : Type 0} {cmp : K → K → Ordering} (o : IsTotalOrder cmp) where
   -- an item that was appended at a key
   abbrev pub AppendedAt : {A : Type 0} → K → K → List (K × Vec K A) → List (K × Vec K A) → Type 0
   AppendedAt key item old new =
-      (q : K) → is_eq (cmp key q) ≡ true → IsSomeAnd (lookup (is_at (cmp q)) old) (λ v. IsSomeAnd (lookup (is_at (cmp q)) new) (λ w. (w.items ≡ v.items ++ item ∷ []) × (vec_capacity w ≡ vec_capacity v)))
+      (q : K) → is_eq (cmp key q) ≡ true → IsSomeAnd (lookup (is_at (cmp q)) old) (λ v. IsSomeAnd (lookup (is_at (cmp q)) new) (λ w. w.items ≡ v.items ++ item ∷ []))
 
-  appended-items : {A : Type 0} (item : K) (old new : Option (Vec K A)) → IsSomeAnd old (λ v. IsSomeAnd new (λ w. (w.items ≡ v.items ++ item ∷ []) × (vec_capacity w ≡ vec_capacity v))) → items_of new ≡ items_of old ++ item ∷ []
+  appended-items : {A : Type 0} (item : K) (old new : Option (Vec K A)) → IsSomeAnd old (λ v. IsSomeAnd new (λ w. w.items ≡ v.items ++ item ∷ [])) → items_of new ≡ items_of old ++ item ∷ []
   appended-items item None new h = absurd h
   appended-items item (Some v) None h = absurd h
-  appended-items item (Some v) (Some w) h = h.0
+  appended-items item (Some v) (Some w) h = h
 
   -- lists it there, and nothing else
   pub listed-appended : {A : Type 0} (key partner item : K) (old new : List (K × Vec K A)) → cmp partner item ≡ Equal → AppendedAt key item old new
@@ -193,10 +192,10 @@ module _ {K : Type 0} {cmp : K → K → Ordering} (o : IsTotalOrder cmp) where
       P : Option (Vec K A) → Type 0
       P f = IfSome f (λ v. 0 < length v.items)
 
-      grown : (x : K) (v w : Option (Vec K A)) → IsSomeAnd v (λ v. IsSomeAnd w (λ w. (w.items ≡ v.items ++ x ∷ []) × (vec_capacity w ≡ vec_capacity v))) → P w
+      grown : (x : K) (v w : Option (Vec K A)) → IsSomeAnd v (λ v. IsSomeAnd w (λ w. w.items ≡ v.items ++ x ∷ [])) → P w
       grown x None w h = absurd h
       grown x (Some v) None h = absurd h
-      grown x (Some v) (Some w) h = omega (arith, ap length h.0, length-append v.items (x ∷ []))
+      grown x (Some v) (Some w) h = omega (arith, ap length h, length-append v.items (x ∷ []))
 
       before : (q : K) → P (lookup (is_at (cmp q)) old)
       before q = lists-some (lookup (is_at (cmp q)) old) (subst (λ (f : Option (List K)). IfSome f (λ ks. 0 < length ks)) (lookup-lists (is_at (cmp q)) old) (IfSome-lookup_from_All (λ ks. 0 < length ks) (is_at (cmp q)) (lists_of old) was))
@@ -209,8 +208,3 @@ module _ {K : Type 0} {cmp : K → K → Ordering} (o : IsTotalOrder cmp) where
       by q true r e k = grown a (lookup (is_at (cmp q)) one) (lookup (is_at (cmp q)) new) (here2 q e)
       by q false true e k = rw (others2 q e) (grown item (lookup (is_at (cmp q)) mid) (lookup (is_at (cmp q)) one) (here1 q k))
       by q false false e k = rw (others2 q e, others1 q k, second q e, first q k) (before q)
-
--- more follows of a success
-pub OnOk-weaker : {X E P Q : Type 0} (r : Result X E) → (P → Q) → OnOk r P → OnOk r Q
-OnOk-weaker (Ok x) f h = f h
-OnOk-weaker (Err e) f h = tt

@@ -1,5 +1,7 @@
 pub mod AppendLemmas
+pub mod BarredLemmas
 pub mod BinsLemmas
+pub mod BoundLemmas
 pub mod BoxesLemmas
 pub mod CountingLemmas
 pub mod CutsLemmas

@@ -1,6 +1,6 @@
 -- groups that are placed
 use Rattle.std.proofs.Common.{◌≡◌, ℕ, suc, ◌+◌, ◌<◌, ◌≤◌, List, [], ◌∷◌, ◌++◌, length, take, drop, refl, ap, sym, ◌∙◌, subst, cond, true, false, Bool, arith, get_or, append_assoc, append-nil}
-use Rattle.std.specs.Prelude.{Option, Some, None, map, All, IfSome, nat_eq, Result, Ok, Err, IfOk, MatchBool, MatchOption}
+use Rattle.std.specs.Prelude.{Option, Some, None, map, sum, All, IfSome, nat_eq, Result, Ok, Err, IfOk, MatchBool, MatchOption}
 use Rattle.std.specs.declared.cmp.Ordering.{Ordering}
 use Rattle.std.specs.declared.cmp.Ordering.TheVariants.{Less, Equal, Greater}
 use Rattle.std.specs.Ordering.{ordering_reverse, is_eq}
@@ -14,7 +14,7 @@ use Rattle.std.specs.List.Sorted.{IsStrictlySortedBy}
 use Rattle.std.specs.Option.{option_map}
 use Rattle.std.specs.BTreeMap.{is_at}
 use Rattle.std.proofs.Math.Seq.{split_at}
-use Rattle.std.proofs.lemmas.List.{take_more, map-append, take-append-drop}
+use Rattle.std.proofs.lemmas.List.{take_more, map-append, take-append-drop, length-map}
 use Rattle.std.proofs.lemmas.Map.Views.{IfSome-lookup_from_All}
 use Rattle.std.specs.declared.vec.Vec.{Vec}
 use Rattle.std.specs.declared.cmp.Reverse.{Reverse}
@@ -27,7 +27,7 @@ use Rattle.std.proofs.lemmas.List.Elements.{All-push, All-nil, All-weaker}
 use Rattle.rectangle_pack.specs.declared.pack.work.DoneTrial.{DoneTrial}
 use Rattle.rectangle_pack.specs.declared.pack.answer.Placement.{Placement}
 use Rattle.rectangle_pack.specs.Bins.{Bin, Held, IsSound}
-use Rattle.rectangle_pack.specs.Packing.{Rules, bins_of, Members, IsPlaced, IsStuckIn, IsRefused, AreAllPlaced, AreGroups, StopsAfter}
+use Rattle.rectangle_pack.specs.Packing.{Rules, bins_of, Members, Stage, at_start, IsPlaced, IsPassed, IsStuckIn, IsRefused, AreAllPlaced, AreGroups, StopsAfter}
 use Rattle.rectangle_pack.specs.Boxes.{Size, Cuboid}
 use Rattle.rectangle_pack.specs.private.Journal.{before_notes, CanUndo}
 use Rattle.rectangle_pack.specs.Steps.{IsDone}
@@ -65,7 +65,7 @@ pub found-bins_of : {B : Type 0} (test : B → Bool) (now : List (B × Held)) (o
 found-bins_of test now old v same found = rw (← same) (lookup-bins_of test now ∙ ap (option_map (λ (h : Held). h.bin)) found)
 
 -- the names of an order, split at an index
-names-split : {B : Type 0} (order : List (ℕ × B)) (i : ℕ) (o : ℕ × B) → i < length order → o ≡ get_or order i o → map (λ (x : ℕ × B). x.1) order ≡ map (λ (x : ℕ × B). x.1) (take i order) ++ o.1 ∷ map (λ (x : ℕ × B). x.1) (drop (suc i) order)
+pub names-split : {B : Type 0} (order : List (ℕ × B)) (i : ℕ) (o : ℕ × B) → i < length order → o ≡ get_or order i o → map (λ (x : ℕ × B). x.1) order ≡ map (λ (x : ℕ × B). x.1) (take i order) ++ o.1 ∷ map (λ (x : ℕ × B). x.1) (drop (suc i) order)
 names-split {B} order i o within is =
     let split : order ≡ take i order ++ o ∷ drop (suc i) order = subst (λ z. order ≡ take i order ++ z ∷ drop (suc i) order) (sym is) (split_at order i o within) in
     ap (map (λ (x : ℕ × B). x.1)) split ∙ map-append (λ (x : ℕ × B). x.1) (take i order) (o ∷ drop (suc i) order)
@@ -100,65 +100,86 @@ AreSizesOf-length cmp sizes (x ∷ xs) (m ∷ ms) h = let e = AreSizesOf-length 
 
 module _ {Id B : Type 0} (rules : Rules Id B) where
   -- the group is placed in the bin that the loop is at
-  pub IsPlaced-at : (order : List (ℕ × B)) (i : ℕ) (o : ℕ × B) (group : Members Id)
-      (now : List (B × Held)) (old : List (B × Bin)) (v w : Held) (locations : List Cuboid) (tests : ℕ) (added : List (Placement Id B))
+  pub IsPlaced-at : (barred : B → Bool) (order : List (ℕ × B)) (i : ℕ) (o : ℕ × B) (group : Members Id)
+      (now : List (B × Held)) (old : List (B × Bin)) (v w : Held) (locations : List Cuboid) (counts : List ℕ) (count : ℕ) (added : List (Placement Id B))
       → i < length order → o ≡ get_or order i o → bins_of now ≡ old
-      → All (IsStuckIn rules old group) (map (λ (x : ℕ × B). x.1) (take i order))
-      → lookup (is_at (rules.bin_cmp o.1)) now ≡ Some v → w.bin.size ≡ v.bin.size → IsDone rules.may v.bin.sections group.sizes locations w.bin.sections tests
+      → AllZip (IsPassed rules barred old group) (map (λ (x : ℕ × B). x.1) (take i order)) counts → barred o.1 ≡ false
+      → lookup (is_at (rules.bin_cmp o.1)) now ≡ Some v → w.bin.size ≡ v.bin.size → IsDone rules.may v.bin.sections group.sizes locations w.bin.sections count
       → AreNamed rules.id_cmp rules.bin_cmp group.ids o.1 locations added
-      → IsPlaced rules (map (λ (x : ℕ × B). x.1) order) group old added (bins_of (set_value (is_at (rules.bin_cmp o.1)) now w))
-  IsPlaced-at order i o group now old v w locations tests added within is same stuck found size done named = record {
-    before = map (λ (x : ℕ × B). x.1) (take i order);
-    here = o.1;
-    after = map (λ (x : ℕ × B). x.1) (drop (suc i) order);
-    order_is = names-split order i o within is;
-    stuck = stuck;
-    bin = v.bin;
-    found = found-bins_of (is_at (rules.bin_cmp o.1)) now old v same found;
-    last = w.bin.sections;
-    locations = locations;
-    tests = tests;
-    done = done;
-    named = named;
-    new_is =
-        let whole : w.bin ≡ record { size = v.bin.size; sections = w.bin.sections } = rw (← size) refl in
-        bins_of-set_value (is_at (rules.bin_cmp o.1)) now w ∙ ap (λ es. set_value (is_at (rules.bin_cmp o.1)) es w.bin) same ∙ ap (set_value (is_at (rules.bin_cmp o.1)) old) whole;
-  }
+      → (p : IsPlaced rules barred (map (λ (x : ℕ × B). x.1) order) group old added (bins_of (set_value (is_at (rules.bin_cmp o.1)) now w)) (sum counts + count)) × (p.here ≡ o.1)
+  IsPlaced-at barred order i o group now old v w locations counts count added within is same passed allowed found size done named = (
+    record {
+      before = map (λ (x : ℕ × B). x.1) (take i order);
+      here = o.1;
+      after = map (λ (x : ℕ × B). x.1) (drop (suc i) order);
+      order_is = names-split order i o within is;
+      counts = counts;
+      passed = passed;
+      allowed = allowed;
+      bin = v.bin;
+      found = found-bins_of (is_at (rules.bin_cmp o.1)) now old v same found;
+      last = w.bin.sections;
+      locations = locations;
+      count = count;
+      done = done;
+      named = named;
+      new_is =
+          let whole : w.bin ≡ record { size = v.bin.size; sections = w.bin.sections } = rw (← size) refl in
+          bins_of-set_value (is_at (rules.bin_cmp o.1)) now w ∙ ap (λ es. set_value (is_at (rules.bin_cmp o.1)) es w.bin) same ∙ ap (set_value (is_at (rules.bin_cmp o.1)) old) whole;
+      tests_are = refl;
+    },
+    refl,
+  )
 
-  -- one more bin is stuck
-  pub IsStuckIn-more : (old : List (B × Bin)) (group : Members Id) (order : List (ℕ × B)) (i : ℕ) (o : ℕ × B)
-      → i < length order → o ≡ get_or order i o → IsStuckIn rules old group o.1
-      → All (IsStuckIn rules old group) (map (λ (x : ℕ × B). x.1) (take i order)) → All (IsStuckIn rules old group) (map (λ (x : ℕ × B). x.1) (take (i + 1) order))
-  IsStuckIn-more old group order i o within is here before =
+  -- one more bin is passed over
+  pub IsPassed-more : (barred : B → Bool) (old : List (B × Bin)) (group : Members Id) (order : List (ℕ × B)) (i : ℕ) (o : ℕ × B) (counts : List ℕ) (count : ℕ)
+      → i < length order → o ≡ get_or order i o → IsPassed rules barred old group o.1 count
+      → AllZip (IsPassed rules barred old group) (map (λ (x : ℕ × B). x.1) (take i order)) counts
+      → AllZip (IsPassed rules barred old group) (map (λ (x : ℕ × B). x.1) (take (i + 1) order)) (counts ++ count ∷ [])
+  IsPassed-more barred old group order i o counts count within is here before =
       let same : map (λ (x : ℕ × B). x.1) (take (i + 1) order) ≡ map (λ (x : ℕ × B). x.1) (take i order) ++ o.1 ∷ [] = ap (map (λ (x : ℕ × B). x.1)) (take_more order i o within) ∙ map-append (λ (x : ℕ × B). x.1) (take i order) (get_or order i o ∷ []) ∙ ap (λ (z : ℕ × B). map (λ (x : ℕ × B). x.1) (take i order) ++ z.1 ∷ []) (sym is) in
-      subst (λ ns. All (IsStuckIn rules old group) ns) (sym same) (All-push (IsStuckIn rules old group) (map (λ (x : ℕ × B). x.1) (take i order)) o.1 before here)
+      let P : B → ℕ → Type 0 = IsPassed rules barred old group in
+      subst (λ ns. AllZip P ns (counts ++ count ∷ [])) (sym same) (AllZip-more P (map (λ (x : ℕ × B). x.1) (take i order)) counts o.1 count before here)
 
-  -- one more group is placed
-  pub AreAllPlaced-push : (order : List B) (gs : List (Members Id)) (g : Members Id) (old mid next : List (B × Bin)) (placements added : List (Placement Id B))
-      → AreAllPlaced rules order gs old placements mid → IsPlaced rules order g mid added next
-      → AreAllPlaced rules order (gs ++ g ∷ []) old (placements ++ added) next
-  AreAllPlaced-push order [] g old mid next placements added done placed =
-      (added, next, [], rw (← done.1) placed, (refl, refl), ap (λ ps. ps ++ added) done.0 ∙ sym (append-nil added))
-  AreAllPlaced-push order (g' ∷ gs) g old mid next placements added (first, mid', rest, here, later, joined) placed =
-      (first, mid', rest ++ added, here, AreAllPlaced-push order gs g mid' mid next rest added later placed, rw joined (append_assoc first rest added))
+  -- a bin that is barred is passed over
+  pub IsPassed-barred : (barred : B → Bool) (old : List (B × Bin)) (group : Members Id) (id : B) → barred id ≡ true → IsPassed rules barred old group id 0
+  IsPassed-barred barred old group id h = rw h refl
+
+  -- and so is one in which the trial is stuck
+  pub IsPassed-stuck : (barred : B → Bool) (old : List (B × Bin)) (group : Members Id) (id : B) (count : ℕ) → barred id ≡ false → IsStuckIn rules old group id count → IsPassed rules barred old group id count
+  IsPassed-stuck barred old group id count h stuck = rw h stuck
+
+  module _ {K : Type 0} (bars : List (K × B) → K → B → Bool) where
+    -- one more group is placed
+    pub AreAllPlaced-push : (order : List B) (gs : List (K × Members Id)) (g : K × Members Id) (old : Stage K B) (mid : List (B × Bin)) (homes : List (K × B)) (next : List (B × Bin)) (placements added : List (Placement Id B)) (tests one : ℕ)
+        → AreAllPlaced rules bars order gs old placements (record { bins = mid; homes = homes }) tests
+        → (p : IsPlaced rules (bars homes g.0) order g.1 mid added next one)
+        → AreAllPlaced rules bars order (gs ++ g ∷ []) old (placements ++ added) (record { bins = next; homes = (g.0, p.here) ∷ homes }) (tests + one)
+    AreAllPlaced-push order [] g old mid homes next placements added tests one done placed =
+        let S : Stage K B = record { bins = mid; homes = homes } in
+        subst (λ (s : Stage K B). AreAllPlaced rules bars order (g ∷ []) s (placements ++ added) (record { bins = next; homes = (g.0, placed.here) ∷ homes }) (tests + one)) done.1
+        (added, next, one, [], 0, placed, (refl, refl, refl), ap (λ ps. ps ++ added) done.0 ∙ sym (append-nil added), (let z = done.2 in omega arith))
+    AreAllPlaced-push order (g' ∷ gs) g old mid homes next placements added tests one (first, mid', n, rest, m, here, later, joined, counted) placed =
+        (first, mid', n, rest ++ added, m + one, here, AreAllPlaced-push order gs g (record { bins = mid'; homes = (g'.0, here.here) ∷ old.homes }) mid homes next rest added m one later placed, rw joined (append_assoc first rest added), omega arith)
 
   module _ {K : Type 0} (group_cmp : K → K → Ordering) where
     -- one more group is named
-    pub AreGroups-more : (sizes : List (Id × Size)) (lists : List (K × List Id)) (order : List (Reverse ℕ × Bor K)) (i : ℕ) (o : Reverse ℕ × Bor K) (gs : List (Members Id)) (group : Members Id)
+    pub AreGroups-more : (sizes : List (Id × Size)) (lists : List (K × List Id)) (order : List (Reverse ℕ × Bor K)) (i : ℕ) (o : Reverse ℕ × Bor K) (gs : List (K × Members Id)) (group : Members Id)
         → i < length order → o ≡ get_or order i o → lookup (is_at (group_cmp o.1.now)) lists ≡ Some group.ids → AreSizesOf rules.id_cmp sizes group.ids group.sizes
-        → AreGroups rules.id_cmp group_cmp sizes lists (keys_of_order (take i order)) gs → AreGroups rules.id_cmp group_cmp sizes lists (keys_of_order (take (i + 1) order)) (gs ++ group ∷ [])
+        → AreGroups rules.id_cmp group_cmp sizes lists (keys_of_order (take i order)) gs → AreGroups rules.id_cmp group_cmp sizes lists (keys_of_order (take (i + 1) order)) (gs ++ (o.1.now, group) ∷ [])
     AreGroups-more sizes lists order i o gs group within is found sized h =
         let f : Reverse ℕ × Bor K → ℕ × K = λ x. (x.0.0, x.1.now) in
         let more : keys_of_order (take (i + 1) order) ≡ keys_of_order (take i order) ++ f o ∷ [] = ap (map f) (take_more order i o within) ∙ map-append f (take i order) (get_or order i o ∷ []) ∙ ap (λ z. map f (take i order) ++ f z ∷ []) (sym is) in
-        record { each = rw more (AllZip-more (λ (x : ℕ × K) (g : Members Id). (lookup (is_at (group_cmp x.1)) lists ≡ Some g.ids) × AreSizesOf rules.id_cmp sizes g.ids g.sizes) (keys_of_order (take i order)) gs (f o) group h.each (found, sized)) }
+        record { each = rw more (AllZip-more (λ (x : ℕ × K) (g : K × Members Id). (g.0 ≡ x.1) × (lookup (is_at (group_cmp x.1)) lists ≡ Some g.1.ids) × AreSizesOf rules.id_cmp sizes g.1.ids g.1.sizes) (keys_of_order (take i order)) gs (f o) (o.1.now, group) h.each (refl, found, sized)) }
 
     -- the loop stops at a group that is refused
-    pub StopsAfter-at : (sizes : List (Id × Size)) (lists : List (K × List Id)) (order : List (Reverse ℕ × Bor K)) (bin_order : List B) (i : ℕ)
-        (gs : List (Members Id)) (next : Members Id) (old new mid : List (B × Bin)) (placements : List (Placement Id B))
-        → AreGroups rules.id_cmp group_cmp sizes lists (keys_of_order (take i order)) (gs ++ next ∷ []) → AreAllPlaced rules bin_order gs old placements mid → new ≡ mid
-        → IsRefused rules bin_order next mid
-        → StopsAfter rules group_cmp sizes lists (keys_of_order order) bin_order old new
-    StopsAfter-at sizes lists order bin_order i gs next old new mid placements listed placed same refused =
+    pub StopsAfter-at : (bars : List (K × B) → K → B → Bool) (sizes : List (Id × Size)) (lists : List (K × List Id)) (order : List (Reverse ℕ × Bor K)) (bin_order : List B) (i : ℕ)
+        (gs : List (K × Members Id)) (next : K × Members Id) (old new mid : List (B × Bin)) (homes : List (K × B)) (placements : List (Placement Id B)) (first count : ℕ)
+        → AreGroups rules.id_cmp group_cmp sizes lists (keys_of_order (take i order)) (gs ++ next ∷ [])
+        → AreAllPlaced rules bars bin_order gs (at_start old) placements (record { bins = mid; homes = homes }) first → new ≡ mid
+        → IsRefused rules (bars homes next.0) bin_order next.1 mid count
+        → StopsAfter rules bars group_cmp sizes lists (keys_of_order order) bin_order old new (first + count)
+    StopsAfter-at bars sizes lists order bin_order i gs next old new mid homes placements first count listed placed same refused =
         let f : Reverse ℕ × Bor K → ℕ × K = λ x. (x.0.0, x.1.now) in record {
           taken = keys_of_order (take i order);
           later = keys_of_order (drop i order);
@@ -167,8 +188,12 @@ module _ {Id B : Type 0} (rules : Rules Id B) where
           next = next;
           listed = listed;
           placements = placements;
+          homes = homes;
+          first = first;
           placed = rw same placed;
+          count = count;
           refused = rw same refused;
+          tests_are = refl;
         }
 
 -- the ids of a list that is found have sizes
@@ -227,39 +252,33 @@ AreLastPlacements-more {Id} {B} {cmp} bin_cmp o placements p key bin old new asc
       location = l.location;
     }
 
--- related lists are equally long
-pub AllZip-length : {A B : Type 0} (R : A → B → Type 0) (xs : List A) (ys : List B) → AllZip R xs ys → length xs ≡ length ys
-AllZip-length R [] [] h = refl
-AllZip-length R [] (y ∷ ys) h = absurd h
-AllZip-length R (x ∷ xs) [] h = absurd h
-AllZip-length R (x ∷ xs) (y ∷ ys) h = let e = AllZip-length R xs ys h.1 in omega arith
+-- how many members the groups have
+abbrev pub members_in : {Id K : Type 0} → List (K × Members Id) → ℕ
+members_in {Id} {K} gs = sum_by (λ (g : K × Members Id). length g.1.sizes) gs
 
--- how many entries the groups have
-abbrev pub entries_in : {Id : Type 0} → List (Members Id) → ℕ
-entries_in groups = sum_by (λ (g : Members _). length g.ids) groups
-
--- one placement for each entry of each group
-pub AreAllPlaced-length : {Id B : Type 0} (rules : Rules Id B) (order : List B) (gs : List (Members Id)) (old new : List (B × Bin)) (placements : List (Placement Id B))
-    → AreAllPlaced rules order gs old placements new → length placements ≡ entries_in gs
-AreAllPlaced-length rules order [] old new placements h = rw h.0 refl
-AreAllPlaced-length {Id} {B} rules order (g ∷ gs) old new placements (first, next, others, placed, later, joined) =
-    let one = AllZip-length (λ (id : Id) (p : Placement Id B). rules.id_cmp id p.id ≡ Equal) g.ids first placed.named.named in
-    let rest = AreAllPlaced-length rules order gs next new others later in
-    omega (arith, ap length joined, length-append first others, one, rest, sum_by-cons (λ (m : Members Id). length m.ids) g gs)
+-- one placement for each member
+pub AreAllPlaced-length : {Id B K : Type 0} (rules : Rules Id B) (bars : List (K × B) → K → B → Bool) (order : List B) (gs : List (K × Members Id)) (old new : Stage K B) (placements : List (Placement Id B)) (tests : ℕ)
+    → AreAllPlaced rules bars order gs old placements new tests → length placements ≡ members_in gs
+AreAllPlaced-length rules bars order [] old new placements tests h = rw h.0 refl
+AreAllPlaced-length {Id} {B} {K} rules bars order (g ∷ gs) old new placements tests (first, next, one, rest, others, placed, later, joined, counted) =
+    let here : length first ≡ length g.1.sizes = sym (length-map first (λ (p : Placement Id B). p.location)) ∙ ap length placed.named.at ∙ sym (IsDone-length rules.may placed.bin.sections g.1.sizes placed.locations placed.last placed.count placed.done) in
+    let tail = AreAllPlaced-length rules bars order gs (record { bins = next; homes = (g.0, placed.here) ∷ old.homes }) new rest others later in
+    omega (arith, ap length joined, length-append first rest, here, tail, sum_by-cons (λ (m : K × Members Id). length m.1.sizes) g gs)
 
 -- the entries that an order names are those of its groups
-pub AreGroups-length : {Id K : Type 0} (cmp : Id → Id → Ordering) (group_cmp : K → K → Ordering) (sizes : List (Id × Size)) (lists : List (K × List Id)) (order : List (ℕ × K)) (gs : List (Members Id))
-    → AreGroups cmp group_cmp sizes lists order gs → sum_by (entries_at group_cmp lists) order ≡ entries_in gs
+pub AreGroups-length : {Id K : Type 0} (cmp : Id → Id → Ordering) (group_cmp : K → K → Ordering) (sizes : List (Id × Size)) (lists : List (K × List Id)) (order : List (ℕ × K)) (gs : List (K × Members Id))
+    → AreGroups cmp group_cmp sizes lists order gs → sum_by (entries_at group_cmp lists) order ≡ members_in gs
 AreGroups-length {Id} {K} cmp group_cmp sizes lists order gs h = at order gs h.each
   where
-    at : (order : List (ℕ × K)) (gs : List (Members Id)) → AllZip (λ entry group. (lookup (is_at (group_cmp entry.1)) lists ≡ Some group.ids) × AreSizesOf cmp sizes group.ids group.sizes) order gs → sum_by (entries_at group_cmp lists) order ≡ entries_in gs
+    at : (order : List (ℕ × K)) (gs : List (K × Members Id)) → AllZip (λ entry group. (group.0 ≡ entry.1) × (lookup (is_at (group_cmp entry.1)) lists ≡ Some group.1.ids) × AreSizesOf cmp sizes group.1.ids group.1.sizes) order gs → sum_by (entries_at group_cmp lists) order ≡ members_in gs
     at [] [] h = refl
     at [] (g ∷ gs) h = absurd h
     at (o ∷ order) [] h = absurd h
     at (o ∷ order) (g ∷ gs) h =
-        let here : entries_at group_cmp lists o ≡ length g.ids = rw h.0.0 refl in
+        let here : entries_at group_cmp lists o ≡ length g.1.ids = rw h.0.1 refl in
+        let sized = AreSizesOf-length cmp sizes g.1.ids g.1.sizes h.0.2 in
         let later = at order gs h.1 in
-        omega (arith, here, later, sum_by-cons (entries_at group_cmp lists) o order, sum_by-cons (λ (m : Members Id). length m.ids) g gs)
+        omega (arith, here, sized, later, sum_by-cons (entries_at group_cmp lists) o order, sum_by-cons (λ (m : K × Members Id). length m.1.sizes) g gs)
 
 -- another fact on the answer true
 pub done-weaker : {E P P' : Type 0} (Q : Type 0) (r : Result Bool E) → (P → P') → IfOk r (λ d. MatchBool d P Q) → IfOk r (λ d. OnTrue d P')

@@ -154,3 +154,7 @@ AreLeft-three MayRate cut a b c i j k same x y z =
       are_ranked = AreRanked-by_falling_rate rated;
       are = refl;
     })
+
+-- a count that began at none, added
+pub saturated-from : (t z s u n : ℕ) → z ≡ 0 → s ≡ saturated (z + n) → u ≡ saturated (t + s) → u ≡ saturated (t + n)
+saturated-from t z s u n none first second = omega arith

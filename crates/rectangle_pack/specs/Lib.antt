@@ -15,6 +15,7 @@ pub mod Groups
 pub mod Orders
 pub mod Placed
 pub mod Packing
+pub mod PackAnswers
 pub mod Pushes
 pub mod Results
 pub mod Texts

@@ -1,4 +1,6 @@
 -- Definitions that only the clauses of private functions use.
+pub mod Barred
+pub mod Bounds
 pub mod Exclusions
 pub mod Journal
 pub mod Lists

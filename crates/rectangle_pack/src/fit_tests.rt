@@ -42,4 +42,11 @@ impl FitTests {
     {
         self.count = self.count.saturating_add(tests as u128);
     }
+
+    // Those of another count too.
+    pub(crate) fn add_all(&mut self, other: &FitTests)
+        ensures { self.new ≡ saturated (self.old + other.now) }
+    {
+        self.count = self.count.saturating_add(other.count);
+    }
 }

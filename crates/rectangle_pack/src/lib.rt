@@ -25,8 +25,9 @@ pub use grouped_rects_to_place::{
     Group, GroupedRectsToPlace, equal_pushes_leave_equal_collections, groups_are_ordered,
 };
 pub use pack::{
-    Placement, RectanglePackError, RectanglePackOk, locations_follow_placements, pack_rects,
-    packing_has_one_result, packing_keeps_cells, preorders_decide, refused_box_is_held_nowhere,
+    Placement, RectanglePackError, RectanglePackOk, excluded_groups_are_apart,
+    locations_follow_placements, pack_rects, pack_rects_counted, packing_has_one_result,
+    packing_keeps_cells, packing_without_exclusions, preorders_decide, refused_box_is_held_nowhere,
     volume_packing_has_one_result,
 };
 pub use packed_location::{PackedLocation, RotatedBy};

@@ -1,8 +1,9 @@
 //! The orders in which a packing takes groups and bins.
-ghost use Rattle.std.specs.Prelude.{◌≡◌, IsTrue, IfOk, IsSome, All, sum, map, length};
+ghost use Rattle.std.specs.Prelude.{◌≡◌, IsTrue, IfOk, OnOk, IsSome, All, sum, map, length};
 ghost use Rattle.std.specs.BTreeMap.{get};
-ghost use Rattle.std.specs.List.{sum_by};
-ghost use Rattle.std.specs.Map.{values_of};
+ghost use Rattle.std.specs.Ordering.{eq_by_cmp};
+ghost use Rattle.std.specs.List.{sum_by, IsDistinct};
+ghost use Rattle.std.specs.Map.{keys_of, values_of};
 ghost use Rattle.std.specs.List.Sorted.{IsPermutation, IsSorted};
 ghost use Rattle.rectangle_pack.specs.Orders.{IsGroupKey, IsBinOrder, IsGroupOrder, falling_then};
 ghost use Rattle.rectangle_pack.specs.private.Orders.{keys_of_order, entries_at};
@@ -50,6 +51,8 @@ where
     ensures order { IfOk result
         (λ v. IsBinOrder (R.may rules.now).rate B.cmp (bins_of bins.now.entries) v.items) }
     ensures found { IfOk result (λ v. All (λ o. IsSome (get B.cmp bins.now o.1)) v.items) }
+    ensures distinct { OnOk result
+        (IsDistinct (eq_by_cmp B.cmp) (keys_of (bins_of bins.now.entries))) }
 {
     let mut order = Vec::with_capacity(alloc, bins.len())?;
     for (id, bin) in bins {
@@ -88,6 +91,8 @@ where
         IsGroupOrder (R.may rules.now).rate K.cmp Id.cmp rects.now.entries
         (lists_of lists.now.entries) (keys_of_order v.items)) }
     ensures listed { IfOk result (λ v. All (λ o. IsSome (get K.cmp lists.now o.1.now)) v.items) }
+    ensures distinct { IfOk result
+        (λ v. IsDistinct (eq_by_cmp K.cmp) (map (λ o. o.1.now) v.items)) }
     ensures counted { IfOk result
         (λ v.
         sum_by (entries_at K.cmp (lists_of lists.now.entries)) (keys_of_order v.items) ≡

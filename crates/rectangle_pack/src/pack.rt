@@ -1,5 +1,5 @@
 //! Packing groups of boxes into bins.
-ghost use Rattle.std.specs.Prelude.{ℕ, ◌≡◌, ◌∷◌, [], List, IsTrue, IsOk, All, Some};
+ghost use Rattle.std.specs.Prelude.{ℕ, ◌≡◌, ◌↔◌, ◌∷◌, [], List, IsTrue, IsOk, All, Some, false};
 ghost use Rattle.std.specs.BTreeMap.{is_at};
 ghost use Rattle.std.specs.Map.{lookup, values_of};
 ghost use Rattle.rectangle_pack.specs.declared.pack.answer.Placement.{Placement};
@@ -8,7 +8,9 @@ ghost use Rattle.rectangle_pack.specs.Bins.{Bin};
 ghost use Rattle.rectangle_pack.specs.Closures.{AreCallable, MayRateBy, MayCompare, answers};
 ghost use Rattle.rectangle_pack.specs.Choice.{IsFunction, IsTotalPreorder};
 ghost use Rattle.rectangle_pack.specs.Groups.{Collection};
-ghost use Rattle.rectangle_pack.specs.Packing.{rules_by, bins_of, PackingDone, PackingRefused, IsPackAnswer};
+ghost use Rattle.rectangle_pack.specs.Exclusions.{are_excluded};
+ghost use Rattle.rectangle_pack.specs.Packing.{rules_by, bins_of, bars_by, bars_none, AreKeptApart, PackingDone, PackingDoneBy, PackingRefused, PackingRefusedBy};
+ghost use Rattle.rectangle_pack.specs.PackAnswers.{IsPackAnswer, IsCountedAnswer};
 ghost use Rattle.rectangle_pack.specs.Placed.{AreLastPlacements};
 ghost use Rattle.rectangle_pack.specs.Keeping.{KeepsEachBin};
 ghost use Rattle.rectangle_pack.specs.SmallestBox.{IsSmallestOrder};
@@ -18,6 +20,7 @@ mod answer;
 mod work;
 
 use crate::closures::Closures;
+use crate::fit_tests::FitTests;
 use crate::grouped_rects_to_place::{Group, GroupedRectsToPlace};
 use crate::pack::work::{Progress, last_placements, pack_noted, undo_all};
 use crate::target_bin::TargetBin;
@@ -28,6 +31,7 @@ use std::cmp::Ordering;
 use std::collections::BTreeMap;
 
 /// Packs all groups into the bins: each group whole into the first bin that takes all of its boxes.
+/// A bin is passed over for a group where a group that is excluded with it went there in this call.
 ///
 /// Groups go in falling order of the sum of their boxes' rates, which stays at the greatest `u128`,
 /// and at equal sums in the order of groups. Bins are tried in rising order of the rate of their
@@ -39,8 +43,8 @@ use std::collections::BTreeMap;
 /// The caller sees to it that clones of ids equal their originals, and that `box_size_heuristic`
 /// may be called on every size, and `more_suitable_containers_fn` on every two triples of sizes.
 ///
-/// `NotEnoughBinSpace` says that a group fits into no bin: the groups before it stay placed in the
-/// bins. `OutOfMemory` says that a growth or a clone was refused: the bins are as they were.
+/// `NotEnoughBinSpace` says that for some group each bin is passed over or does not take all of its
+/// boxes: the groups before it stay placed in the bins. `OutOfMemory` says that a growth or a clone was refused: the bins are as they were.
 ///
 /// ```
 /// let mut rects: GroupedRectsToPlace<u32, u32> = GroupedRectsToPlace::new(alloc);
@@ -86,12 +90,56 @@ where
         (bins_of target_bins.old.entries) result (bins_of target_bins.new.entries) }
     ensures no_groups { rects_to_place.now.groups ≡ [] → IsOk result }
 {
+    let mut tests = FitTests::new();
+    pack_rects_counted(
+        alloc,
+        rects_to_place,
+        target_bins,
+        box_size_heuristic,
+        more_suitable_containers_fn,
+        &mut tests,
+    )
+}
+
+/// `pack_rects`, with its fit tests added to `tests`: for a group that is placed those of its
+/// trials in the bins up to its own, for a group that is refused those of its trials in all bins. In
+/// a bin that is passed over no trial is made. `OutOfMemory` adds the tests made until then.
+///
+/// With n entries in the groups these are at most n tests for each free section of before and
+/// n * (n - 1) for each bin. The counter stays at the greatest `u128`.
+pub fn pack_rects_counted<Id, BinId, GroupId, H, C, A>(
+    alloc: A,
+    rects_to_place: &GroupedRectsToPlace<Id, GroupId, A>,
+    target_bins: &mut BTreeMap<BinId, TargetBin<A>, A>,
+    box_size_heuristic: &H,
+    more_suitable_containers_fn: &C,
+    tests: &mut FitTests,
+) -> Result<RectanglePackOk<Id, BinId, A>, RectanglePackError>
+where
+    Id: Ord + Clone + Drop,
+    BinId: Ord + Clone + Drop,
+    GroupId: Ord + Clone + Drop,
+    H: Fn(WidthHeightDepth) -> u128,
+    C: Fn([WidthHeightDepth; 3], [WidthHeightDepth; 3], &H) -> Ordering,
+    A: Allocator + Copy,
+    requires ids { (a b : Id) → Id.is_clone a b → IsTrue (Id.eq a b) }
+    requires bin_ids { (a b : BinId) → BinId.is_clone a b → IsTrue (BinId.eq a b) }
+    requires callable { AreCallable H.Fn C.Fn box_size_heuristic.now
+        more_suitable_containers_fn.now }
+    ensures answer { let groups = ⟦<Group<GroupId, Id> as Ord>⟧.cmp in
+        let may = answers H.Fn C.Fn box_size_heuristic.now more_suitable_containers_fn.now in
+        IsCountedAnswer groups (rules_by Id.cmp BinId.cmp may) rects_to_place.now
+        (bins_of target_bins.old.entries) tests.old result (bins_of target_bins.new.entries)
+        tests.new }
+    ensures no_groups { rects_to_place.now.groups ≡ [] → IsOk result }
+{
     let mut progress = Progress::new(alloc);
     let rules = Closures {
         heuristic: box_size_heuristic,
         comparison: more_suitable_containers_fn,
     };
     let packed = pack_noted(rects_to_place, target_bins, &rules, &mut progress);
+    tests.add_all(&progress.tests);
     let last = match packed {
         Ok(true) => last_placements(alloc, progress.placements.as_slice()),
         Ok(false) => return Err(RectanglePackError::NotEnoughBinSpace),
@@ -124,8 +172,8 @@ where
         KeepsEachBin BinId.cmp old placements new }
 {}
 
-/// A law: where the refused group has one entry, no free section of any bin, as the groups before
-/// it left them, holds its box.
+/// A law: where the refused group has one entry, no free section of a bin that is not barred for it,
+/// as the groups before it left them, holds its box.
 pub fn refused_box_is_held_nowhere<Id: Ord, BinId: Ord, GroupId: Ord, H, C>(
     heuristic: &H,
     comparison: &C,
@@ -137,9 +185,57 @@ where
         let rules = rules_by Id.cmp BinId.cmp (answers H.Fn C.Fn heuristic.now comparison.now) in
         (all : Collection Id GroupId) (old new : List (BinId × Bin)) →
         (refused : PackingRefused groups rules all old new) →
-        (size : Size) → refused.stops.next.sizes ≡ size ∷ [] → (id : BinId) (bin : Bin) →
+        let stops = refused.stops in
+        (size : Size) → stops.next.1.sizes ≡ size ∷ [] → (id : BinId) (bin : Bin) →
+        bars_by groups BinId.cmp all.partners stops.homes stops.next.0 id ≡ false →
         lookup (is_at (BinId.cmp id)) new ≡ Some bin →
         All (λ s. ¬ Holds s size) bin.sections }
+{}
+
+/// A law: where no two groups are excluded, a packing is one that bars no bin, done or refused.
+pub fn packing_without_exclusions<Id: Ord, BinId: Ord, GroupId: Ord, H, C>(
+    heuristic: &H,
+    comparison: &C,
+)
+where
+    H: Fn(WidthHeightDepth) -> u128,
+    C: Fn([WidthHeightDepth; 3], [WidthHeightDepth; 3], &H) -> Ordering,
+    ensures done { let groups = ⟦<Group<GroupId, Id> as Ord>⟧.cmp in
+        let rules = rules_by Id.cmp BinId.cmp (answers H.Fn C.Fn heuristic.now comparison.now) in
+        (all : Collection Id GroupId) →
+        ((a b : Group GroupId Id) → are_excluded groups all.partners a b ≡ false) →
+        (old new : List (BinId × Bin)) (placements : List (Placement Id BinId)) →
+        PackingDone groups rules all old placements new ↔
+        PackingDoneBy groups rules bars_none all old placements new }
+    ensures refused { let groups = ⟦<Group<GroupId, Id> as Ord>⟧.cmp in
+        let rules = rules_by Id.cmp BinId.cmp (answers H.Fn C.Fn heuristic.now comparison.now) in
+        (all : Collection Id GroupId) →
+        ((a b : Group GroupId Id) → are_excluded groups all.partners a b ≡ false) →
+        (old new : List (BinId × Bin)) →
+        PackingRefused groups rules all old new ↔
+        PackingRefusedBy groups rules bars_none all old new }
+{}
+
+/// A law: no two groups that are excluded share a bin, of those that one packing placed. `homes` has
+/// the bin of each.
+pub fn excluded_groups_are_apart<Id: Ord, BinId: Ord, GroupId: Ord, H, C>(
+    heuristic: &H,
+    comparison: &C,
+)
+where
+    H: Fn(WidthHeightDepth) -> u128,
+    C: Fn([WidthHeightDepth; 3], [WidthHeightDepth; 3], &H) -> Ordering,
+    ensures done { let groups = ⟦<Group<GroupId, Id> as Ord>⟧.cmp in
+        let rules = rules_by Id.cmp BinId.cmp (answers H.Fn C.Fn heuristic.now comparison.now) in
+        (all : Collection Id GroupId) (old new : List (BinId × Bin)) →
+        (placements : List (Placement Id BinId)) →
+        (done : PackingDone groups rules all old placements new) →
+        AreKeptApart groups BinId.cmp all.partners done.homes }
+    ensures refused { let groups = ⟦<Group<GroupId, Id> as Ord>⟧.cmp in
+        let rules = rules_by Id.cmp BinId.cmp (answers H.Fn C.Fn heuristic.now comparison.now) in
+        (all : Collection Id GroupId) (old new : List (BinId × Bin)) →
+        (refused : PackingRefused groups rules all old new) →
+        AreKeptApart groups BinId.cmp all.partners refused.stops.homes }
 {}
 
 /// A law: where the heuristic has one answer on each size that may be rated, and the comparison is

@@ -1,19 +1,25 @@
 //! One packing: group after group into the first bin that takes it, with notes by which it is
 //! undone.
-ghost use Rattle.std.specs.Prelude.{◌≡◌, ◌++◌, [], length, List, IsTrue, IfOk, OnOk, IsOk, IsSome, All, MatchBool, Ok, Some, map, true};
+ghost use Rattle.std.specs.Prelude.{ℕ, ◌≡◌, ◌+◌, ◌++◌, [], length, List, IsTrue, IfOk, OnOk, OnErr, IsOk, IsSome, All, MatchBool, MatchOption, Ok, Some, map, true};
 ghost use Rattle.std.specs.BTreeMap.{get, is_at};
 ghost use Rattle.std.specs.Bool.{OnTrue};
-ghost use Rattle.std.specs.List.{AllZip};
+ghost use Rattle.std.specs.List.{AllZip, list_any, sum_by, IsDistinct};
 ghost use Rattle.std.specs.Map.{lookup};
 ghost use Rattle.rectangle_pack.specs.declared.pack.answer.Placement.{Placement};
 ghost use Rattle.rectangle_pack.specs.Bins.{Bin};
 ghost use Rattle.rectangle_pack.specs.Groups.{HaveSizes, MembersHaveSizes, lists_of};
-ghost use Rattle.rectangle_pack.specs.private.Orders.{keys_of_order};
-ghost use Rattle.rectangle_pack.specs.Packing.{rules_by, bins_of, entries_of, Members, IsPlaced, IsRefused, AreAllPlaced, AreGroups, StopsAfter, PackingDone, PackingRefused};
+ghost use Rattle.std.specs.Ordering.{eq_by_cmp};
+ghost use Rattle.rectangle_pack.specs.Numbers.{saturated};
+ghost use Rattle.rectangle_pack.specs.Packing.{rules_by, bins_of, bars_by, at_start, Members, IsPlaced, IsRefused, AreAllPlaced, AreGroups, StopsAfter, PackingDone, PackingRefused};
+ghost use Rattle.rectangle_pack.specs.PackAnswers.{entries_of, AreCounted};
+ghost use Rattle.rectangle_pack.specs.private.Barred.{are_in, went_to};
+ghost use Rattle.rectangle_pack.specs.private.Bounds.{AddsWithin};
+ghost use Rattle.rectangle_pack.specs.private.Orders.{keys_of_order, entries_at};
 ghost use Rattle.rectangle_pack.specs.Placed.{AreNamed, AreLastPlacements};
 ghost use Rattle.rectangle_pack.specs.private.TrialJournal.{GoesBack};
 
 use crate::closures::Ask;
+use crate::exclusions::Exclusions;
 use crate::fit_tests::FitTests;
 use crate::grouped_rects_to_place::{Group, GroupedRectsToPlace};
 use crate::orders::{bin_order, group_order};
@@ -24,7 +30,7 @@ use crate::target_bin::TargetBin;
 use crate::trial::Note;
 use std::alloc::{AllocError, Allocator};
 use std::cmp::Reverse;
-use std::collections::BTreeMap;
+use std::collections::{BTreeMap, BTreeSet};
 
 // A trial that was done, and how to undo it.
 #[derive(Drop)]
@@ -45,6 +51,7 @@ impl<Id, BinId, A: Allocator + Copy> Progress<Id, BinId, A> {
     pub(crate) fn new(alloc: A) -> Self
         ensures placements { result.placements.items ≡ [] }
         ensures journal { result.journal.items ≡ [] }
+        ensures tests { result.tests ≡ 0 }
     {
         Progress {
             placements: Vec::new(alloc),
@@ -124,15 +131,17 @@ where
     Ok(sizes)
 }
 
-// Puts a group into the first bin of the order whose trial is done.
-fn place_group<Id, B, R, A>(
+// Puts a group into the first bin of the order that is not barred and whose trial is done; the id
+// of that bin.
+fn place_group<'b, Id, B, R, A>(
     bins: &mut BTreeMap<B, TargetBin<A>, A>,
-    order: &[(u128, B)],
+    order: &'b [(u128, B)],
+    barred: &BTreeSet<&'b B, A>,
     ids: &[Id],
     sizes: &[RectToInsert],
     rules: &R,
     progress: &mut Progress<Id, B, A>,
-) -> Result<bool, AllocError>
+) -> Result<Option<&'b B>, AllocError>
 where
     Id: Ord + Clone + Drop,
     B: Ord + Clone + Drop,
@@ -146,23 +155,36 @@ where
     ensures placed { IfOk result
         (λ placed.
         let by = rules_by Id.cmp B.cmp (R.may rules.now) in
+        let bars = are_in B.cmp barred.now.keys in
         let names = map (λ o. o.1) order.now in
         let group : Members Id = record { ids = ids.now; sizes = sizes.now } in
         let old = bins_of bins.old.entries in
         let new = bins_of bins.new.entries in
-        MatchBool placed
-        ((added : List (Placement Id B)) ×
-        IsPlaced by names group old added new ×
-        (progress.new.placements.items ≡ progress.old.placements.items ++ added))
-        (IsRefused by names group old ×
+        MatchOption placed
+        ((count : ℕ) ×
+        IsRefused by bars names group old count ×
         (new ≡ old) ×
-        (progress.new.placements.items ≡ progress.old.placements.items))) }
+        (progress.new.placements.items ≡ progress.old.placements.items) ×
+        (progress.new.tests ≡ saturated (progress.old.tests + count)))
+        (λ here.
+        (added : List (Placement Id B)) × (count : ℕ) ×
+        (at : IsPlaced by bars names group old added new count) ×
+        (at.here ≡ here.now) ×
+        (progress.new.placements.items ≡ progress.old.placements.items ++ added) ×
+        (progress.new.tests ≡ saturated (progress.old.tests + count)))) }
+    ensures stopped { OnErr result
+        (AddsWithin B.cmp (bins_of bins.old.entries) (map (λ o. o.1) order.now)
+        (length sizes.now) progress.old.tests progress.new.tests) }
     ensures back { (start : List (B × Bin)) →
         GoesBack B.cmp bins.old.entries progress.old.journal.items start →
         GoesBack B.cmp bins.new.entries progress.new.journal.items start }
 {
+    let _counted = progress.tests.count();
     progress.journal.reserve(1)?;
     for (_, id) in order {
+        if barred.contains(&id) {
+            continue;
+        }
         let name = id.clone()?;
         let mut notes = Vec::new(*progress.journal.allocator());
         let bin = bins.get_mut(id).unwrap();
@@ -172,18 +194,39 @@ where
                 .journal
                 .push_reserved(DoneTrial { bin: name, notes });
             name_all(&mut progress.placements, ids, id, locations.as_slice())?;
-            return Ok(true);
+            return Ok(Some(id));
         }
     }
-    Ok(false)
+    Ok(None)
+}
+
+// The bins that these groups went into, of those whose bin is kept.
+fn barred_bins<'a, 'b, K: Ord, B: Ord, A: Allocator + Copy>(
+    alloc: A,
+    partners: &'a [K],
+    homes: &BTreeMap<&'a K, &'b B, A>,
+) -> Result<BTreeSet<&'b B, A>, AllocError>
+    ensures { IfOk result
+        (λ s.
+        (id : B) → are_in B.cmp s.keys id ≡
+        list_any (λ p. went_to K.cmp B.cmp homes.now.entries p id) partners.now) }
+{
+    let mut barred = BTreeSet::new(alloc);
+    for partner in partners {
+        if let Some(bin) = homes.get(&partner) {
+            barred.insert(*bin)?;
+        }
+    }
+    Ok(barred)
 }
 
 // Places each group of an order, up to the first that is refused.
-fn place_groups<Id, B, K, R, A>(
+fn place_groups<'a, 'b, Id, B, K, R, A>(
     rects: &BTreeMap<Id, RectToInsert, A>,
     lists: &BTreeMap<K, Vec<Id, A>, A>,
-    groups: &[(Reverse<u128>, &K)],
-    order: &[(u128, B)],
+    exclusions: &'a Exclusions<K, A>,
+    groups: &[(Reverse<u128>, &'a K)],
+    order: &'b [(u128, B)],
     bins: &mut BTreeMap<B, TargetBin<A>, A>,
     rules: &R,
     progress: &mut Progress<Id, B, A>,
@@ -200,36 +243,58 @@ where
     requires listed { All (λ o. IsSome (get K.cmp lists.now o.1.now)) groups.now }
     requires sized { MembersHaveSizes Id.cmp rects.now.entries (lists_of lists.now.entries) }
     requires found { All (λ o. IsSome (get B.cmp bins.old o.1)) order.now }
+    requires distinct { IsDistinct (eq_by_cmp K.cmp) (map (λ o. o.1.now) groups.now) }
+    requires distinct_bins { IsDistinct (eq_by_cmp B.cmp) (map (λ o. o.1) order.now) }
     requires no_placements { progress.old.placements.items ≡ [] }
     ensures packed { IfOk result
         (λ done.
         let by = rules_by Id.cmp B.cmp (R.may rules.now) in
+        let bars = bars_by K.cmp B.cmp exclusions.now in
         let names = map (λ o. o.1) order.now in
         let lists = lists_of lists.now.entries in
         let groups = keys_of_order groups.now in
         let old = bins_of bins.old.entries in
         let new = bins_of bins.new.entries in
         MatchBool done
-        ((gs : List (Members Id)) ×
+        ((gs : List (K × Members Id)) × (homes : List (K × B)) × (count : ℕ) ×
         AreGroups Id.cmp K.cmp rects.now.entries lists groups gs ×
-        AreAllPlaced by names gs old progress.new.placements.items new)
-        (StopsAfter by K.cmp rects.now.entries lists groups names old new)) }
+        AreAllPlaced by bars names gs (at_start old) progress.new.placements.items
+        (record { bins = new; homes = homes }) count ×
+        (progress.new.tests ≡ saturated (progress.old.tests + count)))
+        ((count : ℕ) ×
+        StopsAfter by bars K.cmp rects.now.entries lists groups names old new count ×
+        (progress.new.tests ≡ saturated (progress.old.tests + count)))) }
+    ensures stopped { OnErr result
+        (AddsWithin B.cmp (bins_of bins.old.entries) (map (λ o. o.1) order.now)
+        (sum_by (entries_at K.cmp (lists_of lists.now.entries)) (keys_of_order groups.now))
+        progress.old.tests progress.new.tests) }
     ensures back { (start : List (B × Bin)) →
         GoesBack B.cmp bins.old.entries progress.old.journal.items start →
         GoesBack B.cmp bins.new.entries progress.new.journal.items start }
 {
+    let _counted = progress.tests.count();
+    let alloc = *progress.journal.allocator();
+    let mut homes = BTreeMap::new(alloc);
     for (_, group) in groups {
         let ids = list_of(lists, *group);
-        let sizes = sizes_of(*progress.journal.allocator(), ids.as_slice(), rects)?;
-        if !place_group(
+        let sizes = sizes_of(alloc, ids.as_slice(), rects)?;
+        let partners = exclusions.partners(*group);
+        let barred = barred_bins(alloc, partners, &homes)?;
+        match place_group(
             bins,
             order,
+            &barred,
             ids.as_slice(),
             sizes.as_slice(),
             rules,
             progress,
         )? {
-            return Ok(false);
+            None => return Ok(false),
+            Some(here) => {
+                if !partners.is_empty() {
+                    homes.insert(*group, here)?;
+                }
+            }
         }
     }
     Ok(true)
@@ -271,8 +336,16 @@ where
         let old = bins_of target_bins.old.entries in
         let new = bins_of target_bins.new.entries in
         MatchBool done
-        (PackingDone groups by rects_to_place.now old progress.new.placements.items new)
-        (PackingRefused groups by rects_to_place.now old new)) }
+        ((packed : PackingDone groups by rects_to_place.now old
+        progress.new.placements.items new) ×
+        AreCounted rects_to_place.now old packed.tests progress.old.tests progress.new.tests)
+        ((refused : PackingRefused groups by rects_to_place.now old new) ×
+        AreCounted rects_to_place.now old refused.tests progress.old.tests
+        progress.new.tests)) }
+    ensures stopped { OnErr result
+        ((tests : ℕ) ×
+        AreCounted rects_to_place.now (bins_of target_bins.old.entries) tests progress.old.tests
+        progress.new.tests) }
     ensures back { GoesBack BinId.cmp target_bins.new.entries progress.new.journal.items
         (bins_of target_bins.old.entries) }
     ensures counted { IfOk result
@@ -282,6 +355,7 @@ where
     ensures no_groups { rects_to_place.now.groups ≡ [] →
         (result ≡ Ok true) × (progress.new.placements.items ≡ []) }
 {
+    let _counted = progress.tests.count();
     let rects = rects_to_place.rects();
     let lists = rects_to_place.groups();
     if lists.is_empty() {
@@ -293,6 +367,7 @@ where
     place_groups(
         rects,
         lists,
+        rects_to_place.exclusions(),
         groups.as_slice(),
         order.as_slice(),
         target_bins,

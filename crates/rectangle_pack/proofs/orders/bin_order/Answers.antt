@@ -1,6 +1,10 @@
-use Rattle.std.proofs.Common.{◌≡◌, ℕ, sym, ◌∙◌, true}
+use Rattle.std.proofs.Common.{◌≡◌, ℕ, List, subst, sym, ◌∙◌, true}
 use Rattle.std.specs.Prelude.{map, IsSome}
-use Rattle.std.specs.Map.{lookup}
+use Rattle.std.specs.Map.{lookup, keys_of}
+use Rattle.std.specs.List.{IsDistinct}
+use Rattle.std.specs.Ordering.{eq_by_cmp}
+use Rattle.std.proofs.lemmas.Map.Keys.{IsDistinct-from_sorted}
+use Rattle.rectangle_pack.proofs.BoundLemmas.{keys-bins}
 use Rattle.std.specs.BTreeMap.{is_at}
 use Rattle.std.proofs.lemmas.List.Sorted.{All-permutation}
 use Rattle.std.specs.Cmp.{Equal-is}
@@ -33,3 +37,8 @@ returns-clause-found g c =
     let e : map deref_pair c.loop-id.yielded ≡ c.args.bins.now.entries = (iter_end deref_pair _ _ _ _ _ _ c.into_iter-id-iterator.ensures.into_iter_gives.0 c.loop-id.yielded_by c.in-None.is c.next.ensures.steps).0 in
     All-permutation (λ (o : ℕ × g.row.B.Denot). IsSome (lookup (is_at (g.B.Ord.cmp o.1)) c.args.bins.now.entries)) c.loop-id.order.items _ c.sort_unstable.ensures.permutation
     (found-zip g.met.B.Ord.total (λ (o : ℕ × g.row.B.Denot). o.1) _ (λ b o r. r.0) c.args.bins.now.entries c.loop-id.order.items (rw e at c.loop-id.invariant))
+
+pub returns-clause-distinct : goal.returns-clause-distinct
+returns-clause-distinct g c =
+    let cmp = g.B.Ord.cmp in
+    subst (λ (ks : List g.row.B.Denot). IsDistinct (eq_by_cmp cmp) ks) (sym (keys-bins c.args.bins.now.entries)) (IsDistinct-from_sorted cmp (keys_of c.args.bins.now.entries) c.len.ensures.ordered)

@@ -16,6 +16,14 @@ use Rattle.std.specs.Prelude.{IsSome}
 use Rattle.std.specs.Borrow.{Bor}
 use Rattle.std.specs.declared.cmp.Reverse.{Reverse}
 use Rattle.std.proofs.lemmas.List.Sorted.{All-permutation, sum_by-IsPermutation}
+use Rattle.std.proofs.Common.{sym, subst, List}
+use Rattle.std.specs.Ordering.{eq_by_cmp}
+use Rattle.std.specs.List.{IsDistinct}
+use Rattle.std.specs.Map.{keys_of}
+use Rattle.std.proofs.lemmas.List.Sorted.{IsPermutation-map}
+use Rattle.std.proofs.lemmas.Map.Keys.{IsDistinct-from_sorted, IsDistinct-IsPermutation}
+use Rattle.rectangle_pack.proofs.BarredLemmas.{names-zip}
+use Rattle.rectangle_pack.proofs.ExclusionsLemmas.{is_at-back}
 use Rattle.rectangle_pack.proofs.orders.group_order.Goals as goal
 
 pub group_key-requires-clause-known : goal.group_key-requires-clause-known
@@ -56,3 +64,13 @@ returns-clause-counted g c =
     let each : AllZip (λ e o. (o.1 ≡ e.0) × IsGroupKey (g.R.Ask.may c.args.rules.now).rate g.Id.Ord.cmp c.args.rects.now.entries e.1 o.0) lists unsorted = AllZip-map_right _ _ lists c.loop-group.order.items (rw (← e) c.loop-group.invariant) in
     sum_by-IsPermutation (entries_at g.K.Ord.cmp lists) _ _ c.sort_falling.ensures.permutation
     ∙ counted-zip g.K.Ord.cmp _ lists c.args.lists.now.entries unsorted each (lookup-each g.met.K.Ord.total c.args.lists.now c.len.ensures.ordered)
+
+pub returns-clause-distinct : goal.returns-clause-distinct
+returns-clause-distinct g c =
+    let e : map deref_pair c.loop-group.yielded ≡ c.args.lists.now.entries = (iter_end deref_pair _ _ _ _ _ _ c.into_iter-group-iterator.ensures.into_iter_gives.0 c.loop-group.yielded_by c.in-None.is c.next.ensures.steps).0 in
+    let cmp = g.K.Ord.cmp in
+    let name : Reverse ℕ × Bor g.row.K.Denot → g.row.K.Denot = λ o. o.1.now in
+    let names : map name c.loop-group.order.items ≡ keys_of c.args.lists.now.entries = names-zip _ c.args.lists.now.entries c.loop-group.order.items (rw e at c.loop-group.invariant) in
+    IsDistinct-IsPermutation (eq_by_cmp cmp) (λ x y. is_at-back g.met.K.Ord.total x y) (map name c.loop-group.order.items) _
+    (IsPermutation-map name _ _ c.sort_falling.ensures.same)
+    (subst (λ (ks : List g.row.K.Denot). IsDistinct (eq_by_cmp cmp) ks) (sym names) (IsDistinct-from_sorted cmp (keys_of c.args.lists.now.entries) c.len.ensures.ordered))

@@ -1,10 +1,10 @@
 use Rattle.std.proofs.Common.{refl}
 use Rattle.rectangle_pack.specs.Groups.{lists_of, Collection}
-use Rattle.rectangle_pack.proofs.ExclusionsLemmas.{OnOk-weaker}
+use Rattle.std.proofs.lemmas.Result.{on_ok_weaker}
 use Rattle.rectangle_pack.proofs.grouped_rects_to_place.GroupedRectsToPlace.exclude.Goals as goal
 
 pub returns-clause-ok : goal.returns-clause-ok
-returns-clause-ok g c = rw (← c.self.view_is) (OnOk-weaker c.add.result (λ p. record { sizes = refl; groups = refl; pairs = p }) c.add.ensures.ok)
+returns-clause-ok g c = rw (← c.self.view_is) (on_ok_weaker c.add.result (λ p. record { sizes = refl; groups = refl; pairs = p }) c.add.ensures.ok)
 
 pub returns-clause-again : goal.returns-clause-again
 returns-clause-again g c =

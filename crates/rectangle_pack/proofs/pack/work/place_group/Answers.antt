@@ -9,7 +9,16 @@ use Rattle.std.proofs.lemmas.List.{take_all}
 use Rattle.rectangle_pack.specs.Packing.{rules_by, bins_of, Members}
 use Rattle.rectangle_pack.proofs.JournalLemmas.{is_some-bins_of}
 use Rattle.rectangle_pack.proofs.MapsLemmas.{is_some-option_map}
-use Rattle.rectangle_pack.proofs.PackLemmas.{GoesBack-grown, bins_of-grown, GoesBack-done, found-bins_of, IsPlaced-at, IsStuckIn-more, IsDone-length}
+use Rattle.rectangle_pack.proofs.PackLemmas.{GoesBack-grown, bins_of-grown, GoesBack-done, found-bins_of, IsPlaced-at, IsPassed-more, IsPassed-stuck, IsPassed-barred, IsDone-length}
+use Rattle.rectangle_pack.proofs.BoundLemmas.{OnErr-given, adds-begun, adds-tried}
+use Rattle.rectangle_pack.proofs.TrialLemmas.{saturated-add}
+use Rattle.rectangle_pack.specs.private.Barred.{are_in}
+use Rattle.rectangle_pack.specs.Numbers.{saturated}
+use Rattle.rectangle_pack.specs.Packing.{IsPlaced}
+use Rattle.rectangle_pack.specs.Bins.{Bin}
+use Rattle.std.proofs.lemmas.List.Sums.{sum_by_push}
+use Rattle.std.specs.Prelude.{map, sum}
+use Rattle.std.proofs.Common.{List, [], ◌∷◌, ◌+◌, refl, Bool, false, true, subst}
 use Rattle.rectangle_pack.proofs.pack.work.place_group.Goals as goal
 
 pub unwrap-bin-requires : goal.unwrap-bin-requires
@@ -48,11 +57,20 @@ returns-in-Some-clause-placed g c =
     let done = rw c.in-Some.is at c.in_ok-done.ensures.answer in
     let named = c.in_ok-name_all.ensures in
     let group : Members g.row.Id.Denot = record { ids = c.args.ids.now; sizes = c.args.sizes.now } in
-    let rules = rules_by g.Id.Ord.cmp g.B.Ord.cmp (g.R.Ask.may c.args.rules.now) in (
+    let rules = rules_by g.Id.Ord.cmp g.B.Ord.cmp (g.R.Ask.may c.args.rules.now) in
+    let barred : g.row.B.Denot → Bool = are_in g.B.Ord.cmp c.args.barred.now.keys in
+    let passed = c.loop-id.invariant.passed in
+    let allowed : barred c.loop-id-item.result.1 ≡ false = sym c.contains.ensures ∙ c.if-contains.false in
+    let at = IsPlaced-at rules barred c.args.order.now c.loop-id.id-index c.loop-id-item.result group c.loop-id.bins.entries (bins_of c.args.bins.now.entries) c.unwrap-bin.result.now c.place_noted.new.self c.in-Some.locations.items passed.0 done.0 named.0
+    c.loop-id-test.true c.loop-id-item.is c.loop-id.invariant.same passed.1 allowed found done.2 done.1 (rw (← c.as_slice.ensures.value) named.1) in
+    let P : List (g.row.B.Denot × Bin) → Type 0 = λ (new : List (g.row.B.Denot × Bin)). (p : IsPlaced rules barred (map (λ o. o.1) c.args.order.now) group (bins_of c.args.bins.now.entries) named.0 new (sum passed.0 + done.0)) × (p.here ≡ c.loop-id-item.result.1) in
+    let there = subst P (sym (ap bins_of h.0)) at in (
       named.0,
-      rw (ap bins_of h.0) (IsPlaced-at rules c.args.order.now c.loop-id.id-index c.loop-id-item.result group c.loop-id.bins.entries (bins_of c.args.bins.now.entries) c.unwrap-bin.result.now c.place_noted.new.self c.in-Some.locations.items done.0 named.0
-          c.loop-id-test.true c.loop-id-item.is c.loop-id.invariant.same c.loop-id.invariant.stuck found done.2 done.1 (rw (← c.as_slice.ensures.value) named.1)),
+      sum passed.0 + done.0,
+      there.0,
+      there.1,
       named.2 ∙ ap (λ l. l ++ named.0) c.loop-id.invariant.placements,
+      saturated-add c.args.progress.now.tests c.loop-id.progress.tests _ (sum passed.0) done.0 passed.2 done.3,
     )
 
 pub returns-in-Some-clause-back : goal.returns-in-Some-clause-back
@@ -64,6 +82,29 @@ returns-in-Some-clause-back g c start b =
     rw h.0 (GoesBack-done g.met.B.Ord.total c.loop-id.bins.entries c.loop-id.progress.journal.items c.push_reserved.new.self.items c.loop-id-item.result.1 (record { bin = c.in_ok-name.name; notes = c.place_noted.new.notes }) c.unwrap-bin.result.now c.place_noted.new.self start
     equal found c.push_reserved.ensures.items done.2
     (rw c.in-Some.is at c.in_ok-done.ensures.before) (rw c.in-Some.is at c.in_ok-done.ensures.can_undo) c.place_noted.ensures.sound c.place_noted.ensures.room (c.loop-id.invariant.back start b))
+
+pub loop-id-init : goal.loop-id-init
+loop-id-init g c = record { same = refl; passed = ([], tt, omega arith); placements = refl; back = λ start b. rw c.in_ok-reserve.ensures.items b }
+
+pub loop-id-preserved-then-contains : goal.loop-id-preserved-then-contains
+loop-id-preserved-then-contains g c =
+    let o = c.loop-id-item.result in
+    let old = bins_of c.args.bins.now.entries in
+    let group : Members g.row.Id.Denot = record { ids = c.args.ids.now; sizes = c.args.sizes.now } in
+    let rules = rules_by g.Id.Ord.cmp g.B.Ord.cmp (g.R.Ask.may c.args.rules.now) in
+    let barred : g.row.B.Denot → Bool = are_in g.B.Ord.cmp c.args.barred.now.keys in
+    let passed = c.loop-id.invariant.passed in
+    let here : barred o.1 ≡ true = sym c.contains.ensures ∙ c.if-contains.true in
+    record {
+      same = c.loop-id.invariant.same;
+      passed = (
+        passed.0 ++ 0 ∷ [],
+        IsPassed-more rules barred old group c.args.order.now c.loop-id.id-index o passed.0 0 c.loop-id-test.true c.loop-id-item.is (IsPassed-barred rules barred old group o.1 here) passed.1,
+        passed.2 ∙ ap (λ n. saturated (c.args.progress.now.tests + n)) (sym (sum_by_push (λ x. x) passed.0 0 ∙ omega arith)),
+      );
+      placements = c.loop-id.invariant.placements;
+      back = c.loop-id.invariant.back;
+    }
 
 pub loop-id-preserved : goal.loop-id-preserved
 loop-id-preserved g c =
@@ -81,9 +122,17 @@ loop-id-preserved g c =
     let stuck = rw c.in_default.is at c.in_ok-done.ensures.answer in
     let unchanged = stuck.2 in
     let there = found-bins_of (is_at (cmp o.1)) now old v same found in
+    let barred : g.row.B.Denot → Bool = are_in cmp c.args.barred.now.keys in
+    let passed = c.loop-id.invariant.passed in
+    let allowed : barred o.1 ≡ false = sym c.contains.ensures ∙ c.if-contains.false in
     record {
       same = ap bins_of h.0 ∙ bins_of-grown _ now v w found unchanged c.place_noted.ensures.room ∙ same;
-      stuck = IsStuckIn-more rules old group c.args.order.now c.loop-id.id-index o c.loop-id-test.true c.loop-id-item.is (rw there (stuck.0, stuck.1)) c.loop-id.invariant.stuck;
+      passed = (
+        passed.0 ++ stuck.0 ∷ [],
+        IsPassed-more rules barred old group c.args.order.now c.loop-id.id-index o passed.0 stuck.0 c.loop-id-test.true c.loop-id-item.is
+            (IsPassed-stuck rules barred old group o.1 stuck.0 allowed (rw there stuck.1)) passed.1,
+        saturated-add c.args.progress.now.tests c.loop-id.progress.tests _ (sum passed.0) stuck.0 passed.2 stuck.3 ∙ ap (λ n. saturated (c.args.progress.now.tests + n)) (sym (sum_by_push (λ x. x) passed.0 stuck.0)),
+      );
       placements = c.loop-id.invariant.placements;
       back = λ start b. rw h.0 (GoesBack-grown cmp now c.loop-id.progress.journal.items o.1 v w start found unchanged c.place_noted.ensures.room (c.loop-id.invariant.back start b));
     }
@@ -91,4 +140,39 @@ loop-id-preserved g c =
 pub returns-clause-placed : goal.returns-clause-placed
 returns-clause-placed g c =
     let e : take c.loop-id.id-index c.args.order.now ≡ c.args.order.now = take_all c.loop-id.id-index c.args.order.now (omega arith) in
-    (rw e at c.loop-id.invariant.stuck, c.loop-id.invariant.same, c.loop-id.invariant.placements)
+    let passed = rw e at c.loop-id.invariant.passed in
+    (sum passed.0, record { counts = passed.0; passed = passed.1; tests_are = refl }, c.loop-id.invariant.same, c.loop-id.invariant.placements, passed.2)
+
+pub returns-in_err-reserve-clause-stopped : goal.returns-in_err-reserve-clause-stopped
+returns-in_err-reserve-clause-stopped g c =
+    let group : Members g.row.Id.Denot = record { ids = c.args.ids.now; sizes = c.args.sizes.now } in
+    let rules = rules_by g.Id.Ord.cmp g.B.Ord.cmp (g.R.Ask.may c.args.rules.now) in
+    OnErr-given _ (adds-begun rules g.met.B.Ord.total (are_in g.B.Ord.cmp c.args.barred.now.keys) c.args.order.now 0 group (bins_of c.args.bins.now.entries) [] c.args.progress.now.tests _ tt (omega arith))
+
+pub returns-in_err-name-clause-stopped : goal.returns-in_err-name-clause-stopped
+returns-in_err-name-clause-stopped g c =
+    let group : Members g.row.Id.Denot = record { ids = c.args.ids.now; sizes = c.args.sizes.now } in
+    let rules = rules_by g.Id.Ord.cmp g.B.Ord.cmp (g.R.Ask.may c.args.rules.now) in
+    let passed = c.loop-id.invariant.passed in
+    OnErr-given _ (adds-begun rules g.met.B.Ord.total (are_in g.B.Ord.cmp c.args.barred.now.keys) c.args.order.now c.loop-id.id-index group (bins_of c.args.bins.now.entries) passed.0 c.args.progress.now.tests _ passed.1 passed.2)
+
+pub returns-in_err-done-clause-stopped : goal.returns-in_err-done-clause-stopped
+returns-in_err-done-clause-stopped g c =
+    let group : Members g.row.Id.Denot = record { ids = c.args.ids.now; sizes = c.args.sizes.now } in
+    let rules = rules_by g.Id.Ord.cmp g.B.Ord.cmp (g.R.Ask.may c.args.rules.now) in
+    let passed = c.loop-id.invariant.passed in
+    OnErr-given _
+    (adds-begun rules g.met.B.Ord.total (are_in g.B.Ord.cmp c.args.barred.now.keys) c.args.order.now c.loop-id.id-index group (bins_of c.args.bins.now.entries) passed.0 c.args.progress.now.tests _ passed.1 (c.in_err-done.ensures.answer.1 ∙ passed.2))
+
+pub returns-in_err-name_all-clause-stopped : goal.returns-in_err-name_all-clause-stopped
+returns-in_err-name_all-clause-stopped g c =
+    let found : lookup (is_at (g.B.Ord.cmp c.loop-id-item.result.1)) c.loop-id.bins.entries ≡ Some c.unwrap-bin.result.now = sym c.get_mut.ensures.value ∙ ap option_copied_mut c.unwrap-bin.ensures in
+    let done = rw c.in-Some.is at c.in_ok-done.ensures.answer in
+    let group : Members g.row.Id.Denot = record { ids = c.args.ids.now; sizes = c.args.sizes.now } in
+    let rules = rules_by g.Id.Ord.cmp g.B.Ord.cmp (g.R.Ask.may c.args.rules.now) in
+    let passed = c.loop-id.invariant.passed in
+    let old = bins_of c.args.bins.now.entries in
+    let there = found-bins_of (is_at (g.B.Ord.cmp c.loop-id-item.result.1)) c.loop-id.bins.entries old c.unwrap-bin.result.now c.loop-id.invariant.same found in
+    OnErr-given _
+    (adds-tried rules g.met.B.Ord.total (are_in g.B.Ord.cmp c.args.barred.now.keys) c.args.order.now c.loop-id.id-index c.loop-id-item.result group old passed.0 c.unwrap-bin.result.now.bin c.in-Some.locations.items c.place_noted.new.self.bin.sections done.0
+    c.args.progress.now.tests _ c.loop-id-test.true c.loop-id-item.is passed.1 there done.1 (saturated-add c.args.progress.now.tests c.loop-id.progress.tests _ (sum passed.0) done.0 passed.2 done.3))

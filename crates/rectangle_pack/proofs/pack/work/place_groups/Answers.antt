@@ -1,4 +1,4 @@
-use Rattle.std.proofs.Common.{◌≡◌, refl, sym, ◌∙◌, get_or, arith, take, ◌++◌, ◌∷◌, [], ◌+◌}
+use Rattle.std.proofs.Common.{◌≡◌, refl, sym, ◌∙◌, get_or, arith, take, ◌++◌, ◌∷◌, [], List, ◌+◌}
 use Rattle.std.specs.Prelude.{Some, IsSome, map}
 use Rattle.std.specs.Map.{lookup}
 use Rattle.std.specs.BTreeMap.{is_at}
@@ -8,11 +8,27 @@ use Rattle.rectangle_pack.specs.Packing.{rules_by, bins_of, Members}
 use Rattle.rectangle_pack.proofs.JournalLemmas.{is_some-bins_of}
 use Rattle.rectangle_pack.proofs.KeepingLemmas.{stays_there}
 use Rattle.rectangle_pack.proofs.PackLemmas.{AreSizesOf, HaveSizes-found, AreSizesOf-length, AreGroups-more, StopsAfter-at, AreAllPlaced-push}
+use Rattle.rectangle_pack.proofs.BarredLemmas.{Knows, Knows-none, Knows-alone, Knows-kept, Named-more, Named-fresh, barred_by_partners, none-listed}
+use Rattle.rectangle_pack.proofs.BoundLemmas.{OnErr-given, adds-placed, adds-more, placed-le}
+use Rattle.rectangle_pack.proofs.TrialLemmas.{saturated-add}
+use Rattle.rectangle_pack.specs.private.Barred.{are_in, went_to}
+use Rattle.rectangle_pack.specs.Exclusions.{listed_at}
+use Rattle.rectangle_pack.specs.Packing.{bars_by, at_start, IsPlaced, IsRefused, AreAllPlaced}
+use Rattle.rectangle_pack.specs.declared.pack.answer.Placement.{Placement}
+use Rattle.std.proofs.Math.Path.{fun_ext}
+use Rattle.std.specs.List.{list_any}
+use Rattle.std.proofs.lemmas.List.Elements.{All-nil}
+use Rattle.std.proofs.Common.{Bool, ap, subst, length}
 use Rattle.rectangle_pack.proofs.PackingOrderLemmas.{list-found}
+use Rattle.std.specs.Borrow.{Bor}
 use Rattle.rectangle_pack.proofs.pack.work.place_groups.Goals as goal
+use Rattle.rectangle_pack.proofs.pack.work.place_groups.Goals.{then-not-is_empty+in_ok-insert-in-Some, else-not-is_empty}
 
 pub loop-group-init : goal.loop-group-init
-loop-group-init g c = record { done = ([], record { each = tt }, (c.requires.no_placements, refl)); back = λ start b. b }
+loop-group-init g c = record {
+  done = ([], [], 0, record { each = tt }, (c.requires.no_placements, refl, refl), omega arith, Knows-none g.K.Ord.cmp g.B.Ord.cmp g.met.K.Ord.total c.args.exclusions.now c.new-homes.result.entries c.new-homes.ensures.empty, λ q h. All-nil _);
+  back = λ start b. b;
+}
 
 pub list_of-ids-requires : goal.list_of-ids-requires
 list_of-ids-requires g c = rw c.loop-group-item.is (c.requires.listed c.loop-group.group-index c.loop-group-item.result c.loop-group-test.true)
@@ -34,37 +50,75 @@ place_group-requires-clause-found g c k d within =
     let now = c.loop-group.bins.entries in
     let done = c.loop-group.invariant.done in
     let before : IsSome (lookup (is_at (cmp id)) (bins_of old)) = is_some-bins_of (is_at (cmp id)) old ∙ c.requires.found k d within in
-    sym (is_some-bins_of (is_at (cmp id)) now) ∙ stays_there _ g.met.B.Ord.total _ done.0 (bins_of old) _ (bins_of now) done.2 id before
+    sym (is_some-bins_of (is_at (cmp id)) now) ∙ stays_there _ g.met.B.Ord.total _ _ done.0 (at_start (bins_of old)) _ (record { bins = bins_of now; homes = done.1 }) done.2 done.4 id before
 
-pub returns-then-not-branch-clause-packed : goal.returns-then-not-branch-clause-packed
-returns-then-not-branch-clause-packed g c =
+pub returns-in-None-clause-packed : goal.returns-in-None-clause-packed
+returns-in-None-clause-packed g c =
     let done = c.loop-group.invariant.done in
-    let placed = rw c.if-not-branch.true at c.in_ok-place_group.ensures.placed in
     let ids = c.as_slice-in-loop-group.result.now in
     let sizes = c.as_slice-in-loop-group-2.result.now in
     let group : Members g.row.Id.Denot = record { ids = ids; sizes = sizes } in
+    let name = c.loop-group-item.result.1.now in
     let rules = rules_by g.Id.Ord.cmp g.B.Ord.cmp (g.R.Ask.may c.args.rules.now) in
-    let found : lookup (is_at (g.K.Ord.cmp c.loop-group-item.result.1.now)) (lists_of c.args.lists.now.entries) ≡ Some ids = rw c.as_slice-in-loop-group.ensures.value (list-found (is_at (g.K.Ord.cmp c.loop-group-item.result.1.now)) c.args.lists.now.entries c.list_of-ids.result.now c.list_of-ids.ensures) in
+    let found : lookup (is_at (g.K.Ord.cmp name)) (lists_of c.args.lists.now.entries) ≡ Some ids = rw c.as_slice-in-loop-group.ensures.value (list-found (is_at (g.K.Ord.cmp name)) c.args.lists.now.entries c.list_of-ids.result.now c.list_of-ids.ensures) in
     let sized : AreSizesOf g.Id.Ord.cmp c.args.rects.now.entries ids sizes = rw (c.as_slice-in-loop-group.ensures.value, c.as_slice-in-loop-group-2.ensures.value, ← c.as_slice.ensures.value) c.in_ok-sizes.ensures in
-    StopsAfter-at rules g.K.Ord.cmp c.args.rects.now.entries (lists_of c.args.lists.now.entries) c.args.groups.now (map (λ o. o.1) c.args.order.now) (c.loop-group.group-index + 1) done.0 group _ _ _ c.loop-group.progress.placements.items
-    (AreGroups-more rules g.K.Ord.cmp c.args.rects.now.entries (lists_of c.args.lists.now.entries) c.args.groups.now c.loop-group.group-index c.loop-group-item.result done.0 group c.loop-group-test.true c.loop-group-item.is found sized done.1)
-    done.2 placed.1 placed.0
+    let more = AreGroups-more rules g.K.Ord.cmp c.args.rects.now.entries (lists_of c.args.lists.now.entries) c.args.groups.now c.loop-group.group-index c.loop-group-item.result done.0 group c.loop-group-test.true c.loop-group-item.is found sized done.3 in
+    let bars : List (g.row.K.Denot × g.row.B.Denot) → g.row.K.Denot → g.row.B.Denot → Bool = bars_by g.K.Ord.cmp g.B.Ord.cmp c.args.exclusions.now in
+    let keys = c.in_ok-barred.barred.keys in
+    let partners : c.partners-partners.result.now ≡ listed_at g.K.Ord.cmp c.args.exclusions.now name = c.partners-partners.ensures.listed in
+    let barred : are_in g.B.Ord.cmp keys ≡ bars done.1 name = fun_ext (λ id.
+    c.in_ok-barred.ensures id
+    ∙ ap (λ (ps : List g.row.K.Denot). list_any (λ p. went_to g.K.Ord.cmp g.B.Ord.cmp c.loop-group.homes.entries p id) ps) partners
+    ∙ barred_by_partners g.K.Ord.cmp g.B.Ord.cmp g.met.K.Ord.total c.args.exclusions.now done.1 c.loop-group.homes.entries c.partners-partners.ensures.mutual done.6 name id) in
+    let refused = rw c.in-None.is at c.in_ok-place_group.ensures.placed in
+    let P : (g.row.B.Denot → Bool) → Type 0 = λ (b : g.row.B.Denot → Bool). IsRefused rules b (map (λ o. o.1) c.args.order.now) group (bins_of c.loop-group.bins.entries) refused.0 in (
+      done.2 + refused.0,
+      StopsAfter-at rules g.K.Ord.cmp bars c.args.rects.now.entries (lists_of c.args.lists.now.entries) c.args.groups.now (map (λ o. o.1) c.args.order.now) (c.loop-group.group-index + 1) done.0 (name, group) _ _ (bins_of c.loop-group.bins.entries) done.1 c.loop-group.progress.placements.items done.2 refused.0
+          more done.4 refused.2 (subst P barred refused.1),
+      saturated-add c.args.progress.now.tests c.loop-group.progress.tests _ done.2 refused.0 done.5 refused.4,
+    )
 
 pub loop-group-preserved : goal.loop-group-preserved
 loop-group-preserved g c =
     let done = c.loop-group.invariant.done in
-    let placed = rw c.if-not-branch.false at c.in_ok-place_group.ensures.placed in
     let ids = c.as_slice-in-loop-group.result.now in
     let sizes = c.as_slice-in-loop-group-2.result.now in
     let group : Members g.row.Id.Denot = record { ids = ids; sizes = sizes } in
+    let name = c.loop-group-item.result.1.now in
     let rules = rules_by g.Id.Ord.cmp g.B.Ord.cmp (g.R.Ask.may c.args.rules.now) in
-    let found : lookup (is_at (g.K.Ord.cmp c.loop-group-item.result.1.now)) (lists_of c.args.lists.now.entries) ≡ Some ids = rw c.as_slice-in-loop-group.ensures.value (list-found (is_at (g.K.Ord.cmp c.loop-group-item.result.1.now)) c.args.lists.now.entries c.list_of-ids.result.now c.list_of-ids.ensures) in
+    let found : lookup (is_at (g.K.Ord.cmp name)) (lists_of c.args.lists.now.entries) ≡ Some ids = rw c.as_slice-in-loop-group.ensures.value (list-found (is_at (g.K.Ord.cmp name)) c.args.lists.now.entries c.list_of-ids.result.now c.list_of-ids.ensures) in
     let sized : AreSizesOf g.Id.Ord.cmp c.args.rects.now.entries ids sizes = rw (c.as_slice-in-loop-group.ensures.value, c.as_slice-in-loop-group-2.ensures.value, ← c.as_slice.ensures.value) c.in_ok-sizes.ensures in
+    let more = AreGroups-more rules g.K.Ord.cmp c.args.rects.now.entries (lists_of c.args.lists.now.entries) c.args.groups.now c.loop-group.group-index c.loop-group-item.result done.0 group c.loop-group-test.true c.loop-group-item.is found sized done.3 in
+    let bars : List (g.row.K.Denot × g.row.B.Denot) → g.row.K.Denot → g.row.B.Denot → Bool = bars_by g.K.Ord.cmp g.B.Ord.cmp c.args.exclusions.now in
+    let keys = c.in_ok-barred.barred.keys in
+    let partners : c.partners-partners.result.now ≡ listed_at g.K.Ord.cmp c.args.exclusions.now name = c.partners-partners.ensures.listed in
+    let barred : are_in g.B.Ord.cmp keys ≡ bars done.1 name = fun_ext (λ id.
+    c.in_ok-barred.ensures id
+    ∙ ap (λ (ps : List g.row.K.Denot). list_any (λ p. went_to g.K.Ord.cmp g.B.Ord.cmp c.loop-group.homes.entries p id) ps) partners
+    ∙ barred_by_partners g.K.Ord.cmp g.B.Ord.cmp g.met.K.Ord.total c.args.exclusions.now done.1 c.loop-group.homes.entries c.partners-partners.ensures.mutual done.6 name id) in
+    let placed = rw c.in-Some.is at c.in_ok-place_group.ensures.placed in
+    let here = c.in-Some.here in
+    let P : (g.row.B.Denot → Bool) → Type 0 = λ (b : g.row.B.Denot → Bool). (p : IsPlaced rules b (map (λ o. o.1) c.args.order.now) group (bins_of c.loop-group.bins.entries) placed.0 (bins_of c.place_group.new.bins.entries) placed.1) × (p.here ≡ here.now) in
+    let there = subst P barred (placed.2, placed.3) in
+    let Q : List (Placement g.row.Id.Denot g.row.B.Denot) → Type 0 = λ (ps : List (Placement g.row.Id.Denot g.row.B.Denot)). AreAllPlaced rules bars (map (λ o. o.1) c.args.order.now) (done.0 ++ (name, group) ∷ []) (at_start (bins_of c.args.bins.now.entries)) ps (record { bins = bins_of c.place_group.new.bins.entries; homes = (name, there.0.here) ∷ done.1 }) (done.2 + placed.1) in
+    let fresh = Named-fresh g.K.Ord.cmp g.B.Ord.cmp g.met.K.Ord.total c.args.groups.now c.loop-group.group-index c.loop-group-item.result done.1 c.requires.distinct c.loop-group-test.true c.loop-group-item.is done.7 in
+    let R : List (Bor g.row.K.Denot × Bor g.row.B.Denot) → Type 0 = λ (kept : List (Bor g.row.K.Denot × Bor g.row.B.Denot)). Knows g.K.Ord.cmp g.B.Ord.cmp g.met.K.Ord.total c.args.exclusions.now ((name, here.now) ∷ done.1) kept in
+    let knows : Knows g.K.Ord.cmp g.B.Ord.cmp g.met.K.Ord.total c.args.exclusions.now ((name, here.now) ∷ done.1) c.if-not-is_empty.homes.entries = elim c.if-not-is_empty.branch [
+      | then-not-is_empty+in_ok-insert-in-Some w ↦
+          subst R (sym (ap (λ m. m.entries) w.homes-is)) (Knows-kept g.K.Ord.cmp g.B.Ord.cmp g.met.K.Ord.total c.args.exclusions.now done.1 c.loop-group.homes.entries w.insert.new.self.entries name here (λ q. w.in_ok-insert-in-Some.ensures.updates.0 (record c.loop-group-item.result.1 { now = q })) fresh done.6)
+      | else-not-is_empty w ↦
+          subst R (sym (ap (λ m. m.entries) w.homes-is)) (Knows-alone g.K.Ord.cmp g.B.Ord.cmp g.met.K.Ord.total c.args.exclusions.now done.1 c.loop-group.homes.entries name here.now (ap length (sym partners) ∙ none-listed c.partners-partners.result.now c.is_empty.result c.is_empty.ensures w.if-not-is_empty.false) done.6)
+    ] in
     record {
       done = (
-        done.0 ++ group ∷ [],
-        AreGroups-more rules g.K.Ord.cmp c.args.rects.now.entries (lists_of c.args.lists.now.entries) c.args.groups.now c.loop-group.group-index c.loop-group-item.result done.0 group c.loop-group-test.true c.loop-group-item.is found sized done.1,
-        rw placed.2 (AreAllPlaced-push rules (map (λ o. o.1) c.args.order.now) done.0 group (bins_of c.args.bins.now.entries) (bins_of c.loop-group.bins.entries) (bins_of c.place_group.new.bins.entries) c.loop-group.progress.placements.items placed.0 done.2 placed.1),
+        done.0 ++ (name, group) ∷ [],
+        (name, there.0.here) ∷ done.1,
+        done.2 + placed.1,
+        more,
+        subst Q (sym placed.4) (AreAllPlaced-push rules bars (map (λ o. o.1) c.args.order.now) done.0 (name, group) (at_start (bins_of c.args.bins.now.entries)) (bins_of c.loop-group.bins.entries) done.1 (bins_of c.place_group.new.bins.entries) c.loop-group.progress.placements.items placed.0 done.2 placed.1 done.4 there.0),
+        saturated-add c.args.progress.now.tests c.loop-group.progress.tests _ done.2 placed.1 done.5 placed.5,
+        rw there.1 knows,
+        Named-more g.K.Ord.cmp g.B.Ord.cmp g.met.K.Ord.total c.args.groups.now c.loop-group.group-index c.loop-group-item.result done.1 there.0.here c.loop-group-test.true c.loop-group-item.is done.7,
       );
       back = λ start b. c.place_group.ensures.back start (c.loop-group.invariant.back start b);
     }
@@ -72,4 +126,65 @@ loop-group-preserved g c =
 pub returns-clause-packed : goal.returns-clause-packed
 returns-clause-packed g c =
     let e : take c.loop-group.group-index c.args.groups.now ≡ c.args.groups.now = take_all c.loop-group.group-index c.args.groups.now (omega arith) in
-    rw e at c.loop-group.invariant.done
+    let done = rw e at c.loop-group.invariant.done in
+    (done.0, done.1, done.2, done.3, done.4, done.5)
+
+pub returns-in_err-sizes-clause-stopped : goal.returns-in_err-sizes-clause-stopped
+returns-in_err-sizes-clause-stopped g c =
+    let done = c.loop-group.invariant.done in
+    let rules = rules_by g.Id.Ord.cmp g.B.Ord.cmp (g.R.Ask.may c.args.rules.now) in
+    let bars : List (g.row.K.Denot × g.row.B.Denot) → g.row.K.Denot → g.row.B.Denot → Bool = bars_by g.K.Ord.cmp g.B.Ord.cmp c.args.exclusions.now in
+    OnErr-given _
+    (adds-placed rules g.met.B.Ord.total bars g.K.Ord.cmp c.args.rects.now.entries (lists_of c.args.lists.now.entries) c.args.groups.now c.loop-group.group-index (map (λ o. o.1) c.args.order.now) done.0 (at_start (bins_of c.args.bins.now.entries)) _ _ done.2
+    c.args.progress.now.tests c.loop-group.progress.tests c.requires.distinct_bins done.3 done.4 done.5)
+
+pub returns-in_err-barred-clause-stopped : goal.returns-in_err-barred-clause-stopped
+returns-in_err-barred-clause-stopped g c =
+    let done = c.loop-group.invariant.done in
+    let rules = rules_by g.Id.Ord.cmp g.B.Ord.cmp (g.R.Ask.may c.args.rules.now) in
+    let bars : List (g.row.K.Denot × g.row.B.Denot) → g.row.K.Denot → g.row.B.Denot → Bool = bars_by g.K.Ord.cmp g.B.Ord.cmp c.args.exclusions.now in
+    OnErr-given _
+    (adds-placed rules g.met.B.Ord.total bars g.K.Ord.cmp c.args.rects.now.entries (lists_of c.args.lists.now.entries) c.args.groups.now c.loop-group.group-index (map (λ o. o.1) c.args.order.now) done.0 (at_start (bins_of c.args.bins.now.entries)) _ _ done.2
+    c.args.progress.now.tests c.loop-group.progress.tests c.requires.distinct_bins done.3 done.4 done.5)
+
+pub returns-in_err-place_group-clause-stopped : goal.returns-in_err-place_group-clause-stopped
+returns-in_err-place_group-clause-stopped g c =
+    let done = c.loop-group.invariant.done in
+    let ids = c.as_slice-in-loop-group.result.now in
+    let sizes = c.as_slice-in-loop-group-2.result.now in
+    let group : Members g.row.Id.Denot = record { ids = ids; sizes = sizes } in
+    let name = c.loop-group-item.result.1.now in
+    let rules = rules_by g.Id.Ord.cmp g.B.Ord.cmp (g.R.Ask.may c.args.rules.now) in
+    let found : lookup (is_at (g.K.Ord.cmp name)) (lists_of c.args.lists.now.entries) ≡ Some ids = rw c.as_slice-in-loop-group.ensures.value (list-found (is_at (g.K.Ord.cmp name)) c.args.lists.now.entries c.list_of-ids.result.now c.list_of-ids.ensures) in
+    let sized : AreSizesOf g.Id.Ord.cmp c.args.rects.now.entries ids sizes = rw (c.as_slice-in-loop-group.ensures.value, c.as_slice-in-loop-group-2.ensures.value, ← c.as_slice.ensures.value) c.in_ok-sizes.ensures in
+    let more = AreGroups-more rules g.K.Ord.cmp c.args.rects.now.entries (lists_of c.args.lists.now.entries) c.args.groups.now c.loop-group.group-index c.loop-group-item.result done.0 group c.loop-group-test.true c.loop-group-item.is found sized done.3 in
+    let bars : List (g.row.K.Denot × g.row.B.Denot) → g.row.K.Denot → g.row.B.Denot → Bool = bars_by g.K.Ord.cmp g.B.Ord.cmp c.args.exclusions.now in
+    OnErr-given _
+    (adds-more rules g.met.B.Ord.total bars g.K.Ord.cmp c.args.rects.now.entries (lists_of c.args.lists.now.entries) c.args.groups.now (c.loop-group.group-index + 1) (map (λ o. o.1) c.args.order.now) done.0 (name, group) (at_start (bins_of c.args.bins.now.entries)) _
+    (record { bins = bins_of c.loop-group.bins.entries; homes = done.1 }) done.2 c.args.progress.now.tests c.loop-group.progress.tests _ c.requires.distinct_bins more done.4 done.5 c.in_err-place_group.ensures.stopped)
+
+pub returns-in-None-clause-back : goal.returns-in-None-clause-back
+returns-in-None-clause-back g c = λ start b. c.place_group.ensures.back start (c.loop-group.invariant.back start b)
+
+pub returns-in_err-insert-in-Some-clause-stopped : goal.returns-in_err-insert-in-Some-clause-stopped
+returns-in_err-insert-in-Some-clause-stopped g c =
+    let done = c.loop-group.invariant.done in
+    let ids = c.as_slice-in-loop-group.result.now in
+    let sizes = c.as_slice-in-loop-group-2.result.now in
+    let group : Members g.row.Id.Denot = record { ids = ids; sizes = sizes } in
+    let name = c.loop-group-item.result.1.now in
+    let rules = rules_by g.Id.Ord.cmp g.B.Ord.cmp (g.R.Ask.may c.args.rules.now) in
+    let found : lookup (is_at (g.K.Ord.cmp name)) (lists_of c.args.lists.now.entries) ≡ Some ids = rw c.as_slice-in-loop-group.ensures.value (list-found (is_at (g.K.Ord.cmp name)) c.args.lists.now.entries c.list_of-ids.result.now c.list_of-ids.ensures) in
+    let sized : AreSizesOf g.Id.Ord.cmp c.args.rects.now.entries ids sizes = rw (c.as_slice-in-loop-group.ensures.value, c.as_slice-in-loop-group-2.ensures.value, ← c.as_slice.ensures.value) c.in_ok-sizes.ensures in
+    let more = AreGroups-more rules g.K.Ord.cmp c.args.rects.now.entries (lists_of c.args.lists.now.entries) c.args.groups.now c.loop-group.group-index c.loop-group-item.result done.0 group c.loop-group-test.true c.loop-group-item.is found sized done.3 in
+    let bars : List (g.row.K.Denot × g.row.B.Denot) → g.row.K.Denot → g.row.B.Denot → Bool = bars_by g.K.Ord.cmp g.B.Ord.cmp c.args.exclusions.now in
+    let placed = rw c.in-Some.is at c.in_ok-place_group.ensures.placed in
+    let names : List g.row.B.Denot = map (λ o. o.1) c.args.order.now in
+    OnErr-given _
+    (adds-more rules g.met.B.Ord.total bars g.K.Ord.cmp c.args.rects.now.entries (lists_of c.args.lists.now.entries) c.args.groups.now (c.loop-group.group-index + 1) names done.0 (name, group) (at_start (bins_of c.args.bins.now.entries)) _
+    (record { bins = bins_of c.loop-group.bins.entries; homes = done.1 }) done.2 c.args.progress.now.tests c.loop-group.progress.tests _ c.requires.distinct_bins more done.4 done.5
+    (record {
+      tests = placed.1;
+      within = placed-le rules g.met.B.Ord.total (are_in g.B.Ord.cmp c.in_ok-barred.barred.keys) names group (bins_of c.loop-group.bins.entries) placed.0 (bins_of c.place_group.new.bins.entries) placed.1 placed.2;
+      added = placed.5;
+    }))

@@ -1,0 +1,16 @@
+-- The bins that are barred for a group, as a packing finds them.
+use Rattle.std.specs.Prelude.{Bool, false, List, unwrap_or}
+use Rattle.std.specs.declared.cmp.Ordering.{Ordering}
+use Rattle.std.specs.Borrow.{Bor}
+use Rattle.std.specs.Option.{option_map}
+use Rattle.std.specs.List.{list_any}
+use Rattle.std.specs.Map.{lookup}
+use Rattle.std.specs.BTreeMap.{is_at}
+
+-- the id is among those that the references point to
+abbrev pub are_in : {B : Type 0} → (B → B → Ordering) → List (Bor B) → B → Bool
+are_in bin_cmp barred id = list_any (λ b. is_at (bin_cmp id) b.now) barred
+
+-- the bin of this id is the one that is kept for the group
+abbrev pub went_to : {K B : Type 0} → (K → K → Ordering) → (B → B → Ordering) → List (Bor K × Bor B) → K → B → Bool
+went_to group_cmp bin_cmp homes group id = unwrap_or (option_map (λ b. is_at (bin_cmp id) b.now) (lookup (λ k. is_at (group_cmp group) k.now) homes)) false
