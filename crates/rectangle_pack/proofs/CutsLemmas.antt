@@ -8,7 +8,7 @@ use Rattle.std.proofs.lemmas.List.Elements.{All-nil, All-cons, All-map, All-weak
 use Rattle.std.proofs.Math.Seq.{get_or-append_seam}
 use Rattle.std.proofs.lemmas.Bool.Decides.{nat_tests}
 use Rattle.rectangle_pack.specs.Boxes.{Axis, AxisX, AxisY, AxisZ, Size, Cuboid, IsPartOf, Holds, IsU32, FitsU32, extent, start, is_within, is_cell_of}
-use Rattle.rectangle_pack.specs.Closures.{AreThree}
+use Rattle.rectangle_pack.specs.Closures.{AreThreeSizes}
 use Rattle.rectangle_pack.specs.Cuts.{is_same, is_before, placed, piece_start, piece_extent, piece, pieces, orders, cuts, sizes_of}
 use Rattle.rectangle_pack.specs.Choice.{MayChoose}
 use Rattle.rectangle_pack.specs.Counting.{times_filled, Tiles}
@@ -208,20 +208,20 @@ u32_by_part : (b s : Cuboid) → FitsU32 s → IsPartOf b s → IsU32 b.whd
 u32_by_part b s fits part = record { wide = omega arith; high = omega arith; deep = omega arith }
 
 -- each cut of a section of 32 bits has three pieces, with sizes of 32 bits
-cuts_three : (s : Cuboid) (m : Size) → FitsU32 s → Holds s m → All (λ cut. AreThree (sizes_of cut)) (cuts s m)
+cuts_three : (s : Cuboid) (m : Size) → FitsU32 s → Holds s m → All (λ cut. AreThreeSizes (sizes_of cut)) (cuts s m)
 unfolding pieces cuts
-cuts_three s m fits h = all_six (λ cut. AreThree (sizes_of cut)) s m (λ order once. record {
+cuts_three s m fits h = all_six (λ cut. AreThreeSizes (sizes_of cut)) s m (λ order once. record {
   three = refl;
   small = All-map IsU32 (λ b. b.whd) (pieces s m order) (All-weaker (λ b. IsPartOf b s) (λ b. IsU32 b.whd) (λ b. u32_by_part b s fits) (pieces s m order) (order_part s m order h));
 })
 
-pub nth_three : (s : Cuboid) (m : Size) (n : ℕ) → FitsU32 s → Holds s m → n < 6 → AreThree (sizes_of (get_or (cuts s m) n []))
+pub nth_three : (s : Cuboid) (m : Size) (n : ℕ) → FitsU32 s → Holds s m → n < 6 → AreThreeSizes (sizes_of (get_or (cuts s m) n []))
 nth_three s m n fits h below = cuts_three s m fits h n [] (omega (arith, length-cuts s m))
 
 -- and so one that stands among the first of them
-pub taken_three : (s : Cuboid) (m : Size) (n : ℕ) (before after : List (List Cuboid)) (cut : List Cuboid) → FitsU32 s → Holds s m → take n (cuts s m) ≡ before ++ cut ∷ after → AreThree (sizes_of cut)
+pub taken_three : (s : Cuboid) (m : Size) (n : ℕ) (before after : List (List Cuboid)) (cut : List Cuboid) → FitsU32 s → Holds s m → take n (cuts s m) ≡ before ++ cut ∷ after → AreThreeSizes (sizes_of cut)
 taken_three s m n before after cut fits h listed =
-    let P : List Cuboid → Type 0 = λ cut. AreThree (sizes_of cut) in
+    let P : List Cuboid → Type 0 = λ cut. AreThreeSizes (sizes_of cut) in
     All-middle P (take n (cuts s m)) before after cut listed (All-take P n (cuts s m) (cuts_three s m fits h))
 
 -- a cut has three pieces

@@ -6,6 +6,7 @@ pub mod BoxesLemmas
 pub mod CountingLemmas
 pub mod CutsLemmas
 pub mod ExclusionsLemmas
+pub mod EitherLemmas
 pub mod GroupOrderLemmas
 pub mod GroupsLemmas
 pub mod KeepingLemmas

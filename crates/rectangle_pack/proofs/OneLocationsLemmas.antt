@@ -18,7 +18,7 @@ use Rattle.std.proofs.lemmas.List.Elements.{All-cons, All-head, All-tail, All-we
 use Rattle.rectangle_pack.specs.Boxes.{Cuboid}
 use Rattle.rectangle_pack.specs.declared.pack.answer.Placement.{Placement}
 use Rattle.rectangle_pack.specs.Placed.{IsLastOf, AreLastPlacements}
-use Rattle.rectangle_pack.specs.Results.{AreMapsAlike, AreAlike, AreLocationsAlike}
+use Rattle.rectangle_pack.specs.Results.{AreMapsAlike, ArePlacementsAlike, AreLocationsAlike}
 use Rattle.rectangle_pack.proofs.CutsLemmas.{All-middle}
 use Rattle.rectangle_pack.proofs.MapsLemmas.{congr_right, AreOptionsAlike}
 use Rattle.rectangle_pack.proofs.OneResultLemmas.{split_last}
@@ -72,7 +72,7 @@ module _ {K X : Type 0} (cmp : K → K → Ordering) (o : IsTotalOrder cmp) (Ali
               let t : lookup (is_at (cmp q)) (y ∷ ys) ≡ lookup (is_at (cmp q)) ys = rw other refl in
               subst (λ (v : Option X). AreOptionsAlike Alike (lookup (is_at (cmp q)) xs) v) t (subst (λ (u : Option X). AreOptionsAlike Alike u (lookup (is_at (cmp q)) (y ∷ ys))) s (each q))
 
-module _ {Id B : Type 0} (cmp : Id → Id → Ordering) (bin_cmp : B → B → Ordering) (id_total : IsTotalOrder cmp) (bin_total : IsTotalOrder bin_cmp) (ps qs : List (Placement Id B)) (alike : AreAlike cmp bin_cmp ps qs) where
+module _ {Id B : Type 0} (cmp : Id → Id → Ordering) (bin_cmp : B → B → Ordering) (id_total : IsTotalOrder cmp) (bin_total : IsTotalOrder bin_cmp) (ps qs : List (Placement Id B)) (alike : ArePlacementsAlike cmp bin_cmp ps qs) where
   abbrev S : Placement Id B → Placement Id B → Type 0
   S p q = (cmp p.id q.id ≡ Equal) × (bin_cmp p.bin q.bin ≡ Equal) × (p.location ≡ q.location)
 

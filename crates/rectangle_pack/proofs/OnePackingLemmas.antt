@@ -19,7 +19,7 @@ use Rattle.rectangle_pack.specs.Orders.{IsGroupOrder, IsBinOrder}
 use Rattle.rectangle_pack.specs.Placed.{AreNamed}
 use Rattle.rectangle_pack.specs.Steps.{IsDone, IsStuck}
 use Rattle.rectangle_pack.specs.Packing.{Rules, Members, Stage, at_start, bars_by, IsStuckIn, IsPassed, IsPlaced, IsRefused, AreAllPlaced, AreGroups, PackingDone, PackingRefused}
-use Rattle.rectangle_pack.specs.Results.{MayBeCut, MayBeRated, ClosuresDecide, AreMapsAlike, AreBinsAlike, AreCollectionsAlike, AreAlike, HaveOneResult}
+use Rattle.rectangle_pack.specs.Results.{MayBeCut, MayBeRated, ClosuresDecide, AreMapsAlike, AreBinsAlike, AreCollectionsAlike, ArePlacementsAlike, HaveOneResult}
 use Rattle.rectangle_pack.proofs.CutsLemmas.{All-middle}
 use Rattle.rectangle_pack.proofs.ExclusionsLemmas.{is_at-back, is_at-equal, excluded-alike}
 use Rattle.rectangle_pack.proofs.KeepingLemmas.{All-from_zip}
@@ -132,12 +132,12 @@ BarAlike {B} bin_cmp barred1 barred2 = (a b : B) → bin_cmp a b ≡ Equal → b
 -- what two packings of one collection into one map of bins share
 record SamePacking {Id B : Type 0} (cmp : Id → Id → Ordering) (bin_cmp : B → B → Ordering) (p q : List (Placement Id B)) (m n : List (B × Bin)) : Type 0 where
   pub bins : m ≡ n
-  pub placements : AreAlike cmp bin_cmp p q
+  pub placements : ArePlacementsAlike cmp bin_cmp p q
 
 -- and what two packings share of collections and of bins that are alike
 record ArePackedAlike {Id B : Type 0} (cmp : Id → Id → Ordering) (bin_cmp : B → B → Ordering) (p q : List (Placement Id B)) (m n : List (B × Bin)) : Type 0 where
   pub bins : AreBinsAlike bin_cmp m n
-  pub placements : AreAlike cmp bin_cmp p q
+  pub placements : ArePlacementsAlike cmp bin_cmp p q
 
 module _ {Id B : Type 0} (rules : Rules Id B) (boxes : List Size) (bins : List Bin)
     (decide : ClosuresDecide boxes bins rules.may) (id_total : IsTotalOrder rules.id_cmp) (bin_total : IsTotalOrder rules.bin_cmp) where
@@ -221,7 +221,7 @@ module _ {Id B : Type 0} (rules : Rules Id B) (boxes : List Size) (bins : List B
       not_done_and_stuck boxes bins rules.may decide p.bin.sections g.sizes p.locations p.last p.count passed.0 (found_met rules.bin_cmp bins old p.here p.bin p.found u) among p.done here
 
   named_once : (ids : List Id) (here : B) (ps qs : List (Placement Id B)) → AllZip (λ id p. rules.id_cmp id p.id ≡ Equal) ids ps → AllZip (λ id p. rules.id_cmp id p.id ≡ Equal) ids qs
-      → All (λ p. rules.bin_cmp here p.bin ≡ Equal) ps → All (λ p. rules.bin_cmp here p.bin ≡ Equal) qs → map (λ p. p.location) ps ≡ map (λ p. p.location) qs → AreAlike rules.id_cmp rules.bin_cmp ps qs
+      → All (λ p. rules.bin_cmp here p.bin ≡ Equal) ps → All (λ p. rules.bin_cmp here p.bin ≡ Equal) qs → map (λ p. p.location) ps ≡ map (λ p. p.location) qs → ArePlacementsAlike rules.id_cmp rules.bin_cmp ps qs
   named_once [] here [] [] h k a b e = tt
   named_once [] here (p ∷ ps) qs h k a b e = absurd h
   named_once [] here [] (q ∷ qs) h k a b e = absurd k
@@ -301,7 +301,7 @@ module _ {Id B : Type 0} (rules : Rules Id B) (boxes : List Size) (bins : List B
     one_group : (order1 order2 : List B) (g h : K × Members Id) (old1 old2 : Stage K B) (m n : List (B × Bin)) (ps qs : List (Placement Id B)) (i j : ℕ) → All (MayBeCutIn bins) (values_of old2.bins) → AreAmong boxes h
         → AllZip (λ a b. rules.bin_cmp a b ≡ Equal) order1 order2 → AreGroupsAlike group_cmp rules.id_cmp g h → AreStagesAlike group_cmp rules.bin_cmp old1 old2
         → (p : IsPlaced rules (bars1 old1.homes g.0) order1 g.1 old1.bins ps m i) → (q : IsPlaced rules (bars2 old2.homes h.0) order2 h.1 old2.bins qs n j)
-        → AreStagesAlike group_cmp rules.bin_cmp (after old1 g.0 p.here m) (after old2 h.0 q.here n) × AreAlike rules.id_cmp rules.bin_cmp ps qs
+        → AreStagesAlike group_cmp rules.bin_cmp (after old1 g.0 p.here m) (after old2 h.0 q.here n) × ArePlacementsAlike rules.id_cmp rules.bin_cmp ps qs
     one_group order1 order2 g h old1 old2 m n ps qs i j u among order groups alike p q =
         let one = one_placed_alike (bars1 old1.homes g.0) (bars2 old2.homes h.0) order1 order2 g.1 h.1 old1.bins old2.bins m n ps qs i j u among (bar old1.homes old2.homes g.0 h.0 alike.homes groups.name) order groups.members alike.bins p q in
         (record { bins = one.0.bins; homes = ((groups.name, one.1), alike.homes) }, one.0.placements)
@@ -312,7 +312,7 @@ module _ {Id B : Type 0} (rules : Rules Id B) (boxes : List Size) (bins : List B
         → AreAllPlaced rules bars1 order1 gs old1 ps m i → AreAllPlaced rules bars2 order2 hs old2 qs n j → ArePackedAlike rules.id_cmp rules.bin_cmp ps qs m.bins n.bins
     one_all_placed order1 order2 [] [] old1 old2 m n ps qs i j u among order groups alike p q = record {
       bins = subst (λ (x : Stage K B). AreBinsAlike rules.bin_cmp x.bins n.bins) (sym p.1) (subst (λ (x : Stage K B). AreBinsAlike rules.bin_cmp old1.bins x.bins) (sym q.1) alike.bins);
-      placements = subst (λ (x : List (Placement Id B)). AreAlike rules.id_cmp rules.bin_cmp x qs) (sym p.0) (subst (λ (x : List (Placement Id B)). AreAlike rules.id_cmp rules.bin_cmp [] x) (sym q.0) tt);
+      placements = subst (λ (x : List (Placement Id B)). ArePlacementsAlike rules.id_cmp rules.bin_cmp x qs) (sym p.0) (subst (λ (x : List (Placement Id B)). ArePlacementsAlike rules.id_cmp rules.bin_cmp [] x) (sym q.0) tt);
     }
     one_all_placed order1 order2 [] (h ∷ hs) old1 old2 m n ps qs i j u among order groups alike p q = absurd groups
     one_all_placed order1 order2 (g ∷ gs) [] old1 old2 m n ps qs i j u among order groups alike p q = absurd groups
@@ -323,7 +323,7 @@ module _ {Id B : Type 0} (rules : Rules Id B) (boxes : List Size) (bins : List B
         let S : Placement Id B → Placement Id B → Type 0 = λ p q. (rules.id_cmp p.id q.id ≡ Equal) × (rules.bin_cmp p.bin q.bin ≡ Equal) × (p.location ≡ q.location) in
         record {
           bins = others.bins;
-          placements = subst (λ (x : List (Placement Id B)). AreAlike rules.id_cmp rules.bin_cmp x qs) (sym e1) (subst (λ (x : List (Placement Id B)). AreAlike rules.id_cmp rules.bin_cmp (first1 ++ others1) x) (sym e2)
+          placements = subst (λ (x : List (Placement Id B)). ArePlacementsAlike rules.id_cmp rules.bin_cmp x qs) (sym e1) (subst (λ (x : List (Placement Id B)). ArePlacementsAlike rules.id_cmp rules.bin_cmp (first1 ++ others1) x) (sym e2)
               (AllZip-append S first1 first2 others1 others2 one.1 others.placements));
         }
 
@@ -448,7 +448,7 @@ module _ {Id B G : Type 0} (group_cmp : Group G Id → Group G Id → Ordering) 
 
   -- two packings that are done have one result
   one_done : (m n : List (B × Bin)) (ps qs : List (Placement Id B)) → PackingDone group_cmp rules all1 old1 ps m → PackingDone group_cmp rules all2 old2 qs n
-      → AreBinsAlike rules.bin_cmp m n × AreAlike rules.id_cmp rules.bin_cmp ps qs
+      → AreBinsAlike rules.bin_cmp m n × ArePlacementsAlike rules.id_cmp rules.bin_cmp ps qs
   one_done m n ps qs p q =
       let agree = agree_by p.group_order q.group_order p.group_order [] q.group_order [] p.groups q.groups p.by_groups q.by_groups (sym (append-nil p.group_order)) (sym (append-nil q.group_order)) p.listed q.listed in
       let long : length p.groups ≡ length q.groups =
@@ -496,7 +496,7 @@ collections_back {Id} {G} {group_cmp} {cmp} group_total total one other h = reco
 -- so packings of inputs that are alike have one result
 pub one_result : {Id B G : Type 0} (group_cmp : Group G Id → Group G Id → Ordering) (rules : Rules Id B)
     → IsTotalOrder group_cmp → IsTotalOrder rules.id_cmp → IsTotalOrder rules.bin_cmp → (all other : Collection Id G) (old others : List (B × Bin)) → AreCollectionsAlike group_cmp rules.id_cmp all other → AreBinsAlike rules.bin_cmp old others
-    → ClosuresDecide (values_of all.sizes) (values_of old) rules.may → HaveOneResult group_cmp rules all other old others
+    → ClosuresDecide (values_of all.sizes) (values_of old) rules.may → HaveOneResult group_cmp rules rules all other old others
 one_result group_cmp rules group_total total bin_total all other old others alike bins decide =
     let decides : ClosuresDecide (values_of other.sizes) (values_of others) rules.may =
     subst (λ (sizes : List Size). ClosuresDecide sizes (values_of others) rules.may) (same_values rules.id_cmp all.sizes other.sizes alike.sizes)

@@ -17,13 +17,13 @@ abbrev pub CanRate : {H : Type 0} → RateCalls H → H → Type 0
 CanRate g heuristic = (size : Size) → IsU32 size → g.pre heuristic (size, tt)
 
 -- three sizes of 32 bits
-pub record AreThree (sizes : List Size) : Type 0 where
+pub record AreThreeSizes (sizes : List Size) : Type 0 where
   pub three : length sizes ≡ 3
   pub small : All IsU32 sizes
 
 -- the comparison may be called on each two triples of such sizes, with this heuristic beside them
 abbrev pub CanCompare : {C H : Type 0} → CompareCalls C H → C → H → Type 0
-CanCompare {C} {H} g comparison heuristic = (first second : List Size) (shown : Bor H) → AreThree first → AreThree second → shown.now ≡ heuristic → g.pre comparison (first, (second, (shown, tt)))
+CanCompare {C} {H} g comparison heuristic = (first second : List Size) (shown : Bor H) → AreThreeSizes first → AreThreeSizes second → shown.now ≡ heuristic → g.pre comparison (first, (second, (shown, tt)))
 
 -- both, as a packing asks them
 pub record AreCallable {C H : Type 0} (rates : RateCalls H) (compares : CompareCalls C H) (heuristic : H) (comparison : C) : Type 0 where
@@ -37,8 +37,8 @@ pub record MayRateBy {H : Type 0} (g : RateCalls H) (heuristic : H) (size : Size
 
 -- the comparison may answer r on these two triples of such sizes, with this heuristic
 pub record MayCompare {C H : Type 0} (g : CompareCalls C H) (comparison : C) (heuristic : H) (first second : List Size) (r : Ordering) : Type 0 where
-  pub first_three : AreThree first
-  pub second_three : AreThree second
+  pub first_three : AreThreeSizes first
+  pub second_three : AreThreeSizes second
   pub shown : Bor H
   pub shows : shown.now ≡ heuristic
   pub says : g.post comparison (first, (second, (shown, tt))) r

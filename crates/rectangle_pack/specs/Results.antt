@@ -42,21 +42,29 @@ pub record AreCollectionsAlike {Id G : Type 0} (group_cmp : Group G Id → Group
   pub excluded : (a b : Group G Id) → are_excluded group_cmp one.partners a b ≡ are_excluded group_cmp other.partners a b
 
 -- the same locations, place by place, under ids and bins that are equal
-abbrev pub AreAlike : {Id B : Type 0} → (Id → Id → Ordering) → (B → B → Ordering) → List (Placement Id B) → List (Placement Id B) → Type 0
-AreAlike cmp bin_cmp ps qs = AllZip (λ p q. (cmp p.id q.id ≡ Equal) × (bin_cmp p.bin q.bin ≡ Equal) × (p.location ≡ q.location)) ps qs
+abbrev pub ArePlacementsAlike : {Id B : Type 0} → (Id → Id → Ordering) → (B → B → Ordering) → List (Placement Id B) → List (Placement Id B) → Type 0
+ArePlacementsAlike cmp bin_cmp ps qs = AllZip (λ p q. (cmp p.id q.id ≡ Equal) × (bin_cmp p.bin q.bin ≡ Equal) × (p.location ≡ q.location)) ps qs
 
 -- the same locations, in bins that are equal, under ids that are equal
 abbrev pub AreLocationsAlike : {Id B : Type 0} → (Id → Id → Ordering) → (B → B → Ordering) → List (Id × (B × Cuboid)) → List (Id × (B × Cuboid)) → Type 0
 AreLocationsAlike cmp bin_cmp xs ys = AreMapsAlike cmp (λ a b. (bin_cmp a.0 b.0 ≡ Equal) × (a.1 ≡ b.1)) xs ys
 
-module _ {Id B G : Type 0} (group_cmp : Group G Id → Group G Id → Ordering) (rules : Rules Id B) where
-  -- two packings, each of its collection into its bins: where both are done, or both refused, what they leave is alike; and not one is done and the other refused
+-- what one pair of closures, or another pair, may answer
+abbrev pub either_of : Answers → Answers → Answers
+either_of one other = record {
+  rate = λ size rate. one.rate size rate ⊎ other.rate size rate;
+  prefer = λ first second r. one.prefer first second r ⊎ other.prefer first second r;
+}
+
+module _ {Id B G : Type 0} (group_cmp : Group G Id → Group G Id → Ordering) (rules other_rules : Rules Id B) where
+  -- two packings, each of its collection into its bins by its rules: where both are done, or both refused, what they leave is alike;
+  -- and not one is done and the other refused
   pub record HaveOneResult (all other_all : Collection Id G) (bins other_bins : List (B × Bin)) : Type 0 where
     pub done : (ps qs : List (Placement Id B)) (m n : List (B × Bin)) → PackingDone group_cmp rules all bins ps m
-        → PackingDone group_cmp rules other_all other_bins qs n → AreBinsAlike rules.bin_cmp m n × AreAlike rules.id_cmp rules.bin_cmp ps qs
+        → PackingDone group_cmp other_rules other_all other_bins qs n → AreBinsAlike rules.bin_cmp m n × ArePlacementsAlike rules.id_cmp rules.bin_cmp ps qs
     pub refused : (m n : List (B × Bin)) → PackingRefused group_cmp rules all bins m
-        → PackingRefused group_cmp rules other_all other_bins n → AreBinsAlike rules.bin_cmp m n
+        → PackingRefused group_cmp other_rules other_all other_bins n → AreBinsAlike rules.bin_cmp m n
     pub not_done_and_refused : (ps : List (Placement Id B)) (m n : List (B × Bin)) → PackingDone group_cmp rules all bins ps m
-        → PackingRefused group_cmp rules other_all other_bins n → ⊥
+        → PackingRefused group_cmp other_rules other_all other_bins n → ⊥
     pub not_refused_and_done : (qs : List (Placement Id B)) (m n : List (B × Bin)) → PackingRefused group_cmp rules all bins m
-        → PackingDone group_cmp rules other_all other_bins qs n → ⊥
+        → PackingDone group_cmp other_rules other_all other_bins qs n → ⊥

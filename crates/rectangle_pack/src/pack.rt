@@ -14,7 +14,7 @@ ghost use Rattle.rectangle_pack.specs.PackAnswers.{IsPackAnswer, IsCountedAnswer
 ghost use Rattle.rectangle_pack.specs.Placed.{AreLastPlacements};
 ghost use Rattle.rectangle_pack.specs.Keeping.{KeepsEachBin};
 ghost use Rattle.rectangle_pack.specs.SmallestBox.{IsSmallestOrder};
-ghost use Rattle.rectangle_pack.specs.Results.{ClosuresDecide, AreCollectionsAlike, AreBinsAlike, AreAlike, AreLocationsAlike, HaveOneResult};
+ghost use Rattle.rectangle_pack.specs.Results.{ClosuresDecide, either_of, AreCollectionsAlike, AreBinsAlike, ArePlacementsAlike, AreLocationsAlike, HaveOneResult};
 
 mod answer;
 mod work;
@@ -238,24 +238,34 @@ where
         AreKeptApart groups BinId.cmp all.partners refused.stops.homes }
 {}
 
-/// A law: where the heuristic has one answer on each size that may be rated, and the comparison is
-/// a total preorder on the cuts that may be met, a packing has one result. Two packings of equal
-/// collections into equal bins are both done, with equal bins and placements, or both refused, with
-/// equal bins. Here ids are equal where their order says so.
-pub fn packing_has_one_result<Id, BinId, GroupId, H, C>(heuristic: &H, comparison: &C)
+/// A law: where the heuristics of two packings have one answer on each size that may be rated, and
+/// their comparisons are one total preorder on the cuts that may be met, the packings have one
+/// result. Two packings of equal collections into equal bins are both done, with equal bins and
+/// placements, or both refused, with equal bins. Here ids are equal where their order says so, and
+/// closures need only answer alike.
+pub fn packing_has_one_result<Id, BinId, GroupId, H, C, I, D>(
+    heuristic: &H,
+    comparison: &C,
+    other_heuristic: &I,
+    other_comparison: &D,
+)
 where
     Id: Ord,
     BinId: Ord,
     GroupId: Ord,
     H: Fn(WidthHeightDepth) -> u128,
     C: Fn([WidthHeightDepth; 3], [WidthHeightDepth; 3], &H) -> Ordering,
+    I: Fn(WidthHeightDepth) -> u128,
+    D: Fn([WidthHeightDepth; 3], [WidthHeightDepth; 3], &I) -> Ordering,
     ensures { let groups = ⟦<Group<GroupId, Id> as Ord>⟧.cmp in
-        let rules = rules_by Id.cmp BinId.cmp (answers H.Fn C.Fn heuristic.now comparison.now) in
+        let rules = rules_by Id.cmp BinId.cmp in
+        let may = answers H.Fn C.Fn heuristic.now comparison.now in
+        let other_may = answers I.Fn D.Fn other_heuristic.now other_comparison.now in
         (all others : Collection Id GroupId) (bins other_bins : List (BinId × Bin)) →
         AreCollectionsAlike groups Id.cmp all others →
         AreBinsAlike BinId.cmp bins other_bins →
-        ClosuresDecide (values_of all.sizes) (values_of bins) rules.may →
-        HaveOneResult groups rules all others bins other_bins }
+        ClosuresDecide (values_of all.sizes) (values_of bins) (either_of may other_may) →
+        HaveOneResult groups (rules may) (rules other_may) all others bins other_bins }
 {}
 
 /// A law: a heuristic that has one answer on each size, and a comparison that is a total preorder
@@ -271,32 +281,47 @@ where
 {}
 
 /// A law: with `volume_heuristic` and `contains_smallest_box`, or closures that answer as they do,
-/// a packing has one result.
-pub fn volume_packing_has_one_result<Id, BinId, GroupId, H, C>(heuristic: &H, comparison: &C)
+/// two packings have one result.
+pub fn volume_packing_has_one_result<Id, BinId, GroupId, H, C, I, D>(
+    heuristic: &H,
+    comparison: &C,
+    other_heuristic: &I,
+    other_comparison: &D,
+)
 where
     Id: Ord,
     BinId: Ord,
     GroupId: Ord,
     H: Fn(WidthHeightDepth) -> u128,
     C: Fn([WidthHeightDepth; 3], [WidthHeightDepth; 3], &H) -> Ordering,
+    I: Fn(WidthHeightDepth) -> u128,
+    D: Fn([WidthHeightDepth; 3], [WidthHeightDepth; 3], &I) -> Ordering,
     requires volume { (size : Size) (rate : ℕ) → MayRateBy H.Fn heuristic.now size rate →
         rate ≡ volume_of size }
     requires smallest { (a b : List Size) (r : Ordering) →
         MayCompare C.Fn comparison.now heuristic.now a b r →
         IsSmallestOrder (H.post heuristic.now) a b r }
+    requires other_volume { (size : Size) (rate : ℕ) →
+        MayRateBy I.Fn other_heuristic.now size rate →
+        rate ≡ volume_of size }
+    requires other_smallest { (a b : List Size) (r : Ordering) →
+        MayCompare D.Fn other_comparison.now other_heuristic.now a b r →
+        IsSmallestOrder (I.post other_heuristic.now) a b r }
     ensures { let groups = ⟦<Group<GroupId, Id> as Ord>⟧.cmp in
-        let rules = rules_by Id.cmp BinId.cmp (answers H.Fn C.Fn heuristic.now comparison.now) in
+        let rules = rules_by Id.cmp BinId.cmp in
+        let may = answers H.Fn C.Fn heuristic.now comparison.now in
+        let other_may = answers I.Fn D.Fn other_heuristic.now other_comparison.now in
         (all others : Collection Id GroupId) (bins other_bins : List (BinId × Bin)) →
         AreCollectionsAlike groups Id.cmp all others →
         AreBinsAlike BinId.cmp bins other_bins →
-        HaveOneResult groups rules all others bins other_bins }
+        HaveOneResult groups (rules may) (rules other_may) all others bins other_bins }
 {}
 
 /// A law: where two packings made equal placements, the locations that they answer by id are equal.
 pub fn locations_follow_placements<Id: Ord, BinId: Ord>()
     ensures { (placements others : List (Placement Id BinId)) →
         (found other_found : List (Id × (BinId × Cuboid))) →
-        AreAlike Id.cmp BinId.cmp placements others →
+        ArePlacementsAlike Id.cmp BinId.cmp placements others →
         AreLastPlacements Id.cmp BinId.cmp placements found →
         AreLastPlacements Id.cmp BinId.cmp others other_found →
         AreLocationsAlike Id.cmp BinId.cmp found other_found }

@@ -150,10 +150,15 @@ fn closures_that_are_handed_on(rt: HostRuntime) -> Result<(), Fail> {
         &contains_smallest_box,
     )?;
     pack_with(&rt, alloc, &FIRST_CUTS, &volume_heuristic, &always_greater)?;
-    // The law takes a closure that answers as `volume_heuristic` does, as it takes that one.
+    // The law takes a closure that answers as `volume_heuristic` does beside that one.
     let volume = |size: WidthHeightDepth| size.volume();
     pack_with(&rt, alloc, &TWO_IN_A_GROUP, &volume, &contains_smallest_box)?;
-    volume_packing_has_one_result::<u32, u32, u32, _, _>(&volume, &contains_smallest_box);
+    volume_packing_has_one_result::<u32, u32, u32, _, _, _, _>(
+        &volume,
+        &contains_smallest_box,
+        &volume_heuristic,
+        &contains_smallest_box,
+    );
     Ok(())
 }
 
@@ -307,7 +312,9 @@ fn equal_strings_pack_alike(rt: HostRuntime) -> Result<(), Fail> {
     for case in [TWO_IN_A_GROUP, IN_TWO_GROUPS] {
         pack_text_twice(&rt, alloc, &case, case.placements.ok_or("nothing to show")?)?;
     }
-    volume_packing_has_one_result::<String, String, String, _, _>(
+    volume_packing_has_one_result::<String, String, String, _, _, _, _>(
+        &volume_heuristic,
+        &contains_smallest_box,
         &volume_heuristic,
         &contains_smallest_box,
     );

@@ -128,5 +128,10 @@ fn try_place_cuts_a_section(rt: HostRuntime) -> Result<(), Fail> {
 
 #[test]
 fn the_law_takes_the_two_functions() {
-    volume_packing_has_one_result::<u32, u32, u32, _, _>(&volume_heuristic, &contains_smallest_box);
+    volume_packing_has_one_result::<u32, u32, u32, _, _, _, _>(
+        &volume_heuristic,
+        &contains_smallest_box,
+        &volume_heuristic,
+        &contains_smallest_box,
+    );
 }

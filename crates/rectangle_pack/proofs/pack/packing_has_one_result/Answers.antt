@@ -1,10 +1,15 @@
 use Rattle.std.proofs.Common.{refl}
+use Rattle.rectangle_pack.specs.Closures.{answers}
+use Rattle.rectangle_pack.specs.Packing.{rules_by}
+use Rattle.rectangle_pack.specs.Results.{either_of}
+use Rattle.rectangle_pack.proofs.EitherLemmas.{HaveOneResult-either}
 use Rattle.rectangle_pack.proofs.GroupOrderLemmas.{groups_total}
 use Rattle.rectangle_pack.proofs.OnePackingLemmas.{one_result}
 use Rattle.rectangle_pack.proofs.pack.packing_has_one_result.Goals as goal
 
 pub returns : goal.returns
-returns g c =
-    one_result _ _
+returns g c = λ all others bins other_bins alike bins_alike decide.
+    HaveOneResult-either _ g.Id.Ord.cmp g.BinId.Ord.cmp _ _ all others bins other_bins
+    (one_result _ (rules_by g.Id.Ord.cmp g.BinId.Ord.cmp _)
     (groups_total _ g.Id.Ord.cmp g.GroupId.Ord.cmp g.met.Id.Ord.total g.met.GroupId.Ord.total (λ a b. refl) (λ a b. refl) (λ a b. refl) (λ a b. refl))
-    g.met.Id.Ord.total g.met.BinId.Ord.total
+    g.met.Id.Ord.total g.met.BinId.Ord.total all others bins other_bins alike bins_alike decide)

@@ -1,15 +1,18 @@
 use Rattle.std.proofs.Common.{refl}
 use Rattle.std.specs.Map.{values_of}
-use Rattle.rectangle_pack.specs.Boxes.{volume_of}
+use Rattle.rectangle_pack.specs.Packing.{rules_by}
+use Rattle.rectangle_pack.proofs.EitherLemmas.{HaveOneResult-either, volumes_decide}
 use Rattle.rectangle_pack.proofs.GroupOrderLemmas.{groups_total}
 use Rattle.rectangle_pack.proofs.OnePackingLemmas.{one_result}
-use Rattle.rectangle_pack.proofs.SmallestBoxLemmas.{smallest_is_preorder, total_decides}
 use Rattle.rectangle_pack.proofs.pack.volume_packing_has_one_result.Goals as goal
 
 pub returns : goal.returns
-returns g c = λ all other_all bins other_bins alike bins_alike.
-    one_result _ _
+returns g c = λ all others bins other_bins alike bins_alike.
+    HaveOneResult-either _ g.Id.Ord.cmp g.BinId.Ord.cmp _ _ all others bins other_bins
+    (one_result _ (rules_by g.Id.Ord.cmp g.BinId.Ord.cmp _)
     (groups_total _ g.Id.Ord.cmp g.GroupId.Ord.cmp g.met.Id.Ord.total g.met.GroupId.Ord.total (λ a b. refl) (λ a b. refl) (λ a b. refl) (λ a b. refl))
-    g.met.Id.Ord.total g.met.BinId.Ord.total all other_all bins other_bins alike bins_alike
-    (total_decides (values_of all.sizes) (values_of bins) _ (record { rate = volume_of; only = c.requires.volume })
-    (smallest_is_preorder _ volume_of (λ size rate u says. c.requires.volume size rate (record { small = u; says = says })) _ (λ a b r says. (says.first_three.small, says.second_three.small)) c.requires.smallest))
+    g.met.Id.Ord.total g.met.BinId.Ord.total all others bins other_bins alike bins_alike
+    (volumes_decide _ _ _ _ c.requires.volume c.requires.other_volume
+    (λ size rate u says. c.requires.volume size rate (record { small = u; says = says })) (λ size rate u says. c.requires.other_volume size rate (record { small = u; says = says }))
+    (λ a b r says. (says.first_three.small, says.second_three.small)) (λ a b r says. (says.first_three.small, says.second_three.small))
+    c.requires.smallest c.requires.other_smallest (values_of all.sizes) (values_of bins)))

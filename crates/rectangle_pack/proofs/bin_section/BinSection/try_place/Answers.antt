@@ -1,6 +1,6 @@
 use Rattle.std.proofs.Common.{arith, rules, ◌≡◌, ◌<◌, [], length, add-one, refl, sym, ◌∙◌, get_or}
 use Rattle.std.proofs.Math.Seq.{take-suc}
-use Rattle.rectangle_pack.specs.Closures.{AreThree}
+use Rattle.rectangle_pack.specs.Closures.{AreThreeSizes}
 use Rattle.rectangle_pack.specs.Cuts.{placed, cuts, sizes_of}
 use Rattle.rectangle_pack.proofs.PassLemmas.{pass_start, pass_keeps, pass_moves, not_greater, is_greater}
 use Rattle.rectangle_pack.proofs.CutsLemmas.{chosen_tiles, length-cuts, take_cuts, nth_three, taken_three}
@@ -18,8 +18,8 @@ loop-next-preserved g c =
     let in_range : c.loop-next.next < length c.cuts-cuts.result = rw c.cuts-cuts.ensures (omega (arith, length-cuts c.args.self.now c.args.incoming.now)) in
     let s = c.args.self.now in
     let m = c.args.incoming.now in
-    let best : AreThree (sizes_of c.loop-next.best) = taken_three s m c.loop-next.next c.loop-next.invariant.before c.loop-next.invariant.after c.loop-next.best c.requires.ends c.in_ok-check_fit.ensures (rw c.cuts-cuts.ensures at c.loop-next.invariant.listed) in
-    let next : AreThree (sizes_of (get_or c.cuts-cuts.result c.loop-next.next [])) = rw c.cuts-cuts.ensures (nth_three s m c.loop-next.next c.requires.ends c.in_ok-check_fit.ensures (omega arith)) in
+    let best : AreThreeSizes (sizes_of c.loop-next.best) = taken_three s m c.loop-next.next c.loop-next.invariant.before c.loop-next.invariant.after c.loop-next.best c.requires.ends c.in_ok-check_fit.ensures (rw c.cuts-cuts.ensures at c.loop-next.invariant.listed) in
+    let next : AreThreeSizes (sizes_of (get_or c.cuts-cuts.result c.loop-next.next [])) = rw c.cuts-cuts.ensures (nth_three s m c.loop-next.next c.requires.ends c.in_ok-check_fit.ensures (omega arith)) in
     let said = c.container_comparison_fn-order.ensures in
     let r = c.container_comparison_fn-order.result in
     elim c.if-ne.branch [
@@ -57,6 +57,6 @@ pub container_comparison_fn-order-requires : goal.container_comparison_fn-order-
 container_comparison_fn-order-requires g c =
     let s = c.args.self.now in
     let m = c.args.incoming.now in
-    let best : AreThree (sizes_of c.loop-next.best) = taken_three s m c.loop-next.next c.loop-next.invariant.before c.loop-next.invariant.after c.loop-next.best c.requires.ends c.in_ok-check_fit.ensures (rw c.cuts-cuts.ensures at c.loop-next.invariant.listed) in
-    let next : AreThree (sizes_of (get_or c.cuts-cuts.result c.loop-next.next [])) = rw c.cuts-cuts.ensures (nth_three s m c.loop-next.next c.requires.ends c.in_ok-check_fit.ensures (omega arith)) in
+    let best : AreThreeSizes (sizes_of c.loop-next.best) = taken_three s m c.loop-next.next c.loop-next.invariant.before c.loop-next.invariant.after c.loop-next.best c.requires.ends c.in_ok-check_fit.ensures (rw c.cuts-cuts.ensures at c.loop-next.invariant.listed) in
+    let next : AreThreeSizes (sizes_of (get_or c.cuts-cuts.result c.loop-next.next [])) = rw c.cuts-cuts.ensures (nth_three s m c.loop-next.next c.requires.ends c.in_ok-check_fit.ensures (omega arith)) in
     c.requires.comparable _ _ _ (rw c.sizes.ensures best) (rw c.sizes-in-loop-next.ensures next) refl
