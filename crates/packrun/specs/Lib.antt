@@ -1,2 +1,3 @@
+pub mod Commands
 pub mod Statuses
 pub mod Words

@@ -1,5 +1,6 @@
 //! What a line says.
-ghost use Rattle.std.specs.Prelude.{◌≡◌, ◌^◌, MatchOption};
+ghost use Rattle.std.specs.Prelude.{◌≡◌, ◌^◌, IfSome, MatchOption};
+ghost use Rattle.packrun.specs.Commands.{NamesTwo};
 ghost use Rattle.packrun.specs.Words.{IsNumberBelow, number_of};
 
 use std::str;
@@ -29,12 +30,19 @@ pub enum Command<'a> {
         size: Size,
         groups: SplitAsciiWhitespace<'a>,
     },
+    /// Two groups that may not share a bin. Their names differ.
+    Exclude {
+        one: &'a str,
+        other: &'a str,
+    },
     /// Places the boxes.
     Pack,
 }
 
 /// What the line says, or `None` where it is bad.
-pub fn parse(line: &[u8]) -> Option<Command<'_>> {
+pub fn parse(line: &[u8]) -> Option<Command<'_>>
+    ensures { IfSome result NamesTwo }
+{
     if !line.iter().all(|byte| may_stand(*byte)) {
         return None;
     }
@@ -51,6 +59,13 @@ pub fn parse(line: &[u8]) -> Option<Command<'_>> {
                 size: next_size(&mut words)?,
                 groups: words,
             });
+        }
+        Some("exclude") => {
+            let (one, other) = (words.next()?, words.next()?);
+            if one == other {
+                return None;
+            }
+            Command::Exclude { one, other }
         }
         Some("pack") => Command::Pack,
         Some(_) => return None,

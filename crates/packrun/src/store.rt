@@ -1,9 +1,12 @@
 //! The bins, and the boxes to place, that lines speak of.
 
+ghost use Rattle.std.specs.Prelude.{◌≢◌};
+ghost use Rattle.packrun.specs.Commands.{NamesTwo};
+
 use crate::command::{Command, Size};
 use crate::stop::Stop;
 use rectangle_pack::{
-    GroupedRectsToPlace, Placement, RectToInsert, RectanglePackError, TargetBin,
+    Group, GroupedRectsToPlace, Placement, RectToInsert, RectanglePackError, TargetBin,
     contains_smallest_box, pack_rects, volume_heuristic,
 };
 use std::alloc::Allocator;
@@ -32,11 +35,14 @@ impl<A: Allocator + Copy> Store<A> {
     }
 
     /// Does what the command says and prints the lines of its answer.
-    pub fn obey<W: Write>(&mut self, command: Command<'_>, out: &mut W) -> Result<(), Stop> {
+    pub fn obey<W: Write>(&mut self, command: Command<'_>, out: &mut W) -> Result<(), Stop>
+        requires { NamesTwo command }
+    {
         match command {
             Command::Nothing => Ok(()),
             Command::Bin { name, size } => self.add_bin(name, size, out),
             Command::Rect { id, size, groups } => self.push_rect(id, size, groups, out),
+            Command::Exclude { one, other } => self.exclude(one, other, out),
             Command::Pack => self.pack(out),
         }
     }
@@ -67,6 +73,16 @@ impl<A: Allocator + Copy> Store<A> {
         let id = String::from_str(self.alloc, id)?;
         let rect = RectToInsert::new(size.width, size.height, size.depth);
         self.rects.push_rect(id, named, rect)?;
+        writeln!(out, "ok")?;
+        Ok(())
+    }
+
+    fn exclude<W: Write>(&mut self, one: &str, other: &str, out: &mut W) -> Result<(), Stop>
+        requires { one.now ≢ other.now }
+    {
+        let one = Group::Grouped(String::from_str(self.alloc, one)?);
+        let other = Group::Grouped(String::from_str(self.alloc, other)?);
+        self.rects.exclude(one, other)?;
         writeln!(out, "ok")?;
         Ok(())
     }
