@@ -4,6 +4,7 @@ mod cases;
 mod closures;
 mod cuts;
 mod example;
+mod exclusions;
 mod failures;
 mod groups;
 mod memory;

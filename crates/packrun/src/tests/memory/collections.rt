@@ -145,3 +145,34 @@ fn pushes_of_an_old_id(rt: HostRuntime) -> Result<(), Fail> {
         &sizes,
     )
 }
+
+// Refused, `exclude` changes neither the boxes nor the pairs.
+#[test]
+fn exclusions(rt: HostRuntime) -> Result<(), Fail> {
+    refuses_each(&rt, rt.alloc(), |refusing| {
+        let (Ok(mut all), Ok(old), Ok(other)) = (
+            collection(refusing, true),
+            String::from_str(refusing, "old"),
+            String::from_str(refusing, "old"),
+        ) else {
+            return Ok(End::Before);
+        };
+        if all.exclude(Group::Grouped(0), Group::Grouped(1)).is_err() {
+            return Ok(End::Before);
+        }
+        let refused = all
+            .exclude(Group::Grouped(0), Group::Ungrouped(old))
+            .is_err();
+        let old = Group::Ungrouped(other);
+        assert!(rt; has(&all, OLD_GROUPS, OLD_SIZES), "{all:?}");
+        assert!(rt; all.excluded(&Group::Grouped(1), &Group::Grouped(0)));
+        assert_eq!(rt; all.excluded(&Group::Grouped(0), &old), !refused);
+        assert_eq!(rt; all.excluded(&old, &Group::Grouped(0)), !refused);
+        assert!(rt; !all.excluded(&old, &Group::Grouped(1)));
+        if refused {
+            Ok(End::Refused)
+        } else {
+            Ok(End::Done)
+        }
+    })
+}

@@ -3,8 +3,8 @@
 use crate::refusing::Refusing;
 use crate::tests::shapes::{has_list, section};
 use rectangle_pack::{
-    FitTests, GroupedRectsToPlace, RectToInsert, TargetBin, contains_smallest_box, pack_rects,
-    volume_heuristic,
+    FitTests, Group, GroupedRectsToPlace, RectToInsert, TargetBin, contains_smallest_box,
+    pack_rects, pack_rects_counted, volume_heuristic,
 };
 use std::alloc::{AllocError, Allocator, Global};
 use std::collections::BTreeMap;
@@ -34,6 +34,40 @@ fn collections_and_packings_of_nothing(rt: HostRuntime) -> Result<(), Fail> {
     )?;
     assert!(rt; packed.placements().is_empty());
     assert!(rt; packed.packed_locations().is_empty());
+    let mut tests = FitTests::new();
+    let packed = pack_rects_counted(
+        &refusing,
+        &rects,
+        &mut bins,
+        &volume_heuristic,
+        &contains_smallest_box,
+        &mut tests,
+    )?;
+    assert!(rt; packed.placements().is_empty());
+    assert_eq!(rt; tests.count(), 0);
+    assert!(rt; !rects.excluded(&Group::Grouped(0), &Group::Ungrouped(0)));
+    Ok(())
+}
+
+// The first allocator that grants enough for the pair refuses all that comes after it.
+#[test]
+fn pairs_that_are_there(rt: HostRuntime) -> Result<(), Fail> {
+    for granted in 0..20u64 {
+        let refusing = Refusing::new(rt.alloc(), granted);
+        let mut rects: GroupedRectsToPlace<u32, u32, &Refusing<Global>> = GroupedRectsToPlace::new(
+            &refusing,
+        );
+        if rects.exclude(Group::Grouped(0), Group::Grouped(1)).is_ok() {
+            assert_eq!(rt; refusing.left(), 0);
+            assert!(rt; rects.excluded(&Group::Grouped(0), &Group::Grouped(1)));
+            assert!(rt; rects.excluded(&Group::Grouped(1), &Group::Grouped(0)));
+            assert!(rt; !rects.excluded(&Group::Grouped(0), &Group::Ungrouped(1)));
+            rects.exclude(Group::Grouped(1), Group::Grouped(0))?;
+            rects.exclude(Group::Grouped(0), Group::Grouped(1))?;
+            return Ok(());
+        }
+    }
+    assert!(rt; false);
     Ok(())
 }
 

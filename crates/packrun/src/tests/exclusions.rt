@@ -1,0 +1,252 @@
+//! Groups that are excluded, and the fit tests of whole packings.
+
+use super::cases::{Bins, Case, Rects, bins_of, have_lists, pack_by_volume, rects_of, shows};
+use super::says;
+use crate::outcome::Outcome;
+use rectangle_pack::{
+    FitTests, Group, RectanglePackError, contains_smallest_box, pack_rects_counted,
+    volume_heuristic,
+};
+use std::alloc::{AllocError, Allocator, Global};
+use std::process::Abort;
+use std::test::Fail;
+
+/// A named group, or the box of this id alone.
+pub type Name = Group<&'static str, &'static str>;
+
+const BIN: [u32; 3] = [10, 10, 1];
+
+const BOX: [u32; 3] = [4, 4, 1];
+
+const FIRST: [u32; 6] = [0, 0, 0, 4, 4, 1];
+
+const SECOND: [u32; 6] = [4, 0, 0, 4, 4, 1];
+
+const AFTER_ONE: &[[u32; 6]] = &[[0, 4, 0, 10, 6, 1], [4, 0, 0, 6, 4, 1]];
+
+const AFTER_TWO: &[[u32; 6]] = &[[0, 4, 0, 10, 6, 1], [8, 0, 0, 2, 4, 1]];
+
+/// Two groups of one box each, and two bins; the groups are excluded.
+pub const TWO_BINS: Case = Case {
+    bins: &[("P", BIN), ("Q", BIN)],
+    boxes: &[("p", BOX, &["A"]), ("q", BOX, &["B"])],
+    placements: Some(&[("p", "P", FIRST), ("q", "Q", FIRST)]),
+    lists: &[AFTER_ONE, AFTER_ONE],
+};
+
+/// The same groups and one bin.
+pub const ONE_BIN: Case = Case {
+    bins: &[("P", BIN)],
+    boxes: &[("p", BOX, &["A"]), ("q", BOX, &["B"])],
+    placements: None,
+    lists: &[AFTER_ONE],
+};
+
+/// The groups of most of these packings.
+pub const A: Name = Group::Grouped("A");
+
+pub const B: Name = Group::Grouped("B");
+
+/// Excludes the groups of each pair, which differ.
+pub fn exclude_all<M: Allocator + Copy>(
+    rects: &mut Rects<M>,
+    pairs: &[(Name, Name)],
+) -> Result<(), AllocError> {
+    for (one, other) in pairs {
+        let (one, other) = (one.clone()?, other.clone()?);
+        if one.cmp(&other).is_ne() {
+            rects.exclude(one, other)?;
+        }
+    }
+    Ok(())
+}
+
+// The case, with these pairs excluded, adds so many fit tests to a counter.
+fn counts(
+    rt: &impl Abort,
+    alloc: Global,
+    case: &Case,
+    pairs: &[(Name, Name)],
+    tests: &mut FitTests,
+) -> Result<(), Fail> {
+    let mut bins: Bins<Global> = bins_of(alloc, case)?;
+    let mut rects: Rects<Global> = rects_of(alloc, case)?;
+    exclude_all(&mut rects, pairs)?;
+    let answer = pack_rects_counted(
+        alloc,
+        &rects,
+        &mut bins,
+        &volume_heuristic,
+        &contains_smallest_box,
+        tests,
+    );
+    match (answer, case.placements) {
+        (Ok(packed), Some(wanted)) => shows(rt, &packed, wanted)?,
+        (Err(error), None) => assert_eq!(rt; error, RectanglePackError::NotEnoughBinSpace),
+        (answer, _) => assert!(rt; false, "{answer:?}"),
+    }
+    assert!(rt; have_lists(&bins, case), "{bins:?}");
+    Ok(())
+}
+
+// Without the pair both groups go into one bin.
+#[test]
+fn groups_that_are_not_excluded(rt: HostRuntime) -> Result<(), Fail> {
+    let case = Case {
+        placements: Some(&[("p", "P", FIRST), ("q", "P", SECOND)]),
+        lists: &[AFTER_TWO, &[[0, 0, 0, 10, 10, 1]]],
+        ..TWO_BINS
+    };
+    pack_by_volume(&rt, rt.alloc(), &[case])
+}
+
+// Each packing adds its tests to those of the ones before; without groups none is added.
+#[test]
+fn counted_packings(rt: HostRuntime) -> Result<(), Fail> {
+    let alloc = rt.alloc();
+    let mut tests = FitTests::new();
+    let three_boxes = Case {
+        bins: &[("bin", [100, 100, 1])],
+        boxes: &[
+            ("One", [60, 95, 1], &[]),
+            ("Two", [40, 10, 1], &[]),
+            ("Three", [1, 1, 1], &[]),
+        ],
+        placements: Some(&[
+            ("One", "bin", [0, 0, 0, 60, 95, 1]),
+            ("Two", "bin", [60, 0, 0, 40, 10, 1]),
+            ("Three", "bin", [60, 10, 0, 1, 1, 1]),
+        ]),
+        lists: &[&[
+            [0, 95, 0, 60, 5, 1],
+            [60, 11, 0, 40, 89, 1],
+            [61, 10, 0, 39, 1, 1],
+        ]],
+    };
+    counts(&rt, alloc, &three_boxes, &[], &mut tests)?;
+    assert_eq!(rt; tests.count(), 4);
+    let full_and_empty = Case {
+        bins: &[("Three", [20, 20, 1]), ("Four", [50, 50, 1])],
+        boxes: &[("One", [15, 15, 1], &[]), ("Two", [20, 20, 1], &[])],
+        placements: Some(&[
+            ("Two", "Three", [0, 0, 0, 20, 20, 1]),
+            ("One", "Four", [0, 0, 0, 15, 15, 1]),
+        ]),
+        lists: &[&[], &[[0, 15, 0, 50, 35, 1], [15, 0, 0, 35, 15, 1]]],
+    };
+    counts(&rt, alloc, &full_and_empty, &[], &mut tests)?;
+    assert_eq!(rt; tests.count(), 4 + 2);
+    counts(&rt, alloc, &TWO_BINS, &[(A, B)], &mut tests)?;
+    assert_eq!(rt; tests.count(), 4 + 2 + 2);
+    counts(&rt, alloc, &ONE_BIN, &[(A, B)], &mut tests)?;
+    assert_eq!(rt; tests.count(), 4 + 2 + 2 + 1);
+    let nothing = Case {
+        boxes: &[],
+        placements: Some(&[]),
+        lists: &[&[[0, 0, 0, 10, 10, 1]]],
+        ..ONE_BIN
+    };
+    counts(&rt, alloc, &nothing, &[(A, B)], &mut tests)?;
+    assert_eq!(rt; tests.count(), 4 + 2 + 2 + 1);
+    Ok(())
+}
+
+#[test]
+fn packings_with_exclusions(rt: HostRuntime) -> Result<(), Fail> {
+    let alloc = rt.alloc();
+    let mut tests = FitTests::new();
+    // The third group goes where the first did, with which it is not excluded.
+    let chain = Case {
+        boxes: &[("a", BOX, &["A"]), ("b", BOX, &["B"]), ("c", BOX, &["C"])],
+        placements: Some(&[("a", "P", FIRST), ("b", "Q", FIRST), ("c", "P", SECOND)]),
+        lists: &[AFTER_TWO, AFTER_ONE],
+        ..TWO_BINS
+    };
+    let pairs = [(A, B), (B, Group::Grouped("C"))];
+    counts(&rt, alloc, &chain, &pairs, &mut tests)?;
+    let in_both = Case {
+        boxes: &[("One", BOX, &["A", "B"])],
+        placements: Some(&[("One", "P", FIRST), ("One", "Q", FIRST)]),
+        ..TWO_BINS
+    };
+    counts(&rt, alloc, &in_both, &[(A, B)], &mut tests)?;
+    let alone = Case {
+        boxes: &[("One", BOX, &[]), ("a", BOX, &["A"])],
+        ..ONE_BIN
+    };
+    let pairs = [(Group::Ungrouped("One"), A)];
+    counts(&rt, alloc, &alone, &pairs, &mut tests)?;
+    let without_boxes = Case {
+        boxes: &[("a", BOX, &["A"])],
+        placements: Some(&[("a", "P", FIRST)]),
+        ..ONE_BIN
+    };
+    let pairs = [(A, Group::Grouped("Z"))];
+    counts(&rt, alloc, &without_boxes, &pairs, &mut tests)
+}
+
+#[test]
+fn pairs(rt: HostRuntime) -> Result<(), Fail> {
+    let mut rects = Rects::new(rt.alloc());
+    let (c, alone) = (Group::Grouped("C"), Group::Ungrouped("A"));
+    exclude_all(
+        &mut rects,
+        &[(A, B), (B, A), (A, B), (alone.clone()?, c.clone()?)],
+    )?;
+    for (one, other, excluded) in [
+        (A, B, true),
+        (B, A, true),
+        (alone.clone()?, c.clone()?, true),
+        (c.clone()?, alone.clone()?, true),
+        (A, c, false),
+        (alone, B, false),
+        (A, A, false),
+    ] {
+        assert_eq!(rt; rects.excluded(&one, &other), excluded, "{one:?} {other:?}");
+    }
+    assert!(rt; rects.groups().is_empty());
+    Ok(())
+}
+
+#[test]
+fn lines(rt: HostRuntime) -> Result<(), Fail> {
+    says(
+        &rt,
+        rt.alloc(),
+        b"bin P 10 10 1\nbin Q 10 10 1\nrect p 4 4 1 A\nrect q 4 4 1 B\nexclude A B\npack\n",
+        "ok\nok\nok\nok\nok\n0 p P 0 0 0 4 4 1\n1 q Q 0 0 0 4 4 1\npacked 2\n",
+        Outcome::Done,
+    )
+}
+
+// The pairs stay with a collection that is kept.
+#[test]
+fn kept_pairs(rt: HostRuntime) -> Result<(), Fail> {
+    says(
+        &rt,
+        rt.alloc(),
+        b"bin P 10 10 1\nexclude A B\nrect q 4 4 1 B\nrect p 4 4 1 A\npack\nbin Q 10 10 1\npack\n",
+        "ok\nok\nok\nok\nrefused: Not enough space to place all of the rectangles.\nok\n0 p P 4 0 0 4 4 1\n1 q Q 0 0 0 4 4 1\npacked 2\n",
+        Outcome::Done,
+    )
+}
+
+// No bin stays barred after its packing, and the collection after it has no pairs.
+#[test]
+fn pairs_of_one_packing(rt: HostRuntime) -> Result<(), Fail> {
+    let alloc = rt.alloc();
+    says(
+        &rt,
+        alloc,
+        b"bin P 10 10 1\nrect a 4 4 1 A\nexclude A B\npack\nrect b 4 4 1 B\nexclude B A\npack\n",
+        "ok\nok\nok\n0 a P 0 0 0 4 4 1\npacked 1\nok\nok\n1 b P 4 0 0 4 4 1\npacked 1\n",
+        Outcome::Done,
+    )?;
+    says(
+        &rt,
+        alloc,
+        b"bin P 10 10 1\nexclude A B\npack\nrect p 4 4 1 A\nrect q 4 4 1 B\npack\n",
+        "ok\nok\npacked 0\nok\nok\n0 p P 0 0 0 4 4 1\n1 q P 4 0 0 4 4 1\npacked 2\n",
+        Outcome::Done,
+    )
+}
