@@ -260,15 +260,17 @@ module _ {Id K B : Type 0} (group_cmp : K → K → Ordering) (rules : Rules Id 
       placed_apart order gs (record { bins = next; homes = (g.0, placed.here) ∷ old.homes }) rest new others later (AllPairs-cons Apart (g.0, placed.here) old.homes each was)
 
 module _ {Id B G : Type 0} (group_cmp : Group G Id → Group G Id → Ordering) (rules : Rules Id B) (all : Collection Id G) (none : (a b : Group G Id) → are_excluded group_cmp all.partners a b ≡ false) where
-  pub done_without : (old new : List (B × Bin)) (placements : List (Placement Id B)) → PackingDone group_cmp rules all old placements new ↔ PackingDoneBy group_cmp rules bars_none all old placements new
-  done_without old new placements =
-      let P : (List (Group G Id × B) → Group G Id → B → Bool) → Type 0 = λ (bars : List (Group G Id × B) → Group G Id → B → Bool). PackingDoneBy group_cmp rules bars all old placements new in
+  pub done_without : (old new : List (B × Bin)) (placements : List (Placement Id B)) (n : ℕ)
+      → ((done : PackingDone group_cmp rules all old placements new) × (done.tests ≡ n)) ↔ ((done : PackingDoneBy group_cmp rules bars_none all old placements new) × (done.tests ≡ n))
+  done_without old new placements n =
+      let P : (List (Group G Id × B) → Group G Id → B → Bool) → Type 0 = λ (bars : List (Group G Id × B) → Group G Id → B → Bool). (done : PackingDoneBy group_cmp rules bars all old placements new) × (done.tests ≡ n) in
       let e = bars-without group_cmp rules.bin_cmp all.partners none in
       (subst P e, subst P (sym e))
 
-  pub refused_without : (old new : List (B × Bin)) → PackingRefused group_cmp rules all old new ↔ PackingRefusedBy group_cmp rules bars_none all old new
-  refused_without old new =
-      let P : (List (Group G Id × B) → Group G Id → B → Bool) → Type 0 = λ (bars : List (Group G Id × B) → Group G Id → B → Bool). PackingRefusedBy group_cmp rules bars all old new in
+  pub refused_without : (old new : List (B × Bin)) (n : ℕ)
+      → ((refused : PackingRefused group_cmp rules all old new) × (refused.tests ≡ n)) ↔ ((refused : PackingRefusedBy group_cmp rules bars_none all old new) × (refused.tests ≡ n))
+  refused_without old new n =
+      let P : (List (Group G Id × B) → Group G Id → B → Bool) → Type 0 = λ (bars : List (Group G Id × B) → Group G Id → B → Bool). (refused : PackingRefusedBy group_cmp rules bars all old new) × (refused.tests ≡ n) in
       let e = bars-without group_cmp rules.bin_cmp all.partners none in
       (subst P e, subst P (sym e))
 

@@ -19,7 +19,7 @@ use Rattle.rectangle_pack.specs.Boxes.{Size, Cuboid}
 use Rattle.rectangle_pack.specs.Bins.{Bin, Held}
 use Rattle.rectangle_pack.specs.Steps.{IsStep, IsDone, IsStuck}
 use Rattle.rectangle_pack.specs.Closures.{Answers}
-use Rattle.rectangle_pack.specs.Packing.{Rules, bins_of, Members, Stage, at_start, bars_by, IsPassed, IsPlaced, IsRefused, AreGroups, AreAllPlaced, StopsAfter}
+use Rattle.rectangle_pack.specs.Packing.{Rules, bins_of, Members, Stage, at_start, bars_by, DoesNotTake, IsPlaced, IsRefused, AreGroups, AreAllPlaced, StopsAfter}
 use Rattle.std.proofs.lemmas.List.Sorted.{sum_by-IsPermutation, IsPermutation-map, length_permutation}
 use Rattle.std.proofs.lemmas.Map.Keys.{IsDistinct-cons, IsDistinct-IsPermutation}
 use Rattle.rectangle_pack.specs.Groups.{Collection}
@@ -103,7 +103,7 @@ fewer-entries {K} f order i =
     omega (arith, ap (sum_by f) split, sum_by-append f (keys_of_order (take i order)) (keys_of_order (drop i order)))
 
 module _ {Id B : Type 0} (rules : Rules Id B) (o : IsTotalOrder rules.bin_cmp) where
-  passed-le : (barred : B → Bool) (g : Members Id) (bins : List (B × Bin)) (id : B) (n : ℕ) → IsPassed rules barred bins g id n
+  passed-le : (barred : B → Bool) (g : Members Id) (bins : List (B × Bin)) (id : B) (n : ℕ) → DoesNotTake rules barred bins g id n
       → n + length g.sizes ≤ length g.sizes * free_in rules.bin_cmp bins id + length g.sizes * length g.sizes
   passed-le barred g bins id n h = at (barred id) (lookup (is_at (rules.bin_cmp id)) bins) h
     where
@@ -113,7 +113,7 @@ module _ {Id B : Type 0} (rules : Rules Id B) (o : IsTotalOrder rules.bin_cmp) w
       at false None h = absurd h
       at false (Some bin) h = stuck-le rules.may bin.sections g.sizes n h
 
-  all-passed-le : (barred : B → Bool) (g : Members Id) (bins : List (B × Bin)) (order : List B) (counts : List ℕ) → AllZip (IsPassed rules barred bins g) order counts
+  all-passed-le : (barred : B → Bool) (g : Members Id) (bins : List (B × Bin)) (order : List B) (counts : List ℕ) → AllZip (DoesNotTake rules barred bins g) order counts
       → sum counts + length order * length g.sizes ≤ length g.sizes * free_of rules.bin_cmp bins order + length order * (length g.sizes * length g.sizes)
   all-passed-le barred g bins [] [] h = omega arith
   all-passed-le barred g bins [] (n ∷ counts) h = absurd h
@@ -131,7 +131,7 @@ module _ {Id B : Type 0} (rules : Rules Id B) (o : IsTotalOrder rules.bin_cmp) w
   free-append bins xs ys = sum_by-append (free_in rules.bin_cmp bins) xs ys
 
   -- a group that was tried in a beginning of an order
-  pub begun-le : (barred : B → Bool) (order before later : List B) (g : Members Id) (bins : List (B × Bin)) (counts : List ℕ) → order ≡ before ++ later → AllZip (IsPassed rules barred bins g) before counts
+  pub begun-le : (barred : B → Bool) (order before later : List B) (g : Members Id) (bins : List (B × Bin)) (counts : List ℕ) → order ≡ before ++ later → AllZip (DoesNotTake rules barred bins g) before counts
       → AreWithin rules.bin_cmp bins order (length g.sizes) (sum counts)
   begun-le barred order before later g bins counts splits passed =
       let m = length g.sizes in
@@ -145,7 +145,7 @@ module _ {Id B : Type 0} (rules : Rules Id B) (o : IsTotalOrder rules.bin_cmp) w
 
   -- and whose trial is done in the bin after it
   pub tried-le : (barred : B → Bool) (order before : List B) (here : B) (after : List B) (g : Members Id) (bins : List (B × Bin)) (counts : List ℕ) (bin : Bin) (ls last : List Cuboid) (count : ℕ) → order ≡ before ++ here ∷ after
-      → AllZip (IsPassed rules barred bins g) before counts → lookup (is_at (rules.bin_cmp here)) bins ≡ Some bin → IsDone rules.may bin.sections g.sizes ls last count
+      → AllZip (DoesNotTake rules barred bins g) before counts → lookup (is_at (rules.bin_cmp here)) bins ≡ Some bin → IsDone rules.may bin.sections g.sizes ls last count
       → AreWithin rules.bin_cmp bins order (length g.sizes) (sum counts + count)
   tried-le barred order before here after g bins counts bin ls last count splits passed found done =
       let m = length g.sizes in
@@ -161,7 +161,7 @@ module _ {Id B : Type 0} (rules : Rules Id B) (o : IsTotalOrder rules.bin_cmp) w
       by m b a fb fa l c d p q = omega (arith, p, q, mul-le-mul_left a (square m))
 
   -- the same of an order with keys, at an index, with the tests counted
-  pub adds-begun : (barred : B → Bool) (order : List (ℕ × B)) (i : ℕ) (g : Members Id) (bins : List (B × Bin)) (counts : List ℕ) (before after : ℕ) → AllZip (IsPassed rules barred bins g) (map (λ (x : ℕ × B). x.1) (take i order)) counts
+  pub adds-begun : (barred : B → Bool) (order : List (ℕ × B)) (i : ℕ) (g : Members Id) (bins : List (B × Bin)) (counts : List ℕ) (before after : ℕ) → AllZip (DoesNotTake rules barred bins g) (map (λ (x : ℕ × B). x.1) (take i order)) counts
       → after ≡ saturated (before + sum counts) → AddsWithin rules.bin_cmp bins (map (λ (x : ℕ × B). x.1) order) (length g.sizes) before after
   adds-begun barred order i g bins counts before after passed added =
       let name : ℕ × B → B = λ (x : ℕ × B). x.1 in
@@ -169,7 +169,7 @@ module _ {Id B : Type 0} (rules : Rules Id B) (o : IsTotalOrder rules.bin_cmp) w
       record { tests = sum counts; within = begun-le barred (map name order) (map name (take i order)) (map name (drop i order)) g bins counts split passed; added = added }
 
   pub adds-tried : (barred : B → Bool) (order : List (ℕ × B)) (i : ℕ) (x : ℕ × B) (g : Members Id) (bins : List (B × Bin)) (counts : List ℕ) (bin : Bin) (ls last : List Cuboid) (count before after : ℕ) → i < length order → x ≡ get_or order i x
-      → AllZip (IsPassed rules barred bins g) (map (λ (x : ℕ × B). x.1) (take i order)) counts → lookup (is_at (rules.bin_cmp x.1)) bins ≡ Some bin → IsDone rules.may bin.sections g.sizes ls last count
+      → AllZip (DoesNotTake rules barred bins g) (map (λ (x : ℕ × B). x.1) (take i order)) counts → lookup (is_at (rules.bin_cmp x.1)) bins ≡ Some bin → IsDone rules.may bin.sections g.sizes ls last count
       → after ≡ saturated (before + (sum counts + count)) → AddsWithin rules.bin_cmp bins (map (λ (x : ℕ × B). x.1) order) (length g.sizes) before after
   adds-tried barred order i x g bins counts bin ls last count before after within is passed found done added =
       let name : ℕ × B → B = λ (x : ℕ × B). x.1 in

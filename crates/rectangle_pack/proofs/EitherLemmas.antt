@@ -17,7 +17,7 @@ use Rattle.rectangle_pack.specs.Cuts.{cuts, sizes_of}
 use Rattle.rectangle_pack.specs.Groups.{Collection}
 use Rattle.rectangle_pack.specs.Orders.{IsGroupKey, IsGroupOrder, IsBinOrder}
 use Rattle.rectangle_pack.specs.Steps.{AreLeft, IsStep, IsDone, IsStuck}
-use Rattle.rectangle_pack.specs.Packing.{Rules, rules_by, Members, Stage, at_start, bars_by, IsStuckIn, IsPassed, IsPlaced, IsRefused, AreAllPlaced, StopsAfter, PackingDoneBy, PackingRefusedBy}
+use Rattle.rectangle_pack.specs.Packing.{Rules, rules_by, Members, Stage, at_start, bars_by, IsStuckIn, DoesNotTake, IsPlaced, IsRefused, AreAllPlaced, StopsAfter, PackingDoneBy, PackingRefusedBy}
 use Rattle.rectangle_pack.specs.Results.{either_of, ClosuresDecide, HaveOneResult}
 use Rattle.rectangle_pack.specs.SmallestBox.{IsSmallestOrder}
 use Rattle.rectangle_pack.proofs.SmallestBoxLemmas.{smallest_is_preorder, total_decides}
@@ -135,7 +135,7 @@ module _ {Id B : Type 0} (cmp : Id → Id → Ordering) (bin_cmp : B → B → O
       some_weaker (λ (bin : Bin). IsStuck may bin.sections group.sizes n) (λ (bin : Bin). IsStuck more bin.sections group.sizes n)
       (λ bin. stuck_more may more includes bin.sections group.sizes n) (lookup (is_at (bin_cmp id)) bins)
 
-  passed_more : (barred : B → Bool) (bins : List (B × Bin)) (group : Members Id) (id : B) (n : ℕ) → IsPassed Less barred bins group id n → IsPassed More barred bins group id n
+  passed_more : (barred : B → Bool) (bins : List (B × Bin)) (group : Members Id) (id : B) (n : ℕ) → DoesNotTake Less barred bins group id n → DoesNotTake More barred bins group id n
   passed_more barred bins group id n = by (barred id)
     where
       by : (b : Bool) → MatchBool b (n ≡ 0) (IsStuckIn Less bins group id n) → MatchBool b (n ≡ 0) (IsStuckIn More bins group id n)
@@ -150,7 +150,7 @@ module _ {Id B : Type 0} (cmp : Id → Id → Ordering) (bin_cmp : B → B → O
     after = h.after;
     order_is = h.order_is;
     counts = h.counts;
-    passed = AllZip-weaker (IsPassed Less barred old group) (IsPassed More barred old group) (passed_more barred old group) h.before h.counts h.passed;
+    passed = AllZip-weaker (DoesNotTake Less barred old group) (DoesNotTake More barred old group) (passed_more barred old group) h.before h.counts h.passed;
     allowed = h.allowed;
     bin = h.bin;
     found = h.found;
@@ -166,7 +166,7 @@ module _ {Id B : Type 0} (cmp : Id → Id → Ordering) (bin_cmp : B → B → O
   refused_more : (barred : B → Bool) (order : List B) (group : Members Id) (bins : List (B × Bin)) (n : ℕ) → IsRefused Less barred order group bins n → IsRefused More barred order group bins n
   refused_more barred order group bins n h = record {
     counts = h.counts;
-    passed = AllZip-weaker (IsPassed Less barred bins group) (IsPassed More barred bins group) (passed_more barred bins group) order h.counts h.passed;
+    passed = AllZip-weaker (DoesNotTake Less barred bins group) (DoesNotTake More barred bins group) (passed_more barred bins group) order h.counts h.passed;
     tests_are = h.tests_are;
   }
 

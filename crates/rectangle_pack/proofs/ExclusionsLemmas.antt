@@ -18,7 +18,7 @@ use Rattle.std.proofs.lemmas.Map.Views.{All-values_from_lookup, IfSome-lookup_fr
 use Rattle.rectangle_pack.specs.Groups.{lists_of}
 use Rattle.rectangle_pack.specs.private.Lists.{items_of}
 use Rattle.rectangle_pack.specs.Exclusions.{listed_at, is_listed, are_excluded, are_these}
-use Rattle.rectangle_pack.specs.private.Exclusions.{AreSome}
+use Rattle.rectangle_pack.specs.private.Exclusions.{AreNonempty}
 use Rattle.rectangle_pack.proofs.ListsLemmas.{lookup-lists, keys-lists}
 use Rattle.rectangle_pack.proofs.MapsLemmas.{lookup-equal}
 
@@ -170,7 +170,7 @@ module _ {K : Type 0} {cmp : K → K → Ordering} (o : IsTotalOrder cmp) where
       by Greater h = absurd cc
 
   -- no list is empty after an item was appended at a key where the list may have been
-  pub some-from : {A : Type 0} (es : List (K × Vec K A)) → IsStrictlySortedBy cmp (keys_of es) → ((q : K) → IfSome (lookup (is_at (cmp q)) es) (λ v. 0 < length v.items)) → AreSome (lists_of es)
+  pub some-from : {A : Type 0} (es : List (K × Vec K A)) → IsStrictlySortedBy cmp (keys_of es) → ((q : K) → IfSome (lookup (is_at (cmp q)) es) (λ v. 0 < length v.items)) → AreNonempty (lists_of es)
   some-from es ordered each =
       All-values_from_lookup (eq_by_cmp_equiv o) (λ ks. 0 < length ks) (lists_of es)
       (IsDistinct-from_sorted cmp (keys_of (lists_of es)) (subst (IsStrictlySortedBy cmp) (sym (keys-lists es)) ordered))
@@ -186,7 +186,7 @@ module _ {K : Type 0} {cmp : K → K → Ordering} (o : IsTotalOrder cmp) where
       → ((q : K) → is_eq (cmp b q) ≡ false → lookup (is_at (cmp q)) mid ≡ lookup (is_at (cmp q)) made)
       → AppendedAt a item mid one → ((q : K) → is_eq (cmp a q) ≡ false → lookup (is_at (cmp q)) one ≡ lookup (is_at (cmp q)) mid)
       → AppendedAt b a one new → ((q : K) → is_eq (cmp b q) ≡ false → lookup (is_at (cmp q)) new ≡ lookup (is_at (cmp q)) one)
-      → IsStrictlySortedBy cmp (keys_of new) → AreSome (lists_of old) → AreSome (lists_of new)
+      → IsStrictlySortedBy cmp (keys_of new) → AreNonempty (lists_of old) → AreNonempty (lists_of new)
   some-appended {A} a b item old made mid one new first second here1 others1 here2 others2 ordered was = some-from new ordered (λ q. by q (is_eq (cmp b q)) (is_eq (cmp a q)) refl refl)
     where
       P : Option (Vec K A) → Type 0

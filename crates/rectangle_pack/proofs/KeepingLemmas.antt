@@ -18,7 +18,7 @@ use Rattle.rectangle_pack.specs.Bins.{Bin}
 use Rattle.rectangle_pack.specs.Counting.{times_filled}
 use Rattle.rectangle_pack.specs.Keeping.{KeepsEachBin, placed_in}
 use Rattle.rectangle_pack.specs.Orders.{IsBinOrder}
-use Rattle.rectangle_pack.specs.Packing.{Rules, Members, Stage, IsPlaced, IsPassed, IsRefused, AreAllPlaced}
+use Rattle.rectangle_pack.specs.Packing.{Rules, Members, Stage, IsPlaced, DoesNotTake, IsRefused, AreAllPlaced}
 use Rattle.rectangle_pack.specs.Steps.{IsStuck}
 use Rattle.rectangle_pack.proofs.CountingLemmas.{filled-append, filled-nil, KeepCells-from_counts}
 use Rattle.rectangle_pack.proofs.StepsLemmas.{filled-done}
@@ -189,7 +189,7 @@ module _ {Id B : Type 0} (rules : Rules Id B) (o : IsTotalOrder rules.bin_cmp) w
         one_stuck sections tests (inl none) = none.0
         one_stuck sections tests (inr some) = absurd some.5
 
-        in_each : (id : B) (n : ℕ) → IsPassed rules barred new.bins group id n → P id
+        in_each : (id : B) (n : ℕ) → DoesNotTake rules barred new.bins group id n → P id
         in_each id n passed off = by (lookup (is_at (rules.bin_cmp id)) new.bins) (rw off at passed)
           where
             by : (found : Option Bin) → IsSomeAnd found (λ (b : Bin). IsStuck rules.may b.sections group.sizes n) → IfSome found (λ (b : Bin). All (λ s. ¬ Holds s size) b.sections)
@@ -197,7 +197,7 @@ module _ {Id B : Type 0} (rules : Rules Id B) (o : IsTotalOrder rules.bin_cmp) w
             by (Some b) h = one_stuck b.sections n (rw one at h)
 
         each : All P (map (λ (entry : ℕ × B). entry.1) bin_order)
-        each = All-from_zip (IsPassed rules barred new.bins group) P in_each (map (λ (entry : ℕ × B). entry.1) bin_order) refused.counts refused.passed
+        each = All-from_zip (DoesNotTake rules barred new.bins group) P in_each (map (λ (entry : ℕ × B). entry.1) bin_order) refused.counts refused.passed
 
         unsorted : All P (map (λ (entry : ℕ × B). entry.1) by_bins.unsorted)
         unsorted = All-permutation P (map (λ (entry : ℕ × B). entry.1) bin_order) (map (λ (entry : ℕ × B). entry.1) by_bins.unsorted)

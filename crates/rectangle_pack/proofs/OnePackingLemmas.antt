@@ -18,7 +18,7 @@ use Rattle.rectangle_pack.specs.Groups.{Collection}
 use Rattle.rectangle_pack.specs.Orders.{IsGroupOrder, IsBinOrder}
 use Rattle.rectangle_pack.specs.Placed.{AreNamed}
 use Rattle.rectangle_pack.specs.Steps.{IsDone, IsStuck}
-use Rattle.rectangle_pack.specs.Packing.{Rules, Members, Stage, at_start, bars_by, IsStuckIn, IsPassed, IsPlaced, IsRefused, AreAllPlaced, AreGroups, PackingDone, PackingRefused}
+use Rattle.rectangle_pack.specs.Packing.{Rules, Members, Stage, at_start, bars_by, IsStuckIn, DoesNotTake, IsPlaced, IsRefused, AreAllPlaced, AreGroups, PackingDone, PackingRefused}
 use Rattle.rectangle_pack.specs.Results.{MayBeCut, MayBeRated, ClosuresDecide, AreMapsAlike, AreBinsAlike, AreCollectionsAlike, ArePlacementsAlike, HaveOneResult}
 use Rattle.rectangle_pack.proofs.CutsLemmas.{All-middle}
 use Rattle.rectangle_pack.proofs.ExclusionsLemmas.{is_at-back, is_at-equal, excluded-alike}
@@ -143,7 +143,7 @@ module _ {Id B : Type 0} (rules : Rules Id B) (boxes : List Size) (bins : List B
     (decide : ClosuresDecide boxes bins rules.may) (id_total : IsTotalOrder rules.id_cmp) (bin_total : IsTotalOrder rules.bin_cmp) where
   -- a bin that is passed over, is passed over alike
   passed_alike : (barred1 barred2 : B → Bool) (g h : Members Id) (old1 old2 : List (B × Bin)) (a b : B) (n : ℕ) → BarAlike rules.bin_cmp barred1 barred2 → AreMembersAlike rules.id_cmp g h → AreBinsAlike rules.bin_cmp old1 old2 → rules.bin_cmp a b ≡ Equal
-      → IsPassed rules barred1 old1 g a n → IsPassed rules barred2 old2 h b n
+      → DoesNotTake rules barred1 old1 g a n → DoesNotTake rules barred2 old2 h b n
   passed_alike barred1 barred2 g h old1 old2 a b n bar members alike e passed =
       let P : Bool → List Size → Option Bin → Type 0 = λ barred sizes found. MatchBool barred (n ≡ 0) (IsSomeAnd found (λ (bin : Bin). IsStuck rules.may bin.sections sizes n)) in
       subst (λ (sizes : List Size). P (barred2 b) sizes (lookup (is_at (rules.bin_cmp b)) old2)) members.sizes
@@ -151,9 +151,9 @@ module _ {Id B : Type 0} (rules : Rules Id B) (boxes : List Size) (bins : List B
       (subst (λ (barred : Bool). P barred g.sizes (lookup (is_at (rules.bin_cmp a)) old1)) (bar a b e) passed))
 
   all_passed_alike : (barred1 barred2 : B → Bool) (order1 order2 : List B) (counts : List ℕ) (g h : Members Id) (old1 old2 : List (B × Bin)) → BarAlike rules.bin_cmp barred1 barred2 → AllZip (λ a b. rules.bin_cmp a b ≡ Equal) order1 order2 → AreMembersAlike rules.id_cmp g h → AreBinsAlike rules.bin_cmp old1 old2
-      → AllZip (IsPassed rules barred1 old1 g) order1 counts → AllZip (IsPassed rules barred2 old2 h) order2 counts
+      → AllZip (DoesNotTake rules barred1 old1 g) order1 counts → AllZip (DoesNotTake rules barred2 old2 h) order2 counts
   all_passed_alike barred1 barred2 order1 order2 counts g h old1 old2 bar order members alike r =
-      AllZip-along (λ a b. rules.bin_cmp a b ≡ Equal) (IsPassed rules barred1 old1 g) (IsPassed rules barred2 old2 h) (λ a b n e p. passed_alike barred1 barred2 g h old1 old2 a b n bar members alike e p) order1 order2 counts order r
+      AllZip-along (λ a b. rules.bin_cmp a b ≡ Equal) (DoesNotTake rules barred1 old1 g) (DoesNotTake rules barred2 old2 h) (λ a b n e p. passed_alike barred1 barred2 g h old1 old2 a b n bar members alike e p) order1 order2 counts order r
 
   refused_alike : (barred1 barred2 : B → Bool) (order1 order2 : List B) (g h : Members Id) (old1 old2 : List (B × Bin)) (n : ℕ) → BarAlike rules.bin_cmp barred1 barred2 → AllZip (λ a b. rules.bin_cmp a b ≡ Equal) order1 order2 → AreMembersAlike rules.id_cmp g h → AreBinsAlike rules.bin_cmp old1 old2
       → IsRefused rules barred1 order1 g old1 n → IsRefused rules barred2 order2 h old2 n
@@ -207,10 +207,10 @@ module _ {Id B : Type 0} (rules : Rules Id B) (boxes : List Size) (bins : List B
 
   -- the bin is passed over
   abbrev Passes : (B → Bool) → List (B × Bin) → Members Id → B → Type 0
-  Passes barred old g id = (n : ℕ) × IsPassed rules barred old g id n
+  Passes barred old g id = (n : ℕ) × DoesNotTake rules barred old g id n
 
-  all_pass : (barred : B → Bool) (old : List (B × Bin)) (g : Members Id) (order : List B) (counts : List ℕ) → AllZip (IsPassed rules barred old g) order counts → All (Passes barred old g) order
-  all_pass barred old g order counts h = All-from_zip (IsPassed rules barred old g) (Passes barred old g) (λ id n p. (n, p)) order counts h
+  all_pass : (barred : B → Bool) (old : List (B × Bin)) (g : Members Id) (order : List B) (counts : List ℕ) → AllZip (DoesNotTake rules barred old g) order counts → All (Passes barred old g) order
+  all_pass barred old g order counts h = All-from_zip (DoesNotTake rules barred old g) (Passes barred old g) (λ id n p. (n, p)) order counts h
 
   -- where a group is placed its bin is not passed over
   not_passed_here : (barred : B → Bool) (order : List B) (g : Members Id) (old new : List (B × Bin)) (ps : List (Placement Id B)) (n : ℕ) → All (MayBeCutIn bins) (values_of old) → All (Contains boxes) g.sizes

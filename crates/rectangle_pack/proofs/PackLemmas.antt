@@ -27,7 +27,7 @@ use Rattle.std.proofs.lemmas.List.Elements.{All-push, All-nil, All-weaker}
 use Rattle.rectangle_pack.specs.declared.pack.work.DoneTrial.{DoneTrial}
 use Rattle.rectangle_pack.specs.declared.pack.answer.Placement.{Placement}
 use Rattle.rectangle_pack.specs.Bins.{Bin, Held, IsSound}
-use Rattle.rectangle_pack.specs.Packing.{Rules, bins_of, Members, Stage, at_start, IsPlaced, IsPassed, IsStuckIn, IsRefused, AreAllPlaced, AreGroups, StopsAfter}
+use Rattle.rectangle_pack.specs.Packing.{Rules, bins_of, Members, Stage, at_start, IsPlaced, DoesNotTake, IsStuckIn, IsRefused, AreAllPlaced, AreGroups, StopsAfter}
 use Rattle.rectangle_pack.specs.Boxes.{Size, Cuboid}
 use Rattle.rectangle_pack.specs.private.Journal.{before_notes, CanUndo}
 use Rattle.rectangle_pack.specs.Steps.{IsDone}
@@ -103,7 +103,7 @@ module _ {Id B : Type 0} (rules : Rules Id B) where
   pub IsPlaced-at : (barred : B → Bool) (order : List (ℕ × B)) (i : ℕ) (o : ℕ × B) (group : Members Id)
       (now : List (B × Held)) (old : List (B × Bin)) (v w : Held) (locations : List Cuboid) (counts : List ℕ) (count : ℕ) (added : List (Placement Id B))
       → i < length order → o ≡ get_or order i o → bins_of now ≡ old
-      → AllZip (IsPassed rules barred old group) (map (λ (x : ℕ × B). x.1) (take i order)) counts → barred o.1 ≡ false
+      → AllZip (DoesNotTake rules barred old group) (map (λ (x : ℕ × B). x.1) (take i order)) counts → barred o.1 ≡ false
       → lookup (is_at (rules.bin_cmp o.1)) now ≡ Some v → w.bin.size ≡ v.bin.size → IsDone rules.may v.bin.sections group.sizes locations w.bin.sections count
       → AreNamed rules.id_cmp rules.bin_cmp group.ids o.1 locations added
       → (p : IsPlaced rules barred (map (λ (x : ℕ × B). x.1) order) group old added (bins_of (set_value (is_at (rules.bin_cmp o.1)) now w)) (sum counts + count)) × (p.here ≡ o.1)
@@ -132,22 +132,22 @@ module _ {Id B : Type 0} (rules : Rules Id B) where
   )
 
   -- one more bin is passed over
-  pub IsPassed-more : (barred : B → Bool) (old : List (B × Bin)) (group : Members Id) (order : List (ℕ × B)) (i : ℕ) (o : ℕ × B) (counts : List ℕ) (count : ℕ)
-      → i < length order → o ≡ get_or order i o → IsPassed rules barred old group o.1 count
-      → AllZip (IsPassed rules barred old group) (map (λ (x : ℕ × B). x.1) (take i order)) counts
-      → AllZip (IsPassed rules barred old group) (map (λ (x : ℕ × B). x.1) (take (i + 1) order)) (counts ++ count ∷ [])
-  IsPassed-more barred old group order i o counts count within is here before =
+  pub DoesNotTake-more : (barred : B → Bool) (old : List (B × Bin)) (group : Members Id) (order : List (ℕ × B)) (i : ℕ) (o : ℕ × B) (counts : List ℕ) (count : ℕ)
+      → i < length order → o ≡ get_or order i o → DoesNotTake rules barred old group o.1 count
+      → AllZip (DoesNotTake rules barred old group) (map (λ (x : ℕ × B). x.1) (take i order)) counts
+      → AllZip (DoesNotTake rules barred old group) (map (λ (x : ℕ × B). x.1) (take (i + 1) order)) (counts ++ count ∷ [])
+  DoesNotTake-more barred old group order i o counts count within is here before =
       let same : map (λ (x : ℕ × B). x.1) (take (i + 1) order) ≡ map (λ (x : ℕ × B). x.1) (take i order) ++ o.1 ∷ [] = ap (map (λ (x : ℕ × B). x.1)) (take_more order i o within) ∙ map-append (λ (x : ℕ × B). x.1) (take i order) (get_or order i o ∷ []) ∙ ap (λ (z : ℕ × B). map (λ (x : ℕ × B). x.1) (take i order) ++ z.1 ∷ []) (sym is) in
-      let P : B → ℕ → Type 0 = IsPassed rules barred old group in
+      let P : B → ℕ → Type 0 = DoesNotTake rules barred old group in
       subst (λ ns. AllZip P ns (counts ++ count ∷ [])) (sym same) (AllZip-more P (map (λ (x : ℕ × B). x.1) (take i order)) counts o.1 count before here)
 
   -- a bin that is barred is passed over
-  pub IsPassed-barred : (barred : B → Bool) (old : List (B × Bin)) (group : Members Id) (id : B) → barred id ≡ true → IsPassed rules barred old group id 0
-  IsPassed-barred barred old group id h = rw h refl
+  pub DoesNotTake-barred : (barred : B → Bool) (old : List (B × Bin)) (group : Members Id) (id : B) → barred id ≡ true → DoesNotTake rules barred old group id 0
+  DoesNotTake-barred barred old group id h = rw h refl
 
   -- and so is one in which the trial is stuck
-  pub IsPassed-stuck : (barred : B → Bool) (old : List (B × Bin)) (group : Members Id) (id : B) (count : ℕ) → barred id ≡ false → IsStuckIn rules old group id count → IsPassed rules barred old group id count
-  IsPassed-stuck barred old group id count h stuck = rw h stuck
+  pub DoesNotTake-stuck : (barred : B → Bool) (old : List (B × Bin)) (group : Members Id) (id : B) (count : ℕ) → barred id ≡ false → IsStuckIn rules old group id count → DoesNotTake rules barred old group id count
+  DoesNotTake-stuck barred old group id count h stuck = rw h stuck
 
   module _ {K : Type 0} (bars : List (K × B) → K → B → Bool) where
     -- one more group is placed

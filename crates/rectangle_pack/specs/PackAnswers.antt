@@ -39,7 +39,7 @@ module _ {Id B G : Type 0} (group_cmp : Group G Id → Group G Id → Ordering) 
   IsPackAnswer all old (Err NotEnoughBinSpace) new = PackingRefused group_cmp rules all old new
   IsPackAnswer all old (Err OutOfMemory) new = new ≡ old
 
-  -- the same, and exactly the fit tests of the packing are counted; out of memory, those made until then
+  -- the same, and exactly the fit tests of the packing are counted; out of memory, no more than the bound
   abbrev pub IsCountedAnswer : {A : Type 0} → Collection Id G → List (B × Bin) → ℕ → Result (RectanglePackOk Id B A) RectanglePackError → List (B × Bin) → ℕ → Type 0
   IsCountedAnswer all old before (Ok ok) new after = (packed : IsPacked all old ok new) × AreCounted all old packed.done.tests before after
   IsCountedAnswer all old before (Err NotEnoughBinSpace) new after = (refused : PackingRefused group_cmp rules all old new) × AreCounted all old refused.tests before after

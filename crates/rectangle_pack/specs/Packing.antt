@@ -47,7 +47,7 @@ at_start bins = record { bins = bins; homes = [] }
 abbrev pub bars_by : {K B : Type 0} → (K → K → Ordering) → (B → B → Ordering) → List (K × List K) → List (K × B) → K → B → Bool
 bars_by group_cmp bin_cmp partners homes group id = list_any (λ home. are_excluded group_cmp partners group home.0 && is_at (bin_cmp id) home.1) homes
 
--- of two groups that are excluded, none is in the other's bin
+-- of two groups that are excluded, neither is in the other's bin
 abbrev pub AreKeptApart : {K B : Type 0} → (K → K → Ordering) → (B → B → Ordering) → List (K × List K) → List (K × B) → Type 0
 AreKeptApart group_cmp bin_cmp partners homes = AllPairs (λ a b. are_excluded group_cmp partners a.0 b.0 ≡ true → is_at (bin_cmp a.1) b.1 ≡ false) homes
 
@@ -64,18 +64,19 @@ module _ {Id B : Type 0} (rules : Rules Id B) where
   abbrev pub IsStuckIn : List (B × Bin) → Members Id → B → ℕ → Type 0
   IsStuckIn bins group id tests = IsSomeAnd (lookup (is_at (rules.bin_cmp id)) bins) (λ (bin : Bin). IsStuck rules.may bin.sections group.sizes tests)
 
-  -- the bin is passed over: it is barred, and then nothing is tested, or the group's trial is stuck in it
-  abbrev pub IsPassed : (B → Bool) → List (B × Bin) → Members Id → B → ℕ → Type 0
-  IsPassed barred bins group id tests = MatchBool (barred id) (tests ≡ 0) (IsStuckIn bins group id tests)
+  -- the bin does not take the group: it is barred, and then nothing is tested, or the group's trial is stuck in it
+  abbrev pub DoesNotTake : (B → Bool) → List (B × Bin) → Members Id → B → ℕ → Type 0
+  DoesNotTake barred bins group id tests = MatchBool (barred id) (tests ≡ 0) (IsStuckIn bins group id tests)
 
-  -- the group is placed: a bin of the order is not barred and its trial is done there, and each bin before it is passed over; that bin's list becomes the trial's, and the rest stays
+  -- the group is placed: a bin of the order is not barred and its trial is done there, and each bin before does not take it;
+  -- that bin's list becomes the trial's, and the rest stays
   pub record IsPlaced (barred : B → Bool) (order : List B) (group : Members Id) (old : List (B × Bin)) (placements : List (Placement Id B)) (new : List (B × Bin)) (tests : ℕ) : Type 0 where
     pub before : List B
     pub here : B
     pub after : List B
     pub order_is : order ≡ before ++ here ∷ after
     pub counts : List ℕ
-    pub passed : AllZip (IsPassed barred old group) before counts
+    pub passed : AllZip (DoesNotTake barred old group) before counts
     pub allowed : barred here ≡ false
     pub bin : Bin
     pub found : lookup (is_at (rules.bin_cmp here)) old ≡ Some bin
@@ -87,10 +88,10 @@ module _ {Id B : Type 0} (rules : Rules Id B) where
     pub new_is : new ≡ set_value (is_at (rules.bin_cmp here)) old (record bin { sections = last })
     pub tests_are : tests ≡ sum counts + count
 
-  -- the group is refused: every bin is passed over
+  -- the group is refused: no bin takes it
   pub record IsRefused (barred : B → Bool) (order : List B) (group : Members Id) (bins : List (B × Bin)) (tests : ℕ) : Type 0 where
     pub counts : List ℕ
-    pub passed : AllZip (IsPassed barred bins group) order counts
+    pub passed : AllZip (DoesNotTake barred bins group) order counts
     pub tests_are : tests ≡ sum counts
 
   module _ {K : Type 0} (bars : List (K × B) → K → B → Bool) where
@@ -132,7 +133,8 @@ module _ {Id B G : Type 0} (group_cmp : Group G Id → Group G Id → Ordering) 
     pub tests : ℕ
     pub placed : AreAllPlaced rules bars (map (λ o. o.1) bin_order) groups (at_start old) placements (record { bins = new; homes = homes }) tests
 
-  -- a packing is refused, by what bars bins: in one group order and by one bin order, a beginning of the groups is placed and the next group passes over every bin
+  -- a packing is refused, by what bars bins: in one group order and by one bin order, a beginning of the groups is placed
+  -- and no bin takes the next group
   pub record PackingRefusedBy (bars : List (Group G Id × B) → Group G Id → B → Bool) (all : Collection Id G) (old new : List (B × Bin)) : Type 0 where
     pub group_order : List (ℕ × Group G Id)
     pub bin_order : List (ℕ × B)
@@ -141,7 +143,7 @@ module _ {Id B G : Type 0} (group_cmp : Group G Id → Group G Id → Ordering) 
     pub tests : ℕ
     pub stops : StopsAfter rules bars group_cmp all.sizes all.groups group_order (map (λ o. o.1) bin_order) old new tests
 
-  -- a packing is done, where the collection's pairs bar bins; it makes `tests` fit tests
+  -- a packing is done, where the collection's pairs bar bins
   abbrev pub PackingDone : Collection Id G → List (B × Bin) → List (Placement Id B) → List (B × Bin) → Type 0
   PackingDone all old placements new = PackingDoneBy (bars_by group_cmp rules.bin_cmp all.partners) all old placements new
 

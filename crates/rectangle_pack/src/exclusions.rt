@@ -6,7 +6,7 @@ ghost use Rattle.std.specs.BTreeMap.{is_at};
 ghost use Rattle.rectangle_pack.specs.Groups.{lists_of};
 ghost use Rattle.rectangle_pack.specs.private.Lists.{filled};
 ghost use Rattle.rectangle_pack.specs.Exclusions.{listed_at, is_listed, are_excluded, are_these};
-ghost use Rattle.rectangle_pack.specs.private.Exclusions.{AreMutual, AreSome};
+ghost use Rattle.rectangle_pack.specs.private.Exclusions.{AreMutual, AreNonempty};
 
 use crate::lists::{append_at, forget_empty, make_room};
 use std::alloc::{AllocError, Allocator};
@@ -26,14 +26,14 @@ pub(crate) struct Exclusions<K: Ord, A: Allocator + Copy> {
 impl<K: Ord, A: Allocator + Copy> Model for Exclusions<K, A> {
     ghost use Rattle.std.specs.Prelude.{List};
     ghost use Rattle.rectangle_pack.specs.Groups.{lists_of};
-    ghost use Rattle.rectangle_pack.specs.private.Exclusions.{AreMutual, AreSome};
+    ghost use Rattle.rectangle_pack.specs.private.Exclusions.{AreMutual, AreNonempty};
 
     ghost Value = { List (K × List K) };
 
     ghost view = { λ s. lists_of s.partners.entries };
 
     ghost invariant = { λ s. let partners = lists_of s.partners.entries in
-        AreMutual K.cmp partners × AreSome partners };
+        AreMutual K.cmp partners × AreNonempty partners };
 }
 
 impl<K: Ord, A: Allocator + Copy> Exclusions<K, A> {
@@ -59,17 +59,22 @@ impl<K: Ord + Clone + Drop, A: Allocator + Copy> Exclusions<K, A> {
         }
     }
 
-    // Whether the two are paired. Takes no memory.
+    // Whether the two are paired, by the shorter of their lists. Takes no memory.
     pub(crate) fn has(&self, a: &K, b: &K) -> bool
         ensures { result ≡ are_excluded K.cmp self.now a.now b.now }
     {
-        is_among(self.partners(a), b)
+        let (of_a, of_b) = (self.partners(a), self.partners(b));
+        if of_a.len() <= of_b.len() {
+            is_among(of_a, b)
+        } else {
+            is_among(of_b, a)
+        }
     }
 
     // Pairs the two. A pair that is there stays as it is.
     pub(crate) fn add(&mut self, a: K, b: K) -> Result<(), AllocError>
         requires clones_equal { (a b : K) → K.is_clone a b → IsTrue (K.eq a b) }
-        requires different { is_eq (K.cmp a b) ≡ false }
+        requires different { K.eq a b ≡ false }
         ensures ok { OnOk result
             ((x y : K) → are_excluded K.cmp self.new x y ≡
             (are_excluded K.cmp self.old x y || are_these K.cmp a b x y)) }
@@ -99,11 +104,11 @@ fn list_both<K: Ord + Clone + Drop, A: Allocator + Copy>(
 ) -> Result<(), AllocError>
     requires clones_equal { (a b : K) → K.is_clone a b → IsTrue (K.eq a b) }
     requires different { is_eq (K.cmp a b) ≡ false }
-    requires some { AreSome (lists_of map.old.entries) }
+    requires some { AreNonempty (lists_of map.old.entries) }
     ensures added { OnOk result
         ((x y : K) → is_listed K.cmp (lists_of map.new.entries) x y ≡
         (is_listed K.cmp (lists_of map.old.entries) x y || are_these K.cmp a b x y)) }
-    ensures some { OnOk result (AreSome (lists_of map.new.entries)) }
+    ensures some { OnOk result (AreNonempty (lists_of map.new.entries)) }
     ensures kept { OnErr result
         (filled (lists_of map.new.entries) ≡ filled (lists_of map.old.entries)) }
 {

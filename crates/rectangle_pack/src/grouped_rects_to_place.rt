@@ -124,9 +124,9 @@ impl<Id: Ord + Clone + Drop, GroupId: Ord + Clone + Drop, A: Allocator + Copy> G
     ) -> Result<(), AllocError>
         requires ids { (a b : Id) → Id.is_clone a b → IsTrue (Id.eq a b) }
         requires group_ids { (a b : GroupId) → GroupId.is_clone a b → IsTrue (GroupId.eq a b) }
-        requires different { is_eq (⟦<Group<GroupId, Id> as Ord>⟧.cmp a b) ≡ false }
+        requires different { ⟦<Group<GroupId, Id> as PartialEq>⟧.eq a b ≡ false }
         ensures ok { OnOk result
-            (Excludes Id.cmp ⟦<Group<GroupId, Id> as Ord>⟧.cmp self.old self.new a b) }
+            (Excludes ⟦<Group<GroupId, Id> as Ord>⟧.cmp self.old self.new a b) }
         ensures again { are_excluded ⟦<Group<GroupId, Id> as Ord>⟧.cmp self.old.partners a b ≡
             true → IsOk result × (self.new ≡ self.old) }
         ensures err { OnErr result (self.new ≡ self.old) }

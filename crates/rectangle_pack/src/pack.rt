@@ -192,7 +192,8 @@ where
         All (λ s. ¬ Holds s size) bin.sections }
 {}
 
-/// A law: where no two groups are excluded, a packing is one that bars no bin, done or refused.
+/// A law: where no two groups are excluded, a packing is one that bars no bin, done or refused, and
+/// makes as many fit tests.
 pub fn packing_without_exclusions<Id: Ord, BinId: Ord, GroupId: Ord, H, C>(
     heuristic: &H,
     comparison: &C,
@@ -204,16 +205,18 @@ where
         let rules = rules_by Id.cmp BinId.cmp (answers H.Fn C.Fn heuristic.now comparison.now) in
         (all : Collection Id GroupId) →
         ((a b : Group GroupId Id) → are_excluded groups all.partners a b ≡ false) →
-        (old new : List (BinId × Bin)) (placements : List (Placement Id BinId)) →
-        PackingDone groups rules all old placements new ↔
-        PackingDoneBy groups rules bars_none all old placements new }
+        (old new : List (BinId × Bin)) (placements : List (Placement Id BinId)) (n : ℕ) →
+        ((done : PackingDone groups rules all old placements new) × (done.tests ≡ n)) ↔
+        ((done : PackingDoneBy groups rules bars_none all old placements new) ×
+        (done.tests ≡ n)) }
     ensures refused { let groups = ⟦<Group<GroupId, Id> as Ord>⟧.cmp in
         let rules = rules_by Id.cmp BinId.cmp (answers H.Fn C.Fn heuristic.now comparison.now) in
         (all : Collection Id GroupId) →
         ((a b : Group GroupId Id) → are_excluded groups all.partners a b ≡ false) →
-        (old new : List (BinId × Bin)) →
-        PackingRefused groups rules all old new ↔
-        PackingRefusedBy groups rules bars_none all old new }
+        (old new : List (BinId × Bin)) (n : ℕ) →
+        ((refused : PackingRefused groups rules all old new) × (refused.tests ≡ n)) ↔
+        ((refused : PackingRefusedBy groups rules bars_none all old new) ×
+        (refused.tests ≡ n)) }
 {}
 
 /// A law: no two groups that are excluded share a bin, of those that one packing placed. `homes` has

@@ -179,6 +179,7 @@ where
         GoesBack B.cmp bins.old.entries progress.old.journal.items start →
         GoesBack B.cmp bins.new.entries progress.new.journal.items start }
 {
+    // For the proof alone: what is read is known to be of 128 bits.
     let _counted = progress.tests.count();
     progress.journal.reserve(1)?;
     for (_, id) in order {
@@ -272,6 +273,7 @@ where
         GoesBack B.cmp bins.old.entries progress.old.journal.items start →
         GoesBack B.cmp bins.new.entries progress.new.journal.items start }
 {
+    // For the proof alone: what is read is known to be of 128 bits.
     let _counted = progress.tests.count();
     let alloc = *progress.journal.allocator();
     let mut homes = BTreeMap::new(alloc);
@@ -355,6 +357,7 @@ where
     ensures no_groups { rects_to_place.now.groups ≡ [] →
         (result ≡ Ok true) × (progress.new.placements.items ≡ []) }
 {
+    // For the proof alone: what is read is known to be of 128 bits.
     let _counted = progress.tests.count();
     let rects = rects_to_place.rects();
     let lists = rects_to_place.groups();

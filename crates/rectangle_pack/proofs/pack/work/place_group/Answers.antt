@@ -9,7 +9,7 @@ use Rattle.std.proofs.lemmas.List.{take_all}
 use Rattle.rectangle_pack.specs.Packing.{rules_by, bins_of, Members}
 use Rattle.rectangle_pack.proofs.JournalLemmas.{is_some-bins_of}
 use Rattle.rectangle_pack.proofs.MapsLemmas.{is_some-option_map}
-use Rattle.rectangle_pack.proofs.PackLemmas.{GoesBack-grown, bins_of-grown, GoesBack-done, found-bins_of, IsPlaced-at, IsPassed-more, IsPassed-stuck, IsPassed-barred, IsDone-length}
+use Rattle.rectangle_pack.proofs.PackLemmas.{GoesBack-grown, bins_of-grown, GoesBack-done, found-bins_of, IsPlaced-at, DoesNotTake-more, DoesNotTake-stuck, DoesNotTake-barred, IsDone-length}
 use Rattle.rectangle_pack.proofs.BoundLemmas.{OnErr-given, adds-begun, adds-tried}
 use Rattle.rectangle_pack.proofs.TrialLemmas.{saturated-add}
 use Rattle.rectangle_pack.specs.private.Barred.{are_in}
@@ -99,7 +99,7 @@ loop-id-preserved-then-contains g c =
       same = c.loop-id.invariant.same;
       passed = (
         passed.0 ++ 0 ∷ [],
-        IsPassed-more rules barred old group c.args.order.now c.loop-id.id-index o passed.0 0 c.loop-id-test.true c.loop-id-item.is (IsPassed-barred rules barred old group o.1 here) passed.1,
+        DoesNotTake-more rules barred old group c.args.order.now c.loop-id.id-index o passed.0 0 c.loop-id-test.true c.loop-id-item.is (DoesNotTake-barred rules barred old group o.1 here) passed.1,
         passed.2 ∙ ap (λ n. saturated (c.args.progress.now.tests + n)) (sym (sum_by_push (λ x. x) passed.0 0 ∙ omega arith)),
       );
       placements = c.loop-id.invariant.placements;
@@ -129,8 +129,8 @@ loop-id-preserved g c =
       same = ap bins_of h.0 ∙ bins_of-grown _ now v w found unchanged c.place_noted.ensures.room ∙ same;
       passed = (
         passed.0 ++ stuck.0 ∷ [],
-        IsPassed-more rules barred old group c.args.order.now c.loop-id.id-index o passed.0 stuck.0 c.loop-id-test.true c.loop-id-item.is
-            (IsPassed-stuck rules barred old group o.1 stuck.0 allowed (rw there stuck.1)) passed.1,
+        DoesNotTake-more rules barred old group c.args.order.now c.loop-id.id-index o passed.0 stuck.0 c.loop-id-test.true c.loop-id-item.is
+            (DoesNotTake-stuck rules barred old group o.1 stuck.0 allowed (rw there stuck.1)) passed.1,
         saturated-add c.args.progress.now.tests c.loop-id.progress.tests _ (sum passed.0) stuck.0 passed.2 stuck.3 ∙ ap (λ n. saturated (c.args.progress.now.tests + n)) (sym (sum_by_push (λ x. x) passed.0 stuck.0)),
       );
       placements = c.loop-id.invariant.placements;

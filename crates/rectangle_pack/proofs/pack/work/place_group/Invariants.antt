@@ -3,7 +3,7 @@ use Rattle.std.specs.Prelude.{map, sum}
 use Rattle.std.specs.List.{AllZip}
 use Rattle.rectangle_pack.specs.Bins.{Bin}
 use Rattle.rectangle_pack.specs.Numbers.{saturated}
-use Rattle.rectangle_pack.specs.Packing.{rules_by, IsPassed, bins_of}
+use Rattle.rectangle_pack.specs.Packing.{rules_by, DoesNotTake, bins_of}
 use Rattle.rectangle_pack.specs.private.Barred.{are_in}
 use Rattle.rectangle_pack.specs.private.TrialJournal.{GoesBack}
 use Rattle.rectangle_pack.proofs.pack.work.place_group.Given as goal
@@ -12,7 +12,7 @@ abbrev pub invariant-loop-id : goal.invariant-loop-id
 invariant-loop-id g l = record {
   same : bins_of l.bins.entries ≡ bins_of l.fn.bins.entries;
   passed : (counts : List ℕ)
-      × AllZip (IsPassed (rules_by g.Id.Ord.cmp g.B.Ord.cmp (g.R.Ask.may l.rules)) (are_in g.B.Ord.cmp l.barred.keys) (bins_of l.fn.bins.entries) (record { ids = l.ids; sizes = l.sizes })) (map (λ o. o.1) (take l.id-index l.order)) counts
+      × AllZip (DoesNotTake (rules_by g.Id.Ord.cmp g.B.Ord.cmp (g.R.Ask.may l.rules)) (are_in g.B.Ord.cmp l.barred.keys) (bins_of l.fn.bins.entries) (record { ids = l.ids; sizes = l.sizes })) (map (λ o. o.1) (take l.id-index l.order)) counts
       × (l.progress.tests ≡ saturated (l.fn.progress.tests + sum counts));
   placements : l.progress.placements.items ≡ l.fn.progress.placements.items;
   back : (start : List (g.row.B.Denot × Bin)) → GoesBack g.B.Ord.cmp l.fn.bins.entries l.fn.progress.journal.items start → GoesBack g.B.Ord.cmp l.bins.entries l.progress.journal.items start;
