@@ -26,6 +26,7 @@ pub mod StepsLemmas
 pub mod TakeBackLemmas
 pub mod TrialLemmas
 pub mod VolumesLemmas
+pub mod WholeLemmas
 pub mod PackingOrderLemmas
 pub mod JournalLemmas
 pub mod PackLemmas

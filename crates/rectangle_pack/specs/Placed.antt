@@ -1,5 +1,5 @@
 -- What a packing placed.
-use Rattle.std.specs.Prelude.{◌≡◌, List, ◌∷◌, ◌++◌, map, All, MatchOption, false}
+use Rattle.std.specs.Prelude.{◌≡◌, List, [], ◌∷◌, ◌++◌, map, All, Some, MatchOption, false}
 use Rattle.std.specs.List.{AllZip}
 use Rattle.std.specs.declared.cmp.Ordering.{Ordering}
 use Rattle.std.specs.declared.cmp.Ordering.TheVariants.{Equal}
@@ -7,7 +7,7 @@ use Rattle.std.specs.List.Sorted.{IsStrictlySortedBy}
 use Rattle.std.specs.Map.{lookup, keys_of}
 use Rattle.std.specs.BTreeMap.{is_at}
 use Rattle.std.specs.Ordering.{is_eq}
-use Rattle.rectangle_pack.specs.Boxes.{Cuboid}
+use Rattle.rectangle_pack.specs.Boxes.{Size, Cuboid}
 use Rattle.rectangle_pack.specs.declared.pack.answer.Placement.{Placement}
 use Rattle.rectangle_pack.specs.declared.pack.answer.RectanglePackOk.{RectanglePackOk}
 
@@ -25,6 +25,18 @@ module _ {Id B : Type 0} (cmp : Id → Id → Ordering) (bin_cmp : B → B → O
     pub named : AllZip (λ id p. cmp id p.id ≡ Equal) ids placements
     pub together : All (λ p. bin_cmp here p.bin ≡ Equal) placements
     pub at : map (λ p. p.location) placements ≡ locations
+
+  -- the entries of a group, each in the size of its id and in order, all in this bin
+  pub record ArePlacedIn (sizes : List (Id × Size)) (ids : List Id) (here : B) (placements : List (Placement Id B)) : Type 0 where
+    pub each : AllZip (λ id p. (cmp id p.id ≡ Equal) × (lookup (is_at (cmp id)) sizes ≡ Some p.location.whd)) ids placements
+    pub together : All (λ p. bin_cmp here p.bin ≡ Equal) placements
+
+  -- the placements are those of one group after another, each group whole in its bin; the homes are those bins, in the order taken
+  abbrev pub ArePlacedWhole : {K : Type 0} → (K → K → Ordering) → List (Id × Size) → List (K × List Id) → List (K × B) → List (Placement Id B) → Type 0
+  ArePlacedWhole group_cmp sizes lists [] placements = placements ≡ []
+  ArePlacedWhole group_cmp sizes lists (home ∷ homes) placements =
+      (ids : List Id) × (first : List (Placement Id B)) × (later : List (Placement Id B)) × (lookup (is_at (group_cmp home.0)) lists ≡ Some ids)
+      × ArePlacedIn sizes ids home.1 first × ArePlacedWhole group_cmp sizes lists homes later × (placements ≡ first ++ later)
 
   -- this bin and location are those of the last placement of the id
   pub record IsLastOf (placements : List (Placement Id B)) (id : Id) (found : B × Cuboid) : Type 0 where

@@ -1,5 +1,5 @@
 //! Packing groups of boxes into bins.
-ghost use Rattle.std.specs.Prelude.{ℕ, ◌≡◌, ◌↔◌, ◌∷◌, [], List, IsTrue, IsOk, All, Some, false};
+ghost use Rattle.std.specs.Prelude.{ℕ, ◌≡◌, ◌↔◌, ◌∷◌, [], List, IsTrue, IsOk, All, Some, false, map, reverse};
 ghost use Rattle.std.specs.BTreeMap.{is_at};
 ghost use Rattle.std.specs.Map.{lookup, values_of};
 ghost use Rattle.rectangle_pack.specs.declared.pack.answer.Placement.{Placement};
@@ -11,7 +11,7 @@ ghost use Rattle.rectangle_pack.specs.Groups.{Collection};
 ghost use Rattle.rectangle_pack.specs.Exclusions.{are_excluded};
 ghost use Rattle.rectangle_pack.specs.Packing.{rules_by, bins_of, bars_by, bars_none, AreKeptApart, PackingDone, PackingDoneBy, PackingRefused, PackingRefusedBy};
 ghost use Rattle.rectangle_pack.specs.PackAnswers.{IsPackAnswer, IsCountedAnswer};
-ghost use Rattle.rectangle_pack.specs.Placed.{AreLastPlacements};
+ghost use Rattle.rectangle_pack.specs.Placed.{AreLastPlacements, ArePlacedWhole};
 ghost use Rattle.rectangle_pack.specs.Keeping.{KeepsEachBin};
 ghost use Rattle.rectangle_pack.specs.SmallestBox.{IsSmallestOrder};
 ghost use Rattle.rectangle_pack.specs.Results.{ClosuresDecide, either_of, AreCollectionsAlike, AreBinsAlike, ArePlacementsAlike, AreLocationsAlike, HaveOneResult};
@@ -219,8 +219,32 @@ where
         (refused.tests ≡ n)) }
 {}
 
+/// A law: a packing that is done places each group whole, in one bin: one placement for each entry,
+/// in the size of its id. `homes` has the bin of each group, the last one first.
+pub fn groups_are_placed_whole<Id: Ord, BinId: Ord, GroupId: Ord, H, C>(
+    heuristic: &H,
+    comparison: &C,
+)
+where
+    H: Fn(WidthHeightDepth) -> u128,
+    C: Fn([WidthHeightDepth; 3], [WidthHeightDepth; 3], &H) -> Ordering,
+    ensures whole { let groups = ⟦<Group<GroupId, Id> as Ord>⟧.cmp in
+        let rules = rules_by Id.cmp BinId.cmp (answers H.Fn C.Fn heuristic.now comparison.now) in
+        (all : Collection Id GroupId) (old new : List (BinId × Bin)) →
+        (placements : List (Placement Id BinId)) →
+        (done : PackingDone groups rules all old placements new) →
+        ArePlacedWhole Id.cmp BinId.cmp groups all.sizes all.groups (reverse done.homes)
+        placements }
+    ensures all_groups { let groups = ⟦<Group<GroupId, Id> as Ord>⟧.cmp in
+        let rules = rules_by Id.cmp BinId.cmp (answers H.Fn C.Fn heuristic.now comparison.now) in
+        (all : Collection Id GroupId) (old new : List (BinId × Bin)) →
+        (placements : List (Placement Id BinId)) →
+        (done : PackingDone groups rules all old placements new) →
+        map (λ h. h.0) (reverse done.homes) ≡ map (λ o. o.1) done.group_order }
+{}
+
 /// A law: no two groups that are excluded share a bin, of those that one packing placed. `homes` has
-/// the bin of each.
+/// the bin of each, in which it is placed whole (`groups_are_placed_whole`).
 pub fn excluded_groups_are_apart<Id: Ord, BinId: Ord, GroupId: Ord, H, C>(
     heuristic: &H,
     comparison: &C,
