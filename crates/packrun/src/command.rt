@@ -1,7 +1,7 @@
 //! What a line says.
-ghost use Rattle.std.specs.Prelude.{◌≡◌, ◌^◌, IfSome, MatchOption};
+ghost use Rattle.std.specs.Prelude.{◌^◌, IfSome};
 ghost use Rattle.packrun.specs.Commands.{NamesTwo};
-ghost use Rattle.packrun.specs.Words.{IsNumberBelow, number_of};
+ghost use Rattle.packrun.specs.Words.{IsNumberAnswer};
 
 use std::str;
 use std::str::SplitAsciiWhitespace;
@@ -90,14 +90,14 @@ fn next_size(words: &mut SplitAsciiWhitespace<'_>) -> Option<Size> {
 }
 
 fn parse_side(word: &str) -> Option<u32>
-    ensures { MatchOption result (¬ (IsNumberBelow (2 ^ 32) word.now)) (λ n. IsNumberBelow (2 ^ 32) word.now × (n ≡ number_of word.now)) }
+    ensures { IsNumberAnswer (2 ^ 32) word.now result }
 {
     u32::try_from(parse_number(word)?).ok()
 }
 
 /// The number that decimal digits say, with any zeros before it.
 pub fn parse_number(word: &str) -> Option<u64>
-    ensures { MatchOption result (¬ (IsNumberBelow (2 ^ 64) word.now)) (λ n. IsNumberBelow (2 ^ 64) word.now × (n ≡ number_of word.now)) }
+    ensures { IsNumberAnswer (2 ^ 64) word.now result }
 {
     // What `parse` takes beside digits is a sign in front.
     if word.as_bytes().first() == Some(&b'+') {

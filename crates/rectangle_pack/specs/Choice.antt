@@ -29,7 +29,8 @@ module _ {A : Type 0} (MayAnswer : A → A → Ordering → Type 0) where
   pub record IsTotalPreorderOn (xs : List A) (compare : A → A → Ordering) : Type 0 where
     pub only : (x y : A) (r : Ordering) → Contains xs x → Contains xs y → MayAnswer x y r → r ≡ compare x y
     pub swapped : (x y : A) → Contains xs x → Contains xs y → compare y x ≡ ordering_reverse (compare x y)
-    pub transitive : (x y z : A) → Contains xs x → Contains xs y → Contains xs z → compare x y ≢ Greater → compare y z ≢ Greater → compare x z ≢ Greater
+    pub transitive : (x y z : A) → Contains xs x → Contains xs y → Contains xs z
+        → compare x y ≢ Greater → compare y z ≢ Greater → compare x z ≢ Greater
 
   -- the chosen one may be Greater than each later one, and, if it is not the first, may be no less than some earlier one;
   -- where the answers are those of a total preorder, none is greater
@@ -48,4 +49,5 @@ IsAllowedCut MayPrefer section size pieces = MayChoose (λ a b. MayPrefer (sizes
 -- the comparison is a total preorder on the six cuts of each section round each size that it holds, of those that are met
 pub record IsPreorderOnCuts (IsMet : Cuboid → Size → Type 0) (MayPrefer : List Size → List Size → Ordering → Type 0) : Type 0 where
   pub compare : Cuboid → Size → List Cuboid → List Cuboid → Ordering
-  pub preorder : (section : Cuboid) (member : Size) → IsMet section member → Holds section member → IsTotalPreorderOn (λ a b. MayPrefer (sizes_of a) (sizes_of b)) (cuts section member) (compare section member)
+  pub preorder : (section : Cuboid) (member : Size) → IsMet section member → Holds section member
+      → IsTotalPreorderOn (λ a b. MayPrefer (sizes_of a) (sizes_of b)) (cuts section member) (compare section member)

@@ -23,7 +23,9 @@ pub record AreThreeSizes (sizes : List Size) : Type 0 where
 
 -- the comparison may be called on each two triples of such sizes, with this heuristic beside them
 abbrev pub CanCompare : {C H : Type 0} → CompareCalls C H → C → H → Type 0
-CanCompare {C} {H} g comparison heuristic = (first second : List Size) (shown : Bor H) → AreThreeSizes first → AreThreeSizes second → shown.now ≡ heuristic → g.pre comparison (first, (second, (shown, tt)))
+CanCompare {C} {H} g comparison heuristic =
+    (first second : List Size) (shown : Bor H) → AreThreeSizes first → AreThreeSizes second → shown.now ≡ heuristic
+    → g.pre comparison (first, (second, (shown, tt)))
 
 -- both, as a packing asks them
 pub record AreCallable {C H : Type 0} (rates : RateCalls H) (compares : CompareCalls C H) (heuristic : H) (comparison : C) : Type 0 where

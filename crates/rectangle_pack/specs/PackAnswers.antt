@@ -21,7 +21,8 @@ entries_of all = sum (map length (values_of all.groups))
 abbrev pub sections_in : {B : Type 0} → List (B × Bin) → ℕ
 sections_in bins = sum_by (λ b. length b.1.sections) bins
 
--- the fit tests of a packing are added to a count, which stays at the greatest of 128 bits; with n entries they are at most n for each free section of before, and n * (n - 1) for each bin
+-- the fit tests of a packing are added to a count, which stays at the greatest of 128 bits; with n entries they are at most
+-- n for each free section of before, and n * (n - 1) for each bin
 pub record AreCounted {Id B G : Type 0} (all : Collection Id G) (old : List (B × Bin)) (tests before after : ℕ) : Type 0 where
   pub most : tests ≤ entries_of all * sections_in old + length old * (entries_of all * (entries_of all - 1))
   pub added : after ≡ saturated (before + tests)
@@ -34,13 +35,18 @@ module _ {Id B G : Type 0} (group_cmp : Group G Id → Group G Id → Ordering) 
     pub last : AreLastPlacements rules.id_cmp rules.bin_cmp (placements_of ok) (locations_of ok)
 
   -- done; or refused, where the groups before stay placed; or out of memory, where the bins are as they were
-  abbrev pub IsPackAnswer : {A : Type 0} → Collection Id G → List (B × Bin) → Result (RectanglePackOk Id B A) RectanglePackError → List (B × Bin) → Type 0
+  abbrev pub IsPackAnswer : {A : Type 0} → Collection Id G → List (B × Bin)
+      → Result (RectanglePackOk Id B A) RectanglePackError → List (B × Bin) → Type 0
   IsPackAnswer all old (Ok ok) new = IsPacked all old ok new
   IsPackAnswer all old (Err NotEnoughBinSpace) new = PackingRefused group_cmp rules all old new
   IsPackAnswer all old (Err OutOfMemory) new = new ≡ old
 
   -- the same, and exactly the fit tests of the packing are counted; out of memory, no more than the bound
-  abbrev pub IsCountedAnswer : {A : Type 0} → Collection Id G → List (B × Bin) → ℕ → Result (RectanglePackOk Id B A) RectanglePackError → List (B × Bin) → ℕ → Type 0
-  IsCountedAnswer all old before (Ok ok) new after = (packed : IsPacked all old ok new) × AreCounted all old packed.done.tests before after
-  IsCountedAnswer all old before (Err NotEnoughBinSpace) new after = (refused : PackingRefused group_cmp rules all old new) × AreCounted all old refused.tests before after
-  IsCountedAnswer all old before (Err OutOfMemory) new after = (new ≡ old) × ((tests : ℕ) × AreCounted all old tests before after)
+  abbrev pub IsCountedAnswer : {A : Type 0} → Collection Id G → List (B × Bin) → ℕ
+      → Result (RectanglePackOk Id B A) RectanglePackError → List (B × Bin) → ℕ → Type 0
+  IsCountedAnswer all old before (Ok ok) new after =
+      (packed : IsPacked all old ok new) × AreCounted all old packed.done.tests before after
+  IsCountedAnswer all old before (Err NotEnoughBinSpace) new after =
+      (refused : PackingRefused group_cmp rules all old new) × AreCounted all old refused.tests before after
+  IsCountedAnswer all old before (Err OutOfMemory) new after =
+      (new ≡ old) × ((tests : ℕ) × AreCounted all old tests before after)

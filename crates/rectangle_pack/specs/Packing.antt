@@ -45,24 +45,29 @@ at_start bins = record { bins = bins; homes = [] }
 
 -- a bin is barred for a group where a group that is excluded with it went there earlier in the same packing
 abbrev pub bars_by : {K B : Type 0} → (K → K → Ordering) → (B → B → Ordering) → List (K × List K) → List (K × B) → K → B → Bool
-bars_by group_cmp bin_cmp partners homes group id = list_any (λ home. are_excluded group_cmp partners group home.0 && is_at (bin_cmp id) home.1) homes
+bars_by group_cmp bin_cmp partners homes group id =
+    list_any (λ home. are_excluded group_cmp partners group home.0 && is_at (bin_cmp id) home.1) homes
 
 -- of two groups that are excluded, neither is in the other's bin
 abbrev pub AreKeptApart : {K B : Type 0} → (K → K → Ordering) → (B → B → Ordering) → List (K × List K) → List (K × B) → Type 0
-AreKeptApart group_cmp bin_cmp partners homes = AllPairs (λ a b. are_excluded group_cmp partners a.0 b.0 ≡ true → is_at (bin_cmp a.1) b.1 ≡ false) homes
+AreKeptApart group_cmp bin_cmp partners homes =
+    AllPairs (λ a b. are_excluded group_cmp partners a.0 b.0 ≡ true → is_at (bin_cmp a.1) b.1 ≡ false) homes
 
 -- no bin is barred for any group
 abbrev pub bars_none : {K B : Type 0} → List (K × B) → K → B → Bool
 bars_none homes group id = false
 
 -- the groups that an order names: the name, and the ids of the list, with their sizes
-pub record AreGroups {Id K : Type 0} (cmp : Id → Id → Ordering) (group_cmp : K → K → Ordering) (sizes : List (Id × Size)) (lists : List (K × List Id)) (order : List (ℕ × K)) (groups : List (K × Members Id)) : Type 0 where
-  pub each : AllZip (λ entry group. (group.0 ≡ entry.1) × (lookup (is_at (group_cmp entry.1)) lists ≡ Some group.1.ids) × AllZip (λ id size. lookup (is_at (cmp id)) sizes ≡ Some size) group.1.ids group.1.sizes) order groups
+pub record AreGroups {Id K : Type 0} (cmp : Id → Id → Ordering) (group_cmp : K → K → Ordering)
+    (sizes : List (Id × Size)) (lists : List (K × List Id)) (order : List (ℕ × K)) (groups : List (K × Members Id)) : Type 0 where
+  pub each : AllZip (λ entry group. (group.0 ≡ entry.1) × (lookup (is_at (group_cmp entry.1)) lists ≡ Some group.1.ids)
+      × AllZip (λ id size. lookup (is_at (cmp id)) sizes ≡ Some size) group.1.ids group.1.sizes) order groups
 
 module _ {Id B : Type 0} (rules : Rules Id B) where
   -- the bin of this id is there, and the group's trial is stuck in it
   abbrev pub IsStuckIn : List (B × Bin) → Members Id → B → ℕ → Type 0
-  IsStuckIn bins group id tests = IsSomeAnd (lookup (is_at (rules.bin_cmp id)) bins) (λ (bin : Bin). IsStuck rules.may bin.sections group.sizes tests)
+  IsStuckIn bins group id tests =
+      IsSomeAnd (lookup (is_at (rules.bin_cmp id)) bins) (λ (bin : Bin). IsStuck rules.may bin.sections group.sizes tests)
 
   -- the bin does not take the group: it is barred, and then nothing is tested, or the group's trial is stuck in it
   abbrev pub DoesNotTake : (B → Bool) → List (B × Bin) → Members Id → B → ℕ → Type 0
@@ -70,7 +75,8 @@ module _ {Id B : Type 0} (rules : Rules Id B) where
 
   -- the group is placed: a bin of the order is not barred and its trial is done there, and each bin before does not take it;
   -- that bin's list becomes the trial's, and the rest stays
-  pub record IsPlaced (barred : B → Bool) (order : List B) (group : Members Id) (old : List (B × Bin)) (placements : List (Placement Id B)) (new : List (B × Bin)) (tests : ℕ) : Type 0 where
+  pub record IsPlaced (barred : B → Bool) (order : List B) (group : Members Id)
+      (old : List (B × Bin)) (placements : List (Placement Id B)) (new : List (B × Bin)) (tests : ℕ) : Type 0 where
     pub before : List B
     pub here : B
     pub after : List B
@@ -105,7 +111,8 @@ module _ {Id B : Type 0} (rules : Rules Id B) where
         × (placements ≡ first ++ later) × (tests ≡ one + others)
 
     -- a beginning of the group order is placed, and the next group is refused; `taken` names them, the refused one last
-    pub record StopsAfter (group_cmp : K → K → Ordering) (sizes : List (Id × Size)) (lists : List (K × List Id)) (group_order : List (ℕ × K)) (order : List B) (old new : List (B × Bin)) (tests : ℕ) : Type 0 where
+    pub record StopsAfter (group_cmp : K → K → Ordering) (sizes : List (Id × Size)) (lists : List (K × List Id))
+        (group_order : List (ℕ × K)) (order : List B) (old new : List (B × Bin)) (tests : ℕ) : Type 0 where
       pub taken : List (ℕ × K)
       pub later : List (ℕ × K)
       pub order_is : group_order ≡ taken ++ later
@@ -122,7 +129,8 @@ module _ {Id B : Type 0} (rules : Rules Id B) where
 
 module _ {Id B G : Type 0} (group_cmp : Group G Id → Group G Id → Ordering) (rules : Rules Id B) where
   -- a packing is done, by what bars bins: each group, in one group order and by one bin order, is placed; without groups no bin is asked
-  pub record PackingDoneBy (bars : List (Group G Id × B) → Group G Id → B → Bool) (all : Collection Id G) (old : List (B × Bin)) (placements : List (Placement Id B)) (new : List (B × Bin)) : Type 0 where
+  pub record PackingDoneBy (bars : List (Group G Id × B) → Group G Id → B → Bool)
+      (all : Collection Id G) (old : List (B × Bin)) (placements : List (Placement Id B)) (new : List (B × Bin)) : Type 0 where
     pub group_order : List (ℕ × Group G Id)
     pub bin_order : List (ℕ × B)
     pub groups : List (Group G Id × Members Id)
@@ -135,7 +143,8 @@ module _ {Id B G : Type 0} (group_cmp : Group G Id → Group G Id → Ordering) 
 
   -- a packing is refused, by what bars bins: in one group order and by one bin order, a beginning of the groups is placed
   -- and no bin takes the next group
-  pub record PackingRefusedBy (bars : List (Group G Id × B) → Group G Id → B → Bool) (all : Collection Id G) (old new : List (B × Bin)) : Type 0 where
+  pub record PackingRefusedBy (bars : List (Group G Id × B) → Group G Id → B → Bool)
+      (all : Collection Id G) (old new : List (B × Bin)) : Type 0 where
     pub group_order : List (ℕ × Group G Id)
     pub bin_order : List (ℕ × B)
     pub by_groups : IsGroupOrder rules.may.rate group_cmp rules.id_cmp all.sizes all.groups group_order

@@ -32,7 +32,8 @@ module _ {Id B : Type 0} (cmp : Id → Id → Ordering) (bin_cmp : B → B → O
     pub together : All (λ p. bin_cmp here p.bin ≡ Equal) placements
 
   -- the placements are those of one group after another, each group whole in its bin; the homes are those bins, in the order taken
-  abbrev pub ArePlacedWhole : {K : Type 0} → (K → K → Ordering) → List (Id × Size) → List (K × List Id) → List (K × B) → List (Placement Id B) → Type 0
+  abbrev pub ArePlacedWhole : {K : Type 0} → (K → K → Ordering) → List (Id × Size) → List (K × List Id)
+      → List (K × B) → List (Placement Id B) → Type 0
   ArePlacedWhole group_cmp sizes lists [] placements = placements ≡ []
   ArePlacedWhole group_cmp sizes lists (home ∷ homes) placements =
       (ids : List Id) × (first : List (Placement Id B)) × (later : List (Placement Id B)) × (lookup (is_at (group_cmp home.0)) lists ≡ Some ids)

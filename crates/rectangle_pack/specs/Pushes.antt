@@ -17,5 +17,6 @@ pub record IsFirstSharing (sections : List Cuboid) (box first : Cuboid) : Type 0
 abbrev pub IsPushAnswer : Bin → Cuboid → Result (Unit {0}) PushBinSectionError → Bin → Type 0
 IsPushAnswer old box (Ok u) new = IsAccepted old box × (new ≡ record old { sections = old.sections ++ box ∷ [] })
 IsPushAnswer old box (Err (OutOfBounds refused)) new = (¬ IsInside old.size box) × (refused ≡ box) × (new ≡ old)
-IsPushAnswer old box (Err (Overlaps remaining refused)) new = IsInside old.size box × IsFirstSharing old.sections box remaining × (refused ≡ box) × (new ≡ old)
+IsPushAnswer old box (Err (Overlaps remaining refused)) new =
+    IsInside old.size box × IsFirstSharing old.sections box remaining × (refused ≡ box) × (new ≡ old)
 IsPushAnswer old box (Err (OutOfMemory refused)) new = IsAccepted old box × (refused ≡ box) × (new ≡ old)

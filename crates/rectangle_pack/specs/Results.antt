@@ -17,7 +17,8 @@ use Rattle.rectangle_pack.specs.Packing.{Rules, PackingDone, PackingRefused}
 abbrev pub MayBeCut : List Bin → Cuboid → Type 0
 MayBeCut bins section = Any (λ (bin : Bin). Any (IsPartOf section) bin.sections) bins
 
--- what may be rated in a packing of boxes of these sizes into these bins: the size of a box, of a bin, or of a part of a free section, which the section holds
+-- what may be rated in a packing of boxes of these sizes into these bins: the size of a box, of a bin, or of a part of
+-- a free section, which the section holds
 abbrev pub MayBeRated : List Size → List Bin → Size → Type 0
 MayBeRated boxes bins size = Contains boxes size ⊎ Any (λ (bin : Bin). (size ≡ bin.size) ⊎ Any (λ s. Holds s size) bin.sections) bins
 
@@ -36,7 +37,8 @@ abbrev pub AreBinsAlike : {B : Type 0} → (B → B → Ordering) → List (B ×
 AreBinsAlike bin_cmp xs ys = AreMapsAlike bin_cmp (λ a b. a ≡ b) xs ys
 
 -- the same sizes under ids that are equal, lists of equal ids under groups that are equal, and the same pairs of groups that are excluded
-pub record AreCollectionsAlike {Id G : Type 0} (group_cmp : Group G Id → Group G Id → Ordering) (cmp : Id → Id → Ordering) (one other : Collection Id G) : Type 0 where
+pub record AreCollectionsAlike {Id G : Type 0} (group_cmp : Group G Id → Group G Id → Ordering)
+    (cmp : Id → Id → Ordering) (one other : Collection Id G) : Type 0 where
   pub sizes : AreMapsAlike cmp (λ a b. a ≡ b) one.sizes other.sizes
   pub groups : AreMapsAlike group_cmp (λ a b. AllZip (λ x y. cmp x y ≡ Equal) a b) one.groups other.groups
   pub excluded : (a b : Group G Id) → are_excluded group_cmp one.partners a b ≡ are_excluded group_cmp other.partners a b
@@ -61,7 +63,8 @@ module _ {Id B G : Type 0} (group_cmp : Group G Id → Group G Id → Ordering) 
   -- and not one is done and the other refused
   pub record HaveOneResult (all other_all : Collection Id G) (bins other_bins : List (B × Bin)) : Type 0 where
     pub done : (ps qs : List (Placement Id B)) (m n : List (B × Bin)) → PackingDone group_cmp rules all bins ps m
-        → PackingDone group_cmp other_rules other_all other_bins qs n → AreBinsAlike rules.bin_cmp m n × ArePlacementsAlike rules.id_cmp rules.bin_cmp ps qs
+        → PackingDone group_cmp other_rules other_all other_bins qs n
+        → AreBinsAlike rules.bin_cmp m n × ArePlacementsAlike rules.id_cmp rules.bin_cmp ps qs
     pub refused : (m n : List (B × Bin)) → PackingRefused group_cmp rules all bins m
         → PackingRefused group_cmp other_rules other_all other_bins n → AreBinsAlike rules.bin_cmp m n
     pub not_done_and_refused : (ps : List (Placement Id B)) (m n : List (B × Bin)) → PackingDone group_cmp rules all bins ps m

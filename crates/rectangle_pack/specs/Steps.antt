@@ -20,7 +20,8 @@ pub record AreLeft (MayRate : Size → ℕ → Type 0) (cut left : List Cuboid) 
   pub are : left ≡ filter has_cells (map (λ p. p.1) ranked)
 
 module _ (may : Answers) where
-  -- a member goes to the corner of the last section that holds it; the section makes way for the pieces left of an allowed cut, at the end of the list;
+  -- a member goes to the corner of the last section that holds it; the section makes way for the pieces left of an allowed
+  -- cut, at the end of the list;
   -- each section from there on is tested once
   pub record IsStep (sections : List Cuboid) (member : Size) (location : Cuboid) (next : List Cuboid) (tests : ℕ) : Type 0 where
     pub before : List Cuboid
@@ -49,4 +50,5 @@ module _ (may : Answers) where
   IsStuck sections [] tests = ⊥
   IsStuck sections (m ∷ ms) tests =
       (All (λ s. ¬ Holds s m) sections × (tests ≡ length sections))
-      ⊎ ((l : Cuboid) × (next : List Cuboid) × (one : ℕ) × (others : ℕ) × IsStep sections m l next one × IsStuck next ms others × (tests ≡ one + others))
+      ⊎ ((l : Cuboid) × (next : List Cuboid) × (one : ℕ) × (others : ℕ)
+      × IsStep sections m l next one × IsStuck next ms others × (tests ≡ one + others))

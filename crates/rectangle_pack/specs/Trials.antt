@@ -10,7 +10,8 @@ use Rattle.rectangle_pack.specs.Steps.{IsDone, IsStuck}
 -- done: the bin has the trial's list; stuck, or out of memory: the bin is as it was. The tests are counted, except out of memory
 abbrev pub IsTrialAnswer : {A E : Type 0} → Answers → Bin → List Size → ℕ → Result (Option (Vec Cuboid A)) E → Bin → ℕ → Type 0
 IsTrialAnswer may old members counted (Ok (Some locations)) new counter =
-    (tests : ℕ) × IsDone may old.sections members locations.items new.sections tests × (new.size ≡ old.size) × (counter ≡ saturated (counted + tests))
+    (tests : ℕ) × IsDone may old.sections members locations.items new.sections tests
+    × (new.size ≡ old.size) × (counter ≡ saturated (counted + tests))
 IsTrialAnswer may old members counted (Ok None) new counter =
     (tests : ℕ) × IsStuck may old.sections members tests × (new ≡ old) × (counter ≡ saturated (counted + tests))
 IsTrialAnswer may old members counted (Err error) new counter = (new ≡ old) × (counter ≡ counted)

@@ -44,7 +44,8 @@ use std::collections::BTreeMap;
 /// may be called on every size, and `more_suitable_containers_fn` on every two triples of sizes.
 ///
 /// `NotEnoughBinSpace` says that for some group each bin is passed over or does not take all of its
-/// boxes: the groups before it stay placed in the bins. `OutOfMemory` says that a growth or a clone was refused: the bins are as they were.
+/// boxes: the groups before it stay placed in the bins. `OutOfMemory` says that a growth or a clone
+/// was refused: the bins are as they were.
 ///
 /// ```
 /// let mut rects: GroupedRectsToPlace<u32, u32> = GroupedRectsToPlace::new(alloc);
@@ -102,8 +103,8 @@ where
 }
 
 /// `pack_rects`, with its fit tests added to `tests`: for a group that is placed those of its
-/// trials in the bins up to its own, for a group that is refused those of its trials in all bins. In
-/// a bin that is passed over no trial is made. `OutOfMemory` adds the tests made until then.
+/// trials in the bins up to its own, for a group that is refused those of its trials in all bins.
+/// In a bin that is passed over no trial is made. `OutOfMemory` adds the tests made until then.
 ///
 /// With n entries in the groups these are at most n tests for each free section of before and
 /// n * (n - 1) for each bin. The counter stays at the greatest `u128`.
@@ -172,8 +173,8 @@ where
         KeepsEachBin BinId.cmp old placements new }
 {}
 
-/// A law: where the refused group has one entry, no free section of a bin that is not barred for it,
-/// as the groups before it left them, holds its box.
+/// A law: where the refused group has one entry, no free section of a bin that is not barred for
+/// it, as the groups before it left them, holds its box.
 pub fn refused_box_is_held_nowhere<Id: Ord, BinId: Ord, GroupId: Ord, H, C>(
     heuristic: &H,
     comparison: &C,
@@ -243,8 +244,8 @@ where
         map (λ h. h.0) (reverse done.homes) ≡ map (λ o. o.1) done.group_order }
 {}
 
-/// A law: no two groups that are excluded share a bin, of those that one packing placed. `homes` has
-/// the bin of each, in which it is placed whole (`groups_are_placed_whole`).
+/// A law: no two groups that are excluded share a bin, of those that one packing placed. `homes`
+/// has the bin of each, in which it is placed whole (`groups_are_placed_whole`).
 pub fn excluded_groups_are_apart<Id: Ord, BinId: Ord, GroupId: Ord, H, C>(
     heuristic: &H,
     comparison: &C,

@@ -58,8 +58,8 @@ impl fmt::Display for PushBinSectionError {
     }
 }
 
-/// A bin: its size, and the list of its free sections, in cells. Each free section is inside the bin, and no
-/// two share a cell.
+/// A bin: its size, and the list of its free sections, in cells. Each free section is inside the
+/// bin, and no two share a cell.
 #[derive(Drop)]
 #[derive_where(Debug)]
 pub struct TargetBin<A: Allocator + Copy = Global> {
@@ -96,8 +96,8 @@ fn first_sharing(sections: &[BinSection], section: &BinSection) -> Option<BinSec
 }
 
 impl<A: Allocator + Copy> TargetBin<A> {
-    /// A bin of this size, in cells, with one free section, which is all of it; any size will do. An
-    /// error is want of memory.
+    /// A bin of this size, in cells, with one free section, which is all of it; any size will do.
+    /// An error is want of memory.
     pub fn new(alloc: A, width: u32, height: u32, depth: u32) -> Result<Self, AllocError>
         ensures size { IfOk result
             (λ b. b.bin.size ≡ record { width = width; height = height; depth = depth }) }
