@@ -12,7 +12,7 @@ use Rattle.rectangle_pack.specs.declared.pack.answer.Placement.{Placement}
 use Rattle.rectangle_pack.specs.Boxes.{Size, Cuboid, IsU32, volume_of}
 use Rattle.rectangle_pack.specs.Bins.{Bin}
 use Rattle.rectangle_pack.specs.Closures.{Answers}
-use Rattle.rectangle_pack.specs.Choice.{IsTotalPreorderOn, MayLose, MayChoose, IsAllowedCut}
+use Rattle.rectangle_pack.specs.Choice.{MayLose, MayChoose, IsAllowedCut}
 use Rattle.rectangle_pack.specs.Cuts.{cuts, sizes_of}
 use Rattle.rectangle_pack.specs.Groups.{Collection}
 use Rattle.rectangle_pack.specs.Orders.{IsGroupKey, IsGroupOrder, IsBinOrder}

@@ -5,13 +5,12 @@ use Rattle.std.specs.declared.cmp.Ordering.{Ordering}
 use Rattle.std.specs.declared.vec.Vec.{Vec}
 use Rattle.std.specs.Cmp.{IsTotalOrder}
 use Rattle.std.specs.Ordering.{is_eq}
-use Rattle.std.specs.Option.{option_map}
 use Rattle.std.specs.Result.{is_err}
 use Rattle.std.specs.Map.{lookup, values_of, keys_of}
 use Rattle.std.specs.BTreeMap.{is_at, insert_entry}
 use Rattle.std.proofs.lemmas.List.Elements.{All-weaker, All-contains, All-tail, All-head, All-cons, All-nil}
 use Rattle.std.proofs.lemmas.Map.Views.{All-values_from_lookup, IfSome-lookup_from_All, All-values-insert_entry}
-use Rattle.rectangle_pack.proofs.ListsLemmas.{lists_of-insert_entry, lookup-lists, keys-lists}
+use Rattle.rectangle_pack.proofs.ListsLemmas.{lists_of-insert_entry}
 use Rattle.rectangle_pack.specs.Groups.{lists_of}
 use Rattle.rectangle_pack.specs.private.Lists.{filled, times, IsAdded}
 use Rattle.std.specs.List.Sorted.{IsStrictlySortedBy}

@@ -1,10 +1,8 @@
 -- Appended items, taken back.
-use Rattle.std.proofs.Common.{◌≡◌, ℕ, ◌+◌, ◌-◌, ◌<◌, ◌≤◌, List, [], ◌∷◌, ◌++◌, length, take, get_or, refl, sym, ◌∙◌, ap, subst, arith, length-append, add-one}
+use Rattle.std.proofs.Common.{◌≡◌, ℕ, ◌+◌, ◌-◌, ◌<◌, ◌≤◌, List, [], ◌∷◌, ◌++◌, length, take, get_or, refl, ◌∙◌, ap, subst, arith, length-append, add-one}
 use Rattle.std.proofs.Math.Seq.{take-suc, take-append_seam}
-use Rattle.std.specs.Prelude.{Option, Some, IsSome, reverse}
-use Rattle.std.specs.Option.{option_map}
+use Rattle.std.specs.Prelude.{Some, IsSome, reverse}
 use Rattle.std.specs.declared.cmp.Ordering.{Ordering}
-use Rattle.std.specs.declared.vec.Vec.{Vec}
 use Rattle.std.specs.Map.{lookup, set_value}
 use Rattle.std.specs.BTreeMap.{is_at}
 use Rattle.std.proofs.lemmas.List.{reverse-append}

@@ -10,8 +10,8 @@ use Rattle.std.proofs.lemmas.List.{reverse-append, append-nil}
 use Rattle.rectangle_pack.specs.declared.pack.answer.Placement.{Placement}
 use Rattle.rectangle_pack.specs.Boxes.{Size, Cuboid}
 use Rattle.rectangle_pack.specs.Closures.{Answers}
-use Rattle.rectangle_pack.specs.Placed.{ArePlacedIn, ArePlacedWhole}
-use Rattle.rectangle_pack.specs.Steps.{IsStep, IsDone}
+use Rattle.rectangle_pack.specs.Placed.{ArePlacedWhole}
+use Rattle.rectangle_pack.specs.Steps.{IsDone}
 use Rattle.rectangle_pack.specs.Packing.{Rules, Members, Stage, AreGroups, AreAllPlaced}
 
 -- each location of a trial has the size of its member

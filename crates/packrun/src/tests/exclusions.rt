@@ -54,7 +54,7 @@ pub fn exclude_all<M: Allocator + Copy>(
 ) -> Result<(), AllocError> {
     for (one, other) in pairs {
         let (one, other) = (one.clone()?, other.clone()?);
-        if one.cmp(&other).is_ne() {
+        if one != other {
             rects.exclude(one, other)?;
         }
     }

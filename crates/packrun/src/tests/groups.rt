@@ -223,8 +223,9 @@ fn room_grows_as_the_groups_named(rt: HostRuntime) -> Result<(), Fail> {
     for group in 0..200u32 {
         named.push(group)?;
     }
+    let named = if named.is_empty() { None } else { Some(named) };
     let mut all = GroupedRectsToPlace::new(alloc);
-    all.push_rect("One", Some(named), RectToInsert::new(1, 1, 1))?;
+    all.push_rect("One", named, RectToInsert::new(1, 1, 1))?;
     assert_eq!(rt; all.groups().len(), 200);
     for members in all.groups().values() {
         assert!(rt; members.capacity() <= 8, "{}", members.capacity());

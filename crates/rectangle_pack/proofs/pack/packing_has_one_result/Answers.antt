@@ -1,7 +1,5 @@
 use Rattle.std.proofs.Common.{refl}
-use Rattle.rectangle_pack.specs.Closures.{answers}
 use Rattle.rectangle_pack.specs.Packing.{rules_by}
-use Rattle.rectangle_pack.specs.Results.{either_of}
 use Rattle.rectangle_pack.proofs.EitherLemmas.{HaveOneResult-either}
 use Rattle.rectangle_pack.proofs.GroupOrderLemmas.{groups_total}
 use Rattle.rectangle_pack.proofs.OnePackingLemmas.{one_result}
