@@ -4,7 +4,6 @@ ghost use Rattle.std.specs.declared.cmp.Ordering.TheVariants.{Less, Equal, Great
 ghost use Rattle.std.specs.Option.{ForSome};
 ghost use Rattle.std.specs.List.Sorted.{IsStrictlySortedBy};
 ghost use Rattle.std.specs.Map.{lookup, keys_of};
-ghost use Rattle.std.specs.Ordering.{is_eq};
 ghost use Rattle.std.specs.BTreeMap.{get, is_at, insert_entry};
 ghost use Rattle.rectangle_pack.specs.Exclusions.{are_excluded};
 ghost use Rattle.rectangle_pack.specs.Groups.{Collection, PushesAlone, PushesInto, Excludes, MembersHaveSizes, lists_of};
