@@ -5,7 +5,7 @@ use Rattle.std.proofs.Math.Seq.{split_at}
 use Rattle.std.proofs.lemmas.List.Quantifiers.{all_pairs_push}
 use Rattle.std.proofs.lemmas.List.Elements.{All-push, All-append, All-head, All-tail, All-weaker}
 use Rattle.std.proofs.lemmas.List.Kept.{AllPairs-cons}
-use Rattle.rectangle_pack.specs.Boxes.{Size, Cuboid, IsInside, AreApart, SharesCell}
+use Rattle.rectangle_pack.specs.Boxes.{Cuboid, IsInside, AreApart, SharesCell}
 use Rattle.rectangle_pack.specs.Bins.{IsSound, IsAccepted, Bin}
 use Rattle.rectangle_pack.specs.Pushes.{IsFirstSharing}
 use Rattle.rectangle_pack.proofs.BoxesLemmas.{not_from_AreApart}
@@ -13,10 +13,10 @@ use Rattle.rectangle_pack.proofs.CountingLemmas.{AllPairs-head, AllPairs-tail}
 use Rattle.rectangle_pack.proofs.StepsLemmas.{All-back}
 
 -- a section that is accepted leaves a sound list sound
-pub IsSound-push : (size : Size) (sections : List Cuboid) (s : Cuboid) → IsSound size sections → IsAccepted (record { size = size; sections = sections }) s → IsSound size (sections ++ s ∷ [])
-IsSound-push size sections s sound accepted = record {
-  inside = All-push (IsInside size) sections s sound.inside accepted.inside;
-  apart = all_pairs_push AreApart sections s sound.apart accepted.apart;
+pub IsSound-push : (bin : Bin) (s : Cuboid) → IsSound bin.size bin.sections → IsAccepted bin s → IsSound bin.size (bin.sections ++ s ∷ [])
+IsSound-push bin s sound accepted = record {
+  inside = All-push (IsInside bin.size) bin.sections s sound.inside accepted.inside;
+  apart = all_pairs_push AreApart bin.sections s sound.apart accepted.apart;
 }
 
 AllPairs-append : {X : Type 0} (R : X → X → Type 0) (xs ys : List X) → AllPairs R xs → AllPairs R ys → All (λ y. All (λ x. R x y) xs) ys → AllPairs R (xs ++ ys)
@@ -27,13 +27,11 @@ AllPairs-append R (x ∷ xs) ys p q across =
     (AllPairs-append R xs ys (AllPairs-tail R x xs p) q (All-weaker (λ y. All (λ x. R x y) (x ∷ xs)) (λ y. All (λ x. R x y) xs) (λ y h. All-tail (λ x. R x y) x xs h) ys across))
 
 -- so do sections that are each accepted, and share no cell two by two
-pub IsSound-append : (size : Size) (sections new : List Cuboid) → IsSound size sections → All (IsAccepted (record { size = size; sections = sections })) new → AllPairs AreApart new → IsSound size (sections ++ new)
-IsSound-append size sections new sound accepted apart =
-    let Accepts : Cuboid → Type 0 = IsAccepted (record { size = size; sections = sections }) in
-    record {
-      inside = All-append (IsInside size) sections new sound.inside (All-weaker Accepts (IsInside size) (λ s h. h.inside) new accepted);
-      apart = AllPairs-append AreApart sections new sound.apart apart (All-weaker Accepts (λ s. All (λ t. AreApart t s) sections) (λ s h. h.apart) new accepted);
-    }
+pub IsSound-append : (bin : Bin) (new : List Cuboid) → IsSound bin.size bin.sections → All (IsAccepted bin) new → AllPairs AreApart new → IsSound bin.size (bin.sections ++ new)
+IsSound-append bin new sound accepted apart = record {
+  inside = All-append (IsInside bin.size) bin.sections new sound.inside (All-weaker (IsAccepted bin) (IsInside bin.size) (λ s h. h.inside) new accepted);
+  apart = AllPairs-append AreApart bin.sections new sound.apart apart (All-weaker (IsAccepted bin) (λ s. All (λ t. AreApart t s) bin.sections) (λ s h. h.apart) new accepted);
+}
 
 -- a section that shares a cell with the box stands in the way
 pub not_accepted : (bin : Bin) (box first : Cuboid) → IsFirstSharing bin.sections box first → ¬ IsAccepted bin box

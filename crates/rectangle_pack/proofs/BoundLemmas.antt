@@ -216,7 +216,7 @@ module _ {Id B : Type 0} (rules : Rules Id B) (o : IsTotalOrder rules.bin_cmp) w
       count x = unwrap_or (option_map (λ (b : Bin). length b.sections) x) 0
 
       after : Bin
-      after = record { size = p.bin.size; sections = p.last }
+      after = record p.bin { sections = p.last }
 
       seen : (id : B) → lookup (is_at (rules.bin_cmp id)) new ≡ cond (is_at (rules.bin_cmp p.here) id) (Some after) (lookup (is_at (rules.bin_cmp id)) old)
       seen id = ap (lookup (is_at (rules.bin_cmp id))) p.new_is ∙ lookup-written o p.here old p.bin after id p.found

@@ -76,7 +76,7 @@ module _ {Id B : Type 0} (rules : Rules Id B) (o : IsTotalOrder rules.bin_cmp) w
   placed_kept barred order group old placements new n h q before was = by (is_eq (rules.bin_cmp h.here q)) refl
     where
       after : Bin
-      after = record { size = h.bin.size; sections = h.last }
+      after = record h.bin { sections = h.last }
 
       seen : lookup (is_at (rules.bin_cmp q)) new ≡ cond (is_eq (rules.bin_cmp h.here q)) (Some after) (lookup (is_at (rules.bin_cmp q)) old)
       seen = ap (lookup (is_at (rules.bin_cmp q))) h.new_is ∙ lookup-written o h.here old h.bin after q h.found
@@ -147,7 +147,7 @@ module _ {Id B : Type 0} (rules : Rules Id B) (o : IsTotalOrder rules.bin_cmp) w
         by (is_eq (rules.bin_cmp placed.here q)) refl (was_there order gs (record { bins = next; homes = (g.0, placed.here) ∷ old.homes }) rest new others later q some)
       where
         after : Bin
-        after = record { size = placed.bin.size; sections = placed.last }
+        after = record placed.bin { sections = placed.last }
 
         seen : lookup (is_at (rules.bin_cmp q)) next ≡ cond (is_eq (rules.bin_cmp placed.here q)) (Some after) (lookup (is_at (rules.bin_cmp q)) old.bins)
         seen = ap (lookup (is_at (rules.bin_cmp q))) placed.new_is ∙ lookup-written o placed.here old.bins placed.bin after q placed.found

@@ -35,6 +35,12 @@ same_from_options None (Some y) h = absurd h
 same_from_options (Some x) None h = absurd h
 same_from_options (Some x) (Some y) h = ap (λ x. Some x) h
 
+-- what is alike to a value that is there, is there
+pub found-alike : {X : Type 0} (Alike : X → X → Type 0) (x : X) (a b : Option X) → a ≡ Some x → AreOptionsAlike Alike a b → (y : X) × (b ≡ Some y) × Alike x y
+found-alike Alike x None b found h = absurd cc
+found-alike Alike x (Some z) None found h = absurd h
+found-alike Alike x (Some z) (Some y) found h = let same : z ≡ x = cc in (y, refl, rw (← same) h)
+
 same_test : {K : Type 0} {cmp : K → K → Ordering} → IsTotalOrder cmp → (x y e f : K) → cmp x y ≡ Equal → cmp e f ≡ Equal → is_eq (cmp x e) ≡ is_eq (cmp y f)
 same_test o x y e f h k = ap is_eq (o.congr x y e h ∙ congr_right o e f y k)
 
@@ -54,15 +60,15 @@ module _ {K X : Type 0} {cmp : K → K → Ordering} (o : IsTotalOrder cmp) wher
   pub lookup-same : (x y : K) → cmp x y ≡ Equal → (es fs : List (K × X)) → AreMapsAlike cmp (λ a b. a ≡ b) es fs → lookup (is_at (cmp x)) es ≡ lookup (is_at (cmp y)) fs
   lookup-same x y h es fs m = same_from_options _ _ (lookup-alike (λ a b. a ≡ b) x y h es fs m)
 
-  -- maps agree after the same write
-  pub set_value-alike : (Alike : X → X → Type 0) (x y : K) (w : X) → Alike w w → cmp x y ≡ Equal → (es fs : List (K × X)) → AreMapsAlike cmp Alike es fs → AreMapsAlike cmp Alike (set_value (is_at (cmp x)) es w) (set_value (is_at (cmp y)) fs w)
-  set_value-alike Alike x y w a h [] [] m = tt
-  set_value-alike Alike x y w a h [] (f ∷ fs) m = absurd m
-  set_value-alike Alike x y w a h (e ∷ es) [] m = absurd m
-  set_value-alike Alike x y w a h (e ∷ es) (f ∷ fs) m = rw (same_test o x y e.0 f.0 h m.0.0) (at (is_eq (cmp y f.0)) (set_value-alike Alike x y w a h es fs m.1))
+  -- maps agree after writes that are alike
+  pub set_value-alike : (Alike : X → X → Type 0) (x y : K) (v w : X) → Alike v w → cmp x y ≡ Equal → (es fs : List (K × X)) → AreMapsAlike cmp Alike es fs → AreMapsAlike cmp Alike (set_value (is_at (cmp x)) es v) (set_value (is_at (cmp y)) fs w)
+  set_value-alike Alike x y v w a h [] [] m = tt
+  set_value-alike Alike x y v w a h [] (f ∷ fs) m = absurd m
+  set_value-alike Alike x y v w a h (e ∷ es) [] m = absurd m
+  set_value-alike Alike x y v w a h (e ∷ es) (f ∷ fs) m = rw (same_test o x y e.0 f.0 h m.0.0) (at (is_eq (cmp y f.0)) (set_value-alike Alike x y v w a h es fs m.1))
     where
-      at : (b : Bool) → AreMapsAlike cmp Alike (set_value (is_at (cmp x)) es w) (set_value (is_at (cmp y)) fs w)
-          → AreMapsAlike cmp Alike (cond b ((e.0, w) ∷ es) (e ∷ set_value (is_at (cmp x)) es w)) (cond b ((f.0, w) ∷ fs) (f ∷ set_value (is_at (cmp y)) fs w))
+      at : (b : Bool) → AreMapsAlike cmp Alike (set_value (is_at (cmp x)) es v) (set_value (is_at (cmp y)) fs w)
+          → AreMapsAlike cmp Alike (cond b ((e.0, v) ∷ es) (e ∷ set_value (is_at (cmp x)) es v)) (cond b ((f.0, w) ∷ fs) (f ∷ set_value (is_at (cmp y)) fs w))
       at true i = ((m.0.0, a), m.1)
       at false i = (m.0, i)
 

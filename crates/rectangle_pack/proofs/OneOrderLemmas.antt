@@ -17,7 +17,7 @@ use Rattle.std.proofs.lemmas.Map.Views.{IfSome-lookup_from_All}
 use Rattle.rectangle_pack.specs.Boxes.{Size}
 use Rattle.rectangle_pack.specs.Bins.{Bin}
 use Rattle.rectangle_pack.specs.Choice.{IsFunction}
-use Rattle.rectangle_pack.specs.Results.{AreMapsAlike, AreBinsAlike}
+use Rattle.rectangle_pack.specs.Results.{AreMapsAlike, AreSameBins, AreBinsAlike}
 use Rattle.rectangle_pack.proofs.MapsLemmas.{lookup-same}
 use Rattle.rectangle_pack.specs.Numbers.{saturated}
 use Rattle.rectangle_pack.specs.Orders.{falling_then, rising_then, IsGroupKey, IsGroupOrder, IsBinOrder}
@@ -232,16 +232,16 @@ module _ (IsMet : Size → Type 0) (MayRate : Size → ℕ → Type 0) (f : IsFu
       → AllZip (λ a b. cmp a b ≡ Equal) (map (λ o. o.1) o1) (map (λ o. o.1) o2)
   one_bin_order {B} cmp total bins1 bins2 o1 o2 u alike p q =
       let R : ℕ × B → ℕ × B → Ordering = rising_then cmp in
-      let E : B × Bin → B × Bin → Type 0 = λ x y. (cmp x.0 y.0 ≡ Equal) × (x.1 ≡ y.1) in
+      let E : B × Bin → B × Bin → Type 0 = λ x y. (cmp x.0 y.0 ≡ Equal) × AreSameBins x.1 y.1 in
       let P : B × Bin → ℕ × B → Type 0 = λ bin entry. (cmp bin.0 entry.1 ≡ Equal) × MayRate bin.1.size entry.0 in
       let S : B × Bin → ℕ × B → Type 0 = λ bin entry. IsMet bin.1.size × P bin entry in
       let begin : AllZip (λ a b. R a b ≡ Equal) p.unsorted q.unsorted = AllZip-join E S P (λ a b. R a b ≡ Equal) (λ x y a b t h k. alike_entries x y a b h.0 t h.1 k) bins1 bins2 p.unsorted q.unsorted alike
       (AllZip-values (λ (bin : Bin). IsMet bin.size) P bins1 p.unsorted u p.each) q.each in
       names o1 o2 (alike_sorted R (rising_total total) p.unsorted q.unsorted o1 o2 begin p.permutation q.permutation p.rising q.rising)
     where
-      alike_entries : (x y : B × Bin) (a b : ℕ × B) → IsMet x.1.size → (cmp x.0 y.0 ≡ Equal) × (x.1 ≡ y.1) → (cmp x.0 a.1 ≡ Equal) × MayRate x.1.size a.0 → (cmp y.0 b.1 ≡ Equal) × MayRate y.1.size b.0 → rising_then cmp a b ≡ Equal
+      alike_entries : (x y : B × Bin) (a b : ℕ × B) → IsMet x.1.size → (cmp x.0 y.0 ≡ Equal) × AreSameBins x.1 y.1 → (cmp x.0 a.1 ≡ Equal) × MayRate x.1.size a.0 → (cmp y.0 b.1 ≡ Equal) × MayRate y.1.size b.0 → rising_then cmp a b ≡ Equal
       alike_entries x y a b met t h k =
-          let other : MayRate x.1.size b.0 = subst (λ (bin : Bin). MayRate bin.size b.0) (sym t.1) k.1 in
+          let other : MayRate x.1.size b.0 = subst (λ (size : Size). MayRate size b.0) (sym t.1.size) k.1 in
           let keys : a.0 ≡ b.0 = f.only x.1.size a.0 (met, h.1) ∙ sym (f.only x.1.size b.0 (met, other)) in
           let names : cmp a.1 b.1 ≡ Equal = sym (total.congr x.0 a.1 b.1 h.0) ∙ total.congr x.0 y.0 b.1 t.0 ∙ k.0 in
           rw (keys, tied_itself nat_cmp_total b.0, names) refl

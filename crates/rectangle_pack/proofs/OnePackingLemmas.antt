@@ -1,6 +1,6 @@
 -- Where the closures are functions and the comparison is a total preorder on the cuts, a packing has one result.
-use Rattle.std.proofs.Common.{◌≡◌, ℕ, Bool, ◌+◌, ◌<◌, ◌≤◌, List, [], ◌∷◌, ◌++◌, refl, sym, ◌∙◌, ap, subst, arith, length, length-append, append-nil, inl, inr}
-use Rattle.std.specs.Prelude.{All, Contains, map, Option, Some, IfSome, IsSomeAnd, MatchBool}
+use Rattle.std.proofs.Common.{◌≡◌, ℕ, Bool, ◌+◌, ◌<◌, ◌≤◌, List, [], ◌∷◌, ◌++◌, refl, sym, ◌∙◌, ap, subst, arith, length, length-append, append-nil, ◌⊎◌, inl, inr, zero, suc, true, false}
+use Rattle.std.specs.Prelude.{All, Any, Contains, map, Option, Some, None, IfSome, IsSomeAnd, MatchBool}
 use Rattle.std.specs.List.{AllZip}
 use Rattle.std.specs.declared.cmp.Ordering.{Ordering}
 use Rattle.std.specs.declared.cmp.Ordering.TheVariants.{Equal}
@@ -11,19 +11,20 @@ use Rattle.std.proofs.lemmas.List.Elements.{All-nil, All-cons, All-head, All-tai
 use Rattle.std.proofs.lemmas.Map.Views.{All-values-set_value, IfSome-lookup_from_All}
 use Rattle.rectangle_pack.specs.declared.grouped_rects_to_place.Group.{Group}
 use Rattle.rectangle_pack.specs.declared.pack.answer.Placement.{Placement}
-use Rattle.rectangle_pack.specs.Boxes.{Size, Cuboid, IsPartOf}
+use Rattle.rectangle_pack.specs.Boxes.{Size, Cuboid, IsPartOf, Holds}
 use Rattle.rectangle_pack.specs.Bins.{Bin}
+use Rattle.rectangle_pack.specs.Closures.{Answers}
 use Rattle.rectangle_pack.specs.Exclusions.{are_excluded}
 use Rattle.rectangle_pack.specs.Groups.{Collection}
 use Rattle.rectangle_pack.specs.Orders.{IsGroupOrder, IsBinOrder}
 use Rattle.rectangle_pack.specs.Placed.{AreNamed}
 use Rattle.rectangle_pack.specs.Steps.{IsDone, IsStuck}
 use Rattle.rectangle_pack.specs.Packing.{Rules, Members, Stage, at_start, bars_by, IsStuckIn, DoesNotTake, IsPlaced, IsRefused, AreAllPlaced, AreGroups, PackingDone, PackingRefused}
-use Rattle.rectangle_pack.specs.Results.{MayBeCut, MayBeRated, ClosuresDecide, AreMapsAlike, AreBinsAlike, AreCollectionsAlike, ArePlacementsAlike, HaveOneResult}
+use Rattle.rectangle_pack.specs.Results.{MayBeCut, MayBeRated, ClosuresDecide, AreMapsAlike, AreSameBins, AreBinsAlike, AreCollectionsAlike, ArePlacementsAlike, HaveOneResult}
 use Rattle.rectangle_pack.proofs.CutsLemmas.{All-middle}
 use Rattle.rectangle_pack.proofs.ExclusionsLemmas.{is_at-back, is_at-equal, excluded-alike}
 use Rattle.rectangle_pack.proofs.KeepingLemmas.{All-from_zip}
-use Rattle.rectangle_pack.proofs.MapsLemmas.{AreOptionsAlike, lookup-alike, lookup-same, set_value-alike}
+use Rattle.rectangle_pack.proofs.MapsLemmas.{AreOptionsAlike, found-alike, lookup-alike, lookup-same, set_value-alike}
 use Rattle.rectangle_pack.proofs.StepsLemmas.{IsDone-keeps}
 use Rattle.rectangle_pack.proofs.OneResultLemmas.{split_first, one_trial, not_done_and_stuck, MayBeCut-part}
 use Rattle.rectangle_pack.proofs.OneOrderLemmas.{AllZip-along, AllZip-back, AllZip-append, length-zip, AllZip-join, same_from_zip, one_group_order, one_bin_order}
@@ -141,13 +142,21 @@ record ArePackedAlike {Id B : Type 0} (cmp : Id → Id → Ordering) (bin_cmp : 
 
 module _ {Id B : Type 0} (rules : Rules Id B) (boxes : List Size) (bins : List Bin)
     (decide : ClosuresDecide boxes bins rules.may) (id_total : IsTotalOrder rules.id_cmp) (bin_total : IsTotalOrder rules.bin_cmp) where
+  -- where a bin does not take a group, a bin that is the same does not take it
+  not_taken_alike : (sizes : List Size) (n : ℕ) (barred : Bool) (x y : Option Bin) → AreOptionsAlike AreSameBins x y
+      → MatchBool barred (n ≡ 0) (IsSomeAnd x (λ (bin : Bin). IsStuck rules.may bin.sections sizes n)) → MatchBool barred (n ≡ 0) (IsSomeAnd y (λ (bin : Bin). IsStuck rules.may bin.sections sizes n))
+  not_taken_alike sizes n true x y same h = h
+  not_taken_alike sizes n false None y same h = absurd h
+  not_taken_alike sizes n false (Some x) None same h = absurd same
+  not_taken_alike sizes n false (Some x) (Some y) same h = subst (λ (sections : List Cuboid). IsStuck rules.may sections sizes n) same.sections h
+
   -- a bin that is passed over, is passed over alike
   passed_alike : (barred1 barred2 : B → Bool) (g h : Members Id) (old1 old2 : List (B × Bin)) (a b : B) (n : ℕ) → BarAlike rules.bin_cmp barred1 barred2 → AreMembersAlike rules.id_cmp g h → AreBinsAlike rules.bin_cmp old1 old2 → rules.bin_cmp a b ≡ Equal
       → DoesNotTake rules barred1 old1 g a n → DoesNotTake rules barred2 old2 h b n
   passed_alike barred1 barred2 g h old1 old2 a b n bar members alike e passed =
       let P : Bool → List Size → Option Bin → Type 0 = λ barred sizes found. MatchBool barred (n ≡ 0) (IsSomeAnd found (λ (bin : Bin). IsStuck rules.may bin.sections sizes n)) in
       subst (λ (sizes : List Size). P (barred2 b) sizes (lookup (is_at (rules.bin_cmp b)) old2)) members.sizes
-      (subst (λ (found : Option Bin). P (barred2 b) g.sizes found) (lookup-same bin_total a b e old1 old2 alike)
+      (not_taken_alike g.sizes n (barred2 b) (lookup (is_at (rules.bin_cmp a)) old1) (lookup (is_at (rules.bin_cmp b)) old2) (lookup-alike bin_total AreSameBins a b e old1 old2 alike)
       (subst (λ (barred : Bool). P barred g.sizes (lookup (is_at (rules.bin_cmp a)) old1)) (bar a b e) passed))
 
   all_passed_alike : (barred1 barred2 : B → Bool) (order1 order2 : List B) (counts : List ℕ) (g h : Members Id) (old1 old2 : List (B × Bin)) → BarAlike rules.bin_cmp barred1 barred2 → AllZip (λ a b. rules.bin_cmp a b ≡ Equal) order1 order2 → AreMembersAlike rules.id_cmp g h → AreBinsAlike rules.bin_cmp old1 old2
@@ -179,11 +188,13 @@ module _ {Id B : Type 0} (rules : Rules Id B) (boxes : List Size) (bins : List B
       → (p : IsPlaced rules barred1 order1 g old1 ps new n) → PlacesAlike barred2 order2 h p.here old2 new ps n
   placed_alike barred1 barred2 order1 order2 g h old1 old2 new ps n bar order members alike p =
       let s = split_alike (λ a b. rules.bin_cmp a b ≡ Equal) p.before p.here p.after order2 (subst (λ (xs : List B). AllZip (λ a b. rules.bin_cmp a b ≡ Equal) xs order2) p.order_is order) in
-      let bin : Bin = record p.bin { sections = p.last } in
-      let other : List (B × Bin) = set_value (is_at (rules.bin_cmp s.at)) old2 bin in
+      let (bin, found, same) = found-alike AreSameBins p.bin (lookup (is_at (rules.bin_cmp p.here)) old1) (lookup (is_at (rules.bin_cmp s.at)) old2) p.found (lookup-alike bin_total AreSameBins p.here s.at s.alike old1 old2 alike) in
+      let left : Bin = record p.bin { sections = p.last } in
+      let other_left : Bin = record bin { sections = p.last } in
+      let other : List (B × Bin) = set_value (is_at (rules.bin_cmp s.at)) old2 other_left in
       record {
         other = other;
-        alike = subst (λ (x : List (B × Bin)). AreBinsAlike rules.bin_cmp x other) (sym p.new_is) (set_value-alike bin_total (λ a b. a ≡ b) p.here s.at bin refl s.alike old1 old2 alike);
+        alike = subst (λ (x : List (B × Bin)). AreBinsAlike rules.bin_cmp x other) (sym p.new_is) (set_value-alike bin_total AreSameBins p.here s.at left other_left (record { size = same.size; sections = refl }) s.alike old1 old2 alike);
         placed = record {
           before = s.front;
           here = s.at;
@@ -192,14 +203,14 @@ module _ {Id B : Type 0} (rules : Rules Id B) (boxes : List Size) (bins : List B
           counts = p.counts;
           passed = all_passed_alike barred1 barred2 p.before s.front p.counts g h old1 old2 bar s.before_alike members alike p.passed;
           allowed = sym (bar p.here s.at s.alike) ∙ p.allowed;
-          bin = p.bin;
-          found = sym (lookup-same bin_total p.here s.at s.alike old1 old2 alike) ∙ p.found;
+          bin = bin;
+          found = found;
           last = p.last;
           locations = p.locations;
           count = p.count;
-          done = subst (λ (sizes : List Size). IsDone rules.may p.bin.sections sizes p.locations p.last p.count) members.sizes p.done;
+          done = subst (λ (sizes : List Size). IsDone rules.may bin.sections sizes p.locations p.last p.count) members.sizes (subst (λ (sections : List Cuboid). IsDone rules.may sections g.sizes p.locations p.last p.count) same.sections p.done);
           named = named_alike g.ids h.ids p.here s.at p.locations ps members.ids s.alike p.named;
-          new_is = refl;
+          new_is = refl {a = other};
           tests_are = p.tests_are;
         };
         home = s.alike;
@@ -375,6 +386,42 @@ same_values cmp [] (y ∷ ys) h = absurd h
 same_values cmp (x ∷ xs) [] h = absurd h
 same_values cmp (x ∷ xs) (y ∷ ys) h = let e = h.0.1 in let i = same_values cmp xs ys h.1 in cc
 
+-- what holds of the values of one map holds of those of a map alike, where it holds of each value alike
+All-alike : {K X : Type 0} (cmp : K → K → Ordering) (Alike : X → X → Type 0) (P : X → Type 0) → ((x y : X) → Alike x y → P y → P x) → (xs ys : List (K × X)) → AreMapsAlike cmp Alike xs ys → All P (values_of ys) → All P (values_of xs)
+All-alike cmp Alike P turns [] [] h all = all
+All-alike cmp Alike P turns [] (y ∷ ys) h all = absurd h
+All-alike cmp Alike P turns (x ∷ xs) [] h all = absurd h
+All-alike cmp Alike P turns (x ∷ xs) (y ∷ ys) h all =
+    All-cons P x.1 (values_of xs) (turns x.1 y.1 h.0.1 (All-head P y.1 (values_of ys) all)) (All-alike cmp Alike P turns xs ys h.1 (All-tail P y.1 (values_of ys) all))
+
+-- and what holds of some value
+Any-alike : {K X : Type 0} (cmp : K → K → Ordering) (Alike : X → X → Type 0) (P : X → Type 0) → ((x y : X) → Alike x y → P y → P x) → (xs ys : List (K × X)) → AreMapsAlike cmp Alike xs ys → Any P (values_of ys) → Any P (values_of xs)
+Any-alike cmp Alike P turns [] [] h any = any
+Any-alike cmp Alike P turns [] (y ∷ ys) h any = absurd h
+Any-alike cmp Alike P turns (x ∷ xs) [] h any = absurd h
+Any-alike cmp Alike P turns (x ∷ xs) (y ∷ ys) h (zero, v, below, at, holds) = (0, x.1, omega arith, refl, turns x.1 y.1 h.0.1 (let same : y.1 ≡ v = cc in rw same holds))
+Any-alike cmp Alike P turns (x ∷ xs) (y ∷ ys) h (suc i, v, below, at, holds) =
+    let found = Any-alike cmp Alike P turns xs ys h.1 (i, v, omega arith, at, holds) in
+    (suc found.0, found.1, omega (arith, found.2), found.3, found.4)
+
+-- so closures that decide in the bins of one map decide in those of the other
+decide_alike : {B : Type 0} (bin_cmp : B → B → Ordering) (boxes : List Size) (may : Answers) (old others : List (B × Bin)) → AreBinsAlike bin_cmp old others → ClosuresDecide boxes (values_of old) may → ClosuresDecide boxes (values_of others) may
+decide_alike {B} bin_cmp boxes may old others alike decide = record {
+  rates = record { rate = decide.rates.rate; only = λ size answer met. decide.rates.only size answer (rated size met.0, met.1) };
+  prefers = record { compare = decide.prefers.compare; preorder = λ section member met held. decide.prefers.preorder section member (cut section met.0, met.1) held };
+}
+  where
+    cut : (section : Cuboid) → MayBeCut (values_of others) section → MayBeCut (values_of old) section
+    cut section = Any-alike bin_cmp AreSameBins (λ (bin : Bin). Any (IsPartOf section) bin.sections) (λ x y same any. subst (λ (sections : List Cuboid). Any (IsPartOf section) sections) (sym same.sections) any) old others alike
+
+    sized : (size : Size) (x y : Bin) → AreSameBins x y → (size ≡ y.size) ⊎ Any (λ s. Holds s size) y.sections → (size ≡ x.size) ⊎ Any (λ s. Holds s size) x.sections
+    sized size x y same (inl e) = inl (e ∙ sym same.size)
+    sized size x y same (inr any) = inr (subst (λ (sections : List Cuboid). Any (λ s. Holds s size) sections) (sym same.sections) any)
+
+    rated : (size : Size) → MayBeRated boxes (values_of others) size → MayBeRated boxes (values_of old) size
+    rated size (inl box) = inl box
+    rated size (inr bin) = inr (Any-alike bin_cmp AreSameBins (λ (bin : Bin). (size ≡ bin.size) ⊎ Any (λ s. Holds s size) bin.sections) (sized size) old others alike bin)
+
 -- the sizes that look-ups find are among those of the boxes
 named_among : {Id K : Type 0} (group_cmp : K → K → Ordering) (cmp : Id → Id → Ordering) (sizes : List (Id × Size)) (lists : List (K × List Id)) (order : List (ℕ × K)) (gs : List (K × Members Id))
     → Named group_cmp cmp sizes lists order gs → All (AreAmong (values_of sizes)) gs
@@ -422,7 +469,7 @@ module _ {Id B G : Type 0} (group_cmp : Group G Id → Group G Id → Ordering) 
   same_bin_order o1 o2 p q =
       let IsMet : Size → Type 0 = MayBeRated (values_of all2.sizes) (values_of old2) in
       one_bin_order IsMet rules.may.rate decide.rates rules.bin_cmp bin_total old1 old2 o1 o2
-      (subst (λ (bins : List Bin). All (λ (bin : Bin). IsMet bin.size) bins) (sym (same_values rules.bin_cmp old1 old2 old)) (bins_rated (values_of all2.sizes) (values_of old2))) old p q
+      (All-alike rules.bin_cmp AreSameBins (λ (bin : Bin). IsMet bin.size) (λ x y same met. subst IsMet (sym same.size) met) old1 old2 old (bins_rated (values_of all2.sizes) (values_of old2))) old p q
 
   among : (order : List (ℕ × Group G Id)) (gs : List (Group G Id × Members Id)) → AreGroups rules.id_cmp group_cmp all2.sizes all2.groups order gs → All (AreAmong (values_of all2.sizes)) gs
   among order gs h = named_among group_cmp rules.id_cmp all2.sizes all2.groups order gs h.each
@@ -500,12 +547,12 @@ pub one_result : {Id B G : Type 0} (group_cmp : Group G Id → Group G Id → Or
 one_result group_cmp rules group_total total bin_total all other old others alike bins decide =
     let decides : ClosuresDecide (values_of other.sizes) (values_of others) rules.may =
     subst (λ (sizes : List Size). ClosuresDecide sizes (values_of others) rules.may) (same_values rules.id_cmp all.sizes other.sizes alike.sizes)
-    (subst (λ (xs : List Bin). ClosuresDecide (values_of all.sizes) xs rules.may) (same_values rules.bin_cmp old others bins) decide) in
+    (decide_alike rules.bin_cmp (values_of all.sizes) rules.may old others bins decide) in
     record {
       done = λ ps qs m n p q. one_done group_cmp rules group_total total bin_total all other old others alike bins decides m n ps qs p q;
       refused = λ m n p q. one_refused group_cmp rules group_total total bin_total all other old others alike bins decides m n p q;
       not_done_and_refused = λ ps m n p q. not_done_and_refused group_cmp rules group_total total bin_total all other old others alike bins decides m n ps p q;
       not_refused_and_done = λ qs m n p q.
           not_done_and_refused group_cmp rules group_total total bin_total other all others old (collections_back group_total total all other alike)
-          (alike_back bin_total (λ x y. x ≡ y) (λ x y. x ≡ y) (λ x y e. sym e) old others bins) decide n m qs q p;
+          (alike_back bin_total AreSameBins AreSameBins (λ x y same. record { size = sym same.size; sections = sym same.sections }) old others bins) decide n m qs q p;
     }

@@ -50,14 +50,14 @@ bins_of-grown test now v w found same more = IsRoomier-bins now (set_value test 
 -- a trial that is done and noted
 pub GoesBack-done : {B A : Type 0} {cmp : B → B → Ordering} → IsTotalOrder cmp → (now : List (B × Held)) (journal new : List (DoneTrial B A)) (id : B) (e : DoneTrial B A) (v w : Held) (start : List (B × Bin))
     → cmp id e.bin ≡ Equal → lookup (is_at (cmp id)) now ≡ Some v → new ≡ journal ++ e ∷ []
-    → w.bin.size ≡ v.bin.size → before_notes e.notes.items w.bin.sections ≡ v.bin.sections → CanUndo w.room e.notes.items w.bin.sections → IsSound v.bin.size v.bin.sections → v.room ≤ w.room
+    → w.bin ≡ record v.bin { sections = w.bin.sections } → before_notes e.notes.items w.bin.sections ≡ v.bin.sections → CanUndo w.room e.notes.items w.bin.sections → IsSound v.bin.size v.bin.sections → v.room ≤ w.room
     → GoesBack cmp now journal start → GoesBack cmp (set_value (is_at (cmp id)) now w) new start
-GoesBack-done {B} {cmp} o now journal new id e v w start equal found pushed size before can sound more h =
+GoesBack-done {B} {cmp} o now journal new id e v w start equal found pushed rest before can sound more h =
     let there : lookup (is_at (cmp e.bin)) now ≡ Some v = sym (lookup-equal o id e.bin equal now) ∙ found in
     rw (set_value-equal o id e.bin equal now w)
     (GoesBack-pushed cmp now journal new e v w start pushed there
-    (record { can = can; sound = rw (size, before) sound })
-    (record { bin = rw (size, before) refl; room = more })
+    (record { can = can; sound = rw (ap (λ (b : Bin). b.size) rest, before) sound })
+    (record { bin = ap (λ (b : Bin). record b { sections = before_notes e.notes.items w.bin.sections }) rest ∙ ap (λ (s : List Cuboid). record v.bin { sections = s }) before; room = more })
     h)
 
 -- what a look-up finds, without its room
@@ -104,10 +104,10 @@ module _ {Id B : Type 0} (rules : Rules Id B) where
       (now : List (B × Held)) (old : List (B × Bin)) (v w : Held) (locations : List Cuboid) (counts : List ℕ) (count : ℕ) (added : List (Placement Id B))
       → i < length order → o ≡ get_or order i o → bins_of now ≡ old
       → AllZip (DoesNotTake rules barred old group) (map (λ (x : ℕ × B). x.1) (take i order)) counts → barred o.1 ≡ false
-      → lookup (is_at (rules.bin_cmp o.1)) now ≡ Some v → w.bin.size ≡ v.bin.size → IsDone rules.may v.bin.sections group.sizes locations w.bin.sections count
+      → lookup (is_at (rules.bin_cmp o.1)) now ≡ Some v → w.bin ≡ record v.bin { sections = w.bin.sections } → IsDone rules.may v.bin.sections group.sizes locations w.bin.sections count
       → AreNamed rules.id_cmp rules.bin_cmp group.ids o.1 locations added
       → (p : IsPlaced rules barred (map (λ (x : ℕ × B). x.1) order) group old added (bins_of (set_value (is_at (rules.bin_cmp o.1)) now w)) (sum counts + count)) × (p.here ≡ o.1)
-  IsPlaced-at barred order i o group now old v w locations counts count added within is same passed allowed found size done named = (
+  IsPlaced-at barred order i o group now old v w locations counts count added within is same passed allowed found rest done named = (
     record {
       before = map (λ (x : ℕ × B). x.1) (take i order);
       here = o.1;
@@ -123,9 +123,7 @@ module _ {Id B : Type 0} (rules : Rules Id B) where
       count = count;
       done = done;
       named = named;
-      new_is =
-          let whole : w.bin ≡ record { size = v.bin.size; sections = w.bin.sections } = rw (← size) refl in
-          bins_of-set_value (is_at (rules.bin_cmp o.1)) now w ∙ ap (λ es. set_value (is_at (rules.bin_cmp o.1)) es w.bin) same ∙ ap (set_value (is_at (rules.bin_cmp o.1)) old) whole;
+      new_is = bins_of-set_value (is_at (rules.bin_cmp o.1)) now w ∙ ap (λ es. set_value (is_at (rules.bin_cmp o.1)) es w.bin) same ∙ ap (set_value (is_at (rules.bin_cmp o.1)) old) rest;
       tests_are = refl;
     },
     refl,

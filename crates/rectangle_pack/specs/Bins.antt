@@ -1,11 +1,13 @@
--- Bins: a size and a list of free sections.
-use Rattle.std.specs.Prelude.{ℕ, List, All, AllPairs}
+-- Bins: a size, a list of free sections, and whether a coalescing call was made.
+use Rattle.std.specs.Prelude.{ℕ, Bool, false, List, [], ◌∷◌, All, AllPairs}
 use Rattle.rectangle_pack.specs.Boxes.{Size, Cuboid, IsInside, AreApart}
 
 -- a bin as callers see it
 pub record Bin : Type 0 where
   pub size : Size
   pub sections : List Cuboid
+  -- whether a coalescing call was made on the bin
+  pub coalesced : Bool
 
 -- a bin, and how many sections its list has room for
 pub record Held : Type 0 where
@@ -25,3 +27,7 @@ pub record IsAccepted (bin : Bin) (box : Cuboid) : Type 0 where
 -- the one section of a new bin: all of it
 abbrev pub whole : Size → Cuboid
 whole size = record { x = 0; y = 0; z = 0; whd = size }
+
+-- a new bin: its one section is all of it
+abbrev pub new_bin : Size → Bin
+new_bin size = record { size = size; sections = whole size ∷ []; coalesced = false }

@@ -32,9 +32,14 @@ pub record ClosuresDecide (boxes : List Size) (bins : List Bin) (may : Answers) 
 abbrev pub AreMapsAlike : {K X : Type 0} → (K → K → Ordering) → (X → X → Type 0) → List (K × X) → List (K × X) → Type 0
 AreMapsAlike cmp Alike xs ys = AllZip (λ x y. (cmp x.0 y.0 ≡ Equal) × Alike x.1 y.1) xs ys
 
+-- the same size and the same free sections, whether or not coalescing calls were made
+pub record AreSameBins (a b : Bin) : Type 0 where
+  pub size : a.size ≡ b.size
+  pub sections : a.sections ≡ b.sections
+
 -- the same bins under ids that are equal
 abbrev pub AreBinsAlike : {B : Type 0} → (B → B → Ordering) → List (B × Bin) → List (B × Bin) → Type 0
-AreBinsAlike bin_cmp xs ys = AreMapsAlike bin_cmp (λ a b. a ≡ b) xs ys
+AreBinsAlike bin_cmp xs ys = AreMapsAlike bin_cmp AreSameBins xs ys
 
 -- the same sizes under ids that are equal, lists of equal ids under groups that are equal, and the same pairs of groups that are excluded
 pub record AreCollectionsAlike {Id G : Type 0} (group_cmp : Group G Id → Group G Id → Ordering)

@@ -11,7 +11,7 @@ use Rattle.rectangle_pack.specs.Steps.{IsDone, IsStuck}
 abbrev pub IsTrialAnswer : {A E : Type 0} → Answers → Bin → List Size → ℕ → Result (Option (Vec Cuboid A)) E → Bin → ℕ → Type 0
 IsTrialAnswer may old members counted (Ok (Some locations)) new counter =
     (tests : ℕ) × IsDone may old.sections members locations.items new.sections tests
-    × (new.size ≡ old.size) × (counter ≡ saturated (counted + tests))
+    × (new ≡ record old { sections = new.sections }) × (counter ≡ saturated (counted + tests))
 IsTrialAnswer may old members counted (Ok None) new counter =
     (tests : ℕ) × IsStuck may old.sections members tests × (new ≡ old) × (counter ≡ saturated (counted + tests))
 IsTrialAnswer may old members counted (Err error) new counter = (new ≡ old) × (counter ≡ counted)

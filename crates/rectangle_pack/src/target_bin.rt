@@ -3,7 +3,7 @@ ghost use Rattle.std.specs.Prelude.{ℕ, ◌≡◌, ◌+◌, ◌≤◌, ◌<◌,
 ghost use Rattle.rectangle_pack.specs.Boxes.{Size, Cuboid, AreApart, has_cells};
 ghost use Rattle.rectangle_pack.specs.Closures.{AreCallable, answers};
 ghost use Rattle.rectangle_pack.specs.Pushes.{IsFirstSharing, IsPushAnswer};
-ghost use Rattle.rectangle_pack.specs.Bins.{whole, IsSound, IsAccepted};
+ghost use Rattle.rectangle_pack.specs.Bins.{new_bin, IsSound, IsAccepted};
 ghost use Rattle.rectangle_pack.specs.Counting.{AreAllApart};
 ghost use Rattle.rectangle_pack.specs.Keeping.{KeepCells};
 ghost use Rattle.rectangle_pack.specs.Steps.{IsStep, IsDone};
@@ -65,6 +65,8 @@ impl fmt::Display for PushBinSectionError {
 pub struct TargetBin<A: Allocator + Copy = Global> {
     max_size: WidthHeightDepth,
     available_bin_sections: Vec<BinSection, A>,
+    // Whether a coalescing call was made on the bin.
+    was_coalesced: bool,
 }
 
 impl<A: Allocator + Copy> Model for TargetBin<A> {
@@ -75,7 +77,11 @@ impl<A: Allocator + Copy> Model for TargetBin<A> {
 
     ghost view = { λ b.
         record {
-          bin = record { size = b.max_size; sections = b.available_bin_sections.items };
+          bin = record {
+            size = b.max_size;
+            sections = b.available_bin_sections.items;
+            coalesced = b.was_coalesced;
+          };
           room = vec_capacity b.available_bin_sections;
         } };
 
@@ -99,9 +105,8 @@ impl<A: Allocator + Copy> TargetBin<A> {
     /// A bin of this size, in cells, with one free section, which is all of it; any size will do.
     /// An error is want of memory.
     pub fn new(alloc: A, width: u32, height: u32, depth: u32) -> Result<Self, AllocError>
-        ensures size { IfOk result
-            (λ b. b.bin.size ≡ record { width = width; height = height; depth = depth }) }
-        ensures sections { IfOk result (λ b. b.bin.sections ≡ whole b.bin.size ∷ []) }
+        ensures { IfOk result
+            (λ b. b.bin ≡ new_bin (record { width = width; height = height; depth = depth })) }
     {
         let max_size = WidthHeightDepth::of(width, height, depth);
         let mut available_bin_sections = Vec::new(alloc);
@@ -109,6 +114,7 @@ impl<A: Allocator + Copy> TargetBin<A> {
         Ok(TargetBin {
             max_size,
             available_bin_sections,
+            was_coalesced: false,
         })
     }
 
@@ -136,6 +142,7 @@ impl<A: Allocator + Copy> TargetBin<A> {
         Ok(TargetBin {
             max_size: self.max_size,
             available_bin_sections,
+            was_coalesced: self.was_coalesced,
         })
     }
 
@@ -311,9 +318,8 @@ impl<A: Allocator + Copy> TargetBin<A> {
         requires can { CanUndo self.old.room notes.old.items self.old.bin.sections }
         requires sound { IsSound self.old.bin.size
             (before_notes notes.old.items self.old.bin.sections) }
-        ensures size { self.new.bin.size ≡ self.old.bin.size }
-        ensures sections { self.new.bin.sections ≡
-            before_notes notes.old.items self.old.bin.sections }
+        ensures bin { self.new.bin ≡
+            record self.old.bin { sections = before_notes notes.old.items self.old.bin.sections } }
         ensures room { self.old.room ≤ self.new.room }
     {
         undo(&mut self.available_bin_sections, notes);

@@ -15,7 +15,7 @@ pub record CanUndoTrial {B A : Type 0} (done : DoneTrial B A) (held : Held) : Ty
 
 -- the bin before the trial
 abbrev pub before_trial : {B A : Type 0} → DoneTrial B A → Held → Held
-before_trial done held = record { bin = record { size = held.bin.size; sections = before_notes done.notes.items held.bin.sections }; room = held.room }
+before_trial done held = record held { bin = record held.bin { sections = before_notes done.notes.items held.bin.sections } }
 
 -- undoing the trials, the first of the list first, leads from now to start
 abbrev pub Undoes : {B A : Type 0} → (B → B → Ordering) → List (DoneTrial B A) → List (B × Held) → List (B × Bin) → Type 0

@@ -1,4 +1,4 @@
-use Rattle.std.proofs.Common.{◌≡◌, refl, sym}
+use Rattle.std.proofs.Common.{◌≡◌, sym}
 use Rattle.std.specs.BTreeMap.{is_at}
 use Rattle.rectangle_pack.specs.private.TrialJournal.{GoesBack, before_trial}
 use Rattle.rectangle_pack.proofs.JournalLemmas.{GoesBack-popped, GoesBack-more, IsRoomier-set, IsRoomier-same, IsMore}
@@ -16,7 +16,7 @@ loop-done-preserved g c =
     let step : (start : _) → GoesBack cmp now c.loop-done.journal.items start → GoesBack cmp (c.get_mut.follows.lender w).entries c.pop.new.self.items start = λ start b.
     let u = GoesBack-popped cmp now _ c.pop.new.self.items e start c.in-Some.ensures.items b in
     let same : u.held ≡ held = cc in
-    let more : IsMore (before_trial e u.held) w = rw same (record { bin = rw (← c.undo_notes.ensures.size, ← c.undo_notes.ensures.sections) refl; room = c.undo_notes.ensures.room }) in
+    let more : IsMore (before_trial e u.held) w = rw same (record { bin = c.undo_notes.ensures.bin; room = c.undo_notes.ensures.room }) in
     rw h.0 (GoesBack-more cmp _ _ _ start (IsRoomier-set (is_at (cmp e.bin)) now now (before_trial e u.held) w (IsRoomier-same now) more) u.back) in
     let some = c.loop-done.invariant.some in
     record {

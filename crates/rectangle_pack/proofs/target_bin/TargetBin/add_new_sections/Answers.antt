@@ -9,4 +9,4 @@ pub invariant_of-self-2 : goal.invariant_of-self-2
 invariant_of-self-2 g c =
     let new = filter has_cells c.args.sections in
     let accepted = subst (λ held. All (IsAccepted held.bin) new) (sym c.self.view_is) c.requires.accepted in
-    rw (c.push_pieces.ensures.items, c.reserve.ensures.items) (IsSound-append _ _ new c.self.invariant accepted c.requires.apart)
+    rw (c.push_pieces.ensures.items, c.reserve.ensures.items) (IsSound-append _ new c.self.invariant accepted c.requires.apart)

@@ -6,4 +6,4 @@ use Rattle.rectangle_pack.proofs.target_bin.TargetBin.push_available_bin_section
 pub invariant_of-self-2 : goal.invariant_of-self-2
 invariant_of-self-2 g c =
     let accepted = subst (λ held. IsAccepted held.bin c.args.bin_section) (sym c.self.view_is) c.requires in
-    rw c.in_ok-push.ensures.items (IsSound-push _ _ c.args.bin_section c.self.invariant accepted)
+    rw c.in_ok-push.ensures.items (IsSound-push _ c.args.bin_section c.self.invariant accepted)
