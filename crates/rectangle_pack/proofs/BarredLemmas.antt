@@ -30,8 +30,8 @@ use Rattle.rectangle_pack.specs.Packing.{Rules, AreKeptApart, bars_by, bars_none
 use Rattle.rectangle_pack.specs.Bins.{Bin}
 use Rattle.rectangle_pack.specs.declared.grouped_rects_to_place.Group.{Group}
 use Rattle.rectangle_pack.proofs.PackingOrderLemmas.{cmp-self}
-use Rattle.rectangle_pack.proofs.MapsLemmas.{lookup-equal}
-use Rattle.rectangle_pack.proofs.ExclusionsLemmas.{list_any-alike, is_at-back, is_at-equal, excluded-listed}
+use Rattle.rectangle_pack.proofs.MapsLemmas.{lookup-equal, is_at-back}
+use Rattle.rectangle_pack.proofs.ExclusionsLemmas.{list_any-alike, is_at-equal, excluded-listed}
 
 -- tests that agree on the elements find the same
 list_any-on : {X : Type 0} (p q : X → Bool) (xs : List X) → All (λ x. p x ≡ q x) xs → list_any p xs ≡ list_any q xs

@@ -32,9 +32,9 @@ use Rattle.std.specs.declared.cmp.Reverse.{Reverse}
 use Rattle.std.specs.Borrow.{Bor}
 use Rattle.rectangle_pack.specs.declared.grouped_rects_to_place.Group.{Group}
 use Rattle.rectangle_pack.proofs.AppendLemmas.{sum_by-map}
-use Rattle.rectangle_pack.proofs.ExclusionsLemmas.{is_at-back, is_at-equal}
+use Rattle.rectangle_pack.proofs.ExclusionsLemmas.{is_at-equal}
 use Rattle.rectangle_pack.proofs.KeepingLemmas.{lookup-written}
-use Rattle.rectangle_pack.proofs.MapsLemmas.{lookup-equal}
+use Rattle.rectangle_pack.proofs.MapsLemmas.{lookup-equal, is_at-back}
 use Rattle.rectangle_pack.proofs.OneOrderLemmas.{length-zip}
 use Rattle.rectangle_pack.proofs.StepsLemmas.{length-step}
 use Rattle.rectangle_pack.proofs.TrialLemmas.{saturated-add, saturated-from}

@@ -5,10 +5,10 @@ use Rattle.std.proofs.lemmas.List.Elements.{All-nil, All-cons, All-head, All-tai
 use Rattle.std.proofs.lemmas.List.Kept.{AllPairs-cons}
 use Rattle.std.proofs.lemmas.List.Sums.{sum_by-append, count_by-le-length}
 use Rattle.std.proofs.lemmas.List.Folds.{Any-from_list_any, list_any-from_Any}
-use Rattle.rectangle_pack.specs.Boxes.{Cuboid, Cell, IsCellOf, AreApart, is_cell_of}
+use Rattle.rectangle_pack.specs.Boxes.{Cuboid, Cell, IsCellOf, AreApart, is_cell_of, has_cells}
 use Rattle.rectangle_pack.specs.Counting.{times_filled, Tiles, AreAllApart, Cover}
 use Rattle.rectangle_pack.specs.Keeping.{KeepCells}
-use Rattle.rectangle_pack.proofs.BoxesLemmas.{is_cell_of-true, is_cell_of-from}
+use Rattle.rectangle_pack.proofs.BoxesLemmas.{is_cell_of-true, is_cell_of-from, has_cells-from}
 
 module _ {X : Type 0} (p : X → Bool) where
   pub count-cons : (x : X) (xs : List X) → count_by p (x ∷ xs) ≡ cond (p x) 1 0 + count_by p xs
@@ -69,6 +69,15 @@ filled-nil c = refl
 pub filled_yes : (c : Cell) (b : Cuboid) (bs : List Cuboid) → IsCellOf c b → times_filled c (b ∷ bs) ≡ 1 + times_filled c bs
 unfolding times_filled
 filled_yes c b bs h = count_yes (is_cell_of c) b bs (is_cell_of-from c b h)
+
+-- a box without cells fills none
+pub filled_none : (c : Cell) (b : Cuboid) → has_cells b ≡ false → times_filled c (b ∷ []) ≡ 0
+unfolding times_filled
+filled_none c b empty = by (is_cell_of c b) refl
+  where
+    by : (t : Bool) → is_cell_of c b ≡ t → count_by (is_cell_of c) (b ∷ []) ≡ 0
+    by true e = let some : has_cells b ≡ true = has_cells-from c b e in cc
+    by false e = count_no (is_cell_of c) b [] e
 
 -- one box has a cell at most once
 pub filled_one : (c : Cell) (b : Cuboid) → times_filled c (b ∷ []) ≤ 1

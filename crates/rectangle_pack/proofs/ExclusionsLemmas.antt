@@ -20,12 +20,7 @@ use Rattle.rectangle_pack.specs.private.Lists.{items_of}
 use Rattle.rectangle_pack.specs.Exclusions.{listed_at, is_listed, are_excluded, are_these}
 use Rattle.rectangle_pack.specs.private.Exclusions.{AreNonempty}
 use Rattle.rectangle_pack.proofs.ListsLemmas.{lookup-lists, keys-lists}
-use Rattle.rectangle_pack.proofs.MapsLemmas.{lookup-equal}
-
-is_eq-back : (r : Ordering) → is_eq (ordering_reverse r) ≡ is_eq r
-is_eq-back Less = refl
-is_eq-back Equal = refl
-is_eq-back Greater = refl
+use Rattle.rectangle_pack.proofs.MapsLemmas.{lookup-equal, is_at-back}
 
 -- tests that agree find the same
 pub list_any-alike : {X : Type 0} (p q : X → Bool) → ((x : X) → p x ≡ q x) → (xs : List X) → list_any p xs ≡ list_any q xs
@@ -70,10 +65,6 @@ or-given false false h = refl
 or-given false true h = h refl
 
 module _ {K : Type 0} {cmp : K → K → Ordering} (o : IsTotalOrder cmp) where
-  -- equality has no direction
-  pub is_at-back : (x y : K) → is_at (cmp x) y ≡ is_at (cmp y) x
-  is_at-back x y = ap is_eq (o.antisymm x y) ∙ is_eq-back (cmp y x)
-
   -- equal keys are at the same ones
   pub is_at-equal : (x y z : K) → cmp x y ≡ Equal → is_at (cmp x) z ≡ is_at (cmp y) z
   is_at-equal x y z h = ap is_eq (o.congr x y z h)
@@ -138,13 +129,13 @@ module _ {K : Type 0} {cmp : K → K → Ordering} (o : IsTotalOrder cmp) where
       → ((q : K) → is_eq (cmp key q) ≡ false → lookup (is_at (cmp q)) new ≡ lookup (is_at (cmp q)) old)
       → (x y : K) → is_listed cmp (lists_of new) x y ≡ (is_listed cmp (lists_of old) x y || (is_at (cmp x) key && is_at (cmp y) partner))
   listed-appended {A} key partner item old new same here others x y =
-      rw (listed-items new x y, listed-items old x y, is_at-back x key) (by (is_eq (cmp key x)) refl)
+      rw (listed-items new x y, listed-items old x y, is_at-back o x key) (by (is_eq (cmp key x)) refl)
     where
       p : K → Bool
       p = is_at (cmp y)
 
       at : is_at (cmp y) item ≡ is_at (cmp y) partner
-      at = is_at-back y item ∙ sym (is_at-equal partner item y same) ∙ is_at-back partner y
+      at = is_at-back o y item ∙ sym (is_at-equal partner item y same) ∙ is_at-back o partner y
 
       by : (b : Bool) → is_eq (cmp key x) ≡ b → list_any (is_at (cmp y)) (items_of (lookup (is_at (cmp x)) new)) ≡ (list_any (is_at (cmp y)) (items_of (lookup (is_at (cmp x)) old)) || (is_eq (cmp key x) && is_at (cmp y) partner))
       by true e =

@@ -25,19 +25,19 @@ use Rattle.rectangle_pack.proofs.StepsLemmas.{filled-done}
 use Rattle.rectangle_pack.proofs.MapsLemmas.{lookup-equal}
 
 -- all placements are in the bin that is asked for, or none
-placed_in-here : {Id B : Type 0} (cmp : B → B → Ordering) (ps : List (Placement Id B)) (q : B) → All (λ p. is_at (cmp p.bin) q ≡ true) ps → placed_in cmp ps q ≡ map (λ p. p.location) ps
+pub placed_in-here : {Id B : Type 0} (cmp : B → B → Ordering) (ps : List (Placement Id B)) (q : B) → All (λ p. is_at (cmp p.bin) q ≡ true) ps → placed_in cmp ps q ≡ map (λ p. p.location) ps
 placed_in-here cmp [] q h = refl
 placed_in-here {Id} {B} cmp (p ∷ ps) q h =
     let P : Placement Id B → Type 0 = λ x. is_at (cmp x.bin) q ≡ true in
     rw (All-head P p ps h, placed_in-here cmp ps q (All-tail P p ps h)) refl
 
-placed_in-none : {Id B : Type 0} (cmp : B → B → Ordering) (ps : List (Placement Id B)) (q : B) → All (λ p. is_at (cmp p.bin) q ≡ false) ps → placed_in cmp ps q ≡ []
+pub placed_in-none : {Id B : Type 0} (cmp : B → B → Ordering) (ps : List (Placement Id B)) (q : B) → All (λ p. is_at (cmp p.bin) q ≡ false) ps → placed_in cmp ps q ≡ []
 placed_in-none cmp [] q h = refl
 placed_in-none {Id} {B} cmp (p ∷ ps) q h =
     let P : Placement Id B → Type 0 = λ x. is_at (cmp x.bin) q ≡ false in
     rw (All-head P p ps h, placed_in-none cmp ps q (All-tail P p ps h)) refl
 
-placed_in-append : {Id B : Type 0} (cmp : B → B → Ordering) (ps qs : List (Placement Id B)) (q : B) → placed_in cmp (ps ++ qs) q ≡ placed_in cmp ps q ++ placed_in cmp qs q
+pub placed_in-append : {Id B : Type 0} (cmp : B → B → Ordering) (ps qs : List (Placement Id B)) (q : B) → placed_in cmp (ps ++ qs) q ≡ placed_in cmp ps q ++ placed_in cmp qs q
 placed_in-append {Id} {B} cmp ps qs q =
     ap (map (λ (p : Placement Id B). p.location)) (filter-append (λ p. is_at (cmp p.bin) q) ps qs)
     ∙ map-append (λ (p : Placement Id B). p.location) (filter (λ p. is_at (cmp p.bin) q) ps) (filter (λ p. is_at (cmp p.bin) q) qs)
@@ -140,7 +140,7 @@ module _ {Id B : Type 0} (rules : Rules Id B) (o : IsTotalOrder rules.bin_cmp) w
         by (Some before) e some = rw (all_kept order gs old placements new n h q before e).found refl
 
     -- a bin that is there after a packing was there before it
-    was_there : (order : List B) (gs : List (K × Members Id)) (old : Stage K B) (placements : List (Placement Id B)) (new : Stage K B) (tests : ℕ) → AreAllPlaced rules bars order gs old placements new tests
+    pub was_there : (order : List B) (gs : List (K × Members Id)) (old : Stage K B) (placements : List (Placement Id B)) (new : Stage K B) (tests : ℕ) → AreAllPlaced rules bars order gs old placements new tests
         → (q : B) → IsSome (lookup (is_at (rules.bin_cmp q)) new.bins) → IsSome (lookup (is_at (rules.bin_cmp q)) old.bins)
     was_there order [] old placements new n h q some = rw (← h.1) some
     was_there order (g ∷ gs) old placements new n (first, next, one, rest, others, placed, later, joined, counted) q some =

@@ -7,11 +7,13 @@ pub mod CountingLemmas
 pub mod CutsLemmas
 pub mod ExclusionsLemmas
 pub mod EitherLemmas
+pub mod FrameLemmas
 pub mod GroupOrderLemmas
 pub mod GroupsLemmas
 pub mod KeepingLemmas
 pub mod ListsLemmas
 pub mod MapsLemmas
+pub mod NumberingLemmas
 pub mod OneLocationsLemmas
 pub mod OneOrderLemmas
 pub mod OnePackingLemmas
@@ -21,9 +23,11 @@ pub mod OrderLemmas
 pub mod PassLemmas
 pub mod RanksLemmas
 pub mod RestoreLemmas
+pub mod SessionLemmas
 pub mod SmallestBoxLemmas
 pub mod StepsLemmas
 pub mod TakeBackLemmas
+pub mod TransitionLemmas
 pub mod TrialLemmas
 pub mod VolumesLemmas
 pub mod WholeLemmas

@@ -1,13 +1,13 @@
 -- Look-ups and writes at keys that are equal, in maps that agree.
 use Rattle.std.proofs.Common.{◌≡◌, Bool, true, false, cond, List, [], ◌∷◌, refl, ◌∙◌, sym, ap}
 use Rattle.std.specs.Prelude.{Option, Some, None}
-use Rattle.std.specs.Ordering.{ordering_reverse, is_eq}
+use Rattle.std.specs.Ordering.{ordering_reverse, is_eq, match_ordering}
 use Rattle.std.specs.Option.{is_some, option_map}
 use Rattle.std.specs.declared.cmp.Ordering.{Ordering}
-use Rattle.std.specs.declared.cmp.Ordering.TheVariants.{Equal}
-use Rattle.std.specs.Cmp.{IsTotalOrder}
+use Rattle.std.specs.declared.cmp.Ordering.TheVariants.{Less, Equal, Greater}
+use Rattle.std.specs.Cmp.{IsTotalOrder, Equal-is}
 use Rattle.std.specs.Map.{lookup, set_value}
-use Rattle.std.specs.BTreeMap.{is_at}
+use Rattle.std.specs.BTreeMap.{is_at, insert_entry}
 use Rattle.rectangle_pack.specs.Results.{AreMapsAlike}
 
 pub lookup-equal : {K X : Type 0} {cmp : K → K → Ordering} → IsTotalOrder cmp → (x y : K) → cmp x y ≡ Equal → (es : List (K × X)) → lookup (is_at (cmp x)) es ≡ lookup (is_at (cmp y)) es
@@ -72,6 +72,15 @@ module _ {K X : Type 0} {cmp : K → K → Ordering} (o : IsTotalOrder cmp) wher
       at true i = ((m.0.0, a), m.1)
       at false i = (m.0, i)
 
+pub is_eq-back : (r : Ordering) → is_eq (ordering_reverse r) ≡ is_eq r
+is_eq-back Less = refl
+is_eq-back Equal = refl
+is_eq-back Greater = refl
+
+-- two keys are as equal in either order
+pub is_at-back : {K : Type 0} {cmp : K → K → Ordering} → IsTotalOrder cmp → (x y : K) → is_at (cmp x) y ≡ is_at (cmp y) x
+is_at-back {cmp = cmp} o x y = ap is_eq (o.antisymm x y) ∙ is_eq-back (cmp y x)
+
 -- what is mapped is there exactly if it was
 pub is_some-option_map : {X Y : Type 0} (f : X → Y) (o : Option X) → is_some (option_map f o) ≡ is_some o
 is_some-option_map f None = refl
@@ -94,3 +103,22 @@ lookup-set_here {K} {X} test (e ∷ es) v w found = at (test e.0) (lookup-set_he
     at : (b : Bool) → (lookup test es ≡ Some v → lookup test (set_value test es w) ≡ Some w) → test e.0 ≡ b → cond b (Some e.1) (lookup test es) ≡ Some v → lookup test (cond b ((e.0, w) ∷ es) (e ∷ set_value test es w)) ≡ Some w
     at true ih t g = rw t refl
     at false ih t g = rw t (ih g)
+
+-- an entry under a new key is found by each key that equals it, and no other look-up changes
+pub lookup-inserted : {K X : Type 0} {cmp : K → K → Ordering} → IsTotalOrder cmp → (es : List (K × X)) (k : K) (v : X) → lookup (is_at (cmp k)) es ≡ None
+    → (q : K) → lookup (is_at (cmp q)) (insert_entry cmp es k v) ≡ cond (is_at (cmp k) q) (Some v) (lookup (is_at (cmp q)) es)
+lookup-inserted o [] k v absent q = rw (is_at-back o q k) refl
+lookup-inserted {K} {X} {cmp} o (e ∷ es) k v absent q = by (cmp k e.0) refl absent (lookup-inserted o es k v) (is_eq (cmp q e.0)) refl (is_eq (cmp k q)) refl
+  where
+    by : (r : Ordering) → cmp k e.0 ≡ r → cond (is_eq r) (Some e.1) (lookup (is_at (cmp k)) es) ≡ None
+        → (lookup (is_at (cmp k)) es ≡ None → (q : K) → lookup (is_at (cmp q)) (insert_entry cmp es k v) ≡ cond (is_at (cmp k) q) (Some v) (lookup (is_at (cmp q)) es))
+        → (here : Bool) → is_eq (cmp q e.0) ≡ here → (same : Bool) → is_eq (cmp k q) ≡ same
+        → lookup (is_at (cmp q)) (match_ordering r ((k, v) ∷ e ∷ es) ((e.0, v) ∷ es) (e ∷ insert_entry cmp es k v)) ≡ cond same (Some v) (cond here (Some e.1) (lookup (is_at (cmp q)) es))
+    by Less is none ih here h same s = rw (is_at-back o q k, s, h) refl
+    by Equal is none ih here h same s = absurd cc
+    by Greater is none ih true h true s =
+        let one : cmp k e.0 ≡ cmp q e.0 = o.congr k q e.0 ((Equal-is _).0 s) in
+        let two : cmp q e.0 ≡ Equal = (Equal-is _).0 h in
+        absurd cc
+    by Greater is none ih true h false s = rw h refl
+    by Greater is none ih false h same s = rw (h, ih none q, s) refl

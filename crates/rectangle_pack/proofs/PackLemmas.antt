@@ -2,8 +2,8 @@
 use Rattle.std.proofs.Common.{◌≡◌, ℕ, suc, ◌+◌, ◌<◌, ◌≤◌, List, [], ◌∷◌, ◌++◌, length, take, drop, refl, ap, sym, ◌∙◌, subst, cond, true, false, Bool, arith, get_or, append_assoc, append-nil}
 use Rattle.std.specs.Prelude.{Option, Some, None, map, sum, All, IfSome, nat_eq, Result, Ok, Err, IfOk, MatchBool, MatchOption}
 use Rattle.std.specs.declared.cmp.Ordering.{Ordering}
-use Rattle.std.specs.declared.cmp.Ordering.TheVariants.{Less, Equal, Greater}
-use Rattle.std.specs.Ordering.{ordering_reverse, is_eq}
+use Rattle.std.specs.declared.cmp.Ordering.TheVariants.{Equal}
+use Rattle.std.specs.Ordering.{is_eq}
 use Rattle.std.specs.Cmp.{IsTotalOrder, Equal-is}
 use Rattle.std.specs.List.{AllZip, sum_by}
 use Rattle.std.specs.Bool.{OnTrue}
@@ -34,7 +34,7 @@ use Rattle.rectangle_pack.specs.Steps.{IsDone}
 use Rattle.rectangle_pack.specs.Placed.{AreNamed, IsLastOf, AreLastPlacements}
 use Rattle.rectangle_pack.specs.private.TrialJournal.{GoesBack}
 use Rattle.rectangle_pack.proofs.PackingOrderLemmas.{AllZip-more}
-use Rattle.rectangle_pack.proofs.MapsLemmas.{lookup-equal, set_value-equal}
+use Rattle.rectangle_pack.proofs.MapsLemmas.{lookup-equal, set_value-equal, is_eq-back}
 use Rattle.rectangle_pack.proofs.JournalLemmas.{bins_of-set_value, lookup-bins_of, IsRoomier-grown, IsRoomier-bins, GoesBack-more, GoesBack-pushed}
 
 -- a trial that is stuck, or refused memory, may leave its bin more room
@@ -217,12 +217,6 @@ pub lists-empty : {K X A : Type 0} (es : List (K × Vec X A)) (b : Bool) → b �
 lists-empty [] b is so = refl
 lists-empty (e ∷ es) b is so = grind (arith, is, so)
 
--- swapped arguments are as equal
-is_eq-reverse : (r : Ordering) → is_eq (ordering_reverse r) ≡ is_eq r
-is_eq-reverse Less = refl
-is_eq-reverse Equal = refl
-is_eq-reverse Greater = refl
-
 -- the last placement of each id, after one more placement, which is written under an id and a bin that equal its own
 pub AreLastPlacements-more : {Id B : Type 0} {cmp : Id → Id → Ordering} (bin_cmp : B → B → Ordering) → IsTotalOrder cmp → (placements : List (Placement Id B)) (p : Placement Id B) (key : Id) (bin : B) (old new : List (Id × (B × Cuboid))) → IsStrictlySortedBy cmp (keys_of new)
     → cmp p.id key ≡ Equal → bin_cmp p.bin bin ≡ Equal
@@ -232,7 +226,7 @@ AreLastPlacements-more {Id} {B} {cmp} bin_cmp o placements p key bin old new asc
     record { ascend = ascend; each = λ id. rw (updates id) (at id (is_eq (cmp key id)) (alike id) (lookup (is_at (cmp id)) old) (h.each id)) }
   where
     alike : (id : Id) → is_eq (cmp id p.id) ≡ is_eq (cmp key id)
-    alike id = ap is_eq (o.antisymm id p.id) ∙ is_eq-reverse (cmp p.id id) ∙ ap is_eq (o.congr p.id key id same)
+    alike id = ap is_eq (o.antisymm id p.id) ∙ is_eq-back (cmp p.id id) ∙ ap is_eq (o.congr p.id key id same)
 
     at : (id : Id) (b : Bool) → is_eq (cmp id p.id) ≡ b → (found : Option (B × Cuboid))
         → MatchOption found (All (λ q. is_eq (cmp id q.id) ≡ false) placements) (IsLastOf cmp bin_cmp placements id)

@@ -17,6 +17,8 @@ pub mod Placed
 pub mod Packing
 pub mod PackAnswers
 pub mod Pushes
+pub mod Covering
+pub mod Session
 pub mod Results
 pub mod Texts
 pub mod private

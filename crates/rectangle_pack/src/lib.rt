@@ -12,6 +12,7 @@ mod orders;
 pub mod pack;
 pub mod packed_location;
 pub mod rect_to_insert;
+pub mod session;
 pub mod target_bin;
 mod trial;
 pub mod width_height_depth;
@@ -32,6 +33,9 @@ pub use pack::{
 };
 pub use packed_location::{PackedLocation, RotatedBy};
 pub use rect_to_insert::RectToInsert;
+pub use session::{
+    Command, Outstanding, Packed, Reply, Session, SessionError, transitions_keep_sessions,
+};
 pub use target_bin::{
     FitTests, PushBinSectionError, TargetBin, step_adds_at_most_two, trial_keeps_cells,
 };

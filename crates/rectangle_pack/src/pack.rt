@@ -17,7 +17,7 @@ ghost use Rattle.rectangle_pack.specs.SmallestBox.{IsSmallestOrder};
 ghost use Rattle.rectangle_pack.specs.Results.{ClosuresDecide, either_of, AreCollectionsAlike, AreBinsAlike, ArePlacementsAlike, AreLocationsAlike, HaveOneResult};
 
 mod answer;
-mod work;
+pub(crate) mod work;
 
 use crate::closures::Closures;
 use crate::fit_tests::FitTests;

@@ -1,5 +1,6 @@
 //! Bins whose memory is refused.
 ghost use Rattle.std.specs.Prelude.{◌≡◌, [], IfOk};
+ghost use Rattle.rectangle_pack.specs.Bins.{new_bin};
 
 use super::{End, refuses_each};
 use crate::refusing::Refusing;
@@ -23,7 +24,8 @@ fn is_row<A: Allocator + Copy>(bin: &TargetBin<A>, count: u32) -> bool {
 
 // A bin 20x20x1 without free sections.
 fn bare<A: Allocator + Copy>(alloc: A) -> Result<TargetBin<A>, AllocError>
-    ensures { IfOk result (λ b. b.bin ≡ record { size = record { width = 20; height = 20; depth = 1 }; sections = [] }) }
+    ensures { IfOk result (λ b. b.bin ≡
+        record (new_bin (record { width = 20; height = 20; depth = 1 })) { sections = [] }) }
 {
     let mut bin = TargetBin::new(alloc, 20, 20, 1)?;
     bin.remove_filled_section(0);

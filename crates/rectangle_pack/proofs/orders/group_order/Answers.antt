@@ -23,7 +23,7 @@ use Rattle.std.specs.Map.{keys_of}
 use Rattle.std.proofs.lemmas.List.Sorted.{IsPermutation-map}
 use Rattle.std.proofs.lemmas.Map.Keys.{IsDistinct-from_sorted, IsDistinct-IsPermutation}
 use Rattle.rectangle_pack.proofs.BarredLemmas.{names-zip}
-use Rattle.rectangle_pack.proofs.ExclusionsLemmas.{is_at-back}
+use Rattle.rectangle_pack.proofs.MapsLemmas.{is_at-back}
 use Rattle.rectangle_pack.proofs.orders.group_order.Goals as goal
 
 pub group_key-requires-clause-known : goal.group_key-requires-clause-known

@@ -1,0 +1,188 @@
+-- What each change of a bin's boxes keeps: a step, a trial, a group that is placed, a packing.
+use Rattle.std.proofs.Common.{◌≡◌, ℕ, List, [], ◌∷◌, ◌++◌, refl, ap, sym, ◌∙◌, cond, true, false, Bool, arith, append-nil}
+use Rattle.std.specs.Prelude.{Some, IsSome, All}
+use Rattle.std.specs.declared.cmp.Ordering.{Ordering}
+use Rattle.std.specs.declared.cmp.Ordering.TheVariants.{Equal}
+use Rattle.std.specs.Cmp.{IsTotalOrder, Equal-is}
+use Rattle.std.specs.Ordering.{is_eq}
+use Rattle.std.specs.Map.{lookup}
+use Rattle.std.specs.BTreeMap.{is_at}
+use Rattle.std.proofs.lemmas.List.Elements.{All-nil, All-cons, All-head, All-tail, All-append, All-weaker}
+use Rattle.rectangle_pack.specs.declared.pack.answer.Placement.{Placement}
+use Rattle.rectangle_pack.specs.Boxes.{Size, Cuboid, Cell, IsInside, has_cells}
+use Rattle.rectangle_pack.specs.Bins.{Bin}
+use Rattle.rectangle_pack.specs.Closures.{Answers}
+use Rattle.rectangle_pack.specs.Counting.{times_filled}
+use Rattle.rectangle_pack.specs.Keeping.{placed_in}
+use Rattle.rectangle_pack.specs.Packing.{Rules, Members, Stage, IsPlaced, AreAllPlaced}
+use Rattle.rectangle_pack.specs.Steps.{IsStep, IsDone}
+use Rattle.rectangle_pack.proofs.CountingLemmas.{filled-append, filled-cons, filled_none}
+use Rattle.rectangle_pack.proofs.CutsLemmas.{All-middle}
+use Rattle.rectangle_pack.proofs.KeepingLemmas.{placed_in-here, placed_in-none, placed_in-append, lookup-written, was_there}
+use Rattle.rectangle_pack.proofs.MapsLemmas.{lookup-equal}
+use Rattle.rectangle_pack.proofs.StepsLemmas.{All-front, All-back, IsStep-keeps, filled-step}
+
+-- a relation between the boxes of a bin before and after a change: it goes on from one change to the next, boxes may stand
+-- beside, a box may move to the end of the free sections, and a box without cells may go
+pub record IsFrame (R : List Cuboid → List Cuboid → Type 0) : Type 0 where
+  pub same : (xs : List Cuboid) → R xs xs
+  pub next : (a b x d y : List Cuboid) → R a (b ++ x) → R b (d ++ y) → R a (d ++ (x ++ y))
+  pub beside : (a b x z : List Cuboid) → R a (b ++ x) → R (a ++ z) (b ++ (z ++ x))
+  pub moved : (free before after : List Cuboid) (box : Cuboid) → R (free ++ (before ++ box ∷ after)) ((free ++ box ∷ []) ++ (before ++ after))
+  pub dropped : (free before after : List Cuboid) (box : Cuboid) → has_cells box ≡ false → R (free ++ (before ++ box ∷ after)) (free ++ (before ++ after))
+
+-- and a step keeps it, with the box that it places
+pub record KeptBySteps (may : Answers) (R : List Cuboid → List Cuboid → Type 0) : Type 0 where
+  pub step : (sections : List Cuboid) (m : Size) (l : Cuboid) (next : List Cuboid) (n : ℕ) → IsStep may sections m l next n → R sections (next ++ l ∷ [])
+
+-- each cell is filled as often as before, and what was inside a bin stays inside
+pub record IsRecut (old new : List Cuboid) : Type 0 where
+  pub cells : (c : Cell) → times_filled c new ≡ times_filled c old
+  pub inside : (size : Size) → All (IsInside size) old → All (IsInside size) new
+
+pub IsFrame-recut : IsFrame IsRecut
+IsFrame-recut = record {
+  same = λ xs. record { cells = λ c. refl; inside = λ size h. h };
+  next = λ a b x d y first next. record {
+    cells = λ c. omega (arith, first.cells c, next.cells c, filled-append c b x, filled-append c d y, filled-append c d (x ++ y), filled-append c x y);
+    inside = λ size h.
+        let P : Cuboid → Type 0 = IsInside size in
+        let bx = first.inside size h in
+        let dy = next.inside size (All-front P b x bx) in
+        All-append P d (x ++ y) (All-front P d y dy) (All-append P x y (All-back P b x bx) (All-back P d y dy));
+  };
+  beside = λ a b x z h. record {
+    cells = λ c. omega (arith, h.cells c, filled-append c b x, filled-append c a z, filled-append c b (z ++ x), filled-append c z x);
+    inside = λ size az.
+        let P : Cuboid → Type 0 = IsInside size in
+        let bx = h.inside size (All-front P a z az) in
+        All-append P b (z ++ x) (All-front P b x bx) (All-append P z x (All-back P a z az) (All-back P b x bx));
+  };
+  moved = λ free before after box. record {
+    cells = λ c. omega (
+      arith,
+      filled-append c free (before ++ box ∷ after),
+      filled-append c before (box ∷ after),
+      filled-cons c box after,
+      filled-append c (free ++ box ∷ []) (before ++ after),
+      filled-append c free (box ∷ []),
+      filled-append c before after,
+    );
+    inside = λ size h.
+        let P : Cuboid → Type 0 = IsInside size in
+        let rest = All-back P free (before ++ box ∷ after) h in
+        let tail = All-back P before (box ∷ after) rest in
+        All-append P (free ++ box ∷ []) (before ++ after)
+        (All-append P free (box ∷ []) (All-front P free (before ++ box ∷ after) h) (All-cons P box [] (All-head P box after tail) (All-nil P)))
+        (All-append P before after (All-front P before (box ∷ after) rest) (All-tail P box after tail));
+  };
+  dropped = λ free before after box empty. record {
+    cells = λ c. omega (
+      arith,
+      filled_none c box empty,
+      filled-append c free (before ++ box ∷ after),
+      filled-append c before (box ∷ after),
+      filled-cons c box after,
+      filled-append c free (before ++ after),
+      filled-append c before after,
+    );
+    inside = λ size h.
+        let P : Cuboid → Type 0 = IsInside size in
+        let rest = All-back P free (before ++ box ∷ after) h in
+        All-append P free (before ++ after) (All-front P free (before ++ box ∷ after) h)
+        (All-append P before after (All-front P before (box ∷ after) rest) (All-tail P box after (All-back P before (box ∷ after) rest)));
+  };
+}
+
+pub KeptBySteps-recut : (may : Answers) → KeptBySteps may IsRecut
+KeptBySteps-recut may = record {
+  step = λ sections m l next n step. record {
+    cells = λ c. omega (arith, filled-append c next (l ∷ []), filled-step may c sections m l next n step);
+    inside = λ size h.
+        let P : Cuboid → Type 0 = IsInside size in
+        let here : P step.section = All-middle P sections step.before step.after step.section step.splits h in
+        let fits = step.held in
+        let at : P l = rw step.location_is (record { within_x = omega (arith, here.within_x, fits.wide); within_y = omega (arith, here.within_y, fits.high); within_z = omega (arith, here.within_z, fits.deep) }) in
+        All-append P next (l ∷ [])
+        (IsStep-keeps may P sections m l next n (λ b s part inside. record { within_x = omega arith; within_y = omega arith; within_z = omega arith }) step h)
+        (All-cons P l [] at (All-nil P));
+  };
+}
+
+module _ {R : List Cuboid → List Cuboid → Type 0} (frame : IsFrame R) where
+  -- a trial that is done keeps it, with its locations
+  pub framed-done : (may : Answers) → KeptBySteps may R → (sections : List Cuboid) (ms : List Size) (ls last : List Cuboid) (n : ℕ) → IsDone may sections ms ls last n → R sections (last ++ ls)
+  framed-done may kept sections [] ls last n done = rw (done.0, done.1, append-nil sections) (frame.same sections)
+  framed-done may kept sections (m ∷ ms) [] last n done = absurd done
+  framed-done may kept sections (m ∷ ms) (l ∷ ls) last n (next, one, others, step, done, count) =
+      frame.next sections next (l ∷ []) last ls (kept.step sections m l next one step) (framed-done may kept next ms ls last others done)
+
+-- the bin of this id is there after a change, with another list; it kept the rest, and the relation holds, with what was placed in it
+pub record IsChanged {Id B : Type 0} (R : List Cuboid → List Cuboid → Type 0) (bin_cmp : B → B → Ordering) (placements : List (Placement Id B)) (new : List (B × Bin)) (id : B) (before : Bin) : Type 0 where
+  pub after : Bin
+  pub found : lookup (is_at (bin_cmp id)) new ≡ Some after
+  pub kept : after ≡ record before { sections = after.sections }
+  pub framed : R before.sections (after.sections ++ placed_in bin_cmp placements id)
+
+module _ {R : List Cuboid → List Cuboid → Type 0} (frame : IsFrame R) {Id B : Type 0} (rules : Rules Id B) (o : IsTotalOrder rules.bin_cmp) (kept : KeptBySteps rules.may R) where
+  -- one group that is placed
+  changed-placed : (barred : B → Bool) (order : List B) (group : Members Id) (old : List (B × Bin)) (placements : List (Placement Id B)) (new : List (B × Bin)) (tests : ℕ) → IsPlaced rules barred order group old placements new tests
+      → (q : B) (before : Bin) → lookup (is_at (rules.bin_cmp q)) old ≡ Some before → IsChanged R rules.bin_cmp placements new q before
+  changed-placed barred order group old placements new n h q before was = by (is_eq (rules.bin_cmp h.here q)) refl
+    where
+      after : Bin
+      after = record h.bin { sections = h.last }
+
+      seen : lookup (is_at (rules.bin_cmp q)) new ≡ cond (is_eq (rules.bin_cmp h.here q)) (Some after) (lookup (is_at (rules.bin_cmp q)) old)
+      seen = ap (lookup (is_at (rules.bin_cmp q))) h.new_is ∙ lookup-written o h.here old h.bin after q h.found
+
+      tests : (b : Bool) → is_eq (rules.bin_cmp h.here q) ≡ b → All (λ (p : Placement Id B). is_at (rules.bin_cmp p.bin) q ≡ b) placements
+      tests b e = All-weaker (λ (p : Placement Id B). rules.bin_cmp h.here p.bin ≡ Equal) (λ (p : Placement Id B). is_at (rules.bin_cmp p.bin) q ≡ b) (λ p same. rw (← o.congr h.here p.bin q same) e) placements h.named.together
+
+      by : (b : Bool) → is_eq (rules.bin_cmp h.here q) ≡ b → IsChanged R rules.bin_cmp placements new q before
+      by true e =
+          let equal : rules.bin_cmp h.here q ≡ Equal = (Equal-is _).0 e in
+          let same : Some before ≡ Some h.bin = sym was ∙ sym (lookup-equal o h.here q equal old) ∙ h.found in
+          let is : before ≡ h.bin = cc in
+          let there : placed_in rules.bin_cmp placements q ≡ h.locations = placed_in-here rules.bin_cmp placements q (tests true e) ∙ h.named.at in
+          record {
+            after = after;
+            found = seen ∙ rw e refl;
+            kept = rw is refl;
+            framed = rw (is, there) (framed-done frame rules.may kept h.bin.sections group.sizes h.locations h.last h.count h.done);
+          }
+      by false e = record {
+        after = before;
+        found = seen ∙ rw e was;
+        kept = refl;
+        framed = rw (placed_in-none rules.bin_cmp placements q (tests false e), append-nil before.sections) (frame.same before.sections);
+      }
+
+  module _ {K : Type 0} (bars : List (K × B) → K → B → Bool) where
+    -- all groups of a list
+    pub changed-all : (order : List B) (gs : List (K × Members Id)) (old : Stage K B) (placements : List (Placement Id B)) (new : Stage K B) (tests : ℕ) → AreAllPlaced rules bars order gs old placements new tests
+        → (q : B) (before : Bin) → lookup (is_at (rules.bin_cmp q)) old.bins ≡ Some before → IsChanged R rules.bin_cmp placements new.bins q before
+    changed-all order [] old placements new n h q before was =
+        rw (h.0, h.1) (record { after = before; found = was; kept = refl; framed = rw (append-nil before.sections) (frame.same before.sections) })
+    changed-all order (g ∷ gs) old placements new n (first, next, one, rest, others, placed, later, joined, counted) q before was =
+        let head = changed-placed (bars old.homes g.0) order g.1 old.bins first next one placed q before was in
+        let tail = changed-all order gs (record { bins = next; homes = (g.0, placed.here) ∷ old.homes }) rest new others later q head.after head.found in
+        record {
+          after = tail.after;
+          found = tail.found;
+          kept = tail.kept ∙ ap (λ (b : Bin). record b { sections = tail.after.sections }) head.kept;
+          framed = rw (joined, placed_in-append rules.bin_cmp first rest q)
+              (frame.next before.sections head.after.sections (placed_in rules.bin_cmp first q) tail.after.sections (placed_in rules.bin_cmp rest q) head.framed tail.framed);
+        }
+
+    -- each bin that a placement names is there before the packing
+    pub known-all : (order : List B) (gs : List (K × Members Id)) (old : Stage K B) (placements : List (Placement Id B)) (new : Stage K B) (tests : ℕ) → AreAllPlaced rules bars order gs old placements new tests
+        → All (λ p. IsSome (lookup (is_at (rules.bin_cmp p.bin)) old.bins)) placements
+    known-all order [] old placements new n h = rw h.0 (All-nil (λ (p : Placement Id B). IsSome (lookup (is_at (rules.bin_cmp p.bin)) old.bins)))
+    known-all order (g ∷ gs) old placements new n (first, next, one, rest, others, placed, later, joined, counted) =
+        let mid : Stage K B = record { bins = next; homes = (g.0, placed.here) ∷ old.homes } in
+        let alone : AreAllPlaced rules bars order (g ∷ []) old first mid one = (first, next, one, [], 0, placed, (refl, refl, refl), sym (append-nil first), omega arith) in
+        let There : Stage K B → Placement Id B → Type 0 = λ stage p. IsSome (lookup (is_at (rules.bin_cmp p.bin)) stage.bins) in
+        rw joined (All-append (There old) first rest
+        (All-weaker (λ (p : Placement Id B). rules.bin_cmp placed.here p.bin ≡ Equal) (There old) (λ p same. rw (← lookup-equal o placed.here p.bin same old.bins, placed.found) refl) first placed.named.together)
+        (All-weaker (There mid) (There old) (λ p some. was_there rules o bars order (g ∷ []) old first mid one alone p.bin some) rest (known-all order gs mid rest new others later)))

@@ -1,0 +1,136 @@
+-- Sessions: the state of one, what holds of it always, and what each command makes of it.
+use Rattle.std.specs.Prelude.{◌≡◌, ◌≢◌, ℕ, ◌+◌, ◌<◌, ◌≤◌, ◌^◌, List, [], ◌∷◌, ◌++◌, length, map, filter, All, AllPairs, Some, None, IsSome, MatchBool, Result, Ok, Err, true}
+use Rattle.std.specs.declared.cmp.Ordering.{Ordering}
+use Rattle.std.specs.declared.cmp.Ordering.TheVariants.{Equal}
+use Rattle.std.specs.Map.{lookup, set_value}
+use Rattle.std.specs.BTreeMap.{is_at, insert_entry}
+use Rattle.rectangle_pack.specs.declared.grouped_rects_to_place.Group.{Group}
+use Rattle.rectangle_pack.specs.declared.pack.answer.Placement.{Placement}
+use Rattle.rectangle_pack.specs.declared.session.command.Outstanding.{Outstanding}
+use Rattle.rectangle_pack.specs.declared.session.command.Packed.{Packed as PackedNumbers}
+use Rattle.rectangle_pack.specs.declared.session.command.SessionError.{SessionError}
+use Rattle.rectangle_pack.specs.declared.session.command.SessionError.TheVariants.{DuplicateBin, UnknownPlacement, NumbersUsedUp, NotEnoughBinSpace, OutOfMemory}
+use Rattle.rectangle_pack.specs.declared.session.command.Reply.{Reply}
+use Rattle.rectangle_pack.specs.declared.session.command.Reply.TheVariants.{Done, Packed, Refused}
+use Rattle.rectangle_pack.specs.declared.session.command.Command.{Command}
+use Rattle.rectangle_pack.specs.declared.session.command.Command.TheVariants.{AddBin, Pack, Release}
+use Rattle.rectangle_pack.specs.Boxes.{Size, Cuboid, has_cells}
+use Rattle.rectangle_pack.specs.Bins.{Bin, new_bin}
+use Rattle.rectangle_pack.specs.Covering.{CoverBin}
+use Rattle.rectangle_pack.specs.Groups.{Collection}
+use Rattle.rectangle_pack.specs.Packing.{Rules, PackingDone, PackingRefused}
+use Rattle.rectangle_pack.specs.PackAnswers.{entries_of}
+
+-- a session as callers see it: its bins, what it placed in them and was not released, in the order of numbers, and the
+-- number of the next placement
+pub record State (Id B : Type 0) : Type 0 where
+  pub bins : List (B × Bin)
+  pub records : List (Outstanding Id B)
+  pub next : ℕ
+
+-- the boxes that stand in the bin of this id
+abbrev pub standing_in : {Id B : Type 0} → (B → B → Ordering) → List (Outstanding Id B) → B → List Cuboid
+standing_in bin_cmp records id = map (λ r. r.location) (filter (λ r. is_at (bin_cmp r.bin) id) records)
+
+-- the boxes of a bin: its free sections, and the boxes that stand in it
+abbrev pub boxes_of : {Id B : Type 0} → (B → B → Ordering) → List (Outstanding Id B) → B → Bin → List Cuboid
+boxes_of bin_cmp records id bin = bin.sections ++ standing_in bin_cmp records id
+
+-- what holds of a session always: the boxes of each bin cover it, so that each cell is in exactly one free section or
+-- outstanding placement; each placement's bin is there; numbers rise, and are below the next one
+pub record IsSession {Id B : Type 0} (bin_cmp : B → B → Ordering) (state : State Id B) : Type 0 where
+  pub covered : (id : B) (bin : Bin) → lookup (is_at (bin_cmp id)) state.bins ≡ Some bin
+      → CoverBin (boxes_of bin_cmp state.records id bin) bin.size
+  pub known : All (λ r. IsSome (lookup (is_at (bin_cmp r.bin)) state.bins)) state.records
+  pub rising : AllPairs (λ a b. a.number < b.number) state.records
+  pub below : All (λ r. r.number < state.next) state.records
+
+-- placements as records, numbered from n on
+abbrev pub numbered : {Id B : Type 0} → ℕ → List (Placement Id B) → List (Outstanding Id B)
+numbered n [] = []
+numbered n (p ∷ ps) = record { number = n; id = p.id; bin = p.bin; location = p.location } ∷ numbered (n + 1) ps
+
+-- a placement of this number is outstanding
+pub record IsOutstanding {Id B : Type 0} (records : List (Outstanding Id B)) (number : ℕ) : Type 0 where
+  pub before : List (Outstanding Id B)
+  pub found : Outstanding Id B
+  pub after : List (Outstanding Id B)
+  pub splits : records ≡ before ++ found ∷ after
+  pub number_is : found.number ≡ number
+
+-- a box is given back: it is put at the end of the list of its bin, unless it has no cells
+abbrev pub GivesBack : {B : Type 0} → (B → B → Ordering) → List (B × Bin) → B → Cuboid → List (B × Bin) → Type 0
+GivesBack bin_cmp old id box new =
+    MatchBool (has_cells box)
+    ((bin : Bin) × (lookup (is_at (bin_cmp id)) old ≡ Some bin)
+    × (new ≡ set_value (is_at (bin_cmp id)) old (record bin { sections = bin.sections ++ box ∷ [] })))
+    (new ≡ old)
+
+-- a packing that is kept: its lists, and its placements with the numbers from the next one on
+pub record IsKept {Id B G : Type 0} (group_cmp : Group G Id → Group G Id → Ordering) (rules : Rules Id B)
+    (all : Collection Id G) (old : State Id B) (numbers : PackedNumbers) (new : State Id B) : Type 0 where
+  pub placements : List (Placement Id B)
+  pub done : PackingDone group_cmp rules all old.bins placements new.bins
+  pub counted : length placements ≡ entries_of all
+  pub first : numbers.first ≡ old.next
+  pub count : numbers.count ≡ entries_of all
+  pub records : new.records ≡ old.records ++ numbered old.next placements
+  pub next : new.next ≡ old.next + entries_of all
+
+module _ {Id B : Type 0} (bin_cmp : B → B → Ordering) where
+  -- a bin is added: the id is new, and under a key that equals it stands a new bin; or the id is there; or memory is refused
+  abbrev pub AddsBin : B → Size → State Id B → Reply → State Id B → Type 0
+  AddsBin id size old Done new =
+      (lookup (is_at (bin_cmp id)) old.bins ≡ None)
+      × (key : B) × (bin_cmp id key ≡ Equal) × (new ≡ record old { bins = insert_entry bin_cmp old.bins key (new_bin size) })
+  AddsBin id size old (Refused DuplicateBin) new = IsSome (lookup (is_at (bin_cmp id)) old.bins) × (new ≡ old)
+  AddsBin id size old (Refused OutOfMemory) new = (lookup (is_at (bin_cmp id)) old.bins ≡ None) × (new ≡ old)
+  AddsBin id size old _ new = ⊥
+
+  -- a placement is released: its record goes, and its box is given back; or the number is not outstanding; or memory is
+  -- refused for a box with cells
+  abbrev pub Releases : ℕ → State Id B → Reply → State Id B → Type 0
+  Releases number old Done new =
+      (at : IsOutstanding old.records number) × GivesBack bin_cmp old.bins at.found.bin at.found.location new.bins
+      × (new.records ≡ at.before ++ at.after) × (new.next ≡ old.next)
+  Releases number old (Refused UnknownPlacement) new = All (λ r. r.number ≢ number) old.records × (new ≡ old)
+  Releases number old (Refused OutOfMemory) new =
+      (at : IsOutstanding old.records number) × (has_cells at.found.location ≡ true) × (new ≡ old)
+  Releases number old _ new = ⊥
+
+module _ {Id B G : Type 0} (group_cmp : Group G Id → Group G Id → Ordering) (rules : Rules Id B) where
+  -- a collection is packed, where the next number stays below 2^64, so that the greatest is never given: the packing is done
+  -- and kept; or it is refused, and nothing of it stays; or memory is refused, if there is a group
+  abbrev pub Packs : Collection Id G → State Id B → Reply → State Id B → Type 0
+  Packs all old (Packed numbers) new = (old.next + entries_of all < 2 ^ 64) × IsKept group_cmp rules all old numbers new
+  Packs all old (Refused NumbersUsedUp) new = (2 ^ 64 ≤ old.next + entries_of all) × (new ≡ old)
+  Packs all old (Refused NotEnoughBinSpace) new =
+      (old.next + entries_of all < 2 ^ 64)
+      × (left : List (B × Bin)) × PackingRefused group_cmp rules all old.bins left × (new ≡ old)
+  Packs all old (Refused OutOfMemory) new = (old.next + entries_of all < 2 ^ 64) × (0 < length all.groups) × (new ≡ old)
+  Packs all old _ new = ⊥
+
+  -- a transition: a command in a state, its reply, and the state after it
+  abbrev pub IsTransition : {A : Type 0} → Command Id B G A → State Id B → Reply → State Id B → Type 0
+  IsTransition (AddBin id width height depth) old reply new =
+      AddsBin rules.bin_cmp id (record { width = width; height = height; depth = depth }) old reply new
+  IsTransition (Pack all) old reply new = Packs all old reply new
+  IsTransition (Release number) old reply new = Releases rules.bin_cmp number old reply new
+
+  -- a run: a transition for each command, with its reply
+  abbrev pub IsRun : {A : Type 0} → List (Command Id B G A) → State Id B → List Reply → State Id B → Type 0
+  IsRun [] old [] new = new ≡ old
+  IsRun [] old (reply ∷ replies) new = ⊥
+  IsRun (command ∷ commands) old [] new = ⊥
+  IsRun (command ∷ commands) old (reply ∷ replies) new =
+      (next : State Id B) × IsTransition command old reply next × IsRun commands next replies new
+
+-- the answer of a call as a reply
+abbrev pub reply_of : Result (Unit {0}) SessionError → Reply
+reply_of (Ok u) = Done
+reply_of (Err error) = Refused error
+
+-- the answer of a packing as a reply
+abbrev pub packed_reply : Result PackedNumbers SessionError → Reply
+packed_reply (Ok numbers) = Packed numbers
+packed_reply (Err error) = Refused error

@@ -1,0 +1,331 @@
+//! Bins with what is placed in them: boxes are packed, and given back by number.
+ghost use Rattle.std.specs.Prelude.{◌≡◌, ◌≤◌, [], List, IsTrue, IfOk, OnErr};
+ghost use Rattle.std.specs.List.Sorted.{IsStrictlySortedBy};
+ghost use Rattle.std.specs.Map.{keys_of};
+ghost use Rattle.rectangle_pack.specs.Boxes.{Size};
+ghost use Rattle.rectangle_pack.specs.Closures.{AreCallable, answers};
+ghost use Rattle.rectangle_pack.specs.Packing.{bins_of, rules_by};
+ghost use Rattle.rectangle_pack.specs.declared.session.command.Command.{Command};
+ghost use Rattle.rectangle_pack.specs.declared.session.command.Reply.{Reply};
+ghost use Rattle.rectangle_pack.specs.Session.{State, IsSession, AddsBin, Packs, Releases, IsTransition, IsRun, reply_of, packed_reply};
+
+mod command;
+mod work;
+
+use crate::closures::{Ask, Closures};
+use crate::grouped_rects_to_place::{Group, GroupedRectsToPlace};
+use crate::session::work::{give_back, number_after, pack_into, position_of};
+use crate::target_bin::TargetBin;
+use crate::width_height_depth::WidthHeightDepth;
+pub use command::{Command, Outstanding, Packed, Reply, SessionError};
+use std::alloc::{AllocError, Allocator, Global};
+use std::cmp::Ordering;
+use std::collections::BTreeMap;
+use std::marker::Model;
+
+/// Bins, and the boxes that were placed in them and not released. Each placement has a number, by
+/// which it is released. Each cell of a bin is in exactly one free section or outstanding
+/// placement, and each of these is inside the bin, always.
+#[derive(Drop)]
+pub struct Session<Id, BinId: Ord, A: Allocator + Copy = Global> {
+    bins: BTreeMap<BinId, TargetBin<A>, A>,
+    outstanding: Vec<Outstanding<Id, BinId>, A>,
+    next: u64,
+}
+
+impl<Id, BinId: Ord, A: Allocator + Copy> Model for Session<Id, BinId, A> {
+    ghost use Rattle.rectangle_pack.specs.Packing.{bins_of};
+    ghost use Rattle.rectangle_pack.specs.Session.{State, IsSession};
+
+    ghost Value = { State Id BinId };
+
+    ghost view = { λ s. record {
+      bins = bins_of s.bins.entries;
+      records = s.outstanding.items;
+      next = s.next;
+    } };
+
+    ghost invariant = { λ s. IsSession BinId.cmp (record {
+      bins = bins_of s.bins.entries;
+      records = s.outstanding.items;
+      next = s.next;
+    }) };
+}
+
+impl<Id, BinId, A> Session<Id, BinId, A>
+where
+    Id: Ord + Clone + Drop,
+    BinId: Ord + Clone + Drop,
+    A: Allocator + Copy,
+{
+    /// A session without bins, whose memory is to come from `alloc`; the first placement gets the
+    /// number `first`. This takes no memory.
+    pub fn new(alloc: A, first: u64) -> Self
+        ensures { result ≡ record { bins = []; records = []; next = first } }
+    {
+        Session {
+            bins: BTreeMap::new(alloc),
+            outstanding: Vec::new(alloc),
+            next: first,
+        }
+    }
+
+    /// The bins, each with its free sections.
+    pub fn bins(&self) -> &BTreeMap<BinId, TargetBin<A>, A>
+        ensures bins { bins_of result.now.entries ≡ self.now.bins }
+        ensures ascend { IsStrictlySortedBy BinId.cmp (keys_of self.now.bins) }
+        ensures always { IsSession BinId.cmp self.now }
+    {
+        // For the proof: the length of a map is asked for that its keys ascend.
+        let _ascend = self.bins.len();
+        &self.bins
+    }
+
+    /// The placements that were not released, in the order of their numbers.
+    pub fn outstanding(&self) -> &[Outstanding<Id, BinId>]
+        ensures records { result.now ≡ self.now.records }
+        ensures always { IsSession BinId.cmp self.now }
+    {
+        self.outstanding.as_slice()
+    }
+
+    /// The number of the next placement.
+    pub fn next_number(&self) -> u64
+        ensures { result ≡ self.now.next }
+    {
+        self.next
+    }
+
+    /// Adds a bin of this size, in cells, all of it free; any size will do. `DuplicateBin` says
+    /// that a bin of this id is there, `OutOfMemory` that a growth was refused. The session is then
+    /// as it was.
+    pub fn add_bin(
+        &mut self,
+        id: BinId,
+        width: u32,
+        height: u32,
+        depth: u32,
+    ) -> Result<(), SessionError>
+        ensures added { let size : Size = record { width = width; height = height; depth = depth } in
+            AddsBin BinId.cmp id size self.old (reply_of result) self.new }
+        ensures always { IsSession BinId.cmp self.new }
+    {
+        if self.bins.contains_key(&id) {
+            return Err(SessionError::DuplicateBin);
+        }
+        let alloc = *self.outstanding.allocator();
+        let bin = TargetBin::new(alloc, width, height, depth)?;
+        match self.bins.insert(id, bin) {
+            Ok(_) => Ok(()),
+            Err(_) => Err(SessionError::OutOfMemory),
+        }
+    }
+
+    /// Packs all groups into the bins, as `pack_rects` does; the placements get the next numbers,
+    /// in the order in which they were made. Without groups no memory is taken.
+    ///
+    /// The caller sees to it that clones of ids equal their originals, and that `heuristic` may be
+    /// called on every size, and `comparison` on every two triples of sizes.
+    ///
+    /// `NumbersUsedUp` says that the next number and the entries of the groups add up to more than
+    /// the greatest `u64`; this is looked at first. `NotEnoughBinSpace` says that for some group
+    /// each bin is passed over or does not take all of its boxes, and `OutOfMemory` that a growth
+    /// or a clone was refused. The session is then as it was: nothing of the packing stays, and the
+    /// lists of free sections are in their old order.
+    pub fn pack<GroupId, H, C>(
+        &mut self,
+        groups: &GroupedRectsToPlace<Id, GroupId, A>,
+        heuristic: &H,
+        comparison: &C,
+    ) -> Result<Packed, SessionError>
+    where
+        GroupId: Ord + Clone + Drop,
+        H: Fn(WidthHeightDepth) -> u128,
+        C: Fn([WidthHeightDepth; 3], [WidthHeightDepth; 3], &H) -> Ordering,
+        requires ids { (a b : Id) → Id.is_clone a b → IsTrue (Id.eq a b) }
+        requires bin_ids { (a b : BinId) → BinId.is_clone a b → IsTrue (BinId.eq a b) }
+        requires callable { AreCallable H.Fn C.Fn heuristic.now comparison.now }
+        ensures packed { let order = ⟦<Group<GroupId, Id> as Ord>⟧.cmp in
+            let may = answers H.Fn C.Fn heuristic.now comparison.now in
+            Packs order (rules_by Id.cmp BinId.cmp may) groups.now
+            self.old (packed_reply result) self.new }
+        ensures always { IsSession BinId.cmp self.new }
+    {
+        let rules = Closures {
+            heuristic,
+            comparison,
+        };
+        self.pack_by(groups, &rules)
+    }
+
+    fn pack_by<GroupId, R>(
+        &mut self,
+        groups: &GroupedRectsToPlace<Id, GroupId, A>,
+        rules: &R,
+    ) -> Result<Packed, SessionError>
+    where
+        GroupId: Ord + Clone + Drop,
+        R: Ask,
+        requires ids { (a b : Id) → Id.is_clone a b → IsTrue (Id.eq a b) }
+        requires bin_ids { (a b : BinId) → BinId.is_clone a b → IsTrue (BinId.eq a b) }
+        requires callable { R.can_ask rules.now }
+        ensures packed { let order = ⟦<Group<GroupId, Id> as Ord>⟧.cmp in
+            Packs order (rules_by Id.cmp BinId.cmp (R.may rules.now)) groups.now
+            self.old (packed_reply result) self.new }
+        ensures always { IsSession BinId.cmp self.new }
+    {
+        let first = self.next;
+        let Some(next) = number_after(first, groups.groups()) else {
+            return Err(SessionError::NumbersUsedUp);
+        };
+        let count = next - first;
+        let kept = pack_into(
+            groups,
+            &mut self.bins,
+            &mut self.outstanding,
+            first,
+            count,
+            rules,
+        )?;
+        if !kept {
+            return Err(SessionError::NotEnoughBinSpace);
+        }
+        self.next = next;
+        Ok(Packed { first, count })
+    }
+
+    /// Gives a placement back: it is no longer outstanding, and its cells are free again, as the
+    /// newest section of its bin. A box without cells adds no section and takes no memory.
+    ///
+    /// `UnknownPlacement` says that no placement of this number is outstanding, `OutOfMemory` that
+    /// a growth was refused. The session is then as it was.
+    pub fn release(&mut self, number: u64) -> Result<(), SessionError>
+        ensures released { Releases BinId.cmp number self.old (reply_of result) self.new }
+        ensures always { IsSession BinId.cmp self.new }
+    {
+        let Some(index) = position_of(self.outstanding.as_slice(), number) else {
+            return Err(SessionError::UnknownPlacement);
+        };
+        let placement = &self.outstanding[index];
+        give_back(&mut self.bins, &placement.bin, placement.location)?;
+        self.outstanding.remove(index);
+        Ok(())
+    }
+
+    /// Obeys the commands in order: each is done or refused as the call of its name does, and a
+    /// refused one changes nothing. One reply a command.
+    ///
+    /// The conditions are those of `pack`. `AllocError` says that memory for the replies was
+    /// refused, and then no command was done.
+    pub fn run<GroupId, H, C>(
+        &mut self,
+        commands: &[Command<Id, BinId, GroupId, A>],
+        heuristic: &H,
+        comparison: &C,
+    ) -> Result<Vec<Reply, A>, AllocError>
+    where
+        GroupId: Ord + Clone + Drop,
+        H: Fn(WidthHeightDepth) -> u128,
+        C: Fn([WidthHeightDepth; 3], [WidthHeightDepth; 3], &H) -> Ordering,
+        requires ids { (a b : Id) → Id.is_clone a b → IsTrue (Id.eq a b) }
+        requires bin_ids { (a b : BinId) → BinId.is_clone a b → IsTrue (BinId.eq a b) }
+        requires callable { AreCallable H.Fn C.Fn heuristic.now comparison.now }
+        ensures ok { IfOk result
+            (λ replies.
+            let order = ⟦<Group<GroupId, Id> as Ord>⟧.cmp in
+            let may = answers H.Fn C.Fn heuristic.now comparison.now in
+            IsRun order (rules_by Id.cmp BinId.cmp may) commands.now self.old replies.items
+            self.new) }
+        ensures err { OnErr result (self.new ≡ self.old) }
+        ensures always { IsSession BinId.cmp self.new }
+    {
+        let rules = Closures {
+            heuristic,
+            comparison,
+        };
+        let mut replies = Vec::with_capacity(*self.outstanding.allocator(), commands.len())?;
+        for command in commands {
+            replies.push_reserved(self.obey(command, &rules));
+        }
+        Ok(replies)
+    }
+
+    fn obey<GroupId, R>(&mut self, command: &Command<Id, BinId, GroupId, A>, rules: &R) -> Reply
+    where
+        GroupId: Ord + Clone + Drop,
+        R: Ask,
+        requires ids { (a b : Id) → Id.is_clone a b → IsTrue (Id.eq a b) }
+        requires bin_ids { (a b : BinId) → BinId.is_clone a b → IsTrue (BinId.eq a b) }
+        requires callable { R.can_ask rules.now }
+        ensures { let order = ⟦<Group<GroupId, Id> as Ord>⟧.cmp in
+            IsTransition order (rules_by Id.cmp BinId.cmp (R.may rules.now)) command.now
+            self.old result self.new }
+    {
+        match command {
+            Command::AddBin {
+                id,
+                width,
+                height,
+                depth,
+            } => reply(self.add_clone(id, *width, *height, *depth)),
+            Command::Pack(groups) => match self.pack_by(groups, rules) {
+                Ok(packed) => Reply::Packed(packed),
+                Err(error) => Reply::Refused(error),
+            },
+            Command::Release(number) => reply(self.release(*number)),
+        }
+    }
+
+    // Adds a bin under a clone of the id, which is made for a new id alone.
+    fn add_clone(
+        &mut self,
+        id: &BinId,
+        width: u32,
+        height: u32,
+        depth: u32,
+    ) -> Result<(), SessionError>
+        requires { (a b : BinId) → BinId.is_clone a b → IsTrue (BinId.eq a b) }
+        ensures { let size : Size = record { width = width; height = height; depth = depth } in
+            AddsBin BinId.cmp id.now size self.old (reply_of result) self.new }
+    {
+        if self.bins.contains_key(id) {
+            return Err(SessionError::DuplicateBin);
+        }
+        self.add_bin(id.clone()?, width, height, depth)
+    }
+}
+
+// The reply to a call that answers nothing.
+fn reply(answer: Result<(), SessionError>) -> Reply
+    ensures { result ≡ reply_of answer }
+{
+    match answer {
+        Ok(()) => Reply::Done,
+        Err(error) => Reply::Refused(error),
+    }
+}
+
+/// A law: what holds of a session always holds after each transition of its machine, and after each
+/// run, and the next number does not fall, so that no number is given twice.
+pub fn transitions_keep_sessions<Id, BinId, GroupId, H, C, A>(heuristic: &H, comparison: &C)
+where
+    Id: Ord,
+    BinId: Ord,
+    GroupId: Ord,
+    H: Fn(WidthHeightDepth) -> u128,
+    C: Fn([WidthHeightDepth; 3], [WidthHeightDepth; 3], &H) -> Ordering,
+    A: Allocator + Copy,
+    ensures transition { let groups = ⟦<Group<GroupId, Id> as Ord>⟧.cmp in
+        let rules = rules_by Id.cmp BinId.cmp (answers H.Fn C.Fn heuristic.now comparison.now) in
+        (command : Command Id BinId GroupId A) (reply : Reply) (old new : State Id BinId) →
+        IsTransition groups rules command old reply new →
+        IsSession BinId.cmp old →
+        IsSession BinId.cmp new × (old.next ≤ new.next) }
+    ensures run { let groups = ⟦<Group<GroupId, Id> as Ord>⟧.cmp in
+        let rules = rules_by Id.cmp BinId.cmp (answers H.Fn C.Fn heuristic.now comparison.now) in
+        (commands : List (Command Id BinId GroupId A)) (replies : List Reply) →
+        (old new : State Id BinId) →
+        IsRun groups rules commands old replies new →
+        IsSession BinId.cmp old →
+        IsSession BinId.cmp new × (old.next ≤ new.next) }
+{}

@@ -1,0 +1,85 @@
+//! What a session is told, and what it answers.
+use crate::grouped_rects_to_place::GroupedRectsToPlace;
+use crate::packed_location::PackedLocation;
+use std::alloc::{AllocError, Allocator, Global};
+
+/// A placement that was not released.
+#[derive(Debug, PartialEq, Drop)]
+pub struct Outstanding<Id, BinId> {
+    /// Its number, by which it is released.
+    pub number: u64,
+    /// The id of the box.
+    pub id: Id,
+    /// The id of the bin.
+    pub bin: BinId,
+    /// The corner and the size of the box, in cells of the bin.
+    pub location: PackedLocation,
+}
+
+/// The numbers of the placements of one packing: `first`, `first + 1`, and so on, `count` in all.
+#[derive(Debug, Clone, Copy, PartialEq)]
+pub struct Packed {
+    /// The number of the first placement.
+    pub first: u64,
+    /// How many placements there are.
+    pub count: u64,
+}
+
+/// Why a session refused a call. The session is then as it was before.
+#[derive(Debug, Clone, Copy, PartialEq)]
+pub enum SessionError {
+    /// The bin is there already.
+    DuplicateBin,
+    /// There is no such bin.
+    UnknownBin,
+    /// No placement of this number is outstanding.
+    UnknownPlacement,
+    /// The numbers of the placements would reach the greatest `u64`, which is never given.
+    NumbersUsedUp,
+    /// For some group each bin is passed over or does not take all of its boxes.
+    NotEnoughBinSpace,
+    /// A growth or a clone was refused.
+    OutOfMemory,
+}
+
+impl From<AllocError> for SessionError {
+    ghost use Rattle.std.specs.Prelude.{◌≡◌};
+    ghost use Rattle.rectangle_pack.specs.declared.session.command.SessionError.TheVariants.{OutOfMemory};
+
+    ghost from_gives = { λ e error. error ≡ OutOfMemory };
+
+    fn from(_: AllocError) -> Self {
+        SessionError::OutOfMemory
+    }
+}
+
+/// A call of a session, as a value.
+#[derive(Drop)]
+pub enum Command<Id: Ord, BinId, GroupId: Ord, A: Allocator + Copy = Global> {
+    /// Adds a bin of this size, in cells.
+    AddBin {
+        /// Its id.
+        id: BinId,
+        /// Its width.
+        width: u32,
+        /// Its height.
+        height: u32,
+        /// Its depth.
+        depth: u32,
+    },
+    /// Packs all boxes of a collection.
+    Pack(GroupedRectsToPlace<Id, GroupId, A>),
+    /// Releases the placement of this number.
+    Release(u64),
+}
+
+/// What a session answers to a command.
+#[derive(Debug, Clone, Copy, PartialEq)]
+pub enum Reply {
+    /// It is done.
+    Done,
+    /// The boxes are packed, under these numbers.
+    Packed(Packed),
+    /// It is refused, and the session is as it was before.
+    Refused(SessionError),
+}
