@@ -7,6 +7,7 @@ mod example;
 mod exclusions;
 mod failures;
 mod groups;
+mod joining;
 mod memory;
 mod packings;
 mod placements;

@@ -10,6 +10,7 @@ pub mod EitherLemmas
 pub mod FrameLemmas
 pub mod GroupOrderLemmas
 pub mod GroupsLemmas
+pub mod JoiningLemmas
 pub mod KeepingLemmas
 pub mod ListsLemmas
 pub mod MapsLemmas
@@ -26,6 +27,7 @@ pub mod RestoreLemmas
 pub mod SessionLemmas
 pub mod SmallestBoxLemmas
 pub mod StepsLemmas
+pub mod SweepLemmas
 pub mod TakeBackLemmas
 pub mod TransitionLemmas
 pub mod TrialLemmas

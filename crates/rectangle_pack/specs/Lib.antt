@@ -10,6 +10,7 @@ pub mod Keeping
 pub mod Steps
 pub mod Trials
 pub mod Bins
+pub mod Joining
 pub mod Exclusions
 pub mod Groups
 pub mod Orders

@@ -7,6 +7,7 @@ mod closures;
 mod exclusions;
 mod fit_tests;
 pub mod grouped_rects_to_place;
+mod joining;
 mod lists;
 mod orders;
 pub mod pack;
@@ -37,6 +38,7 @@ pub use session::{
     Command, Outstanding, Packed, Reply, Session, SessionError, transitions_keep_sessions,
 };
 pub use target_bin::{
-    FitTests, PushBinSectionError, TargetBin, step_adds_at_most_two, trial_keeps_cells,
+    FitTests, PushBinSectionError, TargetBin, joining_has_one_result, joining_keeps_cells,
+    joining_stays_within_the_list, step_adds_at_most_two, sweep_leaves_no_face, trial_keeps_cells,
 };
 pub use width_height_depth::{WidthHeightDepth, sizes_are_ordered};

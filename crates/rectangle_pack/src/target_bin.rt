@@ -1,10 +1,11 @@
 //! Bins and their free sections.
 ghost use Rattle.std.specs.Prelude.{ℕ, ◌≡◌, ◌+◌, ◌≤◌, ◌<◌, ◌++◌, ◌∷◌, [], List, IfOk, OnOk, OnErr, IfNone, IfSome, IsOk, IsTrue, ◌↔◌, length, remove, filter, All};
-ghost use Rattle.rectangle_pack.specs.Boxes.{Size, Cuboid, AreApart, has_cells};
+ghost use Rattle.rectangle_pack.specs.Boxes.{Size, Cuboid, Cell, AreApart, has_cells};
 ghost use Rattle.rectangle_pack.specs.Closures.{AreCallable, answers};
 ghost use Rattle.rectangle_pack.specs.Pushes.{IsFirstSharing, IsPushAnswer};
 ghost use Rattle.rectangle_pack.specs.Bins.{new_bin, IsSound, IsAccepted};
-ghost use Rattle.rectangle_pack.specs.Counting.{AreAllApart};
+ghost use Rattle.rectangle_pack.specs.Counting.{AreAllApart, times_filled};
+ghost use Rattle.rectangle_pack.specs.Joining.{IsJoined, IsSwept, ShareNoFace};
 ghost use Rattle.rectangle_pack.specs.Keeping.{KeepCells};
 ghost use Rattle.rectangle_pack.specs.Steps.{IsStep, IsDone};
 ghost use Rattle.rectangle_pack.specs.Trials.{IsTrialAnswer};
@@ -13,6 +14,7 @@ ghost use Rattle.rectangle_pack.specs.private.Journal.{before_notes, CanUndo};
 use crate::bin_section::BinSection;
 use crate::closures::{Ask, Closures};
 pub use crate::fit_tests::FitTests;
+use crate::joining::{join_all, join_at};
 use crate::packed_location::PackedLocation;
 use crate::rect_to_insert::RectToInsert;
 use crate::trial::{Note, push_pieces, run_trial, undo};
@@ -21,6 +23,7 @@ use std::alloc::{AllocError, Allocator, Global};
 use std::cmp::Ordering;
 use std::fmt;
 use std::marker::Model;
+use std::ops::Range;
 
 /// Why a section was not given back to a bin. The section that was pushed comes with each.
 #[derive(Debug, Drop)]
@@ -243,6 +246,57 @@ impl<A: Allocator + Copy> TargetBin<A> {
         Ok(())
     }
 
+    /// Joins the free section at `idx` with those of the range that share a whole face with it: on
+    /// two axes their corners and sizes are equal, and on the third one ends where the other starts.
+    ///
+    /// While some other index of the range has such a section, the one at the least such index is
+    /// taken out, the list closes up, the box that the two make up stands in the place of the
+    /// section at `idx`, and the range ends one earlier. An index past the end of the list and an
+    /// empty range change nothing; a range that goes past the end is cut to the list. The free
+    /// cells stay the same. Takes no memory.
+    pub fn coalesce_available_sections(&mut self, idx: usize, range: Range<usize>)
+        ensures joined { IsJoined self.old.bin.sections idx range.start range.end
+            self.new.bin.sections }
+        ensures stays { self.new.bin ≡ record self.old.bin { sections = self.new.bin.sections } }
+        ensures filled { (c : Cell) →
+            times_filled c self.new.bin.sections ≡ times_filled c self.old.bin.sections }
+        ensures cells { KeepCells self.old.bin.sections self.new.bin.sections }
+        ensures no_longer { length self.new.bin.sections ≤ length self.old.bin.sections }
+    {
+        join_at(&mut self.available_bin_sections, idx, range);
+    }
+
+    /// Joins free sections until no two share a whole face: coalesces at each index, from the last
+    /// of the list down to 0, each time over the whole list. The free cells stay the same. Takes no
+    /// memory.
+    ///
+    /// ```
+    /// let mut bin = TargetBin::new(alloc, 10, 10, 1)?;
+    /// bin.remove_filled_section(0);
+    /// let left = BinSection::new(0, 0, 0, WidthHeightDepth::new(4, 10, 1));
+    /// let right = BinSection::new(4, 0, 0, WidthHeightDepth::new(6, 10, 1));
+    /// bin.push_available_bin_section(left)?;
+    /// bin.push_available_bin_section(right)?;
+    /// bin.coalesce_all();
+    /// let whole = BinSection::new(0, 0, 0, WidthHeightDepth::new(10, 10, 1));
+    /// assert_eq!(rt;
+    ///     bin.available_bin_sections().as_slice(),
+    ///     [whole].as_slice()
+    /// );
+    /// ```
+    pub fn coalesce_all(&mut self)
+        ensures swept { IsSwept (length self.old.bin.sections) self.old.bin.sections
+            self.new.bin.sections }
+        ensures stays { self.new.bin ≡ record self.old.bin { sections = self.new.bin.sections } }
+        ensures no_face { ShareNoFace self.new.bin.sections }
+        ensures filled { (c : Cell) →
+            times_filled c self.new.bin.sections ≡ times_filled c self.old.bin.sections }
+        ensures cells { KeepCells self.old.bin.sections self.new.bin.sections }
+        ensures no_longer { length self.new.bin.sections ≤ length self.old.bin.sections }
+    {
+        join_all(&mut self.available_bin_sections);
+    }
+
     /// One trial: places the members in order, each into the newest section that holds it, and
     /// answers their locations; `None` where some member finds no section. `None` and an error
     /// leave the bin as it was.
@@ -349,4 +403,37 @@ where
         IsDone (answers H.Fn C.Fn heuristic.now comparison.now) sections members locations last
         tests →
         KeepCells sections (last ++ locations) }
+{}
+
+/// A law: joining leaves each cell in as many sections as it was in, for all lists.
+pub fn joining_keeps_cells()
+    ensures { (old new : List Cuboid) (idx lo hi : ℕ) →
+        IsJoined old idx lo hi new →
+        (c : Cell) → times_filled c new ≡ times_filled c old }
+{}
+
+/// A law: a sweep from the last index of a list down to 0 leaves no two sections that share a whole
+/// face, for all lists.
+pub fn sweep_leaves_no_face()
+    ensures { (old new : List Cuboid) → IsSwept (length old) old new → ShareNoFace new }
+{}
+
+/// A law: joining leaves one list alone, and so does a sweep, for all lists.
+pub fn joining_has_one_result()
+    ensures joined { (old one other : List Cuboid) (idx lo hi : ℕ) →
+        IsJoined old idx lo hi one → IsJoined old idx lo hi other → one ≡ other }
+    ensures swept { (old one other : List Cuboid) →
+        IsSwept (length old) old one → IsSwept (length old) old other → one ≡ other }
+{}
+
+/// A law: an index past the end of the list, and an empty range, leave the list; a range that goes
+/// past the end of the list is the range that is cut there.
+pub fn joining_stays_within_the_list()
+    ensures index { (old new : List Cuboid) (idx lo hi : ℕ) →
+        length old ≤ idx → IsJoined old idx lo hi new → new ≡ old }
+    ensures empty { (old new : List Cuboid) (idx lo hi : ℕ) →
+        hi ≤ lo → IsJoined old idx lo hi new → new ≡ old }
+    ensures range { (old new : List Cuboid) (idx lo hi : ℕ) →
+        length old ≤ hi →
+        IsJoined old idx lo hi new ↔ IsJoined old idx lo (length old) new }
 {}

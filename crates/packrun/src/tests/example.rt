@@ -105,6 +105,21 @@ fn push_available_bin_section_gives_a_box_back(rt: HostRuntime) -> Result<(), Fa
 }
 
 #[test]
+fn coalesce_all_joins_two_halves(rt: HostRuntime) -> Result<(), Fail> {
+    let alloc = rt.alloc();
+    let mut bin = TargetBin::new(alloc, 10, 10, 1)?;
+    bin.remove_filled_section(0);
+    let left = BinSection::new(0, 0, 0, WidthHeightDepth::new(4, 10, 1));
+    let right = BinSection::new(4, 0, 0, WidthHeightDepth::new(6, 10, 1));
+    bin.push_available_bin_section(left)?;
+    bin.push_available_bin_section(right)?;
+    bin.coalesce_all();
+    let whole = BinSection::new(0, 0, 0, WidthHeightDepth::new(10, 10, 1));
+    assert_eq!(rt; bin.available_bin_sections().as_slice(), [whole].as_slice());
+    Ok(())
+}
+
+#[test]
 fn try_place_cuts_a_section(rt: HostRuntime) -> Result<(), Fail> {
     let section = BinSection::new(0, 0, 0, WidthHeightDepth::new(100, 100, 1));
     let rect = RectToInsert::new(50, 90, 1);
