@@ -247,7 +247,8 @@ impl<A: Allocator + Copy> TargetBin<A> {
     }
 
     /// Joins the free section at `idx` with those of the range that share a whole face with it: on
-    /// two axes their corners and sizes are equal, and on the third one ends where the other starts.
+    /// two axes their corners and sizes are equal, and on the third the end of one is the start of
+    /// the other.
     ///
     /// While some other index of the range has such a section, the one at the least such index is
     /// taken out, the list closes up, the box that the two make up stands in the place of the
@@ -279,10 +280,7 @@ impl<A: Allocator + Copy> TargetBin<A> {
     /// bin.push_available_bin_section(right)?;
     /// bin.coalesce_all();
     /// let whole = BinSection::new(0, 0, 0, WidthHeightDepth::new(10, 10, 1));
-    /// assert_eq!(rt;
-    ///     bin.available_bin_sections().as_slice(),
-    ///     [whole].as_slice()
-    /// );
+    /// assert_eq!(rt; bin.available_bin_sections().as_slice(), [whole].as_slice());
     /// ```
     pub fn coalesce_all(&mut self)
         ensures swept { IsSwept (length self.old.bin.sections) self.old.bin.sections
