@@ -38,7 +38,7 @@ join b other = record {
   };
 }
 
--- the entry at an index of the list
+-- the entry at an index of the list; past the end an empty box, of which no rule below asks
 abbrev pub entry : List Cuboid → ℕ → Cuboid
 entry sections i = slice_index_or sections i (record { x = 0; y = 0; z = 0; whd = record { width = 0; height = 0; depth = 0 } })
 
