@@ -217,7 +217,7 @@ IsSwept-shorter zero old new swept = rw swept (omega arith)
 IsSwept-shorter (suc n) old new swept = let a = IsSwept-shorter n swept.0 new swept.2 in let b = IsJoined-shorter swept.1 in omega arith
 
 -- a join of two inside a bin is inside it
-join-inside : (size : Size) (b e : Cuboid) → IsInside size b → IsInside size e → IsInside size (join b e)
+pub join-inside : (size : Size) (b e : Cuboid) → IsInside size b → IsInside size e → IsInside size (join b e)
 unfolding start extent end join join_start join_extent
 join-inside size b e h k =
     let x = h.within_x in let y = h.within_y in let z = h.within_z in
@@ -233,12 +233,12 @@ module _ (P : Cuboid → Type 0) (keeps : (b e : Cuboid) → P b → P e → P (
       let new : All P (set sections idx whole) = All-set P sections idx whole (keeps _ _ (all idx _ at) (all j _ within)) all in
       All-append P (take j (set sections idx whole)) (drop (suc j) (set sections idx whole)) (All-take P j _ new) (All-drop P (suc j) _ new)
 
-  IsJoined-keeps : {old new : List Cuboid} {idx lo hi : ℕ} → IsJoined old idx lo hi new → All P old → All P new
+  pub IsJoined-keeps : {old new : List Cuboid} {idx lo hi : ℕ} → IsJoined old idx lo hi new → All P old → All P new
   IsJoined-keeps (PastEnd past) all = all
   IsJoined-keeps (Alone at none) all = all
   IsJoined-keeps (Joins {old = old} {idx = idx} at j first next) all = IsJoined-keeps next (joined_list-keeps old idx j at first.is_one.within all)
 
-  IsSwept-keeps : (n : ℕ) (old new : List Cuboid) → IsSwept n old new → All P old → All P new
+  pub IsSwept-keeps : (n : ℕ) (old new : List Cuboid) → IsSwept n old new → All P old → All P new
   IsSwept-keeps zero old new swept all = rw swept all
   IsSwept-keeps (suc n) old new swept all = IsSwept-keeps n swept.0 new swept.2 (IsJoined-keeps swept.1 all)
 

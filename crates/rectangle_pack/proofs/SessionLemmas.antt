@@ -35,11 +35,11 @@ pub some_of : {X : Type 0} (found : Option X) → IsSome found → (x : X) × (f
 some_of None h = absurd cc
 some_of (Some x) h = (x, refl)
 
--- the bin of this id in the new state was there in the old one; it kept all but its list, and the relation holds between its boxes
+-- the bin of this id in the new state was there in the old one, in its size, and the relation holds between its boxes
 pub record IsCarried {Id B : Type 0} (R : List Cuboid → List Cuboid → Type 0) (bin_cmp : B → B → Ordering) (old new : State Id B) (id : B) (after : Bin) : Type 0 where
   pub before : Bin
   pub found : lookup (is_at (bin_cmp id)) old.bins ≡ Some before
-  pub kept : after ≡ record before { sections = after.sections }
+  pub size : after.size ≡ before.size
   pub framed : R (boxes_of bin_cmp old.records id before) (boxes_of bin_cmp new.records id after)
 
 -- each bin of the new state is carried
@@ -51,12 +51,11 @@ CoverBin-recut : (size : Size) (old new : List Cuboid) → IsRecut old new → C
 CoverBin-recut size old new recut h = record { inside = recut.inside size h.inside; once = λ c in_bin. recut.cells c ∙ h.once c in_bin }
 
 -- so each bin stays covered
-covered-carried : {Id B : Type 0} (bin_cmp : B → B → Ordering) (old new : State Id B) → AreCarried IsRecut bin_cmp old new → IsSession bin_cmp old
+pub covered-carried : {Id B : Type 0} (bin_cmp : B → B → Ordering) (old new : State Id B) → AreCarried IsRecut bin_cmp old new → IsSession bin_cmp old
     → (id : B) (bin : Bin) → lookup (is_at (bin_cmp id)) new.bins ≡ Some bin → CoverBin (boxes_of bin_cmp new.records id bin) bin.size
 covered-carried bin_cmp old new carried h id bin found =
     let c = carried id bin found in
-    let size : bin.size ≡ c.before.size = ap (λ (b : Bin). b.size) c.kept in
-    rw size (CoverBin-recut c.before.size (boxes_of bin_cmp old.records id c.before) (boxes_of bin_cmp new.records id bin) c.framed (h.covered id c.before c.found))
+    rw c.size (CoverBin-recut c.before.size (boxes_of bin_cmp old.records id c.before) (boxes_of bin_cmp new.records id bin) c.framed (h.covered id c.before c.found))
 
 -- the boxes of lists of records
 module _ {Id B : Type 0} (bin_cmp : B → B → Ordering) where
@@ -122,7 +121,7 @@ module _ {Id B : Type 0} (rules : Rules Id B) (o : IsTotalOrder rules.bin_cmp) {
       record {
         before = before.0;
         found = before.1;
-        kept = rw (← is) changed.kept;
+        size = rw (← is) (ap (λ (b : Bin). b.size) changed.kept);
         framed = rw (standing, ← is) (frame.beside before.0.sections changed.after.sections (placed_in rules.bin_cmp placements id) (standing_in rules.bin_cmp records id) changed.framed);
       }
 
@@ -203,7 +202,7 @@ module _ {Id B : Type 0} {bin_cmp : B → B → Ordering} (o : IsTotalOrder bin_
           record {
             before = b;
             found = sym (lookup-equal o r.bin q ((Equal-is _).0 e) old) ∙ there;
-            kept = rw same refl;
+            size = rw same refl;
             framed = rw (same, standing_in-record bin_cmp before r after q true e, both) (frame.moved b.sections (standing_in bin_cmp before q) (standing_in bin_cmp after q) r.location);
           }
       by true cells (b, there, written) false e =
@@ -211,19 +210,19 @@ module _ {Id B : Type 0} {bin_cmp : B → B → Ordering} (o : IsTotalOrder bin_
           record {
             before = bin;
             found = sym (ap (lookup (is_at (bin_cmp q))) written ∙ lookup-written o r.bin old b more q there ∙ rw e refl) ∙ found;
-            kept = refl;
+            size = refl;
             framed = rw (standing_in-record bin_cmp before r after q false e, both) (frame.same (bin.sections ++ (standing_in bin_cmp before q ++ standing_in bin_cmp after q)));
           }
       by false cells same true e = record {
         before = bin;
         found = ap (lookup (is_at (bin_cmp q))) (sym same) ∙ found;
-        kept = refl;
+        size = refl;
         framed = rw (standing_in-record bin_cmp before r after q true e, both) (frame.dropped bin.sections (standing_in bin_cmp before q) (standing_in bin_cmp after q) r.location cells);
       }
       by false cells same false e = record {
         before = bin;
         found = ap (lookup (is_at (bin_cmp q))) (sym same) ∙ found;
-        kept = refl;
+        size = refl;
         framed = rw (standing_in-record bin_cmp before r after q false e, both) (frame.same (bin.sections ++ (standing_in bin_cmp before q ++ standing_in bin_cmp after q)));
       }
 

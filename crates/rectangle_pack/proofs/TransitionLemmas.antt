@@ -1,27 +1,33 @@
 -- What each transition of a session keeps, and how a run goes on.
-use Rattle.std.proofs.Common.{◌≡◌, ℕ, ◌+◌, ◌<◌, ◌≤◌, List, [], ◌∷◌, ◌++◌, refl, ap, sym, ◌∙◌, subst, arith, length, get_or, take}
-use Rattle.std.specs.Prelude.{None, Result, Ok, Err}
+use Rattle.std.proofs.Common.{◌≡◌, ℕ, ◌+◌, ◌<◌, ◌≤◌, List, [], ◌∷◌, ◌++◌, refl, ap, sym, ◌∙◌, subst, true, false, Bool, arith, length, append-nil, get_or, take}
+use Rattle.std.specs.Prelude.{Some, None, IsSome, Result, Ok, Err}
+use Rattle.std.specs.Ordering.{is_eq}
+use Rattle.rectangle_pack.specs.declared.session.command.Outstanding.{Outstanding}
+use Rattle.std.proofs.lemmas.List.Elements.{All-weaker}
 use Rattle.std.specs.declared.cmp.Ordering.{Ordering}
 use Rattle.std.specs.declared.cmp.Ordering.TheVariants.{Equal}
-use Rattle.std.specs.Cmp.{IsTotalOrder}
+use Rattle.std.specs.Cmp.{IsTotalOrder, Equal-is}
 use Rattle.std.specs.Result.{IsErrAnd}
-use Rattle.std.specs.Map.{lookup}
+use Rattle.std.specs.Map.{lookup, set_value}
 use Rattle.std.specs.BTreeMap.{is_at}
 use Rattle.std.proofs.lemmas.List.{take_more}
 use Rattle.rectangle_pack.specs.declared.grouped_rects_to_place.Group.{Group}
 use Rattle.rectangle_pack.specs.declared.session.command.Command.{Command}
-use Rattle.rectangle_pack.specs.declared.session.command.Command.TheVariants.{AddBin, Pack, Release}
+use Rattle.rectangle_pack.specs.declared.session.command.Command.TheVariants.{AddBin, Pack, Release, Coalesce, CoalesceAll}
 use Rattle.rectangle_pack.specs.declared.session.command.SessionError.{SessionError}
 use Rattle.rectangle_pack.specs.declared.session.command.Reply.{Reply}
 use Rattle.rectangle_pack.specs.declared.session.command.Reply.TheVariants.{Done, Packed, Refused}
 use Rattle.rectangle_pack.specs.declared.session.command.SessionError.TheVariants.{DuplicateBin, UnknownBin, UnknownPlacement, NumbersUsedUp, NotEnoughBinSpace, OutOfMemory}
-use Rattle.rectangle_pack.specs.Boxes.{Size}
-use Rattle.rectangle_pack.specs.Bins.{new_bin}
+use Rattle.rectangle_pack.specs.Boxes.{Size, Cuboid, IsInside}
+use Rattle.rectangle_pack.specs.Bins.{Bin, new_bin}
 use Rattle.rectangle_pack.specs.Groups.{Collection}
 use Rattle.rectangle_pack.specs.Packing.{Rules}
-use Rattle.rectangle_pack.specs.Session.{State, IsSession, AddsBin, Releases, Packs, IsTransition, IsRun}
+use Rattle.rectangle_pack.specs.Session.{State, standing_in, boxes_of, IsSession, AddsBin, Releases, Packs, Coalesces, JoinsAt, Sweeps, IsTransition, IsRun}
+use Rattle.rectangle_pack.proofs.FrameLemmas.{IsRecut, IsFrame-recut}
+use Rattle.rectangle_pack.proofs.JoiningLemmas.{IsJoined-cells, IsSwept-cells, IsJoined-keeps, IsSwept-keeps, join-inside}
+use Rattle.rectangle_pack.proofs.KeepingLemmas.{lookup-written}
 use Rattle.rectangle_pack.proofs.MapsLemmas.{lookup-equal, lookup-inserted}
-use Rattle.rectangle_pack.proofs.SessionLemmas.{IsSession-added, IsSession-released, IsSession-done}
+use Rattle.rectangle_pack.proofs.SessionLemmas.{IsCarried, AreCarried, covered-carried, IsSession-added, IsSession-released, IsSession-done}
 
 -- a bin is added under an id alike under each that equals it
 pub AddsBin-equal : {Id B : Type 0} {bin_cmp : B → B → Ordering} → IsTotalOrder bin_cmp → (id other : B) → bin_cmp id other ≡ Equal → (size : Size) (old : State Id B) (reply : Reply) (new : State Id B)
@@ -68,6 +74,82 @@ module _ {Id B : Type 0} {bin_cmp : B → B → Ordering} (o : IsTotalOrder bin_
   kept-released number old (Refused NotEnoughBinSpace) new r = absurd r
   kept-released number old (Refused OutOfMemory) new r = unchanged bin_cmp old new r.2
 
+-- boxes that stand beside a list that is cut anew
+IsRecut-beside : (old new beside : List Cuboid) → IsRecut old new → IsRecut (old ++ beside) (new ++ beside)
+IsRecut-beside old new beside h = subst (λ bs. IsRecut (old ++ beside) (new ++ bs)) (append-nil beside) (IsFrame-recut.beside old new [] beside (subst (λ bs. IsRecut old bs) (sym (append-nil new)) h))
+
+IsRecut-joined : (old new : List Cuboid) (idx lo hi : ℕ) → JoinsAt idx lo hi old new → IsRecut old new
+IsRecut-joined old new idx lo hi h = record { cells = λ c. IsJoined-cells c h; inside = λ size all. IsJoined-keeps (IsInside size) (join-inside size) h all }
+
+IsRecut-swept : (old new : List Cuboid) → Sweeps old new → IsRecut old new
+IsRecut-swept old new h = record { cells = λ c. IsSwept-cells c (length old) old new h; inside = λ size all. IsSwept-keeps (IsInside size) (join-inside size) (length old) old new h all }
+
+module _ {Id B : Type 0} {bin_cmp : B → B → Ordering} (o : IsTotalOrder bin_cmp) where
+  AreCarried-coalesced : (id : B) (old : State Id B) (bin : Bin) (joined : List Cuboid) → lookup (is_at (bin_cmp id)) old.bins ≡ Some bin → IsRecut bin.sections joined
+      → AreCarried IsRecut bin_cmp old (record old { bins = set_value (is_at (bin_cmp id)) old.bins (record bin { sections = joined; coalesced = true }) })
+  AreCarried-coalesced id old bin joined there recut q after found = by (is_eq (bin_cmp id q)) refl
+    where
+      joint : Bin
+      joint = record bin { sections = joined; coalesced = true }
+
+      new : State Id B
+      new = record old { bins = set_value (is_at (bin_cmp id)) old.bins joint }
+
+      by : (here : Bool) → is_eq (bin_cmp id q) ≡ here → IsCarried IsRecut bin_cmp old new q after
+      by true e =
+          let now : Some after ≡ Some joint = sym found ∙ lookup-written o id old.bins bin joint q there ∙ rw e refl in
+          let same : after ≡ joint = cc in
+          record {
+            before = bin;
+            found = sym (lookup-equal o id q ((Equal-is _).0 e) old.bins) ∙ there;
+            size = rw same refl;
+            framed = rw same (IsRecut-beside bin.sections joined (standing_in bin_cmp old.records q) recut);
+          }
+      by false e = record {
+        before = after;
+        found = sym (lookup-written o id old.bins bin joint q there ∙ rw e refl) ∙ found;
+        size = refl;
+        framed = IsFrame-recut.same (boxes_of bin_cmp old.records q after);
+      }
+
+  IsSession-coalesced : (id : B) (old : State Id B) (bin : Bin) (joined : List Cuboid) → lookup (is_at (bin_cmp id)) old.bins ≡ Some bin → IsRecut bin.sections joined
+      → IsSession bin_cmp old → IsSession bin_cmp (record old { bins = set_value (is_at (bin_cmp id)) old.bins (record bin { sections = joined; coalesced = true }) })
+  IsSession-coalesced id old bin joined there recut h = record {
+    covered = covered-carried bin_cmp old new (AreCarried-coalesced id old bin joined there recut) h;
+    known = All-weaker (λ (r : Outstanding Id B). IsSome (lookup (is_at (bin_cmp r.bin)) old.bins)) (λ (r : Outstanding Id B). IsSome (lookup (is_at (bin_cmp r.bin)) new.bins)) (λ r some. stays r.bin some (is_eq (bin_cmp id r.bin)) refl) old.records h.known;
+    rising = h.rising;
+    below = h.below;
+  }
+    where
+      joint : Bin
+      joint = record bin { sections = joined; coalesced = true }
+
+      new : State Id B
+      new = record old { bins = set_value (is_at (bin_cmp id)) old.bins joint }
+
+      stays : (q : B) → IsSome (lookup (is_at (bin_cmp q)) old.bins) → (here : Bool) → is_eq (bin_cmp id q) ≡ here → IsSome (lookup (is_at (bin_cmp q)) new.bins)
+      stays q some true e = rw (lookup-written o id old.bins bin joint q there, e) refl
+      stays q some false e = rw (lookup-written o id old.bins bin joint q there, e) some
+
+  kept-coalesced : (Joins : List Cuboid → List Cuboid → Type 0) → ((a b : List Cuboid) → Joins a b → IsRecut a b) → (id : B) (old : State Id B) (reply : Reply) (new : State Id B) → Coalesces bin_cmp Joins id old reply new → IsKeptSession bin_cmp old new
+  kept-coalesced Joins recuts id old Done new (bin, there, joined, joins, are) = λ h. rw are (IsSession-coalesced id old bin joined there (recuts bin.sections joined joins) h, omega arith)
+  kept-coalesced Joins recuts id old (Packed p) new c = absurd c
+  kept-coalesced Joins recuts id old (Refused DuplicateBin) new c = absurd c
+  kept-coalesced Joins recuts id old (Refused UnknownBin) new c = unchanged bin_cmp old new c.1
+  kept-coalesced Joins recuts id old (Refused UnknownPlacement) new c = absurd c
+  kept-coalesced Joins recuts id old (Refused NumbersUsedUp) new c = absurd c
+  kept-coalesced Joins recuts id old (Refused NotEnoughBinSpace) new c = absurd c
+  kept-coalesced Joins recuts id old (Refused OutOfMemory) new c = absurd c
+
+  -- and so each of the two calls keeps what holds always
+  pub IsSession-joined : (id : B) (idx lo hi : ℕ) (old : State Id B) (bin : Bin) (joined : List Cuboid) → lookup (is_at (bin_cmp id)) old.bins ≡ Some bin → JoinsAt idx lo hi bin.sections joined
+      → IsSession bin_cmp old → IsSession bin_cmp (record old { bins = set_value (is_at (bin_cmp id)) old.bins (record bin { sections = joined; coalesced = true }) })
+  IsSession-joined id idx lo hi old bin joined there joins h = IsSession-coalesced id old bin joined there (IsRecut-joined bin.sections joined idx lo hi joins) h
+
+  pub IsSession-swept : (id : B) (old : State Id B) (bin : Bin) (joined : List Cuboid) → lookup (is_at (bin_cmp id)) old.bins ≡ Some bin → Sweeps bin.sections joined
+      → IsSession bin_cmp old → IsSession bin_cmp (record old { bins = set_value (is_at (bin_cmp id)) old.bins (record bin { sections = joined; coalesced = true }) })
+  IsSession-swept id old bin joined there joins h = IsSession-coalesced id old bin joined there (IsRecut-swept bin.sections joined joins) h
+
 module _ {Id B G : Type 0} (group_cmp : Group G Id → Group G Id → Ordering) (rules : Rules Id B) (o : IsTotalOrder rules.bin_cmp) where
   kept-packed : (all : Collection Id G) (old : State Id B) (reply : Reply) (new : State Id B) → Packs group_cmp rules all old reply new → IsKeptSession rules.bin_cmp old new
   kept-packed all old Done new p = absurd p
@@ -86,6 +168,8 @@ module _ {Id B G : Type 0} (group_cmp : Group G Id → Group G Id → Ordering) 
   kept-transition (AddBin id width height depth) old reply new t = kept-added o id (record { width = width; height = height; depth = depth }) old reply new t
   kept-transition (Pack all) old reply new t = kept-packed all old reply new t
   kept-transition (Release number) old reply new t = kept-released o number old reply new t
+  kept-transition (Coalesce id idx lo hi) old reply new t = kept-coalesced o (JoinsAt idx lo hi) (λ a b h. IsRecut-joined a b idx lo hi h) id old reply new t
+  kept-transition (CoalesceAll id) old reply new t = kept-coalesced o Sweeps IsRecut-swept id old reply new t
 
   pub kept-run : {A : Type 0} (commands : List (Command Id B G A)) (old : State Id B) (replies : List Reply) (new : State Id B) → IsRun group_cmp rules commands old replies new → IsKeptSession rules.bin_cmp old new
   kept-run [] old [] new run = unchanged rules.bin_cmp old new run

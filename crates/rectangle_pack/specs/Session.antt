@@ -9,14 +9,15 @@ use Rattle.rectangle_pack.specs.declared.pack.answer.Placement.{Placement}
 use Rattle.rectangle_pack.specs.declared.session.command.Outstanding.{Outstanding}
 use Rattle.rectangle_pack.specs.declared.session.command.Packed.{Packed as PackedNumbers}
 use Rattle.rectangle_pack.specs.declared.session.command.SessionError.{SessionError}
-use Rattle.rectangle_pack.specs.declared.session.command.SessionError.TheVariants.{DuplicateBin, UnknownPlacement, NumbersUsedUp, NotEnoughBinSpace, OutOfMemory}
+use Rattle.rectangle_pack.specs.declared.session.command.SessionError.TheVariants.{DuplicateBin, UnknownBin, UnknownPlacement, NumbersUsedUp, NotEnoughBinSpace, OutOfMemory}
 use Rattle.rectangle_pack.specs.declared.session.command.Reply.{Reply}
 use Rattle.rectangle_pack.specs.declared.session.command.Reply.TheVariants.{Done, Packed, Refused}
 use Rattle.rectangle_pack.specs.declared.session.command.Command.{Command}
-use Rattle.rectangle_pack.specs.declared.session.command.Command.TheVariants.{AddBin, Pack, Release}
+use Rattle.rectangle_pack.specs.declared.session.command.Command.TheVariants.{AddBin, Pack, Release, Coalesce, CoalesceAll}
 use Rattle.rectangle_pack.specs.Boxes.{Size, Cuboid, has_cells}
 use Rattle.rectangle_pack.specs.Bins.{Bin, new_bin}
 use Rattle.rectangle_pack.specs.Covering.{CoverBin}
+use Rattle.rectangle_pack.specs.Joining.{IsJoined, IsSwept}
 use Rattle.rectangle_pack.specs.Groups.{Collection}
 use Rattle.rectangle_pack.specs.Packing.{Rules, PackingDone, PackingRefused}
 use Rattle.rectangle_pack.specs.PackAnswers.{entries_of}
@@ -98,6 +99,22 @@ module _ {Id B : Type 0} (bin_cmp : B → B → Ordering) where
       (at : IsOutstanding old.records number) × (has_cells at.found.location ≡ true) × (new ≡ old)
   Releases number old _ new = ⊥
 
+  -- free sections of a bin are joined, as said of the lists before and after: the bin counts as coalesced, whether or not two
+  -- were joined; or the id is not there
+  abbrev pub Coalesces : (List Cuboid → List Cuboid → Type 0) → B → State Id B → Reply → State Id B → Type 0
+  Coalesces Joins id old Done new =
+      (bin : Bin) × (lookup (is_at (bin_cmp id)) old.bins ≡ Some bin) × (joined : List Cuboid) × Joins bin.sections joined
+      × (new ≡ record old { bins = set_value (is_at (bin_cmp id)) old.bins (record bin { sections = joined; coalesced = true }) })
+  Coalesces Joins id old (Refused UnknownBin) new = (lookup (is_at (bin_cmp id)) old.bins ≡ None) × (new ≡ old)
+  Coalesces Joins id old _ new = ⊥
+
+-- joining at an index over a range, and the sweep of a whole list
+abbrev pub JoinsAt : ℕ → ℕ → ℕ → List Cuboid → List Cuboid → Type 0
+JoinsAt idx lo hi old new = IsJoined old idx lo hi new
+
+abbrev pub Sweeps : List Cuboid → List Cuboid → Type 0
+Sweeps old new = IsSwept (length old) old new
+
 module _ {Id B G : Type 0} (group_cmp : Group G Id → Group G Id → Ordering) (rules : Rules Id B) where
   -- a collection is packed, where the next number stays below 2^64, so that the greatest is never given: the packing is done
   -- and kept; or it is refused, and nothing of it stays; or memory is refused, if there is a group
@@ -116,6 +133,8 @@ module _ {Id B G : Type 0} (group_cmp : Group G Id → Group G Id → Ordering) 
       AddsBin rules.bin_cmp id (record { width = width; height = height; depth = depth }) old reply new
   IsTransition (Pack all) old reply new = Packs all old reply new
   IsTransition (Release number) old reply new = Releases rules.bin_cmp number old reply new
+  IsTransition (Coalesce id idx lo hi) old reply new = Coalesces rules.bin_cmp (JoinsAt idx lo hi) id old reply new
+  IsTransition (CoalesceAll id) old reply new = Coalesces rules.bin_cmp Sweeps id old reply new
 
   -- a run: a transition for each command, with its reply
   abbrev pub IsRun : {A : Type 0} → List (Command Id B G A) → State Id B → List Reply → State Id B → Type 0

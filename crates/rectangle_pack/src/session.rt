@@ -1,13 +1,16 @@
 //! Bins with what is placed in them: boxes are packed, and given back by number.
 ghost use Rattle.std.specs.Prelude.{◌≡◌, ◌≤◌, [], List, IsTrue, IfOk, OnErr};
 ghost use Rattle.std.specs.List.Sorted.{IsStrictlySortedBy};
-ghost use Rattle.std.specs.Map.{keys_of};
+ghost use Rattle.std.specs.Map.{keys_of, lookup};
+ghost use Rattle.std.specs.BTreeMap.{is_at};
+ghost use Rattle.std.specs.Option.{option_map};
+ghost use Rattle.rectangle_pack.specs.Bins.{Bin};
 ghost use Rattle.rectangle_pack.specs.Boxes.{Size};
 ghost use Rattle.rectangle_pack.specs.Closures.{AreCallable, answers};
 ghost use Rattle.rectangle_pack.specs.Packing.{bins_of, rules_by};
 ghost use Rattle.rectangle_pack.specs.declared.session.command.Command.{Command};
 ghost use Rattle.rectangle_pack.specs.declared.session.command.Reply.{Reply};
-ghost use Rattle.rectangle_pack.specs.Session.{State, IsSession, AddsBin, Packs, Releases, IsTransition, IsRun, reply_of, packed_reply};
+ghost use Rattle.rectangle_pack.specs.Session.{State, IsSession, AddsBin, Packs, Releases, Coalesces, JoinsAt, Sweeps, IsTransition, IsRun, reply_of, packed_reply};
 
 mod command;
 mod work;
@@ -22,6 +25,7 @@ use std::alloc::{AllocError, Allocator, Global};
 use std::cmp::Ordering;
 use std::collections::BTreeMap;
 use std::marker::Model;
+use std::ops::Range;
 
 /// Bins, and the boxes that were placed in them and not released. Each placement has a number, by
 /// which it is released. Each cell of a bin is in exactly one free section or outstanding
@@ -212,6 +216,48 @@ where
         Ok(())
     }
 
+    /// Whether a coalescing call that named the bin was accepted, also where it joined nothing;
+    /// `None` where there is no such bin.
+    pub fn was_coalesced(&self, bin: &BinId) -> Option<bool>
+        ensures { result ≡ option_map (λ (b : Bin). b.coalesced)
+            (lookup (is_at (BinId.cmp bin.now)) self.now.bins) }
+    {
+        Some(self.bins.get(bin)?.was_coalesced())
+    }
+
+    /// Joins a free section of the bin with those of the range that share a whole face with it, as
+    /// `TargetBin::coalesce_available_sections` does. `UnknownBin` says that there is no such bin.
+    /// Takes no memory.
+    pub fn coalesce(
+        &mut self,
+        bin: &BinId,
+        idx: usize,
+        range: Range<usize>,
+    ) -> Result<(), SessionError>
+        ensures joined { let joins = JoinsAt idx range.start range.end in
+            Coalesces BinId.cmp joins bin.now self.old (reply_of result) self.new }
+        ensures always { IsSession BinId.cmp self.new }
+    {
+        let Some(place) = self.bins.get_mut(bin) else {
+            return Err(SessionError::UnknownBin);
+        };
+        place.coalesce_available_sections(idx, range);
+        Ok(())
+    }
+
+    /// Joins the free sections of the bin until no two share a whole face, as
+    /// `TargetBin::coalesce_all` does. `UnknownBin` says that there is no such bin. Takes no memory.
+    pub fn coalesce_all(&mut self, bin: &BinId) -> Result<(), SessionError>
+        ensures swept { Coalesces BinId.cmp Sweeps bin.now self.old (reply_of result) self.new }
+        ensures always { IsSession BinId.cmp self.new }
+    {
+        let Some(place) = self.bins.get_mut(bin) else {
+            return Err(SessionError::UnknownBin);
+        };
+        place.coalesce_all();
+        Ok(())
+    }
+
     /// Obeys the commands in order: each is done or refused as the call of its name does, and a
     /// refused one changes nothing. One reply a command.
     ///
@@ -273,6 +319,8 @@ where
                 Err(error) => Reply::Refused(error),
             },
             Command::Release(number) => reply(self.release(*number)),
+            Command::Coalesce { bin, idx, lo, hi } => reply(self.coalesce(bin, *idx, *lo..*hi)),
+            Command::CoalesceAll(bin) => reply(self.coalesce_all(bin)),
         }
     }
 

@@ -1,5 +1,5 @@
 //! Bins and their free sections.
-ghost use Rattle.std.specs.Prelude.{ℕ, ◌≡◌, ◌+◌, ◌≤◌, ◌<◌, ◌++◌, ◌∷◌, [], List, IfOk, OnOk, OnErr, IfNone, IfSome, IsOk, IsTrue, ◌↔◌, length, remove, filter, All};
+ghost use Rattle.std.specs.Prelude.{ℕ, ◌≡◌, ◌+◌, ◌≤◌, ◌<◌, ◌++◌, ◌∷◌, [], List, IfOk, OnOk, OnErr, IfNone, IfSome, IsOk, IsTrue, true, ◌↔◌, length, remove, filter, All};
 ghost use Rattle.rectangle_pack.specs.Boxes.{Size, Cuboid, Cell, AreApart, has_cells};
 ghost use Rattle.rectangle_pack.specs.Closures.{AreCallable, answers};
 ghost use Rattle.rectangle_pack.specs.Pushes.{IsFirstSharing, IsPushAnswer};
@@ -136,6 +136,13 @@ impl<A: Allocator + Copy> TargetBin<A> {
         &self.available_bin_sections
     }
 
+    // Whether a coalescing call was made on the bin.
+    pub(crate) fn was_coalesced(&self) -> bool
+        ensures { result ≡ self.now.bin.coalesced }
+    {
+        self.was_coalesced
+    }
+
     /// An equal bin, with a list of its own. An error is want of memory.
     pub fn clone(&self) -> Result<Self, AllocError>
         ensures { IfOk result (λ b. b.bin ≡ self.now.bin) }
@@ -253,18 +260,20 @@ impl<A: Allocator + Copy> TargetBin<A> {
     /// While some other index of the range has such a section, the one at the least such index is
     /// taken out, the list closes up, the box that the two make up stands in the place of the
     /// section at `idx`, and the range ends one earlier. An index past the end of the list and an
-    /// empty range change nothing; a range that goes past the end is cut to the list. The free
+    /// empty range leave the list; a range that goes past the end is cut to the list. The free
     /// cells stay the same. Takes no memory.
     pub fn coalesce_available_sections(&mut self, idx: usize, range: Range<usize>)
         ensures joined { IsJoined self.old.bin.sections idx range.start range.end
             self.new.bin.sections }
-        ensures stays { self.new.bin ≡ record self.old.bin { sections = self.new.bin.sections } }
+        ensures stays { self.new.bin ≡
+            record self.old.bin { sections = self.new.bin.sections; coalesced = true } }
         ensures filled { (c : Cell) →
             times_filled c self.new.bin.sections ≡ times_filled c self.old.bin.sections }
         ensures cells { KeepCells self.old.bin.sections self.new.bin.sections }
         ensures no_longer { length self.new.bin.sections ≤ length self.old.bin.sections }
     {
         join_at(&mut self.available_bin_sections, idx, range);
+        self.was_coalesced = true;
     }
 
     /// Joins free sections until no two share a whole face: coalesces at each index, from the last
@@ -285,7 +294,8 @@ impl<A: Allocator + Copy> TargetBin<A> {
     pub fn coalesce_all(&mut self)
         ensures swept { IsSwept (length self.old.bin.sections) self.old.bin.sections
             self.new.bin.sections }
-        ensures stays { self.new.bin ≡ record self.old.bin { sections = self.new.bin.sections } }
+        ensures stays { self.new.bin ≡
+            record self.old.bin { sections = self.new.bin.sections; coalesced = true } }
         ensures no_face { ShareNoFace self.new.bin.sections }
         ensures filled { (c : Cell) →
             times_filled c self.new.bin.sections ≡ times_filled c self.old.bin.sections }
@@ -293,6 +303,7 @@ impl<A: Allocator + Copy> TargetBin<A> {
         ensures no_longer { length self.new.bin.sections ≤ length self.old.bin.sections }
     {
         join_all(&mut self.available_bin_sections);
+        self.was_coalesced = true;
     }
 
     /// One trial: places the members in order, each into the newest section that holds it, and

@@ -17,9 +17,10 @@ pub struct Outstanding<Id, BinId> {
 }
 
 /// The numbers of the placements of one packing: `first`, `first + 1`, and so on, `count` in all.
+/// Without placements `first` is the next number, which is not given.
 #[derive(Debug, Clone, Copy, PartialEq)]
 pub struct Packed {
-    /// The number of the first placement.
+    /// The number of the first placement, if there is one.
     pub first: u64,
     /// How many placements there are.
     pub count: u64,
@@ -67,10 +68,23 @@ pub enum Command<Id: Ord, BinId, GroupId: Ord, A: Allocator + Copy = Global> {
         /// Its depth.
         depth: u32,
     },
-    /// Packs all boxes of a collection.
+    /// Packs all groups of a collection.
     Pack(GroupedRectsToPlace<Id, GroupId, A>),
     /// Releases the placement of this number.
     Release(u64),
+    /// Joins a free section of a bin with those of a range that share a whole face with it.
+    Coalesce {
+        /// The id of the bin.
+        bin: BinId,
+        /// The index of the section in the list of the bin.
+        idx: usize,
+        /// Where the range starts.
+        lo: usize,
+        /// Where it ends: the first index after it.
+        hi: usize,
+    },
+    /// Joins the free sections of this bin until no two share a whole face.
+    CoalesceAll(BinId),
 }
 
 /// What a session answers to a command.
