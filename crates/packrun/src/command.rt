@@ -37,6 +37,12 @@ pub enum Command<'a> {
     },
     /// Places the boxes.
     Pack,
+    /// Gives back the placement of this number.
+    Release(u64),
+    /// Lists what is free in a bin.
+    Sections {
+        name: &'a str,
+    },
 }
 
 /// What the line says, or `None` where it is bad.
@@ -68,6 +74,10 @@ pub fn parse(line: &[u8]) -> Option<Command<'_>>
             Command::Exclude { one, other }
         }
         Some("pack") => Command::Pack,
+        Some("release") => Command::Release(parse_number(words.next()?)?),
+        Some("sections") => Command::Sections {
+            name: words.next()?,
+        },
         Some(_) => return None,
     };
     match words.next() {

@@ -1,4 +1,4 @@
-//! The bins, and the boxes to place, that lines speak of.
+//! The session, and the boxes to place, that lines speak of.
 
 ghost use Rattle.std.specs.Prelude.{◌≢◌};
 ghost use Rattle.packrun.specs.Commands.{NamesTwo};
@@ -6,21 +6,20 @@ ghost use Rattle.packrun.specs.Commands.{NamesTwo};
 use crate::command::{Command, Size};
 use crate::stop::Stop;
 use rectangle_pack::{
-    Group, GroupedRectsToPlace, Placement, RectToInsert, RectanglePackError, TargetBin,
-    contains_smallest_box, pack_rects, volume_heuristic,
+    Group, GroupedRectsToPlace, Outstanding, Packed, RectToInsert, RectanglePackError, Session,
+    SessionError, contains_smallest_box, volume_heuristic,
 };
 use std::alloc::Allocator;
-use std::collections::BTreeMap;
+use std::fmt::Display;
 use std::io::Write;
 use std::str::SplitAsciiWhitespace;
 
-/// The bins, the boxes that the next packing places, and the number of its first placement.
+/// A session, and the boxes that its next packing places.
 #[derive(Drop)]
 pub struct Store<A: Allocator + Copy> {
     alloc: A,
-    bins: BTreeMap<String<A>, TargetBin<A>, A>,
+    session: Session<String<A>, String<A>, A>,
     rects: GroupedRectsToPlace<String<A>, String<A>, A>,
-    next_number: u64,
 }
 
 impl<A: Allocator + Copy> Store<A> {
@@ -28,9 +27,8 @@ impl<A: Allocator + Copy> Store<A> {
     pub fn new(alloc: A, first: u64) -> Store<A> {
         Store {
             alloc,
-            bins: BTreeMap::new(alloc),
+            session: Session::new(alloc, first),
             rects: GroupedRectsToPlace::new(alloc),
-            next_number: first,
         }
     }
 
@@ -44,18 +42,17 @@ impl<A: Allocator + Copy> Store<A> {
             Command::Rect { id, size, groups } => self.push_rect(id, size, groups, out),
             Command::Exclude { one, other } => self.exclude(one, other, out),
             Command::Pack => self.pack(out),
+            Command::Release(number) => report(self.session.release(number), number, out),
+            Command::Sections { name } => self.print_sections(name, out),
         }
     }
 
     fn add_bin<W: Write>(&mut self, name: &str, size: Size, out: &mut W) -> Result<(), Stop> {
-        if self.bins.contains_key(name) {
-            writeln!(out, "refused: bin {name} exists")?;
-            return Ok(());
-        }
-        let bin = TargetBin::new(self.alloc, size.width, size.height, size.depth)?;
-        self.bins.insert(String::from_str(self.alloc, name)?, bin)?;
-        writeln!(out, "ok")?;
-        Ok(())
+        let id = String::from_str(self.alloc, name)?;
+        let answer = self
+            .session
+            .add_bin(id, size.width, size.height, size.depth);
+        report(answer, name, out)
     }
 
     fn push_rect<W: Write>(
@@ -89,61 +86,86 @@ impl<A: Allocator + Copy> Store<A> {
 
     // The boxes are kept where they are refused, so that a bin can be added and the packing tried again.
     fn pack<W: Write>(&mut self, out: &mut W) -> Result<(), Stop> {
-        if !self.has_numbers() {
-            writeln!(out, "refused: numbers are used up")?;
-            return Ok(());
-        }
-        let answer = pack_rects(
-            self.alloc,
-            &self.rects,
-            &mut self.bins,
-            &volume_heuristic,
-            &contains_smallest_box,
-        );
+        let answer = self
+            .session
+            .pack(&self.rects, &volume_heuristic, &contains_smallest_box);
         match answer {
             Ok(packed) => {
                 self.rects = GroupedRectsToPlace::new(self.alloc);
-                self.print_placements(packed.placements(), out)
+                self.print_packed(packed, out)
             }
-            Err(RectanglePackError::OutOfMemory) => Err(Stop::NoMemory),
-            Err(refusal) => {
-                writeln!(out, "refused: {refusal}")?;
-                Ok(())
-            }
+            Err(error) => refuse(error, "pack", out),
         }
     }
 
-    // Whether there is a number for each entry of each group, the greatest of all left over.
-    fn has_numbers(&self) -> bool {
-        let mut end = self.next_number;
-        for members in self.rects.groups().values() {
-            match end.checked_add(members.len() as u64) {
-                Some(sum) => end = sum,
-                None => return false,
-            }
-        }
-        true
-    }
-
-    // Numbers the placements. That there are numbers for them was asked before the packing.
-    fn print_placements<W: Write>(
-        &mut self,
-        placements: &[Placement<String<A>, String<A>>],
-        out: &mut W,
-    ) -> Result<(), Stop> {
-        for placement in placements {
-            let Placement { id, bin, location } = placement;
-            let number = self.next_number;
+    // The placements of the last packing are the last ones of the session.
+    fn print_packed<W: Write>(&self, packed: Packed, out: &mut W) -> Result<(), Stop> {
+        let Packed { first, count } = packed;
+        let outstanding = self.session.outstanding();
+        let start = outstanding.partition_point(|placement| placement.number < first);
+        for placement in &outstanding[start..] {
+            let Outstanding {
+                number,
+                id,
+                bin,
+                location,
+            } = placement;
             let (x, y, z) = (location.x(), location.y(), location.z());
             let (width, height, depth) = (location.width(), location.height(), location.depth());
             writeln!(
                 out,
                 "{number} {id} {bin} {x} {y} {z} {width} {height} {depth}"
             )?;
-            self.next_number = number.saturating_add(1);
         }
-        let count = placements.len();
         writeln!(out, "packed {count}")?;
         Ok(())
     }
+
+    fn print_sections<W: Write>(&self, name: &str, out: &mut W) -> Result<(), Stop> {
+        let Some(bin) = self.session.bins().get(name) else {
+            return refuse(SessionError::UnknownBin, name, out);
+        };
+        let sections = bin.available_bin_sections();
+        for section in sections {
+            let (x, y, z, whd) = (section.x(), section.y(), section.z(), section.whd());
+            let (width, height, depth) = (whd.width(), whd.height(), whd.depth());
+            writeln!(out, "{x} {y} {z} {width} {height} {depth}")?;
+        }
+        let count = sections.len();
+        writeln!(out, "sections {count}")?;
+        Ok(())
+    }
+}
+
+// Prints `ok`, or why the session refused.
+fn report<W: Write, T: Display + Drop>(
+    answer: Result<(), SessionError>,
+    named: T,
+    out: &mut W,
+) -> Result<(), Stop> {
+    match answer {
+        Ok(()) => Ok(writeln!(out, "ok")?),
+        Err(error) => refuse(error, named, out),
+    }
+}
+
+// Prints why the session refused; `named` is the bin, or the number, of which the line speaks. Refused memory ends
+// the run.
+fn refuse<W: Write, T: Display + Drop>(
+    error: SessionError,
+    named: T,
+    out: &mut W,
+) -> Result<(), Stop> {
+    match error {
+        SessionError::DuplicateBin => writeln!(out, "refused: bin {named} exists")?,
+        SessionError::UnknownBin => writeln!(out, "refused: bin {named} is unknown")?,
+        SessionError::UnknownPlacement => writeln!(out, "refused: placement {named} is unknown")?,
+        SessionError::NumbersUsedUp => writeln!(out, "refused: numbers are used up")?,
+        SessionError::NotEnoughBinSpace => {
+            let text = RectanglePackError::NotEnoughBinSpace;
+            writeln!(out, "refused: {text}")?;
+        }
+        SessionError::OutOfMemory => return Err(Stop::NoMemory),
+    }
+    Ok(())
 }

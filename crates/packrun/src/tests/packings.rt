@@ -51,15 +51,28 @@ fn several_packings(rt: HostRuntime) -> Result<(), Fail> {
     )
 }
 
-// The box is kept, and placed once there is a bin for it.
+// The boxes of a refused packing are kept, and none stays in a bin: the bin that is added is the smaller one, and is
+// tried first.
 #[test]
 fn kept_collection(rt: HostRuntime) -> Result<(), Fail> {
     says(
         &rt,
         rt.alloc(),
-        b"rect one 4 4 1\npack\nbin a 3 3 1\nbin a 9 9 1\npack\nbin b 4 4 1\npack\nrect three 1 1",
-        "ok\nrefused: Not enough space to place all of the rectangles.\nok\nrefused: bin a exists\nrefused: Not enough space to place all of the rectangles.\nok\n0 one b 0 0 0 4 4 1\npacked 1\nline 8 is bad\n",
+        b"bin a 4 4 1\nbin a 9 9 1\nrect one 4 4 1\nrect two 2 2 1\npack\nbin b 3 3 1\npack\nrect three 1 1",
+        "ok\nrefused: bin a exists\nok\nok\nrefused: Not enough space to place all of the rectangles.\nok\n0 one a 0 0 0 4 4 1\n1 two b 0 0 0 2 2 1\npacked 2\nline 8 is bad\n",
         Outcome::BadLine(8),
+    )
+}
+
+// What is given back is free again, in the order in which it was given, and its number is unknown.
+#[test]
+fn releases(rt: HostRuntime) -> Result<(), Fail> {
+    says(
+        &rt,
+        rt.alloc(),
+        b"bin a 10 10 1\nrect p 4 10 1\npack\nrect q 6 10 1\npack\nrelease 0\nrelease 1\nsections a\nrelease 0\n",
+        "ok\nok\n0 p a 0 0 0 4 10 1\npacked 1\nok\n1 q a 4 0 0 6 10 1\npacked 1\nok\nok\n0 0 0 4 10 1\n4 0 0 6 10 1\nsections 2\nrefused: placement 0 is unknown\n",
+        Outcome::Done,
     )
 }
 

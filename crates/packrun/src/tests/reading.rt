@@ -24,8 +24,12 @@ fn good_lines(rt: HostRuntime) -> Result<(), Fail> {
             "ok\nok\n0 bin a 0 0 0 4294967295 1 1\npacked 1\n",
         ),
         (
-            "bin z 0 5 1\nrect e 0 5 1\npack\n",
-            "ok\nok\n0 e z 0 0 0 0 5 1\npacked 1\n",
+            "bin z 0 5 1\nrect e 0 5 1\npack\nrelease 0\nsections z\nrect e 0 5 1\npack\n",
+            "ok\nok\n0 e z 0 0 0 0 5 1\npacked 1\nok\nsections 0\nok\nrefused: Not enough space to place all of the rectangles.\n",
+        ),
+        (
+            "release 18446744073709551615\nrelease 018446744073709551615\nrelease 000\nsections a\n",
+            "refused: placement 18446744073709551615 is unknown\nrefused: placement 18446744073709551615 is unknown\nrefused: placement 0 is unknown\nrefused: bin a is unknown\n",
         ),
     ] {
         says(&rt, alloc, input.as_bytes(), output, Outcome::Done)?;
@@ -69,6 +73,17 @@ fn bad_lines(rt: HostRuntime) -> Result<(), Fail> {
         "exclude A",
         "exclude A A",
         "exclude A B C",
+        "release",
+        "release a",
+        "release -0",
+        "release +0",
+        "release 18446744073709551616",
+        "release 0 0",
+        "sections",
+        "sections a a",
+        "coalesce a 0 0 1",
+        "sweep a",
+        "stats a",
         "Pack",
         "pack 1",
         "packs",
