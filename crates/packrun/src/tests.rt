@@ -13,6 +13,7 @@ mod packings;
 mod placements;
 mod pushes;
 mod reading;
+mod session;
 mod shapes;
 mod sizes;
 mod trials;
