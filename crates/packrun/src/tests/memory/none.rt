@@ -1,10 +1,11 @@
 //! Calls that take no memory, while every request is refused.
 
 use crate::refusing::Refusing;
+use crate::tests::session::{Text, TextRects, TextSession};
 use crate::tests::shapes::{has_list, section};
 use rectangle_pack::{
-    FitTests, Group, GroupedRectsToPlace, RectToInsert, TargetBin, contains_smallest_box,
-    pack_rects, pack_rects_counted, volume_heuristic,
+    FitTests, Group, GroupedRectsToPlace, Packed, RectToInsert, SessionError, TargetBin,
+    contains_smallest_box, pack_rects, pack_rects_counted, volume_heuristic,
 };
 use std::alloc::{AllocError, Allocator, Global};
 use std::collections::BTreeMap;
@@ -116,5 +117,52 @@ fn calls_of_a_bin(rt: HostRuntime) -> Result<(), Fail> {
     bin.remove_filled_section(0);
     assert!(rt; bin.accepts(&whole));
     assert!(rt; has_list(&bin, &[]));
+    Ok(())
+}
+
+// A session with one box in its bin, a box without cells; that box, and the name of the bin.
+fn with_an_empty_box<'a>(
+    alloc: &'a Refusing<Global>,
+) -> Option<(TextSession<'a>, TextRects<'a>, Text<'a>)> {
+    let mut rects = TextRects::new(alloc);
+    let id = String::from_str(alloc, "empty").ok()?;
+    rects.push_rect(id, None, RectToInsert::new(0, 5, 1)).ok()?;
+    let mut session = TextSession::new(alloc, 0);
+    let name = String::from_str(alloc, "bin").ok()?;
+    session.add_bin(name.clone().ok()?, 10, 10, 1).ok()?;
+    session
+        .pack(&rects, &volume_heuristic, &contains_smallest_box)
+        .ok()?;
+    Some((session, rects, name))
+}
+
+// The first allocator that grants enough for the box refuses all that comes after it.
+#[test]
+fn calls_of_a_session(rt: HostRuntime) -> Result<(), Fail> {
+    for granted in 0..100u64 {
+        let refusing = Refusing::new(rt.alloc(), granted);
+        if let Some((mut session, rects, name)) = with_an_empty_box(&refusing) {
+            assert_eq!(rt; refusing.left(), 0);
+            assert_eq!(rt; session.next_number(), 1);
+            assert_eq!(rt; session.outstanding().len(), 1);
+            assert_eq!(rt;
+                session.add_bin(name, 1, 1, 1),
+                Err(SessionError::DuplicateBin)
+            );
+            assert_eq!(rt; session.release(1), Err(SessionError::UnknownPlacement));
+            let nothing = TextRects::new(&refusing);
+            let answer = session.pack(&nothing, &volume_heuristic, &contains_smallest_box);
+            assert_eq!(rt; answer, Ok(Packed { first: 1, count: 0 }));
+            assert_eq!(rt; session.release(0), Ok(()));
+            assert!(rt; session.outstanding().is_empty());
+            let whole = [[0, 0, 0, 10, 10, 1]];
+            assert!(rt; session.bins().values().all(|bin| has_list(bin, &whole)));
+            let mut last = TextSession::new(&refusing, u64::MAX);
+            let answer = last.pack(&rects, &volume_heuristic, &contains_smallest_box);
+            assert_eq!(rt; answer, Err(SessionError::NumbersUsedUp));
+            return Ok(());
+        }
+    }
+    assert!(rt; false);
     Ok(())
 }
