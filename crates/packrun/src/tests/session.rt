@@ -5,8 +5,8 @@ use super::exclusions::{A, B, Name};
 use super::shapes::{has_list, place};
 use crate::refusing::Refusing;
 use rectangle_pack::{
-    Command, Group, GroupedRectsToPlace, Packed, RectToInsert, Reply, Session, SessionError,
-    contains_smallest_box, volume_heuristic,
+    Command, Group, GroupedRectsToPlace, Outstanding, Packed, RectToInsert, Reply, Session,
+    SessionError, contains_smallest_box, volume_heuristic,
 };
 use std::alloc::{AllocError, Global};
 use std::process::Abort;
@@ -25,7 +25,7 @@ pub type TextRects<'a> = GroupedRectsToPlace<Text<'a>, Text<'a>, &'a Refusing<Gl
 pub type TextCommand<'a> = Command<Text<'a>, Text<'a>, Text<'a>, &'a Refusing<Global>>;
 
 /// A box by name, size and groups; without groups it is pushed alone.
-type SizedBox = (&'static str, [u32; 3], &'static [&'static str]);
+pub type SizedBox = (&'static str, [u32; 3], &'static [&'static str]);
 
 /// A command, as data.
 #[derive(Clone, Copy)]
@@ -57,15 +57,17 @@ pub struct Step {
     pub after: Standing,
 }
 
-/// How far the steps went.
+/// How one step, or all of them, came out.
 #[derive(Clone, Copy, Debug, PartialEq, Eq, Drop)]
-pub enum Reached {
-    /// A command could not be made.
-    Unmade,
-    /// Memory was refused at the step of this index.
+pub enum Came {
+    /// There was no memory for the command of the step of this index.
+    Unmade(usize),
+    /// The call was refused memory at the step of this index, and changed nothing.
     Refused(usize),
-    /// Each step came out.
-    End,
+    /// The reply, or the session afterwards, was not the one that is wanted, at the step of this index.
+    Wrong(usize),
+    /// As wanted.
+    Out,
 }
 
 const TILE: [u32; 3] = [4, 4, 1];
@@ -353,47 +355,71 @@ const IN_USE: Standing = Standing {
     next: 1,
 };
 
-fn rects<'a>(
+type Made<T> = Result<T, AllocError>;
+
+fn names<'a>(
     alloc: &'a Refusing<Global>,
-    boxes: &[SizedBox],
-    pairs: &[(Name, Name)],
-) -> Result<TextRects<'a>, AllocError> {
-    let mut rects = GroupedRectsToPlace::new(alloc);
-    for (id, size, groups) in boxes {
-        let mut named = Vec::new(alloc);
-        for group in *groups {
-            named.push(String::from_str(alloc, group)?)?;
-        }
-        let named = if named.is_empty() { None } else { Some(named) };
-        let [width, height, depth] = *size;
-        let rect = RectToInsert::new(width, height, depth);
-        rects.push_rect(String::from_str(alloc, id)?, named, rect)?;
+    from: &[&str],
+) -> Made<Option<Vec<Text<'a>, &'a Refusing<Global>>>> {
+    let mut names = Vec::new(alloc);
+    for name in from {
+        names.push(String::from_str(alloc, name)?)?;
     }
-    for (one, other) in pairs {
-        let (one, other) = (group(alloc, one)?, group(alloc, other)?);
-        if one != other {
-            rects.exclude(one, other)?;
-        }
-    }
-    Ok(rects)
+    Ok(if names.is_empty() { None } else { Some(names) })
 }
 
-fn group<'a>(
-    alloc: &'a Refusing<Global>,
-    name: &Name,
-) -> Result<Group<Text<'a>, Text<'a>>, AllocError> {
+fn push<'a>(alloc: &'a Refusing<Global>, rects: &mut TextRects<'a>, from: &SizedBox) -> Made<()> {
+    let (id, size, groups) = from;
+    let [width, height, depth] = *size;
+    let groups = names(alloc, groups)?;
+    let id = String::from_str(alloc, id)?;
+    rects.push_rect(id, groups, RectToInsert::new(width, height, depth))
+}
+
+fn group<'a>(alloc: &'a Refusing<Global>, name: &Name) -> Made<Group<Text<'a>, Text<'a>>> {
     Ok(match name {
         Group::Grouped(name) => Group::Grouped(String::from_str(alloc, name)?),
         Group::Ungrouped(id) => Group::Ungrouped(String::from_str(alloc, id)?),
     })
 }
 
-fn command<'a>(alloc: &'a Refusing<Global>, order: &Order) -> Result<TextCommand<'a>, AllocError> {
+fn exclude<'a>(
+    alloc: &'a Refusing<Global>,
+    rects: &mut TextRects<'a>,
+    pair: &(Name, Name),
+) -> Made<()> {
+    let (one, other) = pair;
+    let one = group(alloc, one)?;
+    let other = group(alloc, other)?;
+    if one == other {
+        return Ok(());
+    }
+    rects.exclude(one, other)
+}
+
+/// These boxes, and these pairs of groups that are excluded.
+pub fn rects<'a>(
+    alloc: &'a Refusing<Global>,
+    boxes: &[SizedBox],
+    pairs: &[(Name, Name)],
+) -> Made<TextRects<'a>> {
+    let mut rects = TextRects::new(alloc);
+    for from in boxes {
+        push(alloc, &mut rects, from)?;
+    }
+    for pair in pairs {
+        exclude(alloc, &mut rects, pair)?;
+    }
+    Ok(rects)
+}
+
+fn command<'a>(alloc: &'a Refusing<Global>, order: &Order) -> Made<TextCommand<'a>> {
     Ok(match order {
         Order::AddBin(name, size) => {
             let [width, height, depth] = *size;
+            let id = String::from_str(alloc, name)?;
             Command::AddBin {
-                id: String::from_str(alloc, name)?,
+                id,
                 width,
                 height,
                 depth,
@@ -408,7 +434,7 @@ fn command<'a>(alloc: &'a Refusing<Global>, order: &Order) -> Result<TextCommand
 pub fn commands<'a>(
     alloc: &'a Refusing<Global>,
     steps: &[Step],
-) -> Result<Vec<TextCommand<'a>, &'a Refusing<Global>>, AllocError> {
+) -> Made<Vec<TextCommand<'a>, &'a Refusing<Global>>> {
     let mut commands = Vec::new(alloc);
     for step in steps {
         commands.push(command(alloc, &step.order)?)?;
@@ -416,59 +442,92 @@ pub fn commands<'a>(
     Ok(commands)
 }
 
-/// What the call of a command answers. A bin is added under a clone of its id.
-pub fn call<'a>(session: &mut TextSession<'a>, command: &TextCommand<'a>) -> Reply {
-    let answer = match command {
-        Command::AddBin {
-            id,
-            width,
-            height,
-            depth,
-        } => match id.clone() {
-            Ok(id) => session.add_bin(id, *width, *height, *depth),
-            Err(_) => Err(SessionError::OutOfMemory),
-        },
-        Command::Pack(rects) => {
-            return match session.pack(rects, &volume_heuristic, &contains_smallest_box) {
-                Ok(packed) => Reply::Packed(packed),
-                Err(error) => Reply::Refused(error),
-            };
-        }
-        Command::Release(number) => session.release(*number),
-    };
+fn reply(answer: Result<(), SessionError>) -> Reply {
     match answer {
         Ok(()) => Reply::Done,
         Err(error) => Reply::Refused(error),
     }
 }
 
-/// Whether the session stands so.
-pub fn stands(session: &TextSession<'_>, standing: &Standing) -> bool {
-    let (lists, placed) = (standing.bins, standing.placed);
-    for ((name, bin), (wanted, list)) in session.bins().iter().zip(lists.iter()) {
-        if name.as_str() != *wanted || !has_list(bin, list) {
-            return false;
-        }
-    }
-    for (outstanding, (number, id, bin, numbers)) in session
-        .outstanding()
-        .iter()
-        .zip(placed.iter())
-    {
-        if outstanding.number != *number
-            || outstanding.id.as_str() != *id
-            || outstanding.bin.as_str() != *bin
-            || place(&outstanding.location) != *numbers
-        {
-            return false;
-        }
-    }
-    session.bins().len() == lists.len()
-        && session.outstanding().len() == placed.len()
-        && session.next_number() == standing.next
+fn add_bin<'a>(
+    session: &mut TextSession<'a>,
+    id: &Text<'a>,
+    size: [u32; 3],
+) -> Result<(), SessionError> {
+    let [width, height, depth] = size;
+    session.add_bin(id.clone()?, width, height, depth)
 }
 
-/// How a session stands at first.
+/// What `pack` answers, by volumes and smallest boxes.
+pub fn pack<'a>(session: &mut TextSession<'a>, rects: &TextRects<'a>) -> Reply {
+    match session.pack(rects, &volume_heuristic, &contains_smallest_box) {
+        Ok(packed) => Reply::Packed(packed),
+        Err(error) => Reply::Refused(error),
+    }
+}
+
+/// What the call of a command answers. A bin is added under a clone of its id.
+pub fn call<'a>(session: &mut TextSession<'a>, command: &TextCommand<'a>) -> Reply {
+    match command {
+        Command::AddBin {
+            id,
+            width,
+            height,
+            depth,
+        } => reply(add_bin(session, id, [*width, *height, *depth])),
+        Command::Pack(rects) => pack(session, rects),
+        Command::Release(number) => reply(session.release(*number)),
+    }
+}
+
+/// What `run` answers, by volumes and smallest boxes.
+pub fn run<'a>(
+    session: &mut TextSession<'a>,
+    commands: &[TextCommand<'a>],
+) -> Made<Vec<Reply, &'a Refusing<Global>>> {
+    session.run(commands, &volume_heuristic, &contains_smallest_box)
+}
+
+/// Whether the replies are those of the steps.
+pub fn are_wanted(replies: &[Reply], steps: &[Step]) -> bool {
+    replies.len() == steps.len()
+        && replies
+            .iter()
+            .zip(steps.iter())
+            .all(|(reply, step)| *reply == step.reply)
+}
+
+fn has_bins(session: &TextSession<'_>, wanted: &[(&'static str, &'static [[u32; 6]])]) -> bool {
+    session.bins().len() == wanted.len()
+        && session.bins().iter().zip(wanted.iter()).all(|((id, bin), (name, list))| id.as_str()
+            == *name
+            && has_list(bin, list))
+}
+
+fn is_placed(
+    placement: &Outstanding<Text<'_>, Text<'_>>,
+    wanted: &(u64, &'static str, &'static str, [u32; 6]),
+) -> bool {
+    let (number, id, bin, numbers) = wanted;
+    placement.number == *number
+        && placement.id.as_str() == *id
+        && placement.bin.as_str() == *bin
+        && place(&placement.location) == *numbers
+}
+
+/// Whether the session stands so.
+pub fn stands(session: &TextSession<'_>, wanted: &Standing) -> bool {
+    let (outstanding, placed) = (session.outstanding(), wanted.placed);
+    session.next_number() == wanted.next
+        && has_bins(session, wanted.bins)
+        && outstanding.len() == placed.len()
+        && outstanding
+            .iter()
+            .zip(placed.iter())
+            .all(|(placement, wanted)| is_placed(placement, wanted))
+}
+
+/// How a new session stands.
 pub fn empty(first: u64) -> Standing {
     Standing {
         bins: &[],
@@ -477,63 +536,94 @@ pub fn empty(first: u64) -> Standing {
     }
 }
 
-/// Makes the call of each step, up to one that is refused memory, which changes nothing.
-pub fn call_each(rt: &impl Abort, alloc: &Refusing<Global>, first: u64, steps: &[Step]) -> Reached {
+fn is_refused(reply: Reply) -> bool {
+    reply == Reply::Refused(SessionError::OutOfMemory)
+}
+
+// Makes the call of one step.
+fn call_one<'a>(
+    alloc: &'a Refusing<Global>,
+    session: &mut TextSession<'a>,
+    before: &Standing,
+    index: usize,
+    step: &Step,
+) -> Came {
+    let Ok(command) = command(alloc, &step.order) else {
+        return Came::Unmade(index);
+    };
+    let reply = call(session, &command);
+    let (came, wanted) = if is_refused(reply) {
+        (Came::Refused(index), before)
+    } else if reply == step.reply {
+        (Came::Out, &step.after)
+    } else {
+        return Came::Wrong(index);
+    };
+    if stands(session, wanted) {
+        came
+    } else {
+        Came::Wrong(index)
+    }
+}
+
+/// Makes the call of each step, until one does not come out.
+pub fn call_each(alloc: &Refusing<Global>, first: u64, steps: &[Step]) -> Came {
     let mut session = TextSession::new(alloc, first);
     let mut before = empty(first);
     for (index, step) in steps.iter().enumerate() {
-        let Ok(command) = command(alloc, &step.order) else {
-            return Reached::Unmade;
-        };
-        let reply = call(&mut session, &command);
-        if reply == Reply::Refused(SessionError::OutOfMemory) {
-            assert!(rt; stands(&session, &before), "step {index}");
-            return Reached::Refused(index);
+        let came = call_one(alloc, &mut session, &before, index, step);
+        if came != Came::Out {
+            return came;
         }
-        assert_eq!(rt; reply, step.reply, "step {index}");
-        assert!(rt; stands(&session, &step.after), "step {index}");
         before = step.after;
     }
-    Reached::End
+    Came::Out
 }
 
-// Each step comes out by its call, and all of them by a run.
-fn come_out(rt: &impl Abort, alloc: Global, first: u64, steps: &[Step]) -> Result<(), Fail> {
+// Whether all steps come out by one run.
+fn run_all(alloc: &Refusing<Global>, first: u64, steps: &[Step]) -> Made<bool> {
+    let mut session = TextSession::new(alloc, first);
+    let commands = commands(alloc, steps)?;
+    let replies = run(&mut session, commands.as_slice())?;
+    Ok(
+        are_wanted(replies.as_slice(), steps)
+            && steps
+                .last()
+                .is_some_and(|last| stands(&session, &last.after)),
+    )
+}
+
+// Each step comes out by its call, and all of them by one run.
+fn come_out(rt: &impl Abort, alloc: Global, cases: &[(u64, &[Step])]) -> Result<(), Fail> {
     let alloc = Refusing::new(alloc, u64::MAX);
-    assert_eq!(rt; call_each(rt, &alloc, first, steps), Reached::End);
-    let commands = commands(&alloc, steps)?;
-    let mut session = TextSession::new(&alloc, first);
-    let replies = session.run(
-        commands.as_slice(),
-        &volume_heuristic,
-        &contains_smallest_box,
-    )?;
-    assert_eq!(rt; replies.len(), steps.len());
-    for (reply, step) in replies.iter().zip(steps.iter()) {
-        assert_eq!(rt; *reply, step.reply);
+    for (first, steps) in cases {
+        assert_eq!(rt; call_each(&alloc, *first, steps), Came::Out);
+        assert!(rt; run_all(&alloc, *first, steps)?);
     }
-    let last = steps.last().ok_or("no steps")?;
-    assert!(rt; stands(&session, &last.after));
     Ok(())
 }
 
 #[test]
 fn numbers_and_releases(rt: HostRuntime) -> Result<(), Fail> {
-    let alloc = rt.alloc();
-    come_out(&rt, alloc, 0, TWO_RELEASES)?;
-    come_out(&rt, alloc, 0, EMPTY_BOX)?;
-    come_out(&rt, alloc, u64::MAX - 1, LAST_NUMBER)?;
-    come_out(&rt, alloc, u64::MAX, NO_NUMBER)
+    let cases = [
+        (0, TWO_RELEASES),
+        (0, EMPTY_BOX),
+        (u64::MAX - 1, LAST_NUMBER),
+        (u64::MAX, NO_NUMBER),
+    ];
+    come_out(&rt, rt.alloc(), &cases)
 }
 
+// The box that `pack_rects` leaves in the bin, a session takes back.
 #[test]
 fn refusals(rt: HostRuntime) -> Result<(), Fail> {
-    let alloc = rt.alloc();
-    come_out(&rt, alloc, 0, REFUSALS)?;
-    come_out(&rt, alloc, 0, BIN_IN_USE)?;
-    come_out(&rt, alloc, 0, EXCLUDED)?;
-    come_out(&rt, alloc, 0, EXCLUDED_BEFORE)?;
-    // What `pack_rects` leaves in the bins, a session undoes.
-    pack_by_volume(&rt, alloc, &[FULL_BIN])?;
-    come_out(&rt, alloc, 0, UNDONE)
+    let cases = [
+        (0, REFUSALS),
+        (0, BIN_IN_USE),
+        (0, EXCLUDED),
+        (0, EXCLUDED_BEFORE),
+        (0, UNDONE),
+    ];
+    come_out(&rt, rt.alloc(), &cases)?;
+    pack_by_volume(&rt, rt.alloc(), &[FULL_BIN])
 }

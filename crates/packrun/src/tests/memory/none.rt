@@ -1,14 +1,17 @@
 //! Calls that take no memory, while every request is refused.
 
 use crate::refusing::Refusing;
-use crate::tests::session::{Text, TextRects, TextSession};
+use crate::tests::session::{
+    SizedBox, Standing, Text, TextRects, TextSession, pack, rects, stands,
+};
 use crate::tests::shapes::{has_list, section};
 use rectangle_pack::{
-    FitTests, Group, GroupedRectsToPlace, Packed, RectToInsert, SessionError, TargetBin,
+    FitTests, Group, GroupedRectsToPlace, Packed, RectToInsert, Reply, SessionError, TargetBin,
     contains_smallest_box, pack_rects, pack_rects_counted, volume_heuristic,
 };
 use std::alloc::{AllocError, Allocator, Global};
 use std::collections::BTreeMap;
+use std::process::Abort;
 use std::test::Fail;
 
 type Bins<A> = BTreeMap<u32, TargetBin<A>, A>;
@@ -120,20 +123,44 @@ fn calls_of_a_bin(rt: HostRuntime) -> Result<(), Fail> {
     Ok(())
 }
 
-// A session with one box in its bin, a box without cells; that box, and the name of the bin.
-fn with_an_empty_box<'a>(
-    alloc: &'a Refusing<Global>,
-) -> Option<(TextSession<'a>, TextRects<'a>, Text<'a>)> {
-    let mut rects = TextRects::new(alloc);
-    let id = String::from_str(alloc, "empty").ok()?;
-    rects.push_rect(id, None, RectToInsert::new(0, 5, 1)).ok()?;
+const EMPTY: &[SizedBox] = &[("empty", [0, 5, 1], &[])];
+
+const WITH_EMPTY: Standing = Standing {
+    bins: &[("bin", &[[0, 0, 0, 10, 10, 1]])],
+    placed: &[(0, "empty", "bin", [0, 0, 0, 0, 5, 1])],
+    next: 1,
+};
+
+// A session with a bin and, in it, a box without cells; that box, and the name of the bin.
+fn with_empty(alloc: &Refusing<Global>) -> Option<(TextSession<'_>, TextRects<'_>, Text<'_>)> {
     let mut session = TextSession::new(alloc, 0);
     let name = String::from_str(alloc, "bin").ok()?;
     session.add_bin(name.clone().ok()?, 10, 10, 1).ok()?;
-    session
-        .pack(&rects, &volume_heuristic, &contains_smallest_box)
-        .ok()?;
-    Some((session, rects, name))
+    let rects = rects(alloc, EMPTY, &[]).ok()?;
+    match pack(&mut session, &rects) {
+        Reply::Packed(_) => Some((session, rects, name)),
+        _ => None,
+    }
+}
+
+fn pack_nothing<'a>(alloc: &'a Refusing<Global>, session: &mut TextSession<'a>) -> Reply {
+    pack(session, &TextRects::new(alloc))
+}
+
+fn pack_past_the_end<'a>(alloc: &'a Refusing<Global>, rects: &TextRects<'a>) -> Reply {
+    let mut session = TextSession::new(alloc, u64::MAX);
+    pack(&mut session, rects)
+}
+
+fn release_empty(rt: &impl Abort, session: &mut TextSession<'_>) {
+    assert!(rt; stands(session, &WITH_EMPTY));
+    assert!(rt; session.release(1) == Err(SessionError::UnknownPlacement));
+    assert!(rt; session.release(0) == Ok(()));
+    let wanted = Standing {
+        placed: &[],
+        ..WITH_EMPTY
+    };
+    assert!(rt; stands(session, &wanted));
 }
 
 // The first allocator that grants enough for the box refuses all that comes after it.
@@ -141,25 +168,14 @@ fn with_an_empty_box<'a>(
 fn calls_of_a_session(rt: HostRuntime) -> Result<(), Fail> {
     for granted in 0..100u64 {
         let refusing = Refusing::new(rt.alloc(), granted);
-        if let Some((mut session, rects, name)) = with_an_empty_box(&refusing) {
+        if let Some((mut session, rects, name)) = with_empty(&refusing) {
             assert_eq!(rt; refusing.left(), 0);
-            assert_eq!(rt; session.next_number(), 1);
-            assert_eq!(rt; session.outstanding().len(), 1);
-            assert_eq!(rt;
-                session.add_bin(name, 1, 1, 1),
-                Err(SessionError::DuplicateBin)
-            );
-            assert_eq!(rt; session.release(1), Err(SessionError::UnknownPlacement));
-            let nothing = TextRects::new(&refusing);
-            let answer = session.pack(&nothing, &volume_heuristic, &contains_smallest_box);
-            assert_eq!(rt; answer, Ok(Packed { first: 1, count: 0 }));
-            assert_eq!(rt; session.release(0), Ok(()));
-            assert!(rt; session.outstanding().is_empty());
-            let whole = [[0, 0, 0, 10, 10, 1]];
-            assert!(rt; session.bins().values().all(|bin| has_list(bin, &whole)));
-            let mut last = TextSession::new(&refusing, u64::MAX);
-            let answer = last.pack(&rects, &volume_heuristic, &contains_smallest_box);
-            assert_eq!(rt; answer, Err(SessionError::NumbersUsedUp));
+            assert!(rt; session.add_bin(name, 1, 1, 1) == Err(SessionError::DuplicateBin));
+            let used_up = Reply::Refused(SessionError::NumbersUsedUp);
+            assert!(rt; pack_past_the_end(&refusing, &rects) == used_up);
+            let nothing = Reply::Packed(Packed { first: 1, count: 0 });
+            assert!(rt; pack_nothing(&refusing, &mut session) == nothing);
+            release_empty(&rt, &mut session);
             return Ok(());
         }
     }

@@ -3,49 +3,26 @@
 use super::{End, refuses_each};
 use crate::refusing::Refusing;
 use crate::tests::session::{
-    Reached, TWO_RELEASES, TextRects, TextSession, call, call_each, commands, empty, stands,
+    Came, SizedBox, TWO_RELEASES, TextCommand, TextSession, are_wanted, call, call_each, commands,
+    empty, pack, rects, run, stands,
 };
 use crate::tests::shapes::numbers;
-use rectangle_pack::{RectToInsert, Reply, SessionError, contains_smallest_box, volume_heuristic};
-use std::alloc::Global;
+use rectangle_pack::{BinSection, Reply, SessionError};
+use std::alloc::{AllocError, Global};
+use std::process::Abort;
 use std::test::Fail;
 
-// Whether the sessions stand alike.
-fn are_alike(one: &TextSession<'_>, other: &TextSession<'_>) -> bool {
-    for ((name, bin), (other_name, other_bin)) in one.bins().iter().zip(other.bins().iter()) {
-        let is_same = bin.available_bin_sections().as_slice()
-            == other_bin.available_bin_sections().as_slice();
-        if name.as_str() != other_name.as_str() || !is_same {
-            return false;
-        }
-    }
-    for (placed, other_placed) in one.outstanding().iter().zip(other.outstanding().iter()) {
-        let is_same = placed.id.as_str() == other_placed.id.as_str()
-            && placed.bin.as_str() == other_placed.bin.as_str();
-        if placed.number != other_placed.number
-            || placed.location != other_placed.location
-            || !is_same
-        {
-            return false;
-        }
-    }
-    one.bins().len() == other.bins().len()
-        && one.outstanding().len() == other.outstanding().len()
-        && one.next_number() == other.next_number()
-}
-
-// TextSession and packings were each refused memory; what changed nothing is compared in `call_each`.
+// The bin and both packings are each refused memory, and change nothing then.
 #[test]
 fn bins_and_packings(rt: HostRuntime) -> Result<(), Fail> {
     let mut were_refused = [false; 6];
     for granted in 0..200u64 {
         let refusing = Refusing::new(rt.alloc(), granted);
-        match call_each(&rt, &refusing, 0, TWO_RELEASES) {
-            Reached::Unmade => {}
-            Reached::Refused(index) => {
-                *were_refused.get_mut(index).ok_or("no such step")? = true;
-            }
-            Reached::End => {
+        match call_each(&refusing, 0, TWO_RELEASES) {
+            Came::Unmade(_) => {}
+            Came::Refused(index) => *were_refused.get_mut(index).ok_or("no such step")? = true,
+            came => {
+                assert_eq!(rt; came, Came::Out);
                 assert!(rt; were_refused.starts_with(&[true; 3]));
                 return Ok(());
             }
@@ -55,97 +32,138 @@ fn bins_and_packings(rt: HostRuntime) -> Result<(), Fail> {
     Ok(())
 }
 
-// Where there is no room for the replies, nothing is done. Else each reply is what the call answers with the memory
-// that is left.
+fn are_alike(one: &TextSession<'_>, other: &TextSession<'_>) -> bool {
+    one.next_number() == other.next_number()
+        && one.outstanding() == other.outstanding()
+        && one.bins().len() == other.bins().len()
+        && one.bins().iter().zip(other.bins().iter()).all(|((id, bin), (other_id, other_bin))| {
+            id == other_id && bin.available_bin_sections() == other_bin.available_bin_sections()
+        })
+}
+
+fn are_called<'a>(
+    replies: &[Reply],
+    session: &mut TextSession<'a>,
+    commands: &[TextCommand<'a>],
+) -> bool {
+    for (reply, command) in replies.iter().zip(commands.iter()) {
+        if *reply != call(session, command) {
+            return false;
+        }
+    }
+    replies.len() == commands.len()
+}
+
+// Whether calls answer these replies and leave a session that stands like this one.
+fn is_as_called(
+    alloc: &Refusing<Global>,
+    replies: &[Reply],
+    session: &TextSession<'_>,
+) -> Result<bool, AllocError> {
+    let commands = commands(alloc, TWO_RELEASES)?;
+    let mut other = TextSession::new(alloc, 0);
+    Ok(are_called(replies, &mut other, commands.as_slice()) && are_alike(session, &other))
+}
+
+// Where there is no room for the replies, nothing is done. Else each reply is what its call answers with the memory
+// that the room for the replies leaves.
+fn run_beside_calls(
+    rt: &impl Abort,
+    alloc: Global,
+    refusing: &Refusing<Global>,
+) -> Result<End, Fail> {
+    let left = Refusing::new(alloc, refusing.left().saturating_sub(1));
+    let Ok(commands) = commands(refusing, TWO_RELEASES) else {
+        return Ok(End::Before);
+    };
+    let has_room = refusing.left() > 0;
+    let mut session = TextSession::new(refusing, 0);
+    let Ok(replies) = run(&mut session, commands.as_slice()) else {
+        assert!(rt; !has_room && stands(&session, &empty(0)));
+        return Ok(End::Refused);
+    };
+    assert!(rt; is_as_called(&left, replies.as_slice(), &session)?);
+    if are_wanted(replies.as_slice(), TWO_RELEASES) {
+        Ok(End::Done)
+    } else {
+        Ok(End::Refused)
+    }
+}
+
 #[test]
 fn runs(rt: HostRuntime) -> Result<(), Fail> {
-    let mut refused = false;
-    for granted in 0..200u64 {
-        let refusing = Refusing::new(rt.alloc(), granted);
-        let Ok(told) = commands(&refusing, TWO_RELEASES) else {
-            continue;
-        };
-        let mut session = TextSession::new(&refusing, 0);
-        let has_room = refusing.left() > 0;
-        let answer = session.run(told.as_slice(), &volume_heuristic, &contains_smallest_box);
-        assert_eq!(rt; answer.is_ok(), has_room);
-        let Ok(replies) = answer else {
-            assert!(rt; stands(&session, &empty(0)));
-            continue;
-        };
-        let other = Refusing::new(rt.alloc(), granted.saturating_sub(1));
-        let told = commands(&other, TWO_RELEASES)?;
-        let mut twin = TextSession::new(&other, 0);
-        assert_eq!(rt; replies.len(), told.len());
-        for (reply, command) in replies.iter().zip(told.iter()) {
-            assert_eq!(rt; *reply, call(&mut twin, command));
-        }
-        assert!(rt; are_alike(&session, &twin));
-        if !replies.contains(&Reply::Refused(SessionError::OutOfMemory)) {
-            assert!(rt; refused);
-            assert!(rt;
-                replies
-                    .iter()
-                    .zip(TWO_RELEASES.iter())
-                    .all(|(reply, step)| *reply == step.reply)
-            );
-            return Ok(());
-        }
-        refused = true;
-    }
-    assert!(rt; false);
-    Ok(())
+    let alloc = rt.alloc();
+    refuses_each(
+        &rt,
+        alloc,
+        |refusing| run_beside_calls(&rt, alloc, refusing),
+    )
 }
 
-// A strip of nine cells, full of boxes that are numbered from its end on.
-fn strip<'a>(alloc: &'a Refusing<Global>) -> Option<TextSession<'a>> {
+const UNIT: [u32; 3] = [1, 1, 1];
+
+const NINE: &[SizedBox] = &[
+    ("a", UNIT, &[]),
+    ("b", UNIT, &[]),
+    ("c", UNIT, &[]),
+    ("d", UNIT, &[]),
+    ("e", UNIT, &[]),
+    ("f", UNIT, &[]),
+    ("g", UNIT, &[]),
+    ("h", UNIT, &[]),
+    ("i", UNIT, &[]),
+];
+
+// A bin of nine cells in a row, full of boxes that are numbered from its start on.
+fn strip(alloc: &Refusing<Global>) -> Option<TextSession<'_>> {
     let mut session = TextSession::new(alloc, 0);
-    let mut rects = TextRects::new(alloc);
-    for name in "a b c d e f g h i".split_ascii_whitespace() {
-        let id = String::from_str(alloc, name).ok()?;
-        rects.push_rect(id, None, RectToInsert::new(1, 1, 1)).ok()?;
-    }
     let name = String::from_str(alloc, "strip").ok()?;
     session.add_bin(name, 9, 1, 1).ok()?;
-    session
-        .pack(&rects, &volume_heuristic, &contains_smallest_box)
-        .ok()?;
-    Some(session)
+    let rects = rects(alloc, NINE, &[]).ok()?;
+    match pack(&mut session, &rects) {
+        Reply::Packed(_) => Some(session),
+        _ => None,
+    }
 }
 
-// Whether the first boxes of the strip are released, one after the other, and the others are not.
-fn are_released(session: &TextSession<'_>, count: u32) -> bool {
-    let Some(bin) = session.bins().values().next() else {
-        return false;
-    };
-    let sections = bin.available_bin_sections();
+fn are_row(sections: &[BinSection], count: u32) -> bool {
     sections.len() == count as usize
         && (0..count)
             .zip(sections.iter())
             .all(|(x, section)| numbers(section) == [x, 0, 0, 1, 1, 1])
+}
+
+// Whether so many boxes of the strip were given back from its start on, and the others stand.
+fn are_released(session: &TextSession<'_>, count: u32) -> bool {
+    session.next_number() == 9
         && session
             .outstanding()
             .iter()
             .map(|placed| placed.number)
             .eq(u64::from(count)..9)
-        && session.next_number() == 9
+        && session
+            .bins()
+            .values()
+            .all(|bin| are_row(bin.available_bin_sections(), count))
+}
+
+fn release_each(rt: &impl Abort, refusing: &Refusing<Global>) -> Result<End, Fail> {
+    let Some(mut session) = strip(refusing) else {
+        return Ok(End::Before);
+    };
+    for count in 0..9u32 {
+        let answer = session.release(u64::from(count));
+        if answer == Err(SessionError::OutOfMemory) {
+            assert!(rt; are_released(&session, count));
+            return Ok(End::Refused);
+        }
+        assert_eq!(rt; answer, Ok(()));
+    }
+    assert!(rt; are_released(&session, 9));
+    Ok(End::Done)
 }
 
 #[test]
 fn releases(rt: HostRuntime) -> Result<(), Fail> {
-    refuses_each(&rt, rt.alloc(), |refusing| {
-        let Some(mut session) = strip(refusing) else {
-            return Ok(End::Before);
-        };
-        for count in 0..9u32 {
-            let answer = session.release(u64::from(count));
-            if answer == Err(SessionError::OutOfMemory) {
-                assert!(rt; are_released(&session, count));
-                return Ok(End::Refused);
-            }
-            assert_eq!(rt; answer, Ok(()));
-        }
-        assert!(rt; are_released(&session, 9));
-        Ok(End::Done)
-    })
+    refuses_each(&rt, rt.alloc(), |refusing| release_each(&rt, refusing))
 }
