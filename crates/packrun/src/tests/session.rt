@@ -1,28 +1,22 @@
 //! Sessions: what they reply to each command, and how they stand after it.
 
-use super::cases::{FULL_BIN, pack_by_volume};
-use super::exclusions::{A, B, Name};
+use super::cases::{Case, FULL_BIN, Rects, pack_by_volume, rects_of};
+use super::exclusions::{A, B, Name, exclude_all};
 use super::shapes::{has_list, place};
 use crate::refusing::Refusing;
 use rectangle_pack::{
-    Command, Group, GroupedRectsToPlace, Outstanding, Packed, RectToInsert, Reply, Session,
-    SessionError, contains_smallest_box, volume_heuristic,
+    Command, Group, Outstanding, Packed, Reply, Session, SessionError, contains_smallest_box,
+    volume_heuristic,
 };
 use std::alloc::{AllocError, Global};
 use std::process::Abort;
 use std::test::Fail;
 
-/// Ids own memory, so that their clones can be refused too.
-pub type Text<'a> = String<&'a Refusing<Global>>;
-
 /// A session whose memory may be refused.
-pub type TextSession<'a> = Session<Text<'a>, Text<'a>, &'a Refusing<Global>>;
-
-/// Boxes for it.
-pub type TextRects<'a> = GroupedRectsToPlace<Text<'a>, Text<'a>, &'a Refusing<Global>>;
+pub type TestSession<'a> = Session<&'static str, &'static str, &'a Refusing<Global>>;
 
 /// A command for it.
-pub type TextCommand<'a> = Command<Text<'a>, Text<'a>, Text<'a>, &'a Refusing<Global>>;
+pub type TestCommand<'a> = Command<&'static str, &'static str, &'static str, &'a Refusing<Global>>;
 
 /// A box by name, size and groups; without groups it is pushed alone.
 pub type SizedBox = (&'static str, [u32; 3], &'static [&'static str]);
@@ -357,74 +351,33 @@ const IN_USE: Standing = Standing {
 
 type Made<T> = Result<T, AllocError>;
 
-fn names<'a>(
-    alloc: &'a Refusing<Global>,
-    from: &[&str],
-) -> Made<Option<Vec<Text<'a>, &'a Refusing<Global>>>> {
-    let mut names = Vec::new(alloc);
-    for name in from {
-        names.push(String::from_str(alloc, name)?)?;
-    }
-    Ok(if names.is_empty() { None } else { Some(names) })
-}
-
-fn push<'a>(alloc: &'a Refusing<Global>, rects: &mut TextRects<'a>, from: &SizedBox) -> Made<()> {
-    let (id, size, groups) = from;
-    let [width, height, depth] = *size;
-    let groups = names(alloc, groups)?;
-    let id = String::from_str(alloc, id)?;
-    rects.push_rect(id, groups, RectToInsert::new(width, height, depth))
-}
-
-fn group<'a>(alloc: &'a Refusing<Global>, name: &Name) -> Made<Group<Text<'a>, Text<'a>>> {
-    Ok(match name {
-        Group::Grouped(name) => Group::Grouped(String::from_str(alloc, name)?),
-        Group::Ungrouped(id) => Group::Ungrouped(String::from_str(alloc, id)?),
-    })
-}
-
-fn exclude<'a>(
-    alloc: &'a Refusing<Global>,
-    rects: &mut TextRects<'a>,
-    pair: &(Name, Name),
-) -> Made<()> {
-    let (one, other) = pair;
-    let one = group(alloc, one)?;
-    let other = group(alloc, other)?;
-    if one == other {
-        return Ok(());
-    }
-    rects.exclude(one, other)
-}
-
 /// These boxes, and these pairs of groups that are excluded.
 pub fn rects<'a>(
     alloc: &'a Refusing<Global>,
-    boxes: &[SizedBox],
+    boxes: &'static [SizedBox],
     pairs: &[(Name, Name)],
-) -> Made<TextRects<'a>> {
-    let mut rects = TextRects::new(alloc);
-    for from in boxes {
-        push(alloc, &mut rects, from)?;
-    }
-    for pair in pairs {
-        exclude(alloc, &mut rects, pair)?;
-    }
+) -> Made<Rects<&'a Refusing<Global>>> {
+    let case = Case { boxes, ..NO_BOXES };
+    let mut rects = rects_of(alloc, &case)?;
+    exclude_all(&mut rects, pairs)?;
     Ok(rects)
 }
 
-fn command<'a>(alloc: &'a Refusing<Global>, order: &Order) -> Made<TextCommand<'a>> {
+const NO_BOXES: Case = Case {
+    bins: &[],
+    boxes: &[],
+    placements: None,
+    lists: &[],
+};
+
+fn command<'a>(alloc: &'a Refusing<Global>, order: &Order) -> Made<TestCommand<'a>> {
     Ok(match order {
-        Order::AddBin(name, size) => {
-            let [width, height, depth] = *size;
-            let id = String::from_str(alloc, name)?;
-            Command::AddBin {
-                id,
-                width,
-                height,
-                depth,
-            }
-        }
+        Order::AddBin(id, [width, height, depth]) => Command::AddBin {
+            id: *id,
+            width: *width,
+            height: *height,
+            depth: *depth,
+        },
         Order::Pack(boxes, pairs) => Command::Pack(rects(alloc, boxes, pairs)?),
         Order::Release(number) => Command::Release(*number),
     })
@@ -434,7 +387,7 @@ fn command<'a>(alloc: &'a Refusing<Global>, order: &Order) -> Made<TextCommand<'
 pub fn commands<'a>(
     alloc: &'a Refusing<Global>,
     steps: &[Step],
-) -> Made<Vec<TextCommand<'a>, &'a Refusing<Global>>> {
+) -> Made<Vec<TestCommand<'a>, &'a Refusing<Global>>> {
     let mut commands = Vec::new(alloc);
     for step in steps {
         commands.push(command(alloc, &step.order)?)?;
@@ -449,32 +402,23 @@ fn reply(answer: Result<(), SessionError>) -> Reply {
     }
 }
 
-fn add_bin<'a>(
-    session: &mut TextSession<'a>,
-    id: &Text<'a>,
-    size: [u32; 3],
-) -> Result<(), SessionError> {
-    let [width, height, depth] = size;
-    session.add_bin(id.clone()?, width, height, depth)
-}
-
 /// What `pack` answers, by volumes and smallest boxes.
-pub fn pack<'a>(session: &mut TextSession<'a>, rects: &TextRects<'a>) -> Reply {
+pub fn pack<'a>(session: &mut TestSession<'a>, rects: &Rects<&'a Refusing<Global>>) -> Reply {
     match session.pack(rects, &volume_heuristic, &contains_smallest_box) {
         Ok(packed) => Reply::Packed(packed),
         Err(error) => Reply::Refused(error),
     }
 }
 
-/// What the call of a command answers. A bin is added under a clone of its id.
-pub fn call<'a>(session: &mut TextSession<'a>, command: &TextCommand<'a>) -> Reply {
+/// What the call of a command answers.
+pub fn call<'a>(session: &mut TestSession<'a>, command: &TestCommand<'a>) -> Reply {
     match command {
         Command::AddBin {
             id,
             width,
             height,
             depth,
-        } => reply(add_bin(session, id, [*width, *height, *depth])),
+        } => reply(session.add_bin(*id, *width, *height, *depth)),
         Command::Pack(rects) => pack(session, rects),
         Command::Release(number) => reply(session.release(*number)),
     }
@@ -482,8 +426,8 @@ pub fn call<'a>(session: &mut TextSession<'a>, command: &TextCommand<'a>) -> Rep
 
 /// What `run` answers, by volumes and smallest boxes.
 pub fn run<'a>(
-    session: &mut TextSession<'a>,
-    commands: &[TextCommand<'a>],
+    session: &mut TestSession<'a>,
+    commands: &[TestCommand<'a>],
 ) -> Made<Vec<Reply, &'a Refusing<Global>>> {
     session.run(commands, &volume_heuristic, &contains_smallest_box)
 }
@@ -497,26 +441,28 @@ pub fn are_wanted(replies: &[Reply], steps: &[Step]) -> bool {
             .all(|(reply, step)| *reply == step.reply)
 }
 
-fn has_bins(session: &TextSession<'_>, wanted: &[(&'static str, &'static [[u32; 6]])]) -> bool {
+fn has_bins(session: &TestSession<'_>, wanted: &[(&'static str, &'static [[u32; 6]])]) -> bool {
+    for ((id, bin), (name, list)) in session.bins().iter().zip(wanted.iter()) {
+        if id != name || !has_list(bin, list) {
+            return false;
+        }
+    }
     session.bins().len() == wanted.len()
-        && session.bins().iter().zip(wanted.iter()).all(|((id, bin), (name, list))| id.as_str()
-            == *name
-            && has_list(bin, list))
 }
 
 fn is_placed(
-    placement: &Outstanding<Text<'_>, Text<'_>>,
+    placement: &Outstanding<&'static str, &'static str>,
     wanted: &(u64, &'static str, &'static str, [u32; 6]),
 ) -> bool {
     let (number, id, bin, numbers) = wanted;
     placement.number == *number
-        && placement.id.as_str() == *id
-        && placement.bin.as_str() == *bin
+        && placement.id == *id
+        && placement.bin == *bin
         && place(&placement.location) == *numbers
 }
 
 /// Whether the session stands so.
-pub fn stands(session: &TextSession<'_>, wanted: &Standing) -> bool {
+pub fn stands(session: &TestSession<'_>, wanted: &Standing) -> bool {
     let (outstanding, placed) = (session.outstanding(), wanted.placed);
     session.next_number() == wanted.next
         && has_bins(session, wanted.bins)
@@ -543,7 +489,7 @@ fn is_refused(reply: Reply) -> bool {
 // Makes the call of one step.
 fn call_one<'a>(
     alloc: &'a Refusing<Global>,
-    session: &mut TextSession<'a>,
+    session: &mut TestSession<'a>,
     before: &Standing,
     index: usize,
     step: &Step,
@@ -568,7 +514,7 @@ fn call_one<'a>(
 
 /// Makes the call of each step, until one does not come out.
 pub fn call_each(alloc: &Refusing<Global>, first: u64, steps: &[Step]) -> Came {
-    let mut session = TextSession::new(alloc, first);
+    let mut session = TestSession::new(alloc, first);
     let mut before = empty(first);
     for (index, step) in steps.iter().enumerate() {
         let came = call_one(alloc, &mut session, &before, index, step);
@@ -582,15 +528,11 @@ pub fn call_each(alloc: &Refusing<Global>, first: u64, steps: &[Step]) -> Came {
 
 // Whether all steps come out by one run.
 fn run_all(alloc: &Refusing<Global>, first: u64, steps: &[Step]) -> Made<bool> {
-    let mut session = TextSession::new(alloc, first);
+    let after = steps.last().map_or(empty(first), |last| last.after);
+    let mut session = TestSession::new(alloc, first);
     let commands = commands(alloc, steps)?;
     let replies = run(&mut session, commands.as_slice())?;
-    Ok(
-        are_wanted(replies.as_slice(), steps)
-            && steps
-                .last()
-                .is_some_and(|last| stands(&session, &last.after)),
-    )
+    Ok(are_wanted(replies.as_slice(), steps) && stands(&session, &after))
 }
 
 // Each step comes out by its call, and all of them by one run.

@@ -1,9 +1,8 @@
 //! Calls that take no memory, while every request is refused.
 
 use crate::refusing::Refusing;
-use crate::tests::session::{
-    SizedBox, Standing, Text, TextRects, TextSession, pack, rects, stands,
-};
+use crate::tests::cases::Rects;
+use crate::tests::session::{SizedBox, Standing, TestSession, pack, rects, stands};
 use crate::tests::shapes::{has_list, section};
 use rectangle_pack::{
     FitTests, Group, GroupedRectsToPlace, Packed, RectToInsert, Reply, SessionError, TargetBin,
@@ -131,28 +130,30 @@ const WITH_EMPTY: Standing = Standing {
     next: 1,
 };
 
-// A session with a bin and, in it, a box without cells; that box, and the name of the bin.
-fn with_empty(alloc: &Refusing<Global>) -> Option<(TextSession<'_>, TextRects<'_>, Text<'_>)> {
-    let mut session = TextSession::new(alloc, 0);
-    let name = String::from_str(alloc, "bin").ok()?;
-    session.add_bin(name.clone().ok()?, 10, 10, 1).ok()?;
+// A session with a bin and, in it, a box without cells; and that box.
+fn with_empty(alloc: &Refusing<Global>) -> Option<(TestSession<'_>, Rects<&Refusing<Global>>)> {
+    let mut session = TestSession::new(alloc, 0);
+    session.add_bin("bin", 10, 10, 1).ok()?;
     let rects = rects(alloc, EMPTY, &[]).ok()?;
     match pack(&mut session, &rects) {
-        Reply::Packed(_) => Some((session, rects, name)),
+        Reply::Packed(_) => Some((session, rects)),
         _ => None,
     }
 }
 
-fn pack_nothing<'a>(alloc: &'a Refusing<Global>, session: &mut TextSession<'a>) -> Reply {
-    pack(session, &TextRects::new(alloc))
+fn pack_nothing<'a>(alloc: &'a Refusing<Global>, session: &mut TestSession<'a>) -> Reply {
+    pack(session, &Rects::new(alloc))
 }
 
-fn pack_past_the_end<'a>(alloc: &'a Refusing<Global>, rects: &TextRects<'a>) -> Reply {
-    let mut session = TextSession::new(alloc, u64::MAX);
+fn pack_past_the_end<'a>(
+    alloc: &'a Refusing<Global>,
+    rects: &Rects<&'a Refusing<Global>>,
+) -> Reply {
+    let mut session = TestSession::new(alloc, u64::MAX);
     pack(&mut session, rects)
 }
 
-fn release_empty(rt: &impl Abort, session: &mut TextSession<'_>) {
+fn release_empty(rt: &impl Abort, session: &mut TestSession<'_>) {
     assert!(rt; stands(session, &WITH_EMPTY));
     assert!(rt; session.release(1) == Err(SessionError::UnknownPlacement));
     assert!(rt; session.release(0) == Ok(()));
@@ -168,9 +169,9 @@ fn release_empty(rt: &impl Abort, session: &mut TextSession<'_>) {
 fn calls_of_a_session(rt: HostRuntime) -> Result<(), Fail> {
     for granted in 0..100u64 {
         let refusing = Refusing::new(rt.alloc(), granted);
-        if let Some((mut session, rects, name)) = with_empty(&refusing) {
+        if let Some((mut session, rects)) = with_empty(&refusing) {
             assert_eq!(rt; refusing.left(), 0);
-            assert!(rt; session.add_bin(name, 1, 1, 1) == Err(SessionError::DuplicateBin));
+            assert!(rt; session.add_bin("bin", 1, 1, 1) == Err(SessionError::DuplicateBin));
             let used_up = Reply::Refused(SessionError::NumbersUsedUp);
             assert!(rt; pack_past_the_end(&refusing, &rects) == used_up);
             let nothing = Reply::Packed(Packed { first: 1, count: 0 });

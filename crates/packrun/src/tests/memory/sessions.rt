@@ -3,7 +3,7 @@
 use super::{End, refuses_each};
 use crate::refusing::Refusing;
 use crate::tests::session::{
-    Came, SizedBox, TWO_RELEASES, TextCommand, TextSession, are_wanted, call, call_each, commands,
+    Came, SizedBox, TWO_RELEASES, TestCommand, TestSession, are_wanted, call, call_each, commands,
     empty, pack, rects, run, stands,
 };
 use crate::tests::shapes::numbers;
@@ -32,7 +32,7 @@ fn bins_and_packings(rt: HostRuntime) -> Result<(), Fail> {
     Ok(())
 }
 
-fn are_alike(one: &TextSession<'_>, other: &TextSession<'_>) -> bool {
+fn are_alike(one: &TestSession<'_>, other: &TestSession<'_>) -> bool {
     one.next_number() == other.next_number()
         && one.outstanding() == other.outstanding()
         && one.bins().len() == other.bins().len()
@@ -43,8 +43,8 @@ fn are_alike(one: &TextSession<'_>, other: &TextSession<'_>) -> bool {
 
 fn are_called<'a>(
     replies: &[Reply],
-    session: &mut TextSession<'a>,
-    commands: &[TextCommand<'a>],
+    session: &mut TestSession<'a>,
+    commands: &[TestCommand<'a>],
 ) -> bool {
     for (reply, command) in replies.iter().zip(commands.iter()) {
         if *reply != call(session, command) {
@@ -58,10 +58,10 @@ fn are_called<'a>(
 fn is_as_called(
     alloc: &Refusing<Global>,
     replies: &[Reply],
-    session: &TextSession<'_>,
+    session: &TestSession<'_>,
 ) -> Result<bool, AllocError> {
     let commands = commands(alloc, TWO_RELEASES)?;
-    let mut other = TextSession::new(alloc, 0);
+    let mut other = TestSession::new(alloc, 0);
     Ok(are_called(replies, &mut other, commands.as_slice()) && are_alike(session, &other))
 }
 
@@ -77,7 +77,7 @@ fn run_beside_calls(
         return Ok(End::Before);
     };
     let has_room = refusing.left() > 0;
-    let mut session = TextSession::new(refusing, 0);
+    let mut session = TestSession::new(refusing, 0);
     let Ok(replies) = run(&mut session, commands.as_slice()) else {
         assert!(rt; !has_room && stands(&session, &empty(0)));
         return Ok(End::Refused);
@@ -115,10 +115,9 @@ const NINE: &[SizedBox] = &[
 ];
 
 // A bin of nine cells in a row, full of boxes that are numbered from its start on.
-fn strip(alloc: &Refusing<Global>) -> Option<TextSession<'_>> {
-    let mut session = TextSession::new(alloc, 0);
-    let name = String::from_str(alloc, "strip").ok()?;
-    session.add_bin(name, 9, 1, 1).ok()?;
+fn strip(alloc: &Refusing<Global>) -> Option<TestSession<'_>> {
+    let mut session = TestSession::new(alloc, 0);
+    session.add_bin("strip", 9, 1, 1).ok()?;
     let rects = rects(alloc, NINE, &[]).ok()?;
     match pack(&mut session, &rects) {
         Reply::Packed(_) => Some(session),
@@ -134,7 +133,7 @@ fn are_row(sections: &[BinSection], count: u32) -> bool {
 }
 
 // Whether so many boxes of the strip were given back from its start on, and the others stand.
-fn are_released(session: &TextSession<'_>, count: u32) -> bool {
+fn are_released(session: &TestSession<'_>, count: u32) -> bool {
     session.next_number() == 9
         && session
             .outstanding()
