@@ -18,6 +18,9 @@ pub type TestSession<'a> = Session<&'static str, &'static str, &'a Refusing<Glob
 /// A command for it.
 pub type TestCommand<'a> = Command<&'static str, &'static str, &'static str, &'a Refusing<Global>>;
 
+/// An outstanding placement of it.
+pub type Placed = Outstanding<&'static str, &'static str>;
+
 /// A box by name, size and groups; without groups it is pushed alone.
 pub type SizedBox = (&'static str, [u32; 3], &'static [&'static str]);
 
@@ -450,10 +453,7 @@ fn has_bins(session: &TestSession<'_>, wanted: &[(&'static str, &'static [[u32; 
     session.bins().len() == wanted.len()
 }
 
-fn is_placed(
-    placement: &Outstanding<&'static str, &'static str>,
-    wanted: &(u64, &'static str, &'static str, [u32; 6]),
-) -> bool {
+fn is_placed(placement: &Placed, wanted: &(u64, &'static str, &'static str, [u32; 6])) -> bool {
     let (number, id, bin, numbers) = wanted;
     placement.number == *number
         && placement.id == *id

@@ -131,10 +131,12 @@ const WITH_EMPTY: Standing = Standing {
 };
 
 // A session with a bin and, in it, a box without cells; and that box.
-fn with_empty(alloc: &Refusing<Global>) -> Option<(TestSession<'_>, Rects<&Refusing<Global>>)> {
-    let mut session = TestSession::new(alloc, 0);
+fn with_empty<'a>(
+    alloc: &'a Refusing<Global>,
+) -> Option<(TestSession<'a>, Rects<&'a Refusing<Global>>)> {
+    let rects: Rects<&'a Refusing<Global>> = rects(alloc, EMPTY, &[]).ok()?;
+    let mut session: TestSession<'a> = TestSession::new(alloc, 0);
     session.add_bin("bin", 10, 10, 1).ok()?;
-    let rects = rects(alloc, EMPTY, &[]).ok()?;
     match pack(&mut session, &rects) {
         Reply::Packed(_) => Some((session, rects)),
         _ => None,
@@ -142,14 +144,15 @@ fn with_empty(alloc: &Refusing<Global>) -> Option<(TestSession<'_>, Rects<&Refus
 }
 
 fn pack_nothing<'a>(alloc: &'a Refusing<Global>, session: &mut TestSession<'a>) -> Reply {
-    pack(session, &Rects::new(alloc))
+    let nothing: Rects<&'a Refusing<Global>> = Rects::new(alloc);
+    pack(session, &nothing)
 }
 
 fn pack_past_the_end<'a>(
     alloc: &'a Refusing<Global>,
     rects: &Rects<&'a Refusing<Global>>,
 ) -> Reply {
-    let mut session = TestSession::new(alloc, u64::MAX);
+    let mut session: TestSession<'a> = TestSession::new(alloc, u64::MAX);
     pack(&mut session, rects)
 }
 

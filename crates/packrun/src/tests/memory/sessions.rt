@@ -2,9 +2,10 @@
 
 use super::{End, refuses_each};
 use crate::refusing::Refusing;
+use crate::tests::cases::Rects;
 use crate::tests::session::{
-    Came, SizedBox, TWO_RELEASES, TestCommand, TestSession, are_wanted, call, call_each, commands,
-    empty, pack, rects, run, stands,
+    Came, Placed, SizedBox, TWO_RELEASES, TestCommand, TestSession, are_wanted, call, call_each,
+    commands, empty, pack, rects, run, stands,
 };
 use crate::tests::shapes::numbers;
 use rectangle_pack::{BinSection, Reply, SessionError};
@@ -32,15 +33,31 @@ fn bins_and_packings(rt: HostRuntime) -> Result<(), Fail> {
     Ok(())
 }
 
-fn are_alike(one: &TestSession<'_>, other: &TestSession<'_>) -> bool {
+// Whether the sessions stand alike.
+fn are_alike<'a>(one: &TestSession<'a>, other: &TestSession<'a>) -> bool {
+    for (placed, twin) in one.outstanding().iter().zip(other.outstanding().iter()) {
+        if !is_same(placed, twin) {
+            return false;
+        }
+    }
+    for (bin, twin) in one.bins().values().zip(other.bins().values()) {
+        if bin.available_bin_sections() != twin.available_bin_sections() {
+            return false;
+        }
+    }
     one.next_number() == other.next_number()
-        && one.outstanding() == other.outstanding()
+        && one.outstanding().len() == other.outstanding().len()
         && one.bins().len() == other.bins().len()
-        && one.bins().iter().zip(other.bins().iter()).all(|((id, bin), (other_id, other_bin))| {
-            id == other_id && bin.available_bin_sections() == other_bin.available_bin_sections()
-        })
 }
 
+fn is_same(one: &Placed, other: &Placed) -> bool {
+    one.number == other.number
+        && one.id == other.id
+        && one.bin == other.bin
+        && one.location == other.location
+}
+
+// Whether calls answer these replies.
 fn are_called<'a>(
     replies: &[Reply],
     session: &mut TestSession<'a>,
@@ -55,14 +72,15 @@ fn are_called<'a>(
 }
 
 // Whether calls answer these replies and leave a session that stands like this one.
-fn is_as_called(
-    alloc: &Refusing<Global>,
+fn is_as_called<'a>(
+    alloc: &'a Refusing<Global>,
     replies: &[Reply],
-    session: &TestSession<'_>,
+    session: &TestSession<'a>,
 ) -> Result<bool, AllocError> {
+    let mut twin: TestSession<'a> = TestSession::new(alloc, 0);
     let commands = commands(alloc, TWO_RELEASES)?;
-    let mut other = TestSession::new(alloc, 0);
-    Ok(are_called(replies, &mut other, commands.as_slice()) && are_alike(session, &other))
+    let are_called = are_called(replies, &mut twin, commands.as_slice());
+    Ok(are_called && are_alike(session, &twin))
 }
 
 // Where there is no room for the replies, nothing is done. Else each reply is what its call answers with the memory
@@ -115,10 +133,10 @@ const NINE: &[SizedBox] = &[
 ];
 
 // A bin of nine cells in a row, full of boxes that are numbered from its start on.
-fn strip(alloc: &Refusing<Global>) -> Option<TestSession<'_>> {
-    let mut session = TestSession::new(alloc, 0);
+fn strip<'a>(alloc: &'a Refusing<Global>) -> Option<TestSession<'a>> {
+    let rects: Rects<&'a Refusing<Global>> = rects(alloc, NINE, &[]).ok()?;
+    let mut session: TestSession<'a> = TestSession::new(alloc, 0);
     session.add_bin("strip", 9, 1, 1).ok()?;
-    let rects = rects(alloc, NINE, &[]).ok()?;
     match pack(&mut session, &rects) {
         Reply::Packed(_) => Some(session),
         _ => None,
