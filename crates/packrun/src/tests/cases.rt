@@ -151,6 +151,22 @@ pub fn shows<A: Allocator + Copy>(
     Ok(())
 }
 
+/// The answer and the bins afterwards are those of the case.
+pub fn comes_out<A: Allocator + Copy>(
+    rt: &impl Abort,
+    answer: Result<Packed<A>, RectanglePackError>,
+    bins: &Bins<A>,
+    case: &Case,
+) -> Result<(), Fail> {
+    match (answer, case.placements) {
+        (Ok(packed), Some(wanted)) => shows(rt, &packed, wanted)?,
+        (Err(error), None) => assert_eq!(rt; error, RectanglePackError::NotEnoughBinSpace),
+        (answer, _) => assert!(rt; false, "{answer:?}"),
+    }
+    assert!(rt; have_lists(bins, case), "{bins:?}");
+    Ok(())
+}
+
 /// Packs the case by `contains_smallest_box` and compares.
 pub fn packs<H>(rt: &impl Abort, alloc: Global, case: &Case, heuristic: &H) -> Result<(), Fail>
 where
@@ -160,13 +176,7 @@ where
     let rects = rects_of(alloc, case)?;
     let mut bins = bins_of(alloc, case)?;
     let answer = pack_rects(alloc, &rects, &mut bins, heuristic, &contains_smallest_box);
-    match (answer, case.placements) {
-        (Ok(packed), Some(wanted)) => shows(rt, &packed, wanted)?,
-        (Err(error), None) => assert_eq!(rt; error, RectanglePackError::NotEnoughBinSpace),
-        (answer, _) => assert!(rt; false, "{answer:?}"),
-    }
-    assert!(rt; have_lists(&bins, case), "{bins:?}");
-    Ok(())
+    comes_out(rt, answer, &bins, case)
 }
 
 /// The same, by volume, for each case.

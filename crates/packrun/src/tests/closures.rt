@@ -1,11 +1,11 @@
 //! Heuristics and comparisons of users, and packings of equal text that lies elsewhere.
 ghost use Rattle.rectangle_pack.specs.Closures.{CanRate, AreCallable};
 
-use super::cases::{Bins, Case, Packed, TWO_IN_A_GROUP, bins_of, have_lists, rects_of, shows};
+use super::cases::{Case, TWO_IN_A_GROUP, bins_of, comes_out, rects_of};
 use super::shapes::place;
 use rectangle_pack::{
-    GroupedRectsToPlace, RectToInsert, TargetBin, WidthHeightDepth, contains_smallest_box,
-    pack_rects, volume_heuristic, volume_packing_has_one_result,
+    GroupedRectsToPlace, RectToInsert, RectanglePackOk, TargetBin, WidthHeightDepth,
+    contains_smallest_box, pack_rects, volume_heuristic, volume_packing_has_one_result,
 };
 use std::alloc::{AllocError, Global};
 use std::cmp::Ordering;
@@ -16,6 +16,8 @@ use std::test::Fail;
 type TextRects = GroupedRectsToPlace<String, String>;
 
 type TextBins = BTreeMap<String, TargetBin>;
+
+type TextPacked = RectanglePackOk<String, String>;
 
 // By the longest side the long box goes first; by volume the square would.
 const LONG_BEFORE_SQUARE: Case = Case {
@@ -79,18 +81,6 @@ fn always_greater<H>(
     Ordering::Greater
 }
 
-// The packing and the bins are those of the case.
-fn comes_out(
-    rt: &impl Abort,
-    packed: &Packed<Global>,
-    bins: &Bins<Global>,
-    case: &Case,
-) -> Result<(), Fail> {
-    shows(rt, packed, case.placements.ok_or("nothing to show")?)?;
-    assert!(rt; have_lists(bins, case), "{bins:?}");
-    Ok(())
-}
-
 // Hands both closures on.
 fn pack_with<H, C>(
     rt: &impl Abort,
@@ -106,8 +96,8 @@ where
 {
     let rects = rects_of(alloc, case)?;
     let mut bins = bins_of(alloc, case)?;
-    let packed = pack_rects(alloc, &rects, &mut bins, heuristic, comparison)?;
-    comes_out(rt, &packed, &bins, case)
+    let answer = pack_rects(alloc, &rects, &mut bins, heuristic, comparison);
+    comes_out(rt, answer, &bins, case)
 }
 
 #[test]
@@ -115,14 +105,14 @@ fn heuristic_written_by_hand(rt: HostRuntime) -> Result<(), Fail> {
     let alloc = rt.alloc();
     let rects = rects_of(alloc, &LONG_BEFORE_SQUARE)?;
     let mut bins = bins_of(alloc, &LONG_BEFORE_SQUARE)?;
-    let packed = pack_rects(
+    let answer = pack_rects(
         alloc,
         &rects,
         &mut bins,
         &longest_side,
         &contains_smallest_box,
-    )?;
-    comes_out(&rt, &packed, &bins, &LONG_BEFORE_SQUARE)
+    );
+    comes_out(&rt, answer, &bins, &LONG_BEFORE_SQUARE)
 }
 
 #[test]
@@ -132,8 +122,8 @@ fn heuristic_that_captures(rt: HostRuntime) -> Result<(), Fail> {
     let heuristic = |size: WidthHeightDepth| size.volume().min(most);
     let rects = rects_of(alloc, &EQUAL_ABOVE_20)?;
     let mut bins = bins_of(alloc, &EQUAL_ABOVE_20)?;
-    let packed = pack_rects(alloc, &rects, &mut bins, &heuristic, &contains_smallest_box)?;
-    comes_out(&rt, &packed, &bins, &EQUAL_ABOVE_20)
+    let answer = pack_rects(alloc, &rects, &mut bins, &heuristic, &contains_smallest_box);
+    comes_out(&rt, answer, &bins, &EQUAL_ABOVE_20)
 }
 
 #[test]
@@ -271,6 +261,40 @@ fn bins_are_alike(rt: &impl Abort, bins: &TextBins, others: &TextBins) {
     }
 }
 
+// The boxes and bins of a case, under strings with so much room, packed by volume.
+fn pack_text(alloc: Global, case: &Case, room: usize) -> Result<(TextPacked, TextBins), Fail> {
+    let rects = text_rects(alloc, case, room)?;
+    let mut bins = text_bins(alloc, case, room)?;
+    let packed = pack_rects(
+        alloc,
+        &rects,
+        &mut bins,
+        &volume_heuristic,
+        &contains_smallest_box,
+    )?;
+    Ok((packed, bins))
+}
+
+// The placements are these, in order.
+fn shows_text(
+    rt: &impl Abort,
+    packed: &TextPacked,
+    wanted: &[(&'static str, &'static str, [u32; 6])],
+) {
+    assert_eq!(rt; packed.placements().len(), wanted.len());
+    for (placed, (id, bin, numbers)) in packed.placements().iter().zip(wanted.iter()) {
+        assert_eq!(rt; (placed.id.as_str(), placed.bin.as_str()), (*id, *bin));
+        assert_eq!(rt; place(&placed.location), *numbers);
+    }
+}
+
+// Equal as a whole, and in both parts.
+fn are_alike(rt: &impl Abort, one: &TextPacked, other: &TextPacked) {
+    assert!(rt; one == other);
+    assert_eq!(rt; one.placements(), other.placements());
+    assert_eq!(rt; one.packed_locations(), other.packed_locations());
+}
+
 // Two collections, pushed alike from strings of their own, into bins under strings of their own.
 fn pack_text_twice(
     rt: &impl Abort,
@@ -278,30 +302,10 @@ fn pack_text_twice(
     case: &Case,
     wanted: &[(&'static str, &'static str, [u32; 6])],
 ) -> Result<(), Fail> {
-    let (rects, other_rects) = (text_rects(alloc, case, 0)?, text_rects(alloc, case, 64)?);
-    let (mut bins, mut other_bins) = (text_bins(alloc, case, 0)?, text_bins(alloc, case, 64)?);
-    let one = pack_rects(
-        alloc,
-        &rects,
-        &mut bins,
-        &volume_heuristic,
-        &contains_smallest_box,
-    )?;
-    let other = pack_rects(
-        alloc,
-        &other_rects,
-        &mut other_bins,
-        &volume_heuristic,
-        &contains_smallest_box,
-    )?;
-    assert_eq!(rt; one.placements().len(), wanted.len());
-    for (placed, (id, bin, numbers)) in one.placements().iter().zip(wanted.iter()) {
-        assert_eq!(rt; (placed.id.as_str(), placed.bin.as_str()), (*id, *bin));
-        assert_eq!(rt; place(&placed.location), *numbers);
-    }
-    assert!(rt; one == other);
-    assert_eq!(rt; one.placements(), other.placements());
-    assert_eq!(rt; one.packed_locations(), other.packed_locations());
+    let (one, bins) = pack_text(alloc, case, 0)?;
+    let (other, other_bins) = pack_text(alloc, case, 64)?;
+    shows_text(rt, &one, wanted);
+    are_alike(rt, &one, &other);
     bins_are_alike(rt, &bins, &other_bins);
     Ok(())
 }

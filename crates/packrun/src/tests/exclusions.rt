@@ -1,11 +1,10 @@
 //! Groups that are excluded, and the fit tests of whole packings.
 
-use super::cases::{Bins, Case, Rects, bins_of, have_lists, pack_by_volume, rects_of, shows};
+use super::cases::{Bins, Case, Rects, bins_of, comes_out, pack_by_volume, rects_of};
 use super::says;
 use crate::outcome::Outcome;
 use rectangle_pack::{
-    FitTests, Group, RectanglePackError, contains_smallest_box, pack_rects_counted,
-    volume_heuristic,
+    FitTests, Group, contains_smallest_box, pack_rects_counted, volume_heuristic,
 };
 use std::alloc::{AllocError, Allocator, Global};
 use std::process::Abort;
@@ -47,6 +46,22 @@ pub const A: Name = Group::Grouped("A");
 
 pub const B: Name = Group::Grouped("B");
 
+const C: Name = Group::Grouped("C");
+
+// The box of this id alone, which is no group of this name.
+const ALONE: Name = Group::Ungrouped("A");
+
+// Whether two groups are excluded, once A and B are, and the box A and C.
+const PAIRS: [(Name, Name, bool); 7] = [
+    (A, B, true),
+    (B, A, true),
+    (ALONE, C, true),
+    (C, ALONE, true),
+    (A, C, false),
+    (ALONE, B, false),
+    (A, A, false),
+];
+
 /// Excludes the groups of each pair, which differ.
 pub fn exclude_all<M: Allocator + Copy>(
     rects: &mut Rects<M>,
@@ -80,13 +95,7 @@ fn counts(
         &contains_smallest_box,
         tests,
     );
-    match (answer, case.placements) {
-        (Ok(packed), Some(wanted)) => shows(rt, &packed, wanted)?,
-        (Err(error), None) => assert_eq!(rt; error, RectanglePackError::NotEnoughBinSpace),
-        (answer, _) => assert!(rt; false, "{answer:?}"),
-    }
-    assert!(rt; have_lists(&bins, case), "{bins:?}");
-    Ok(())
+    comes_out(rt, answer, &bins, case)
 }
 
 // Without the pair both groups go into one bin.
@@ -162,7 +171,7 @@ fn packings_with_exclusions(rt: HostRuntime) -> Result<(), Fail> {
         lists: &[AFTER_TWO, AFTER_ONE],
         ..TWO_BINS
     };
-    let pairs = [(A, B), (B, Group::Grouped("C"))];
+    let pairs = [(A, B), (B, C)];
     counts(&rt, alloc, &chain, &pairs, &mut tests)?;
     let in_both = Case {
         boxes: &[("One", BOX, &["A", "B"])],
@@ -188,21 +197,9 @@ fn packings_with_exclusions(rt: HostRuntime) -> Result<(), Fail> {
 #[test]
 fn pairs(rt: HostRuntime) -> Result<(), Fail> {
     let mut rects = Rects::new(rt.alloc());
-    let (c, alone) = (Group::Grouped("C"), Group::Ungrouped("A"));
-    exclude_all(
-        &mut rects,
-        &[(A, B), (B, A), (A, B), (alone.clone()?, c.clone()?)],
-    )?;
-    for (one, other, excluded) in [
-        (A, B, true),
-        (B, A, true),
-        (alone.clone()?, c.clone()?, true),
-        (c.clone()?, alone.clone()?, true),
-        (A, c, false),
-        (alone, B, false),
-        (A, A, false),
-    ] {
-        assert_eq!(rt; rects.excluded(&one, &other), excluded, "{one:?} {other:?}");
+    exclude_all(&mut rects, &[(A, B), (B, A), (A, B), (ALONE, C)])?;
+    for (one, other, excluded) in &PAIRS {
+        assert_eq!(rt; rects.excluded(one, other), *excluded, "{one:?} {other:?}");
     }
     assert!(rt; rects.groups().is_empty());
     Ok(())

@@ -2,7 +2,7 @@
 
 use super::cases::{Case, EQUAL_KEYS, TWO_IN_A_GROUP, pack_by_volume, packs};
 use rectangle_pack::{Group, GroupedRectsToPlace, RectToInsert, WidthHeightDepth};
-use std::alloc::Global;
+use std::alloc::{AllocError, Global};
 use std::fmt::Debug;
 use std::process::Abort;
 use std::test::Fail;
@@ -117,23 +117,25 @@ fn numbers_as_ids(rt: HostRuntime) -> Result<(), Fail> {
     )
 }
 
-#[test]
-fn strings_as_ids(rt: HostRuntime) -> Result<(), Fail> {
-    let alloc = rt.alloc();
-    let mut all: GroupedRectsToPlace<String, String> = GroupedRectsToPlace::new(alloc);
+// Two boxes in one group, each name a string of its own.
+fn two_strings(alloc: Global) -> Result<GroupedRectsToPlace<String, String>, AllocError> {
+    let mut all = GroupedRectsToPlace::new(alloc);
     for id in ["One", "Two"] {
         let groups = vec![in alloc; String::from_str(alloc, "group")?]?;
         let id = String::from_str(alloc, id)?;
         all.push_rect(id, Some(groups), RectToInsert::new(10, 10, 1))?;
     }
-    let (one, two) = (
-        String::from_str(alloc, "One")?,
-        String::from_str(alloc, "Two")?,
-    );
+    Ok(all)
+}
+
+#[test]
+fn strings_as_ids(rt: HostRuntime) -> Result<(), Fail> {
+    let alloc = rt.alloc();
+    let all = two_strings(alloc)?;
     let group = Group::Grouped(String::from_str(alloc, "group")?);
     let ids = all.groups().get(&group).ok_or("no such group")?;
     assert_eq!(rt; all.groups().len(), 1);
-    assert_eq!(rt; ids.as_slice(), [one, two].as_slice());
+    assert!(rt; ids.iter().map(|id| id.as_str()).eq(["One", "Two"]));
     assert_eq!(rt; all.rects().len(), 2);
     Ok(())
 }

@@ -2,6 +2,7 @@
 
 use super::shapes::{has_list, section};
 use rectangle_pack::{BinSection, PushBinSectionError, TargetBin};
+use std::alloc::Global;
 use std::process::Abort;
 use std::test::Fail;
 
@@ -121,29 +122,39 @@ fn clone_has_its_own_list(rt: HostRuntime) -> Result<(), Fail> {
     Ok(())
 }
 
+// The error's text is this.
+fn prints(
+    rt: &impl Abort,
+    alloc: Global,
+    error: &PushBinSectionError,
+    text: &str,
+) -> Result<(), Fail> {
+    assert_eq!(rt; format!(in alloc; "{error}")?.as_str(), text);
+    Ok(())
+}
+
 #[test]
 fn texts_of_errors(rt: HostRuntime) -> Result<(), Fail> {
     let alloc = rt.alloc();
     let a = section(0, 0, 0, 4, 4, 1);
     let b = section(3, 3, 0, 4, 4, 1);
-    for (error, text) in [
-        (
-            PushBinSectionError::OutOfBounds(a),
-            format!(in alloc; "BinSection({a:?})")?,
-        ),
-        (
-            PushBinSectionError::Overlaps {
-                remaining_section: a,
-                new_section: b,
-            },
-            format!(in alloc; "Overlaps {{ remaining_section: {a:?}, new_section: {b:?} }}")?,
-        ),
-        (
-            PushBinSectionError::OutOfMemory(a),
-            format!(in alloc; "Out of memory.")?,
-        ),
-    ] {
-        assert_eq!(rt; format!(in alloc; "{error}")?, text);
-    }
-    Ok(())
+    let text = format!(in alloc; "BinSection({a:?})")?;
+    prints(
+        &rt,
+        alloc,
+        &PushBinSectionError::OutOfBounds(a),
+        text.as_str(),
+    )?;
+    let overlaps = PushBinSectionError::Overlaps {
+        remaining_section: a,
+        new_section: b,
+    };
+    let text = format!(in alloc; "Overlaps {{ remaining_section: {a:?}, new_section: {b:?} }}")?;
+    prints(&rt, alloc, &overlaps, text.as_str())?;
+    prints(
+        &rt,
+        alloc,
+        &PushBinSectionError::OutOfMemory(a),
+        "Out of memory.",
+    )
 }

@@ -15,41 +15,69 @@ use std::test::Fail;
 
 type Bins<A> = BTreeMap<u32, TargetBin<A>, A>;
 
+type Rects<A> = GroupedRectsToPlace<u32, u32, A>;
+
 fn one_bin<A: Allocator + Copy>(alloc: A) -> Result<Bins<A>, AllocError> {
     let mut bins = BTreeMap::new(alloc);
     bins.insert(7, TargetBin::new(alloc, 4, 4, 1)?)?;
     Ok(bins)
 }
 
-#[test]
-fn collections_and_packings_of_nothing(rt: HostRuntime) -> Result<(), Fail> {
-    let refusing = Refusing::new(rt.alloc(), 0);
-    let rects: GroupedRectsToPlace<u32, u32, &Refusing<Global>> = GroupedRectsToPlace::new(
-        &refusing,
-    );
-    let mut bins: Bins<&Refusing<Global>> = BTreeMap::new(&refusing);
+// A packing of nothing into these bins is done.
+fn packs_nothing<A: Allocator + Copy>(
+    rt: &impl Abort,
+    alloc: A,
+    bins: &mut Bins<A>,
+) -> Result<(), Fail> {
+    let rects: Rects<A> = GroupedRectsToPlace::new(alloc);
     let packed = pack_rects(
-        &refusing,
+        alloc,
         &rects,
-        &mut bins,
+        bins,
         &volume_heuristic,
         &contains_smallest_box,
     )?;
     assert!(rt; packed.placements().is_empty());
     assert!(rt; packed.packed_locations().is_empty());
+    Ok(())
+}
+
+// The same with a counter, which stays at 0.
+fn counts_nothing<A: Allocator + Copy>(
+    rt: &impl Abort,
+    alloc: A,
+    bins: &mut Bins<A>,
+) -> Result<(), Fail> {
+    let rects: Rects<A> = GroupedRectsToPlace::new(alloc);
     let mut tests = FitTests::new();
     let packed = pack_rects_counted(
-        &refusing,
+        alloc,
         &rects,
-        &mut bins,
+        bins,
         &volume_heuristic,
         &contains_smallest_box,
         &mut tests,
     )?;
     assert!(rt; packed.placements().is_empty());
     assert_eq!(rt; tests.count(), 0);
-    assert!(rt; !rects.excluded(&Group::Grouped(0), &Group::Ungrouped(0)));
     Ok(())
+}
+
+#[test]
+fn collections_and_packings_of_nothing(rt: HostRuntime) -> Result<(), Fail> {
+    let refusing = Refusing::new(rt.alloc(), 0);
+    let rects: Rects<&Refusing<Global>> = GroupedRectsToPlace::new(&refusing);
+    assert!(rt; !rects.excluded(&Group::Grouped(0), &Group::Ungrouped(0)));
+    let mut bins: Bins<&Refusing<Global>> = BTreeMap::new(&refusing);
+    packs_nothing(&rt, &refusing, &mut bins)?;
+    counts_nothing(&rt, &refusing, &mut bins)
+}
+
+// Whether the groups 0 and 1 are excluded, either way round, and the group 0 and the box 1 are not.
+fn has_the_pair<A: Allocator + Copy>(rects: &Rects<A>) -> bool {
+    rects.excluded(&Group::Grouped(0), &Group::Grouped(1))
+        && rects.excluded(&Group::Grouped(1), &Group::Grouped(0))
+        && !rects.excluded(&Group::Grouped(0), &Group::Ungrouped(1))
 }
 
 // The first allocator that grants enough for the pair refuses all that comes after it.
@@ -57,14 +85,10 @@ fn collections_and_packings_of_nothing(rt: HostRuntime) -> Result<(), Fail> {
 fn pairs_that_are_there(rt: HostRuntime) -> Result<(), Fail> {
     for granted in 0..20u64 {
         let refusing = Refusing::new(rt.alloc(), granted);
-        let mut rects: GroupedRectsToPlace<u32, u32, &Refusing<Global>> = GroupedRectsToPlace::new(
-            &refusing,
-        );
+        let mut rects: Rects<&Refusing<Global>> = GroupedRectsToPlace::new(&refusing);
         if rects.exclude(Group::Grouped(0), Group::Grouped(1)).is_ok() {
             assert_eq!(rt; refusing.left(), 0);
-            assert!(rt; rects.excluded(&Group::Grouped(0), &Group::Grouped(1)));
-            assert!(rt; rects.excluded(&Group::Grouped(1), &Group::Grouped(0)));
-            assert!(rt; !rects.excluded(&Group::Grouped(0), &Group::Ungrouped(1)));
+            assert!(rt; has_the_pair(&rects));
             rects.exclude(Group::Grouped(1), Group::Grouped(0))?;
             rects.exclude(Group::Grouped(0), Group::Grouped(1))?;
             return Ok(());
@@ -81,18 +105,7 @@ fn packing_of_nothing_into_a_bin(rt: HostRuntime) -> Result<(), Fail> {
         let refusing = Refusing::new(rt.alloc(), granted);
         if let Ok(mut bins) = one_bin(&refusing) {
             assert_eq!(rt; refusing.left(), 0);
-            let rects: GroupedRectsToPlace<u32, u32, &Refusing<Global>> = GroupedRectsToPlace::new(
-                &refusing,
-            );
-            let packed = pack_rects(
-                &refusing,
-                &rects,
-                &mut bins,
-                &volume_heuristic,
-                &contains_smallest_box,
-            )?;
-            assert!(rt; packed.placements().is_empty());
-            return Ok(());
+            return packs_nothing(&rt, &refusing, &mut bins);
         }
     }
     assert!(rt; false);
@@ -108,18 +121,24 @@ fn calls_of_a_bin(rt: HostRuntime) -> Result<(), Fail> {
     let answer = bin.place_all(&[], &volume_heuristic, &contains_smallest_box, &mut tests)?;
     assert!(rt; answer.is_some_and(|locations| locations.is_empty()));
     let whole = section(0, 0, 0, 4, 4, 1);
-    assert!(rt; whole.overlaps(&whole));
     assert!(rt; !bin.accepts(&whole));
+    bin.remove_filled_section(0);
+    assert!(rt; bin.accepts(&whole));
+    assert!(rt; has_list(&bin, &[]));
+    Ok(())
+}
+
+// These are passed no allocator at all.
+#[test]
+fn calls_of_a_section(rt: HostRuntime) {
+    let whole = section(0, 0, 0, 4, 4, 1);
+    assert!(rt; whole.overlaps(&whole));
     let rect = RectToInsert::new(2, 2, 1);
     assert!(rt;
         whole
             .try_place(&rect, &contains_smallest_box, &volume_heuristic)
             .is_ok()
     );
-    bin.remove_filled_section(0);
-    assert!(rt; bin.accepts(&whole));
-    assert!(rt; has_list(&bin, &[]));
-    Ok(())
 }
 
 const EMPTY: &[SizedBox] = &[("empty", [0, 5, 1], &[])];

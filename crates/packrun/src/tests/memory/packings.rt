@@ -2,16 +2,31 @@
 
 use super::{End, refuses_each};
 use crate::tests::cases::{
-    Case, EQUAL_KEYS, FULL_BIN, TWO_IN_A_GROUP, are_new, bins_of, have_lists, rects_of, shows,
+    Bins, Case, EQUAL_KEYS, FULL_BIN, Packed, TWO_IN_A_GROUP, are_new, bins_of, comes_out, rects_of,
 };
 use crate::tests::exclusions::{A, B, ONE_BIN, TWO_BINS, exclude_all};
 use rectangle_pack::{
     FitTests, RectanglePackError, WidthHeightDepth, contains_smallest_box, pack_rects,
     pack_rects_counted, volume_heuristic,
 };
-use std::alloc::Global;
+use std::alloc::{Allocator, Global};
 use std::process::Abort;
 use std::test::Fail;
+
+// Where a request was refused the bins are as they were new, and else the case came out.
+fn ends<A: Allocator + Copy>(
+    rt: &impl Abort,
+    answer: Result<Packed<A>, RectanglePackError>,
+    bins: &Bins<A>,
+    case: &Case,
+) -> Result<End, Fail> {
+    if let Err(RectanglePackError::OutOfMemory) = &answer {
+        assert!(rt; are_new(bins), "{bins:?}");
+        return Ok(End::Refused);
+    }
+    comes_out(rt, answer, bins, case)?;
+    Ok(End::Done)
+}
 
 // Whichever request is refused, the bins stay as they were; at the end the case comes out.
 fn packs_or_stays<H>(rt: &impl Abort, alloc: Global, case: &Case, heuristic: &H) -> Result<(), Fail>
@@ -36,17 +51,7 @@ where
                 heuristic,
                 &contains_smallest_box,
             );
-            match (answer, case.placements) {
-                (Err(RectanglePackError::OutOfMemory), _) => {
-                    assert!(rt; are_new(&bins), "{bins:?}");
-                    return Ok(End::Refused);
-                }
-                (Ok(packed), Some(wanted)) => shows(rt, &packed, wanted)?,
-                (Err(RectanglePackError::NotEnoughBinSpace), None) => {}
-                (answer, _) => assert!(rt; false, "{answer:?}"),
-            }
-            assert!(rt; have_lists(&bins, case), "{bins:?}");
-            Ok(End::Done)
+            ends(rt, answer, &bins, case)
         },
     )
 }
@@ -84,19 +89,13 @@ fn counts_or_stays(
             &contains_smallest_box,
             &mut tests,
         );
-        match (answer, case.placements) {
-            (Err(RectanglePackError::OutOfMemory), _) => {
-                assert!(rt; are_new(&bins), "{bins:?}");
-                assert!(rt; tests.count() <= bound);
-                return Ok(End::Refused);
-            }
-            (Ok(packed), Some(wanted)) => shows(rt, &packed, wanted)?,
-            (Err(RectanglePackError::NotEnoughBinSpace), None) => {}
-            (answer, _) => assert!(rt; false, "{answer:?}"),
+        let end = ends(rt, answer, &bins, case)?;
+        if end == End::Refused {
+            assert!(rt; tests.count() <= bound);
+        } else {
+            assert_eq!(rt; tests.count(), count);
         }
-        assert!(rt; have_lists(&bins, case), "{bins:?}");
-        assert_eq!(rt; tests.count(), count);
-        Ok(End::Done)
+        Ok(end)
     })
 }
 
