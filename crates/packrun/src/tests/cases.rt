@@ -142,6 +142,15 @@ pub fn shows<A: Allocator + Copy>(
         assert_eq!(rt; place(&placement.location), *numbers);
         assert!(rt; packed.packed_locations().contains_key(id));
     }
+    finds_last(rt, packed, wanted)
+}
+
+// Each id that is found is found at the last of these placements of it.
+fn finds_last<A: Allocator + Copy>(
+    rt: &impl Abort,
+    packed: &Packed<A>,
+    wanted: &[(&'static str, &'static str, [u32; 6])],
+) -> Result<(), Fail> {
     for (id, (bin, location)) in packed.packed_locations() {
         let last = wanted.iter().rev().find(|(wanted, _, _)| wanted == id);
         let (_, wanted_bin, numbers) = last.ok_or("not placed")?;

@@ -51,6 +51,10 @@ const C: Name = Group::Grouped("C");
 // The box of this id alone, which is no group of this name.
 const ALONE: Name = Group::Ungrouped("A");
 
+const NONE: &[(Name, Name)] = &[];
+
+const A_AND_B: &[(Name, Name)] = &[(A, B)];
+
 // Whether two groups are excluded, once A and B are, and the box A and C.
 const PAIRS: [(Name, Name, bool); 7] = [
     (A, B, true),
@@ -109,89 +113,105 @@ fn groups_that_are_not_excluded(rt: HostRuntime) -> Result<(), Fail> {
     pack_by_volume(&rt, rt.alloc(), &[case])
 }
 
+// Three boxes in one bin.
+const THREE_BOXES: Case = Case {
+    bins: &[("bin", [100, 100, 1])],
+    boxes: &[
+        ("One", [60, 95, 1], &[]),
+        ("Two", [40, 10, 1], &[]),
+        ("Three", [1, 1, 1], &[]),
+    ],
+    placements: Some(&[
+        ("One", "bin", [0, 0, 0, 60, 95, 1]),
+        ("Two", "bin", [60, 0, 0, 40, 10, 1]),
+        ("Three", "bin", [60, 10, 0, 1, 1, 1]),
+    ]),
+    lists: &[&[
+        [0, 95, 0, 60, 5, 1],
+        [60, 11, 0, 40, 89, 1],
+        [61, 10, 0, 39, 1, 1],
+    ]],
+};
+
+// The first bin is full and has no section to test.
+const FULL_AND_EMPTY: Case = Case {
+    bins: &[("Three", [20, 20, 1]), ("Four", [50, 50, 1])],
+    boxes: &[("One", [15, 15, 1], &[]), ("Two", [20, 20, 1], &[])],
+    placements: Some(&[
+        ("Two", "Three", [0, 0, 0, 20, 20, 1]),
+        ("One", "Four", [0, 0, 0, 15, 15, 1]),
+    ]),
+    lists: &[&[], &[[0, 15, 0, 50, 35, 1], [15, 0, 0, 35, 15, 1]]],
+};
+
+const NOTHING: Case = Case {
+    bins: &[("P", BIN)],
+    boxes: &[],
+    placements: Some(&[]),
+    lists: &[&[[0, 0, 0, 10, 10, 1]]],
+};
+
 // Each packing adds its tests to those of the ones before; without groups none is added.
 #[test]
 fn counted_packings(rt: HostRuntime) -> Result<(), Fail> {
     let alloc = rt.alloc();
     let mut tests = FitTests::new();
-    let three_boxes = Case {
-        bins: &[("bin", [100, 100, 1])],
-        boxes: &[
-            ("One", [60, 95, 1], &[]),
-            ("Two", [40, 10, 1], &[]),
-            ("Three", [1, 1, 1], &[]),
-        ],
-        placements: Some(&[
-            ("One", "bin", [0, 0, 0, 60, 95, 1]),
-            ("Two", "bin", [60, 0, 0, 40, 10, 1]),
-            ("Three", "bin", [60, 10, 0, 1, 1, 1]),
-        ]),
-        lists: &[&[
-            [0, 95, 0, 60, 5, 1],
-            [60, 11, 0, 40, 89, 1],
-            [61, 10, 0, 39, 1, 1],
-        ]],
-    };
-    counts(&rt, alloc, &three_boxes, &[], &mut tests)?;
-    assert_eq!(rt; tests.count(), 4);
-    let full_and_empty = Case {
-        bins: &[("Three", [20, 20, 1]), ("Four", [50, 50, 1])],
-        boxes: &[("One", [15, 15, 1], &[]), ("Two", [20, 20, 1], &[])],
-        placements: Some(&[
-            ("Two", "Three", [0, 0, 0, 20, 20, 1]),
-            ("One", "Four", [0, 0, 0, 15, 15, 1]),
-        ]),
-        lists: &[&[], &[[0, 15, 0, 50, 35, 1], [15, 0, 0, 35, 15, 1]]],
-    };
-    counts(&rt, alloc, &full_and_empty, &[], &mut tests)?;
-    assert_eq!(rt; tests.count(), 4 + 2);
-    counts(&rt, alloc, &TWO_BINS, &[(A, B)], &mut tests)?;
-    assert_eq!(rt; tests.count(), 4 + 2 + 2);
-    counts(&rt, alloc, &ONE_BIN, &[(A, B)], &mut tests)?;
-    assert_eq!(rt; tests.count(), 4 + 2 + 2 + 1);
-    let nothing = Case {
-        boxes: &[],
-        placements: Some(&[]),
-        lists: &[&[[0, 0, 0, 10, 10, 1]]],
-        ..ONE_BIN
-    };
-    counts(&rt, alloc, &nothing, &[(A, B)], &mut tests)?;
-    assert_eq!(rt; tests.count(), 4 + 2 + 2 + 1);
+    for (case, pairs, count) in [
+        (THREE_BOXES, NONE, 4),
+        (FULL_AND_EMPTY, NONE, 4 + 2),
+        (TWO_BINS, A_AND_B, 4 + 2 + 2),
+        (ONE_BIN, A_AND_B, 4 + 2 + 2 + 1),
+        (NOTHING, A_AND_B, 4 + 2 + 2 + 1),
+    ] {
+        counts(&rt, alloc, &case, pairs, &mut tests)?;
+        assert_eq!(rt; tests.count(), count);
+    }
     Ok(())
 }
+
+// The third group goes where the first did, with which it is not excluded.
+const CHAIN: Case = Case {
+    bins: &[("P", BIN), ("Q", BIN)],
+    boxes: &[("a", BOX, &["A"]), ("b", BOX, &["B"]), ("c", BOX, &["C"])],
+    placements: Some(&[("a", "P", FIRST), ("b", "Q", FIRST), ("c", "P", SECOND)]),
+    lists: &[AFTER_TWO, AFTER_ONE],
+};
+
+const IN_BOTH: Case = Case {
+    bins: &[("P", BIN), ("Q", BIN)],
+    boxes: &[("One", BOX, &["A", "B"])],
+    placements: Some(&[("One", "P", FIRST), ("One", "Q", FIRST)]),
+    lists: &[AFTER_ONE, AFTER_ONE],
+};
+
+const ALONE_AND_GROUP: Case = Case {
+    bins: &[("P", BIN)],
+    boxes: &[("One", BOX, &[]), ("a", BOX, &["A"])],
+    placements: None,
+    lists: &[AFTER_ONE],
+};
+
+const ONE_GROUP: Case = Case {
+    bins: &[("P", BIN)],
+    boxes: &[("a", BOX, &["A"])],
+    placements: Some(&[("a", "P", FIRST)]),
+    lists: &[AFTER_ONE],
+};
 
 #[test]
 fn packings_with_exclusions(rt: HostRuntime) -> Result<(), Fail> {
     let alloc = rt.alloc();
     let mut tests = FitTests::new();
-    // The third group goes where the first did, with which it is not excluded.
-    let chain = Case {
-        boxes: &[("a", BOX, &["A"]), ("b", BOX, &["B"]), ("c", BOX, &["C"])],
-        placements: Some(&[("a", "P", FIRST), ("b", "Q", FIRST), ("c", "P", SECOND)]),
-        lists: &[AFTER_TWO, AFTER_ONE],
-        ..TWO_BINS
-    };
-    let pairs = [(A, B), (B, C)];
-    counts(&rt, alloc, &chain, &pairs, &mut tests)?;
-    let in_both = Case {
-        boxes: &[("One", BOX, &["A", "B"])],
-        placements: Some(&[("One", "P", FIRST), ("One", "Q", FIRST)]),
-        ..TWO_BINS
-    };
-    counts(&rt, alloc, &in_both, &[(A, B)], &mut tests)?;
-    let alone = Case {
-        boxes: &[("One", BOX, &[]), ("a", BOX, &["A"])],
-        ..ONE_BIN
-    };
-    let pairs = [(Group::Ungrouped("One"), A)];
-    counts(&rt, alloc, &alone, &pairs, &mut tests)?;
-    let without_boxes = Case {
-        boxes: &[("a", BOX, &["A"])],
-        placements: Some(&[("a", "P", FIRST)]),
-        ..ONE_BIN
-    };
-    let pairs = [(A, Group::Grouped("Z"))];
-    counts(&rt, alloc, &without_boxes, &pairs, &mut tests)
+    for (case, pairs) in [
+        (CHAIN, [(A, B), (B, C)].as_slice()),
+        (IN_BOTH, A_AND_B),
+        (ALONE_AND_GROUP, &[(Group::Ungrouped("One"), A)]),
+        // No box is in the group Z.
+        (ONE_GROUP, &[(A, Group::Grouped("Z"))]),
+    ] {
+        counts(&rt, alloc, &case, pairs, &mut tests)?;
+    }
+    Ok(())
 }
 
 #[test]

@@ -146,15 +146,34 @@ fn pushes_of_an_old_id(rt: HostRuntime) -> Result<(), Fail> {
     )
 }
 
+// That collection with the old box, and two strings that are its id.
+fn collection_and_ids<A: Allocator + Copy>(
+    alloc: A,
+) -> Result<(Rects<A>, String<A>, String<A>), AllocError> {
+    let all = collection(alloc, true)?;
+    let id = String::from_str(alloc, "old")?;
+    let other = String::from_str(alloc, "old")?;
+    Ok((all, id, other))
+}
+
+// The groups 0 and 1 are excluded, and the group 0 and the box alone unless that was refused.
+fn has_pairs<A: Allocator + Copy>(
+    rt: &impl Abort,
+    all: &Rects<A>,
+    old: &Group<u32, String<A>>,
+    refused: bool,
+) {
+    assert!(rt; all.excluded(&Group::Grouped(1), &Group::Grouped(0)));
+    assert_eq!(rt; all.excluded(&Group::Grouped(0), old), !refused);
+    assert_eq!(rt; all.excluded(old, &Group::Grouped(0)), !refused);
+    assert!(rt; !all.excluded(old, &Group::Grouped(1)));
+}
+
 // Refused, `exclude` changes neither the boxes nor the pairs.
 #[test]
 fn exclusions(rt: HostRuntime) -> Result<(), Fail> {
     refuses_each(&rt, rt.alloc(), |refusing| {
-        let (Ok(mut all), Ok(old), Ok(other)) = (
-            collection(refusing, true),
-            String::from_str(refusing, "old"),
-            String::from_str(refusing, "old"),
-        ) else {
+        let Ok((mut all, old, other)) = collection_and_ids(refusing) else {
             return Ok(End::Before);
         };
         if all.exclude(Group::Grouped(0), Group::Grouped(1)).is_err() {
@@ -163,12 +182,8 @@ fn exclusions(rt: HostRuntime) -> Result<(), Fail> {
         let refused = all
             .exclude(Group::Grouped(0), Group::Ungrouped(old))
             .is_err();
-        let old = Group::Ungrouped(other);
         assert!(rt; has(&all, OLD_GROUPS, OLD_SIZES), "{all:?}");
-        assert!(rt; all.excluded(&Group::Grouped(1), &Group::Grouped(0)));
-        assert_eq!(rt; all.excluded(&Group::Grouped(0), &old), !refused);
-        assert_eq!(rt; all.excluded(&old, &Group::Grouped(0)), !refused);
-        assert!(rt; !all.excluded(&old, &Group::Grouped(1)));
+        has_pairs(&rt, &all, &Group::Ungrouped(other), refused);
         if refused {
             Ok(End::Refused)
         } else {
