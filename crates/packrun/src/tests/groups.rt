@@ -132,10 +132,14 @@ fn two_strings(alloc: Global) -> Result<GroupedRectsToPlace<String, String>, All
 fn strings_as_ids(rt: HostRuntime) -> Result<(), Fail> {
     let alloc = rt.alloc();
     let all = two_strings(alloc)?;
+    let wanted = [
+        String::from_str(alloc, "One")?,
+        String::from_str(alloc, "Two")?,
+    ];
     let group = Group::Grouped(String::from_str(alloc, "group")?);
     let ids = all.groups().get(&group).ok_or("no such group")?;
     assert_eq!(rt; all.groups().len(), 1);
-    assert!(rt; ids.iter().map(|id| id.as_str()).eq(["One", "Two"]));
+    assert_eq!(rt; ids.as_slice(), wanted.as_slice());
     assert_eq!(rt; all.rects().len(), 2);
     Ok(())
 }
