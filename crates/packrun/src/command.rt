@@ -3,6 +3,7 @@ ghost use Rattle.std.specs.Prelude.{◌^◌, IfSome};
 ghost use Rattle.packrun.specs.Commands.{NamesTwo};
 ghost use Rattle.packrun.specs.Words.{IsNumberAnswer};
 
+use std::ops::Range;
 use std::str;
 use std::str::SplitAsciiWhitespace;
 
@@ -43,6 +44,16 @@ pub enum Command<'a> {
     Sections {
         name: &'a str,
     },
+    /// Joins a free section of a bin with those of a range.
+    Coalesce {
+        name: &'a str,
+        idx: usize,
+        range: Range<usize>,
+    },
+    /// Joins the free sections of a bin until no two share a whole face.
+    Sweep {
+        name: &'a str,
+    },
 }
 
 /// What the line says, or `None` where it is bad.
@@ -78,6 +89,14 @@ pub fn parse(line: &[u8]) -> Option<Command<'_>>
         Some("sections") => Command::Sections {
             name: words.next()?,
         },
+        Some("coalesce") => Command::Coalesce {
+            name: words.next()?,
+            idx: parse_index(words.next()?)?,
+            range: parse_index(words.next()?)?..parse_index(words.next()?)?,
+        },
+        Some("sweep") => Command::Sweep {
+            name: words.next()?,
+        },
         Some(_) => return None,
     };
     match words.next() {
@@ -103,6 +122,12 @@ fn parse_side(word: &str) -> Option<u32>
     ensures { IsNumberAnswer (2 ^ 32) word.now result }
 {
     u32::try_from(parse_number(word)?).ok()
+}
+
+fn parse_index(word: &str) -> Option<usize>
+    ensures { IsNumberAnswer (2 ^ 64) word.now result }
+{
+    usize::try_from(parse_number(word)?).ok()
 }
 
 /// The number that decimal digits say, with any zeros before it.

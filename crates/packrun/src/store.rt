@@ -12,6 +12,7 @@ use rectangle_pack::{
 use std::alloc::Allocator;
 use std::fmt::Display;
 use std::io::Write;
+use std::ops::Range;
 use std::str::SplitAsciiWhitespace;
 
 /// A session, and the boxes that its next packing places.
@@ -44,6 +45,8 @@ impl<A: Allocator + Copy> Store<A> {
             Command::Pack => self.pack(out),
             Command::Release(number) => report(self.session.release(number), number, out),
             Command::Sections { name } => self.print_sections(name, out),
+            Command::Coalesce { name, idx, range } => self.coalesce(name, idx, range, out),
+            Command::Sweep { name } => self.sweep(name, out),
         }
     }
 
@@ -119,6 +122,22 @@ impl<A: Allocator + Copy> Store<A> {
         }
         writeln!(out, "packed {count}")?;
         Ok(())
+    }
+
+    fn coalesce<W: Write>(
+        &mut self,
+        name: &str,
+        idx: usize,
+        range: Range<usize>,
+        out: &mut W,
+    ) -> Result<(), Stop> {
+        let bin = String::from_str(self.alloc, name)?;
+        report(self.session.coalesce(&bin, idx, range), name, out)
+    }
+
+    fn sweep<W: Write>(&mut self, name: &str, out: &mut W) -> Result<(), Stop> {
+        let bin = String::from_str(self.alloc, name)?;
+        report(self.session.coalesce_all(&bin), name, out)
     }
 
     fn print_sections<W: Write>(&self, name: &str, out: &mut W) -> Result<(), Stop> {

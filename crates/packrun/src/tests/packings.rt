@@ -64,14 +64,26 @@ fn kept_collection(rt: HostRuntime) -> Result<(), Fail> {
     )
 }
 
-// What is given back is free again, in the order in which it was given, and its number is unknown.
+// What is given back is free again, in the order in which it was given, until it is joined; its number is unknown.
 #[test]
 fn releases(rt: HostRuntime) -> Result<(), Fail> {
     says(
         &rt,
         rt.alloc(),
-        b"bin a 10 10 1\nrect p 4 10 1\npack\nrect q 6 10 1\npack\nrelease 0\nrelease 1\nsections a\nrelease 0\n",
-        "ok\nok\n0 p a 0 0 0 4 10 1\npacked 1\nok\n1 q a 4 0 0 6 10 1\npacked 1\nok\nok\n0 0 0 4 10 1\n4 0 0 6 10 1\nsections 2\nrefused: placement 0 is unknown\n",
+        b"bin a 10 10 1\nrect p 4 10 1\npack\nrect q 6 10 1\npack\nrelease 0\nrelease 1\nsections a\ncoalesce a 1 0 2\nsections a\nrelease 0\n",
+        "ok\nok\n0 p a 0 0 0 4 10 1\npacked 1\nok\n1 q a 4 0 0 6 10 1\npacked 1\nok\nok\n0 0 0 4 10 1\n4 0 0 6 10 1\nsections 2\nok\n0 0 0 10 10 1\nsections 1\nrefused: placement 0 is unknown\n",
+        Outcome::Done,
+    )
+}
+
+// A sweep joins all that was given back; an index past the end and an empty range join nothing.
+#[test]
+fn sweeps(rt: HostRuntime) -> Result<(), Fail> {
+    says(
+        &rt,
+        rt.alloc(),
+        b"bin a 10 10 1\nrect p 4 10 1\nrect q 6 10 1\npack\nrelease 0\nrelease 1\ncoalesce a 2 0 2\ncoalesce a 1 2 0\nsections a\nsweep a\nsections a\nsweep b\ncoalesce b 0 0 1\n",
+        "ok\nok\nok\n0 q a 0 0 0 6 10 1\n1 p a 6 0 0 4 10 1\npacked 2\nok\nok\nok\nok\n0 0 0 6 10 1\n6 0 0 4 10 1\nsections 2\nok\n0 0 0 10 10 1\nsections 1\nrefused: bin b is unknown\nrefused: bin b is unknown\n",
         Outcome::Done,
     )
 }

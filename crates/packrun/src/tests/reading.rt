@@ -28,8 +28,8 @@ fn good_lines(rt: HostRuntime) -> Result<(), Fail> {
             "ok\nok\n0 e z 0 0 0 0 5 1\npacked 1\nok\nsections 0\nok\nrefused: Not enough space to place all of the rectangles.\n",
         ),
         (
-            "release 18446744073709551615\nrelease 018446744073709551615\nrelease 000\nsections a\n",
-            "refused: placement 18446744073709551615 is unknown\nrefused: placement 18446744073709551615 is unknown\nrefused: placement 0 is unknown\nrefused: bin a is unknown\n",
+            "release 18446744073709551615\nrelease 018446744073709551615\nrelease 000\nsections a\ncoalesce a 18446744073709551615 00 018446744073709551615\n",
+            "refused: placement 18446744073709551615 is unknown\nrefused: placement 18446744073709551615 is unknown\nrefused: placement 0 is unknown\nrefused: bin a is unknown\nrefused: bin a is unknown\n",
         ),
     ] {
         says(&rt, alloc, input.as_bytes(), output, Outcome::Done)?;
@@ -81,8 +81,13 @@ fn bad_lines(rt: HostRuntime) -> Result<(), Fail> {
         "release 0 0",
         "sections",
         "sections a a",
-        "coalesce a 0 0 1",
-        "sweep a",
+        "coalesce",
+        "coalesce a 0 0",
+        "coalesce a 0 0 1 1",
+        "coalesce a -1 0 1",
+        "coalesce a 0 0 18446744073709551616",
+        "sweep",
+        "sweep a a",
         "stats a",
         "Pack",
         "pack 1",

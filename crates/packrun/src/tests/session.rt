@@ -33,6 +33,10 @@ pub enum Order {
     Pack(&'static [SizedBox], &'static [(Name, Name)]),
     /// The placement of this number.
     Release(u64),
+    /// The section of this index in the bin of this name, joined over the range.
+    Coalesce(&'static str, usize, usize, usize),
+    /// A sweep of the bin of this name.
+    CoalesceAll(&'static str),
 }
 
 /// How a session stands.
@@ -125,13 +129,97 @@ pub const TWO_RELEASES: &[Step] = &[
         reply: Reply::Done,
         after: BOTH_RELEASED,
     },
+    // An index past the end and an empty range join nothing.
+    Step {
+        order: Order::Coalesce("bin", 2, 0, 2),
+        reply: Reply::Done,
+        after: BOTH_RELEASED,
+    },
+    Step {
+        order: Order::Coalesce("bin", 1, 1, 0),
+        reply: Reply::Done,
+        after: BOTH_RELEASED,
+    },
+    Step {
+        order: Order::Coalesce("other", 0, 0, 2),
+        reply: NO_BIN,
+        after: BOTH_RELEASED,
+    },
+    Step {
+        order: Order::Coalesce("bin", 1, 0, 2),
+        reply: Reply::Done,
+        after: JOINED,
+    },
     // A released number is unknown.
     Step {
         order: Order::Release(0),
         reply: UNKNOWN,
-        after: BOTH_RELEASED,
+        after: JOINED,
     },
 ];
+
+/// A bin that is swept, and a bin that is not there.
+const SWEPT: &[Step] = &[
+    Step {
+        order: Order::AddBin("bin", [10, 10, 1]),
+        reply: Reply::Done,
+        after: Standing {
+            bins: &[("bin", WHOLE)],
+            placed: &[],
+            next: 0,
+        },
+    },
+    Step {
+        order: Order::Pack(&[("p", [4, 10, 1], &[]), ("q", [6, 10, 1], &[])], &[]),
+        reply: Reply::Packed(Packed { first: 0, count: 2 }),
+        after: Standing {
+            bins: &[("bin", &[])],
+            placed: &[
+                (0, "q", "bin", [0, 0, 0, 6, 10, 1]),
+                (1, "p", "bin", [6, 0, 0, 4, 10, 1]),
+            ],
+            next: 2,
+        },
+    },
+    Step {
+        order: Order::Release(1),
+        reply: Reply::Done,
+        after: Standing {
+            bins: &[("bin", &[[6, 0, 0, 4, 10, 1]])],
+            placed: &[(0, "q", "bin", [0, 0, 0, 6, 10, 1])],
+            next: 2,
+        },
+    },
+    Step {
+        order: Order::Release(0),
+        reply: Reply::Done,
+        after: BACKWARDS,
+    },
+    Step {
+        order: Order::CoalesceAll("other"),
+        reply: NO_BIN,
+        after: BACKWARDS,
+    },
+    Step {
+        order: Order::CoalesceAll("bin"),
+        reply: Reply::Done,
+        after: JOINED,
+    },
+];
+
+const BACKWARDS: Standing = Standing {
+    bins: &[("bin", &[[6, 0, 0, 4, 10, 1], [0, 0, 0, 6, 10, 1]])],
+    placed: &[],
+    next: 2,
+};
+
+const NO_BIN: Reply = Reply::Refused(SessionError::UnknownBin);
+
+const JOINED: Standing = Standing {
+    bins: &[("bin", WHOLE)],
+    placed: &[],
+    next: 2,
+};
 
 const BOTH_RELEASED: Standing = Standing {
     bins: &[("bin", &[[0, 0, 0, 4, 10, 1], [4, 0, 0, 6, 10, 1]])],
@@ -383,6 +471,13 @@ fn command<'a>(alloc: &'a Refusing<Global>, order: &Order) -> Made<TestCommand<'
         },
         Order::Pack(boxes, pairs) => Command::Pack(rects(alloc, boxes, pairs)?),
         Order::Release(number) => Command::Release(*number),
+        Order::Coalesce(bin, idx, lo, hi) => Command::Coalesce {
+            bin: *bin,
+            idx: *idx,
+            lo: *lo,
+            hi: *hi,
+        },
+        Order::CoalesceAll(bin) => Command::CoalesceAll(*bin),
     })
 }
 
@@ -424,6 +519,8 @@ pub fn call<'a>(session: &mut TestSession<'a>, command: &TestCommand<'a>) -> Rep
         } => reply(session.add_bin(*id, *width, *height, *depth)),
         Command::Pack(rects) => pack(session, rects),
         Command::Release(number) => reply(session.release(*number)),
+        Command::Coalesce { bin, idx, lo, hi } => reply(session.coalesce(bin, *idx, *lo..*hi)),
+        Command::CoalesceAll(bin) => reply(session.coalesce_all(bin)),
     }
 }
 
@@ -549,6 +646,7 @@ fn come_out(rt: &impl Abort, alloc: Global, cases: &[(u64, &[Step])]) -> Result<
 fn numbers_and_releases(rt: HostRuntime) -> Result<(), Fail> {
     let cases = [
         (0, TWO_RELEASES),
+        (0, SWEPT),
         (0, EMPTY_BOX),
         (u64::MAX - 1, LAST_NUMBER),
         (u64::MAX, NO_NUMBER),

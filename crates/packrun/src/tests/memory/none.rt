@@ -15,7 +15,7 @@ use std::test::Fail;
 
 type Bins<A> = BTreeMap<u32, TargetBin<A>, A>;
 
-type Rects<A> = GroupedRectsToPlace<u32, u32, A>;
+type NumberedRects<A> = GroupedRectsToPlace<u32, u32, A>;
 
 fn one_bin<A: Allocator + Copy>(alloc: A) -> Result<Bins<A>, AllocError> {
     let mut bins = BTreeMap::new(alloc);
@@ -29,7 +29,7 @@ fn packs_nothing<A: Allocator + Copy>(
     alloc: A,
     bins: &mut Bins<A>,
 ) -> Result<(), Fail> {
-    let rects: Rects<A> = GroupedRectsToPlace::new(alloc);
+    let rects: NumberedRects<A> = GroupedRectsToPlace::new(alloc);
     let packed = pack_rects(
         alloc,
         &rects,
@@ -48,7 +48,7 @@ fn counts_nothing<A: Allocator + Copy>(
     alloc: A,
     bins: &mut Bins<A>,
 ) -> Result<(), Fail> {
-    let rects: Rects<A> = GroupedRectsToPlace::new(alloc);
+    let rects: NumberedRects<A> = GroupedRectsToPlace::new(alloc);
     let mut tests = FitTests::new();
     let packed = pack_rects_counted(
         alloc,
@@ -66,7 +66,7 @@ fn counts_nothing<A: Allocator + Copy>(
 #[test]
 fn collections_and_packings_of_nothing(rt: HostRuntime) -> Result<(), Fail> {
     let refusing = Refusing::new(rt.alloc(), 0);
-    let rects: Rects<&Refusing<Global>> = GroupedRectsToPlace::new(&refusing);
+    let rects: NumberedRects<&Refusing<Global>> = GroupedRectsToPlace::new(&refusing);
     assert!(rt; !rects.excluded(&Group::Grouped(0), &Group::Ungrouped(0)));
     let mut bins: Bins<&Refusing<Global>> = BTreeMap::new(&refusing);
     packs_nothing(&rt, &refusing, &mut bins)?;
@@ -74,7 +74,7 @@ fn collections_and_packings_of_nothing(rt: HostRuntime) -> Result<(), Fail> {
 }
 
 // Whether the groups 0 and 1 are excluded, either way round, and the group 0 and the box 1 are not.
-fn has_the_pair<A: Allocator + Copy>(rects: &Rects<A>) -> bool {
+fn has_the_pair<A: Allocator + Copy>(rects: &NumberedRects<A>) -> bool {
     rects.excluded(&Group::Grouped(0), &Group::Grouped(1))
         && rects.excluded(&Group::Grouped(1), &Group::Grouped(0))
         && !rects.excluded(&Group::Grouped(0), &Group::Ungrouped(1))
@@ -85,7 +85,7 @@ fn has_the_pair<A: Allocator + Copy>(rects: &Rects<A>) -> bool {
 fn pairs_that_are_there(rt: HostRuntime) -> Result<(), Fail> {
     for granted in 0..20u64 {
         let refusing = Refusing::new(rt.alloc(), granted);
-        let mut rects: Rects<&Refusing<Global>> = GroupedRectsToPlace::new(&refusing);
+        let mut rects: NumberedRects<&Refusing<Global>> = GroupedRectsToPlace::new(&refusing);
         if rects.exclude(Group::Grouped(0), Group::Grouped(1)).is_ok() {
             assert_eq!(rt; refusing.left(), 0);
             assert!(rt; has_the_pair(&rects));
