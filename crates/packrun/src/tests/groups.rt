@@ -9,6 +9,40 @@ use std::test::Fail;
 
 const SIZE: [u32; 3] = [10, 10, 1];
 
+// The groups are these, in order, with these ids.
+fn has_groups<Id, GroupId>(
+    rt: &impl Abort,
+    all: &GroupedRectsToPlace<Id, GroupId>,
+    groups: &[(Group<GroupId, Id>, &[Id])],
+)
+where
+    Id: Ord + Clone + Drop + Debug,
+    GroupId: Ord + Clone + Drop + Debug,
+{
+    assert_eq!(rt; all.groups().len(), groups.len());
+    for ((group, ids), (wanted, wanted_ids)) in all.groups().iter().zip(groups.iter()) {
+        assert_eq!(rt; group, wanted);
+        assert_eq!(rt; ids.as_slice(), *wanted_ids);
+    }
+}
+
+// The boxes are these, in order, with these sizes.
+fn has_sizes<Id, GroupId>(
+    rt: &impl Abort,
+    all: &GroupedRectsToPlace<Id, GroupId>,
+    sizes: &[(Id, [u32; 3])],
+)
+where
+    Id: Ord + Clone + Drop + Debug,
+    GroupId: Ord + Clone + Drop + Debug,
+{
+    assert_eq!(rt; all.rects().len(), sizes.len());
+    for ((id, rect), (wanted, size)) in all.rects().iter().zip(sizes.iter()) {
+        assert_eq!(rt; id, wanted);
+        assert_eq!(rt; [rect.width(), rect.height(), rect.depth()], *size);
+    }
+}
+
 // The groups are these, in order, and each box has its size.
 fn shows<Id, GroupId>(
     rt: &impl Abort,
@@ -20,16 +54,8 @@ where
     Id: Ord + Clone + Drop + Debug,
     GroupId: Ord + Clone + Drop + Debug,
 {
-    assert_eq!(rt; all.groups().len(), groups.len());
-    for ((group, ids), (wanted, wanted_ids)) in all.groups().iter().zip(groups.iter()) {
-        assert_eq!(rt; group, wanted);
-        assert_eq!(rt; ids.as_slice(), *wanted_ids);
-    }
-    assert_eq!(rt; all.rects().len(), sizes.len());
-    for ((id, rect), (wanted, size)) in all.rects().iter().zip(sizes.iter()) {
-        assert_eq!(rt; id, wanted);
-        assert_eq!(rt; [rect.width(), rect.height(), rect.depth()], *size);
-    }
+    has_groups(rt, all, groups);
+    has_sizes(rt, all, sizes);
     Ok(())
 }
 
