@@ -30,6 +30,24 @@ use std::ops::Range;
 /// Bins, and the boxes that were placed in them and not released. Each placement has a number, by
 /// which it is released. Each cell of a bin is in exactly one free section or outstanding
 /// placement, and each of these is inside the bin, always.
+///
+/// ```
+/// let mut session: Session<u32, &'static str> = Session::new(alloc, 0);
+/// session.add_bin("sheet", 10, 10, 1)?;
+/// let mut rects: GroupedRectsToPlace<u32, u32> = GroupedRectsToPlace::new(alloc);
+/// rects.push_rect(7, None, RectToInsert::new(4, 10, 1))?;
+/// let packed = session.pack(&rects, &volume_heuristic, &contains_smallest_box)?;
+/// assert_eq!(rt; packed.first, 0);
+/// // The box stands at (0, 0, 0). It is given back by its number, and all of the bin is one again.
+/// session.release(packed.first)?;
+/// session.coalesce_all(&"sheet")?;
+/// let sheet = session.bins().get(&"sheet").ok_or("no such bin")?;
+/// let whole = BinSection::new(0, 0, 0, WidthHeightDepth::new(10, 10, 1));
+/// assert_eq!(rt;
+///     sheet.available_bin_sections().as_slice(),
+///     [whole].as_slice()
+/// );
+/// ```
 #[derive(Drop)]
 pub struct Session<Id, BinId: Ord, A: Allocator + Copy = Global> {
     bins: BTreeMap<BinId, TargetBin<A>, A>,
@@ -62,8 +80,8 @@ where
     BinId: Ord + Clone + Drop,
     A: Allocator + Copy,
 {
-    /// A session without bins, whose memory is to come from `alloc`; the first placement gets the
-    /// number `first`. This takes no memory.
+    /// A session without bins, whose memory is to come from `alloc`. The first placement gets the
+    /// number `first`, but for the greatest `u64`, which is never given. This takes no memory.
     pub fn new(alloc: A, first: u64) -> Self
         ensures { result ≡ record { bins = []; records = []; next = first } }
     {
@@ -93,7 +111,8 @@ where
         self.outstanding.as_slice()
     }
 
-    /// The number of the next placement.
+    /// The number of the next placement, or the greatest `u64` where numbers are used up. Each
+    /// outstanding number is smaller.
     pub fn next_number(&self) -> u64
         ensures { result ≡ self.now.next }
     {
@@ -125,17 +144,19 @@ where
         }
     }
 
-    /// Packs all groups into the bins, as `pack_rects` does; the placements get the next numbers,
-    /// in the order in which they were made. Without groups no memory is taken.
+    /// Packs all groups into the bins, as `pack_rects` does. The placements go to the end of
+    /// `outstanding` under the next numbers, in the order in which they were made. Groups that are
+    /// excluded are kept apart within this call. Without groups no memory is taken.
     ///
     /// The caller sees to it that clones of ids equal their originals, and that `heuristic` may be
-    /// called on every size, and `comparison` on every two triples of sizes.
+    /// called on every size, and `comparison` on every two triples of sizes with this heuristic.
     ///
     /// `NumbersUsedUp` says that the next number and the entries of the groups add up to more than
     /// the greatest `u64`; this is looked at first. `NotEnoughBinSpace` says that for some group
     /// each bin is passed over or does not take all of its boxes, and `OutOfMemory` that a growth
-    /// or a clone was refused. The session is then as it was: nothing of the packing stays, and the
-    /// lists of free sections are in their old order.
+    /// or a clone was refused, which may come before it is known that there is no space. The session
+    /// is then as it was: nothing of the packing stays, and the lists of free sections are in their
+    /// old order.
     pub fn pack<GroupId, H, C>(
         &mut self,
         groups: &GroupedRectsToPlace<Id, GroupId, A>,
@@ -199,7 +220,8 @@ where
     }
 
     /// Gives a placement back: it is no longer outstanding, and its cells are free again, as the
-    /// newest section of its bin. A box without cells adds no section and takes no memory.
+    /// newest section of its bin. Its number is not given again. A box without cells adds no section
+    /// and takes no memory.
     ///
     /// `UnknownPlacement` says that no placement of this number is outstanding, `OutOfMemory` that
     /// a growth was refused. The session is then as it was.
@@ -259,7 +281,8 @@ where
     }
 
     /// Obeys the commands in order: each is done or refused as the call of its name does, and a
-    /// refused one changes nothing. One reply a command.
+    /// refused one changes nothing. There is one reply a command, in their order. A bin is added
+    /// under a clone of the command's id.
     ///
     /// The conditions are those of `pack`. `AllocError` says that memory for the replies was
     /// refused, and then no command was done.

@@ -1,7 +1,7 @@
 //! The examples of the README and of the library's documentation.
 
 use rectangle_pack::{
-    BinSection, FitTests, Group, GroupedRectsToPlace, Placement, RectToInsert, TargetBin,
+    BinSection, FitTests, Group, GroupedRectsToPlace, Placement, RectToInsert, Session, TargetBin,
     WidthHeightDepth, contains_smallest_box, pack_rects, volume_heuristic,
     volume_packing_has_one_result,
 };
@@ -116,6 +116,27 @@ fn coalesce_all_joins_two_halves(rt: HostRuntime) -> Result<(), Fail> {
     bin.coalesce_all();
     let whole = BinSection::new(0, 0, 0, WidthHeightDepth::new(10, 10, 1));
     assert_eq!(rt; bin.available_bin_sections().as_slice(), [whole].as_slice());
+    Ok(())
+}
+
+#[test]
+fn session_gives_a_box_back(rt: HostRuntime) -> Result<(), Fail> {
+    let alloc = rt.alloc();
+    let mut session: Session<u32, &'static str> = Session::new(alloc, 0);
+    session.add_bin("sheet", 10, 10, 1)?;
+    let mut rects: GroupedRectsToPlace<u32, u32> = GroupedRectsToPlace::new(alloc);
+    rects.push_rect(7, None, RectToInsert::new(4, 10, 1))?;
+    let packed = session.pack(&rects, &volume_heuristic, &contains_smallest_box)?;
+    assert_eq!(rt; packed.first, 0);
+    // The box stands at (0, 0, 0). It is given back by its number, and all of the bin is one again.
+    session.release(packed.first)?;
+    session.coalesce_all(&"sheet")?;
+    let sheet = session.bins().get(&"sheet").ok_or("no such bin")?;
+    let whole = BinSection::new(0, 0, 0, WidthHeightDepth::new(10, 10, 1));
+    assert_eq!(rt;
+        sheet.available_bin_sections().as_slice(),
+        [whole].as_slice()
+    );
     Ok(())
 }
 
