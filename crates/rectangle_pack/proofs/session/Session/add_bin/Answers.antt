@@ -45,13 +45,4 @@ pub returns-clause-added : goal.returns-clause-added
 returns-clause-added g c = rw (← c.self.view_is) (None-bins_of (is_at (g.BinId.Ord.cmp c.args.id)) c.self.inside.bins.entries (search rules), ap (λ es. record { bins = bins_of es; records = c.self.inside.outstanding.items; next = c.self.inside.next }) c.in-Err.ensures.err)
 
 pub returns-in-Ok-clause-always : goal.returns-in-Ok-clause-always
-returns-in-Ok-clause-always g c =
-    let cmp = g.BinId.Ord.cmp in
-    let old = c.self.inside.bins.entries in
-    let absent : lookup (is_at (cmp c.args.id)) old ≡ None = search rules in
-    let size : Size = record { width = c.args.width; height = c.args.height; depth = c.args.depth } in
-    let fresh : c.in_ok-bin.bin.bin ≡ new_bin size = c.in_ok-bin.ensures in
-    IsSession-added g.met.BinId.Ord.total (bins_of old) (bins_of c.insert.new.self.entries) c.self.inside.outstanding.items c.self.inside.next c.args.id size
-    (None-bins_of (is_at (cmp c.args.id)) old absent)
-    (λ q. added-bins_of cmp old c.insert.new.self.entries c.args.id c.in_ok-bin.bin c.in-Ok.ensures.updates.0 q ∙ ap (λ (b : Bin). cond (is_at (cmp c.args.id) q) (Some b) (lookup (is_at (cmp q)) (bins_of old))) fresh)
-    c.self.invariant
+returns-in-Ok-clause-always g c = invariant_of-self g c

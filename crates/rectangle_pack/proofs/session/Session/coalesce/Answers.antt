@@ -43,12 +43,4 @@ returns-clause-joined g c =
     )
 
 pub returns-clause-always : goal.returns-clause-always
-returns-clause-always g c =
-    let test = is_at (g.BinId.Ord.cmp c.args.bin.now) in
-    let old = c.self.inside.bins.entries in
-    let w = c.coalesce_available_sections.new.self in
-    let h = c.get_mut.follows.holds w in
-    let found = found-bins_of test old (bins_of old) c.in-Some.place.now refl (sym c.in-Some.ensures.value) in
-    let was : State g.row.Id.Denot g.row.BinId.Denot = record { bins = bins_of old; records = c.self.inside.outstanding.items; next = c.self.inside.next } in
-    rw (ap bins_of h.0 ∙ bins_of-set_value test old w ∙ ap (set_value test (bins_of old)) c.coalesce_available_sections.ensures.stays)
-    (IsSession-joined g.met.BinId.Ord.total c.args.bin.now c.args.idx c.args.range.start c.args.range.end was c.in-Some.place.now.bin w.bin.sections found c.coalesce_available_sections.ensures.joined c.self.invariant)
+returns-clause-always g c = invariant_of-self-2 g c

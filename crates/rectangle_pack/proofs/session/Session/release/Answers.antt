@@ -47,10 +47,4 @@ returns-clause-released g c =
     )
 
 pub returns-clause-always : goal.returns-clause-always
-returns-clause-always g c =
-    let rs = c.self.inside.outstanding.items in
-    let i = c.in-Some.index in
-    let r = c.index-placement.result.now in
-    let some = rw c.as_slice.ensures.value at c.in-Some.ensures.some in
-    let f = IsSession-found g.met.BinId.Ord.total c.self.inside.bins.entries rs c.self.inside.next i r c.self.invariant some.0 c.index-placement.ensures in
-    rw c.remove.ensures.items (IsSession-removed g.met.BinId.Ord.total _ _ rs c.self.inside.next i r c.self.invariant f.split c.in_ok-give_back.ensures.ok)
+returns-clause-always g c = invariant_of-self-2 g c
