@@ -1,7 +1,5 @@
 -- How often keys occur, and lists to which items are appended.
 use Rattle.std.proofs.Common.{◌≡◌, ℕ, ◌+◌, ◌<◌, ◌≤◌, List, [], ◌∷◌, ◌++◌, length, take, get_or, refl, ap, sym, ◌∙◌, arith, cond, true, false, Bool, append_assoc, length-append, subst}
-use Rattle.std.proofs.Math.ListN.{get_or-append}
-use Rattle.std.proofs.Math.Seq.{get_or-append_seam}
 use Rattle.std.specs.Prelude.{Option, Some, None, All, Contains, IsSome, IsSomeAnd, IfSome, is_some, unwrap_or, map}
 use Rattle.std.specs.Option.{option_map}
 use Rattle.std.specs.List.{sum_by}
@@ -12,7 +10,7 @@ use Rattle.std.specs.Ordering.{is_eq}
 use Rattle.std.proofs.lemmas.Cmp.{eq_by_cmp_equiv}
 use Rattle.std.proofs.lemmas.List.{append-nil}
 use Rattle.std.proofs.lemmas.List.Sums.{count_by_more_yes, count_by_more_no, sum_by-take-le, sum_by-cons}
-use Rattle.std.proofs.lemmas.List.Elements.{All-append, All-cons, All-nil, All-weaker, All-contains}
+use Rattle.std.proofs.lemmas.List.Elements.{All-append, All-cons, All-head, All-nil, All-tail, All-weaker, All-contains}
 use Rattle.rectangle_pack.specs.private.Lists.{times, items_of, AreAppended, IsAdded}
 
 module _ {K : Type 0} {cmp : K → K → Ordering} (o : IsTotalOrder cmp) (keys : List K) (i : ℕ) (k q : K) (inside : i < length keys) (at : k ≡ get_or keys i k) where
@@ -63,13 +61,22 @@ AreAppended-roomier all n (Some u) None new same known so = absurd so
 AreAppended-roomier all n (Some u) (Some v) None same known so = absurd cc
 AreAppended-roomier all n (Some u) (Some v) (Some w) same known so = record { tail = so.tail; joined = same ∙ so.joined; long = so.long; given = so.given }
 
--- what holds of each of two joined lists holds of each of the first
+-- the parts of two joined lists
 pub All-front : {X : Type 0} (P : X → Type 0) (xs ys : List X) → All P (xs ++ ys) → All P xs
-All-front P xs ys h = λ k d inside. subst P (get_or-append xs ys d k inside) (h k d (let long : length (xs ++ ys) ≡ length xs + length ys = length-append xs ys in omega (arith, inside)))
+All-front P [] ys h = All-nil P
+All-front P (x ∷ xs) ys h = All-cons P x xs (All-head P x (xs ++ ys) h) (All-front P xs ys (All-tail P x (xs ++ ys) h))
 
--- and of the last element
-pub All-last : {X : Type 0} (P : X → Type 0) (xs : List X) (x : X) → All P (xs ++ x ∷ []) → P x
-All-last P xs x h = subst P (get_or-append_seam xs x [] x) (h (length xs) x (let long : length (xs ++ x ∷ []) ≡ length xs + 1 = length-append xs (x ∷ []) in omega arith))
+pub All-back : {X : Type 0} (P : X → Type 0) (xs ys : List X) → All P (xs ++ ys) → All P ys
+All-back P [] ys h = h
+All-back P (x ∷ xs) ys h = All-back P xs ys (All-tail P x (xs ++ ys) h)
+
+-- and an element in the middle
+pub All-middle : {X : Type 0} (P : X → Type 0) (xs before after : List X) (x : X) → xs ≡ before ++ x ∷ after → All P xs → P x
+All-middle P xs before after x e h = All-head P x after (All-back P before (x ∷ after) (subst (All P) e h))
+
+-- which may be left out
+pub All-without : {X : Type 0} (P : X → Type 0) (before : List X) (x : X) (after : List X) → All P (before ++ x ∷ after) → All P (before ++ after)
+All-without P before x after h = All-append P before after (All-front P before (x ∷ after) h) (All-tail P x after (All-back P before (x ∷ after) h))
 
 -- one more item is appended at the equal keys, and nothing at the others
 pub AreAppended-step : {K X A : Type 0} {cmp : K → K → Ordering} (o : IsTotalOrder cmp) (keys : List K) (i : ℕ) (k q : K) → i < length keys → k ≡ get_or keys i k

@@ -14,21 +14,19 @@ use Rattle.std.specs.Map.{lookup, keys_of}
 use Rattle.std.specs.BTreeMap.{is_at}
 use Rattle.std.proofs.lemmas.List.Elements.{All-nil, All-cons, All-head, All-tail, All-weaker}
 use Rattle.std.proofs.lemmas.List.{take_more, map-append, get_or-map, length-map}
-use Rattle.rectangle_pack.proofs.CutsLemmas.{All-middle}
 use Rattle.std.proofs.lemmas.List.Folds.{list_any_at}
 use Rattle.std.proofs.lemmas.Map.Keys.{IsDistinct-head, IsDistinct-tail}
 use Rattle.std.proofs.Math.Path.{fun_ext}
 use Rattle.std.proofs.lemmas.List.Kept.{AllPairs-cons}
-use Rattle.rectangle_pack.specs.Boxes.{Size, Holds}
-use Rattle.rectangle_pack.proofs.KeepingLemmas.{none_holds}
 use Rattle.rectangle_pack.specs.declared.pack.answer.Placement.{Placement}
 use Rattle.rectangle_pack.specs.Groups.{lists_of, Collection}
 use Rattle.rectangle_pack.specs.Exclusions.{listed_at, is_listed, are_excluded}
 use Rattle.rectangle_pack.specs.private.Exclusions.{AreMutual}
 use Rattle.rectangle_pack.specs.private.Barred.{are_in, went_to}
-use Rattle.rectangle_pack.specs.Packing.{Rules, AreKeptApart, bars_by, bars_none, at_start, Members, Stage, AreAllPlaced, PackingDone, PackingDoneBy, PackingRefused, PackingRefusedBy}
+use Rattle.rectangle_pack.specs.Packing.{Rules, AreKeptApart, bars_by, bars_none, Members, Stage, AreAllPlaced, PackingDone, PackingDoneBy, PackingRefused, PackingRefusedBy}
 use Rattle.rectangle_pack.specs.Bins.{Bin}
 use Rattle.rectangle_pack.specs.declared.grouped_rects_to_place.Group.{Group}
+use Rattle.rectangle_pack.proofs.AppendLemmas.{All-front, All-middle}
 use Rattle.rectangle_pack.proofs.PackingOrderLemmas.{cmp-self}
 use Rattle.rectangle_pack.proofs.MapsLemmas.{lookup-equal, is_at-back}
 use Rattle.rectangle_pack.proofs.ExclusionsLemmas.{list_any-alike, is_at-equal, excluded-listed}
@@ -90,21 +88,10 @@ distinct-before {K} e (y ∷ ys) (suc i) x h within is =
     at (z ∷ ys) zero x within is h = rw is h.0
     at (z ∷ ys) (suc i) x within is h = at ys i x (omega arith) is h.1
 
-All-append-left : {X : Type 0} (P : X → Type 0) (xs ys : List X) → All P (xs ++ ys) → All P xs
-All-append-left P [] ys h = All-nil P
-All-append-left P (x ∷ xs) ys h = All-cons P x xs (All-head P x (xs ++ ys) h) (All-append-left P xs ys (All-tail P x (xs ++ ys) h))
-
 take-map : {X Y : Type 0} (f : X → Y) (i : ℕ) (xs : List X) → take i (map f xs) ≡ map f (take i xs)
 take-map f zero xs = refl
 take-map f (suc i) [] = refl
 take-map f (suc i) (x ∷ xs) = ap (λ ys. f x ∷ ys) (take-map f i xs)
-
--- the names of an order are the keys of the map
-pub names-zip : {K X A : Type 0} (P : K × List X → Reverse ℕ × Bor K → Type 0) (es : List (K × Vec X A)) (ys : List (Reverse ℕ × Bor K)) → AllZip (λ e y. (y.1.now ≡ e.0) × P e y) (lists_of es) ys → map (λ y. y.1.now) ys ≡ keys_of es
-names-zip P [] [] h = refl
-names-zip P [] (y ∷ ys) h = absurd h
-names-zip P (e ∷ es) [] h = absurd h
-names-zip P (e ∷ es) (y ∷ ys) h = let a = h.0.0 in let i = names-zip P es ys h.1 in cc
 
 pub or-none : (p q : Bool) → q ≡ false → (p || q) ≡ p
 or-none true q h = refl
@@ -206,7 +193,7 @@ module _ {K B : Type 0} (cmp : K → K → Ordering) (bin_cmp : B → B → Orde
       let more : map f (take (i + 1) order) ≡ map f (take i order) ++ f x ∷ [] = ap (map f) (take_more order i x within) ∙ map-append f (take i order) (get_or order i x ∷ []) ∙ ap (λ z. map f (take i order) ++ f z ∷ []) (sym is) in
       let all : All P (map f (take i order) ++ f x ∷ []) = subst (All P) more h in
       All-cons (λ h. is_at (cmp q) h.0 ≡ false) (f x, here) homes (is_at-back o q (f x) ∙ All-middle P (map f (take i order) ++ f x ∷ []) (map f (take i order)) [] (f x) refl all)
-      (named q (All-append-left P (map f (take i order)) (f x ∷ []) all))
+      (named q (All-front P (map f (take i order)) (f x ∷ []) all))
 
   -- and a group that the order names once has not been placed
   pub Named-fresh : (order : List (Reverse ℕ × Bor K)) (i : ℕ) (x : Reverse ℕ × Bor K) (homes : List (K × B)) → IsDistinct (eq_by_cmp cmp) (map (λ y. y.1.now) order) → i < length order → x ≡ get_or order i x → Named (take i order) homes
@@ -273,14 +260,3 @@ module _ {Id B G : Type 0} (group_cmp : Group G Id → Group G Id → Ordering) 
       let P : (List (Group G Id × B) → Group G Id → B → Bool) → Type 0 = λ (bars : List (Group G Id × B) → Group G Id → B → Bool). (refused : PackingRefusedBy group_cmp rules bars all old new) × (refused.tests ≡ n) in
       let e = bars-without group_cmp rules.bin_cmp all.partners none in
       (subst P e, subst P (sym e))
-
-module _ {Id B G : Type 0} (group_cmp : Group G Id → Group G Id → Ordering) (rules : Rules Id B) (o : IsTotalOrder rules.bin_cmp) (all : Collection Id G) where
-  -- the box of a refused group with one entry is held nowhere where it is not barred
-  pub held_nowhere : (old new : List (B × Bin)) (refused : PackingRefused group_cmp rules all old new) (size : Size) → refused.stops.next.1.sizes ≡ size ∷ [] → (id : B) (bin : Bin)
-      → bars_by group_cmp rules.bin_cmp all.partners refused.stops.homes refused.stops.next.0 id ≡ false → lookup (is_at (rules.bin_cmp id)) new ≡ Some bin → All (λ s. ¬ Holds s size) bin.sections
-  held_nowhere old new refused size one id bin allowed found =
-      let bars = bars_by group_cmp rules.bin_cmp all.partners in
-      none_holds rules o bars refused.bin_order (at_start old) (record { bins = new; homes = refused.stops.homes }) refused.stops.beginning refused.stops.placements refused.stops.first
-      (bars refused.stops.homes refused.stops.next.0) refused.stops.next.1 refused.stops.count size
-      (bars-alike group_cmp o all.partners refused.stops.homes refused.stops.next.0)
-      refused.by_bins refused.stops.placed refused.stops.refused one id bin allowed found

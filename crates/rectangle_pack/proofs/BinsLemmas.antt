@@ -10,7 +10,7 @@ use Rattle.rectangle_pack.specs.Bins.{IsSound, IsAccepted, Bin}
 use Rattle.rectangle_pack.specs.Pushes.{IsFirstSharing}
 use Rattle.rectangle_pack.proofs.BoxesLemmas.{not_from_AreApart}
 use Rattle.rectangle_pack.proofs.CountingLemmas.{AllPairs-head, AllPairs-tail}
-use Rattle.rectangle_pack.proofs.StepsLemmas.{All-back}
+use Rattle.rectangle_pack.proofs.AppendLemmas.{All-back}
 
 -- a section that is accepted leaves a sound list sound
 pub IsSound-push : (bin : Bin) (s : Cuboid) → IsSound bin.size bin.sections → IsAccepted bin s → IsSound bin.size (bin.sections ++ s ∷ [])

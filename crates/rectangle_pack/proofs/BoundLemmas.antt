@@ -16,15 +16,17 @@ use Rattle.std.proofs.lemmas.List.Sums.{sum_by-cons, sum_by-append}
 use Rattle.std.proofs.lemmas.Map.Keys.{IsDistinct-head, IsDistinct-tail}
 use Rattle.rectangle_pack.specs.declared.pack.answer.Placement.{Placement}
 use Rattle.rectangle_pack.specs.Boxes.{Size, Cuboid}
-use Rattle.rectangle_pack.specs.Bins.{Bin, Held}
+use Rattle.rectangle_pack.specs.Bins.{Bin}
 use Rattle.rectangle_pack.specs.Steps.{IsStep, IsDone, IsStuck}
 use Rattle.rectangle_pack.specs.Closures.{Answers}
-use Rattle.rectangle_pack.specs.Packing.{Rules, bins_of, Members, Stage, at_start, bars_by, DoesNotTake, IsPlaced, IsRefused, AreGroups, AreAllPlaced, StopsAfter}
+use Rattle.rectangle_pack.specs.Packing.{Rules, Members, Stage, at_start, bars_by, DoesNotTake, IsPlaced, IsRefused, AreGroups, AreAllPlaced, StopsAfter}
 use Rattle.std.proofs.lemmas.List.Sorted.{sum_by-IsPermutation, IsPermutation-map, length_permutation}
 use Rattle.std.proofs.lemmas.Map.Keys.{IsDistinct-cons, IsDistinct-IsPermutation}
 use Rattle.rectangle_pack.specs.Groups.{Collection}
 use Rattle.rectangle_pack.specs.Orders.{IsBinOrder}
 use Rattle.rectangle_pack.specs.Numbers.{saturated}
+use Rattle.rectangle_pack.specs.Trials.{IsTrialAnswer, most_tests}
+use Rattle.std.specs.declared.vec.Vec.{Vec}
 use Rattle.rectangle_pack.specs.PackAnswers.{entries_of, sections_in, AreCounted}
 use Rattle.rectangle_pack.specs.private.Bounds.{free_in, free_of, AreWithin, AddsWithin}
 use Rattle.rectangle_pack.specs.private.Orders.{keys_of_order, entries_at}
@@ -33,9 +35,9 @@ use Rattle.std.specs.Borrow.{Bor}
 use Rattle.rectangle_pack.specs.declared.grouped_rects_to_place.Group.{Group}
 use Rattle.rectangle_pack.proofs.AppendLemmas.{sum_by-map}
 use Rattle.rectangle_pack.proofs.ExclusionsLemmas.{is_at-equal}
-use Rattle.rectangle_pack.proofs.KeepingLemmas.{lookup-written}
 use Rattle.rectangle_pack.proofs.MapsLemmas.{lookup-equal, is_at-back}
 use Rattle.rectangle_pack.proofs.OneOrderLemmas.{length-zip}
+use Rattle.rectangle_pack.proofs.PlacedLemmas.{lookup-placed}
 use Rattle.rectangle_pack.proofs.StepsLemmas.{length-step}
 use Rattle.rectangle_pack.proofs.TrialLemmas.{saturated-add, saturated-from}
 
@@ -47,6 +49,11 @@ OnErr-given (Err e) h = h
 square : (m : ℕ) → m ≤ m * m
 square zero = omega arith
 square (suc m) = omega arith
+
+-- m * (m - 1) and m make m * m
+pairs : (m : ℕ) → m * (m - 1) + m ≡ m * m
+pairs zero = omega arith
+pairs (suc m) = grind arith
 
 module _ (may : Answers) where
   one-le : (sections : List Cuboid) (m : Size) (l : Cuboid) (next : List Cuboid) (n : ℕ) → IsStep may sections m l next n → n ≤ length sections
@@ -70,6 +77,16 @@ module _ (may : Answers) where
       let b = stuck-le next ms others stuck in
       let c = mul-le-mul_left (length ms) (length-step may sections m l next one step) in
       omega (arith, a, b, c, count)
+
+  -- so a counter rises by no more, whatever the trial answers
+  pub counted-le : {A E : Type 0} (old : Bin) (ms : List Size) (counted : ℕ) (answer : Result (Option (Vec Cuboid A)) E) (new : Bin) (counter : ℕ) → IsTrialAnswer may old ms counted answer new counter → counter ≤ counted + most_tests (length ms) (length old.sections)
+  counted-le old ms counted (Ok (Some locations)) new counter (n, done, same, is) =
+      let least = done-le old.sections ms locations.items new.sections n done in
+      omega (arith, is, least, pairs (length ms))
+  counted-le old ms counted (Ok None) new counter (n, stuck, same, is) =
+      let least = stuck-le old.sections ms n stuck in
+      omega (arith, is, least, pairs (length ms))
+  counted-le old ms counted (Err error) new counter (same, is) = omega (arith, is)
 
   -- and a trial that is done makes the list longer by at most two a member
   pub grown-le : (sections : List Cuboid) (ms : List Size) (ls last : List Cuboid) (n : ℕ) → IsDone may sections ms ls last n → length last ≤ length sections + 2 * length ms
@@ -219,7 +236,7 @@ module _ {Id B : Type 0} (rules : Rules Id B) (o : IsTotalOrder rules.bin_cmp) w
       after = record p.bin { sections = p.last }
 
       seen : (id : B) → lookup (is_at (rules.bin_cmp id)) new ≡ cond (is_at (rules.bin_cmp p.here) id) (Some after) (lookup (is_at (rules.bin_cmp id)) old)
-      seen id = ap (lookup (is_at (rules.bin_cmp id))) p.new_is ∙ lookup-written o p.here old p.bin after id p.found
+      seen id = lookup-placed rules o barred order g old ps new n p id
 
       at : (id : B) → is_at (rules.bin_cmp p.here) id ≡ true → free_in rules.bin_cmp new id ≤ free_in rules.bin_cmp old id + 2 * length g.sizes
       at id e =
@@ -349,11 +366,6 @@ module _ {Id B : Type 0} (rules : Rules Id B) (o : IsTotalOrder rules.bin_cmp) w
         long = length-map order name ∙ length_permutation p.unsorted order p.permutation ∙ sym (length-zip _ bins p.unsorted p.each);
         distinct = IsDistinct-IsPermutation (eq_by_cmp rules.bin_cmp) (λ x y. is_at-back o x y) (map name p.unsorted) (map name order) (IsPermutation-map name p.unsorted order p.permutation) (names-differ bins p.unsorted d p.each);
       }
-
--- the keys are those of the map
-pub keys-bins : {B : Type 0} (es : List (B × Held)) → keys_of (bins_of es) ≡ keys_of es
-keys-bins [] = refl
-keys-bins (e ∷ es) = ap (λ ks. e.0 ∷ ks) (keys-bins es)
 
 -- a count that began at none, added to another
 pub AreCounted-added : {Id B G : Type 0} (all : Collection Id G) (old : List (B × Bin)) (tests none made before after : ℕ) → none ≡ 0 → AreCounted all old tests none made → after ≡ saturated (before + made) → AreCounted all old tests before after

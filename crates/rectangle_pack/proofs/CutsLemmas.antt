@@ -1,17 +1,19 @@
 -- What the pieces of a cut have in common with the section.
-use Rattle.std.proofs.Common.{◌≡◌, ℕ, ◌+◌, ◌-◌, ◌<◌, ◌≤◌, Bool, true, false, ◌&&◌, cond, List, [], ◌∷◌, ◌++◌, refl, arith, length, subst, length-append, take, get_or}
+use Rattle.std.proofs.Common.{◌≡◌, ℕ, ◌+◌, ◌-◌, ◌<◌, ◌≤◌, Bool, true, false, ◌&&◌, cond, List, [], ◌∷◌, ◌++◌, refl, arith, length, take, get_or}
 use Rattle.std.specs.Bool.{◌==◌, if◌then◌else◌}
 use Rattle.std.specs.Prelude.{All, map}
 use Rattle.std.specs.declared.cmp.Ordering.{Ordering}
 use Rattle.std.proofs.lemmas.Bool.{and_parts, eqb-true}
 use Rattle.std.proofs.lemmas.List.Elements.{All-nil, All-cons, All-map, All-weaker, All-take}
-use Rattle.std.proofs.Math.Seq.{get_or-append_seam}
 use Rattle.std.proofs.lemmas.Bool.Decides.{nat_tests}
-use Rattle.rectangle_pack.specs.Boxes.{Axis, AxisX, AxisY, AxisZ, Size, Cuboid, IsPartOf, Holds, IsU32, FitsU32, extent, start, is_within, is_cell_of}
+use Rattle.rectangle_pack.specs.declared.axis.Axis.{Axis}
+use Rattle.rectangle_pack.specs.declared.axis.Axis.TheVariants.{X, Y, Z}
+use Rattle.rectangle_pack.specs.Boxes.{Size, Cuboid, IsPartOf, Holds, IsU32, FitsU32, extent, start, is_within, is_cell_of}
 use Rattle.rectangle_pack.specs.Closures.{AreThreeSizes}
 use Rattle.rectangle_pack.specs.Cuts.{is_same, is_before, placed, piece_start, piece_extent, piece, pieces, orders, cuts, sizes_of}
 use Rattle.rectangle_pack.specs.Choice.{MayChoose}
 use Rattle.rectangle_pack.specs.Counting.{times_filled, Tiles}
+use Rattle.rectangle_pack.proofs.AppendLemmas.{All-middle}
 
 -- where a place lies on one axis: in the box, in the rest of the section, or outside
 pub data Third : Type 0 where
@@ -66,12 +68,12 @@ piece_has s m order a b place l =
 
 -- whether the piece of the axis a has a cell that lies so on the three axes
 abbrev pub has_thirds : List Axis → Axis → Third → Third → Third → Bool
-has_thirds order a x y z = has_third order a AxisX x && has_third order a AxisY y && has_third order a AxisZ z
+has_thirds order a x y z = has_third order a X x && has_third order a Y y && has_third order a Z z
 
 -- whether the box and the three pieces have such a cell as often as the section
 abbrev pub fills_once : List Axis → Third → Third → Third → Bool
 fills_once order x y z =
-    (0 + cond (low x && low y && low z) 1 0 + cond (has_thirds order AxisX x y z) 1 0 + cond (has_thirds order AxisY x y z) 1 0 + cond (has_thirds order AxisZ x y z) 1 0)
+    (0 + cond (low x && low y && low z) 1 0 + cond (has_thirds order X x y z) 1 0 + cond (has_thirds order Y x y z) 1 0 + cond (has_thirds order Z x y z) 1 0)
     == (0 + cond (in_section x && in_section y && in_section z) 1 0)
 
 abbrev pub FillsOnce : List Axis → Type 0
@@ -97,19 +99,19 @@ fills_tiles : (order : List Axis) → FillsOnce order → (s : Cuboid) (m : Size
 unfolding times_filled is_cell_of pieces piece start extent
 fills_tiles order once s m h = record {
   same = λ c.
-      let x = lies (start AxisX s) (extent AxisX s.whd) (extent AxisX m) c.i h.wide in
-      let y = lies (start AxisY s) (extent AxisY s.whd) (extent AxisY m) c.j h.high in
-      let z = lies (start AxisZ s) (extent AxisZ s.whd) (extent AxisZ m) c.k h.deep in
+      let x = lies (start X s) (extent X s.whd) (extent X m) c.i h.wide in
+      let y = lies (start Y s) (extent Y s.whd) (extent Y m) c.j h.high in
+      let z = lies (start Z s) (extent Z s.whd) (extent Z m) c.k h.deep in
       simp (
-        piece_has s m order AxisX AxisX c.i x,
-        piece_has s m order AxisX AxisY c.j y,
-        piece_has s m order AxisX AxisZ c.k z,
-        piece_has s m order AxisY AxisX c.i x,
-        piece_has s m order AxisY AxisY c.j y,
-        piece_has s m order AxisY AxisZ c.k z,
-        piece_has s m order AxisZ AxisX c.i x,
-        piece_has s m order AxisZ AxisY c.j y,
-        piece_has s m order AxisZ AxisZ c.k z,
+        piece_has s m order X X c.i x,
+        piece_has s m order X Y c.j y,
+        piece_has s m order X Z c.k z,
+        piece_has s m order Y X c.i x,
+        piece_has s m order Y Y c.j y,
+        piece_has s m order Y Z c.k z,
+        piece_has s m order Z X c.i x,
+        piece_has s m order Z Y c.j y,
+        piece_has s m order Z Z c.k z,
         x.in_low,
         x.in_all,
         y.in_low,
@@ -135,12 +137,6 @@ all_cuts P s m h (order ∷ others) all =
 all_six : (P : List Cuboid → Type 0) (s : Cuboid) (m : Size) → ((order : List Axis) → FillsOnce order → P (pieces s m order)) → All P (cuts s m)
 unfolding cuts
 all_six P s m h = all_cuts P s m h orders refl
-
--- what holds of each element holds of one in the middle
-pub All-middle : {X : Type 0} (P : X → Type 0) (xs before after : List X) (x : X) → xs ≡ before ++ x ∷ after → All P xs → P x
-All-middle P xs before after x e h =
-    let at : P (get_or (before ++ x ∷ after) (length before) x) = subst (λ ys. (k : ℕ) → k < length ys → P (get_or ys k x)) e (λ k l. h k x l) (length before) (simp length-append (omega arith)) in
-    subst P (get_or-append_seam before x after x) at
 
 -- what each order has, the chosen cut has
 pub chosen_has : {R : List Cuboid → List Cuboid → Ordering → Type 0} (P : List Cuboid → Type 0) (s : Cuboid) (m : Size) (cut : List Cuboid) → ((order : List Axis) → FillsOnce order → P (pieces s m order)) → MayChoose R (cuts s m) cut → P cut
@@ -178,12 +174,12 @@ starts_from s m a b = elim (is_same a b) as (λ q. start b s ≤ (if q then star
 piece_part : (s : Cuboid) (m : Size) (order : List Axis) (a : Axis) → Holds s m → IsPartOf (piece s m order a) s
 unfolding piece start extent
 piece_part s m order a h = record {
-  from_x = starts_from s m a AxisX;
-  to_x = ends_by s m order a AxisX h.wide;
-  from_y = starts_from s m a AxisY;
-  to_y = ends_by s m order a AxisY h.high;
-  from_z = starts_from s m a AxisZ;
-  to_z = ends_by s m order a AxisZ h.deep;
+  from_x = starts_from s m a X;
+  to_x = ends_by s m order a X h.wide;
+  from_y = starts_from s m a Y;
+  to_y = ends_by s m order a Y h.high;
+  from_z = starts_from s m a Z;
+  to_z = ends_by s m order a Z h.deep;
 }
 
 -- each piece of an order is a part of the section
@@ -191,9 +187,9 @@ order_part : (s : Cuboid) (m : Size) (order : List Axis) → Holds s m → All (
 unfolding pieces
 order_part s m order h =
     let P : Cuboid → Type 0 = λ b. IsPartOf b s in
-    All-cons P (piece s m order AxisX) (piece s m order AxisY ∷ piece s m order AxisZ ∷ []) (piece_part s m order AxisX h)
-    (All-cons P (piece s m order AxisY) (piece s m order AxisZ ∷ []) (piece_part s m order AxisY h)
-    (All-cons P (piece s m order AxisZ) [] (piece_part s m order AxisZ h) (All-nil P)))
+    All-cons P (piece s m order X) (piece s m order Y ∷ piece s m order Z ∷ []) (piece_part s m order X h)
+    (All-cons P (piece s m order Y) (piece s m order Z ∷ []) (piece_part s m order Y h)
+    (All-cons P (piece s m order Z) [] (piece_part s m order Z h) (All-nil P)))
 
 -- and so of each cut
 pub cuts_part : (s : Cuboid) (m : Size) → Holds s m → All (All (λ b. IsPartOf b s)) (cuts s m)

@@ -1,13 +1,13 @@
 -- What each change of a bin's boxes keeps: a step, a trial, a group that is placed, a packing.
 use Rattle.std.proofs.Common.{◌≡◌, ℕ, List, [], ◌∷◌, ◌++◌, refl, ap, sym, ◌∙◌, cond, true, false, Bool, arith, append-nil}
-use Rattle.std.specs.Prelude.{Some, IsSome, All}
+use Rattle.std.specs.Prelude.{Some, All}
 use Rattle.std.specs.declared.cmp.Ordering.{Ordering}
 use Rattle.std.specs.declared.cmp.Ordering.TheVariants.{Equal}
 use Rattle.std.specs.Cmp.{IsTotalOrder, Equal-is}
 use Rattle.std.specs.Ordering.{is_eq}
 use Rattle.std.specs.Map.{lookup}
 use Rattle.std.specs.BTreeMap.{is_at}
-use Rattle.std.proofs.lemmas.List.Elements.{All-nil, All-cons, All-head, All-tail, All-append, All-weaker}
+use Rattle.std.proofs.lemmas.List.Elements.{All-append, All-push, All-weaker}
 use Rattle.rectangle_pack.specs.declared.pack.answer.Placement.{Placement}
 use Rattle.rectangle_pack.specs.Boxes.{Size, Cuboid, Cell, IsInside, has_cells}
 use Rattle.rectangle_pack.specs.Bins.{Bin}
@@ -16,11 +16,11 @@ use Rattle.rectangle_pack.specs.Counting.{times_filled}
 use Rattle.rectangle_pack.specs.Keeping.{placed_in}
 use Rattle.rectangle_pack.specs.Packing.{Rules, Members, Stage, IsPlaced, AreAllPlaced}
 use Rattle.rectangle_pack.specs.Steps.{IsStep, IsDone}
+use Rattle.rectangle_pack.proofs.AppendLemmas.{All-front, All-back, All-middle, All-without}
 use Rattle.rectangle_pack.proofs.CountingLemmas.{filled-append, filled-cons, filled_none}
-use Rattle.rectangle_pack.proofs.CutsLemmas.{All-middle}
-use Rattle.rectangle_pack.proofs.KeepingLemmas.{placed_in-here, placed_in-none, placed_in-append, lookup-written, was_there}
 use Rattle.rectangle_pack.proofs.MapsLemmas.{lookup-equal}
-use Rattle.rectangle_pack.proofs.StepsLemmas.{All-front, All-back, IsStep-keeps, filled-step}
+use Rattle.rectangle_pack.proofs.PlacedLemmas.{placed_in-here, placed_in-none, placed_in-append, lookup-placed}
+use Rattle.rectangle_pack.proofs.StepsLemmas.{IsStep-keeps, filled-step}
 
 -- a relation between the boxes of a bin before and after a change: it goes on from one change to the next, boxes may stand
 -- beside, a box may move to the end of the free sections, and a box without cells may go
@@ -71,10 +71,9 @@ IsFrame-recut = record {
     inside = λ size h.
         let P : Cuboid → Type 0 = IsInside size in
         let rest = All-back P free (before ++ box ∷ after) h in
-        let tail = All-back P before (box ∷ after) rest in
         All-append P (free ++ box ∷ []) (before ++ after)
-        (All-append P free (box ∷ []) (All-front P free (before ++ box ∷ after) h) (All-cons P box [] (All-head P box after tail) (All-nil P)))
-        (All-append P before after (All-front P before (box ∷ after) rest) (All-tail P box after tail));
+        (All-push P free box (All-front P free (before ++ box ∷ after) h) (All-middle P (before ++ box ∷ after) before after box refl rest))
+        (All-without P before box after rest);
   };
   dropped = λ free before after box empty. record {
     cells = λ c. omega (
@@ -88,9 +87,7 @@ IsFrame-recut = record {
     );
     inside = λ size h.
         let P : Cuboid → Type 0 = IsInside size in
-        let rest = All-back P free (before ++ box ∷ after) h in
-        All-append P free (before ++ after) (All-front P free (before ++ box ∷ after) h)
-        (All-append P before after (All-front P before (box ∷ after) rest) (All-tail P box after (All-back P before (box ∷ after) rest)));
+        All-append P free (before ++ after) (All-front P free (before ++ box ∷ after) h) (All-without P before box after (All-back P free (before ++ box ∷ after) h));
   };
 }
 
@@ -103,9 +100,7 @@ KeptBySteps-recut may = record {
         let here : P step.section = All-middle P sections step.before step.after step.section step.splits h in
         let fits = step.held in
         let at : P l = rw step.location_is (record { within_x = omega (arith, here.within_x, fits.wide); within_y = omega (arith, here.within_y, fits.high); within_z = omega (arith, here.within_z, fits.deep) }) in
-        All-append P next (l ∷ [])
-        (IsStep-keeps may P sections m l next n (λ b s part inside. record { within_x = omega arith; within_y = omega arith; within_z = omega arith }) step h)
-        (All-cons P l [] at (All-nil P));
+        All-push P next l (IsStep-keeps may P sections m l next n (λ b s part inside. record { within_x = omega arith; within_y = omega arith; within_z = omega arith }) step h) at;
   };
 }
 
@@ -130,11 +125,8 @@ module _ {R : List Cuboid → List Cuboid → Type 0} (frame : IsFrame R) {Id B 
       → (q : B) (before : Bin) → lookup (is_at (rules.bin_cmp q)) old ≡ Some before → IsChanged R rules.bin_cmp placements new q before
   changed-placed barred order group old placements new n h q before was = by (is_eq (rules.bin_cmp h.here q)) refl
     where
-      after : Bin
-      after = record h.bin { sections = h.last }
-
-      seen : lookup (is_at (rules.bin_cmp q)) new ≡ cond (is_eq (rules.bin_cmp h.here q)) (Some after) (lookup (is_at (rules.bin_cmp q)) old)
-      seen = ap (lookup (is_at (rules.bin_cmp q))) h.new_is ∙ lookup-written o h.here old h.bin after q h.found
+      seen : lookup (is_at (rules.bin_cmp q)) new ≡ cond (is_eq (rules.bin_cmp h.here q)) (Some (record h.bin { sections = h.last })) (lookup (is_at (rules.bin_cmp q)) old)
+      seen = lookup-placed rules o barred order group old placements new n h q
 
       tests : (b : Bool) → is_eq (rules.bin_cmp h.here q) ≡ b → All (λ (p : Placement Id B). is_at (rules.bin_cmp p.bin) q ≡ b) placements
       tests b e = All-weaker (λ (p : Placement Id B). rules.bin_cmp h.here p.bin ≡ Equal) (λ (p : Placement Id B). is_at (rules.bin_cmp p.bin) q ≡ b) (λ p same. rw (← o.congr h.here p.bin q same) e) placements h.named.together
@@ -146,7 +138,7 @@ module _ {R : List Cuboid → List Cuboid → Type 0} (frame : IsFrame R) {Id B 
           let is : before ≡ h.bin = cc in
           let there : placed_in rules.bin_cmp placements q ≡ h.locations = placed_in-here rules.bin_cmp placements q (tests true e) ∙ h.named.at in
           record {
-            after = after;
+            after = record h.bin { sections = h.last };
             found = seen ∙ rw e refl;
             kept = rw is refl;
             framed = rw (is, there) (framed-done frame rules.may kept h.bin.sections group.sizes h.locations h.last h.count h.done);
@@ -174,15 +166,3 @@ module _ {R : List Cuboid → List Cuboid → Type 0} (frame : IsFrame R) {Id B 
           framed = rw (joined, placed_in-append rules.bin_cmp first rest q)
               (frame.next before.sections head.after.sections (placed_in rules.bin_cmp first q) tail.after.sections (placed_in rules.bin_cmp rest q) head.framed tail.framed);
         }
-
-    -- each bin that a placement names is there before the packing
-    pub known-all : (order : List B) (gs : List (K × Members Id)) (old : Stage K B) (placements : List (Placement Id B)) (new : Stage K B) (tests : ℕ) → AreAllPlaced rules bars order gs old placements new tests
-        → All (λ p. IsSome (lookup (is_at (rules.bin_cmp p.bin)) old.bins)) placements
-    known-all order [] old placements new n h = rw h.0 (All-nil (λ (p : Placement Id B). IsSome (lookup (is_at (rules.bin_cmp p.bin)) old.bins)))
-    known-all order (g ∷ gs) old placements new n (first, next, one, rest, others, placed, later, joined, counted) =
-        let mid : Stage K B = record { bins = next; homes = (g.0, placed.here) ∷ old.homes } in
-        let alone : AreAllPlaced rules bars order (g ∷ []) old first mid one = (first, next, one, [], 0, placed, (refl, refl, refl), sym (append-nil first), omega arith) in
-        let There : Stage K B → Placement Id B → Type 0 = λ stage p. IsSome (lookup (is_at (rules.bin_cmp p.bin)) stage.bins) in
-        rw joined (All-append (There old) first rest
-        (All-weaker (λ (p : Placement Id B). rules.bin_cmp placed.here p.bin ≡ Equal) (There old) (λ p same. rw (← lookup-equal o placed.here p.bin same old.bins, placed.found) refl) first placed.named.together)
-        (All-weaker (There mid) (There old) (λ p some. was_there rules o bars order (g ∷ []) old first mid one alone p.bin some) rest (known-all order gs mid rest new others later)))

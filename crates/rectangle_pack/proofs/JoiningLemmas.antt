@@ -1,5 +1,5 @@
 -- Joins of two sections, and what joining keeps.
-use Rattle.std.proofs.Common.{arith, ℕ, zero, suc, ◌≡◌, ◌≢◌, ◌+◌, ◌-◌, ◌<◌, ◌≤◌, ◌⊎◌, inl, inr, ⊎_elim, min, max, Bool, true, false, cond, eqb, ◌&&◌, ◌||◌, Decides, List, length, get_or, set, take, drop, refl, ap, sym, subst, ◌∙◌, length-set, lt-ltb, le-ltb}
+use Rattle.std.proofs.Common.{arith, ℕ, zero, suc, ◌≡◌, ◌≢◌, ◌+◌, ◌-◌, ◌<◌, ◌≤◌, ◌⊎◌, inl, inr, ⊎_elim, min, max, Bool, false, cond, eqb, ◌&&◌, ◌||◌, Decides, List, length, get_or, set, take, drop, refl, ap, sym, subst, ◌∙◌, length-set, lt-ltb, le-ltb}
 use Rattle.std.specs.Prelude.{All}
 use Rattle.std.specs.List.{remove}
 use Rattle.std.proofs.lemmas.Bool.{cases_lt, cases_Bool, false_from_ne_true, both_ways}
@@ -8,25 +8,16 @@ use Rattle.std.proofs.lemmas.List.{get_or-set_other, get_or_default}
 use Rattle.std.proofs.lemmas.List.Edits.{length-remove}
 use Rattle.std.proofs.lemmas.List.Elements.{All-set, All-append, All-take, All-drop}
 use Rattle.std.proofs.lemmas.List.Sums.{sum_by-set, sum_by-remove}
-use Rattle.rectangle_pack.specs.Boxes.{Axis, AxisX, AxisY, AxisZ, Size, Cuboid, Cell, IsInside, FitsU32, is_cell_of, extent, start}
+use Rattle.rectangle_pack.specs.declared.axis.Axis.{Axis}
+use Rattle.rectangle_pack.specs.declared.axis.Axis.TheVariants.{X, Y, Z}
+use Rattle.rectangle_pack.specs.Boxes.{Size, Cuboid, Cell, IsInside, FitsU32, is_cell_of, extent, start, end}
 use Rattle.rectangle_pack.specs.Counting.{times_filled}
 use Rattle.rectangle_pack.specs.Keeping.{KeepCells}
 use Rattle.rectangle_pack.specs.Bins.{IsSound}
 use Rattle.rectangle_pack.specs.private.Spans.{spans_of}
-use Rattle.rectangle_pack.specs.Joining.{end, SharesFace, join_start, join_extent, join, entry, IsFirstNeighbour, joined_list, joined_index, IsJoined, PastEnd, Alone, Joins, IsSwept}
-use Rattle.rectangle_pack.proofs.BoxesLemmas.{is_cell_of-true, is_cell_of-from}
+use Rattle.rectangle_pack.specs.Joining.{SharesFace, join_start, join_extent, join, entry, IsFirstNeighbour, joined_list, joined_index, IsJoined, PastEnd, Alone, Joins, IsSwept}
+use Rattle.rectangle_pack.proofs.AxesLemmas.{cases_axis, end-is, coordinate, LiesIn, lies_in, is_cell}
 use Rattle.rectangle_pack.proofs.CountingLemmas.{KeepCells-from_counts}
-
-cases_axis : (a b : Axis) → (a ≡ b) ⊎ (a ≢ b)
-cases_axis AxisX AxisX = inl refl
-cases_axis AxisX AxisY = inr (λ e. cc)
-cases_axis AxisX AxisZ = inr (λ e. cc)
-cases_axis AxisY AxisX = inr (λ e. cc)
-cases_axis AxisY AxisY = inl refl
-cases_axis AxisY AxisZ = inr (λ e. cc)
-cases_axis AxisZ AxisX = inr (λ e. cc)
-cases_axis AxisZ AxisY = inr (λ e. cc)
-cases_axis AxisZ AxisZ = inl refl
 
 -- two that share a whole face do so in either order
 pub SharesFace-symmetric : (a b : Cuboid) → SharesFace a b → SharesFace b a
@@ -36,41 +27,37 @@ SharesFace-symmetric a b f = record {
   alike = λ o n. let k = f.alike o n in (sym k.0, sym k.1);
 }
 
-end-is : (a : Axis) (b : Cuboid) → end a b ≡ start a b + extent a b.whd
-unfolding end
-end-is a b = refl
-
 start-join : (a : Axis) (b e : Cuboid) → start a (join b e) ≡ min (start a b) (start a e)
 unfolding start join join_start
-start-join AxisX b e = refl
-start-join AxisY b e = refl
-start-join AxisZ b e = refl
+start-join X b e = refl
+start-join Y b e = refl
+start-join Z b e = refl
 
 end-join : (a : Axis) (b e : Cuboid) → end a (join b e) ≡ max (end a b) (end a e)
 unfolding start extent end join join_start join_extent
-end-join AxisX b e = omega arith
-end-join AxisY b e = omega arith
-end-join AxisZ b e = omega arith
+end-join X b e = omega arith
+end-join Y b e = omega arith
+end-join Z b e = omega arith
 
 -- what a face on the axis a says of the stretches, where o and p are the other axes
 FaceOn : (a o p : Axis) (b e : Cuboid) → Type 0
 FaceOn a o p b e =
     ((end a b ≡ start a e) ⊎ (end a e ≡ start a b)) × ((start o b ≡ start o e) × (end o b ≡ end o e)) × ((start p b ≡ start p e) × (end p b ≡ end p e))
 
-SharesFace-from : (b e : Cuboid) → (FaceOn AxisX AxisY AxisZ b e ⊎ FaceOn AxisY AxisX AxisZ b e) ⊎ FaceOn AxisZ AxisX AxisY b e → SharesFace b e
+SharesFace-from : (b e : Cuboid) → (FaceOn X Y Z b e ⊎ FaceOn Y X Z b e) ⊎ FaceOn Z X Y b e → SharesFace b e
 unfolding FaceOn
 SharesFace-from b e h = elim h [
   | inl i ↦ elim i [
-    | inl k ↦ record { axis = AxisX; meet = k.0; alike = elim [ AxisX ↦ λ n. absurd (n refl) | AxisY ↦ λ n. alike AxisY k.1 | AxisZ ↦ λ n. alike AxisZ k.2 ] }
-    | inr k ↦ record { axis = AxisY; meet = k.0; alike = elim [ AxisX ↦ λ n. alike AxisX k.1 | AxisY ↦ λ n. absurd (n refl) | AxisZ ↦ λ n. alike AxisZ k.2 ] }
+    | inl k ↦ record { axis = X; meet = k.0; alike = elim [ X ↦ λ n. absurd (n refl) | Y ↦ λ n. alike Y k.1 | Z ↦ λ n. alike Z k.2 ] }
+    | inr k ↦ record { axis = Y; meet = k.0; alike = elim [ X ↦ λ n. alike X k.1 | Y ↦ λ n. absurd (n refl) | Z ↦ λ n. alike Z k.2 ] }
   ]
-  | inr k ↦ record { axis = AxisZ; meet = k.0; alike = elim [ AxisX ↦ λ n. alike AxisX k.1 | AxisY ↦ λ n. alike AxisY k.2 | AxisZ ↦ λ n. absurd (n refl) ] }
+  | inr k ↦ record { axis = Z; meet = k.0; alike = elim [ X ↦ λ n. alike X k.1 | Y ↦ λ n. alike Y k.2 | Z ↦ λ n. absurd (n refl) ] }
 ]
   where
     alike : (o : Axis) → (start o b ≡ start o e) × (end o b ≡ end o e) → (start o b ≡ start o e) × (extent o b.whd ≡ extent o e.whd)
     alike o k = (k.0, let l = k.1 in omega (arith, k.0, end-is o b, end-is o e))
 
-SharesFace-to : (b e : Cuboid) → SharesFace b e → (FaceOn AxisX AxisY AxisZ b e ⊎ FaceOn AxisY AxisX AxisZ b e) ⊎ FaceOn AxisZ AxisX AxisY b e
+SharesFace-to : (b e : Cuboid) → SharesFace b e → (FaceOn X Y Z b e ⊎ FaceOn Y X Z b e) ⊎ FaceOn Z X Y b e
 unfolding FaceOn
 SharesFace-to b e f = by f.axis f.meet (λ o n. same o (f.alike o n))
   where
@@ -78,10 +65,10 @@ SharesFace-to b e f = by f.axis f.meet (λ o n. same o (f.alike o n))
     same o k = (k.0, let l = k.1 in omega (arith, k.0, end-is o b, end-is o e))
 
     by : (a : Axis) → (end a b ≡ start a e) ⊎ (end a e ≡ start a b) → ((o : Axis) → o ≢ a → (start o b ≡ start o e) × (end o b ≡ end o e))
-        → (FaceOn AxisX AxisY AxisZ b e ⊎ FaceOn AxisY AxisX AxisZ b e) ⊎ FaceOn AxisZ AxisX AxisY b e
-    by AxisX meet alike = inl (inl (meet, alike AxisY (λ e. cc), alike AxisZ (λ e. cc)))
-    by AxisY meet alike = inl (inr (meet, alike AxisX (λ e. cc), alike AxisZ (λ e. cc)))
-    by AxisZ meet alike = inr (meet, alike AxisX (λ e. cc), alike AxisY (λ e. cc))
+        → (FaceOn X Y Z b e ⊎ FaceOn Y X Z b e) ⊎ FaceOn Z X Y b e
+    by X meet alike = inl (inl (meet, alike Y (λ e. cc), alike Z (λ e. cc)))
+    by Y meet alike = inl (inr (meet, alike X (λ e. cc), alike Z (λ e. cc)))
+    by Z meet alike = inr (meet, alike X (λ e. cc), alike Y (λ e. cc))
 
 -- tests of the stretches on each axis decide whether two share a whole face
 abbrev AreOne : ℕ × ℕ → ℕ × ℕ → Type 0
@@ -111,27 +98,6 @@ face-decides b e s t same_x same_y same_z meet_x meet_y meet_z is_s is_t sx sy s
 
     three : {P Q R : Type 0} {p q r : Bool} → Decides p P → Decides q Q → Decides r R → Decides (p && q && r) (P × Q × R)
     three {p = p} {q = q} {r = r} x y z = Decides-like (p && q && r) (λ h. (h.0.0, h.0.1, h.1)) (λ h. ((h.0, h.1), h.2)) (Decides-and (p && q) r (Decides-and p q x y) z)
-
--- cells, axis by axis
-abbrev coordinate : Axis → Cell → ℕ
-coordinate AxisX c = c.i
-coordinate AxisY c = c.j
-coordinate AxisZ c = c.k
-
-abbrev LiesIn : Cell → Cuboid → Axis → Type 0
-LiesIn c b a = (start a b ≤ coordinate a c) × (coordinate a c < end a b)
-
-lies_in : (c : Cell) (b : Cuboid) → is_cell_of c b ≡ true → (a : Axis) → LiesIn c b a
-unfolding start extent end
-lies_in c b t AxisX = let h = is_cell_of-true c b t in (h.from_x, h.below_x)
-lies_in c b t AxisY = let h = is_cell_of-true c b t in (h.from_y, h.below_y)
-lies_in c b t AxisZ = let h = is_cell_of-true c b t in (h.from_z, h.below_z)
-
-is_cell : (c : Cell) (b : Cuboid) → ((a : Axis) → LiesIn c b a) → is_cell_of c b ≡ true
-unfolding start extent end
-is_cell c b h =
-    let x = h AxisX in let y = h AxisY in let z = h AxisZ in
-    is_cell_of-from c b (record { from_x = x.0; below_x = x.1; from_y = y.0; below_y = y.1; from_z = z.0; below_z = z.1 })
 
 -- a cell of the join is a cell of exactly one of the two
 join-cells : (c : Cell) (b e : Cuboid) → SharesFace b e → cond {A = ℕ} (is_cell_of c (join b e)) 1 0 ≡ cond (is_cell_of c b) 1 0 + cond (is_cell_of c e) 1 0

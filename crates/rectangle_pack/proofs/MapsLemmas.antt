@@ -1,13 +1,16 @@
 -- Look-ups and writes at keys that are equal, in maps that agree.
 use Rattle.std.proofs.Common.{◌≡◌, Bool, true, false, cond, List, [], ◌∷◌, refl, ◌∙◌, sym, ap}
 use Rattle.std.specs.Prelude.{Option, Some, None}
+use Rattle.std.specs.List.{list_any}
 use Rattle.std.specs.Ordering.{ordering_reverse, is_eq, match_ordering}
 use Rattle.std.specs.Option.{is_some, option_map}
 use Rattle.std.specs.declared.cmp.Ordering.{Ordering}
 use Rattle.std.specs.declared.cmp.Ordering.TheVariants.{Less, Equal, Greater}
-use Rattle.std.specs.Cmp.{IsTotalOrder, Equal-is}
-use Rattle.std.specs.Map.{lookup, set_value}
+use Rattle.std.specs.Cmp.{IsTotalOrder, eq_by_cmp_equiv, Equal-is}
+use Rattle.std.specs.Map.{lookup, set_value, keys_of}
 use Rattle.std.specs.BTreeMap.{is_at, insert_entry}
+use Rattle.std.proofs.lemmas.Map.{lookup-set_value}
+use Rattle.std.proofs.lemmas.Map.Made.{is_some-lookup}
 use Rattle.rectangle_pack.specs.Results.{AreMapsAlike}
 
 pub lookup-equal : {K X : Type 0} {cmp : K → K → Ordering} → IsTotalOrder cmp → (x y : K) → cmp x y ≡ Equal → (es : List (K × X)) → lookup (is_at (cmp x)) es ≡ lookup (is_at (cmp y)) es
@@ -94,6 +97,15 @@ set_value-twice {K} {X} test (e ∷ es) v w = at (test e.0) (set_value-twice tes
     at : (b : Bool) → set_value test (set_value test es v) w ≡ set_value test es w → test e.0 ≡ b → set_value test (cond b ((e.0, v) ∷ es) (e ∷ set_value test es v)) w ≡ cond b ((e.0, w) ∷ es) (e ∷ set_value test es w)
     at true ih t = rw t refl
     at false ih t = rw (t, ih) refl
+
+-- a look-up after a write
+pub lookup-written : {K X : Type 0} {cmp : K → K → Ordering} → IsTotalOrder cmp → (here : K) (es : List (K × X)) (v w : X) (q : K) → lookup (is_at (cmp here)) es ≡ Some v → lookup (is_at (cmp q)) (set_value (is_at (cmp here)) es w) ≡ cond (is_eq (cmp here q)) (Some w) (lookup (is_at (cmp q)) es)
+lookup-written {cmp = cmp} o here es v w q found =
+    lookup-set_value (eq_by_cmp_equiv o) (is_at (cmp here)) (λ x y t. ap is_eq (o.congr here x y ((Equal-is _).0 t))) q w es (rw found refl)
+
+-- in maps of the same keys the same look-ups find something
+pub is_some-keys : {K X Y : Type 0} (test : K → Bool) (es : List (K × X)) (fs : List (K × Y)) → keys_of es ≡ keys_of fs → is_some (lookup test es) ≡ is_some (lookup test fs)
+is_some-keys test es fs same = is_some-lookup test es ∙ ap (list_any test) same ∙ sym (is_some-lookup test fs)
 
 -- what was written is found
 pub lookup-set_here : {K X : Type 0} (test : K → Bool) (es : List (K × X)) (v w : X) → lookup test es ≡ Some v → lookup test (set_value test es w) ≡ Some w

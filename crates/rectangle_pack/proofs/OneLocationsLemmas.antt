@@ -19,7 +19,7 @@ use Rattle.rectangle_pack.specs.Boxes.{Cuboid}
 use Rattle.rectangle_pack.specs.declared.pack.answer.Placement.{Placement}
 use Rattle.rectangle_pack.specs.Placed.{IsLastOf, AreLastPlacements}
 use Rattle.rectangle_pack.specs.Results.{AreMapsAlike, ArePlacementsAlike, AreLocationsAlike}
-use Rattle.rectangle_pack.proofs.CutsLemmas.{All-middle}
+use Rattle.rectangle_pack.proofs.AppendLemmas.{All-middle}
 use Rattle.rectangle_pack.proofs.MapsLemmas.{congr_right, AreOptionsAlike}
 use Rattle.rectangle_pack.proofs.OneResultLemmas.{split_last}
 use Rattle.rectangle_pack.proofs.OneOrderLemmas.{All-alike}

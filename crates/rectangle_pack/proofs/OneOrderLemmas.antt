@@ -22,6 +22,13 @@ use Rattle.rectangle_pack.proofs.MapsLemmas.{lookup-same}
 use Rattle.rectangle_pack.specs.Numbers.{saturated}
 use Rattle.rectangle_pack.specs.Orders.{falling_then, rising_then, IsGroupKey, IsGroupOrder, IsBinOrder}
 
+-- what follows of each element that is paired holds of all
+pub All-from_zip : {X Y : Type 0} (R : X → Y → Type 0) (P : X → Type 0) → ((x : X) (y : Y) → R x y → P x) → (xs : List X) (ys : List Y) → AllZip R xs ys → All P xs
+All-from_zip R P f [] [] h = All-nil P
+All-from_zip R P f [] (y ∷ ys) h = absurd h
+All-from_zip R P f (x ∷ xs) [] h = absurd h
+All-from_zip R P f (x ∷ xs) (y ∷ ys) h = All-cons P x xs (f x y h.0) (All-from_zip R P f xs ys h.1)
+
 -- what passes between elements that are alike holds of all
 pub All-alike : {X Y : Type 0} (R : X → Y → Type 0) (P : X → Type 0) (Q : Y → Type 0) → ((x : X) (y : Y) → R x y → P x → Q y) → (xs : List X) (ys : List Y) → AllZip R xs ys → All P xs → All Q ys
 All-alike R P Q passes [] [] h all = All-nil Q

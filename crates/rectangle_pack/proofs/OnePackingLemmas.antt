@@ -21,13 +21,12 @@ use Rattle.rectangle_pack.specs.Placed.{AreNamed}
 use Rattle.rectangle_pack.specs.Steps.{IsDone, IsStuck}
 use Rattle.rectangle_pack.specs.Packing.{Rules, Members, Stage, at_start, bars_by, IsStuckIn, DoesNotTake, IsPlaced, IsRefused, AreAllPlaced, AreGroups, PackingDone, PackingRefused}
 use Rattle.rectangle_pack.specs.Results.{MayBeCut, MayBeRated, ClosuresDecide, AreMapsAlike, AreSameBins, AreBinsAlike, AreCollectionsAlike, ArePlacementsAlike, HaveOneResult}
-use Rattle.rectangle_pack.proofs.CutsLemmas.{All-middle}
+use Rattle.rectangle_pack.proofs.AppendLemmas.{All-middle}
 use Rattle.rectangle_pack.proofs.ExclusionsLemmas.{is_at-equal, excluded-alike}
-use Rattle.rectangle_pack.proofs.KeepingLemmas.{All-from_zip}
 use Rattle.rectangle_pack.proofs.MapsLemmas.{AreOptionsAlike, found-alike, lookup-alike, lookup-same, set_value-alike, is_at-back}
 use Rattle.rectangle_pack.proofs.StepsLemmas.{IsDone-keeps}
 use Rattle.rectangle_pack.proofs.OneResultLemmas.{split_first, one_trial, not_done_and_stuck, MayBeCut-part}
-use Rattle.rectangle_pack.proofs.OneOrderLemmas.{AllZip-along, AllZip-back, AllZip-append, length-zip, AllZip-join, same_from_zip, one_group_order, one_bin_order}
+use Rattle.rectangle_pack.proofs.OneOrderLemmas.{All-from_zip, AllZip-along, AllZip-back, AllZip-append, length-zip, AllZip-join, same_from_zip, one_group_order, one_bin_order}
 
 -- as far as both lists go, they are alike
 abbrev Agree : {X : Type 0} → (X → X → Type 0) → List X → List X → Type 0

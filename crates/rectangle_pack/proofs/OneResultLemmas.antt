@@ -12,7 +12,8 @@ use Rattle.rectangle_pack.specs.Cuts.{placed, cuts, sizes_of}
 use Rattle.rectangle_pack.specs.Choice.{IsFunction, IsTotalPreorderOn, MayChoose, IsAllowedCut}
 use Rattle.rectangle_pack.specs.Steps.{AreRanked, AreLeft, IsStep, IsDone, IsStuck}
 use Rattle.rectangle_pack.specs.Results.{MayBeCut, MayBeRated, ClosuresDecide}
-use Rattle.rectangle_pack.proofs.CutsLemmas.{All-middle, chosen_part}
+use Rattle.rectangle_pack.proofs.AppendLemmas.{All-middle}
+use Rattle.rectangle_pack.proofs.CutsLemmas.{chosen_part}
 use Rattle.rectangle_pack.proofs.PassLemmas.{Contains-middle}
 use Rattle.rectangle_pack.proofs.RanksLemmas.{ranked_once}
 use Rattle.rectangle_pack.proofs.StepsLemmas.{IsStep-keeps}

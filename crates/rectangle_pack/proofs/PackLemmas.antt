@@ -35,7 +35,7 @@ use Rattle.rectangle_pack.specs.Placed.{AreNamed, IsLastOf, AreLastPlacements}
 use Rattle.rectangle_pack.specs.private.TrialJournal.{GoesBack}
 use Rattle.rectangle_pack.proofs.PackingOrderLemmas.{AllZip-more}
 use Rattle.rectangle_pack.proofs.MapsLemmas.{lookup-equal, set_value-equal, is_eq-back}
-use Rattle.rectangle_pack.proofs.JournalLemmas.{bins_of-set_value, lookup-bins_of, IsRoomier-grown, IsRoomier-bins, GoesBack-more, GoesBack-pushed}
+use Rattle.rectangle_pack.proofs.JournalLemmas.{bins_of-written, lookup-bins_of, IsRoomier-grown, IsRoomier-bins, GoesBack-more, GoesBack-pushed}
 
 -- a trial that is stuck, or refused memory, may leave its bin more room
 pub GoesBack-grown : {B A : Type 0} (cmp : B → B → Ordering) (now : List (B × Held)) (journal : List (DoneTrial B A)) (id : B) (v w : Held) (start : List (B × Bin))
@@ -123,7 +123,7 @@ module _ {Id B : Type 0} (rules : Rules Id B) where
       count = count;
       done = done;
       named = named;
-      new_is = bins_of-set_value (is_at (rules.bin_cmp o.1)) now w ∙ ap (λ es. set_value (is_at (rules.bin_cmp o.1)) es w.bin) same ∙ ap (set_value (is_at (rules.bin_cmp o.1)) old) rest;
+      new_is = bins_of-written (is_at (rules.bin_cmp o.1)) now _ w _ refl rest ∙ ap (λ es. set_value (is_at (rules.bin_cmp o.1)) es (record v.bin { sections = w.bin.sections })) same;
       tests_are = refl;
     },
     refl,

@@ -2,7 +2,7 @@
 use Rattle.std.proofs.Common.{◌≡◌, ℕ, ◌+◌, ◌-◌, ◌^◌, ◌<◌, List, [], ◌∷◌, ◌++◌, length, refl, ap, sym, ◌∙◌, arith, min}
 use Rattle.std.specs.Prelude.{map, All}
 use Rattle.std.specs.declared.vec.Vec.{Vec}
-use Rattle.std.specs.Map.{values_of}
+use Rattle.std.specs.Map.{values_of, keys_of}
 use Rattle.std.proofs.lemmas.List.{get_or-map, length-map, map_push}
 use Rattle.std.specs.Borrow.{Bor}
 use Rattle.std.specs.Iterator.{Yields}
@@ -139,3 +139,13 @@ counted-zip {K} {X} {A} cmp P lists (e ∷ es) (y ∷ ys) h found =
     let here : entries_at cmp lists y ≡ length e.1.items = rw (h.0.0, All-head Found e es found) refl in
     let later : sum_by (entries_at cmp lists) ys ≡ sum (map length (values_of (lists_of es))) = counted-zip cmp P lists es ys h.1 (All-tail Found e es found) in
     omega (arith, here, later, sum_by-cons (entries_at cmp lists) y ys, sum_by-cons (λ n. n) (length e.1.items) (map length (values_of (lists_of es))))
+
+-- what is named by the keys of a map, one after another, has these names
+pub names-zip : {K X Y : Type 0} (name : Y → K) (P : K × X → Y → Type 0) (es : List (K × X)) (ys : List Y) → AllZip (λ e y. (name y ≡ e.0) × P e y) es ys → map name ys ≡ keys_of es
+names-zip name P [] [] h = refl
+names-zip name P [] (y ∷ ys) h = absurd h
+names-zip name P (e ∷ es) [] h = absurd h
+names-zip name P (e ∷ es) (y ∷ ys) h =
+    let here : name y ≡ e.0 = h.0.0 in
+    let rest = names-zip name P es ys h.1 in
+    cc

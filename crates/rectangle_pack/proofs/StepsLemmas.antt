@@ -3,20 +3,24 @@ use Rattle.std.proofs.Common.{◌≡◌, ℕ, ◌+◌, ◌≤◌, Bool, true, fa
 use Rattle.std.specs.Prelude.{All, map, filter}
 use Rattle.std.specs.List.{AllZip, zip, count_by}
 use Rattle.std.specs.List.Sorted.{IsPermutation}
-use Rattle.std.proofs.lemmas.List.Elements.{All-nil, All-cons, All-head, All-tail, All-append, All-filter, All-same, All-weaker}
+use Rattle.std.proofs.lemmas.List.Elements.{All-head, All-tail, All-append, All-filter, All-same, All-weaker}
 use Rattle.std.proofs.lemmas.List.Sums.{length-filter, count_by-le-length}
 use Rattle.std.proofs.lemmas.List.Sorted.{IsPermutation-map, All-permutation, length_permutation, sum_by-IsPermutation}
 use Rattle.rectangle_pack.specs.Closures.{Answers}
 use Rattle.rectangle_pack.specs.Boxes.{Size, Cuboid, Cell, FitsU32, IsInside, IsPartOf, is_cell_of, has_cells}
 use Rattle.rectangle_pack.specs.Bins.{IsSound}
 use Rattle.rectangle_pack.specs.Cuts.{placed}
+use Rattle.rectangle_pack.specs.CutTrees.{times_in, HaveSameBoxes}
 use Rattle.rectangle_pack.specs.Counting.{times_filled, AreAllApart}
 use Rattle.rectangle_pack.specs.Keeping.{KeepCells}
 use Rattle.rectangle_pack.specs.Steps.{AreLeft, IsStep, IsDone}
+use Rattle.rectangle_pack.proofs.AppendLemmas.{All-front, All-back}
 use Rattle.rectangle_pack.proofs.BoxesLemmas.{has_cells-from}
 use Rattle.rectangle_pack.proofs.CountingLemmas.{count-cons, count_no, filled-append, filled-cons, filled-nil, apart_from_counts, counts_from_apart, KeepCells-from_counts}
 use Rattle.rectangle_pack.proofs.CutsLemmas.{chosen_part, chosen_tiles, length-chosen}
 use Rattle.rectangle_pack.proofs.RanksLemmas.{IsPermutation-ranked}
+use Rattle.rectangle_pack.proofs.SameBoxesLemmas.{HaveSameBoxes-filter}
+use Rattle.rectangle_pack.proofs.TimesLemmas.{times_in-permutation}
 
 map-zip : (R : Cuboid → ℕ → Type 0) (cut : List Cuboid) (rates : List ℕ) → AllZip R cut rates → map (λ p. p.1) (zip rates cut) ≡ cut
 map-zip R [] [] h = refl
@@ -41,7 +45,7 @@ length-left {MayRate} cut left h =
     omega (arith, ap length h.are, length-filter has_cells bs, count_by-le-length has_cells bs, length_permutation cut bs (ordered {MayRate = MayRate} cut left h))
 
 -- boxes without cells do not count
-filled-filter : (c : Cell) (bs : List Cuboid) → times_filled c (filter has_cells bs) ≡ times_filled c bs
+pub filled-filter : (c : Cell) (bs : List Cuboid) → times_filled c (filter has_cells bs) ≡ times_filled c bs
 unfolding times_filled
 filled-filter c [] = refl
 filled-filter c (b ∷ bs) = by (filled-filter c bs) (has_cells b) refl (is_cell_of c b) refl
@@ -51,7 +55,7 @@ filled-filter c (b ∷ bs) = by (filled-filter c bs) (has_cells b) refl (is_cell
     by ih false e true f = let yes : has_cells b ≡ true = has_cells-from c b f in cc
     by ih false e false f = omega (arith, count_no (is_cell_of c) b bs f)
 
-filled-permutation : (c : Cell) (bs es : List Cuboid) → IsPermutation bs es → times_filled c es ≡ times_filled c bs
+pub filled-permutation : (c : Cell) (bs es : List Cuboid) → IsPermutation bs es → times_filled c es ≡ times_filled c bs
 unfolding times_filled
 filled-permutation c bs es h = sum_by-IsPermutation (λ b. cond (is_cell_of c b) 1 0) bs es h
 
@@ -60,14 +64,11 @@ pub filled-left : {MayRate : Size → ℕ → Type 0} (c : Cell) (cut left : Lis
 filled-left {MayRate} c cut left h =
     ap (times_filled c) h.are ∙ filled-filter c _ ∙ filled-permutation c cut _ (ordered {MayRate = MayRate} cut left h)
 
--- the parts of a list cut at an element
-pub All-front : {X : Type 0} (P : X → Type 0) (xs ys : List X) → All P (xs ++ ys) → All P xs
-All-front P [] ys h = All-nil P
-All-front P (x ∷ xs) ys h = All-cons P x xs (All-head P x (xs ++ ys) h) (All-front P xs ys (All-tail P x (xs ++ ys) h))
-
-pub All-back : {X : Type 0} (P : X → Type 0) (xs ys : List X) → All P (xs ++ ys) → All P ys
-All-back P [] ys h = h
-All-back P (x ∷ xs) ys h = All-back P xs ys (All-tail P x (xs ++ ys) h)
+-- and it is the same boxes, those without cells aside
+pub HaveSameBoxes-left : {MayRate : Size → ℕ → Type 0} (cut left : List Cuboid) → AreLeft MayRate cut left → HaveSameBoxes left cut
+HaveSameBoxes-left {MayRate} cut left h = λ b cells.
+    let bs : List Cuboid = map (λ p. p.1) h.ranked in
+    ap (times_in b) h.are ∙ HaveSameBoxes-filter bs b cells ∙ times_in-permutation b cut bs (ordered {MayRate = MayRate} cut left h)
 
 module _ (may : Answers) where
   -- what passes from a section to each part of it holds after a step

@@ -1,16 +1,15 @@
 -- What each transition of a session keeps, and how a run goes on.
-use Rattle.std.proofs.Common.{◌≡◌, ℕ, ◌+◌, ◌<◌, ◌≤◌, List, [], ◌∷◌, ◌++◌, refl, ap, sym, ◌∙◌, subst, true, false, Bool, arith, length, append-nil, get_or, take}
-use Rattle.std.specs.Prelude.{Some, None, IsSome, Result, Ok, Err}
-use Rattle.std.specs.Ordering.{is_eq}
+use Rattle.std.proofs.Common.{◌≡◌, ℕ, ◌+◌, ◌<◌, ◌≤◌, List, [], ◌∷◌, ◌++◌, refl, ap, sym, ◌∙◌, subst, true, arith, length, append-nil, get_or, take}
+use Rattle.std.specs.Prelude.{Some, None, Result, Ok, Err}
 use Rattle.rectangle_pack.specs.declared.session.command.Outstanding.{Outstanding}
-use Rattle.std.proofs.lemmas.List.Elements.{All-weaker}
 use Rattle.std.specs.declared.cmp.Ordering.{Ordering}
 use Rattle.std.specs.declared.cmp.Ordering.TheVariants.{Equal}
-use Rattle.std.specs.Cmp.{IsTotalOrder, Equal-is}
+use Rattle.std.specs.Cmp.{IsTotalOrder}
 use Rattle.std.specs.Result.{IsErrAnd}
 use Rattle.std.specs.Map.{lookup, set_value}
-use Rattle.std.specs.BTreeMap.{is_at}
+use Rattle.std.specs.BTreeMap.{is_at, insert_entry}
 use Rattle.std.proofs.lemmas.List.{take_more}
+use Rattle.std.proofs.lemmas.Map.{keys-set_value}
 use Rattle.rectangle_pack.specs.declared.grouped_rects_to_place.Group.{Group}
 use Rattle.rectangle_pack.specs.declared.session.command.Command.{Command}
 use Rattle.rectangle_pack.specs.declared.session.command.Command.TheVariants.{AddBin, Pack, Release, Coalesce, CoalesceAll}
@@ -19,15 +18,17 @@ use Rattle.rectangle_pack.specs.declared.session.command.Reply.{Reply}
 use Rattle.rectangle_pack.specs.declared.session.command.Reply.TheVariants.{Done, Packed, Refused}
 use Rattle.rectangle_pack.specs.declared.session.command.SessionError.TheVariants.{DuplicateBin, UnknownBin, UnknownPlacement, NumbersUsedUp, NotEnoughBinSpace, OutOfMemory}
 use Rattle.rectangle_pack.specs.Boxes.{Size, Cuboid, IsInside}
-use Rattle.rectangle_pack.specs.Bins.{Bin, new_bin}
+use Rattle.rectangle_pack.specs.Bins.{Bin, Held, new_bin}
 use Rattle.rectangle_pack.specs.Groups.{Collection}
-use Rattle.rectangle_pack.specs.Packing.{Rules}
-use Rattle.rectangle_pack.specs.Session.{State, standing_in, boxes_of, IsSession, AddsBin, Releases, Packs, Coalesces, JoinsAt, Sweeps, IsTransition, IsRun}
+use Rattle.rectangle_pack.specs.Packing.{Rules, bins_of}
+use Rattle.rectangle_pack.specs.Session.{State, standing_in, IsSession, IsOutstanding, GivesBack, AddsBin, Releases, Packs, Coalesces, JoinsAt, Sweeps, IsTransition, IsRun}
 use Rattle.rectangle_pack.proofs.FrameLemmas.{IsRecut, IsFrame-recut}
 use Rattle.rectangle_pack.proofs.JoiningLemmas.{IsJoined-cells, IsSwept-cells, IsJoined-keeps, IsSwept-keeps, join-inside}
-use Rattle.rectangle_pack.proofs.KeepingLemmas.{lookup-written}
+use Rattle.rectangle_pack.proofs.JournalLemmas.{bins_of-written}
 use Rattle.rectangle_pack.proofs.MapsLemmas.{lookup-equal, lookup-inserted}
-use Rattle.rectangle_pack.proofs.SessionLemmas.{IsCarried, AreCarried, covered-carried, IsSession-added, IsSession-released, IsSession-done}
+use Rattle.rectangle_pack.proofs.PackLemmas.{found-bins_of}
+use Rattle.rectangle_pack.proofs.PackingOrderLemmas.{cmp-self}
+use Rattle.rectangle_pack.proofs.SessionLemmas.{None-bins_of, bins_of-insert_entry, IsSession-carried, AreCarried-written, known-kept, IsSession-added, IsSession-released, IsSession-done}
 
 -- a bin is added under an id alike under each that equals it
 pub AddsBin-equal : {Id B : Type 0} {bin_cmp : B → B → Ordering} → IsTotalOrder bin_cmp → (id other : B) → bin_cmp id other ≡ Equal → (size : Size) (old : State Id B) (reply : Reply) (new : State Id B)
@@ -61,6 +62,22 @@ module _ {Id B : Type 0} {bin_cmp : B → B → Ordering} (o : IsTotalOrder bin_
   kept-added id size old (Refused NotEnoughBinSpace) new a = absurd a
   kept-added id size old (Refused OutOfMemory) new a = unchanged bin_cmp old new a.1
 
+  -- a new bin is put into a map: a transition, and a session stays one
+  pub added-inserted : (id : B) (size : Size) (old new : List (B × Held)) (v : Held) (records : List (Outstanding Id B)) (next : ℕ)
+      → lookup (is_at (bin_cmp id)) old ≡ None → new ≡ insert_entry bin_cmp old id v → v.bin ≡ new_bin size
+      → IsSession bin_cmp (record { bins = bins_of old; records = records; next = next })
+      → AddsBin bin_cmp id size (record { bins = bins_of old; records = records; next = next }) Done (record { bins = bins_of new; records = records; next = next }) × IsSession bin_cmp (record { bins = bins_of new; records = records; next = next })
+  added-inserted id size old new v records next absent inserted fresh h =
+      let was : State Id B = record { bins = bins_of old; records = records; next = next } in
+      let is : State Id B = record { bins = bins_of new; records = records; next = next } in
+      let step : AddsBin bin_cmp id size was Done is = (
+        None-bins_of (is_at (bin_cmp id)) old absent,
+        id,
+        cmp-self o id,
+        ap (λ (bs : List (B × Bin)). record { bins = bs; records = records; next = next }) (ap bins_of inserted ∙ bins_of-insert_entry bin_cmp old id v ∙ ap (insert_entry bin_cmp (bins_of old) id) fresh),
+      ) in
+      (step, (kept-added id size was Done is step h).0)
+
   kept-released : (number : ℕ) (old : State Id B) (reply : Reply) (new : State Id B) → Releases bin_cmp number old reply new → IsKeptSession bin_cmp old new
   kept-released number old Done new (at, gives, records, next) = λ h.
       let was : IsSession bin_cmp (record { bins = old.bins; records = at.before ++ at.found ∷ at.after; next = old.next }) = subst (λ rs. IsSession bin_cmp (record { bins = old.bins; records = rs; next = old.next })) at.splits h in
@@ -74,62 +91,36 @@ module _ {Id B : Type 0} {bin_cmp : B → B → Ordering} (o : IsTotalOrder bin_
   kept-released number old (Refused NotEnoughBinSpace) new r = absurd r
   kept-released number old (Refused OutOfMemory) new r = unchanged bin_cmp old new r.2
 
+  -- a record leaves the list, where its box was given back: the same
+  pub released-removed : (number : ℕ) (old new : List (B × Bin)) (records : List (Outstanding Id B)) (next : ℕ) (at : IsOutstanding records number) → GivesBack bin_cmp old at.found.bin at.found.location new
+      → IsSession bin_cmp (record { bins = old; records = records; next = next })
+      → Releases bin_cmp number (record { bins = old; records = records; next = next }) Done (record { bins = new; records = at.before ++ at.after; next = next }) × IsSession bin_cmp (record { bins = new; records = at.before ++ at.after; next = next })
+  released-removed number old new records next at gives h =
+      let was : State Id B = record { bins = old; records = records; next = next } in
+      let is : State Id B = record { bins = new; records = at.before ++ at.after; next = next } in
+      let step : Releases bin_cmp number was Done is = (at, gives, refl, refl) in
+      (step, (kept-released number was Done is step h).0)
+
 -- boxes that stand beside a list that is cut anew
 IsRecut-beside : (old new beside : List Cuboid) → IsRecut old new → IsRecut (old ++ beside) (new ++ beside)
 IsRecut-beside old new beside h = subst (λ bs. IsRecut (old ++ beside) (new ++ bs)) (append-nil beside) (IsFrame-recut.beside old new [] beside (subst (λ bs. IsRecut old bs) (sym (append-nil new)) h))
 
-IsRecut-joined : (old new : List Cuboid) (idx lo hi : ℕ) → JoinsAt idx lo hi old new → IsRecut old new
-IsRecut-joined old new idx lo hi h = record { cells = λ c. IsJoined-cells c h; inside = λ size all. IsJoined-keeps (IsInside size) (join-inside size) h all }
+pub IsRecut-joined : (idx lo hi : ℕ) (old new : List Cuboid) → JoinsAt idx lo hi old new → IsRecut old new
+IsRecut-joined idx lo hi old new h = record { cells = λ c. IsJoined-cells c h; inside = λ size all. IsJoined-keeps (IsInside size) (join-inside size) h all }
 
-IsRecut-swept : (old new : List Cuboid) → Sweeps old new → IsRecut old new
+pub IsRecut-swept : (old new : List Cuboid) → Sweeps old new → IsRecut old new
 IsRecut-swept old new h = record { cells = λ c. IsSwept-cells c (length old) old new h; inside = λ size all. IsSwept-keeps (IsInside size) (join-inside size) (length old) old new h all }
 
 module _ {Id B : Type 0} {bin_cmp : B → B → Ordering} (o : IsTotalOrder bin_cmp) where
-  AreCarried-coalesced : (id : B) (old : State Id B) (bin : Bin) (joined : List Cuboid) → lookup (is_at (bin_cmp id)) old.bins ≡ Some bin → IsRecut bin.sections joined
-      → AreCarried IsRecut bin_cmp old (record old { bins = set_value (is_at (bin_cmp id)) old.bins (record bin { sections = joined; coalesced = true }) })
-  AreCarried-coalesced id old bin joined there recut q after found = by (is_eq (bin_cmp id q)) refl
-    where
-      joint : Bin
-      joint = record bin { sections = joined; coalesced = true }
-
-      new : State Id B
-      new = record old { bins = set_value (is_at (bin_cmp id)) old.bins joint }
-
-      by : (here : Bool) → is_eq (bin_cmp id q) ≡ here → IsCarried IsRecut bin_cmp old new q after
-      by true e =
-          let now : Some after ≡ Some joint = sym found ∙ lookup-written o id old.bins bin joint q there ∙ rw e refl in
-          let same : after ≡ joint = cc in
-          record {
-            before = bin;
-            found = sym (lookup-equal o id q ((Equal-is _).0 e) old.bins) ∙ there;
-            size = rw same refl;
-            framed = rw same (IsRecut-beside bin.sections joined (standing_in bin_cmp old.records q) recut);
-          }
-      by false e = record {
-        before = after;
-        found = sym (lookup-written o id old.bins bin joint q there ∙ rw e refl) ∙ found;
-        size = refl;
-        framed = IsFrame-recut.same (boxes_of bin_cmp old.records q after);
-      }
-
   IsSession-coalesced : (id : B) (old : State Id B) (bin : Bin) (joined : List Cuboid) → lookup (is_at (bin_cmp id)) old.bins ≡ Some bin → IsRecut bin.sections joined
       → IsSession bin_cmp old → IsSession bin_cmp (record old { bins = set_value (is_at (bin_cmp id)) old.bins (record bin { sections = joined; coalesced = true }) })
-  IsSession-coalesced id old bin joined there recut h = record {
-    covered = covered-carried bin_cmp old new (AreCarried-coalesced id old bin joined there recut) h;
-    known = All-weaker (λ (r : Outstanding Id B). IsSome (lookup (is_at (bin_cmp r.bin)) old.bins)) (λ (r : Outstanding Id B). IsSome (lookup (is_at (bin_cmp r.bin)) new.bins)) (λ r some. stays r.bin some (is_eq (bin_cmp id r.bin)) refl) old.records h.known;
-    rising = h.rising;
-    below = h.below;
-  }
-    where
-      joint : Bin
-      joint = record bin { sections = joined; coalesced = true }
-
-      new : State Id B
-      new = record old { bins = set_value (is_at (bin_cmp id)) old.bins joint }
-
-      stays : (q : B) → IsSome (lookup (is_at (bin_cmp q)) old.bins) → (here : Bool) → is_eq (bin_cmp id q) ≡ here → IsSome (lookup (is_at (bin_cmp q)) new.bins)
-      stays q some true e = rw (lookup-written o id old.bins bin joint q there, e) refl
-      stays q some false e = rw (lookup-written o id old.bins bin joint q there, e) some
+  IsSession-coalesced id old bin joined there recut h =
+      let joint : Bin = record bin { sections = joined; coalesced = true } in
+      let new : State Id B = record old { bins = set_value (is_at (bin_cmp id)) old.bins joint } in
+      IsSession-carried bin_cmp old new
+      (AreCarried-written o old id bin joint old.records there refl (λ not_so. absurd cc) (λ q e. (IsRecut-beside bin.sections joined (standing_in bin_cmp old.records q) recut, λ not_so. absurd cc)) (λ q e. refl))
+      (known-kept bin_cmp old.bins new.bins (keys-set_value (is_at (bin_cmp id)) old.bins joint) old.records h.known)
+      (record { rising = h.rising; below = h.below }) h
 
   kept-coalesced : (Joins : List Cuboid → List Cuboid → Type 0) → ((a b : List Cuboid) → Joins a b → IsRecut a b) → (id : B) (old : State Id B) (reply : Reply) (new : State Id B) → Coalesces bin_cmp Joins id old reply new → IsKeptSession bin_cmp old new
   kept-coalesced Joins recuts id old Done new (bin, there, joined, joins, are) = λ h. rw are (IsSession-coalesced id old bin joined there (recuts bin.sections joined joins) h, omega arith)
@@ -141,14 +132,22 @@ module _ {Id B : Type 0} {bin_cmp : B → B → Ordering} (o : IsTotalOrder bin_
   kept-coalesced Joins recuts id old (Refused NotEnoughBinSpace) new c = absurd c
   kept-coalesced Joins recuts id old (Refused OutOfMemory) new c = absurd c
 
-  -- and so each of the two calls keeps what holds always
-  pub IsSession-joined : (id : B) (idx lo hi : ℕ) (old : State Id B) (bin : Bin) (joined : List Cuboid) → lookup (is_at (bin_cmp id)) old.bins ≡ Some bin → JoinsAt idx lo hi bin.sections joined
-      → IsSession bin_cmp old → IsSession bin_cmp (record old { bins = set_value (is_at (bin_cmp id)) old.bins (record bin { sections = joined; coalesced = true }) })
-  IsSession-joined id idx lo hi old bin joined there joins h = IsSession-coalesced id old bin joined there (IsRecut-joined bin.sections joined idx lo hi joins) h
-
-  pub IsSession-swept : (id : B) (old : State Id B) (bin : Bin) (joined : List Cuboid) → lookup (is_at (bin_cmp id)) old.bins ≡ Some bin → Sweeps bin.sections joined
-      → IsSession bin_cmp old → IsSession bin_cmp (record old { bins = set_value (is_at (bin_cmp id)) old.bins (record bin { sections = joined; coalesced = true }) })
-  IsSession-swept id old bin joined there joins h = IsSession-coalesced id old bin joined there (IsRecut-swept bin.sections joined joins) h
+  -- one bin of a map is written, with a list that joining leaves: the same
+  pub coalesced-written : (Joins : List Cuboid → List Cuboid → Type 0) → ((a b : List Cuboid) → Joins a b → IsRecut a b) → (id : B) (old new : List (B × Held)) (v w : Held) (records : List (Outstanding Id B)) (next : ℕ)
+      → lookup (is_at (bin_cmp id)) old ≡ Some v → new ≡ set_value (is_at (bin_cmp id)) old w → w.bin ≡ record v.bin { sections = w.bin.sections; coalesced = true } → Joins v.bin.sections w.bin.sections
+      → IsSession bin_cmp (record { bins = bins_of old; records = records; next = next })
+      → Coalesces bin_cmp Joins id (record { bins = bins_of old; records = records; next = next }) Done (record { bins = bins_of new; records = records; next = next }) × IsSession bin_cmp (record { bins = bins_of new; records = records; next = next })
+  coalesced-written Joins recuts id old new v w records next found written stays joins h =
+      let was : State Id B = record { bins = bins_of old; records = records; next = next } in
+      let is : State Id B = record { bins = bins_of new; records = records; next = next } in
+      let step : Coalesces bin_cmp Joins id was Done is = (
+        v.bin,
+        found-bins_of (is_at (bin_cmp id)) old (bins_of old) v refl found,
+        w.bin.sections,
+        joins,
+        ap (λ (bs : List (B × Bin)). record { bins = bs; records = records; next = next }) (bins_of-written (is_at (bin_cmp id)) old new w _ written stays),
+      ) in
+      (step, (kept-coalesced Joins recuts id was Done is step h).0)
 
 module _ {Id B G : Type 0} (group_cmp : Group G Id → Group G Id → Ordering) (rules : Rules Id B) (o : IsTotalOrder rules.bin_cmp) where
   kept-packed : (all : Collection Id G) (old : State Id B) (reply : Reply) (new : State Id B) → Packs group_cmp rules all old reply new → IsKeptSession rules.bin_cmp old new
@@ -168,7 +167,7 @@ module _ {Id B G : Type 0} (group_cmp : Group G Id → Group G Id → Ordering) 
   kept-transition (AddBin id width height depth) old reply new t = kept-added o id (record { width = width; height = height; depth = depth }) old reply new t
   kept-transition (Pack all) old reply new t = kept-packed all old reply new t
   kept-transition (Release number) old reply new t = kept-released o number old reply new t
-  kept-transition (Coalesce id idx lo hi) old reply new t = kept-coalesced o (JoinsAt idx lo hi) (λ a b h. IsRecut-joined a b idx lo hi h) id old reply new t
+  kept-transition (Coalesce id idx lo hi) old reply new t = kept-coalesced o (JoinsAt idx lo hi) (IsRecut-joined idx lo hi) id old reply new t
   kept-transition (CoalesceAll id) old reply new t = kept-coalesced o Sweeps IsRecut-swept id old reply new t
 
   pub kept-run : {A : Type 0} (commands : List (Command Id B G A)) (old : State Id B) (replies : List Reply) (new : State Id B) → IsRun group_cmp rules commands old replies new → IsKeptSession rules.bin_cmp old new

@@ -3,11 +3,12 @@ use Rattle.std.proofs.Common.{arith, ◌≡◌, ℕ, ◌+◌, ◌*◌, ◌-◌, 
 use Rattle.std.specs.Prelude.{All}
 use Rattle.std.specs.declared.cmp.Ordering.{Ordering}
 use Rattle.std.proofs.lemmas.List.Elements.{All-nil, All-cons}
-use Rattle.rectangle_pack.specs.Boxes.{AxisX, AxisY, AxisZ, Size, Cuboid, Holds, extent, start}
+use Rattle.rectangle_pack.specs.declared.axis.Axis.TheVariants.{X, Y, Z}
+use Rattle.rectangle_pack.specs.Boxes.{Size, Cuboid, Holds, extent, start}
 use Rattle.rectangle_pack.specs.Cuts.{placed, piece_start, piece_extent, piece, pieces, cuts}
 use Rattle.rectangle_pack.specs.Choice.{MayChoose}
 use Rattle.rectangle_pack.specs.Counting.{HaveVolumeOf}
-use Rattle.rectangle_pack.proofs.CutsLemmas.{All-middle}
+use Rattle.rectangle_pack.proofs.AppendLemmas.{All-middle}
 
 -- for each of the six orders, by what the box takes and leaves on each axis
 record Products (w h d W H D a b c : ℕ) : Type 0 where
@@ -36,12 +37,12 @@ unfolding cuts pieces piece piece_start piece_extent extent start
 six_add s m h =
     let P : List Cuboid → Type 0 = Adds s m in
     let v = products m.width m.height m.depth s.whd.width s.whd.height s.whd.depth (s.whd.width - m.width) (s.whd.height - m.height) (s.whd.depth - m.depth) (omega arith) (omega arith) (omega arith) in
-    All-cons P (pieces s m (AxisX ∷ AxisY ∷ AxisZ ∷ [])) (pieces s m (AxisY ∷ AxisX ∷ AxisZ ∷ []) ∷ pieces s m (AxisX ∷ AxisZ ∷ AxisY ∷ []) ∷ pieces s m (AxisZ ∷ AxisX ∷ AxisY ∷ []) ∷ pieces s m (AxisY ∷ AxisZ ∷ AxisX ∷ []) ∷ pieces s m (AxisZ ∷ AxisY ∷ AxisX ∷ []) ∷ []) (omega (arith, v.xyz))
-    (All-cons P (pieces s m (AxisY ∷ AxisX ∷ AxisZ ∷ [])) (pieces s m (AxisX ∷ AxisZ ∷ AxisY ∷ []) ∷ pieces s m (AxisZ ∷ AxisX ∷ AxisY ∷ []) ∷ pieces s m (AxisY ∷ AxisZ ∷ AxisX ∷ []) ∷ pieces s m (AxisZ ∷ AxisY ∷ AxisX ∷ []) ∷ []) (omega (arith, v.yxz))
-    (All-cons P (pieces s m (AxisX ∷ AxisZ ∷ AxisY ∷ [])) (pieces s m (AxisZ ∷ AxisX ∷ AxisY ∷ []) ∷ pieces s m (AxisY ∷ AxisZ ∷ AxisX ∷ []) ∷ pieces s m (AxisZ ∷ AxisY ∷ AxisX ∷ []) ∷ []) (omega (arith, v.xzy))
-    (All-cons P (pieces s m (AxisZ ∷ AxisX ∷ AxisY ∷ [])) (pieces s m (AxisY ∷ AxisZ ∷ AxisX ∷ []) ∷ pieces s m (AxisZ ∷ AxisY ∷ AxisX ∷ []) ∷ []) (omega (arith, v.zxy))
-    (All-cons P (pieces s m (AxisY ∷ AxisZ ∷ AxisX ∷ [])) (pieces s m (AxisZ ∷ AxisY ∷ AxisX ∷ []) ∷ []) (omega (arith, v.yzx))
-    (All-cons P (pieces s m (AxisZ ∷ AxisY ∷ AxisX ∷ [])) [] (omega (arith, v.zyx))
+    All-cons P (pieces s m (X ∷ Y ∷ Z ∷ [])) (pieces s m (Y ∷ X ∷ Z ∷ []) ∷ pieces s m (X ∷ Z ∷ Y ∷ []) ∷ pieces s m (Z ∷ X ∷ Y ∷ []) ∷ pieces s m (Y ∷ Z ∷ X ∷ []) ∷ pieces s m (Z ∷ Y ∷ X ∷ []) ∷ []) (omega (arith, v.xyz))
+    (All-cons P (pieces s m (Y ∷ X ∷ Z ∷ [])) (pieces s m (X ∷ Z ∷ Y ∷ []) ∷ pieces s m (Z ∷ X ∷ Y ∷ []) ∷ pieces s m (Y ∷ Z ∷ X ∷ []) ∷ pieces s m (Z ∷ Y ∷ X ∷ []) ∷ []) (omega (arith, v.yxz))
+    (All-cons P (pieces s m (X ∷ Z ∷ Y ∷ [])) (pieces s m (Z ∷ X ∷ Y ∷ []) ∷ pieces s m (Y ∷ Z ∷ X ∷ []) ∷ pieces s m (Z ∷ Y ∷ X ∷ []) ∷ []) (omega (arith, v.xzy))
+    (All-cons P (pieces s m (Z ∷ X ∷ Y ∷ [])) (pieces s m (Y ∷ Z ∷ X ∷ []) ∷ pieces s m (Z ∷ Y ∷ X ∷ []) ∷ []) (omega (arith, v.zxy))
+    (All-cons P (pieces s m (Y ∷ Z ∷ X ∷ [])) (pieces s m (Z ∷ Y ∷ X ∷ []) ∷ []) (omega (arith, v.yzx))
+    (All-cons P (pieces s m (Z ∷ Y ∷ X ∷ [])) [] (omega (arith, v.zyx))
     (All-nil P))))))
 
 pub chosen_volumes : {R : List Cuboid → List Cuboid → Ordering → Type 0} (s : Cuboid) (m : Size) (cut : List Cuboid) → Holds s m → MayChoose R (cuts s m) cut → HaveVolumeOf (placed s m ∷ cut) s

@@ -2,10 +2,8 @@
 use Rattle.std.specs.declared.cmp.Ordering.{Ordering}
 use Rattle.std.specs.Ordering.{nat_cmp, ordering_then}
 use Rattle.std.specs.Prelude.{ℕ, ◌+◌, ◌*◌, ◌^◌, ◌<◌, ◌≤◌, ◌&&◌, Bool, nat_le, nat_lt}
-
--- the axes: x with widths, y with heights, z with depths
-pub data Axis : Type 0 where
-  AxisX AxisY AxisZ : Axis
+use Rattle.rectangle_pack.specs.declared.axis.Axis.{Axis}
+use Rattle.rectangle_pack.specs.declared.axis.Axis.TheVariants.{X, Y, Z}
 
 -- how wide, high and deep a box is, in cells
 pub record Size : Type 0 where
@@ -22,15 +20,19 @@ pub record Cuboid : Type 0 where
 
 -- the extent of a size on an axis
 unfoldable pub extent : Axis → Size → ℕ
-extent AxisX s = s.width
-extent AxisY s = s.height
-extent AxisZ s = s.depth
+extent X s = s.width
+extent Y s = s.height
+extent Z s = s.depth
 
 -- where a box starts on an axis
 unfoldable pub start : Axis → Cuboid → ℕ
-start AxisX b = b.x
-start AxisY b = b.y
-start AxisZ b = b.z
+start X b = b.x
+start Y b = b.y
+start Z b = b.z
+
+-- where it ends: the first place beyond it
+unfoldable pub end : Axis → Cuboid → ℕ
+end a b = start a b + extent a b.whd
 
 -- sizes by width, then by height, then by depth
 abbrev pub size_order : Size → Size → Ordering

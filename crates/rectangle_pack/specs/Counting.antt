@@ -19,6 +19,10 @@ AreAllApart boxes = AllPairs AreApart boxes
 abbrev pub Cover : List Cuboid → Cuboid → Type 0
 Cover boxes whole = (c : Cell) → IsCellOf c whole ↔ Any (IsCellOf c) boxes
 
+-- the volumes of the boxes, added up
+abbrev pub total_volume : List Cuboid → ℕ
+total_volume boxes = sum_by (λ b. volume_of b.whd) boxes
+
 -- the volumes of the boxes add up to that of the whole
 abbrev pub HaveVolumeOf : List Cuboid → Cuboid → Type 0
-HaveVolumeOf boxes whole = sum_by (λ b. volume_of b.whd) boxes ≡ volume_of whole.whd
+HaveVolumeOf boxes whole = total_volume boxes ≡ volume_of whole.whd

@@ -1,12 +1,14 @@
 -- The straight cuts of a section round a box that is placed at its corner.
 use Rattle.std.specs.Prelude.{ℕ, ◌+◌, ◌-◌, Bool, true, false, List, [], ◌∷◌, map, if◌then◌else◌}
-use Rattle.rectangle_pack.specs.Boxes.{Axis, AxisX, AxisY, AxisZ, Size, Cuboid, extent, start}
+use Rattle.rectangle_pack.specs.declared.axis.Axis.{Axis}
+use Rattle.rectangle_pack.specs.declared.axis.Axis.TheVariants.{X, Y, Z}
+use Rattle.rectangle_pack.specs.Boxes.{Size, Cuboid, extent, start}
 
 -- whether two axes are one
 abbrev pub is_same : Axis → Axis → Bool
-is_same AxisX AxisX = true
-is_same AxisY AxisY = true
-is_same AxisZ AxisZ = true
+is_same X X = true
+is_same Y Y = true
+is_same Z Z = true
 is_same _ _ = false
 
 -- whether the axis a stands before the axis b in the order
@@ -31,26 +33,26 @@ piece_extent section size order a b =
 -- the piece that a cut in this order of the axes cuts off on the axis a
 unfoldable pub piece : Cuboid → Size → List Axis → Axis → Cuboid
 piece section size order a = record {
-  x = piece_start section size a AxisX;
-  y = piece_start section size a AxisY;
-  z = piece_start section size a AxisZ;
+  x = piece_start section size a X;
+  y = piece_start section size a Y;
+  z = piece_start section size a Z;
   whd = record {
-    width = piece_extent section size order a AxisX;
-    height = piece_extent section size order a AxisY;
-    depth = piece_extent section size order a AxisZ;
+    width = piece_extent section size order a X;
+    height = piece_extent section size order a Y;
+    depth = piece_extent section size order a Z;
   };
 }
 
 -- right, above and behind: the pieces on the axes x, y and z
 unfoldable pub pieces : Cuboid → Size → List Axis → List Cuboid
-pieces section size order = piece section size order AxisX ∷ piece section size order AxisY ∷ piece section size order AxisZ ∷ []
+pieces section size order = piece section size order X ∷ piece section size order Y ∷ piece section size order Z ∷ []
 
 -- the six orders of the axes, as they are listed
 abbrev pub orders : List (List Axis)
 orders =
-    (AxisX ∷ AxisY ∷ AxisZ ∷ []) ∷ (AxisY ∷ AxisX ∷ AxisZ ∷ [])
-    ∷ (AxisX ∷ AxisZ ∷ AxisY ∷ []) ∷ (AxisZ ∷ AxisX ∷ AxisY ∷ [])
-    ∷ (AxisY ∷ AxisZ ∷ AxisX ∷ []) ∷ (AxisZ ∷ AxisY ∷ AxisX ∷ []) ∷ []
+    (X ∷ Y ∷ Z ∷ []) ∷ (Y ∷ X ∷ Z ∷ [])
+    ∷ (X ∷ Z ∷ Y ∷ []) ∷ (Z ∷ X ∷ Y ∷ [])
+    ∷ (Y ∷ Z ∷ X ∷ []) ∷ (Z ∷ Y ∷ X ∷ []) ∷ []
 
 -- the pieces of each of the six cuts
 unfoldable pub cuts : Cuboid → Size → List (List Cuboid)

@@ -1,11 +1,9 @@
 -- Joining sections that share a whole face.
-use Rattle.std.specs.Prelude.{ℕ, zero, suc, ◌≡◌, ◌≢◌, ◌+◌, ◌-◌, ◌<◌, ◌≤◌, ◌⊎◌, min, max, nat_lt, if◌then◌else◌, List, AllPairs, length, slice_index_or, slice_set}
+use Rattle.std.specs.Prelude.{ℕ, zero, suc, ◌≡◌, ◌≢◌, ◌-◌, ◌<◌, ◌≤◌, ◌⊎◌, min, max, nat_lt, if◌then◌else◌, List, AllPairs, length, slice_index_or, slice_set}
 use Rattle.std.specs.List.{remove}
-use Rattle.rectangle_pack.specs.Boxes.{Axis, AxisX, AxisY, AxisZ, Cuboid, extent, start}
-
--- where a box ends on an axis
-unfoldable pub end : Axis → Cuboid → ℕ
-end a b = start a b + extent a b.whd
+use Rattle.rectangle_pack.specs.declared.axis.Axis.{Axis}
+use Rattle.rectangle_pack.specs.declared.axis.Axis.TheVariants.{X, Y, Z}
+use Rattle.rectangle_pack.specs.Boxes.{Cuboid, extent, start, end}
 
 -- two boxes share a whole face: on one axis the end of one is the start of the other, and on the others they start and run alike
 pub record SharesFace (b other : Cuboid) : Type 0 where
@@ -28,13 +26,13 @@ join_extent a b other = max (end a b) (end a other) - join_start a b other
 -- the join of two boxes
 unfoldable pub join : Cuboid → Cuboid → Cuboid
 join b other = record {
-  x = join_start AxisX b other;
-  y = join_start AxisY b other;
-  z = join_start AxisZ b other;
+  x = join_start X b other;
+  y = join_start Y b other;
+  z = join_start Z b other;
   whd = record {
-    width = join_extent AxisX b other;
-    height = join_extent AxisY b other;
-    depth = join_extent AxisZ b other;
+    width = join_extent X b other;
+    height = join_extent Y b other;
+    depth = join_extent Z b other;
   };
 }
 

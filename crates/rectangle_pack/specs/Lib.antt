@@ -11,6 +11,8 @@ pub mod Steps
 pub mod Trials
 pub mod Bins
 pub mod Joining
+pub mod CutTrees
+pub mod CutPlans
 pub mod Exclusions
 pub mod Groups
 pub mod Orders
@@ -20,6 +22,9 @@ pub mod PackAnswers
 pub mod Pushes
 pub mod Covering
 pub mod Session
+pub mod Stats
+pub mod Promise
+pub mod PlanAnswers
 pub mod Results
 pub mod Texts
 pub mod private

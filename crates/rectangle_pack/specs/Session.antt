@@ -1,5 +1,5 @@
 -- Sessions: the state of one, what holds of it always, and what each command makes of it.
-use Rattle.std.specs.Prelude.{◌≡◌, ◌≢◌, ℕ, ◌+◌, ◌<◌, ◌≤◌, ◌^◌, List, [], ◌∷◌, ◌++◌, length, map, filter, All, AllPairs, Some, None, IsSome, MatchBool, Result, Ok, Err, true}
+use Rattle.std.specs.Prelude.{◌≡◌, ◌≢◌, ℕ, ◌+◌, ◌<◌, ◌≤◌, ◌^◌, List, [], ◌∷◌, ◌++◌, length, map, filter, All, AllPairs, Some, None, IsSome, MatchBool, Result, Ok, Err, true, false}
 use Rattle.std.specs.declared.cmp.Ordering.{Ordering}
 use Rattle.std.specs.declared.cmp.Ordering.TheVariants.{Equal}
 use Rattle.std.specs.Map.{lookup, set_value}
@@ -15,8 +15,9 @@ use Rattle.rectangle_pack.specs.declared.session.command.Reply.TheVariants.{Done
 use Rattle.rectangle_pack.specs.declared.session.command.Command.{Command}
 use Rattle.rectangle_pack.specs.declared.session.command.Command.TheVariants.{AddBin, Pack, Release, Coalesce, CoalesceAll}
 use Rattle.rectangle_pack.specs.Boxes.{Size, Cuboid, has_cells}
-use Rattle.rectangle_pack.specs.Bins.{Bin, new_bin}
+use Rattle.rectangle_pack.specs.Bins.{Bin, new_bin, whole}
 use Rattle.rectangle_pack.specs.Covering.{CoverBin}
+use Rattle.rectangle_pack.specs.CutTrees.{IsFromCuts}
 use Rattle.rectangle_pack.specs.Joining.{IsJoined, IsSwept}
 use Rattle.rectangle_pack.specs.Groups.{Collection}
 use Rattle.rectangle_pack.specs.Packing.{Rules, PackingDone, PackingRefused}
@@ -38,10 +39,13 @@ abbrev pub boxes_of : {Id B : Type 0} → (B → B → Ordering) → List (Outst
 boxes_of bin_cmp records id bin = bin.sections ++ standing_in bin_cmp records id
 
 -- what holds of a session always: the boxes of each bin cover it, so that each cell is in exactly one free section or
--- outstanding placement; each placement's bin is there; numbers rise, and are below the next one
+-- outstanding placement, and until it is coalesced they are from cuts of it; each placement's bin is there; numbers rise,
+-- and are below the next one
 pub record IsSession {Id B : Type 0} (bin_cmp : B → B → Ordering) (state : State Id B) : Type 0 where
   pub covered : (id : B) (bin : Bin) → lookup (is_at (bin_cmp id)) state.bins ≡ Some bin
       → CoverBin (boxes_of bin_cmp state.records id bin) bin.size
+  pub from_cuts : (id : B) (bin : Bin) → lookup (is_at (bin_cmp id)) state.bins ≡ Some bin → bin.coalesced ≡ false
+      → IsFromCuts (boxes_of bin_cmp state.records id bin) (whole bin.size)
   pub known : All (λ r. IsSome (lookup (is_at (bin_cmp r.bin)) state.bins)) state.records
   pub rising : AllPairs (λ a b. a.number < b.number) state.records
   pub below : All (λ r. r.number < state.next) state.records
@@ -108,10 +112,11 @@ module _ {Id B : Type 0} (bin_cmp : B → B → Ordering) where
   Coalesces Joins id old (Refused UnknownBin) new = (lookup (is_at (bin_cmp id)) old.bins ≡ None) × (new ≡ old)
   Coalesces Joins id old _ new = ⊥
 
--- joining at an index over a range, and the sweep of a whole list
+-- joining at an index over a range
 abbrev pub JoinsAt : ℕ → ℕ → ℕ → List Cuboid → List Cuboid → Type 0
 JoinsAt idx lo hi old new = IsJoined old idx lo hi new
 
+-- the sweep of a whole list
 abbrev pub Sweeps : List Cuboid → List Cuboid → Type 0
 Sweeps old new = IsSwept (length old) old new
 

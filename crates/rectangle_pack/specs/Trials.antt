@@ -1,5 +1,5 @@
 -- What a trial in a bin answers, and what it leaves.
-use Rattle.std.specs.Prelude.{◌≡◌, ℕ, ◌+◌, List, Option, Some, None, Result, Ok, Err}
+use Rattle.std.specs.Prelude.{◌≡◌, ℕ, ◌+◌, ◌-◌, ◌*◌, List, Option, Some, None, Result, Ok, Err}
 use Rattle.std.specs.declared.vec.Vec.{Vec}
 use Rattle.rectangle_pack.specs.Boxes.{Size, Cuboid}
 use Rattle.rectangle_pack.specs.Bins.{Bin}
@@ -15,3 +15,7 @@ IsTrialAnswer may old members counted (Ok (Some locations)) new counter =
 IsTrialAnswer may old members counted (Ok None) new counter =
     (tests : ℕ) × IsStuck may old.sections members tests × (new ≡ old) × (counter ≡ saturated (counted + tests))
 IsTrialAnswer may old members counted (Err error) new counter = (new ≡ old) × (counter ≡ counted)
+
+-- the most fit tests that a trial of so many members makes in a list of so many sections
+abbrev pub most_tests : ℕ → ℕ → ℕ
+most_tests members sections = members * sections + members * (members - 1)

@@ -1,6 +1,7 @@
 -- Definitions that only the clauses of private functions use.
 pub mod Barred
 pub mod Bounds
+pub mod CutPlans
 pub mod Exclusions
 pub mod Journal
 pub mod Lists

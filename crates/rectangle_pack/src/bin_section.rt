@@ -1,15 +1,16 @@
 //! Free sections of a bin, and how a box is placed into one.
-ghost use Rattle.std.specs.Prelude.{◌≡◌, ◌↔◌, ◌∷◌, List, IfOk, IsTrue, true};
+ghost use Rattle.std.specs.Prelude.{◌≡◌, ◌↔◌, ◌∷◌, List, All, IfOk, IsTrue, true};
 ghost use Rattle.std.specs.Bool.{OnFalse};
 ghost use Rattle.std.specs.Cmp.{IsTotalOrder};
 ghost use Rattle.rectangle_pack.specs.Boxes.{Size, Cuboid, Cell, IsCellOf, is_cell_of, section_order, Holds, FitsU32, IsInside, SharesCell, AreApart, has_cells};
 ghost use Rattle.rectangle_pack.specs.private.Spans.{SpansMeet};
 ghost use Rattle.rectangle_pack.specs.Closures.{CanRate, CanCompare, MayRateBy, MayCompare};
-ghost use Rattle.rectangle_pack.specs.Cuts.{placed, cuts, sizes_of};
+ghost use Rattle.rectangle_pack.specs.Cuts.{placed, pieces, orders, cuts, sizes_of};
 ghost use Rattle.rectangle_pack.specs.Choice.{IsAllowedCut, IsFunction, IsTotalPreorder, IsPreorderOnCuts};
 ghost use Rattle.rectangle_pack.specs.SmallestBox.{Rates, AreRates, smallest, second_smallest, IsSmallestOrder};
 ghost use Rattle.rectangle_pack.specs.Fitting.{IsFitAnswer};
 ghost use Rattle.rectangle_pack.specs.Counting.{Tiles, AreAllApart, Cover, HaveVolumeOf};
+ghost use Rattle.rectangle_pack.specs.CutTrees.{IsFromCuts};
 
 use crate::packed_location::PackedLocation;
 use crate::rect_to_insert::RectToInsert;
@@ -348,6 +349,14 @@ pub fn cell_test_is_membership()
 /// A law: a box shares a cell with another where the other shares one with it.
 pub fn sharing_is_symmetric()
     ensures { (a b : Cuboid) → SharesCell a b → SharesCell b a }
+{}
+
+/// A law: the box at the corner of a section that holds it and the three pieces, in each of the six
+/// orders of the axes, are from cuts of the section.
+pub fn pieces_are_from_cuts()
+    ensures { (section : Cuboid) (size : Size) → Holds section size →
+        All (λ order. IsFromCuts (placed section size ∷ pieces section size order) section)
+        orders }
 {}
 
 /// A law: with a heuristic that has one answer on each size, a comparison that answers as

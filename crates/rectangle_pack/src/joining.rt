@@ -1,7 +1,8 @@
 //! Joining sections that share a whole face, in a list of sections.
-ghost use Rattle.std.specs.Prelude.{◌≡◌, ◌<◌, ◌↔◌, ◌⊎◌, min, max, length, All, IfNone, IfSome, IsTrue};
-ghost use Rattle.rectangle_pack.specs.Boxes.{FitsU32};
-ghost use Rattle.rectangle_pack.specs.Joining.{SharesFace, join, IsAlone, IsFirstNeighbour, IsJoined, IsSwept};
+ghost use Rattle.std.specs.Prelude.{ℕ, ◌≡◌, ◌<◌, ◌≤◌, ◌↔◌, ◌⊎◌, min, max, List, length, All, IfNone, IfSome, IsTrue};
+ghost use Rattle.rectangle_pack.specs.Boxes.{Cell, Cuboid, FitsU32};
+ghost use Rattle.rectangle_pack.specs.Counting.{times_filled};
+ghost use Rattle.rectangle_pack.specs.Joining.{SharesFace, ShareNoFace, join, IsAlone, IsFirstNeighbour, IsJoined, IsSwept};
 ghost use Rattle.rectangle_pack.specs.private.Spans.{spans_of};
 
 use crate::bin_section::BinSection;
@@ -54,7 +55,7 @@ fn shares_face(a: &BinSection, b: &BinSection) -> bool
 }
 
 // The join of the two sections.
-#[tactic(auto, unfolding(crate::specs::Boxes::extent, crate::specs::Boxes::start, crate::specs::Joining::end, crate::specs::Joining::join_start, crate::specs::Joining::join_extent, crate::specs::Joining::join))]
+#[tactic(auto, unfolding(crate::specs::Boxes::extent, crate::specs::Boxes::start, crate::specs::Boxes::end, crate::specs::Joining::join_start, crate::specs::Joining::join_extent, crate::specs::Joining::join))]
 fn join(a: &BinSection, b: &BinSection) -> BinSection
     requires first { FitsU32 a.now }
     requires second { FitsU32 b.now }
@@ -119,3 +120,36 @@ pub(crate) fn join_all<A: Allocator>(sections: &mut Vec<BinSection, A>)
         join_at(sections, idx, whole);
     }
 }
+
+/// A law: joining leaves each cell in as many sections as it was in, for all lists.
+pub fn joining_keeps_cells()
+    ensures { (old new : List Cuboid) (idx lo hi : ℕ) →
+        IsJoined old idx lo hi new →
+        (c : Cell) → times_filled c new ≡ times_filled c old }
+{}
+
+/// A law: a sweep from the last index of a list down to 0 leaves no two sections that share a whole
+/// face, for all lists.
+pub fn sweep_leaves_no_face()
+    ensures { (old new : List Cuboid) → IsSwept (length old) old new → ShareNoFace new }
+{}
+
+/// A law: joining leaves one list alone, and so does a sweep, for all lists.
+pub fn joining_has_one_result()
+    ensures joined { (old one other : List Cuboid) (idx lo hi : ℕ) →
+        IsJoined old idx lo hi one → IsJoined old idx lo hi other → one ≡ other }
+    ensures swept { (old one other : List Cuboid) →
+        IsSwept (length old) old one → IsSwept (length old) old other → one ≡ other }
+{}
+
+/// A law: an index past the end of the list, and an empty range, leave the list; a range that goes
+/// past the end of the list is the range that is cut there.
+pub fn joining_stays_within_the_list()
+    ensures index { (old new : List Cuboid) (idx lo hi : ℕ) →
+        length old ≤ idx → IsJoined old idx lo hi new → new ≡ old }
+    ensures empty { (old new : List Cuboid) (idx lo hi : ℕ) →
+        hi ≤ lo → IsJoined old idx lo hi new → new ≡ old }
+    ensures range { (old new : List Cuboid) (idx lo hi : ℕ) →
+        length old ≤ hi →
+        IsJoined old idx lo hi new ↔ IsJoined old idx lo (length old) new }
+{}

@@ -54,7 +54,14 @@ impl Model for PackedLocation {
     ghost use Rattle.std.proofs.Common.{ap, sym, ◌∙◌};
 
     ghost inverse_ok = { λ a h.
-        ap (λ r. record a { x_axis_rotation = r; y_axis_rotation = ZeroDegrees; z_axis_rotation = ZeroDegrees }) (sym h.0)
+        ap
+        (λ r.
+        record a {
+          x_axis_rotation = r;
+          y_axis_rotation = ZeroDegrees;
+          z_axis_rotation = ZeroDegrees;
+        })
+        (sym h.0)
         ∙ ap (λ r. record a { y_axis_rotation = r; z_axis_rotation = ZeroDegrees }) (sym h.1)
         ∙ ap (λ r. record a { z_axis_rotation = r }) (sym h.2) };
 }
@@ -72,6 +79,13 @@ impl PackedLocation {
             y_axis_rotation: RotatedBy::ZeroDegrees,
             z_axis_rotation: RotatedBy::ZeroDegrees,
         }
+    }
+
+    // The size, in cells.
+    pub(crate) fn whd(&self) -> WidthHeightDepth
+        ensures { result ≡ self.now.whd }
+    {
+        self.whd
     }
 
     /// The corner's place on the x axis.

@@ -38,8 +38,21 @@ impl Model for RectToInsert {
     ghost use Rattle.std.proofs.Common.{ap, sym, ◌∙◌};
 
     ghost inverse_ok = { λ a h.
-        ap (λ r. record a { allow_global_x_axis_rotation = r; allow_global_y_axis_rotation = false; allow_global_z_axis_rotation = false }) (sym h.0)
-        ∙ ap (λ r. record a { allow_global_y_axis_rotation = r; allow_global_z_axis_rotation = false }) (sym h.1)
+        ap
+        (λ r.
+        record a {
+          allow_global_x_axis_rotation = r;
+          allow_global_y_axis_rotation = false;
+          allow_global_z_axis_rotation = false;
+        })
+        (sym h.0)
+        ∙ ap
+        (λ r.
+        record a {
+          allow_global_y_axis_rotation = r;
+          allow_global_z_axis_rotation = false;
+        })
+        (sym h.1)
         ∙ ap (λ r. record a { allow_global_z_axis_rotation = r }) (sym h.2) };
 }
 

@@ -1,5 +1,5 @@
 //! Bins with what is placed in them: boxes are packed, and given back by number.
-ghost use Rattle.std.specs.Prelude.{◌≡◌, ◌≤◌, [], List, IsTrue, IfOk, OnErr};
+ghost use Rattle.std.specs.Prelude.{◌≡◌, ◌≤◌, [], List, IsTrue};
 ghost use Rattle.std.specs.List.Sorted.{IsStrictlySortedBy};
 ghost use Rattle.std.specs.Map.{keys_of, lookup};
 ghost use Rattle.std.specs.BTreeMap.{is_at};
@@ -13,6 +13,9 @@ ghost use Rattle.rectangle_pack.specs.declared.session.command.Reply.{Reply};
 ghost use Rattle.rectangle_pack.specs.Session.{State, IsSession, AddsBin, Packs, Releases, Coalesces, JoinsAt, Sweeps, IsTransition, IsRun, reply_of, packed_reply};
 
 mod command;
+mod cut_plan;
+mod run;
+mod stats;
 mod work;
 
 use crate::closures::{Ask, Closures};
@@ -21,7 +24,8 @@ use crate::session::work::{give_back, number_after, pack_into, position_of};
 use crate::target_bin::TargetBin;
 use crate::width_height_depth::WidthHeightDepth;
 pub use command::{Command, Outstanding, Packed, Reply, SessionError};
-use std::alloc::{AllocError, Allocator, Global};
+pub use stats::BinStats;
+use std::alloc::{Allocator, Global};
 use std::cmp::Ordering;
 use std::collections::BTreeMap;
 use std::marker::Model;
@@ -29,7 +33,8 @@ use std::ops::Range;
 
 /// Bins, and the boxes that were placed in them and not released. Each placement has a number, by
 /// which it is released. Each cell of a bin is in exactly one free section or outstanding
-/// placement, and each of these is inside the bin, always.
+/// placement, and each of these is inside the bin, always. Until the bin is coalesced, they are
+/// what straight cuts leave of it, one after another, boxes without cells aside.
 ///
 /// ```
 /// let mut session: Session<u32, &'static str> = Session::new(alloc, 0);
@@ -279,105 +284,11 @@ where
         place.coalesce_all();
         Ok(())
     }
-
-    /// Obeys the commands in order: each is done or refused as the call of its name does, and a
-    /// refused one changes nothing. There is one reply a command, in their order. A bin is added
-    /// under a clone of the command's id.
-    ///
-    /// The conditions are those of `pack`. `AllocError` says that memory for the replies was
-    /// refused, and then no command was done.
-    pub fn run<GroupId, H, C>(
-        &mut self,
-        commands: &[Command<Id, BinId, GroupId, A>],
-        heuristic: &H,
-        comparison: &C,
-    ) -> Result<Vec<Reply, A>, AllocError>
-    where
-        GroupId: Ord + Clone + Drop,
-        H: Fn(WidthHeightDepth) -> u128,
-        C: Fn([WidthHeightDepth; 3], [WidthHeightDepth; 3], &H) -> Ordering,
-        requires ids { (a b : Id) → Id.is_clone a b → IsTrue (Id.eq a b) }
-        requires bin_ids { (a b : BinId) → BinId.is_clone a b → IsTrue (BinId.eq a b) }
-        requires callable { AreCallable H.Fn C.Fn heuristic.now comparison.now }
-        ensures ok { IfOk result
-            (λ replies.
-            let order = ⟦<Group<GroupId, Id> as Ord>⟧.cmp in
-            let may = answers H.Fn C.Fn heuristic.now comparison.now in
-            IsRun order (rules_by Id.cmp BinId.cmp may) commands.now self.old replies.items
-            self.new) }
-        ensures err { OnErr result (self.new ≡ self.old) }
-        ensures always { IsSession BinId.cmp self.new }
-    {
-        let rules = Closures {
-            heuristic,
-            comparison,
-        };
-        let mut replies = Vec::with_capacity(*self.outstanding.allocator(), commands.len())?;
-        for command in commands {
-            replies.push_reserved(self.obey(command, &rules));
-        }
-        Ok(replies)
-    }
-
-    fn obey<GroupId, R>(&mut self, command: &Command<Id, BinId, GroupId, A>, rules: &R) -> Reply
-    where
-        GroupId: Ord + Clone + Drop,
-        R: Ask,
-        requires ids { (a b : Id) → Id.is_clone a b → IsTrue (Id.eq a b) }
-        requires bin_ids { (a b : BinId) → BinId.is_clone a b → IsTrue (BinId.eq a b) }
-        requires callable { R.can_ask rules.now }
-        ensures { let order = ⟦<Group<GroupId, Id> as Ord>⟧.cmp in
-            IsTransition order (rules_by Id.cmp BinId.cmp (R.may rules.now)) command.now
-            self.old result self.new }
-    {
-        match command {
-            Command::AddBin {
-                id,
-                width,
-                height,
-                depth,
-            } => reply(self.add_clone(id, *width, *height, *depth)),
-            Command::Pack(groups) => match self.pack_by(groups, rules) {
-                Ok(packed) => Reply::Packed(packed),
-                Err(error) => Reply::Refused(error),
-            },
-            Command::Release(number) => reply(self.release(*number)),
-            Command::Coalesce { bin, idx, lo, hi } => reply(self.coalesce(bin, *idx, *lo..*hi)),
-            Command::CoalesceAll(bin) => reply(self.coalesce_all(bin)),
-        }
-    }
-
-    // Adds a bin under a clone of the id, which is made for a new id alone.
-    fn add_clone(
-        &mut self,
-        id: &BinId,
-        width: u32,
-        height: u32,
-        depth: u32,
-    ) -> Result<(), SessionError>
-        requires { (a b : BinId) → BinId.is_clone a b → IsTrue (BinId.eq a b) }
-        ensures { let size : Size = record { width = width; height = height; depth = depth } in
-            AddsBin BinId.cmp id.now size self.old (reply_of result) self.new }
-    {
-        if self.bins.contains_key(id) {
-            return Err(SessionError::DuplicateBin);
-        }
-        self.add_bin(id.clone()?, width, height, depth)
-    }
-}
-
-// The reply to a call that answers nothing.
-fn reply(answer: Result<(), SessionError>) -> Reply
-    ensures { result ≡ reply_of answer }
-{
-    match answer {
-        Ok(()) => Reply::Done,
-        Err(error) => Reply::Refused(error),
-    }
 }
 
 /// A law: what holds of a session always holds after each transition of its machine, and after each
-/// run, and the next number does not fall, so that no number is given twice.
+/// run: each bin is covered, by boxes that are from straight cuts of it until it is coalesced. And
+/// the next number does not fall, so that no number is given twice.
 pub fn transitions_keep_sessions<Id, BinId, GroupId, H, C, A>(heuristic: &H, comparison: &C)
 where
     Id: Ord,

@@ -1,14 +1,13 @@
 //! Bins and their free sections.
-ghost use Rattle.std.specs.Prelude.{ℕ, ◌≡◌, ◌+◌, ◌≤◌, ◌<◌, ◌++◌, ◌∷◌, [], List, IfOk, OnOk, OnErr, IfNone, IfSome, IsOk, IsTrue, true, ◌↔◌, length, remove, filter, All};
-ghost use Rattle.rectangle_pack.specs.Boxes.{Size, Cuboid, Cell, AreApart, has_cells};
+ghost use Rattle.std.specs.Prelude.{◌≡◌, ◌+◌, ◌≤◌, ◌<◌, ◌++◌, ◌∷◌, [], IfOk, OnOk, OnErr, IfNone, IfSome, IsOk, IsTrue, true, ◌↔◌, length, remove, filter, All};
+ghost use Rattle.rectangle_pack.specs.Boxes.{Cell, AreApart, has_cells};
 ghost use Rattle.rectangle_pack.specs.Closures.{AreCallable, answers};
 ghost use Rattle.rectangle_pack.specs.Pushes.{IsFirstSharing, IsPushAnswer};
 ghost use Rattle.rectangle_pack.specs.Bins.{new_bin, IsSound, IsAccepted};
 ghost use Rattle.rectangle_pack.specs.Counting.{AreAllApart, times_filled};
 ghost use Rattle.rectangle_pack.specs.Joining.{IsJoined, IsSwept, ShareNoFace};
 ghost use Rattle.rectangle_pack.specs.Keeping.{KeepCells};
-ghost use Rattle.rectangle_pack.specs.Steps.{IsStep, IsDone};
-ghost use Rattle.rectangle_pack.specs.Trials.{IsTrialAnswer};
+ghost use Rattle.rectangle_pack.specs.Trials.{IsTrialAnswer, most_tests};
 ghost use Rattle.rectangle_pack.specs.private.Journal.{before_notes, CanUndo};
 
 use crate::bin_section::BinSection;
@@ -312,7 +311,8 @@ impl<A: Allocator + Copy> TargetBin<A> {
     ///
     /// The caller sees to it that the heuristic may be called on every size, and the comparison on
     /// every two triples of sizes with this heuristic. The counter grows by the fit tests of the
-    /// trial. An error is want of memory; without members none is taken.
+    /// trial: for m members in a list of s sections by at most m * s + m * (m - 1). An error is want
+    /// of memory, and then the counter stays; without members no memory is taken.
     pub fn place_all<H, C>(
         &mut self,
         members: &[RectToInsert],
@@ -326,6 +326,8 @@ impl<A: Allocator + Copy> TargetBin<A> {
         requires callable { AreCallable H.Fn C.Fn heuristic.now comparison.now }
         ensures answer { IsTrialAnswer (answers H.Fn C.Fn heuristic.now comparison.now)
             self.old.bin members.now tests.old result self.new.bin tests.new }
+        ensures most { tests.new ≤ tests.old +
+            most_tests (length members.now) (length self.old.bin.sections) }
         ensures no_members { length members.now ≡ 0 → IsOk result }
     {
         let mut notes = Vec::new(*self.available_bin_sections.allocator());
@@ -388,61 +390,3 @@ impl<A: Allocator + Copy> TargetBin<A> {
         undo(&mut self.available_bin_sections, notes);
     }
 }
-
-/// A law: a step makes a list of sections longer by at most two.
-pub fn step_adds_at_most_two<H, C>(heuristic: &H, comparison: &C)
-where
-    H: Fn(WidthHeightDepth) -> u128,
-    C: Fn([WidthHeightDepth; 3], [WidthHeightDepth; 3], &H) -> Ordering,
-    ensures { (sections next : List Cuboid) (member : Size) (location : Cuboid) (tests : ℕ) →
-        IsStep (answers H.Fn C.Fn heuristic.now comparison.now) sections member location next
-        tests →
-        length next ≤ length sections + 2 }
-{}
-
-/// A law: where no two sections of a list share a cell, a trial that is done keeps the cells. The
-/// free cells of before are the free cells of after and the cells of the locations, and no two of
-/// these boxes share one.
-pub fn trial_keeps_cells<H, C>(heuristic: &H, comparison: &C)
-where
-    H: Fn(WidthHeightDepth) -> u128,
-    C: Fn([WidthHeightDepth; 3], [WidthHeightDepth; 3], &H) -> Ordering,
-    ensures { (sections last locations : List Cuboid) (members : List Size) (tests : ℕ) →
-        AreAllApart sections →
-        IsDone (answers H.Fn C.Fn heuristic.now comparison.now) sections members locations last
-        tests →
-        KeepCells sections (last ++ locations) }
-{}
-
-/// A law: joining leaves each cell in as many sections as it was in, for all lists.
-pub fn joining_keeps_cells()
-    ensures { (old new : List Cuboid) (idx lo hi : ℕ) →
-        IsJoined old idx lo hi new →
-        (c : Cell) → times_filled c new ≡ times_filled c old }
-{}
-
-/// A law: a sweep from the last index of a list down to 0 leaves no two sections that share a whole
-/// face, for all lists.
-pub fn sweep_leaves_no_face()
-    ensures { (old new : List Cuboid) → IsSwept (length old) old new → ShareNoFace new }
-{}
-
-/// A law: joining leaves one list alone, and so does a sweep, for all lists.
-pub fn joining_has_one_result()
-    ensures joined { (old one other : List Cuboid) (idx lo hi : ℕ) →
-        IsJoined old idx lo hi one → IsJoined old idx lo hi other → one ≡ other }
-    ensures swept { (old one other : List Cuboid) →
-        IsSwept (length old) old one → IsSwept (length old) old other → one ≡ other }
-{}
-
-/// A law: an index past the end of the list, and an empty range, leave the list; a range that goes
-/// past the end of the list is the range that is cut there.
-pub fn joining_stays_within_the_list()
-    ensures index { (old new : List Cuboid) (idx lo hi : ℕ) →
-        length old ≤ idx → IsJoined old idx lo hi new → new ≡ old }
-    ensures empty { (old new : List Cuboid) (idx lo hi : ℕ) →
-        hi ≤ lo → IsJoined old idx lo hi new → new ≡ old }
-    ensures range { (old new : List Cuboid) (idx lo hi : ℕ) →
-        length old ≤ hi →
-        IsJoined old idx lo hi new ↔ IsJoined old idx lo (length old) new }
-{}

@@ -1,9 +1,12 @@
 //! One trial, on a list of sections, with notes by which it is undone.
-ghost use Rattle.std.specs.Prelude.{ℕ, ◌≡◌, ◌<◌, ◌≤◌, ◌+◌, ◌-◌, ◌*◌, ◌++◌, ◌∷◌, [], length, All, IfNone, IfSome, vec_len, map, filter};
+ghost use Rattle.std.specs.Prelude.{ℕ, ◌≡◌, ◌<◌, ◌≤◌, ◌+◌, ◌-◌, ◌*◌, ◌++◌, ◌∷◌, [], List, length, All, IfNone, IfSome, vec_len, map, filter};
 ghost use Rattle.std.specs.Vec.{vec_capacity};
 ghost use Rattle.std.specs.Bool.{OnTrue, OnFalse};
 ghost use Rattle.std.specs.List.{HoldsAt, AllWithin};
-ghost use Rattle.rectangle_pack.specs.Boxes.{Holds, FitsU32, has_cells};
+ghost use Rattle.rectangle_pack.specs.Boxes.{Size, Cuboid, Holds, FitsU32, has_cells};
+ghost use Rattle.rectangle_pack.specs.Closures.{answers};
+ghost use Rattle.rectangle_pack.specs.Counting.{AreAllApart};
+ghost use Rattle.rectangle_pack.specs.Keeping.{KeepCells};
 ghost use Rattle.rectangle_pack.specs.Numbers.{saturated};
 ghost use Rattle.rectangle_pack.specs.Steps.{IsStep, IsDone, IsStuck};
 ghost use Rattle.rectangle_pack.specs.private.Journal.{before_note, before_notes, CanUndoOne, CanUndo};
@@ -245,3 +248,28 @@ where
     }
     true
 }
+
+/// A law: a step makes a list of sections longer by at most two.
+pub fn step_adds_at_most_two<H, C>(heuristic: &H, comparison: &C)
+where
+    H: Fn(WidthHeightDepth) -> u128,
+    C: Fn([WidthHeightDepth; 3], [WidthHeightDepth; 3], &H) -> Ordering,
+    ensures { (sections next : List Cuboid) (member : Size) (location : Cuboid) (tests : ℕ) →
+        IsStep (answers H.Fn C.Fn heuristic.now comparison.now) sections member location next
+        tests →
+        length next ≤ length sections + 2 }
+{}
+
+/// A law: where no two sections of a list share a cell, a trial that is done keeps the cells. The
+/// free cells of before are the free cells of after and the cells of the locations, and no two of
+/// these boxes share one.
+pub fn trial_keeps_cells<H, C>(heuristic: &H, comparison: &C)
+where
+    H: Fn(WidthHeightDepth) -> u128,
+    C: Fn([WidthHeightDepth; 3], [WidthHeightDepth; 3], &H) -> Ordering,
+    ensures { (sections last locations : List Cuboid) (members : List Size) (tests : ℕ) →
+        AreAllApart sections →
+        IsDone (answers H.Fn C.Fn heuristic.now comparison.now) sections members locations last
+        tests →
+        KeepCells sections (last ++ locations) }
+{}

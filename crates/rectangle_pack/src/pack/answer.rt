@@ -1,9 +1,9 @@
 //! What a packing answers.
-ghost use Rattle.std.specs.Prelude.{◌≡◌};
-ghost use Rattle.rectangle_pack.specs.Placed.{placements_of, locations_of};
+ghost use Rattle.std.specs.Prelude.{◌≡◌, [], IsTrue, IfOk, IsOk};
+ghost use Rattle.rectangle_pack.specs.Placed.{AreLastPlacements, placements_of, locations_of};
 
 use crate::packed_location::PackedLocation;
-use std::alloc::{Allocator, Global};
+use std::alloc::{AllocError, Allocator, Global};
 use std::collections::BTreeMap;
 use std::error::Error;
 use std::fmt;
@@ -71,3 +71,27 @@ impl fmt::Display for RectanglePackError {
 }
 
 impl Error for RectanglePackError {}
+
+// The last placement of each id.
+pub(crate) fn last_placements<Id, BinId, A>(
+    alloc: A,
+    placements: &[Placement<Id, BinId>],
+) -> Result<BTreeMap<Id, (BinId, PackedLocation), A>, AllocError>
+where
+    Id: Ord + Clone + Drop,
+    BinId: Ord + Clone + Drop,
+    A: Allocator + Copy,
+    requires ids { (a b : Id) → Id.is_clone a b → IsTrue (Id.eq a b) }
+    requires bin_ids { (a b : BinId) → BinId.is_clone a b → IsTrue (BinId.eq a b) }
+    ensures last { IfOk result (λ m. AreLastPlacements Id.cmp BinId.cmp placements.now m.entries) }
+    ensures no_placements { placements.now ≡ [] → IsOk result }
+{
+    let mut last = BTreeMap::new(alloc);
+    for placement in placements {
+        last.insert(
+            placement.id.clone()?,
+            (placement.bin.clone()?, placement.location),
+        )?;
+    }
+    Ok(last)
+}

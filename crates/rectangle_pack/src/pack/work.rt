@@ -1,6 +1,6 @@
 //! One packing: group after group into the first bin that takes it, with notes by which it is
 //! undone.
-ghost use Rattle.std.specs.Prelude.{ℕ, ◌≡◌, ◌+◌, ◌++◌, [], length, List, IsTrue, IfOk, OnOk, OnErr, IsOk, IsSome, All, MatchBool, MatchOption, Ok, Some, map, true};
+ghost use Rattle.std.specs.Prelude.{ℕ, ◌≡◌, ◌+◌, ◌++◌, [], length, List, IsTrue, IfOk, OnOk, OnErr, IsSome, All, MatchBool, MatchOption, Ok, Some, map, true};
 ghost use Rattle.std.specs.BTreeMap.{get, is_at};
 ghost use Rattle.std.specs.Bool.{OnTrue};
 ghost use Rattle.std.specs.List.{AllZip, list_any, sum_by, IsDistinct};
@@ -15,7 +15,7 @@ ghost use Rattle.rectangle_pack.specs.PackAnswers.{entries_of, AreCounted};
 ghost use Rattle.rectangle_pack.specs.private.Barred.{are_in, went_to};
 ghost use Rattle.rectangle_pack.specs.private.Bounds.{AddsWithin};
 ghost use Rattle.rectangle_pack.specs.private.Orders.{keys_of_order, entries_at};
-ghost use Rattle.rectangle_pack.specs.Placed.{AreNamed, AreLastPlacements};
+ghost use Rattle.rectangle_pack.specs.Placed.{AreNamed};
 ghost use Rattle.rectangle_pack.specs.private.TrialJournal.{GoesBack};
 
 use crate::closures::Ask;
@@ -377,28 +377,4 @@ where
         rules,
         progress,
     )
-}
-
-// The last placement of each id.
-pub(crate) fn last_placements<Id, BinId, A>(
-    alloc: A,
-    placements: &[Placement<Id, BinId>],
-) -> Result<BTreeMap<Id, (BinId, PackedLocation), A>, AllocError>
-where
-    Id: Ord + Clone + Drop,
-    BinId: Ord + Clone + Drop,
-    A: Allocator + Copy,
-    requires ids { (a b : Id) → Id.is_clone a b → IsTrue (Id.eq a b) }
-    requires bin_ids { (a b : BinId) → BinId.is_clone a b → IsTrue (BinId.eq a b) }
-    ensures last { IfOk result (λ m. AreLastPlacements Id.cmp BinId.cmp placements.now m.entries) }
-    ensures no_placements { placements.now ≡ [] → IsOk result }
-{
-    let mut last = BTreeMap::new(alloc);
-    for placement in placements {
-        last.insert(
-            placement.id.clone()?,
-            (placement.bin.clone()?, placement.location),
-        )?;
-    }
-    Ok(last)
 }

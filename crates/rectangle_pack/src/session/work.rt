@@ -20,7 +20,6 @@ use crate::pack::work::{Progress, pack_noted, undo_all};
 use crate::packed_location::PackedLocation;
 use crate::session::command::Outstanding;
 use crate::target_bin::TargetBin;
-use crate::width_height_depth::WidthHeightDepth;
 use std::alloc::{AllocError, Allocator};
 use std::collections::BTreeMap;
 
@@ -38,6 +37,13 @@ pub(crate) fn position_of<Id, B>(outstanding: &[Outstanding<Id, B>], number: u64
         .ok()
 }
 
+// The box that stands at a location.
+pub(crate) fn section_at(location: &PackedLocation) -> BinSection
+    ensures { result ≡ location.now }
+{
+    BinSection::new(location.x(), location.y(), location.z(), location.whd())
+}
+
 // Gives a box back to its bin, at the end of the list. A box without cells leaves no section.
 pub(crate) fn give_back<B: Ord + Drop, A: Allocator + Copy>(
     bins: &mut BTreeMap<B, TargetBin<A>, A>,
@@ -51,8 +57,7 @@ pub(crate) fn give_back<B: Ord + Drop, A: Allocator + Copy>(
     ensures err { OnErr result
         ((has_cells location ≡ true) × (bins_of bins.new.entries ≡ bins_of bins.old.entries)) }
 {
-    let size = WidthHeightDepth::of(location.width(), location.height(), location.depth());
-    let section = BinSection::new(location.x(), location.y(), location.z(), size);
+    let section = section_at(&location);
     if !section.has_cells() {
         return Ok(());
     }

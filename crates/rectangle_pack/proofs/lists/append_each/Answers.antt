@@ -8,7 +8,7 @@ use Rattle.std.proofs.lemmas.List.Elements.{All-contains_itself}
 use Rattle.rectangle_pack.specs.Groups.{lists_of}
 use Rattle.rectangle_pack.specs.private.Lists.{times, AreAppended, TakesBack}
 use Rattle.rectangle_pack.proofs.GroupsLemmas.{on_ok}
-use Rattle.rectangle_pack.proofs.AppendLemmas.{AreAppended-none, AreAppended-step, AreAppended-known, AreAppended-roomier, times-more_same, times-more_le, All-front, All-last}
+use Rattle.rectangle_pack.proofs.AppendLemmas.{AreAppended-none, AreAppended-step, AreAppended-known, AreAppended-roomier, times-more_same, times-more_le, All-front, All-middle}
 use Rattle.rectangle_pack.proofs.TakeBackLemmas.{reverse-take_more}
 use Rattle.rectangle_pack.proofs.lists.append_each.Goals as goal
 
@@ -57,7 +57,7 @@ loop-i-preserved g c =
       left = omega (arith, long, c.loop-i.invariant.left);
       given = All-front (Contains all) c.pop.new.self.items (x ∷ []) given;
       added = λ q. AreAppended-step o keys i k q c.loop-i-test.true c.index-keys-i.is all x (get cmp c.args.map.now q) (get cmp c.reserve_at.new.map q) (get cmp c.append_at.new.map q)
-          (All-last (Contains all) c.pop.new.self.items x given)
+          (All-middle (Contains all) (c.pop.new.self.items ++ x ∷ []) c.pop.new.self.items [] x refl given)
           (AreAppended-roomier all (times cmp (take i keys) q) (get cmp c.args.map.now q) (get cmp c.loop-i.map q) (get cmp c.reserve_at.new.map q) (c.reserve_at.ensures.items q) (c.reserve_at.ensures.known q) (c.loop-i.invariant.added q))
           (c.append_at.ensures.here q) (c.append_at.ensures.others q);
       back = rw (reverse-take_more keys i k c.loop-i-test.true c.index-keys-i.is) (c.append_at.ensures.back (reverse (take i keys)) (lists_of c.args.map.now.entries) back);

@@ -9,7 +9,7 @@ use Rattle.rectangle_pack.specs.Orders.{IsGroupKey}
 use Rattle.rectangle_pack.specs.private.Orders.{keys_of_order, entries_at}
 use Rattle.std.specs.List.{AllZip}
 use Rattle.rectangle_pack.specs.Groups.{HaveSizes}
-use Rattle.rectangle_pack.proofs.PackingOrderLemmas.{AllZip-more, AllZip-map_right, items-turn, lists_of-turn, listed-zip, counted-zip, lookup-each}
+use Rattle.rectangle_pack.proofs.PackingOrderLemmas.{AllZip-more, AllZip-map_right, items-turn, lists_of-turn, listed-zip, counted-zip, lookup-each, names-zip}
 use Rattle.std.specs.Map.{lookup}
 use Rattle.std.specs.BTreeMap.{is_at}
 use Rattle.std.specs.Prelude.{IsSome}
@@ -22,7 +22,7 @@ use Rattle.std.specs.List.{IsDistinct}
 use Rattle.std.specs.Map.{keys_of}
 use Rattle.std.proofs.lemmas.List.Sorted.{IsPermutation-map}
 use Rattle.std.proofs.lemmas.Map.Keys.{IsDistinct-from_sorted, IsDistinct-IsPermutation}
-use Rattle.rectangle_pack.proofs.BarredLemmas.{names-zip}
+use Rattle.rectangle_pack.proofs.ListsLemmas.{keys-lists}
 use Rattle.rectangle_pack.proofs.MapsLemmas.{is_at-back}
 use Rattle.rectangle_pack.proofs.orders.group_order.Goals as goal
 
@@ -70,7 +70,7 @@ returns-clause-distinct g c =
     let e : map deref_pair c.loop-group.yielded ≡ c.args.lists.now.entries = (iter_end deref_pair _ _ _ _ _ _ c.into_iter-group-iterator.ensures.into_iter_gives.0 c.loop-group.yielded_by c.in-None.is c.next.ensures.steps).0 in
     let cmp = g.K.Ord.cmp in
     let name : Reverse ℕ × Bor g.row.K.Denot → g.row.K.Denot = λ o. o.1.now in
-    let names : map name c.loop-group.order.items ≡ keys_of c.args.lists.now.entries = names-zip _ c.args.lists.now.entries c.loop-group.order.items (rw e at c.loop-group.invariant) in
+    let names : map name c.loop-group.order.items ≡ keys_of c.args.lists.now.entries = names-zip name _ (lists_of c.args.lists.now.entries) c.loop-group.order.items (rw e at c.loop-group.invariant) ∙ keys-lists c.args.lists.now.entries in
     IsDistinct-IsPermutation (eq_by_cmp cmp) (λ x y. is_at-back g.met.K.Ord.total x y) (map name c.loop-group.order.items) _
     (IsPermutation-map name _ _ c.sort_falling.ensures.same)
     (subst (λ (ks : List g.row.K.Denot). IsDistinct (eq_by_cmp cmp) ks) (sym names) (IsDistinct-from_sorted cmp (keys_of c.args.lists.now.entries) c.len.ensures.ordered))

@@ -1,4 +1,4 @@
-use Rattle.rectangle_pack.proofs.BarredLemmas.{held_nowhere}
+use Rattle.rectangle_pack.proofs.RefusedLemmas.{held_nowhere}
 use Rattle.rectangle_pack.proofs.pack.refused_box_is_held_nowhere.Goals as goal
 
 pub returns : goal.returns

@@ -6,7 +6,8 @@ use Rattle.std.proofs.lemmas.List.{take_all}
 use Rattle.rectangle_pack.specs.Groups.{lists_of}
 use Rattle.rectangle_pack.specs.Packing.{rules_by, bins_of, Members}
 use Rattle.rectangle_pack.proofs.JournalLemmas.{is_some-bins_of}
-use Rattle.rectangle_pack.proofs.KeepingLemmas.{stays_there}
+use Rattle.rectangle_pack.proofs.MapsLemmas.{is_some-keys}
+use Rattle.rectangle_pack.proofs.PlacedLemmas.{keys-placed}
 use Rattle.rectangle_pack.proofs.PackLemmas.{AreSizesOf, HaveSizes-found, AreSizesOf-length, AreGroups-more, StopsAfter-at, AreAllPlaced-push}
 use Rattle.rectangle_pack.proofs.BarredLemmas.{Knows, Knows-none, Knows-alone, Knows-kept, Named-more, Named-fresh, barred_by_partners, none-listed}
 use Rattle.rectangle_pack.proofs.BoundLemmas.{OnErr-given, adds-placed, adds-more, placed-le}
@@ -50,7 +51,7 @@ place_group-requires-clause-found g c k d within =
     let now = c.loop-group.bins.entries in
     let done = c.loop-group.invariant.done in
     let before : IsSome (lookup (is_at (cmp id)) (bins_of old)) = is_some-bins_of (is_at (cmp id)) old ∙ c.requires.found k d within in
-    sym (is_some-bins_of (is_at (cmp id)) now) ∙ stays_there _ g.met.B.Ord.total _ _ done.0 (at_start (bins_of old)) _ (record { bins = bins_of now; homes = done.1 }) done.2 done.4 id before
+    sym (is_some-bins_of (is_at (cmp id)) now) ∙ is_some-keys (is_at (cmp id)) (bins_of now) (bins_of old) (keys-placed _ _ _ done.0 (at_start (bins_of old)) _ (record { bins = bins_of now; homes = done.1 }) done.2 done.4) ∙ before
 
 pub returns-in-None-clause-packed : goal.returns-in-None-clause-packed
 returns-in-None-clause-packed g c =

@@ -1,11 +1,12 @@
-use Rattle.std.proofs.Common.{refl, rules}
+use Rattle.std.proofs.Common.{refl, ◌∙◌, rules}
 use Rattle.std.specs.BTreeMap.{is_at}
-use Rattle.rectangle_pack.proofs.SessionLemmas.{IsSome-bins_of, None-bins_of}
+use Rattle.rectangle_pack.proofs.JournalLemmas.{is_some-bins_of}
+use Rattle.rectangle_pack.proofs.SessionLemmas.{None-bins_of}
 use Rattle.rectangle_pack.proofs.TransitionLemmas.{AddsBin-equal, memory_refused}
 use Rattle.rectangle_pack.proofs.session.Session.add_clone.Goals as goal
 
 pub returns-then-contains_key : goal.returns-then-contains_key
-returns-then-contains_key g c = rw (← c.self.view_is) (IsSome-bins_of (is_at (g.BinId.Ord.cmp c.args.id.now)) c.self.inside.bins.entries (search rules), refl)
+returns-then-contains_key g c = rw (← c.self.view_is) (is_some-bins_of (is_at (g.BinId.Ord.cmp c.args.id.now)) c.self.inside.bins.entries ∙ search rules, refl)
 
 pub returns-in_err-clone : goal.returns-in_err-clone
 returns-in_err-clone g c = rw (memory_refused c.from_residual.result c.from_residual.ensures.1, ← c.self.view_is) (None-bins_of (is_at (g.BinId.Ord.cmp c.args.id.now)) c.self.inside.bins.entries (search rules), refl)

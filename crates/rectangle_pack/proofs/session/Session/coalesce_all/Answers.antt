@@ -1,14 +1,11 @@
-use Rattle.std.proofs.Common.{◌≡◌, refl, sym, ap, ◌∙◌, rules, List, true}
-use Rattle.std.specs.Map.{set_value}
+use Rattle.std.proofs.Common.{sym, ap, rules}
 use Rattle.std.specs.BTreeMap.{is_at}
 use Rattle.std.specs.declared.collections.BTreeMap.{BTreeMap}
-use Rattle.rectangle_pack.specs.Bins.{Bin, Held}
+use Rattle.rectangle_pack.specs.Bins.{Held}
 use Rattle.rectangle_pack.specs.Packing.{bins_of}
-use Rattle.rectangle_pack.specs.Session.{State}
-use Rattle.rectangle_pack.proofs.JournalLemmas.{bins_of-set_value}
-use Rattle.rectangle_pack.proofs.PackLemmas.{found-bins_of}
+use Rattle.rectangle_pack.specs.Session.{Sweeps}
 use Rattle.rectangle_pack.proofs.SessionLemmas.{None-bins_of}
-use Rattle.rectangle_pack.proofs.TransitionLemmas.{IsSession-swept}
+use Rattle.rectangle_pack.proofs.TransitionLemmas.{IsRecut-swept, coalesced-written}
 use Rattle.rectangle_pack.proofs.session.Session.coalesce_all.Goals as goal
 
 pub returns-in_default-clause-swept : goal.returns-in_default-clause-swept
@@ -16,31 +13,16 @@ returns-in_default-clause-swept g c = rw (← c.self.view_is) (None-bins_of (is_
 
 pub invariant_of-self-2 : goal.invariant_of-self-2
 invariant_of-self-2 g c =
-    let test = is_at (g.BinId.Ord.cmp c.args.bin.now) in
-    let old = c.self.inside.bins.entries in
     let w = c.coalesce_all.new.self in
-    let h = c.get_mut.follows.holds w in
-    let found = found-bins_of test old (bins_of old) c.in-Some.place.now refl (sym c.in-Some.ensures.value) in
-    let was : State g.row.Id.Denot g.row.BinId.Denot = record { bins = bins_of old; records = c.self.inside.outstanding.items; next = c.self.inside.next } in
-    rw (ap bins_of h.0 ∙ bins_of-set_value test old w ∙ ap (set_value test (bins_of old)) c.coalesce_all.ensures.stays)
-    (IsSession-swept g.met.BinId.Ord.total c.args.bin.now was c.in-Some.place.now.bin w.bin.sections found c.coalesce_all.ensures.swept c.self.invariant)
+    let done = c.coalesce_all.ensures in
+    (coalesced-written g.met.BinId.Ord.total Sweeps IsRecut-swept c.args.bin.now _ _ c.in-Some.place.now w _ _ (sym c.in-Some.ensures.value) (c.get_mut.follows.holds w).0 done.stays done.swept c.self.invariant).1
 
 pub returns-clause-swept : goal.returns-clause-swept
 returns-clause-swept g c =
-    let test = is_at (g.BinId.Ord.cmp c.args.bin.now) in
-    let old = c.self.inside.bins.entries in
     let w = c.coalesce_all.new.self in
-    let h = c.get_mut.follows.holds w in
-    let found = found-bins_of test old (bins_of old) c.in-Some.place.now refl (sym c.in-Some.ensures.value) in
-    let written : bins_of (c.get_mut.follows.lender w).entries ≡ set_value test (bins_of old) (record c.in-Some.place.now.bin { sections = w.bin.sections; coalesced = true }) =
-    ap bins_of h.0 ∙ bins_of-set_value test old w ∙ ap (set_value test (bins_of old)) c.coalesce_all.ensures.stays in
-    rw (← c.self.view_is) (
-      c.in-Some.place.now.bin,
-      found,
-      w.bin.sections,
-      c.coalesce_all.ensures.swept,
-      ap (λ (bs : List (g.row.BinId.Denot × Bin)). record { bins = bs; records = c.self.inside.outstanding.items; next = c.self.inside.next }) written,
-    )
+    let done = c.coalesce_all.ensures in
+    rw (← c.self.view_is)
+    (coalesced-written g.met.BinId.Ord.total Sweeps IsRecut-swept c.args.bin.now _ _ c.in-Some.place.now w _ _ (sym c.in-Some.ensures.value) (c.get_mut.follows.holds w).0 done.stays done.swept c.self.invariant).0
 
 pub returns-clause-always : goal.returns-clause-always
 returns-clause-always g c = invariant_of-self-2 g c

@@ -1,4 +1,5 @@
 use Rattle.std.proofs.Common.{◌≡◌, ◌+◌, ◌++◌, ◌≤◌, length, vec_len, vec_capacity}
+use Rattle.std.specs.Vec.Iter.{into_iter_len}
 use Rattle.rectangle_pack.specs.Session.{numbered}
 use Rattle.rectangle_pack.proofs.session.work.number_all.Given as goal
 
@@ -8,4 +9,5 @@ invariant-loop-placement g l = record {
   number : l.number ≡ l.fn.first + length l.yielded;
   len : vec_len l.outstanding ≡ vec_len l.fn.outstanding + length l.yielded;
   room : vec_capacity l.fn.outstanding ≤ vec_capacity l.outstanding;
+  left : length l.yielded + into_iter_len l.placement-iterator ≡ vec_len l.fn.placements;
 }

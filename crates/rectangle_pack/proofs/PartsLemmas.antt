@@ -1,0 +1,126 @@
+-- The two parts of a box at a place on an axis.
+use Rattle.std.proofs.Common.{ℕ, ◌-◌, ◌<◌, ◌≤◌, ◌≡◌, ◌≢◌, true, refl, ap, subst, arith, inl, inr}
+use Rattle.rectangle_pack.specs.declared.axis.Axis.{Axis}
+use Rattle.rectangle_pack.specs.declared.axis.Axis.TheVariants.{X, Y, Z}
+use Rattle.rectangle_pack.specs.Boxes.{Cuboid, IsPartOf, extent, start, end, has_cells}
+use Rattle.rectangle_pack.specs.CutTrees.{lower, upper, IsPlaceOf}
+use Rattle.rectangle_pack.proofs.AxesLemmas.{cases_axis, by_other, runs_on, has_cells-by, StaysIn, is_part}
+
+-- where the parts start and end on the axis of the cut
+pub start-lower : (a : Axis) (p : ℕ) (b : Cuboid) → start a (lower a p b) ≡ start a b
+unfolding start lower
+start-lower X p b = refl
+start-lower Y p b = refl
+start-lower Z p b = refl
+
+pub end-lower : (a : Axis) (p : ℕ) (b : Cuboid) → start a b ≤ p → end a (lower a p b) ≡ p
+unfolding start extent end lower
+end-lower X p b h = omega arith
+end-lower Y p b h = omega arith
+end-lower Z p b h = omega arith
+
+pub start-upper : (a : Axis) (p : ℕ) (b : Cuboid) → start a (upper a p b) ≡ p
+unfolding start upper
+start-upper X p b = refl
+start-upper Y p b = refl
+start-upper Z p b = refl
+
+pub end-upper : (a : Axis) (p : ℕ) (b : Cuboid) → p ≤ end a b → end a (upper a p b) ≡ end a b
+unfolding start extent end upper
+end-upper X p b h = omega arith
+end-upper Y p b h = omega arith
+end-upper Z p b h = omega arith
+
+-- and on another axis
+module _ (p : ℕ) (b : Cuboid) where
+  pub start-lower_other : (a e : Axis) → a ≢ e → start e (lower a p b) ≡ start e b
+  unfolding start lower
+  start-lower_other = by_other (λ a e. start e (lower a p b) ≡ start e b) refl refl refl refl refl refl
+
+  pub end-lower_other : (a e : Axis) → a ≢ e → end e (lower a p b) ≡ end e b
+  unfolding start extent end lower
+  end-lower_other = by_other (λ a e. end e (lower a p b) ≡ end e b) refl refl refl refl refl refl
+
+  pub start-upper_other : (a e : Axis) → a ≢ e → start e (upper a p b) ≡ start e b
+  unfolding start upper
+  start-upper_other = by_other (λ a e. start e (upper a p b) ≡ start e b) refl refl refl refl refl refl
+
+  pub end-upper_other : (a e : Axis) → a ≢ e → end e (upper a p b) ≡ end e b
+  unfolding start extent end upper
+  end-upper_other = by_other (λ a e. end e (upper a p b) ≡ end e b) refl refl refl refl refl refl
+
+-- two cuts on one axis
+pub lower-lower : (a : Axis) (p q : ℕ) (b : Cuboid) → lower a p (lower a q b) ≡ lower a p b
+unfolding lower
+lower-lower X p q b = refl
+lower-lower Y p q b = refl
+lower-lower Z p q b = refl
+
+pub upper-upper : (a : Axis) (p q : ℕ) (b : Cuboid) → p ≤ end a b → upper a q (upper a p b) ≡ upper a q b
+unfolding start extent end upper
+upper-upper X p q b h = ap (λ n. record b { x = q; whd = record b.whd { width = n - q } }) (omega arith)
+upper-upper Y p q b h = ap (λ n. record b { y = q; whd = record b.whd { height = n - q } }) (omega arith)
+upper-upper Z p q b h = ap (λ n. record b { z = q; whd = record b.whd { depth = n - q } }) (omega arith)
+
+-- the part between two places
+pub upper-lower : (a : Axis) (p q : ℕ) (b : Cuboid) → start a b ≤ q → p ≤ end a b → upper a p (lower a q b) ≡ lower a q (upper a p b)
+unfolding start extent end lower upper
+upper-lower X p q b h k = ap (λ n. record b { x = p; whd = record b.whd { width = n - p } }) (omega arith)
+upper-lower Y p q b h k = ap (λ n. record b { y = p; whd = record b.whd { height = n - p } }) (omega arith)
+upper-lower Z p q b h k = ap (λ n. record b { z = p; whd = record b.whd { depth = n - p } }) (omega arith)
+
+-- a cut at the start or at the end of a box leaves it as one part
+pub upper-start : (a : Axis) (b : Cuboid) → upper a (start a b) b ≡ b
+unfolding start upper
+upper-start X b = ap (λ n. record b { whd = record b.whd { width = n } }) (omega arith)
+upper-start Y b = ap (λ n. record b { whd = record b.whd { height = n } }) (omega arith)
+upper-start Z b = ap (λ n. record b { whd = record b.whd { depth = n } }) (omega arith)
+
+pub lower-end : (a : Axis) (b : Cuboid) → lower a (end a b) b ≡ b
+unfolding start extent end lower
+lower-end X b = ap (λ n. record b { whd = record b.whd { width = n } }) (omega arith)
+lower-end Y b = ap (λ n. record b { whd = record b.whd { height = n } }) (omega arith)
+lower-end Z b = ap (λ n. record b { whd = record b.whd { depth = n } }) (omega arith)
+
+-- cuts on two axes, in either order
+module _ (p q : ℕ) (b : Cuboid) where
+  pub lower-lower_other : (a e : Axis) → a ≢ e → lower a p (lower e q b) ≡ lower e q (lower a p b)
+  unfolding lower
+  lower-lower_other = by_other (λ a e. lower a p (lower e q b) ≡ lower e q (lower a p b)) refl refl refl refl refl refl
+
+  pub lower-upper_other : (a e : Axis) → a ≢ e → lower a p (upper e q b) ≡ upper e q (lower a p b)
+  unfolding lower upper
+  lower-upper_other = by_other (λ a e. lower a p (upper e q b) ≡ upper e q (lower a p b)) refl refl refl refl refl refl
+
+  pub upper-upper_other : (a e : Axis) → a ≢ e → upper a p (upper e q b) ≡ upper e q (upper a p b)
+  unfolding upper
+  upper-upper_other = by_other (λ a e. upper a p (upper e q b) ≡ upper e q (upper a p b)) refl refl refl refl refl refl
+
+-- a place on one axis is a place of both parts on another
+module _ (a e : Axis) (p q : ℕ) (b : Cuboid) (other : a ≢ e) (place : IsPlaceOf e q b) where
+  pub IsPlaceOf-lower_other : IsPlaceOf e q (lower a p b)
+  IsPlaceOf-lower_other = record { from = omega (arith, start-lower_other p b a e other); to = omega (arith, end-lower_other p b a e other) }
+
+  pub IsPlaceOf-upper_other : IsPlaceOf e q (upper a p b)
+  IsPlaceOf-upper_other = record { from = omega (arith, start-upper_other p b a e other); to = omega (arith, end-upper_other p b a e other) }
+
+module _ (a : Axis) (p : ℕ) (b : Cuboid) (place : IsPlaceOf a p b) where
+  -- both are parts of the box
+  pub lower-part : IsPartOf (lower a p b) b
+  lower-part = is_part (lower a p b) b (λ e. elim (cases_axis a e) [
+    | inl q ↦ subst (StaysIn (lower a p b) b) q (omega (arith, start-lower a p b), omega (arith, end-lower a p b place.from))
+    | inr n ↦ (omega (arith, start-lower_other p b a e n), omega (arith, end-lower_other p b a e n))
+  ])
+
+  pub upper-part : IsPartOf (upper a p b) b
+  upper-part = is_part (upper a p b) b (λ e. elim (cases_axis a e) [
+    | inl q ↦ subst (StaysIn (upper a p b) b) q (omega (arith, start-upper a p b), omega (arith, end-upper a p b place.to))
+    | inr n ↦ (omega (arith, start-upper_other p b a e n), omega (arith, end-upper_other p b a e n))
+  ])
+
+-- the lower part has cells where the place is after the start
+pub lower-cells : (a : Axis) (p : ℕ) (b : Cuboid) → start a b < p → has_cells b ≡ true → has_cells (lower a p b) ≡ true
+lower-cells a p b lo cells = has_cells-by (lower a p b) (λ e. elim (cases_axis a e) [
+  | inl q ↦ subst (λ e. start e (lower a p b) < end e (lower a p b)) q (omega (arith, start-lower a p b, end-lower a p b (omega arith)))
+  | inr n ↦ omega (arith, runs_on b cells e, start-lower_other p b a e n, end-lower_other p b a e n)
+])

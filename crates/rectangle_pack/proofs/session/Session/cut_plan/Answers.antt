@@ -1,0 +1,70 @@
+use Rattle.std.proofs.Common.{◌≡◌, refl, ap, sym, ◌∙◌, subst, rules, Option, Some, None, Ok}
+use Rattle.std.specs.Prelude.{filter, MatchOption}
+use Rattle.std.specs.declared.cmp.Ordering.{Ordering}
+use Rattle.std.specs.declared.vec.Vec.{Vec}
+use Rattle.std.specs.Map.{lookup}
+use Rattle.std.specs.BTreeMap.{is_at}
+use Rattle.rectangle_pack.specs.declared.plans.CutStep.{CutStep}
+use Rattle.rectangle_pack.specs.Bins.{Bin, whole}
+use Rattle.rectangle_pack.specs.Boxes.{has_cells}
+use Rattle.rectangle_pack.specs.CutTrees.{IsFromCuts}
+use Rattle.rectangle_pack.specs.CutPlans.{IsCutPlan}
+use Rattle.rectangle_pack.specs.Packing.{bins_of}
+use Rattle.rectangle_pack.specs.Session.{State, boxes_of}
+use Rattle.rectangle_pack.specs.PlanAnswers.{IsPlanAnswer}
+use Rattle.rectangle_pack.proofs.CutPlanLemmas.{IsCutPlan-same}
+use Rattle.rectangle_pack.proofs.FillingLemmas.{IsFilled-bin}
+use Rattle.rectangle_pack.proofs.PackLemmas.{found-bins_of}
+use Rattle.rectangle_pack.proofs.SameBoxesLemmas.{HaveSameBoxes-sym, HaveSameBoxes-filter, IsFromCuts-same}
+use Rattle.rectangle_pack.proofs.SessionLemmas.{None-bins_of}
+use Rattle.rectangle_pack.proofs.TransitionLemmas.{memory_refused}
+use Rattle.rectangle_pack.proofs.session.Session.cut_plan.Goals as goal
+
+-- a plan of the boxes with cells is a plan of the boxes
+planned : {Id B A : Type 0} (bin_cmp : B → B → Ordering) (state : State Id B) (id : B) (bin : Bin) (found : lookup (is_at (bin_cmp id)) state.bins ≡ Some bin) (plan : Option (Vec CutStep A))
+    → MatchOption plan (¬ IsFromCuts (filter has_cells (boxes_of bin_cmp state.records id bin)) (whole bin.size)) (λ p. IsCutPlan (filter has_cells (boxes_of bin_cmp state.records id bin)) (whole bin.size) p.items)
+    → IsPlanAnswer bin_cmp state id (Ok plan)
+planned bin_cmp state id bin found None h =
+    let boxes = boxes_of bin_cmp state.records id bin in
+    (bin, found, λ from. h (IsFromCuts-same boxes (filter has_cells boxes) (HaveSameBoxes-sym (filter has_cells boxes) boxes (HaveSameBoxes-filter boxes)) from))
+planned bin_cmp state id bin found (Some plan) h =
+    let boxes = boxes_of bin_cmp state.records id bin in
+    (bin, found, IsCutPlan-same (filter has_cells boxes) boxes (whole bin.size) plan.items (HaveSameBoxes-filter boxes) h)
+
+pub returns-in_default : goal.returns-in_default
+returns-in_default g c = record { planned = rw (← c.self.view_is) (None-bins_of (is_at (g.BinId.Ord.cmp c.args.bin.now)) c.self.inside.bins.entries (search rules)) }
+
+pub returns-in_err-boxes : goal.returns-in_err-boxes
+returns-in_err-boxes g c =
+    let entries = c.self.inside.bins.entries in
+    let found = found-bins_of (is_at (g.BinId.Ord.cmp c.args.bin.now)) entries (bins_of entries) c.in-Some.place.now refl (sym c.in-Some.ensures.value) in
+    record { planned = rw (memory_refused c.from_residual.result c.from_residual.ensures.1, ← c.self.view_is) (rw found refl) }
+
+pub plan_of-requires : goal.plan_of-requires
+plan_of-requires g c =
+    let cmp = g.BinId.Ord.cmp in
+    let id = c.args.bin.now in
+    let bin = c.in-Some.place.now.bin in
+    let entries = c.self.inside.bins.entries in
+    let found = found-bins_of (is_at (cmp id)) entries (bins_of entries) c.in-Some.place.now refl (sym c.in-Some.ensures.value) in
+    let boxes = boxes_of cmp c.self.inside.outstanding.items id bin in
+    let items : c.as_mut_slice.result.now ≡ filter has_cells boxes = c.as_mut_slice.ensures.value ∙ ((c.in_ok-boxes.ensures {u = tt}) ∙ ap (λ records. filter has_cells (boxes_of cmp records id bin)) c.as_slice.ensures.value) in
+    record { filled = rw (c.whole.ensures.whole, items) (IsFilled-bin bin.size boxes (rw c.whole.ensures.whole at c.whole.ensures.fits) (c.self.invariant.covered id bin found)) }
+
+pub returns-in_err-plan : goal.returns-in_err-plan
+returns-in_err-plan g c =
+    let entries = c.self.inside.bins.entries in
+    let found = found-bins_of (is_at (g.BinId.Ord.cmp c.args.bin.now)) entries (bins_of entries) c.in-Some.place.now refl (sym c.in-Some.ensures.value) in
+    record { planned = rw (memory_refused c.from_residual-in_err-plan.result c.from_residual-in_err-plan.ensures.1, ← c.self.view_is) (rw found refl) }
+
+pub returns : goal.returns
+returns g c =
+    let cmp = g.BinId.Ord.cmp in
+    let id = c.args.bin.now in
+    let bin = c.in-Some.place.now.bin in
+    let entries = c.self.inside.bins.entries in
+    let found = found-bins_of (is_at (cmp id)) entries (bins_of entries) c.in-Some.place.now refl (sym c.in-Some.ensures.value) in
+    let boxes = boxes_of cmp c.self.inside.outstanding.items id bin in
+    let items : c.as_mut_slice.result.now ≡ filter has_cells boxes = c.as_mut_slice.ensures.value ∙ ((c.in_ok-boxes.ensures {u = tt}) ∙ ap (λ records. filter has_cells (boxes_of cmp records id bin)) c.as_slice.ensures.value) in
+    let state : State g.row.Id.Denot g.row.BinId.Denot = record { bins = bins_of entries; records = c.self.inside.outstanding.items; next = c.self.inside.next } in
+    record { planned = subst (λ state. IsPlanAnswer cmp state id (Ok c.in_ok-plan.plan)) c.self.view_is (planned cmp state id bin found c.in_ok-plan.plan (rw (c.whole.ensures.whole, items) at (c.in_ok-plan.ensures {u = tt}))) }

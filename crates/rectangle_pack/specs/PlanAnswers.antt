@@ -1,0 +1,27 @@
+-- What a session answers where it is asked for the cutting plan of a bin.
+use Rattle.std.specs.Prelude.{◌≡◌, Option, Some, None, IsSome, Result, Ok, Err}
+use Rattle.std.specs.declared.cmp.Ordering.{Ordering}
+use Rattle.std.specs.declared.vec.Vec.{Vec}
+use Rattle.std.specs.Map.{lookup}
+use Rattle.std.specs.BTreeMap.{is_at}
+use Rattle.rectangle_pack.specs.declared.plans.CutStep.{CutStep}
+use Rattle.rectangle_pack.specs.declared.session.command.SessionError.{SessionError}
+use Rattle.rectangle_pack.specs.declared.session.command.SessionError.TheVariants.{UnknownBin, OutOfMemory}
+use Rattle.rectangle_pack.specs.Bins.{Bin, whole}
+use Rattle.rectangle_pack.specs.CutTrees.{IsFromCuts}
+use Rattle.rectangle_pack.specs.CutPlans.{IsCutPlan}
+use Rattle.rectangle_pack.specs.Session.{State, boxes_of}
+
+module _ {Id B : Type 0} (bin_cmp : B → B → Ordering) (state : State Id B) (id : B) where
+  -- a plan, which is that of the bin's boxes; or none, where no tree of cuts has them as its leaves; or the bin is not there; or
+  -- memory is refused, and the bin is there
+  abbrev pub IsPlanAnswer : {A : Type 0} → Result (Option (Vec CutStep A)) SessionError → Type 0
+  IsPlanAnswer (Ok (Some plan)) =
+      (bin : Bin) × (lookup (is_at (bin_cmp id)) state.bins ≡ Some bin)
+      × IsCutPlan (boxes_of bin_cmp state.records id bin) (whole bin.size) plan.items
+  IsPlanAnswer (Ok None) =
+      (bin : Bin) × (lookup (is_at (bin_cmp id)) state.bins ≡ Some bin)
+      × ¬ IsFromCuts (boxes_of bin_cmp state.records id bin) (whole bin.size)
+  IsPlanAnswer (Err UnknownBin) = lookup (is_at (bin_cmp id)) state.bins ≡ None
+  IsPlanAnswer (Err OutOfMemory) = IsSome (lookup (is_at (bin_cmp id)) state.bins)
+  IsPlanAnswer (Err _) = ⊥

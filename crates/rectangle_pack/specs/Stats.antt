@@ -1,0 +1,17 @@
+-- Statistics of a bin: sums over its boxes as they are.
+use Rattle.std.specs.Prelude.{List, length}
+use Rattle.rectangle_pack.specs.declared.session.stats.BinStats.{BinStats}
+use Rattle.rectangle_pack.specs.Boxes.{Cuboid, volume_of}
+use Rattle.rectangle_pack.specs.Bins.{Bin}
+use Rattle.rectangle_pack.specs.Counting.{total_volume}
+
+-- the statistics of a bin in which these boxes stand: its volume; the volumes of its free sections, and of the boxes that stand
+-- in it, added up; and how many there are of each, those without cells counted too
+abbrev pub stats_of : Bin → List Cuboid → BinStats
+stats_of bin standing = record {
+  bin_volume = volume_of bin.size;
+  free_volume = total_volume bin.sections;
+  placed_volume = total_volume standing;
+  free_sections = length bin.sections;
+  placements = length standing;
+}

@@ -1,0 +1,142 @@
+//! Entries of a part in order along an axis, and how far they leave no plane open.
+ghost use Rattle.std.specs.Prelude.{◌≡◌, ◌+◌, ◌<◌, ◌≤◌, ◌⊎◌, ◌++◌, true, length, List, Contains, MatchBool};
+ghost use Rattle.std.specs.Bool.{OnTrue, OnFalse};
+ghost use Rattle.std.specs.List.Sorted.{IsPermutation, IsNonDecreasingBy};
+ghost use Rattle.rectangle_pack.specs.Boxes.{Cuboid, FitsU32, has_cells, start};
+ghost use Rattle.rectangle_pack.specs.private.CutPlans.{AreEntries, IsFilled, AreOrdered, IsClosedBelow, IsClosedOn};
+
+use crate::axis::Axis;
+use crate::bin_section::BinSection;
+use crate::plans::axes::{end, start};
+
+// Puts entries in order of their starts on an axis. Takes no memory.
+fn order_on(axis: Axis, entries: &mut [BinSection])
+    ensures permutation { IsPermutation entries.old entries.new }
+    ensures ordered { IsNonDecreasingBy (start axis) entries.new }
+{
+    entries.sort_unstable_by_key(|entry| start(entry, axis));
+}
+
+// Puts entries back in order on an axis, if one is named. Takes no memory.
+fn put_back(ordered: Option<Axis>, entries: &mut [BinSection])
+    ensures permutation { IsPermutation entries.old entries.new }
+    ensures ordered { AreOrdered ordered entries.new }
+{
+    if let Some(axis) = ordered {
+        order_on(axis, entries);
+    }
+}
+
+// How far a place below which no plane is open goes on over an entry.
+fn go_on(whole: &BinSection, axis: Axis, place: u32, entry: &BinSection) -> u32
+    requires fits { FitsU32 entry.now }
+    requires cells { has_cells entry.now ≡ true }
+    ensures { (boxes : List Cuboid) → Contains boxes entry.now →
+        IsClosedBelow axis place whole.now boxes → IsClosedBelow axis result whole.now boxes }
+{
+    let begin = start(entry, axis);
+    if (begin <= start(whole, axis)) | (begin < place) {
+        place.max(end(entry, axis))
+    } else {
+        place
+    }
+}
+
+// Whether the next entry of two lists, each in order on an axis, is that of the first.
+fn is_first_next(
+    axis: Axis,
+    first: &[BinSection],
+    i: usize,
+    second: &[BinSection],
+    j: usize,
+) -> bool
+    requires { (i < length first.now) ⊎ (j < length second.now) }
+    ensures { MatchBool result (i < length first.now) (j < length second.now) }
+{
+    match (first.get(i), second.get(j)) {
+        (Some(a), Some(b)) => start(a, axis) <= start(b, axis),
+        (Some(_), None) => true,
+        (None, _) => false,
+    }
+}
+
+// How far the entries of two lists, each in order on the axis, go on from one another, from the
+// start of the box: no plane below is open.
+fn reach(whole: &BinSection, axis: Axis, first: &[BinSection], second: &[BinSection]) -> u32
+    requires first { AreEntries first.now }
+    requires second { AreEntries second.now }
+    ensures { IsClosedBelow axis result whole.now (first.now ++ second.now) }
+{
+    let mut place = start(whole, axis);
+    let (mut i, mut j) = (0, 0);
+    while i < first.len() || j < second.len() {
+        if is_first_next(axis, first, i, second, j) {
+            place = go_on(whole, axis, place, &first[i]);
+            i += 1;
+        } else {
+            place = go_on(whole, axis, place, &second[j]);
+            j += 1;
+        }
+    }
+    place
+}
+
+// Whether so many entries at either end already leave no plane on the axis open. Puts them in order
+// on it, and then back in order on the axis on which all entries are in order, if any.
+fn is_blocked(
+    whole: &BinSection,
+    axis: Axis,
+    ordered: Option<Axis>,
+    entries: &mut [BinSection],
+    count: usize,
+) -> bool
+    requires filled { IsFilled whole.now entries.old }
+    requires ordered { AreOrdered ordered entries.old }
+    requires some { count + count ≤ length entries.old }
+    ensures permutation { IsPermutation entries.old entries.new }
+    ensures ordered { AreOrdered ordered entries.new }
+    ensures closed { OnTrue result (IsClosedOn axis whole.now entries.new) }
+{
+    let (front, rest) = entries.split_at_mut(count);
+    let between = rest.len() - count;
+    let (_, back) = rest.split_at_mut(between);
+    order_on(axis, front);
+    order_on(axis, back);
+    let blocked = end(whole, axis) <= reach(whole, axis, front, back);
+    put_back(ordered, front);
+    put_back(ordered, back);
+    blocked
+}
+
+// So many entries at either end are looked at first, and four times as many each time.
+const FEW: usize = 16;
+
+// Puts the entries in order on an axis, unless those at both ends already leave no plane on it open;
+// whether they are in order. `ordered` says on which axis they are, before and after.
+pub(crate) fn put_in_order(
+    whole: &BinSection,
+    axis: Axis,
+    ordered: &mut Option<Axis>,
+    entries: &mut [BinSection],
+) -> bool
+    requires filled { IsFilled whole.now entries.old }
+    requires ordered { AreOrdered ordered.old entries.old }
+    ensures permutation { IsPermutation entries.old entries.new }
+    ensures ordered { AreOrdered ordered.new entries.new }
+    ensures ready { OnTrue result (IsNonDecreasingBy (start axis) entries.new) }
+    ensures blocked { OnFalse result (IsClosedOn axis whole.now entries.new) }
+{
+    if *ordered == Some(axis) {
+        return true;
+    }
+    let mut count = FEW;
+    while count < entries.len() / 4 {
+        if is_blocked(whole, axis, *ordered, entries, count) {
+            return false;
+        }
+        count = count.saturating_mul(4);
+    }
+    order_on(axis, entries);
+    *ordered = Some(axis);
+    true
+}

@@ -1,0 +1,123 @@
+//! The cutting plan of a bin of a session.
+ghost use Rattle.std.specs.Prelude.{◌≡◌, ◌++◌, ◌∷◌, [], filter, IfOk, OnOk};
+ghost use Rattle.rectangle_pack.specs.Bins.{whole};
+ghost use Rattle.rectangle_pack.specs.Boxes.{FitsU32, has_cells};
+ghost use Rattle.rectangle_pack.specs.Session.{standing_in, boxes_of};
+ghost use Rattle.rectangle_pack.specs.PlanAnswers.{IsPlanAnswer};
+
+use crate::bin_section::BinSection;
+use crate::plans::{CutStep, plan_of};
+use crate::session::Session;
+use crate::session::command::{Outstanding, SessionError};
+use crate::session::work::section_at;
+use crate::target_bin::TargetBin;
+use std::alloc::{AllocError, Allocator};
+
+// Puts a box at the end of the list, if it has cells.
+fn gather<A: Allocator>(
+    boxes: &mut Vec<BinSection, A>,
+    section: BinSection,
+) -> Result<(), AllocError>
+    ensures { OnOk result
+        (boxes.new.items ≡ boxes.old.items ++ filter has_cells (section ∷ [])) }
+{
+    if section.has_cells() {
+        boxes.push(section)?;
+    }
+    Ok(())
+}
+
+// Puts the free sections with cells at the end of the list.
+fn gather_free<A: Allocator>(
+    boxes: &mut Vec<BinSection, A>,
+    sections: &[BinSection],
+) -> Result<(), AllocError>
+    ensures { OnOk result
+        (boxes.new.items ≡ boxes.old.items ++ filter has_cells sections.now) }
+{
+    for section in sections {
+        gather(boxes, *section)?;
+    }
+    Ok(())
+}
+
+// Puts the boxes with cells that stand in the bin at the end of the list.
+fn gather_standing<Id, B: Ord, A: Allocator>(
+    boxes: &mut Vec<BinSection, A>,
+    outstanding: &[Outstanding<Id, B>],
+    bin: &B,
+) -> Result<(), AllocError>
+    ensures { OnOk result
+        (boxes.new.items ≡
+        boxes.old.items ++ filter has_cells (standing_in B.cmp outstanding.now bin.now)) }
+{
+    for placement in outstanding {
+        if placement.bin == *bin {
+            gather(boxes, section_at(&placement.location))?;
+        }
+    }
+    Ok(())
+}
+
+// All of a bin.
+fn whole<A: Allocator + Copy>(bin: &TargetBin<A>) -> BinSection
+    ensures whole { result ≡ whole bin.now.bin.size }
+    ensures fits { FitsU32 result }
+{
+    BinSection::new(0, 0, 0, bin.max_size())
+}
+
+// The boxes with cells of a bin: its free sections, and the boxes that stand in it.
+fn boxes_of<Id, B: Ord, A: Allocator + Copy>(
+    alloc: A,
+    bin: &TargetBin<A>,
+    outstanding: &[Outstanding<Id, B>],
+    id: &B,
+) -> Result<Vec<BinSection, A>, AllocError>
+    ensures { IfOk result
+        (λ v. v.items ≡ filter has_cells (boxes_of B.cmp outstanding.now id.now bin.now.bin)) }
+{
+    let mut boxes = Vec::new(alloc);
+    gather_free(&mut boxes, bin.available_bin_sections().as_slice())?;
+    gather_standing(&mut boxes, outstanding, id)?;
+    Ok(boxes)
+}
+
+impl<Id, BinId, A> Session<Id, BinId, A>
+where
+    Id: Ord + Clone + Drop,
+    BinId: Ord + Clone + Drop,
+    A: Allocator + Copy,
+{
+    /// The cutting plan of a bin: the straight cuts, each across the whole of its part, that part the
+    /// bin into its free sections and outstanding placements, boxes without cells aside. A part with
+    /// two boxes or more is cut on the first axis of x, y and z on which it can be, at the least
+    /// place strictly inside it that is strictly inside none of its boxes. `None` where no straight
+    /// cuts leave all boxes whole, which is so only where the bin was coalesced.
+    ///
+    /// `UnknownBin` says that there is no such bin; this is looked at first. `OutOfMemory` says that
+    /// a growth was refused.
+    ///
+    /// ```
+    /// let mut session: Session<u32, &'static str> = Session::new(alloc, 0);
+    /// session.add_bin("sheet", 10, 10, 1)?;
+    /// let mut rects: GroupedRectsToPlace<u32, u32> = GroupedRectsToPlace::new(alloc);
+    /// rects.push_rect(7, None, RectToInsert::new(4, 10, 1))?;
+    /// session.pack(&rects, &volume_heuristic, &contains_smallest_box)?;
+    /// // The box stands at (0, 0, 0), and what is right of it is free.
+    /// let plan = session.cut_plan(&"sheet")?.ok_or("no such cuts")?;
+    /// let cut = CutStep::Cut { axis: Axis::X, place: 4 };
+    /// assert_eq!(rt; plan.as_slice(), [cut, CutStep::Leaf, CutStep::Leaf].as_slice());
+    /// ```
+    pub fn cut_plan(&self, bin: &BinId) -> Result<Option<Vec<CutStep, A>>, SessionError>
+        ensures planned { IsPlanAnswer BinId.cmp self.now bin.now result }
+    {
+        let Some(place) = self.bins.get(bin) else {
+            return Err(SessionError::UnknownBin);
+        };
+        let alloc = *self.outstanding.allocator();
+        let mut boxes = boxes_of(alloc, place, self.outstanding.as_slice(), bin)?;
+        let plan = plan_of(alloc, whole(place), boxes.as_mut_slice())?;
+        Ok(plan)
+    }
+}

@@ -1,0 +1,119 @@
+//! Runs of commands over a session.
+ghost use Rattle.std.specs.Prelude.{◌≡◌, IsTrue};
+ghost use Rattle.rectangle_pack.specs.Boxes.{Size};
+ghost use Rattle.rectangle_pack.specs.Closures.{AreCallable, answers};
+ghost use Rattle.rectangle_pack.specs.Packing.{rules_by};
+ghost use Rattle.rectangle_pack.specs.Promise.{IsRunAnswer};
+ghost use Rattle.rectangle_pack.specs.Session.{IsSession, AddsBin, IsTransition, reply_of};
+
+use crate::closures::{Ask, Closures};
+use crate::grouped_rects_to_place::Group;
+use crate::session::Session;
+use crate::session::command::{Command, Reply, SessionError};
+use crate::width_height_depth::WidthHeightDepth;
+use std::alloc::{AllocError, Allocator};
+use std::cmp::Ordering;
+
+impl<Id, BinId, A> Session<Id, BinId, A>
+where
+    Id: Ord + Clone + Drop,
+    BinId: Ord + Clone + Drop,
+    A: Allocator + Copy,
+{
+    /// Obeys the commands in order: each is done or refused as the call of its name does, and a
+    /// refused one changes nothing. There is one reply a command, in their order. A bin is added
+    /// under a clone of the command's id.
+    ///
+    /// After any commands, whatever closures answer and wherever memory is refused, each bin cell
+    /// lies in exactly one free section or outstanding placement, leaves of a straight-cut tree
+    /// until that bin is coalesced; each kept packing places every group entry once, in its size,
+    /// each group in one bin; space is refused only where, for some group, each bin is excluded or
+    /// its trial gets stuck there.
+    ///
+    /// The conditions are those of `pack`. `AllocError` says that memory for the replies was
+    /// refused, and then no command was done.
+    pub fn run<GroupId, H, C>(
+        &mut self,
+        commands: &[Command<Id, BinId, GroupId, A>],
+        heuristic: &H,
+        comparison: &C,
+    ) -> Result<Vec<Reply, A>, AllocError>
+    where
+        GroupId: Ord + Clone + Drop,
+        H: Fn(WidthHeightDepth) -> u128,
+        C: Fn([WidthHeightDepth; 3], [WidthHeightDepth; 3], &H) -> Ordering,
+        requires ids { (a b : Id) → Id.is_clone a b → IsTrue (Id.eq a b) }
+        requires bin_ids { (a b : BinId) → BinId.is_clone a b → IsTrue (BinId.eq a b) }
+        requires callable { AreCallable H.Fn C.Fn heuristic.now comparison.now }
+        ensures promise { let order = ⟦<Group<GroupId, Id> as Ord>⟧.cmp in
+            let may = answers H.Fn C.Fn heuristic.now comparison.now in
+            IsRunAnswer order (rules_by Id.cmp BinId.cmp may) commands.now self.old result self.new }
+        ensures always { IsSession BinId.cmp self.new }
+    {
+        let rules = Closures {
+            heuristic,
+            comparison,
+        };
+        let mut replies = Vec::with_capacity(*self.outstanding.allocator(), commands.len())?;
+        for command in commands {
+            replies.push_reserved(self.obey(command, &rules));
+        }
+        Ok(replies)
+    }
+
+    fn obey<GroupId, R>(&mut self, command: &Command<Id, BinId, GroupId, A>, rules: &R) -> Reply
+    where
+        GroupId: Ord + Clone + Drop,
+        R: Ask,
+        requires ids { (a b : Id) → Id.is_clone a b → IsTrue (Id.eq a b) }
+        requires bin_ids { (a b : BinId) → BinId.is_clone a b → IsTrue (BinId.eq a b) }
+        requires callable { R.can_ask rules.now }
+        ensures { let order = ⟦<Group<GroupId, Id> as Ord>⟧.cmp in
+            IsTransition order (rules_by Id.cmp BinId.cmp (R.may rules.now)) command.now
+            self.old result self.new }
+    {
+        match command {
+            Command::AddBin {
+                id,
+                width,
+                height,
+                depth,
+            } => reply(self.add_clone(id, *width, *height, *depth)),
+            Command::Pack(groups) => match self.pack_by(groups, rules) {
+                Ok(packed) => Reply::Packed(packed),
+                Err(error) => Reply::Refused(error),
+            },
+            Command::Release(number) => reply(self.release(*number)),
+            Command::Coalesce { bin, idx, lo, hi } => reply(self.coalesce(bin, *idx, *lo..*hi)),
+            Command::CoalesceAll(bin) => reply(self.coalesce_all(bin)),
+        }
+    }
+
+    // Adds a bin under a clone of the id, which is made for a new id alone.
+    fn add_clone(
+        &mut self,
+        id: &BinId,
+        width: u32,
+        height: u32,
+        depth: u32,
+    ) -> Result<(), SessionError>
+        requires { (a b : BinId) → BinId.is_clone a b → IsTrue (BinId.eq a b) }
+        ensures { let size : Size = record { width = width; height = height; depth = depth } in
+            AddsBin BinId.cmp id.now size self.old (reply_of result) self.new }
+    {
+        if self.bins.contains_key(id) {
+            return Err(SessionError::DuplicateBin);
+        }
+        self.add_bin(id.clone()?, width, height, depth)
+    }
+}
+
+// The reply to a call that answers nothing.
+fn reply(answer: Result<(), SessionError>) -> Reply
+    ensures { result ≡ reply_of answer }
+{
+    match answer {
+        Ok(()) => Reply::Done,
+        Err(error) => Reply::Refused(error),
+    }
+}

@@ -1,0 +1,85 @@
+//! Statistics of a bin.
+ghost use Rattle.std.specs.Prelude.{◌≡◌, ◌+◌, ◌<◌, ◌^◌, length, IfSome};
+ghost use Rattle.std.specs.Map.{lookup};
+ghost use Rattle.std.specs.BTreeMap.{is_at};
+ghost use Rattle.std.specs.Option.{option_map};
+ghost use Rattle.rectangle_pack.specs.Bins.{Bin};
+ghost use Rattle.rectangle_pack.specs.Counting.{total_volume};
+ghost use Rattle.rectangle_pack.specs.Session.{standing_in};
+ghost use Rattle.rectangle_pack.specs.Stats.{stats_of};
+
+use crate::bin_section::BinSection;
+use crate::session::Session;
+use crate::session::command::Outstanding;
+use std::alloc::Allocator;
+
+/// The statistics of a bin as it is: volumes, in cells, and counts. Each cell of the bin is free or
+/// in an outstanding placement, so `free_volume` and `placed_volume` add up to `bin_volume`.
+#[derive(Debug, Clone, Copy, PartialEq)]
+pub struct BinStats {
+    /// The volume of the bin.
+    pub bin_volume: u128,
+    /// The volumes of its free sections, added up.
+    pub free_volume: u128,
+    /// The volumes of the outstanding placements in it, added up.
+    pub placed_volume: u128,
+    /// How many free sections it has.
+    pub free_sections: usize,
+    /// How many placements are outstanding in it. Boxes without cells are counted too.
+    pub placements: usize,
+}
+
+impl<Id, BinId, A> Session<Id, BinId, A>
+where
+    Id: Ord + Clone + Drop,
+    BinId: Ord + Clone + Drop,
+    A: Allocator + Copy,
+{
+    /// The statistics of a bin, or `None` where there is no such bin. Takes no memory.
+    ///
+    /// This looks once at each free section of the bin, and once at each outstanding placement of
+    /// the session.
+    pub fn stats(&self, bin: &BinId) -> Option<BinStats>
+        ensures stats { let standing = standing_in BinId.cmp self.now.records bin.now in
+            result ≡ option_map (λ (b : Bin). stats_of b standing)
+            (lookup (is_at (BinId.cmp bin.now)) self.now.bins) }
+        ensures whole { IfSome result (λ s. s.free_volume + s.placed_volume ≡ s.bin_volume) }
+    {
+        let place = self.bins.get(bin)?;
+        let bin_volume = place.max_size().volume();
+        let sections = place.available_bin_sections().as_slice();
+        let (placed_volume, placements) = placed_in(self.outstanding.as_slice(), bin);
+        Some(BinStats {
+            bin_volume,
+            free_volume: free_in(sections),
+            placed_volume,
+            free_sections: sections.len(),
+            placements,
+        })
+    }
+}
+
+// The volumes of sections, added up.
+fn free_in(sections: &[BinSection]) -> u128
+    requires { total_volume sections.now < 2 ^ 128 }
+    ensures { result ≡ total_volume sections.now }
+{
+    sections.iter().map(|section| section.whd().volume()).sum()
+}
+
+// The volumes of the boxes that stand in a bin, added up, and how many there are.
+fn placed_in<Id, B: Ord>(outstanding: &[Outstanding<Id, B>], bin: &B) -> (u128, usize)
+    requires { total_volume (standing_in B.cmp outstanding.now bin.now) < 2 ^ 128 }
+    ensures volume { result.0 ≡ total_volume (standing_in B.cmp outstanding.now bin.now) }
+    ensures count { result.1 ≡ length (standing_in B.cmp outstanding.now bin.now) }
+{
+    let mut volume = 0;
+    let mut count = 0;
+    for placement in outstanding {
+        if placement.bin == *bin {
+            volume += placement.location.whd().volume();
+            count += 1;
+        }
+    }
+    (volume, count)
+}
