@@ -54,6 +54,10 @@ pub enum Command<'a> {
     Sweep {
         name: &'a str,
     },
+    /// Adds up what is free and what is placed in a bin.
+    Stats {
+        name: &'a str,
+    },
 }
 
 /// What the line says, or `None` where it is bad.
@@ -95,6 +99,9 @@ pub fn parse(line: &[u8]) -> Option<Command<'_>>
             range: parse_index(words.next()?)?..parse_index(words.next()?)?,
         },
         Some("sweep") => Command::Sweep {
+            name: words.next()?,
+        },
+        Some("stats") => Command::Stats {
             name: words.next()?,
         },
         Some(_) => return None,

@@ -6,8 +6,8 @@ ghost use Rattle.packrun.specs.Commands.{NamesTwo};
 use crate::command::{Command, Size};
 use crate::stop::Stop;
 use rectangle_pack::{
-    Group, GroupedRectsToPlace, Outstanding, Packed, RectToInsert, RectanglePackError, Session,
-    SessionError, contains_smallest_box, volume_heuristic,
+    BinStats, Group, GroupedRectsToPlace, Outstanding, Packed, RectToInsert, RectanglePackError,
+    Session, SessionError, contains_smallest_box, volume_heuristic,
 };
 use std::alloc::Allocator;
 use std::fmt::Display;
@@ -47,6 +47,7 @@ impl<A: Allocator + Copy> Store<A> {
             Command::Sections { name } => self.print_sections(name, out),
             Command::Coalesce { name, idx, range } => self.coalesce(name, idx, range, out),
             Command::Sweep { name } => self.sweep(name, out),
+            Command::Stats { name } => self.print_stats(name, out),
         }
     }
 
@@ -152,6 +153,26 @@ impl<A: Allocator + Copy> Store<A> {
         }
         let count = sections.len();
         writeln!(out, "sections {count}")?;
+        Ok(())
+    }
+
+    fn print_stats<W: Write>(&self, name: &str, out: &mut W) -> Result<(), Stop> {
+        let bin = String::from_str(self.alloc, name)?;
+        let Some(stats) = self.session.stats(&bin) else {
+            return refuse(SessionError::UnknownBin, name, out);
+        };
+        let BinStats {
+            bin_volume,
+            free_volume,
+            placed_volume,
+            free_sections,
+            placements,
+        } = stats;
+        writeln!(
+            out,
+            "free {free_volume} in {free_sections}, placed {placed_volume} in {placements}, \
+             bin {bin_volume}"
+        )?;
         Ok(())
     }
 }

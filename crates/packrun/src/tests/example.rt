@@ -1,8 +1,8 @@
 //! The examples of the README and of the library's documentation.
 
 use rectangle_pack::{
-    BinSection, FitTests, Group, GroupedRectsToPlace, Placement, RectToInsert, Session, TargetBin,
-    WidthHeightDepth, contains_smallest_box, pack_rects, volume_heuristic,
+    Axis, BinSection, CutStep, FitTests, Group, GroupedRectsToPlace, Placement, RectToInsert,
+    Session, TargetBin, WidthHeightDepth, contains_smallest_box, pack_rects, volume_heuristic,
     volume_packing_has_one_result,
 };
 use std::collections::BTreeMap;
@@ -136,6 +136,27 @@ fn session_gives_a_box_back(rt: HostRuntime) -> Result<(), Fail> {
     assert_eq!(rt;
         sheet.available_bin_sections().as_slice(),
         [whole].as_slice()
+    );
+    Ok(())
+}
+
+#[test]
+fn cut_plan_parts_a_sheet(rt: HostRuntime) -> Result<(), Fail> {
+    let alloc = rt.alloc();
+    let mut session: Session<u32, &'static str> = Session::new(alloc, 0);
+    session.add_bin("sheet", 10, 10, 1)?;
+    let mut rects: GroupedRectsToPlace<u32, u32> = GroupedRectsToPlace::new(alloc);
+    rects.push_rect(7, None, RectToInsert::new(4, 10, 1))?;
+    session.pack(&rects, &volume_heuristic, &contains_smallest_box)?;
+    // The box stands at (0, 0, 0), and what is right of it is free.
+    let plan = session.cut_plan(&"sheet")?.ok_or("no such cuts")?;
+    let cut = CutStep::Cut {
+        axis: Axis::X,
+        place: 4,
+    };
+    assert_eq!(rt;
+        plan.as_slice(),
+        [cut, CutStep::Leaf, CutStep::Leaf].as_slice()
     );
     Ok(())
 }

@@ -243,7 +243,8 @@ fn kept_pairs(rt: HostRuntime) -> Result<(), Fail> {
         &rt,
         rt.alloc(),
         b"bin P 10 10 1\nexclude A B\nrect q 4 4 1 B\nrect p 4 4 1 A\npack\nbin Q 10 10 1\npack\n",
-        "ok\nok\nok\nok\nrefused: Not enough space to place all of the rectangles.\nok\n0 p P 0 0 0 4 4 1\n1 q Q 0 0 0 4 4 1\npacked 2\n",
+        "ok\nok\nok\nok\nrefused: Not enough space to place all of the rectangles.\nok\n\
+         0 p P 0 0 0 4 4 1\n1 q Q 0 0 0 4 4 1\npacked 2\n",
         Outcome::Done,
     )
 }

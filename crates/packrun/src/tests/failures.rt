@@ -12,13 +12,19 @@ const LINES: &str =
     "bin a 100 100 1\nrect one 60 95 1\nrect two 40 10 1\nrect three 1 1 1\npack\nbin a 9 9 1\nrect three 1 1";
 
 const PRINTED: &str =
-    "ok\nok\nok\nok\n0 one a 0 0 0 60 95 1\n1 two a 60 0 0 40 10 1\n2 three a 60 10 0 1 1 1\npacked 3\nrefused: bin a exists\nline 7 is bad\n";
+    "ok\nok\nok\nok\n0 one a 0 0 0 60 95 1\n1 two a 60 0 0 40 10 1\n2 three a 60 10 0 1 1 1\n\
+     packed 3\nrefused: bin a exists\nline 7 is bad\n";
 
 const GROUPED: &str =
-    "bin A 2048 2048 255\nbin B 4096 4096 1020\nrect one 10 20 255 g\nrect two 5 50 255 g\nrect three 30 30 255\npack\nrelease 1\nsections A\nrelease 1\nsections C\n";
+    "bin A 2048 2048 255\nbin B 4096 4096 1020\nrect one 10 20 255 g\nrect two 5 50 255 g\n\
+     rect three 30 30 255\npack\nrelease 1\nsections A\nrelease 1\nsections C\nstats A\nstats C\n";
 
 const GROUPED_PRINTED: &str =
-    "ok\nok\nok\nok\nok\n0 three A 0 0 0 30 30 255\n1 one A 30 0 0 10 20 255\n2 two A 0 30 0 5 50 255\npacked 3\nok\n40 0 0 2008 30 255\n30 20 0 10 10 255\n5 30 0 2043 2018 255\n0 80 0 5 1968 255\n30 0 0 10 20 255\nsections 5\nrefused: placement 1 is unknown\nrefused: bin C is unknown\n";
+    "ok\nok\nok\nok\nok\n0 three A 0 0 0 30 30 255\n1 one A 30 0 0 10 20 255\n\
+     2 two A 0 30 0 5 50 255\npacked 3\nok\n40 0 0 2008 30 255\n30 20 0 10 10 255\n\
+     5 30 0 2043 2018 255\n0 80 0 5 1968 255\n30 0 0 10 20 255\nsections 5\n\
+     refused: placement 1 is unknown\nrefused: bin C is unknown\n\
+     free 1069254270 in 5, placed 293250 in 2, bin 1069547520\nrefused: bin C is unknown\n";
 
 #[test]
 fn failing_reads(rt: HostRuntime) -> Result<(), Fail> {

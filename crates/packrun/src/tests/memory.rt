@@ -9,6 +9,7 @@ mod bins;
 mod collections;
 mod none;
 mod packings;
+mod plans;
 mod sessions;
 
 /// What came of a run: a request was refused before the call in question, or in that call, or none was.

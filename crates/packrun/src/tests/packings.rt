@@ -33,7 +33,8 @@ fn groups_and_bins(rt: HostRuntime) -> Result<(), Fail> {
     says(
         &rt,
         rt.alloc(),
-        b"bin A 2048 2048 255\nbin B 4096 4096 1020\nrect one 10 20 255 g\nrect two 5 50 255 g\nrect three 30 30 255\npack\n",
+        b"bin A 2048 2048 255\nbin B 4096 4096 1020\nrect one 10 20 255 g\nrect two 5 50 255 g\n\
+          rect three 30 30 255\npack\n",
         "ok\nok\nok\nok\nok\n0 three A 0 0 0 30 30 255\n1 one A 30 0 0 10 20 255\n2 two A 0 30 0 5 50 255\npacked 3\n",
         Outcome::Done,
     )
@@ -59,7 +60,9 @@ fn kept_collection(rt: HostRuntime) -> Result<(), Fail> {
         &rt,
         rt.alloc(),
         b"bin a 4 4 1\nbin a 9 9 1\nrect one 4 4 1\nrect two 2 2 1\npack\nbin b 3 3 1\npack\nrect three 1 1",
-        "ok\nrefused: bin a exists\nok\nok\nrefused: Not enough space to place all of the rectangles.\nok\n0 one a 0 0 0 4 4 1\n1 two b 0 0 0 2 2 1\npacked 2\nline 8 is bad\n",
+        "ok\nrefused: bin a exists\nok\nok\n\
+         refused: Not enough space to place all of the rectangles.\nok\n0 one a 0 0 0 4 4 1\n\
+         1 two b 0 0 0 2 2 1\npacked 2\nline 8 is bad\n",
         Outcome::BadLine(8),
     )
 }
@@ -70,8 +73,11 @@ fn releases(rt: HostRuntime) -> Result<(), Fail> {
     says(
         &rt,
         rt.alloc(),
-        b"bin a 10 10 1\nrect p 4 10 1\npack\nrect q 6 10 1\npack\nrelease 0\nrelease 1\nsections a\ncoalesce a 1 0 2\nsections a\nrelease 0\n",
-        "ok\nok\n0 p a 0 0 0 4 10 1\npacked 1\nok\n1 q a 4 0 0 6 10 1\npacked 1\nok\nok\n0 0 0 4 10 1\n4 0 0 6 10 1\nsections 2\nok\n0 0 0 10 10 1\nsections 1\nrefused: placement 0 is unknown\n",
+        b"bin a 10 10 1\nrect p 4 10 1\npack\nrect q 6 10 1\npack\nrelease 0\nrelease 1\n\
+          sections a\ncoalesce a 1 0 2\nsections a\nrelease 0\n",
+        "ok\nok\n0 p a 0 0 0 4 10 1\npacked 1\nok\n1 q a 4 0 0 6 10 1\npacked 1\nok\nok\n\
+         0 0 0 4 10 1\n4 0 0 6 10 1\nsections 2\nok\n0 0 0 10 10 1\nsections 1\n\
+         refused: placement 0 is unknown\n",
         Outcome::Done,
     )
 }
@@ -82,8 +88,12 @@ fn sweeps(rt: HostRuntime) -> Result<(), Fail> {
     says(
         &rt,
         rt.alloc(),
-        b"bin a 10 10 1\nrect p 4 10 1\nrect q 6 10 1\npack\nrelease 0\nrelease 1\ncoalesce a 2 0 2\ncoalesce a 1 2 0\nsections a\nsweep a\nsections a\nsweep b\ncoalesce b 0 0 1\n",
-        "ok\nok\nok\n0 q a 0 0 0 6 10 1\n1 p a 6 0 0 4 10 1\npacked 2\nok\nok\nok\nok\n0 0 0 6 10 1\n6 0 0 4 10 1\nsections 2\nok\n0 0 0 10 10 1\nsections 1\nrefused: bin b is unknown\nrefused: bin b is unknown\n",
+        b"bin a 10 10 1\nrect p 4 10 1\nrect q 6 10 1\npack\nrelease 0\nrelease 1\n\
+          coalesce a 2 0 2\ncoalesce a 1 2 0\nsections a\nsweep a\nsections a\nsweep b\n\
+          coalesce b 0 0 1\n",
+        "ok\nok\nok\n0 q a 0 0 0 6 10 1\n1 p a 6 0 0 4 10 1\npacked 2\nok\nok\nok\nok\n\
+         0 0 0 6 10 1\n6 0 0 4 10 1\nsections 2\nok\n0 0 0 10 10 1\nsections 1\n\
+         refused: bin b is unknown\nrefused: bin b is unknown\n",
         Outcome::Done,
     )
 }
@@ -118,8 +128,8 @@ fn last_numbers(rt: HostRuntime) -> Result<(), Fail> {
         let command = parse(line.as_bytes()).ok_or("a bad line")?;
         assert!(rt; store.obey(command, &mut written).is_ok());
     }
-    let printed =
-        "ok\nok\n18446744073709551614 one a 0 0 0 4 4 1\npacked 1\npacked 0\nok\nrefused: numbers are used up\nrefused: numbers are used up\n";
+    let printed = "ok\nok\n18446744073709551614 one a 0 0 0 4 4 1\npacked 1\npacked 0\nok\n\
+         refused: numbers are used up\nrefused: numbers are used up\n";
     assert_eq!(rt; written.as_slice(), printed.as_bytes());
     Ok(())
 }

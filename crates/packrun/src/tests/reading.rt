@@ -25,11 +25,16 @@ fn good_lines(rt: HostRuntime) -> Result<(), Fail> {
         ),
         (
             "bin z 0 5 1\nrect e 0 5 1\npack\nrelease 0\nsections z\nrect e 0 5 1\npack\n",
-            "ok\nok\n0 e z 0 0 0 0 5 1\npacked 1\nok\nsections 0\nok\nrefused: Not enough space to place all of the rectangles.\n",
+            "ok\nok\n0 e z 0 0 0 0 5 1\npacked 1\nok\nsections 0\nok\n\
+             refused: Not enough space to place all of the rectangles.\n",
         ),
         (
-            "release 18446744073709551615\nrelease 018446744073709551615\nrelease 000\nsections a\ncoalesce a 18446744073709551615 00 018446744073709551615\n",
-            "refused: placement 18446744073709551615 is unknown\nrefused: placement 18446744073709551615 is unknown\nrefused: placement 0 is unknown\nrefused: bin a is unknown\nrefused: bin a is unknown\n",
+            "release 18446744073709551615\nrelease 018446744073709551615\nrelease 000\n\
+             sections a\ncoalesce a 18446744073709551615 00 018446744073709551615\n",
+            "refused: placement 18446744073709551615 is unknown\n\
+             refused: placement 18446744073709551615 is unknown\n\
+             refused: placement 0 is unknown\nrefused: bin a is unknown\n\
+             refused: bin a is unknown\n",
         ),
     ] {
         says(&rt, alloc, input.as_bytes(), output, Outcome::Done)?;
@@ -88,7 +93,8 @@ fn bad_lines(rt: HostRuntime) -> Result<(), Fail> {
         "coalesce a 0 0 18446744073709551616",
         "sweep",
         "sweep a a",
-        "stats a",
+        "stats",
+        "stats a a",
         "Pack",
         "pack 1",
         "packs",
@@ -114,29 +120,4 @@ fn bad_lines(rt: HostRuntime) -> Result<(), Fail> {
         "line 1 is bad\n",
         Outcome::BadLine(1),
     )
-}
-
-// A line of 4096 bytes is the longest; a longer one is bad, whatever it says.
-#[test]
-fn longest_lines(rt: HostRuntime) -> Result<(), Fail> {
-    let alloc = rt.alloc();
-    for (length, output, outcome) in [
-        (4096, "ok\npacked 0\n", Outcome::Done),
-        (4097, "line 1 is bad\n", Outcome::BadLine(1)),
-        (20000, "line 1 is bad\n", Outcome::BadLine(1)),
-    ] {
-        let mut line = Vec::new(alloc);
-        line.extend_from_slice(b"bin a 7 1 1")?;
-        line.resize(length, b' ')?;
-        says(
-            &rt,
-            alloc,
-            line.as_slice(),
-            output.strip_suffix("packed 0\n").unwrap_or(output),
-            outcome,
-        )?;
-        line.extend_from_slice(b"\npack")?;
-        says(&rt, alloc, line.as_slice(), output, outcome)?;
-    }
-    Ok(())
 }

@@ -1,12 +1,15 @@
 //! Sessions: what they reply to each command, and how they stand after it.
 
-use super::cases::{Case, FULL_BIN, Rects, pack_by_volume, rects_of};
-use super::exclusions::{A, B, Name, exclude_all};
+mod hostile;
+mod refusals;
+pub mod releases;
+
+use super::cases::{Case, Rects, rects_of};
+use super::exclusions::{Name, exclude_all};
 use super::shapes::{has_list, place};
 use crate::refusing::Refusing;
 use rectangle_pack::{
-    Command, Group, Outstanding, Packed, Reply, Session, SessionError, contains_smallest_box,
-    volume_heuristic,
+    Command, Outstanding, Reply, Session, SessionError, contains_smallest_box, volume_heuristic,
 };
 use std::alloc::{AllocError, Global};
 use std::process::Abort;
@@ -77,368 +80,23 @@ const WHOLE: &[[u32; 6]] = &[[0, 0, 0, 10, 10, 1]];
 
 const FIRST: [u32; 6] = [0, 0, 0, 4, 4, 1];
 
-const REFUSED: Reply = Reply::Refused(SessionError::NotEnoughBinSpace);
-
 const UNKNOWN: Reply = Reply::Refused(SessionError::UnknownPlacement);
 
-const USED_UP: Reply = Reply::Refused(SessionError::NumbersUsedUp);
+/// The least box with cells.
+pub const UNIT: [u32; 3] = [1, 1, 1];
 
-/// A bin that two boxes fill, and that is free again once both are released.
-pub const TWO_RELEASES: &[Step] = &[
-    Step {
-        order: Order::AddBin("bin", [10, 10, 1]),
-        reply: Reply::Done,
-        after: Standing {
-            bins: &[("bin", WHOLE)],
-            placed: &[],
-            next: 0,
-        },
-    },
-    Step {
-        order: Order::Pack(&[("p", [4, 10, 1], &[])], &[]),
-        reply: Reply::Packed(Packed { first: 0, count: 1 }),
-        after: Standing {
-            bins: &[("bin", &[[4, 0, 0, 6, 10, 1]])],
-            placed: &[(0, "p", "bin", [0, 0, 0, 4, 10, 1])],
-            next: 1,
-        },
-    },
-    Step {
-        order: Order::Pack(&[("q", [6, 10, 1], &[])], &[]),
-        reply: Reply::Packed(Packed { first: 1, count: 1 }),
-        after: Standing {
-            bins: &[("bin", &[])],
-            placed: &[
-                (0, "p", "bin", [0, 0, 0, 4, 10, 1]),
-                (1, "q", "bin", [4, 0, 0, 6, 10, 1]),
-            ],
-            next: 2,
-        },
-    },
-    Step {
-        order: Order::Release(0),
-        reply: Reply::Done,
-        after: Standing {
-            bins: &[("bin", &[[0, 0, 0, 4, 10, 1]])],
-            placed: &[(1, "q", "bin", [4, 0, 0, 6, 10, 1])],
-            next: 2,
-        },
-    },
-    Step {
-        order: Order::Release(1),
-        reply: Reply::Done,
-        after: BOTH_RELEASED,
-    },
-    // An index past the end and an empty range join nothing.
-    Step {
-        order: Order::Coalesce("bin", 2, 0, 2),
-        reply: Reply::Done,
-        after: BOTH_RELEASED,
-    },
-    Step {
-        order: Order::Coalesce("bin", 1, 1, 0),
-        reply: Reply::Done,
-        after: BOTH_RELEASED,
-    },
-    Step {
-        order: Order::Coalesce("other", 0, 0, 2),
-        reply: NO_BIN,
-        after: BOTH_RELEASED,
-    },
-    Step {
-        order: Order::Coalesce("bin", 1, 0, 2),
-        reply: Reply::Done,
-        after: JOINED,
-    },
-    // A released number is unknown.
-    Step {
-        order: Order::Release(0),
-        reply: UNKNOWN,
-        after: JOINED,
-    },
+/// Nine of them, each alone.
+pub const NINE_UNITS: &[SizedBox] = &[
+    ("a", UNIT, &[]),
+    ("b", UNIT, &[]),
+    ("c", UNIT, &[]),
+    ("d", UNIT, &[]),
+    ("e", UNIT, &[]),
+    ("f", UNIT, &[]),
+    ("g", UNIT, &[]),
+    ("h", UNIT, &[]),
+    ("i", UNIT, &[]),
 ];
-
-/// A bin that is swept, and a bin that is not there.
-const SWEPT: &[Step] = &[
-    Step {
-        order: Order::AddBin("bin", [10, 10, 1]),
-        reply: Reply::Done,
-        after: Standing {
-            bins: &[("bin", WHOLE)],
-            placed: &[],
-            next: 0,
-        },
-    },
-    Step {
-        order: Order::Pack(&[("p", [4, 10, 1], &[]), ("q", [6, 10, 1], &[])], &[]),
-        reply: Reply::Packed(Packed { first: 0, count: 2 }),
-        after: Standing {
-            bins: &[("bin", &[])],
-            placed: &[
-                (0, "q", "bin", [0, 0, 0, 6, 10, 1]),
-                (1, "p", "bin", [6, 0, 0, 4, 10, 1]),
-            ],
-            next: 2,
-        },
-    },
-    Step {
-        order: Order::Release(1),
-        reply: Reply::Done,
-        after: Standing {
-            bins: &[("bin", &[[6, 0, 0, 4, 10, 1]])],
-            placed: &[(0, "q", "bin", [0, 0, 0, 6, 10, 1])],
-            next: 2,
-        },
-    },
-    Step {
-        order: Order::Release(0),
-        reply: Reply::Done,
-        after: BACKWARDS,
-    },
-    Step {
-        order: Order::CoalesceAll("other"),
-        reply: NO_BIN,
-        after: BACKWARDS,
-    },
-    Step {
-        order: Order::CoalesceAll("bin"),
-        reply: Reply::Done,
-        after: JOINED,
-    },
-];
-
-const BACKWARDS: Standing = Standing {
-    bins: &[("bin", &[[6, 0, 0, 4, 10, 1], [0, 0, 0, 6, 10, 1]])],
-    placed: &[],
-    next: 2,
-};
-
-const NO_BIN: Reply = Reply::Refused(SessionError::UnknownBin);
-
-const JOINED: Standing = Standing {
-    bins: &[("bin", WHOLE)],
-    placed: &[],
-    next: 2,
-};
-
-const BOTH_RELEASED: Standing = Standing {
-    bins: &[("bin", &[[0, 0, 0, 4, 10, 1], [4, 0, 0, 6, 10, 1]])],
-    placed: &[],
-    next: 2,
-};
-
-// What is refused is replied in its place, and the commands after it are done.
-const REFUSALS: &[Step] = &[
-    Step {
-        order: Order::AddBin("a", TILE),
-        reply: Reply::Done,
-        after: NEW_BIN,
-    },
-    Step {
-        order: Order::AddBin("a", [1, 1, 1]),
-        reply: Reply::Refused(SessionError::DuplicateBin),
-        after: NEW_BIN,
-    },
-    Step {
-        order: Order::Release(5),
-        reply: UNKNOWN,
-        after: NEW_BIN,
-    },
-    Step {
-        order: Order::Pack(&[], &[]),
-        reply: Reply::Packed(Packed { first: 0, count: 0 }),
-        after: NEW_BIN,
-    },
-];
-
-const NEW_BIN: Standing = Standing {
-    bins: &[("a", &[FIRST])],
-    placed: &[],
-    next: 0,
-};
-
-// A box without cells takes no section, and gives none back.
-const EMPTY_BOX: &[Step] = &[
-    Step {
-        order: Order::AddBin("bin", [10, 10, 1]),
-        reply: Reply::Done,
-        after: Standing {
-            bins: &[("bin", WHOLE)],
-            placed: &[],
-            next: 0,
-        },
-    },
-    Step {
-        order: Order::Pack(&[("empty", [0, 5, 1], &[])], &[]),
-        reply: Reply::Packed(Packed { first: 0, count: 1 }),
-        after: Standing {
-            bins: &[("bin", WHOLE)],
-            placed: &[(0, "empty", "bin", [0, 0, 0, 0, 5, 1])],
-            next: 1,
-        },
-    },
-    Step {
-        order: Order::Release(0),
-        reply: Reply::Done,
-        after: Standing {
-            bins: &[("bin", WHOLE)],
-            placed: &[],
-            next: 1,
-        },
-    },
-];
-
-// The first box would fill the bin, the second is refused, and neither stays.
-const UNDONE: &[Step] = &[
-    Step {
-        order: Order::AddBin("bin", TILE),
-        reply: Reply::Done,
-        after: FULL_BIN_AS_NEW,
-    },
-    Step {
-        order: Order::Pack(&[("One", TILE, &[]), ("Two", [2, 2, 1], &[])], &[]),
-        reply: REFUSED,
-        after: FULL_BIN_AS_NEW,
-    },
-];
-
-const FULL_BIN_AS_NEW: Standing = Standing {
-    bins: &[("bin", &[FIRST])],
-    placed: &[],
-    next: 0,
-};
-
-// The greatest number is never given.
-const LAST_NUMBER: &[Step] = &[
-    Step {
-        order: Order::AddBin("bin", [8, 8, 1]),
-        reply: Reply::Done,
-        after: Standing {
-            bins: &[("bin", &[[0, 0, 0, 8, 8, 1]])],
-            placed: &[],
-            next: u64::MAX - 1,
-        },
-    },
-    Step {
-        order: Order::Pack(&[("One", TILE, &[])], &[]),
-        reply: Reply::Packed(Packed {
-            first: u64::MAX - 1,
-            count: 1,
-        }),
-        after: AT_THE_END,
-    },
-    Step {
-        order: Order::Pack(&[("Two", TILE, &[])], &[]),
-        reply: USED_UP,
-        after: AT_THE_END,
-    },
-    Step {
-        order: Order::Pack(&[], &[]),
-        reply: Reply::Packed(Packed {
-            first: u64::MAX,
-            count: 0,
-        }),
-        after: AT_THE_END,
-    },
-];
-
-const AT_THE_END: Standing = Standing {
-    bins: &[("bin", &[[0, 4, 0, 8, 4, 1], [4, 0, 0, 4, 4, 1]])],
-    placed: &[(u64::MAX - 1, "One", "bin", FIRST)],
-    next: u64::MAX,
-};
-
-// That there is a number is asked before a bin is.
-const NO_NUMBER: &[Step] = &[Step {
-    order: Order::Pack(&[("One", [1, 1, 1], &[])], &[]),
-    reply: USED_UP,
-    after: Standing {
-        bins: &[],
-        placed: &[],
-        next: u64::MAX,
-    },
-}];
-
-// A box alone and a group that are excluded, and one bin.
-const EXCLUDED: &[Step] = &[
-    Step {
-        order: Order::AddBin("P", [10, 10, 1]),
-        reply: Reply::Done,
-        after: ONE_NEW_BIN,
-    },
-    Step {
-        order: Order::Pack(
-            &[("One", TILE, &[]), ("a", TILE, &["A"])],
-            &[(Group::Ungrouped("One"), A)],
-        ),
-        reply: REFUSED,
-        after: ONE_NEW_BIN,
-    },
-];
-
-const ONE_NEW_BIN: Standing = Standing {
-    bins: &[("P", WHOLE)],
-    placed: &[],
-    next: 0,
-};
-
-// Groups of different packings do not exclude each other.
-const EXCLUDED_BEFORE: &[Step] = &[
-    Step {
-        order: Order::AddBin("P", [10, 10, 1]),
-        reply: Reply::Done,
-        after: ONE_NEW_BIN,
-    },
-    Step {
-        order: Order::Pack(&[("a", TILE, &["A"])], &[(A, B)]),
-        reply: Reply::Packed(Packed { first: 0, count: 1 }),
-        after: Standing {
-            bins: &[("P", &[[0, 4, 0, 10, 6, 1], [4, 0, 0, 6, 4, 1]])],
-            placed: &[(0, "a", "P", FIRST)],
-            next: 1,
-        },
-    },
-    Step {
-        order: Order::Pack(&[("b", TILE, &["B"])], &[(A, B)]),
-        reply: Reply::Packed(Packed { first: 1, count: 1 }),
-        after: Standing {
-            bins: &[("P", &[[0, 4, 0, 10, 6, 1], [8, 0, 0, 2, 4, 1]])],
-            placed: &[(0, "a", "P", FIRST), (1, "b", "P", [4, 0, 0, 4, 4, 1])],
-            next: 2,
-        },
-    },
-];
-
-// A bin that is there keeps its size, its sections and what stands in it.
-const BIN_IN_USE: &[Step] = &[
-    Step {
-        order: Order::AddBin("P", [10, 10, 1]),
-        reply: Reply::Done,
-        after: ONE_NEW_BIN,
-    },
-    Step {
-        order: Order::Pack(&[("p", [4, 10, 1], &[])], &[]),
-        reply: Reply::Packed(Packed { first: 0, count: 1 }),
-        after: IN_USE,
-    },
-    Step {
-        order: Order::AddBin("P", [10, 10, 1]),
-        reply: Reply::Refused(SessionError::DuplicateBin),
-        after: IN_USE,
-    },
-    // There is no room for this one beside the other.
-    Step {
-        order: Order::Pack(&[("q", [7, 10, 1], &[])], &[]),
-        reply: REFUSED,
-        after: IN_USE,
-    },
-];
-
-const IN_USE: Standing = Standing {
-    bins: &[("P", &[[4, 0, 0, 6, 10, 1]])],
-    placed: &[(0, "p", "P", [0, 0, 0, 4, 10, 1])],
-    next: 1,
-};
 
 type Made<T> = Result<T, AllocError>;
 
@@ -461,7 +119,8 @@ const NO_BOXES: Case = Case {
     lists: &[],
 };
 
-fn command<'a>(alloc: &'a Refusing<Global>, order: &Order) -> Made<TestCommand<'a>> {
+/// The command of an order.
+pub fn command<'a>(alloc: &'a Refusing<Global>, order: &Order) -> Made<TestCommand<'a>> {
     Ok(match order {
         Order::AddBin(id, [width, height, depth]) => Command::AddBin {
             id: *id,
@@ -640,30 +299,4 @@ fn come_out(rt: &impl Abort, alloc: Global, cases: &[(u64, &[Step])]) -> Result<
         assert!(rt; run_all(&alloc, *first, steps)?);
     }
     Ok(())
-}
-
-#[test]
-fn numbers_and_releases(rt: HostRuntime) -> Result<(), Fail> {
-    let cases = [
-        (0, TWO_RELEASES),
-        (0, SWEPT),
-        (0, EMPTY_BOX),
-        (u64::MAX - 1, LAST_NUMBER),
-        (u64::MAX, NO_NUMBER),
-    ];
-    come_out(&rt, rt.alloc(), &cases)
-}
-
-// The box that `pack_rects` leaves in the bin, a session takes back.
-#[test]
-fn refusals(rt: HostRuntime) -> Result<(), Fail> {
-    let cases = [
-        (0, REFUSALS),
-        (0, BIN_IN_USE),
-        (0, EXCLUDED),
-        (0, EXCLUDED_BEFORE),
-        (0, UNDONE),
-    ];
-    come_out(&rt, rt.alloc(), &cases)?;
-    pack_by_volume(&rt, rt.alloc(), &[FULL_BIN])
 }

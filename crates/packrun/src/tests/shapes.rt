@@ -1,12 +1,14 @@
 //! Sections, locations and bins by their numbers: x, y, z, width, height, depth.
 ghost use Rattle.std.specs.Prelude.{◌≡◌};
+ghost use Rattle.rectangle_pack.specs.Boxes.{Size};
 
 use rectangle_pack::{BinSection, PackedLocation, RectToInsert, TargetBin, WidthHeightDepth};
 use std::alloc::Allocator;
 
 /// A section with this corner and size; any of the numbers may be 0.
 pub fn section(x: u32, y: u32, z: u32, width: u32, height: u32, depth: u32) -> BinSection
-    ensures { result ≡ record { x = x; y = y; z = z; whd = record { width = width; height = height; depth = depth } } }
+    ensures { let size : Size = record { width = width; height = height; depth = depth } in
+        result ≡ record { x = x; y = y; z = z; whd = size } }
 {
     let whd = WidthHeightDepth::from(RectToInsert::new(width, height, depth));
     BinSection::new(x, y, z, whd)

@@ -67,13 +67,14 @@ pub fn answers<A: Allocator + Copy>(
     }
 }
 
-// A trial answers these places, or is stuck, with so many fit tests and this list afterwards.
+// A trial answers these places, or is stuck, with so many fit tests, which are at most so many, and
+// this list afterwards.
 fn tries(
     rt: &impl Abort,
     bin: &mut TargetBin,
     members: &[RectToInsert],
     places: Option<&[[u32; 6]]>,
-    count: u128,
+    [count, most]: [u128; 2],
     list: &[[u32; 6]],
 ) -> Result<(), Fail> {
     let mut tests = FitTests::new();
@@ -85,6 +86,7 @@ fn tries(
     )?;
     answers(rt, answer, places);
     assert_eq!(rt; tests.count(), count);
+    assert!(rt; tests.count() <= most);
     assert!(rt; has_list(bin, list), "{bin:?}");
     Ok(())
 }
@@ -98,26 +100,41 @@ fn stuck_trials_are_undone(rt: HostRuntime) -> Result<(), Fail> {
     let small = RectToInsert::new(5, 5, 1);
     let mut bin = layered(rt.alloc())?;
     assert!(rt; has_list(&bin, &LAYERS), "{bin:?}");
-    tries(&rt, &mut bin, &[wide, whole], None, 4, &LAYERS)?;
-    tries(&rt, &mut bin, &[square, wide, whole], None, 3, &LAYERS)?;
-    tries(&rt, &mut bin, &[small, whole], None, 5, &LAYERS)?;
-    tries(&rt, &mut bin, &[whole], None, 3, &LAYERS)?;
-    tries(&rt, &mut bin, &[], Some(&[]), 0, &LAYERS)
+    tries(&rt, &mut bin, &[wide, whole], None, [4, 8], &LAYERS)?;
+    tries(
+        &rt,
+        &mut bin,
+        &[square, wide, whole],
+        None,
+        [3, 15],
+        &LAYERS,
+    )?;
+    tries(&rt, &mut bin, &[small, whole], None, [5, 8], &LAYERS)?;
+    tries(&rt, &mut bin, &[whole], None, [3, 3], &LAYERS)?;
+    tries(&rt, &mut bin, &[], Some(&[]), [0, 0], &LAYERS)
 }
 
 #[test]
 fn stuck_in_a_fresh_bin(rt: HostRuntime) -> Result<(), Fail> {
     let mut bin = TargetBin::new(rt.alloc(), 10, 10, 10)?;
     let members = [RectToInsert::new(1, 1, 1), RectToInsert::new(10, 10, 10)];
-    tries(&rt, &mut bin, &members, None, 4, &[[0, 0, 0, 10, 10, 10]])
+    tries(
+        &rt,
+        &mut bin,
+        &members,
+        None,
+        [4, 4],
+        &[[0, 0, 0, 10, 10, 10]],
+    )
 }
 
 #[test]
 fn bin_without_sections(rt: HostRuntime) -> Result<(), Fail> {
     let mut bin = TargetBin::new(rt.alloc(), 10, 10, 1)?;
     bin.remove_filled_section(0);
-    tries(&rt, &mut bin, &[RectToInsert::new(1, 1, 1)], None, 0, &[])?;
-    tries(&rt, &mut bin, &[], Some(&[]), 0, &[])
+    let small = RectToInsert::new(1, 1, 1);
+    tries(&rt, &mut bin, &[small], None, [0, 0], &[])?;
+    tries(&rt, &mut bin, &[], Some(&[]), [0, 0], &[])
 }
 
 // The third box goes into the newest section, though an older one is smaller.
@@ -129,7 +146,7 @@ fn newest_section_first(rt: HostRuntime) -> Result<(), Fail> {
         &mut bin,
         &three_boxes(),
         Some(&THREE_PLACES),
-        4,
+        [4, 9],
         &THREE_LEAVE,
     )
 }

@@ -3,9 +3,10 @@
 use super::{End, refuses_each};
 use crate::refusing::Refusing;
 use crate::tests::cases::Rects;
+use crate::tests::session::releases::TWO_RELEASES;
 use crate::tests::session::{
-    Came, Placed, SizedBox, TWO_RELEASES, TestCommand, TestSession, are_wanted, call, call_each,
-    commands, empty, pack, rects, run, stands,
+    Came, NINE_UNITS, Placed, TestCommand, TestSession, are_wanted, call, call_each, commands,
+    empty, pack, rects, run, stands,
 };
 use crate::tests::shapes::numbers;
 use rectangle_pack::{BinSection, Reply, SessionError};
@@ -118,23 +119,9 @@ fn runs(rt: HostRuntime) -> Result<(), Fail> {
     )
 }
 
-const UNIT: [u32; 3] = [1, 1, 1];
-
-const NINE: &[SizedBox] = &[
-    ("a", UNIT, &[]),
-    ("b", UNIT, &[]),
-    ("c", UNIT, &[]),
-    ("d", UNIT, &[]),
-    ("e", UNIT, &[]),
-    ("f", UNIT, &[]),
-    ("g", UNIT, &[]),
-    ("h", UNIT, &[]),
-    ("i", UNIT, &[]),
-];
-
 // A bin of nine cells in a row, full of boxes that are numbered from its start on.
 fn strip<'a>(alloc: &'a Refusing<Global>) -> Option<TestSession<'a>> {
-    let rects: Rects<&'a Refusing<Global>> = rects(alloc, NINE, &[]).ok()?;
+    let rects: Rects<&'a Refusing<Global>> = rects(alloc, NINE_UNITS, &[]).ok()?;
     let mut session: TestSession<'a> = TestSession::new(alloc, 0);
     session.add_bin("strip", 9, 1, 1).ok()?;
     match pack(&mut session, &rects) {

@@ -1,0 +1,221 @@
+//! What a run printed, counted box by box and cell by cell.
+
+use std::alloc::{AllocError, Global};
+
+// The numbers of a line; a word that is none counts as 0.
+type Row = [u32; 9];
+
+// What the lines of a run said so far.
+#[derive(Drop)]
+struct Seen {
+    // `bin NAME W H D`
+    bins: Vec<Row>,
+    // `rect ID W H D [GROUP [GROUP]]`, since the last packing.
+    boxes: Vec<Row>,
+    // `NUMBER ID BIN X Y Z W H D`, but for what was released.
+    placed: Vec<Row>,
+}
+
+impl Seen {
+    fn new(alloc: Global) -> Seen {
+        Seen {
+            bins: Vec::new(alloc),
+            boxes: Vec::new(alloc),
+            placed: Vec::new(alloc),
+        }
+    }
+}
+
+fn row(line: &str) -> Row {
+    let mut row = [0; 9];
+    for (at, word) in row.iter_mut().zip(line.split_ascii_whitespace()) {
+        *at = word.parse::<u32>().unwrap_or(0);
+    }
+    row
+}
+
+fn first_word(line: &str) -> &str {
+    line.split_ascii_whitespace().next().unwrap_or("")
+}
+
+fn has_words(line: &&str) -> bool {
+    !first_word(line).is_empty()
+}
+
+fn has_cell([x, y, z, width, height, depth]: [u32; 6], [i, j, k]: [u32; 3]) -> bool {
+    x <= i && i - x < width && y <= j && j - y < height && z <= k && k - z < depth
+}
+
+fn is_inside([x, y, z, width, height, depth]: [u32; 6], [right, top, back]: [u32; 3]) -> bool {
+    x.saturating_add(width) <= right
+        && y.saturating_add(height) <= top
+        && z.saturating_add(depth) <= back
+}
+
+fn times_filled(boxes: &[[u32; 6]], cell: [u32; 3]) -> usize {
+    boxes.iter().filter(|at| has_cell(**at, cell)).count()
+}
+
+// Whether these boxes are inside a bin of this size, of sides up to 6, and each of its cells is in
+// exactly one of them.
+fn fill_once(boxes: &[[u32; 6]], size: [u32; 3]) -> bool {
+    for n in 0..216u32 {
+        let cell = [n % 6, n / 6 % 6, n / 36];
+        let is_cell = has_cell([0, 0, 0, size[0], size[1], size[2]], cell);
+        if times_filled(boxes, cell) != usize::from(is_cell) {
+            return false;
+        }
+    }
+    boxes.iter().all(|at| is_inside(*at, size))
+}
+
+fn free_box(row: &Row) -> [u32; 6] {
+    let [x, y, z, width, height, depth, ..] = *row;
+    [x, y, z, width, height, depth]
+}
+
+fn placed_box(row: &Row) -> [u32; 6] {
+    let [_, _, _, x, y, z, width, height, depth] = *row;
+    [x, y, z, width, height, depth]
+}
+
+// The boxes in the bin of this name, where these lines are its free sections.
+fn boxes_in(
+    alloc: Global,
+    placed: &[Row],
+    bin: u32,
+    free: &[Row],
+) -> Result<Vec<[u32; 6]>, AllocError> {
+    placed
+        .iter()
+        .filter(|row| row[2] == bin)
+        .map(placed_box)
+        .chain(free.iter().map(free_box))
+        .collect(alloc)
+}
+
+fn size_of(bins: &[Row], name: u32) -> [u32; 3] {
+    match bins.iter().find(|row| row[1] == name) {
+        Some([_, _, width, height, depth, ..]) => [*width, *height, *depth],
+        None => [0; 3],
+    }
+}
+
+// How often the box of this id is to be placed: once for each group that a line names, and once
+// alone.
+fn times_named(boxes: &[Row], id: u32) -> usize {
+    let of_id = |row: &&Row| row[1] == id;
+    let once = boxes.iter().filter(of_id).filter(|row| row[5] != 0).count();
+    let twice = boxes.iter().filter(of_id).filter(|row| row[6] != 0).count();
+    let alone = boxes.iter().filter(of_id).any(|row| row[5] == 0);
+    once.saturating_add(twice)
+        .saturating_add(usize::from(alone))
+}
+
+fn times_placed(lines: &[Row], id: u32) -> usize {
+    lines.iter().filter(|row| row[1] == id).count()
+}
+
+// Whether the last line of this id gave the box the size in which it was placed.
+fn is_in_its_size(boxes: &[Row], placed: &Row) -> bool {
+    match boxes.iter().rev().find(|row| row[1] == placed[1]) {
+        Some([_, _, width, height, depth, ..]) => placed.ends_with(&[*width, *height, *depth]),
+        None => false,
+    }
+}
+
+// Whether the box of this id is to be placed once, for this group.
+fn is_of_group(boxes: &[Row], id: u32, group: u32) -> bool {
+    times_named(boxes, id) == 1 && boxes.iter().any(|row| row[1] == id && row[5] == group)
+}
+
+// Whether the boxes that are of this group alone are in one bin.
+fn share_a_bin(boxes: &[Row], lines: &[Row], group: u32) -> bool {
+    let mut homes = lines
+        .iter()
+        .filter(|row| is_of_group(boxes, row[1], group))
+        .map(|row| row[2]);
+    match homes.next() {
+        Some(home) => homes.all(|other| other == home),
+        None => true,
+    }
+}
+
+// Whether these lines place each box, of ids below 10, as often as it was named, in its size, and
+// each of the groups 1 to 3 in one bin.
+fn places_all(boxes: &[Row], lines: &[Row]) -> bool {
+    for id in 0..10u32 {
+        let is_whole = !(1..4).contains(&id) || share_a_bin(boxes, lines, id);
+        if !is_whole || times_placed(lines, id) != times_named(boxes, id) {
+            return false;
+        }
+    }
+    lines.iter().all(|row| is_in_its_size(boxes, row))
+}
+
+// Whether one of these has this number, which is then taken away.
+fn release(placed: &mut Vec<Row>, number: u32) -> bool {
+    let before = placed.len();
+    placed.retain(|row| row[0] != number);
+    placed.len().saturating_add(1) == before
+}
+
+fn is_full(alloc: Global, seen: &Seen, bin: u32, free: &[Row]) -> Result<bool, AllocError> {
+    let boxes = boxes_in(alloc, seen.placed.as_slice(), bin, free)?;
+    let size = size_of(seen.bins.as_slice(), bin);
+    Ok(fill_once(boxes.as_slice(), size))
+}
+
+fn pack(seen: &mut Seen, lines: &[Row]) -> Result<bool, AllocError> {
+    let is_right = places_all(seen.boxes.as_slice(), lines);
+    seen.placed.extend_from_slice(lines)?;
+    seen.boxes.clear();
+    Ok(is_right)
+}
+
+// Takes over the reply to a command, with the lines of numbers before it. Whether it is right.
+fn take_over(
+    alloc: Global,
+    seen: &mut Seen,
+    command: &str,
+    reply: &str,
+    lines: &[Row],
+) -> Result<bool, AllocError> {
+    let row = row(command);
+    match (first_word(command), first_word(reply)) {
+        ("bin", "ok") => seen.bins.push(row)?,
+        ("rect", "ok") => seen.boxes.push(row)?,
+        ("pack", "packed") => return pack(seen, lines),
+        ("release", "ok") => return Ok(release(&mut seen.placed, row[1])),
+        ("sections", "sections") => return is_full(alloc, seen, row[1], lines),
+        _ => {}
+    }
+    Ok(lines.is_empty())
+}
+
+/// Whether the first so many of these lines print this. A reply begins with no digit, unlike the
+/// lines of numbers before it; a line without words has none.
+pub fn is_right(
+    alloc: Global,
+    input: &str,
+    count: usize,
+    printed: &str,
+) -> Result<bool, AllocError> {
+    let mut seen = Seen::new(alloc);
+    let mut lines = Vec::new(alloc);
+    let mut commands = input.lines().take(count).filter(has_words);
+    for line in printed.lines() {
+        if line.as_bytes().first().is_some_and(u8::is_ascii_digit) {
+            lines.push(row(line))?;
+            continue;
+        }
+        let Some(command) = commands.next() else {
+            return Ok(false);
+        };
+        if !take_over(alloc, &mut seen, command, line, lines.as_slice())? {
+            return Ok(false);
+        }
+        lines.clear();
+    }
+    Ok(commands.next().is_none())
+}

@@ -1,0 +1,152 @@
+//! Plans by their definition, and plans read back into boxes.
+
+use rectangle_pack::{Axis, CutStep};
+use std::alloc::{AllocError, Global};
+
+/// A box with cells, by its numbers: x, y, z, width, height, depth.
+pub type Cuboid = [u32; 6];
+
+const AXES: [Axis; 3] = [Axis::X, Axis::Y, Axis::Z];
+
+// Where a box starts on an axis, and how far it runs.
+fn extent(cuboid: &Cuboid, axis: Axis) -> (u32, u32) {
+    let [x, y, z, width, height, depth] = *cuboid;
+    match axis {
+        Axis::X => (x, width),
+        Axis::Y => (y, height),
+        Axis::Z => (z, depth),
+    }
+}
+
+// Whether a box has this place strictly inside it on the axis.
+fn is_inside(cuboid: &Cuboid, axis: Axis, place: u32) -> bool {
+    let (start, size) = extent(cuboid, axis);
+    start < place && place - start < size
+}
+
+// Whether both boxes run over some place of the axis.
+fn meets(one: &Cuboid, other: &Cuboid, axis: Axis) -> bool {
+    let (start, size) = extent(one, axis);
+    let (other_start, other_size) = extent(other, axis);
+    other_start.saturating_sub(start) < size && start.saturating_sub(other_start) < other_size
+}
+
+fn shares_cell(one: &Cuboid, other: &Cuboid) -> bool {
+    AXES.iter().all(|axis| meets(one, other, *axis))
+}
+
+// Whether no box has this place strictly inside it, of those that fill the part.
+fn is_open(part: &Cuboid, boxes: &[Cuboid], axis: Axis, place: u32) -> bool {
+    boxes.iter().all(|filling| !(shares_cell(filling, part) && is_inside(filling, axis, place)))
+}
+
+// The cut at the least place on the axis, strictly inside the part, that goes through no box.
+fn cut_on(part: &Cuboid, boxes: &[Cuboid], axis: Axis) -> Option<CutStep> {
+    let (start, size) = extent(part, axis);
+    for below in 1..size {
+        let place = start.saturating_add(below);
+        if is_open(part, boxes, axis, place) {
+            return Some(CutStep::Cut { axis, place });
+        }
+    }
+    None
+}
+
+// What the plan of a part begins with, by the definition; `None` where there is no plan of it.
+fn first_step(part: &Cuboid, boxes: &[Cuboid]) -> Option<CutStep> {
+    let filling = boxes.iter().filter(|cuboid| shares_cell(cuboid, part));
+    if filling.count() <= 1 {
+        return Some(CutStep::Leaf);
+    }
+    AXES.iter().find_map(|axis| cut_on(part, boxes, *axis))
+}
+
+// The two parts of a box on both sides of a place that it has strictly inside it.
+fn parts_at(cuboid: &Cuboid, axis: Axis, place: u32) -> (Cuboid, Cuboid) {
+    let [x, y, z, width, height, depth] = *cuboid;
+    let (start, size) = extent(cuboid, axis);
+    let below = place.saturating_sub(start);
+    let above = size.saturating_sub(below);
+    match axis {
+        Axis::X => (
+            [x, y, z, below, height, depth],
+            [place, y, z, above, height, depth],
+        ),
+        Axis::Y => (
+            [x, y, z, width, below, depth],
+            [x, place, z, width, above, depth],
+        ),
+        Axis::Z => (
+            [x, y, z, width, height, below],
+            [x, y, place, width, height, above],
+        ),
+    }
+}
+
+// Puts the parts of a box that is cut on the pending ones, the lower part last.
+fn push_parts(
+    pending: &mut Vec<Cuboid>,
+    cuboid: &Cuboid,
+    axis: Axis,
+    place: u32,
+) -> Result<(), AllocError> {
+    let (lower, upper) = parts_at(cuboid, axis, place);
+    pending.push(upper)?;
+    pending.push(lower)?;
+    Ok(())
+}
+
+/// The plan of a box that these fill, by the definition: at each part each place of each axis is
+/// tried against each box.
+pub fn defined_plan(
+    alloc: Global,
+    whole: Cuboid,
+    boxes: &[Cuboid],
+) -> Result<Option<Vec<CutStep>>, AllocError> {
+    let mut plan = Vec::new(alloc);
+    let mut pending = Vec::new(alloc);
+    pending.push(whole)?;
+    // Each box has one leaf, and there is one cut less than there are leaves.
+    for _step in 0..boxes.len().saturating_mul(2).max(1) {
+        let Some(part) = pending.pop() else {
+            return Ok(Some(plan));
+        };
+        let Some(step) = first_step(&part, boxes) else {
+            return Ok(None);
+        };
+        plan.push(step)?;
+        if let CutStep::Cut { axis, place } = step {
+            push_parts(&mut pending, &part, axis, place)?;
+        }
+    }
+    Ok(Some(plan))
+}
+
+/// The boxes that a plan parts a box into; `None` where it goes on too long or not long enough, or
+/// cuts a part at its end or beyond.
+pub fn read_back(
+    alloc: Global,
+    whole: Cuboid,
+    plan: &[CutStep],
+) -> Result<Option<Vec<Cuboid>>, AllocError> {
+    let mut leaves = Vec::new(alloc);
+    let mut pending = Vec::new(alloc);
+    pending.push(whole)?;
+    for step in plan {
+        let Some(part) = pending.pop() else {
+            return Ok(None);
+        };
+        match step {
+            CutStep::Leaf => leaves.push(part)?,
+            CutStep::Cut { axis, place } if is_inside(&part, *axis, *place) => {
+                push_parts(&mut pending, &part, *axis, *place)?;
+            }
+            CutStep::Cut { .. } => return Ok(None),
+        }
+    }
+    Ok(if pending.is_empty() {
+        Some(leaves)
+    } else {
+        None
+    })
+}

@@ -1,0 +1,193 @@
+//! Statistics of bins, after each command and as lines.
+
+use super::exclusions::{A, B};
+use super::says;
+use super::session::{Order, TestSession, call, command};
+use crate::outcome::Outcome;
+use crate::refusing::Refusing;
+use rectangle_pack::{BinStats, Reply, SessionError};
+use std::alloc::Global;
+use std::process::Abort;
+use std::test::Fail;
+
+// A command; then, of the bin named "bin", its volume, the free and the placed one, and the counts of free sections
+// and of placements.
+type Row = (Order, [u128; 3], [usize; 2]);
+
+const THREE_SECTIONS: &[Row] = &[
+    (
+        Order::AddBin("bin", [100, 100, 1]),
+        [10000, 10000, 0],
+        [1, 0],
+    ),
+    (
+        Order::Pack(&[("One", [50, 90, 1], &[]), ("Two", [1, 1, 1], &[])], &[]),
+        [10000, 5499, 4501],
+        [3, 2],
+    ),
+];
+
+const TWO_RELEASES: &[Row] = &[
+    (Order::AddBin("bin", [10, 10, 1]), [100, 100, 0], [1, 0]),
+    (
+        Order::Pack(&[("p", [4, 10, 1], &[])], &[]),
+        [100, 60, 40],
+        [1, 1],
+    ),
+    (
+        Order::Pack(&[("q", [6, 10, 1], &[])], &[]),
+        [100, 0, 100],
+        [0, 2],
+    ),
+    (Order::Release(0), [100, 40, 60], [1, 1]),
+    (Order::Release(1), [100, 100, 0], [2, 0]),
+    (Order::Coalesce("bin", 1, 0, 2), [100, 100, 0], [1, 0]),
+];
+
+// A box without cells is counted.
+const EMPTY_BOX: &[Row] = &[
+    (Order::AddBin("bin", [10, 10, 1]), [100, 100, 0], [1, 0]),
+    (
+        Order::Pack(&[("empty", [0, 5, 1], &[])], &[]),
+        [100, 100, 0],
+        [1, 1],
+    ),
+    (Order::Release(0), [100, 100, 0], [1, 0]),
+];
+
+// What stands in another bin is not.
+const TWO_BINS: &[Row] = &[
+    (Order::AddBin("bin", [10, 10, 1]), [100, 100, 0], [1, 0]),
+    (Order::AddBin("other", [10, 10, 1]), [100, 100, 0], [1, 0]),
+    (
+        Order::Pack(
+            &[("p", [4, 4, 1], &["A"]), ("q", [2, 2, 1], &["B"])],
+            &[(A, B)],
+        ),
+        [100, 84, 16],
+        [2, 1],
+    ),
+    (Order::Release(0), [100, 100, 0], [3, 0]),
+];
+
+const MOST: u32 = u32::MAX;
+
+const LARGEST: &[Row] = &[
+    (
+        Order::AddBin("bin", [MOST, MOST, MOST]),
+        [
+            79228162458924105385300197375,
+            79228162458924105385300197375,
+            0,
+        ],
+        [1, 0],
+    ),
+    (
+        Order::Pack(&[("One", [MOST, MOST, 1], &[])], &[]),
+        [
+            79228162458924105385300197375,
+            79228162440477361320180580350,
+            18446744065119617025,
+        ],
+        [1, 1],
+    ),
+];
+
+fn stats(volumes: [u128; 3], counts: [usize; 2]) -> BinStats {
+    let [bin_volume, free_volume, placed_volume] = volumes;
+    let [free_sections, placements] = counts;
+    BinStats {
+        bin_volume,
+        free_volume,
+        placed_volume,
+        free_sections,
+        placements,
+    }
+}
+
+// Makes the call of each command, and shows the statistics after it.
+fn adds_up(rt: &impl Abort, alloc: Global, rows: &[Row]) -> Result<(), Fail> {
+    let alloc = Refusing::new(alloc, u64::MAX);
+    let mut session = TestSession::new(&alloc, 0);
+    assert_eq!(rt; session.stats(&"bin"), None);
+    for (order, volumes, counts) in rows {
+        let command = command(&alloc, order)?;
+        let reply = call(&mut session, &command);
+        assert_eq!(rt;
+            session.stats(&"bin"),
+            Some(stats(*volumes, *counts)),
+            "{reply:?}"
+        );
+    }
+    assert_eq!(rt; session.stats(&"unknown"), None);
+    Ok(())
+}
+
+#[test]
+fn sums(rt: HostRuntime) -> Result<(), Fail> {
+    for rows in [THREE_SECTIONS, TWO_RELEASES, EMPTY_BOX, TWO_BINS, LARGEST] {
+        adds_up(&rt, rt.alloc(), rows)?;
+    }
+    Ok(())
+}
+
+// The session after these commands, where no call is refused memory.
+fn session_after<'a>(alloc: &'a Refusing<Global>, rows: &[Row]) -> Option<TestSession<'a>> {
+    let mut session: TestSession<'a> = TestSession::new(alloc, 0);
+    for (order, _, _) in rows {
+        let command = command(alloc, order).ok()?;
+        if call(&mut session, &command) == Reply::Refused(SessionError::OutOfMemory) {
+            return None;
+        }
+    }
+    Some(session)
+}
+
+// The first allocator that grants enough for the commands refuses all that comes after them.
+#[test]
+fn no_memory_is_taken(rt: HostRuntime) -> Result<(), Fail> {
+    for granted in 0..200u64 {
+        let refusing = Refusing::new(rt.alloc(), granted);
+        if let Some(session) = session_after(&refusing, THREE_SECTIONS) {
+            assert_eq!(rt; refusing.left(), 0);
+            let wanted = stats([10000, 5499, 4501], [3, 2]);
+            assert_eq!(rt; session.stats(&"bin"), Some(wanted));
+            assert_eq!(rt; session.stats(&"unknown"), None);
+            return Ok(());
+        }
+    }
+    assert!(rt; false);
+    Ok(())
+}
+
+// Lines, and what they print.
+const LINES: [(&str, &str); 4] = [
+    (
+        "bin P 10 10 1\nbin Q 10 10 1\nrect p 4 4 1 A\nrect q 4 4 1 B\nexclude A B\npack\nstats P\n",
+        "ok\nok\nok\nok\nok\n0 p P 0 0 0 4 4 1\n1 q Q 0 0 0 4 4 1\npacked 2\n\
+         free 84 in 2, placed 16 in 1, bin 100\n",
+    ),
+    (
+        "stats P\nbin P 10 10 1\nstats\tP\nstats Q\n",
+        "refused: bin P is unknown\nok\nfree 100 in 1, placed 0 in 0, bin 100\n\
+         refused: bin Q is unknown\n",
+    ),
+    (
+        "bin a 10 10 1\nrect e 0 5 1\npack\nstats a\nrelease 0\nstats a\n",
+        "ok\nok\n0 e a 0 0 0 0 5 1\npacked 1\nfree 100 in 1, placed 0 in 1, bin 100\nok\n\
+         free 100 in 1, placed 0 in 0, bin 100\n",
+    ),
+    (
+        "bin a 4294967295 4294967295 4294967295\nbin b 0 5 1\nstats a\nstats b\n",
+        "ok\nok\nfree 79228162458924105385300197375 in 1, placed 0 in 0, \
+         bin 79228162458924105385300197375\nfree 0 in 1, placed 0 in 0, bin 0\n",
+    ),
+];
+
+#[test]
+fn lines(rt: HostRuntime) -> Result<(), Fail> {
+    for (input, output) in LINES {
+        says(&rt, rt.alloc(), input.as_bytes(), output, Outcome::Done)?;
+    }
+    Ok(())
+}
