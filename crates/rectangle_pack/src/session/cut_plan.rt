@@ -106,8 +106,14 @@ where
     /// session.pack(&rects, &volume_heuristic, &contains_smallest_box)?;
     /// // The box stands at (0, 0, 0), and what is right of it is free.
     /// let plan = session.cut_plan(&"sheet")?.ok_or("no such cuts")?;
-    /// let cut = CutStep::Cut { axis: Axis::X, place: 4 };
-    /// assert_eq!(rt; plan.as_slice(), [cut, CutStep::Leaf, CutStep::Leaf].as_slice());
+    /// let cut = CutStep::Cut {
+    ///     axis: Axis::X,
+    ///     place: 4,
+    /// };
+    /// assert_eq!(rt;
+    ///     plan.as_slice(),
+    ///     [cut, CutStep::Leaf, CutStep::Leaf].as_slice()
+    /// );
     /// ```
     pub fn cut_plan(&self, bin: &BinId) -> Result<Option<Vec<CutStep, A>>, SessionError>
         ensures planned { IsPlanAnswer BinId.cmp self.now bin.now result }
