@@ -78,14 +78,19 @@ module _ (may : Answers) where
       let c = mul-le-mul_left (length ms) (length-step may sections m l next one step) in
       omega (arith, a, b, c, count)
 
-  -- so a counter rises by no more, whatever the trial answers
+  -- so a trial makes at most that many
+  pub done-most : (sections : List Cuboid) (ms : List Size) (ls last : List Cuboid) (n : ℕ) → IsDone may sections ms ls last n → n ≤ most_tests (length ms) (length sections)
+  done-most sections ms ls last n done = omega (arith, done-le sections ms ls last n done, pairs (length ms))
+
+  pub stuck-most : (sections : List Cuboid) (ms : List Size) (n : ℕ) → IsStuck may sections ms n → n ≤ most_tests (length ms) (length sections)
+  stuck-most sections ms n stuck = omega (arith, stuck-le sections ms n stuck, pairs (length ms))
+
+  -- and a counter rises by no more, whatever the trial answers
   pub counted-le : {A E : Type 0} (old : Bin) (ms : List Size) (counted : ℕ) (answer : Result (Option (Vec Cuboid A)) E) (new : Bin) (counter : ℕ) → IsTrialAnswer may old ms counted answer new counter → counter ≤ counted + most_tests (length ms) (length old.sections)
   counted-le old ms counted (Ok (Some locations)) new counter (n, done, same, is) =
-      let least = done-le old.sections ms locations.items new.sections n done in
-      omega (arith, is, least, pairs (length ms))
+      omega (arith, is, done-most old.sections ms locations.items new.sections n done)
   counted-le old ms counted (Ok None) new counter (n, stuck, same, is) =
-      let least = stuck-le old.sections ms n stuck in
-      omega (arith, is, least, pairs (length ms))
+      omega (arith, is, stuck-most old.sections ms n stuck)
   counted-le old ms counted (Err error) new counter (same, is) = omega (arith, is)
 
   -- and a trial that is done makes the list longer by at most two a member

@@ -5,7 +5,7 @@ mod axis;
 pub mod bin_section;
 pub mod box_size_heuristics;
 mod closures;
-pub mod cut_trees;
+mod cut_trees;
 mod exclusions;
 mod fit_tests;
 pub mod grouped_rects_to_place;
@@ -50,5 +50,5 @@ pub use session::{
     BinStats, Command, Outstanding, Packed, Reply, Session, SessionError, transitions_keep_sessions,
 };
 pub use target_bin::{FitTests, PushBinSectionError, TargetBin};
-pub use trial::{step_adds_at_most_two, trial_keeps_cells};
+pub use trial::{step_adds_at_most_two, trial_keeps_cells, trial_tests_are_bounded};
 pub use width_height_depth::{WidthHeightDepth, sizes_are_ordered};

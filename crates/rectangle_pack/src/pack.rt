@@ -46,7 +46,7 @@ use std::collections::BTreeMap;
 ///
 /// `NotEnoughBinSpace` says that for some group each bin is passed over or does not take all of its
 /// boxes: the groups before it stay placed in the bins. `OutOfMemory` says that a growth or a clone
-/// was refused: the bins are as they were.
+/// was refused, which may come before it is known that there is no space: the bins are as they were.
 ///
 /// ```
 /// let mut rects: GroupedRectsToPlace<u32, u32> = GroupedRectsToPlace::new(alloc);
@@ -108,7 +108,8 @@ where
 /// In a bin that is passed over no trial is made. `OutOfMemory` adds the tests made until then.
 ///
 /// With n entries in the groups these are at most n tests for each free section of before and
-/// n * (n - 1) for each bin. The counter stays at the greatest `u128`.
+/// n * (n - 1) for each bin. The counter stays at the greatest `u128`. Conditions and errors are
+/// those of `pack_rects`.
 pub fn pack_rects_counted<Id, BinId, GroupId, H, C, A>(
     alloc: A,
     rects_to_place: &GroupedRectsToPlace<Id, GroupId, A>,

@@ -1,5 +1,5 @@
 //! One trial, on a list of sections, with notes by which it is undone.
-ghost use Rattle.std.specs.Prelude.{ℕ, ◌≡◌, ◌<◌, ◌≤◌, ◌+◌, ◌-◌, ◌*◌, ◌++◌, ◌∷◌, [], List, length, All, IfNone, IfSome, vec_len, map, filter};
+ghost use Rattle.std.specs.Prelude.{ℕ, ◌≡◌, ◌<◌, ◌≤◌, ◌+◌, ◌-◌, ◌*◌, ◌++◌, ◌⊎◌, ◌∷◌, [], List, length, All, IfNone, IfSome, vec_len, map, filter};
 ghost use Rattle.std.specs.Vec.{vec_capacity};
 ghost use Rattle.std.specs.Bool.{OnTrue, OnFalse};
 ghost use Rattle.std.specs.List.{HoldsAt, AllWithin};
@@ -9,6 +9,7 @@ ghost use Rattle.rectangle_pack.specs.Counting.{AreAllApart};
 ghost use Rattle.rectangle_pack.specs.Keeping.{KeepCells};
 ghost use Rattle.rectangle_pack.specs.Numbers.{saturated};
 ghost use Rattle.rectangle_pack.specs.Steps.{IsStep, IsDone, IsStuck};
+ghost use Rattle.rectangle_pack.specs.Trials.{most_tests};
 ghost use Rattle.rectangle_pack.specs.private.Journal.{before_note, before_notes, CanUndoOne, CanUndo};
 ghost use Rattle.rectangle_pack.specs.private.Ranks.{by_falling_rate};
 
@@ -272,4 +273,16 @@ where
         IsDone (answers H.Fn C.Fn heuristic.now comparison.now) sections members locations last
         tests →
         KeepCells sections (last ++ locations) }
+{}
+
+/// A law: a trial of m members in a list of s sections makes at most m * s + m * (m - 1) fit tests,
+/// whether it is done or stuck.
+pub fn trial_tests_are_bounded<H, C>(heuristic: &H, comparison: &C)
+where
+    H: Fn(WidthHeightDepth) -> u128,
+    C: Fn([WidthHeightDepth; 3], [WidthHeightDepth; 3], &H) -> Ordering,
+    ensures { let may = answers H.Fn C.Fn heuristic.now comparison.now in
+        (sections last locations : List Cuboid) (members : List Size) (tests : ℕ) →
+        IsDone may sections members locations last tests ⊎ IsStuck may sections members tests →
+        tests ≤ most_tests (length members) (length sections) }
 {}
