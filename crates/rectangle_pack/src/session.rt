@@ -1,5 +1,5 @@
 //! Bins with what is placed in them: boxes are packed, and given back by number.
-ghost use Rattle.std.specs.Prelude.{◌≡◌, ◌≤◌, [], List, IsTrue};
+ghost use Rattle.std.specs.Prelude.{◌≡◌, ◌≤◌, [], List, IsTrue, IsOk};
 ghost use Rattle.std.specs.List.Sorted.{IsStrictlySortedBy};
 ghost use Rattle.std.specs.Map.{keys_of, lookup};
 ghost use Rattle.std.specs.BTreeMap.{is_at};
@@ -179,6 +179,7 @@ where
             let may = answers H.Fn C.Fn heuristic.now comparison.now in
             Packs order (rules_by Id.cmp BinId.cmp may) groups.now
             self.old (packed_reply result) self.new }
+        ensures no_groups { groups.now.groups ≡ [] → IsOk result }
         ensures always { IsSession BinId.cmp self.new }
     {
         let rules = Closures {
@@ -202,6 +203,7 @@ where
         ensures packed { let order = ⟦<Group<GroupId, Id> as Ord>⟧.cmp in
             Packs order (rules_by Id.cmp BinId.cmp (R.may rules.now)) groups.now
             self.old (packed_reply result) self.new }
+        ensures no_groups { groups.now.groups ≡ [] → IsOk result }
         ensures always { IsSession BinId.cmp self.new }
     {
         let first = self.next;

@@ -1,5 +1,5 @@
 //! What the calls of a session are made of.
-ghost use Rattle.std.specs.Prelude.{◌≡◌, ◌≢◌, ◌+◌, ◌≤◌, ◌<◌, ◌^◌, ◌++◌, length, List, IsTrue, IfOk, OnOk, OnErr, IfSome, IfNone, IsSome, All, AllPairs, MatchOption, MatchBool, slice_index_or, sum, map, vec_len, true};
+ghost use Rattle.std.specs.Prelude.{◌≡◌, ◌≢◌, ◌+◌, ◌≤◌, ◌<◌, ◌^◌, ◌++◌, [], length, List, IsTrue, IfOk, OnOk, OnErr, IfSome, IfNone, IsSome, All, AllPairs, MatchOption, MatchBool, Ok, slice_index_or, sum, map, vec_len, true};
 ghost use Rattle.std.specs.BTreeMap.{get};
 ghost use Rattle.std.specs.Map.{values_of};
 ghost use Rattle.std.specs.Vec.{vec_capacity};
@@ -145,6 +145,7 @@ where
         ((0 < length groups.now.groups) ×
         (bins_of bins.new.entries ≡ bins_of bins.old.entries) ×
         (outstanding.new.items ≡ outstanding.old.items)) }
+    ensures no_groups { groups.now.groups ≡ [] → result ≡ Ok true }
 {
     outstanding.reserve(count as usize)?;
     let mut progress = Progress::new(*outstanding.allocator());
