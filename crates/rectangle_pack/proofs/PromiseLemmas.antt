@@ -15,7 +15,7 @@ use Rattle.rectangle_pack.specs.declared.session.command.Packed.{Packed as Packe
 use Rattle.rectangle_pack.specs.declared.session.command.SessionError.TheVariants.{DuplicateBin, UnknownBin, UnknownPlacement, NumbersUsedUp, NotEnoughBinSpace, OutOfMemory}
 use Rattle.rectangle_pack.specs.Groups.{Collection}
 use Rattle.rectangle_pack.specs.Packing.{Rules, at_start}
-use Rattle.rectangle_pack.specs.Promise.{PlacesWhole, PacksWholeOrNot, KeepsPromise}
+use Rattle.rectangle_pack.specs.Promise.{PlacesWhole, PacksAsPromised, KeepsPromise}
 use Rattle.rectangle_pack.specs.Session.{State, IsSession, IsKept, IsTransition, IsRun}
 use Rattle.rectangle_pack.proofs.PackingOrderLemmas.{names-zip}
 use Rattle.rectangle_pack.proofs.RefusedLemmas.{taken_nowhere}
@@ -37,7 +37,7 @@ module _ {Id B G : Type 0} (group_cmp : Group G Id → Group G Id → Ordering) 
         whole = whole.0.whole;
       }
 
-  promised : {A : Type 0} (command : Command Id B G A) (old : State Id B) (reply : Reply) (new : State Id B) → IsTransition group_cmp rules command old reply new → PacksWholeOrNot group_cmp rules command old reply new
+  promised : {A : Type 0} (command : Command Id B G A) (old : State Id B) (reply : Reply) (new : State Id B) → IsTransition group_cmp rules command old reply new → PacksAsPromised group_cmp rules command old reply new
   promised (AddBin id width height depth) old reply new t = tt
   promised (Pack all) old Done new t = tt
   promised (Pack all) old (Packed numbers) new t = placed-whole all old new numbers t.1

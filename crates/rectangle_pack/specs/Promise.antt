@@ -36,10 +36,10 @@ module _ {Id B G : Type 0} (group_cmp : Group G Id → Group G Id → Ordering) 
         left refused.stops.next.1 id tests
 
   -- a packing that is kept places whole; one that is refused for want of space found no bin for some group
-  abbrev pub PacksWholeOrNot : {A : Type 0} → Command Id B G A → State Id B → Reply → State Id B → Type 0
-  PacksWholeOrNot (Pack all) old (Packed numbers) new = PlacesWhole all old new
-  PacksWholeOrNot (Pack all) old (Refused NotEnoughBinSpace) new = NoBinTakes all old.bins
-  PacksWholeOrNot _ old _ new = ⊤
+  abbrev pub PacksAsPromised : {A : Type 0} → Command Id B G A → State Id B → Reply → State Id B → Type 0
+  PacksAsPromised (Pack all) old (Packed numbers) new = PlacesWhole all old new
+  PacksAsPromised (Pack all) old (Refused NotEnoughBinSpace) new = NoBinTakes all old.bins
+  PacksAsPromised _ old _ new = ⊤
 
   -- After any commands, whatever closures answer and wherever memory is refused, each bin cell lies in exactly one free section
   -- or outstanding placement, leaves of a straight-cut tree until that bin is coalesced (`IsSession`, of the state after each
@@ -51,7 +51,7 @@ module _ {Id B G : Type 0} (group_cmp : Group G Id → Group G Id → Ordering) 
   KeepsPromise (command ∷ commands) old [] new = ⊥
   KeepsPromise (command ∷ commands) old (reply ∷ replies) new =
       (next : State Id B) × IsTransition group_cmp rules command old reply next × IsSession rules.bin_cmp next
-      × PacksWholeOrNot command old reply next × KeepsPromise commands next replies new
+      × PacksAsPromised command old reply next × KeepsPromise commands next replies new
 
   -- what a run answers: a reply a command, by a run that keeps the promise; or an error, and no command was done
   abbrev pub IsRunAnswer : {A E : Type 0} → List (Command Id B G A) → State Id B → Result (Vec Reply A) E → State Id B → Type 0
