@@ -46,7 +46,8 @@ use std::collections::BTreeMap;
 ///
 /// `NotEnoughBinSpace` says that for some group each bin is passed over or does not take all of its
 /// boxes: the groups before it stay placed in the bins. `OutOfMemory` says that a growth or a clone
-/// was refused, which may come before it is known that there is no space: the bins are as they were.
+/// was refused, which may come before it is known that there is no space: the bins are as they
+/// were.
 ///
 /// ```
 /// let mut rects: GroupedRectsToPlace<u32, u32> = GroupedRectsToPlace::new(alloc);

@@ -159,9 +159,9 @@ where
     /// `NumbersUsedUp` says that the next number and the entries of the groups add up to more than
     /// the greatest `u64`; this is looked at first. `NotEnoughBinSpace` says that for some group
     /// each bin is passed over or does not take all of its boxes, and `OutOfMemory` that a growth
-    /// or a clone was refused, which may come before it is known that there is no space. The session
-    /// is then as it was: nothing of the packing stays, and the lists of free sections are in their
-    /// old order.
+    /// or a clone was refused, which may come before it is known that there is no space. The
+    /// session is then as it was: nothing of the packing stays, and the lists of free sections are
+    /// in their old order.
     pub fn pack<GroupId, H, C>(
         &mut self,
         groups: &GroupedRectsToPlace<Id, GroupId, A>,
@@ -227,8 +227,8 @@ where
     }
 
     /// Gives a placement back: it is no longer outstanding, and its cells are free again, as the
-    /// newest section of its bin. Its number is not given again. A box without cells adds no section
-    /// and takes no memory.
+    /// newest section of its bin. Its number is not given again. A box without cells adds no
+    /// section and takes no memory.
     ///
     /// `UnknownPlacement` says that no placement of this number is outstanding, `OutOfMemory` that
     /// a growth was refused. The session is then as it was.
@@ -275,7 +275,8 @@ where
     }
 
     /// Joins the free sections of the bin until no two share a whole face, as
-    /// `TargetBin::coalesce_all` does. `UnknownBin` says that there is no such bin. Takes no memory.
+    /// `TargetBin::coalesce_all` does. `UnknownBin` says that there is no such bin. Takes no
+    /// memory.
     pub fn coalesce_all(&mut self, bin: &BinId) -> Result<(), SessionError>
         ensures swept { Coalesces BinId.cmp Sweeps bin.now self.old (reply_of result) self.new }
         ensures always { IsSession BinId.cmp self.new }

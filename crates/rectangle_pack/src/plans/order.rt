@@ -111,8 +111,8 @@ fn is_blocked(
 // So many entries at either end are looked at first, and four times as many each time.
 const FEW: usize = 16;
 
-// Puts the entries in order on an axis, unless those at both ends already leave no plane on it open;
-// whether they are in order. `ordered` says on which axis they are, before and after.
+// Puts the entries in order on an axis, unless those at both ends already leave no plane on it
+// open; whether they are in order. `ordered` says on which axis they are, before and after.
 pub(crate) fn put_in_order(
     whole: &BinSection,
     axis: Axis,

@@ -89,14 +89,14 @@ where
     BinId: Ord + Clone + Drop,
     A: Allocator + Copy,
 {
-    /// The cutting plan of a bin: the straight cuts, each across the whole of its part, that part the
-    /// bin into its free sections and outstanding placements, boxes without cells aside. A part with
-    /// two boxes or more is cut on the first axis of x, y and z on which it can be, at the least
-    /// place strictly inside it that is strictly inside none of its boxes. `None` where no straight
-    /// cuts leave all boxes whole, which is so only where the bin was coalesced.
+    /// The cutting plan of a bin: the straight cuts, each across the whole of its part, that part
+    /// the bin into its free sections and outstanding placements, boxes without cells aside. A part
+    /// with two boxes or more is cut on the first axis of x, y and z on which it can be, at the
+    /// least place strictly inside it that is strictly inside none of its boxes. `None` where no
+    /// straight cuts leave all boxes whole, which is so only where the bin was coalesced.
     ///
-    /// `UnknownBin` says that there is no such bin; this is looked at first. `OutOfMemory` says that
-    /// a growth was refused.
+    /// `UnknownBin` says that there is no such bin; this is looked at first. `OutOfMemory` says
+    /// that a growth was refused.
     ///
     /// ```
     /// let mut session: Session<u32, &'static str> = Session::new(alloc, 0);

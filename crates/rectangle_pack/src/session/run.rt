@@ -47,7 +47,8 @@ where
         requires callable { AreCallable H.Fn C.Fn heuristic.now comparison.now }
         ensures promise { let order = ⟦<Group<GroupId, Id> as Ord>⟧.cmp in
             let may = answers H.Fn C.Fn heuristic.now comparison.now in
-            IsRunAnswer order (rules_by Id.cmp BinId.cmp may) commands.now self.old result self.new }
+            let rules = rules_by Id.cmp BinId.cmp may in
+            IsRunAnswer order rules commands.now self.old result self.new }
         ensures always { IsSession BinId.cmp self.new }
     {
         let rules = Closures {
