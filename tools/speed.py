@@ -116,8 +116,10 @@ def differences(times, room):
         if took is not None:
             with open(f"{room}/{name}", encoding="ascii") as text:
                 printed[name] = text.read()
-    ours = printed["packrun"]
     differ = []
+    if "packrun" not in printed:
+        return differ
+    ours = printed["packrun"]
     if "by hand" in printed and printed["by hand"] != ours:
         differ.append("by hand")
     if "Rust crate" in printed and answers(printed["Rust crate"], False) != answers(ours, True):
