@@ -13,14 +13,18 @@ use std::alloc::Allocator;
 use std::fmt::Display;
 use std::io::Write;
 use std::ops::Range;
+use std::rc::RcStr;
 use std::str::SplitAsciiWhitespace;
+
+// The name of a bin, a box or a group. Clones share one text, so that they take no memory.
+type Word<A> = RcStr<A>;
 
 /// A session, and the boxes that its next packing places.
 #[derive(Drop)]
 pub struct Store<A: Allocator + Copy> {
     alloc: A,
-    session: Session<String<A>, String<A>, A>,
-    rects: GroupedRectsToPlace<String<A>, String<A>, A>,
+    session: Session<Word<A>, Word<A>, A>,
+    rects: GroupedRectsToPlace<Word<A>, Word<A>, A>,
 }
 
 impl<A: Allocator + Copy> Store<A> {
@@ -52,7 +56,7 @@ impl<A: Allocator + Copy> Store<A> {
     }
 
     fn add_bin<W: Write>(&mut self, name: &str, size: Size, out: &mut W) -> Result<(), Stop> {
-        let id = String::from_str(self.alloc, name)?;
+        let id = Word::from_str(self.alloc, name)?;
         let answer = self
             .session
             .add_bin(id, size.width, size.height, size.depth);
@@ -68,10 +72,10 @@ impl<A: Allocator + Copy> Store<A> {
     ) -> Result<(), Stop> {
         let mut named = Vec::new(self.alloc);
         for group in groups {
-            named.push(String::from_str(self.alloc, group)?)?;
+            named.push(Word::from_str(self.alloc, group)?)?;
         }
         let named = if named.is_empty() { None } else { Some(named) };
-        let id = String::from_str(self.alloc, id)?;
+        let id = Word::from_str(self.alloc, id)?;
         let rect = RectToInsert::new(size.width, size.height, size.depth);
         self.rects.push_rect(id, named, rect)?;
         writeln!(out, "ok")?;
@@ -81,8 +85,8 @@ impl<A: Allocator + Copy> Store<A> {
     fn exclude<W: Write>(&mut self, one: &str, other: &str, out: &mut W) -> Result<(), Stop>
         requires { one.now ≢ other.now }
     {
-        let one = Group::Grouped(String::from_str(self.alloc, one)?);
-        let other = Group::Grouped(String::from_str(self.alloc, other)?);
+        let one = Group::Grouped(Word::from_str(self.alloc, one)?);
+        let other = Group::Grouped(Word::from_str(self.alloc, other)?);
         self.rects.exclude(one, other)?;
         writeln!(out, "ok")?;
         Ok(())
@@ -132,12 +136,12 @@ impl<A: Allocator + Copy> Store<A> {
         range: Range<usize>,
         out: &mut W,
     ) -> Result<(), Stop> {
-        let bin = String::from_str(self.alloc, name)?;
+        let bin = Word::from_str(self.alloc, name)?;
         report(self.session.coalesce(&bin, idx, range), name, out)
     }
 
     fn sweep<W: Write>(&mut self, name: &str, out: &mut W) -> Result<(), Stop> {
-        let bin = String::from_str(self.alloc, name)?;
+        let bin = Word::from_str(self.alloc, name)?;
         report(self.session.coalesce_all(&bin), name, out)
     }
 
@@ -157,7 +161,7 @@ impl<A: Allocator + Copy> Store<A> {
     }
 
     fn print_stats<W: Write>(&self, name: &str, out: &mut W) -> Result<(), Stop> {
-        let bin = String::from_str(self.alloc, name)?;
+        let bin = Word::from_str(self.alloc, name)?;
         let Some(stats) = self.session.stats(&bin) else {
             return refuse(SessionError::UnknownBin, name, out);
         };
