@@ -1,16 +1,24 @@
 //! Four hundred boxes 1x1x1, which fill a bin 20x20x1.
 
+use crate::refusing::Refusing;
 use rectangle_pack::{
     Command, CutStep, FitTests, GroupedRectsToPlace, Packed, RectToInsert, Reply, Session,
     TargetBin, contains_smallest_box, pack_rects, volume_heuristic,
 };
 use std::alloc::{AllocError, Global};
 use std::collections::BTreeMap;
+use std::process::Abort;
 use std::test::Fail;
 
-type Commands = Vec<Command<u32, u32, u32>>;
+type Alloc<'a> = &'a Refusing<Global>;
 
-fn units(alloc: Global) -> Result<GroupedRectsToPlace<u32, u32>, AllocError> {
+type Rects<'a> = GroupedRectsToPlace<u32, u32, Alloc<'a>>;
+
+type Commands<'a> = Vec<Command<u32, u32, u32, Alloc<'a>>, Alloc<'a>>;
+
+type Units<'a> = Session<u32, u32, Alloc<'a>>;
+
+fn units(alloc: Alloc<'_>) -> Result<Rects<'_>, AllocError> {
     let mut rects = GroupedRectsToPlace::new(alloc);
     for id in 0..400 {
         rects.push_rect(id, None, RectToInsert::new(1, 1, 1))?;
@@ -18,9 +26,8 @@ fn units(alloc: Global) -> Result<GroupedRectsToPlace<u32, u32>, AllocError> {
     Ok(rects)
 }
 
-#[test]
-fn one_trial(rt: HostRuntime) -> Result<(), Fail> {
-    let mut bin = TargetBin::new(rt.alloc(), 20, 20, 1)?;
+fn one_trial(rt: &impl Abort, alloc: Alloc<'_>) -> Result<(), Fail> {
+    let mut bin = TargetBin::new(alloc, 20, 20, 1)?;
     let members = [RectToInsert::new(1, 1, 1); 400];
     let mut tests = FitTests::new();
     let answer = bin.place_all(
@@ -34,13 +41,12 @@ fn one_trial(rt: HostRuntime) -> Result<(), Fail> {
     Ok(())
 }
 
-#[test]
-fn one_packing(rt: HostRuntime) -> Result<(), Fail> {
-    let rects = units(rt.alloc())?;
-    let mut bins = BTreeMap::new(rt.alloc());
-    bins.insert(0u32, TargetBin::new(rt.alloc(), 20, 20, 1)?)?;
+fn one_packing(rt: &impl Abort, alloc: Alloc<'_>) -> Result<(), Fail> {
+    let rects = units(alloc)?;
+    let mut bins = BTreeMap::new(alloc);
+    bins.insert(0u32, TargetBin::new(alloc, 20, 20, 1)?)?;
     let packed = pack_rects(
-        rt.alloc(),
+        alloc,
         &rects,
         &mut bins,
         &volume_heuristic,
@@ -52,7 +58,7 @@ fn one_packing(rt: HostRuntime) -> Result<(), Fail> {
     Ok(())
 }
 
-fn add_and_pack(alloc: Global) -> Result<Commands, AllocError> {
+fn add_and_pack(alloc: Alloc<'_>) -> Result<Commands<'_>, AllocError> {
     let mut commands = Vec::new(alloc);
     commands.push(Command::AddBin {
         id: 0,
@@ -64,7 +70,7 @@ fn add_and_pack(alloc: Global) -> Result<Commands, AllocError> {
     Ok(commands)
 }
 
-fn release_all(alloc: Global) -> Result<Commands, AllocError> {
+fn release_all(alloc: Alloc<'_>) -> Result<Commands<'_>, AllocError> {
     let mut commands = Vec::new(alloc);
     for number in 0..400 {
         commands.push(Command::Release(number))?;
@@ -73,7 +79,10 @@ fn release_all(alloc: Global) -> Result<Commands, AllocError> {
 }
 
 // What these commands reply.
-fn run(session: &mut Session<u32, u32>, commands: &Commands) -> Result<Vec<Reply>, AllocError> {
+fn run<'a>(
+    session: &mut Units<'a>,
+    commands: &Commands<'a>,
+) -> Result<Vec<Reply, Alloc<'a>>, AllocError> {
     session.run(
         commands.as_slice(),
         &volume_heuristic,
@@ -82,7 +91,7 @@ fn run(session: &mut Session<u32, u32>, commands: &Commands) -> Result<Vec<Reply
 }
 
 // A session in which the boxes fill the bin.
-fn full_bin(alloc: Global) -> Result<Session<u32, u32>, Fail> {
+fn full_bin(alloc: Alloc<'_>) -> Result<Units<'_>, Fail> {
     let mut session = Session::new(alloc, 0);
     let replies = run(&mut session, &add_and_pack(alloc)?)?;
     let packed = Packed {
@@ -96,23 +105,33 @@ fn full_bin(alloc: Global) -> Result<Session<u32, u32>, Fail> {
     }
 }
 
-#[test]
-fn leaf_for_each_box(rt: HostRuntime) -> Result<(), Fail> {
-    let session = full_bin(rt.alloc())?;
+fn leaf_for_each_box(rt: &impl Abort, alloc: Alloc<'_>) -> Result<(), Fail> {
+    let session = full_bin(alloc)?;
     let plan = session.cut_plan(&0)?.ok_or("no plan")?;
     let leaves = plan.iter().filter(|step| **step == CutStep::Leaf).count();
     assert_eq!(rt; (leaves, plan.len()), (400, 799));
     Ok(())
 }
 
-#[test]
-fn all_are_released(rt: HostRuntime) -> Result<(), Fail> {
-    let mut session = full_bin(rt.alloc())?;
-    let replies = run(&mut session, &release_all(rt.alloc())?)?;
+fn all_are_released(rt: &impl Abort, alloc: Alloc<'_>) -> Result<(), Fail> {
+    let mut session = full_bin(alloc)?;
+    let replies = run(&mut session, &release_all(alloc)?)?;
     assert_eq!(rt; replies.len(), 400);
     assert!(rt; replies.iter().all(|reply| *reply == Reply::Done));
     let bin = session.bins().get(&0).ok_or("no such bin")?;
     assert_eq!(rt; bin.available_bin_sections().len(), 400);
     assert!(rt; session.outstanding().is_empty());
+    Ok(())
+}
+
+// All memory is given back.
+#[test]
+fn units_fill_a_bin(rt: HostRuntime) -> Result<(), Fail> {
+    let alloc = Refusing::new(rt.alloc(), u64::MAX);
+    one_trial(&rt, &alloc)?;
+    one_packing(&rt, &alloc)?;
+    leaf_for_each_box(&rt, &alloc)?;
+    all_are_released(&rt, &alloc)?;
+    assert_eq!(rt; alloc.taken(), 0);
     Ok(())
 }

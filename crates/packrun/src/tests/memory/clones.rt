@@ -1,6 +1,7 @@
 //! Ids whose clones are refused.
 ghost use Rattle.std.specs.Prelude.{◌≡◌};
 
+use crate::refusing::Refusing;
 use crate::tests::shapes::{has_list, place};
 use rectangle_pack::{
     GroupedRectsToPlace, Outstanding, Packed, Placement, RectToInsert, RectanglePackError,
@@ -38,18 +39,20 @@ impl Clone for Name<'_> {
     }
 }
 
-type Rects<'a> = GroupedRectsToPlace<Name<'a>, u32>;
+type Rects<'a> = GroupedRectsToPlace<Name<'a>, u32, &'a Refusing<Global>>;
 
-type Bins<'a> = BTreeMap<Name<'a>, TargetBin>;
+type Bins<'a> = BTreeMap<Name<'a>, TargetBin<&'a Refusing<Global>>, &'a Refusing<Global>>;
 
 // A box by number, size and group; without a group it is pushed alone.
 type SizedBox = (u32, [u32; 3], Option<u32>);
+
+type Packing<'a> = RectanglePackOk<Name<'a>, Name<'a>, &'a Refusing<Global>>;
 
 // A placement: box, bin and place.
 type Placed = (u32, u32, [u32; 6]);
 
 fn rects<'a>(
-    alloc: Global,
+    alloc: &'a Refusing<Global>,
     left: &'a Cell<u64>,
     boxes: &[SizedBox],
 ) -> Result<Rects<'a>, AllocError> {
@@ -89,7 +92,7 @@ const FILLED: [[u32; 6]; 4] = [
 ];
 
 // The bins 1 and 2.
-fn two_bins<'a>(alloc: Global, left: &'a Cell<u64>) -> Result<Bins<'a>, AllocError> {
+fn two_bins<'a>(alloc: &'a Refusing<Global>, left: &'a Cell<u64>) -> Result<Bins<'a>, AllocError> {
     let mut bins = BTreeMap::new(alloc);
     let one = TargetBin::new(alloc, 2048, 2048, 255)?;
     let two = TargetBin::new(alloc, 4096, 4096, 1020)?;
@@ -115,7 +118,7 @@ fn is_placed(placement: &Placement<Name<'_>, Name<'_>>, wanted: &Placed) -> bool
 }
 
 // Whether the placements are those three, and each box is found.
-fn are_placed(packed: &RectanglePackOk<Name<'_>, Name<'_>>) -> bool {
+fn are_placed(packed: &Packing<'_>) -> bool {
     let placements = packed.placements();
     placements.len() == 3
         && packed.packed_locations().len() == 3
@@ -126,7 +129,7 @@ fn are_placed(packed: &RectanglePackOk<Name<'_>, Name<'_>>) -> bool {
 }
 
 // Whether so many clones were enough. If not, the bins are as they were.
-fn packs(rt: &impl Abort, alloc: Global, clones: u64) -> Result<bool, Fail> {
+fn packs(rt: &impl Abort, alloc: &Refusing<Global>, clones: u64) -> Result<bool, Fail> {
     let left = Cell::new(u64::MAX);
     let rects = rects(alloc, &left, TWO_IN_A_GROUP)?;
     let mut bins = two_bins(alloc, &left)?;
@@ -138,20 +141,28 @@ fn packs(rt: &impl Abort, alloc: Global, clones: u64) -> Result<bool, Fail> {
         &volume_heuristic,
         &contains_smallest_box,
     );
-    if matches!(&answer, Err(RectanglePackError::OutOfMemory)) {
-        assert!(rt; have(&bins, &[[0, 0, 0, 2048, 2048, 255]]));
-        return Ok(false);
+    match answer {
+        Err(error) => {
+            assert_eq!(rt; error, RectanglePackError::OutOfMemory);
+            assert!(rt; have(&bins, &[[0, 0, 0, 2048, 2048, 255]]));
+            Ok(false)
+        }
+        Ok(packed) => {
+            assert!(rt; are_placed(&packed));
+            assert!(rt; have(&bins, &FILLED));
+            Ok(true)
+        }
     }
-    assert!(rt; answer.is_ok_and(|packed| are_placed(&packed)));
-    assert!(rt; have(&bins, &FILLED));
-    Ok(true)
 }
 
 // Both lists of the answer own three ids of boxes and three of bins.
 #[test]
 fn packings(rt: HostRuntime) -> Result<(), Fail> {
     for clones in 0..100u64 {
-        if packs(&rt, rt.alloc(), clones)? {
+        let alloc = Refusing::new(rt.alloc(), u64::MAX);
+        let is_done = packs(&rt, &alloc, clones)?;
+        assert_eq!(rt; alloc.taken(), 0);
+        if is_done {
             assert!(rt; clones >= 12);
             return Ok(());
         }
@@ -160,7 +171,7 @@ fn packings(rt: HostRuntime) -> Result<(), Fail> {
     Ok(())
 }
 
-type NameSession<'a> = Session<Name<'a>, Name<'a>>;
+type NameSession<'a> = Session<Name<'a>, Name<'a>, &'a Refusing<Global>>;
 
 // The placements in the bin 7, in the order of their numbers from 0 on.
 const BESIDE: [Placed; 3] = [
@@ -170,7 +181,7 @@ const BESIDE: [Placed; 3] = [
 ];
 
 // A session with a bin 10x10x1, in which the first box stands.
-fn session<'a>(alloc: Global, left: &'a Cell<u64>) -> Result<NameSession<'a>, Fail> {
+fn session<'a>(alloc: &'a Refusing<Global>, left: &'a Cell<u64>) -> Result<NameSession<'a>, Fail> {
     let rects = rects(alloc, left, &[(1, [4, 10, 1], None)])?;
     let mut session: NameSession<'a> = Session::new(alloc, 0);
     session.add_bin(Name { number: 7, left }, 10, 10, 1)?;
@@ -199,7 +210,7 @@ fn stands(session: &NameSession<'_>, list: &[[u32; 6]], count: usize) -> bool {
 }
 
 // Whether so many clones were enough. If not, the session is as it was.
-fn packs_beside(rt: &impl Abort, alloc: Global, clones: u64) -> Result<bool, Fail> {
+fn packs_beside(rt: &impl Abort, alloc: &Refusing<Global>, clones: u64) -> Result<bool, Fail> {
     let left = Cell::new(u64::MAX);
     let mut session = session(alloc, &left)?;
     let boxes = [(2, [2, 10, 1], None), (3, [4, 10, 1], None)];
@@ -219,7 +230,10 @@ fn packs_beside(rt: &impl Abort, alloc: Global, clones: u64) -> Result<bool, Fai
 #[test]
 fn packings_of_a_session(rt: HostRuntime) -> Result<(), Fail> {
     for clones in 0..100u64 {
-        if packs_beside(&rt, rt.alloc(), clones)? {
+        let alloc = Refusing::new(rt.alloc(), u64::MAX);
+        let is_done = packs_beside(&rt, &alloc, clones)?;
+        assert_eq!(rt; alloc.taken(), 0);
+        if is_done {
             assert!(rt; clones >= 4);
             return Ok(());
         }

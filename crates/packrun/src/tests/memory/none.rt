@@ -147,6 +147,17 @@ fn calls_of_a_bin(rt: HostRuntime) -> Result<(), Fail> {
         assert_eq!(rt; refusing.left(), 0);
         reads(&rt, &mut bin)?;
         refuses_pushes(&rt, &mut bin);
+        Ok(End::Done)
+    })
+}
+
+#[test]
+fn removal(rt: HostRuntime) -> Result<(), Fail> {
+    takes_none(&rt, rt.alloc(), |refusing| {
+        let Ok(mut bin) = TargetBin::new(refusing, 4, 4, 1) else {
+            return Ok(End::Before);
+        };
+        assert_eq!(rt; refusing.left(), 0);
         bin.remove_filled_section(0);
         assert!(rt; bin.accepts(&section(0, 0, 0, 4, 4, 1)));
         assert!(rt; has_list(&bin, &[]));
