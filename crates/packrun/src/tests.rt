@@ -12,6 +12,7 @@ mod failures;
 mod generator;
 mod groups;
 mod joining;
+mod many;
 mod memory;
 mod packings;
 mod placements;
@@ -51,17 +52,19 @@ impl Read for Pieces<'_> {
     }
 }
 
-// Keeps what is written, and fails once so many writes were good.
+// Keeps what is written, in pieces, and fails once so many writes were good.
 #[derive(Drop)]
 struct Kept {
     bytes: Cursor<[u8; 512]>,
+    piece: usize,
     good_writes: u64,
 }
 
 impl Kept {
-    fn new(good_writes: u64) -> Kept {
+    fn new(piece: usize, good_writes: u64) -> Kept {
         Kept {
             bytes: Cursor::new([0; 512]),
+            piece,
             good_writes,
         }
     }
@@ -79,7 +82,8 @@ impl Write for Kept {
             return Err(io::Error::from(io::ErrorKind::Other));
         }
         self.good_writes -= 1;
-        self.bytes.write(buf)
+        let most = self.piece.min(buf.len());
+        self.bytes.write(&buf[..most])
     }
 
     fn flush(&mut self) -> io::Result<()> {

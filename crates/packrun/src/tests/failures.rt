@@ -1,4 +1,4 @@
-//! Failing reads and writes, and refused memory.
+//! Reads, writes and requests for memory of which each fails in turn.
 
 use super::{Kept, Pieces};
 use crate::outcome::Outcome;
@@ -15,6 +15,16 @@ const PRINTED: &str =
     "ok\nok\nok\nok\n0 one a 0 0 0 60 95 1\n1 two a 60 0 0 40 10 1\n2 three a 60 10 0 1 1 1\n\
      packed 3\nrefused: bin a exists\nline 7 is bad\n";
 
+// Two boxes given back and joined.
+const JOINED: &str =
+    "bin a 10 10 1\nrect p 4 10 1\npack\nrect q 6 10 1\npack\nrelease 0\nrelease 1\n\
+     sections a\ncoalesce a 1 0 2\nsections a\nrelease 0\n";
+
+const JOINED_PRINTED: &str =
+    "ok\nok\n0 p a 0 0 0 4 10 1\npacked 1\nok\n1 q a 4 0 0 6 10 1\npacked 1\nok\nok\n\
+     0 0 0 4 10 1\n4 0 0 6 10 1\nsections 2\nok\n0 0 0 10 10 1\nsections 1\n\
+     refused: placement 0 is unknown\n";
+
 const GROUPED: &str =
     "bin A 2048 2048 255\nbin B 4096 4096 1020\nrect one 10 20 255 g\nrect two 5 50 255 g\n\
      rect three 30 30 255\npack\nrelease 1\nsections A\nrelease 1\nsections C\nstats A\nstats C\n";
@@ -26,72 +36,131 @@ const GROUPED_PRINTED: &str =
      refused: placement 1 is unknown\nrefused: bin C is unknown\n\
      free 1069254270 in 5, placed 293250 in 2, bin 1069547520\nrefused: bin C is unknown\n";
 
-#[test]
-fn failing_reads(rt: HostRuntime) -> Result<(), Fail> {
-    let alloc = rt.alloc();
-    let input = LINES.as_bytes();
-    for good_reads in 0..100u64 {
-        let mut reader = Pieces {
-            bytes: input,
-            piece: 7,
-            good_reads,
-        };
-        let mut writer = Kept::new(u64::MAX);
-        match run_lines(alloc, &mut reader, &mut writer) {
-            Outcome::IoFailed => {
-                assert!(rt; PRINTED.as_bytes().starts_with(writer.written()));
-            }
-            outcome => {
-                assert_eq!(rt; outcome, Outcome::BadLine(7));
-                assert_eq!(rt; writer.written(), PRINTED.as_bytes());
-                // The last read finds the end.
-                assert_eq!(rt; good_reads, input.len().div_ceil(7) as u64 + 1);
-                return Ok(());
-            }
-        }
+// What a run over memory is given: how many requests for memory are granted, and the most bytes and
+// the good ones of reads, and of writes.
+#[derive(Clone, Copy)]
+struct Given {
+    granted: u64,
+    reads: (usize, u64),
+    writes: (usize, u64),
+}
+
+// Nothing fails, and each read and each write takes all that there is.
+const ALL: Given = Given {
+    granted: u64::MAX,
+    reads: (usize::MAX, u64::MAX),
+    writes: (usize::MAX, u64::MAX),
+};
+
+// How these lines end, and what they print. All memory is given back.
+fn run_with(rt: &impl Abort, alloc: Global, lines: &str, given: Given) -> (Outcome, Kept) {
+    let refusing = Refusing::new(alloc, given.granted);
+    let (piece, good_reads) = given.reads;
+    let mut reader = Pieces {
+        bytes: lines.as_bytes(),
+        piece,
+        good_reads,
+    };
+    let (piece, good_writes) = given.writes;
+    let mut writer = Kept::new(piece, good_writes);
+    let outcome = run_lines(&refusing, &mut reader, &mut writer);
+    assert_eq!(rt; refusing.taken(), 0);
+    (outcome, writer)
+}
+
+// These lines fail so, and what they print before is what they print at its start.
+fn fails_within(rt: &impl Abort, alloc: Global, given: Given) {
+    let (outcome, kept) = run_with(rt, alloc, LINES, given);
+    assert_eq!(rt; outcome, Outcome::IoFailed);
+    assert!(rt; PRINTED.as_bytes().starts_with(kept.written()));
+}
+
+fn comes_out(rt: &impl Abort, alloc: Global, given: Given) {
+    let (outcome, kept) = run_with(rt, alloc, LINES, given);
+    assert_eq!(rt; outcome, Outcome::BadLine(7));
+    assert_eq!(rt; kept.written(), PRINTED.as_bytes());
+}
+
+// Each of so many reads fails in turn; the last of them finds the end.
+fn fails_at_each_read(rt: &impl Abort, alloc: Global, piece: usize, needed: u64) {
+    for good in 0..needed {
+        let reads = (piece, good);
+        fails_within(rt, alloc, Given { reads, ..ALL });
     }
-    assert!(rt; false);
-    Ok(())
+    let reads = (piece, needed);
+    comes_out(rt, alloc, Given { reads, ..ALL });
 }
 
+// The lines have 98 bytes.
 #[test]
-fn failing_writes(rt: HostRuntime) -> Result<(), Fail> {
-    let alloc = rt.alloc();
-    let input = LINES.as_bytes();
-    for good_writes in 0..100u64 {
-        let mut reader = Pieces {
-            bytes: input,
-            piece: 7,
-            good_reads: u64::MAX,
-        };
-        let mut writer = Kept::new(good_writes);
-        match run_lines(alloc, &mut reader, &mut writer) {
-            Outcome::IoFailed => {
-                assert!(rt; PRINTED.as_bytes().starts_with(writer.written()));
-            }
-            outcome => {
-                assert_eq!(rt; outcome, Outcome::BadLine(7));
-                assert_eq!(rt; writer.written(), PRINTED.as_bytes());
-                assert!(rt; good_writes > 6);
-                return Ok(());
-            }
-        }
+fn failing_reads(rt: HostRuntime) {
+    for (piece, needed) in [(1, 99), (7, 15), (97, 3), (98, 2)] {
+        fails_at_each_read(&rt, rt.alloc(), piece, needed);
     }
-    assert!(rt; false);
-    Ok(())
 }
 
+// Each of so many writes fails in turn, that of the last line too.
+fn fails_at_each_write(rt: &impl Abort, alloc: Global, read: usize, piece: usize, needed: u64) {
+    let reads = (read, u64::MAX);
+    for good in 0..needed {
+        let writes = (piece, good);
+        fails_within(
+            rt,
+            alloc,
+            Given {
+                reads,
+                writes,
+                ..ALL
+            },
+        );
+    }
+    let writes = (piece, needed);
+    comes_out(
+        rt,
+        alloc,
+        Given {
+            reads,
+            writes,
+            ..ALL
+        },
+    );
+}
+
+// What is printed has 126 bytes, the last line 14 of them. A read of 7 bytes or of one ends at most one line, and what
+// each line prints is written before the next read. Read at once, all but the last line is written first.
 #[test]
-fn refused_memory(rt: HostRuntime) -> Result<(), Fail> {
-    refuses_each(&rt, rt.alloc(), LINES, PRINTED, Outcome::BadLine(7))
+fn failing_writes(rt: HostRuntime) {
+    for (read, piece, needed) in [
+        (98, 512, 2),
+        (98, 100, 3),
+        (98, 1, 126),
+        (7, 512, 7),
+        (7, 1, 126),
+        (1, 512, 7),
+        (1, 1, 126),
+    ] {
+        fails_at_each_write(&rt, rt.alloc(), read, piece, needed);
+    }
 }
 
-#[test]
-fn refused_memory_in_groups(rt: HostRuntime) -> Result<(), Fail> {
-    refuses_each(&rt, rt.alloc(), GROUPED, GROUPED_PRINTED, Outcome::Done)
+// What is printed before this many bytes were written, where no more can be.
+fn is_cut_off(rt: &impl Abort, alloc: Global, lines: &str, granted: u64, whole: &[u8]) {
+    for (good, _) in (0..).zip(whole.iter()) {
+        let writes = (1, good);
+        let given = Given {
+            granted,
+            writes,
+            ..ALL
+        };
+        let (outcome, kept) = run_with(rt, alloc, lines, given);
+        assert_eq!(rt; outcome, Outcome::IoFailed);
+        assert!(rt; whole.starts_with(kept.written()));
+        assert_eq!(rt; kept.written().len() as u64, good);
+    }
 }
 
-// Whichever request is refused, what was printed before stands, and the last line says so.
+// Whichever request is refused, what was printed before stands, and the last line says so; where that
+// cannot be printed either, that is how the run ends.
 fn refuses_each(
     rt: &impl Abort,
     alloc: Global,
@@ -100,43 +169,39 @@ fn refuses_each(
     last: Outcome,
 ) -> Result<(), Fail> {
     for granted in 0..200u64 {
-        let refusing = Refusing::new(alloc, granted);
-        let mut reader = lines.as_bytes();
-        let mut writer = Kept::new(u64::MAX);
-        match run_lines(&refusing, &mut reader, &mut writer) {
-            Outcome::NoMemory => {
-                let before = writer.written().strip_suffix(b"Out of memory.\n");
-                assert!(rt;
-                    printed
-                        .as_bytes()
-                        .starts_with(before.ok_or("no last line")?)
-                );
-            }
-            outcome => {
-                assert_eq!(rt; outcome, last);
-                assert_eq!(rt; writer.written(), printed.as_bytes());
-                assert!(rt; granted > 10);
-                return Ok(());
-            }
+        let (outcome, kept) = run_with(rt, alloc, lines, Given { granted, ..ALL });
+        if outcome != Outcome::NoMemory {
+            assert_eq!(rt; outcome, last);
+            assert_eq!(rt; kept.written(), printed.as_bytes());
+            assert!(rt; granted > 10);
+            return Ok(());
         }
+        assert_eq!(rt; outcome.status(), 3);
+        let before = kept.written().strip_suffix(b"Out of memory.\n");
+        let is_start = printed
+            .as_bytes()
+            .starts_with(before.ok_or("no last line")?);
+        assert!(rt; is_start);
+        is_cut_off(rt, alloc, lines, granted, kept.written());
     }
     assert!(rt; false);
     Ok(())
 }
 
-// Where the last line cannot be printed, that is how the run ends.
 #[test]
-fn failing_last_lines(rt: HostRuntime) -> Result<(), Fail> {
+fn refused_memory(rt: HostRuntime) -> Result<(), Fail> {
     let alloc = rt.alloc();
-    for granted in 0..3u64 {
-        let refusing = Refusing::new(alloc, granted);
-        let mut writer = Kept::new(0);
-        let outcome = run_lines(&refusing, &mut LINES.as_bytes(), &mut writer);
-        assert_eq!(rt; outcome, Outcome::IoFailed);
-    }
-    let mut writer = Kept::new(0);
-    let outcome = run_lines(alloc, &mut "bin".as_bytes(), &mut writer);
-    assert_eq!(rt; outcome, Outcome::IoFailed);
-    assert!(rt; writer.written().is_empty());
-    Ok(())
+    refuses_each(&rt, alloc, LINES, PRINTED, Outcome::BadLine(7))?;
+    refuses_each(&rt, alloc, JOINED, JOINED_PRINTED, Outcome::Done)?;
+    refuses_each(&rt, alloc, GROUPED, GROUPED_PRINTED, Outcome::Done)
+}
+
+// Where the last line of a bad one cannot be printed, that is how the run ends.
+#[test]
+fn failing_last_line(rt: HostRuntime) {
+    let writes = (1, u64::MAX);
+    let (outcome, kept) = run_with(&rt, rt.alloc(), "bin", Given { writes, ..ALL });
+    assert_eq!(rt; outcome, Outcome::BadLine(1));
+    assert_eq!(rt; kept.written(), b"line 1 is bad\n".as_slice());
+    is_cut_off(&rt, rt.alloc(), "bin", u64::MAX, kept.written());
 }

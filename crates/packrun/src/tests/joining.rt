@@ -1,7 +1,7 @@
 //! Free sections that share a whole face, joined.
 
+use super::memory::{End, takes_none};
 use super::shapes::{has_list, section};
-use crate::refusing::Refusing;
 use rectangle_pack::{PushBinSectionError, TargetBin};
 use std::alloc::{Allocator, Global};
 use std::ops::Range;
@@ -170,25 +170,22 @@ fn largest_sections(rt: HostRuntime) -> Result<(), Fail> {
     sweeps(&rt, rt.alloc(), [most, most, most], &list, &whole)
 }
 
-// The first allocator that grants enough for the list refuses all that comes after it.
 #[test]
 fn no_memory_is_taken(rt: HostRuntime) -> Result<(), Fail> {
-    for granted in 0..20u64 {
-        let refusing = Refusing::new(rt.alloc(), granted);
-        let Ok(mut bin) = TargetBin::new(&refusing, 7, 2, 1) else {
-            continue;
+    takes_none(&rt, rt.alloc(), |refusing| {
+        let Ok(mut bin) = TargetBin::new(refusing, 7, 2, 1) else {
+            return Ok(End::Before);
         };
         bin.remove_filled_section(0);
-        if give(&mut bin, &PIECES).is_ok() {
-            assert_eq!(rt; refusing.left(), 0);
-            bin.coalesce_available_sections(3, 2..4);
-            assert!(rt; has_list(&bin, &TWO), "{bin:?}");
-            bin.coalesce_all();
-            let left = [[0, 0, 0, 3, 2, 1], [5, 0, 0, 2, 1, 1]];
-            assert!(rt; has_list(&bin, &left), "{bin:?}");
-            return Ok(());
+        if give(&mut bin, &PIECES).is_err() {
+            return Ok(End::Before);
         }
-    }
-    assert!(rt; false);
-    Ok(())
+        assert_eq!(rt; refusing.left(), 0);
+        bin.coalesce_available_sections(3, 2..4);
+        assert!(rt; has_list(&bin, &TWO), "{bin:?}");
+        bin.coalesce_all();
+        let left = [[0, 0, 0, 3, 2, 1], [5, 0, 0, 2, 1, 1]];
+        assert!(rt; has_list(&bin, &left), "{bin:?}");
+        Ok(End::Done)
+    })
 }

@@ -6,7 +6,9 @@ use std::process::Abort;
 use std::test::Fail;
 
 mod bins;
+mod clones;
 mod collections;
+mod joins;
 mod none;
 mod packings;
 mod plans;
@@ -26,18 +28,41 @@ where
     F: Fn(&Refusing<Global>) -> Result<End, Fail>,
     requires { F.IsAlwaysCallable run }
 {
+    let refused = is_refused(rt, alloc, run)?;
+    assert!(rt; refused);
+    Ok(())
+}
+
+/// Runs with each request refused in turn, until none is. None was refused in the calls in question, which come
+/// after all that take memory.
+pub fn takes_none<F>(rt: &impl Abort, alloc: Global, run: F) -> Result<(), Fail>
+where
+    F: Fn(&Refusing<Global>) -> Result<End, Fail>,
+    requires { F.IsAlwaysCallable run }
+{
+    let refused = is_refused(rt, alloc, run)?;
+    assert!(rt; !refused);
+    Ok(())
+}
+
+// Whether a request is refused in the call in question, where each is refused in turn until none is. Each run gives
+// back all that it takes.
+fn is_refused<F>(rt: &impl Abort, alloc: Global, run: F) -> Result<bool, Fail>
+where
+    F: Fn(&Refusing<Global>) -> Result<End, Fail>,
+    requires { F.IsAlwaysCallable run }
+{
     let mut refused = false;
     for granted in 0..200u64 {
         let refusing = Refusing::new(alloc, granted);
-        match run(&refusing)? {
+        let end = run(&refusing)?;
+        assert_eq!(rt; refusing.taken(), 0);
+        match end {
             End::Before => {}
             End::Refused => refused = true,
-            End::Done => {
-                assert!(rt; refused);
-                return Ok(());
-            }
+            End::Done => return Ok(refused),
         }
     }
     assert!(rt; false);
-    Ok(())
+    Ok(refused)
 }

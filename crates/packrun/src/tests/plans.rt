@@ -3,7 +3,6 @@
 mod empty;
 mod groups;
 mod joins;
-mod many;
 mod packings;
 mod random;
 mod read_back;

@@ -297,6 +297,7 @@ fn come_out(rt: &impl Abort, alloc: Global, cases: &[(u64, &[Step])]) -> Result<
     for (first, steps) in cases {
         assert_eq!(rt; call_each(&alloc, *first, steps), Came::Out);
         assert!(rt; run_all(&alloc, *first, steps)?);
+        assert_eq!(rt; alloc.taken(), 0);
     }
     Ok(())
 }

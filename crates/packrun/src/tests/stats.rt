@@ -1,6 +1,7 @@
 //! Statistics of bins, after each command and as lines.
 
 use super::exclusions::{A, B};
+use super::memory::{End, takes_none};
 use super::says;
 use super::session::{Order, TestSession, call, command};
 use crate::outcome::Outcome;
@@ -143,21 +144,18 @@ fn session_after<'a>(alloc: &'a Refusing<Global>, rows: &[Row]) -> Option<TestSe
     Some(session)
 }
 
-// The first allocator that grants enough for the commands refuses all that comes after them.
 #[test]
 fn no_memory_is_taken(rt: HostRuntime) -> Result<(), Fail> {
-    for granted in 0..200u64 {
-        let refusing = Refusing::new(rt.alloc(), granted);
-        if let Some(session) = session_after(&refusing, THREE_SECTIONS) {
-            assert_eq!(rt; refusing.left(), 0);
-            let wanted = stats([10000, 5499, 4501], [3, 2]);
-            assert_eq!(rt; session.stats(&"bin"), Some(wanted));
-            assert_eq!(rt; session.stats(&"unknown"), None);
-            return Ok(());
-        }
-    }
-    assert!(rt; false);
-    Ok(())
+    takes_none(&rt, rt.alloc(), |refusing| {
+        let Some(session) = session_after(refusing, THREE_SECTIONS) else {
+            return Ok(End::Before);
+        };
+        assert_eq!(rt; refusing.left(), 0);
+        let wanted = stats([10000, 5499, 4501], [3, 2]);
+        assert_eq!(rt; session.stats(&"bin"), Some(wanted));
+        assert_eq!(rt; session.stats(&"unknown"), None);
+        Ok(End::Done)
+    })
 }
 
 // Lines, and what they print.

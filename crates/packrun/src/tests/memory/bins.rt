@@ -128,7 +128,8 @@ fn new_sections(rt: HostRuntime) -> Result<(), Fail> {
     })
 }
 
-// A trial answers these places, or is stuck, and leaves this list. Refused, it leaves the list as it was.
+// A trial answers these places, or is stuck, with so many fit tests, and leaves this list. Refused, it leaves the
+// list as it was, and counts no more than the bound.
 fn trial(
     rt: &impl Abort,
     mut bin: TargetBin<&Refusing<Global>>,
@@ -136,7 +137,7 @@ fn trial(
     before: &[[u32; 6]],
     places: Option<&[[u32; 6]]>,
     after: &[[u32; 6]],
-    bound: u128,
+    [count, bound]: [u128; 2],
 ) -> Result<End, Fail> {
     let mut tests = FitTests::new();
     let answer = bin.place_all(
@@ -145,12 +146,13 @@ fn trial(
         &contains_smallest_box,
         &mut tests,
     );
-    assert!(rt; tests.count() <= bound);
     let Ok(answer) = answer else {
+        assert!(rt; tests.count() <= bound);
         assert!(rt; has_list(&bin, before), "{bin:?}");
         return Ok(End::Refused);
     };
     answers(rt, answer, places);
+    assert_eq!(rt; tests.count(), count);
     assert!(rt; has_list(&bin, after), "{bin:?}");
     Ok(End::Done)
 }
@@ -164,13 +166,21 @@ fn trials(rt: HostRuntime) -> Result<(), Fail> {
         };
         let before = [[0, 0, 0, 100, 100, 1]];
         let places = Some(THREE_PLACES.as_slice());
-        trial(&rt, bin, &three_boxes(), &before, places, &THREE_LEAVE, 9)
+        trial(
+            &rt,
+            bin,
+            &three_boxes(),
+            &before,
+            places,
+            &THREE_LEAVE,
+            [4, 9],
+        )
     })?;
     refuses_each(&rt, alloc, |refusing| {
         let Ok(bin) = layered(refusing) else {
             return Ok(End::Before);
         };
         let members = [RectToInsert::new(20, 10, 1), RectToInsert::new(20, 20, 2)];
-        trial(&rt, bin, &members, &LAYERS, None, &LAYERS, 8)
+        trial(&rt, bin, &members, &LAYERS, None, &LAYERS, [4, 8])
     })
 }

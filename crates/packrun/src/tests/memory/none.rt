@@ -1,14 +1,17 @@
 //! Calls that take no memory, while every request is refused.
 
+use super::{End, takes_none};
 use crate::refusing::Refusing;
 use crate::tests::cases::Rects;
 use crate::tests::session::{SizedBox, Standing, TestSession, pack, rects, stands};
 use crate::tests::shapes::{has_list, section};
 use rectangle_pack::{
-    FitTests, Group, GroupedRectsToPlace, Packed, RectToInsert, Reply, SessionError, TargetBin,
-    contains_smallest_box, pack_rects, pack_rects_counted, volume_heuristic,
+    FitTests, Group, GroupedRectsToPlace, Packed, PushBinSectionError, RectToInsert, Reply,
+    SessionError, TargetBin, WidthHeightDepth, contains_smallest_box, pack_rects,
+    pack_rects_counted, volume_heuristic,
 };
 use std::alloc::{AllocError, Allocator, Global};
+use std::cmp::Ordering;
 use std::collections::BTreeMap;
 use std::process::Abort;
 use std::test::Fail;
@@ -63,10 +66,12 @@ fn counts_nothing<A: Allocator + Copy>(
     Ok(())
 }
 
+// Nothing is granted at all.
 #[test]
 fn collections_and_packings_of_nothing(rt: HostRuntime) -> Result<(), Fail> {
     let refusing = Refusing::new(rt.alloc(), 0);
     let rects: NumberedRects<&Refusing<Global>> = GroupedRectsToPlace::new(&refusing);
+    assert!(rt; rects.groups().is_empty() && rects.rects().is_empty());
     assert!(rt; !rects.excluded(&Group::Grouped(0), &Group::Ungrouped(0)));
     let mut bins: Bins<&Refusing<Global>> = BTreeMap::new(&refusing);
     packs_nothing(&rt, &refusing, &mut bins)?;
@@ -80,57 +85,89 @@ fn has_the_pair<A: Allocator + Copy>(rects: &NumberedRects<A>) -> bool {
         && !rects.excluded(&Group::Grouped(0), &Group::Ungrouped(1))
 }
 
-// The first allocator that grants enough for the pair refuses all that comes after it.
 #[test]
 fn pairs_that_are_there(rt: HostRuntime) -> Result<(), Fail> {
-    for granted in 0..20u64 {
-        let refusing = Refusing::new(rt.alloc(), granted);
-        let mut rects: NumberedRects<&Refusing<Global>> = GroupedRectsToPlace::new(&refusing);
-        if rects.exclude(Group::Grouped(0), Group::Grouped(1)).is_ok() {
-            assert_eq!(rt; refusing.left(), 0);
-            assert!(rt; has_the_pair(&rects));
-            rects.exclude(Group::Grouped(1), Group::Grouped(0))?;
-            rects.exclude(Group::Grouped(0), Group::Grouped(1))?;
-            return Ok(());
+    takes_none(&rt, rt.alloc(), |refusing| {
+        let mut rects: NumberedRects<&Refusing<Global>> = GroupedRectsToPlace::new(refusing);
+        if rects.exclude(Group::Grouped(0), Group::Grouped(1)).is_err() {
+            return Ok(End::Before);
         }
-    }
-    assert!(rt; false);
+        assert_eq!(rt; refusing.left(), 0);
+        assert!(rt; has_the_pair(&rects));
+        rects.exclude(Group::Grouped(1), Group::Grouped(0))?;
+        rects.exclude(Group::Grouped(0), Group::Grouped(1))?;
+        Ok(End::Done)
+    })
+}
+
+#[test]
+fn packing_of_nothing_into_a_bin(rt: HostRuntime) -> Result<(), Fail> {
+    takes_none(&rt, rt.alloc(), |refusing| {
+        let Ok(mut bins) = one_bin(refusing) else {
+            return Ok(End::Before);
+        };
+        assert_eq!(rt; refusing.left(), 0);
+        packs_nothing(&rt, refusing, &mut bins)?;
+        counts_nothing(&rt, refusing, &mut bins)?;
+        Ok(End::Done)
+    })
+}
+
+// A bin 4x4x1, while every request is refused: its readers, and a trial without members.
+fn reads(rt: &impl Abort, bin: &mut TargetBin<&Refusing<Global>>) -> Result<(), Fail> {
+    let mut tests = FitTests::new();
+    let answer = bin.place_all(&[], &volume_heuristic, &contains_smallest_box, &mut tests)?;
+    assert!(rt; answer.is_some_and(|locations| locations.is_empty()));
+    assert_eq!(rt; tests.count(), 0);
+    assert_eq!(rt; bin.max_size(), WidthHeightDepth::new(4, 4, 1));
+    assert_eq!(rt;
+        bin.available_bin_sections().as_slice(),
+        [section(0, 0, 0, 4, 4, 1)].as_slice()
+    );
     Ok(())
 }
 
-// The first allocator that grants enough for the bin refuses all that comes after it.
-#[test]
-fn packing_of_nothing_into_a_bin(rt: HostRuntime) -> Result<(), Fail> {
-    for granted in 0..10u64 {
-        let refusing = Refusing::new(rt.alloc(), granted);
-        if let Ok(mut bins) = one_bin(&refusing) {
-            assert_eq!(rt; refusing.left(), 0);
-            return packs_nothing(&rt, &refusing, &mut bins);
-        }
-    }
-    assert!(rt; false);
-    Ok(())
+// What a checked push refuses before it asks for memory.
+fn refuses_pushes(rt: &impl Abort, bin: &mut TargetBin<&Refusing<Global>>) {
+    let (whole, outside) = (section(0, 0, 0, 4, 4, 1), section(4, 0, 0, 1, 1, 1));
+    assert!(rt; !bin.accepts(&outside) && !bin.accepts(&whole));
+    let answer = bin.push_available_bin_section(outside);
+    assert!(rt; matches!(&answer, Err(PushBinSectionError::OutOfBounds(_))));
+    let answer = bin.push_available_bin_section(whole);
+    assert!(rt; matches!(&answer, Err(PushBinSectionError::Overlaps { .. })));
+    assert!(rt; has_list(bin, &[[0, 0, 0, 4, 4, 1]]));
 }
 
 #[test]
 fn calls_of_a_bin(rt: HostRuntime) -> Result<(), Fail> {
-    let refusing = Refusing::new(rt.alloc(), 1);
-    let mut bin = TargetBin::new(&refusing, 4, 4, 1)?;
-    assert_eq!(rt; refusing.left(), 0);
-    let mut tests = FitTests::new();
-    let answer = bin.place_all(&[], &volume_heuristic, &contains_smallest_box, &mut tests)?;
-    assert!(rt; answer.is_some_and(|locations| locations.is_empty()));
-    let whole = section(0, 0, 0, 4, 4, 1);
-    assert!(rt; !bin.accepts(&whole));
-    bin.remove_filled_section(0);
-    assert!(rt; bin.accepts(&whole));
-    assert!(rt; has_list(&bin, &[]));
-    Ok(())
+    takes_none(&rt, rt.alloc(), |refusing| {
+        let Ok(mut bin) = TargetBin::new(refusing, 4, 4, 1) else {
+            return Ok(End::Before);
+        };
+        assert_eq!(rt; refusing.left(), 0);
+        reads(&rt, &mut bin)?;
+        refuses_pushes(&rt, &mut bin);
+        Ok(End::Done)
+    })
+}
+
+#[test]
+fn removal(rt: HostRuntime) -> Result<(), Fail> {
+    takes_none(&rt, rt.alloc(), |refusing| {
+        let Ok(mut bin) = TargetBin::new(refusing, 4, 4, 1) else {
+            return Ok(End::Before);
+        };
+        assert_eq!(rt; refusing.left(), 0);
+        bin.remove_filled_section(0);
+        assert!(rt; bin.accepts(&section(0, 0, 0, 4, 4, 1)));
+        assert!(rt; has_list(&bin, &[]));
+        Ok(End::Done)
+    })
 }
 
 // These are passed no allocator at all.
 #[test]
-fn calls_of_a_section(rt: HostRuntime) {
+fn calls_of_sizes_and_sections(rt: HostRuntime) {
     let whole = section(0, 0, 0, 4, 4, 1);
     assert!(rt; whole.overlaps(&whole));
     let rect = RectToInsert::new(2, 2, 1);
@@ -138,6 +175,13 @@ fn calls_of_a_section(rt: HostRuntime) {
         whole
             .try_place(&rect, &contains_smallest_box, &volume_heuristic)
             .is_ok()
+    );
+    let size = WidthHeightDepth::from(rect);
+    assert_eq!(rt; (size.volume(), volume_heuristic(size)), (4, 4));
+    let (three, other) = ([size, size, size], [whole.whd(), size, size]);
+    assert_eq!(rt;
+        contains_smallest_box(three, other, &volume_heuristic),
+        Ordering::Equal
     );
 }
 
@@ -186,22 +230,19 @@ fn release_empty(rt: &impl Abort, session: &mut TestSession<'_>) {
     assert!(rt; stands(session, &wanted));
 }
 
-// The first allocator that grants enough for the box refuses all that comes after it.
 #[test]
 fn calls_of_a_session(rt: HostRuntime) -> Result<(), Fail> {
-    for granted in 0..100u64 {
-        let refusing = Refusing::new(rt.alloc(), granted);
-        if let Some((mut session, rects)) = with_empty(&refusing) {
-            assert_eq!(rt; refusing.left(), 0);
-            assert!(rt; session.add_bin("bin", 1, 1, 1) == Err(SessionError::DuplicateBin));
-            let used_up = Reply::Refused(SessionError::NumbersUsedUp);
-            assert!(rt; pack_past_the_end(&refusing, &rects) == used_up);
-            let nothing = Reply::Packed(Packed { first: 1, count: 0 });
-            assert!(rt; pack_nothing(&refusing, &mut session) == nothing);
-            release_empty(&rt, &mut session);
-            return Ok(());
-        }
-    }
-    assert!(rt; false);
-    Ok(())
+    takes_none(&rt, rt.alloc(), |refusing| {
+        let Some((mut session, rects)) = with_empty(refusing) else {
+            return Ok(End::Before);
+        };
+        assert_eq!(rt; refusing.left(), 0);
+        assert!(rt; session.add_bin("bin", 1, 1, 1) == Err(SessionError::DuplicateBin));
+        let used_up = Reply::Refused(SessionError::NumbersUsedUp);
+        assert!(rt; pack_past_the_end(refusing, &rects) == used_up);
+        let nothing = Reply::Packed(Packed { first: 1, count: 0 });
+        assert!(rt; pack_nothing(refusing, &mut session) == nothing);
+        release_empty(&rt, &mut session);
+        Ok(End::Done)
+    })
 }

@@ -17,8 +17,8 @@ const TWO: &[PlanStep] = &[X(4), Leaf, Leaf];
 // The plans of the bin after each of the commands.
 const PLANS: [&[PlanStep]; 10] = [&[Leaf], TWO, TWO, TWO, TWO, TWO, TWO, TWO, &[Leaf], &[Leaf]];
 
-// A session in which these steps came out.
-fn session_after<'a>(alloc: &'a Refusing<Global>, steps: &[Step]) -> Option<TestSession<'a>> {
+/// A session in which these steps came out.
+pub fn session_after<'a>(alloc: &'a Refusing<Global>, steps: &[Step]) -> Option<TestSession<'a>> {
     let mut session = TestSession::new(alloc, 0);
     for step in steps {
         let command = command(alloc, &step.order).ok()?;

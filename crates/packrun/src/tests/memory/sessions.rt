@@ -20,7 +20,9 @@ fn bins_and_packings(rt: HostRuntime) -> Result<(), Fail> {
     let mut were_refused = [false; 6];
     for granted in 0..200u64 {
         let refusing = Refusing::new(rt.alloc(), granted);
-        match call_each(&refusing, 0, TWO_RELEASES) {
+        let came = call_each(&refusing, 0, TWO_RELEASES);
+        assert_eq!(rt; refusing.taken(), 0);
+        match came {
             Came::Unmade(_) => {}
             Came::Refused(index) => *were_refused.get_mut(index).ok_or("no such step")? = true,
             came => {
@@ -102,6 +104,7 @@ fn run_beside_calls(
         return Ok(End::Refused);
     };
     assert!(rt; is_as_called(&left, replies.as_slice(), &session)?);
+    assert_eq!(rt; left.taken(), 0);
     if are_wanted(replies.as_slice(), TWO_RELEASES) {
         Ok(End::Done)
     } else {

@@ -138,13 +138,15 @@ const BACKWARDS: Standing = Standing {
     next: 2,
 };
 
-const JOINED: Standing = Standing {
+/// That bin once its two free sections are joined.
+pub const JOINED: Standing = Standing {
     bins: &[("bin", WHOLE)],
     placed: &[],
     next: 2,
 };
 
-const BOTH_RELEASED: Standing = Standing {
+/// That bin once both boxes are released.
+pub const BOTH_RELEASED: Standing = Standing {
     bins: &[("bin", &[[0, 0, 0, 4, 10, 1], [4, 0, 0, 6, 10, 1]])],
     placed: &[],
     next: 2,

@@ -12,7 +12,7 @@ use contract.Monad.{Fun, fact}
 use types.Kit.{‵, ◌⊛◌, some, later, ◌$◌, ◌∵◌, !, qed, move, keep, use1, split, join, pick, fjoin, feq_i, feq_l, check, show, await, updating, now as at_once, done, raw, given, at_ret, by, learn, drop, use0, use2, split3, fsplit, suffices}
 use denote.RattleType.{RattleType, owns}
 use denote.Memory.{hidden_shr}
-use denote.Builtin.{u64, bool, usize, RefOf}
+use denote.Builtin.{bool, usize, RefOf}
 use denote.Steps.{nothing, only, heard}
 use denote.Triple.Statement.{Contract, Triple}
 use denote.Triple.Spec.{triple_of}
@@ -39,6 +39,7 @@ use denote.RawPtr.{block_ptr}
 use denote.Triple.Call.{calls_at}
 use Rattle.std.proofs.alloc.Calls.{Al, α, seen, Answer, answer_val, Answer-typed, Answer-Ok, Answer-err, takes_key, Takes, at_takes, Answered, Takes-goes, Takes-gives, answers}
 use Rattle.std.specs.contracts.cell.Cell as CE
+use Rattle.packrun.specs.contracts.refusing.Counts as CO
 use Rattle.packrun.specs.contracts.refusing.spend as TK
 use Rattle.packrun.proofs.refusing.spend.Symbol as c_sym
 use Rattle.packrun.proofs.refusing.spend.Met as c_met
@@ -49,7 +50,7 @@ use Rattle.packrun.proofs.refusing.RefusingAllocator.allocate.Statement as state
 use Rattle.packrun.proofs.refusing.RefusingAllocator.allocate.Code as code
 
 abbrev Calls : RattleType
-Calls = CE.the_row u64
+Calls = CE.the_row CO.the_row
 
 module _ {M : Type 1} {𝓤 : Ura M} (𝓛 : Logic 𝓤) (at_mem : Memory → SProp 𝓤) (run : Routine → Fun 𝓤) where
   abbrev pub Tick : Contract 𝓤
