@@ -1,5 +1,7 @@
 //! Bins and their free sections.
-ghost use Rattle.std.specs.Prelude.{◌≡◌, ◌+◌, ◌≤◌, ◌<◌, ◌++◌, ◌∷◌, [], IfOk, OnOk, OnErr, IfNone, IfSome, IsOk, IsTrue, true, ◌↔◌, length, remove, filter, All};
+ghost use Rattle.std.specs.Prelude.{ℕ, ◌≡◌, ◌+◌, ◌≤◌, ◌<◌, ◌++◌, ◌∷◌, [], IfOk, OnOk, OnErr, IfNone, IfSome, IsOk, IsTrue, MatchBool, true, ◌↔◌, length, remove, filter, All};
+ghost use Rattle.std.specs.Bool.{OnTrue, OnFalse};
+ghost use Rattle.std.specs.Vec.{vec_capacity};
 ghost use Rattle.rectangle_pack.specs.Boxes.{Cell, AreApart, has_cells};
 ghost use Rattle.rectangle_pack.specs.Closures.{AreCallable, answers};
 ghost use Rattle.rectangle_pack.specs.Pushes.{IsFirstSharing, IsPushAnswer};
@@ -7,6 +9,8 @@ ghost use Rattle.rectangle_pack.specs.Bins.{new_bin, IsSound, IsAccepted};
 ghost use Rattle.rectangle_pack.specs.Counting.{AreAllApart, times_filled};
 ghost use Rattle.rectangle_pack.specs.Joining.{IsJoined, IsSwept, ShareNoFace};
 ghost use Rattle.rectangle_pack.specs.Keeping.{KeepCells};
+ghost use Rattle.rectangle_pack.specs.Numbers.{saturated};
+ghost use Rattle.rectangle_pack.specs.Steps.{IsDone, IsStuck};
 ghost use Rattle.rectangle_pack.specs.Trials.{IsTrialAnswer, most_tests};
 ghost use Rattle.rectangle_pack.specs.private.Journal.{before_notes, CanUndo};
 
@@ -330,42 +334,65 @@ impl<A: Allocator + Copy> TargetBin<A> {
             most_tests (length members.now) (length self.old.bin.sections) }
         ensures no_members { length members.now ≡ 0 → IsOk result }
     {
-        let mut notes = Vec::new(*self.available_bin_sections.allocator());
+        let alloc = *self.available_bin_sections.allocator();
+        let mut notes = Vec::with_capacity(alloc, members.len())?;
+        let mut locations = Vec::with_capacity(alloc, members.len())?;
         let rules = Closures {
             heuristic,
             comparison,
         };
-        self.place_noted(members, &rules, tests, &mut notes)
+        let done = self.place_noted(members, &rules, tests, &mut notes, &mut locations)?;
+        if done { Ok(Some(locations)) } else { Ok(None) }
     }
 
-    // One trial; where it is done, what undoes it is noted. The room is made before the first step.
+    // One trial, with room for its notes and its locations; whether it is done. Then what undoes it
+    // is noted; where it is stuck, both lists stay empty. The list's room is made before a step.
     pub(crate) fn place_noted<R>(
         &mut self,
         members: &[RectToInsert],
         rules: &R,
         tests: &mut FitTests,
         notes: &mut Vec<Note, A>,
-    ) -> Result<Option<Vec<PackedLocation, A>>, AllocError>
+        locations: &mut Vec<PackedLocation, A>,
+    ) -> Result<bool, AllocError>
     where
         R: Ask,
         requires callable { R.can_ask rules.now }
         requires no_notes { notes.old.items ≡ [] }
-        ensures answer { IsTrialAnswer (R.may rules.now) self.old.bin members.now
-            tests.old result self.new.bin tests.new }
+        requires no_locations { locations.old.items ≡ [] }
+        requires note_room { length members.now ≤ vec_capacity notes.old }
+        requires location_room { length members.now ≤ vec_capacity locations.old }
+        ensures answer { IfOk result
+            (λ done.
+            let old = self.old.bin in
+            let new = self.new.bin in
+            MatchBool done
+            ((count : ℕ) ×
+            IsDone (R.may rules.now) old.sections members.now locations.new.items new.sections
+            count ×
+            (new ≡ record old { sections = new.sections }) ×
+            (tests.new ≡ saturated (tests.old + count)))
+            ((count : ℕ) ×
+            IsStuck (R.may rules.now) old.sections members.now count ×
+            (new ≡ old) ×
+            (tests.new ≡ saturated (tests.old + count)))) }
+        ensures refused { OnErr result ((self.new.bin ≡ self.old.bin) × (tests.new ≡ tests.old)) }
         ensures room { self.old.room ≤ self.new.room }
         ensures before { IfOk result
-            (λ o.
-            IfSome o
-            (λ v. before_notes notes.new.items self.new.bin.sections ≡ self.old.bin.sections)) }
+            (λ done.
+            OnTrue done
+            (before_notes notes.new.items self.new.bin.sections ≡ self.old.bin.sections)) }
         ensures can_undo { IfOk result
-            (λ o.
-            IfSome o (λ v. CanUndo self.new.room notes.new.items self.new.bin.sections)) }
+            (λ done.
+            OnTrue done (CanUndo self.new.room notes.new.items self.new.bin.sections)) }
+        ensures emptied { IfOk result
+            (λ done.
+            OnFalse done ((notes.new.items ≡ []) × (locations.new.items ≡ []))) }
+        ensures note_room_stays { vec_capacity notes.new ≡ vec_capacity notes.old }
+        ensures location_room_stays { vec_capacity locations.new ≡ vec_capacity locations.old }
         ensures no_members { length members.now ≡ 0 → IsOk result }
         ensures sound { IsSound self.old.bin.size self.old.bin.sections }
     {
-        let mut locations = Vec::new(*self.available_bin_sections.allocator());
-        locations.reserve(members.len())?;
-        notes.reserve(members.len())?;
         self.available_bin_sections.reserve(members.len() * 2)?;
         let done = run_trial(
             &mut self.available_bin_sections,
@@ -373,9 +400,9 @@ impl<A: Allocator + Copy> TargetBin<A> {
             rules,
             tests,
             notes,
-            &mut locations,
+            locations,
         );
-        if done { Ok(Some(locations)) } else { Ok(None) }
+        Ok(done)
     }
 
     // Undoes a noted trial. Takes no memory.

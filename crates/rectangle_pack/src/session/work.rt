@@ -16,7 +16,7 @@ use crate::bin_section::BinSection;
 use crate::closures::Ask;
 use crate::grouped_rects_to_place::{Group, GroupedRectsToPlace};
 use crate::pack::Placement;
-use crate::pack::work::{Progress, pack_noted, undo_all};
+use crate::pack::work::{Progress, bins_to_try, pack_noted, undo_all};
 use crate::packed_location::PackedLocation;
 use crate::session::command::Outstanding;
 use crate::target_bin::TargetBin;
@@ -147,8 +147,10 @@ where
         (outstanding.new.items ≡ outstanding.old.items)) }
 {
     outstanding.reserve(count as usize)?;
-    let mut progress = Progress::new(*outstanding.allocator());
-    match pack_noted(groups, bins, rules, &mut progress) {
+    let alloc = *outstanding.allocator();
+    let order = bins_to_try(alloc, groups, bins, rules)?;
+    let mut progress = Progress::new(alloc);
+    match pack_noted(groups, bins, order.as_slice(), rules, &mut progress) {
         Ok(true) => {
             number_all(outstanding, progress.placements, first);
             Ok(true)
