@@ -1,6 +1,5 @@
 //! Bins and their free sections.
-ghost use Rattle.std.specs.Prelude.{ℕ, ◌≡◌, ◌+◌, ◌≤◌, ◌<◌, ◌++◌, ◌∷◌, [], IfOk, OnOk, OnErr, IfNone, IfSome, IsOk, IsTrue, MatchBool, true, ◌↔◌, length, remove, filter, All};
-ghost use Rattle.std.specs.Bool.{OnTrue, OnFalse};
+ghost use Rattle.std.specs.Prelude.{◌≡◌, ◌+◌, ◌≤◌, ◌<◌, ◌++◌, ◌∷◌, [], IfOk, OnOk, OnErr, IfNone, IfSome, IsOk, IsTrue, true, ◌↔◌, length, remove, filter, All};
 ghost use Rattle.std.specs.Vec.{vec_capacity};
 ghost use Rattle.rectangle_pack.specs.Boxes.{Cell, AreApart, has_cells};
 ghost use Rattle.rectangle_pack.specs.Closures.{AreCallable, answers};
@@ -9,10 +8,9 @@ ghost use Rattle.rectangle_pack.specs.Bins.{new_bin, IsSound, IsAccepted};
 ghost use Rattle.rectangle_pack.specs.Counting.{AreAllApart, times_filled};
 ghost use Rattle.rectangle_pack.specs.Joining.{IsJoined, IsSwept, ShareNoFace};
 ghost use Rattle.rectangle_pack.specs.Keeping.{KeepCells};
-ghost use Rattle.rectangle_pack.specs.Numbers.{saturated};
-ghost use Rattle.rectangle_pack.specs.Steps.{IsDone, IsStuck};
 ghost use Rattle.rectangle_pack.specs.Trials.{IsTrialAnswer, most_tests};
 ghost use Rattle.rectangle_pack.specs.private.Journal.{before_notes, CanUndo};
+ghost use Rattle.rectangle_pack.specs.private.TrialNotes.{IsNotedAnswer, LeavesNotes};
 
 use crate::bin_section::BinSection;
 use crate::closures::{Ask, Closures};
@@ -362,32 +360,11 @@ impl<A: Allocator + Copy> TargetBin<A> {
         requires no_locations { locations.old.items ≡ [] }
         requires note_room { length members.now ≤ vec_capacity notes.old }
         requires location_room { length members.now ≤ vec_capacity locations.old }
-        ensures answer { IfOk result
-            (λ done.
-            let old = self.old.bin in
-            let new = self.new.bin in
-            MatchBool done
-            ((count : ℕ) ×
-            IsDone (R.may rules.now) old.sections members.now locations.new.items new.sections
-            count ×
-            (new ≡ record old { sections = new.sections }) ×
-            (tests.new ≡ saturated (tests.old + count)))
-            ((count : ℕ) ×
-            IsStuck (R.may rules.now) old.sections members.now count ×
-            (new ≡ old) ×
-            (tests.new ≡ saturated (tests.old + count)))) }
-        ensures refused { OnErr result ((self.new.bin ≡ self.old.bin) × (tests.new ≡ tests.old)) }
+        ensures answer { IsNotedAnswer (R.may rules.now) self.old.bin members.now tests.old result
+            locations.new.items self.new.bin tests.new }
         ensures room { self.old.room ≤ self.new.room }
-        ensures before { IfOk result
-            (λ done.
-            OnTrue done
-            (before_notes notes.new.items self.new.bin.sections ≡ self.old.bin.sections)) }
-        ensures can_undo { IfOk result
-            (λ done.
-            OnTrue done (CanUndo self.new.room notes.new.items self.new.bin.sections)) }
-        ensures emptied { IfOk result
-            (λ done.
-            OnFalse done ((notes.new.items ≡ []) × (locations.new.items ≡ []))) }
+        ensures noted { LeavesNotes result notes.new.items locations.new.items self.new.room
+            self.old.bin.sections self.new.bin.sections }
         ensures note_room_stays { vec_capacity notes.new ≡ vec_capacity notes.old }
         ensures location_room_stays { vec_capacity locations.new ≡ vec_capacity locations.old }
         ensures no_members { length members.now ≡ 0 → IsOk result }

@@ -24,7 +24,7 @@ use crate::closures::Ask;
 use crate::exclusions::Exclusions;
 use crate::fit_tests::FitTests;
 use crate::grouped_rects_to_place::{Group, GroupedRectsToPlace};
-use crate::orders::{bin_order, group_order};
+use crate::orders::group_order;
 use crate::pack::answer::Placement;
 use crate::packed_location::PackedLocation;
 use crate::rect_to_insert::RectToInsert;
@@ -320,38 +320,6 @@ fn list_of<'a, K: Ord, X, A: Allocator>(
     ensures { get K.cmp lists.now key.now ≡ Some result.now }
 {
     lists.get(key).unwrap()
-}
-
-// The order of the bins for a packing. Without groups no bin is listed and no memory is taken.
-pub(crate) fn bins_to_try<Id, BinId, GroupId, R, A>(
-    alloc: A,
-    rects_to_place: &GroupedRectsToPlace<Id, GroupId, A>,
-    target_bins: &BTreeMap<BinId, TargetBin<A>, A>,
-    rules: &R,
-) -> Result<Vec<(u128, BinId), A>, AllocError>
-where
-    Id: Ord + Clone + Drop,
-    BinId: Ord + Clone + Drop,
-    GroupId: Ord + Clone + Drop,
-    R: Ask,
-    A: Allocator + Copy,
-    requires bin_ids { (a b : BinId) → BinId.is_clone a b → IsTrue (BinId.eq a b) }
-    requires callable { R.can_ask rules.now }
-    ensures order { IfOk result
-        (λ v.
-        0 < length rects_to_place.now.groups →
-        IsBinOrder (R.may rules.now).rate BinId.cmp (bins_of target_bins.now.entries) v.items) }
-    ensures found { IfOk result
-        (λ v. All (λ o. IsSome (get BinId.cmp target_bins.now o.1)) v.items) }
-    ensures distinct { OnOk result
-        (0 < length rects_to_place.now.groups →
-        IsDistinct (eq_by_cmp BinId.cmp) (keys_of (bins_of target_bins.now.entries))) }
-    ensures stopped { OnErr result (0 < length rects_to_place.now.groups) }
-{
-    if rects_to_place.groups().is_empty() {
-        return Ok(Vec::new(alloc));
-    }
-    bin_order(alloc, target_bins, rules)
 }
 
 // One packing, that can be undone whole; whether each group was placed.

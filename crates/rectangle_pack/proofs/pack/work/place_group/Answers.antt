@@ -31,7 +31,7 @@ pub returns-in_err-done-clause-back : goal.returns-in_err-done-clause-back
 returns-in_err-done-clause-back g c start b =
     let h = c.get_mut.follows.holds c.place_noted.new.self in
     let found : lookup (is_at (g.B.Ord.cmp c.loop-id-item.result.1)) c.loop-id.bins.entries ≡ Some c.unwrap-bin.result.now = sym c.get_mut.ensures.value ∙ ap option_copied_mut c.unwrap-bin.ensures in
-    rw h.0 (GoesBack-grown g.B.Ord.cmp c.loop-id.bins.entries c.loop-id.progress.journal.items c.loop-id-item.result.1 c.unwrap-bin.result.now c.place_noted.new.self start found c.in_err-done.ensures.refused.0 c.place_noted.ensures.room (c.loop-id.invariant.back start b))
+    rw h.0 (GoesBack-grown g.B.Ord.cmp c.loop-id.bins.entries c.loop-id.progress.journal.items c.loop-id-item.result.1 c.unwrap-bin.result.now c.place_noted.new.self start found c.in_err-done.ensures.answer.0 c.place_noted.ensures.room (c.loop-id.invariant.back start b))
 
 pub name_all-requires-clause-lengths : goal.name_all-requires-clause-lengths
 name_all-requires-clause-lengths g c =
@@ -41,11 +41,12 @@ name_all-requires-clause-lengths g c =
 pub returns-in_err-name_all-clause-back : goal.returns-in_err-name_all-clause-back
 returns-in_err-name_all-clause-back g c start b =
     let done = rw c.if-done.true at c.in_ok-done.ensures.answer in
+    let noted = rw c.if-done.true at c.in_ok-done.ensures.noted in
     let h = c.get_mut.follows.holds c.place_noted.new.self in
     let found : lookup (is_at (g.B.Ord.cmp c.loop-id-item.result.1)) c.loop-id.bins.entries ≡ Some c.unwrap-bin.result.now = sym c.get_mut.ensures.value ∙ ap option_copied_mut c.unwrap-bin.ensures in
     rw h.0 (GoesBack-done g.B.Ord.cmp c.loop-id.bins.entries c.loop-id.progress.journal.items c.push_reserved.new.self.items _ c.unwrap-bin.result.now c.place_noted.new.self start
     found c.push_reserved.ensures.items done.2
-    (rw c.if-done.true at c.in_ok-done.ensures.before) (rw c.if-done.true at c.in_ok-done.ensures.can_undo) c.place_noted.ensures.sound c.place_noted.ensures.room (c.loop-id.invariant.back start b))
+    noted.0 noted.1 c.place_noted.ensures.sound c.place_noted.ensures.room (c.loop-id.invariant.back start b))
 
 pub returns-then-done-clause-placed : goal.returns-then-done-clause-placed
 returns-then-done-clause-placed g c =
@@ -73,11 +74,12 @@ returns-then-done-clause-placed g c =
 pub returns-then-done-clause-back : goal.returns-then-done-clause-back
 returns-then-done-clause-back g c start b =
     let done = rw c.if-done.true at c.in_ok-done.ensures.answer in
+    let noted = rw c.if-done.true at c.in_ok-done.ensures.noted in
     let h = c.get_mut.follows.holds c.place_noted.new.self in
     let found : lookup (is_at (g.B.Ord.cmp c.loop-id-item.result.1)) c.loop-id.bins.entries ≡ Some c.unwrap-bin.result.now = sym c.get_mut.ensures.value ∙ ap option_copied_mut c.unwrap-bin.ensures in
     rw h.0 (GoesBack-done g.B.Ord.cmp c.loop-id.bins.entries c.loop-id.progress.journal.items c.push_reserved.new.self.items _ c.unwrap-bin.result.now c.place_noted.new.self start
     found c.push_reserved.ensures.items done.2
-    (rw c.if-done.true at c.in_ok-done.ensures.before) (rw c.if-done.true at c.in_ok-done.ensures.can_undo) c.place_noted.ensures.sound c.place_noted.ensures.room (c.loop-id.invariant.back start b))
+    noted.0 noted.1 c.place_noted.ensures.sound c.place_noted.ensures.room (c.loop-id.invariant.back start b))
 
 pub loop-id-init : goal.loop-id-init
 loop-id-init g c = record { same = refl; passed = ([], tt, omega arith); no_notes = search rules; note_room = search rules; no_locations = search rules; location_room = search rules; journal_room = c.requires.journal_room; journal_len = refl; journal_capacity = refl; placements = refl; back = λ start b. b }
@@ -124,7 +126,7 @@ loop-id-preserved g c =
     let found : lookup (is_at (cmp o.1)) now ≡ Some v = sym c.get_mut.ensures.value ∙ ap option_copied_mut c.unwrap-bin.ensures in
     let stuck = rw c.if-done.false at c.in_ok-done.ensures.answer in
     let unchanged = stuck.2 in
-    let empty = rw c.if-done.false at c.in_ok-done.ensures.emptied in
+    let empty = rw c.if-done.false at c.in_ok-done.ensures.noted in
     let there = found-bins_of (is_at (cmp o.1)) now old v same found in
     let barred : g.row.B.Denot → Bool = are_in cmp c.args.barred.now.keys in
     let passed = c.loop-id.invariant.passed in
@@ -166,7 +168,7 @@ returns-in_err-done-clause-stopped g c =
     let rules = rules_by g.Id.Ord.cmp g.B.Ord.cmp (g.R.Ask.may c.args.rules.now) in
     let passed = c.loop-id.invariant.passed in
     OnErr-given _
-    (adds-begun rules g.met.B.Ord.total (are_in g.B.Ord.cmp c.args.barred.now.keys) c.args.order.now c.loop-id.id-index group (bins_of c.args.bins.now.entries) passed.0 c.args.progress.now.tests _ passed.1 (c.in_err-done.ensures.refused.1 ∙ passed.2))
+    (adds-begun rules g.met.B.Ord.total (are_in g.B.Ord.cmp c.args.barred.now.keys) c.args.order.now c.loop-id.id-index group (bins_of c.args.bins.now.entries) passed.0 c.args.progress.now.tests _ passed.1 (c.in_err-done.ensures.answer.1 ∙ passed.2))
 
 pub returns-in_err-name_all-clause-stopped : goal.returns-in_err-name_all-clause-stopped
 returns-in_err-name_all-clause-stopped g c =
