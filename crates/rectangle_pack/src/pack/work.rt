@@ -24,6 +24,7 @@ use crate::closures::Ask;
 use crate::exclusions::Exclusions;
 use crate::fit_tests::FitTests;
 use crate::grouped_rects_to_place::{Group, GroupedRectsToPlace};
+use crate::lists::number_after;
 use crate::orders::group_order;
 use crate::pack::answer::Placement;
 use crate::packed_location::PackedLocation;
@@ -381,6 +382,8 @@ where
     }
     let alloc = *progress.journal.allocator();
     let groups = group_order(alloc, rects, lists, rules)?;
+    let entries = number_after(0, lists).ok_or(AllocError)?;
+    progress.placements.reserve(entries as usize)?;
     place_groups(
         rects,
         lists,

@@ -68,21 +68,6 @@ pub(crate) fn give_back<B: Ord + Drop, A: Allocator + Copy>(
     }
 }
 
-// The number after those of a packing, if there is one.
-pub(crate) fn number_after<K: Ord, X, A: Allocator>(
-    first: u64,
-    lists: &BTreeMap<K, Vec<X, A>, A>,
-) -> Option<u64>
-    ensures { let entries = sum (map length (values_of (lists_of lists.now.entries))) in
-        MatchOption result (2 ^ 64 ≤ first + entries) (λ n. n ≡ first + entries) }
-{
-    let mut number = first;
-    for (_, list) in lists {
-        number = number.checked_add(list.len() as u64)?;
-    }
-    Some(number)
-}
-
 // Puts placements at the end of the records, with their numbers, in the room that is there.
 pub(crate) fn number_all<Id: Drop, B: Drop, A: Allocator>(
     outstanding: &mut Vec<Outstanding<Id, B>, A>,
