@@ -38,8 +38,10 @@ fn newest(sections: &[BinSection], member: &RectToInsert) -> Option<usize>
         HoldsAt (λ s. Holds s member.now) sections.now i ×
         AllWithin (λ s. ¬ Holds s member.now) sections.now (i + 1) (length sections.now)) }
 {
+    // A copy, which is not read again for each section.
+    let member = *member;
     for i in (0..sections.len()).rev() {
-        if sections[i].holds(member) {
+        if sections[i].holds(&member) {
             return Some(i);
         }
     }
