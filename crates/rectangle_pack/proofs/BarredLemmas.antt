@@ -4,13 +4,12 @@ use Rattle.std.specs.Prelude.{Option, Some, All, AllPairs, map, unwrap_or, nat_e
 use Rattle.std.specs.declared.cmp.Ordering.{Ordering}
 use Rattle.std.specs.declared.cmp.Ordering.TheVariants.{Equal}
 use Rattle.std.specs.declared.cmp.Reverse.{Reverse}
-use Rattle.std.specs.declared.vec.Vec.{Vec}
 use Rattle.std.specs.Borrow.{Bor}
 use Rattle.std.specs.Ordering.{is_eq, eq_by_cmp}
 use Rattle.std.specs.Option.{option_map}
 use Rattle.std.specs.Cmp.{IsTotalOrder, Equal-is}
-use Rattle.std.specs.List.{AllZip, list_any, IsDistinct, AllByRecursion}
-use Rattle.std.specs.Map.{lookup, keys_of}
+use Rattle.std.specs.List.{list_any, IsDistinct, AllByRecursion}
+use Rattle.std.specs.Map.{lookup}
 use Rattle.std.specs.BTreeMap.{is_at}
 use Rattle.std.proofs.lemmas.List.Elements.{All-nil, All-cons, All-head, All-tail, All-weaker}
 use Rattle.std.proofs.lemmas.List.{take_more, map-append, get_or-map, length-map}
@@ -19,7 +18,7 @@ use Rattle.std.proofs.lemmas.Map.Keys.{IsDistinct-head, IsDistinct-tail}
 use Rattle.std.proofs.Math.Path.{fun_ext}
 use Rattle.std.proofs.lemmas.List.Kept.{AllPairs-cons}
 use Rattle.rectangle_pack.specs.declared.pack.answer.Placement.{Placement}
-use Rattle.rectangle_pack.specs.Groups.{lists_of, Collection}
+use Rattle.rectangle_pack.specs.Groups.{Collection}
 use Rattle.rectangle_pack.specs.Exclusions.{listed_at, is_listed, are_excluded}
 use Rattle.rectangle_pack.specs.private.Exclusions.{AreMutual}
 use Rattle.rectangle_pack.specs.private.Barred.{are_in, went_to}

@@ -1,14 +1,14 @@
 -- Trees of cuts, by how often each box is one of their leaves.
-use Rattle.std.proofs.Common.{ℕ, ◌+◌, ◌<◌, ◌≡◌, true, false, List, [], ◌∷◌, ◌++◌, refl, ◌∙◌, subst, arith, inl, inr}
+use Rattle.std.proofs.Common.{ℕ, ◌+◌, ◌<◌, ◌≡◌, true, false, List, [], ◌∷◌, refl, ◌∙◌, subst, arith, inl, inr}
 use Rattle.std.specs.Prelude.{All}
 use Rattle.std.proofs.lemmas.Bool.{cases_lt, cases_Bool, both_ways}
 use Rattle.std.proofs.lemmas.List.Elements.{All-nil, All-cons, All-append, All-weaker}
 use Rattle.rectangle_pack.specs.declared.axis.Axis.{Axis}
 use Rattle.rectangle_pack.specs.Boxes.{Cuboid, IsPartOf, has_cells}
-use Rattle.rectangle_pack.specs.CutTrees.{lower, upper, IsPlaceOf, CutTree, Leaf, Cut, IsTreeOf, leaves, times_in, HaveSameBoxes, IsFromCuts}
+use Rattle.rectangle_pack.specs.CutTrees.{lower, upper, IsPlaceOf, CutTree, Leaf, Cut, IsTreeOf, leaves, times_in, IsFromCuts}
 use Rattle.rectangle_pack.proofs.AxesLemmas.{IsPartOf-refl, IsPartOf-trans, cells-part}
 use Rattle.rectangle_pack.proofs.PartsLemmas.{lower-part, upper-part}
-use Rattle.rectangle_pack.proofs.TimesLemmas.{cases_box, times_in-nil, times_in-cons, times_in-same, times_in-other, times_in-append, All-times_in}
+use Rattle.rectangle_pack.proofs.TimesLemmas.{cases_box, times_in-nil, times_in-other, times_in-append, All-times_in}
 
 -- some tree of the box has each box with cells so often as a leaf
 pub record HasLeaves (b : Cuboid) (times : Cuboid → ℕ) : Type 0 where

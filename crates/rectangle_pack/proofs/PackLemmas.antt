@@ -34,7 +34,7 @@ use Rattle.rectangle_pack.specs.Steps.{IsDone}
 use Rattle.rectangle_pack.specs.Placed.{AreNamed, IsLastOf, AreLastPlacements}
 use Rattle.rectangle_pack.specs.private.TrialJournal.{GoesBack}
 use Rattle.rectangle_pack.proofs.PackingOrderLemmas.{AllZip-more}
-use Rattle.rectangle_pack.proofs.MapsLemmas.{lookup-equal, set_value-equal, is_eq-back}
+use Rattle.rectangle_pack.proofs.MapsLemmas.{is_eq-back}
 use Rattle.rectangle_pack.proofs.JournalLemmas.{bins_of-written, lookup-bins_of, IsRoomier-grown, IsRoomier-bins, GoesBack-more, GoesBack-pushed}
 
 -- a trial that is stuck, or refused memory, may leave its bin more room
@@ -48,17 +48,15 @@ pub bins_of-grown : {B : Type 0} (test : B → Bool) (now : List (B × Held)) (v
 bins_of-grown test now v w found same more = IsRoomier-bins now (set_value test now w) (IsRoomier-grown test now v w found (record { bin = same; room = more }))
 
 -- a trial that is done and noted
-pub GoesBack-done : {B A : Type 0} {cmp : B → B → Ordering} → IsTotalOrder cmp → (now : List (B × Held)) (journal new : List (DoneTrial B A)) (id : B) (e : DoneTrial B A) (v w : Held) (start : List (B × Bin))
-    → cmp id e.bin ≡ Equal → lookup (is_at (cmp id)) now ≡ Some v → new ≡ journal ++ e ∷ []
+pub GoesBack-done : {B A : Type 0} (cmp : B → B → Ordering) (now : List (B × Held)) (journal new : List (DoneTrial B A)) (e : DoneTrial B A) (v w : Held) (start : List (B × Bin))
+    → lookup (is_at (cmp e.bin.now)) now ≡ Some v → new ≡ journal ++ e ∷ []
     → w.bin ≡ record v.bin { sections = w.bin.sections } → before_notes e.notes.items w.bin.sections ≡ v.bin.sections → CanUndo w.room e.notes.items w.bin.sections → IsSound v.bin.size v.bin.sections → v.room ≤ w.room
-    → GoesBack cmp now journal start → GoesBack cmp (set_value (is_at (cmp id)) now w) new start
-GoesBack-done {B} {cmp} o now journal new id e v w start equal found pushed rest before can sound more h =
-    let there : lookup (is_at (cmp e.bin)) now ≡ Some v = sym (lookup-equal o id e.bin equal now) ∙ found in
-    rw (set_value-equal o id e.bin equal now w)
-    (GoesBack-pushed cmp now journal new e v w start pushed there
+    → GoesBack cmp now journal start → GoesBack cmp (set_value (is_at (cmp e.bin.now)) now w) new start
+GoesBack-done cmp now journal new e v w start found pushed rest before can sound more h =
+    GoesBack-pushed cmp now journal new e v w start pushed found
     (record { can = can; sound = rw (ap (λ (b : Bin). b.size) rest, before) sound })
     (record { bin = ap (λ (b : Bin). record b { sections = before_notes e.notes.items w.bin.sections }) rest ∙ ap (λ (s : List Cuboid). record v.bin { sections = s }) before; room = more })
-    h)
+    h
 
 -- what a look-up finds, without its room
 pub found-bins_of : {B : Type 0} (test : B → Bool) (now : List (B × Held)) (old : List (B × Bin)) (v : Held) → bins_of now ≡ old → lookup test now ≡ Some v → lookup test old ≡ Some v.bin
@@ -211,6 +209,11 @@ packed-weaker (Err e) f g h = tt
 pub lists-some : {K X A : Type 0} (es : List (K × Vec X A)) (b : Bool) → b ≡ nat_eq (length es) 0 → b ≡ false → lists_of es ≡ [] → ⊥
 lists-some [] b is not_so h = absurd cc
 lists-some (e ∷ es) b is not_so h = absurd cc
+
+-- as many as it has entries
+pub lists-more : {K X A : Type 0} (es : List (K × Vec X A)) (lists : List (K × List X)) (b : Bool) → b ≡ nat_eq (length es) 0 → b ≡ false → lists_of es ≡ lists → 0 < length lists
+lists-more [] lists b is not_so same = absurd cc
+lists-more (e ∷ es) lists b is not_so same = rw (← same) (omega arith)
 
 -- and one that is has none
 pub lists-empty : {K X A : Type 0} (es : List (K × Vec X A)) (b : Bool) → b ≡ nat_eq (length es) 0 → b ≡ true → lists_of es ≡ []

@@ -1,12 +1,12 @@
 -- Lists of the same boxes, boxes without cells aside.
-use Rattle.std.proofs.Common.{◌<◌, ◌≡◌, Bool, true, List, [], ◌∷◌, ◌++◌, refl, sym, ◌∙◌, arith, inl, inr}
+use Rattle.std.proofs.Common.{◌<◌, ◌≡◌, Bool, true, List, [], ◌∷◌, refl, sym, ◌∙◌, arith, inl, inr}
 use Rattle.std.specs.Prelude.{filter, count_by}
 use Rattle.std.specs.List.Sorted.{IsPermutation}
 use Rattle.std.proofs.lemmas.Bool.{cases_Bool, both_ways}
 use Rattle.rectangle_pack.specs.Boxes.{Cuboid, has_cells}
 use Rattle.rectangle_pack.specs.CutTrees.{times_in, HaveSameBoxes, IsFromCuts}
 use Rattle.rectangle_pack.proofs.CountingLemmas.{count-cons, count_no}
-use Rattle.rectangle_pack.proofs.TimesLemmas.{cases_box, times_in-nil, times_in-cons, times_in-same, times_in-other, times_in-append, times_in-permutation, times_in-kept}
+use Rattle.rectangle_pack.proofs.TimesLemmas.{cases_box, times_in-nil, times_in-cons, times_in-same, times_in-other, times_in-permutation, times_in-kept}
 
 pub HaveSameBoxes-sym : (bs es : List Cuboid) → HaveSameBoxes bs es → HaveSameBoxes es bs
 HaveSameBoxes-sym bs es same = λ b cells. sym (same b cells)

@@ -1,6 +1,7 @@
 -- What a step and a trial keep.
 use Rattle.std.proofs.Common.{◌≡◌, ℕ, ◌+◌, ◌≤◌, Bool, true, false, cond, List, [], ◌∷◌, ◌++◌, length, arith, refl, ap, sym, ◌∙◌, length-append}
 use Rattle.std.specs.Prelude.{All, map, filter}
+use Rattle.std.specs.Bool.{OnTrue, OnFalse}
 use Rattle.std.specs.List.{AllZip, zip, count_by}
 use Rattle.std.specs.List.Sorted.{IsPermutation}
 use Rattle.std.proofs.lemmas.List.Elements.{All-head, All-tail, All-append, All-filter, All-same, All-weaker}
@@ -148,6 +149,12 @@ module _ (may : Answers) where
     apart = apart_from_counts last (λ c. omega (arith, filled-done c sections ms ls last n done, counts_from_apart c sections sound.apart));
   }
 
-  -- and keeps the cells
+  -- and so does one that is stuck
+  pub IsSound-tried : (size : Size) (sections : List Cuboid) (ms : List Size) (ls last : List Cuboid) (counted : ℕ → Type 0) (done : Bool)
+      → OnTrue done ((n : ℕ) × IsDone may sections ms ls last n × counted n) → OnFalse done (last ≡ sections) → IsSound size sections → IsSound size last
+  IsSound-tried size sections ms ls last counted true done stuck sound = IsSound-done size sections ms ls last done.0 done.1 sound
+  IsSound-tried size sections ms ls last counted false done stuck sound = rw stuck sound
+
+  -- a trial that is done keeps the cells
   pub KeepCells-done : (sections : List Cuboid) (ms : List Size) (ls last : List Cuboid) (n : ℕ) → AreAllApart sections → IsDone may sections ms ls last n → KeepCells sections (last ++ ls)
   KeepCells-done sections ms ls last n apart done = KeepCells-from_counts sections (last ++ ls) apart (λ c. omega (arith, filled-append c last ls, filled-done c sections ms ls last n done))

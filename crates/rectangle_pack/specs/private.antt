@@ -9,3 +9,4 @@ pub mod Orders
 pub mod Ranks
 pub mod Spans
 pub mod TrialJournal
+pub mod TrialNotes

@@ -232,9 +232,11 @@ impl BinSection {
     pub(crate) fn holds(&self, incoming: &RectToInsert) -> bool
         ensures { IsTrue result ↔ Holds self.now incoming.now }
     {
-        incoming.width() <= self.whd.width()
-            && incoming.height() <= self.whd.height()
-            && incoming.depth() <= self.whd.depth()
+        // One branch for the three axes, as a search asks this of every section.
+        let wider = incoming.width().saturating_sub(self.whd.width());
+        let taller = incoming.height().saturating_sub(self.whd.height());
+        let deeper = incoming.depth().saturating_sub(self.whd.depth());
+        u64::from(wider) + u64::from(taller) + u64::from(deeper) == 0
     }
 
     // Whether none of the section's sizes is 0.

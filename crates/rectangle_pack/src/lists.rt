@@ -1,7 +1,7 @@
 // Maps from keys to lists, where a key with no items is as good as none.
-ghost use Rattle.std.specs.Prelude.{◌≡◌, ◌<◌, ◌++◌, ◌∷◌, [], List, length, reverse, IsTrue, OnOk, OnErr, IsSomeAnd, IsSome, is_some, Some, true, false};
+ghost use Rattle.std.specs.Prelude.{◌≡◌, ◌<◌, ◌≤◌, ◌+◌, ◌^◌, ◌++◌, ◌∷◌, [], List, length, map, sum, reverse, IsTrue, OnOk, OnErr, IsSomeAnd, IsSome, is_some, MatchOption, Some, true, false};
 ghost use Rattle.std.specs.BTreeMap.{get, is_at, IsOrdered};
-ghost use Rattle.std.specs.Map.{lookup, set_value};
+ghost use Rattle.std.specs.Map.{lookup, set_value, values_of};
 ghost use Rattle.std.specs.Cmp.{IsTotalOrder};
 ghost use Rattle.std.specs.Ordering.{is_eq};
 ghost use Rattle.rectangle_pack.specs.Groups.{lists_of};
@@ -48,6 +48,21 @@ fn ensure_keys<K: Ord + Clone + Drop, T: Drop, A: Allocator + Copy>(
         ensure_key(map, key, alloc)?;
     }
     Ok(())
+}
+
+// The number after those of all items, if there is one.
+pub(crate) fn number_after<K: Ord, X, A: Allocator>(
+    first: u64,
+    lists: &BTreeMap<K, Vec<X, A>, A>,
+) -> Option<u64>
+    ensures { let entries = sum (map length (values_of (lists_of lists.now.entries))) in
+        MatchOption result (2 ^ 64 ≤ first + entries) (λ n. n ≡ first + entries) }
+{
+    let mut number = first;
+    for (_, list) in lists {
+        number = number.checked_add(list.len() as u64)?;
+    }
+    Some(number)
 }
 
 // Forgets the keys that have no items.

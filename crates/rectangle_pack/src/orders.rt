@@ -1,5 +1,5 @@
 //! The orders in which a packing takes groups and bins.
-ghost use Rattle.std.specs.Prelude.{◌≡◌, IsTrue, IfOk, OnOk, IsSome, All, sum, map, length};
+ghost use Rattle.std.specs.Prelude.{◌≡◌, ◌<◌, IsTrue, IfOk, OnOk, OnErr, IsSome, All, sum, map, length};
 ghost use Rattle.std.specs.BTreeMap.{get};
 ghost use Rattle.std.specs.Ordering.{eq_by_cmp};
 ghost use Rattle.std.specs.List.{sum_by, IsDistinct};
@@ -11,6 +11,7 @@ ghost use Rattle.rectangle_pack.specs.Packing.{bins_of};
 ghost use Rattle.rectangle_pack.specs.Groups.{MembersHaveSizes, lists_of};
 
 use crate::closures::Ask;
+use crate::grouped_rects_to_place::GroupedRectsToPlace;
 use crate::rect_to_insert::RectToInsert;
 use crate::target_bin::TargetBin;
 use crate::width_height_depth::WidthHeightDepth;
@@ -37,7 +38,7 @@ where
 }
 
 // All bins, by rising rate of their whole sizes and then by id.
-pub(crate) fn bin_order<B, R, A>(
+fn bin_order<B, R, A>(
     alloc: A,
     bins: &BTreeMap<B, TargetBin<A>, A>,
     rules: &R,
@@ -60,6 +61,38 @@ where
     }
     order.sort_unstable();
     Ok(order)
+}
+
+// The order of the bins for a packing. Without groups no bin is listed and no memory is taken.
+pub(crate) fn bins_to_try<Id, BinId, GroupId, R, A>(
+    alloc: A,
+    rects_to_place: &GroupedRectsToPlace<Id, GroupId, A>,
+    target_bins: &BTreeMap<BinId, TargetBin<A>, A>,
+    rules: &R,
+) -> Result<Vec<(u128, BinId), A>, AllocError>
+where
+    Id: Ord + Clone + Drop,
+    BinId: Ord + Clone + Drop,
+    GroupId: Ord + Clone + Drop,
+    R: Ask,
+    A: Allocator + Copy,
+    requires bin_ids { (a b : BinId) → BinId.is_clone a b → IsTrue (BinId.eq a b) }
+    requires callable { R.can_ask rules.now }
+    ensures order { IfOk result
+        (λ v.
+        0 < length rects_to_place.now.groups →
+        IsBinOrder (R.may rules.now).rate BinId.cmp (bins_of target_bins.now.entries) v.items) }
+    ensures found { IfOk result
+        (λ v. All (λ o. IsSome (get BinId.cmp target_bins.now o.1)) v.items) }
+    ensures distinct { OnOk result
+        (0 < length rects_to_place.now.groups →
+        IsDistinct (eq_by_cmp BinId.cmp) (keys_of (bins_of target_bins.now.entries))) }
+    ensures stopped { OnErr result (0 < length rects_to_place.now.groups) }
+{
+    if rects_to_place.groups().is_empty() {
+        return Ok(Vec::new(alloc));
+    }
+    bin_order(alloc, target_bins, rules)
 }
 
 // By falling key, and then by what the references point to.

@@ -22,6 +22,7 @@ pub(crate) mod work;
 use crate::closures::Closures;
 use crate::fit_tests::FitTests;
 use crate::grouped_rects_to_place::{Group, GroupedRectsToPlace};
+use crate::orders::bins_to_try;
 use crate::pack::answer::last_placements;
 use crate::pack::work::{Progress, pack_noted, undo_all};
 use crate::target_bin::TargetBin;
@@ -137,12 +138,23 @@ where
         tests.new }
     ensures no_groups { rects_to_place.now.groups ≡ [] → IsOk result }
 {
-    let mut progress = Progress::new(alloc);
+    // For the proof alone: what is read is known to be of 128 bits.
+    let _counted = tests.count();
     let rules = Closures {
         heuristic: box_size_heuristic,
         comparison: more_suitable_containers_fn,
     };
-    let packed = pack_noted(rects_to_place, target_bins, &rules, &mut progress);
+    let Ok(order) = bins_to_try(alloc, rects_to_place, target_bins, &rules) else {
+        return Err(RectanglePackError::OutOfMemory);
+    };
+    let mut progress = Progress::new(alloc);
+    let packed = pack_noted(
+        rects_to_place,
+        target_bins,
+        order.as_slice(),
+        &rules,
+        &mut progress,
+    );
     tests.add_all(&progress.tests);
     let last = match packed {
         Ok(true) => last_placements(alloc, progress.placements.as_slice()),

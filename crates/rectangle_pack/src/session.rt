@@ -20,7 +20,8 @@ mod work;
 
 use crate::closures::{Ask, Closures};
 use crate::grouped_rects_to_place::{Group, GroupedRectsToPlace};
-use crate::session::work::{give_back, number_after, pack_into, position_of};
+use crate::lists::number_after;
+use crate::session::work::{give_back, pack_into, position_of};
 use crate::target_bin::TargetBin;
 use crate::width_height_depth::WidthHeightDepth;
 pub use command::{Command, Outstanding, Packed, Reply, SessionError};

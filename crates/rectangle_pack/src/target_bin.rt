@@ -1,5 +1,6 @@
 //! Bins and their free sections.
 ghost use Rattle.std.specs.Prelude.{◌≡◌, ◌+◌, ◌≤◌, ◌<◌, ◌++◌, ◌∷◌, [], IfOk, OnOk, OnErr, IfNone, IfSome, IsOk, IsTrue, true, ◌↔◌, length, remove, filter, All};
+ghost use Rattle.std.specs.Vec.{vec_capacity};
 ghost use Rattle.rectangle_pack.specs.Boxes.{Cell, AreApart, has_cells};
 ghost use Rattle.rectangle_pack.specs.Closures.{AreCallable, answers};
 ghost use Rattle.rectangle_pack.specs.Pushes.{IsFirstSharing, IsPushAnswer};
@@ -9,6 +10,7 @@ ghost use Rattle.rectangle_pack.specs.Joining.{IsJoined, IsSwept, ShareNoFace};
 ghost use Rattle.rectangle_pack.specs.Keeping.{KeepCells};
 ghost use Rattle.rectangle_pack.specs.Trials.{IsTrialAnswer, most_tests};
 ghost use Rattle.rectangle_pack.specs.private.Journal.{before_notes, CanUndo};
+ghost use Rattle.rectangle_pack.specs.private.TrialNotes.{IsNotedAnswer, LeavesNotes};
 
 use crate::bin_section::BinSection;
 use crate::closures::{Ask, Closures};
@@ -330,42 +332,44 @@ impl<A: Allocator + Copy> TargetBin<A> {
             most_tests (length members.now) (length self.old.bin.sections) }
         ensures no_members { length members.now ≡ 0 → IsOk result }
     {
-        let mut notes = Vec::new(*self.available_bin_sections.allocator());
+        let alloc = *self.available_bin_sections.allocator();
+        let mut notes = Vec::with_capacity(alloc, members.len())?;
+        let mut locations = Vec::with_capacity(alloc, members.len())?;
         let rules = Closures {
             heuristic,
             comparison,
         };
-        self.place_noted(members, &rules, tests, &mut notes)
+        let done = self.place_noted(members, &rules, tests, &mut notes, &mut locations)?;
+        if done { Ok(Some(locations)) } else { Ok(None) }
     }
 
-    // One trial; where it is done, what undoes it is noted. The room is made before the first step.
+    // One trial, with room for its notes and its locations; whether it is done. Then what undoes it
+    // is noted; where it is stuck, both lists stay empty. The list's room is made before a step.
     pub(crate) fn place_noted<R>(
         &mut self,
         members: &[RectToInsert],
         rules: &R,
         tests: &mut FitTests,
         notes: &mut Vec<Note, A>,
-    ) -> Result<Option<Vec<PackedLocation, A>>, AllocError>
+        locations: &mut Vec<PackedLocation, A>,
+    ) -> Result<bool, AllocError>
     where
         R: Ask,
         requires callable { R.can_ask rules.now }
         requires no_notes { notes.old.items ≡ [] }
-        ensures answer { IsTrialAnswer (R.may rules.now) self.old.bin members.now
-            tests.old result self.new.bin tests.new }
+        requires no_locations { locations.old.items ≡ [] }
+        requires note_room { length members.now ≤ vec_capacity notes.old }
+        requires location_room { length members.now ≤ vec_capacity locations.old }
+        ensures answer { IsNotedAnswer (R.may rules.now) self.old.bin members.now tests.old result
+            locations.new.items self.new.bin tests.new }
         ensures room { self.old.room ≤ self.new.room }
-        ensures before { IfOk result
-            (λ o.
-            IfSome o
-            (λ v. before_notes notes.new.items self.new.bin.sections ≡ self.old.bin.sections)) }
-        ensures can_undo { IfOk result
-            (λ o.
-            IfSome o (λ v. CanUndo self.new.room notes.new.items self.new.bin.sections)) }
+        ensures noted { LeavesNotes result notes.new.items locations.new.items self.new.room
+            self.old.bin.sections self.new.bin.sections }
+        ensures note_room_stays { vec_capacity notes.new ≡ vec_capacity notes.old }
+        ensures location_room_stays { vec_capacity locations.new ≡ vec_capacity locations.old }
         ensures no_members { length members.now ≡ 0 → IsOk result }
         ensures sound { IsSound self.old.bin.size self.old.bin.sections }
     {
-        let mut locations = Vec::new(*self.available_bin_sections.allocator());
-        locations.reserve(members.len())?;
-        notes.reserve(members.len())?;
         self.available_bin_sections.reserve(members.len() * 2)?;
         let done = run_trial(
             &mut self.available_bin_sections,
@@ -373,9 +377,9 @@ impl<A: Allocator + Copy> TargetBin<A> {
             rules,
             tests,
             notes,
-            &mut locations,
+            locations,
         );
-        if done { Ok(Some(locations)) } else { Ok(None) }
+        Ok(done)
     }
 
     // Undoes a noted trial. Takes no memory.

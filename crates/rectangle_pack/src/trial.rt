@@ -39,8 +39,10 @@ fn newest(sections: &[BinSection], member: &RectToInsert) -> Option<usize>
         HoldsAt (λ s. Holds s member.now) sections.now i ×
         AllWithin (λ s. ¬ Holds s member.now) sections.now (i + 1) (length sections.now)) }
 {
+    // A copy, which is not read again for each section.
+    let member = *member;
     for i in (0..sections.len()).rev() {
-        if sections[i].holds(member) {
+        if sections[i].holds(&member) {
             return Some(i);
         }
     }
@@ -192,13 +194,14 @@ pub(crate) fn undo<A: Allocator>(sections: &mut Vec<BinSection, A>, notes: &mut 
     ensures items { sections.new.items ≡ before_notes notes.old.items sections.old.items }
     ensures notes { notes.new.items ≡ [] }
     ensures capacity { vec_capacity sections.old ≤ vec_capacity sections.new }
+    ensures note_room { vec_capacity notes.new ≡ vec_capacity notes.old }
 {
     while let Some(note) = notes.pop() {
         unstep(sections, note);
     }
 }
 
-// One trial. The room that it needs is there; a stuck trial is undone.
+// One trial. The room that it needs is there. A stuck trial is undone, and leaves the room.
 pub(crate) fn run_trial<A, R>(
     sections: &mut Vec<BinSection, A>,
     members: &[RectToInsert],
@@ -232,6 +235,10 @@ where
         (before_notes notes.new.items sections.new.items ≡ sections.old.items) }
     ensures can_undo { OnTrue result
         (CanUndo (vec_capacity sections.new) notes.new.items sections.new.items) }
+    ensures emptied { OnFalse result
+        ((notes.new.items ≡ []) × (locations.new.items ≡ [])) }
+    ensures note_room_stays { vec_capacity notes.new ≡ vec_capacity notes.old }
+    ensures location_room_stays { vec_capacity locations.new ≡ vec_capacity locations.old }
 {
     // For the proof alone: what is read is known to be of 128 bits.
     let _counted = tests.count();
@@ -243,6 +250,7 @@ where
             }
             None => {
                 undo(sections, notes);
+                locations.clear();
                 return false;
             }
         }

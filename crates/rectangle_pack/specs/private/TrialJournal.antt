@@ -21,7 +21,7 @@ before_trial done held = record held { bin = record held.bin { sections = before
 abbrev pub Undoes : {B A : Type 0} → (B → B → Ordering) → List (DoneTrial B A) → List (B × Held) → List (B × Bin) → Type 0
 Undoes cmp [] now start = bins_of now ≡ start
 Undoes cmp (e ∷ es) now start =
-    (held : Held) × (lookup (is_at (cmp e.bin)) now ≡ Some held) × CanUndoTrial e held × Undoes cmp es (set_value (is_at (cmp e.bin)) now (before_trial e held)) start
+    (held : Held) × (lookup (is_at (cmp e.bin.now)) now ≡ Some held) × CanUndoTrial e held × Undoes cmp es (set_value (is_at (cmp e.bin.now)) now (before_trial e held)) start
 
 -- undoing the trials, the last of the journal first, leads from now to start
 pub record GoesBack {B A : Type 0} (cmp : B → B → Ordering) (now : List (B × Held)) (journal : List (DoneTrial B A)) (start : List (B × Bin)) : Type 0 where

@@ -1,15 +1,17 @@
 //! One packing: group after group into the first bin that takes it, with notes by which it is
 //! undone.
-ghost use Rattle.std.specs.Prelude.{ℕ, ◌≡◌, ◌+◌, ◌++◌, [], length, List, IsTrue, IfOk, OnOk, OnErr, IsSome, All, MatchBool, MatchOption, Ok, Some, map, true};
+ghost use Rattle.std.specs.Prelude.{ℕ, ◌≡◌, ◌<◌, ◌+◌, ◌≤◌, ◌++◌, [], length, vec_len, List, IsTrue, IfOk, OnOk, OnErr, IsSome, All, MatchBool, MatchOption, Ok, Some, map, true};
 ghost use Rattle.std.specs.BTreeMap.{get, is_at};
 ghost use Rattle.std.specs.Bool.{OnTrue};
 ghost use Rattle.std.specs.List.{AllZip, list_any, sum_by, IsDistinct};
-ghost use Rattle.std.specs.Map.{lookup};
+ghost use Rattle.std.specs.Map.{lookup, keys_of};
+ghost use Rattle.std.specs.Vec.{vec_capacity};
 ghost use Rattle.rectangle_pack.specs.declared.pack.answer.Placement.{Placement};
 ghost use Rattle.rectangle_pack.specs.Bins.{Bin};
 ghost use Rattle.rectangle_pack.specs.Groups.{HaveSizes, MembersHaveSizes, lists_of};
 ghost use Rattle.std.specs.Ordering.{eq_by_cmp};
 ghost use Rattle.rectangle_pack.specs.Numbers.{saturated};
+ghost use Rattle.rectangle_pack.specs.Orders.{IsBinOrder};
 ghost use Rattle.rectangle_pack.specs.Packing.{rules_by, bins_of, bars_by, at_start, Members, IsPlaced, IsRefused, AreAllPlaced, AreGroups, StopsAfter, PackingDone, PackingRefused};
 ghost use Rattle.rectangle_pack.specs.PackAnswers.{entries_of, AreCounted};
 ghost use Rattle.rectangle_pack.specs.private.Barred.{are_in, went_to};
@@ -22,7 +24,8 @@ use crate::closures::Ask;
 use crate::exclusions::Exclusions;
 use crate::fit_tests::FitTests;
 use crate::grouped_rects_to_place::{Group, GroupedRectsToPlace};
-use crate::orders::{bin_order, group_order};
+use crate::lists::number_after;
+use crate::orders::group_order;
 use crate::pack::answer::Placement;
 use crate::packed_location::PackedLocation;
 use crate::rect_to_insert::RectToInsert;
@@ -32,22 +35,22 @@ use std::alloc::{AllocError, Allocator};
 use std::cmp::Reverse;
 use std::collections::{BTreeMap, BTreeSet};
 
-// A trial that was done, and how to undo it.
+// A trial that was done, and how to undo it. The bin is named by its id in the order of the bins.
 #[derive(Drop)]
-pub(crate) struct DoneTrial<BinId, A: Allocator> {
-    pub bin: BinId,
+pub(crate) struct DoneTrial<'b, BinId, A: Allocator> {
+    pub bin: &'b BinId,
     pub notes: Vec<Note, A>,
 }
 
 // What a packing did so far: what it placed, how to undo it, and how many fit tests it made.
 #[derive(Drop)]
-pub(crate) struct Progress<Id, BinId, A: Allocator> {
+pub(crate) struct Progress<'b, Id, BinId, A: Allocator> {
     pub placements: Vec<Placement<Id, BinId>, A>,
-    pub journal: Vec<DoneTrial<BinId, A>, A>,
+    pub journal: Vec<DoneTrial<'b, BinId, A>, A>,
     pub tests: FitTests,
 }
 
-impl<Id, BinId, A: Allocator + Copy> Progress<Id, BinId, A> {
+impl<'b, Id, BinId, A: Allocator + Copy> Progress<'b, Id, BinId, A> {
     pub(crate) fn new(alloc: A) -> Self
         ensures placements { result.placements.items ≡ [] }
         ensures journal { result.journal.items ≡ [] }
@@ -64,7 +67,7 @@ impl<Id, BinId, A: Allocator + Copy> Progress<Id, BinId, A> {
 // Undoes all trials, from the last. Takes no memory.
 pub(crate) fn undo_all<B: Ord + Drop, A: Allocator + Copy>(
     bins: &mut BTreeMap<B, TargetBin<A>, A>,
-    journal: &mut Vec<DoneTrial<B, A>, A>,
+    journal: &mut Vec<DoneTrial<'_, B, A>, A>,
 )
     requires { (start : List (B × Bin)) × GoesBack B.cmp bins.old.entries journal.old.items start }
     ensures { (start : List (B × Bin)) → GoesBack B.cmp bins.old.entries journal.old.items start →
@@ -72,7 +75,7 @@ pub(crate) fn undo_all<B: Ord + Drop, A: Allocator + Copy>(
 {
     while let Some(done) = journal.pop() {
         let DoneTrial { bin, mut notes } = done;
-        match bins.get_mut(&bin) {
+        match bins.get_mut(bin) {
             Some(place) => place.undo_notes(&mut notes),
             None => unreachable!(),
         }
@@ -109,30 +112,30 @@ where
     Ok(())
 }
 
-// The boxes of a group's ids.
-fn sizes_of<Id, A>(
-    alloc: A,
+// Lists the boxes of a group's ids, in place of what the list held.
+fn list_sizes<Id, A>(
+    sizes: &mut Vec<RectToInsert, A>,
     ids: &[Id],
     rects: &BTreeMap<Id, RectToInsert, A>,
-) -> Result<Vec<RectToInsert, A>, AllocError>
+) -> Result<(), AllocError>
 where
     Id: Ord,
-    A: Allocator + Copy,
+    A: Allocator,
     requires { HaveSizes Id.cmp rects.now.entries ids.now }
-    ensures { IfOk result
-        (λ v.
-        AllZip (λ id size. lookup (is_at (Id.cmp id)) rects.now.entries ≡ Some size) ids.now
-        v.items) }
+    ensures { OnOk result
+        (AllZip (λ id size. lookup (is_at (Id.cmp id)) rects.now.entries ≡ Some size) ids.now
+        sizes.new.items) }
 {
-    let mut sizes = Vec::with_capacity(alloc, ids.len())?;
+    sizes.clear();
+    sizes.reserve(ids.len())?;
     for id in ids {
-        sizes.push(*rects.get(id).unwrap())?;
+        sizes.push_reserved(*rects.get(id).unwrap());
     }
-    Ok(sizes)
+    Ok(())
 }
 
 // Puts a group into the first bin of the order that is not barred and whose trial is done; the id
-// of that bin.
+// of that bin. The room for notes and locations is made once, and a trial that is stuck leaves it.
 fn place_group<'b, Id, B, R, A>(
     bins: &mut BTreeMap<B, TargetBin<A>, A>,
     order: &'b [(u128, B)],
@@ -140,7 +143,8 @@ fn place_group<'b, Id, B, R, A>(
     ids: &[Id],
     sizes: &[RectToInsert],
     rules: &R,
-    progress: &mut Progress<Id, B, A>,
+    locations: &mut Vec<PackedLocation, A>,
+    progress: &mut Progress<'b, Id, B, A>,
 ) -> Result<Option<&'b B>, AllocError>
 where
     Id: Ord + Clone + Drop,
@@ -152,6 +156,7 @@ where
     requires callable { R.can_ask rules.now }
     requires lengths { length ids.now ≡ length sizes.now }
     requires found { All (λ o. IsSome (get B.cmp bins.old o.1)) order.now }
+    requires journal_room { vec_len progress.old.journal < vec_capacity progress.old.journal }
     ensures placed { IfOk result
         (λ placed.
         let by = rules_by Id.cmp B.cmp (R.may rules.now) in
@@ -178,22 +183,23 @@ where
     ensures back { (start : List (B × Bin)) →
         GoesBack B.cmp bins.old.entries progress.old.journal.items start →
         GoesBack B.cmp bins.new.entries progress.new.journal.items start }
+    ensures journal_grows { vec_len progress.new.journal ≤ vec_len progress.old.journal + 1 }
+    ensures journal_room_stays { vec_capacity progress.new.journal ≡
+        vec_capacity progress.old.journal }
 {
     // For the proof alone: what is read is known to be of 128 bits.
     let _counted = progress.tests.count();
-    progress.journal.reserve(1)?;
+    let mut notes = Vec::with_capacity(*progress.journal.allocator(), sizes.len())?;
+    locations.clear();
+    locations.reserve(sizes.len())?;
     for (_, id) in order {
         if barred.contains(&id) {
             continue;
         }
-        let name = id.clone()?;
-        let mut notes = Vec::new(*progress.journal.allocator());
         let bin = bins.get_mut(id).unwrap();
-        let done = bin.place_noted(sizes, rules, &mut progress.tests, &mut notes)?;
-        if let Some(locations) = done {
-            progress
-                .journal
-                .push_reserved(DoneTrial { bin: name, notes });
+        let done = bin.place_noted(sizes, rules, &mut progress.tests, &mut notes, locations)?;
+        if done {
+            progress.journal.push_reserved(DoneTrial { bin: id, notes });
             name_all(&mut progress.placements, ids, id, locations.as_slice())?;
             return Ok(Some(id));
         }
@@ -230,7 +236,7 @@ fn place_groups<'a, 'b, Id, B, K, R, A>(
     order: &'b [(u128, B)],
     bins: &mut BTreeMap<B, TargetBin<A>, A>,
     rules: &R,
-    progress: &mut Progress<Id, B, A>,
+    progress: &mut Progress<'b, Id, B, A>,
 ) -> Result<bool, AllocError>
 where
     Id: Ord + Clone + Drop,
@@ -276,10 +282,13 @@ where
     // For the proof alone: what is read is known to be of 128 bits.
     let _counted = progress.tests.count();
     let alloc = *progress.journal.allocator();
+    progress.journal.reserve(groups.len())?;
     let mut homes = BTreeMap::new(alloc);
+    let mut sizes = Vec::new(alloc);
+    let mut locations = Vec::new(alloc);
     for (_, group) in groups {
         let ids = list_of(lists, *group);
-        let sizes = sizes_of(alloc, ids.as_slice(), rects)?;
+        list_sizes(&mut sizes, ids.as_slice(), rects)?;
         let partners = exclusions.partners(*group);
         let barred = barred_bins(alloc, partners, &homes)?;
         match place_group(
@@ -289,6 +298,7 @@ where
             ids.as_slice(),
             sizes.as_slice(),
             rules,
+            &mut locations,
             progress,
         )? {
             None => return Ok(false),
@@ -314,11 +324,12 @@ fn list_of<'a, K: Ord, X, A: Allocator>(
 }
 
 // One packing, that can be undone whole; whether each group was placed.
-pub(crate) fn pack_noted<Id, BinId, GroupId, R, A>(
+pub(crate) fn pack_noted<'b, Id, BinId, GroupId, R, A>(
     rects_to_place: &GroupedRectsToPlace<Id, GroupId, A>,
     target_bins: &mut BTreeMap<BinId, TargetBin<A>, A>,
+    order: &'b [(u128, BinId)],
     rules: &R,
-    progress: &mut Progress<Id, BinId, A>,
+    progress: &mut Progress<'b, Id, BinId, A>,
 ) -> Result<bool, AllocError>
 where
     Id: Ord + Clone + Drop,
@@ -329,6 +340,11 @@ where
     requires ids { (a b : Id) → Id.is_clone a b → IsTrue (Id.eq a b) }
     requires bin_ids { (a b : BinId) → BinId.is_clone a b → IsTrue (BinId.eq a b) }
     requires callable { R.can_ask rules.now }
+    requires order { 0 < length rects_to_place.now.groups →
+        IsBinOrder (R.may rules.now).rate BinId.cmp (bins_of target_bins.old.entries) order.now }
+    requires found { All (λ o. IsSome (get BinId.cmp target_bins.old o.1)) order.now }
+    requires distinct { 0 < length rects_to_place.now.groups →
+        IsDistinct (eq_by_cmp BinId.cmp) (keys_of (bins_of target_bins.old.entries)) }
     requires no_placements { progress.old.placements.items ≡ [] }
     requires no_journal { progress.old.journal.items ≡ [] }
     ensures packed { IfOk result
@@ -366,13 +382,14 @@ where
     }
     let alloc = *progress.journal.allocator();
     let groups = group_order(alloc, rects, lists, rules)?;
-    let order = bin_order(alloc, target_bins, rules)?;
+    let entries = number_after(0, lists).ok_or(AllocError)?;
+    progress.placements.reserve(entries as usize)?;
     place_groups(
         rects,
         lists,
         rects_to_place.exclusions(),
         groups.as_slice(),
-        order.as_slice(),
+        order,
         target_bins,
         rules,
         progress,

@@ -15,6 +15,7 @@ ghost use Rattle.rectangle_pack.specs.Session.{GivesBack, numbered};
 use crate::bin_section::BinSection;
 use crate::closures::Ask;
 use crate::grouped_rects_to_place::{Group, GroupedRectsToPlace};
+use crate::orders::bins_to_try;
 use crate::pack::Placement;
 use crate::pack::work::{Progress, pack_noted, undo_all};
 use crate::packed_location::PackedLocation;
@@ -65,21 +66,6 @@ pub(crate) fn give_back<B: Ord + Drop, A: Allocator + Copy>(
         Some(bin) => bin.push_available_bin_section_unchecked(section),
         None => unreachable!(),
     }
-}
-
-// The number after those of a packing, if there is one.
-pub(crate) fn number_after<K: Ord, X, A: Allocator>(
-    first: u64,
-    lists: &BTreeMap<K, Vec<X, A>, A>,
-) -> Option<u64>
-    ensures { let entries = sum (map length (values_of (lists_of lists.now.entries))) in
-        MatchOption result (2 ^ 64 ≤ first + entries) (λ n. n ≡ first + entries) }
-{
-    let mut number = first;
-    for (_, list) in lists {
-        number = number.checked_add(list.len() as u64)?;
-    }
-    Some(number)
 }
 
 // Puts placements at the end of the records, with their numbers, in the room that is there.
@@ -148,8 +134,10 @@ where
     ensures no_groups { groups.now.groups ≡ [] → result ≡ Ok true }
 {
     outstanding.reserve(count as usize)?;
-    let mut progress = Progress::new(*outstanding.allocator());
-    match pack_noted(groups, bins, rules, &mut progress) {
+    let alloc = *outstanding.allocator();
+    let order = bins_to_try(alloc, groups, bins, rules)?;
+    let mut progress = Progress::new(alloc);
+    match pack_noted(groups, bins, order.as_slice(), rules, &mut progress) {
         Ok(true) => {
             number_all(outstanding, progress.placements, first);
             Ok(true)

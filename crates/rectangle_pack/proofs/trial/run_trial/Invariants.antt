@@ -13,9 +13,9 @@ invariant-loop-member g l = record {
   room : vec_len l.sections + 2 * (length l.members - l.member-index) ≤ vec_capacity l.sections;
   grown : vec_capacity l.fn.sections ≤ vec_capacity l.sections;
   note_count : vec_len l.notes ≡ l.member-index;
-  note_room : length l.members ≤ vec_capacity l.notes;
+  note_room : vec_capacity l.notes ≡ vec_capacity l.fn.notes;
   location_count : vec_len l.locations ≡ l.member-index;
-  location_room : length l.members ≤ vec_capacity l.locations;
+  location_room : vec_capacity l.locations ≡ vec_capacity l.fn.locations;
   same : before_notes l.notes.items l.sections.items ≡ l.fn.sections.items;
   can : CanUndo (vec_capacity l.sections) l.notes.items l.sections.items;
 }

@@ -15,4 +15,5 @@ loop-note-preserved g c =
       same = rw c.unstep.ensures.items (sym back ∙ c.loop-note.invariant.same);
       can = rw c.unstep.ensures.items one.1;
       room = omega arith;
+      note_room = omega arith;
     }

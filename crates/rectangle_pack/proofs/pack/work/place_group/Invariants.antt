@@ -1,4 +1,4 @@
-use Rattle.std.proofs.Common.{◌≡◌, ◌+◌, ℕ, List, take}
+use Rattle.std.proofs.Common.{◌≡◌, ◌≤◌, ◌+◌, ℕ, List, [], ◌<◌, take, length, vec_len, vec_capacity}
 use Rattle.std.specs.Prelude.{map, sum}
 use Rattle.std.specs.List.{AllZip}
 use Rattle.rectangle_pack.specs.Bins.{Bin}
@@ -14,6 +14,13 @@ invariant-loop-id g l = record {
   passed : (counts : List ℕ)
       × AllZip (DoesNotTake (rules_by g.Id.Ord.cmp g.B.Ord.cmp (g.R.Ask.may l.rules)) (are_in g.B.Ord.cmp l.barred.keys) (bins_of l.fn.bins.entries) (record { ids = l.ids; sizes = l.sizes })) (map (λ o. o.1) (take l.id-index l.order)) counts
       × (l.progress.tests ≡ saturated (l.fn.progress.tests + sum counts));
+  no_notes : l.notes.items ≡ [];
+  note_room : length l.sizes ≤ vec_capacity l.notes;
+  no_locations : l.locations.items ≡ [];
+  location_room : length l.sizes ≤ vec_capacity l.locations;
+  journal_room : vec_len l.progress.journal < vec_capacity l.progress.journal;
+  journal_len : vec_len l.progress.journal ≡ vec_len l.fn.progress.journal;
+  journal_capacity : vec_capacity l.progress.journal ≡ vec_capacity l.fn.progress.journal;
   placements : l.progress.placements.items ≡ l.fn.progress.placements.items;
   back : (start : List (g.row.B.Denot × Bin)) → GoesBack g.B.Ord.cmp l.fn.bins.entries l.fn.progress.journal.items start → GoesBack g.B.Ord.cmp l.bins.entries l.progress.journal.items start;
 }

@@ -28,20 +28,21 @@ use Rattle.rectangle_pack.proofs.pack.work.place_groups.Goals.{then-not-is_empty
 pub loop-group-init : goal.loop-group-init
 loop-group-init g c = record {
   done = ([], [], 0, record { each = tt }, (c.requires.no_placements, refl, refl), omega arith, Knows-none g.K.Ord.cmp g.B.Ord.cmp g.met.K.Ord.total c.args.exclusions.now c.new-homes.result.entries c.new-homes.ensures.empty, λ q h. All-nil _);
-  back = λ start b. b;
+  room = omega (arith, c.in_ok-reserve.ensures.ok);
+  back = λ start b. rw c.in_ok-reserve.ensures.items b;
 }
 
 pub list_of-ids-requires : goal.list_of-ids-requires
 list_of-ids-requires g c = rw c.loop-group-item.is (c.requires.listed c.loop-group.group-index c.loop-group-item.result c.loop-group-test.true)
 
-pub sizes_of-requires : goal.sizes_of-requires
-sizes_of-requires g c =
+pub list_sizes-requires : goal.list_sizes-requires
+list_sizes-requires g c =
     rw c.as_slice.ensures.value (HaveSizes-found g.Id.Ord.cmp c.args.rects.now.entries (lists_of c.args.lists.now.entries) (is_at (g.K.Ord.cmp c.loop-group-item.result.1.now)) c.list_of-ids.result.now.items c.requires.sized
     (list-found (is_at (g.K.Ord.cmp c.loop-group-item.result.1.now)) c.args.lists.now.entries c.list_of-ids.result.now c.list_of-ids.ensures))
 
 pub place_group-requires-clause-lengths : goal.place_group-requires-clause-lengths
 place_group-requires-clause-lengths g c =
-    rw (c.as_slice-in-loop-group.ensures.value, c.as_slice-in-loop-group-2.ensures.value) (AreSizesOf-length g.Id.Ord.cmp c.args.rects.now.entries c.list_of-ids.result.now.items c.in_ok-sizes.sizes.items (rw (← c.as_slice.ensures.value) c.in_ok-sizes.ensures))
+    rw (c.as_slice-in-loop-group.ensures.value, c.as_slice-in-loop-group-2.ensures.value) (AreSizesOf-length g.Id.Ord.cmp c.args.rects.now.entries c.list_of-ids.result.now.items c.list_sizes.new.sizes.items (rw (← c.as_slice.ensures.value) c.in_ok-list_sizes.ensures))
 
 pub place_group-requires-clause-found : goal.place_group-requires-clause-found
 place_group-requires-clause-found g c k d within =
@@ -62,7 +63,7 @@ returns-in-None-clause-packed g c =
     let name = c.loop-group-item.result.1.now in
     let rules = rules_by g.Id.Ord.cmp g.B.Ord.cmp (g.R.Ask.may c.args.rules.now) in
     let found : lookup (is_at (g.K.Ord.cmp name)) (lists_of c.args.lists.now.entries) ≡ Some ids = rw c.as_slice-in-loop-group.ensures.value (list-found (is_at (g.K.Ord.cmp name)) c.args.lists.now.entries c.list_of-ids.result.now c.list_of-ids.ensures) in
-    let sized : AreSizesOf g.Id.Ord.cmp c.args.rects.now.entries ids sizes = rw (c.as_slice-in-loop-group.ensures.value, c.as_slice-in-loop-group-2.ensures.value, ← c.as_slice.ensures.value) c.in_ok-sizes.ensures in
+    let sized : AreSizesOf g.Id.Ord.cmp c.args.rects.now.entries ids sizes = rw (c.as_slice-in-loop-group.ensures.value, c.as_slice-in-loop-group-2.ensures.value, ← c.as_slice.ensures.value) c.in_ok-list_sizes.ensures in
     let more = AreGroups-more rules g.K.Ord.cmp c.args.rects.now.entries (lists_of c.args.lists.now.entries) c.args.groups.now c.loop-group.group-index c.loop-group-item.result done.0 group c.loop-group-test.true c.loop-group-item.is found sized done.3 in
     let bars : List (g.row.K.Denot × g.row.B.Denot) → g.row.K.Denot → g.row.B.Denot → Bool = bars_by g.K.Ord.cmp g.B.Ord.cmp c.args.exclusions.now in
     let keys = c.in_ok-barred.barred.keys in
@@ -88,7 +89,7 @@ loop-group-preserved g c =
     let name = c.loop-group-item.result.1.now in
     let rules = rules_by g.Id.Ord.cmp g.B.Ord.cmp (g.R.Ask.may c.args.rules.now) in
     let found : lookup (is_at (g.K.Ord.cmp name)) (lists_of c.args.lists.now.entries) ≡ Some ids = rw c.as_slice-in-loop-group.ensures.value (list-found (is_at (g.K.Ord.cmp name)) c.args.lists.now.entries c.list_of-ids.result.now c.list_of-ids.ensures) in
-    let sized : AreSizesOf g.Id.Ord.cmp c.args.rects.now.entries ids sizes = rw (c.as_slice-in-loop-group.ensures.value, c.as_slice-in-loop-group-2.ensures.value, ← c.as_slice.ensures.value) c.in_ok-sizes.ensures in
+    let sized : AreSizesOf g.Id.Ord.cmp c.args.rects.now.entries ids sizes = rw (c.as_slice-in-loop-group.ensures.value, c.as_slice-in-loop-group-2.ensures.value, ← c.as_slice.ensures.value) c.in_ok-list_sizes.ensures in
     let more = AreGroups-more rules g.K.Ord.cmp c.args.rects.now.entries (lists_of c.args.lists.now.entries) c.args.groups.now c.loop-group.group-index c.loop-group-item.result done.0 group c.loop-group-test.true c.loop-group-item.is found sized done.3 in
     let bars : List (g.row.K.Denot × g.row.B.Denot) → g.row.K.Denot → g.row.B.Denot → Bool = bars_by g.K.Ord.cmp g.B.Ord.cmp c.args.exclusions.now in
     let keys = c.in_ok-barred.barred.keys in
@@ -121,6 +122,7 @@ loop-group-preserved g c =
         rw there.1 knows,
         Named-more g.K.Ord.cmp g.B.Ord.cmp g.met.K.Ord.total c.args.groups.now c.loop-group.group-index c.loop-group-item.result done.1 there.0.here c.loop-group-test.true c.loop-group-item.is done.7,
       );
+      room = omega arith;
       back = λ start b. c.place_group.ensures.back start (c.loop-group.invariant.back start b);
     }
 
@@ -130,8 +132,17 @@ returns-clause-packed g c =
     let done = rw e at c.loop-group.invariant.done in
     (done.0, done.1, done.2, done.3, done.4, done.5)
 
-pub returns-in_err-sizes-clause-stopped : goal.returns-in_err-sizes-clause-stopped
-returns-in_err-sizes-clause-stopped g c =
+pub returns-in_err-reserve-clause-stopped : goal.returns-in_err-reserve-clause-stopped
+returns-in_err-reserve-clause-stopped g c =
+    let rules = rules_by g.Id.Ord.cmp g.B.Ord.cmp (g.R.Ask.may c.args.rules.now) in
+    let bars : List (g.row.K.Denot × g.row.B.Denot) → g.row.K.Denot → g.row.B.Denot → Bool = bars_by g.K.Ord.cmp g.B.Ord.cmp c.args.exclusions.now in
+    let start = at_start (bins_of c.args.bins.now.entries) in
+    OnErr-given _
+    (adds-placed rules g.met.B.Ord.total bars g.K.Ord.cmp c.args.rects.now.entries (lists_of c.args.lists.now.entries) c.args.groups.now 0 (map (λ o. o.1) c.args.order.now) [] start [] start 0
+    c.args.progress.now.tests _ c.requires.distinct_bins (record { each = tt }) (refl, refl, refl) (omega arith))
+
+pub returns-in_err-list_sizes-clause-stopped : goal.returns-in_err-list_sizes-clause-stopped
+returns-in_err-list_sizes-clause-stopped g c =
     let done = c.loop-group.invariant.done in
     let rules = rules_by g.Id.Ord.cmp g.B.Ord.cmp (g.R.Ask.may c.args.rules.now) in
     let bars : List (g.row.K.Denot × g.row.B.Denot) → g.row.K.Denot → g.row.B.Denot → Bool = bars_by g.K.Ord.cmp g.B.Ord.cmp c.args.exclusions.now in
@@ -157,12 +168,15 @@ returns-in_err-place_group-clause-stopped g c =
     let name = c.loop-group-item.result.1.now in
     let rules = rules_by g.Id.Ord.cmp g.B.Ord.cmp (g.R.Ask.may c.args.rules.now) in
     let found : lookup (is_at (g.K.Ord.cmp name)) (lists_of c.args.lists.now.entries) ≡ Some ids = rw c.as_slice-in-loop-group.ensures.value (list-found (is_at (g.K.Ord.cmp name)) c.args.lists.now.entries c.list_of-ids.result.now c.list_of-ids.ensures) in
-    let sized : AreSizesOf g.Id.Ord.cmp c.args.rects.now.entries ids sizes = rw (c.as_slice-in-loop-group.ensures.value, c.as_slice-in-loop-group-2.ensures.value, ← c.as_slice.ensures.value) c.in_ok-sizes.ensures in
+    let sized : AreSizesOf g.Id.Ord.cmp c.args.rects.now.entries ids sizes = rw (c.as_slice-in-loop-group.ensures.value, c.as_slice-in-loop-group-2.ensures.value, ← c.as_slice.ensures.value) c.in_ok-list_sizes.ensures in
     let more = AreGroups-more rules g.K.Ord.cmp c.args.rects.now.entries (lists_of c.args.lists.now.entries) c.args.groups.now c.loop-group.group-index c.loop-group-item.result done.0 group c.loop-group-test.true c.loop-group-item.is found sized done.3 in
     let bars : List (g.row.K.Denot × g.row.B.Denot) → g.row.K.Denot → g.row.B.Denot → Bool = bars_by g.K.Ord.cmp g.B.Ord.cmp c.args.exclusions.now in
     OnErr-given _
     (adds-more rules g.met.B.Ord.total bars g.K.Ord.cmp c.args.rects.now.entries (lists_of c.args.lists.now.entries) c.args.groups.now (c.loop-group.group-index + 1) (map (λ o. o.1) c.args.order.now) done.0 (name, group) (at_start (bins_of c.args.bins.now.entries)) _
     (record { bins = bins_of c.loop-group.bins.entries; homes = done.1 }) done.2 c.args.progress.now.tests c.loop-group.progress.tests _ c.requires.distinct_bins more done.4 done.5 c.in_err-place_group.ensures.stopped)
+
+pub returns-in_err-place_group-clause-back : goal.returns-in_err-place_group-clause-back
+returns-in_err-place_group-clause-back g c = λ start b. c.place_group.ensures.back start (c.loop-group.invariant.back start b)
 
 pub returns-in-None-clause-back : goal.returns-in-None-clause-back
 returns-in-None-clause-back g c = λ start b. c.place_group.ensures.back start (c.loop-group.invariant.back start b)
@@ -176,7 +190,7 @@ returns-in_err-insert-in-Some-clause-stopped g c =
     let name = c.loop-group-item.result.1.now in
     let rules = rules_by g.Id.Ord.cmp g.B.Ord.cmp (g.R.Ask.may c.args.rules.now) in
     let found : lookup (is_at (g.K.Ord.cmp name)) (lists_of c.args.lists.now.entries) ≡ Some ids = rw c.as_slice-in-loop-group.ensures.value (list-found (is_at (g.K.Ord.cmp name)) c.args.lists.now.entries c.list_of-ids.result.now c.list_of-ids.ensures) in
-    let sized : AreSizesOf g.Id.Ord.cmp c.args.rects.now.entries ids sizes = rw (c.as_slice-in-loop-group.ensures.value, c.as_slice-in-loop-group-2.ensures.value, ← c.as_slice.ensures.value) c.in_ok-sizes.ensures in
+    let sized : AreSizesOf g.Id.Ord.cmp c.args.rects.now.entries ids sizes = rw (c.as_slice-in-loop-group.ensures.value, c.as_slice-in-loop-group-2.ensures.value, ← c.as_slice.ensures.value) c.in_ok-list_sizes.ensures in
     let more = AreGroups-more rules g.K.Ord.cmp c.args.rects.now.entries (lists_of c.args.lists.now.entries) c.args.groups.now c.loop-group.group-index c.loop-group-item.result done.0 group c.loop-group-test.true c.loop-group-item.is found sized done.3 in
     let bars : List (g.row.K.Denot × g.row.B.Denot) → g.row.K.Denot → g.row.B.Denot → Bool = bars_by g.K.Ord.cmp g.B.Ord.cmp c.args.exclusions.now in
     let placed = rw c.in-Some.is at c.in_ok-place_group.ensures.placed in

@@ -1,4 +1,4 @@
-use Rattle.std.proofs.Common.{◌≡◌, ◌+◌, ℕ, List, take}
+use Rattle.std.proofs.Common.{◌≡◌, ◌≤◌, ◌+◌, ℕ, List, take, length, vec_len, vec_capacity}
 use Rattle.std.specs.Prelude.{map}
 use Rattle.rectangle_pack.specs.Bins.{Bin}
 use Rattle.rectangle_pack.specs.Groups.{lists_of}
@@ -17,5 +17,6 @@ invariant-loop-group g l = record {
       × (l.progress.tests ≡ saturated (l.fn.progress.tests + count))
       × Knows g.K.Ord.cmp g.B.Ord.cmp g.met.K.Ord.total l.exclusions at l.homes.entries
       × Named g.K.Ord.cmp g.B.Ord.cmp g.met.K.Ord.total (take l.group-index l.groups) at;
+  room : vec_len l.progress.journal + length l.groups ≤ vec_capacity l.progress.journal + l.group-index;
   back : (start : List (g.row.B.Denot × Bin)) → GoesBack g.B.Ord.cmp l.fn.bins.entries l.fn.progress.journal.items start → GoesBack g.B.Ord.cmp l.bins.entries l.progress.journal.items start;
 }

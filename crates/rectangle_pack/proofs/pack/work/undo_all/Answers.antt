@@ -17,7 +17,7 @@ loop-done-preserved g c =
     let u = GoesBack-popped cmp now _ c.pop.new.self.items e start c.in-Some.ensures.items b in
     let same : u.held ≡ held = cc in
     let more : IsMore (before_trial e u.held) w = rw same (record { bin = c.undo_notes.ensures.bin; room = c.undo_notes.ensures.room }) in
-    rw h.0 (GoesBack-more cmp _ _ _ start (IsRoomier-set (is_at (cmp e.bin)) now now (before_trial e u.held) w (IsRoomier-same now) more) u.back) in
+    rw h.0 (GoesBack-more cmp _ _ _ start (IsRoomier-set (is_at (cmp e.bin.now)) now now (before_trial e u.held) w (IsRoomier-same now) more) u.back) in
     let some = c.loop-done.invariant.some in
     record {
       some = (some.0, step some.0 some.1);

@@ -6,7 +6,7 @@ use Rattle.std.specs.Map.Iter.{deref_pair}
 use Rattle.std.proofs.lemmas.List.{map_push}
 use Rattle.std.proofs.lemmas.Map.Iter.{iter_end, rest_so_far, rest_more}
 use Rattle.rectangle_pack.proofs.NumberingLemmas.{entries_in, entries_in-cons, entries_in-append}
-use Rattle.rectangle_pack.proofs.session.work.number_after.Goals as goal
+use Rattle.rectangle_pack.proofs.lists.number_after.Goals as goal
 
 pub loop-list-preserved : goal.loop-list-preserved
 loop-list-preserved g c =
