@@ -232,11 +232,10 @@ impl BinSection {
     pub(crate) fn holds(&self, incoming: &RectToInsert) -> bool
         ensures { IsTrue result ↔ Holds self.now incoming.now }
     {
-        // One branch for the three axes, as a search asks this of every section.
+        // One branch for width and height, as a search asks this of every section.
         let wider = incoming.width().saturating_sub(self.whd.width());
         let taller = incoming.height().saturating_sub(self.whd.height());
-        let deeper = incoming.depth().saturating_sub(self.whd.depth());
-        u64::from(wider) + u64::from(taller) + u64::from(deeper) == 0
+        u64::from(wider) + u64::from(taller) == 0 && incoming.depth() <= self.whd.depth()
     }
 
     // Whether none of the section's sizes is 0.
