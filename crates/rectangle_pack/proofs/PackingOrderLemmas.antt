@@ -29,7 +29,7 @@ use Rattle.rectangle_pack.specs.private.Orders.{entries_at}
 use Rattle.std.proofs.Common.{cond, true, false, Bool}
 use Rattle.std.specs.Prelude.{IsSome}
 use Rattle.std.specs.declared.cmp.Ordering.TheVariants.{Less, Equal, Greater}
-use Rattle.std.specs.Ordering.{ordering_reverse}
+use Rattle.std.specs.Ordering.{is_lt, ordering_then, ordering_reverse}
 use Rattle.std.specs.Cmp.{IsTotalOrder}
 use Rattle.std.specs.Map.{lookup}
 use Rattle.std.specs.BTreeMap.{is_at}
@@ -58,6 +58,12 @@ IsSorted-map {A} R f (x ∷ xs) h = λ k d low up.
     let long : k + 1 < length (x ∷ xs) = simp length-map at up in
     let here : k < length (x ∷ xs) = omega arith in
     rw (get_or-map f (x ∷ xs) (k + 1) x d long, get_or-map f (x ∷ xs) k x d here) (h k x low long)
+
+-- what is not less by two tests, one after the other, is not less by the first
+pub not_less-then : (a b : Ordering) → is_lt (ordering_then a b) ≡ false → is_lt a ≡ false
+not_less-then Less b h = h
+not_less-then Equal b h = refl
+not_less-then Greater b h = refl
 
 -- what holds of each list holds of each vector's items
 pub All-lists_of : {K X A : Type 0} (P : List X → Type 0) (es : List (K × Vec X A)) → All P (values_of (lists_of es)) → All (λ e. P e.1.items) es
@@ -111,11 +117,20 @@ found-zip {K} {X} {Y} {cmp} o name P same (e ∷ es) (y ∷ ys) h =
     (rw (o.antisymm (name y) e.0, same e y h.0) refl)
     (All-weaker (λ (z : Y). IsSome (lookup (is_at (cmp (name z))) es)) (λ (z : Y). IsSome (lookup (is_at (cmp (name z))) (e ∷ es))) (λ z there. IsSome-cons (is_at (cmp (name z)) e.0) e.1 (lookup (is_at (cmp (name z))) es) there) ys (found-zip o name P same es ys h.1))
 
--- each name of the order has a list
-pub listed-zip : {K X A : Type 0} {cmp : K → K → Ordering} → IsTotalOrder cmp → (P : K × List X → Reverse ℕ × Bor K → Type 0) (es : List (K × Vec X A)) (ys : List (Reverse ℕ × Bor K)) → AllZip (λ e y. (y.1.now ≡ e.0) × P e y) (lists_of es) ys → All (λ y. IsSome (lookup (is_at (cmp y.1.now)) es)) ys
-listed-zip {K} {X} {A} {cmp} o P es ys h =
-    All-weaker (λ (y : Reverse ℕ × Bor K). IsSome (lookup (is_at (cmp y.1.now)) (lists_of es))) (λ (y : Reverse ℕ × Bor K). IsSome (lookup (is_at (cmp y.1.now)) es)) (λ y there. sym (ap is_some (lookup-lists (is_at (cmp y.1.now)) es) ∙ is_some-option_map (λ (v : Vec X A). v.items) (lookup (is_at (cmp y.1.now)) es)) ∙ there) ys
-    (found-zip o (λ (y : Reverse ℕ × Bor K). y.1.now) _ (λ e y r. rw r.0 (cmp-self o e.0)) (lists_of es) ys h)
+-- what holds of each of one list holds of each of another, where it goes over from one to the other
+All-zip : {A B : Type 0} {R : A → B → Type 0} (P : A → Type 0) (Q : B → Type 0) → ((a : A) (b : B) → R a b → P a → Q b) → (xs : List A) (ys : List B) → AllZip R xs ys → All P xs → All Q ys
+All-zip P Q over [] [] h all = All-nil _
+All-zip P Q over [] (b ∷ ys) h all = absurd h
+All-zip P Q over (a ∷ xs) [] h all = All-nil _
+All-zip P Q over (a ∷ xs) (b ∷ ys) h all = All-cons Q b ys (over a b h.0 (All-head P a xs all)) (All-zip P Q over xs ys h.1 (All-tail P a xs all))
+
+-- each entry of the order has the list of its name
+pub listed-zip : {K X A : Type 0} {cmp : K → K → Ordering} → IsTotalOrder cmp → (m : BTreeMap K (Vec X A)) → IsOrdered cmp m → (ys : List (Reverse ℕ × Bor K × Bor (Vec X A)))
+    → AllZip (λ e y. (y.1.now ≡ e.0) × (y.2.now ≡ e.1)) m.entries ys → All (λ y. lookup (is_at (cmp y.1.now)) m.entries ≡ Some y.2.now) ys
+listed-zip {K} {X} {A} {cmp} o m ordered ys h =
+    All-zip (λ (e : K × Vec X A). lookup (is_at (cmp e.0)) m.entries ≡ Some e.1) (λ (y : Reverse ℕ × Bor K × Bor (Vec X A)). lookup (is_at (cmp y.1.now)) m.entries ≡ Some y.2.now)
+    (λ e y same found. rw (same.0, same.1) found) m.entries ys h
+    (λ i d within. let e = get_or m.entries i d in btree_map_get_place o m i e.0 e.1 ordered (slice_get-get_or m.entries i d within))
 
 -- a list that a key has, by the vector that it has
 pub list-found : {K X A : Type 0} (test : K → Bool) (es : List (K × Vec X A)) (v : Vec X A) → lookup test es ≡ Some v → lookup test (lists_of es) ≡ Some v.items

@@ -1,5 +1,5 @@
 //! The orders in which a packing takes groups and bins.
-ghost use Rattle.std.specs.Prelude.{◌≡◌, ◌<◌, IsTrue, IfOk, OnOk, OnErr, IsSome, All, sum, map, length};
+ghost use Rattle.std.specs.Prelude.{◌≡◌, ◌<◌, IsTrue, IfOk, OnOk, OnErr, IsSome, Some, All, sum, map, length};
 ghost use Rattle.std.specs.BTreeMap.{get};
 ghost use Rattle.std.specs.Ordering.{eq_by_cmp};
 ghost use Rattle.std.specs.List.{sum_by, IsDistinct};
@@ -95,8 +95,11 @@ where
     bin_order(alloc, target_bins, rules)
 }
 
+// A group in an order: its key, its name and its ids.
+pub(crate) type Turn<'a, K, Id, A> = (Reverse<u128>, &'a K, &'a Vec<Id, A>);
+
 // By falling key, and then by what the references point to.
-fn sort_falling<K: Ord, A: Allocator>(order: &mut Vec<(Reverse<u128>, &K), A>)
+fn sort_falling<K: Ord, Id: Ord, A: Allocator>(order: &mut Vec<Turn<'_, K, Id, A>, A>)
     ensures permutation { IsPermutation (keys_of_order order.old.items)
         (keys_of_order order.new.items) }
     ensures same { IsPermutation order.old.items order.new.items }
@@ -111,7 +114,7 @@ pub(crate) fn group_order<'a, Id, K, R, A>(
     rects: &BTreeMap<Id, RectToInsert, A>,
     lists: &'a BTreeMap<K, Vec<Id, A>, A>,
     rules: &R,
-) -> Result<Vec<(Reverse<u128>, &'a K), A>, AllocError>
+) -> Result<Vec<Turn<'a, K, Id, A>, A>, AllocError>
 where
     Id: Ord,
     K: Ord,
@@ -123,7 +126,9 @@ where
         (λ v.
         IsGroupOrder (R.may rules.now).rate K.cmp Id.cmp rects.now.entries
         (lists_of lists.now.entries) (keys_of_order v.items)) }
-    ensures listed { IfOk result (λ v. All (λ o. IsSome (get K.cmp lists.now o.1.now)) v.items) }
+    ensures listed { IfOk result
+        (λ v. All (λ o. get K.cmp lists.now o.1.now ≡ Some o.2.now) v.items) }
+    ensures as_many { IfOk result (λ v. length v.items ≡ length lists.now.entries) }
     ensures distinct { IfOk result
         (λ v. IsDistinct (eq_by_cmp K.cmp) (map (λ o. o.1.now) v.items)) }
     ensures counted { IfOk result
@@ -133,7 +138,8 @@ where
 {
     let mut order = Vec::with_capacity(alloc, lists.len())?;
     for (group, ids) in lists {
-        order.push((Reverse(group_key(ids.as_slice(), rects, rules)), group))?;
+        let key = group_key(ids.as_slice(), rects, rules);
+        order.push((Reverse(key), group, ids))?;
     }
     sort_falling(&mut order);
     Ok(order)

@@ -7,7 +7,7 @@ use Rattle.std.specs.Map.{lookup}
 use Rattle.std.specs.BTreeMap.{is_at}
 
 -- an order of references, as keys and what they point to
-abbrev pub keys_of_order : {K : Type 0} → List (Reverse ℕ × Bor K) → List (ℕ × K)
+abbrev pub keys_of_order : {K X : Type 0} → List (Reverse ℕ × Bor K × X) → List (ℕ × K)
 keys_of_order order = map (λ o. (o.0.0, o.1.now)) order
 
 -- how many entries the list has that an order names

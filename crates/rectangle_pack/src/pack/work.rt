@@ -25,7 +25,7 @@ use crate::exclusions::Exclusions;
 use crate::fit_tests::FitTests;
 use crate::grouped_rects_to_place::{Group, GroupedRectsToPlace};
 use crate::lists::number_after;
-use crate::orders::group_order;
+use crate::orders::{Turn, group_order};
 use crate::pack::answer::Placement;
 use crate::packed_location::PackedLocation;
 use crate::rect_to_insert::RectToInsert;
@@ -232,7 +232,7 @@ fn place_groups<'a, 'b, Id, B, K, R, A>(
     rects: &BTreeMap<Id, RectToInsert, A>,
     lists: &BTreeMap<K, Vec<Id, A>, A>,
     exclusions: &'a Exclusions<K, A>,
-    groups: &[(Reverse<u128>, &'a K)],
+    groups: &[Turn<'a, K, Id, A>],
     order: &'b [(u128, B)],
     bins: &mut BTreeMap<B, TargetBin<A>, A>,
     rules: &R,
@@ -247,7 +247,8 @@ where
     requires ids { (a b : Id) → Id.is_clone a b → IsTrue (Id.eq a b) }
     requires bin_ids { (a b : B) → B.is_clone a b → IsTrue (B.eq a b) }
     requires callable { R.can_ask rules.now }
-    requires listed { All (λ o. IsSome (get K.cmp lists.now o.1.now)) groups.now }
+    requires listed { All (λ o. get K.cmp lists.now o.1.now ≡ Some o.2.now) groups.now }
+    requires as_many { length groups.now ≡ length lists.now.entries }
     requires sized { MembersHaveSizes Id.cmp rects.now.entries (lists_of lists.now.entries) }
     requires found { All (λ o. IsSome (get B.cmp bins.old o.1)) order.now }
     requires distinct { IsDistinct (eq_by_cmp K.cmp) (map (λ o. o.1.now) groups.now) }
@@ -282,12 +283,11 @@ where
     // For the proof alone: what is read is known to be of 128 bits.
     let _counted = progress.tests.count();
     let alloc = *progress.journal.allocator();
-    progress.journal.reserve(groups.len())?;
+    progress.journal.reserve(lists.len())?;
     let mut homes = BTreeMap::new(alloc);
     let mut sizes = Vec::new(alloc);
     let mut locations = Vec::new(alloc);
-    for (_, group) in groups {
-        let ids = list_of(lists, *group);
+    for (_, group, ids) in groups {
         list_sizes(&mut sizes, ids.as_slice(), rects)?;
         let partners = exclusions.partners(*group);
         let barred = barred_bins(alloc, partners, &homes)?;
@@ -310,17 +310,6 @@ where
         }
     }
     Ok(true)
-}
-
-// The list of a group that is there.
-fn list_of<'a, K: Ord, X, A: Allocator>(
-    lists: &'a BTreeMap<K, Vec<X, A>, A>,
-    key: &K,
-) -> &'a Vec<X, A>
-    requires { IsSome (get K.cmp lists.now key.now) }
-    ensures { get K.cmp lists.now key.now ≡ Some result.now }
-{
-    lists.get(key).unwrap()
 }
 
 // One packing, that can be undone whole; whether each group was placed.

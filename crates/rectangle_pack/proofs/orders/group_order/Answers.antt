@@ -1,5 +1,7 @@
 use Rattle.std.proofs.Common.{◌≡◌, ℕ, ◌<◌, length, refl, ◌∙◌}
-use Rattle.std.specs.Prelude.{map}
+use Rattle.std.specs.Prelude.{map, Some}
+use Rattle.std.specs.declared.vec.Vec.{Vec}
+use Rattle.std.proofs.lemmas.List.{map_push}
 use Rattle.std.specs.Map.Iter.{deref_pair}
 use Rattle.std.specs.Map.{values_of}
 use Rattle.std.proofs.lemmas.List.Elements.{All-weaker}
@@ -15,19 +17,20 @@ use Rattle.std.specs.BTreeMap.{is_at}
 use Rattle.std.specs.Prelude.{IsSome}
 use Rattle.std.specs.Borrow.{Bor}
 use Rattle.std.specs.declared.cmp.Reverse.{Reverse}
-use Rattle.std.proofs.lemmas.List.Sorted.{All-permutation, sum_by-IsPermutation}
+use Rattle.std.proofs.lemmas.List.Sorted.{All-permutation, sum_by-IsPermutation, length_permutation}
 use Rattle.std.proofs.Common.{sym, subst, List}
 use Rattle.std.specs.Ordering.{eq_by_cmp}
 use Rattle.std.specs.List.{IsDistinct}
 use Rattle.std.specs.Map.{keys_of}
 use Rattle.std.proofs.lemmas.List.Sorted.{IsPermutation-map}
 use Rattle.std.proofs.lemmas.Map.Keys.{IsDistinct-from_sorted, IsDistinct-IsPermutation}
+use Rattle.rectangle_pack.proofs.OneOrderLemmas.{length-zip}
 use Rattle.rectangle_pack.proofs.ListsLemmas.{keys-lists}
 use Rattle.rectangle_pack.proofs.MapsLemmas.{is_at-back}
 use Rattle.rectangle_pack.proofs.orders.group_order.Goals as goal
 
-pub group_key-requires-clause-known : goal.group_key-requires-clause-known
-group_key-requires-clause-known g c =
+pub group_key-key-requires-clause-known : goal.group_key-key-requires-clause-known
+group_key-key-requires-clause-known g c =
     let cmp = g.Id.Ord.cmp in
     let sizes = c.args.rects.now.entries in
     let entries = c.args.lists.now.entries in
@@ -36,16 +39,21 @@ group_key-requires-clause-known g c =
     rw c.as_slice.ensures.value turn
 
 pub loop-group-preserved : goal.loop-group-preserved
-loop-group-preserved g c =
-    rw (lists_of-turn c.loop-group.yielded (c.in-Some.group, c.in-Some.ids), c.in_ok-push.ensures.items)
-    (AllZip-more _ _ _ _ _ c.loop-group.invariant (refl, rw (← c.as_slice.ensures.value) c.group_key.ensures))
+loop-group-preserved g c = record {
+  keyed =
+      rw (lists_of-turn c.loop-group.yielded (c.in-Some.group, c.in-Some.ids), c.in_ok-push.ensures.items)
+      (AllZip-more _ _ _ _ _ c.loop-group.invariant.keyed (refl, rw (← c.as_slice.ensures.value) c.group_key-key.ensures));
+  lent =
+      rw (map_push deref_pair c.loop-group.yielded (c.in-Some.group, c.in-Some.ids), c.in_ok-push.ensures.items)
+      (AllZip-more _ (map deref_pair c.loop-group.yielded) c.loop-group.order.items (deref_pair (c.in-Some.group, c.in-Some.ids)) (_, c.in-Some.group, c.in-Some.ids) c.loop-group.invariant.lent (refl, refl));
+}
 
 pub returns-clause-order : goal.returns-clause-order
 returns-clause-order g c =
     let e : map deref_pair c.loop-group.yielded ≡ c.args.lists.now.entries = (iter_end deref_pair _ _ _ _ _ _ c.into_iter-group-iterator.ensures.into_iter_gives.0 c.loop-group.yielded_by c.in-None.is c.next.ensures.steps).0 in
     record {
       unsorted = keys_of_order c.loop-group.order.items;
-      each = AllZip-map_right _ _ (lists_of c.args.lists.now.entries) c.loop-group.order.items (rw (← e) c.loop-group.invariant);
+      each = AllZip-map_right _ _ (lists_of c.args.lists.now.entries) c.loop-group.order.items (rw (← e) c.loop-group.invariant.keyed);
       permutation = c.sort_falling.ensures.permutation;
       falling = c.sort_falling.ensures.falling;
     }
@@ -53,15 +61,20 @@ returns-clause-order g c =
 pub returns-clause-listed : goal.returns-clause-listed
 returns-clause-listed g c =
     let e : map deref_pair c.loop-group.yielded ≡ c.args.lists.now.entries = (iter_end deref_pair _ _ _ _ _ _ c.into_iter-group-iterator.ensures.into_iter_gives.0 c.loop-group.yielded_by c.in-None.is c.next.ensures.steps).0 in
-    All-permutation (λ (o : Reverse ℕ × Bor g.row.K.Denot). IsSome (lookup (is_at (g.K.Ord.cmp o.1.now)) c.args.lists.now.entries)) c.loop-group.order.items _ c.sort_falling.ensures.same
-    (listed-zip g.met.K.Ord.total _ c.args.lists.now.entries c.loop-group.order.items (rw e at c.loop-group.invariant))
+    All-permutation (λ (o : Reverse ℕ × Bor g.row.K.Denot × Bor (Vec g.row.Id.Denot g.row.A.Denot)). lookup (is_at (g.K.Ord.cmp o.1.now)) c.args.lists.now.entries ≡ Some o.2.now) c.loop-group.order.items _ c.sort_falling.ensures.same
+    (listed-zip g.met.K.Ord.total c.args.lists.now c.len.ensures.ordered c.loop-group.order.items (rw e at c.loop-group.invariant.lent))
+
+pub returns-clause-as_many : goal.returns-clause-as_many
+returns-clause-as_many g c =
+    let e : map deref_pair c.loop-group.yielded ≡ c.args.lists.now.entries = (iter_end deref_pair _ _ _ _ _ _ c.into_iter-group-iterator.ensures.into_iter_gives.0 c.loop-group.yielded_by c.in-None.is c.next.ensures.steps).0 in
+    length_permutation c.loop-group.order.items c.sort_falling.new.order.items c.sort_falling.ensures.same ∙ sym (length-zip _ c.args.lists.now.entries c.loop-group.order.items (rw e at c.loop-group.invariant.lent))
 
 pub returns-clause-counted : goal.returns-clause-counted
 returns-clause-counted g c =
     let e : map deref_pair c.loop-group.yielded ≡ c.args.lists.now.entries = (iter_end deref_pair _ _ _ _ _ _ c.into_iter-group-iterator.ensures.into_iter_gives.0 c.loop-group.yielded_by c.in-None.is c.next.ensures.steps).0 in
     let lists = lists_of c.args.lists.now.entries in
     let unsorted = keys_of_order c.loop-group.order.items in
-    let each : AllZip (λ e o. (o.1 ≡ e.0) × IsGroupKey (g.R.Ask.may c.args.rules.now).rate g.Id.Ord.cmp c.args.rects.now.entries e.1 o.0) lists unsorted = AllZip-map_right _ _ lists c.loop-group.order.items (rw (← e) c.loop-group.invariant) in
+    let each : AllZip (λ e o. (o.1 ≡ e.0) × IsGroupKey (g.R.Ask.may c.args.rules.now).rate g.Id.Ord.cmp c.args.rects.now.entries e.1 o.0) lists unsorted = AllZip-map_right _ _ lists c.loop-group.order.items (rw (← e) c.loop-group.invariant.keyed) in
     sum_by-IsPermutation (entries_at g.K.Ord.cmp lists) _ _ c.sort_falling.ensures.permutation
     ∙ counted-zip g.K.Ord.cmp _ lists c.args.lists.now.entries unsorted each (lookup-each g.met.K.Ord.total c.args.lists.now c.len.ensures.ordered)
 
@@ -69,8 +82,8 @@ pub returns-clause-distinct : goal.returns-clause-distinct
 returns-clause-distinct g c =
     let e : map deref_pair c.loop-group.yielded ≡ c.args.lists.now.entries = (iter_end deref_pair _ _ _ _ _ _ c.into_iter-group-iterator.ensures.into_iter_gives.0 c.loop-group.yielded_by c.in-None.is c.next.ensures.steps).0 in
     let cmp = g.K.Ord.cmp in
-    let name : Reverse ℕ × Bor g.row.K.Denot → g.row.K.Denot = λ o. o.1.now in
-    let names : map name c.loop-group.order.items ≡ keys_of c.args.lists.now.entries = names-zip name _ (lists_of c.args.lists.now.entries) c.loop-group.order.items (rw e at c.loop-group.invariant) ∙ keys-lists c.args.lists.now.entries in
+    let name : Reverse ℕ × Bor g.row.K.Denot × Bor (Vec g.row.Id.Denot g.row.A.Denot) → g.row.K.Denot = λ o. o.1.now in
+    let names : map name c.loop-group.order.items ≡ keys_of c.args.lists.now.entries = names-zip name _ (lists_of c.args.lists.now.entries) c.loop-group.order.items (rw e at c.loop-group.invariant.keyed) ∙ keys-lists c.args.lists.now.entries in
     IsDistinct-IsPermutation (eq_by_cmp cmp) (λ x y. is_at-back g.met.K.Ord.total x y) (map name c.loop-group.order.items) _
     (IsPermutation-map name _ _ c.sort_falling.ensures.same)
     (subst (λ (ks : List g.row.K.Denot). IsDistinct (eq_by_cmp cmp) ks) (sym names) (IsDistinct-from_sorted cmp (keys_of c.args.lists.now.entries) c.len.ensures.ordered))

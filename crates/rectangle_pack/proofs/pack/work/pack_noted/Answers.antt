@@ -45,6 +45,9 @@ returns-in_err-reserve-clause-no_groups g c = λ none. absurd (lists-some c.grou
 pub place_groups-requires-clause-listed : goal.place_groups-requires-clause-listed
 place_groups-requires-clause-listed g c = rw c.as_slice.ensures.value c.in_ok-groups.ensures.listed
 
+pub place_groups-requires-clause-as_many : goal.place_groups-requires-clause-as_many
+place_groups-requires-clause-as_many g c = rw c.as_slice.ensures.value c.in_ok-groups.ensures.as_many
+
 pub place_groups-requires-clause-sized : goal.place_groups-requires-clause-sized
 place_groups-requires-clause-sized g c = rw (c.rects-rects.ensures.entries, c.groups-lists.ensures.entries) c.groups-lists.ensures.members
 

@@ -28,21 +28,18 @@ use Rattle.rectangle_pack.proofs.pack.work.place_groups.Goals.{then-not-is_empty
 pub loop-group-init : goal.loop-group-init
 loop-group-init g c = record {
   done = ([], [], 0, record { each = tt }, (c.requires.no_placements, refl, refl), omega arith, Knows-none g.K.Ord.cmp g.B.Ord.cmp g.met.K.Ord.total c.args.exclusions.now c.new-homes.result.entries c.new-homes.ensures.empty, λ q h. All-nil _);
-  room = omega (arith, c.in_ok-reserve.ensures.ok);
+  room = omega (arith, c.in_ok-reserve.ensures.ok, c.requires.as_many);
   back = λ start b. rw c.in_ok-reserve.ensures.items b;
 }
 
-pub list_of-ids-requires : goal.list_of-ids-requires
-list_of-ids-requires g c = rw c.loop-group-item.is (c.requires.listed c.loop-group.group-index c.loop-group-item.result c.loop-group-test.true)
-
 pub list_sizes-requires : goal.list_sizes-requires
 list_sizes-requires g c =
-    rw c.as_slice.ensures.value (HaveSizes-found g.Id.Ord.cmp c.args.rects.now.entries (lists_of c.args.lists.now.entries) (is_at (g.K.Ord.cmp c.loop-group-item.result.1.now)) c.list_of-ids.result.now.items c.requires.sized
-    (list-found (is_at (g.K.Ord.cmp c.loop-group-item.result.1.now)) c.args.lists.now.entries c.list_of-ids.result.now c.list_of-ids.ensures))
+    rw c.as_slice.ensures.value (HaveSizes-found g.Id.Ord.cmp c.args.rects.now.entries (lists_of c.args.lists.now.entries) (is_at (g.K.Ord.cmp c.loop-group-item.result.1.now)) c.loop-group-item.result.2.now.items c.requires.sized
+    (list-found (is_at (g.K.Ord.cmp c.loop-group-item.result.1.now)) c.args.lists.now.entries c.loop-group-item.result.2.now (rw c.loop-group-item.is (c.requires.listed c.loop-group.group-index c.loop-group-item.result c.loop-group-test.true))))
 
 pub place_group-requires-clause-lengths : goal.place_group-requires-clause-lengths
 place_group-requires-clause-lengths g c =
-    rw (c.as_slice-in-loop-group.ensures.value, c.as_slice-in-loop-group-2.ensures.value) (AreSizesOf-length g.Id.Ord.cmp c.args.rects.now.entries c.list_of-ids.result.now.items c.list_sizes.new.sizes.items (rw (← c.as_slice.ensures.value) c.in_ok-list_sizes.ensures))
+    rw (c.as_slice-in-loop-group.ensures.value, c.as_slice-in-loop-group-2.ensures.value) (AreSizesOf-length g.Id.Ord.cmp c.args.rects.now.entries c.loop-group-item.result.2.now.items c.list_sizes.new.sizes.items (rw (← c.as_slice.ensures.value) c.in_ok-list_sizes.ensures))
 
 pub place_group-requires-clause-found : goal.place_group-requires-clause-found
 place_group-requires-clause-found g c k d within =
@@ -62,7 +59,7 @@ returns-in-None-clause-packed g c =
     let group : Members g.row.Id.Denot = record { ids = ids; sizes = sizes } in
     let name = c.loop-group-item.result.1.now in
     let rules = rules_by g.Id.Ord.cmp g.B.Ord.cmp (g.R.Ask.may c.args.rules.now) in
-    let found : lookup (is_at (g.K.Ord.cmp name)) (lists_of c.args.lists.now.entries) ≡ Some ids = rw c.as_slice-in-loop-group.ensures.value (list-found (is_at (g.K.Ord.cmp name)) c.args.lists.now.entries c.list_of-ids.result.now c.list_of-ids.ensures) in
+    let found : lookup (is_at (g.K.Ord.cmp name)) (lists_of c.args.lists.now.entries) ≡ Some ids = rw c.as_slice-in-loop-group.ensures.value (list-found (is_at (g.K.Ord.cmp name)) c.args.lists.now.entries c.loop-group-item.result.2.now (rw c.loop-group-item.is (c.requires.listed c.loop-group.group-index c.loop-group-item.result c.loop-group-test.true))) in
     let sized : AreSizesOf g.Id.Ord.cmp c.args.rects.now.entries ids sizes = rw (c.as_slice-in-loop-group.ensures.value, c.as_slice-in-loop-group-2.ensures.value, ← c.as_slice.ensures.value) c.in_ok-list_sizes.ensures in
     let more = AreGroups-more rules g.K.Ord.cmp c.args.rects.now.entries (lists_of c.args.lists.now.entries) c.args.groups.now c.loop-group.group-index c.loop-group-item.result done.0 group c.loop-group-test.true c.loop-group-item.is found sized done.3 in
     let bars : List (g.row.K.Denot × g.row.B.Denot) → g.row.K.Denot → g.row.B.Denot → Bool = bars_by g.K.Ord.cmp g.B.Ord.cmp c.args.exclusions.now in
@@ -88,7 +85,7 @@ loop-group-preserved g c =
     let group : Members g.row.Id.Denot = record { ids = ids; sizes = sizes } in
     let name = c.loop-group-item.result.1.now in
     let rules = rules_by g.Id.Ord.cmp g.B.Ord.cmp (g.R.Ask.may c.args.rules.now) in
-    let found : lookup (is_at (g.K.Ord.cmp name)) (lists_of c.args.lists.now.entries) ≡ Some ids = rw c.as_slice-in-loop-group.ensures.value (list-found (is_at (g.K.Ord.cmp name)) c.args.lists.now.entries c.list_of-ids.result.now c.list_of-ids.ensures) in
+    let found : lookup (is_at (g.K.Ord.cmp name)) (lists_of c.args.lists.now.entries) ≡ Some ids = rw c.as_slice-in-loop-group.ensures.value (list-found (is_at (g.K.Ord.cmp name)) c.args.lists.now.entries c.loop-group-item.result.2.now (rw c.loop-group-item.is (c.requires.listed c.loop-group.group-index c.loop-group-item.result c.loop-group-test.true))) in
     let sized : AreSizesOf g.Id.Ord.cmp c.args.rects.now.entries ids sizes = rw (c.as_slice-in-loop-group.ensures.value, c.as_slice-in-loop-group-2.ensures.value, ← c.as_slice.ensures.value) c.in_ok-list_sizes.ensures in
     let more = AreGroups-more rules g.K.Ord.cmp c.args.rects.now.entries (lists_of c.args.lists.now.entries) c.args.groups.now c.loop-group.group-index c.loop-group-item.result done.0 group c.loop-group-test.true c.loop-group-item.is found sized done.3 in
     let bars : List (g.row.K.Denot × g.row.B.Denot) → g.row.K.Denot → g.row.B.Denot → Bool = bars_by g.K.Ord.cmp g.B.Ord.cmp c.args.exclusions.now in
@@ -167,7 +164,7 @@ returns-in_err-place_group-clause-stopped g c =
     let group : Members g.row.Id.Denot = record { ids = ids; sizes = sizes } in
     let name = c.loop-group-item.result.1.now in
     let rules = rules_by g.Id.Ord.cmp g.B.Ord.cmp (g.R.Ask.may c.args.rules.now) in
-    let found : lookup (is_at (g.K.Ord.cmp name)) (lists_of c.args.lists.now.entries) ≡ Some ids = rw c.as_slice-in-loop-group.ensures.value (list-found (is_at (g.K.Ord.cmp name)) c.args.lists.now.entries c.list_of-ids.result.now c.list_of-ids.ensures) in
+    let found : lookup (is_at (g.K.Ord.cmp name)) (lists_of c.args.lists.now.entries) ≡ Some ids = rw c.as_slice-in-loop-group.ensures.value (list-found (is_at (g.K.Ord.cmp name)) c.args.lists.now.entries c.loop-group-item.result.2.now (rw c.loop-group-item.is (c.requires.listed c.loop-group.group-index c.loop-group-item.result c.loop-group-test.true))) in
     let sized : AreSizesOf g.Id.Ord.cmp c.args.rects.now.entries ids sizes = rw (c.as_slice-in-loop-group.ensures.value, c.as_slice-in-loop-group-2.ensures.value, ← c.as_slice.ensures.value) c.in_ok-list_sizes.ensures in
     let more = AreGroups-more rules g.K.Ord.cmp c.args.rects.now.entries (lists_of c.args.lists.now.entries) c.args.groups.now c.loop-group.group-index c.loop-group-item.result done.0 group c.loop-group-test.true c.loop-group-item.is found sized done.3 in
     let bars : List (g.row.K.Denot × g.row.B.Denot) → g.row.K.Denot → g.row.B.Denot → Bool = bars_by g.K.Ord.cmp g.B.Ord.cmp c.args.exclusions.now in
@@ -189,7 +186,7 @@ returns-in_err-insert-in-Some-clause-stopped g c =
     let group : Members g.row.Id.Denot = record { ids = ids; sizes = sizes } in
     let name = c.loop-group-item.result.1.now in
     let rules = rules_by g.Id.Ord.cmp g.B.Ord.cmp (g.R.Ask.may c.args.rules.now) in
-    let found : lookup (is_at (g.K.Ord.cmp name)) (lists_of c.args.lists.now.entries) ≡ Some ids = rw c.as_slice-in-loop-group.ensures.value (list-found (is_at (g.K.Ord.cmp name)) c.args.lists.now.entries c.list_of-ids.result.now c.list_of-ids.ensures) in
+    let found : lookup (is_at (g.K.Ord.cmp name)) (lists_of c.args.lists.now.entries) ≡ Some ids = rw c.as_slice-in-loop-group.ensures.value (list-found (is_at (g.K.Ord.cmp name)) c.args.lists.now.entries c.loop-group-item.result.2.now (rw c.loop-group-item.is (c.requires.listed c.loop-group.group-index c.loop-group-item.result c.loop-group-test.true))) in
     let sized : AreSizesOf g.Id.Ord.cmp c.args.rects.now.entries ids sizes = rw (c.as_slice-in-loop-group.ensures.value, c.as_slice-in-loop-group-2.ensures.value, ← c.as_slice.ensures.value) c.in_ok-list_sizes.ensures in
     let more = AreGroups-more rules g.K.Ord.cmp c.args.rects.now.entries (lists_of c.args.lists.now.entries) c.args.groups.now c.loop-group.group-index c.loop-group-item.result done.0 group c.loop-group-test.true c.loop-group-item.is found sized done.3 in
     let bars : List (g.row.K.Denot × g.row.B.Denot) → g.row.K.Denot → g.row.B.Denot → Bool = bars_by g.K.Ord.cmp g.B.Ord.cmp c.args.exclusions.now in
