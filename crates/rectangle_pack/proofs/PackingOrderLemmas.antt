@@ -10,9 +10,8 @@ use Rattle.std.specs.Map.Iter.{TakesFirst, deref_pair}
 use Rattle.std.specs.Prelude.{Option, Some}
 use Rattle.std.proofs.lemmas.Map.Views.{All-turn}
 use Rattle.std.proofs.lemmas.List.Elements.{All-nil, All-cons, All-head, All-tail}
-use Rattle.std.specs.Option.{is_some, option_map}
+use Rattle.std.specs.Option.{option_map}
 use Rattle.rectangle_pack.proofs.ListsLemmas.{lookup-lists}
-use Rattle.rectangle_pack.proofs.MapsLemmas.{is_some-option_map}
 use Rattle.rectangle_pack.specs.Groups.{lists_of}
 use Rattle.std.specs.declared.cmp.Ordering.{Ordering}
 use Rattle.std.specs.List.Sorted.{IsSorted}

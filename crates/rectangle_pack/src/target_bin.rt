@@ -18,7 +18,7 @@ pub use crate::fit_tests::FitTests;
 use crate::joining::{join_all, join_at};
 use crate::packed_location::PackedLocation;
 use crate::rect_to_insert::RectToInsert;
-use crate::trial::{Note, push_pieces, run_trial, undo};
+use crate::trial::{Note, is_stuck_at_once, push_pieces, run_trial, undo};
 use crate::width_height_depth::WidthHeightDepth;
 use std::alloc::{AllocError, Allocator, Global};
 use std::cmp::Ordering;
@@ -344,7 +344,8 @@ impl<A: Allocator + Copy> TargetBin<A> {
     }
 
     // One trial, with room for its notes and its locations; whether it is done. Then what undoes it
-    // is noted; where it is stuck, both lists stay empty. The list's room is made before a step.
+    // is noted; where it is stuck, both lists stay empty. Room that the list lacks is made where a
+    // step is sure to come.
     pub(crate) fn place_noted<R>(
         &mut self,
         members: &[RectToInsert],
@@ -370,15 +371,16 @@ impl<A: Allocator + Copy> TargetBin<A> {
         ensures no_members { length members.now ≡ 0 → IsOk result }
         ensures sound { IsSound self.old.bin.size self.old.bin.sections }
     {
-        self.available_bin_sections.reserve(members.len() * 2)?;
-        let done = run_trial(
-            &mut self.available_bin_sections,
-            members,
-            rules,
-            tests,
-            notes,
-            locations,
-        );
+        let sections = &mut self.available_bin_sections;
+        let steps = members.len() * 2;
+        if sections.capacity() < sections.len() + steps {
+            if is_stuck_at_once(sections.as_slice(), members) {
+                tests.add(sections.len());
+                return Ok(false);
+            }
+            sections.reserve(steps)?;
+        }
+        let done = run_trial(sections, members, rules, tests, notes, locations);
         Ok(done)
     }
 

@@ -49,6 +49,19 @@ fn newest(sections: &[BinSection], member: &RectToInsert) -> Option<usize>
     None
 }
 
+// Whether no section holds the first member, so that no step comes.
+pub(crate) fn is_stuck_at_once(sections: &[BinSection], members: &[RectToInsert]) -> bool
+    ensures { OnTrue result
+        ((first : Size) × (others : List Size) ×
+        (members.now ≡ first ∷ others) ×
+        All (λ s. ¬ Holds s first) sections.now) }
+{
+    match members.first() {
+        Some(first) => newest(sections, first).is_none(),
+        None => false,
+    }
+}
+
 // The three pieces by falling rate; at equal rates the one listed first stands first.
 fn by_falling_rate(
     right: (u128, BinSection),

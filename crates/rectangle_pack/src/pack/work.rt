@@ -371,7 +371,7 @@ where
     }
     let alloc = *progress.journal.allocator();
     let groups = group_order(alloc, rects, lists, rules)?;
-    let entries = number_after(0, lists).ok_or(AllocError)?;
+    let entries = number_after(0, lists).unwrap_or(u64::MAX);
     progress.placements.reserve(entries as usize)?;
     place_groups(
         rects,

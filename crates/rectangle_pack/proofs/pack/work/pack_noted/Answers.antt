@@ -30,12 +30,6 @@ returns-in_err-groups-clause-stopped g c = OnErr-given _ (counted-none c.args.re
 pub returns-in_err-groups-clause-no_groups : goal.returns-in_err-groups-clause-no_groups
 returns-in_err-groups-clause-no_groups g c = λ none. absurd (lists-some c.groups-lists.result.now.entries c.is_empty.result (search rules) c.if-is_empty.false (c.groups-lists.ensures.entries ∙ none))
 
-pub returns-in_err-entries-clause-stopped : goal.returns-in_err-entries-clause-stopped
-returns-in_err-entries-clause-stopped g c = OnErr-given _ (counted-none c.args.rects_to_place.now (bins_of c.args.target_bins.now.entries) c.args.progress.now.tests (omega arith))
-
-pub returns-in_err-entries-clause-no_groups : goal.returns-in_err-entries-clause-no_groups
-returns-in_err-entries-clause-no_groups g c = λ none. absurd (lists-some c.groups-lists.result.now.entries c.is_empty.result (search rules) c.if-is_empty.false (c.groups-lists.ensures.entries ∙ none))
-
 pub returns-in_err-reserve-clause-stopped : goal.returns-in_err-reserve-clause-stopped
 returns-in_err-reserve-clause-stopped g c = OnErr-given _ (counted-none c.args.rects_to_place.now (bins_of c.args.target_bins.now.entries) c.args.progress.now.tests (omega arith))
 
