@@ -4,22 +4,28 @@ use Rattle.std.specs.Prelude.{All, nat_le, filter, count_by}
 use Rattle.std.proofs.lemmas.Bool.{cases_lt, leb-true, le-leb}
 use Rattle.std.proofs.lemmas.List.Elements.{All-nil, All-cons, filter_passes}
 use Rattle.rectangle_pack.specs.declared.axis.Axis.{Axis}
-use Rattle.rectangle_pack.specs.Boxes.{Cuboid, Cell, is_cell_of, start, end, has_cells}
+use Rattle.rectangle_pack.specs.Boxes.{Cuboid, Cell, IsPartOf, is_cell_of, start, end, has_cells}
 use Rattle.rectangle_pack.specs.Counting.{times_filled, Tiles}
-use Rattle.rectangle_pack.specs.CutTrees.{IsPlaceOf, lower, upper, times_in}
+use Rattle.rectangle_pack.specs.CutTrees.{IsPlaceOf, lower, upper, times_in, IsFromCuts}
 use Rattle.rectangle_pack.specs.CutPlans.{IsUncut, IsOpenPlane, lower_boxes, upper_boxes}
 use Rattle.rectangle_pack.proofs.AxesLemmas.{coordinate, LiesIn, lies_in}
 use Rattle.rectangle_pack.proofs.BoxesLemmas.{has_cells-from}
 use Rattle.rectangle_pack.proofs.CountingLemmas.{count-append}
 use Rattle.rectangle_pack.proofs.CutCoverLemmas.{filled-parts}
-use Rattle.rectangle_pack.proofs.PartsLemmas.{start-upper, end-lower}
+use Rattle.rectangle_pack.proofs.PartsLemmas.{start-upper, end-lower, lower-part, upper-part}
 use Rattle.rectangle_pack.proofs.SameBoxesLemmas.{count-same}
-use Rattle.rectangle_pack.proofs.SplitLemmas.{HaveSameBoxes-split}
+use Rattle.rectangle_pack.proofs.SplitLemmas.{open_planes_split_cuts, HaveSameBoxes-split}
 use Rattle.rectangle_pack.proofs.TimesLemmas.{times_in-append, which_passes, All-times_in}
 
 -- an open plane is at a place of the box
 pub IsPlaceOf-open : {a : Axis} {place : ℕ} {whole : Cuboid} {boxes : List Cuboid} → IsOpenPlane a place whole boxes → IsPlaceOf a place whole
 IsPlaceOf-open h = record { from = omega (arith, h.after_start); to = omega (arith, h.before_end) }
+
+-- a side of a plane: the part of the box there, with the boxes that fill it
+pub record IsSide (whole : Cuboid) (boxes : List Cuboid) (part : Cuboid) (there : List Cuboid) : Type 0 where
+  pub inside : IsPartOf part whole
+  pub tiles : Tiles there part
+  pub from_cuts : IsFromCuts boxes whole → IsFromCuts there part
 
 module _ (a : Axis) (p : ℕ) where
   abbrev is_below : Cuboid → Bool
@@ -56,7 +62,7 @@ module _ (a : Axis) (p : ℕ) where
     none_there boxes part there =
         (none_of (filter side boxes) (filter_passes side boxes), none_of (part ∷ []) (All-cons (λ b. side b ≡ true) part [] there (All-nil (λ b. side b ≡ true))))
 
-  -- boxes that fill a box fill both parts of it
+  -- boxes that fill a box fill both sides of it
   module _ (whole : Cuboid) (boxes : List Cuboid) (place : IsPlaceOf a p whole) (uncut : AreUncut boxes) (tiles : Tiles boxes whole) where
     same_parts : (c : Cell) → (times_filled c (lower_boxes a p boxes) ≡ times_filled c (lower a p whole ∷ [])) × (times_filled c (upper_boxes a p boxes) ≡ times_filled c (upper a p whole ∷ []))
     same_parts c =
@@ -72,8 +78,8 @@ module _ (a : Axis) (p : ℕ) where
               (omega arith, omega arith)
         ]
 
-    pub Tiles-lower : Tiles (lower_boxes a p boxes) (lower a p whole)
-    Tiles-lower = record { same = λ c. (same_parts c).0 }
+    pub lower_side : IsSide whole boxes (lower a p whole) (lower_boxes a p boxes)
+    lower_side = record { inside = lower-part a p whole place; tiles = record { same = λ c. (same_parts c).0 }; from_cuts = λ from. (open_planes_split_cuts boxes whole a p from place uncut).0 }
 
-    pub Tiles-upper : Tiles (upper_boxes a p boxes) (upper a p whole)
-    Tiles-upper = record { same = λ c. (same_parts c).1 }
+    pub upper_side : IsSide whole boxes (upper a p whole) (upper_boxes a p boxes)
+    upper_side = record { inside = upper-part a p whole place; tiles = record { same = λ c. (same_parts c).1 }; from_cuts = λ from. (open_planes_split_cuts boxes whole a p from place uncut).1 }
