@@ -2,9 +2,8 @@
 use Rattle.std.proofs.Common.{◌≡◌, ℕ, suc, ◌+◌, ◌-◌, ◌<◌, List, [], ◌∷◌, ◌++◌, refl, ap, sym, ◌∙◌, subst, cond, true, false, Bool, arith, length, append-nil, append_assoc, get_or, take, drop}
 use Rattle.std.specs.Prelude.{Option, Some, None, IsSome, MatchBool, map, filter, All, AllPairs, remove}
 use Rattle.std.specs.declared.cmp.Ordering.{Ordering}
-use Rattle.std.specs.declared.cmp.Ordering.TheVariants.{Less, Equal, Greater}
 use Rattle.std.specs.Cmp.{IsTotalOrder, Equal-is}
-use Rattle.std.specs.Ordering.{is_eq, match_ordering}
+use Rattle.std.specs.Ordering.{is_eq}
 use Rattle.std.specs.Option.{option_map}
 use Rattle.std.specs.Map.{lookup, set_value, keys_of}
 use Rattle.std.specs.BTreeMap.{is_at, insert_entry}
@@ -32,7 +31,7 @@ use Rattle.rectangle_pack.proofs.CutTreeLemmas.{HasLeaves-leaf, IsFromCuts-by}
 use Rattle.rectangle_pack.proofs.FrameLemmas.{IsRecut, changed-all}
 use Rattle.rectangle_pack.proofs.JournalLemmas.{lookup-bins_of, is_some-bins_of}
 use Rattle.rectangle_pack.proofs.KeepsCutsLemmas.{KeepsCuts, KeepsBoxes, IsFrame-boxes, KeptBySteps-boxes}
-use Rattle.rectangle_pack.proofs.MapsLemmas.{lookup-equal, lookup-written, is_some-keys}
+use Rattle.rectangle_pack.proofs.MapsLemmas.{lookup-equal, lookup-written, is_some-keys, insert_entry-map_values}
 use Rattle.rectangle_pack.proofs.PackingOrderLemmas.{cmp-self}
 use Rattle.rectangle_pack.proofs.PlacedLemmas.{keys-placed, known-placed}
 
@@ -369,6 +368,4 @@ IsSession-added {Id} {B} {bin_cmp} o bins new records next id size absent seen h
 
 -- an entry that is inserted, without its room
 pub bins_of-insert_entry : {B : Type 0} (bin_cmp : B → B → Ordering) (es : List (B × Held)) (k : B) (v : Held) → bins_of (insert_entry bin_cmp es k v) ≡ insert_entry bin_cmp (bins_of es) k v.bin
-bins_of-insert_entry bin_cmp [] k v = refl
-bins_of-insert_entry bin_cmp (e ∷ es) k v = elim (bin_cmp k e.0) as (λ o. bins_of (match_ordering o ((k, v) ∷ e ∷ es) ((e.0, v) ∷ es) (e ∷ insert_entry bin_cmp es k v)) ≡ match_ordering o ((k, v.bin) ∷ (e.0, e.1.bin) ∷ bins_of es) ((e.0, v.bin) ∷ bins_of es) ((e.0, e.1.bin) ∷ insert_entry bin_cmp (bins_of es) k v.bin))
-    [ Less ↦ refl | Equal ↦ refl | Greater ↦ ap (λ l. (e.0, e.1.bin) ∷ l) (bins_of-insert_entry bin_cmp es k v) ]
+bins_of-insert_entry bin_cmp es k v = insert_entry-map_values (λ (h : Held). h.bin) bin_cmp es k v
