@@ -40,37 +40,29 @@ loop-group-preserved g c =
     rw (lists_of-turn c.loop-group.yielded (c.in-Some.group, c.in-Some.ids), c.in_ok-push.ensures.items)
     (AllZip-more _ _ _ _ _ c.loop-group.invariant (refl, rw (← c.as_slice.ensures.value) c.group_key.ensures))
 
-pub returns-clause-order : goal.returns-clause-order
-returns-clause-order g c =
-    let e : map deref_pair c.loop-group.yielded ≡ c.args.lists.now.entries = (iter_end deref_pair _ _ _ _ _ _ c.into_iter-group-iterator.ensures.into_iter_gives.0 c.loop-group.yielded_by c.in-None.is c.next.ensures.steps).0 in
-    record {
-      unsorted = keys_of_order c.loop-group.order.items;
-      each = AllZip-map_right _ _ (lists_of c.args.lists.now.entries) c.loop-group.order.items (rw (← e) c.loop-group.invariant);
-      permutation = c.sort_falling.ensures.permutation;
-      falling = c.sort_falling.ensures.falling;
-    }
-
-pub returns-clause-listed : goal.returns-clause-listed
-returns-clause-listed g c =
-    let e : map deref_pair c.loop-group.yielded ≡ c.args.lists.now.entries = (iter_end deref_pair _ _ _ _ _ _ c.into_iter-group-iterator.ensures.into_iter_gives.0 c.loop-group.yielded_by c.in-None.is c.next.ensures.steps).0 in
-    All-permutation (λ (o : Reverse ℕ × Bor g.row.K.Denot). IsSome (lookup (is_at (g.K.Ord.cmp o.1.now)) c.args.lists.now.entries)) c.loop-group.order.items _ c.sort_falling.ensures.same
-    (listed-zip g.met.K.Ord.total _ c.args.lists.now.entries c.loop-group.order.items (rw e at c.loop-group.invariant))
-
-pub returns-clause-counted : goal.returns-clause-counted
-returns-clause-counted g c =
-    let e : map deref_pair c.loop-group.yielded ≡ c.args.lists.now.entries = (iter_end deref_pair _ _ _ _ _ _ c.into_iter-group-iterator.ensures.into_iter_gives.0 c.loop-group.yielded_by c.in-None.is c.next.ensures.steps).0 in
-    let lists = lists_of c.args.lists.now.entries in
-    let unsorted = keys_of_order c.loop-group.order.items in
-    let each : AllZip (λ e o. (o.1 ≡ e.0) × IsGroupKey (g.R.Ask.may c.args.rules.now).rate g.Id.Ord.cmp c.args.rects.now.entries e.1 o.0) lists unsorted = AllZip-map_right _ _ lists c.loop-group.order.items (rw (← e) c.loop-group.invariant) in
-    sum_by-IsPermutation (entries_at g.K.Ord.cmp lists) _ _ c.sort_falling.ensures.permutation
-    ∙ counted-zip g.K.Ord.cmp _ lists c.args.lists.now.entries unsorted each (lookup-each g.met.K.Ord.total c.args.lists.now c.len.ensures.ordered)
-
-pub returns-clause-distinct : goal.returns-clause-distinct
-returns-clause-distinct g c =
-    let e : map deref_pair c.loop-group.yielded ≡ c.args.lists.now.entries = (iter_end deref_pair _ _ _ _ _ _ c.into_iter-group-iterator.ensures.into_iter_gives.0 c.loop-group.yielded_by c.in-None.is c.next.ensures.steps).0 in
+pub returns : goal.returns
+returns g c =
     let cmp = g.K.Ord.cmp in
+    let entries = c.args.lists.now.entries in
+    let lists = lists_of entries in
+    let order = c.loop-group.order.items in
+    let unsorted = keys_of_order order in
+    let e : map deref_pair c.loop-group.yielded ≡ entries = (iter_end deref_pair _ _ _ _ _ _ c.into_iter-group-iterator.ensures.into_iter_gives.0 c.loop-group.yielded_by c.in-None.is c.next.ensures.steps).0 in
+    let each : AllZip (λ e o. (o.1 ≡ e.0) × IsGroupKey (g.R.Ask.may c.args.rules.now).rate g.Id.Ord.cmp c.args.rects.now.entries e.1 o.0) lists unsorted = AllZip-map_right _ _ lists order (rw (← e) c.loop-group.invariant) in
     let name : Reverse ℕ × Bor g.row.K.Denot → g.row.K.Denot = λ o. o.1.now in
-    let names : map name c.loop-group.order.items ≡ keys_of c.args.lists.now.entries = names-zip name _ (lists_of c.args.lists.now.entries) c.loop-group.order.items (rw e at c.loop-group.invariant) ∙ keys-lists c.args.lists.now.entries in
-    IsDistinct-IsPermutation (eq_by_cmp cmp) (λ x y. is_at-back g.met.K.Ord.total x y) (map name c.loop-group.order.items) _
-    (IsPermutation-map name _ _ c.sort_falling.ensures.same)
-    (subst (λ (ks : List g.row.K.Denot). IsDistinct (eq_by_cmp cmp) ks) (sym names) (IsDistinct-from_sorted cmp (keys_of c.args.lists.now.entries) c.len.ensures.ordered))
+    let names : map name order ≡ keys_of entries = names-zip name _ lists order (rw e at c.loop-group.invariant) ∙ keys-lists entries in
+    record {
+      order = record {
+        unsorted = unsorted;
+        each = each;
+        permutation = c.sort_falling.ensures.permutation;
+        falling = c.sort_falling.ensures.falling;
+      };
+      listed = All-permutation (λ (o : Reverse ℕ × Bor g.row.K.Denot). IsSome (lookup (is_at (cmp o.1.now)) entries)) order _ c.sort_falling.ensures.same
+          (listed-zip g.met.K.Ord.total _ entries order (rw e at c.loop-group.invariant));
+      distinct = IsDistinct-IsPermutation (eq_by_cmp cmp) (λ x y. is_at-back g.met.K.Ord.total x y) (map name order) _
+          (IsPermutation-map name _ _ c.sort_falling.ensures.same)
+          (subst (λ (ks : List g.row.K.Denot). IsDistinct (eq_by_cmp cmp) ks) (sym names) (IsDistinct-from_sorted cmp (keys_of entries) c.len.ensures.ordered));
+      counted = sum_by-IsPermutation (entries_at cmp lists) _ _ c.sort_falling.ensures.permutation
+          ∙ counted-zip cmp _ lists entries unsorted each (lookup-each g.met.K.Ord.total c.args.lists.now c.len.ensures.ordered);
+    }
