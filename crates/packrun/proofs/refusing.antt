@@ -1,1 +1,1 @@
-mod Backs
+mod CountsLemmas

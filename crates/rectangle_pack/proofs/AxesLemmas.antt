@@ -1,5 +1,5 @@
 -- Boxes and cells, axis by axis.
-use Rattle.std.proofs.Common.{ℕ, ◌≡◌, ◌≢◌, ◌+◌, ◌<◌, ◌≤◌, ◌⊎◌, inl, inr, true, refl, arith}
+use Rattle.std.proofs.Common.{ℕ, ◌≡◌, ◌≢◌, ◌+◌, ◌<◌, ◌≤◌, ◌⊎◌, inl, inr, true, refl, subst, arith}
 use Rattle.std.proofs.lemmas.Bool.{and_parts, and_from, ltb-true, lt-ltb}
 use Rattle.rectangle_pack.specs.declared.axis.Axis.{Axis}
 use Rattle.rectangle_pack.specs.declared.axis.Axis.TheVariants.{X, Y, Z}
@@ -28,6 +28,10 @@ by_other P xy xz yx yz zx zy Y Z n = yz
 by_other P xy xz yx yz zx zy Z X n = zx
 by_other P xy xz yx yz zx zy Z Y n = zy
 by_other P xy xz yx yz zx zy Z Z n = absurd (n refl)
+
+-- what holds of one axis and of each other one holds of every axis
+pub by_axis : (P : Axis → Type 0) (a : Axis) → P a → ((e : Axis) → a ≢ e → P e) → (e : Axis) → P e
+by_axis P a here others e = elim (cases_axis a e) [ inl same ↦ subst P same here | inr other ↦ others e other ]
 
 pub end-is : (a : Axis) (b : Cuboid) → end a b ≡ start a b + extent a b.whd
 unfolding end

@@ -1,5 +1,5 @@
 -- Boxes that are from cuts of a box fill it.
-use Rattle.std.proofs.Common.{ℕ, ◌+◌, ◌<◌, ◌≤◌, ◌≡◌, true, false, List, [], ◌∷◌, refl, sym, ◌∙◌, subst, arith, inl, inr}
+use Rattle.std.proofs.Common.{ℕ, ◌+◌, ◌<◌, ◌≤◌, ◌≡◌, ◌≢◌, true, false, List, [], ◌∷◌, refl, sym, ◌∙◌, arith, inl, inr}
 use Rattle.std.specs.Prelude.{filter}
 use Rattle.std.proofs.lemmas.Bool.{cases_lt, cases_Bool, false_from_ne_true, both_ways}
 use Rattle.std.proofs.lemmas.List.Elements.{filter_passes}
@@ -12,26 +12,24 @@ use Rattle.rectangle_pack.specs.CutTrees.{lower, upper, IsPlaceOf, CutTree, Leaf
 use Rattle.rectangle_pack.proofs.BoxesLemmas.{has_cells-from}
 use Rattle.rectangle_pack.proofs.CountingLemmas.{count_yes, count_no, filled-append, filled-nil, filled_yes}
 use Rattle.rectangle_pack.proofs.StepsLemmas.{filled-filter}
-use Rattle.rectangle_pack.proofs.AxesLemmas.{cases_axis, coordinate, LiesIn, lies_in, is_cell, cell-part}
-use Rattle.rectangle_pack.proofs.PartsLemmas.{start-lower, end-lower, start-upper, end-upper, start-lower_other, end-lower_other, start-upper_other, end-upper_other, lower-part, upper-part}
+use Rattle.rectangle_pack.proofs.AxesLemmas.{by_axis, coordinate, LiesIn, lies_in, is_cell, cell-part}
+use Rattle.rectangle_pack.proofs.PartsLemmas.{start-lower, end-lower, start-upper, end-upper, RunAlike, lower_other, upper_other, lower-part, upper-part}
 use Rattle.rectangle_pack.proofs.TimesLemmas.{times_in-kept, All-times_in, All-from_times_in}
 use Rattle.rectangle_pack.proofs.SameBoxesLemmas.{count-same}
 use Rattle.rectangle_pack.proofs.CutTreeLemmas.{leaf-part}
 
-module _ (c : Cell) (a : Axis) (p : ℕ) (b : Cuboid) (place : IsPlaceOf a p b) where
-  -- a cell of the box below the place is one of the lower part
-  pub cell_below : is_cell_of c b ≡ true → coordinate a c < p → is_cell_of c (lower a p b) ≡ true
-  cell_below t lt = is_cell c (lower a p b) (λ e. elim (cases_axis a e) [
-    | inl q ↦ subst (LiesIn c (lower a p b)) q (omega (arith, lies_in c b t a, start-lower a p b), omega (arith, end-lower a p b place.from))
-    | inr n ↦ (omega (arith, lies_in c b t e, start-lower_other p b a e n), omega (arith, lies_in c b t e, end-lower_other p b a e n))
-  ])
+-- a cell of a box is one of another that has it on one axis, and runs where the box does on the others
+cell_alike : (c : Cell) (b d : Cuboid) (a : Axis) → is_cell_of c b ≡ true → LiesIn c d a → ((e : Axis) → a ≢ e → RunAlike d b e) → is_cell_of c d ≡ true
+cell_alike c b d a t here others = is_cell c d (by_axis (LiesIn c d) a here (λ e n. (omega (arith, lies_in c b t e, others e n), omega (arith, lies_in c b t e, others e n))))
+
+module _ (c : Cell) (a : Axis) (p : ℕ) (b : Cuboid) (place : IsPlaceOf a p b) (t : is_cell_of c b ≡ true) where
+  -- so one below the place is one of the lower part
+  pub cell_below : coordinate a c < p → is_cell_of c (lower a p b) ≡ true
+  cell_below lt = cell_alike c b (lower a p b) a t (omega (arith, lies_in c b t a, start-lower a p b), omega (arith, end-lower a p b place.from)) (lower_other p b a)
 
   -- and one from there on is one of the upper part
-  pub cell_above : is_cell_of c b ≡ true → p ≤ coordinate a c → is_cell_of c (upper a p b) ≡ true
-  cell_above t ge = is_cell c (upper a p b) (λ e. elim (cases_axis a e) [
-    | inl q ↦ subst (LiesIn c (upper a p b)) q (omega (arith, start-upper a p b), omega (arith, lies_in c b t a, end-upper a p b place.to))
-    | inr n ↦ (omega (arith, lies_in c b t e, start-upper_other p b a e n), omega (arith, lies_in c b t e, end-upper_other p b a e n))
-  ])
+  pub cell_above : p ≤ coordinate a c → is_cell_of c (upper a p b) ≡ true
+  cell_above ge = cell_alike c b (upper a p b) a t (omega (arith, start-upper a p b), omega (arith, lies_in c b t a, end-upper a p b place.to)) (upper_other p b a)
 
 -- how often one box has a cell
 filled_as : (c : Cell) (b : Cuboid) → is_cell_of c b ≡ true → times_filled c (b ∷ []) ≡ 1

@@ -12,7 +12,7 @@ use Rattle.rectangle_pack.specs.CutTrees.{lower, upper, CutTree, Leaf, Cut, IsTr
 use Rattle.rectangle_pack.specs.CutPlans.{IsUncut, IsOpenPlane, axis_rank, IsFirstPlane, lower_boxes, upper_boxes, IsPlannedTree, steps_of, IsCutPlan}
 use Rattle.rectangle_pack.specs.private.CutPlans.{IsClosedOn, AreClosed}
 use Rattle.rectangle_pack.proofs.FillingLemmas.{one_entry_fills}
-use Rattle.rectangle_pack.proofs.PlaneSidesLemmas.{IsPlaceOf-open, times_in-sides, Tiles-lower, Tiles-upper}
+use Rattle.rectangle_pack.proofs.PlaneSidesLemmas.{IsPlaceOf-open, times_in-sides, lower_side, upper_side}
 use Rattle.rectangle_pack.proofs.SameBoxesLemmas.{HaveSameBoxes-sym, HaveSameBoxes-trans, HaveSameBoxes-permutation, count-same}
 use Rattle.rectangle_pack.proofs.TimesLemmas.{times_in-append, times_in-kept, times_in-dropped, All-times_in, All-from_times_in}
 
@@ -84,8 +84,8 @@ planned_tree_has_leaves Leaf whole boxes tiles few = (tt, one_entry_fills whole 
 planned_tree_has_leaves (Cut a p l u) whole boxes tiles h =
     let is_open = h.1.is_open in
     let place = IsPlaceOf-open is_open in
-    let below = planned_tree_has_leaves l (lower a p whole) (lower_boxes a p boxes) (Tiles-lower a p whole boxes place is_open.uncut tiles) h.2 in
-    let above = planned_tree_has_leaves u (upper a p whole) (upper_boxes a p boxes) (Tiles-upper a p whole boxes place is_open.uncut tiles) h.3 in (
+    let below = planned_tree_has_leaves l (lower a p whole) (lower_boxes a p boxes) (lower_side a p whole boxes place is_open.uncut tiles).tiles h.2 in
+    let above = planned_tree_has_leaves u (upper a p whole) (upper_boxes a p boxes) (upper_side a p whole boxes place is_open.uncut tiles).tiles h.3 in (
       (place, below.0, above.0),
       λ b cells. omega (arith, times_in-append b (leaves l (lower a p whole)) (leaves u (upper a p whole)), below.1 b cells, above.1 b cells, times_in-sides a p boxes is_open.uncut b cells),
     )

@@ -7,39 +7,25 @@ use Rattle.std.specs.List.{AllZip}
 use Rattle.std.specs.Map.{lookup, set_value, keys_of}
 use Rattle.std.specs.Option.{is_some, option_map}
 use Rattle.std.specs.BTreeMap.{is_at}
+use Rattle.std.proofs.lemmas.Map.Made.{lookup-map_values, keys_of-map_values}
 use Rattle.rectangle_pack.specs.declared.pack.work.DoneTrial.{DoneTrial}
 use Rattle.rectangle_pack.specs.Bins.{Bin, Held}
 use Rattle.rectangle_pack.specs.Packing.{bins_of}
 use Rattle.rectangle_pack.specs.private.TrialJournal.{CanUndoTrial, before_trial, Undoes, GoesBack}
-use Rattle.rectangle_pack.proofs.MapsLemmas.{is_some-keys, set_value-twice, lookup-set_here}
+use Rattle.rectangle_pack.proofs.MapsLemmas.{is_some-keys, set_value-map_values, set_value-twice, lookup-set_here}
 use Rattle.rectangle_pack.proofs.TrialLemmas.{CanUndo-more}
-
--- a bin that is written back, without its room
-pub bins_of-set_value : {B : Type 0} (test : B → Bool) (es : List (B × Held)) (w : Held) → bins_of (set_value test es w) ≡ set_value test (bins_of es) w.bin
-bins_of-set_value test [] w = refl
-bins_of-set_value test (e ∷ es) w = at (test e.0) (bins_of-set_value test es w)
-  where
-    at : (b : Bool) → bins_of (set_value test es w) ≡ set_value test (bins_of es) w.bin → bins_of (cond b ((e.0, w) ∷ es) (e ∷ set_value test es w)) ≡ cond b ((e.0, w.bin) ∷ bins_of es) ((e.0, e.1.bin) ∷ set_value test (bins_of es) w.bin)
-    at true ih = refl
-    at false ih = ap (λ l. (e.0, e.1.bin) ∷ l) ih
 
 -- a map in which one value was written, without the room
 pub bins_of-written : {B : Type 0} (test : B → Bool) (old new : List (B × Held)) (w : Held) (bin : Bin) → new ≡ set_value test old w → w.bin ≡ bin → bins_of new ≡ set_value test (bins_of old) bin
-bins_of-written test old new w bin written is = ap bins_of written ∙ bins_of-set_value test old w ∙ ap (set_value test (bins_of old)) is
+bins_of-written test old new w bin written is = ap bins_of written ∙ set_value-map_values (λ (h : Held). h.bin) test old w ∙ ap (set_value test (bins_of old)) is
 
 -- and one that is looked up
 pub lookup-bins_of : {B : Type 0} (test : B → Bool) (es : List (B × Held)) → lookup test (bins_of es) ≡ option_map (λ (h : Held). h.bin) (lookup test es)
-lookup-bins_of test [] = refl
-lookup-bins_of test (e ∷ es) = at (test e.0) (lookup-bins_of test es)
-  where
-    at : (b : Bool) → lookup test (bins_of es) ≡ option_map (λ (h : Held). h.bin) (lookup test es) → cond b (Some e.1.bin) (lookup test (bins_of es)) ≡ option_map (λ (h : Held). h.bin) (cond b (Some e.1) (lookup test es))
-    at true ih = refl
-    at false ih = ih
+lookup-bins_of test es = lookup-map_values (λ (h : Held). h.bin) test es
 
 -- the keys are those of the map
 pub keys-bins : {B : Type 0} (es : List (B × Held)) → keys_of (bins_of es) ≡ keys_of es
-keys-bins [] = refl
-keys-bins (e ∷ es) = ap (λ ks. e.0 ∷ ks) (keys-bins es)
+keys-bins es = keys_of-map_values (λ (h : Held). h.bin) es
 
 -- a bin is in a map exactly if it is in the map without room
 pub is_some-bins_of : {B : Type 0} (test : B → Bool) (es : List (B × Held)) → is_some (lookup test (bins_of es)) ≡ is_some (lookup test es)

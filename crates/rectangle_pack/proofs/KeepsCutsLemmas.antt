@@ -3,7 +3,7 @@ use Rattle.std.proofs.Common.{◌≡◌, ◌+◌, Bool, false, List, [], ◌∷�
 use Rattle.rectangle_pack.specs.Boxes.{Cuboid}
 use Rattle.rectangle_pack.specs.Closures.{Answers}
 use Rattle.rectangle_pack.specs.Cuts.{placed}
-use Rattle.rectangle_pack.specs.CutTrees.{times_in, IsFromCuts}
+use Rattle.rectangle_pack.specs.CutTrees.{times_in, HaveSameBoxes, IsFromCuts}
 use Rattle.rectangle_pack.proofs.CutPiecesLemmas.{chosen_from_cuts}
 use Rattle.rectangle_pack.proofs.CutTreeLemmas.{box_makes_way, times_in-empty}
 use Rattle.rectangle_pack.proofs.FrameLemmas.{IsFrame, KeptBySteps, IsRecut, IsFrame-recut, KeptBySteps-recut}
@@ -19,36 +19,23 @@ pub record KeepsCuts (old new : List Cuboid) : Type 0 where
 times_in-middle : (b : Cuboid) (before : List Cuboid) (e : Cuboid) (after : List Cuboid) → times_in b (before ++ e ∷ after) ≡ times_in b (before ++ after) + times_in b (e ∷ [])
 times_in-middle b before e after = omega (arith, times_in-append b before (e ∷ after), times_in-cons b e after, times_in-append b before after)
 
+-- two lists in the middle change places
+HaveSameBoxes-swapped : (b x y z : List Cuboid) → HaveSameBoxes ((b ++ x) ++ (y ++ z)) ((b ++ (y ++ x)) ++ z)
+HaveSameBoxes-swapped b x y z = λ e cells.
+    omega (arith, times_in-append e (b ++ x) (y ++ z), times_in-append e b x, times_in-append e y z, times_in-append e (b ++ (y ++ x)) z, times_in-append e b (y ++ x), times_in-append e y x)
+
 pub IsFrame-cuts : IsFrame KeepsCuts
 IsFrame-cuts = record {
   same = λ xs. record { kept = λ beside whole from. from };
   next = λ a b x d y first next. record {
     kept = λ beside whole from.
         let moved : IsFromCuts (b ++ (x ++ beside)) whole = rw append_assoc at (first.kept beside whole from) in
-        IsFromCuts-same ((d ++ y) ++ (x ++ beside)) ((d ++ (x ++ y)) ++ beside)
-        (λ e cells. omega (
-          arith,
-          times_in-append e (d ++ y) (x ++ beside),
-          times_in-append e d y,
-          times_in-append e x beside,
-          times_in-append e (d ++ (x ++ y)) beside,
-          times_in-append e d (x ++ y),
-          times_in-append e x y,
-        )) (next.kept (x ++ beside) whole moved);
+        IsFromCuts-same ((d ++ y) ++ (x ++ beside)) ((d ++ (x ++ y)) ++ beside) (HaveSameBoxes-swapped d y x beside) (next.kept (x ++ beside) whole moved);
   };
   beside = λ a b x z h. record {
     kept = λ beside whole from.
         let moved : IsFromCuts (a ++ (z ++ beside)) whole = rw append_assoc at from in
-        IsFromCuts-same ((b ++ x) ++ (z ++ beside)) ((b ++ (z ++ x)) ++ beside)
-        (λ e cells. omega (
-          arith,
-          times_in-append e (b ++ x) (z ++ beside),
-          times_in-append e b x,
-          times_in-append e z beside,
-          times_in-append e (b ++ (z ++ x)) beside,
-          times_in-append e b (z ++ x),
-          times_in-append e z x,
-        )) (h.kept (z ++ beside) whole moved);
+        IsFromCuts-same ((b ++ x) ++ (z ++ beside)) ((b ++ (z ++ x)) ++ beside) (HaveSameBoxes-swapped b x z beside) (h.kept (z ++ beside) whole moved);
   };
   moved = λ free before after box. record {
     kept = λ beside whole from.

@@ -8,23 +8,18 @@ use Rattle.std.specs.Option.{option_map}
 use Rattle.std.specs.Map.{lookup, set_value, keys_of}
 use Rattle.std.specs.Ordering.{match_ordering, is_eq}
 use Rattle.std.specs.BTreeMap.{is_at, insert_entry}
+use Rattle.std.proofs.lemmas.Map.Made.{lookup-map_values, keys_of-map_values}
 use Rattle.rectangle_pack.specs.Groups.{lists_of}
 use Rattle.rectangle_pack.specs.private.Lists.{filled}
+use Rattle.rectangle_pack.proofs.MapsLemmas.{set_value-map_values, insert_entry-map_values}
 
 -- an insert, seen as lists
 pub lists_of-insert_entry : {K X A : Type 0} (cmp : K → K → Ordering) (es : List (K × Vec X A)) (k : K) (v : Vec X A) → lists_of (insert_entry cmp es k v) ≡ insert_entry cmp (lists_of es) k v.items
-lists_of-insert_entry cmp [] k v = refl
-lists_of-insert_entry cmp (e ∷ es) k v = elim (cmp k e.0) as (λ o. lists_of (match_ordering o ((k, v) ∷ e ∷ es) ((e.0, v) ∷ es) (e ∷ insert_entry cmp es k v)) ≡ match_ordering o ((k, v.items) ∷ (e.0, e.1.items) ∷ lists_of es) ((e.0, v.items) ∷ lists_of es) ((e.0, e.1.items) ∷ insert_entry cmp (lists_of es) k v.items))
-    [ Less ↦ refl | Equal ↦ refl | Greater ↦ ap (λ l. (e.0, e.1.items) ∷ l) (lists_of-insert_entry cmp es k v) ]
+lists_of-insert_entry cmp es k v = insert_entry-map_values (λ w. w.items) cmp es k v
 
 -- a value that is written, seen as a list
 pub lists_of-set_value : {K X A : Type 0} (test : K → Bool) (es : List (K × Vec X A)) (w : Vec X A) → lists_of (set_value test es w) ≡ set_value test (lists_of es) w.items
-lists_of-set_value test [] w = refl
-lists_of-set_value test (e ∷ es) w = at (test e.0) (lists_of-set_value test es w)
-  where
-    at : (b : Bool) → lists_of (set_value test es w) ≡ set_value test (lists_of es) w.items → lists_of (cond b ((e.0, w) ∷ es) (e ∷ set_value test es w)) ≡ cond b ((e.0, w.items) ∷ lists_of es) ((e.0, e.1.items) ∷ set_value test (lists_of es) w.items)
-    at true ih = refl
-    at false ih = ap (λ l. (e.0, e.1.items) ∷ l) ih
+lists_of-set_value test es w = set_value-map_values (λ v. v.items) test es w
 
 -- a new key with an empty list
 pub filled-insert_entry : {K X : Type 0} (cmp : K → K → Ordering) (es : List (K × List X)) (k : K) → lookup (is_at (cmp k)) es ≡ None → filled (insert_entry cmp es k []) ≡ filled es
@@ -47,14 +42,8 @@ lists_of-filter (e ∷ es) = at (nat_lt 0 (length e.1.items)) (lists_of-filter e
 
 -- the keys are those of the map
 pub keys-lists : {K X A : Type 0} (es : List (K × Vec X A)) → keys_of (lists_of es) ≡ keys_of es
-keys-lists [] = refl
-keys-lists (e ∷ es) = ap (λ ks. e.0 ∷ ks) (keys-lists es)
+keys-lists es = keys_of-map_values (λ v. v.items) es
 
 -- a list that a key has, by the vector that it has
 pub lookup-lists : {K X A : Type 0} (test : K → Bool) (es : List (K × Vec X A)) → lookup test (lists_of es) ≡ option_map (λ v. v.items) (lookup test es)
-lookup-lists test [] = refl
-lookup-lists test (e ∷ es) = at (test e.0) (lookup-lists test es)
-  where
-    at : (b : Bool) → lookup test (lists_of es) ≡ option_map (λ v. v.items) (lookup test es) → cond b (Some e.1.items) (lookup test (lists_of es)) ≡ option_map (λ v. v.items) (cond b (Some e.1) (lookup test es))
-    at true ih = refl
-    at false ih = ih
+lookup-lists test es = lookup-map_values (λ v. v.items) test es

@@ -1,6 +1,6 @@
--- Look-ups and writes at keys that are equal, in maps that agree.
+-- Look-ups and writes at keys that are equal, in maps that agree, and in maps whose values are mapped.
 use Rattle.std.proofs.Common.{◌≡◌, Bool, true, false, cond, List, [], ◌∷◌, refl, ◌∙◌, sym, ap}
-use Rattle.std.specs.Prelude.{Option, Some, None}
+use Rattle.std.specs.Prelude.{Option, Some, None, map}
 use Rattle.std.specs.List.{list_any}
 use Rattle.std.specs.Ordering.{ordering_reverse, is_eq, match_ordering}
 use Rattle.std.specs.Option.{is_some, option_map}
@@ -88,6 +88,20 @@ is_at-back {cmp = cmp} o x y = ap is_eq (o.antisymm x y) ∙ is_eq-back (cmp y x
 pub is_some-option_map : {X Y : Type 0} (f : X → Y) (o : Option X) → is_some (option_map f o) ≡ is_some o
 is_some-option_map f None = refl
 is_some-option_map f (Some x) = refl
+
+-- a write and an insert, where the values are mapped
+abbrev mapped : {K X Y : Type 0} → (X → Y) → List (K × X) → List (K × Y)
+mapped f es = map (λ e. (e.0, f e.1)) es
+
+pub set_value-map_values : {K X Y : Type 0} (f : X → Y) (test : K → Bool) (es : List (K × X)) (w : X) → mapped f (set_value test es w) ≡ set_value test (mapped f es) (f w)
+set_value-map_values f test [] w = refl
+set_value-map_values f test (e ∷ es) w = elim (test e.0) as (λ b. mapped f (cond b ((e.0, w) ∷ es) (e ∷ set_value test es w)) ≡ cond b ((e.0, f w) ∷ mapped f es) ((e.0, f e.1) ∷ set_value test (mapped f es) (f w)))
+    [ true ↦ refl | false ↦ ap (λ l. (e.0, f e.1) ∷ l) (set_value-map_values f test es w) ]
+
+pub insert_entry-map_values : {K X Y : Type 0} (f : X → Y) (cmp : K → K → Ordering) (es : List (K × X)) (k : K) (v : X) → mapped f (insert_entry cmp es k v) ≡ insert_entry cmp (mapped f es) k (f v)
+insert_entry-map_values f cmp [] k v = refl
+insert_entry-map_values f cmp (e ∷ es) k v = elim (cmp k e.0) as (λ o. mapped f (match_ordering o ((k, v) ∷ e ∷ es) ((e.0, v) ∷ es) (e ∷ insert_entry cmp es k v)) ≡ match_ordering o ((k, f v) ∷ (e.0, f e.1) ∷ mapped f es) ((e.0, f v) ∷ mapped f es) ((e.0, f e.1) ∷ insert_entry cmp (mapped f es) k (f v)))
+    [ Less ↦ refl | Equal ↦ refl | Greater ↦ ap (λ l. (e.0, f e.1) ∷ l) (insert_entry-map_values f cmp es k v) ]
 
 -- what is written twice is what was written last
 pub set_value-twice : {K X : Type 0} (test : K → Bool) (es : List (K × X)) (v w : X) → set_value test (set_value test es v) w ≡ set_value test es w

@@ -1,10 +1,10 @@
 -- The two parts of a box at a place on an axis.
-use Rattle.std.proofs.Common.{ℕ, ◌-◌, ◌<◌, ◌≤◌, ◌≡◌, ◌≢◌, true, refl, ap, subst, arith, inl, inr}
+use Rattle.std.proofs.Common.{ℕ, ◌-◌, ◌<◌, ◌≤◌, ◌≡◌, ◌≢◌, true, refl, ap, arith}
 use Rattle.rectangle_pack.specs.declared.axis.Axis.{Axis}
 use Rattle.rectangle_pack.specs.declared.axis.Axis.TheVariants.{X, Y, Z}
 use Rattle.rectangle_pack.specs.Boxes.{Cuboid, IsPartOf, extent, start, end, has_cells}
 use Rattle.rectangle_pack.specs.CutTrees.{lower, upper, IsPlaceOf}
-use Rattle.rectangle_pack.proofs.AxesLemmas.{cases_axis, by_other, runs_on, has_cells-by, StaysIn, is_part}
+use Rattle.rectangle_pack.proofs.AxesLemmas.{by_other, by_axis, runs_on, has_cells-by, StaysIn, is_part}
 
 -- where the parts start and end on the axis of the cut
 pub start-lower : (a : Axis) (p : ℕ) (b : Cuboid) → start a (lower a p b) ≡ start a b
@@ -31,23 +31,18 @@ end-upper X p b h = omega arith
 end-upper Y p b h = omega arith
 end-upper Z p b h = omega arith
 
--- and on another axis
+-- and on another axis: where the box does
+abbrev pub RunAlike : Cuboid → Cuboid → Axis → Type 0
+RunAlike b d e = (start e b ≡ start e d) × (end e b ≡ end e d)
+
 module _ (p : ℕ) (b : Cuboid) where
-  pub start-lower_other : (a e : Axis) → a ≢ e → start e (lower a p b) ≡ start e b
-  unfolding start lower
-  start-lower_other = by_other (λ a e. start e (lower a p b) ≡ start e b) refl refl refl refl refl refl
-
-  pub end-lower_other : (a e : Axis) → a ≢ e → end e (lower a p b) ≡ end e b
+  pub lower_other : (a e : Axis) → a ≢ e → RunAlike (lower a p b) b e
   unfolding start extent end lower
-  end-lower_other = by_other (λ a e. end e (lower a p b) ≡ end e b) refl refl refl refl refl refl
+  lower_other = by_other (λ a e. RunAlike (lower a p b) b e) (refl, refl) (refl, refl) (refl, refl) (refl, refl) (refl, refl) (refl, refl)
 
-  pub start-upper_other : (a e : Axis) → a ≢ e → start e (upper a p b) ≡ start e b
-  unfolding start upper
-  start-upper_other = by_other (λ a e. start e (upper a p b) ≡ start e b) refl refl refl refl refl refl
-
-  pub end-upper_other : (a e : Axis) → a ≢ e → end e (upper a p b) ≡ end e b
+  pub upper_other : (a e : Axis) → a ≢ e → RunAlike (upper a p b) b e
   unfolding start extent end upper
-  end-upper_other = by_other (λ a e. end e (upper a p b) ≡ end e b) refl refl refl refl refl refl
+  upper_other = by_other (λ a e. RunAlike (upper a p b) b e) (refl, refl) (refl, refl) (refl, refl) (refl, refl) (refl, refl) (refl, refl)
 
 -- two cuts on one axis
 pub lower-lower : (a : Axis) (p q : ℕ) (b : Cuboid) → lower a p (lower a q b) ≡ lower a p b
@@ -98,29 +93,29 @@ module _ (p q : ℕ) (b : Cuboid) where
 
 -- a place on one axis is a place of both parts on another
 module _ (a e : Axis) (p q : ℕ) (b : Cuboid) (other : a ≢ e) (place : IsPlaceOf e q b) where
+  place_alike : (d : Cuboid) → RunAlike d b e → IsPlaceOf e q d
+  place_alike d like = record { from = omega arith; to = omega arith }
+
   pub IsPlaceOf-lower_other : IsPlaceOf e q (lower a p b)
-  IsPlaceOf-lower_other = record { from = omega (arith, start-lower_other p b a e other); to = omega (arith, end-lower_other p b a e other) }
+  IsPlaceOf-lower_other = place_alike (lower a p b) (lower_other p b a e other)
 
   pub IsPlaceOf-upper_other : IsPlaceOf e q (upper a p b)
-  IsPlaceOf-upper_other = record { from = omega (arith, start-upper_other p b a e other); to = omega (arith, end-upper_other p b a e other) }
+  IsPlaceOf-upper_other = place_alike (upper a p b) (upper_other p b a e other)
+
+-- what stays in a box on the axis of a cut, and runs where it does on the others, is a part of it
+part_alike : (d b : Cuboid) (a : Axis) → StaysIn d b a → ((e : Axis) → a ≢ e → RunAlike d b e) → IsPartOf d b
+part_alike d b a here others = is_part d b (by_axis (StaysIn d b) a here (λ e n. (omega (arith, others e n), omega (arith, others e n))))
 
 module _ (a : Axis) (p : ℕ) (b : Cuboid) (place : IsPlaceOf a p b) where
-  -- both are parts of the box
+  -- so both are
   pub lower-part : IsPartOf (lower a p b) b
-  lower-part = is_part (lower a p b) b (λ e. elim (cases_axis a e) [
-    | inl q ↦ subst (StaysIn (lower a p b) b) q (omega (arith, start-lower a p b), omega (arith, end-lower a p b place.from))
-    | inr n ↦ (omega (arith, start-lower_other p b a e n), omega (arith, end-lower_other p b a e n))
-  ])
+  lower-part = part_alike (lower a p b) b a (omega (arith, start-lower a p b), omega (arith, end-lower a p b place.from)) (lower_other p b a)
 
   pub upper-part : IsPartOf (upper a p b) b
-  upper-part = is_part (upper a p b) b (λ e. elim (cases_axis a e) [
-    | inl q ↦ subst (StaysIn (upper a p b) b) q (omega (arith, start-upper a p b), omega (arith, end-upper a p b place.to))
-    | inr n ↦ (omega (arith, start-upper_other p b a e n), omega (arith, end-upper_other p b a e n))
-  ])
+  upper-part = part_alike (upper a p b) b a (omega (arith, start-upper a p b), omega (arith, end-upper a p b place.to)) (upper_other p b a)
 
 -- the lower part has cells where the place is after the start
 pub lower-cells : (a : Axis) (p : ℕ) (b : Cuboid) → start a b < p → has_cells b ≡ true → has_cells (lower a p b) ≡ true
-lower-cells a p b lo cells = has_cells-by (lower a p b) (λ e. elim (cases_axis a e) [
-  | inl q ↦ subst (λ e. start e (lower a p b) < end e (lower a p b)) q (omega (arith, start-lower a p b, end-lower a p b (omega arith)))
-  | inr n ↦ omega (arith, runs_on b cells e, start-lower_other p b a e n, end-lower_other p b a e n)
-])
+lower-cells a p b lo cells = has_cells-by (lower a p b) (by_axis (λ e. start e (lower a p b) < end e (lower a p b)) a
+    (omega (arith, start-lower a p b, end-lower a p b (omega arith)))
+    (λ e n. omega (arith, runs_on b cells e, lower_other p b a e n)))

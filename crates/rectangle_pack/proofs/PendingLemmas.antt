@@ -22,10 +22,8 @@ use Rattle.rectangle_pack.proofs.CountingLemmas.{count_yes}
 use Rattle.rectangle_pack.proofs.CutPlanLemmas.{IsPlannedTree-same, planned_tree_has_leaves}
 use Rattle.rectangle_pack.proofs.FillingLemmas.{FitsU32-part, IsFilled-permutation}
 use Rattle.rectangle_pack.proofs.OpenPlaneLemmas.{cuts_have_open_planes}
-use Rattle.rectangle_pack.proofs.PartsLemmas.{lower-part, upper-part}
-use Rattle.rectangle_pack.proofs.PlaneSidesLemmas.{IsPlaceOf-open, Tiles-lower, Tiles-upper}
+use Rattle.rectangle_pack.proofs.PlaneSidesLemmas.{IsPlaceOf-open, IsSide, lower_side, upper_side}
 use Rattle.rectangle_pack.proofs.SameBoxesLemmas.{HaveSameBoxes-sym, HaveSameBoxes-permutation, IsFromCuts-same}
-use Rattle.rectangle_pack.proofs.SplitLemmas.{open_planes_split_cuts}
 
 -- as many have cells as there are, where all do
 count_all : (es : List Cuboid) → All (λ e. has_cells e ≡ true) es → count_by has_cells es ≡ length es
@@ -108,27 +106,21 @@ module _ (boxes : List Cuboid) (whole : Cuboid) where
       place : IsPlaceOf s.axis s.place p.whole
       place = IsPlaceOf-open is_open
 
-      lower_pending : IsPending (lower_part p s) (take s.below es)
-      lower_pending = record {
-        filled = record {
-          fits = FitsU32-part (lower s.axis s.place p.whole) p.whole (lower-part s.axis s.place p.whole place) filled.fits;
-          tiles = subst (λ l. Tiles l (lower s.axis s.place p.whole)) (sym split.gap.front) (Tiles-lower s.axis s.place p.whole es place is_open.uncut filled.tiles);
-          cells = All-take (λ e. has_cells e ≡ true) s.below es filled.cells;
-        };
-        ordered = IsNonDecreasingBy-take (start s.axis) s.below es split.ordered;
-        from_cuts = λ from. subst (λ l. IsFromCuts l (lower s.axis s.place p.whole)) (sym split.gap.front) (open_planes_split_cuts es p.whole s.axis s.place (from_cuts from) place is_open.uncut).0;
+      -- the part on a side of it, with the entries there
+      side_pending : (q : Part) (xs : List Cuboid) → IsSide p.whole es q.whole xs → All (λ e. has_cells e ≡ true) xs → AreOrdered q.ordered xs → IsPending q xs
+      side_pending q xs side cells ordered = record {
+        filled = record { fits = FitsU32-part q.whole p.whole side.inside filled.fits; tiles = side.tiles; cells = cells };
+        ordered = ordered;
+        from_cuts = λ from. side.from_cuts (from_cuts from);
       }
 
+      lower_pending : IsPending (lower_part p s) (take s.below es)
+      lower_pending = side_pending (lower_part p s) (take s.below es) (rw split.gap.front (lower_side s.axis s.place p.whole es place is_open.uncut filled.tiles))
+          (All-take (λ e. has_cells e ≡ true) s.below es filled.cells) (IsNonDecreasingBy-take (start s.axis) s.below es split.ordered)
+
       upper_pending : IsPending (upper_part p s) (drop s.below es)
-      upper_pending = record {
-        filled = record {
-          fits = FitsU32-part (upper s.axis s.place p.whole) p.whole (upper-part s.axis s.place p.whole place) filled.fits;
-          tiles = subst (λ l. Tiles l (upper s.axis s.place p.whole)) (sym split.gap.back) (Tiles-upper s.axis s.place p.whole es place is_open.uncut filled.tiles);
-          cells = All-drop (λ e. has_cells e ≡ true) s.below es filled.cells;
-        };
-        ordered = IsNonDecreasingBy-drop (start s.axis) s.below es split.ordered;
-        from_cuts = λ from. subst (λ l. IsFromCuts l (upper s.axis s.place p.whole)) (sym split.gap.back) (open_planes_split_cuts es p.whole s.axis s.place (from_cuts from) place is_open.uncut).1;
-      }
+      upper_pending = side_pending (upper_part p s) (drop s.below es) (rw split.gap.back (upper_side s.axis s.place p.whole es place is_open.uncut filled.tiles))
+          (All-drop (λ e. has_cells e ≡ true) s.below es filled.cells) (IsNonDecreasingBy-drop (start s.axis) s.below es split.ordered)
 
       planned_cut : (t u : CutTree) → IsPlannedTree t (lower s.axis s.place p.whole) (take s.below es) → IsPlannedTree u (upper s.axis s.place p.whole) (drop s.below es)
           → IsPlannedTree (Cut s.axis s.place t u) p.whole (take p.count rest)

@@ -1,25 +1,31 @@
 -- A plane that cuts no box with cells: what is on either side of it fills either part.
-use Rattle.std.proofs.Common.{ℕ, ◌+◌, ◌<◌, ◌≤◌, ◌≡◌, Bool, true, List, [], ◌∷◌, ◌++◌, arith, inl, inr}
-use Rattle.std.specs.Prelude.{All, nat_le, count_by}
-use Rattle.std.proofs.lemmas.Bool.{cases_lt, leb-true}
-use Rattle.std.proofs.lemmas.List.Elements.{filter_passes}
+use Rattle.std.proofs.Common.{ℕ, ◌+◌, ◌≡◌, Bool, true, List, [], ◌∷◌, ◌++◌, arith, inl, inr}
+use Rattle.std.specs.Prelude.{All, nat_le, filter, count_by}
+use Rattle.std.proofs.lemmas.Bool.{cases_lt, leb-true, le-leb}
+use Rattle.std.proofs.lemmas.List.Elements.{All-nil, All-cons, filter_passes}
 use Rattle.rectangle_pack.specs.declared.axis.Axis.{Axis}
-use Rattle.rectangle_pack.specs.Boxes.{Cuboid, Cell, is_cell_of, start, end, has_cells}
+use Rattle.rectangle_pack.specs.Boxes.{Cuboid, Cell, IsPartOf, is_cell_of, start, end, has_cells}
 use Rattle.rectangle_pack.specs.Counting.{times_filled, Tiles}
-use Rattle.rectangle_pack.specs.CutTrees.{IsPlaceOf, lower, upper, times_in}
+use Rattle.rectangle_pack.specs.CutTrees.{IsPlaceOf, lower, upper, times_in, IsFromCuts}
 use Rattle.rectangle_pack.specs.CutPlans.{IsUncut, IsOpenPlane, lower_boxes, upper_boxes}
-use Rattle.rectangle_pack.proofs.AxesLemmas.{coordinate, lies_in}
-use Rattle.rectangle_pack.proofs.BoxesLemmas.{is_cell_of-from, has_cells-from}
-use Rattle.rectangle_pack.proofs.CountingLemmas.{count-append, cell_from_filled}
+use Rattle.rectangle_pack.proofs.AxesLemmas.{coordinate, LiesIn, lies_in}
+use Rattle.rectangle_pack.proofs.BoxesLemmas.{has_cells-from}
+use Rattle.rectangle_pack.proofs.CountingLemmas.{count-append}
 use Rattle.rectangle_pack.proofs.CutCoverLemmas.{filled-parts}
-use Rattle.rectangle_pack.proofs.PartsLemmas.{start-upper, end-lower}
+use Rattle.rectangle_pack.proofs.PartsLemmas.{start-upper, end-lower, lower-part, upper-part}
 use Rattle.rectangle_pack.proofs.SameBoxesLemmas.{count-same}
-use Rattle.rectangle_pack.proofs.SplitLemmas.{HaveSameBoxes-split}
+use Rattle.rectangle_pack.proofs.SplitLemmas.{open_planes_split_cuts, HaveSameBoxes-split}
 use Rattle.rectangle_pack.proofs.TimesLemmas.{times_in-append, which_passes, All-times_in}
 
 -- an open plane is at a place of the box
 pub IsPlaceOf-open : {a : Axis} {place : ℕ} {whole : Cuboid} {boxes : List Cuboid} → IsOpenPlane a place whole boxes → IsPlaceOf a place whole
 IsPlaceOf-open h = record { from = omega (arith, h.after_start); to = omega (arith, h.before_end) }
+
+-- a side of a plane: the part of the box there, with the boxes that fill it
+pub record IsSide (whole : Cuboid) (boxes : List Cuboid) (part : Cuboid) (there : List Cuboid) : Type 0 where
+  pub inside : IsPartOf part whole
+  pub tiles : Tiles there part
+  pub from_cuts : IsFromCuts boxes whole → IsFromCuts there part
 
 module _ (a : Axis) (p : ℕ) where
   abbrev is_below : Cuboid → Bool
@@ -41,53 +47,39 @@ module _ (a : Axis) (p : ℕ) where
       let both = lower_boxes a p boxes ++ upper_boxes a p boxes in
       omega (arith, count-same (is_cell_of c) (has_cells-from c) both boxes (HaveSameBoxes-split boxes a p uncut), count-append (is_cell_of c) (lower_boxes a p boxes) (upper_boxes a p boxes))
 
-  -- a cell on one side is in no box of the other
-  none_below : (c : Cell) (boxes : List Cuboid) → p ≤ coordinate a c → times_filled c (lower_boxes a p boxes) ≡ 0
-  unfolding times_filled
-  none_below c boxes beyond = elim (cases_lt 0 (count_by (is_cell_of c) (lower_boxes a p boxes))) [
-    | inr ge ↦ omega arith
-    | inl lt ↦
-        let b = which_passes (is_cell_of c) (lower_boxes a p boxes) lt in
-        let ended : is_below b.0 ≡ true = All-times_in (λ b. is_below b ≡ true) b.0 (lower_boxes a p boxes) (filter_passes is_below boxes) b.2 in
-        absurd (omega (arith, leb-true (end a b.0) p ended, lies_in c b.0 b.1 a))
-  ]
+  -- a cell that lies in no box on a side of the plane is in none of those there, and not in the part there
+  module _ (c : Cell) (side : Cuboid → Bool) (outside : (b : Cuboid) → side b ≡ true → ¬ LiesIn c b a) where
+    none_of : (boxes : List Cuboid) → All (λ b. side b ≡ true) boxes → times_filled c boxes ≡ 0
+    unfolding times_filled
+    none_of boxes there = elim (cases_lt 0 (count_by (is_cell_of c) boxes)) [
+      | inr ge ↦ omega arith
+      | inl lt ↦
+          let b = which_passes (is_cell_of c) boxes lt in
+          absurd (outside b.0 (All-times_in (λ b. side b ≡ true) b.0 boxes there b.2) (lies_in c b.0 b.1 a))
+    ]
 
-  none_above : (c : Cell) (boxes : List Cuboid) → coordinate a c < p → times_filled c (upper_boxes a p boxes) ≡ 0
-  unfolding times_filled
-  none_above c boxes before = elim (cases_lt 0 (count_by (is_cell_of c) (upper_boxes a p boxes))) [
-    | inr ge ↦ omega arith
-    | inl lt ↦
-        let b = which_passes (is_cell_of c) (upper_boxes a p boxes) lt in
-        let begun : is_above b.0 ≡ true = All-times_in (λ b. is_above b ≡ true) b.0 (upper_boxes a p boxes) (filter_passes is_above boxes) b.2 in
-        absurd (omega (arith, leb-true p (start a b.0) begun, lies_in c b.0 b.1 a))
-  ]
+    none_there : (boxes : List Cuboid) (part : Cuboid) → side part ≡ true → (times_filled c (filter side boxes) ≡ 0) × (times_filled c (part ∷ []) ≡ 0)
+    none_there boxes part there =
+        (none_of (filter side boxes) (filter_passes side boxes), none_of (part ∷ []) (All-cons (λ b. side b ≡ true) part [] there (All-nil (λ b. side b ≡ true))))
 
-  -- boxes that fill a box fill both parts of it
+  -- boxes that fill a box fill both sides of it
   module _ (whole : Cuboid) (boxes : List Cuboid) (place : IsPlaceOf a p whole) (uncut : AreUncut boxes) (tiles : Tiles boxes whole) where
-    not_lower : (c : Cell) → p ≤ coordinate a c → times_filled c (lower a p whole ∷ []) ≡ 0
-    not_lower c beyond = elim (cases_lt 0 (times_filled c (lower a p whole ∷ []))) [
-      | inr ge ↦ omega arith
-      | inl lt ↦ absurd (omega (arith, end-lower a p whole place.from, lies_in c (lower a p whole) (is_cell_of-from c (lower a p whole) (cell_from_filled c (lower a p whole) lt)) a))
-    ]
-
-    not_upper : (c : Cell) → coordinate a c < p → times_filled c (upper a p whole ∷ []) ≡ 0
-    not_upper c before = elim (cases_lt 0 (times_filled c (upper a p whole ∷ []))) [
-      | inr ge ↦ omega arith
-      | inl lt ↦ absurd (omega (arith, start-upper a p whole, lies_in c (upper a p whole) (is_cell_of-from c (upper a p whole) (cell_from_filled c (upper a p whole) lt)) a))
-    ]
-
     same_parts : (c : Cell) → (times_filled c (lower_boxes a p boxes) ≡ times_filled c (lower a p whole ∷ [])) × (times_filled c (upper_boxes a p boxes) ≡ times_filled c (upper a p whole ∷ []))
     same_parts c =
         let both = filled-sides boxes uncut c in
         let parts = filled-parts c a p whole place in
         let all = tiles.same c in
         elim (cases_lt (coordinate a c) p) [
-          | inl before ↦ (let none = none_above c boxes before in let not = not_upper c before in (omega arith, omega arith))
-          | inr beyond ↦ (let none = none_below c boxes beyond in let not = not_lower c beyond in (omega arith, omega arith))
+          | inl before ↦
+              let none = none_there c is_above (λ b above l. omega (arith, leb-true p (start a b) above)) boxes (upper a p whole) (le-leb _ _ (omega (arith, start-upper a p whole))) in
+              (omega arith, omega arith)
+          | inr beyond ↦
+              let none = none_there c is_below (λ b below l. omega (arith, leb-true (end a b) p below)) boxes (lower a p whole) (le-leb _ _ (omega (arith, end-lower a p whole place.from))) in
+              (omega arith, omega arith)
         ]
 
-    pub Tiles-lower : Tiles (lower_boxes a p boxes) (lower a p whole)
-    Tiles-lower = record { same = λ c. (same_parts c).0 }
+    pub lower_side : IsSide whole boxes (lower a p whole) (lower_boxes a p boxes)
+    lower_side = record { inside = lower-part a p whole place; tiles = record { same = λ c. (same_parts c).0 }; from_cuts = λ from. (open_planes_split_cuts boxes whole a p from place uncut).0 }
 
-    pub Tiles-upper : Tiles (upper_boxes a p boxes) (upper a p whole)
-    Tiles-upper = record { same = λ c. (same_parts c).1 }
+    pub upper_side : IsSide whole boxes (upper a p whole) (upper_boxes a p boxes)
+    upper_side = record { inside = upper-part a p whole place; tiles = record { same = λ c. (same_parts c).1 }; from_cuts = λ from. (open_planes_split_cuts boxes whole a p from place uncut).1 }

@@ -2,9 +2,8 @@
 use Rattle.std.proofs.Common.{◌≡◌, ℕ, suc, ◌+◌, ◌-◌, ◌<◌, List, [], ◌∷◌, ◌++◌, refl, ap, sym, ◌∙◌, subst, cond, true, false, Bool, arith, length, append-nil, append_assoc, get_or, take, drop}
 use Rattle.std.specs.Prelude.{Option, Some, None, IsSome, MatchBool, map, filter, All, AllPairs, remove}
 use Rattle.std.specs.declared.cmp.Ordering.{Ordering}
-use Rattle.std.specs.declared.cmp.Ordering.TheVariants.{Less, Equal, Greater}
 use Rattle.std.specs.Cmp.{IsTotalOrder, Equal-is}
-use Rattle.std.specs.Ordering.{is_eq, match_ordering}
+use Rattle.std.specs.Ordering.{is_eq}
 use Rattle.std.specs.Option.{option_map}
 use Rattle.std.specs.Map.{lookup, set_value, keys_of}
 use Rattle.std.specs.BTreeMap.{is_at, insert_entry}
@@ -32,8 +31,7 @@ use Rattle.rectangle_pack.proofs.CutTreeLemmas.{HasLeaves-leaf, IsFromCuts-by}
 use Rattle.rectangle_pack.proofs.FrameLemmas.{IsRecut, changed-all}
 use Rattle.rectangle_pack.proofs.JournalLemmas.{lookup-bins_of, is_some-bins_of}
 use Rattle.rectangle_pack.proofs.KeepsCutsLemmas.{KeepsCuts, KeepsBoxes, IsFrame-boxes, KeptBySteps-boxes}
-use Rattle.rectangle_pack.proofs.MapsLemmas.{lookup-equal, lookup-written, is_some-keys}
-use Rattle.rectangle_pack.proofs.PackLemmas.{found-bins_of}
+use Rattle.rectangle_pack.proofs.MapsLemmas.{lookup-equal, lookup-written, is_some-keys, insert_entry-map_values}
 use Rattle.rectangle_pack.proofs.PackingOrderLemmas.{cmp-self}
 use Rattle.rectangle_pack.proofs.PlacedLemmas.{keys-placed, known-placed}
 
@@ -293,6 +291,13 @@ module _ {Id B : Type 0} {bin_cmp : B → B → Ordering} (o : IsTotalOrder bin_
         };
       }
 
+-- what a look-up finds or does not find, without the room
+pub Some-bins_of : {B : Type 0} (test : B → Bool) (es : List (B × Held)) (v : Held) → lookup test es ≡ Some v → lookup test (bins_of es) ≡ Some v.bin
+Some-bins_of test es v h = lookup-bins_of test es ∙ ap (option_map (λ (x : Held). x.bin)) h
+
+pub None-bins_of : {B : Type 0} (test : B → Bool) (es : List (B × Held)) → lookup test es ≡ None → lookup test (bins_of es) ≡ None
+None-bins_of test es h = lookup-bins_of test es ∙ ap (option_map (λ (x : Held). x.bin)) h
+
 -- the record at an index is outstanding
 abbrev pub outstanding_at : {Id B : Type 0} (records : List (Outstanding Id B)) (number i : ℕ) (r : Outstanding Id B) → (i < length records) × ((d : Outstanding Id B) → (get_or records i d).number ≡ number) → r ≡ get_or records i r → IsOutstanding records number
 outstanding_at {Id} {B} records number i r at is = record {
@@ -311,7 +316,7 @@ IsSession-found {Id} {B} {bin_cmp} o bins records next number at h =
     let session : IsSession bin_cmp (record { bins = bins_of bins; records = at.before ++ at.found ∷ at.after; next = next }) = subst (λ rs. IsSession bin_cmp (record { bins = bins_of bins; records = rs; next = next })) at.splits h in
     let known = All-middle (λ (r : Outstanding Id B). IsSome (lookup (is_at (bin_cmp r.bin)) (bins_of bins))) records at.before at.after at.found at.splits h.known in
     let there = some_of (lookup test bins) (sym (is_some-bins_of test bins) ∙ known) in
-    (there.0, there.1, IsSession-accepts o (bins_of bins) at.before at.found at.after next there.0.bin session (found-bins_of test bins (bins_of bins) there.0 refl there.1))
+    (there.0, there.1, IsSession-accepts o (bins_of bins) at.before at.found at.after next there.0.bin session (Some-bins_of test bins there.0 there.1))
 
 -- a new bin is covered by its one section
 whole-covers : (size : Size) → CoverBin (whole size ∷ []) size
@@ -363,9 +368,4 @@ IsSession-added {Id} {B} {bin_cmp} o bins new records next id size absent seen h
 
 -- an entry that is inserted, without its room
 pub bins_of-insert_entry : {B : Type 0} (bin_cmp : B → B → Ordering) (es : List (B × Held)) (k : B) (v : Held) → bins_of (insert_entry bin_cmp es k v) ≡ insert_entry bin_cmp (bins_of es) k v.bin
-bins_of-insert_entry bin_cmp [] k v = refl
-bins_of-insert_entry bin_cmp (e ∷ es) k v = elim (bin_cmp k e.0) as (λ o. bins_of (match_ordering o ((k, v) ∷ e ∷ es) ((e.0, v) ∷ es) (e ∷ insert_entry bin_cmp es k v)) ≡ match_ordering o ((k, v.bin) ∷ (e.0, e.1.bin) ∷ bins_of es) ((e.0, v.bin) ∷ bins_of es) ((e.0, e.1.bin) ∷ insert_entry bin_cmp (bins_of es) k v.bin))
-    [ Less ↦ refl | Equal ↦ refl | Greater ↦ ap (λ l. (e.0, e.1.bin) ∷ l) (bins_of-insert_entry bin_cmp es k v) ]
-
-pub None-bins_of : {B : Type 0} (test : B → Bool) (es : List (B × Held)) → lookup test es ≡ None → lookup test (bins_of es) ≡ None
-None-bins_of test es h = lookup-bins_of test es ∙ ap (option_map (λ (x : Held). x.bin)) h
+bins_of-insert_entry bin_cmp es k v = insert_entry-map_values (λ (h : Held). h.bin) bin_cmp es k v

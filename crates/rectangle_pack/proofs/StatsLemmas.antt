@@ -1,5 +1,5 @@
 -- What free sections, and the boxes that stand in a bin, add up to.
-use Rattle.std.proofs.Common.{◌≡◌, ℕ, suc, ◌+◌, ◌<◌, ◌≤◌, List, ◌∷◌, ◌++◌, Bool, true, length, take, drop, refl, ap, sym, subst, ◌∙◌, arith, get_or}
+use Rattle.std.proofs.Common.{◌≡◌, ℕ, suc, ◌+◌, ◌<◌, ◌≤◌, List, ◌∷◌, ◌++◌, Bool, true, length, take, drop, ap, sym, subst, ◌∙◌, arith, get_or}
 use Rattle.std.specs.Prelude.{Some, filter}
 use Rattle.std.specs.declared.cmp.Ordering.{Ordering}
 use Rattle.std.specs.Ordering.{is_eq}
@@ -15,8 +15,7 @@ use Rattle.rectangle_pack.specs.Counting.{total_volume}
 use Rattle.rectangle_pack.specs.Packing.{bins_of}
 use Rattle.rectangle_pack.specs.Session.{IsSession, standing_in}
 use Rattle.rectangle_pack.proofs.CoverVolumesLemmas.{CoverBin-volume}
-use Rattle.rectangle_pack.proofs.PackLemmas.{found-bins_of}
-use Rattle.rectangle_pack.proofs.SessionLemmas.{standing_in-record}
+use Rattle.rectangle_pack.proofs.SessionLemmas.{Some-bins_of, standing_in-record}
 
 total_volume-append : (xs ys : List Cuboid) → total_volume (xs ++ ys) ≡ total_volume xs + total_volume ys
 total_volume-append xs ys = sum_by-append (λ (b : Cuboid). volume_of b.whd) xs ys
@@ -30,7 +29,7 @@ IsSession-volumes bin_cmp bins records next id held h found =
     omega (
       arith,
       total_volume-append held.bin.sections standing,
-      CoverBin-volume (held.bin.sections ++ standing) held.bin.size (h.covered id held.bin (found-bins_of (is_at (bin_cmp id)) bins (bins_of bins) held refl found)),
+      CoverBin-volume (held.bin.sections ++ standing) held.bin.size (h.covered id held.bin (Some-bins_of (is_at (bin_cmp id)) bins held found)),
     )
 
 -- what stands in the bin before a record that stands there leaves room for it, in volume and in number

@@ -26,9 +26,8 @@ use Rattle.rectangle_pack.proofs.FrameLemmas.{IsRecut, IsFrame-recut}
 use Rattle.rectangle_pack.proofs.JoiningLemmas.{IsJoined-cells, IsSwept-cells, IsJoined-keeps, IsSwept-keeps, join-inside}
 use Rattle.rectangle_pack.proofs.JournalLemmas.{bins_of-written}
 use Rattle.rectangle_pack.proofs.MapsLemmas.{lookup-equal, lookup-inserted}
-use Rattle.rectangle_pack.proofs.PackLemmas.{found-bins_of}
 use Rattle.rectangle_pack.proofs.PackingOrderLemmas.{cmp-self}
-use Rattle.rectangle_pack.proofs.SessionLemmas.{None-bins_of, bins_of-insert_entry, IsSession-carried, AreCarried-written, known-kept, IsSession-added, IsSession-released, IsSession-done}
+use Rattle.rectangle_pack.proofs.SessionLemmas.{Some-bins_of, None-bins_of, bins_of-insert_entry, IsSession-carried, AreCarried-written, known-kept, IsSession-added, IsSession-released, IsSession-done}
 
 -- a bin is added under an id alike under each that equals it
 pub AddsBin-equal : {Id B : Type 0} {bin_cmp : B → B → Ordering} → IsTotalOrder bin_cmp → (id other : B) → bin_cmp id other ≡ Equal → (size : Size) (old : State Id B) (reply : Reply) (new : State Id B)
@@ -142,7 +141,7 @@ module _ {Id B : Type 0} {bin_cmp : B → B → Ordering} (o : IsTotalOrder bin_
       let is : State Id B = record { bins = bins_of new; records = records; next = next } in
       let step : Coalesces bin_cmp Joins id was Done is = (
         v.bin,
-        found-bins_of (is_at (bin_cmp id)) old (bins_of old) v refl found,
+        Some-bins_of (is_at (bin_cmp id)) old v found,
         w.bin.sections,
         joins,
         ap (λ (bs : List (B × Bin)). record { bins = bs; records = records; next = next }) (bins_of-written (is_at (bin_cmp id)) old new w _ written stays),

@@ -1,6 +1,7 @@
 //! Groups that are excluded, and the fit tests of whole packings.
 
 use super::cases::{Bins, Case, Rects, bins_of, comes_out, pack_by_volume, rects_of};
+use super::placements::{FULL_AND_EMPTY, THREE_BOXES};
 use super::says;
 use crate::outcome::Outcome;
 use rectangle_pack::{
@@ -112,37 +113,6 @@ fn groups_that_are_not_excluded(rt: HostRuntime) -> Result<(), Fail> {
     };
     pack_by_volume(&rt, rt.alloc(), &[case])
 }
-
-// Three boxes in one bin.
-const THREE_BOXES: Case = Case {
-    bins: &[("bin", [100, 100, 1])],
-    boxes: &[
-        ("One", [60, 95, 1], &[]),
-        ("Two", [40, 10, 1], &[]),
-        ("Three", [1, 1, 1], &[]),
-    ],
-    placements: Some(&[
-        ("One", "bin", [0, 0, 0, 60, 95, 1]),
-        ("Two", "bin", [60, 0, 0, 40, 10, 1]),
-        ("Three", "bin", [60, 10, 0, 1, 1, 1]),
-    ]),
-    lists: &[&[
-        [0, 95, 0, 60, 5, 1],
-        [60, 11, 0, 40, 89, 1],
-        [61, 10, 0, 39, 1, 1],
-    ]],
-};
-
-// The first bin is full and has no section to test.
-const FULL_AND_EMPTY: Case = Case {
-    bins: &[("Three", [20, 20, 1]), ("Four", [50, 50, 1])],
-    boxes: &[("One", [15, 15, 1], &[]), ("Two", [20, 20, 1], &[])],
-    placements: Some(&[
-        ("Two", "Three", [0, 0, 0, 20, 20, 1]),
-        ("One", "Four", [0, 0, 0, 15, 15, 1]),
-    ]),
-    lists: &[&[], &[[0, 15, 0, 50, 35, 1], [15, 0, 0, 35, 15, 1]]],
-};
 
 const NOTHING: Case = Case {
     bins: &[("P", BIN)],

@@ -6,6 +6,37 @@ use std::test::Fail;
 
 const MAX: u32 = u32::MAX;
 
+/// The larger box fills the first bin, which then has no section to test.
+pub const FULL_AND_EMPTY: Case = Case {
+    bins: &[("Three", [20, 20, 1]), ("Four", [50, 50, 1])],
+    boxes: &[("One", [15, 15, 1], &[]), ("Two", [20, 20, 1], &[])],
+    placements: Some(&[
+        ("Two", "Three", [0, 0, 0, 20, 20, 1]),
+        ("One", "Four", [0, 0, 0, 15, 15, 1]),
+    ]),
+    lists: &[&[], &[[0, 15, 0, 50, 35, 1], [15, 0, 0, 35, 15, 1]]],
+};
+
+/// Three boxes in one bin: the hole of 60x5 is smaller, and is not taken.
+pub const THREE_BOXES: Case = Case {
+    bins: &[("bin", [100, 100, 1])],
+    boxes: &[
+        ("One", [60, 95, 1], &[]),
+        ("Two", [40, 10, 1], &[]),
+        ("Three", [1, 1, 1], &[]),
+    ],
+    placements: Some(&[
+        ("One", "bin", [0, 0, 0, 60, 95, 1]),
+        ("Two", "bin", [60, 0, 0, 40, 10, 1]),
+        ("Three", "bin", [60, 10, 0, 1, 1, 1]),
+    ]),
+    lists: &[&[
+        [0, 95, 0, 60, 5, 1],
+        [60, 11, 0, 40, 89, 1],
+        [61, 10, 0, 39, 1, 1],
+    ]],
+};
+
 #[test]
 fn one_box_in_the_smallest_bin(rt: HostRuntime) -> Result<(), Fail> {
     let cases = [
@@ -62,15 +93,7 @@ fn largest_boxes_first(rt: HostRuntime) -> Result<(), Fail> {
                 [15, 0, 0, 5, 5, 1],
             ]],
         },
-        Case {
-            bins: &[("Three", [20, 20, 1]), ("Four", [50, 50, 1])],
-            boxes: &[("One", [15, 15, 1], &[]), ("Two", [20, 20, 1], &[])],
-            placements: Some(&[
-                ("Two", "Three", [0, 0, 0, 20, 20, 1]),
-                ("One", "Four", [0, 0, 0, 15, 15, 1]),
-            ]),
-            lists: &[&[], &[[0, 15, 0, 50, 35, 1], [15, 0, 0, 35, 15, 1]]],
-        },
+        FULL_AND_EMPTY,
     ];
     pack_by_volume(&rt, rt.alloc(), &cases)
 }
@@ -105,25 +128,7 @@ fn newest_sections_first(rt: HostRuntime) -> Result<(), Fail> {
             ]),
             lists: &[&[[60, 10, 0, 40, 90, 1], [0, 98, 0, 60, 2, 1]]],
         },
-        // The hole of 60x5 is smaller, and is not taken.
-        Case {
-            bins: &[("bin", [100, 100, 1])],
-            boxes: &[
-                ("One", [60, 95, 1], &[]),
-                ("Two", [40, 10, 1], &[]),
-                ("Three", [1, 1, 1], &[]),
-            ],
-            placements: Some(&[
-                ("One", "bin", [0, 0, 0, 60, 95, 1]),
-                ("Two", "bin", [60, 0, 0, 40, 10, 1]),
-                ("Three", "bin", [60, 10, 0, 1, 1, 1]),
-            ]),
-            lists: &[&[
-                [0, 95, 0, 60, 5, 1],
-                [60, 11, 0, 40, 89, 1],
-                [61, 10, 0, 39, 1, 1],
-            ]],
-        },
+        THREE_BOXES,
     ];
     pack_by_volume(&rt, rt.alloc(), &cases)
 }

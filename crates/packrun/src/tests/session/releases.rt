@@ -8,17 +8,19 @@ const USED_UP: Reply = Reply::Refused(SessionError::NumbersUsedUp);
 
 const NO_BIN: Reply = Reply::Refused(SessionError::UnknownBin);
 
+const NEW_BIN: Step = Step {
+    order: Order::AddBin("bin", [10, 10, 1]),
+    reply: Reply::Done,
+    after: Standing {
+        bins: &[("bin", WHOLE)],
+        placed: &[],
+        next: 0,
+    },
+};
+
 /// A bin that two boxes fill, and that is free again once both are released.
 pub const TWO_RELEASES: &[Step] = &[
-    Step {
-        order: Order::AddBin("bin", [10, 10, 1]),
-        reply: Reply::Done,
-        after: Standing {
-            bins: &[("bin", WHOLE)],
-            placed: &[],
-            next: 0,
-        },
-    },
+    NEW_BIN,
     Step {
         order: Order::Pack(&[("p", [4, 10, 1], &[])], &[]),
         reply: Reply::Packed(Packed { first: 0, count: 1 }),
@@ -85,15 +87,7 @@ pub const TWO_RELEASES: &[Step] = &[
 
 // A bin that is swept, and a bin that is not there.
 const SWEPT: &[Step] = &[
-    Step {
-        order: Order::AddBin("bin", [10, 10, 1]),
-        reply: Reply::Done,
-        after: Standing {
-            bins: &[("bin", WHOLE)],
-            placed: &[],
-            next: 0,
-        },
-    },
+    NEW_BIN,
     Step {
         order: Order::Pack(&[("p", [4, 10, 1], &[]), ("q", [6, 10, 1], &[])], &[]),
         reply: Reply::Packed(Packed { first: 0, count: 2 }),
@@ -154,15 +148,7 @@ pub const BOTH_RELEASED: Standing = Standing {
 
 // A box without cells takes no section, and gives none back.
 const EMPTY_BOX: &[Step] = &[
-    Step {
-        order: Order::AddBin("bin", [10, 10, 1]),
-        reply: Reply::Done,
-        after: Standing {
-            bins: &[("bin", WHOLE)],
-            placed: &[],
-            next: 0,
-        },
-    },
+    NEW_BIN,
     Step {
         order: Order::Pack(&[("empty", [0, 5, 1], &[])], &[]),
         reply: Reply::Packed(Packed { first: 0, count: 1 }),

@@ -22,23 +22,19 @@ loop-id-preserved g c =
     let equal : g.B.Ord.cmp c.in-Some.id.now c.in_ok-clone.field-0 ≡ Equal = (Equal-is _).0 (sym (g.met.B.Ord.matches_eq _ _) ∙ same) in
     rw (map_push deref_pair c.loop-id.yielded (c.in-Some.id, c.in-Some.bin), c.in_ok-push.ensures.items) (AllZip-more _ (map deref_pair c.loop-id.yielded) c.loop-id.order.items (deref_pair (c.in-Some.id, c.in-Some.bin)) (c.rate.result, c.in_ok-clone.field-0) c.loop-id.invariant (equal, rw (← c.max_size.ensures) c.rate.ensures))
 
-pub returns-clause-order : goal.returns-clause-order
-returns-clause-order g c =
-    let e : map deref_pair c.loop-id.yielded ≡ c.args.bins.now.entries = (iter_end deref_pair _ _ _ _ _ _ c.into_iter-id-iterator.ensures.into_iter_gives.0 c.loop-id.yielded_by c.in-None.is c.next.ensures.steps).0 in
-    record {
-      unsorted = c.loop-id.order.items;
-      each = rw (← e) (AllZip-map_left _ (λ (x : g.row.B.Denot × Held). (x.0, x.1.bin)) (map deref_pair c.loop-id.yielded) c.loop-id.order.items c.loop-id.invariant);
-      permutation = c.sort_unstable.ensures.permutation;
-      rising = c.sort_unstable.ensures.sorted;
-    }
-
-pub returns-clause-found : goal.returns-clause-found
-returns-clause-found g c =
-    let e : map deref_pair c.loop-id.yielded ≡ c.args.bins.now.entries = (iter_end deref_pair _ _ _ _ _ _ c.into_iter-id-iterator.ensures.into_iter_gives.0 c.loop-id.yielded_by c.in-None.is c.next.ensures.steps).0 in
-    All-permutation (λ (o : ℕ × g.row.B.Denot). IsSome (lookup (is_at (g.B.Ord.cmp o.1)) c.args.bins.now.entries)) c.loop-id.order.items _ c.sort_unstable.ensures.permutation
-    (found-zip g.met.B.Ord.total (λ (o : ℕ × g.row.B.Denot). o.1) _ (λ b o r. r.0) c.args.bins.now.entries c.loop-id.order.items (rw e at c.loop-id.invariant))
-
-pub returns-clause-distinct : goal.returns-clause-distinct
-returns-clause-distinct g c =
+pub returns : goal.returns
+returns g c =
     let cmp = g.B.Ord.cmp in
-    subst (λ (ks : List g.row.B.Denot). IsDistinct (eq_by_cmp cmp) ks) (sym (keys-bins c.args.bins.now.entries)) (IsDistinct-from_sorted cmp (keys_of c.args.bins.now.entries) c.len.ensures.ordered)
+    let bins = c.args.bins.now.entries in
+    let e : map deref_pair c.loop-id.yielded ≡ bins = (iter_end deref_pair _ _ _ _ _ _ c.into_iter-id-iterator.ensures.into_iter_gives.0 c.loop-id.yielded_by c.in-None.is c.next.ensures.steps).0 in
+    record {
+      order = record {
+        unsorted = c.loop-id.order.items;
+        each = rw (← e) (AllZip-map_left _ (λ (x : g.row.B.Denot × Held). (x.0, x.1.bin)) (map deref_pair c.loop-id.yielded) c.loop-id.order.items c.loop-id.invariant);
+        permutation = c.sort_unstable.ensures.permutation;
+        rising = c.sort_unstable.ensures.sorted;
+      };
+      found = All-permutation (λ (o : ℕ × g.row.B.Denot). IsSome (lookup (is_at (cmp o.1)) bins)) c.loop-id.order.items _ c.sort_unstable.ensures.permutation
+          (found-zip g.met.B.Ord.total (λ (o : ℕ × g.row.B.Denot). o.1) _ (λ b o r. r.0) bins c.loop-id.order.items (rw e at c.loop-id.invariant));
+      distinct = subst (λ (ks : List g.row.B.Denot). IsDistinct (eq_by_cmp cmp) ks) (sym (keys-bins bins)) (IsDistinct-from_sorted cmp (keys_of bins) c.len.ensures.ordered);
+    }

@@ -47,42 +47,31 @@ loop-group-preserved g c = record {
       (AllZip-more _ (map deref_pair c.loop-group.yielded) c.loop-group.order.items (deref_pair (c.in-Some.group, c.in-Some.ids)) (_, c.in-Some.group, c.in-Some.ids) c.loop-group.invariant.lent (refl, refl));
 }
 
-pub returns-clause-order : goal.returns-clause-order
-returns-clause-order g c =
-    let e : map deref_pair c.loop-group.yielded ≡ c.args.lists.now.entries = (iter_end deref_pair _ _ _ _ _ _ c.into_iter-group-iterator.ensures.into_iter_gives.0 c.loop-group.yielded_by c.in-None.is c.next.ensures.steps).0 in
-    record {
-      unsorted = keys_of_order c.loop-group.order.items;
-      each = AllZip-map_right _ _ (lists_of c.args.lists.now.entries) c.loop-group.order.items (rw (← e) c.loop-group.invariant.keyed);
-      permutation = c.sort_falling.ensures.permutation;
-      falling = c.sort_falling.ensures.falling;
-    }
-
-pub returns-clause-listed : goal.returns-clause-listed
-returns-clause-listed g c =
-    let e : map deref_pair c.loop-group.yielded ≡ c.args.lists.now.entries = (iter_end deref_pair _ _ _ _ _ _ c.into_iter-group-iterator.ensures.into_iter_gives.0 c.loop-group.yielded_by c.in-None.is c.next.ensures.steps).0 in
-    All-permutation (λ (o : Reverse ℕ × Bor g.row.K.Denot × Bor (Vec g.row.Id.Denot g.row.A.Denot)). lookup (is_at (g.K.Ord.cmp o.1.now)) c.args.lists.now.entries ≡ Some o.2.now) c.loop-group.order.items _ c.sort_falling.ensures.same
-    (listed-zip g.met.K.Ord.total c.args.lists.now c.len.ensures.ordered c.loop-group.order.items (rw e at c.loop-group.invariant.lent))
-
-pub returns-clause-as_many : goal.returns-clause-as_many
-returns-clause-as_many g c =
-    let e : map deref_pair c.loop-group.yielded ≡ c.args.lists.now.entries = (iter_end deref_pair _ _ _ _ _ _ c.into_iter-group-iterator.ensures.into_iter_gives.0 c.loop-group.yielded_by c.in-None.is c.next.ensures.steps).0 in
-    length_permutation c.loop-group.order.items c.sort_falling.new.order.items c.sort_falling.ensures.same ∙ sym (length-zip _ c.args.lists.now.entries c.loop-group.order.items (rw e at c.loop-group.invariant.lent))
-
-pub returns-clause-counted : goal.returns-clause-counted
-returns-clause-counted g c =
-    let e : map deref_pair c.loop-group.yielded ≡ c.args.lists.now.entries = (iter_end deref_pair _ _ _ _ _ _ c.into_iter-group-iterator.ensures.into_iter_gives.0 c.loop-group.yielded_by c.in-None.is c.next.ensures.steps).0 in
-    let lists = lists_of c.args.lists.now.entries in
-    let unsorted = keys_of_order c.loop-group.order.items in
-    let each : AllZip (λ e o. (o.1 ≡ e.0) × IsGroupKey (g.R.Ask.may c.args.rules.now).rate g.Id.Ord.cmp c.args.rects.now.entries e.1 o.0) lists unsorted = AllZip-map_right _ _ lists c.loop-group.order.items (rw (← e) c.loop-group.invariant.keyed) in
-    sum_by-IsPermutation (entries_at g.K.Ord.cmp lists) _ _ c.sort_falling.ensures.permutation
-    ∙ counted-zip g.K.Ord.cmp _ lists c.args.lists.now.entries unsorted each (lookup-each g.met.K.Ord.total c.args.lists.now c.len.ensures.ordered)
-
-pub returns-clause-distinct : goal.returns-clause-distinct
-returns-clause-distinct g c =
-    let e : map deref_pair c.loop-group.yielded ≡ c.args.lists.now.entries = (iter_end deref_pair _ _ _ _ _ _ c.into_iter-group-iterator.ensures.into_iter_gives.0 c.loop-group.yielded_by c.in-None.is c.next.ensures.steps).0 in
+pub returns : goal.returns
+returns g c =
     let cmp = g.K.Ord.cmp in
+    let entries = c.args.lists.now.entries in
+    let lists = lists_of entries in
+    let order = c.loop-group.order.items in
+    let unsorted = keys_of_order order in
+    let e : map deref_pair c.loop-group.yielded ≡ entries = (iter_end deref_pair _ _ _ _ _ _ c.into_iter-group-iterator.ensures.into_iter_gives.0 c.loop-group.yielded_by c.in-None.is c.next.ensures.steps).0 in
+    let each : AllZip (λ e o. (o.1 ≡ e.0) × IsGroupKey (g.R.Ask.may c.args.rules.now).rate g.Id.Ord.cmp c.args.rects.now.entries e.1 o.0) lists unsorted = AllZip-map_right _ _ lists order (rw (← e) c.loop-group.invariant.keyed) in
+    let lent = rw e at c.loop-group.invariant.lent in
     let name : Reverse ℕ × Bor g.row.K.Denot × Bor (Vec g.row.Id.Denot g.row.A.Denot) → g.row.K.Denot = λ o. o.1.now in
-    let names : map name c.loop-group.order.items ≡ keys_of c.args.lists.now.entries = names-zip name _ (lists_of c.args.lists.now.entries) c.loop-group.order.items (rw e at c.loop-group.invariant.keyed) ∙ keys-lists c.args.lists.now.entries in
-    IsDistinct-IsPermutation (eq_by_cmp cmp) (λ x y. is_at-back g.met.K.Ord.total x y) (map name c.loop-group.order.items) _
-    (IsPermutation-map name _ _ c.sort_falling.ensures.same)
-    (subst (λ (ks : List g.row.K.Denot). IsDistinct (eq_by_cmp cmp) ks) (sym names) (IsDistinct-from_sorted cmp (keys_of c.args.lists.now.entries) c.len.ensures.ordered))
+    let names : map name order ≡ keys_of entries = names-zip name _ lists order (rw e at c.loop-group.invariant.keyed) ∙ keys-lists entries in
+    record {
+      order = record {
+        unsorted = unsorted;
+        each = each;
+        permutation = c.sort_falling.ensures.permutation;
+        falling = c.sort_falling.ensures.falling;
+      };
+      listed = All-permutation (λ (o : Reverse ℕ × Bor g.row.K.Denot × Bor (Vec g.row.Id.Denot g.row.A.Denot)). lookup (is_at (cmp o.1.now)) entries ≡ Some o.2.now) order _ c.sort_falling.ensures.same
+          (listed-zip g.met.K.Ord.total c.args.lists.now c.len.ensures.ordered order lent);
+      as_many = length_permutation order c.sort_falling.new.order.items c.sort_falling.ensures.same ∙ sym (length-zip _ entries order lent);
+      distinct = IsDistinct-IsPermutation (eq_by_cmp cmp) (λ x y. is_at-back g.met.K.Ord.total x y) (map name order) _
+          (IsPermutation-map name _ _ c.sort_falling.ensures.same)
+          (subst (λ (ks : List g.row.K.Denot). IsDistinct (eq_by_cmp cmp) ks) (sym names) (IsDistinct-from_sorted cmp (keys_of entries) c.len.ensures.ordered));
+      counted = sum_by-IsPermutation (entries_at cmp lists) _ _ c.sort_falling.ensures.permutation
+          ∙ counted-zip cmp _ lists entries unsorted each (lookup-each g.met.K.Ord.total c.args.lists.now c.len.ensures.ordered);
+    }

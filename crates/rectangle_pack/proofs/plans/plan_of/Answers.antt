@@ -1,4 +1,4 @@
-use Rattle.std.proofs.Common.{ℕ, ◌+◌, ◌-◌, ◌≡◌, List, ◌∷◌, ◌++◌, length, take, drop, reverse, [], refl, ap, sym, ◌∙◌, subst, arith}
+use Rattle.std.proofs.Common.{ℕ, ◌+◌, ◌-◌, ◌≡◌, List, ◌∷◌, ◌++◌, length, take, drop, reverse, [], refl, ap, sym, ◌∙◌, subst, rules, arith}
 use Rattle.std.specs.Prelude.{None}
 use Rattle.std.specs.List.Sorted.{IsPermutation}
 use Rattle.std.proofs.lemmas.List.{drop-drop, nil_from_length}
@@ -38,15 +38,11 @@ slice_bounds-first_split-end g c =
     let next = IsNext-popped _ _ _ _ _ _ _ _ c.loop-part.invariant.within (c.in-Some.ensures {u = tt}).items c.loop-part.invariant.leads in
     omega (arith, next.within)
 
-pub first_split-found-requires-clause-filled : goal.first_split-found-requires-clause-filled
-first_split-found-requires-clause-filled g c =
+pub first_split-found-requires : goal.first_split-found-requires
+first_split-found-requires g c =
     let next = IsNext-popped _ _ _ _ _ _ _ _ c.loop-part.invariant.within (c.in-Some.ensures {u = tt}).items c.loop-part.invariant.leads in
-    subst (IsFilled c.in-Some.part.whole) (lent c.loop-part.done c.in-Some.part.count c.loop-part.entries) next.pending.filled
-
-pub first_split-found-requires-clause-ordered : goal.first_split-found-requires-clause-ordered
-first_split-found-requires-clause-ordered g c =
-    let next = IsNext-popped _ _ _ _ _ _ _ _ c.loop-part.invariant.within (c.in-Some.ensures {u = tt}).items c.loop-part.invariant.leads in
-    subst (AreOrdered c.in-Some.part.ordered) (lent c.loop-part.done c.in-Some.part.count c.loop-part.entries) next.pending.ordered
+    let lends = lent c.loop-part.done c.in-Some.part.count c.loop-part.entries in
+    record { filled = subst (IsFilled c.in-Some.part.whole) lends next.pending.filled; ordered = subst (AreOrdered c.in-Some.part.ordered) lends next.pending.ordered; some = search rules }
 
 pub returns-in_default-found : goal.returns-in_default-found
 returns-in_default-found g c =

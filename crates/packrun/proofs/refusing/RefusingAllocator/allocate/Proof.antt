@@ -1,20 +1,19 @@
 -- refuses, or answers what the inner allocator answers. Assumes `Logic`.
-use Rattle.std.proofs.Common.{◌≡◌, ℕ, List, [], ◌∷◌, refl, ap, ◌+◌, ◌^◌, ◌<◌, true, false, Ok, Err, w64, Bor}
+use Rattle.std.proofs.Common.{◌≡◌, ℕ, List, [], ◌∷◌, refl, ◌+◌, ◌^◌, ◌<◌, true, false, Ok, Err, w64, Bor}
 use seplogic.Ra.Ura.{Ura}
 use mathlib.Core.Bool.{Bool}
 use mir.Val.{Val, vbool, vptr, vint}
-use base.Logic.{SProp, ent, ex, sep, guard, id⊢}
-use base.Fml.{Lft, Share, ftrue, fsep, flft}
+use base.Logic.{SProp, ent, id⊢}
+use base.Fml.{Lft, Share, ftrue, flft}
 use prog.Memory.{Memory, size, align, capped, up}
 use prog.Routine.{Routine}
-use types.Logic.{Logic, sem}
+use types.Logic.{Logic}
 use contract.Monad.{Fun, fact}
-use types.Kit.{‵, ◌⊛◌, some, later, ◌$◌, ◌∵◌, !, qed, move, keep, use1, split, join, pick, fjoin, feq_i, feq_l, check, show, await, updating, now as at_once, done, raw, given, at_ret, by, learn, drop, use0, use2, split3, fsplit, suffices}
-use denote.RattleType.{RattleType, owns}
-use denote.Memory.{hidden_shr}
-use denote.Builtin.{bool, usize, RefOf}
-use denote.Steps.{nothing, only, heard}
-use denote.Triple.Statement.{Contract, Triple}
+use types.Kit.{‵, ◌⊛◌, some, later, ◌$◌, ◌∵◌, !, qed, move, keep, use1, split, join, pick, fjoin, await, done, raw, given, at_ret, learn, use0, use2, fsplit, suffices}
+use denote.RattleType.{owns}
+use denote.Builtin.{usize, RefOf}
+use denote.Steps.{nothing, heard}
+use denote.Triple.Statement.{Triple}
 use denote.Triple.Spec.{triple_of}
 use mir.Syntax.{Ty, Args, Fn, a_type, dnil, dcons}
 use mir.MapTy.{inst_fn}
@@ -38,9 +37,7 @@ use types.ByLocal.{alloc_all, pass_all, free_all, look_at, get, through, sets, l
 use denote.RawPtr.{block_ptr}
 use denote.Triple.Call.{calls_at}
 use Rattle.std.proofs.alloc.Calls.{Al, α, seen, Answer, answer_val, Answer-typed, Answer-Ok, Answer-err, takes_key, Takes, at_takes, Answered, Takes-goes, Takes-gives, answers}
-use Rattle.std.specs.contracts.cell.Cell as CE
-use Rattle.packrun.specs.contracts.refusing.Counts as CO
-use Rattle.packrun.specs.contracts.refusing.spend as TK
+use Rattle.packrun.proofs.refusing.CountsLemmas.{Spends, at_counts, hands_counts, has_result}
 use Rattle.packrun.proofs.refusing.spend.Symbol as c_sym
 use Rattle.packrun.proofs.refusing.spend.Met as c_met
 use Rattle.packrun.specs.contracts.refusing.Refusing as wrapper
@@ -48,31 +45,6 @@ use Rattle.packrun.specs.contracts.refusing.RefusingAllocator.allocate as F
 use Rattle.packrun.specs.contracts.refusing.RefusingAllocator.allocate.Key as key
 use Rattle.packrun.proofs.refusing.RefusingAllocator.allocate.Statement as stated
 use Rattle.packrun.proofs.refusing.RefusingAllocator.allocate.Code as code
-
-abbrev Calls : RattleType
-Calls = CE.the_row CO.the_row
-
-module _ {M : Type 1} {𝓤 : Ura M} (𝓛 : Logic 𝓤) (at_mem : Memory → SProp 𝓤) (run : Routine → Fun 𝓤) where
-  abbrev pub Tick : Contract 𝓤
-  Tick = triple_of 𝓛 TK.signature (TK.spec 𝓛 at_mem run)
-
-  abbrev pub at_tick : Lft → Share → ℕ × ℕ → Tick.Ghost
-  at_tick κ q c = (((κ, tt), (q, tt), tt, (record { ref_ptr = c; now = record { value = tt } }, tt), (vptr c.0 c.1 ∷ [], tt)), tt)
-
-module _ {M : Type 1} {𝓤 : Ura M} (𝓛 : Logic 𝓤) (at_mem : Memory → SProp 𝓤) (run : Routine → Fun 𝓤) (κ : Lft) (q : Share) (c : ℕ × ℕ) where
-  open 𝓛 use {H, A}
-
-  pub Tick-goes : ent 𝓤 (sep 𝓤 (sem 𝓛 (hidden_shr Calls κ (record { value = tt }) c.0 c.1)) (A.lft κ q)) ((Tick 𝓛 at_mem run).pre (at_tick 𝓛 at_mem run κ q c))
-  Tick-goes =
-      qed 𝓛 (‵ (hidden_shr Calls κ (record { value = tt }) c.0 c.1) ∷ ‵ (flft κ q) ∷ []) ∵ feq_i ! (List Val) (vptr c.0 c.1 ∷ []) (vptr c.0 c.1 ∷ []) refl $ fjoin ! $
-      nothing ! $ move ! (1 ∷ []) $ fjoin ! $ nothing ! $ move ! (2 ∷ []) $ join ! $ join ! $ nothing ! $ move ! (1 ∷ []) $ done !
-
-  pub Tick-gives : (v : Val) → ent 𝓤 ((Tick 𝓛 at_mem run).post (at_tick 𝓛 at_mem run κ q c) v) (H.⇛ (ex 𝓤 (λ (r : Bool). guard 𝓤 (v ≡ vbool r) (A.lft κ q))))
-  Tick-gives v =
-      qed 𝓛 (types.Kit.raw ((Tick 𝓛 at_mem run).post (at_tick 𝓛 at_mem run κ q c) v) ∷ []) ∵ updating ! $
-      use1 𝓛 (later (some (λ (r : Bool). ((‵ (flft κ q) ⊛ ‵ ftrue) ⊛ ‵ (bool.own_val r (v ∷ []))) ⊛ some (λ (ws : Unit {0} × Unit {0}). ‵ (fsep ftrue ftrue) ⊛ ‵ ftrue)))) (id⊢ 𝓤 _) $ await ! tt $ pick ! (λ r.
-      split ! $ split ! $ move ! (1 ∷ []) $ feq_l ! (λ e. split ! $ at_once ! $
-      show ! (λ (r : Bool). guard 𝓤 (v ≡ vbool r) (A.lft κ q)) r $ check ! (ap only e) $ keep ! (0 ∷ []) $ done !))
 
 module _ (Z : Al) where
   abbrev args : Args
@@ -90,7 +62,7 @@ module _ (Z : Al) where
   abbrev stayed : Stays ended.signature.params ended.kept
   stayed = (stay_dropped self yes, (stay_dropped (plain (λ _. usize)) yes, (stay_dropped (plain (λ _. usize)) yes, tt)))
 
-module _ (Z : Al) {M : Type 1} {𝓤 : Ura M} (𝓛 : Logic 𝓤) (at_mem : Memory → SProp 𝓤) (run : Routine → Fun 𝓤) (𝓣 : Tables 𝓤 𝓛.H) (tk : Triple 𝓤 (𝓣.C (takes_key Z)) (Takes Z 𝓛 at_mem run)) (kn : Triple 𝓤 (𝓣.C c_sym.name) (Tick 𝓛 at_mem run)) where
+module _ (Z : Al) {M : Type 1} {𝓤 : Ura M} (𝓛 : Logic 𝓤) (at_mem : Memory → SProp 𝓤) (run : Routine → Fun 𝓤) (𝓣 : Tables 𝓤 𝓛.H) (tk : Triple 𝓤 (𝓣.C (takes_key Z)) (Takes Z 𝓛 at_mem run)) (kn : Triple 𝓤 (𝓣.C c_sym.name) (Spends 𝓛 at_mem run)) where
   open 𝓛 use {H}
 
   abbrev held : Clauses 𝓤 (ended Z)
@@ -119,9 +91,9 @@ module _ (Z : Al) {M : Type 1} {𝓤 : Ura M} (𝓛 : Logic 𝓤) (at_mem : Memo
         enter ! 𝓣.C 𝓣.Λ (here Z) vs _ $ alloc_all ! (λ l. pass_all ! refl ((tt, tt), ((tt, record { fits = fn }), ((tt, record { fits = fa }), tt))) $
         let En : Env 𝓤 H = env (here Z).locals l in
         sets ! (addr ! (through ! refl (fld ! refl (stop !)))) refl (tt, tt) $
-        use2 𝓛 (raw ((Tick 𝓛 at_mem run).pre (at_tick 𝓛 at_mem run κ₁ q₁ c))) (Tick-goes 𝓛 at_mem run κ₁ q₁ c) $
-        calls_at ! (fm_of 𝓤 H 𝓛.laws 𝓣) (Tick 𝓛 at_mem run) kn (at_tick 𝓛 at_mem run κ₁ q₁ c) (and_then ! (get ! refl) (no_more !)) (λ u.
-        use1 𝓛 (later (some (λ (b : Bool). given (u ≡ vbool b) (‵ (flft κ₁ q₁))))) (Tick-gives 𝓛 at_mem run κ₁ q₁ c u) $ await ! tt $ pick ! (λ b. learn ! (λ eu. lands_as ! eu refl (tt, tt) $
+        use2 𝓛 (raw ((Spends 𝓛 at_mem run).pre (at_counts 𝓛 at_mem run κ₁ q₁ c))) (hands_counts 𝓛 at_mem run κ₁ q₁ c) $
+        calls_at ! (fm_of 𝓤 H 𝓛.laws 𝓣) (Spends 𝓛 at_mem run) kn (at_counts 𝓛 at_mem run κ₁ q₁ c) (and_then ! (get ! refl) (no_more !)) (λ u.
+        use1 𝓛 (later (some (λ (b : Bool). given (u ≡ vbool b) (‵ (flft κ₁ q₁))))) (has_result 𝓛 κ₁ q₁ vbool u) $ await ! tt $ pick ! (λ b. learn ! (λ eu. lands_as ! eu refl (tt, tt) $
         first ! $ branches ! (get ! refl)
         (λ t₁. sets ! (agg ! (no_more !)) refl (tt, tt) $
         sets ! (agg ! (and_then ! (lit ! tt) (and_then ! (get ! refl) (no_more !)))) refl (Answer-typed false 0 0) $

@@ -1,4 +1,4 @@
-use Rattle.std.proofs.Common.{◌≡◌, refl, ap, sym, ◌∙◌, subst, rules, Option, Some, None, Ok}
+use Rattle.std.proofs.Common.{◌≡◌, refl, sym, subst, rules, Option, Some, None, Ok}
 use Rattle.std.specs.Prelude.{filter, MatchOption}
 use Rattle.std.specs.declared.cmp.Ordering.{Ordering}
 use Rattle.std.specs.declared.vec.Vec.{Vec}
@@ -14,9 +14,8 @@ use Rattle.rectangle_pack.specs.Session.{State, boxes_of}
 use Rattle.rectangle_pack.specs.PlanAnswers.{IsPlanAnswer}
 use Rattle.rectangle_pack.proofs.CutPlanLemmas.{IsCutPlan-same}
 use Rattle.rectangle_pack.proofs.FillingLemmas.{IsFilled-bin}
-use Rattle.rectangle_pack.proofs.PackLemmas.{found-bins_of}
 use Rattle.rectangle_pack.proofs.SameBoxesLemmas.{HaveSameBoxes-sym, HaveSameBoxes-filter, IsFromCuts-same}
-use Rattle.rectangle_pack.proofs.SessionLemmas.{None-bins_of}
+use Rattle.rectangle_pack.proofs.SessionLemmas.{Some-bins_of, None-bins_of}
 use Rattle.rectangle_pack.proofs.TransitionLemmas.{memory_refused}
 use Rattle.rectangle_pack.proofs.session.Session.cut_plan.Goals as goal
 
@@ -36,35 +35,29 @@ returns-in_default g c = record { planned = rw (← c.self.view_is) (None-bins_o
 
 pub returns-in_err-boxes : goal.returns-in_err-boxes
 returns-in_err-boxes g c =
-    let entries = c.self.inside.bins.entries in
-    let found = found-bins_of (is_at (g.BinId.Ord.cmp c.args.bin.now)) entries (bins_of entries) c.in-Some.place.now refl (sym c.in-Some.ensures.value) in
-    record { planned = rw (memory_refused c.from_residual.result c.from_residual.ensures.1, ← c.self.view_is) (rw found refl) }
+    record { planned = rw (memory_refused c.from_residual.result c.from_residual.ensures.1, ← c.self.view_is, Some-bins_of (is_at (g.BinId.Ord.cmp c.args.bin.now)) c.self.inside.bins.entries c.in-Some.place.now (sym c.in-Some.ensures.value)) refl }
 
 pub plan_of-requires : goal.plan_of-requires
 plan_of-requires g c =
     let cmp = g.BinId.Ord.cmp in
     let id = c.args.bin.now in
     let bin = c.in-Some.place.now.bin in
-    let entries = c.self.inside.bins.entries in
-    let found = found-bins_of (is_at (cmp id)) entries (bins_of entries) c.in-Some.place.now refl (sym c.in-Some.ensures.value) in
-    let boxes = boxes_of cmp c.self.inside.outstanding.items id bin in
-    let items : c.as_mut_slice.result.now ≡ filter has_cells boxes = c.as_mut_slice.ensures.value ∙ ((c.in_ok-boxes.ensures {u = tt}) ∙ ap (λ records. filter has_cells (boxes_of cmp records id bin)) c.as_slice.ensures.value) in
-    record { filled = rw (c.whole.ensures.whole, items) (IsFilled-bin bin.size boxes (rw c.whole.ensures.whole at c.whole.ensures.fits) (c.self.invariant.covered id bin found)) }
+    let found = Some-bins_of (is_at (cmp id)) c.self.inside.bins.entries c.in-Some.place.now (sym c.in-Some.ensures.value) in
+    record {
+      filled = rw (c.whole.ensures.whole, c.as_mut_slice.ensures.value, c.in_ok-boxes.ensures {u = tt}, c.as_slice.ensures.value)
+          (IsFilled-bin bin.size (boxes_of cmp c.self.inside.outstanding.items id bin) (rw c.whole.ensures.whole at c.whole.ensures.fits) (c.self.invariant.covered id bin found));
+    }
 
 pub returns-in_err-plan : goal.returns-in_err-plan
 returns-in_err-plan g c =
-    let entries = c.self.inside.bins.entries in
-    let found = found-bins_of (is_at (g.BinId.Ord.cmp c.args.bin.now)) entries (bins_of entries) c.in-Some.place.now refl (sym c.in-Some.ensures.value) in
-    record { planned = rw (memory_refused c.from_residual-in_err-plan.result c.from_residual-in_err-plan.ensures.1, ← c.self.view_is) (rw found refl) }
+    record { planned = rw (memory_refused c.from_residual-in_err-plan.result c.from_residual-in_err-plan.ensures.1, ← c.self.view_is, Some-bins_of (is_at (g.BinId.Ord.cmp c.args.bin.now)) c.self.inside.bins.entries c.in-Some.place.now (sym c.in-Some.ensures.value)) refl }
 
 pub returns : goal.returns
 returns g c =
     let cmp = g.BinId.Ord.cmp in
     let id = c.args.bin.now in
-    let bin = c.in-Some.place.now.bin in
     let entries = c.self.inside.bins.entries in
-    let found = found-bins_of (is_at (cmp id)) entries (bins_of entries) c.in-Some.place.now refl (sym c.in-Some.ensures.value) in
-    let boxes = boxes_of cmp c.self.inside.outstanding.items id bin in
-    let items : c.as_mut_slice.result.now ≡ filter has_cells boxes = c.as_mut_slice.ensures.value ∙ ((c.in_ok-boxes.ensures {u = tt}) ∙ ap (λ records. filter has_cells (boxes_of cmp records id bin)) c.as_slice.ensures.value) in
+    let found = Some-bins_of (is_at (cmp id)) entries c.in-Some.place.now (sym c.in-Some.ensures.value) in
     let state : State g.row.Id.Denot g.row.BinId.Denot = record { bins = bins_of entries; records = c.self.inside.outstanding.items; next = c.self.inside.next } in
-    record { planned = subst (λ state. IsPlanAnswer cmp state id (Ok c.in_ok-plan.plan)) c.self.view_is (planned cmp state id bin found c.in_ok-plan.plan (rw (c.whole.ensures.whole, items) at (c.in_ok-plan.ensures {u = tt}))) }
+    let plan = rw (c.whole.ensures.whole, c.as_mut_slice.ensures.value, c.in_ok-boxes.ensures {u = tt}, c.as_slice.ensures.value) at (c.in_ok-plan.ensures {u = tt}) in
+    record { planned = subst (λ state. IsPlanAnswer cmp state id (Ok c.in_ok-plan.plan)) c.self.view_is (planned cmp state id c.in-Some.place.now.bin found c.in_ok-plan.plan plan) }

@@ -1,9 +1,7 @@
 use Rattle.std.proofs.Common.{refl, sym, ap, rules, arith}
 use Rattle.std.specs.BTreeMap.{is_at}
 use Rattle.rectangle_pack.specs.Boxes.{volume_of}
-use Rattle.rectangle_pack.specs.Packing.{bins_of}
-use Rattle.rectangle_pack.proofs.PackLemmas.{found-bins_of}
-use Rattle.rectangle_pack.proofs.SessionLemmas.{None-bins_of}
+use Rattle.rectangle_pack.proofs.SessionLemmas.{Some-bins_of, None-bins_of}
 use Rattle.rectangle_pack.proofs.StatsLemmas.{IsSession-volumes}
 use Rattle.rectangle_pack.proofs.session.Session.stats.Goals as goal
 
@@ -22,8 +20,7 @@ placed_in-placed_volume-requires g c =
 
 pub returns-clause-stats : goal.returns-clause-stats
 returns-clause-stats g c =
-    let entries = c.self.inside.bins.entries in
-    rw (← c.self.view_is, found-bins_of (is_at (g.BinId.Ord.cmp c.args.bin.now)) entries (bins_of entries) c.in_ok-place.place.now refl (sym c.in_ok-place.ensures.value))
+    rw (← c.self.view_is, Some-bins_of (is_at (g.BinId.Ord.cmp c.args.bin.now)) c.self.inside.bins.entries c.in_ok-place.place.now (sym c.in_ok-place.ensures.value))
     (rw (c.volume-bin_volume.ensures, c.max_size.ensures, c.free_in.ensures, c.as_slice-sections.ensures.value, c.available_bin_sections.ensures.items, c.placed_in-placed_volume.ensures.volume, c.placed_in-placed_volume.ensures.count, c.as_slice.ensures.value) refl)
 
 pub returns-clause-whole : goal.returns-clause-whole

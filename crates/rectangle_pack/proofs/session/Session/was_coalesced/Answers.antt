@@ -1,8 +1,6 @@
 use Rattle.std.proofs.Common.{refl, sym, rules}
 use Rattle.std.specs.BTreeMap.{is_at}
-use Rattle.rectangle_pack.specs.Packing.{bins_of}
-use Rattle.rectangle_pack.proofs.PackLemmas.{found-bins_of}
-use Rattle.rectangle_pack.proofs.SessionLemmas.{None-bins_of}
+use Rattle.rectangle_pack.proofs.SessionLemmas.{Some-bins_of, None-bins_of}
 use Rattle.rectangle_pack.proofs.session.Session.was_coalesced.Goals as goal
 
 pub returns-in_err-get : goal.returns-in_err-get
@@ -10,5 +8,4 @@ returns-in_err-get g c = rw (c.from_residual.ensures, ← c.self.view_is, None-b
 
 pub returns : goal.returns
 returns g c =
-    let entries = c.self.inside.bins.entries in
-    rw (c.was_coalesced.ensures, ← c.self.view_is, found-bins_of (is_at (g.BinId.Ord.cmp c.args.bin.now)) entries (bins_of entries) c.in_ok-get.field-0.now refl (sym c.in_ok-get.ensures.value)) refl
+    rw (c.was_coalesced.ensures, ← c.self.view_is, Some-bins_of (is_at (g.BinId.Ord.cmp c.args.bin.now)) c.self.inside.bins.entries c.in_ok-get.field-0.now (sym c.in_ok-get.ensures.value)) refl

@@ -1,4 +1,4 @@
-use Rattle.std.proofs.Common.{◌≡◌, refl, sym, ◌∙◌, rules, true, ◌++◌, ◌∷◌, []}
+use Rattle.std.proofs.Common.{◌≡◌, sym, ◌∙◌, rules, true, ◌++◌, ◌∷◌, []}
 use Rattle.std.specs.BTreeMap.{is_at}
 use Rattle.std.proofs.lemmas.Result.{on_ok_weaker, on_err_weaker}
 use Rattle.std.proofs.lemmas.Map.Steps.{set_value_same}
@@ -6,7 +6,7 @@ use Rattle.rectangle_pack.specs.Boxes.{has_cells}
 use Rattle.rectangle_pack.specs.Packing.{bins_of}
 use Rattle.rectangle_pack.specs.Session.{GivesBack}
 use Rattle.rectangle_pack.proofs.JournalLemmas.{bins_of-written}
-use Rattle.rectangle_pack.proofs.PackLemmas.{found-bins_of}
+use Rattle.rectangle_pack.proofs.SessionLemmas.{Some-bins_of}
 use Rattle.rectangle_pack.proofs.session.work.give_back.Goals as goal
 
 pub returns : goal.returns
@@ -17,7 +17,7 @@ returns g c =
     let w = c.push_available_bin_section_unchecked.new.self in
     let written = (c.get_mut.follows.holds w).0 in
     let pushed = c.push_available_bin_section_unchecked.ensures in
-    let found = found-bins_of test old (bins_of old) v refl (sym c.in-Some.ensures.value) in
+    let found = Some-bins_of test old v (sym c.in-Some.ensures.value) in
     let section : c.section_at-section.result ≡ c.args.location = c.section_at-section.ensures in
     let full : has_cells c.args.location ≡ true = search rules in
     record {

@@ -4,14 +4,9 @@ use Rattle.rectangle_pack.specs.declared.session.command.Outstanding.{Outstandin
 use Rattle.rectangle_pack.proofs.NumberingLemmas.{searched}
 use Rattle.rectangle_pack.proofs.session.work.position_of.Goals as goal
 
-pub returns-clause-some : goal.returns-clause-some
-returns-clause-some g c =
+pub returns : goal.returns
+returns g c =
     let facts = c.binary_search_by_key.ensures in
     let by_number = facts.position (λ (o : Outstanding g.row.Id.Denot g.row.B.Denot). o.number) (answers_always _ _ _ (λ f a r h called. search rules)) in
-    rw c.ok.ensures.value (searched c.args.outstanding.now c.args.number _ c.requires.rising facts.bound by_number).0
-
-pub returns-clause-none : goal.returns-clause-none
-returns-clause-none g c =
-    let facts = c.binary_search_by_key.ensures in
-    let by_number = facts.position (λ (o : Outstanding g.row.Id.Denot g.row.B.Denot). o.number) (answers_always _ _ _ (λ f a r h called. search rules)) in
-    rw c.ok.ensures.value (searched c.args.outstanding.now c.args.number _ c.requires.rising facts.bound by_number).1
+    let found = searched c.args.outstanding.now c.args.number _ c.requires.rising facts.bound by_number in
+    record { some = rw c.ok.ensures.value found.0; none = rw c.ok.ensures.value found.1 }
