@@ -1,13 +1,11 @@
 //! What the calls of a session are made of.
-ghost use Rattle.std.specs.Prelude.{◌≡◌, ◌≢◌, ◌+◌, ◌≤◌, ◌<◌, ◌^◌, ◌++◌, [], length, List, IsTrue, IfOk, OnOk, OnErr, IfSome, IfNone, IsSome, All, AllPairs, MatchOption, MatchBool, Ok, slice_index_or, sum, map, vec_len, true};
+ghost use Rattle.std.specs.Prelude.{◌≡◌, ◌≢◌, ◌+◌, ◌≤◌, ◌<◌, ◌^◌, ◌++◌, [], length, List, IsTrue, IfOk, OnOk, OnErr, IfSome, IfNone, IsSome, All, AllPairs, MatchBool, Ok, slice_index_or, vec_len, true};
 ghost use Rattle.std.specs.BTreeMap.{get};
-ghost use Rattle.std.specs.Map.{values_of};
 ghost use Rattle.std.specs.Vec.{vec_capacity};
 ghost use Rattle.rectangle_pack.specs.declared.pack.answer.Placement.{Placement};
 ghost use Rattle.rectangle_pack.specs.declared.session.command.Outstanding.{Outstanding};
 ghost use Rattle.rectangle_pack.specs.Bins.{Bin, IsAccepted};
 ghost use Rattle.rectangle_pack.specs.Boxes.{has_cells};
-ghost use Rattle.rectangle_pack.specs.Groups.{lists_of};
 ghost use Rattle.rectangle_pack.specs.Packing.{rules_by, bins_of, PackingDone, PackingRefused};
 ghost use Rattle.rectangle_pack.specs.PackAnswers.{entries_of};
 ghost use Rattle.rectangle_pack.specs.Session.{GivesBack, numbered};
