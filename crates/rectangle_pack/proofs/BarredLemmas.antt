@@ -181,13 +181,13 @@ module _ {K B : Type 0} (cmp : K → K → Ordering) (bin_cmp : B → B → Orde
   Knows-none partners kept none group some id = ap (λ (es : List (Bor K × Bor B)). went_to cmp bin_cmp es group id) (sym none)
 
   -- the groups that were placed are those that an order named before
-  abbrev pub Named : {X : Type 0} → List (Reverse ℕ × Bor K × X) → List (K × B) → Type 0
+  abbrev pub Named : {X Y : Type 0} → List (Reverse ℕ × Bor K × X × Y) → List (K × B) → Type 0
   Named order homes = (q : K) → All (λ n. is_at (cmp n) q ≡ false) (map (λ x. x.1.now) order) → All (λ h. is_at (cmp q) h.0 ≡ false) homes
 
   -- which stays so with the next group
-  pub Named-more : {X : Type 0} (order : List (Reverse ℕ × Bor K × X)) (i : ℕ) (x : Reverse ℕ × Bor K × X) (homes : List (K × B)) (here : B) → i < length order → x ≡ get_or order i x → Named (take i order) homes → Named (take (i + 1) order) ((x.1.now, here) ∷ homes)
-  Named-more {X} order i x homes here within is named q h =
-      let f : Reverse ℕ × Bor K × X → K = λ y. y.1.now in
+  pub Named-more : {X Y : Type 0} (order : List (Reverse ℕ × Bor K × X × Y)) (i : ℕ) (x : Reverse ℕ × Bor K × X × Y) (homes : List (K × B)) (here : B) → i < length order → x ≡ get_or order i x → Named (take i order) homes → Named (take (i + 1) order) ((x.1.now, here) ∷ homes)
+  Named-more {X} {Y} order i x homes here within is named q h =
+      let f : Reverse ℕ × Bor K × X × Y → K = λ y. y.1.now in
       let P : K → Type 0 = λ n. is_at (cmp n) q ≡ false in
       let more : map f (take (i + 1) order) ≡ map f (take i order) ++ f x ∷ [] = ap (map f) (take_more order i x within) ∙ map-append f (take i order) (get_or order i x ∷ []) ∙ ap (λ z. map f (take i order) ++ f z ∷ []) (sym is) in
       let all : All P (map f (take i order) ++ f x ∷ []) = subst (All P) more h in
@@ -195,10 +195,10 @@ module _ {K B : Type 0} (cmp : K → K → Ordering) (bin_cmp : B → B → Orde
       (named q (All-front P (map f (take i order)) (f x ∷ []) all))
 
   -- and a group that the order names once has not been placed
-  pub Named-fresh : {X : Type 0} (order : List (Reverse ℕ × Bor K × X)) (i : ℕ) (x : Reverse ℕ × Bor K × X) (homes : List (K × B)) → IsDistinct (eq_by_cmp cmp) (map (λ y. y.1.now) order) → i < length order → x ≡ get_or order i x → Named (take i order) homes
+  pub Named-fresh : {X Y : Type 0} (order : List (Reverse ℕ × Bor K × X × Y)) (i : ℕ) (x : Reverse ℕ × Bor K × X × Y) (homes : List (K × B)) → IsDistinct (eq_by_cmp cmp) (map (λ y. y.1.now) order) → i < length order → x ≡ get_or order i x → Named (take i order) homes
       → All (λ h. is_at (cmp x.1.now) h.0 ≡ false) homes
-  Named-fresh {X} order i x homes distinct within is named =
-      let f : Reverse ℕ × Bor K × X → K = λ y. y.1.now in
+  Named-fresh {X} {Y} order i x homes distinct within is named =
+      let f : Reverse ℕ × Bor K × X × Y → K = λ y. y.1.now in
       let at : f x ≡ get_or (map f order) i (f x) = ap f is ∙ sym (get_or-map f order i x (f x) within) in
       named (f x) (subst (All (λ n. is_at (cmp n) (f x) ≡ false)) (take-map f i order) (distinct-before (eq_by_cmp cmp) (map f order) i (f x) distinct (rw length-map within) at))
 

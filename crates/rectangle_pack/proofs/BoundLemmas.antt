@@ -118,9 +118,9 @@ members_in-more {Id} {K} gs g =
     omega (arith, sum_by-append f gs (g ∷ []), sum_by-cons f g [])
 
 -- a beginning of an order has no more entries than all of it
-pub fewer-entries : {K X : Type 0} (f : ℕ × K → ℕ) (order : List (Reverse ℕ × Bor K × X)) (i : ℕ) → sum_by f (keys_of_order (take i order)) ≤ sum_by f (keys_of_order order)
-fewer-entries {K} {X} f order i =
-    let key : Reverse ℕ × Bor K × X → ℕ × K = λ x. (x.0.0, x.1.now) in
+pub fewer-entries : {K X Y : Type 0} (f : ℕ × K → ℕ) (order : List (Reverse ℕ × Bor K × X × Y)) (i : ℕ) → sum_by f (keys_of_order (take i order)) ≤ sum_by f (keys_of_order order)
+fewer-entries {K} {X} {Y} f order i =
+    let key : Reverse ℕ × Bor K × X × Y → ℕ × K = λ x. (x.0.0, x.1.now) in
     let split : keys_of_order order ≡ keys_of_order (take i order) ++ keys_of_order (drop i order) = ap (map key) (sym (take-append-drop i order)) ∙ map-append key (take i order) (drop i order) in
     omega (arith, ap (sum_by f) split, sum_by-append f (keys_of_order (take i order)) (keys_of_order (drop i order)))
 
@@ -299,7 +299,7 @@ module _ {Id B : Type 0} (rules : Rules Id B) (o : IsTotalOrder rules.bin_cmp) w
             omega (arith, a, last, c, d)
 
     -- the same of a beginning of an order of groups, with the tests counted
-    pub adds-placed : {X : Type 0} (group_cmp : K → K → Ordering) (sizes : List (Id × Size)) (lists : List (K × List Id)) (order : List (Reverse ℕ × Bor K × X)) (i : ℕ) (names : List B) (gs : List (K × Members Id)) (old : Stage K B) (ps : List (Placement Id B)) (new : Stage K B) (n before after : ℕ)
+    pub adds-placed : {X Y : Type 0} (group_cmp : K → K → Ordering) (sizes : List (Id × Size)) (lists : List (K × List Id)) (order : List (Reverse ℕ × Bor K × X × Y)) (i : ℕ) (names : List B) (gs : List (K × Members Id)) (old : Stage K B) (ps : List (Placement Id B)) (new : Stage K B) (n before after : ℕ)
         → IsDistinct (eq_by_cmp rules.bin_cmp) names → AreGroups rules.id_cmp group_cmp sizes lists (keys_of_order (take i order)) gs → AreAllPlaced rules bars names gs old ps new n → after ≡ saturated (before + n)
         → AddsWithin rules.bin_cmp old.bins names (sum_by (entries_at group_cmp lists) (keys_of_order order)) before after
     adds-placed group_cmp sizes lists order i names gs old ps new n before after d listed placed added =
@@ -307,7 +307,7 @@ module _ {Id B : Type 0} (rules : Rules Id B) (o : IsTotalOrder rules.bin_cmp) w
         let f = fewer-entries (entries_at group_cmp lists) order i in
         record { tests = n; within = AreWithin-more rules.bin_cmp old.bins names (members_in gs) _ n (omega (arith, e, f)) (all-within names gs old ps new n d placed); added = added }
 
-    pub adds-more : {X : Type 0} (group_cmp : K → K → Ordering) (sizes : List (Id × Size)) (lists : List (K × List Id)) (order : List (Reverse ℕ × Bor K × X)) (i : ℕ) (names : List B) (gs : List (K × Members Id)) (g : K × Members Id) (old : Stage K B) (ps : List (Placement Id B)) (new : Stage K B) (n before mid after : ℕ)
+    pub adds-more : {X Y : Type 0} (group_cmp : K → K → Ordering) (sizes : List (Id × Size)) (lists : List (K × List Id)) (order : List (Reverse ℕ × Bor K × X × Y)) (i : ℕ) (names : List B) (gs : List (K × Members Id)) (g : K × Members Id) (old : Stage K B) (ps : List (Placement Id B)) (new : Stage K B) (n before mid after : ℕ)
         → IsDistinct (eq_by_cmp rules.bin_cmp) names → AreGroups rules.id_cmp group_cmp sizes lists (keys_of_order (take i order)) (gs ++ g ∷ []) → AreAllPlaced rules bars names gs old ps new n → mid ≡ saturated (before + n)
         → AddsWithin rules.bin_cmp new.bins names (length g.1.sizes) mid after → AddsWithin rules.bin_cmp old.bins names (sum_by (entries_at group_cmp lists) (keys_of_order order)) before after
     adds-more group_cmp sizes lists order i names gs g old ps new n before mid after d listed placed first last =

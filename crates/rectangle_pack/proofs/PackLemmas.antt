@@ -160,23 +160,23 @@ module _ {Id B : Type 0} (rules : Rules Id B) where
 
   module _ {K : Type 0} (group_cmp : K → K → Ordering) where
     -- one more group is named
-    pub AreGroups-more : {X : Type 0} (sizes : List (Id × Size)) (lists : List (K × List Id)) (order : List (Reverse ℕ × Bor K × X)) (i : ℕ) (o : Reverse ℕ × Bor K × X) (gs : List (K × Members Id)) (group : Members Id)
+    pub AreGroups-more : {X Y : Type 0} (sizes : List (Id × Size)) (lists : List (K × List Id)) (order : List (Reverse ℕ × Bor K × X × Y)) (i : ℕ) (o : Reverse ℕ × Bor K × X × Y) (gs : List (K × Members Id)) (group : Members Id)
         → i < length order → o ≡ get_or order i o → lookup (is_at (group_cmp o.1.now)) lists ≡ Some group.ids → AreSizesOf rules.id_cmp sizes group.ids group.sizes
         → AreGroups rules.id_cmp group_cmp sizes lists (keys_of_order (take i order)) gs → AreGroups rules.id_cmp group_cmp sizes lists (keys_of_order (take (i + 1) order)) (gs ++ (o.1.now, group) ∷ [])
-    AreGroups-more {X} sizes lists order i o gs group within is found sized h =
-        let f : Reverse ℕ × Bor K × X → ℕ × K = λ x. (x.0.0, x.1.now) in
+    AreGroups-more {X} {Y} sizes lists order i o gs group within is found sized h =
+        let f : Reverse ℕ × Bor K × X × Y → ℕ × K = λ x. (x.0.0, x.1.now) in
         let more : keys_of_order (take (i + 1) order) ≡ keys_of_order (take i order) ++ f o ∷ [] = ap (map f) (take_more order i o within) ∙ map-append f (take i order) (get_or order i o ∷ []) ∙ ap (λ z. map f (take i order) ++ f z ∷ []) (sym is) in
         record { each = rw more (AllZip-more (λ (x : ℕ × K) (g : K × Members Id). (g.0 ≡ x.1) × (lookup (is_at (group_cmp x.1)) lists ≡ Some g.1.ids) × AreSizesOf rules.id_cmp sizes g.1.ids g.1.sizes) (keys_of_order (take i order)) gs (f o) (o.1.now, group) h.each (refl, found, sized)) }
 
     -- the loop stops at a group that is refused
-    pub StopsAfter-at : {X : Type 0} (bars : List (K × B) → K → B → Bool) (sizes : List (Id × Size)) (lists : List (K × List Id)) (order : List (Reverse ℕ × Bor K × X)) (bin_order : List B) (i : ℕ)
+    pub StopsAfter-at : {X Y : Type 0} (bars : List (K × B) → K → B → Bool) (sizes : List (Id × Size)) (lists : List (K × List Id)) (order : List (Reverse ℕ × Bor K × X × Y)) (bin_order : List B) (i : ℕ)
         (gs : List (K × Members Id)) (next : K × Members Id) (old new mid : List (B × Bin)) (homes : List (K × B)) (placements : List (Placement Id B)) (first count : ℕ)
         → AreGroups rules.id_cmp group_cmp sizes lists (keys_of_order (take i order)) (gs ++ next ∷ [])
         → AreAllPlaced rules bars bin_order gs (at_start old) placements (record { bins = mid; homes = homes }) first → new ≡ mid
         → IsRefused rules (bars homes next.0) bin_order next.1 mid count
         → StopsAfter rules bars group_cmp sizes lists (keys_of_order order) bin_order old new (first + count)
-    StopsAfter-at {X} bars sizes lists order bin_order i gs next old new mid homes placements first count listed placed same refused =
-        let f : Reverse ℕ × Bor K × X → ℕ × K = λ x. (x.0.0, x.1.now) in record {
+    StopsAfter-at {X} {Y} bars sizes lists order bin_order i gs next old new mid homes placements first count listed placed same refused =
+        let f : Reverse ℕ × Bor K × X × Y → ℕ × K = λ x. (x.0.0, x.1.now) in record {
           taken = keys_of_order (take i order);
           later = keys_of_order (drop i order);
           order_is = ap (map f) (sym (take-append-drop i order)) ∙ map-append f (take i order) (drop i order);

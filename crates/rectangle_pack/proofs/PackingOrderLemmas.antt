@@ -1,9 +1,11 @@
 -- orders of groups and bins
-use Rattle.std.proofs.Common.{◌≡◌, ℕ, ◌+◌, ◌-◌, ◌^◌, ◌<◌, List, [], ◌∷◌, ◌++◌, length, refl, ap, sym, ◌∙◌, arith, min}
-use Rattle.std.specs.Prelude.{map, All}
+use Rattle.std.proofs.Common.{◌≡◌, ℕ, ◌+◌, ◌-◌, ◌^◌, ◌<◌, ◌≤◌, List, [], ◌∷◌, ◌++◌, take, drop, length, length-append, append-nil, refl, ap, sym, ◌∙◌, arith, min}
+use Rattle.std.specs.Prelude.{map, All, IsSomeAnd}
 use Rattle.std.specs.declared.vec.Vec.{Vec}
 use Rattle.std.specs.Map.{values_of, keys_of}
-use Rattle.std.proofs.lemmas.List.{get_or-map, length-map, map_push}
+use Rattle.std.proofs.lemmas.List.{get_or-map, length-map, map_push, append_assoc}
+use Rattle.std.proofs.Math.Seq.{drop-append_seam, take-append_seam}
+use Rattle.rectangle_pack.proofs.OneOrderLemmas.{length-zip, All-alike, AllZip-along, AllZip-back}
 use Rattle.std.specs.Borrow.{Bor}
 use Rattle.std.specs.Iterator.{Yields}
 use Rattle.std.specs.Map.Iter.{TakesFirst, deref_pair}
@@ -15,7 +17,7 @@ use Rattle.rectangle_pack.proofs.ListsLemmas.{lookup-lists}
 use Rattle.rectangle_pack.specs.Groups.{lists_of}
 use Rattle.std.specs.declared.cmp.Ordering.{Ordering}
 use Rattle.std.specs.List.Sorted.{IsSorted}
-use Rattle.std.specs.List.{AllZip, sum_by}
+use Rattle.std.specs.List.{AllZip, sum_by, slice_range}
 use Rattle.std.specs.BTreeMap.{BTreeMap, IsOrdered}
 use Rattle.std.proofs.lemmas.Map.Entries.{btree_map_get_place}
 use Rattle.std.proofs.lemmas.List.Sums.{sum_by-cons}
@@ -24,7 +26,8 @@ use Rattle.std.proofs.lemmas.Option.{slice_get-get_or}
 use Rattle.std.specs.Prelude.{sum}
 use Rattle.std.proofs.lemmas.List.Sums.{sum_by_push}
 use Rattle.rectangle_pack.specs.Numbers.{saturated}
-use Rattle.rectangle_pack.specs.private.Orders.{entries_at}
+use Rattle.rectangle_pack.specs.Boxes.{Size}
+use Rattle.rectangle_pack.specs.private.Orders.{entries_at, SizesStandAt}
 use Rattle.std.proofs.Common.{cond, true, false, Bool}
 use Rattle.std.specs.Prelude.{IsSome}
 use Rattle.std.specs.declared.cmp.Ordering.TheVariants.{Less, Equal, Greater}
@@ -116,18 +119,11 @@ found-zip {K} {X} {Y} {cmp} o name P same (e ∷ es) (y ∷ ys) h =
     (rw (o.antisymm (name y) e.0, same e y h.0) refl)
     (All-weaker (λ (z : Y). IsSome (lookup (is_at (cmp (name z))) es)) (λ (z : Y). IsSome (lookup (is_at (cmp (name z))) (e ∷ es))) (λ z there. IsSome-cons (is_at (cmp (name z)) e.0) e.1 (lookup (is_at (cmp (name z))) es) there) ys (found-zip o name P same es ys h.1))
 
--- what holds of each of one list holds of each of another, where it goes over from one to the other
-All-zip : {A B : Type 0} {R : A → B → Type 0} (P : A → Type 0) (Q : B → Type 0) → ((a : A) (b : B) → R a b → P a → Q b) → (xs : List A) (ys : List B) → AllZip R xs ys → All P xs → All Q ys
-All-zip P Q over [] [] h all = All-nil _
-All-zip P Q over [] (b ∷ ys) h all = absurd h
-All-zip P Q over (a ∷ xs) [] h all = All-nil _
-All-zip P Q over (a ∷ xs) (b ∷ ys) h all = All-cons Q b ys (over a b h.0 (All-head P a xs all)) (All-zip P Q over xs ys h.1 (All-tail P a xs all))
-
 -- each entry of the order has the list of its name
-pub listed-zip : {K X A : Type 0} {cmp : K → K → Ordering} → IsTotalOrder cmp → (m : BTreeMap K (Vec X A)) → IsOrdered cmp m → (ys : List (Reverse ℕ × Bor K × Bor (Vec X A)))
+pub listed-zip : {K X A : Type 0} {cmp : K → K → Ordering} → IsTotalOrder cmp → (m : BTreeMap K (Vec X A)) → IsOrdered cmp m → (ys : List (Reverse ℕ × Bor K × Bor (Vec X A) × ℕ))
     → AllZip (λ e y. (y.1.now ≡ e.0) × (y.2.now ≡ e.1)) m.entries ys → All (λ y. lookup (is_at (cmp y.1.now)) m.entries ≡ Some y.2.now) ys
 listed-zip {K} {X} {A} {cmp} o m ordered ys h =
-    All-zip (λ (e : K × Vec X A). lookup (is_at (cmp e.0)) m.entries ≡ Some e.1) (λ (y : Reverse ℕ × Bor K × Bor (Vec X A)). lookup (is_at (cmp y.1.now)) m.entries ≡ Some y.2.now)
+    All-alike _ (λ (e : K × Vec X A). lookup (is_at (cmp e.0)) m.entries ≡ Some e.1) (λ (y : Reverse ℕ × Bor K × Bor (Vec X A) × ℕ). lookup (is_at (cmp y.1.now)) m.entries ≡ Some y.2.now)
     (λ e y same found. rw (same.0, same.1) found) m.entries ys h
     (λ i d within. let e = get_or m.entries i d in btree_map_get_place o m i e.0 e.1 ordered (slice_get-get_or m.entries i d within))
 
@@ -163,3 +159,46 @@ names-zip name P (e ∷ es) (y ∷ ys) h =
     let here : name y ≡ e.0 = h.0.0 in
     let rest = names-zip name P es ys h.1 in
     cc
+
+module _ {Id : Type 0} (cmp : Id → Id → Ordering) (sizes : List (Id × Size)) where
+  -- sizes that stand among all still do where more are behind these
+  pub SizesStandAt-more : (all more new : List Size) (ids : List Id) (start : ℕ) → new ≡ all ++ more → SizesStandAt cmp sizes all ids start → SizesStandAt cmp sizes new ids start
+  SizesStandAt-more all more new ids start same h = record {
+    before = h.before;
+    here = h.here;
+    later = h.later ++ more;
+    all_are = same ∙ ap (λ l. l ++ more) h.all_are ∙ append_assoc h.before (h.here ++ h.later) more ∙ ap (λ l. h.before ++ l) (append_assoc h.here h.later more);
+    start_is = h.start_is;
+    each = h.each;
+  }
+
+  -- the last ones stand where they begin
+  pub SizesStandAt-last : (all added new : List Size) (ids : List Id) (start : ℕ) → new ≡ all ++ added → start ≡ length all
+      → AllZip (λ id size. lookup (is_at (cmp id)) sizes ≡ Some size) ids added → SizesStandAt cmp sizes new ids start
+  SizesStandAt-last all added new ids start same starts each = record {
+    before = all;
+    here = added;
+    later = [];
+    all_are = same ∙ ap (λ l. all ++ l) (sym (append-nil added));
+    start_is = starts;
+    each = each;
+  }
+
+  -- and a part that begins there, as long as the ids, is theirs
+  pub SizesStandAt-part : (all : List Size) (ids own : List Id) (start count : ℕ) → own ≡ ids → count ≡ length ids → SizesStandAt cmp sizes all ids start
+      → (start + count ≤ length all) × AllZip (λ id size. lookup (is_at (cmp id)) sizes ≡ Some size) own (slice_range all start (start + count))
+  SizesStandAt-part all ids own start count same counted h =
+      let long = length-zip _ ids h.here h.each in
+      let whole = ap length h.all_are ∙ length-append h.before (h.here ++ h.later) ∙ ap (λ n. length h.before + n) (length-append h.here h.later) in
+      let starts = h.start_is in
+      let many : start + count - start ≡ length h.here = omega arith in
+      let rest : drop start all ≡ h.here ++ h.later = ap (λ n. drop n all) h.start_is ∙ ap (drop (length h.before)) h.all_are ∙ drop-append_seam h.before (h.here ++ h.later) in
+      let part : slice_range all start (start + count) ≡ h.here = ap (λ n. take n (drop start all)) many ∙ ap (take (length h.here)) rest ∙ take-append_seam h.here h.later in
+      (omega arith, rw (same, part) h.each)
+
+-- a rate of each id's size, by a rate of each size
+pub AllZip-rated : {Id : Type 0} (f : Id → Option Size) (MayRate : Size → ℕ → Type 0) (ids : List Id) (sizes : List Size) (rates : List ℕ)
+    → AllZip (λ id size. f id ≡ Some size) ids sizes → AllZip MayRate sizes rates → AllZip (λ id rate. IsSomeAnd (f id) (λ size. MayRate size rate)) ids rates
+AllZip-rated f M ids sizes rates h k =
+    AllZip-along (λ size id. f id ≡ Some size) M (λ id rate. IsSomeAnd (f id) (λ size. M size rate)) (λ size id rate found rated. rw found rated) sizes ids rates
+    (AllZip-back (λ id size. f id ≡ Some size) (λ size id. f id ≡ Some size) (λ id size found. found) ids sizes h) k

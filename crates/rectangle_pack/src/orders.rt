@@ -1,14 +1,16 @@
 //! The orders in which a packing takes groups and bins.
-ghost use Rattle.std.specs.Prelude.{◌≡◌, ◌<◌, IsTrue, IfOk, OnOk, OnErr, IsSome, Some, All, sum, map, length};
-ghost use Rattle.std.specs.BTreeMap.{get};
+ghost use Rattle.std.specs.Prelude.{ℕ, List, ◌≡◌, ◌++◌, ◌<◌, IsTrue, IfOk, OnOk, OnErr, IsSome, Some, All, sum, map, length};
+ghost use Rattle.std.specs.BTreeMap.{get, is_at};
 ghost use Rattle.std.specs.Ordering.{eq_by_cmp};
-ghost use Rattle.std.specs.List.{sum_by, IsDistinct};
-ghost use Rattle.std.specs.Map.{keys_of, values_of};
+ghost use Rattle.std.specs.List.{AllZip, sum_by, IsDistinct};
+ghost use Rattle.std.specs.Map.{keys_of, lookup, values_of};
 ghost use Rattle.std.specs.List.Sorted.{IsPermutation, IsSorted};
-ghost use Rattle.rectangle_pack.specs.Orders.{IsGroupKey, IsBinOrder, IsGroupOrder, falling_then};
-ghost use Rattle.rectangle_pack.specs.private.Orders.{keys_of_order, entries_at};
+ghost use Rattle.rectangle_pack.specs.Orders.{IsBinOrder, IsGroupOrder, falling_then};
+ghost use Rattle.rectangle_pack.specs.private.Orders.{keys_of_order, entries_at, SizesStandAt};
 ghost use Rattle.rectangle_pack.specs.Packing.{bins_of};
-ghost use Rattle.rectangle_pack.specs.Groups.{MembersHaveSizes, lists_of};
+ghost use Rattle.rectangle_pack.specs.Groups.{HaveSizes, MembersHaveSizes, lists_of};
+ghost use Rattle.rectangle_pack.specs.Boxes.{Size};
+ghost use Rattle.rectangle_pack.specs.Numbers.{saturated};
 
 use crate::closures::Ask;
 use crate::grouped_rects_to_place::GroupedRectsToPlace;
@@ -19,22 +21,39 @@ use std::alloc::{AllocError, Allocator};
 use std::cmp::Reverse;
 use std::collections::BTreeMap;
 
-// The saturating sum of the rates of the ids' sizes.
-fn group_key<Id, R, A>(ids: &[Id], rects: &BTreeMap<Id, RectToInsert, A>, rules: &R) -> u128
-where
-    Id: Ord,
-    R: Ask,
-    A: Allocator,
-    requires known { All (λ id. IsSome (get Id.cmp rects.now id)) ids.now }
-    requires callable { R.can_ask rules.now }
-    ensures { IsGroupKey (R.may rules.now).rate Id.cmp rects.now.entries ids.now result }
+// The saturating sum of the rates of the sizes.
+fn group_key<R: Ask>(sizes: &[RectToInsert], rules: &R) -> u128
+    requires { R.can_ask rules.now }
+    ensures { (rates : List ℕ) ×
+        AllZip (R.may rules.now).rate sizes.now rates ×
+        (result ≡ saturated (sum rates)) }
 {
     let mut key = 0u128;
-    for id in ids {
-        let size = WidthHeightDepth::from(*rects.get(id).unwrap());
-        key = key.saturating_add(rules.rate(size));
+    for size in sizes {
+        key = key.saturating_add(rules.rate(WidthHeightDepth::from(*size)));
     }
     key
+}
+
+// Appends the sizes of the ids.
+fn add_sizes<Id, A>(
+    sizes: &mut Vec<RectToInsert, A>,
+    ids: &[Id],
+    rects: &BTreeMap<Id, RectToInsert, A>,
+) -> Result<(), AllocError>
+where
+    Id: Ord,
+    A: Allocator,
+    requires { HaveSizes Id.cmp rects.now.entries ids.now }
+    ensures { OnOk result
+        ((added : List Size) ×
+        AllZip (λ id size. lookup (is_at (Id.cmp id)) rects.now.entries ≡ Some size) ids.now added ×
+        (sizes.new.items ≡ sizes.old.items ++ added)) }
+{
+    for id in ids {
+        sizes.push(*rects.get(id).unwrap())?;
+    }
+    Ok(())
 }
 
 // All bins, by rising rate of their whole sizes and then by id.
@@ -95,8 +114,8 @@ where
     bin_order(alloc, target_bins, rules)
 }
 
-// A group in an order: its key, its name and its ids.
-pub(crate) type Turn<'a, K, Id, A> = (Reverse<u128>, &'a K, &'a Vec<Id, A>);
+// A group in an order: its key, its name, its ids, and where their sizes begin among those of all.
+pub(crate) type Turn<'a, K, Id, A> = (Reverse<u128>, &'a K, &'a Vec<Id, A>, usize);
 
 // By falling key, and then by what the references point to.
 fn sort_falling<K: Ord, Id: Ord, A: Allocator>(order: &mut Vec<Turn<'_, K, Id, A>, A>)
@@ -108,12 +127,13 @@ fn sort_falling<K: Ord, Id: Ord, A: Allocator>(order: &mut Vec<Turn<'_, K, Id, A
     order.sort_unstable();
 }
 
-// All groups, by falling key and then by name.
+// All groups, by falling key and then by name, and the sizes of the ids of each.
 pub(crate) fn group_order<'a, Id, K, R, A>(
     alloc: A,
     rects: &BTreeMap<Id, RectToInsert, A>,
     lists: &'a BTreeMap<K, Vec<Id, A>, A>,
     rules: &R,
+    sizes: &mut Vec<RectToInsert, A>,
 ) -> Result<Vec<Turn<'a, K, Id, A>, A>, AllocError>
 where
     Id: Ord,
@@ -129,6 +149,9 @@ where
     ensures listed { IfOk result
         (λ v. All (λ o. get K.cmp lists.now o.1.now ≡ Some o.2.now) v.items) }
     ensures as_many { IfOk result (λ v. length v.items ≡ length lists.now.entries) }
+    ensures sizes { IfOk result
+        (λ v.
+        All (λ o. SizesStandAt Id.cmp rects.now.entries sizes.new.items o.2.now.items o.3) v.items) }
     ensures distinct { IfOk result
         (λ v. IsDistinct (eq_by_cmp K.cmp) (map (λ o. o.1.now) v.items)) }
     ensures counted { IfOk result
@@ -138,8 +161,10 @@ where
 {
     let mut order = Vec::with_capacity(alloc, lists.len())?;
     for (group, ids) in lists {
-        let key = group_key(ids.as_slice(), rects, rules);
-        order.push((Reverse(key), group, ids))?;
+        let start = sizes.len();
+        add_sizes(sizes, ids.as_slice(), rects)?;
+        let key = group_key(&sizes[start..], rules);
+        order.push((Reverse(key), group, ids, start))?;
     }
     sort_falling(&mut order);
     Ok(order)

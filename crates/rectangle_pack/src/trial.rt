@@ -30,7 +30,9 @@ pub(crate) struct Note {
     pub pushed: usize,
 }
 
-// The index of the last section that holds a member.
+// The index of the last section that holds a member. Among its callers' values the loop would lack
+// registers.
+#[inline(never)]
 fn newest(sections: &[BinSection], member: &RectToInsert) -> Option<usize>
     ensures none { IfNone result (All (λ s. ¬ Holds s member.now) sections.now) }
     ensures some { IfSome result

@@ -16,7 +16,7 @@ ghost use Rattle.rectangle_pack.specs.Packing.{rules_by, bins_of, bars_by, at_st
 ghost use Rattle.rectangle_pack.specs.PackAnswers.{entries_of, AreCounted};
 ghost use Rattle.rectangle_pack.specs.private.Barred.{are_in, went_to};
 ghost use Rattle.rectangle_pack.specs.private.Bounds.{AddsWithin};
-ghost use Rattle.rectangle_pack.specs.private.Orders.{keys_of_order, entries_at};
+ghost use Rattle.rectangle_pack.specs.private.Orders.{keys_of_order, entries_at, SizesStandAt};
 ghost use Rattle.rectangle_pack.specs.Placed.{AreNamed};
 ghost use Rattle.rectangle_pack.specs.private.TrialJournal.{GoesBack};
 
@@ -108,28 +108,6 @@ where
             location: locations[i],
         };
         placements.push(placement)?;
-    }
-    Ok(())
-}
-
-// Lists the boxes of a group's ids, in place of what the list held.
-fn list_sizes<Id, A>(
-    sizes: &mut Vec<RectToInsert, A>,
-    ids: &[Id],
-    rects: &BTreeMap<Id, RectToInsert, A>,
-) -> Result<(), AllocError>
-where
-    Id: Ord,
-    A: Allocator,
-    requires { HaveSizes Id.cmp rects.now.entries ids.now }
-    ensures { OnOk result
-        (AllZip (λ id size. lookup (is_at (Id.cmp id)) rects.now.entries ≡ Some size) ids.now
-        sizes.new.items) }
-{
-    sizes.clear();
-    sizes.reserve(ids.len())?;
-    for id in ids {
-        sizes.push_reserved(*rects.get(id).unwrap());
     }
     Ok(())
 }
@@ -227,12 +205,14 @@ fn barred_bins<'a, 'b, K: Ord, B: Ord, A: Allocator + Copy>(
     Ok(barred)
 }
 
-// Places each group of an order, up to the first that is refused.
+// Places each group of an order, up to the first that is refused. Of the boxes by their ids only the
+// contract speaks.
 fn place_groups<'a, 'b, Id, B, K, R, A>(
-    rects: &BTreeMap<Id, RectToInsert, A>,
+    _rects: &BTreeMap<Id, RectToInsert, A>,
     lists: &BTreeMap<K, Vec<Id, A>, A>,
     exclusions: &'a Exclusions<K, A>,
     groups: &[Turn<'a, K, Id, A>],
+    sizes: &[RectToInsert],
     order: &'b [(u128, B)],
     bins: &mut BTreeMap<B, TargetBin<A>, A>,
     rules: &R,
@@ -249,7 +229,8 @@ where
     requires callable { R.can_ask rules.now }
     requires listed { All (λ o. get K.cmp lists.now o.1.now ≡ Some o.2.now) groups.now }
     requires as_many { length groups.now ≡ length lists.now.entries }
-    requires sized { MembersHaveSizes Id.cmp rects.now.entries (lists_of lists.now.entries) }
+    requires sized { All
+        (λ o. SizesStandAt Id.cmp _rects.now.entries sizes.now o.2.now.items o.3) groups.now }
     requires found { All (λ o. IsSome (get B.cmp bins.old o.1)) order.now }
     requires distinct { IsDistinct (eq_by_cmp K.cmp) (map (λ o. o.1.now) groups.now) }
     requires distinct_bins { IsDistinct (eq_by_cmp B.cmp) (map (λ o. o.1) order.now) }
@@ -265,12 +246,12 @@ where
         let new = bins_of bins.new.entries in
         MatchBool done
         ((gs : List (K × Members Id)) × (homes : List (K × B)) × (count : ℕ) ×
-        AreGroups Id.cmp K.cmp rects.now.entries lists groups gs ×
+        AreGroups Id.cmp K.cmp _rects.now.entries lists groups gs ×
         AreAllPlaced by bars names gs (at_start old) progress.new.placements.items
         (record { bins = new; homes = homes }) count ×
         (progress.new.tests ≡ saturated (progress.old.tests + count)))
         ((count : ℕ) ×
-        StopsAfter by bars K.cmp rects.now.entries lists groups names old new count ×
+        StopsAfter by bars K.cmp _rects.now.entries lists groups names old new count ×
         (progress.new.tests ≡ saturated (progress.old.tests + count)))) }
     ensures stopped { OnErr result
         (AddsWithin B.cmp (bins_of bins.old.entries) (map (λ o. o.1) order.now)
@@ -285,10 +266,9 @@ where
     let alloc = *progress.journal.allocator();
     progress.journal.reserve(lists.len())?;
     let mut homes = BTreeMap::new(alloc);
-    let mut sizes = Vec::new(alloc);
     let mut locations = Vec::new(alloc);
-    for (_, group, ids) in groups {
-        list_sizes(&mut sizes, ids.as_slice(), rects)?;
+    for (_, group, ids, start) in groups {
+        let members = &sizes[*start..*start + ids.len()];
         let partners = exclusions.partners(*group);
         let barred = barred_bins(alloc, partners, &homes)?;
         match place_group(
@@ -296,7 +276,7 @@ where
             order,
             &barred,
             ids.as_slice(),
-            sizes.as_slice(),
+            members,
             rules,
             &mut locations,
             progress,
@@ -370,14 +350,16 @@ where
         return Ok(true);
     }
     let alloc = *progress.journal.allocator();
-    let groups = group_order(alloc, rects, lists, rules)?;
-    let entries = number_after(0, lists).unwrap_or(u64::MAX);
-    progress.placements.reserve(entries as usize)?;
+    let entries = number_after(0, lists).unwrap_or(u64::MAX) as usize;
+    let mut sizes = Vec::with_capacity(alloc, entries)?;
+    let groups = group_order(alloc, rects, lists, rules, &mut sizes)?;
+    progress.placements.reserve(entries)?;
     place_groups(
         rects,
         lists,
         rects_to_place.exclusions(),
         groups.as_slice(),
+        sizes.as_slice(),
         order,
         target_bins,
         rules,

@@ -1,6 +1,8 @@
-use Rattle.std.proofs.Common.{take}
-use Rattle.rectangle_pack.specs.Orders.{IsGroupKey}
+use Rattle.std.proofs.Common.{◌≡◌, ℕ, List, take}
+use Rattle.std.specs.Prelude.{sum}
+use Rattle.std.specs.List.{AllZip}
+use Rattle.rectangle_pack.specs.Numbers.{saturated}
 use Rattle.rectangle_pack.proofs.orders.group_key.Given as goal
 
-abbrev pub invariant-loop-id : goal.invariant-loop-id
-invariant-loop-id g l = IsGroupKey (g.R.Ask.may l.rules).rate g.Id.Ord.cmp l.rects.entries (take l.id-index l.ids) l.key
+abbrev pub invariant-loop-size : goal.invariant-loop-size
+invariant-loop-size g l = (rates : List ℕ) × AllZip (g.R.Ask.may l.rules).rate (take l.size-index l.sizes) rates × (l.key ≡ saturated (sum rates))

@@ -1,17 +1,18 @@
-use Rattle.std.proofs.Common.{◌≡◌, ℕ, ◌<◌, length, refl, ◌∙◌}
+use Rattle.std.proofs.Common.{◌≡◌, ℕ, ◌<◌, ◌++◌, drop, length, refl, ap, ◌∙◌}
+use Rattle.std.proofs.Math.Seq.{drop-append_seam}
 use Rattle.std.specs.Prelude.{map, Some}
 use Rattle.std.specs.declared.vec.Vec.{Vec}
-use Rattle.std.proofs.lemmas.List.{map_push}
+use Rattle.std.proofs.lemmas.List.{map_push, take_rest}
 use Rattle.std.specs.Map.Iter.{deref_pair}
 use Rattle.std.specs.Map.{values_of}
-use Rattle.std.proofs.lemmas.List.Elements.{All-weaker}
+use Rattle.std.proofs.lemmas.List.Elements.{All-weaker, All-push}
 use Rattle.std.proofs.lemmas.Map.Iter.{iter_end}
 use Rattle.rectangle_pack.specs.Groups.{lists_of}
 use Rattle.rectangle_pack.specs.Orders.{IsGroupKey}
-use Rattle.rectangle_pack.specs.private.Orders.{keys_of_order, entries_at}
-use Rattle.std.specs.List.{AllZip}
+use Rattle.rectangle_pack.specs.private.Orders.{keys_of_order, entries_at, SizesStandAt}
+use Rattle.std.specs.List.{AllZip, slice_range}
 use Rattle.rectangle_pack.specs.Groups.{HaveSizes}
-use Rattle.rectangle_pack.proofs.PackingOrderLemmas.{AllZip-more, AllZip-map_right, items-turn, lists_of-turn, listed-zip, counted-zip, lookup-each, names-zip}
+use Rattle.rectangle_pack.proofs.PackingOrderLemmas.{AllZip-more, AllZip-map_right, items-turn, lists_of-turn, listed-zip, counted-zip, lookup-each, names-zip, SizesStandAt-more, SizesStandAt-last, AllZip-rated}
 use Rattle.std.specs.Map.{lookup}
 use Rattle.std.specs.BTreeMap.{is_at}
 use Rattle.std.specs.Borrow.{Bor}
@@ -28,8 +29,8 @@ use Rattle.rectangle_pack.proofs.ListsLemmas.{keys-lists}
 use Rattle.rectangle_pack.proofs.MapsLemmas.{is_at-back}
 use Rattle.rectangle_pack.proofs.orders.group_order.Goals as goal
 
-pub group_key-key-requires-clause-known : goal.group_key-key-requires-clause-known
-group_key-key-requires-clause-known g c =
+pub add_sizes-requires : goal.add_sizes-requires
+add_sizes-requires g c =
     let cmp = g.Id.Ord.cmp in
     let sizes = c.args.rects.now.entries in
     let entries = c.args.lists.now.entries in
@@ -38,14 +39,35 @@ group_key-key-requires-clause-known g c =
     rw c.as_slice.ensures.value turn
 
 pub loop-group-preserved : goal.loop-group-preserved
-loop-group-preserved g c = record {
-  keyed =
-      rw (lists_of-turn c.loop-group.yielded (c.in-Some.group, c.in-Some.ids), c.in_ok-push.ensures.items)
-      (AllZip-more _ _ _ _ _ c.loop-group.invariant.keyed (refl, rw (← c.as_slice.ensures.value) c.group_key-key.ensures));
-  lent =
-      rw (map_push deref_pair c.loop-group.yielded (c.in-Some.group, c.in-Some.ids), c.in_ok-push.ensures.items)
-      (AllZip-more _ (map deref_pair c.loop-group.yielded) c.loop-group.order.items (deref_pair (c.in-Some.group, c.in-Some.ids)) (_, c.in-Some.group, c.in-Some.ids) c.loop-group.invariant.lent (refl, refl));
-}
+loop-group-preserved g c =
+    let cmp = g.Id.Ord.cmp in
+    let rects = c.args.rects.now.entries in
+    let ids = c.in-Some.ids.now.items in
+    let old = c.loop-group.sizes.items in
+    let start = c.len-start.result in
+    let added = c.in_ok-add_sizes.ensures.0 in
+    let more = c.in_ok-add_sizes.ensures.2 in
+    let each : AllZip (λ id size. lookup (is_at (cmp id)) rects ≡ Some size) ids added = rw (← c.as_slice.ensures.value) c.in_ok-add_sizes.ensures.1 in
+    let starts : start ≡ length old = c.len-start.ensures ∙ c.loop-group.sizes.ok.0 in
+    let tail : slice_range c.deref.result.now start (length c.deref.result.now) ≡ added = take_rest c.deref.result.now start ∙ ap (drop start) (c.deref.ensures.value ∙ more) ∙ ap (λ n. drop n (old ++ added)) starts ∙ drop-append_seam old added in
+    let rated = c.group_key-key.ensures in
+    let rates : AllZip (g.R.Ask.may c.args.rules.now).rate added rated.0 = rw (← tail) rated.1 in
+    record {
+      keyed =
+          rw (lists_of-turn c.loop-group.yielded (c.in-Some.group, c.in-Some.ids), c.in_ok-push.ensures.items)
+          (AllZip-more _ _ _ _ _ c.loop-group.invariant.keyed (refl, (rated.0, AllZip-rated (λ id. lookup (is_at (cmp id)) rects) (g.R.Ask.may c.args.rules.now).rate ids added rated.0 each rates, rated.2)));
+      lent =
+          rw (map_push deref_pair c.loop-group.yielded (c.in-Some.group, c.in-Some.ids), c.in_ok-push.ensures.items)
+          (AllZip-more _ (map deref_pair c.loop-group.yielded) c.loop-group.order.items (deref_pair (c.in-Some.group, c.in-Some.ids)) (_, c.in-Some.group, c.in-Some.ids, _) c.loop-group.invariant.lent (refl, refl));
+      sized =
+          let Turn : Type 0 = Reverse ℕ × Bor g.row.K.Denot × Bor (Vec g.row.Id.Denot g.row.A.Denot) × ℕ in
+          let new = c.add_sizes.new.sizes.items in
+          let P : Turn → Type 0 = λ o. SizesStandAt cmp rects new o.2.now.items o.3 in
+          rw c.in_ok-push.ensures.items
+          (All-push P c.loop-group.order.items _
+          (All-weaker (λ (o : Turn). SizesStandAt cmp rects old o.2.now.items o.3) P (λ o h. SizesStandAt-more cmp rects old added new o.2.now.items o.3 more h) c.loop-group.order.items c.loop-group.invariant.sized)
+          (SizesStandAt-last cmp rects old added new ids start more starts each));
+    }
 
 pub returns : goal.returns
 returns g c =
@@ -57,7 +79,7 @@ returns g c =
     let e : map deref_pair c.loop-group.yielded ≡ entries = (iter_end deref_pair _ _ _ _ _ _ c.into_iter-group-iterator.ensures.into_iter_gives.0 c.loop-group.yielded_by c.in-None.is c.next.ensures.steps).0 in
     let each : AllZip (λ e o. (o.1 ≡ e.0) × IsGroupKey (g.R.Ask.may c.args.rules.now).rate g.Id.Ord.cmp c.args.rects.now.entries e.1 o.0) lists unsorted = AllZip-map_right _ _ lists order (rw (← e) c.loop-group.invariant.keyed) in
     let lent = rw e at c.loop-group.invariant.lent in
-    let name : Reverse ℕ × Bor g.row.K.Denot × Bor (Vec g.row.Id.Denot g.row.A.Denot) → g.row.K.Denot = λ o. o.1.now in
+    let name : Reverse ℕ × Bor g.row.K.Denot × Bor (Vec g.row.Id.Denot g.row.A.Denot) × ℕ → g.row.K.Denot = λ o. o.1.now in
     let names : map name order ≡ keys_of entries = names-zip name _ lists order (rw e at c.loop-group.invariant.keyed) ∙ keys-lists entries in
     record {
       order = record {
@@ -66,8 +88,9 @@ returns g c =
         permutation = c.sort_falling.ensures.permutation;
         falling = c.sort_falling.ensures.falling;
       };
-      listed = All-permutation (λ (o : Reverse ℕ × Bor g.row.K.Denot × Bor (Vec g.row.Id.Denot g.row.A.Denot)). lookup (is_at (cmp o.1.now)) entries ≡ Some o.2.now) order _ c.sort_falling.ensures.same
+      listed = All-permutation (λ (o : Reverse ℕ × Bor g.row.K.Denot × Bor (Vec g.row.Id.Denot g.row.A.Denot) × ℕ). lookup (is_at (cmp o.1.now)) entries ≡ Some o.2.now) order _ c.sort_falling.ensures.same
           (listed-zip g.met.K.Ord.total c.args.lists.now c.len.ensures.ordered order lent);
+      sizes = All-permutation (λ (o : Reverse ℕ × Bor g.row.K.Denot × Bor (Vec g.row.Id.Denot g.row.A.Denot) × ℕ). SizesStandAt g.Id.Ord.cmp c.args.rects.now.entries c.loop-group.sizes.items o.2.now.items o.3) order _ c.sort_falling.ensures.same c.loop-group.invariant.sized;
       as_many = length_permutation order c.sort_falling.new.order.items c.sort_falling.ensures.same ∙ sym (length-zip _ entries order lent);
       distinct = IsDistinct-IsPermutation (eq_by_cmp cmp) (λ x y. is_at-back g.met.K.Ord.total x y) (map name order) _
           (IsPermutation-map name _ _ c.sort_falling.ensures.same)

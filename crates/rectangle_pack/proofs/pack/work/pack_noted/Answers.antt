@@ -43,7 +43,7 @@ pub place_groups-requires-clause-as_many : goal.place_groups-requires-clause-as_
 place_groups-requires-clause-as_many g c = rw c.as_slice.ensures.value c.in_ok-groups.ensures.as_many
 
 pub place_groups-requires-clause-sized : goal.place_groups-requires-clause-sized
-place_groups-requires-clause-sized g c = rw (c.rects-rects.ensures.entries, c.groups-lists.ensures.entries) c.groups-lists.ensures.members
+place_groups-requires-clause-sized g c = rw (c.as_slice.ensures.value, c.as_slice-2.ensures.value) c.in_ok-groups.ensures.sizes
 
 pub place_groups-requires-clause-distinct : goal.place_groups-requires-clause-distinct
 place_groups-requires-clause-distinct g c = rw c.as_slice.ensures.value c.in_ok-groups.ensures.distinct

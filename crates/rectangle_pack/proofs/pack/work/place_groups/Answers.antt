@@ -8,7 +8,7 @@ use Rattle.rectangle_pack.specs.Packing.{rules_by, bins_of, Members}
 use Rattle.rectangle_pack.proofs.JournalLemmas.{is_some-bins_of}
 use Rattle.rectangle_pack.proofs.MapsLemmas.{is_some-keys}
 use Rattle.rectangle_pack.proofs.PlacedLemmas.{keys-placed}
-use Rattle.rectangle_pack.proofs.PackLemmas.{AreSizesOf, HaveSizes-found, AreSizesOf-length, AreGroups-more, StopsAfter-at, AreAllPlaced-push}
+use Rattle.rectangle_pack.proofs.PackLemmas.{AreSizesOf, AreSizesOf-length, AreGroups-more, StopsAfter-at, AreAllPlaced-push}
 use Rattle.rectangle_pack.proofs.BarredLemmas.{Knows, Knows-none, Knows-alone, Knows-kept, Named-more, Named-fresh, barred_by_partners, none-listed}
 use Rattle.rectangle_pack.proofs.BoundLemmas.{OnErr-given, adds-placed, adds-more, placed-le}
 use Rattle.rectangle_pack.proofs.TrialLemmas.{saturated-add}
@@ -17,10 +17,10 @@ use Rattle.rectangle_pack.specs.Exclusions.{listed_at}
 use Rattle.rectangle_pack.specs.Packing.{bars_by, at_start, IsPlaced, IsRefused, AreAllPlaced}
 use Rattle.rectangle_pack.specs.declared.pack.answer.Placement.{Placement}
 use Rattle.std.proofs.Math.Path.{fun_ext}
-use Rattle.std.specs.List.{list_any}
+use Rattle.std.specs.List.{list_any, slice_range}
 use Rattle.std.proofs.lemmas.List.Elements.{All-nil}
 use Rattle.std.proofs.Common.{Bool, ap, subst, length}
-use Rattle.rectangle_pack.proofs.PackingOrderLemmas.{list-found}
+use Rattle.rectangle_pack.proofs.PackingOrderLemmas.{list-found, SizesStandAt-part}
 use Rattle.std.specs.Borrow.{Bor}
 use Rattle.rectangle_pack.proofs.pack.work.place_groups.Goals as goal
 use Rattle.rectangle_pack.proofs.pack.work.place_groups.Goals.{then-not-is_empty+in_ok-insert-in-Some, else-not-is_empty}
@@ -32,14 +32,18 @@ loop-group-init g c = record {
   back = λ start b. rw c.in_ok-reserve.ensures.items b;
 }
 
-pub list_sizes-requires : goal.list_sizes-requires
-list_sizes-requires g c =
-    rw c.as_slice.ensures.value (HaveSizes-found g.Id.Ord.cmp c.args.rects.now.entries (lists_of c.args.lists.now.entries) (is_at (g.K.Ord.cmp c.loop-group-item.result.1.now)) c.loop-group-item.result.2.now.items c.requires.sized
-    (list-found (is_at (g.K.Ord.cmp c.loop-group-item.result.1.now)) c.args.lists.now.entries c.loop-group-item.result.2.now (rw c.loop-group-item.is (c.requires.listed c.loop-group.group-index c.loop-group-item.result c.loop-group-test.true))))
+pub slice_bounds-members-end : goal.slice_bounds-members-end
+slice_bounds-members-end g c =
+    let o = c.loop-group-item.result in
+    (SizesStandAt-part g.Id.Ord.cmp c.args._rects.now.entries c.args.sizes.now o.2.now.items _ o.3 _ refl (c.len-in-loop-group.ensures ∙ o.2.now.ok.0) (rw c.loop-group-item.is (c.requires.sized c.loop-group.group-index o c.loop-group-test.true))).0
 
 pub place_group-requires-clause-lengths : goal.place_group-requires-clause-lengths
 place_group-requires-clause-lengths g c =
-    rw (c.as_slice-in-loop-group.ensures.value, c.as_slice-in-loop-group-2.ensures.value) (AreSizesOf-length g.Id.Ord.cmp c.args.rects.now.entries c.loop-group-item.result.2.now.items c.list_sizes.new.sizes.items (rw (← c.as_slice.ensures.value) c.in_ok-list_sizes.ensures))
+    let o = c.loop-group-item.result in
+    let ids = c.as_slice.result.now in
+    let sizes = slice_range c.args.sizes.now o.3 (o.3 + c.len-in-loop-group.result) in
+    let sized : AreSizesOf g.Id.Ord.cmp c.args._rects.now.entries ids sizes = (SizesStandAt-part g.Id.Ord.cmp c.args._rects.now.entries c.args.sizes.now o.2.now.items ids o.3 _ c.as_slice.ensures.value (c.len-in-loop-group.ensures ∙ o.2.now.ok.0) (rw c.loop-group-item.is (c.requires.sized c.loop-group.group-index o c.loop-group-test.true))).1 in
+    AreSizesOf-length g.Id.Ord.cmp c.args._rects.now.entries ids sizes sized
 
 pub place_group-requires-clause-found : goal.place_group-requires-clause-found
 place_group-requires-clause-found g c k d within =
@@ -54,14 +58,15 @@ place_group-requires-clause-found g c k d within =
 pub returns-in-None-clause-packed : goal.returns-in-None-clause-packed
 returns-in-None-clause-packed g c =
     let done = c.loop-group.invariant.done in
-    let ids = c.as_slice-in-loop-group.result.now in
-    let sizes = c.as_slice-in-loop-group-2.result.now in
+    let o = c.loop-group-item.result in
+    let ids = c.as_slice.result.now in
+    let sizes = slice_range c.args.sizes.now o.3 (o.3 + c.len-in-loop-group.result) in
     let group : Members g.row.Id.Denot = record { ids = ids; sizes = sizes } in
     let name = c.loop-group-item.result.1.now in
     let rules = rules_by g.Id.Ord.cmp g.B.Ord.cmp (g.R.Ask.may c.args.rules.now) in
-    let found : lookup (is_at (g.K.Ord.cmp name)) (lists_of c.args.lists.now.entries) ≡ Some ids = rw c.as_slice-in-loop-group.ensures.value (list-found (is_at (g.K.Ord.cmp name)) c.args.lists.now.entries c.loop-group-item.result.2.now (rw c.loop-group-item.is (c.requires.listed c.loop-group.group-index c.loop-group-item.result c.loop-group-test.true))) in
-    let sized : AreSizesOf g.Id.Ord.cmp c.args.rects.now.entries ids sizes = rw (c.as_slice-in-loop-group.ensures.value, c.as_slice-in-loop-group-2.ensures.value, ← c.as_slice.ensures.value) c.in_ok-list_sizes.ensures in
-    let more = AreGroups-more rules g.K.Ord.cmp c.args.rects.now.entries (lists_of c.args.lists.now.entries) c.args.groups.now c.loop-group.group-index c.loop-group-item.result done.0 group c.loop-group-test.true c.loop-group-item.is found sized done.3 in
+    let found : lookup (is_at (g.K.Ord.cmp name)) (lists_of c.args.lists.now.entries) ≡ Some ids = rw c.as_slice.ensures.value (list-found (is_at (g.K.Ord.cmp name)) c.args.lists.now.entries c.loop-group-item.result.2.now (rw c.loop-group-item.is (c.requires.listed c.loop-group.group-index c.loop-group-item.result c.loop-group-test.true))) in
+    let sized : AreSizesOf g.Id.Ord.cmp c.args._rects.now.entries ids sizes = (SizesStandAt-part g.Id.Ord.cmp c.args._rects.now.entries c.args.sizes.now o.2.now.items ids o.3 _ c.as_slice.ensures.value (c.len-in-loop-group.ensures ∙ o.2.now.ok.0) (rw c.loop-group-item.is (c.requires.sized c.loop-group.group-index o c.loop-group-test.true))).1 in
+    let more = AreGroups-more rules g.K.Ord.cmp c.args._rects.now.entries (lists_of c.args.lists.now.entries) c.args.groups.now c.loop-group.group-index c.loop-group-item.result done.0 group c.loop-group-test.true c.loop-group-item.is found sized done.3 in
     let bars : List (g.row.K.Denot × g.row.B.Denot) → g.row.K.Denot → g.row.B.Denot → Bool = bars_by g.K.Ord.cmp g.B.Ord.cmp c.args.exclusions.now in
     let keys = c.in_ok-barred.barred.keys in
     let partners : c.partners-partners.result.now ≡ listed_at g.K.Ord.cmp c.args.exclusions.now name = c.partners-partners.ensures.listed in
@@ -72,7 +77,7 @@ returns-in-None-clause-packed g c =
     let refused = rw c.in-None.is at c.in_ok-place_group.ensures.placed in
     let P : (g.row.B.Denot → Bool) → Type 0 = λ (b : g.row.B.Denot → Bool). IsRefused rules b (map (λ o. o.1) c.args.order.now) group (bins_of c.loop-group.bins.entries) refused.0 in (
       done.2 + refused.0,
-      StopsAfter-at rules g.K.Ord.cmp bars c.args.rects.now.entries (lists_of c.args.lists.now.entries) c.args.groups.now (map (λ o. o.1) c.args.order.now) (c.loop-group.group-index + 1) done.0 (name, group) _ _ (bins_of c.loop-group.bins.entries) done.1 c.loop-group.progress.placements.items done.2 refused.0
+      StopsAfter-at rules g.K.Ord.cmp bars c.args._rects.now.entries (lists_of c.args.lists.now.entries) c.args.groups.now (map (λ o. o.1) c.args.order.now) (c.loop-group.group-index + 1) done.0 (name, group) _ _ (bins_of c.loop-group.bins.entries) done.1 c.loop-group.progress.placements.items done.2 refused.0
           more done.4 refused.2 (subst P barred refused.1),
       saturated-add c.args.progress.now.tests c.loop-group.progress.tests _ done.2 refused.0 done.5 refused.4,
     )
@@ -80,14 +85,15 @@ returns-in-None-clause-packed g c =
 pub loop-group-preserved : goal.loop-group-preserved
 loop-group-preserved g c =
     let done = c.loop-group.invariant.done in
-    let ids = c.as_slice-in-loop-group.result.now in
-    let sizes = c.as_slice-in-loop-group-2.result.now in
+    let o = c.loop-group-item.result in
+    let ids = c.as_slice.result.now in
+    let sizes = slice_range c.args.sizes.now o.3 (o.3 + c.len-in-loop-group.result) in
     let group : Members g.row.Id.Denot = record { ids = ids; sizes = sizes } in
     let name = c.loop-group-item.result.1.now in
     let rules = rules_by g.Id.Ord.cmp g.B.Ord.cmp (g.R.Ask.may c.args.rules.now) in
-    let found : lookup (is_at (g.K.Ord.cmp name)) (lists_of c.args.lists.now.entries) ≡ Some ids = rw c.as_slice-in-loop-group.ensures.value (list-found (is_at (g.K.Ord.cmp name)) c.args.lists.now.entries c.loop-group-item.result.2.now (rw c.loop-group-item.is (c.requires.listed c.loop-group.group-index c.loop-group-item.result c.loop-group-test.true))) in
-    let sized : AreSizesOf g.Id.Ord.cmp c.args.rects.now.entries ids sizes = rw (c.as_slice-in-loop-group.ensures.value, c.as_slice-in-loop-group-2.ensures.value, ← c.as_slice.ensures.value) c.in_ok-list_sizes.ensures in
-    let more = AreGroups-more rules g.K.Ord.cmp c.args.rects.now.entries (lists_of c.args.lists.now.entries) c.args.groups.now c.loop-group.group-index c.loop-group-item.result done.0 group c.loop-group-test.true c.loop-group-item.is found sized done.3 in
+    let found : lookup (is_at (g.K.Ord.cmp name)) (lists_of c.args.lists.now.entries) ≡ Some ids = rw c.as_slice.ensures.value (list-found (is_at (g.K.Ord.cmp name)) c.args.lists.now.entries c.loop-group-item.result.2.now (rw c.loop-group-item.is (c.requires.listed c.loop-group.group-index c.loop-group-item.result c.loop-group-test.true))) in
+    let sized : AreSizesOf g.Id.Ord.cmp c.args._rects.now.entries ids sizes = (SizesStandAt-part g.Id.Ord.cmp c.args._rects.now.entries c.args.sizes.now o.2.now.items ids o.3 _ c.as_slice.ensures.value (c.len-in-loop-group.ensures ∙ o.2.now.ok.0) (rw c.loop-group-item.is (c.requires.sized c.loop-group.group-index o c.loop-group-test.true))).1 in
+    let more = AreGroups-more rules g.K.Ord.cmp c.args._rects.now.entries (lists_of c.args.lists.now.entries) c.args.groups.now c.loop-group.group-index c.loop-group-item.result done.0 group c.loop-group-test.true c.loop-group-item.is found sized done.3 in
     let bars : List (g.row.K.Denot × g.row.B.Denot) → g.row.K.Denot → g.row.B.Denot → Bool = bars_by g.K.Ord.cmp g.B.Ord.cmp c.args.exclusions.now in
     let keys = c.in_ok-barred.barred.keys in
     let partners : c.partners-partners.result.now ≡ listed_at g.K.Ord.cmp c.args.exclusions.now name = c.partners-partners.ensures.listed in
@@ -135,17 +141,8 @@ returns-in_err-reserve-clause-stopped g c =
     let bars : List (g.row.K.Denot × g.row.B.Denot) → g.row.K.Denot → g.row.B.Denot → Bool = bars_by g.K.Ord.cmp g.B.Ord.cmp c.args.exclusions.now in
     let start = at_start (bins_of c.args.bins.now.entries) in
     OnErr-given _
-    (adds-placed rules g.met.B.Ord.total bars g.K.Ord.cmp c.args.rects.now.entries (lists_of c.args.lists.now.entries) c.args.groups.now 0 (map (λ o. o.1) c.args.order.now) [] start [] start 0
+    (adds-placed rules g.met.B.Ord.total bars g.K.Ord.cmp c.args._rects.now.entries (lists_of c.args.lists.now.entries) c.args.groups.now 0 (map (λ o. o.1) c.args.order.now) [] start [] start 0
     c.args.progress.now.tests _ c.requires.distinct_bins (record { each = tt }) (refl, refl, refl) (omega arith))
-
-pub returns-in_err-list_sizes-clause-stopped : goal.returns-in_err-list_sizes-clause-stopped
-returns-in_err-list_sizes-clause-stopped g c =
-    let done = c.loop-group.invariant.done in
-    let rules = rules_by g.Id.Ord.cmp g.B.Ord.cmp (g.R.Ask.may c.args.rules.now) in
-    let bars : List (g.row.K.Denot × g.row.B.Denot) → g.row.K.Denot → g.row.B.Denot → Bool = bars_by g.K.Ord.cmp g.B.Ord.cmp c.args.exclusions.now in
-    OnErr-given _
-    (adds-placed rules g.met.B.Ord.total bars g.K.Ord.cmp c.args.rects.now.entries (lists_of c.args.lists.now.entries) c.args.groups.now c.loop-group.group-index (map (λ o. o.1) c.args.order.now) done.0 (at_start (bins_of c.args.bins.now.entries)) _ _ done.2
-    c.args.progress.now.tests c.loop-group.progress.tests c.requires.distinct_bins done.3 done.4 done.5)
 
 pub returns-in_err-barred-clause-stopped : goal.returns-in_err-barred-clause-stopped
 returns-in_err-barred-clause-stopped g c =
@@ -153,23 +150,24 @@ returns-in_err-barred-clause-stopped g c =
     let rules = rules_by g.Id.Ord.cmp g.B.Ord.cmp (g.R.Ask.may c.args.rules.now) in
     let bars : List (g.row.K.Denot × g.row.B.Denot) → g.row.K.Denot → g.row.B.Denot → Bool = bars_by g.K.Ord.cmp g.B.Ord.cmp c.args.exclusions.now in
     OnErr-given _
-    (adds-placed rules g.met.B.Ord.total bars g.K.Ord.cmp c.args.rects.now.entries (lists_of c.args.lists.now.entries) c.args.groups.now c.loop-group.group-index (map (λ o. o.1) c.args.order.now) done.0 (at_start (bins_of c.args.bins.now.entries)) _ _ done.2
+    (adds-placed rules g.met.B.Ord.total bars g.K.Ord.cmp c.args._rects.now.entries (lists_of c.args.lists.now.entries) c.args.groups.now c.loop-group.group-index (map (λ o. o.1) c.args.order.now) done.0 (at_start (bins_of c.args.bins.now.entries)) _ _ done.2
     c.args.progress.now.tests c.loop-group.progress.tests c.requires.distinct_bins done.3 done.4 done.5)
 
 pub returns-in_err-place_group-clause-stopped : goal.returns-in_err-place_group-clause-stopped
 returns-in_err-place_group-clause-stopped g c =
     let done = c.loop-group.invariant.done in
-    let ids = c.as_slice-in-loop-group.result.now in
-    let sizes = c.as_slice-in-loop-group-2.result.now in
+    let o = c.loop-group-item.result in
+    let ids = c.as_slice.result.now in
+    let sizes = slice_range c.args.sizes.now o.3 (o.3 + c.len-in-loop-group.result) in
     let group : Members g.row.Id.Denot = record { ids = ids; sizes = sizes } in
     let name = c.loop-group-item.result.1.now in
     let rules = rules_by g.Id.Ord.cmp g.B.Ord.cmp (g.R.Ask.may c.args.rules.now) in
-    let found : lookup (is_at (g.K.Ord.cmp name)) (lists_of c.args.lists.now.entries) ≡ Some ids = rw c.as_slice-in-loop-group.ensures.value (list-found (is_at (g.K.Ord.cmp name)) c.args.lists.now.entries c.loop-group-item.result.2.now (rw c.loop-group-item.is (c.requires.listed c.loop-group.group-index c.loop-group-item.result c.loop-group-test.true))) in
-    let sized : AreSizesOf g.Id.Ord.cmp c.args.rects.now.entries ids sizes = rw (c.as_slice-in-loop-group.ensures.value, c.as_slice-in-loop-group-2.ensures.value, ← c.as_slice.ensures.value) c.in_ok-list_sizes.ensures in
-    let more = AreGroups-more rules g.K.Ord.cmp c.args.rects.now.entries (lists_of c.args.lists.now.entries) c.args.groups.now c.loop-group.group-index c.loop-group-item.result done.0 group c.loop-group-test.true c.loop-group-item.is found sized done.3 in
+    let found : lookup (is_at (g.K.Ord.cmp name)) (lists_of c.args.lists.now.entries) ≡ Some ids = rw c.as_slice.ensures.value (list-found (is_at (g.K.Ord.cmp name)) c.args.lists.now.entries c.loop-group-item.result.2.now (rw c.loop-group-item.is (c.requires.listed c.loop-group.group-index c.loop-group-item.result c.loop-group-test.true))) in
+    let sized : AreSizesOf g.Id.Ord.cmp c.args._rects.now.entries ids sizes = (SizesStandAt-part g.Id.Ord.cmp c.args._rects.now.entries c.args.sizes.now o.2.now.items ids o.3 _ c.as_slice.ensures.value (c.len-in-loop-group.ensures ∙ o.2.now.ok.0) (rw c.loop-group-item.is (c.requires.sized c.loop-group.group-index o c.loop-group-test.true))).1 in
+    let more = AreGroups-more rules g.K.Ord.cmp c.args._rects.now.entries (lists_of c.args.lists.now.entries) c.args.groups.now c.loop-group.group-index c.loop-group-item.result done.0 group c.loop-group-test.true c.loop-group-item.is found sized done.3 in
     let bars : List (g.row.K.Denot × g.row.B.Denot) → g.row.K.Denot → g.row.B.Denot → Bool = bars_by g.K.Ord.cmp g.B.Ord.cmp c.args.exclusions.now in
     OnErr-given _
-    (adds-more rules g.met.B.Ord.total bars g.K.Ord.cmp c.args.rects.now.entries (lists_of c.args.lists.now.entries) c.args.groups.now (c.loop-group.group-index + 1) (map (λ o. o.1) c.args.order.now) done.0 (name, group) (at_start (bins_of c.args.bins.now.entries)) _
+    (adds-more rules g.met.B.Ord.total bars g.K.Ord.cmp c.args._rects.now.entries (lists_of c.args.lists.now.entries) c.args.groups.now (c.loop-group.group-index + 1) (map (λ o. o.1) c.args.order.now) done.0 (name, group) (at_start (bins_of c.args.bins.now.entries)) _
     (record { bins = bins_of c.loop-group.bins.entries; homes = done.1 }) done.2 c.args.progress.now.tests c.loop-group.progress.tests _ c.requires.distinct_bins more done.4 done.5 c.in_err-place_group.ensures.stopped)
 
 pub returns-in_err-place_group-clause-back : goal.returns-in_err-place_group-clause-back
@@ -181,19 +179,20 @@ returns-in-None-clause-back g c = λ start b. c.place_group.ensures.back start (
 pub returns-in_err-insert-in-Some-clause-stopped : goal.returns-in_err-insert-in-Some-clause-stopped
 returns-in_err-insert-in-Some-clause-stopped g c =
     let done = c.loop-group.invariant.done in
-    let ids = c.as_slice-in-loop-group.result.now in
-    let sizes = c.as_slice-in-loop-group-2.result.now in
+    let o = c.loop-group-item.result in
+    let ids = c.as_slice.result.now in
+    let sizes = slice_range c.args.sizes.now o.3 (o.3 + c.len-in-loop-group.result) in
     let group : Members g.row.Id.Denot = record { ids = ids; sizes = sizes } in
     let name = c.loop-group-item.result.1.now in
     let rules = rules_by g.Id.Ord.cmp g.B.Ord.cmp (g.R.Ask.may c.args.rules.now) in
-    let found : lookup (is_at (g.K.Ord.cmp name)) (lists_of c.args.lists.now.entries) ≡ Some ids = rw c.as_slice-in-loop-group.ensures.value (list-found (is_at (g.K.Ord.cmp name)) c.args.lists.now.entries c.loop-group-item.result.2.now (rw c.loop-group-item.is (c.requires.listed c.loop-group.group-index c.loop-group-item.result c.loop-group-test.true))) in
-    let sized : AreSizesOf g.Id.Ord.cmp c.args.rects.now.entries ids sizes = rw (c.as_slice-in-loop-group.ensures.value, c.as_slice-in-loop-group-2.ensures.value, ← c.as_slice.ensures.value) c.in_ok-list_sizes.ensures in
-    let more = AreGroups-more rules g.K.Ord.cmp c.args.rects.now.entries (lists_of c.args.lists.now.entries) c.args.groups.now c.loop-group.group-index c.loop-group-item.result done.0 group c.loop-group-test.true c.loop-group-item.is found sized done.3 in
+    let found : lookup (is_at (g.K.Ord.cmp name)) (lists_of c.args.lists.now.entries) ≡ Some ids = rw c.as_slice.ensures.value (list-found (is_at (g.K.Ord.cmp name)) c.args.lists.now.entries c.loop-group-item.result.2.now (rw c.loop-group-item.is (c.requires.listed c.loop-group.group-index c.loop-group-item.result c.loop-group-test.true))) in
+    let sized : AreSizesOf g.Id.Ord.cmp c.args._rects.now.entries ids sizes = (SizesStandAt-part g.Id.Ord.cmp c.args._rects.now.entries c.args.sizes.now o.2.now.items ids o.3 _ c.as_slice.ensures.value (c.len-in-loop-group.ensures ∙ o.2.now.ok.0) (rw c.loop-group-item.is (c.requires.sized c.loop-group.group-index o c.loop-group-test.true))).1 in
+    let more = AreGroups-more rules g.K.Ord.cmp c.args._rects.now.entries (lists_of c.args.lists.now.entries) c.args.groups.now c.loop-group.group-index c.loop-group-item.result done.0 group c.loop-group-test.true c.loop-group-item.is found sized done.3 in
     let bars : List (g.row.K.Denot × g.row.B.Denot) → g.row.K.Denot → g.row.B.Denot → Bool = bars_by g.K.Ord.cmp g.B.Ord.cmp c.args.exclusions.now in
     let placed = rw c.in-Some.is at c.in_ok-place_group.ensures.placed in
     let names : List g.row.B.Denot = map (λ o. o.1) c.args.order.now in
     OnErr-given _
-    (adds-more rules g.met.B.Ord.total bars g.K.Ord.cmp c.args.rects.now.entries (lists_of c.args.lists.now.entries) c.args.groups.now (c.loop-group.group-index + 1) names done.0 (name, group) (at_start (bins_of c.args.bins.now.entries)) _
+    (adds-more rules g.met.B.Ord.total bars g.K.Ord.cmp c.args._rects.now.entries (lists_of c.args.lists.now.entries) c.args.groups.now (c.loop-group.group-index + 1) names done.0 (name, group) (at_start (bins_of c.args.bins.now.entries)) _
     (record { bins = bins_of c.loop-group.bins.entries; homes = done.1 }) done.2 c.args.progress.now.tests c.loop-group.progress.tests _ c.requires.distinct_bins more done.4 done.5
     (record {
       tests = placed.1;

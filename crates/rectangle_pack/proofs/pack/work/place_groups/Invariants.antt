@@ -12,7 +12,7 @@ use Rattle.rectangle_pack.proofs.pack.work.place_groups.Given as goal
 abbrev pub invariant-loop-group : goal.invariant-loop-group
 invariant-loop-group g l = record {
   done : (gs : List (g.row.K.Denot × Members g.row.Id.Denot)) × (at : List (g.row.K.Denot × g.row.B.Denot)) × (count : ℕ)
-      × AreGroups g.Id.Ord.cmp g.K.Ord.cmp l.rects.entries (lists_of l.lists.entries) (keys_of_order (take l.group-index l.groups)) gs
+      × AreGroups g.Id.Ord.cmp g.K.Ord.cmp l._rects.entries (lists_of l.lists.entries) (keys_of_order (take l.group-index l.groups)) gs
       × AreAllPlaced (rules_by g.Id.Ord.cmp g.B.Ord.cmp (g.R.Ask.may l.rules)) (bars_by g.K.Ord.cmp g.B.Ord.cmp l.exclusions) (map (λ o. o.1) l.order) gs (at_start (bins_of l.fn.bins.entries)) l.progress.placements.items (record { bins = bins_of l.bins.entries; homes = at }) count
       × (l.progress.tests ≡ saturated (l.fn.progress.tests + count))
       × Knows g.K.Ord.cmp g.B.Ord.cmp g.met.K.Ord.total l.exclusions at l.homes.entries
