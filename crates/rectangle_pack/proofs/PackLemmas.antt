@@ -1,6 +1,6 @@
 -- groups that are placed
 use Rattle.std.proofs.Common.{◌≡◌, ℕ, suc, ◌+◌, ◌<◌, ◌≤◌, List, [], ◌∷◌, ◌++◌, length, take, drop, refl, ap, sym, ◌∙◌, subst, cond, true, false, Bool, arith, get_or, append_assoc, append-nil}
-use Rattle.std.specs.Prelude.{Option, Some, None, map, sum, All, IfSome, nat_eq, Result, Ok, Err, IfOk, MatchBool, MatchOption}
+use Rattle.std.specs.Prelude.{Option, Some, None, map, sum, All, nat_eq, Result, Ok, Err, IfOk, MatchBool, MatchOption}
 use Rattle.std.specs.declared.cmp.Ordering.{Ordering}
 use Rattle.std.specs.declared.cmp.Ordering.TheVariants.{Equal}
 use Rattle.std.specs.Ordering.{is_eq}
@@ -15,15 +15,13 @@ use Rattle.std.specs.Option.{option_map}
 use Rattle.std.specs.BTreeMap.{is_at}
 use Rattle.std.proofs.Math.Seq.{split_at}
 use Rattle.std.proofs.lemmas.List.{take_more, map-append, take-append-drop, length-map}
-use Rattle.std.proofs.lemmas.Map.Views.{IfSome-lookup_from_All}
 use Rattle.std.specs.declared.vec.Vec.{Vec}
 use Rattle.std.specs.declared.cmp.Reverse.{Reverse}
 use Rattle.std.specs.Borrow.{Bor}
-use Rattle.std.specs.Map.{values_of}
 use Rattle.rectangle_pack.specs.Closures.{Answers}
-use Rattle.rectangle_pack.specs.Groups.{lists_of, HaveSizes, MembersHaveSizes}
+use Rattle.rectangle_pack.specs.Groups.{lists_of}
 use Rattle.rectangle_pack.specs.private.Orders.{keys_of_order, entries_at}
-use Rattle.std.proofs.lemmas.List.Elements.{All-push, All-nil, All-weaker}
+use Rattle.std.proofs.lemmas.List.Elements.{All-push, All-nil}
 use Rattle.rectangle_pack.specs.declared.pack.work.DoneTrial.{DoneTrial}
 use Rattle.rectangle_pack.specs.declared.pack.answer.Placement.{Placement}
 use Rattle.rectangle_pack.specs.Bins.{Bin, Held, IsSound}
@@ -191,13 +189,6 @@ module _ {Id B : Type 0} (rules : Rules Id B) where
           refused = rw same refused;
           tests_are = refl;
         }
-
--- the ids of a list that is found have sizes
-pub HaveSizes-found : {Id K : Type 0} (cmp : Id → Id → Ordering) (sizes : List (Id × Size)) (lists : List (K × List Id)) (test : K → Bool) (ids : List Id)
-    → MembersHaveSizes cmp sizes lists → lookup test lists ≡ Some ids → HaveSizes cmp sizes ids
-HaveSizes-found {Id} cmp sizes lists test ids h found =
-    let all : IfSome (lookup test lists) (HaveSizes cmp sizes) = IfSome-lookup_from_All (HaveSizes cmp sizes) test lists (All-weaker (λ (xs : List Id). (0 < length xs) × HaveSizes cmp sizes xs) (HaveSizes cmp sizes) (λ xs p. p.1) (values_of lists) h) in
-    rw found at all
 
 -- other facts on the two answers
 pub packed-weaker : {E P Q P' Q' : Type 0} (r : Result Bool E) → (P → P') → (Q → Q') → IfOk r (λ d. MatchBool d P Q) → IfOk r (λ d. MatchBool d P' Q')
