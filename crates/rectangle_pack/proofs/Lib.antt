@@ -1,4 +1,5 @@
 pub mod AppendLemmas
+pub mod TakenLemmas
 pub mod AxesLemmas
 pub mod BarredLemmas
 pub mod BinsLemmas

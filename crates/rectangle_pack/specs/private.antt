@@ -1,4 +1,5 @@
 -- Definitions that only the clauses of private functions use.
+pub mod Taken
 pub mod Barred
 pub mod Bounds
 pub mod CutPlans

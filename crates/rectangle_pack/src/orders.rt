@@ -148,7 +148,6 @@ where
         (lists_of lists.now.entries) (keys_of_order v.items)) }
     ensures listed { IfOk result
         (λ v. All (λ o. get K.cmp lists.now o.1.now ≡ Some o.2.now) v.items) }
-    ensures as_many { IfOk result (λ v. length v.items ≡ length lists.now.entries) }
     ensures sizes { IfOk result
         (λ v.
         All (λ o. SizesStandAt Id.cmp rects.now.entries sizes.new.items o.2.now.items o.3) v.items) }

@@ -17,6 +17,7 @@ ghost use Rattle.rectangle_pack.specs.SmallestBox.{IsSmallestOrder};
 ghost use Rattle.rectangle_pack.specs.Results.{ClosuresDecide, either_of, AreCollectionsAlike, AreBinsAlike, ArePlacementsAlike, AreLocationsAlike, HaveOneResult};
 
 mod answer;
+mod taken;
 pub(crate) mod work;
 
 use crate::closures::Closures;

@@ -112,14 +112,22 @@ impl<A: Allocator + Copy> TargetBin<A> {
         ensures { IfOk result
             (λ b. b.bin ≡ new_bin (record { width = width; height = height; depth = depth })) }
     {
-        let max_size = WidthHeightDepth::of(width, height, depth);
-        let mut available_bin_sections = Vec::new(alloc);
-        available_bin_sections.push(BinSection::new(0, 0, 0, max_size))?;
-        Ok(TargetBin {
+        let size = WidthHeightDepth::of(width, height, depth);
+        let mut bin = TargetBin::without_sections(alloc, size);
+        bin.available_bin_sections
+            .push(BinSection::new(0, 0, 0, size))?;
+        Ok(bin)
+    }
+
+    // A bin of this size that has no free section. Takes no memory.
+    pub(crate) fn without_sections(alloc: A, max_size: WidthHeightDepth) -> Self
+        ensures { result.bin ≡ record (new_bin max_size) { sections = [] } }
+    {
+        TargetBin {
             max_size,
-            available_bin_sections,
+            available_bin_sections: Vec::new(alloc),
             was_coalesced: false,
-        })
+        }
     }
 
     /// The size of the bin, in cells.

@@ -14,6 +14,7 @@ ghost use Rattle.rectangle_pack.specs.Numbers.{saturated};
 ghost use Rattle.rectangle_pack.specs.Orders.{IsBinOrder};
 ghost use Rattle.rectangle_pack.specs.Packing.{rules_by, bins_of, bars_by, at_start, Members, IsPlaced, IsRefused, AreAllPlaced, AreGroups, StopsAfter, PackingDone, PackingRefused};
 ghost use Rattle.rectangle_pack.specs.PackAnswers.{entries_of, AreCounted};
+ghost use Rattle.rectangle_pack.specs.private.Taken.{put_back};
 ghost use Rattle.rectangle_pack.specs.private.Barred.{are_in, went_to};
 ghost use Rattle.rectangle_pack.specs.private.Bounds.{AddsWithin};
 ghost use Rattle.rectangle_pack.specs.private.Orders.{keys_of_order, entries_at, SizesStandAt};
@@ -21,12 +22,12 @@ ghost use Rattle.rectangle_pack.specs.Placed.{AreNamed};
 ghost use Rattle.rectangle_pack.specs.private.TrialJournal.{GoesBack};
 
 use crate::closures::Ask;
-use crate::exclusions::Exclusions;
 use crate::fit_tests::FitTests;
 use crate::grouped_rects_to_place::{Group, GroupedRectsToPlace};
 use crate::lists::number_after;
 use crate::orders::{Turn, group_order};
 use crate::pack::answer::Placement;
+use crate::pack::taken::{put_back, take_out, try_bin};
 use crate::packed_location::PackedLocation;
 use crate::rect_to_insert::RectToInsert;
 use crate::target_bin::TargetBin;
@@ -42,9 +43,11 @@ pub(crate) struct DoneTrial<'b, BinId, A: Allocator> {
     pub notes: Vec<Note, A>,
 }
 
-// What a packing did so far: what it placed, how to undo it, and how many fit tests it made.
+// What a packing did so far: the bins that it took out of their map, what it placed, how to undo it,
+// and how many fit tests it made.
 #[derive(Drop)]
-pub(crate) struct Progress<'b, Id, BinId, A: Allocator> {
+pub(crate) struct Progress<'b, Id, BinId, A: Allocator + Copy> {
+    pub taken: Vec<TargetBin<A>, A>,
     pub placements: Vec<Placement<Id, BinId>, A>,
     pub journal: Vec<DoneTrial<'b, BinId, A>, A>,
     pub tests: FitTests,
@@ -52,11 +55,13 @@ pub(crate) struct Progress<'b, Id, BinId, A: Allocator> {
 
 impl<'b, Id, BinId, A: Allocator + Copy> Progress<'b, Id, BinId, A> {
     pub(crate) fn new(alloc: A) -> Self
+        ensures taken { result.taken.items ≡ [] }
         ensures placements { result.placements.items ≡ [] }
         ensures journal { result.journal.items ≡ [] }
         ensures tests { result.tests ≡ 0 }
     {
         Progress {
+            taken: Vec::new(alloc),
             placements: Vec::new(alloc),
             journal: Vec::new(alloc),
             tests: FitTests::new(),
@@ -133,7 +138,9 @@ where
     requires bin_ids { (a b : B) → B.is_clone a b → IsTrue (B.eq a b) }
     requires callable { R.can_ask rules.now }
     requires lengths { length ids.now ≡ length sizes.now }
+    requires distinct { IsDistinct (eq_by_cmp B.cmp) (map (λ o. o.1) order.now) }
     requires found { All (λ o. IsSome (get B.cmp bins.old o.1)) order.now }
+    requires within { length progress.old.taken.items ≤ length order.now }
     requires journal_room { vec_len progress.old.journal < vec_capacity progress.old.journal }
     ensures placed { IfOk result
         (λ placed.
@@ -141,8 +148,10 @@ where
         let bars = are_in B.cmp barred.now.keys in
         let names = map (λ o. o.1) order.now in
         let group : Members Id = record { ids = ids.now; sizes = sizes.now } in
-        let old = bins_of bins.old.entries in
-        let new = bins_of bins.new.entries in
+        let old =
+        bins_of (put_back B.cmp order.now progress.old.taken.items bins.old.entries) in
+        let new =
+        bins_of (put_back B.cmp order.now progress.new.taken.items bins.new.entries) in
         MatchOption placed
         ((count : ℕ) ×
         IsRefused by bars names group old count ×
@@ -156,11 +165,16 @@ where
         (progress.new.placements.items ≡ progress.old.placements.items ++ added) ×
         (progress.new.tests ≡ saturated (progress.old.tests + count)))) }
     ensures stopped { OnErr result
-        (AddsWithin B.cmp (bins_of bins.old.entries) (map (λ o. o.1) order.now)
-        (length sizes.now) progress.old.tests progress.new.tests) }
+        (AddsWithin B.cmp
+        (bins_of (put_back B.cmp order.now progress.old.taken.items bins.old.entries))
+        (map (λ o. o.1) order.now) (length sizes.now) progress.old.tests progress.new.tests) }
     ensures back { (start : List (B × Bin)) →
-        GoesBack B.cmp bins.old.entries progress.old.journal.items start →
-        GoesBack B.cmp bins.new.entries progress.new.journal.items start }
+        GoesBack B.cmp (put_back B.cmp order.now progress.old.taken.items bins.old.entries)
+        progress.old.journal.items start →
+        GoesBack B.cmp (put_back B.cmp order.now progress.new.taken.items bins.new.entries)
+        progress.new.journal.items start }
+    ensures keys { keys_of bins.new.entries ≡ keys_of bins.old.entries }
+    ensures stays_within { length progress.new.taken.items ≤ length order.now }
     ensures journal_grows { vec_len progress.new.journal ≤ vec_len progress.old.journal + 1 }
     ensures journal_room_stays { vec_capacity progress.new.journal ≡
         vec_capacity progress.old.journal }
@@ -170,12 +184,22 @@ where
     let mut notes = Vec::with_capacity(*progress.journal.allocator(), sizes.len())?;
     locations.clear();
     locations.reserve(sizes.len())?;
-    for (_, id) in order {
+    for (i, (_, id)) in order.iter().enumerate() {
+        take_out(bins, order, i, &mut progress.taken);
         if barred.contains(&id) {
             continue;
         }
-        let bin = bins.get_mut(id).unwrap();
-        let done = bin.place_noted(sizes, rules, &mut progress.tests, &mut notes, locations)?;
+        let done = try_bin(
+            bins,
+            order,
+            i,
+            sizes,
+            rules,
+            &mut progress.taken,
+            &mut progress.tests,
+            &mut notes,
+            locations,
+        )?;
         if done {
             progress.journal.push_reserved(DoneTrial { bin: id, notes });
             name_all(&mut progress.placements, ids, id, locations.as_slice())?;
@@ -205,13 +229,10 @@ fn barred_bins<'a, 'b, K: Ord, B: Ord, A: Allocator + Copy>(
     Ok(barred)
 }
 
-// Places each group of an order, up to the first that is refused. Of the boxes by their ids only the
-// contract speaks.
-fn place_groups<'a, 'b, Id, B, K, R, A>(
-    _rects: &BTreeMap<Id, RectToInsert, A>,
-    lists: &BTreeMap<K, Vec<Id, A>, A>,
-    exclusions: &'a Exclusions<K, A>,
-    groups: &[Turn<'a, K, Id, A>],
+// Places each group of an order, up to the first that is refused.
+fn place_groups<'a, 'b, Id, B, GroupId, R, A>(
+    rects_to_place: &'a GroupedRectsToPlace<Id, GroupId, A>,
+    groups: &[Turn<'a, Group<GroupId, Id>, Id, A>],
     sizes: &[RectToInsert],
     order: &'b [(u128, B)],
     bins: &mut BTreeMap<B, TargetBin<A>, A>,
@@ -221,55 +242,69 @@ fn place_groups<'a, 'b, Id, B, K, R, A>(
 where
     Id: Ord + Clone + Drop,
     B: Ord + Clone + Drop,
-    K: Ord,
+    GroupId: Ord + Clone + Drop,
     R: Ask,
     A: Allocator + Copy,
     requires ids { (a b : Id) → Id.is_clone a b → IsTrue (Id.eq a b) }
     requires bin_ids { (a b : B) → B.is_clone a b → IsTrue (B.eq a b) }
     requires callable { R.can_ask rules.now }
-    requires listed { All (λ o. get K.cmp lists.now o.1.now ≡ Some o.2.now) groups.now }
-    requires as_many { length groups.now ≡ length lists.now.entries }
+    requires listed { All
+        (λ o.
+        lookup (is_at (⟦<Group<GroupId, Id> as Ord>⟧.cmp o.1.now)) rects_to_place.now.groups ≡
+        Some o.2.now.items) groups.now }
     requires sized { All
-        (λ o. SizesStandAt Id.cmp _rects.now.entries sizes.now o.2.now.items o.3) groups.now }
+        (λ o. SizesStandAt Id.cmp rects_to_place.now.sizes sizes.now o.2.now.items o.3) groups.now }
     requires found { All (λ o. IsSome (get B.cmp bins.old o.1)) order.now }
-    requires distinct { IsDistinct (eq_by_cmp K.cmp) (map (λ o. o.1.now) groups.now) }
+    requires distinct { IsDistinct (eq_by_cmp ⟦<Group<GroupId, Id> as Ord>⟧.cmp)
+        (map (λ o. o.1.now) groups.now) }
     requires distinct_bins { IsDistinct (eq_by_cmp B.cmp) (map (λ o. o.1) order.now) }
     requires no_placements { progress.old.placements.items ≡ [] }
+    requires none_taken { progress.old.taken.items ≡ [] }
     ensures packed { IfOk result
         (λ done.
+        let group_cmp = ⟦<Group<GroupId, Id> as Ord>⟧.cmp in
         let by = rules_by Id.cmp B.cmp (R.may rules.now) in
-        let bars = bars_by K.cmp B.cmp exclusions.now in
+        let all = rects_to_place.now in
+        let bars = bars_by group_cmp B.cmp all.partners in
         let names = map (λ o. o.1) order.now in
-        let lists = lists_of lists.now.entries in
         let groups = keys_of_order groups.now in
         let old = bins_of bins.old.entries in
-        let new = bins_of bins.new.entries in
+        let new =
+        bins_of (put_back B.cmp order.now progress.new.taken.items bins.new.entries) in
         MatchBool done
-        ((gs : List (K × Members Id)) × (homes : List (K × B)) × (count : ℕ) ×
-        AreGroups Id.cmp K.cmp _rects.now.entries lists groups gs ×
+        ((gs : List (Group GroupId Id × Members Id)) × (homes : List (Group GroupId Id × B)) ×
+        (count : ℕ) ×
+        AreGroups Id.cmp group_cmp all.sizes all.groups groups gs ×
         AreAllPlaced by bars names gs (at_start old) progress.new.placements.items
         (record { bins = new; homes = homes }) count ×
         (progress.new.tests ≡ saturated (progress.old.tests + count)))
         ((count : ℕ) ×
-        StopsAfter by bars K.cmp _rects.now.entries lists groups names old new count ×
+        StopsAfter by bars group_cmp all.sizes all.groups groups names old new count ×
         (progress.new.tests ≡ saturated (progress.old.tests + count)))) }
     ensures stopped { OnErr result
         (AddsWithin B.cmp (bins_of bins.old.entries) (map (λ o. o.1) order.now)
-        (sum_by (entries_at K.cmp (lists_of lists.now.entries)) (keys_of_order groups.now))
+        (sum_by (entries_at ⟦<Group<GroupId, Id> as Ord>⟧.cmp rects_to_place.now.groups)
+        (keys_of_order groups.now))
         progress.old.tests progress.new.tests) }
     ensures back { (start : List (B × Bin)) →
         GoesBack B.cmp bins.old.entries progress.old.journal.items start →
-        GoesBack B.cmp bins.new.entries progress.new.journal.items start }
+        GoesBack B.cmp (put_back B.cmp order.now progress.new.taken.items bins.new.entries)
+        progress.new.journal.items start }
+    ensures keys { keys_of bins.new.entries ≡ keys_of bins.old.entries }
+    ensures within { length progress.new.taken.items ≤ length order.now }
 {
     // For the proof alone: what is read is known to be of 128 bits.
     let _counted = progress.tests.count();
     let alloc = *progress.journal.allocator();
-    progress.journal.reserve(lists.len())?;
+    // Where one group alone asks, each bin is taken once, and none is taken out.
+    let most = if groups.len() > 1 { order.len() } else { 0 };
+    progress.taken.reserve(most)?;
+    progress.journal.reserve(groups.len())?;
     let mut homes = BTreeMap::new(alloc);
     let mut locations = Vec::new(alloc);
     for (_, group, ids, start) in groups {
         let members = &sizes[*start..*start + ids.len()];
-        let partners = exclusions.partners(*group);
+        let partners = rects_to_place.exclusions().partners(*group);
         let barred = barred_bins(alloc, partners, &homes)?;
         match place_group(
             bins,
@@ -314,6 +349,7 @@ where
     requires found { All (λ o. IsSome (get BinId.cmp target_bins.old o.1)) order.now }
     requires distinct { 0 < length rects_to_place.now.groups →
         IsDistinct (eq_by_cmp BinId.cmp) (keys_of (bins_of target_bins.old.entries)) }
+    requires none_taken { progress.old.taken.items ≡ [] }
     requires no_placements { progress.old.placements.items ≡ [] }
     requires no_journal { progress.old.journal.items ≡ [] }
     ensures packed { IfOk result
@@ -354,15 +390,15 @@ where
     let mut sizes = Vec::with_capacity(alloc, entries)?;
     let groups = group_order(alloc, rects, lists, rules, &mut sizes)?;
     progress.placements.reserve(entries)?;
-    place_groups(
-        rects,
-        lists,
-        rects_to_place.exclusions(),
+    let done = place_groups(
+        rects_to_place,
         groups.as_slice(),
         sizes.as_slice(),
         order,
         target_bins,
         rules,
         progress,
-    )
+    );
+    put_back(target_bins, order, &mut progress.taken);
+    done
 }

@@ -17,14 +17,13 @@ use Rattle.std.specs.Map.{lookup}
 use Rattle.std.specs.BTreeMap.{is_at}
 use Rattle.std.specs.Borrow.{Bor}
 use Rattle.std.specs.declared.cmp.Reverse.{Reverse}
-use Rattle.std.proofs.lemmas.List.Sorted.{All-permutation, sum_by-IsPermutation, length_permutation}
+use Rattle.std.proofs.lemmas.List.Sorted.{All-permutation, sum_by-IsPermutation}
 use Rattle.std.proofs.Common.{sym, subst, List}
 use Rattle.std.specs.Ordering.{eq_by_cmp}
 use Rattle.std.specs.List.{IsDistinct}
 use Rattle.std.specs.Map.{keys_of}
 use Rattle.std.proofs.lemmas.List.Sorted.{IsPermutation-map}
 use Rattle.std.proofs.lemmas.Map.Keys.{IsDistinct-from_sorted, IsDistinct-IsPermutation}
-use Rattle.rectangle_pack.proofs.OneOrderLemmas.{length-zip}
 use Rattle.rectangle_pack.proofs.ListsLemmas.{keys-lists}
 use Rattle.rectangle_pack.proofs.MapsLemmas.{is_at-back}
 use Rattle.rectangle_pack.proofs.orders.group_order.Goals as goal
@@ -91,7 +90,6 @@ returns g c =
       listed = All-permutation (λ (o : Reverse ℕ × Bor g.row.K.Denot × Bor (Vec g.row.Id.Denot g.row.A.Denot) × ℕ). lookup (is_at (cmp o.1.now)) entries ≡ Some o.2.now) order _ c.sort_falling.ensures.same
           (listed-zip g.met.K.Ord.total c.args.lists.now c.len.ensures.ordered order lent);
       sizes = All-permutation (λ (o : Reverse ℕ × Bor g.row.K.Denot × Bor (Vec g.row.Id.Denot g.row.A.Denot) × ℕ). SizesStandAt g.Id.Ord.cmp c.args.rects.now.entries c.loop-group.sizes.items o.2.now.items o.3) order _ c.sort_falling.ensures.same c.loop-group.invariant.sized;
-      as_many = length_permutation order c.sort_falling.new.order.items c.sort_falling.ensures.same ∙ sym (length-zip _ entries order lent);
       distinct = IsDistinct-IsPermutation (eq_by_cmp cmp) (λ x y. is_at-back g.met.K.Ord.total x y) (map name order) _
           (IsPermutation-map name _ _ c.sort_falling.ensures.same)
           (subst (λ (ks : List g.row.K.Denot). IsDistinct (eq_by_cmp cmp) ks) (sym names) (IsDistinct-from_sorted cmp (keys_of entries) c.len.ensures.ordered));

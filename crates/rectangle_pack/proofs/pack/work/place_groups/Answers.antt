@@ -1,13 +1,13 @@
 use Rattle.std.proofs.Common.{◌≡◌, refl, sym, ◌∙◌, get_or, arith, take, ◌++◌, ◌∷◌, [], List, ◌+◌}
-use Rattle.std.specs.Prelude.{Some, IsSome, map}
+use Rattle.std.specs.Prelude.{Some, map}
 use Rattle.std.specs.Map.{lookup}
 use Rattle.std.specs.BTreeMap.{is_at}
 use Rattle.std.proofs.lemmas.List.{take_all}
-use Rattle.rectangle_pack.specs.Groups.{lists_of}
+use Rattle.rectangle_pack.specs.declared.grouped_rects_to_place.Group.{Group}
+use Rattle.rectangle_pack.specs.private.Taken.{put_back}
+use Rattle.rectangle_pack.proofs.pack.work.place_groups.Invariants.{group_cmp, group_total}
 use Rattle.rectangle_pack.specs.Packing.{rules_by, bins_of, Members}
-use Rattle.rectangle_pack.proofs.JournalLemmas.{is_some-bins_of}
 use Rattle.rectangle_pack.proofs.MapsLemmas.{is_some-keys}
-use Rattle.rectangle_pack.proofs.PlacedLemmas.{keys-placed}
 use Rattle.rectangle_pack.proofs.PackLemmas.{AreSizesOf, AreSizesOf-length, AreGroups-more, StopsAfter-at, AreAllPlaced-push}
 use Rattle.rectangle_pack.proofs.BarredLemmas.{Knows, Knows-none, Knows-alone, Knows-kept, Named-more, Named-fresh, barred_by_partners, none-listed}
 use Rattle.rectangle_pack.proofs.BoundLemmas.{OnErr-given, adds-placed, adds-more, placed-le}
@@ -20,64 +20,63 @@ use Rattle.std.proofs.Math.Path.{fun_ext}
 use Rattle.std.specs.List.{list_any, slice_range}
 use Rattle.std.proofs.lemmas.List.Elements.{All-nil}
 use Rattle.std.proofs.Common.{Bool, ap, subst, length}
-use Rattle.rectangle_pack.proofs.PackingOrderLemmas.{list-found, SizesStandAt-part}
+use Rattle.rectangle_pack.proofs.PackingOrderLemmas.{SizesStandAt-part}
 use Rattle.std.specs.Borrow.{Bor}
 use Rattle.rectangle_pack.proofs.pack.work.place_groups.Goals as goal
 use Rattle.rectangle_pack.proofs.pack.work.place_groups.Goals.{then-not-is_empty+in_ok-insert-in-Some, else-not-is_empty}
 
 pub loop-group-init : goal.loop-group-init
-loop-group-init g c = record {
-  done = ([], [], 0, record { each = tt }, (c.requires.no_placements, refl, refl), omega arith, Knows-none g.K.Ord.cmp g.B.Ord.cmp g.met.K.Ord.total c.args.exclusions.now c.new-homes.result.entries c.new-homes.ensures.empty, λ q h. All-nil _);
-  room = omega (arith, c.in_ok-reserve.ensures.ok, c.requires.as_many);
-  back = λ start b. rw c.in_ok-reserve.ensures.items b;
-}
+loop-group-init g c =
+    let none : c.reserve.new.self.items ≡ [] = c.in_ok-reserve.ensures.items ∙ c.requires.none_taken in
+    record {
+      done = ([], [], 0, record { each = tt }, rw none (c.requires.no_placements, refl, refl), omega arith, Knows-none (group_cmp g) g.B.Ord.cmp (group_total g) c.args.rects_to_place.now.partners c.new-homes.result.entries c.new-homes.ensures.empty, λ q h. All-nil _);
+      keys = refl;
+      within = rw none (omega arith);
+      room = omega (arith, c.in_ok-reserve-2.ensures.ok);
+      back = λ start b. rw (none, c.in_ok-reserve-2.ensures.items) b;
+    }
 
 pub slice_bounds-members-end : goal.slice_bounds-members-end
 slice_bounds-members-end g c =
     let o = c.loop-group-item.result in
-    (SizesStandAt-part g.Id.Ord.cmp c.args._rects.now.entries c.args.sizes.now o.2.now.items _ o.3 _ refl (c.len-in-loop-group.ensures ∙ o.2.now.ok.0) (rw c.loop-group-item.is (c.requires.sized c.loop-group.group-index o c.loop-group-test.true))).0
+    (SizesStandAt-part g.Id.Ord.cmp c.args.rects_to_place.now.sizes c.args.sizes.now o.2.now.items _ o.3 _ refl (c.len.ensures ∙ o.2.now.ok.0) (rw c.loop-group-item.is (c.requires.sized c.loop-group.group-index o c.loop-group-test.true))).0
 
 pub place_group-requires-clause-lengths : goal.place_group-requires-clause-lengths
 place_group-requires-clause-lengths g c =
     let o = c.loop-group-item.result in
     let ids = c.as_slice.result.now in
-    let sizes = slice_range c.args.sizes.now o.3 (o.3 + c.len-in-loop-group.result) in
-    let sized : AreSizesOf g.Id.Ord.cmp c.args._rects.now.entries ids sizes = (SizesStandAt-part g.Id.Ord.cmp c.args._rects.now.entries c.args.sizes.now o.2.now.items ids o.3 _ c.as_slice.ensures.value (c.len-in-loop-group.ensures ∙ o.2.now.ok.0) (rw c.loop-group-item.is (c.requires.sized c.loop-group.group-index o c.loop-group-test.true))).1 in
-    AreSizesOf-length g.Id.Ord.cmp c.args._rects.now.entries ids sizes sized
+    let sizes = slice_range c.args.sizes.now o.3 (o.3 + c.len.result) in
+    let sized : AreSizesOf g.Id.Ord.cmp c.args.rects_to_place.now.sizes ids sizes = (SizesStandAt-part g.Id.Ord.cmp c.args.rects_to_place.now.sizes c.args.sizes.now o.2.now.items ids o.3 _ c.as_slice.ensures.value (c.len.ensures ∙ o.2.now.ok.0) (rw c.loop-group-item.is (c.requires.sized c.loop-group.group-index o c.loop-group-test.true))).1 in
+    AreSizesOf-length g.Id.Ord.cmp c.args.rects_to_place.now.sizes ids sizes sized
 
 pub place_group-requires-clause-found : goal.place_group-requires-clause-found
 place_group-requires-clause-found g c k d within =
-    let cmp = g.B.Ord.cmp in
-    let id = (get_or c.args.order.now k d).1 in
-    let old = c.args.bins.now.entries in
-    let now = c.loop-group.bins.entries in
-    let done = c.loop-group.invariant.done in
-    let before : IsSome (lookup (is_at (cmp id)) (bins_of old)) = is_some-bins_of (is_at (cmp id)) old ∙ c.requires.found k d within in
-    sym (is_some-bins_of (is_at (cmp id)) now) ∙ is_some-keys (is_at (cmp id)) (bins_of now) (bins_of old) (keys-placed _ _ _ done.0 (at_start (bins_of old)) _ (record { bins = bins_of now; homes = done.1 }) done.2 done.4) ∙ before
+    let test = is_at (g.B.Ord.cmp (get_or c.args.order.now k d).1) in
+    is_some-keys test c.loop-group.bins.entries c.args.bins.now.entries c.loop-group.invariant.keys ∙ c.requires.found k d within
 
 pub returns-in-None-clause-packed : goal.returns-in-None-clause-packed
 returns-in-None-clause-packed g c =
     let done = c.loop-group.invariant.done in
     let o = c.loop-group-item.result in
     let ids = c.as_slice.result.now in
-    let sizes = slice_range c.args.sizes.now o.3 (o.3 + c.len-in-loop-group.result) in
+    let sizes = slice_range c.args.sizes.now o.3 (o.3 + c.len.result) in
     let group : Members g.row.Id.Denot = record { ids = ids; sizes = sizes } in
     let name = c.loop-group-item.result.1.now in
     let rules = rules_by g.Id.Ord.cmp g.B.Ord.cmp (g.R.Ask.may c.args.rules.now) in
-    let found : lookup (is_at (g.K.Ord.cmp name)) (lists_of c.args.lists.now.entries) ≡ Some ids = rw c.as_slice.ensures.value (list-found (is_at (g.K.Ord.cmp name)) c.args.lists.now.entries c.loop-group-item.result.2.now (rw c.loop-group-item.is (c.requires.listed c.loop-group.group-index c.loop-group-item.result c.loop-group-test.true))) in
-    let sized : AreSizesOf g.Id.Ord.cmp c.args._rects.now.entries ids sizes = (SizesStandAt-part g.Id.Ord.cmp c.args._rects.now.entries c.args.sizes.now o.2.now.items ids o.3 _ c.as_slice.ensures.value (c.len-in-loop-group.ensures ∙ o.2.now.ok.0) (rw c.loop-group-item.is (c.requires.sized c.loop-group.group-index o c.loop-group-test.true))).1 in
-    let more = AreGroups-more rules g.K.Ord.cmp c.args._rects.now.entries (lists_of c.args.lists.now.entries) c.args.groups.now c.loop-group.group-index c.loop-group-item.result done.0 group c.loop-group-test.true c.loop-group-item.is found sized done.3 in
-    let bars : List (g.row.K.Denot × g.row.B.Denot) → g.row.K.Denot → g.row.B.Denot → Bool = bars_by g.K.Ord.cmp g.B.Ord.cmp c.args.exclusions.now in
+    let found : lookup (is_at ((group_cmp g) name)) c.args.rects_to_place.now.groups ≡ Some ids = rw (c.as_slice.ensures.value, c.loop-group-item.is) (c.requires.listed c.loop-group.group-index c.loop-group-item.result c.loop-group-test.true) in
+    let sized : AreSizesOf g.Id.Ord.cmp c.args.rects_to_place.now.sizes ids sizes = (SizesStandAt-part g.Id.Ord.cmp c.args.rects_to_place.now.sizes c.args.sizes.now o.2.now.items ids o.3 _ c.as_slice.ensures.value (c.len.ensures ∙ o.2.now.ok.0) (rw c.loop-group-item.is (c.requires.sized c.loop-group.group-index o c.loop-group-test.true))).1 in
+    let more = AreGroups-more rules (group_cmp g) c.args.rects_to_place.now.sizes c.args.rects_to_place.now.groups c.args.groups.now c.loop-group.group-index c.loop-group-item.result done.0 group c.loop-group-test.true c.loop-group-item.is found sized done.3 in
+    let bars : List ((Group g.row.GroupId.Denot g.row.Id.Denot) × g.row.B.Denot) → (Group g.row.GroupId.Denot g.row.Id.Denot) → g.row.B.Denot → Bool = bars_by (group_cmp g) g.B.Ord.cmp c.args.rects_to_place.now.partners in
     let keys = c.in_ok-barred.barred.keys in
-    let partners : c.partners-partners.result.now ≡ listed_at g.K.Ord.cmp c.args.exclusions.now name = c.partners-partners.ensures.listed in
+    let partners : c.partners-partners.result.now ≡ listed_at (group_cmp g) c.args.rects_to_place.now.partners name = rw (← c.exclusions.ensures) c.partners-partners.ensures.listed in
     let barred : are_in g.B.Ord.cmp keys ≡ bars done.1 name = fun_ext (λ id.
     c.in_ok-barred.ensures id
-    ∙ ap (λ (ps : List g.row.K.Denot). list_any (λ p. went_to g.K.Ord.cmp g.B.Ord.cmp c.loop-group.homes.entries p id) ps) partners
-    ∙ barred_by_partners g.K.Ord.cmp g.B.Ord.cmp g.met.K.Ord.total c.args.exclusions.now done.1 c.loop-group.homes.entries c.partners-partners.ensures.mutual done.6 name id) in
+    ∙ ap (λ (ps : List (Group g.row.GroupId.Denot g.row.Id.Denot)). list_any (λ p. went_to (group_cmp g) g.B.Ord.cmp c.loop-group.homes.entries p id) ps) partners
+    ∙ barred_by_partners (group_cmp g) g.B.Ord.cmp (group_total g) c.args.rects_to_place.now.partners done.1 c.loop-group.homes.entries (rw (← c.exclusions.ensures) c.partners-partners.ensures.mutual) done.6 name id) in
     let refused = rw c.in-None.is at c.in_ok-place_group.ensures.placed in
-    let P : (g.row.B.Denot → Bool) → Type 0 = λ (b : g.row.B.Denot → Bool). IsRefused rules b (map (λ o. o.1) c.args.order.now) group (bins_of c.loop-group.bins.entries) refused.0 in (
+    let P : (g.row.B.Denot → Bool) → Type 0 = λ (b : g.row.B.Denot → Bool). IsRefused rules b (map (λ o. o.1) c.args.order.now) group (bins_of (put_back g.B.Ord.cmp c.args.order.now c.loop-group.progress.taken.items c.loop-group.bins.entries)) refused.0 in (
       done.2 + refused.0,
-      StopsAfter-at rules g.K.Ord.cmp bars c.args._rects.now.entries (lists_of c.args.lists.now.entries) c.args.groups.now (map (λ o. o.1) c.args.order.now) (c.loop-group.group-index + 1) done.0 (name, group) _ _ (bins_of c.loop-group.bins.entries) done.1 c.loop-group.progress.placements.items done.2 refused.0
+      StopsAfter-at rules (group_cmp g) bars c.args.rects_to_place.now.sizes c.args.rects_to_place.now.groups c.args.groups.now (map (λ o. o.1) c.args.order.now) (c.loop-group.group-index + 1) done.0 (name, group) _ _ (bins_of (put_back g.B.Ord.cmp c.args.order.now c.loop-group.progress.taken.items c.loop-group.bins.entries)) done.1 c.loop-group.progress.placements.items done.2 refused.0
           more done.4 refused.2 (subst P barred refused.1),
       saturated-add c.args.progress.now.tests c.loop-group.progress.tests _ done.2 refused.0 done.5 refused.4,
     )
@@ -87,32 +86,32 @@ loop-group-preserved g c =
     let done = c.loop-group.invariant.done in
     let o = c.loop-group-item.result in
     let ids = c.as_slice.result.now in
-    let sizes = slice_range c.args.sizes.now o.3 (o.3 + c.len-in-loop-group.result) in
+    let sizes = slice_range c.args.sizes.now o.3 (o.3 + c.len.result) in
     let group : Members g.row.Id.Denot = record { ids = ids; sizes = sizes } in
     let name = c.loop-group-item.result.1.now in
     let rules = rules_by g.Id.Ord.cmp g.B.Ord.cmp (g.R.Ask.may c.args.rules.now) in
-    let found : lookup (is_at (g.K.Ord.cmp name)) (lists_of c.args.lists.now.entries) ≡ Some ids = rw c.as_slice.ensures.value (list-found (is_at (g.K.Ord.cmp name)) c.args.lists.now.entries c.loop-group-item.result.2.now (rw c.loop-group-item.is (c.requires.listed c.loop-group.group-index c.loop-group-item.result c.loop-group-test.true))) in
-    let sized : AreSizesOf g.Id.Ord.cmp c.args._rects.now.entries ids sizes = (SizesStandAt-part g.Id.Ord.cmp c.args._rects.now.entries c.args.sizes.now o.2.now.items ids o.3 _ c.as_slice.ensures.value (c.len-in-loop-group.ensures ∙ o.2.now.ok.0) (rw c.loop-group-item.is (c.requires.sized c.loop-group.group-index o c.loop-group-test.true))).1 in
-    let more = AreGroups-more rules g.K.Ord.cmp c.args._rects.now.entries (lists_of c.args.lists.now.entries) c.args.groups.now c.loop-group.group-index c.loop-group-item.result done.0 group c.loop-group-test.true c.loop-group-item.is found sized done.3 in
-    let bars : List (g.row.K.Denot × g.row.B.Denot) → g.row.K.Denot → g.row.B.Denot → Bool = bars_by g.K.Ord.cmp g.B.Ord.cmp c.args.exclusions.now in
+    let found : lookup (is_at ((group_cmp g) name)) c.args.rects_to_place.now.groups ≡ Some ids = rw (c.as_slice.ensures.value, c.loop-group-item.is) (c.requires.listed c.loop-group.group-index c.loop-group-item.result c.loop-group-test.true) in
+    let sized : AreSizesOf g.Id.Ord.cmp c.args.rects_to_place.now.sizes ids sizes = (SizesStandAt-part g.Id.Ord.cmp c.args.rects_to_place.now.sizes c.args.sizes.now o.2.now.items ids o.3 _ c.as_slice.ensures.value (c.len.ensures ∙ o.2.now.ok.0) (rw c.loop-group-item.is (c.requires.sized c.loop-group.group-index o c.loop-group-test.true))).1 in
+    let more = AreGroups-more rules (group_cmp g) c.args.rects_to_place.now.sizes c.args.rects_to_place.now.groups c.args.groups.now c.loop-group.group-index c.loop-group-item.result done.0 group c.loop-group-test.true c.loop-group-item.is found sized done.3 in
+    let bars : List ((Group g.row.GroupId.Denot g.row.Id.Denot) × g.row.B.Denot) → (Group g.row.GroupId.Denot g.row.Id.Denot) → g.row.B.Denot → Bool = bars_by (group_cmp g) g.B.Ord.cmp c.args.rects_to_place.now.partners in
     let keys = c.in_ok-barred.barred.keys in
-    let partners : c.partners-partners.result.now ≡ listed_at g.K.Ord.cmp c.args.exclusions.now name = c.partners-partners.ensures.listed in
+    let partners : c.partners-partners.result.now ≡ listed_at (group_cmp g) c.args.rects_to_place.now.partners name = rw (← c.exclusions.ensures) c.partners-partners.ensures.listed in
     let barred : are_in g.B.Ord.cmp keys ≡ bars done.1 name = fun_ext (λ id.
     c.in_ok-barred.ensures id
-    ∙ ap (λ (ps : List g.row.K.Denot). list_any (λ p. went_to g.K.Ord.cmp g.B.Ord.cmp c.loop-group.homes.entries p id) ps) partners
-    ∙ barred_by_partners g.K.Ord.cmp g.B.Ord.cmp g.met.K.Ord.total c.args.exclusions.now done.1 c.loop-group.homes.entries c.partners-partners.ensures.mutual done.6 name id) in
+    ∙ ap (λ (ps : List (Group g.row.GroupId.Denot g.row.Id.Denot)). list_any (λ p. went_to (group_cmp g) g.B.Ord.cmp c.loop-group.homes.entries p id) ps) partners
+    ∙ barred_by_partners (group_cmp g) g.B.Ord.cmp (group_total g) c.args.rects_to_place.now.partners done.1 c.loop-group.homes.entries (rw (← c.exclusions.ensures) c.partners-partners.ensures.mutual) done.6 name id) in
     let placed = rw c.in-Some.is at c.in_ok-place_group.ensures.placed in
     let here = c.in-Some.here in
-    let P : (g.row.B.Denot → Bool) → Type 0 = λ (b : g.row.B.Denot → Bool). (p : IsPlaced rules b (map (λ o. o.1) c.args.order.now) group (bins_of c.loop-group.bins.entries) placed.0 (bins_of c.place_group.new.bins.entries) placed.1) × (p.here ≡ here.now) in
+    let P : (g.row.B.Denot → Bool) → Type 0 = λ (b : g.row.B.Denot → Bool). (p : IsPlaced rules b (map (λ o. o.1) c.args.order.now) group (bins_of (put_back g.B.Ord.cmp c.args.order.now c.loop-group.progress.taken.items c.loop-group.bins.entries)) placed.0 (bins_of (put_back g.B.Ord.cmp c.args.order.now c.place_group.new.progress.taken.items c.place_group.new.bins.entries)) placed.1) × (p.here ≡ here.now) in
     let there = subst P barred (placed.2, placed.3) in
-    let Q : List (Placement g.row.Id.Denot g.row.B.Denot) → Type 0 = λ (ps : List (Placement g.row.Id.Denot g.row.B.Denot)). AreAllPlaced rules bars (map (λ o. o.1) c.args.order.now) (done.0 ++ (name, group) ∷ []) (at_start (bins_of c.args.bins.now.entries)) ps (record { bins = bins_of c.place_group.new.bins.entries; homes = (name, there.0.here) ∷ done.1 }) (done.2 + placed.1) in
-    let fresh = Named-fresh g.K.Ord.cmp g.B.Ord.cmp g.met.K.Ord.total c.args.groups.now c.loop-group.group-index c.loop-group-item.result done.1 c.requires.distinct c.loop-group-test.true c.loop-group-item.is done.7 in
-    let R : List (Bor g.row.K.Denot × Bor g.row.B.Denot) → Type 0 = λ (kept : List (Bor g.row.K.Denot × Bor g.row.B.Denot)). Knows g.K.Ord.cmp g.B.Ord.cmp g.met.K.Ord.total c.args.exclusions.now ((name, here.now) ∷ done.1) kept in
-    let knows : Knows g.K.Ord.cmp g.B.Ord.cmp g.met.K.Ord.total c.args.exclusions.now ((name, here.now) ∷ done.1) c.if-not-is_empty.homes.entries = elim c.if-not-is_empty.branch [
+    let Q : List (Placement g.row.Id.Denot g.row.B.Denot) → Type 0 = λ (ps : List (Placement g.row.Id.Denot g.row.B.Denot)). AreAllPlaced rules bars (map (λ o. o.1) c.args.order.now) (done.0 ++ (name, group) ∷ []) (at_start (bins_of c.args.bins.now.entries)) ps (record { bins = bins_of (put_back g.B.Ord.cmp c.args.order.now c.place_group.new.progress.taken.items c.place_group.new.bins.entries); homes = (name, there.0.here) ∷ done.1 }) (done.2 + placed.1) in
+    let fresh = Named-fresh (group_cmp g) g.B.Ord.cmp (group_total g) c.args.groups.now c.loop-group.group-index c.loop-group-item.result done.1 c.requires.distinct c.loop-group-test.true c.loop-group-item.is done.7 in
+    let R : List (Bor (Group g.row.GroupId.Denot g.row.Id.Denot) × Bor g.row.B.Denot) → Type 0 = λ (kept : List (Bor (Group g.row.GroupId.Denot g.row.Id.Denot) × Bor g.row.B.Denot)). Knows (group_cmp g) g.B.Ord.cmp (group_total g) c.args.rects_to_place.now.partners ((name, here.now) ∷ done.1) kept in
+    let knows : Knows (group_cmp g) g.B.Ord.cmp (group_total g) c.args.rects_to_place.now.partners ((name, here.now) ∷ done.1) c.if-not-is_empty.homes.entries = elim c.if-not-is_empty.branch [
       | then-not-is_empty+in_ok-insert-in-Some w ↦
-          subst R (sym (ap (λ m. m.entries) w.homes-is)) (Knows-kept g.K.Ord.cmp g.B.Ord.cmp g.met.K.Ord.total c.args.exclusions.now done.1 c.loop-group.homes.entries w.insert.new.self.entries name here (λ q. w.in_ok-insert-in-Some.ensures.updates.0 (record c.loop-group-item.result.1 { now = q })) fresh done.6)
+          subst R (sym (ap (λ m. m.entries) w.homes-is)) (Knows-kept (group_cmp g) g.B.Ord.cmp (group_total g) c.args.rects_to_place.now.partners done.1 c.loop-group.homes.entries w.insert.new.self.entries name here (λ q. w.in_ok-insert-in-Some.ensures.updates.0 (record c.loop-group-item.result.1 { now = q })) fresh done.6)
       | else-not-is_empty w ↦
-          subst R (sym (ap (λ m. m.entries) w.homes-is)) (Knows-alone g.K.Ord.cmp g.B.Ord.cmp g.met.K.Ord.total c.args.exclusions.now done.1 c.loop-group.homes.entries name here.now (ap length (sym partners) ∙ none-listed c.partners-partners.result.now c.is_empty.result c.is_empty.ensures w.if-not-is_empty.false) done.6)
+          subst R (sym (ap (λ m. m.entries) w.homes-is)) (Knows-alone (group_cmp g) g.B.Ord.cmp (group_total g) c.args.rects_to_place.now.partners done.1 c.loop-group.homes.entries name here.now (ap length (sym partners) ∙ none-listed c.partners-partners.result.now c.is_empty.result c.is_empty.ensures w.if-not-is_empty.false) done.6)
     ] in
     record {
       done = (
@@ -120,11 +119,13 @@ loop-group-preserved g c =
         (name, there.0.here) ∷ done.1,
         done.2 + placed.1,
         more,
-        subst Q (sym placed.4) (AreAllPlaced-push rules bars (map (λ o. o.1) c.args.order.now) done.0 (name, group) (at_start (bins_of c.args.bins.now.entries)) (bins_of c.loop-group.bins.entries) done.1 (bins_of c.place_group.new.bins.entries) c.loop-group.progress.placements.items placed.0 done.2 placed.1 done.4 there.0),
+        subst Q (sym placed.4) (AreAllPlaced-push rules bars (map (λ o. o.1) c.args.order.now) done.0 (name, group) (at_start (bins_of c.args.bins.now.entries)) (bins_of (put_back g.B.Ord.cmp c.args.order.now c.loop-group.progress.taken.items c.loop-group.bins.entries)) done.1 (bins_of (put_back g.B.Ord.cmp c.args.order.now c.place_group.new.progress.taken.items c.place_group.new.bins.entries)) c.loop-group.progress.placements.items placed.0 done.2 placed.1 done.4 there.0),
         saturated-add c.args.progress.now.tests c.loop-group.progress.tests _ done.2 placed.1 done.5 placed.5,
         rw there.1 knows,
-        Named-more g.K.Ord.cmp g.B.Ord.cmp g.met.K.Ord.total c.args.groups.now c.loop-group.group-index c.loop-group-item.result done.1 there.0.here c.loop-group-test.true c.loop-group-item.is done.7,
+        Named-more (group_cmp g) g.B.Ord.cmp (group_total g) c.args.groups.now c.loop-group.group-index c.loop-group-item.result done.1 there.0.here c.loop-group-test.true c.loop-group-item.is done.7,
       );
+      keys = c.in_ok-place_group.ensures.keys ∙ c.loop-group.invariant.keys;
+      within = c.in_ok-place_group.ensures.stays_within;
       room = omega arith;
       back = λ start b. c.place_group.ensures.back start (c.loop-group.invariant.back start b);
     }
@@ -138,19 +139,28 @@ returns-clause-packed g c =
 pub returns-in_err-reserve-clause-stopped : goal.returns-in_err-reserve-clause-stopped
 returns-in_err-reserve-clause-stopped g c =
     let rules = rules_by g.Id.Ord.cmp g.B.Ord.cmp (g.R.Ask.may c.args.rules.now) in
-    let bars : List (g.row.K.Denot × g.row.B.Denot) → g.row.K.Denot → g.row.B.Denot → Bool = bars_by g.K.Ord.cmp g.B.Ord.cmp c.args.exclusions.now in
+    let bars : List ((Group g.row.GroupId.Denot g.row.Id.Denot) × g.row.B.Denot) → (Group g.row.GroupId.Denot g.row.Id.Denot) → g.row.B.Denot → Bool = bars_by (group_cmp g) g.B.Ord.cmp c.args.rects_to_place.now.partners in
     let start = at_start (bins_of c.args.bins.now.entries) in
     OnErr-given _
-    (adds-placed rules g.met.B.Ord.total bars g.K.Ord.cmp c.args._rects.now.entries (lists_of c.args.lists.now.entries) c.args.groups.now 0 (map (λ o. o.1) c.args.order.now) [] start [] start 0
+    (adds-placed rules g.met.B.Ord.total bars (group_cmp g) c.args.rects_to_place.now.sizes c.args.rects_to_place.now.groups c.args.groups.now 0 (map (λ o. o.1) c.args.order.now) [] start [] start 0
+    c.args.progress.now.tests _ c.requires.distinct_bins (record { each = tt }) (refl, refl, refl) (omega arith))
+
+pub returns-in_err-reserve-2-clause-stopped : goal.returns-in_err-reserve-2-clause-stopped
+returns-in_err-reserve-2-clause-stopped g c =
+    let rules = rules_by g.Id.Ord.cmp g.B.Ord.cmp (g.R.Ask.may c.args.rules.now) in
+    let bars : List ((Group g.row.GroupId.Denot g.row.Id.Denot) × g.row.B.Denot) → (Group g.row.GroupId.Denot g.row.Id.Denot) → g.row.B.Denot → Bool = bars_by (group_cmp g) g.B.Ord.cmp c.args.rects_to_place.now.partners in
+    let start = at_start (bins_of c.args.bins.now.entries) in
+    OnErr-given _
+    (adds-placed rules g.met.B.Ord.total bars (group_cmp g) c.args.rects_to_place.now.sizes c.args.rects_to_place.now.groups c.args.groups.now 0 (map (λ o. o.1) c.args.order.now) [] start [] start 0
     c.args.progress.now.tests _ c.requires.distinct_bins (record { each = tt }) (refl, refl, refl) (omega arith))
 
 pub returns-in_err-barred-clause-stopped : goal.returns-in_err-barred-clause-stopped
 returns-in_err-barred-clause-stopped g c =
     let done = c.loop-group.invariant.done in
     let rules = rules_by g.Id.Ord.cmp g.B.Ord.cmp (g.R.Ask.may c.args.rules.now) in
-    let bars : List (g.row.K.Denot × g.row.B.Denot) → g.row.K.Denot → g.row.B.Denot → Bool = bars_by g.K.Ord.cmp g.B.Ord.cmp c.args.exclusions.now in
+    let bars : List ((Group g.row.GroupId.Denot g.row.Id.Denot) × g.row.B.Denot) → (Group g.row.GroupId.Denot g.row.Id.Denot) → g.row.B.Denot → Bool = bars_by (group_cmp g) g.B.Ord.cmp c.args.rects_to_place.now.partners in
     OnErr-given _
-    (adds-placed rules g.met.B.Ord.total bars g.K.Ord.cmp c.args._rects.now.entries (lists_of c.args.lists.now.entries) c.args.groups.now c.loop-group.group-index (map (λ o. o.1) c.args.order.now) done.0 (at_start (bins_of c.args.bins.now.entries)) _ _ done.2
+    (adds-placed rules g.met.B.Ord.total bars (group_cmp g) c.args.rects_to_place.now.sizes c.args.rects_to_place.now.groups c.args.groups.now c.loop-group.group-index (map (λ o. o.1) c.args.order.now) done.0 (at_start (bins_of c.args.bins.now.entries)) _ _ done.2
     c.args.progress.now.tests c.loop-group.progress.tests c.requires.distinct_bins done.3 done.4 done.5)
 
 pub returns-in_err-place_group-clause-stopped : goal.returns-in_err-place_group-clause-stopped
@@ -158,17 +168,17 @@ returns-in_err-place_group-clause-stopped g c =
     let done = c.loop-group.invariant.done in
     let o = c.loop-group-item.result in
     let ids = c.as_slice.result.now in
-    let sizes = slice_range c.args.sizes.now o.3 (o.3 + c.len-in-loop-group.result) in
+    let sizes = slice_range c.args.sizes.now o.3 (o.3 + c.len.result) in
     let group : Members g.row.Id.Denot = record { ids = ids; sizes = sizes } in
     let name = c.loop-group-item.result.1.now in
     let rules = rules_by g.Id.Ord.cmp g.B.Ord.cmp (g.R.Ask.may c.args.rules.now) in
-    let found : lookup (is_at (g.K.Ord.cmp name)) (lists_of c.args.lists.now.entries) ≡ Some ids = rw c.as_slice.ensures.value (list-found (is_at (g.K.Ord.cmp name)) c.args.lists.now.entries c.loop-group-item.result.2.now (rw c.loop-group-item.is (c.requires.listed c.loop-group.group-index c.loop-group-item.result c.loop-group-test.true))) in
-    let sized : AreSizesOf g.Id.Ord.cmp c.args._rects.now.entries ids sizes = (SizesStandAt-part g.Id.Ord.cmp c.args._rects.now.entries c.args.sizes.now o.2.now.items ids o.3 _ c.as_slice.ensures.value (c.len-in-loop-group.ensures ∙ o.2.now.ok.0) (rw c.loop-group-item.is (c.requires.sized c.loop-group.group-index o c.loop-group-test.true))).1 in
-    let more = AreGroups-more rules g.K.Ord.cmp c.args._rects.now.entries (lists_of c.args.lists.now.entries) c.args.groups.now c.loop-group.group-index c.loop-group-item.result done.0 group c.loop-group-test.true c.loop-group-item.is found sized done.3 in
-    let bars : List (g.row.K.Denot × g.row.B.Denot) → g.row.K.Denot → g.row.B.Denot → Bool = bars_by g.K.Ord.cmp g.B.Ord.cmp c.args.exclusions.now in
+    let found : lookup (is_at ((group_cmp g) name)) c.args.rects_to_place.now.groups ≡ Some ids = rw (c.as_slice.ensures.value, c.loop-group-item.is) (c.requires.listed c.loop-group.group-index c.loop-group-item.result c.loop-group-test.true) in
+    let sized : AreSizesOf g.Id.Ord.cmp c.args.rects_to_place.now.sizes ids sizes = (SizesStandAt-part g.Id.Ord.cmp c.args.rects_to_place.now.sizes c.args.sizes.now o.2.now.items ids o.3 _ c.as_slice.ensures.value (c.len.ensures ∙ o.2.now.ok.0) (rw c.loop-group-item.is (c.requires.sized c.loop-group.group-index o c.loop-group-test.true))).1 in
+    let more = AreGroups-more rules (group_cmp g) c.args.rects_to_place.now.sizes c.args.rects_to_place.now.groups c.args.groups.now c.loop-group.group-index c.loop-group-item.result done.0 group c.loop-group-test.true c.loop-group-item.is found sized done.3 in
+    let bars : List ((Group g.row.GroupId.Denot g.row.Id.Denot) × g.row.B.Denot) → (Group g.row.GroupId.Denot g.row.Id.Denot) → g.row.B.Denot → Bool = bars_by (group_cmp g) g.B.Ord.cmp c.args.rects_to_place.now.partners in
     OnErr-given _
-    (adds-more rules g.met.B.Ord.total bars g.K.Ord.cmp c.args._rects.now.entries (lists_of c.args.lists.now.entries) c.args.groups.now (c.loop-group.group-index + 1) (map (λ o. o.1) c.args.order.now) done.0 (name, group) (at_start (bins_of c.args.bins.now.entries)) _
-    (record { bins = bins_of c.loop-group.bins.entries; homes = done.1 }) done.2 c.args.progress.now.tests c.loop-group.progress.tests _ c.requires.distinct_bins more done.4 done.5 c.in_err-place_group.ensures.stopped)
+    (adds-more rules g.met.B.Ord.total bars (group_cmp g) c.args.rects_to_place.now.sizes c.args.rects_to_place.now.groups c.args.groups.now (c.loop-group.group-index + 1) (map (λ o. o.1) c.args.order.now) done.0 (name, group) (at_start (bins_of c.args.bins.now.entries)) _
+    (record { bins = bins_of (put_back g.B.Ord.cmp c.args.order.now c.loop-group.progress.taken.items c.loop-group.bins.entries); homes = done.1 }) done.2 c.args.progress.now.tests c.loop-group.progress.tests _ c.requires.distinct_bins more done.4 done.5 c.in_err-place_group.ensures.stopped)
 
 pub returns-in_err-place_group-clause-back : goal.returns-in_err-place_group-clause-back
 returns-in_err-place_group-clause-back g c = λ start b. c.place_group.ensures.back start (c.loop-group.invariant.back start b)
@@ -176,26 +186,29 @@ returns-in_err-place_group-clause-back g c = λ start b. c.place_group.ensures.b
 pub returns-in-None-clause-back : goal.returns-in-None-clause-back
 returns-in-None-clause-back g c = λ start b. c.place_group.ensures.back start (c.loop-group.invariant.back start b)
 
+pub returns-in_err-insert-in-Some-clause-back : goal.returns-in_err-insert-in-Some-clause-back
+returns-in_err-insert-in-Some-clause-back g c = λ start b. c.place_group.ensures.back start (c.loop-group.invariant.back start b)
+
 pub returns-in_err-insert-in-Some-clause-stopped : goal.returns-in_err-insert-in-Some-clause-stopped
 returns-in_err-insert-in-Some-clause-stopped g c =
     let done = c.loop-group.invariant.done in
     let o = c.loop-group-item.result in
     let ids = c.as_slice.result.now in
-    let sizes = slice_range c.args.sizes.now o.3 (o.3 + c.len-in-loop-group.result) in
+    let sizes = slice_range c.args.sizes.now o.3 (o.3 + c.len.result) in
     let group : Members g.row.Id.Denot = record { ids = ids; sizes = sizes } in
     let name = c.loop-group-item.result.1.now in
     let rules = rules_by g.Id.Ord.cmp g.B.Ord.cmp (g.R.Ask.may c.args.rules.now) in
-    let found : lookup (is_at (g.K.Ord.cmp name)) (lists_of c.args.lists.now.entries) ≡ Some ids = rw c.as_slice.ensures.value (list-found (is_at (g.K.Ord.cmp name)) c.args.lists.now.entries c.loop-group-item.result.2.now (rw c.loop-group-item.is (c.requires.listed c.loop-group.group-index c.loop-group-item.result c.loop-group-test.true))) in
-    let sized : AreSizesOf g.Id.Ord.cmp c.args._rects.now.entries ids sizes = (SizesStandAt-part g.Id.Ord.cmp c.args._rects.now.entries c.args.sizes.now o.2.now.items ids o.3 _ c.as_slice.ensures.value (c.len-in-loop-group.ensures ∙ o.2.now.ok.0) (rw c.loop-group-item.is (c.requires.sized c.loop-group.group-index o c.loop-group-test.true))).1 in
-    let more = AreGroups-more rules g.K.Ord.cmp c.args._rects.now.entries (lists_of c.args.lists.now.entries) c.args.groups.now c.loop-group.group-index c.loop-group-item.result done.0 group c.loop-group-test.true c.loop-group-item.is found sized done.3 in
-    let bars : List (g.row.K.Denot × g.row.B.Denot) → g.row.K.Denot → g.row.B.Denot → Bool = bars_by g.K.Ord.cmp g.B.Ord.cmp c.args.exclusions.now in
+    let found : lookup (is_at ((group_cmp g) name)) c.args.rects_to_place.now.groups ≡ Some ids = rw (c.as_slice.ensures.value, c.loop-group-item.is) (c.requires.listed c.loop-group.group-index c.loop-group-item.result c.loop-group-test.true) in
+    let sized : AreSizesOf g.Id.Ord.cmp c.args.rects_to_place.now.sizes ids sizes = (SizesStandAt-part g.Id.Ord.cmp c.args.rects_to_place.now.sizes c.args.sizes.now o.2.now.items ids o.3 _ c.as_slice.ensures.value (c.len.ensures ∙ o.2.now.ok.0) (rw c.loop-group-item.is (c.requires.sized c.loop-group.group-index o c.loop-group-test.true))).1 in
+    let more = AreGroups-more rules (group_cmp g) c.args.rects_to_place.now.sizes c.args.rects_to_place.now.groups c.args.groups.now c.loop-group.group-index c.loop-group-item.result done.0 group c.loop-group-test.true c.loop-group-item.is found sized done.3 in
+    let bars : List ((Group g.row.GroupId.Denot g.row.Id.Denot) × g.row.B.Denot) → (Group g.row.GroupId.Denot g.row.Id.Denot) → g.row.B.Denot → Bool = bars_by (group_cmp g) g.B.Ord.cmp c.args.rects_to_place.now.partners in
     let placed = rw c.in-Some.is at c.in_ok-place_group.ensures.placed in
     let names : List g.row.B.Denot = map (λ o. o.1) c.args.order.now in
     OnErr-given _
-    (adds-more rules g.met.B.Ord.total bars g.K.Ord.cmp c.args._rects.now.entries (lists_of c.args.lists.now.entries) c.args.groups.now (c.loop-group.group-index + 1) names done.0 (name, group) (at_start (bins_of c.args.bins.now.entries)) _
-    (record { bins = bins_of c.loop-group.bins.entries; homes = done.1 }) done.2 c.args.progress.now.tests c.loop-group.progress.tests _ c.requires.distinct_bins more done.4 done.5
+    (adds-more rules g.met.B.Ord.total bars (group_cmp g) c.args.rects_to_place.now.sizes c.args.rects_to_place.now.groups c.args.groups.now (c.loop-group.group-index + 1) names done.0 (name, group) (at_start (bins_of c.args.bins.now.entries)) _
+    (record { bins = bins_of (put_back g.B.Ord.cmp c.args.order.now c.loop-group.progress.taken.items c.loop-group.bins.entries); homes = done.1 }) done.2 c.args.progress.now.tests c.loop-group.progress.tests _ c.requires.distinct_bins more done.4 done.5
     (record {
       tests = placed.1;
-      within = placed-le rules g.met.B.Ord.total (are_in g.B.Ord.cmp c.in_ok-barred.barred.keys) names group (bins_of c.loop-group.bins.entries) placed.0 (bins_of c.place_group.new.bins.entries) placed.1 placed.2;
+      within = placed-le rules g.met.B.Ord.total (are_in g.B.Ord.cmp c.in_ok-barred.barred.keys) names group (bins_of (put_back g.B.Ord.cmp c.args.order.now c.loop-group.progress.taken.items c.loop-group.bins.entries)) placed.0 (bins_of (put_back g.B.Ord.cmp c.args.order.now c.place_group.new.progress.taken.items c.place_group.new.bins.entries)) placed.1 placed.2;
       added = placed.5;
     }))

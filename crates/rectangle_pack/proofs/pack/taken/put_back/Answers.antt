@@ -1,0 +1,35 @@
+use Rattle.std.proofs.Common.{◌≡◌, ◌<◌, ◌∷◌, [], length, get_or, sym, ap, ◌∙◌, arith}
+use Rattle.std.specs.Prelude.{IsSome}
+use Rattle.std.specs.Option.{is_some}
+use Rattle.std.specs.Map.{lookup}
+use Rattle.std.specs.BTreeMap.{is_at}
+use Rattle.std.proofs.lemmas.List.{length-append}
+use Rattle.std.proofs.lemmas.Map.{keys-set_value}
+use Rattle.rectangle_pack.proofs.MapsLemmas.{is_some-option_map, is_some-keys}
+use Rattle.rectangle_pack.proofs.TakenLemmas.{put_back-last}
+use Rattle.rectangle_pack.proofs.pack.taken.put_back.Goals as goal
+
+pub unwrap-requires : goal.unwrap-requires
+unwrap-requires g c =
+    let o = c.index-order-len.result in
+    let test = is_at (g.B.Ord.cmp o.1) in
+    let rest = c.pop.new.self.items in
+    let is : o ≡ get_or c.args.order.now (length rest) o = rw (← c.len.ensures ∙ c.pop.new.self.ok.0) c.index-order-len.is in
+    let next : length rest < length c.args.order.now = omega (arith, ap length c.in-Some.ensures.items, length-append rest (c.in-Some.bin ∷ []), c.loop-bin.invariant.within) in
+    let there : IsSome (lookup test c.args.bins.now.entries) = rw is (c.requires.found (length rest) o next) in
+    sym (is_some-option_map _ c.get_mut.result) ∙ ap is_some c.get_mut.ensures.value ∙ is_some-keys test c.loop-bin.bins.entries c.args.bins.now.entries c.loop-bin.invariant.keys ∙ there
+
+pub loop-bin-preserved : goal.loop-bin-preserved
+loop-bin-preserved g c =
+    let o = c.index-order-len.result in
+    let order = c.args.order.now in
+    let rest = c.pop.new.self.items in
+    let es = c.loop-bin.bins.entries in
+    let is : o ≡ get_or order (length rest) o = rw (← c.len.ensures ∙ c.pop.new.self.ok.0) c.index-order-len.is in
+    let next : length rest < length order = omega (arith, ap length c.in-Some.ensures.items, length-append rest (c.in-Some.bin ∷ []), c.loop-bin.invariant.within) in
+    let h = c.get_mut.follows.holds c.in-Some.bin in
+    record {
+      same = rw h.0 (put_back-last g.met.B.Ord.total order rest es o c.in-Some.bin c.requires.distinct next is ∙ rw (← c.in-Some.ensures.items) c.loop-bin.invariant.same);
+      keys = rw h.0 (keys-set_value (is_at (g.B.Ord.cmp o.1)) es c.in-Some.bin) ∙ c.loop-bin.invariant.keys;
+      within = omega (arith, next);
+    }

@@ -1,0 +1,14 @@
+use Rattle.std.proofs.Common.{◌≡◌, ◌≤◌, length, vec_len}
+use Rattle.std.specs.Map.{keys_of}
+use Rattle.rectangle_pack.specs.private.Taken.{put_back}
+use Rattle.rectangle_pack.proofs.pack.taken.put_back.Given as goal
+
+abbrev pub invariant-loop-bin : goal.invariant-loop-bin
+invariant-loop-bin g l = record {
+  same : put_back g.B.Ord.cmp l.order l.taken.items l.bins.entries ≡ put_back g.B.Ord.cmp l.order l.fn.taken.items l.fn.bins.entries;
+  keys : keys_of l.bins.entries ≡ keys_of l.fn.bins.entries;
+  within : length l.taken.items ≤ length l.order;
+}
+
+abbrev pub decreases-loop-bin : goal.decreases-loop-bin
+decreases-loop-bin g l = vec_len l.taken
