@@ -46,6 +46,12 @@ def many_bins():
     return small_bins(2000) + boxes(random.Random(1), 5000, 4, 40) + ["pack"]
 
 
+def many_packings():
+    """Boxes that are packed one by one."""
+    singles = boxes(random.Random(1), 2000, 4, 40)
+    return small_bins(2000) + [line for single in singles for line in (single, "pack")]
+
+
 def stuck_groups():
     """Groups that are tried in each small bin, and go into the large one."""
     r = random.Random(1)
@@ -68,6 +74,7 @@ def inputs():
     for count, side in (1000, 8192), (4000, 8192), (16000, 8192), (32000, 8192), (64000, 16384):
         yield f"one bin {side} x {side}, {count:,} boxes", count, True, lambda c=count, s=side: one_bin(c, s)
     yield "2,000 bins 64 x 64, 5,000 boxes", 5000, True, many_bins
+    yield "2,000 bins 64 x 64, 2,000 packings of one box", 2000, False, many_packings
     yield "100 groups of 201 boxes, each stuck in 300 bins 64 x 64", 20100, False, stuck_groups
     yield "one group of 100,000 boxes", 100000, False, one_group
     yield "one box in 700 groups", 700, False, one_box
