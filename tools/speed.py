@@ -1,7 +1,7 @@
 #!/usr/bin/env python3
 """speed.py RUST [RUNS] [LIMIT] [WORD]: time and memory of packrun, beside the Rust crate and a loop written by hand.
 
-RUST is the program of beside_rust.py. The loop is by_hand.c, which this builds; it knows no groups. Prints a table: the
+RUST is the program of beside_rust.py. The loop is by_hand.c, which this builds; it knows no groups, and one packing alone. Prints a table: the
 best of RUNS runs (7), in turn, each by the clock, and a dash where one takes more than LIMIT seconds (120); where all
 runs of a program took that long, it is not run again. Memory is the peak of one more run under GNU time, less that of a
 run on no lines for each box; a box counts once in each of its groups. With WORD only inputs whose names have it.
@@ -70,7 +70,7 @@ def one_box():
 
 
 def inputs():
-    """Of each input its name, the boxes, whether all are single, and what makes its lines."""
+    """Of each input its name, the boxes, whether the loop by hand knows it, and what makes its lines."""
     for count, side in (1000, 8192), (4000, 8192), (16000, 8192), (32000, 8192), (64000, 16384):
         yield f"one bin {side} x {side}, {count:,} boxes", count, True, lambda c=count, s=side: one_bin(c, s)
     yield "2,000 bins 64 x 64, 5,000 boxes", 5000, True, many_bins

@@ -1,5 +1,4 @@
 pub mod AppendLemmas
-pub mod TakenLemmas
 pub mod AxesLemmas
 pub mod BarredLemmas
 pub mod BinsLemmas
@@ -54,6 +53,7 @@ pub mod StatsLemmas
 pub mod StepsLemmas
 pub mod SweepLemmas
 pub mod TakeBackLemmas
+pub mod TakenLemmas
 pub mod TimesLemmas
 pub mod TransitionLemmas
 pub mod TrialLemmas

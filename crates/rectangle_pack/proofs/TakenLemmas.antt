@@ -11,15 +11,15 @@ use Rattle.std.proofs.lemmas.Map.{keys-set_value}
 use Rattle.std.proofs.lemmas.Map.Keys.{IsDistinct-head, IsDistinct-tail}
 use Rattle.std.proofs.lemmas.Map.Steps.{set_value_same}
 use Rattle.rectangle_pack.specs.Bins.{Held}
-use Rattle.rectangle_pack.specs.private.Taken.{put_back}
+use Rattle.rectangle_pack.specs.private.Taken.{with_taken}
 use Rattle.rectangle_pack.proofs.MapsLemmas.{is_at-back, is_some-keys, set_value-twice, lookup-set_here}
 
 -- one more bin is the last one written
-pub put_back-push : {B : Type 0} (cmp : B → B → Ordering) (order : List (ℕ × B)) (taken : List Held) (es : List (B × Held)) (h : Held) (o : ℕ × B) → length taken < length order → o ≡ get_or order (length taken) o
-    → put_back cmp order (taken ++ h ∷ []) es ≡ set_value (is_at (cmp o.1)) (put_back cmp order taken es) h
-put_back-push cmp [] taken es h o within is = absurd (omega arith)
-put_back-push cmp (x ∷ order) [] es h o within is = rw is refl
-put_back-push cmp (x ∷ order) (a ∷ taken) es h o within is = put_back-push cmp order taken (set_value (is_at (cmp x.1)) es a) h o (omega arith) is
+pub with_taken-push : {B : Type 0} (cmp : B → B → Ordering) (order : List (ℕ × B)) (taken : List Held) (es : List (B × Held)) (h : Held) (o : ℕ × B) → length taken < length order → o ≡ get_or order (length taken) o
+    → with_taken cmp order (taken ++ h ∷ []) es ≡ set_value (is_at (cmp o.1)) (with_taken cmp order taken es) h
+with_taken-push cmp [] taken es h o within is = absurd (omega arith)
+with_taken-push cmp (x ∷ order) [] es h o within is = rw is refl
+with_taken-push cmp (x ∷ order) (a ∷ taken) es h o within is = with_taken-push cmp order taken (set_value (is_at (cmp x.1)) es a) h o (omega arith) is
 
 module _ {B : Type 0} {cmp : B → B → Ordering} (total : IsTotalOrder cmp) where
   -- writes at two keys, in either order
@@ -50,62 +50,62 @@ module _ {B : Type 0} {cmp : B → B → Ordering} (total : IsTotalOrder cmp) wh
       at false true l r ih = rw r refl
       at false false l r ih = rw (r, ih) refl
 
-  -- no bin that was taken out has this name
-  abbrev pub IsInPlace : B → List (ℕ × B) → List Held → Type 0
-  IsInPlace id order [] = Unit {0}
-  IsInPlace id [] (h ∷ taken) = Unit {0}
-  IsInPlace id (o ∷ order) (h ∷ taken) = (is_at (cmp o.1) id ≡ false) × IsInPlace id order taken
+  -- no bin that was taken out has this id
+  abbrev pub IsNotTaken : B → List (ℕ × B) → List Held → Type 0
+  IsNotTaken id order [] = Unit {0}
+  IsNotTaken id [] (h ∷ taken) = Unit {0}
+  IsNotTaken id (o ∷ order) (h ∷ taken) = (is_at (cmp o.1) id ≡ false) × IsNotTaken id order taken
 
-  -- it is written in its place
-  pub put_back-written : (id : B) (order : List (ℕ × B)) (taken : List Held) (es : List (B × Held)) (w : Held) → IsInPlace id order taken
-      → put_back cmp order taken (set_value (is_at (cmp id)) es w) ≡ set_value (is_at (cmp id)) (put_back cmp order taken es) w
-  put_back-written id order [] es w h = refl
-  put_back-written id [] (a ∷ taken) es w h = refl
-  put_back-written id (o ∷ order) (a ∷ taken) es w h = rw (set_value-swap o.1 id h.0 es w a) (put_back-written id order taken (set_value (is_at (cmp o.1)) es a) w h.1)
+  -- then what is written at the id is written in the map
+  pub with_taken-written : (id : B) (order : List (ℕ × B)) (taken : List Held) (es : List (B × Held)) (w : Held) → IsNotTaken id order taken
+      → with_taken cmp order taken (set_value (is_at (cmp id)) es w) ≡ set_value (is_at (cmp id)) (with_taken cmp order taken es) w
+  with_taken-written id order [] es w h = refl
+  with_taken-written id [] (a ∷ taken) es w h = refl
+  with_taken-written id (o ∷ order) (a ∷ taken) es w h = rw (set_value-swap o.1 id h.0 es w a) (with_taken-written id order taken (set_value (is_at (cmp o.1)) es a) w h.1)
 
-  -- and found there
-  pub lookup-put_back : (id : B) (order : List (ℕ × B)) (taken : List Held) (es : List (B × Held)) → IsInPlace id order taken
-      → lookup (is_at (cmp id)) (put_back cmp order taken es) ≡ lookup (is_at (cmp id)) es
-  lookup-put_back id order [] es h = refl
-  lookup-put_back id [] (a ∷ taken) es h = refl
-  lookup-put_back id (o ∷ order) (a ∷ taken) es h = lookup-put_back id order taken (set_value (is_at (cmp o.1)) es a) h.1 ∙ lookup-elsewhere o.1 id h.0 es a
+  -- and what is found there is found in the map
+  pub lookup-with_taken : (id : B) (order : List (ℕ × B)) (taken : List Held) (es : List (B × Held)) → IsNotTaken id order taken
+      → lookup (is_at (cmp id)) (with_taken cmp order taken es) ≡ lookup (is_at (cmp id)) es
+  lookup-with_taken id order [] es h = refl
+  lookup-with_taken id [] (a ∷ taken) es h = refl
+  lookup-with_taken id (o ∷ order) (a ∷ taken) es h = lookup-with_taken id order taken (set_value (is_at (cmp o.1)) es a) h.1 ∙ lookup-elsewhere o.1 id h.0 es a
 
   apart-at : (id : B) (order : List (ℕ × B)) (i : ℕ) (o : ℕ × B) → AllByRecursion (λ y. eq_by_cmp cmp id y ≡ false) (map (λ (x : ℕ × B). x.1) order) → i < length order → o ≡ get_or order i o → is_at (cmp id) o.1 ≡ false
   apart-at id [] i o apart within is = absurd (omega arith)
   apart-at id (x ∷ order) zero o apart within is = rw is apart.0
   apart-at id (x ∷ order) (suc i) o apart within is = apart-at id order i o apart.1 (omega arith) is
 
-  -- a later bin of an order of distinct names is in its place
-  pub IsInPlace-later : (order : List (ℕ × B)) (taken : List Held) (i : ℕ) (o : ℕ × B) → IsDistinct (eq_by_cmp cmp) (map (λ (x : ℕ × B). x.1) order) → length taken ≤ i → i < length order → o ≡ get_or order i o → IsInPlace o.1 order taken
-  IsInPlace-later order [] i o distinct le within is = tt
-  IsInPlace-later [] (a ∷ taken) i o distinct le within is = tt
-  IsInPlace-later (x ∷ order) (a ∷ taken) zero o distinct le within is = absurd (omega arith)
-  IsInPlace-later (x ∷ order) (a ∷ taken) (suc i) o distinct le within is = (
+  -- of an order of distinct ids, the bins from here on are not taken
+  pub IsNotTaken-later : (order : List (ℕ × B)) (taken : List Held) (i : ℕ) (o : ℕ × B) → IsDistinct (eq_by_cmp cmp) (map (λ (x : ℕ × B). x.1) order) → length taken ≤ i → i < length order → o ≡ get_or order i o → IsNotTaken o.1 order taken
+  IsNotTaken-later order [] i o distinct le within is = tt
+  IsNotTaken-later [] (a ∷ taken) i o distinct le within is = tt
+  IsNotTaken-later (x ∷ order) (a ∷ taken) zero o distinct le within is = absurd (omega arith)
+  IsNotTaken-later (x ∷ order) (a ∷ taken) (suc i) o distinct le within is = (
     apart-at x.1 order i o (IsDistinct-head (eq_by_cmp cmp) x.1 (map (λ (y : ℕ × B). y.1) order) distinct) (omega arith) is,
-    IsInPlace-later order taken i o (IsDistinct-tail (eq_by_cmp cmp) x.1 (map (λ (y : ℕ × B). y.1) order) distinct) (omega arith) (omega arith) is,
+    IsNotTaken-later order taken i o (IsDistinct-tail (eq_by_cmp cmp) x.1 (map (λ (y : ℕ × B). y.1) order) distinct) (omega arith) (omega arith) is,
   )
 
-  -- so is one whose name is not among those of the order
-  IsInPlace-apart : (id : B) (order : List (ℕ × B)) (taken : List Held) → AllByRecursion (λ y. eq_by_cmp cmp id y ≡ false) (map (λ (x : ℕ × B). x.1) order) → IsInPlace id order taken
-  IsInPlace-apart id order [] apart = tt
-  IsInPlace-apart id [] (a ∷ taken) apart = tt
-  IsInPlace-apart id (o ∷ order) (a ∷ taken) apart = (is_at-back total o.1 id ∙ apart.0, IsInPlace-apart id order taken apart.1)
+  -- nor is one whose id is not among those of the order
+  IsNotTaken-apart : (id : B) (order : List (ℕ × B)) (taken : List Held) → AllByRecursion (λ y. eq_by_cmp cmp id y ≡ false) (map (λ (x : ℕ × B). x.1) order) → IsNotTaken id order taken
+  IsNotTaken-apart id order [] apart = tt
+  IsNotTaken-apart id [] (a ∷ taken) apart = tt
+  IsNotTaken-apart id (o ∷ order) (a ∷ taken) apart = (is_at-back total o.1 id ∙ apart.0, IsNotTaken-apart id order taken apart.1)
 
   -- the next bin is taken out: with another in its place, the map with all bins back stays
-  pub put_back-taken : (order : List (ℕ × B)) (taken : List Held) (es : List (B × Held)) (o : ℕ × B) (held other : Held) → IsDistinct (eq_by_cmp cmp) (map (λ (x : ℕ × B). x.1) order) → length taken < length order → o ≡ get_or order (length taken) o
-      → lookup (is_at (cmp o.1)) es ≡ Some held → put_back cmp order (taken ++ held ∷ []) (set_value (is_at (cmp o.1)) es other) ≡ put_back cmp order taken es
-  put_back-taken order taken es o held other distinct within is found =
-      let place = IsInPlace-later order taken (length taken) o distinct (omega arith) within is in
-      put_back-push cmp order taken (set_value (is_at (cmp o.1)) es other) held o within is
-      ∙ ap (λ es. set_value (is_at (cmp o.1)) es held) (put_back-written o.1 order taken es other place)
-      ∙ set_value-twice (is_at (cmp o.1)) (put_back cmp order taken es) other held
-      ∙ set_value_same (is_at (cmp o.1)) (put_back cmp order taken es) held (lookup-put_back o.1 order taken es place ∙ found)
+  pub with_taken-taken : (order : List (ℕ × B)) (taken : List Held) (es : List (B × Held)) (o : ℕ × B) (held other : Held) → IsDistinct (eq_by_cmp cmp) (map (λ (x : ℕ × B). x.1) order) → length taken < length order → o ≡ get_or order (length taken) o
+      → lookup (is_at (cmp o.1)) es ≡ Some held → with_taken cmp order (taken ++ held ∷ []) (set_value (is_at (cmp o.1)) es other) ≡ with_taken cmp order taken es
+  with_taken-taken order taken es o held other distinct within is found =
+      let place = IsNotTaken-later order taken (length taken) o distinct (omega arith) within is in
+      with_taken-push cmp order taken (set_value (is_at (cmp o.1)) es other) held o within is
+      ∙ ap (λ es. set_value (is_at (cmp o.1)) es held) (with_taken-written o.1 order taken es other place)
+      ∙ set_value-twice (is_at (cmp o.1)) (with_taken cmp order taken es) other held
+      ∙ set_value_same (is_at (cmp o.1)) (with_taken cmp order taken es) held (lookup-with_taken o.1 order taken es place ∙ found)
 
   -- the last one is put back
-  pub put_back-last : (order : List (ℕ × B)) (taken : List Held) (es : List (B × Held)) (o : ℕ × B) (held : Held) → IsDistinct (eq_by_cmp cmp) (map (λ (x : ℕ × B). x.1) order) → length taken < length order → o ≡ get_or order (length taken) o
-      → put_back cmp order taken (set_value (is_at (cmp o.1)) es held) ≡ put_back cmp order (taken ++ held ∷ []) es
-  put_back-last order taken es o held distinct within is =
-      put_back-written o.1 order taken es held (IsInPlace-later order taken (length taken) o distinct (omega arith) within is) ∙ sym (put_back-push cmp order taken es held o within is)
+  pub with_taken-last : (order : List (ℕ × B)) (taken : List Held) (es : List (B × Held)) (o : ℕ × B) (held : Held) → IsDistinct (eq_by_cmp cmp) (map (λ (x : ℕ × B). x.1) order) → length taken < length order → o ≡ get_or order (length taken) o
+      → with_taken cmp order taken (set_value (is_at (cmp o.1)) es held) ≡ with_taken cmp order (taken ++ held ∷ []) es
+  with_taken-last order taken es o held distinct within is =
+      with_taken-written o.1 order taken es held (IsNotTaken-later order taken (length taken) o distinct (omega arith) within is) ∙ sym (with_taken-push cmp order taken es held o within is)
 
   found-written : (test : B → Bool) (es : List (B × Held)) (w : Held) → IsSome (lookup test es) → lookup test (set_value test es w) ≡ Some w
   found-written test es w there = at (lookup test es) refl there
@@ -114,24 +114,24 @@ module _ {B : Type 0} {cmp : B → B → Ordering} (total : IsTotalOrder cmp) wh
       at None is some = absurd cc
       at (Some v) is some = lookup-set_here test es v w is
 
-  -- a bin that was taken is at its name in the map with all bins back
-  pub put_back-found : (order : List (ℕ × B)) (taken : List Held) (es : List (B × Held)) (i : ℕ) (o : ℕ × B) (held : Held) → IsDistinct (eq_by_cmp cmp) (map (λ (x : ℕ × B). x.1) order) → i < length taken → i < length order → o ≡ get_or order i o → held ≡ get_or taken i held
-      → IsSome (lookup (is_at (cmp o.1)) es) → lookup (is_at (cmp o.1)) (put_back cmp order taken es) ≡ Some held
-  put_back-found [] taken es i o held distinct within in_order is is_held there = absurd (omega arith)
-  put_back-found (x ∷ order) [] es i o held distinct within in_order is is_held there = absurd (omega arith)
-  put_back-found (x ∷ order) (a ∷ taken) es zero o held distinct within in_order is is_held there =
-      rw (is, is_held) (lookup-put_back x.1 order taken (set_value (is_at (cmp x.1)) es a) (IsInPlace-apart x.1 order taken (IsDistinct-head (eq_by_cmp cmp) x.1 (map (λ (y : ℕ × B). y.1) order) distinct)) ∙ found-written (is_at (cmp x.1)) es a (rw is at there))
-  put_back-found (x ∷ order) (a ∷ taken) es (suc i) o held distinct within in_order is is_held there =
+  -- a bin that was taken is at its id in the map with all bins back
+  pub with_taken-found : (order : List (ℕ × B)) (taken : List Held) (es : List (B × Held)) (i : ℕ) (o : ℕ × B) (held : Held) → IsDistinct (eq_by_cmp cmp) (map (λ (x : ℕ × B). x.1) order) → i < length taken → i < length order → o ≡ get_or order i o → held ≡ get_or taken i held
+      → IsSome (lookup (is_at (cmp o.1)) es) → lookup (is_at (cmp o.1)) (with_taken cmp order taken es) ≡ Some held
+  with_taken-found [] taken es i o held distinct within in_order is is_held there = absurd (omega arith)
+  with_taken-found (x ∷ order) [] es i o held distinct within in_order is is_held there = absurd (omega arith)
+  with_taken-found (x ∷ order) (a ∷ taken) es zero o held distinct within in_order is is_held there =
+      rw (is, is_held) (lookup-with_taken x.1 order taken (set_value (is_at (cmp x.1)) es a) (IsNotTaken-apart x.1 order taken (IsDistinct-head (eq_by_cmp cmp) x.1 (map (λ (y : ℕ × B). y.1) order) distinct)) ∙ found-written (is_at (cmp x.1)) es a (rw is at there))
+  with_taken-found (x ∷ order) (a ∷ taken) es (suc i) o held distinct within in_order is is_held there =
       let test = is_at (cmp o.1) in
       let written = set_value (is_at (cmp x.1)) es a in
-      put_back-found order taken written i o held (IsDistinct-tail (eq_by_cmp cmp) x.1 (map (λ (y : ℕ × B). y.1) order) distinct) (omega arith) (omega arith) is is_held (is_some-keys test written es (keys-set_value (is_at (cmp x.1)) es a) ∙ there)
+      with_taken-found order taken written i o held (IsDistinct-tail (eq_by_cmp cmp) x.1 (map (λ (y : ℕ × B). y.1) order) distinct) (omega arith) (omega arith) is is_held (is_some-keys test written es (keys-set_value (is_at (cmp x.1)) es a) ∙ there)
 
   -- and what is written in the list is written there
-  pub put_back-set : (order : List (ℕ × B)) (taken : List Held) (es : List (B × Held)) (i : ℕ) (o : ℕ × B) (w : Held) → IsDistinct (eq_by_cmp cmp) (map (λ (x : ℕ × B). x.1) order) → i < length taken → i < length order → o ≡ get_or order i o
-      → put_back cmp order (set taken i w) es ≡ set_value (is_at (cmp o.1)) (put_back cmp order taken es) w
-  put_back-set [] taken es i o w distinct within in_order is = absurd (omega arith)
-  put_back-set (x ∷ order) [] es i o w distinct within in_order is = absurd (omega arith)
-  put_back-set (x ∷ order) (a ∷ taken) es zero o w distinct within in_order is =
-      let place = IsInPlace-apart x.1 order taken (IsDistinct-head (eq_by_cmp cmp) x.1 (map (λ (y : ℕ × B). y.1) order) distinct) in
-      rw is (ap (put_back cmp order taken) (sym (set_value-twice (is_at (cmp x.1)) es a w)) ∙ put_back-written x.1 order taken (set_value (is_at (cmp x.1)) es a) w place)
-  put_back-set (x ∷ order) (a ∷ taken) es (suc i) o w distinct within in_order is = put_back-set order taken (set_value (is_at (cmp x.1)) es a) i o w (IsDistinct-tail (eq_by_cmp cmp) x.1 (map (λ (y : ℕ × B). y.1) order) distinct) (omega arith) (omega arith) is
+  pub with_taken-set : (order : List (ℕ × B)) (taken : List Held) (es : List (B × Held)) (i : ℕ) (o : ℕ × B) (w : Held) → IsDistinct (eq_by_cmp cmp) (map (λ (x : ℕ × B). x.1) order) → i < length taken → i < length order → o ≡ get_or order i o
+      → with_taken cmp order (set taken i w) es ≡ set_value (is_at (cmp o.1)) (with_taken cmp order taken es) w
+  with_taken-set [] taken es i o w distinct within in_order is = absurd (omega arith)
+  with_taken-set (x ∷ order) [] es i o w distinct within in_order is = absurd (omega arith)
+  with_taken-set (x ∷ order) (a ∷ taken) es zero o w distinct within in_order is =
+      let place = IsNotTaken-apart x.1 order taken (IsDistinct-head (eq_by_cmp cmp) x.1 (map (λ (y : ℕ × B). y.1) order) distinct) in
+      rw is (ap (with_taken cmp order taken) (sym (set_value-twice (is_at (cmp x.1)) es a w)) ∙ with_taken-written x.1 order taken (set_value (is_at (cmp x.1)) es a) w place)
+  with_taken-set (x ∷ order) (a ∷ taken) es (suc i) o w distinct within in_order is = with_taken-set order taken (set_value (is_at (cmp x.1)) es a) i o w (IsDistinct-tail (eq_by_cmp cmp) x.1 (map (λ (y : ℕ × B). y.1) order) distinct) (omega arith) (omega arith) is

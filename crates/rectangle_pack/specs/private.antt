@@ -1,5 +1,4 @@
 -- Definitions that only the clauses of private functions use.
-pub mod Taken
 pub mod Barred
 pub mod Bounds
 pub mod CutPlans
@@ -9,5 +8,6 @@ pub mod Lists
 pub mod Orders
 pub mod Ranks
 pub mod Spans
+pub mod Taken
 pub mod TrialJournal
 pub mod TrialNotes

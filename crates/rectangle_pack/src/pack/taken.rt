@@ -1,13 +1,13 @@
 //! The bins of a packing that are taken out of their map while it lasts, in the order of the bins:
-//! to look each up by its id for each group would take most of the time.
-ghost use Rattle.std.specs.Prelude.{ℕ, ◌≡◌, ◌<◌, ◌+◌, ◌≤◌, [], length, IsSome, All, map, slice_index_or};
+//! with many bins and groups, to look each up by its id for each group would take most of the time.
+ghost use Rattle.std.specs.Prelude.{ℕ, ◌≡◌, ◌<◌, ◌≤◌, [], length, IsSome, All, map, slice_index_or};
 ghost use Rattle.std.specs.BTreeMap.{get};
 ghost use Rattle.std.specs.List.{IsDistinct};
 ghost use Rattle.std.specs.Map.{keys_of};
 ghost use Rattle.std.specs.Ordering.{eq_by_cmp};
 ghost use Rattle.std.specs.Vec.{vec_capacity};
 ghost use Rattle.rectangle_pack.specs.Bins.{Held};
-ghost use Rattle.rectangle_pack.specs.private.Taken.{put_back, IsTriedIn};
+ghost use Rattle.rectangle_pack.specs.private.Taken.{with_taken, IsTriedIn};
 ghost use Rattle.rectangle_pack.specs.private.TrialNotes.{IsNotedAnswer, LeavesNotes};
 
 use crate::closures::Ask;
@@ -21,37 +21,37 @@ use std::alloc::{AllocError, Allocator};
 use std::collections::BTreeMap;
 use std::mem;
 
-// Takes the bin at this place of the order out of the map, where it is the next and there is room.
-// Until it is put back, one without sections is in its place; that takes no memory.
+// Takes the bin at this index of the order out of the map, where it is the next and there is room.
+// Until it is put back, the map has a bin without sections at its id; that takes no memory.
 pub(crate) fn take_out<B: Ord, A: Allocator + Copy>(
     bins: &mut BTreeMap<B, TargetBin<A>, A>,
     order: &[(u128, B)],
-    place: usize,
+    index: usize,
     taken: &mut Vec<TargetBin<A>, A>,
 )
-    requires distinct { IsDistinct (eq_by_cmp B.cmp) (map (λ o. o.1) order.now) }
+    requires distinct_bins { IsDistinct (eq_by_cmp B.cmp) (map (λ o. o.1) order.now) }
     requires found { All (λ o. IsSome (get B.cmp bins.old o.1)) order.now }
-    requires place { place < length order.now }
+    requires in_order { index < length order.now }
     requires within { length taken.old.items ≤ length order.now }
-    ensures same { put_back B.cmp order.now taken.new.items bins.new.entries ≡
-        put_back B.cmp order.now taken.old.items bins.old.entries }
+    ensures same { with_taken B.cmp order.now taken.new.items bins.new.entries ≡
+        with_taken B.cmp order.now taken.old.items bins.old.entries }
     ensures keys { keys_of bins.new.entries ≡ keys_of bins.old.entries }
     ensures stays_within { length taken.new.items ≤ length order.now }
 {
-    if place != taken.len() || taken.len() == taken.capacity() {
+    if index != taken.len() || taken.len() == taken.capacity() {
         return;
     }
-    let none = TargetBin::without_sections(*taken.allocator(), WidthHeightDepth::of(0, 0, 0));
-    let (_, id) = &order[place];
+    let stand_in = TargetBin::without_sections(*taken.allocator(), WidthHeightDepth::of(0, 0, 0));
+    let (_, id) = &order[index];
     let bin = bins.get_mut(id).unwrap();
-    taken.push_reserved(mem::replace(bin, none));
+    taken.push_reserved(mem::replace(bin, stand_in));
 }
 
-// One trial in the bin at this place of the order, which was taken out of the map or is there.
+// One trial in the bin at this index of the order, be it taken out or still in the map.
 pub(crate) fn try_bin<B, R, A>(
     bins: &mut BTreeMap<B, TargetBin<A>, A>,
     order: &[(u128, B)],
-    place: usize,
+    index: usize,
     sizes: &[RectToInsert],
     rules: &R,
     taken: &mut Vec<TargetBin<A>, A>,
@@ -64,16 +64,16 @@ where
     R: Ask,
     A: Allocator + Copy,
     requires callable { R.can_ask rules.now }
-    requires distinct { IsDistinct (eq_by_cmp B.cmp) (map (λ o. o.1) order.now) }
+    requires distinct_bins { IsDistinct (eq_by_cmp B.cmp) (map (λ o. o.1) order.now) }
     requires found { All (λ o. IsSome (get B.cmp bins.old o.1)) order.now }
-    requires place { place < length order.now }
+    requires in_order { index < length order.now }
     requires no_notes { notes.old.items ≡ [] }
     requires no_locations { locations.old.items ≡ [] }
     requires note_room { length sizes.now ≤ vec_capacity notes.old }
     requires location_room { length sizes.now ≤ vec_capacity locations.old }
-    ensures tried { (o : ℕ × B) → o ≡ slice_index_or order.now place o → (before after : Held) ×
-        IsTriedIn B.cmp o.1 (put_back B.cmp order.now taken.old.items bins.old.entries) before
-        after (put_back B.cmp order.now taken.new.items bins.new.entries) ×
+    ensures tried { (o : ℕ × B) → o ≡ slice_index_or order.now index o → (before after : Held) ×
+        IsTriedIn B.cmp o.1 (with_taken B.cmp order.now taken.old.items bins.old.entries) before
+        after (with_taken B.cmp order.now taken.new.items bins.new.entries) ×
         IsNotedAnswer (R.may rules.now) before.bin sizes.now tests.old result
         locations.new.items after.bin tests.new ×
         LeavesNotes result notes.new.items locations.new.items after.room before.bin.sections
@@ -83,10 +83,10 @@ where
     ensures note_room_stays { vec_capacity notes.new ≡ vec_capacity notes.old }
     ensures location_room_stays { vec_capacity locations.new ≡ vec_capacity locations.old }
 {
-    if place < taken.len() {
-        return taken[place].place_noted(sizes, rules, tests, notes, locations);
+    if index < taken.len() {
+        return taken[index].place_noted(sizes, rules, tests, notes, locations);
     }
-    let (_, id) = &order[place];
+    let (_, id) = &order[index];
     let bin = bins.get_mut(id).unwrap();
     bin.place_noted(sizes, rules, tests, notes, locations)
 }
@@ -97,10 +97,11 @@ pub(crate) fn put_back<B: Ord, A: Allocator + Copy>(
     order: &[(u128, B)],
     taken: &mut Vec<TargetBin<A>, A>,
 )
-    requires distinct { IsDistinct (eq_by_cmp B.cmp) (map (λ o. o.1) order.now) }
+    requires distinct_bins { IsDistinct (eq_by_cmp B.cmp) (map (λ o. o.1) order.now) }
     requires found { All (λ o. IsSome (get B.cmp bins.old o.1)) order.now }
     requires within { length taken.old.items ≤ length order.now }
-    ensures { bins.new.entries ≡ put_back B.cmp order.now taken.old.items bins.old.entries }
+    ensures back { bins.new.entries ≡ with_taken B.cmp order.now taken.old.items bins.old.entries }
+    ensures none_left { taken.new.items ≡ [] }
 {
     while let Some(bin) = taken.pop() {
         let (_, id) = &order[taken.len()];

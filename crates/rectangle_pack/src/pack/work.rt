@@ -3,18 +3,17 @@
 ghost use Rattle.std.specs.Prelude.{ℕ, ◌≡◌, ◌<◌, ◌+◌, ◌≤◌, ◌++◌, [], length, vec_len, List, IsTrue, IfOk, OnOk, OnErr, IsSome, All, MatchBool, MatchOption, Ok, Some, map, true};
 ghost use Rattle.std.specs.BTreeMap.{get, is_at};
 ghost use Rattle.std.specs.Bool.{OnTrue};
-ghost use Rattle.std.specs.List.{AllZip, list_any, sum_by, IsDistinct};
+ghost use Rattle.std.specs.List.{list_any, sum_by, IsDistinct};
 ghost use Rattle.std.specs.Map.{lookup, keys_of};
 ghost use Rattle.std.specs.Vec.{vec_capacity};
 ghost use Rattle.rectangle_pack.specs.declared.pack.answer.Placement.{Placement};
 ghost use Rattle.rectangle_pack.specs.Bins.{Bin};
-ghost use Rattle.rectangle_pack.specs.Groups.{HaveSizes, MembersHaveSizes, lists_of};
 ghost use Rattle.std.specs.Ordering.{eq_by_cmp};
 ghost use Rattle.rectangle_pack.specs.Numbers.{saturated};
 ghost use Rattle.rectangle_pack.specs.Orders.{IsBinOrder};
 ghost use Rattle.rectangle_pack.specs.Packing.{rules_by, bins_of, bars_by, at_start, Members, IsPlaced, IsRefused, AreAllPlaced, AreGroups, StopsAfter, PackingDone, PackingRefused};
 ghost use Rattle.rectangle_pack.specs.PackAnswers.{entries_of, AreCounted};
-ghost use Rattle.rectangle_pack.specs.private.Taken.{put_back};
+ghost use Rattle.rectangle_pack.specs.private.Taken.{with_taken};
 ghost use Rattle.rectangle_pack.specs.private.Barred.{are_in, went_to};
 ghost use Rattle.rectangle_pack.specs.private.Bounds.{AddsWithin};
 ghost use Rattle.rectangle_pack.specs.private.Orders.{keys_of_order, entries_at, SizesStandAt};
@@ -33,7 +32,6 @@ use crate::rect_to_insert::RectToInsert;
 use crate::target_bin::TargetBin;
 use crate::trial::Note;
 use std::alloc::{AllocError, Allocator};
-use std::cmp::Reverse;
 use std::collections::{BTreeMap, BTreeSet};
 
 // A trial that was done, and how to undo it. The bin is named by its id in the order of the bins.
@@ -43,11 +41,9 @@ pub(crate) struct DoneTrial<'b, BinId, A: Allocator> {
     pub notes: Vec<Note, A>,
 }
 
-// What a packing did so far: the bins that it took out of their map, what it placed, how to undo it,
-// and how many fit tests it made.
+// What a packing did so far: what it placed, how to undo it, and how many fit tests it made.
 #[derive(Drop)]
-pub(crate) struct Progress<'b, Id, BinId, A: Allocator + Copy> {
-    pub taken: Vec<TargetBin<A>, A>,
+pub(crate) struct Progress<'b, Id, BinId, A: Allocator> {
     pub placements: Vec<Placement<Id, BinId>, A>,
     pub journal: Vec<DoneTrial<'b, BinId, A>, A>,
     pub tests: FitTests,
@@ -55,13 +51,11 @@ pub(crate) struct Progress<'b, Id, BinId, A: Allocator + Copy> {
 
 impl<'b, Id, BinId, A: Allocator + Copy> Progress<'b, Id, BinId, A> {
     pub(crate) fn new(alloc: A) -> Self
-        ensures taken { result.taken.items ≡ [] }
         ensures placements { result.placements.items ≡ [] }
         ensures journal { result.journal.items ≡ [] }
         ensures tests { result.tests ≡ 0 }
     {
         Progress {
-            taken: Vec::new(alloc),
             placements: Vec::new(alloc),
             journal: Vec::new(alloc),
             tests: FitTests::new(),
@@ -119,8 +113,10 @@ where
 
 // Puts a group into the first bin of the order that is not barred and whose trial is done; the id
 // of that bin. The room for notes and locations is made once, and a trial that is stuck leaves it.
+// The bins that it comes to, barred ones too, are taken out of their map, where there is room.
 fn place_group<'b, Id, B, R, A>(
     bins: &mut BTreeMap<B, TargetBin<A>, A>,
+    taken: &mut Vec<TargetBin<A>, A>,
     order: &'b [(u128, B)],
     barred: &BTreeSet<&'b B, A>,
     ids: &[Id],
@@ -138,9 +134,9 @@ where
     requires bin_ids { (a b : B) → B.is_clone a b → IsTrue (B.eq a b) }
     requires callable { R.can_ask rules.now }
     requires lengths { length ids.now ≡ length sizes.now }
-    requires distinct { IsDistinct (eq_by_cmp B.cmp) (map (λ o. o.1) order.now) }
+    requires distinct_bins { IsDistinct (eq_by_cmp B.cmp) (map (λ o. o.1) order.now) }
     requires found { All (λ o. IsSome (get B.cmp bins.old o.1)) order.now }
-    requires within { length progress.old.taken.items ≤ length order.now }
+    requires within { length taken.old.items ≤ length order.now }
     requires journal_room { vec_len progress.old.journal < vec_capacity progress.old.journal }
     ensures placed { IfOk result
         (λ placed.
@@ -149,9 +145,9 @@ where
         let names = map (λ o. o.1) order.now in
         let group : Members Id = record { ids = ids.now; sizes = sizes.now } in
         let old =
-        bins_of (put_back B.cmp order.now progress.old.taken.items bins.old.entries) in
+        bins_of (with_taken B.cmp order.now taken.old.items bins.old.entries) in
         let new =
-        bins_of (put_back B.cmp order.now progress.new.taken.items bins.new.entries) in
+        bins_of (with_taken B.cmp order.now taken.new.items bins.new.entries) in
         MatchOption placed
         ((count : ℕ) ×
         IsRefused by bars names group old count ×
@@ -166,15 +162,15 @@ where
         (progress.new.tests ≡ saturated (progress.old.tests + count)))) }
     ensures stopped { OnErr result
         (AddsWithin B.cmp
-        (bins_of (put_back B.cmp order.now progress.old.taken.items bins.old.entries))
+        (bins_of (with_taken B.cmp order.now taken.old.items bins.old.entries))
         (map (λ o. o.1) order.now) (length sizes.now) progress.old.tests progress.new.tests) }
     ensures back { (start : List (B × Bin)) →
-        GoesBack B.cmp (put_back B.cmp order.now progress.old.taken.items bins.old.entries)
+        GoesBack B.cmp (with_taken B.cmp order.now taken.old.items bins.old.entries)
         progress.old.journal.items start →
-        GoesBack B.cmp (put_back B.cmp order.now progress.new.taken.items bins.new.entries)
+        GoesBack B.cmp (with_taken B.cmp order.now taken.new.items bins.new.entries)
         progress.new.journal.items start }
     ensures keys { keys_of bins.new.entries ≡ keys_of bins.old.entries }
-    ensures stays_within { length progress.new.taken.items ≤ length order.now }
+    ensures stays_within { length taken.new.items ≤ length order.now }
     ensures journal_grows { vec_len progress.new.journal ≤ vec_len progress.old.journal + 1 }
     ensures journal_room_stays { vec_capacity progress.new.journal ≡
         vec_capacity progress.old.journal }
@@ -185,7 +181,7 @@ where
     locations.clear();
     locations.reserve(sizes.len())?;
     for (i, (_, id)) in order.iter().enumerate() {
-        take_out(bins, order, i, &mut progress.taken);
+        take_out(bins, order, i, taken);
         if barred.contains(&id) {
             continue;
         }
@@ -195,7 +191,7 @@ where
             i,
             sizes,
             rules,
-            &mut progress.taken,
+            taken,
             &mut progress.tests,
             &mut notes,
             locations,
@@ -229,13 +225,15 @@ fn barred_bins<'a, 'b, K: Ord, B: Ord, A: Allocator + Copy>(
     Ok(barred)
 }
 
-// Places each group of an order, up to the first that is refused.
+// Places each group of an order, up to the first that is refused. Bins that were taken out
+// are still out afterwards, also where memory is refused.
 fn place_groups<'a, 'b, Id, B, GroupId, R, A>(
     rects_to_place: &'a GroupedRectsToPlace<Id, GroupId, A>,
     groups: &[Turn<'a, Group<GroupId, Id>, Id, A>],
     sizes: &[RectToInsert],
     order: &'b [(u128, B)],
     bins: &mut BTreeMap<B, TargetBin<A>, A>,
+    taken: &mut Vec<TargetBin<A>, A>,
     rules: &R,
     progress: &mut Progress<'b, Id, B, A>,
 ) -> Result<bool, AllocError>
@@ -255,11 +253,11 @@ where
     requires sized { All
         (λ o. SizesStandAt Id.cmp rects_to_place.now.sizes sizes.now o.2.now.items o.3) groups.now }
     requires found { All (λ o. IsSome (get B.cmp bins.old o.1)) order.now }
-    requires distinct { IsDistinct (eq_by_cmp ⟦<Group<GroupId, Id> as Ord>⟧.cmp)
+    requires distinct_groups { IsDistinct (eq_by_cmp ⟦<Group<GroupId, Id> as Ord>⟧.cmp)
         (map (λ o. o.1.now) groups.now) }
     requires distinct_bins { IsDistinct (eq_by_cmp B.cmp) (map (λ o. o.1) order.now) }
     requires no_placements { progress.old.placements.items ≡ [] }
-    requires none_taken { progress.old.taken.items ≡ [] }
+    requires none_taken { taken.old.items ≡ [] }
     ensures packed { IfOk result
         (λ done.
         let group_cmp = ⟦<Group<GroupId, Id> as Ord>⟧.cmp in
@@ -270,7 +268,7 @@ where
         let groups = keys_of_order groups.now in
         let old = bins_of bins.old.entries in
         let new =
-        bins_of (put_back B.cmp order.now progress.new.taken.items bins.new.entries) in
+        bins_of (with_taken B.cmp order.now taken.new.items bins.new.entries) in
         MatchBool done
         ((gs : List (Group GroupId Id × Members Id)) × (homes : List (Group GroupId Id × B)) ×
         (count : ℕ) ×
@@ -288,26 +286,29 @@ where
         progress.old.tests progress.new.tests) }
     ensures back { (start : List (B × Bin)) →
         GoesBack B.cmp bins.old.entries progress.old.journal.items start →
-        GoesBack B.cmp (put_back B.cmp order.now progress.new.taken.items bins.new.entries)
+        GoesBack B.cmp (with_taken B.cmp order.now taken.new.items bins.new.entries)
         progress.new.journal.items start }
     ensures keys { keys_of bins.new.entries ≡ keys_of bins.old.entries }
-    ensures within { length progress.new.taken.items ≤ length order.now }
+    ensures stays_within { length taken.new.items ≤ length order.now }
 {
     // For the proof alone: what is read is known to be of 128 bits.
     let _counted = progress.tests.count();
     let alloc = *progress.journal.allocator();
-    // Where one group alone asks, each bin is taken once, and none is taken out.
-    let most = if groups.len() > 1 { order.len() } else { 0 };
-    progress.taken.reserve(most)?;
+    // Where one group alone is packed, each bin is looked up at most once: without room, none is
+    // taken out.
+    let room = if groups.len() > 1 { order.len() } else { 0 };
+    taken.reserve(room)?;
     progress.journal.reserve(groups.len())?;
+    let exclusions = rects_to_place.exclusions();
     let mut homes = BTreeMap::new(alloc);
     let mut locations = Vec::new(alloc);
     for (_, group, ids, start) in groups {
         let members = &sizes[*start..*start + ids.len()];
-        let partners = rects_to_place.exclusions().partners(*group);
+        let partners = exclusions.partners(*group);
         let barred = barred_bins(alloc, partners, &homes)?;
         match place_group(
             bins,
+            taken,
             order,
             &barred,
             ids.as_slice(),
@@ -327,7 +328,8 @@ where
     Ok(true)
 }
 
-// One packing, that can be undone whole; whether each group was placed.
+// One packing, that can be undone whole; whether each group was placed. However it ends, all bins
+// are in their map.
 pub(crate) fn pack_noted<'b, Id, BinId, GroupId, R, A>(
     rects_to_place: &GroupedRectsToPlace<Id, GroupId, A>,
     target_bins: &mut BTreeMap<BinId, TargetBin<A>, A>,
@@ -349,7 +351,6 @@ where
     requires found { All (λ o. IsSome (get BinId.cmp target_bins.old o.1)) order.now }
     requires distinct { 0 < length rects_to_place.now.groups →
         IsDistinct (eq_by_cmp BinId.cmp) (keys_of (bins_of target_bins.old.entries)) }
-    requires none_taken { progress.old.taken.items ≡ [] }
     requires no_placements { progress.old.placements.items ≡ [] }
     requires no_journal { progress.old.journal.items ≡ [] }
     ensures packed { IfOk result
@@ -390,15 +391,17 @@ where
     let mut sizes = Vec::with_capacity(alloc, entries)?;
     let groups = group_order(alloc, rects, lists, rules, &mut sizes)?;
     progress.placements.reserve(entries)?;
-    let done = place_groups(
+    let mut taken = Vec::new(alloc);
+    let packed = place_groups(
         rects_to_place,
         groups.as_slice(),
         sizes.as_slice(),
         order,
         target_bins,
+        &mut taken,
         rules,
         progress,
     );
-    put_back(target_bins, order, &mut progress.taken);
-    done
+    put_back(target_bins, order, &mut taken);
+    packed
 }

@@ -6,7 +6,7 @@ use Rattle.std.specs.BTreeMap.{is_at}
 use Rattle.std.proofs.lemmas.List.{length-append}
 use Rattle.std.proofs.lemmas.Map.{keys-set_value}
 use Rattle.rectangle_pack.proofs.MapsLemmas.{is_some-option_map, is_some-keys}
-use Rattle.rectangle_pack.proofs.TakenLemmas.{put_back-last}
+use Rattle.rectangle_pack.proofs.TakenLemmas.{with_taken-last}
 use Rattle.rectangle_pack.proofs.pack.taken.put_back.Goals as goal
 
 pub unwrap-requires : goal.unwrap-requires
@@ -29,7 +29,7 @@ loop-bin-preserved g c =
     let next : length rest < length order = omega (arith, ap length c.in-Some.ensures.items, length-append rest (c.in-Some.bin ∷ []), c.loop-bin.invariant.within) in
     let h = c.get_mut.follows.holds c.in-Some.bin in
     record {
-      same = rw h.0 (put_back-last g.met.B.Ord.total order rest es o c.in-Some.bin c.requires.distinct next is ∙ rw (← c.in-Some.ensures.items) c.loop-bin.invariant.same);
+      same = rw h.0 (with_taken-last g.met.B.Ord.total order rest es o c.in-Some.bin c.requires.distinct_bins next is ∙ rw (← c.in-Some.ensures.items) c.loop-bin.invariant.same);
       keys = rw h.0 (keys-set_value (is_at (g.B.Ord.cmp o.1)) es c.in-Some.bin) ∙ c.loop-bin.invariant.keys;
       within = omega (arith, next);
     }

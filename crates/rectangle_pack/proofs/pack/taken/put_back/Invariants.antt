@@ -1,11 +1,11 @@
 use Rattle.std.proofs.Common.{◌≡◌, ◌≤◌, length, vec_len}
 use Rattle.std.specs.Map.{keys_of}
-use Rattle.rectangle_pack.specs.private.Taken.{put_back}
+use Rattle.rectangle_pack.specs.private.Taken.{with_taken}
 use Rattle.rectangle_pack.proofs.pack.taken.put_back.Given as goal
 
 abbrev pub invariant-loop-bin : goal.invariant-loop-bin
 invariant-loop-bin g l = record {
-  same : put_back g.B.Ord.cmp l.order l.taken.items l.bins.entries ≡ put_back g.B.Ord.cmp l.order l.fn.taken.items l.fn.bins.entries;
+  same : with_taken g.B.Ord.cmp l.order l.taken.items l.bins.entries ≡ with_taken g.B.Ord.cmp l.order l.fn.taken.items l.fn.bins.entries;
   keys : keys_of l.bins.entries ≡ keys_of l.fn.bins.entries;
   within : length l.taken.items ≤ length l.order;
 }

@@ -39,22 +39,25 @@ returns-in_err-reserve-clause-stopped g c = OnErr-given _ (counted-none c.args.r
 pub returns-in_err-reserve-clause-no_groups : goal.returns-in_err-reserve-clause-no_groups
 returns-in_err-reserve-clause-no_groups g c = λ none. absurd (lists-some c.groups-lists.result.now.entries c.is_empty.result (search rules) c.if-is_empty.false (c.groups-lists.ensures.entries ∙ none))
 
-pub place_groups-done-requires-clause-listed : goal.place_groups-done-requires-clause-listed
-place_groups-done-requires-clause-listed g c =
+pub place_groups-packed-requires-clause-listed : goal.place_groups-packed-requires-clause-listed
+place_groups-packed-requires-clause-listed g c =
     rw c.as_slice.ensures.value (λ k d within. rw (← c.groups-lists.ensures.entries) (list-found _ c.groups-lists.result.now.entries _ (c.in_ok-groups.ensures.listed k d within)))
 
-pub place_groups-done-requires-clause-sized : goal.place_groups-done-requires-clause-sized
-place_groups-done-requires-clause-sized g c = rw (c.as_slice.ensures.value, c.as_slice-2.ensures.value, ← c.rects-rects.ensures.entries) c.in_ok-groups.ensures.sizes
+pub place_groups-packed-requires-clause-sized : goal.place_groups-packed-requires-clause-sized
+place_groups-packed-requires-clause-sized g c = rw (c.as_slice.ensures.value, c.as_slice-2.ensures.value, ← c.rects-rects.ensures.entries) c.in_ok-groups.ensures.sizes
 
-pub place_groups-done-requires-clause-distinct_bins : goal.place_groups-done-requires-clause-distinct_bins
-place_groups-done-requires-clause-distinct_bins g c =
+pub place_groups-packed-requires-clause-distinct_groups : goal.place_groups-packed-requires-clause-distinct_groups
+place_groups-packed-requires-clause-distinct_groups g c = rw c.as_slice.ensures.value c.in_ok-groups.ensures.distinct
+
+pub place_groups-packed-requires-clause-distinct_bins : goal.place_groups-packed-requires-clause-distinct_bins
+place_groups-packed-requires-clause-distinct_bins g c =
     let some = lists-more c.groups-lists.result.now.entries c.args.rects_to_place.now.groups c.is_empty.result (search rules) c.if-is_empty.false c.groups-lists.ensures.entries in
     let by = rules_by g.Id.Ord.cmp g.BinId.Ord.cmp (g.R.Ask.may c.args.rules.now) in
     let entries = rw c.groups-lists.ensures.entries at c.in_ok-groups.ensures.counted in
     bins-differ _ by g.met.BinId.Ord.total c.args.rects_to_place.now (bins_of c.args.target_bins.now.entries) (c.requires.distinct some) (keys_of_order c.in_ok-groups.groups.items) entries c.args.order.now (c.requires.order some)
 
-pub put_back-requires-clause-distinct : goal.put_back-requires-clause-distinct
-put_back-requires-clause-distinct g c =
+pub put_back-requires-clause-distinct_bins : goal.put_back-requires-clause-distinct_bins
+put_back-requires-clause-distinct_bins g c =
     let some = lists-more c.groups-lists.result.now.entries c.args.rects_to_place.now.groups c.is_empty.result (search rules) c.if-is_empty.false c.groups-lists.ensures.entries in
     let by = rules_by g.Id.Ord.cmp g.BinId.Ord.cmp (g.R.Ask.may c.args.rules.now) in
     let entries = rw c.groups-lists.ensures.entries at c.in_ok-groups.ensures.counted in
@@ -63,7 +66,7 @@ put_back-requires-clause-distinct g c =
 pub put_back-requires-clause-found : goal.put_back-requires-clause-found
 put_back-requires-clause-found g c k d within =
     let test = is_at (g.BinId.Ord.cmp (get_or c.args.order.now k d).1) in
-    is_some-keys test c.place_groups-done.new.bins.entries c.args.target_bins.now.entries c.place_groups-done.ensures.keys ∙ c.requires.found k d within
+    is_some-keys test c.place_groups-packed.new.bins.entries c.args.target_bins.now.entries c.place_groups-packed.ensures.keys ∙ c.requires.found k d within
 
 pub returns-clause-packed : goal.returns-clause-packed
 returns-clause-packed g c =
@@ -73,7 +76,7 @@ returns-clause-packed g c =
     let all = c.args.rects_to_place.now in
     let old = bins_of c.args.target_bins.now.entries in
     let order = keys_of_order c.in_ok-groups.groups.items in
-    packed-weaker c.place_groups-done.result
+    packed-weaker c.place_groups-packed.result
     (λ p. (
       record {
         group_order = order;
@@ -84,10 +87,10 @@ returns-clause-packed g c =
         listed = rw (← c.as_slice.ensures.value) p.3;
         homes = p.1;
         tests = p.2;
-        placed = rw c.put_back.ensures p.4;
+        placed = rw c.put_back.ensures.back p.4;
       },
-      counted-done _ by g.met.BinId.Ord.total all old (c.requires.distinct some) order entries c.args.order.now (c.requires.order some) p.0 c.place_groups-done.new.progress.placements.items (record { bins = bins_of c.put_back.new.bins.entries; homes = p.1 }) p.2 c.args.progress.now.tests _
-          (rw (← c.as_slice.ensures.value) p.3) (rw c.put_back.ensures p.4) p.5,
+      counted-done _ by g.met.BinId.Ord.total all old (c.requires.distinct some) order entries c.args.order.now (c.requires.order some) p.0 c.place_groups-packed.new.progress.placements.items (record { bins = bins_of c.put_back.new.bins.entries; homes = p.1 }) p.2 c.args.progress.now.tests _
+          (rw (← c.as_slice.ensures.value) p.3) (rw c.put_back.ensures.back p.4) p.5,
     ))
     (λ q. (
       record {
@@ -96,12 +99,12 @@ returns-clause-packed g c =
         by_groups = rw (← c.rects-rects.ensures.entries, ← c.groups-lists.ensures.entries) c.in_ok-groups.ensures.order;
         by_bins = c.requires.order some;
         tests = q.0;
-        stops = rw (c.put_back.ensures, ← c.as_slice.ensures.value) q.1;
+        stops = rw (c.put_back.ensures.back, ← c.as_slice.ensures.value) q.1;
       },
       counted-refused _ by g.met.BinId.Ord.total all old (c.requires.distinct some) order entries c.args.order.now (c.requires.order some) (bins_of c.put_back.new.bins.entries) q.0 c.args.progress.now.tests _
-          (rw (c.put_back.ensures, ← c.as_slice.ensures.value) q.1) q.2,
+          (rw (c.put_back.ensures.back, ← c.as_slice.ensures.value) q.1) q.2,
     ))
-    c.place_groups-done.ensures.packed
+    c.place_groups-packed.ensures.packed
 
 pub returns-clause-stopped : goal.returns-clause-stopped
 returns-clause-stopped g c =
@@ -111,11 +114,11 @@ returns-clause-stopped g c =
     let all = c.args.rects_to_place.now in
     let old = bins_of c.args.target_bins.now.entries in
     let order = keys_of_order c.in_ok-groups.groups.items in
-    on_err_weaker c.place_groups-done.result
+    on_err_weaker c.place_groups-packed.result
     (λ h.
     counted-stopped _ by g.met.BinId.Ord.total all old (c.requires.distinct some) order entries c.args.order.now (c.requires.order some) c.args.progress.now.tests _
     (rw (← c.as_slice.ensures.value) h))
-    c.place_groups-done.ensures.stopped
+    c.place_groups-packed.ensures.stopped
 
 pub returns-clause-no_groups : goal.returns-clause-no_groups
 returns-clause-no_groups g c = λ none. absurd (lists-some c.groups-lists.result.now.entries c.is_empty.result (search rules) c.if-is_empty.false (c.groups-lists.ensures.entries ∙ none))
@@ -123,6 +126,6 @@ returns-clause-no_groups g c = λ none. absurd (lists-some c.groups-lists.result
 pub returns-clause-counted : goal.returns-clause-counted
 returns-clause-counted g c =
     let entries = rw c.groups-lists.ensures.entries at c.in_ok-groups.ensures.counted in
-    done-weaker _ c.place_groups-done.result
+    done-weaker _ c.place_groups-packed.result
     (λ p. AreAllPlaced-length _ _ _ p.0 _ _ _ _ p.4 ∙ sym (AreGroups-length _ _ _ _ _ p.0 p.3) ∙ ap (sum_by _) (ap keys_of_order c.as_slice.ensures.value) ∙ entries)
-    c.place_groups-done.ensures.packed
+    c.place_groups-packed.ensures.packed

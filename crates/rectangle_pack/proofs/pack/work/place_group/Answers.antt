@@ -6,7 +6,7 @@ use Rattle.rectangle_pack.proofs.MapsLemmas.{is_some-keys}
 use Rattle.rectangle_pack.proofs.PackLemmas.{GoesBack-grown, bins_of-grown, GoesBack-done, found-bins_of, IsPlaced-at, DoesNotTake-more, DoesNotTake-stuck, DoesNotTake-barred, IsDone-length}
 use Rattle.rectangle_pack.proofs.BoundLemmas.{OnErr-given, adds-begun, adds-tried}
 use Rattle.rectangle_pack.proofs.TrialLemmas.{saturated-add}
-use Rattle.rectangle_pack.specs.private.Taken.{put_back}
+use Rattle.rectangle_pack.specs.private.Taken.{with_taken}
 use Rattle.rectangle_pack.specs.private.Barred.{are_in}
 use Rattle.rectangle_pack.specs.Numbers.{saturated}
 use Rattle.rectangle_pack.specs.Packing.{IsPlaced}
@@ -30,7 +30,7 @@ pub returns-in_err-done-clause-back : goal.returns-in_err-done-clause-back
 returns-in_err-done-clause-back g c start b =
     let o = c.index-order-i.result in
     let tried = c.in_err-done.ensures.tried o c.index-order-i.is in
-    let now = put_back g.B.Ord.cmp c.args.order.now c.take_out.new.taken.items c.take_out.new.bins.entries in
+    let now = with_taken g.B.Ord.cmp c.args.order.now c.take_out.new.taken.items c.take_out.new.bins.entries in
     rw tried.2.written (GoesBack-grown g.B.Ord.cmp now c.loop-i.progress.journal.items o.1 tried.0 tried.1 start tried.2.found tried.3.0 tried.2.room (rw c.take_out.ensures.same (c.loop-i.invariant.back start b)))
 
 pub name_all-requires-clause-lengths : goal.name_all-requires-clause-lengths
@@ -43,7 +43,7 @@ pub returns-in_err-name_all-clause-back : goal.returns-in_err-name_all-clause-ba
 returns-in_err-name_all-clause-back g c start b =
     let o = c.index-order-i.result in
     let tried = c.in_ok-done.ensures.tried o c.index-order-i.is in
-    let now = put_back g.B.Ord.cmp c.args.order.now c.take_out.new.taken.items c.take_out.new.bins.entries in
+    let now = with_taken g.B.Ord.cmp c.args.order.now c.take_out.new.taken.items c.take_out.new.bins.entries in
     let done = rw c.if-done.true at tried.3 in
     let noted = rw c.if-done.true at tried.4 in
     rw tried.2.written (GoesBack-done g.B.Ord.cmp now c.loop-i.progress.journal.items c.push_reserved.new.self.items _ tried.0 tried.1 start
@@ -54,8 +54,8 @@ pub returns-then-done-clause-placed : goal.returns-then-done-clause-placed
 returns-then-done-clause-placed g c =
     let o = c.index-order-i.result in
     let tried = c.in_ok-done.ensures.tried o c.index-order-i.is in
-    let now = put_back g.B.Ord.cmp c.args.order.now c.take_out.new.taken.items c.take_out.new.bins.entries in
-    let first = put_back g.B.Ord.cmp c.args.order.now c.args.progress.now.taken.items c.args.bins.now.entries in
+    let now = with_taken g.B.Ord.cmp c.args.order.now c.take_out.new.taken.items c.take_out.new.bins.entries in
+    let first = with_taken g.B.Ord.cmp c.args.order.now c.args.taken.now.items c.args.bins.now.entries in
     let same : bins_of now ≡ bins_of first = ap bins_of c.take_out.ensures.same ∙ c.loop-i.invariant.same in
     let done = rw c.if-done.true at tried.3 in
     let named = c.in_ok-name_all.ensures in
@@ -80,7 +80,7 @@ pub returns-then-done-clause-back : goal.returns-then-done-clause-back
 returns-then-done-clause-back g c start b =
     let o = c.index-order-i.result in
     let tried = c.in_ok-done.ensures.tried o c.index-order-i.is in
-    let now = put_back g.B.Ord.cmp c.args.order.now c.take_out.new.taken.items c.take_out.new.bins.entries in
+    let now = with_taken g.B.Ord.cmp c.args.order.now c.take_out.new.taken.items c.take_out.new.bins.entries in
     let done = rw c.if-done.true at tried.3 in
     let noted = rw c.if-done.true at tried.4 in
     rw tried.2.written (GoesBack-done g.B.Ord.cmp now c.loop-i.progress.journal.items c.push_reserved.new.self.items _ tried.0 tried.1 start
@@ -93,7 +93,7 @@ loop-i-init g c = record { same = refl; keys = refl; within = c.requires.within;
 pub loop-i-preserved-then-contains : goal.loop-i-preserved-then-contains
 loop-i-preserved-then-contains g c =
     let o = c.index-order-i.result in
-    let old = bins_of (put_back g.B.Ord.cmp c.args.order.now c.args.progress.now.taken.items c.args.bins.now.entries) in
+    let old = bins_of (with_taken g.B.Ord.cmp c.args.order.now c.args.taken.now.items c.args.bins.now.entries) in
     let group : Members g.row.Id.Denot = record { ids = c.args.ids.now; sizes = c.args.sizes.now } in
     let rules = rules_by g.Id.Ord.cmp g.B.Ord.cmp (g.R.Ask.may c.args.rules.now) in
     let barred : g.row.B.Denot → Bool = are_in g.B.Ord.cmp c.args.barred.now.keys in
@@ -124,8 +124,8 @@ loop-i-preserved g c =
     let cmp = g.B.Ord.cmp in
     let o = c.index-order-i.result in
     let tried = c.in_ok-done.ensures.tried o c.index-order-i.is in
-    let now = put_back g.B.Ord.cmp c.args.order.now c.take_out.new.taken.items c.take_out.new.bins.entries in
-    let first = put_back g.B.Ord.cmp c.args.order.now c.args.progress.now.taken.items c.args.bins.now.entries in
+    let now = with_taken g.B.Ord.cmp c.args.order.now c.take_out.new.taken.items c.take_out.new.bins.entries in
+    let first = with_taken g.B.Ord.cmp c.args.order.now c.args.taken.now.items c.args.bins.now.entries in
     let same : bins_of now ≡ bins_of first = ap bins_of c.take_out.ensures.same ∙ c.loop-i.invariant.same in
     let old = bins_of first in
     let group : Members g.row.Id.Denot = record { ids = c.args.ids.now; sizes = c.args.sizes.now } in
@@ -168,7 +168,7 @@ pub returns-in_err-reserve-clause-stopped : goal.returns-in_err-reserve-clause-s
 returns-in_err-reserve-clause-stopped g c =
     let group : Members g.row.Id.Denot = record { ids = c.args.ids.now; sizes = c.args.sizes.now } in
     let rules = rules_by g.Id.Ord.cmp g.B.Ord.cmp (g.R.Ask.may c.args.rules.now) in
-    OnErr-given _ (adds-begun rules g.met.B.Ord.total (are_in g.B.Ord.cmp c.args.barred.now.keys) c.args.order.now 0 group (bins_of (put_back g.B.Ord.cmp c.args.order.now c.args.progress.now.taken.items c.args.bins.now.entries)) [] c.args.progress.now.tests _ tt (omega arith))
+    OnErr-given _ (adds-begun rules g.met.B.Ord.total (are_in g.B.Ord.cmp c.args.barred.now.keys) c.args.order.now 0 group (bins_of (with_taken g.B.Ord.cmp c.args.order.now c.args.taken.now.items c.args.bins.now.entries)) [] c.args.progress.now.tests _ tt (omega arith))
 
 pub returns-in_err-done-clause-stopped : goal.returns-in_err-done-clause-stopped
 returns-in_err-done-clause-stopped g c =
@@ -177,14 +177,14 @@ returns-in_err-done-clause-stopped g c =
     let tried = c.in_err-done.ensures.tried c.index-order-i.result c.index-order-i.is in
     let passed = c.loop-i.invariant.passed in
     OnErr-given _
-    (adds-begun rules g.met.B.Ord.total (are_in g.B.Ord.cmp c.args.barred.now.keys) c.args.order.now c.loop-i.i group (bins_of (put_back g.B.Ord.cmp c.args.order.now c.args.progress.now.taken.items c.args.bins.now.entries)) passed.0 c.args.progress.now.tests _ passed.1 (tried.3.1 ∙ passed.2))
+    (adds-begun rules g.met.B.Ord.total (are_in g.B.Ord.cmp c.args.barred.now.keys) c.args.order.now c.loop-i.i group (bins_of (with_taken g.B.Ord.cmp c.args.order.now c.args.taken.now.items c.args.bins.now.entries)) passed.0 c.args.progress.now.tests _ passed.1 (tried.3.1 ∙ passed.2))
 
 pub returns-in_err-name_all-clause-stopped : goal.returns-in_err-name_all-clause-stopped
 returns-in_err-name_all-clause-stopped g c =
     let o = c.index-order-i.result in
     let tried = c.in_ok-done.ensures.tried o c.index-order-i.is in
-    let now = put_back g.B.Ord.cmp c.args.order.now c.take_out.new.taken.items c.take_out.new.bins.entries in
-    let first = put_back g.B.Ord.cmp c.args.order.now c.args.progress.now.taken.items c.args.bins.now.entries in
+    let now = with_taken g.B.Ord.cmp c.args.order.now c.take_out.new.taken.items c.take_out.new.bins.entries in
+    let first = with_taken g.B.Ord.cmp c.args.order.now c.args.taken.now.items c.args.bins.now.entries in
     let same : bins_of now ≡ bins_of first = ap bins_of c.take_out.ensures.same ∙ c.loop-i.invariant.same in
     let done = rw c.if-done.true at tried.3 in
     let group : Members g.row.Id.Denot = record { ids = c.args.ids.now; sizes = c.args.sizes.now } in
@@ -200,4 +200,4 @@ pub returns-in_err-notes-clause-stopped : goal.returns-in_err-notes-clause-stopp
 returns-in_err-notes-clause-stopped g c =
     let group : Members g.row.Id.Denot = record { ids = c.args.ids.now; sizes = c.args.sizes.now } in
     let rules = rules_by g.Id.Ord.cmp g.B.Ord.cmp (g.R.Ask.may c.args.rules.now) in
-    OnErr-given _ (adds-begun rules g.met.B.Ord.total (are_in g.B.Ord.cmp c.args.barred.now.keys) c.args.order.now 0 group (bins_of (put_back g.B.Ord.cmp c.args.order.now c.args.progress.now.taken.items c.args.bins.now.entries)) [] c.args.progress.now.tests _ tt (omega arith))
+    OnErr-given _ (adds-begun rules g.met.B.Ord.total (are_in g.B.Ord.cmp c.args.barred.now.keys) c.args.order.now 0 group (bins_of (with_taken g.B.Ord.cmp c.args.order.now c.args.taken.now.items c.args.bins.now.entries)) [] c.args.progress.now.tests _ tt (omega arith))

@@ -4,7 +4,7 @@ use Rattle.std.specs.Map.{lookup}
 use Rattle.std.specs.BTreeMap.{is_at}
 use Rattle.std.proofs.lemmas.List.{take_all}
 use Rattle.rectangle_pack.specs.declared.grouped_rects_to_place.Group.{Group}
-use Rattle.rectangle_pack.specs.private.Taken.{put_back}
+use Rattle.rectangle_pack.specs.private.Taken.{with_taken}
 use Rattle.rectangle_pack.proofs.pack.work.place_groups.Invariants.{group_cmp, group_total}
 use Rattle.rectangle_pack.specs.Packing.{rules_by, bins_of, Members}
 use Rattle.rectangle_pack.proofs.MapsLemmas.{is_some-keys}
@@ -68,15 +68,15 @@ returns-in-None-clause-packed g c =
     let more = AreGroups-more rules (group_cmp g) c.args.rects_to_place.now.sizes c.args.rects_to_place.now.groups c.args.groups.now c.loop-group.group-index c.loop-group-item.result done.0 group c.loop-group-test.true c.loop-group-item.is found sized done.3 in
     let bars : List ((Group g.row.GroupId.Denot g.row.Id.Denot) × g.row.B.Denot) → (Group g.row.GroupId.Denot g.row.Id.Denot) → g.row.B.Denot → Bool = bars_by (group_cmp g) g.B.Ord.cmp c.args.rects_to_place.now.partners in
     let keys = c.in_ok-barred.barred.keys in
-    let partners : c.partners-partners.result.now ≡ listed_at (group_cmp g) c.args.rects_to_place.now.partners name = rw (← c.exclusions.ensures) c.partners-partners.ensures.listed in
+    let partners : c.partners-partners.result.now ≡ listed_at (group_cmp g) c.args.rects_to_place.now.partners name = rw (← c.exclusions-exclusions.ensures) c.partners-partners.ensures.listed in
     let barred : are_in g.B.Ord.cmp keys ≡ bars done.1 name = fun_ext (λ id.
     c.in_ok-barred.ensures id
     ∙ ap (λ (ps : List (Group g.row.GroupId.Denot g.row.Id.Denot)). list_any (λ p. went_to (group_cmp g) g.B.Ord.cmp c.loop-group.homes.entries p id) ps) partners
-    ∙ barred_by_partners (group_cmp g) g.B.Ord.cmp (group_total g) c.args.rects_to_place.now.partners done.1 c.loop-group.homes.entries (rw (← c.exclusions.ensures) c.partners-partners.ensures.mutual) done.6 name id) in
+    ∙ barred_by_partners (group_cmp g) g.B.Ord.cmp (group_total g) c.args.rects_to_place.now.partners done.1 c.loop-group.homes.entries (rw (← c.exclusions-exclusions.ensures) c.partners-partners.ensures.mutual) done.6 name id) in
     let refused = rw c.in-None.is at c.in_ok-place_group.ensures.placed in
-    let P : (g.row.B.Denot → Bool) → Type 0 = λ (b : g.row.B.Denot → Bool). IsRefused rules b (map (λ o. o.1) c.args.order.now) group (bins_of (put_back g.B.Ord.cmp c.args.order.now c.loop-group.progress.taken.items c.loop-group.bins.entries)) refused.0 in (
+    let P : (g.row.B.Denot → Bool) → Type 0 = λ (b : g.row.B.Denot → Bool). IsRefused rules b (map (λ o. o.1) c.args.order.now) group (bins_of (with_taken g.B.Ord.cmp c.args.order.now c.loop-group.taken.items c.loop-group.bins.entries)) refused.0 in (
       done.2 + refused.0,
-      StopsAfter-at rules (group_cmp g) bars c.args.rects_to_place.now.sizes c.args.rects_to_place.now.groups c.args.groups.now (map (λ o. o.1) c.args.order.now) (c.loop-group.group-index + 1) done.0 (name, group) _ _ (bins_of (put_back g.B.Ord.cmp c.args.order.now c.loop-group.progress.taken.items c.loop-group.bins.entries)) done.1 c.loop-group.progress.placements.items done.2 refused.0
+      StopsAfter-at rules (group_cmp g) bars c.args.rects_to_place.now.sizes c.args.rects_to_place.now.groups c.args.groups.now (map (λ o. o.1) c.args.order.now) (c.loop-group.group-index + 1) done.0 (name, group) _ _ (bins_of (with_taken g.B.Ord.cmp c.args.order.now c.loop-group.taken.items c.loop-group.bins.entries)) done.1 c.loop-group.progress.placements.items done.2 refused.0
           more done.4 refused.2 (subst P barred refused.1),
       saturated-add c.args.progress.now.tests c.loop-group.progress.tests _ done.2 refused.0 done.5 refused.4,
     )
@@ -95,17 +95,17 @@ loop-group-preserved g c =
     let more = AreGroups-more rules (group_cmp g) c.args.rects_to_place.now.sizes c.args.rects_to_place.now.groups c.args.groups.now c.loop-group.group-index c.loop-group-item.result done.0 group c.loop-group-test.true c.loop-group-item.is found sized done.3 in
     let bars : List ((Group g.row.GroupId.Denot g.row.Id.Denot) × g.row.B.Denot) → (Group g.row.GroupId.Denot g.row.Id.Denot) → g.row.B.Denot → Bool = bars_by (group_cmp g) g.B.Ord.cmp c.args.rects_to_place.now.partners in
     let keys = c.in_ok-barred.barred.keys in
-    let partners : c.partners-partners.result.now ≡ listed_at (group_cmp g) c.args.rects_to_place.now.partners name = rw (← c.exclusions.ensures) c.partners-partners.ensures.listed in
+    let partners : c.partners-partners.result.now ≡ listed_at (group_cmp g) c.args.rects_to_place.now.partners name = rw (← c.exclusions-exclusions.ensures) c.partners-partners.ensures.listed in
     let barred : are_in g.B.Ord.cmp keys ≡ bars done.1 name = fun_ext (λ id.
     c.in_ok-barred.ensures id
     ∙ ap (λ (ps : List (Group g.row.GroupId.Denot g.row.Id.Denot)). list_any (λ p. went_to (group_cmp g) g.B.Ord.cmp c.loop-group.homes.entries p id) ps) partners
-    ∙ barred_by_partners (group_cmp g) g.B.Ord.cmp (group_total g) c.args.rects_to_place.now.partners done.1 c.loop-group.homes.entries (rw (← c.exclusions.ensures) c.partners-partners.ensures.mutual) done.6 name id) in
+    ∙ barred_by_partners (group_cmp g) g.B.Ord.cmp (group_total g) c.args.rects_to_place.now.partners done.1 c.loop-group.homes.entries (rw (← c.exclusions-exclusions.ensures) c.partners-partners.ensures.mutual) done.6 name id) in
     let placed = rw c.in-Some.is at c.in_ok-place_group.ensures.placed in
     let here = c.in-Some.here in
-    let P : (g.row.B.Denot → Bool) → Type 0 = λ (b : g.row.B.Denot → Bool). (p : IsPlaced rules b (map (λ o. o.1) c.args.order.now) group (bins_of (put_back g.B.Ord.cmp c.args.order.now c.loop-group.progress.taken.items c.loop-group.bins.entries)) placed.0 (bins_of (put_back g.B.Ord.cmp c.args.order.now c.place_group.new.progress.taken.items c.place_group.new.bins.entries)) placed.1) × (p.here ≡ here.now) in
+    let P : (g.row.B.Denot → Bool) → Type 0 = λ (b : g.row.B.Denot → Bool). (p : IsPlaced rules b (map (λ o. o.1) c.args.order.now) group (bins_of (with_taken g.B.Ord.cmp c.args.order.now c.loop-group.taken.items c.loop-group.bins.entries)) placed.0 (bins_of (with_taken g.B.Ord.cmp c.args.order.now c.place_group.new.taken.items c.place_group.new.bins.entries)) placed.1) × (p.here ≡ here.now) in
     let there = subst P barred (placed.2, placed.3) in
-    let Q : List (Placement g.row.Id.Denot g.row.B.Denot) → Type 0 = λ (ps : List (Placement g.row.Id.Denot g.row.B.Denot)). AreAllPlaced rules bars (map (λ o. o.1) c.args.order.now) (done.0 ++ (name, group) ∷ []) (at_start (bins_of c.args.bins.now.entries)) ps (record { bins = bins_of (put_back g.B.Ord.cmp c.args.order.now c.place_group.new.progress.taken.items c.place_group.new.bins.entries); homes = (name, there.0.here) ∷ done.1 }) (done.2 + placed.1) in
-    let fresh = Named-fresh (group_cmp g) g.B.Ord.cmp (group_total g) c.args.groups.now c.loop-group.group-index c.loop-group-item.result done.1 c.requires.distinct c.loop-group-test.true c.loop-group-item.is done.7 in
+    let Q : List (Placement g.row.Id.Denot g.row.B.Denot) → Type 0 = λ (ps : List (Placement g.row.Id.Denot g.row.B.Denot)). AreAllPlaced rules bars (map (λ o. o.1) c.args.order.now) (done.0 ++ (name, group) ∷ []) (at_start (bins_of c.args.bins.now.entries)) ps (record { bins = bins_of (with_taken g.B.Ord.cmp c.args.order.now c.place_group.new.taken.items c.place_group.new.bins.entries); homes = (name, there.0.here) ∷ done.1 }) (done.2 + placed.1) in
+    let fresh = Named-fresh (group_cmp g) g.B.Ord.cmp (group_total g) c.args.groups.now c.loop-group.group-index c.loop-group-item.result done.1 c.requires.distinct_groups c.loop-group-test.true c.loop-group-item.is done.7 in
     let R : List (Bor (Group g.row.GroupId.Denot g.row.Id.Denot) × Bor g.row.B.Denot) → Type 0 = λ (kept : List (Bor (Group g.row.GroupId.Denot g.row.Id.Denot) × Bor g.row.B.Denot)). Knows (group_cmp g) g.B.Ord.cmp (group_total g) c.args.rects_to_place.now.partners ((name, here.now) ∷ done.1) kept in
     let knows : Knows (group_cmp g) g.B.Ord.cmp (group_total g) c.args.rects_to_place.now.partners ((name, here.now) ∷ done.1) c.if-not-is_empty.homes.entries = elim c.if-not-is_empty.branch [
       | then-not-is_empty+in_ok-insert-in-Some w ↦
@@ -119,7 +119,7 @@ loop-group-preserved g c =
         (name, there.0.here) ∷ done.1,
         done.2 + placed.1,
         more,
-        subst Q (sym placed.4) (AreAllPlaced-push rules bars (map (λ o. o.1) c.args.order.now) done.0 (name, group) (at_start (bins_of c.args.bins.now.entries)) (bins_of (put_back g.B.Ord.cmp c.args.order.now c.loop-group.progress.taken.items c.loop-group.bins.entries)) done.1 (bins_of (put_back g.B.Ord.cmp c.args.order.now c.place_group.new.progress.taken.items c.place_group.new.bins.entries)) c.loop-group.progress.placements.items placed.0 done.2 placed.1 done.4 there.0),
+        subst Q (sym placed.4) (AreAllPlaced-push rules bars (map (λ o. o.1) c.args.order.now) done.0 (name, group) (at_start (bins_of c.args.bins.now.entries)) (bins_of (with_taken g.B.Ord.cmp c.args.order.now c.loop-group.taken.items c.loop-group.bins.entries)) done.1 (bins_of (with_taken g.B.Ord.cmp c.args.order.now c.place_group.new.taken.items c.place_group.new.bins.entries)) c.loop-group.progress.placements.items placed.0 done.2 placed.1 done.4 there.0),
         saturated-add c.args.progress.now.tests c.loop-group.progress.tests _ done.2 placed.1 done.5 placed.5,
         rw there.1 knows,
         Named-more (group_cmp g) g.B.Ord.cmp (group_total g) c.args.groups.now c.loop-group.group-index c.loop-group-item.result done.1 there.0.here c.loop-group-test.true c.loop-group-item.is done.7,
@@ -178,7 +178,7 @@ returns-in_err-place_group-clause-stopped g c =
     let bars : List ((Group g.row.GroupId.Denot g.row.Id.Denot) × g.row.B.Denot) → (Group g.row.GroupId.Denot g.row.Id.Denot) → g.row.B.Denot → Bool = bars_by (group_cmp g) g.B.Ord.cmp c.args.rects_to_place.now.partners in
     OnErr-given _
     (adds-more rules g.met.B.Ord.total bars (group_cmp g) c.args.rects_to_place.now.sizes c.args.rects_to_place.now.groups c.args.groups.now (c.loop-group.group-index + 1) (map (λ o. o.1) c.args.order.now) done.0 (name, group) (at_start (bins_of c.args.bins.now.entries)) _
-    (record { bins = bins_of (put_back g.B.Ord.cmp c.args.order.now c.loop-group.progress.taken.items c.loop-group.bins.entries); homes = done.1 }) done.2 c.args.progress.now.tests c.loop-group.progress.tests _ c.requires.distinct_bins more done.4 done.5 c.in_err-place_group.ensures.stopped)
+    (record { bins = bins_of (with_taken g.B.Ord.cmp c.args.order.now c.loop-group.taken.items c.loop-group.bins.entries); homes = done.1 }) done.2 c.args.progress.now.tests c.loop-group.progress.tests _ c.requires.distinct_bins more done.4 done.5 c.in_err-place_group.ensures.stopped)
 
 pub returns-in_err-place_group-clause-back : goal.returns-in_err-place_group-clause-back
 returns-in_err-place_group-clause-back g c = λ start b. c.place_group.ensures.back start (c.loop-group.invariant.back start b)
@@ -206,9 +206,9 @@ returns-in_err-insert-in-Some-clause-stopped g c =
     let names : List g.row.B.Denot = map (λ o. o.1) c.args.order.now in
     OnErr-given _
     (adds-more rules g.met.B.Ord.total bars (group_cmp g) c.args.rects_to_place.now.sizes c.args.rects_to_place.now.groups c.args.groups.now (c.loop-group.group-index + 1) names done.0 (name, group) (at_start (bins_of c.args.bins.now.entries)) _
-    (record { bins = bins_of (put_back g.B.Ord.cmp c.args.order.now c.loop-group.progress.taken.items c.loop-group.bins.entries); homes = done.1 }) done.2 c.args.progress.now.tests c.loop-group.progress.tests _ c.requires.distinct_bins more done.4 done.5
+    (record { bins = bins_of (with_taken g.B.Ord.cmp c.args.order.now c.loop-group.taken.items c.loop-group.bins.entries); homes = done.1 }) done.2 c.args.progress.now.tests c.loop-group.progress.tests _ c.requires.distinct_bins more done.4 done.5
     (record {
       tests = placed.1;
-      within = placed-le rules g.met.B.Ord.total (are_in g.B.Ord.cmp c.in_ok-barred.barred.keys) names group (bins_of (put_back g.B.Ord.cmp c.args.order.now c.loop-group.progress.taken.items c.loop-group.bins.entries)) placed.0 (bins_of (put_back g.B.Ord.cmp c.args.order.now c.place_group.new.progress.taken.items c.place_group.new.bins.entries)) placed.1 placed.2;
+      within = placed-le rules g.met.B.Ord.total (are_in g.B.Ord.cmp c.in_ok-barred.barred.keys) names group (bins_of (with_taken g.B.Ord.cmp c.args.order.now c.loop-group.taken.items c.loop-group.bins.entries)) placed.0 (bins_of (with_taken g.B.Ord.cmp c.args.order.now c.place_group.new.taken.items c.place_group.new.bins.entries)) placed.1 placed.2;
       added = placed.5;
     }))
