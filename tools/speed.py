@@ -1,11 +1,11 @@
 #!/usr/bin/env python3
 """speed.py RUST [RUNS] [LIMIT] [WORD]: time and memory of packrun, beside the Rust crate and a loop written by hand.
 
-RUST is the program of beside_rust.py. The loop is by_hand.c, which this builds; it knows no groups, and one packing alone. Prints a table: the
-best of RUNS runs (7), in turn, each by the clock, and a dash where one takes more than LIMIT seconds (120); where all
-runs of a program took that long, it is not run again. Memory is the peak of one more run under GNU time, less that of a
-run on no lines for each box; a box counts once in each of its groups. With WORD only inputs whose names have it.
-Compared is what the programs print, with the Rust crate as beside_rust.py does.
+RUST is the program of beside_rust.py. The loop is by_hand.c, which this builds; it knows no groups, and one packing
+alone. Prints a table: the best of RUNS runs (7), in turn, each by the clock, and a dash where one takes more than LIMIT
+seconds (120); where all runs of a program took that long, it is not run again. Memory is the peak of one more run under
+GNU time, less that of a run on no lines for each box; a box counts once in each of its groups. With WORD only inputs
+whose names have it. Compared is what the programs print, with the Rust crate as beside_rust.py does.
 """
 import os
 import random

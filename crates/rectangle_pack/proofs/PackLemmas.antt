@@ -30,6 +30,7 @@ use Rattle.rectangle_pack.specs.Boxes.{Size, Cuboid}
 use Rattle.rectangle_pack.specs.private.Journal.{before_notes, CanUndo}
 use Rattle.rectangle_pack.specs.Steps.{IsDone}
 use Rattle.rectangle_pack.specs.Placed.{AreNamed, IsLastOf, AreLastPlacements}
+use Rattle.rectangle_pack.specs.private.Taken.{IsTriedIn}
 use Rattle.rectangle_pack.specs.private.TrialJournal.{GoesBack}
 use Rattle.rectangle_pack.proofs.PackingOrderLemmas.{AllZip-more}
 use Rattle.rectangle_pack.proofs.MapsLemmas.{is_eq-back}
@@ -55,6 +56,14 @@ GoesBack-done cmp now journal new e v w start found pushed rest before can sound
     (record { can = can; sound = rw (ap (λ (b : Bin). b.size) rest, before) sound })
     (record { bin = ap (λ (b : Bin). record b { sections = before_notes e.notes.items w.bin.sections }) rest ∙ ap (λ (s : List Cuboid). record v.bin { sections = s }) before; room = more })
     h
+
+-- and one in the bin of an id, where the bins are those of before
+pub GoesBack-tried : {B A : Type 0} (cmp : B → B → Ordering) (first now next : List (B × Held)) (journal new : List (DoneTrial B A)) (e : DoneTrial B A) (v w : Held) (start : List (B × Bin))
+    → IsTriedIn cmp e.bin.now now v w next → now ≡ first → new ≡ journal ++ e ∷ []
+    → w.bin ≡ record v.bin { sections = w.bin.sections } → (before_notes e.notes.items w.bin.sections ≡ v.bin.sections) × CanUndo w.room e.notes.items w.bin.sections
+    → GoesBack cmp first journal start → GoesBack cmp next new start
+GoesBack-tried cmp first now next journal new e v w start tried same pushed rest noted h =
+    rw tried.written (GoesBack-done cmp now journal new e v w start tried.found pushed rest noted.0 noted.1 tried.sound tried.room (rw same h))
 
 -- what a look-up finds, without its room
 pub found-bins_of : {B : Type 0} (test : B → Bool) (now : List (B × Held)) (old : List (B × Bin)) (v : Held) → bins_of now ≡ old → lookup test now ≡ Some v → lookup test old ≡ Some v.bin

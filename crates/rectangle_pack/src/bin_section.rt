@@ -1,5 +1,5 @@
 //! Free sections of a bin, and how a box is placed into one.
-ghost use Rattle.std.specs.Prelude.{◌≡◌, ◌↔◌, ◌∷◌, List, All, IfOk, IsTrue, true};
+ghost use Rattle.std.specs.Prelude.{◌≡◌, ◌↔◌, ◌∷◌, List, All, IfOk, IfNone, IfSome, IsTrue, true};
 ghost use Rattle.std.specs.Bool.{OnFalse};
 ghost use Rattle.std.specs.Cmp.{IsTotalOrder};
 ghost use Rattle.rectangle_pack.specs.Boxes.{Size, Cuboid, Cell, IsCellOf, is_cell_of, section_order, Holds, FitsU32, IsInside, SharesCell, AreApart, has_cells};
@@ -11,6 +11,7 @@ ghost use Rattle.rectangle_pack.specs.SmallestBox.{Rates, AreRates, smallest, se
 ghost use Rattle.rectangle_pack.specs.Fitting.{IsFitAnswer};
 ghost use Rattle.rectangle_pack.specs.Counting.{Tiles, AreAllApart, Cover, HaveVolumeOf};
 ghost use Rattle.rectangle_pack.specs.CutTrees.{IsFromCuts};
+ghost use Rattle.rectangle_pack.specs.Pushes.{IsFirstSharing};
 
 use crate::packed_location::PackedLocation;
 use crate::rect_to_insert::RectToInsert;
@@ -332,6 +333,19 @@ impl fmt::Display for BinSectionError {
 }
 
 impl Error for BinSectionError {}
+
+// The first section that shares a cell with the given one.
+pub(crate) fn first_sharing(sections: &[BinSection], section: &BinSection) -> Option<BinSection>
+    ensures none { IfNone result (All (λ s. AreApart s section.now) sections.now) }
+    ensures first { IfSome result (IsFirstSharing sections.now section.now) }
+{
+    for s in sections {
+        if s.overlaps(section) {
+            return Some(*s);
+        }
+    }
+    None
+}
 
 /// A law: sections are in a total order, by x, then by y, then by z, then by size, in which two are
 /// equal where they are the same.

@@ -3,7 +3,7 @@ ghost use Rattle.std.specs.Prelude.{◌≡◌, ◌+◌, ◌≤◌, ◌<◌, ◌+
 ghost use Rattle.std.specs.Vec.{vec_capacity};
 ghost use Rattle.rectangle_pack.specs.Boxes.{Cell, AreApart, has_cells};
 ghost use Rattle.rectangle_pack.specs.Closures.{AreCallable, answers};
-ghost use Rattle.rectangle_pack.specs.Pushes.{IsFirstSharing, IsPushAnswer};
+ghost use Rattle.rectangle_pack.specs.Pushes.{IsPushAnswer};
 ghost use Rattle.rectangle_pack.specs.Bins.{new_bin, IsSound, IsAccepted};
 ghost use Rattle.rectangle_pack.specs.Counting.{AreAllApart, times_filled};
 ghost use Rattle.rectangle_pack.specs.Joining.{IsJoined, IsSwept, ShareNoFace};
@@ -12,7 +12,7 @@ ghost use Rattle.rectangle_pack.specs.Trials.{IsTrialAnswer, most_tests};
 ghost use Rattle.rectangle_pack.specs.private.Journal.{before_notes, CanUndo};
 ghost use Rattle.rectangle_pack.specs.private.TrialNotes.{IsNotedAnswer, LeavesNotes};
 
-use crate::bin_section::BinSection;
+use crate::bin_section::{BinSection, first_sharing};
 use crate::closures::{Ask, Closures};
 pub use crate::fit_tests::FitTests;
 use crate::joining::{join_all, join_at};
@@ -90,19 +90,6 @@ impl<A: Allocator + Copy> Model for TargetBin<A> {
         } };
 
     ghost invariant = { λ b. IsSound b.max_size b.available_bin_sections.items };
-}
-
-// The first section that shares a cell with the given one.
-fn first_sharing(sections: &[BinSection], section: &BinSection) -> Option<BinSection>
-    ensures none { IfNone result (All (λ s. AreApart s section.now) sections.now) }
-    ensures first { IfSome result (IsFirstSharing sections.now section.now) }
-{
-    for s in sections {
-        if s.overlaps(section) {
-            return Some(*s);
-        }
-    }
-    None
 }
 
 impl<A: Allocator + Copy> TargetBin<A> {

@@ -1,6 +1,7 @@
 //! What a packing answers.
-ghost use Rattle.std.specs.Prelude.{◌≡◌, [], IsTrue, IfOk, IsOk};
-ghost use Rattle.rectangle_pack.specs.Placed.{AreLastPlacements, placements_of, locations_of};
+ghost use Rattle.std.specs.Prelude.{◌≡◌, ◌++◌, [], List, length, IsTrue, IfOk, IsOk, OnOk};
+ghost use Rattle.rectangle_pack.specs.declared.pack.answer.Placement.{Placement};
+ghost use Rattle.rectangle_pack.specs.Placed.{AreNamed, AreLastPlacements, placements_of, locations_of};
 
 use crate::packed_location::PackedLocation;
 use std::alloc::{AllocError, Allocator, Global};
@@ -94,4 +95,34 @@ where
         )?;
     }
     Ok(last)
+}
+
+// Names each location by the id of its turn and by the bin.
+pub(crate) fn name_all<Id, B, A>(
+    placements: &mut Vec<Placement<Id, B>, A>,
+    ids: &[Id],
+    bin: &B,
+    locations: &[PackedLocation],
+) -> Result<(), AllocError>
+where
+    Id: Ord + Clone + Drop,
+    B: Ord + Clone + Drop,
+    A: Allocator,
+    requires ids { (a b : Id) → Id.is_clone a b → IsTrue (Id.eq a b) }
+    requires bin_ids { (a b : B) → B.is_clone a b → IsTrue (B.eq a b) }
+    requires lengths { length ids.now ≡ length locations.now }
+    ensures { OnOk result
+        ((added : List (Placement Id B)) ×
+        AreNamed Id.cmp B.cmp ids.now bin.now locations.now added ×
+        (placements.new.items ≡ placements.old.items ++ added)) }
+{
+    for i in 0..ids.len() {
+        let placement = Placement {
+            id: ids[i].clone()?,
+            bin: bin.clone()?,
+            location: locations[i],
+        };
+        placements.push(placement)?;
+    }
+    Ok(())
 }

@@ -1,6 +1,6 @@
 //! The bins of a packing that are taken out of their map while it lasts, in the order of the bins:
 //! with many bins and groups, to look each up by its id for each group would take most of the time.
-ghost use Rattle.std.specs.Prelude.{ℕ, ◌≡◌, ◌<◌, ◌≤◌, [], length, IsSome, All, map, slice_index_or};
+ghost use Rattle.std.specs.Prelude.{ℕ, ◌≡◌, ◌+◌, ◌<◌, ◌≤◌, [], length, vec_len, IsSome, All, map, slice_index_or};
 ghost use Rattle.std.specs.BTreeMap.{get};
 ghost use Rattle.std.specs.List.{IsDistinct};
 ghost use Rattle.std.specs.Map.{keys_of};
@@ -37,6 +37,8 @@ pub(crate) fn take_out<B: Ord, A: Allocator + Copy>(
         with_taken B.cmp order.now taken.old.items bins.old.entries }
     ensures keys { keys_of bins.new.entries ≡ keys_of bins.old.entries }
     ensures stays_within { length taken.new.items ≤ length order.now }
+    ensures next { index ≡ vec_len taken.old → vec_len taken.old < vec_capacity taken.old →
+        vec_len taken.new ≡ vec_len taken.old + 1 }
 {
     if index != taken.len() || taken.len() == taken.capacity() {
         return;

@@ -17,7 +17,6 @@ ghost use Rattle.rectangle_pack.specs.private.Taken.{with_taken};
 ghost use Rattle.rectangle_pack.specs.private.Barred.{are_in, went_to};
 ghost use Rattle.rectangle_pack.specs.private.Bounds.{AddsWithin};
 ghost use Rattle.rectangle_pack.specs.private.Orders.{keys_of_order, entries_at, SizesStandAt};
-ghost use Rattle.rectangle_pack.specs.Placed.{AreNamed};
 ghost use Rattle.rectangle_pack.specs.private.TrialJournal.{GoesBack};
 
 use crate::closures::Ask;
@@ -25,7 +24,7 @@ use crate::fit_tests::FitTests;
 use crate::grouped_rects_to_place::{Group, GroupedRectsToPlace};
 use crate::lists::number_after;
 use crate::orders::{Turn, group_order};
-use crate::pack::answer::Placement;
+use crate::pack::answer::{Placement, name_all};
 use crate::pack::taken::{put_back, take_out, try_bin};
 use crate::packed_location::PackedLocation;
 use crate::rect_to_insert::RectToInsert;
@@ -79,36 +78,6 @@ pub(crate) fn undo_all<B: Ord + Drop, A: Allocator + Copy>(
             None => unreachable!(),
         }
     }
-}
-
-// Names each location by the id of its turn and by the bin.
-fn name_all<Id, B, A>(
-    placements: &mut Vec<Placement<Id, B>, A>,
-    ids: &[Id],
-    bin: &B,
-    locations: &[PackedLocation],
-) -> Result<(), AllocError>
-where
-    Id: Ord + Clone + Drop,
-    B: Ord + Clone + Drop,
-    A: Allocator,
-    requires ids { (a b : Id) → Id.is_clone a b → IsTrue (Id.eq a b) }
-    requires bin_ids { (a b : B) → B.is_clone a b → IsTrue (B.eq a b) }
-    requires lengths { length ids.now ≡ length locations.now }
-    ensures { OnOk result
-        ((added : List (Placement Id B)) ×
-        AreNamed Id.cmp B.cmp ids.now bin.now locations.now added ×
-        (placements.new.items ≡ placements.old.items ++ added)) }
-{
-    for i in 0..ids.len() {
-        let placement = Placement {
-            id: ids[i].clone()?,
-            bin: bin.clone()?,
-            location: locations[i],
-        };
-        placements.push(placement)?;
-    }
-    Ok(())
 }
 
 // Puts a group into the first bin of the order that is not barred and whose trial is done; the id

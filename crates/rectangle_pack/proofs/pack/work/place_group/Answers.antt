@@ -3,7 +3,7 @@ use Rattle.std.specs.BTreeMap.{is_at}
 use Rattle.std.proofs.lemmas.List.{take_all}
 use Rattle.rectangle_pack.specs.Packing.{rules_by, bins_of, Members}
 use Rattle.rectangle_pack.proofs.MapsLemmas.{is_some-keys}
-use Rattle.rectangle_pack.proofs.PackLemmas.{GoesBack-grown, bins_of-grown, GoesBack-done, found-bins_of, IsPlaced-at, DoesNotTake-more, DoesNotTake-stuck, DoesNotTake-barred, IsDone-length}
+use Rattle.rectangle_pack.proofs.PackLemmas.{GoesBack-grown, bins_of-grown, GoesBack-tried, found-bins_of, IsPlaced-at, DoesNotTake-more, DoesNotTake-stuck, DoesNotTake-barred, IsDone-length}
 use Rattle.rectangle_pack.proofs.BoundLemmas.{OnErr-given, adds-begun, adds-tried}
 use Rattle.rectangle_pack.proofs.TrialLemmas.{saturated-add}
 use Rattle.rectangle_pack.specs.private.Taken.{with_taken}
@@ -41,14 +41,10 @@ name_all-requires-clause-lengths g c =
 
 pub returns-in_err-name_all-clause-back : goal.returns-in_err-name_all-clause-back
 returns-in_err-name_all-clause-back g c start b =
-    let o = c.index-order-i.result in
-    let tried = c.in_ok-done.ensures.tried o c.index-order-i.is in
-    let now = with_taken g.B.Ord.cmp c.args.order.now c.take_out.new.taken.items c.take_out.new.bins.entries in
+    let tried = c.in_ok-done.ensures.tried c.index-order-i.result c.index-order-i.is in
     let done = rw c.if-done.true at tried.3 in
     let noted = rw c.if-done.true at tried.4 in
-    rw tried.2.written (GoesBack-done g.B.Ord.cmp now c.loop-i.progress.journal.items c.push_reserved.new.self.items _ tried.0 tried.1 start
-    tried.2.found c.push_reserved.ensures.items done.2
-    noted.0 noted.1 tried.2.sound tried.2.room (rw c.take_out.ensures.same (c.loop-i.invariant.back start b)))
+    GoesBack-tried g.B.Ord.cmp _ _ _ _ _ _ tried.0 tried.1 start tried.2 c.take_out.ensures.same c.push_reserved.ensures.items done.2 noted (c.loop-i.invariant.back start b)
 
 pub returns-then-done-clause-placed : goal.returns-then-done-clause-placed
 returns-then-done-clause-placed g c =
@@ -78,14 +74,10 @@ returns-then-done-clause-placed g c =
 
 pub returns-then-done-clause-back : goal.returns-then-done-clause-back
 returns-then-done-clause-back g c start b =
-    let o = c.index-order-i.result in
-    let tried = c.in_ok-done.ensures.tried o c.index-order-i.is in
-    let now = with_taken g.B.Ord.cmp c.args.order.now c.take_out.new.taken.items c.take_out.new.bins.entries in
+    let tried = c.in_ok-done.ensures.tried c.index-order-i.result c.index-order-i.is in
     let done = rw c.if-done.true at tried.3 in
     let noted = rw c.if-done.true at tried.4 in
-    rw tried.2.written (GoesBack-done g.B.Ord.cmp now c.loop-i.progress.journal.items c.push_reserved.new.self.items _ tried.0 tried.1 start
-    tried.2.found c.push_reserved.ensures.items done.2
-    noted.0 noted.1 tried.2.sound tried.2.room (rw c.take_out.ensures.same (c.loop-i.invariant.back start b)))
+    GoesBack-tried g.B.Ord.cmp _ _ _ _ _ _ tried.0 tried.1 start tried.2 c.take_out.ensures.same c.push_reserved.ensures.items done.2 noted (c.loop-i.invariant.back start b)
 
 pub loop-i-init : goal.loop-i-init
 loop-i-init g c = record { same = refl; keys = refl; within = c.requires.within; passed = ([], tt, omega arith); no_notes = search rules; note_room = search rules; no_locations = search rules; location_room = search rules; journal_room = c.requires.journal_room; journal_len = refl; journal_capacity = refl; placements = refl; back = λ start b. b }
