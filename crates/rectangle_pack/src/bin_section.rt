@@ -272,9 +272,11 @@ impl BinSection {
         let (w, h, d) = (incoming.width(), incoming.height(), incoming.depth());
         let (width, height, depth) = (self.whd.width(), self.whd.height(), self.whd.depth());
         let (x, y, z) = (self.x, self.y, self.z);
-        let right = |height, depth| section(x + w, y, z, width - w, height, depth);
-        let above = |width, depth| section(x, y + h, z, width, height - h, depth);
-        let behind = |width, height| section(x, y, z + d, width, height, depth - d);
+        let (end_x, end_y, end_z) = (x + w, y + h, z + d);
+        let (rest_w, rest_h, rest_d) = (width - w, height - h, depth - d);
+        let right = |height, depth| section(end_x, y, z, rest_w, height, depth);
+        let above = |width, depth| section(x, end_y, z, width, rest_h, depth);
+        let behind = |width, height| section(x, y, end_z, width, height, rest_d);
         [
             [right(height, depth), above(w, depth), behind(w, h)],
             [right(h, depth), above(width, depth), behind(w, h)],
