@@ -3,8 +3,6 @@
 
 mod command;
 mod outcome;
-#[cfg(test)]
-mod refusing;
 mod run;
 mod stop;
 mod store;

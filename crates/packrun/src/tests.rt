@@ -1,29 +1,13 @@
 //! Whole runs over memory, and the library that they rest on.
 
 mod bytes;
-mod cases;
-mod closures;
 mod counting;
-mod cuts;
-mod example;
 mod exclusions;
-mod extremes;
 mod failures;
 mod generator;
-mod groups;
-mod joining;
-mod many;
-mod memory;
 mod packings;
-mod placements;
-mod plans;
-mod pushes;
 mod reading;
-mod session;
-mod shapes;
-mod sizes;
 mod stats;
-mod trials;
 
 use crate::outcome::Outcome;
 use crate::run::run_lines;

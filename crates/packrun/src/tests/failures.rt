@@ -2,7 +2,7 @@
 
 use super::{Kept, Pieces};
 use crate::outcome::Outcome;
-use crate::refusing::Refusing;
+use rectangle_pack_tests::refusing::Refusing;
 use crate::run::run_lines;
 use std::alloc::Global;
 use std::process::Abort;

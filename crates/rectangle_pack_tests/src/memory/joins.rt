@@ -2,8 +2,8 @@
 
 use super::plans::session_after;
 use super::{End, takes_none};
-use crate::tests::session::releases::{BOTH_RELEASED, JOINED, TWO_RELEASES};
-use crate::tests::session::{TestSession, stands};
+use crate::session::releases::{BOTH_RELEASED, JOINED, TWO_RELEASES};
+use crate::session::{TestSession, stands};
 use rectangle_pack::SessionError;
 use std::process::Abort;
 use std::test::Fail;

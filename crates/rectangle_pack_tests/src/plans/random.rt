@@ -1,7 +1,7 @@
 //! Plans of the bins of random sessions, beside their definition.
 
 use super::read_back::{Cuboid, defined_plan, read_back};
-use crate::tests::shapes::{numbers, place};
+use crate::shapes::{numbers, place};
 use rectangle_pack::{
     BinSection, CutStep, GroupedRectsToPlace, Outstanding, RectToInsert, Session,
     contains_smallest_box, volume_heuristic,

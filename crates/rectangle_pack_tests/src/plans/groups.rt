@@ -2,8 +2,8 @@
 
 use super::PlanStep::{Leaf, X, Y, Z};
 use super::{PlanStep, Planned, are_planned};
-use crate::tests::exclusions::{A, B};
-use crate::tests::session::Order::{AddBin, Pack};
+use crate::exclusions::{A, B};
+use crate::session::Order::{AddBin, Pack};
 use rectangle_pack::Group;
 use std::test::Fail;
 

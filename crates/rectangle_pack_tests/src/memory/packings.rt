@@ -1,10 +1,10 @@
 //! Packings whose memory is refused.
 
 use super::{End, refuses_each};
-use crate::tests::cases::{
+use crate::cases::{
     Bins, Case, EQUAL_KEYS, FULL_BIN, Packed, TWO_IN_A_GROUP, are_new, bins_of, comes_out, rects_of,
 };
-use crate::tests::exclusions::{A, B, ONE_BIN, TWO_BINS, exclude_all};
+use crate::exclusions::{A, B, ONE_BIN, TWO_BINS, exclude_all};
 use rectangle_pack::{
     FitTests, RectanglePackError, WidthHeightDepth, contains_smallest_box, pack_rects,
     pack_rects_counted, volume_heuristic,

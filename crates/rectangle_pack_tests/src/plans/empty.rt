@@ -3,7 +3,7 @@
 use super::PlanStep::{Leaf, X};
 use super::{Planned, are_planned, session_of};
 use crate::refusing::Refusing;
-use crate::tests::session::Order::{AddBin, Pack, Release};
+use crate::session::Order::{AddBin, Pack, Release};
 use rectangle_pack::SessionError;
 use std::test::Fail;
 

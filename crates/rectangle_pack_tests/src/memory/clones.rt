@@ -2,7 +2,7 @@
 ghost use Rattle.std.specs.Prelude.{◌≡◌};
 
 use crate::refusing::Refusing;
-use crate::tests::shapes::{has_list, place};
+use crate::shapes::{has_list, place};
 use rectangle_pack::{
     GroupedRectsToPlace, Outstanding, Packed, Placement, RectToInsert, RectanglePackError,
     RectanglePackOk, Session, SessionError, TargetBin, contains_smallest_box, pack_rects,

@@ -1,8 +1,8 @@
 //! Commands that a session refuses, which change nothing.
 
 use super::{FIRST, Order, Standing, Step, TILE, UNKNOWN, WHOLE, come_out};
-use crate::tests::cases::{FULL_BIN, pack_by_volume};
-use crate::tests::exclusions::{A, B};
+use crate::cases::{FULL_BIN, pack_by_volume};
+use crate::exclusions::{A, B};
 use rectangle_pack::{Group, Packed, Reply, SessionError};
 use std::test::Fail;
 

@@ -4,8 +4,8 @@ ghost use Rattle.rectangle_pack.specs.Bins.{new_bin};
 
 use super::{End, refuses_each};
 use crate::refusing::Refusing;
-use crate::tests::shapes::{has_list, numbers, section};
-use crate::tests::trials::{LAYERS, THREE_LEAVE, THREE_PLACES, answers, layered, three_boxes};
+use crate::shapes::{has_list, numbers, section};
+use crate::trials::{LAYERS, THREE_LEAVE, THREE_PLACES, answers, layered, three_boxes};
 use rectangle_pack::{
     FitTests, PushBinSectionError, RectToInsert, TargetBin, contains_smallest_box, volume_heuristic,
 };

@@ -38,14 +38,14 @@ use denote.RawPtr.{Ptr, block_ptr, null_ptr, ptr_val, rawptr_vals, rawptr_Tells}
 use denote.Builtin.{usize, RawPtr, RefOf}
 use denote.Triple.Call.{calls_at}
 use Rattle.std.proofs.alloc.Calls.{Al, α, seen, token, gives_key, Gives, at_gives, Gives-goes, Gives-Gives}
-use Rattle.packrun.proofs.refusing.CountsLemmas.{GivesBack, at_counts, hands_counts, has_result}
-use Rattle.packrun.proofs.refusing.give_back.Symbol as c_sym
-use Rattle.packrun.proofs.refusing.give_back.Met as c_met
-use Rattle.packrun.specs.contracts.refusing.Refusing as wrapper
-use Rattle.packrun.specs.contracts.refusing.RefusingAllocator.deallocate as F
-use Rattle.packrun.specs.contracts.refusing.RefusingAllocator.deallocate.Key as key
-use Rattle.packrun.proofs.refusing.RefusingAllocator.deallocate.Statement as stated
-use Rattle.packrun.proofs.refusing.RefusingAllocator.deallocate.Code as code
+use Rattle.rectangle_pack_tests.proofs.refusing.CountsLemmas.{GivesBack, at_counts, hands_counts, has_result}
+use Rattle.rectangle_pack_tests.proofs.refusing.give_back.Symbol as c_sym
+use Rattle.rectangle_pack_tests.proofs.refusing.give_back.Met as c_met
+use Rattle.rectangle_pack_tests.specs.contracts.refusing.Refusing as wrapper
+use Rattle.rectangle_pack_tests.specs.contracts.refusing.RefusingAllocator.deallocate as F
+use Rattle.rectangle_pack_tests.specs.contracts.refusing.RefusingAllocator.deallocate.Key as key
+use Rattle.rectangle_pack_tests.proofs.refusing.RefusingAllocator.deallocate.Statement as stated
+use Rattle.rectangle_pack_tests.proofs.refusing.RefusingAllocator.deallocate.Code as code
 
 module _ (Z : Al) where
   abbrev args : Args
@@ -123,4 +123,4 @@ deallocate_spec 𝓤 𝓛 𝓜 𝓡 wired Y L g d d' met _ =
     entered 𝓤 𝓛.H (triple_of 𝓛 (F.signature Y) (F.spec Y g d d' 𝓛 𝓜.mem 𝓡.returns)) 𝓣.C 𝓣.Λ (key.name (args Z)) (here Z) (code.unfolded 𝓤 𝓛.H 𝓜 𝓡 wired (Y, tt) d d')
     (walk_Meets 𝓛 (ended Z) (stayed Z) (Goes-dropped 𝓛 2 (self Z) yes (λ κs x f. refl), (Goes-dropped 𝓛 2 (plain (λ _. RawPtr)) yes (λ κs x f. refl), (Goes-dropped 𝓛 2 (plain (λ _. usize)) yes (λ κs x f. refl), (Goes-dropped 𝓛 2 (plain (λ _. usize)) yes (λ κs x f. refl), tt)))) c (WpFn 𝓤 𝓛.H 𝓣.C 𝓣.Λ (here Z)) (WpFn-mono 𝓤 𝓛.H 𝓛.laws 𝓣 (here Z))
     (walked 𝓛 (ended Z) (stayed Z) c (WpFn 𝓤 𝓛.H 𝓣.C 𝓣.Λ (here Z)) (λ κs. (shr_vals, (rawptr_vals, (uint_vals w64, (uint_vals w64, tt))))) (λ κs. ((λ r vs s. s.0), (rawptr_Tells, (uint_Tells w64, (uint_Tells w64, tt)))))
-    (λ κs qs bounds a τ are. walk Z 𝓛 𝓜.mem 𝓡.returns 𝓣 (met.deallocate d') (cited 𝓤 𝓛.H _ 𝓜 𝓡 𝓡.env c_sym.name (𝓡.env c_sym.name) refl (c_met.met 𝓤 𝓛 𝓜 𝓡 (code.calls-packrun::refusing::give_back 𝓡.env wired))) κs.0 κs.1.0 qs.0 qs.1.0 bounds.0 a.0 a.1.1.0 a.1.1.1.0 τ are.1.1.0.1 are.1.1.1.0.1 a.1.0)))
+    (λ κs qs bounds a τ are. walk Z 𝓛 𝓜.mem 𝓡.returns 𝓣 (met.deallocate d') (cited 𝓤 𝓛.H _ 𝓜 𝓡 𝓡.env c_sym.name (𝓡.env c_sym.name) refl (c_met.met 𝓤 𝓛 𝓜 𝓡 (code.calls-rectangle_pack_tests::refusing::give_back 𝓡.env wired))) κs.0 κs.1.0 qs.0 qs.1.0 bounds.0 a.0 a.1.1.0 a.1.1.1.0 τ are.1.1.0.1 are.1.1.1.0.1 a.1.0)))

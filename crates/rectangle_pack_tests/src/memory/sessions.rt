@@ -1,14 +1,14 @@
 //! Sessions whose memory is refused.
 
 use super::{End, refuses_each};
+use crate::cases::Rects;
 use crate::refusing::Refusing;
-use crate::tests::cases::Rects;
-use crate::tests::session::releases::TWO_RELEASES;
-use crate::tests::session::{
+use crate::session::releases::TWO_RELEASES;
+use crate::session::{
     Came, NINE_UNITS, Placed, TestCommand, TestSession, are_wanted, call, call_each, commands,
     empty, pack, rects, run, stands,
 };
-use crate::tests::shapes::numbers;
+use crate::shapes::numbers;
 use rectangle_pack::{BinSection, Reply, SessionError};
 use std::alloc::{AllocError, Global};
 use std::process::Abort;

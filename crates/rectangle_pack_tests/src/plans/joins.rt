@@ -3,9 +3,9 @@
 use super::PlanStep::{Leaf, X, Y, Z};
 use super::{Planned, are_planned, session_of};
 use crate::refusing::Refusing;
-use crate::tests::session::Order::{AddBin, Coalesce, CoalesceAll, Pack, Release};
-use crate::tests::session::{NINE_UNITS, Order, SizedBox, TestSession, UNIT};
-use crate::tests::shapes::has_list;
+use crate::session::Order::{AddBin, Coalesce, CoalesceAll, Pack, Release};
+use crate::session::{NINE_UNITS, Order, SizedBox, TestSession, UNIT};
+use crate::shapes::has_list;
 use rectangle_pack::{CutStep, SessionError};
 use std::alloc::Global;
 use std::process::Abort;

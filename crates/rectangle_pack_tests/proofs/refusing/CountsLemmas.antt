@@ -15,9 +15,9 @@ use denote.Steps.{nothing, only}
 use denote.Triple.Statement.{Contract}
 use denote.Triple.Spec.{triple_of}
 use Rattle.std.specs.contracts.cell.Cell as CE
-use Rattle.packrun.specs.contracts.refusing.Counts as CO
-use Rattle.packrun.specs.contracts.refusing.spend as SP
-use Rattle.packrun.specs.contracts.refusing.give_back as GB
+use Rattle.rectangle_pack_tests.specs.contracts.refusing.Counts as CO
+use Rattle.rectangle_pack_tests.specs.contracts.refusing.spend as SP
+use Rattle.rectangle_pack_tests.specs.contracts.refusing.give_back as GB
 
 abbrev Calls : RattleType
 Calls = CE.the_row CO.the_row

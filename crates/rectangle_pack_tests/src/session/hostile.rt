@@ -3,7 +3,7 @@ ghost use Rattle.rectangle_pack.specs.Closures.{AreCallable, CanRate};
 
 use super::{Order, TestSession, command};
 use crate::refusing::Refusing;
-use crate::tests::shapes::{numbers, place};
+use crate::shapes::{numbers, place};
 use rectangle_pack::{Packed, Reply, TargetBin, WidthHeightDepth, contains_smallest_box};
 use std::alloc::{AllocError, Global};
 use std::cell::Cell;

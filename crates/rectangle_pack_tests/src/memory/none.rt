@@ -1,10 +1,10 @@
 //! Calls that take no memory, while every request is refused.
 
 use super::{End, takes_none};
+use crate::cases::Rects;
 use crate::refusing::Refusing;
-use crate::tests::cases::Rects;
-use crate::tests::session::{SizedBox, Standing, TestSession, pack, rects, stands};
-use crate::tests::shapes::{has_list, section};
+use crate::session::{SizedBox, Standing, TestSession, pack, rects, stands};
+use crate::shapes::{has_list, section};
 use rectangle_pack::{
     FitTests, Group, GroupedRectsToPlace, Packed, PushBinSectionError, RectToInsert, Reply,
     SessionError, TargetBin, WidthHeightDepth, contains_smallest_box, pack_rects,

@@ -1,11 +1,11 @@
 //! Cutting plans whose memory is refused.
 
 use super::{End, refuses_each};
+use crate::plans::PlanStep::{Leaf, X};
+use crate::plans::{PlanStep, is_plan};
 use crate::refusing::Refusing;
-use crate::tests::plans::PlanStep::{Leaf, X};
-use crate::tests::plans::{PlanStep, is_plan};
-use crate::tests::session::releases::TWO_RELEASES;
-use crate::tests::session::{Standing, Step, TestSession, call, command, empty, stands};
+use crate::session::releases::TWO_RELEASES;
+use crate::session::{Standing, Step, TestSession, call, command, empty, stands};
 use rectangle_pack::SessionError;
 use std::alloc::Global;
 use std::process::Abort;
