@@ -1,0 +1,176 @@
+#!/usr/bin/env python3
+"""What the gate's processor time goes into.
+
+gate_times.py [COMMAND..]: runs the command, .ci/run if none is given, and prints afterwards the seconds of the
+    processor that each check took, by crate: its proof, its tests, each of its edits; and, for a crate with
+    edits, those of each function in the first of these checks, which proves the crate from nothing.
+gate_times.py --kept CRATE: the seconds of each function of crates/CRATE, with its tests where they were checked, from the
+    work that one check from nothing at `--jobs 1` kept in its out/.
+
+Times of functions are read from the times at which the checker wrote its files, one after the other."""
+import os
+import pathlib
+import re
+import resource
+import shlex
+import subprocess
+import sys
+import time
+
+TOP = pathlib.Path(__file__).resolve().parent.parent
+TICKS = os.sysconf("SC_CLK_TCK")
+MODULE = re.compile(r"Rattle-(\w+)-(specs|proofs)\.?(.*?)(?:\.decls)?\.oantt$")
+LONGEST_PAUSE = 120
+DEAREST = 25
+
+
+def function_of(name):
+    """The crate, and the function, or the file of lemmas or definitions, whose module has this file name."""
+    found = MODULE.match(name)
+    if not found:
+        return None
+    crate, library, path = found.groups()
+    parts = path.removeprefix("contracts").strip(".").split(".")
+    if all(part[:1].isupper() for part in parts):
+        return crate, f"{library}/{parts[0]}"
+    while parts[-1][:1].isupper():
+        parts.pop()
+    return crate, "::".join(parts)
+
+
+def times_of(folder, since=0.0):
+    """Seconds by crate and function: what passed before each file was written, from `since` on."""
+    files = []
+    for at, _, names in os.walk(folder):
+        for name in names:
+            try:
+                files.append((os.stat(f"{at}/{name}").st_mtime, name))
+            except OSError:
+                pass
+    times, last = {}, None
+    for written, name in sorted(files):
+        passed = min(written - last, LONGEST_PAUSE) if last is not None else 0.0
+        last = written
+        key = function_of(name)
+        if key and written >= since:
+            times[key] = times.get(key, 0.0) + passed
+    return times
+
+
+def print_functions(times, crate):
+    rows = sorted(((seconds, name) for (of, name), seconds in times.items() if of == crate), reverse=True)
+    whole = sum(seconds for seconds, _ in rows)
+    print(f"{crate}: {whole:.0f} s, {len(rows)} functions and files of lemmas")
+    for seconds, name in rows[:DEAREST]:
+        print(f"  {seconds:7.1f}  {name}")
+    rest = sum(seconds for seconds, _ in rows[DEAREST:])
+    print(f"  {rest:7.1f}  all others")
+
+
+def status_of(pid):
+    """The parent of a process and the seconds of the processor that it and its ended children took."""
+    with open(f"/proc/{pid}/stat") as file:
+        fields = file.read().rpartition(")")[2].split()
+    return int(fields[1]), sum(map(int, fields[11:15])) / TICKS
+
+
+class Watch:
+    """The checks that run below a process, as they are seen once a second."""
+
+    def __init__(self, root):
+        self.root, self.checks, self.functions = root, {}, {}
+
+    def look(self):
+        parents = {}
+        for pid in filter(str.isdigit, os.listdir("/proc")):
+            try:
+                parents[int(pid)] = status_of(pid)
+            except (OSError, ValueError, IndexError):
+                pass
+        below = {self.root}
+        for _ in range(12):
+            below |= {pid for pid, (parent, _) in parents.items() if parent in below}
+        for pid in sorted(below - {self.root}):
+            self.note(pid, parents.get(pid, (0, 0.0))[1], parents.get(pid, (0, 0.0))[0])
+
+    def note(self, pid, seconds, parent):
+        if pid not in self.checks:
+            try:
+                words = pathlib.Path(f"/proc/{pid}/cmdline").read_bytes().decode(errors="replace").split("\0")
+                folder = os.readlink(f"/proc/{pid}/cwd")
+            except OSError:
+                return
+            is_check = os.path.basename(words[0]) == "rattle" and words[1:2] in (["check"], ["build"])
+            # (a copy that a check forked counts as a part of it)
+            if not is_check or parent in self.checks and self.checks[parent]:
+                self.checks[pid] = None
+                return
+            self.checks[pid] = {"words": words, "folder": folder, "seconds": 0.0, "began": time.time()}
+            self.read_kept(words)
+        check = self.checks[pid]
+        if check:
+            check["seconds"] = max(check["seconds"], seconds)
+
+    def read_kept(self, words):
+        """At the second check over one folder of kept work: what each function took in the first."""
+        if "--incremental" in words:
+            kept = words[words.index("--incremental") + 1]
+            crate = words[words.index("--crate-name") + 1]
+            if "rt-edits-" in kept and crate not in self.functions:
+                times = times_of(kept)
+                if len(times) > 5:
+                    self.functions[crate] = times
+
+    def report(self):
+        edits = {}
+        rows = []
+        for check in sorted(filter(None, self.checks.values()), key=lambda it: it["began"]):
+            words = check["words"]
+            crate = words[words.index("--crate-name") + 1] if "--crate-name" in words else "?"
+            if "rt-edit-" in check["folder"]:
+                at = edits.setdefault(crate, [])
+                at.append(check["seconds"])
+            else:
+                what = "tests" if "--test" in words else "proof" if words[1] == "check" else "build"
+                rows.append((check["seconds"], crate, what))
+        print("seconds of the processor, as seen once a second")
+        for seconds, crate, what in rows:
+            print(f"  {seconds:7.0f}  {crate}: {what}")
+        for crate, all_seconds in edits.items():
+            names = sorted(it.stem for it in (TOP / "crates" / crate / "must-fail").glob("*.edit"))
+            names[:1] = [f"{names[0]}, and the crate from nothing"] if names else []
+            names += ["the crate as it is"]
+            print(f"  {sum(all_seconds):7.0f}  {crate}: {len(all_seconds)} checks for its edits")
+            for name, seconds in zip(names, all_seconds):
+                print(f"    {seconds:7.1f}  {name}")
+        for crate, times in self.functions.items():
+            print_functions(times, crate)
+
+
+def run(words):
+    began = time.time()
+    started = subprocess.Popen(words, cwd=TOP)
+    watch = Watch(started.pid)
+    while started.poll() is None:
+        watch.look()
+        time.sleep(1)
+    passed = time.time() - began
+    used = resource.getrusage(resource.RUSAGE_CHILDREN)
+    print(f"{shlex.join(words)}: {passed / 60:.1f} min by the clock, user {used.ru_utime / 60:.1f} min, "
+          f"system {used.ru_stime / 60:.1f} min, status {started.returncode}")
+    watch.report()
+    return started.returncode
+
+
+def main():
+    words = sys.argv[1:]
+    if words[:1] == ["--kept"] and len(words) == 2:
+        print_functions(times_of(TOP / "crates" / words[1] / "out" / "incremental"), words[1])
+        return 0
+    if words[:1] in (["-h"], ["--help"], ["--kept"]):
+        print(__doc__)
+        return 2
+    return run(words or [".ci/run"])
+
+
+sys.exit(main())
