@@ -6,7 +6,7 @@ import pathlib
 import sys
 
 TOP = pathlib.Path(__file__).resolve().parent.parent
-TESTS = TOP / "crates/packrun/src/tests/example.rt"
+TESTS = TOP / "crates/rectangle_pack_tests/src/example.rt"
 
 
 def doc_lines(path):

@@ -2,8 +2,8 @@
 
 use super::{Kept, Pieces};
 use crate::outcome::Outcome;
-use rectangle_pack_tests::refusing::Refusing;
 use crate::run::run_lines;
+use rectangle_pack_tests::refusing::Refusing;
 use std::alloc::Global;
 use std::process::Abort;
 use std::test::Fail;
