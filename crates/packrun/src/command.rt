@@ -64,52 +64,21 @@ pub enum Command<'a> {
 pub fn parse(line: &[u8]) -> Option<Command<'_>>
     ensures { IfSome result NamesTwo }
 {
+    let mut words = words_of(line)?;
+    match words.next() {
+        None => Some(Command::Nothing),
+        Some("rect") => next_rect(words),
+        Some(verb) => next_command(verb, words),
+    }
+}
+
+// The words of the line, where each of its bytes may stand in one or between two.
+fn words_of(line: &[u8]) -> Option<SplitAsciiWhitespace<'_>> {
     if !line.iter().all(|byte| may_stand(*byte)) {
         return None;
     }
-    let mut words = str::from_utf8(line).ok()?.split_ascii_whitespace();
-    let command = match words.next() {
-        None => Command::Nothing,
-        Some("bin") => Command::Bin {
-            name: words.next()?,
-            size: next_size(&mut words)?,
-        },
-        Some("rect") => {
-            return Some(Command::Rect {
-                id: words.next()?,
-                size: next_size(&mut words)?,
-                groups: words,
-            });
-        }
-        Some("exclude") => {
-            let (one, other) = (words.next()?, words.next()?);
-            if one == other {
-                return None;
-            }
-            Command::Exclude { one, other }
-        }
-        Some("pack") => Command::Pack,
-        Some("release") => Command::Release(parse_number(words.next()?)?),
-        Some("sections") => Command::Sections {
-            name: words.next()?,
-        },
-        Some("coalesce") => Command::Coalesce {
-            name: words.next()?,
-            idx: parse_index(words.next()?)?,
-            range: parse_index(words.next()?)?..parse_index(words.next()?)?,
-        },
-        Some("sweep") => Command::Sweep {
-            name: words.next()?,
-        },
-        Some("stats") => Command::Stats {
-            name: words.next()?,
-        },
-        Some(_) => return None,
-    };
-    match words.next() {
-        None => Some(command),
-        Some(_) => None,
-    }
+    let text = str::from_utf8(line).ok()?;
+    Some(text.split_ascii_whitespace())
 }
 
 // A byte of a word, or one that separates words.
@@ -117,12 +86,107 @@ fn may_stand(byte: u8) -> bool {
     byte == b' ' || byte == b'\t' || byte == b'\r' || byte.is_ascii_graphic()
 }
 
-fn next_size(words: &mut SplitAsciiWhitespace<'_>) -> Option<Size> {
-    Some(Size {
-        width: parse_side(words.next()?)?,
-        height: parse_side(words.next()?)?,
-        depth: parse_side(words.next()?)?,
+// A box and its groups, which are all the other words.
+fn next_rect(mut words: SplitAsciiWhitespace<'_>) -> Option<Command<'_>>
+    ensures { IfSome result NamesTwo }
+{
+    let id = words.next()?;
+    let size = next_size(&mut words)?;
+    Some(Command::Rect {
+        id,
+        size,
+        groups: words,
     })
+}
+
+// What the first word and all the others say, of a line that is no box.
+fn next_command<'a>(verb: &str, mut words: SplitAsciiWhitespace<'a>) -> Option<Command<'a>>
+    ensures { IfSome result NamesTwo }
+{
+    let command = match verb {
+        "bin" => next_bin(&mut words),
+        "exclude" => next_exclude(&mut words),
+        "pack" => Some(Command::Pack),
+        "release" => next_release(&mut words),
+        "coalesce" => next_coalesce(&mut words),
+        _ => next_query(verb, &mut words),
+    };
+    match words.next() {
+        None => command,
+        Some(_) => None,
+    }
+}
+
+// What is done with the bin of the next name, or asked of it.
+fn next_query<'a>(verb: &str, words: &mut SplitAsciiWhitespace<'a>) -> Option<Command<'a>>
+    ensures { IfSome result NamesTwo }
+{
+    let name = words.next()?;
+    match verb {
+        "sections" => Some(Command::Sections { name }),
+        "sweep" => Some(Command::Sweep { name }),
+        "stats" => Some(Command::Stats { name }),
+        _ => None,
+    }
+}
+
+fn next_bin<'a>(words: &mut SplitAsciiWhitespace<'a>) -> Option<Command<'a>>
+    ensures { IfSome result NamesTwo }
+{
+    let name = words.next()?;
+    let size = next_size(words)?;
+    Some(Command::Bin { name, size })
+}
+
+fn next_exclude<'a>(words: &mut SplitAsciiWhitespace<'a>) -> Option<Command<'a>>
+    ensures { IfSome result NamesTwo }
+{
+    let one = words.next()?;
+    let other = words.next()?;
+    if one == other {
+        return None;
+    }
+    Some(Command::Exclude { one, other })
+}
+
+fn next_release<'a>(words: &mut SplitAsciiWhitespace<'a>) -> Option<Command<'a>>
+    ensures { IfSome result NamesTwo }
+{
+    let number = parse_number(words.next()?)?;
+    Some(Command::Release(number))
+}
+
+fn next_coalesce<'a>(words: &mut SplitAsciiWhitespace<'a>) -> Option<Command<'a>>
+    ensures { IfSome result NamesTwo }
+{
+    let name = words.next()?;
+    let idx = next_index(words)?;
+    let start = next_index(words)?;
+    let end = next_index(words)?;
+    Some(Command::Coalesce {
+        name,
+        idx,
+        range: start..end,
+    })
+}
+
+fn next_size(words: &mut SplitAsciiWhitespace<'_>) -> Option<Size> {
+    let width = next_side(words)?;
+    let height = next_side(words)?;
+    let depth = next_side(words)?;
+    Some(Size {
+        width,
+        height,
+        depth,
+    })
+}
+
+fn next_side(words: &mut SplitAsciiWhitespace<'_>) -> Option<u32> {
+    parse_side(words.next()?)
+}
+
+fn next_index(words: &mut SplitAsciiWhitespace<'_>) -> Option<usize> {
+    parse_index(words.next()?)
 }
 
 fn parse_side(word: &str) -> Option<u32>

@@ -1,4 +1,5 @@
-//! Packs boxes into bins: reads commands from standard input, a line each, and prints to standard output.
+//! Packs boxes into bins: reads commands from standard input, a line each, and prints to standard
+//! output.
 #![tactic(auto)]
 
 mod command;

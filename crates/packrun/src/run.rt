@@ -12,8 +12,8 @@ const LONGEST_LINE: usize = 4096;
 
 /// Obeys the commands of `reader`, a line each, and prints to `writer`.
 ///
-/// Lines are numbered from 1, and placements from 0. What lines before the end printed stands. Where the last line
-/// of a run cannot be printed, the outcome is `IoFailed`.
+/// Lines are numbered from 1, and placements from 0. What lines before the end printed stands. Where
+/// the last line of a run cannot be printed, the outcome is `IoFailed`.
 pub fn run_lines<R: Read, W: Write, A: Allocator + Copy>(
     alloc: A,
     reader: &mut R,
@@ -29,7 +29,7 @@ pub fn run_lines<R: Read, W: Write, A: Allocator + Copy>(
     outcome
 }
 
-// Obeys each line, until the input ends or something stops it. What is printed is flushed before each read.
+// Makes what a run works on, and obeys each line.
 fn obey_all<R: Read, W: Write, A: Allocator + Copy>(
     alloc: A,
     reader: &mut R,
@@ -41,16 +41,19 @@ fn obey_all<R: Read, W: Write, A: Allocator + Copy>(
     };
     // With this room a line takes no memory, so an error of `read_until` is the reader's.
     let mut line = Vec::with_capacity(alloc, LONGEST_LINE + 1)?;
+    obey_each(&mut store, &mut input, &mut line, out)
+}
+
+// Obeys each line, until the input ends or something stops it.
+fn obey_each<R: Read, W: Write, A: Allocator + Copy>(
+    store: &mut Store<A>,
+    input: &mut BufReader<R, A>,
+    line: &mut Vec<u8, A>,
+    out: &mut W,
+) -> Result<(), Stop> {
     let mut total = 0u64;
     for number in 1..=u64::MAX {
-        if !input.buffer().contains(&b'\n') {
-            out.flush()?;
-        }
-        line.clear();
-        let count = input
-            .by_ref()
-            .take(LONGEST_LINE as u64 + 1)
-            .read_until(b'\n', &mut line)?;
+        let count = next_line(input, line, out)?;
         if count == 0 {
             return Ok(());
         }
@@ -58,9 +61,27 @@ fn obey_all<R: Read, W: Write, A: Allocator + Copy>(
             return Err(Stop::IoFailed);
         };
         total = sum;
-        obey_line(&mut store, number, line.as_slice(), out)?;
+        obey_line(store, number, line.as_slice(), out)?;
     }
     Err(Stop::IoFailed)
+}
+
+// Reads the next line, or so much of it that it is too long. How many bytes were read, none at the
+// end of the input. What is printed is flushed before each read.
+fn next_line<R: Read, W: Write, A: Allocator>(
+    input: &mut BufReader<R, A>,
+    line: &mut Vec<u8, A>,
+    out: &mut W,
+) -> Result<usize, Stop> {
+    if !input.buffer().contains(&b'\n') {
+        out.flush()?;
+    }
+    line.clear();
+    let count = input
+        .by_ref()
+        .take(LONGEST_LINE as u64 + 1)
+        .read_until(b'\n', line)?;
+    Ok(count)
 }
 
 fn obey_line<W: Write, A: Allocator + Copy>(

@@ -1,13 +1,15 @@
 //! The session, and the boxes to place, that lines speak of.
 
-ghost use Rattle.std.specs.Prelude.{◌≢◌};
+ghost use Rattle.std.specs.Prelude.{◌≢◌, ◌<◌, IfOk};
+ghost use Rattle.std.specs.Option.{ForSome};
+ghost use Rattle.std.specs.Vec.{vec_len};
 ghost use Rattle.packrun.specs.Commands.{NamesTwo};
 
 use crate::command::{Command, Size};
 use crate::stop::Stop;
 use rectangle_pack::{
-    BinStats, Group, GroupedRectsToPlace, Outstanding, Packed, RectToInsert, RectanglePackError,
-    Session, SessionError, contains_smallest_box, volume_heuristic,
+    BinSection, BinStats, Group, GroupedRectsToPlace, Outstanding, Packed, RectToInsert,
+    RectanglePackError, Session, SessionError, contains_smallest_box, volume_heuristic,
 };
 use std::alloc::Allocator;
 use std::fmt::Display;
@@ -70,11 +72,7 @@ impl<A: Allocator + Copy> Store<A> {
         groups: SplitAsciiWhitespace<'_>,
         out: &mut W,
     ) -> Result<(), Stop> {
-        let mut named = Vec::new(self.alloc);
-        for group in groups {
-            named.push(Word::from_str(self.alloc, group)?)?;
-        }
-        let named = if named.is_empty() { None } else { Some(named) };
+        let named = named_groups(self.alloc, groups)?;
         let id = Word::from_str(self.alloc, id)?;
         let rect = RectToInsert::new(size.width, size.height, size.depth);
         self.rects.push_rect(id, named, rect)?;
@@ -92,7 +90,8 @@ impl<A: Allocator + Copy> Store<A> {
         Ok(())
     }
 
-    // The boxes are kept where they are refused, so that a bin can be added and the packing tried again.
+    // The boxes are kept where they are refused, so that a bin can be added and the packing tried
+    // again.
     fn pack<W: Write>(&mut self, out: &mut W) -> Result<(), Stop> {
         let answer = self
             .session
@@ -109,22 +108,7 @@ impl<A: Allocator + Copy> Store<A> {
     // The placements of the last packing are the last ones of the session.
     fn print_packed<W: Write>(&self, packed: Packed, out: &mut W) -> Result<(), Stop> {
         let Packed { first, count } = packed;
-        let outstanding = self.session.outstanding();
-        let start = outstanding.partition_point(|placement| placement.number < first);
-        for placement in &outstanding[start..] {
-            let Outstanding {
-                number,
-                id,
-                bin,
-                location,
-            } = placement;
-            let (x, y, z) = (location.x(), location.y(), location.z());
-            let (width, height, depth) = (location.width(), location.height(), location.depth());
-            writeln!(
-                out,
-                "{number} {id} {bin} {x} {y} {z} {width} {height} {depth}"
-            )?;
-        }
+        print_placements(self.session.outstanding(), first, out)?;
         writeln!(out, "packed {count}")?;
         Ok(())
     }
@@ -149,15 +133,7 @@ impl<A: Allocator + Copy> Store<A> {
         let Some(bin) = self.session.bins().get(name) else {
             return refuse(SessionError::UnknownBin, name, out);
         };
-        let sections = bin.available_bin_sections();
-        for section in sections {
-            let (x, y, z, whd) = (section.x(), section.y(), section.z(), section.whd());
-            let (width, height, depth) = (whd.width(), whd.height(), whd.depth());
-            writeln!(out, "{x} {y} {z} {width} {height} {depth}")?;
-        }
-        let count = sections.len();
-        writeln!(out, "sections {count}")?;
-        Ok(())
+        print_list(bin.available_bin_sections().as_slice(), out)
     }
 
     fn print_stats<W: Write>(&self, name: &str, out: &mut W) -> Result<(), Stop> {
@@ -181,6 +157,78 @@ impl<A: Allocator + Copy> Store<A> {
     }
 }
 
+// The groups that the words name, or none where there is no word.
+fn named_groups<A: Allocator + Copy>(
+    alloc: A,
+    groups: SplitAsciiWhitespace<'_>,
+) -> Result<Option<Vec<Word<A>, A>>, Stop>
+    ensures { IfOk result (λ found. ForSome found (λ named. 0 < vec_len named)) }
+{
+    let mut named = Vec::new(alloc);
+    for group in groups {
+        push_word(&mut named, alloc, group)?;
+    }
+    Ok(if named.is_empty() { None } else { Some(named) })
+}
+
+fn push_word<A: Allocator + Copy>(
+    words: &mut Vec<Word<A>, A>,
+    alloc: A,
+    word: &str,
+) -> Result<(), Stop> {
+    words.push(Word::from_str(alloc, word)?)?;
+    Ok(())
+}
+
+// Prints those of the placements that have this number or a later one, a line each.
+fn print_placements<A: Allocator, W: Write>(
+    placements: &[Outstanding<Word<A>, Word<A>>],
+    first: u64,
+    out: &mut W,
+) -> Result<(), Stop> {
+    let start = placements.partition_point(|placement| placement.number < first);
+    for placement in &placements[start..] {
+        print_placement(placement, out)?;
+    }
+    Ok(())
+}
+
+fn print_placement<A: Allocator, W: Write>(
+    placement: &Outstanding<Word<A>, Word<A>>,
+    out: &mut W,
+) -> Result<(), Stop> {
+    let Outstanding {
+        number,
+        id,
+        bin,
+        location,
+    } = placement;
+    let (x, y, z) = (location.x(), location.y(), location.z());
+    let (width, height, depth) = (location.width(), location.height(), location.depth());
+    writeln!(
+        out,
+        "{number} {id} {bin} {x} {y} {z} {width} {height} {depth}"
+    )?;
+    Ok(())
+}
+
+// Prints the free sections, a line each, and how many there are.
+fn print_list<W: Write>(sections: &[BinSection], out: &mut W) -> Result<(), Stop> {
+    for section in sections {
+        print_section(section, out)?;
+    }
+    let count = sections.len();
+    writeln!(out, "sections {count}")?;
+    Ok(())
+}
+
+fn print_section<W: Write>(section: &BinSection, out: &mut W) -> Result<(), Stop> {
+    let (x, y, z, whd) = (section.x(), section.y(), section.z(), section.whd());
+    let (width, height, depth) = (whd.width(), whd.height(), whd.depth());
+    writeln!(out, "{x} {y} {z} {width} {height} {depth}")?;
+    Ok(())
+}
+
 // Prints `ok`, or why the session refused.
 fn report<W: Write, T: Display + Drop>(
     answer: Result<(), SessionError>,
@@ -193,8 +241,8 @@ fn report<W: Write, T: Display + Drop>(
     }
 }
 
-// Prints why the session refused; `named` is the bin, or the number, of which the line speaks. Refused memory ends
-// the run.
+// Prints why the session refused; `named` is the bin, or the number, of which the line speaks.
+// Refused memory ends the run.
 fn refuse<W: Write, T: Display + Drop>(
     error: SessionError,
     named: T,
