@@ -15,7 +15,6 @@ use std::alloc::Global;
 use std::io;
 use std::io::{Cursor, Read, Write};
 use std::process::Abort;
-use std::test::Fail;
 
 // Gives its bytes in pieces, and fails once so many reads were good.
 #[derive(Drop)]
@@ -75,47 +74,51 @@ impl Write for Kept {
     }
 }
 
-// The input, whole and in pieces, prints this and ends so.
-fn says(
+// What a run reads, what it prints, and how it ends.
+type Text = (&'static str, &'static str, Outcome);
+
+// The input, read in pieces of so many bytes, prints this and ends so.
+fn prints(
     rt: &impl Abort,
     alloc: Global,
-    input: &[u8],
+    (bytes, piece): (&[u8], usize),
     output: &str,
     outcome: Outcome,
-) -> Result<(), Fail> {
-    let mut whole = input;
+) {
+    let mut reader = Pieces {
+        bytes,
+        piece,
+        good_reads: u64::MAX,
+    };
     let mut written = Vec::new(alloc);
-    assert_eq!(rt;
-        run_lines(alloc, &mut whole, &mut written),
-        outcome,
-        "{output}"
-    );
+    let ended = run_lines(alloc, &mut reader, &mut written);
+    assert_eq!(rt; ended, outcome, "{output}");
     assert_eq!(rt; written.as_slice(), output.as_bytes(), "{output}");
-    for piece in [1, 2, 3, 7] {
-        let mut reader = Pieces {
-            bytes: input,
-            piece,
-            good_reads: u64::MAX,
-        };
-        written.clear();
-        assert_eq!(rt;
-            run_lines(alloc, &mut reader, &mut written),
-            outcome,
-            "{output}"
-        );
-        assert_eq!(rt; written.as_slice(), output.as_bytes(), "{output}");
-    }
-    Ok(())
 }
+
+// The input, whole and in pieces, prints this and ends so.
+fn says(rt: &impl Abort, alloc: Global, input: &[u8], output: &str, outcome: Outcome) {
+    for piece in [usize::MAX, 1, 2, 3, 7] {
+        prints(rt, alloc, (input, piece), output, outcome);
+    }
+}
+
+fn all_say(rt: &impl Abort, alloc: Global, texts: &[Text]) {
+    for (input, output, outcome) in texts {
+        says(rt, alloc, input.as_bytes(), output, *outcome);
+    }
+}
+
+const STATUSES: [(Outcome, u8); 4] = [
+    (Outcome::Done, 0),
+    (Outcome::IoFailed, 1),
+    (Outcome::BadLine(7), 2),
+    (Outcome::NoMemory, 3),
+];
 
 #[test]
 fn statuses(rt: HostRuntime) {
-    for (outcome, status) in [
-        (Outcome::Done, 0),
-        (Outcome::IoFailed, 1),
-        (Outcome::BadLine(7), 2),
-        (Outcome::NoMemory, 3),
-    ] {
-        assert_eq!(rt; outcome.status(), status);
+    for (outcome, status) in &STATUSES {
+        assert_eq!(rt; outcome.status(), *status);
     }
 }

@@ -9,6 +9,10 @@ use std::test::Fail;
 
 const BAD: &str = "line 1 is bad\n";
 
+// A line with a byte at its `?`, and what it prints where that is a byte of a word, where it
+// separates words, and where it ends the line.
+type Place = [&'static str; 4];
+
 // The text with this byte at each `?`.
 fn with_byte(alloc: Global, text: &str, byte: u8) -> Result<Vec<u8>, AllocError> {
     text.bytes()
@@ -23,7 +27,7 @@ fn says_at_byte(
     rt: &impl Abort,
     alloc: Global,
     byte: u8,
-    [line, as_word, as_space, ended]: [&str; 4],
+    [line, as_word, as_space, ended]: Place,
 ) -> Result<(), Fail> {
     let line = with_byte(alloc, line, byte)?;
     let printed = with_byte(alloc, as_word, byte)?;
@@ -38,63 +42,79 @@ fn says_at_byte(
     } else {
         Outcome::Done
     };
-    says(rt, alloc, line.as_slice(), printed, outcome)
+    says(rt, alloc, line.as_slice(), printed, outcome);
+    Ok(())
 }
 
-// Alone on a line, as the first byte of a word, and as the last one.
-#[test]
-fn each_byte(rt: HostRuntime) -> Result<(), Fail> {
-    let unknown = "refused: bin a is unknown\n";
-    for row in [
-        ["?\npack", BAD, "packed 0\n", "packed 0\n"],
-        ["sweep ?a", "refused: bin ?a is unknown\n", unknown, BAD],
-        ["sweep a?", "refused: bin a? is unknown\n", unknown, unknown],
-    ] {
-        for byte in 0..=u8::MAX {
-            says_at_byte(&rt, rt.alloc(), byte, row)?;
-        }
+fn says_at_each_byte(rt: &impl Abort, alloc: Global, place: Place) -> Result<(), Fail> {
+    for byte in 0..=u8::MAX {
+        says_at_byte(rt, alloc, byte, place)?;
     }
     Ok(())
 }
 
-// A line that begins so, with this byte up to the length, and what comes after it: 4096 bytes are
-// not too many, and then this is printed.
-fn says_at_length(
-    rt: &impl Abort,
-    alloc: Global,
-    length: usize,
-    (start, fill, rest): (&str, u8, &str),
-    output: &str,
-) -> Result<(), Fail> {
-    let mut line = Vec::new(alloc);
-    line.extend_from_slice(start.as_bytes())?;
-    line.resize(length, fill)?;
-    line.extend_from_slice(rest.as_bytes())?;
-    if length > 4096 {
-        return says(rt, alloc, line.as_slice(), BAD, Outcome::BadLine(1));
+const UNKNOWN: &str = "refused: bin a is unknown\n";
+
+// Alone on a line, as the first byte of a word, and as the last one.
+const PLACES: [Place; 3] = [
+    ["?\npack", BAD, "packed 0\n", "packed 0\n"],
+    ["sweep ?a", "refused: bin ?a is unknown\n", UNKNOWN, BAD],
+    ["sweep a?", "refused: bin a? is unknown\n", UNKNOWN, UNKNOWN],
+];
+
+#[test]
+fn each_byte(rt: HostRuntime) -> Result<(), Fail> {
+    for place in &PLACES {
+        says_at_each_byte(&rt, rt.alloc(), *place)?;
     }
-    says(rt, alloc, line.as_slice(), output, Outcome::Done)
+    Ok(())
+}
+
+// How a line begins, the byte that it has from there on, what comes after it, and what is printed
+// where it is not too long.
+type Long = (&'static str, u8, &'static str, &'static str);
+
+const LONG: [Long; 9] = [
+    ("", b' ', "", ""),
+    ("", b' ', "\n", ""),
+    ("", b' ', "\npack", "packed 0\n"),
+    ("bin a 7 1 1", b' ', "", "ok\n"),
+    ("bin a 7 1 1", b' ', "\n", "ok\n"),
+    ("bin a 7 1 1", b' ', "\npack\n", "ok\npacked 0\n"),
+    ("rect a 7 1 1 ", b'g', "", "ok\n"),
+    ("rect a 7 1 1 ", b'g', "\nrect a 1 1 1", "ok\nok\n"),
+    ("release ", b'0', "\n", "refused: placement 0 is unknown\n"),
+];
+
+fn write_long(
+    input: &mut Vec<u8>,
+    length: usize,
+    (start, fill, rest, _): Long,
+) -> Result<(), AllocError> {
+    input.extend_from_slice(start.as_bytes())?;
+    input.resize(length, fill)?;
+    input.extend_from_slice(rest.as_bytes())
+}
+
+// A line of 4096 bytes is not too long.
+fn says_at_length(rt: &impl Abort, alloc: Global, length: usize, line: Long) -> Result<(), Fail> {
+    let mut input = Vec::new(alloc);
+    write_long(&mut input, length, line)?;
+    let (output, outcome) = if length > 4096 {
+        (BAD, Outcome::BadLine(1))
+    } else {
+        (line.3, Outcome::Done)
+    };
+    says(rt, alloc, input.as_slice(), output, outcome);
+    Ok(())
 }
 
 #[test]
 fn longest_lines(rt: HostRuntime) -> Result<(), Fail> {
-    for (line, output) in [
-        (("", b' ', ""), ""),
-        (("", b' ', "\n"), ""),
-        (("", b' ', "\npack"), "packed 0\n"),
-        (("bin a 7 1 1", b' ', ""), "ok\n"),
-        (("bin a 7 1 1", b' ', "\n"), "ok\n"),
-        (("bin a 7 1 1", b' ', "\npack\n"), "ok\npacked 0\n"),
-        (("rect a 7 1 1 ", b'g', ""), "ok\n"),
-        (("rect a 7 1 1 ", b'g', "\nrect a 1 1 1"), "ok\nok\n"),
-        (
-            ("release ", b'0', "\n"),
-            "refused: placement 0 is unknown\n",
-        ),
-    ] {
-        for length in [4096, 4097, 20000] {
-            says_at_length(&rt, rt.alloc(), length, line, output)?;
-        }
+    for line in &LONG {
+        says_at_length(&rt, rt.alloc(), 4096, *line)?;
+        says_at_length(&rt, rt.alloc(), 4097, *line)?;
+        says_at_length(&rt, rt.alloc(), 20000, *line)?;
     }
     Ok(())
 }
@@ -107,42 +127,40 @@ const FIRST_PRINTED: &str = "ok\nok\nok\n0 p a 0 0 0 1 1 1\n1 q a 1 0 0 1 1 1\np
 fn says_at_number(
     rt: &impl Abort,
     alloc: Global,
-    line: &str,
+    (line, printed): (&str, &str),
     number: &str,
-    printed: &str,
     outcome: Outcome,
 ) -> Result<(), Fail> {
     let (before, after) = line.split_once('#').ok_or("no place for a number")?;
     let input = format!(in alloc; "{FIRST_LINES}{before}{number}{after}")?;
     let output = format!(in alloc; "{FIRST_PRINTED}{printed}")?;
-    says(rt, alloc, input.as_bytes(), output.as_str(), outcome)
+    says(rt, alloc, input.as_bytes(), output.as_str(), outcome);
+    Ok(())
 }
 
-// Each of these lines prints this with each of the numbers, and is bad with each that is past them.
+// This line prints this with each of the numbers, and is bad with each that is past them.
 fn says_at_limit(
     rt: &impl Abort,
     alloc: Global,
-    lines: &[(&str, &str)],
-    numbers: &[&str],
-    past: &[&str],
+    (line, printed): (&str, &str),
+    numbers: &Numbers,
 ) -> Result<(), Fail> {
-    for (line, printed) in lines {
-        for number in numbers {
-            says_at_number(rt, alloc, line, number, printed, Outcome::Done)?;
-        }
-        for number in past {
-            says_at_number(
-                rt,
-                alloc,
-                line,
-                number,
-                "line 7 is bad\n",
-                Outcome::BadLine(7),
-            )?;
-        }
+    for (number, past) in numbers {
+        says_at_number(rt, alloc, (line, printed), number, Outcome::Done)?;
+        let bad = (line, "line 7 is bad\n");
+        says_at_number(rt, alloc, bad, past, Outcome::BadLine(7))?;
     }
     Ok(())
 }
+
+// Three ways to write the greatest number, and three numbers that are past it.
+type Numbers = [(&'static str, &'static str); 3];
+
+const GREATEST_SIZES: Numbers = [
+    ("4294967295", "4294967296"),
+    ("04294967295", "04294967296"),
+    ("00000000000000000004294967295", "18446744073709551616"),
+];
 
 const SIZES: &[(&str, &str)] = &[
     ("bin b # 1 1", "ok\n"),
@@ -155,10 +173,20 @@ const SIZES: &[(&str, &str)] = &[
 
 #[test]
 fn greatest_sizes(rt: HostRuntime) -> Result<(), Fail> {
-    let numbers = ["4294967295", "04294967295", "00000000000000000004294967295"];
-    let past = ["4294967296", "04294967296", "18446744073709551616"];
-    says_at_limit(&rt, rt.alloc(), SIZES, &numbers, &past)
+    for line in SIZES {
+        says_at_limit(&rt, rt.alloc(), *line, &GREATEST_SIZES)?;
+    }
+    Ok(())
 }
+
+const GREATEST_NUMBERS: Numbers = [
+    ("18446744073709551615", "18446744073709551616"),
+    ("018446744073709551615", "00018446744073709551616"),
+    (
+        "000000000000000000000000018446744073709551615",
+        "340282366920938463463374607431768211456",
+    ),
+];
 
 // An index past the end joins nothing, nor does a range that starts there; one that ends there is
 // the whole list.
@@ -183,15 +211,8 @@ const INDICES: &[(&str, &str)] = &[
 
 #[test]
 fn greatest_numbers(rt: HostRuntime) -> Result<(), Fail> {
-    let numbers = [
-        "18446744073709551615",
-        "018446744073709551615",
-        "000000000000000000000000018446744073709551615",
-    ];
-    let past = [
-        "18446744073709551616",
-        "00018446744073709551616",
-        "340282366920938463463374607431768211456",
-    ];
-    says_at_limit(&rt, rt.alloc(), INDICES, &numbers, &past)
+    for line in INDICES {
+        says_at_limit(&rt, rt.alloc(), *line, &GREATEST_NUMBERS)?;
+    }
+    Ok(())
 }

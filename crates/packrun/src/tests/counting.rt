@@ -38,6 +38,11 @@ fn first_word(line: &str) -> &str {
     line.split_ascii_whitespace().next().unwrap_or("")
 }
 
+// Whether this is a line of numbers, which no reply is.
+fn is_row(line: &str) -> bool {
+    line.as_bytes().first().is_some_and(u8::is_ascii_digit)
+}
+
 fn has_words(line: &&str) -> bool {
     !first_word(line).is_empty()
 }
@@ -101,15 +106,23 @@ fn size_of(bins: &[Row], name: u32) -> [u32; 3] {
     }
 }
 
+// How many groups the line of a box names.
+fn groups_named(row: &Row) -> usize {
+    usize::from(row[5] != 0).saturating_add(usize::from(row[6] != 0))
+}
+
 // How often the box of this id is to be placed: once for each group that a line names, and once
-// alone.
+// alone where a line names none.
 fn times_named(boxes: &[Row], id: u32) -> usize {
-    let of_id = |row: &&Row| row[1] == id;
-    let once = boxes.iter().filter(of_id).filter(|row| row[5] != 0).count();
-    let twice = boxes.iter().filter(of_id).filter(|row| row[6] != 0).count();
-    let alone = boxes.iter().filter(of_id).any(|row| row[5] == 0);
-    once.saturating_add(twice)
-        .saturating_add(usize::from(alone))
+    let mut times = 0usize;
+    let mut alone = false;
+    for row in boxes {
+        if row[1] == id {
+            times = times.saturating_add(groups_named(row));
+            alone |= row[5] == 0;
+        }
+    }
+    times.saturating_add(usize::from(alone))
 }
 
 fn times_placed(lines: &[Row], id: u32) -> usize {
@@ -193,6 +206,42 @@ fn take_over(
     Ok(lines.is_empty())
 }
 
+// Takes over a line that was printed, where the command of a reply is the next one. Whether it is
+// right.
+fn take_line(
+    alloc: Global,
+    seen: &mut Seen,
+    lines: &mut Vec<Row>,
+    (command, line): (&str, &str),
+) -> Result<bool, AllocError> {
+    if is_row(line) {
+        lines.push(row(line))?;
+        return Ok(true);
+    }
+    let is_right = take_over(alloc, seen, command, line, lines.as_slice())?;
+    lines.clear();
+    Ok(is_right)
+}
+
+// Whether the commands print these lines.
+fn replies_are_right(
+    alloc: Global,
+    seen: &mut Seen,
+    commands: &[&str],
+    printed: &str,
+) -> Result<bool, AllocError> {
+    let mut lines = Vec::new(alloc);
+    let mut done = 0usize;
+    for line in printed.lines() {
+        let command = commands.get(done).copied().unwrap_or("");
+        if !take_line(alloc, seen, &mut lines, (command, line))? {
+            return Ok(false);
+        }
+        done = done.saturating_add(usize::from(!is_row(line)));
+    }
+    Ok(done == commands.len())
+}
+
 /// Whether the first so many of these lines print this. A reply begins with no digit, unlike the
 /// lines of numbers before it; a line without words has none.
 pub fn is_right(
@@ -201,21 +250,6 @@ pub fn is_right(
     count: usize,
     printed: &str,
 ) -> Result<bool, AllocError> {
-    let mut seen = Seen::new(alloc);
-    let mut lines = Vec::new(alloc);
-    let mut commands = input.lines().take(count).filter(has_words);
-    for line in printed.lines() {
-        if line.as_bytes().first().is_some_and(u8::is_ascii_digit) {
-            lines.push(row(line))?;
-            continue;
-        }
-        let Some(command) = commands.next() else {
-            return Ok(false);
-        };
-        if !take_over(alloc, &mut seen, command, line, lines.as_slice())? {
-            return Ok(false);
-        }
-        lines.clear();
-    }
-    Ok(commands.next().is_none())
+    let commands: Vec<&str> = input.lines().take(count).filter(has_words).collect(alloc)?;
+    replies_are_right(alloc, &mut Seen::new(alloc), commands.as_slice(), printed)
 }

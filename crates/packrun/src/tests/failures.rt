@@ -1,15 +1,15 @@
 //! Reads, writes and requests for memory of which each fails in turn.
 
-use super::{Kept, Pieces};
+use super::{Kept, Pieces, Text};
 use crate::outcome::Outcome;
 use crate::run::run_lines;
 use rectangle_pack_tests::refusing::Refusing;
 use std::alloc::Global;
 use std::process::Abort;
-use std::test::Fail;
 
 const LINES: &str =
-    "bin a 100 100 1\nrect one 60 95 1\nrect two 40 10 1\nrect three 1 1 1\npack\nbin a 9 9 1\nrect three 1 1";
+    "bin a 100 100 1\nrect one 60 95 1\nrect two 40 10 1\nrect three 1 1 1\npack\nbin a 9 9 1\n\
+     rect three 1 1";
 
 const PRINTED: &str =
     "ok\nok\nok\nok\n0 one a 0 0 0 60 95 1\n1 two a 60 0 0 40 10 1\n2 three a 60 10 0 1 1 1\n\
@@ -91,109 +91,128 @@ fn fails_at_each_read(rt: &impl Abort, alloc: Global, piece: usize, needed: u64)
     comes_out(rt, alloc, Given { reads, ..ALL });
 }
 
-// The lines have 98 bytes.
+// The most bytes of a read, and how many reads the lines need, which have 98 bytes.
+const READS: [(usize, u64); 4] = [(1, 99), (7, 15), (97, 3), (98, 2)];
+
 #[test]
 fn failing_reads(rt: HostRuntime) {
-    for (piece, needed) in [(1, 99), (7, 15), (97, 3), (98, 2)] {
-        fails_at_each_read(&rt, rt.alloc(), piece, needed);
+    for (piece, needed) in &READS {
+        fails_at_each_read(&rt, rt.alloc(), *piece, *needed);
     }
 }
 
 // Each of so many writes fails in turn, that of the last line too.
-fn fails_at_each_write(rt: &impl Abort, alloc: Global, read: usize, piece: usize, needed: u64) {
-    let reads = (read, u64::MAX);
+fn fails_at_each_write(rt: &impl Abort, alloc: Global, (read, piece, needed): (usize, usize, u64)) {
+    let given = Given {
+        reads: (read, u64::MAX),
+        ..ALL
+    };
     for good in 0..needed {
         let writes = (piece, good);
-        fails_within(
-            rt,
-            alloc,
-            Given {
-                reads,
-                writes,
-                ..ALL
-            },
-        );
+        fails_within(rt, alloc, Given { writes, ..given });
     }
     let writes = (piece, needed);
-    comes_out(
-        rt,
-        alloc,
-        Given {
-            reads,
-            writes,
-            ..ALL
-        },
-    );
+    comes_out(rt, alloc, Given { writes, ..given });
 }
 
-// What is printed has 126 bytes, the last line 14 of them. A read of 7 bytes or of one ends at most one line, and what
-// each line prints is written before the next read. Read at once, all but the last line is written first.
+// The most bytes of a read and of a write, and how many writes are needed. What is printed has 126
+// bytes, the last line 14 of them. A read of 7 bytes or of one ends at most one line, and what each
+// line prints is written before the next read. Read at once, all but the last line is written first.
+const WRITES: [(usize, usize, u64); 7] = [
+    (98, 512, 2),
+    (98, 100, 3),
+    (98, 1, 126),
+    (7, 512, 7),
+    (7, 1, 126),
+    (1, 512, 7),
+    (1, 1, 126),
+];
+
 #[test]
 fn failing_writes(rt: HostRuntime) {
-    for (read, piece, needed) in [
-        (98, 512, 2),
-        (98, 100, 3),
-        (98, 1, 126),
-        (7, 512, 7),
-        (7, 1, 126),
-        (1, 512, 7),
-        (1, 1, 126),
-    ] {
-        fails_at_each_write(&rt, rt.alloc(), read, piece, needed);
+    for row in &WRITES {
+        fails_at_each_write(&rt, rt.alloc(), *row);
     }
 }
 
-// What is printed before this many bytes were written, where no more can be.
-fn is_cut_off(rt: &impl Abort, alloc: Global, lines: &str, granted: u64, whole: &[u8]) {
-    for (good, _) in (0..).zip(whole.iter()) {
-        let writes = (1, good);
-        let given = Given {
-            granted,
-            writes,
-            ..ALL
-        };
-        let (outcome, kept) = run_with(rt, alloc, lines, given);
-        assert_eq!(rt; outcome, Outcome::IoFailed);
-        assert!(rt; whole.starts_with(kept.written()));
-        assert_eq!(rt; kept.written().len() as u64, good);
-    }
-}
-
-// Whichever request is refused, what was printed before stands, and the last line says so; where that
-// cannot be printed either, that is how the run ends.
-fn refuses_each(
+// Where this many bytes can be written and no more, the start of what is printed is.
+fn is_cut_after(
     rt: &impl Abort,
     alloc: Global,
     lines: &str,
-    printed: &str,
-    last: Outcome,
-) -> Result<(), Fail> {
-    for granted in 0..200u64 {
-        let (outcome, kept) = run_with(rt, alloc, lines, Given { granted, ..ALL });
-        if outcome != Outcome::NoMemory {
-            assert_eq!(rt; outcome, last);
-            assert_eq!(rt; kept.written(), printed.as_bytes());
-            assert!(rt; granted > 10);
-            return Ok(());
-        }
-        assert_eq!(rt; outcome.status(), 3);
-        let before = kept.written().strip_suffix(b"Out of memory.\n");
-        let is_start = printed
-            .as_bytes()
-            .starts_with(before.ok_or("no last line")?);
-        assert!(rt; is_start);
-        is_cut_off(rt, alloc, lines, granted, kept.written());
-    }
-    assert!(rt; false);
-    Ok(())
+    (granted, good): (u64, u64),
+    whole: &[u8],
+) {
+    let writes = (1, good);
+    let given = Given {
+        granted,
+        writes,
+        ..ALL
+    };
+    let (outcome, kept) = run_with(rt, alloc, lines, given);
+    assert_eq!(rt; outcome, Outcome::IoFailed);
+    assert!(rt; whole.starts_with(kept.written()));
+    assert_eq!(rt; kept.written().len() as u64, good);
 }
 
+// What is printed is cut off after each number of bytes that can be written.
+fn is_cut_off(rt: &impl Abort, alloc: Global, lines: &str, granted: u64, whole: &[u8]) {
+    for good in 0..whole.len() as u64 {
+        is_cut_after(rt, alloc, lines, (granted, good), whole);
+    }
+}
+
+// What was printed before the line that says that memory was refused is a start of the whole.
+fn ends_refused(written: &[u8], whole: &str) -> bool {
+    match written.strip_suffix(b"Out of memory.\n") {
+        Some(before) => whole.as_bytes().starts_with(before),
+        None => false,
+    }
+}
+
+// How these lines end where so many requests are granted. Where one is refused, what was printed
+// before stands, and the last line says so; where that cannot be printed either, that is how the run
+// ends. Where none is, all is printed.
+fn ends_with(
+    rt: &impl Abort,
+    alloc: Global,
+    (lines, whole): (&str, &str),
+    granted: u64,
+) -> Outcome {
+    let (outcome, kept) = run_with(rt, alloc, lines, Given { granted, ..ALL });
+    if outcome == Outcome::NoMemory {
+        assert!(rt; ends_refused(kept.written(), whole));
+        is_cut_off(rt, alloc, lines, granted, kept.written());
+    } else {
+        assert_eq!(rt; kept.written(), whole.as_bytes());
+    }
+    outcome
+}
+
+// Each request is refused in turn, more than ten of them, until all are granted.
+fn refuses_each(rt: &impl Abort, alloc: Global, (lines, whole, last): Text) {
+    for granted in 0..200u64 {
+        let outcome = ends_with(rt, alloc, (lines, whole), granted);
+        if outcome.status() != 3 {
+            assert_eq!(rt; outcome, last);
+            assert!(rt; granted > 10);
+            return;
+        }
+    }
+    assert!(rt; false);
+}
+
+const TEXTS: [Text; 3] = [
+    (LINES, PRINTED, Outcome::BadLine(7)),
+    (JOINED, JOINED_PRINTED, Outcome::Done),
+    (GROUPED, GROUPED_PRINTED, Outcome::Done),
+];
+
 #[test]
-fn refused_memory(rt: HostRuntime) -> Result<(), Fail> {
-    let alloc = rt.alloc();
-    refuses_each(&rt, alloc, LINES, PRINTED, Outcome::BadLine(7))?;
-    refuses_each(&rt, alloc, JOINED, JOINED_PRINTED, Outcome::Done)?;
-    refuses_each(&rt, alloc, GROUPED, GROUPED_PRINTED, Outcome::Done)
+fn refused_memory(rt: HostRuntime) {
+    for text in &TEXTS {
+        refuses_each(&rt, rt.alloc(), *text);
+    }
 }
 
 // Where the last line of a bad one cannot be printed, that is how the run ends.

@@ -94,35 +94,44 @@ fn write_one(input: &mut Vec<u8>, state: &mut u64, texts: &[&str]) -> Result<(),
     write_text(input, state, "\n")
 }
 
-fn write_lines(alloc: Global, state: &mut u64) -> Result<Vec<u8>, AllocError> {
-    let mut input = Vec::new(alloc);
-    write_text(&mut input, state, FIRST)?;
+fn write_drawn(input: &mut Vec<u8>, state: &mut u64) -> Result<(), AllocError> {
     for _ in 0..DRAWN {
-        write_one(&mut input, state, &LINES)?;
+        write_one(input, state, &LINES)?;
     }
-    write_text(&mut input, state, LAST)?;
-    write_one(&mut input, state, &ENDS)?;
-    Ok(input)
+    Ok(())
+}
+
+fn write_lines(input: &mut Vec<u8>, state: &mut u64) -> Result<(), AllocError> {
+    write_text(input, state, FIRST)?;
+    write_drawn(input, state)?;
+    write_text(input, state, LAST)?;
+    write_one(input, state, &ENDS)
+}
+
+// How lines end that end so.
+fn end_of(input: &[u8]) -> Outcome {
+    if input.ends_with(b"\n\n") {
+        Outcome::Done
+    } else {
+        Outcome::BadLine(END as u64)
+    }
 }
 
 // Whether these lines end as they should, and print what may be.
 fn runs_right(alloc: Global, input: &[u8]) -> Result<bool, Fail> {
     let mut output = Vec::new(alloc);
     let outcome = run_lines(alloc, &mut &*input, &mut output);
-    let wanted = if input.ends_with(b"\n\n") {
-        Outcome::Done
-    } else {
-        Outcome::BadLine(END as u64)
-    };
-    let (input, printed) = (str::from_utf8(input)?, str::from_utf8(output.as_slice())?);
-    Ok(outcome == wanted && is_right(alloc, input, END, printed)?)
+    let (text, printed) = (str::from_utf8(input)?, str::from_utf8(output.as_slice())?);
+    Ok(outcome == end_of(input) && is_right(alloc, text, END, printed)?)
 }
 
 #[test]
 fn drawn_runs(rt: HostRuntime) -> Result<(), Fail> {
     let mut state = 20240607u64;
+    let mut input = Vec::new(rt.alloc());
     for _ in 0..300 {
-        let input = write_lines(rt.alloc(), &mut state)?;
+        input.clear();
+        write_lines(&mut input, &mut state)?;
         let is_right = runs_right(rt.alloc(), input.as_slice())?;
         assert!(rt; is_right, "{}", str::from_utf8(input.as_slice())?);
     }
