@@ -1,3 +1,4 @@
+use Rattle.std.proofs.lemmas.Result.{IfOk-from_err}
 use Rattle.std.proofs.Common.{◌≡◌, get_or, sym, ap, ◌∙◌, arith, rules, take, length, ◌++◌}
 use Rattle.std.specs.BTreeMap.{is_at}
 use Rattle.std.proofs.lemmas.List.{take_all}
@@ -193,3 +194,141 @@ returns-in_err-notes-clause-stopped g c =
     let group : Members g.row.Id.Denot = record { ids = c.args.ids.now; sizes = c.args.sizes.now } in
     let rules = rules_by g.Id.Ord.cmp g.B.Ord.cmp (g.R.Ask.may c.args.rules.now) in
     OnErr-given _ (adds-begun rules g.met.B.Ord.total (are_in g.B.Ord.cmp c.args.barred.now.keys) c.args.order.now 0 group (bins_of (with_taken g.B.Ord.cmp c.args.order.now c.args.taken.now.items c.args.bins.now.entries)) [] c.args.progress.now.tests _ tt (omega arith))
+
+pub returns-in_err-notes-clause-placed : goal.returns-in_err-notes-clause-placed
+returns-in_err-notes-clause-placed g c = IfOk-from_err _ _ c.from_residual.ensures.0
+
+pub returns-in_err-notes-clause-back : goal.returns-in_err-notes-clause-back
+returns-in_err-notes-clause-back g c = λ _ b. b
+
+pub returns-in_err-notes-clause-keys : goal.returns-in_err-notes-clause-keys
+returns-in_err-notes-clause-keys g c = refl
+
+pub returns-in_err-notes-clause-stays_within : goal.returns-in_err-notes-clause-stays_within
+returns-in_err-notes-clause-stays_within g c = c.requires.within
+
+pub returns-in_err-notes-clause-journal_grows : goal.returns-in_err-notes-clause-journal_grows
+returns-in_err-notes-clause-journal_grows g c = omega arith
+
+pub returns-in_err-notes-clause-journal_room_stays : goal.returns-in_err-notes-clause-journal_room_stays
+returns-in_err-notes-clause-journal_room_stays g c = refl
+
+pub returns-in_err-reserve-clause-placed : goal.returns-in_err-reserve-clause-placed
+returns-in_err-reserve-clause-placed g c = IfOk-from_err _ _ c.from_residual-in_err-reserve.ensures.0
+
+pub returns-in_err-reserve-clause-back : goal.returns-in_err-reserve-clause-back
+returns-in_err-reserve-clause-back g c = λ _ b. b
+
+pub returns-in_err-reserve-clause-keys : goal.returns-in_err-reserve-clause-keys
+returns-in_err-reserve-clause-keys g c = refl
+
+pub returns-in_err-reserve-clause-stays_within : goal.returns-in_err-reserve-clause-stays_within
+returns-in_err-reserve-clause-stays_within g c = c.requires.within
+
+pub returns-in_err-reserve-clause-journal_grows : goal.returns-in_err-reserve-clause-journal_grows
+returns-in_err-reserve-clause-journal_grows g c = omega arith
+
+pub returns-in_err-reserve-clause-journal_room_stays : goal.returns-in_err-reserve-clause-journal_room_stays
+returns-in_err-reserve-clause-journal_room_stays g c = refl
+
+pub returns-in_err-done-clause-placed : goal.returns-in_err-done-clause-placed
+returns-in_err-done-clause-placed g c = IfOk-from_err _ _ c.from_residual-in_err-done.ensures.0
+
+pub returns-in_err-done-clause-keys : goal.returns-in_err-done-clause-keys
+returns-in_err-done-clause-keys g c = c.in_err-done.ensures.keys ∙ c.take_out.ensures.keys ∙ c.loop-i.invariant.keys
+
+pub returns-in_err-done-clause-stays_within : goal.returns-in_err-done-clause-stays_within
+returns-in_err-done-clause-stays_within g c = omega (arith, c.in_err-done.ensures.as_many, c.take_out.ensures.stays_within)
+
+pub returns-in_err-done-clause-journal_grows : goal.returns-in_err-done-clause-journal_grows
+returns-in_err-done-clause-journal_grows g c = omega (arith, c.loop-i.invariant.journal_len)
+
+pub returns-in_err-done-clause-journal_room_stays : goal.returns-in_err-done-clause-journal_room_stays
+returns-in_err-done-clause-journal_room_stays g c = c.loop-i.invariant.journal_capacity
+
+pub returns-in_err-name_all-clause-placed : goal.returns-in_err-name_all-clause-placed
+returns-in_err-name_all-clause-placed g c = IfOk-from_err _ _ c.from_residual-in_err-name_all.ensures.0
+
+pub returns-in_err-name_all-clause-keys : goal.returns-in_err-name_all-clause-keys
+returns-in_err-name_all-clause-keys g c = c.in_ok-done.ensures.keys ∙ c.take_out.ensures.keys ∙ c.loop-i.invariant.keys
+
+pub returns-in_err-name_all-clause-stays_within : goal.returns-in_err-name_all-clause-stays_within
+returns-in_err-name_all-clause-stays_within g c = omega (arith, c.in_ok-done.ensures.as_many, c.take_out.ensures.stays_within)
+
+pub returns-in_err-name_all-clause-journal_grows : goal.returns-in_err-name_all-clause-journal_grows
+returns-in_err-name_all-clause-journal_grows g c = omega (arith, c.push_reserved.ensures.len, c.loop-i.invariant.journal_len)
+
+pub returns-in_err-name_all-clause-journal_room_stays : goal.returns-in_err-name_all-clause-journal_room_stays
+returns-in_err-name_all-clause-journal_room_stays g c = c.push_reserved.ensures.capacity ∙ c.loop-i.invariant.journal_capacity
+
+pub returns-then-done-clause-stopped : goal.returns-then-done-clause-stopped
+returns-then-done-clause-stopped g c = tt
+
+pub returns-then-done-clause-keys : goal.returns-then-done-clause-keys
+returns-then-done-clause-keys g c = c.in_ok-done.ensures.keys ∙ c.take_out.ensures.keys ∙ c.loop-i.invariant.keys
+
+pub returns-then-done-clause-stays_within : goal.returns-then-done-clause-stays_within
+returns-then-done-clause-stays_within g c = omega (arith, c.in_ok-done.ensures.as_many, c.take_out.ensures.stays_within)
+
+pub returns-then-done-clause-journal_grows : goal.returns-then-done-clause-journal_grows
+returns-then-done-clause-journal_grows g c = omega (arith, c.push_reserved.ensures.len, c.loop-i.invariant.journal_len)
+
+pub returns-then-done-clause-journal_room_stays : goal.returns-then-done-clause-journal_room_stays
+returns-then-done-clause-journal_room_stays g c = c.push_reserved.ensures.capacity ∙ c.loop-i.invariant.journal_capacity
+
+pub returns-clause-stopped : goal.returns-clause-stopped
+returns-clause-stopped g c = tt
+
+pub returns-clause-back : goal.returns-clause-back
+returns-clause-back g c = c.loop-i.invariant.back
+
+pub returns-clause-keys : goal.returns-clause-keys
+returns-clause-keys g c = c.loop-i.invariant.keys
+
+pub returns-clause-stays_within : goal.returns-clause-stays_within
+returns-clause-stays_within g c = c.loop-i.invariant.within
+
+pub returns-clause-journal_grows : goal.returns-clause-journal_grows
+returns-clause-journal_grows g c = omega (arith, c.loop-i.invariant.journal_len)
+
+pub returns-clause-journal_room_stays : goal.returns-clause-journal_room_stays
+returns-clause-journal_room_stays g c = c.loop-i.invariant.journal_capacity
+
+pub push_reserved-requires : goal.push_reserved-requires
+push_reserved-requires g c = c.loop-i.invariant.journal_room
+
+pub take_out-requires-clause-distinct_bins : goal.take_out-requires-clause-distinct_bins
+take_out-requires-clause-distinct_bins g c = c.requires.distinct_bins
+
+pub take_out-requires-clause-in_order : goal.take_out-requires-clause-in_order
+take_out-requires-clause-in_order g c = c.loop-i-test.true
+
+pub take_out-requires-clause-within : goal.take_out-requires-clause-within
+take_out-requires-clause-within g c = c.loop-i.invariant.within
+
+pub try_bin-requires-clause-callable : goal.try_bin-requires-clause-callable
+try_bin-requires-clause-callable g c = c.requires.callable
+
+pub try_bin-requires-clause-distinct_bins : goal.try_bin-requires-clause-distinct_bins
+try_bin-requires-clause-distinct_bins g c = c.requires.distinct_bins
+
+pub try_bin-requires-clause-in_order : goal.try_bin-requires-clause-in_order
+try_bin-requires-clause-in_order g c = c.loop-i-test.true
+
+pub try_bin-requires-clause-no_notes : goal.try_bin-requires-clause-no_notes
+try_bin-requires-clause-no_notes g c = c.loop-i.invariant.no_notes
+
+pub try_bin-requires-clause-no_locations : goal.try_bin-requires-clause-no_locations
+try_bin-requires-clause-no_locations g c = c.loop-i.invariant.no_locations
+
+pub try_bin-requires-clause-note_room : goal.try_bin-requires-clause-note_room
+try_bin-requires-clause-note_room g c = c.loop-i.invariant.note_room
+
+pub try_bin-requires-clause-location_room : goal.try_bin-requires-clause-location_room
+try_bin-requires-clause-location_room g c = c.loop-i.invariant.location_room
+
+pub name_all-requires-clause-ids : goal.name_all-requires-clause-ids
+name_all-requires-clause-ids g c = c.requires.ids
+
+pub name_all-requires-clause-bin_ids : goal.name_all-requires-clause-bin_ids
+name_all-requires-clause-bin_ids g c = c.requires.bin_ids

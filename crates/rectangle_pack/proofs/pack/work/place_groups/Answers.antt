@@ -1,3 +1,4 @@
+use Rattle.std.proofs.lemmas.Result.{IfOk-from_err}
 use Rattle.std.proofs.Common.{◌≡◌, refl, sym, ◌∙◌, get_or, arith, take, ◌++◌, ◌∷◌, [], List, ◌+◌}
 use Rattle.std.specs.Prelude.{Some, map}
 use Rattle.std.specs.Map.{lookup}
@@ -212,3 +213,96 @@ returns-in_err-insert-in-Some-clause-stopped g c =
       within = placed-le rules g.met.B.Ord.total (are_in g.B.Ord.cmp c.in_ok-barred.barred.keys) names group (bins_of (with_taken g.B.Ord.cmp c.args.order.now c.loop-group.taken.items c.loop-group.bins.entries)) placed.0 (bins_of (with_taken g.B.Ord.cmp c.args.order.now c.place_group.new.taken.items c.place_group.new.bins.entries)) placed.1 placed.2;
       added = placed.5;
     }))
+
+pub returns-in_err-reserve-clause-packed : goal.returns-in_err-reserve-clause-packed
+returns-in_err-reserve-clause-packed g c = IfOk-from_err _ _ c.from_residual.ensures.0
+
+pub returns-in_err-reserve-clause-back : goal.returns-in_err-reserve-clause-back
+returns-in_err-reserve-clause-back g c start b = rw (c.in_err-reserve.ensures.items, c.requires.none_taken) b
+
+pub returns-in_err-reserve-clause-keys : goal.returns-in_err-reserve-clause-keys
+returns-in_err-reserve-clause-keys g c = refl
+
+pub returns-in_err-reserve-clause-stays_within : goal.returns-in_err-reserve-clause-stays_within
+returns-in_err-reserve-clause-stays_within g c = rw (c.in_err-reserve.ensures.items, c.requires.none_taken) (omega arith)
+
+pub returns-in_err-reserve-2-clause-packed : goal.returns-in_err-reserve-2-clause-packed
+returns-in_err-reserve-2-clause-packed g c = IfOk-from_err _ _ c.from_residual-in_err-reserve-2.ensures.0
+
+pub returns-in_err-reserve-2-clause-back : goal.returns-in_err-reserve-2-clause-back
+returns-in_err-reserve-2-clause-back g c start b = rw (c.in_ok-reserve.ensures.items, c.requires.none_taken, c.in_err-reserve-2.ensures.items) b
+
+pub returns-in_err-reserve-2-clause-keys : goal.returns-in_err-reserve-2-clause-keys
+returns-in_err-reserve-2-clause-keys g c = refl
+
+pub returns-in_err-reserve-2-clause-stays_within : goal.returns-in_err-reserve-2-clause-stays_within
+returns-in_err-reserve-2-clause-stays_within g c = rw (c.in_ok-reserve.ensures.items, c.requires.none_taken) (omega arith)
+
+pub returns-in_err-barred-clause-packed : goal.returns-in_err-barred-clause-packed
+returns-in_err-barred-clause-packed g c = IfOk-from_err _ _ c.from_residual-in_err-barred.ensures.0
+
+pub returns-in_err-barred-clause-back : goal.returns-in_err-barred-clause-back
+returns-in_err-barred-clause-back g c = c.loop-group.invariant.back
+
+pub returns-in_err-barred-clause-keys : goal.returns-in_err-barred-clause-keys
+returns-in_err-barred-clause-keys g c = c.loop-group.invariant.keys
+
+pub returns-in_err-barred-clause-stays_within : goal.returns-in_err-barred-clause-stays_within
+returns-in_err-barred-clause-stays_within g c = c.loop-group.invariant.within
+
+pub returns-in_err-place_group-clause-packed : goal.returns-in_err-place_group-clause-packed
+returns-in_err-place_group-clause-packed g c = IfOk-from_err _ _ c.from_residual-in_err-place_group.ensures.0
+
+pub returns-in_err-place_group-clause-keys : goal.returns-in_err-place_group-clause-keys
+returns-in_err-place_group-clause-keys g c = c.in_err-place_group.ensures.keys ∙ c.loop-group.invariant.keys
+
+pub returns-in_err-place_group-clause-stays_within : goal.returns-in_err-place_group-clause-stays_within
+returns-in_err-place_group-clause-stays_within g c = c.in_err-place_group.ensures.stays_within
+
+pub returns-in-None-clause-stopped : goal.returns-in-None-clause-stopped
+returns-in-None-clause-stopped g c = tt
+
+pub returns-in-None-clause-keys : goal.returns-in-None-clause-keys
+returns-in-None-clause-keys g c = c.in_ok-place_group.ensures.keys ∙ c.loop-group.invariant.keys
+
+pub returns-in-None-clause-stays_within : goal.returns-in-None-clause-stays_within
+returns-in-None-clause-stays_within g c = c.in_ok-place_group.ensures.stays_within
+
+pub returns-in_err-insert-in-Some-clause-packed : goal.returns-in_err-insert-in-Some-clause-packed
+returns-in_err-insert-in-Some-clause-packed g c = IfOk-from_err _ _ c.from_residual-in_err-insert-in-Some.ensures.0
+
+pub returns-in_err-insert-in-Some-clause-keys : goal.returns-in_err-insert-in-Some-clause-keys
+returns-in_err-insert-in-Some-clause-keys g c = c.in_ok-place_group.ensures.keys ∙ c.loop-group.invariant.keys
+
+pub returns-in_err-insert-in-Some-clause-stays_within : goal.returns-in_err-insert-in-Some-clause-stays_within
+returns-in_err-insert-in-Some-clause-stays_within g c = c.in_ok-place_group.ensures.stays_within
+
+pub returns-clause-stopped : goal.returns-clause-stopped
+returns-clause-stopped g c = tt
+
+pub returns-clause-back : goal.returns-clause-back
+returns-clause-back g c = c.loop-group.invariant.back
+
+pub returns-clause-keys : goal.returns-clause-keys
+returns-clause-keys g c = c.loop-group.invariant.keys
+
+pub returns-clause-stays_within : goal.returns-clause-stays_within
+returns-clause-stays_within g c = c.loop-group.invariant.within
+
+pub place_group-requires-clause-ids : goal.place_group-requires-clause-ids
+place_group-requires-clause-ids g c = c.requires.ids
+
+pub place_group-requires-clause-bin_ids : goal.place_group-requires-clause-bin_ids
+place_group-requires-clause-bin_ids g c = c.requires.bin_ids
+
+pub place_group-requires-clause-callable : goal.place_group-requires-clause-callable
+place_group-requires-clause-callable g c = c.requires.callable
+
+pub place_group-requires-clause-distinct_bins : goal.place_group-requires-clause-distinct_bins
+place_group-requires-clause-distinct_bins g c = c.requires.distinct_bins
+
+pub place_group-requires-clause-within : goal.place_group-requires-clause-within
+place_group-requires-clause-within g c = c.loop-group.invariant.within
+
+pub place_group-requires-clause-journal_room : goal.place_group-requires-clause-journal_room
+place_group-requires-clause-journal_room g c = omega (arith, c.loop-group.invariant.room, c.loop-group-test.true)
