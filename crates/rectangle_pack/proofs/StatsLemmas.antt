@@ -1,15 +1,16 @@
--- What free sections, and the boxes that stand in a bin, add up to.
-use Rattle.std.proofs.Common.{◌≡◌, ℕ, suc, ◌+◌, ◌<◌, ◌≤◌, List, ◌∷◌, ◌++◌, Bool, true, length, take, drop, ap, sym, subst, ◌∙◌, arith, get_or}
+-- What the boxes that stand in a bin become with one record more, and what they add up to with the free sections.
+use Rattle.std.proofs.Common.{◌≡◌, ℕ, suc, ◌+◌, ◌<◌, ◌≤◌, List, [], ◌∷◌, ◌++◌, Bool, true, cond, length, take, drop, ap, sym, subst, ◌∙◌, arith, get_or, append_assoc}
 use Rattle.std.specs.Prelude.{Some, filter}
 use Rattle.std.specs.declared.cmp.Ordering.{Ordering}
 use Rattle.std.specs.Ordering.{is_eq}
 use Rattle.std.specs.Map.{lookup}
 use Rattle.std.specs.BTreeMap.{is_at}
 use Rattle.std.proofs.Math.Seq.{split_at}
-use Rattle.std.proofs.lemmas.List.{length-take, length-map}
+use Rattle.std.proofs.lemmas.List.{length-append, length-take, length-map, take_more}
+use Rattle.std.proofs.lemmas.List.Elements.{filter-append}
 use Rattle.std.proofs.lemmas.List.Sums.{sum_by-cons, sum_by-append, length-filter, count_by-le-length}
 use Rattle.rectangle_pack.specs.declared.session.command.Outstanding.{Outstanding}
-use Rattle.rectangle_pack.specs.Boxes.{Cuboid, volume_of}
+use Rattle.rectangle_pack.specs.Boxes.{Cuboid, has_cells, volume_of}
 use Rattle.rectangle_pack.specs.Bins.{Held}
 use Rattle.rectangle_pack.specs.Counting.{total_volume}
 use Rattle.rectangle_pack.specs.Packing.{bins_of}
@@ -46,3 +47,28 @@ standing-before {Id} {B} bin_cmp records i r q within is here =
       omega (arith, ap total_volume parts, total_volume-append before (r.location ∷ after), sum_by-cons (λ (b : Cuboid). volume_of b.whd) r.location after),
       omega (arith, length-map (filter Here first) (λ (x : Outstanding Id B). x.location), length-filter Here first, count_by-le-length Here first, length-take i records),
     )
+
+-- one record more, which stands in the bin or does not
+module _ {Id B : Type 0} (bin_cmp : B → B → Ordering) (records : List (Outstanding Id B)) (i : ℕ) (r : Outstanding Id B) (q : B) (b : Bool) (within : i < length records) (is : r ≡ get_or records i r) (here : is_eq (bin_cmp r.bin q) ≡ b) where
+  abbrev first : List Cuboid
+  first = standing_in bin_cmp (take i records) q
+
+  abbrev box : List Cuboid
+  box = cond b (r.location ∷ []) []
+
+  standing_in-more : standing_in bin_cmp (take (i + 1) records) q ≡ first ++ box
+  standing_in-more =
+      ap (λ rs. standing_in bin_cmp rs q) (take_more records i r within ∙ ap (λ (x : Outstanding Id B). take i records ++ x ∷ []) (sym is))
+      ∙ standing_in-record bin_cmp (take i records) r [] q b here
+
+  -- its box is gathered after those before, if it has cells
+  pub gathered-more : (start boxes new : List Cuboid) → boxes ≡ start ++ filter has_cells first → new ≡ boxes ++ filter has_cells box
+      → new ≡ start ++ filter has_cells (standing_in bin_cmp (take (i + 1) records) q)
+  gathered-more start boxes new before now =
+      now ∙ ap (λ l. l ++ filter has_cells box) before ∙ append_assoc start (filter has_cells first) (filter has_cells box)
+      ∙ ap (λ l. start ++ l) (sym (filter-append has_cells first box) ∙ ap (filter has_cells) (sym standing_in-more))
+
+  -- it adds its volume, and one placement
+  pub added-more : (total_volume (standing_in bin_cmp (take (i + 1) records) q) ≡ total_volume first + total_volume box)
+      × (length (standing_in bin_cmp (take (i + 1) records) q) ≡ length first + length box)
+  added-more = (ap total_volume standing_in-more ∙ total_volume-append first box, ap length standing_in-more ∙ length-append first box)

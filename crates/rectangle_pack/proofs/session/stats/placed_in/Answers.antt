@@ -1,5 +1,9 @@
-use Rattle.std.proofs.Common.{sym, ◌∙◌, arith}
-use Rattle.rectangle_pack.proofs.StatsLemmas.{standing-before}
+use Rattle.std.proofs.Common.{◌≡◌, refl, ap, sym, ◌∙◌, arith, length, take, true, false}
+use Rattle.std.proofs.Math.Seq.{take-length}
+use Rattle.rectangle_pack.specs.Counting.{total_volume}
+use Rattle.rectangle_pack.specs.Session.{standing_in}
+use Rattle.rectangle_pack.proofs.StatsLemmas.{standing-before, added-more}
+use Rattle.rectangle_pack.proofs.session.stats.placed_in.Goals.{then-eq, else-eq}
 use Rattle.rectangle_pack.proofs.session.stats.placed_in.Goals as goal
 
 pub overflow_add-volume : goal.overflow_add-volume
@@ -13,3 +17,49 @@ overflow_add-count g c =
     let here = sym (g.met.B.Ord.matches_eq _ _) ∙ sym c.eq.ensures ∙ c.if-eq.true in
     let room = standing-before g.B.Ord.cmp c.args.outstanding.now c.loop-placement.placement-index c.placement-item.result c.args.bin.now c.loop-placement-test.true c.placement-item.is here in
     omega (arith, room.1, c.loop-placement.invariant.count)
+
+pub loop-placement-init : goal.loop-placement-init
+loop-placement-init g c = record { volume = refl; count = refl }
+
+pub offset_bounds-outstanding-placement-index : goal.offset_bounds-outstanding-placement-index
+offset_bounds-outstanding-placement-index g c = c.loop-placement.auto.placement-index-end
+
+pub bounds-outstanding-placement-index : goal.bounds-outstanding-placement-index
+bounds-outstanding-placement-index g c = c.loop-placement-test.true
+
+pub whd-requires : goal.whd-requires
+whd-requires g c = tt
+
+pub volume-volume-requires : goal.volume-volume-requires
+volume-volume-requires g c = tt
+
+pub loop-placement-smaller : goal.loop-placement-smaller
+loop-placement-smaller g c = omega (arith, c.loop-placement-test.true)
+
+pub loop-placement-preserved : goal.loop-placement-preserved
+loop-placement-preserved g c =
+    let before = c.loop-placement.invariant in
+    let test = sym (g.met.B.Ord.matches_eq _ _) ∙ sym c.eq.ensures in
+    elim c.if-eq.branch [
+      | then-eq w ↦
+          let more = added-more g.B.Ord.cmp c.args.outstanding.now c.loop-placement.placement-index c.placement-item.result c.args.bin.now true c.loop-placement-test.true c.placement-item.is (test ∙ w.if-eq.true) in
+          record {
+            volume = rw (w.volume-is, w.volume-volume.ensures, w.whd.ensures) (omega (arith, more.0, before.volume));
+            count = rw w.count-is (omega (arith, more.1, before.count));
+          }
+      | else-eq w ↦
+          let more = added-more g.B.Ord.cmp c.args.outstanding.now c.loop-placement.placement-index c.placement-item.result c.args.bin.now false c.loop-placement-test.true c.placement-item.is (test ∙ w.if-eq.false) in
+          record {
+            volume = rw w.volume-is (omega (arith, more.0, before.volume));
+            count = rw w.count-is (omega (arith, more.1, before.count));
+          }
+    ]
+
+pub returns : goal.returns
+returns g c =
+    let records = c.args.outstanding.now in
+    let all : take c.loop-placement.placement-index records ≡ records = ap (λ n. take n records) (omega (arith, c.loop-placement.auto.placement-index-end, c.loop-placement-test.false)) ∙ take-length records in
+    record {
+      volume = c.loop-placement.invariant.volume ∙ ap (λ rs. total_volume (standing_in g.B.Ord.cmp rs c.args.bin.now)) all;
+      count = c.loop-placement.invariant.count ∙ ap (λ rs. length (standing_in g.B.Ord.cmp rs c.args.bin.now)) all;
+    }
