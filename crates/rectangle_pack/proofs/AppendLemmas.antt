@@ -5,13 +5,16 @@ use Rattle.std.specs.Option.{option_map}
 use Rattle.std.specs.List.{sum_by}
 use Rattle.std.specs.declared.cmp.Ordering.{Ordering}
 use Rattle.std.specs.declared.vec.Vec.{Vec}
-use Rattle.std.specs.Cmp.{IsTotalOrder}
+use Rattle.std.specs.Cmp.{IsTotalOrder, Equal-is}
+use Rattle.std.specs.Map.{lookup}
+use Rattle.std.specs.BTreeMap.{is_at}
 use Rattle.std.specs.Ordering.{is_eq}
 use Rattle.std.proofs.lemmas.Cmp.{eq_by_cmp_equiv}
 use Rattle.std.proofs.lemmas.List.{append-nil}
 use Rattle.std.proofs.lemmas.List.Sums.{count_by_more_yes, count_by_more_no, sum_by-take-le, sum_by-cons}
 use Rattle.std.proofs.lemmas.List.Elements.{All-append, All-cons, All-head, All-nil, All-tail, All-weaker, All-contains}
 use Rattle.rectangle_pack.specs.private.Lists.{times, items_of, AreAppended, IsAdded}
+use Rattle.rectangle_pack.proofs.MapsLemmas.{lookup-equal}
 
 module _ {K : Type 0} {cmp : K → K → Ordering} (o : IsTotalOrder cmp) (keys : List K) (i : ℕ) (k q : K) (inside : i < length keys) (at : k ≡ get_or keys i k) where
   -- the next key counts where it is equal
@@ -21,6 +24,23 @@ module _ {K : Type 0} {cmp : K → K → Ordering} (o : IsTotalOrder cmp) (keys 
   -- and does not where it is not
   pub times-more_other : is_eq (cmp k q) ≡ false → times cmp (take (i + 1) keys) q ≡ times cmp (take i keys) q
   times-more_other other = count_by_more_no (λ x. is_eq (cmp q x)) keys i k inside (ap (λ x. is_eq (cmp q x)) (sym at) ∙ (eq_by_cmp_equiv o).symm q k ∙ other)
+
+  -- where none counts up to the next key, it is not equal
+  pub times-more_none : times cmp (take (i + 1) keys) q ≡ 0 → (times cmp (take i keys) q ≡ 0) × (is_eq (cmp k q) ≡ false)
+  times-more_none none = by (is_eq (cmp k q)) refl
+    where
+      by : (b : Bool) → is_eq (cmp k q) ≡ b → (times cmp (take i keys) q ≡ 0) × (is_eq (cmp k q) ≡ false)
+      by true e = absurd (omega (arith, times-more_same e, none))
+      by false e = (sym (times-more_other e) ∙ none, e)
+
+  -- the next key is known now, and what was found at the others stays
+  pub known-more : {X : Type 0} (old new : List (K × X)) → IsSome (lookup (is_at (cmp k)) new) → (is_eq (cmp k q) ≡ false → lookup (is_at (cmp q)) new ≡ lookup (is_at (cmp q)) old)
+      → (0 < times cmp (take i keys) q → IsSome (lookup (is_at (cmp q)) old)) → 0 < times cmp (take (i + 1) keys) q → IsSome (lookup (is_at (cmp q)) new)
+  known-more old new here others was some = by (is_eq (cmp k q)) refl
+    where
+      by : (b : Bool) → is_eq (cmp k q) ≡ b → IsSome (lookup (is_at (cmp q)) new)
+      by true e = ap is_some (sym (lookup-equal o k q ((Equal-is _).0 e) new)) ∙ here
+      by false e = ap is_some (others e) ∙ was (omega (arith, times-more_other e, some))
 
   -- what counts up to the next key counts in the whole
   pub times-more_le : times cmp (take (i + 1) keys) q ≤ times cmp keys q
