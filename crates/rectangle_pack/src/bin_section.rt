@@ -13,6 +13,9 @@ ghost use Rattle.rectangle_pack.specs.Counting.{Tiles, AreAllApart, Cover, HaveV
 ghost use Rattle.rectangle_pack.specs.CutTrees.{IsFromCuts};
 ghost use Rattle.rectangle_pack.specs.Pushes.{IsFirstSharing};
 
+mod cutting;
+
+use crate::bin_section::cutting::pieces_round;
 use crate::packed_location::PackedLocation;
 use crate::rect_to_insert::RectToInsert;
 use crate::width_height_depth::WidthHeightDepth;
@@ -263,7 +266,6 @@ impl BinSection {
     }
 
     // The pieces right, above and behind, for each of the six orders of cutting.
-    #[tactic(auto, unfolding(crate::specs::Boxes::extent, crate::specs::Boxes::start, crate::specs::Cuts::piece_start, crate::specs::Cuts::piece_extent, crate::specs::Cuts::piece, crate::specs::Cuts::pieces, crate::specs::Cuts::cuts))]
     fn cuts(&self, incoming: &RectToInsert) -> [[BinSection; 3]; 6]
         requires ends { FitsU32 self.now }
         requires holds { Holds self.now incoming.now }
@@ -271,19 +273,16 @@ impl BinSection {
     {
         let (w, h, d) = (incoming.width(), incoming.height(), incoming.depth());
         let (width, height, depth) = (self.whd.width(), self.whd.height(), self.whd.depth());
-        let (x, y, z) = (self.x, self.y, self.z);
-        let (end_x, end_y, end_z) = (x + w, y + h, z + d);
-        let (rest_w, rest_h, rest_d) = (width - w, height - h, depth - d);
-        let right = |height, depth| section(end_x, y, z, rest_w, height, depth);
-        let above = |width, depth| section(x, end_y, z, width, rest_h, depth);
-        let behind = |width, height| section(x, y, end_z, width, height, rest_d);
+        let corner = (self.x, self.y, self.z);
+        let end = (self.x + w, self.y + h, self.z + d);
+        let rest = (width - w, height - h, depth - d);
         [
-            [right(height, depth), above(w, depth), behind(w, h)],
-            [right(h, depth), above(width, depth), behind(w, h)],
-            [right(height, depth), above(w, d), behind(w, height)],
-            [right(height, d), above(w, d), behind(width, height)],
-            [right(h, d), above(width, depth), behind(width, h)],
-            [right(h, d), above(width, d), behind(width, height)],
+            pieces_round(corner, end, rest, (height, depth), (w, depth), (w, h)),
+            pieces_round(corner, end, rest, (h, depth), (width, depth), (w, h)),
+            pieces_round(corner, end, rest, (height, depth), (w, d), (w, height)),
+            pieces_round(corner, end, rest, (height, d), (w, d), (width, height)),
+            pieces_round(corner, end, rest, (h, d), (width, depth), (width, h)),
+            pieces_round(corner, end, rest, (h, d), (width, d), (width, height)),
         ]
     }
 }
@@ -295,13 +294,6 @@ fn spans_meet(start: u32, length: u32, other_start: u32, other_length: u32) -> b
     let first = u64::from(start.max(other_start));
     first < u64::from(start) + u64::from(length)
         && first < u64::from(other_start) + u64::from(other_length)
-}
-
-fn section(x: u32, y: u32, z: u32, width: u32, height: u32, depth: u32) -> BinSection
-    ensures { let whd : Size = record { width = width; height = height; depth = depth } in
-        result ≡ record { x = x; y = y; z = z; whd = whd } }
-{
-    BinSection::new(x, y, z, WidthHeightDepth::of(width, height, depth))
 }
 
 fn sizes(sections: &[BinSection; 3]) -> [WidthHeightDepth; 3]
