@@ -1,3 +1,6 @@
+use Rattle.std.proofs.Common.{arith, length, ap}
+use Rattle.std.proofs.lemmas.Result.{IfOk-from_err}
+use Rattle.std.proofs.lemmas.Map.Iter.{rest_more}
 use Rattle.std.proofs.Common.{◌≡◌, ℕ, List, subst, sym, ◌∙◌, true}
 use Rattle.std.specs.Prelude.{map, IsSome}
 use Rattle.std.specs.Map.{lookup, keys_of}
@@ -38,3 +41,33 @@ returns g c =
           (found-zip g.met.B.Ord.total (λ (o : ℕ × g.row.B.Denot). o.1) _ (λ b o r. r.0) bins c.loop-id.order.items (rw e at c.loop-id.invariant));
       distinct = subst (λ (ks : List g.row.B.Denot). IsDistinct (eq_by_cmp cmp) ks) (sym (keys-bins bins)) (IsDistinct-from_sorted cmp (keys_of bins) c.len.ensures.ordered);
     }
+
+pub returns-in_err-order : goal.returns-in_err-order
+returns-in_err-order g c =
+    let r = c.from_residual.result in
+    let e = c.from_residual.ensures.0 in
+    record { order = IfOk-from_err r _ e; found = IfOk-from_err r _ e; distinct = IfOk-from_err r _ e }
+
+pub returns-in_err-clone : goal.returns-in_err-clone
+returns-in_err-clone g c =
+    let r = c.from_residual-in_err-clone.result in
+    let e = c.from_residual-in_err-clone.ensures.0 in
+    record { order = IfOk-from_err r _ e; found = IfOk-from_err r _ e; distinct = IfOk-from_err r _ e }
+
+pub returns-in_err-push : goal.returns-in_err-push
+returns-in_err-push g c =
+    let r = c.from_residual-in_err-push.result in
+    let e = c.from_residual-in_err-push.ensures.0 in
+    record { order = IfOk-from_err r _ e; found = IfOk-from_err r _ e; distinct = IfOk-from_err r _ e }
+
+pub loop-id-init : goal.loop-id-init
+loop-id-init g c = rw c.in_ok-order.ensures.items tt
+
+pub next-requires : goal.next-requires
+next-requires g c = tt
+
+pub rate-requires : goal.rate-requires
+rate-requires g c = c.requires.callable
+
+pub loop-id-smaller : goal.loop-id-smaller
+loop-id-smaller g c = omega (arith, ap length (rest_more deref_pair _ _ _ _ c.in-Some.is c.next.ensures.steps))

@@ -1,3 +1,7 @@
+use Rattle.std.proofs.Common.{◌≤◌, arith, length-append}
+use Rattle.std.proofs.lemmas.List.Elements.{All-nil}
+use Rattle.std.proofs.lemmas.Result.{IfOk-from_err}
+use Rattle.std.proofs.lemmas.Map.Iter.{rest_more}
 use Rattle.std.proofs.Common.{◌≡◌, ℕ, ◌<◌, ◌++◌, drop, length, refl, ap, ◌∙◌}
 use Rattle.std.proofs.Math.Seq.{drop-append_seam}
 use Rattle.std.specs.Prelude.{map, Some}
@@ -96,3 +100,50 @@ returns g c =
       counted = sum_by-IsPermutation (entries_at cmp lists) _ _ c.sort_falling.ensures.permutation
           ∙ counted-zip cmp _ lists entries unsorted each (lookup-each g.met.K.Ord.total c.args.lists.now c.len.ensures.ordered);
     }
+
+pub returns-in_err-order : goal.returns-in_err-order
+returns-in_err-order g c =
+    let r = c.from_residual.result in
+    let e = c.from_residual.ensures.0 in
+    record { order = IfOk-from_err r _ e; listed = IfOk-from_err r _ e; sizes = IfOk-from_err r _ e; distinct = IfOk-from_err r _ e; counted = IfOk-from_err r _ e }
+
+pub returns-in_err-add_sizes : goal.returns-in_err-add_sizes
+returns-in_err-add_sizes g c =
+    let r = c.from_residual-in_err-add_sizes.result in
+    let e = c.from_residual-in_err-add_sizes.ensures.0 in
+    record { order = IfOk-from_err r _ e; listed = IfOk-from_err r _ e; sizes = IfOk-from_err r _ e; distinct = IfOk-from_err r _ e; counted = IfOk-from_err r _ e }
+
+pub returns-in_err-push : goal.returns-in_err-push
+returns-in_err-push g c =
+    let r = c.from_residual-in_err-push.result in
+    let e = c.from_residual-in_err-push.ensures.0 in
+    record { order = IfOk-from_err r _ e; listed = IfOk-from_err r _ e; sizes = IfOk-from_err r _ e; distinct = IfOk-from_err r _ e; counted = IfOk-from_err r _ e }
+
+pub loop-group-init : goal.loop-group-init
+loop-group-init g c =
+    let none = c.in_ok-order.ensures.items in
+    record { keyed = rw none tt; lent = rw none tt; sized = rw none (All-nil _) }
+
+pub next-requires : goal.next-requires
+next-requires g c = tt
+
+pub group_key-key-requires : goal.group_key-key-requires
+group_key-key-requires g c = c.requires.callable
+
+pub slice_bounds-group_key-count : goal.slice_bounds-group_key-count
+slice_bounds-group_key-count g c =
+    let old = c.loop-group.sizes.items in
+    let added = c.in_ok-add_sizes.ensures.0 in
+    omega (arith, ap length (c.deref.ensures.value ∙ c.in_ok-add_sizes.ensures.2), length-append old added, c.len-start.ensures, c.loop-group.sizes.ok.0)
+
+pub loop-group-smaller : goal.loop-group-smaller
+loop-group-smaller g c = omega (arith, ap length (rest_more deref_pair _ _ _ _ c.in-Some.is c.next.ensures.steps))
+
+pub slice_bounds-group_key-start : goal.slice_bounds-group_key-start
+slice_bounds-group_key-start g c = slice_bounds-group_key-count g c
+
+pub slice_bounds-group_key-end : goal.slice_bounds-group_key-end
+slice_bounds-group_key-end g c = let all : length c.deref.result.now ≤ length c.deref.result.now = omega arith in all
+
+pub offset_bounds-deref-start : goal.offset_bounds-deref-start
+offset_bounds-deref-start g c = omega (arith, c.deref.type_inv.1, slice_bounds-group_key-count g c)
