@@ -1,3 +1,5 @@
+use Rattle.std.proofs.lemmas.Result.{IfOk-from_err}
+use Rattle.rectangle_pack.proofs.BoundLemmas.{OnErr-given}
 use Rattle.std.proofs.Common.{◌≡◌, ◌<◌, refl, sym, ◌∙◌, ap, arith}
 use Rattle.std.specs.Prelude.{IsSome, length, vec_len}
 use Rattle.std.specs.Map.{lookup}
@@ -81,3 +83,24 @@ returns-in-Ok-clause-ok g c =
       named_groups = lists-added equal _ Grouped named keys is members c.in_ok-members.ensures.clones old new (on_ok _ c.add_each.result fine c.add_each.ensures.named);
       other_groups = lists-other _ Grouped named keys is old new (on_ok _ c.add_each.result fine c.add_each.ensures.others);
     })
+
+pub returns-in_err-keys : goal.returns-in_err-keys
+returns-in_err-keys g c = record { ok = IfOk-from_err c.from_residual.result _ c.from_residual.ensures.0; err = OnErr-given c.from_residual.result refl }
+
+pub returns-in_err-members : goal.returns-in_err-members
+returns-in_err-members g c = record { ok = IfOk-from_err c.from_residual-in_err-members.result _ c.from_residual-in_err-members.ensures.0; err = OnErr-given c.from_residual-in_err-members.result refl }
+
+pub clones-requires : goal.clones-requires
+clones-requires g c = record { ids = c.requires.ids }
+
+pub add_each-requires-clause-enough : goal.add_each-requires-clause-enough
+add_each-requires-clause-enough g c = c.in_ok-members.ensures.count ∙ c.len.ensures ∙ c.in_ok-keys.keys.ok.0 ∙ ap length (sym c.as_slice.ensures.value)
+
+pub returns-then-is_err-clause-ok : goal.returns-then-is_err-clause-ok
+returns-then-is_err-clause-ok g c = tt
+
+pub returns-clause-ok : goal.returns-clause-ok
+returns-clause-ok g c = tt
+
+pub returns-in-Ok-clause-err : goal.returns-in-Ok-clause-err
+returns-in-Ok-clause-err g c = tt
