@@ -1,4 +1,5 @@
-use Rattle.std.proofs.Common.{ℕ, refl, sym, ◌∙◌, arith}
+use Rattle.std.specs.Result.{is_ok}
+use Rattle.std.proofs.Common.{ℕ, length, refl, ap, sym, ◌∙◌, arith}
 use Rattle.rectangle_pack.specs.Packing.{bins_of}
 use Rattle.rectangle_pack.specs.PackAnswers.{AreCounted}
 use Rattle.rectangle_pack.proofs.BoundLemmas.{AreCounted-added, counted-none}
@@ -41,3 +42,54 @@ returns-clause-answer g c =
           (p.0, AreCounted-added all old p.0 c.new-progress.result.tests c.pack_noted-packed.new.progress.tests c.args.tests.now _ c.new-progress.ensures.tests p.1 c.add_all.ensures)
     ] in
     (c.undo_all.ensures old c.pack_noted-packed.ensures.back, counted)
+
+pub count-counted-requires : goal.count-counted-requires
+count-counted-requires g c = tt
+
+pub add_all-requires : goal.add_all-requires
+add_all-requires g c = tt
+
+pub bins_to_try-requires : goal.bins_to_try-requires
+bins_to_try-requires g c = record { bin_ids = c.requires.bin_ids; callable = c.requires.callable }
+
+pub last_placements-last-requires : goal.last_placements-last-requires
+last_placements-last-requires g c = record { ids = c.requires.ids; bin_ids = c.requires.bin_ids }
+
+pub undo_all-requires : goal.undo_all-requires
+undo_all-requires g c = (bins_of c.args.target_bins.now.entries, c.pack_noted-packed.ensures.back)
+
+pub returns-in_default-clause-no_groups : goal.returns-in_default-clause-no_groups
+returns-in_default-clause-no_groups g c = λ none. absurd (omega (arith, c.in_default.ensures.stopped, ap length none))
+
+pub returns-in-Ok-false-clause-no_groups : goal.returns-in-Ok-false-clause-no_groups
+returns-in-Ok-false-clause-no_groups g c = λ none. absurd (
+    let packed = (c.pack_noted-packed.ensures.no_groups none).0 in
+    let is = c.in-Ok-false.is in
+    let not = c.in-Ok-false.field-0-test in cc
+    )
+
+pub returns-in-Ok-last-clause-no_groups : goal.returns-in-Ok-last-clause-no_groups
+returns-in-Ok-last-clause-no_groups g c = λ none. refl
+
+pub returns-clause-no_groups : goal.returns-clause-no_groups
+returns-clause-no_groups g c = λ none.
+    let packed = c.pack_noted-packed.ensures.no_groups none in
+    elim c.match-packed.branch [
+      | in-Ok-true w ↦
+          let fine = w.last_placements-last.ensures.no_placements (w.as_slice-in-Ok-true.ensures.value ∙ packed.1) in
+          ap is_ok (sym c.in-Err-last.is ∙ w.last-is) ∙ fine
+      | in-Err w ↦ absurd (let done = packed.0 in let is = w.in-Err.is in cc)
+    ]
+
+pub pack_noted-packed-requires : goal.pack_noted-packed-requires
+pack_noted-packed-requires g c =
+    record {
+      ids = c.requires.ids;
+      bin_ids = c.requires.bin_ids;
+      callable = c.requires.callable;
+      order = rw c.as_slice.ensures.value c.in-Ok.ensures.order;
+      found = rw c.as_slice.ensures.value c.in-Ok.ensures.found;
+      distinct = c.in-Ok.ensures.distinct;
+      no_placements = c.new-progress.ensures.placements;
+      no_journal = c.new-progress.ensures.journal;
+    }

@@ -1,3 +1,6 @@
+use Rattle.std.proofs.Common.{arith}
+use Rattle.std.proofs.Math.Seq.{take-length}
+use Rattle.std.proofs.lemmas.Result.{IfOk-from_err}
 use Rattle.std.proofs.Common.{◌≡◌, ◌||◌, Bool, false, refl, sym, ◌∙◌, ap, take, ◌+◌}
 use Rattle.std.specs.Prelude.{unwrap_or}
 use Rattle.std.specs.Option.{option_map, option_copied}
@@ -28,3 +31,24 @@ loop-partner-preserved g c = λ id.
           let none : t p ≡ false = ap (λ f. unwrap_or (option_map (λ b. is_at (g.B.Ord.cmp id) b.now) f) false) (sym c.get.ensures.value ∙ ap option_copied w.in_default.is) in
           ap (λ s. are_in g.B.Ord.cmp s.keys id) w.barred-is ∙ before ∙ sym (or-none (list_any t (take i c.args.partners.now)) (t p) none) ∙ sym more
     ]
+
+pub loop-partner-init : goal.loop-partner-init
+loop-partner-init g c = λ id. rw c.new-barred.ensures.empty refl
+
+pub offset_bounds-partners-partner-index : goal.offset_bounds-partners-partner-index
+offset_bounds-partners-partner-index g c = c.loop-partner.auto.partner-index-end
+
+pub bounds-partners-partner-index : goal.bounds-partners-partner-index
+bounds-partners-partner-index g c = c.loop-partner-test.true
+
+pub returns-in_err-insert : goal.returns-in_err-insert
+returns-in_err-insert g c = IfOk-from_err c.from_residual.result _ c.from_residual.ensures.0
+
+pub loop-partner-smaller : goal.loop-partner-smaller
+loop-partner-smaller g c = omega (arith, c.loop-partner-test.true)
+
+pub returns : goal.returns
+returns g c = λ id.
+    let partners = c.args.partners.now in
+    let all : take c.loop-partner.partner-index partners ≡ partners = ap (λ n. take n partners) (omega (arith, c.loop-partner.auto.partner-index-end, c.loop-partner-test.false)) ∙ take-length partners in
+    c.loop-partner.invariant id ∙ ap (list_any (λ p. went_to g.K.Ord.cmp g.B.Ord.cmp c.args.homes.now.entries p id)) all
