@@ -1,12 +1,25 @@
 //! Joins in sessions, while every request is refused.
 
-use super::plans::session_after;
 use super::{End, takes_none};
+use crate::refusing::Refusing;
 use crate::session::releases::{BOTH_RELEASED, JOINED, TWO_RELEASES};
-use crate::session::{TestSession, stands};
+use crate::session::{Step, TestSession, call, command, stands};
 use rectangle_pack::SessionError;
+use std::alloc::Global;
 use std::process::Abort;
 use std::test::Fail;
+
+// A session in which these steps came out.
+fn session_after<'a>(alloc: &'a Refusing<Global>, steps: &[Step]) -> Option<TestSession<'a>> {
+    let mut session = TestSession::new(alloc, 0);
+    for step in steps {
+        let command = command(alloc, &step.order).ok()?;
+        if call(&mut session, &command) != step.reply {
+            return None;
+        }
+    }
+    Some(session)
+}
 
 // Nothing is joined in a bin that is not there.
 fn joins_nothing(rt: &impl Abort, session: &mut TestSession<'_>) {
