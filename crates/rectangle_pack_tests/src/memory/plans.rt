@@ -1,86 +1,123 @@
 //! Cutting plans whose memory is refused.
 
-use super::{End, refuses_each};
+use crate::plans::Order::{AddBin, Coalesce, Pack, Release};
 use crate::plans::PlanStep::{Leaf, X};
-use crate::plans::{PlanStep, is_plan};
+use crate::plans::Step::{self, NoBin, Replies, Stands};
+use crate::plans::{Came, PlanStep, Standing, play_all};
 use crate::refusing::Refusing;
-use crate::session::releases::TWO_RELEASES;
-use crate::session::{Standing, Step, TestSession, call, command, empty, stands};
-use rectangle_pack::SessionError;
-use std::alloc::Global;
-use std::process::Abort;
+use rectangle_pack::{Packed, Reply, SessionError};
 use std::test::Fail;
+
+const FIRST: Reply = Reply::Packed(Packed { first: 0, count: 1 });
+
+const SECOND: Reply = Reply::Packed(Packed { first: 1, count: 1 });
+
+const NO_BIN: Reply = Reply::Refused(SessionError::UnknownBin);
+
+const UNKNOWN: Reply = Reply::Refused(SessionError::UnknownPlacement);
+
+const ONE: &[PlanStep] = &[Leaf];
 
 // Two boxes, one beside the other.
 const TWO: &[PlanStep] = &[X(4), Leaf, Leaf];
 
-// The plans of the bin after each of the commands.
-const PLANS: [&[PlanStep]; 10] = [&[Leaf], TWO, TWO, TWO, TWO, TWO, TWO, TWO, &[Leaf], &[Leaf]];
+const WHOLE: [u32; 6] = [0, 0, 0, 10, 10, 1];
 
-/// A session in which these steps came out.
-pub fn session_after<'a>(alloc: &'a Refusing<Global>, steps: &[Step]) -> Option<TestSession<'a>> {
-    let mut session = TestSession::new(alloc, 0);
-    for step in steps {
-        let command = command(alloc, &step.order).ok()?;
-        if call(&mut session, &command) != step.reply {
-            return None;
+const LEFT: [u32; 6] = [0, 0, 0, 4, 10, 1];
+
+const RIGHT: [u32; 6] = [4, 0, 0, 6, 10, 1];
+
+const NEW_BIN: Standing = Standing {
+    free: &[WHOLE],
+    placed: &[],
+    next: 0,
+};
+
+const ONE_BOX: Standing = Standing {
+    free: &[RIGHT],
+    placed: &[(0, 0, LEFT)],
+    next: 1,
+};
+
+const TWO_BOXES: Standing = Standing {
+    free: &[],
+    placed: &[(0, 0, LEFT), (1, 1, RIGHT)],
+    next: 2,
+};
+
+const ONE_RELEASED: Standing = Standing {
+    free: &[LEFT],
+    placed: &[(1, 1, RIGHT)],
+    next: 2,
+};
+
+const BOTH_RELEASED: Standing = Standing {
+    free: &[LEFT, RIGHT],
+    placed: &[],
+    next: 2,
+};
+
+const JOINED: Standing = Standing {
+    free: &[WHOLE],
+    placed: &[],
+    next: 2,
+};
+
+// A bin that two boxes fill, and that is free again once both are released; its plan is asked for
+// after each call, and is refused each request. That there is no such bin takes no memory.
+const SCRIPT: &[Step] = &[
+    NoBin(0),
+    Replies(AddBin(0, [10, 10, 1]), Reply::Done),
+    Stands(NEW_BIN, ONE),
+    Replies(Pack(&[(0, [4, 10, 1], &[])]), FIRST),
+    Stands(ONE_BOX, TWO),
+    Replies(Pack(&[(1, [6, 10, 1], &[])]), SECOND),
+    Stands(TWO_BOXES, TWO),
+    Replies(Release(0), Reply::Done),
+    Stands(ONE_RELEASED, TWO),
+    Replies(Release(1), Reply::Done),
+    Stands(BOTH_RELEASED, TWO),
+    // An index past the end and an empty range join nothing.
+    Replies(Coalesce(0, 2, 0, 2), Reply::Done),
+    Stands(BOTH_RELEASED, TWO),
+    Replies(Coalesce(0, 1, 1, 0), Reply::Done),
+    Stands(BOTH_RELEASED, TWO),
+    Replies(Coalesce(1, 0, 0, 2), NO_BIN),
+    Stands(BOTH_RELEASED, TWO),
+    Replies(Coalesce(0, 1, 0, 2), Reply::Done),
+    Stands(JOINED, ONE),
+    // A released number is unknown.
+    Replies(Release(0), UNKNOWN),
+    Stands(JOINED, ONE),
+];
+
+// Whether these are among the steps that were refused memory: all that ask for a plan.
+fn were_all_refused(refused: &[bool]) -> bool {
+    for (step, is_refused) in SCRIPT.iter().zip(refused.iter()) {
+        if matches!(step, Stands(..)) && !is_refused {
+            return false;
         }
     }
-    Some(session)
+    refused.len() == SCRIPT.len()
 }
 
-// The bin has this plan, or a request is refused; the session stands as before.
-fn plan_or_stay(
-    rt: &impl Abort,
-    session: &TestSession<'_>,
-    before: &Standing,
-    wanted: &[PlanStep],
-) -> End {
-    let answer = session.cut_plan(&"bin");
-    assert!(rt; stands(session, before));
-    match answer {
-        Err(error) => {
-            assert!(rt; error == SessionError::OutOfMemory);
-            End::Refused
-        }
-        Ok(plan) => {
-            assert!(rt; plan.is_some_and(|plan| is_plan(plan.as_slice(), wanted)));
-            End::Done
-        }
-    }
-}
-
-// Each request of the plan after these steps is refused in turn.
-fn plan_is_refused(
-    rt: &impl Abort,
-    alloc: Global,
-    steps: &[Step],
-    wanted: &[PlanStep],
-) -> Result<(), Fail> {
-    let before = steps.last().map_or(empty(0), |last| last.after);
-    refuses_each(rt, alloc, |refusing| {
-        Ok(match session_after(refusing, steps) {
-            Some(session) => plan_or_stay(rt, &session, &before, wanted),
-            None => End::Before,
-        })
-    })
-}
-
+// Each request is refused in turn, until none is. All that a run takes is given back.
 #[test]
 fn plans(rt: HostRuntime) -> Result<(), Fail> {
-    let alloc = rt.alloc();
-    for (count, wanted) in (1..).zip(PLANS) {
-        let steps = TWO_RELEASES.get(..count).ok_or("no such step")?;
-        plan_is_refused(&rt, alloc, steps, wanted)?;
+    let mut refused = [false; 21];
+    for granted in 0..200u64 {
+        let refusing = Refusing::new(rt.alloc(), granted);
+        let (step, came) = play_all(&refusing, SCRIPT);
+        assert_eq!(rt; refusing.taken(), 0);
+        match came {
+            Came::Refused => *refused.get_mut(step).ok_or("no such step")? = true,
+            Came::Wrong => assert!(rt; false, "step {step}"),
+            Came::Out => {
+                assert!(rt; were_all_refused(&refused));
+                return Ok(());
+            }
+        }
     }
+    assert!(rt; false);
     Ok(())
-}
-
-// Every request is refused, and there is no such bin.
-#[test]
-fn plan_of_an_unknown_bin(rt: HostRuntime) {
-    let refusing = Refusing::new(rt.alloc(), 0);
-    let session = TestSession::new(&refusing, 0);
-    let answer = session.cut_plan(&"bin");
-    assert!(rt; matches!(answer, Err(SessionError::UnknownBin)));
 }

@@ -1,13 +1,12 @@
 //! Plans of the bins of random sessions, beside their definition.
 
-use super::read_back::{Cuboid, defined_plan, read_back};
+use super::read_back::{Cuboid, defined_plan, parts_into};
 use crate::shapes::{numbers, place};
 use rectangle_pack::{
-    BinSection, CutStep, GroupedRectsToPlace, Outstanding, RectToInsert, Session,
-    contains_smallest_box, volume_heuristic,
+    BinSection, CutStep, GroupedRectsToPlace, Outstanding, RectToInsert, Session, SessionError,
+    TargetBin, contains_smallest_box, volume_heuristic,
 };
 use std::alloc::{AllocError, Global};
-use std::process::Abort;
 use std::test::Fail;
 
 type Numbered = Session<u32, u32>;
@@ -79,13 +78,20 @@ fn push_one(rects: &mut Rects, alloc: Global, dice: &mut Dice, id: u32) -> Resul
     rects.push_rect(id, groups, rect)
 }
 
+fn push_some(rects: &mut Rects, alloc: Global, dice: &mut Dice) -> Result<(), AllocError> {
+    for id in 0..dice.one_of(&[1, 2, 3, 4], 1) {
+        push_one(rects, alloc, dice, id)?;
+    }
+    Ok(())
+}
+
 fn pack(session: &mut Numbered, alloc: Global, dice: &mut Dice) -> Result<(), AllocError> {
     let mut rects: Rects = GroupedRectsToPlace::new(alloc);
-    for id in 0..dice.one_of(&[1, 2, 3, 4], 1) {
-        push_one(&mut rects, alloc, dice, id)?;
+    let pushed = push_some(&mut rects, alloc, dice);
+    if pushed.is_ok() {
+        let _ = session.pack(&rects, &volume_heuristic, &contains_smallest_box);
     }
-    let _ = session.pack(&rects, &volume_heuristic, &contains_smallest_box);
-    Ok(())
+    pushed
 }
 
 fn release(session: &mut Numbered, dice: &mut Dice) {
@@ -140,22 +146,13 @@ fn commands(
     Ok(())
 }
 
-// A session with two or three small bins.
-fn random_session(alloc: Global, dice: &mut Dice) -> Result<Numbered, AllocError> {
-    let mut session: Numbered = Session::new(alloc, 0);
-    add_bin(&mut session, dice, 0);
-    add_bin(&mut session, dice, 1);
-    commands(&mut session, alloc, dice, FILLING)?;
+// Gives a session two or three small bins, and commands.
+fn play(session: &mut Numbered, alloc: Global, dice: &mut Dice) -> Result<(), AllocError> {
+    add_bin(session, dice, 0);
+    add_bin(session, dice, 1);
+    commands(session, alloc, dice, FILLING)?;
     let kinds = dice.one_of(&[EMPTYING, JOINING, SWEEPING], JOINING);
-    commands(&mut session, alloc, dice, kinds)?;
-    Ok(session)
-}
-
-// The box that a bin is, and its free sections and placements with cells, in order.
-#[derive(Drop)]
-struct Contents {
-    whole: Cuboid,
-    boxes: Vec<Cuboid>,
+    commands(session, alloc, dice, kinds)
 }
 
 // Puts a box with cells into the list.
@@ -187,83 +184,119 @@ fn push_placed(
     Ok(())
 }
 
-fn contents_of(alloc: Global, session: &Numbered, id: u32) -> Result<Contents, Fail> {
-    let bin = session.bins().get(&id).ok_or("no such bin")?;
+// The box that a bin is.
+fn whole_of(bin: &TargetBin) -> Cuboid {
     let size = bin.max_size();
-    let mut boxes = Vec::new(alloc);
-    push_free(&mut boxes, bin.available_bin_sections().as_slice())?;
-    push_placed(&mut boxes, session.outstanding(), id)?;
-    boxes.sort_unstable();
-    Ok(Contents {
-        whole: [0, 0, 0, size.width(), size.height(), size.depth()],
-        boxes,
-    })
+    [0, 0, 0, size.width(), size.height(), size.depth()]
 }
 
-// Whether this is the plan by the definition.
-fn is_defined(
+// Whether the plan is the one by the definition, of a box that these fill, in order, and parts it
+// into them.
+fn is_right(
     alloc: Global,
-    contents: &Contents,
-    plan: Option<&[CutStep]>,
-) -> Result<bool, AllocError> {
-    let defined = defined_plan(alloc, contents.whole, contents.boxes.as_slice())?;
-    Ok(match (plan, &defined) {
-        (Some(plan), Some(defined)) => plan == defined.as_slice(),
-        (None, None) => true,
-        _ => false,
-    })
-}
-
-// Whether the plan parts the bin into its boxes.
-fn parts_into_boxes(
-    alloc: Global,
-    contents: &Contents,
+    whole: Cuboid,
+    boxes: &[Cuboid],
     plan: &[CutStep],
 ) -> Result<bool, AllocError> {
-    let Some(mut leaves) = read_back(alloc, contents.whole, plan)? else {
-        return Ok(false);
-    };
-    leaves.sort_unstable();
-    Ok(leaves.as_slice() == contents.boxes.as_slice())
-}
-
-// Whether the bin has a plan. It is right, and a bin without a plan was coalesced.
-fn is_planned(rt: &impl Abort, alloc: Global, session: &Numbered, bin: u32) -> Result<bool, Fail> {
-    let contents = contents_of(alloc, session, bin)?;
-    let Some(plan) = session.cut_plan(&bin)? else {
-        assert!(rt; session.was_coalesced(&bin) == Some(true));
-        assert!(rt; is_defined(alloc, &contents, None)?);
-        return Ok(false);
-    };
-    assert!(rt; is_defined(alloc, &contents, Some(plan.as_slice()))?);
-    assert!(rt; parts_into_boxes(alloc, &contents, plan.as_slice())?);
-    Ok(true)
-}
-
-// How many bins of a session have a plan, and how many have none.
-fn count_plans(rt: &impl Abort, alloc: Global, session: &Numbered) -> Result<(u32, u32), Fail> {
-    let (mut with, mut without) = (0u32, 0u32);
-    for bin in session.bins().keys() {
-        if is_planned(rt, alloc, session, *bin)? {
-            with = with.saturating_add(1);
-        } else {
-            without = without.saturating_add(1);
-        }
+    match defined_plan(alloc, whole, boxes)? {
+        Some(defined) if plan == defined.as_slice() => parts_into(alloc, whole, plan, boxes),
+        _ => Ok(false),
     }
-    Ok((with, without))
+}
+
+// What is found of the plan of a bin.
+#[derive(Clone, Copy)]
+enum Found {
+    Plan,
+    NoPlan,
+    Wrong,
+}
+
+// The plan of a bin that these boxes fill, in order. A bin without a plan was coalesced.
+fn find_plan(
+    alloc: Global,
+    session: &Numbered,
+    id: u32,
+    whole: Cuboid,
+    boxes: &[Cuboid],
+) -> Result<Found, SessionError> {
+    let was_coalesced = session.was_coalesced(&id) == Some(true);
+    let (is_right, found) = match session.cut_plan(&id)? {
+        Some(plan) => (is_right(alloc, whole, boxes, plan.as_slice())?, Found::Plan),
+        None => (
+            was_coalesced && defined_plan(alloc, whole, boxes)?.is_none(),
+            Found::NoPlan,
+        ),
+    };
+    Ok(if is_right { found } else { Found::Wrong })
+}
+
+// Puts the boxes with cells of a bin into the list, in order.
+fn gather(
+    boxes: &mut Vec<Cuboid>,
+    bin: &TargetBin,
+    outstanding: &[Outstanding<u32, u32>],
+    id: u32,
+) -> Result<(), AllocError> {
+    push_free(boxes, bin.available_bin_sections().as_slice())?;
+    push_placed(boxes, outstanding, id)?;
+    boxes.sort_unstable();
+    Ok(())
+}
+
+// How many bins have a plan, how many rightly have none, and of how many that is wrong.
+#[derive(Clone, Copy)]
+struct Counts {
+    with: u32,
+    without: u32,
+    wrong: u32,
+}
+
+// Counts a bin of the session.
+fn count_bin(
+    counts: &mut Counts,
+    alloc: Global,
+    session: &Numbered,
+    id: u32,
+    bin: &TargetBin,
+) -> Result<(), SessionError> {
+    let mut boxes = Vec::new(alloc);
+    gather(&mut boxes, bin, session.outstanding(), id)?;
+    let count = match find_plan(alloc, session, id, whole_of(bin), boxes.as_slice())? {
+        Found::Plan => &mut counts.with,
+        Found::NoPlan => &mut counts.without,
+        Found::Wrong => &mut counts.wrong,
+    };
+    *count = count.saturating_add(1);
+    Ok(())
+}
+
+fn count_bins(counts: &mut Counts, alloc: Global, session: &Numbered) -> Result<(), SessionError> {
+    for (id, bin) in session.bins().iter() {
+        count_bin(counts, alloc, session, *id, bin)?;
+    }
+    Ok(())
+}
+
+// Plays a session, and counts its bins.
+fn count_session(counts: &mut Counts, alloc: Global, dice: &mut Dice) -> Result<(), SessionError> {
+    let mut session: Numbered = Session::new(alloc, 0);
+    play(&mut session, alloc, dice)?;
+    count_bins(counts, alloc, &session)
 }
 
 #[test]
 fn random_sessions(rt: HostRuntime) -> Result<(), Fail> {
-    let alloc = rt.alloc();
     let mut dice = Dice { state: 1 };
-    let (mut with, mut without) = (0u32, 0u32);
-    for _session in 0..400 {
-        let session = random_session(alloc, &mut dice)?;
-        let (planned, unplanned) = count_plans(&rt, alloc, &session)?;
-        with = with.saturating_add(planned);
-        without = without.saturating_add(unplanned);
+    let mut counts = Counts {
+        with: 0,
+        without: 0,
+        wrong: 0,
+    };
+    for session in 0..400 {
+        count_session(&mut counts, rt.alloc(), &mut dice)?;
+        assert_eq!(rt; counts.wrong, 0, "session {session}");
     }
-    assert!(rt; with > 0 && without > 0);
+    assert!(rt; counts.with > 0 && counts.without > 0);
     Ok(())
 }

@@ -122,31 +122,53 @@ pub fn defined_plan(
     Ok(Some(plan))
 }
 
-/// The boxes that a plan parts a box into; `None` where it goes on too long or not long enough, or
-/// cuts a part at its end or beyond.
-pub fn read_back(
+// Takes a step of a plan: a leaf, or a cut strictly inside the next part. Otherwise it is `false`.
+fn read_step(
+    leaves: &mut Vec<Cuboid>,
+    pending: &mut Vec<Cuboid>,
+    step: &CutStep,
+) -> Result<bool, AllocError> {
+    let Some(part) = pending.pop() else {
+        return Ok(false);
+    };
+    match step {
+        CutStep::Leaf => leaves.push(part)?,
+        CutStep::Cut { axis, place } => {
+            if !is_inside(&part, *axis, *place) {
+                return Ok(false);
+            }
+            push_parts(pending, &part, *axis, *place)?;
+        }
+    }
+    Ok(true)
+}
+
+// Takes each step of a plan. It is `false` where the plan goes on too long or not long enough, or
+// cuts a part at its end or beyond.
+fn read_steps(
+    leaves: &mut Vec<Cuboid>,
+    pending: &mut Vec<Cuboid>,
+    plan: &[CutStep],
+) -> Result<bool, AllocError> {
+    for step in plan {
+        if !read_step(leaves, pending, step)? {
+            return Ok(false);
+        }
+    }
+    Ok(pending.is_empty())
+}
+
+/// Whether a plan parts a box into these, which are in order.
+pub fn parts_into(
     alloc: Global,
     whole: Cuboid,
     plan: &[CutStep],
-) -> Result<Option<Vec<Cuboid>>, AllocError> {
+    boxes: &[Cuboid],
+) -> Result<bool, AllocError> {
     let mut leaves = Vec::new(alloc);
     let mut pending = Vec::new(alloc);
     pending.push(whole)?;
-    for step in plan {
-        let Some(part) = pending.pop() else {
-            return Ok(None);
-        };
-        match step {
-            CutStep::Leaf => leaves.push(part)?,
-            CutStep::Cut { axis, place } if is_inside(&part, *axis, *place) => {
-                push_parts(&mut pending, &part, *axis, *place)?;
-            }
-            CutStep::Cut { .. } => return Ok(None),
-        }
-    }
-    Ok(if pending.is_empty() {
-        Some(leaves)
-    } else {
-        None
-    })
+    let is_whole = read_steps(&mut leaves, &mut pending, plan)?;
+    leaves.sort_unstable();
+    Ok(is_whole && leaves.as_slice() == boxes)
 }
