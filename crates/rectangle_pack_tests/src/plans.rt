@@ -344,8 +344,8 @@ pub fn play_all(alloc: &Refusing<Global>, script: &[Step]) -> (usize, Came) {
     play_each(&mut session, alloc, script)
 }
 
-// Each script comes out, and all that it takes is given back.
-fn come_out(rt: &impl Abort, alloc: Global, subject: &str, scripts: &[&[Step]]) {
+/// Each script comes out, and all that it takes is given back.
+pub fn come_out(rt: &impl Abort, alloc: Global, subject: &str, scripts: &[&[Step]]) {
     for (index, script) in scripts.iter().enumerate() {
         let alloc = Refusing::new(alloc, u64::MAX);
         let (step, came) = play_all(&alloc, script);
@@ -354,28 +354,5 @@ fn come_out(rt: &impl Abort, alloc: Global, subject: &str, scripts: &[&[Step]]) 
             "{subject}: script {index}, step {step}"
         );
         assert_eq!(rt; alloc.taken(), 0);
-    }
-}
-
-const SCRIPTS: &[(&str, &[&[Step]])] = &[
-    ("bins without cells", empty::BINS),
-    ("boxes without cells", empty::BOXES),
-    ("several bins", groups::SEVERAL_BINS),
-    ("groups", groups::GROUPS),
-    ("refused packings", groups::REFUSED),
-    ("releases and a join", joins::RELEASED),
-    ("joins that leave a plan", joins::STILL_PLANNED),
-    ("strips round a box", joins::STRIPS_ROUND_A_BOX),
-    ("constant comparisons", packings::COMPARISONS),
-    ("constant heuristics", packings::HEURISTICS),
-    ("flat bins", packings::FLAT),
-    ("deep bins", packings::DEEP),
-    ("largest bins", packings::LARGEST),
-];
-
-#[test]
-fn scripts(rt: HostRuntime) {
-    for (subject, scripts) in SCRIPTS {
-        come_out(&rt, rt.alloc(), *subject, *scripts);
     }
 }

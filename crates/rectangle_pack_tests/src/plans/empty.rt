@@ -1,14 +1,14 @@
 //! Plans of bins, and of boxes, without cells.
 
-use super::NO_ROOM;
 use super::Order::{AddBin, Pack, Release};
 use super::PlanStep::{Leaf, X};
 use super::Step::{self, Call, NoBin, Plans, Replies};
+use super::{NO_ROOM, come_out};
 
 const SQUARE: [u32; 3] = [10, 10, 1];
 
-/// A box without cells gets no leaf.
-pub const BOXES: &[&[Step]] = &[
+// A box without cells gets no leaf.
+const BOXES: &[&[Step]] = &[
     &[
         Call(AddBin(0, SQUARE)),
         NoBin(1),
@@ -32,8 +32,8 @@ pub const BOXES: &[&[Step]] = &[
     ],
 ];
 
-/// A bin without cells is not cut.
-pub const BINS: &[&[Step]] = &[
+// A bin without cells is not cut.
+const BINS: &[&[Step]] = &[
     &[Call(AddBin(0, [0, 0, 0])), Plans(&[(0, &[Leaf])])],
     &[Call(AddBin(0, [10, 0, 1])), Plans(&[(0, &[Leaf])])],
     &[
@@ -46,3 +46,10 @@ pub const BINS: &[&[Step]] = &[
         Plans(&[(0, &[Leaf])]),
     ],
 ];
+
+#[test]
+fn plans_without_cells(rt: HostRuntime) {
+    let alloc = rt.alloc();
+    come_out(&rt, alloc, "bins without cells", BINS);
+    come_out(&rt, alloc, "boxes without cells", BOXES);
+}

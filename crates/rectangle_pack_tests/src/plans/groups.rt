@@ -3,7 +3,7 @@
 use super::Order::{AddBin, Pack, PackApart};
 use super::PlanStep::{Leaf, X, Y, Z};
 use super::Step::{self, Call, Plans, Replies};
-use super::{NO_ROOM, Name, PlanStep};
+use super::{NO_ROOM, Name, PlanStep, come_out};
 use rectangle_pack::{Reply, SessionError};
 
 const SQUARE: [u32; 3] = [10, 10, 1];
@@ -24,8 +24,8 @@ const B: Name = Name::Named(1);
 
 const C: Name = Name::Named(2);
 
-/// Boxes in some of several bins.
-pub const SEVERAL_BINS: &[&[Step]] = &[
+// Boxes in some of several bins.
+const SEVERAL_BINS: &[&[Step]] = &[
     &[
         Call(AddBin(0, [2048, 2048, 255])),
         Call(AddBin(1, [4096, 4096, 1020])),
@@ -100,8 +100,8 @@ pub const SEVERAL_BINS: &[&[Step]] = &[
     ],
 ];
 
-/// Boxes in groups, of which some are excluded.
-pub const GROUPS: &[&[Step]] = &[
+// Boxes in groups, of which some are excluded.
+const GROUPS: &[&[Step]] = &[
     &[
         Call(AddBin(0, [8, 8, 1])),
         Call(Pack(&[(0, TILE, &[0, 1])])),
@@ -155,8 +155,8 @@ pub const GROUPS: &[&[Step]] = &[
     ],
 ];
 
-/// What is refused leaves the bin as it was.
-pub const REFUSED: &[&[Step]] = &[
+// What is refused leaves the bin as it was.
+const REFUSED: &[&[Step]] = &[
     &[
         Call(AddBin(0, [2, 100, 1])),
         Replies(Pack(&[(0, [3, 1, 1], &[])]), NO_ROOM),
@@ -221,3 +221,11 @@ pub const REFUSED: &[&[Step]] = &[
         Plans(&[(0, &[Leaf])]),
     ],
 ];
+
+#[test]
+fn plans_of_boxes_apart(rt: HostRuntime) {
+    let alloc = rt.alloc();
+    come_out(&rt, alloc, "several bins", SEVERAL_BINS);
+    come_out(&rt, alloc, "groups", GROUPS);
+    come_out(&rt, alloc, "refused packings", REFUSED);
+}

@@ -2,8 +2,8 @@
 
 use super::Order::{AddBin, Coalesce, CoalesceAll, Pack, Release};
 use super::PlanStep::{Leaf, X, Y, Z};
-use super::SizedBox;
 use super::Step::{self, Call, Free, NoPlan, Plans};
+use super::{SizedBox, come_out};
 
 const SQUARE: [u32; 3] = [10, 10, 1];
 
@@ -30,8 +30,8 @@ const NINE: &[SizedBox] = &[
 
 const LAYER: &[SizedBox] = &[(0, [2, 2, 1], &[])];
 
-/// Releases leave the plan, and a bin that is joined is one leaf.
-pub const RELEASED: &[&[Step]] = &[
+// Releases leave the plan, and a bin that is joined is one leaf.
+const RELEASED: &[&[Step]] = &[
     // Two boxes that fill a bin.
     &[
         Call(AddBin(0, SQUARE)),
@@ -59,8 +59,8 @@ pub const RELEASED: &[&[Step]] = &[
     ],
 ];
 
-/// Joins after which there is still a plan.
-pub const STILL_PLANNED: &[&[Step]] = &[
+// Joins after which there is still a plan.
+const STILL_PLANNED: &[&[Step]] = &[
     // Nothing is joined.
     &[
         Call(AddBin(0, [4, 1, 1])),
@@ -98,9 +98,9 @@ pub const STILL_PLANNED: &[&[Step]] = &[
     ],
 ];
 
-/// Nine boxes, of which all but one are released, and joins that leave four strips round that one:
-/// each straight cut would go through one of the strips.
-pub const STRIPS_ROUND_A_BOX: &[&[Step]] = &[&[
+// Nine boxes, of which all but one are released, and joins that leave four strips round that one:
+// each straight cut would go through one of the strips.
+const STRIPS_ROUND_A_BOX: &[&[Step]] = &[&[
     Call(AddBin(0, [3, 3, 1])),
     Call(Pack(NINE)),
     Call(Release(0)),
@@ -148,3 +148,11 @@ pub const STRIPS_ROUND_A_BOX: &[&[Step]] = &[&[
     ),
     NoPlan(0),
 ]];
+
+#[test]
+fn plans_after_joins(rt: HostRuntime) {
+    let alloc = rt.alloc();
+    come_out(&rt, alloc, "releases and a join", RELEASED);
+    come_out(&rt, alloc, "joins that leave a plan", STILL_PLANNED);
+    come_out(&rt, alloc, "strips round a box", STRIPS_ROUND_A_BOX);
+}

@@ -4,7 +4,7 @@ use super::Order::{AddBin, Pack, PackBy};
 use super::PlanStep::{Leaf, X, Y, Z};
 use super::Rule::{Compares, Rates};
 use super::Step::{self, Call, Plans};
-use super::{PlanStep, SizedBox};
+use super::{PlanStep, SizedBox, come_out};
 use std::cmp::Ordering;
 
 const SHEET: [u32; 3] = [100, 100, 1];
@@ -17,8 +17,8 @@ const TILE: [u32; 3] = [4, 4, 1];
 
 const LARGE: &[SizedBox] = &[(0, [50, 90, 1], &[])];
 
-/// Boxes on sheets.
-pub const FLAT: &[&[Step]] = &[
+// Boxes on sheets.
+const FLAT: &[&[Step]] = &[
     // A small box in the strip that a large one leaves: the sheet is cut on the first axis first,
     // and the part with two boxes at its least place.
     &[
@@ -83,8 +83,8 @@ pub const FLAT: &[&[Step]] = &[
     ],
 ];
 
-/// The six orders in which a box is cut off on three axes, and two boxes on a layer.
-pub const DEEP: &[&[Step]] = &[
+// The six orders in which a box is cut off on three axes, and two boxes on a layer.
+const DEEP: &[&[Step]] = &[
     &[
         Call(AddBin(0, CUBE)),
         Call(Pack(&[(0, [50, 25, 10], &[])])),
@@ -138,8 +138,8 @@ pub const DEEP: &[&[Step]] = &[
     ],
 ];
 
-/// One unit in a bin of the greatest size, and a box that takes all that lies behind it.
-pub const LARGEST: &[&[Step]] = &[&[
+// One unit in a bin of the greatest size, and a box that takes all that lies behind it.
+const LARGEST: &[&[Step]] = &[&[
     Call(AddBin(0, LARGEST_CUBE)),
     Call(Pack(&[(0, [1, 1, 1], &[])])),
     Plans(&[(0, &[Z(1), Y(1), X(1), Leaf, Leaf, Leaf, Leaf])]),
@@ -151,8 +151,8 @@ const FIRST_CUT: &[PlanStep] = &[X(50), Y(90), Leaf, Leaf, Leaf];
 
 const LAST_CUT: &[PlanStep] = &[Y(90), X(50), Leaf, Leaf, Leaf];
 
-/// The first cut stays where it is always better; else the last one is taken.
-pub const COMPARISONS: &[&[Step]] = &[
+// The first cut stays where it is always better; else the last one is taken.
+const COMPARISONS: &[&[Step]] = &[
     &[
         Call(AddBin(0, SHEET)),
         Call(PackBy(Compares(Ordering::Greater), LARGE)),
@@ -170,8 +170,8 @@ pub const COMPARISONS: &[&[Step]] = &[
     ],
 ];
 
-/// Each size has the least rate, or the greatest.
-pub const HEURISTICS: &[&[Step]] = &[
+// Each size has the least rate, or the greatest.
+const HEURISTICS: &[&[Step]] = &[
     &[
         Call(AddBin(0, [8, 8, 1])),
         Call(PackBy(Rates(0), &[(0, TILE, &[])])),
@@ -186,3 +186,13 @@ pub const HEURISTICS: &[&[Step]] = &[
         Plans(&[(0, &[Y(2), X(2), Leaf, Leaf, Y(6), X(4), Leaf, Leaf, Leaf])]),
     ],
 ];
+
+#[test]
+fn plans_of_packings(rt: HostRuntime) {
+    let alloc = rt.alloc();
+    come_out(&rt, alloc, "flat bins", FLAT);
+    come_out(&rt, alloc, "deep bins", DEEP);
+    come_out(&rt, alloc, "largest bins", LARGEST);
+    come_out(&rt, alloc, "constant comparisons", COMPARISONS);
+    come_out(&rt, alloc, "constant heuristics", HEURISTICS);
+}
