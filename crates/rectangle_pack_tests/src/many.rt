@@ -12,54 +12,78 @@ use std::test::Fail;
 
 type Alloc<'a> = &'a Refusing<Global>;
 
+type Made<T> = Result<T, AllocError>;
+
+type Bin<'a> = TargetBin<Alloc<'a>>;
+
+type Bins<'a> = BTreeMap<u32, Bin<'a>, Alloc<'a>>;
+
 type Rects<'a> = GroupedRectsToPlace<u32, u32, Alloc<'a>>;
 
 type Commands<'a> = Vec<Command<u32, u32, u32, Alloc<'a>>, Alloc<'a>>;
 
 type Units<'a> = Session<u32, u32, Alloc<'a>>;
 
-fn units(alloc: Alloc<'_>) -> Result<Rects<'_>, AllocError> {
-    let mut rects = GroupedRectsToPlace::new(alloc);
-    for id in 0..400 {
+const COUNT: u32 = 400;
+
+fn push_units(rects: &mut Rects<'_>) -> Made<()> {
+    for id in 0..COUNT {
         rects.push_rect(id, None, RectToInsert::new(1, 1, 1))?;
     }
+    Ok(())
+}
+
+fn units(alloc: Alloc<'_>) -> Made<Rects<'_>> {
+    let mut rects = Rects::new(alloc);
+    push_units(&mut rects)?;
     Ok(rects)
 }
 
-fn one_trial(rt: &impl Abort, alloc: Alloc<'_>) -> Result<(), Fail> {
-    let mut bin = TargetBin::new(alloc, 20, 20, 1)?;
+// How many free sections the bin has.
+fn free(bin: Option<&Bin<'_>>) -> Option<usize> {
+    Some(bin?.available_bin_sections().len())
+}
+
+fn tries(rt: &impl Abort, bin: &mut Bin<'_>) -> Made<()> {
     let members = [RectToInsert::new(1, 1, 1); 400];
     let mut tests = FitTests::new();
-    let answer = bin.place_all(
+    let placed = bin.place_all(
         &members,
         &volume_heuristic,
         &contains_smallest_box,
         &mut tests,
     )?;
-    assert_eq!(rt; answer.ok_or("stuck")?.len(), 400);
-    assert!(rt; bin.available_bin_sections().is_empty());
+    assert!(rt; matches!(&placed, Some(places) if places.len() == 400));
+    assert_eq!(rt; free(Some(bin)), Some(0));
     Ok(())
 }
 
-fn one_packing(rt: &impl Abort, alloc: Alloc<'_>) -> Result<(), Fail> {
-    let rects = units(alloc)?;
-    let mut bins = BTreeMap::new(alloc);
+fn one_trial(rt: &impl Abort, alloc: Alloc<'_>) -> Made<()> {
+    let mut bin = TargetBin::new(alloc, 20, 20, 1)?;
+    tries(rt, &mut bin)
+}
+
+fn packs<'a>(rt: &impl Abort, alloc: Alloc<'a>, bins: &mut Bins<'a>) -> Result<(), Fail> {
     bins.insert(0u32, TargetBin::new(alloc, 20, 20, 1)?)?;
+    let rects = units(alloc)?;
     let packed = pack_rects(
         alloc,
         &rects,
-        &mut bins,
+        bins,
         &volume_heuristic,
         &contains_smallest_box,
     )?;
     assert_eq!(rt; packed.placements().len(), 400);
-    let bin = bins.get(&0).ok_or("no such bin")?;
-    assert!(rt; bin.available_bin_sections().is_empty());
+    assert_eq!(rt; free(bins.get(&0)), Some(0));
     Ok(())
 }
 
-fn add_and_pack(alloc: Alloc<'_>) -> Result<Commands<'_>, AllocError> {
-    let mut commands = Vec::new(alloc);
+fn one_packing(rt: &impl Abort, alloc: Alloc<'_>) -> Result<(), Fail> {
+    let mut bins = Bins::new(alloc);
+    packs(rt, alloc, &mut bins)
+}
+
+fn push_bin_and_units<'a>(alloc: Alloc<'a>, commands: &mut Commands<'a>) -> Made<()> {
     commands.push(Command::AddBin {
         id: 0,
         width: 20,
@@ -67,22 +91,18 @@ fn add_and_pack(alloc: Alloc<'_>) -> Result<Commands<'_>, AllocError> {
         depth: 1,
     })?;
     commands.push(Command::Pack(units(alloc)?))?;
-    Ok(commands)
+    Ok(())
 }
 
-fn release_all(alloc: Alloc<'_>) -> Result<Commands<'_>, AllocError> {
-    let mut commands = Vec::new(alloc);
-    for number in 0..400 {
+fn push_releases(commands: &mut Commands<'_>) -> Made<()> {
+    for number in 0..u64::from(COUNT) {
         commands.push(Command::Release(number))?;
     }
-    Ok(commands)
+    Ok(())
 }
 
 // What these commands reply.
-fn run<'a>(
-    session: &mut Units<'a>,
-    commands: &Commands<'a>,
-) -> Result<Vec<Reply, Alloc<'a>>, AllocError> {
+fn run<'a>(session: &mut Units<'a>, commands: &Commands<'a>) -> Made<Vec<Reply, Alloc<'a>>> {
     session.run(
         commands.as_slice(),
         &volume_heuristic,
@@ -90,38 +110,62 @@ fn run<'a>(
     )
 }
 
-// A session in which the boxes fill the bin.
-fn full_bin(alloc: Alloc<'_>) -> Result<Units<'_>, Fail> {
-    let mut session = Session::new(alloc, 0);
-    let replies = run(&mut session, &add_and_pack(alloc)?)?;
+// A new session runs the commands that fill the bin.
+fn fills<'a>(rt: &impl Abort, alloc: Alloc<'a>, session: &mut Units<'a>) -> Made<()> {
+    let mut commands = Vec::new(alloc);
+    push_bin_and_units(alloc, &mut commands)?;
+    let replies = run(session, &commands)?;
     let packed = Packed {
         first: 0,
         count: 400,
     };
-    if replies.as_slice() == [Reply::Done, Reply::Packed(packed)].as_slice() {
-        Ok(session)
-    } else {
-        Err(Fail::from("not packed"))
+    assert!(rt; replies.as_slice() == [Reply::Done, Reply::Packed(packed)].as_slice());
+    Ok(())
+}
+
+fn are_done(replies: &[Reply]) -> bool {
+    for reply in replies {
+        if *reply != Reply::Done {
+            return false;
+        }
+    }
+    replies.len() == 400
+}
+
+// Then it runs the commands that release all boxes.
+fn empties<'a>(rt: &impl Abort, alloc: Alloc<'a>, session: &mut Units<'a>) -> Made<()> {
+    let mut commands = Vec::new(alloc);
+    push_releases(&mut commands)?;
+    let replies = run(session, &commands)?;
+    assert!(rt; are_done(replies.as_slice()));
+    assert!(rt; session.outstanding().is_empty());
+    assert_eq!(rt; free(session.bins().get(&0)), Some(400));
+    Ok(())
+}
+
+fn leaves(plan: &[CutStep]) -> usize {
+    let mut count = 0usize;
+    for step in plan {
+        if *step == CutStep::Leaf {
+            count = count.wrapping_add(1);
+        }
+    }
+    count
+}
+
+// The plan of the full bin has a leaf for each box.
+fn has_leaf_for_each_box(session: &Units<'_>) -> bool {
+    match session.cut_plan(&0) {
+        Ok(Some(plan)) => leaves(plan.as_slice()) == 400 && plan.len() == 799,
+        _ => false,
     }
 }
 
-fn leaf_for_each_box(rt: &impl Abort, alloc: Alloc<'_>) -> Result<(), Fail> {
-    let session = full_bin(alloc)?;
-    let plan = session.cut_plan(&0)?.ok_or("no plan")?;
-    let leaves = plan.iter().filter(|step| **step == CutStep::Leaf).count();
-    assert_eq!(rt; (leaves, plan.len()), (400, 799));
-    Ok(())
-}
-
-fn all_are_released(rt: &impl Abort, alloc: Alloc<'_>) -> Result<(), Fail> {
-    let mut session = full_bin(alloc)?;
-    let replies = run(&mut session, &release_all(alloc)?)?;
-    assert_eq!(rt; replies.len(), 400);
-    assert!(rt; replies.iter().all(|reply| *reply == Reply::Done));
-    let bin = session.bins().get(&0).ok_or("no such bin")?;
-    assert_eq!(rt; bin.available_bin_sections().len(), 400);
-    assert!(rt; session.outstanding().is_empty());
-    Ok(())
+fn one_session(rt: &impl Abort, alloc: Alloc<'_>) -> Made<()> {
+    let mut session = Units::new(alloc, 0);
+    fills(rt, alloc, &mut session)?;
+    assert!(rt; has_leaf_for_each_box(&session));
+    empties(rt, alloc, &mut session)
 }
 
 // All memory is given back.
@@ -130,8 +174,7 @@ fn units_fill_a_bin(rt: HostRuntime) -> Result<(), Fail> {
     let alloc = Refusing::new(rt.alloc(), u64::MAX);
     one_trial(&rt, &alloc)?;
     one_packing(&rt, &alloc)?;
-    leaf_for_each_box(&rt, &alloc)?;
-    all_are_released(&rt, &alloc)?;
+    one_session(&rt, &alloc)?;
     assert_eq!(rt; alloc.taken(), 0);
     Ok(())
 }

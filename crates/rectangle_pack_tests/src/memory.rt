@@ -8,11 +8,9 @@ use std::test::Fail;
 mod bins;
 mod clones;
 mod collections;
-mod joins;
 mod none;
 mod packings;
 mod plans;
-mod sessions;
 
 /// What came of a run: a request was refused before the call in question, or in that call, or none was.
 #[derive(Clone, Copy, Debug, PartialEq, Eq, Drop)]

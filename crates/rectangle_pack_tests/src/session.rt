@@ -1,232 +1,290 @@
-//! Sessions: what they reply to each command, and how they stand after it.
+//! Sessions: what they reply to each command, and how they stand after it, with all memory and
+//! where it is refused.
 
+mod calls;
 mod hostile;
 mod refusals;
-pub mod releases;
+mod releases;
+mod runs;
+mod strip;
 
-use super::cases::{Case, Rects, rects_of};
-use super::exclusions::{Name, exclude_all};
 use super::shapes::{has_list, place};
 use crate::refusing::Refusing;
 use rectangle_pack::{
-    Command, Outstanding, Reply, Session, SessionError, contains_smallest_box, volume_heuristic,
+    BinStats, Command, Group, GroupedRectsToPlace, Outstanding, RectToInsert, Reply, Session,
+    SessionError, TargetBin,
 };
 use std::alloc::{AllocError, Global};
 use std::process::Abort;
 use std::test::Fail;
 
 /// A session whose memory may be refused.
-pub type TestSession<'a> = Session<&'static str, &'static str, &'a Refusing<Global>>;
+pub type TestSession<'a> = Session<u32, u32, &'a Refusing<Global>>;
 
 /// A command for it.
-pub type TestCommand<'a> = Command<&'static str, &'static str, &'static str, &'a Refusing<Global>>;
+pub type TestCommand<'a> = Command<u32, u32, u32, &'a Refusing<Global>>;
 
-/// An outstanding placement of it.
-pub type Placed = Outstanding<&'static str, &'static str>;
+/// Commands for it.
+pub type Commands<'a> = Vec<TestCommand<'a>, &'a Refusing<Global>>;
 
-/// A box by name, size and groups; without groups it is pushed alone.
-pub type SizedBox = (&'static str, [u32; 3], &'static [&'static str]);
+type Rects<'a> = GroupedRectsToPlace<u32, u32, &'a Refusing<Global>>;
+
+type Made<T> = Result<T, AllocError>;
+
+/// A box by id, size and groups; without groups it is pushed alone.
+pub type SizedBox = (u32, [u32; 3], &'static [u32]);
+
+/// The box of this id alone, or a named group.
+#[derive(Clone, Copy)]
+pub enum Party {
+    Alone(u32),
+    Named(u32),
+}
 
 /// A command, as data.
 #[derive(Clone, Copy)]
 pub enum Order {
-    /// A bin of this name and size.
-    AddBin(&'static str, [u32; 3]),
+    /// A bin of this id and size.
+    AddBin(u32, [u32; 3]),
     /// Boxes, and the pairs of groups that are excluded.
-    Pack(&'static [SizedBox], &'static [(Name, Name)]),
+    Pack(&'static [SizedBox], &'static [(Party, Party)]),
     /// The placement of this number.
     Release(u64),
-    /// The section of this index in the bin of this name, joined over the range.
-    Coalesce(&'static str, usize, usize, usize),
-    /// A sweep of the bin of this name.
-    CoalesceAll(&'static str),
+    /// The section of this index in the bin of this id, joined over the range.
+    Coalesce(u32, usize, usize, usize),
+    /// A sweep of the bin of this id.
+    CoalesceAll(u32),
 }
+
+/// How a bin stands.
+#[derive(Clone, Copy)]
+pub struct Held {
+    pub id: u32,
+    /// Its free sections.
+    pub free: &'static [[u32; 6]],
+    /// The volumes of the bin, of what is free and of what is placed in it.
+    pub volumes: [u128; 3],
+    /// The counts of free sections and of placements.
+    pub counts: [usize; 2],
+    /// Whether it counts as coalesced.
+    pub coalesced: bool,
+}
+
+/// An outstanding placement: number, box, bin and place.
+pub type PlacedBox = (u64, u32, u32, [u32; 6]);
 
 /// How a session stands.
 #[derive(Clone, Copy)]
 pub struct Standing {
-    /// The bins by name, with their free sections.
-    pub bins: &'static [(&'static str, &'static [[u32; 6]])],
-    /// The outstanding placements: number, box, bin and place.
-    pub placed: &'static [(u64, &'static str, &'static str, [u32; 6])],
+    pub bins: &'static [Held],
+    /// In the order of their numbers.
+    pub placed: &'static [PlacedBox],
     /// The number of the next placement.
     pub next: u64,
 }
 
+/// Whether a call asks for memory, where that is promised or plain.
+#[derive(Clone, Copy)]
+pub enum Memory {
+    Asked,
+    NotAsked,
+    Either,
+}
+
 /// A command, the reply to it, and how the session stands afterwards.
 #[derive(Clone, Copy)]
-pub struct Step {
+pub struct Line {
     pub order: Order,
+    pub memory: Memory,
     pub reply: Reply,
     pub after: Standing,
 }
 
-/// How one step, or all of them, came out.
-#[derive(Clone, Copy, Debug, PartialEq, Eq, Drop)]
-pub enum Came {
-    /// There was no memory for the command of the step of this index.
-    Unmade(usize),
-    /// The call was refused memory at the step of this index, and changed nothing.
-    Refused(usize),
-    /// The reply, or the session afterwards, was not the one that is wanted, at the step of this index.
-    Wrong(usize),
-    /// As wanted.
-    Out,
+/// What becomes of a new session.
+#[derive(Clone, Copy)]
+pub struct Script {
+    /// The number of its first placement.
+    pub first: u64,
+    pub lines: &'static [Line],
+    /// At least so many of the calls are refused memory, one where each request is refused in turn.
+    pub refusals: usize,
 }
 
-const TILE: [u32; 3] = [4, 4, 1];
+/// The bin of most scripts.
+pub const BIN: u32 = 0;
 
-const WHOLE: &[[u32; 6]] = &[[0, 0, 0, 10, 10, 1]];
+/// A bin that is in few of them.
+pub const OTHER: u32 = 1;
 
-const FIRST: [u32; 6] = [0, 0, 0, 4, 4, 1];
+// A bin that is in none.
+const NOWHERE: u32 = 2;
 
-const UNKNOWN: Reply = Reply::Refused(SessionError::UnknownPlacement);
+/// A new bin of ten by ten cells.
+pub const NEW: Held = Held {
+    id: BIN,
+    free: &[[0, 0, 0, 10, 10, 1]],
+    volumes: [100, 100, 0],
+    counts: [1, 0],
+    coalesced: false,
+};
 
-/// The least box with cells.
-pub const UNIT: [u32; 3] = [1, 1, 1];
+/// A session with that bin alone.
+pub const ONE_NEW_BIN: Standing = Standing {
+    bins: &[NEW],
+    placed: &[],
+    next: 0,
+};
 
-/// Nine of them, each alone.
-pub const NINE_UNITS: &[SizedBox] = &[
-    ("a", UNIT, &[]),
-    ("b", UNIT, &[]),
-    ("c", UNIT, &[]),
-    ("d", UNIT, &[]),
-    ("e", UNIT, &[]),
-    ("f", UNIT, &[]),
-    ("g", UNIT, &[]),
-    ("h", UNIT, &[]),
-    ("i", UNIT, &[]),
-];
+/// Adds it to a session that has no bin.
+pub const ADD_BIN: Line = Line {
+    order: Order::AddBin(BIN, [10, 10, 1]),
+    memory: Memory::Asked,
+    reply: Reply::Done,
+    after: ONE_NEW_BIN,
+};
 
-type Made<T> = Result<T, AllocError>;
+/// Nothing of this number is outstanding.
+pub const UNKNOWN: Reply = Reply::Refused(SessionError::UnknownPlacement);
 
-/// These boxes, and these pairs of groups that are excluded.
-pub fn rects<'a>(
+/// A size of many boxes.
+pub const TILE: [u32; 3] = [4, 4, 1];
+
+/// Where the first of them is placed.
+pub const FIRST: [u32; 6] = [0, 0, 0, 4, 4, 1];
+
+fn push_boxes<'a>(
+    alloc: &'a Refusing<Global>,
+    rects: &mut Rects<'a>,
+    boxes: &'static [SizedBox],
+) -> Made<()> {
+    for (id, size, groups) in boxes {
+        let [width, height, depth] = *size;
+        let named = if groups.is_empty() {
+            None
+        } else {
+            Some(groups.to_vec(alloc)?)
+        };
+        rects.push_rect(*id, named, RectToInsert::new(width, height, depth))?;
+    }
+    Ok(())
+}
+
+fn group_of(party: Party) -> Group<u32, u32> {
+    match party {
+        Party::Alone(id) => Group::Ungrouped(id),
+        Party::Named(name) => Group::Grouped(name),
+    }
+}
+
+// Excludes the groups of each pair, which differ.
+fn exclude_pairs(rects: &mut Rects<'_>, pairs: &[(Party, Party)]) -> Made<()> {
+    for (one, other) in pairs {
+        let (one, other) = (group_of(*one), group_of(*other));
+        if one != other {
+            rects.exclude(one, other)?;
+        }
+    }
+    Ok(())
+}
+
+fn rects<'a>(
     alloc: &'a Refusing<Global>,
     boxes: &'static [SizedBox],
-    pairs: &[(Name, Name)],
-) -> Made<Rects<&'a Refusing<Global>>> {
-    let case = Case { boxes, ..NO_BOXES };
-    let mut rects = rects_of(alloc, &case)?;
-    exclude_all(&mut rects, pairs)?;
+    pairs: &[(Party, Party)],
+) -> Made<Rects<'a>> {
+    let mut rects = Rects::new(alloc);
+    push_boxes(alloc, &mut rects, boxes)?;
+    exclude_pairs(&mut rects, pairs)?;
     Ok(rects)
 }
 
-const NO_BOXES: Case = Case {
-    bins: &[],
-    boxes: &[],
-    placements: None,
-    lists: &[],
-};
-
-/// The command of an order.
-pub fn command<'a>(alloc: &'a Refusing<Global>, order: &Order) -> Made<TestCommand<'a>> {
-    Ok(match order {
-        Order::AddBin(id, [width, height, depth]) => Command::AddBin {
+fn command<'a>(alloc: &'a Refusing<Global>, order: &Order) -> Made<TestCommand<'a>> {
+    match order {
+        Order::AddBin(id, [width, height, depth]) => Ok(Command::AddBin {
             id: *id,
             width: *width,
             height: *height,
             depth: *depth,
+        }),
+        Order::Pack(boxes, pairs) => match rects(alloc, boxes, pairs) {
+            Ok(rects) => Ok(Command::Pack(rects)),
+            Err(error) => Err(error),
         },
-        Order::Pack(boxes, pairs) => Command::Pack(rects(alloc, boxes, pairs)?),
-        Order::Release(number) => Command::Release(*number),
-        Order::Coalesce(bin, idx, lo, hi) => Command::Coalesce {
+        Order::Release(number) => Ok(Command::Release(*number)),
+        Order::Coalesce(bin, idx, lo, hi) => Ok(Command::Coalesce {
             bin: *bin,
             idx: *idx,
             lo: *lo,
             hi: *hi,
-        },
-        Order::CoalesceAll(bin) => Command::CoalesceAll(*bin),
-    })
+        }),
+        Order::CoalesceAll(bin) => Ok(Command::CoalesceAll(*bin)),
+    }
 }
 
-/// The commands of the steps.
-pub fn commands<'a>(
+fn push_commands<'a>(
     alloc: &'a Refusing<Global>,
-    steps: &[Step],
-) -> Made<Vec<TestCommand<'a>, &'a Refusing<Global>>> {
-    let mut commands = Vec::new(alloc);
-    for step in steps {
-        commands.push(command(alloc, &step.order)?)?;
+    commands: &mut Commands<'a>,
+    lines: &[Line],
+) -> Made<()> {
+    for line in lines {
+        commands.push(command(alloc, &line.order)?)?;
     }
+    Ok(())
+}
+
+fn commands<'a>(alloc: &'a Refusing<Global>, script: &Script) -> Made<Commands<'a>> {
+    let mut commands = Vec::new(alloc);
+    push_commands(alloc, &mut commands, script.lines)?;
     Ok(commands)
 }
 
-fn reply(answer: Result<(), SessionError>) -> Reply {
-    match answer {
-        Ok(()) => Reply::Done,
-        Err(error) => Reply::Refused(error),
+fn stats(held: &Held) -> BinStats {
+    let [bin_volume, free_volume, placed_volume] = held.volumes;
+    let [free_sections, placements] = held.counts;
+    BinStats {
+        bin_volume,
+        free_volume,
+        placed_volume,
+        free_sections,
+        placements,
     }
 }
 
-/// What `pack` answers, by volumes and smallest boxes.
-pub fn pack<'a>(session: &mut TestSession<'a>, rects: &Rects<&'a Refusing<Global>>) -> Reply {
-    match session.pack(rects, &volume_heuristic, &contains_smallest_box) {
-        Ok(packed) => Reply::Packed(packed),
-        Err(error) => Reply::Refused(error),
-    }
+fn is_held(session: &TestSession<'_>, bin: &TargetBin<&Refusing<Global>>, held: &Held) -> bool {
+    has_list(bin, held.free)
+        && session.stats(&held.id) == Some(stats(held))
+        && session.was_coalesced(&held.id) == Some(held.coalesced)
 }
 
-/// What the call of a command answers.
-pub fn call<'a>(session: &mut TestSession<'a>, command: &TestCommand<'a>) -> Reply {
-    match command {
-        Command::AddBin {
-            id,
-            width,
-            height,
-            depth,
-        } => reply(session.add_bin(*id, *width, *height, *depth)),
-        Command::Pack(rects) => pack(session, rects),
-        Command::Release(number) => reply(session.release(*number)),
-        Command::Coalesce { bin, idx, lo, hi } => reply(session.coalesce(bin, *idx, *lo..*hi)),
-        Command::CoalesceAll(bin) => reply(session.coalesce_all(bin)),
-    }
-}
-
-/// What `run` answers, by volumes and smallest boxes.
-pub fn run<'a>(
-    session: &mut TestSession<'a>,
-    commands: &[TestCommand<'a>],
-) -> Made<Vec<Reply, &'a Refusing<Global>>> {
-    session.run(commands, &volume_heuristic, &contains_smallest_box)
-}
-
-/// Whether the replies are those of the steps.
-pub fn are_wanted(replies: &[Reply], steps: &[Step]) -> bool {
-    replies.len() == steps.len()
-        && replies
-            .iter()
-            .zip(steps.iter())
-            .all(|(reply, step)| *reply == step.reply)
-}
-
-fn has_bins(session: &TestSession<'_>, wanted: &[(&'static str, &'static [[u32; 6]])]) -> bool {
-    for ((id, bin), (name, list)) in session.bins().iter().zip(wanted.iter()) {
-        if id != name || !has_list(bin, list) {
+fn has_bins(session: &TestSession<'_>, wanted: &[Held]) -> bool {
+    for ((id, bin), held) in session.bins().iter().zip(wanted.iter()) {
+        if *id != held.id || !is_held(session, bin, held) {
             return false;
         }
     }
     session.bins().len() == wanted.len()
 }
 
-fn is_placed(placement: &Placed, wanted: &(u64, &'static str, &'static str, [u32; 6])) -> bool {
-    let (number, id, bin, numbers) = wanted;
-    placement.number == *number
-        && placement.id == *id
-        && placement.bin == *bin
-        && place(&placement.location) == *numbers
+fn has_placed(placed: &[Outstanding<u32, u32>], wanted: &[PlacedBox]) -> bool {
+    for (placement, (number, id, bin, numbers)) in placed.iter().zip(wanted.iter()) {
+        if placement.number != *number
+            || placement.id != *id
+            || placement.bin != *bin
+            || place(&placement.location) != *numbers
+        {
+            return false;
+        }
+    }
+    placed.len() == wanted.len()
 }
 
-/// Whether the session stands so.
+/// Whether the session stands so. Nothing is said of a bin that is not there.
 pub fn stands(session: &TestSession<'_>, wanted: &Standing) -> bool {
-    let (outstanding, placed) = (session.outstanding(), wanted.placed);
     session.next_number() == wanted.next
         && has_bins(session, wanted.bins)
-        && outstanding.len() == placed.len()
-        && outstanding
-            .iter()
-            .zip(placed.iter())
-            .all(|(placement, wanted)| is_placed(placement, wanted))
+        && has_placed(session.outstanding(), wanted.placed)
+        && session.stats(&NOWHERE).is_none()
+        && session.was_coalesced(&NOWHERE).is_none()
 }
 
 /// How a new session stands.
@@ -238,66 +296,11 @@ pub fn empty(first: u64) -> Standing {
     }
 }
 
-fn is_refused(reply: Reply) -> bool {
-    reply == Reply::Refused(SessionError::OutOfMemory)
-}
-
-// Makes the call of one step.
-fn call_one<'a>(
-    alloc: &'a Refusing<Global>,
-    session: &mut TestSession<'a>,
-    before: &Standing,
-    index: usize,
-    step: &Step,
-) -> Came {
-    let Ok(command) = command(alloc, &step.order) else {
-        return Came::Unmade(index);
-    };
-    let reply = call(session, &command);
-    let (came, wanted) = if is_refused(reply) {
-        (Came::Refused(index), before)
-    } else if reply == step.reply {
-        (Came::Out, &step.after)
-    } else {
-        return Came::Wrong(index);
-    };
-    if stands(session, wanted) {
-        came
-    } else {
-        Came::Wrong(index)
-    }
-}
-
-/// Makes the call of each step, until one does not come out.
-pub fn call_each(alloc: &Refusing<Global>, first: u64, steps: &[Step]) -> Came {
-    let mut session = TestSession::new(alloc, first);
-    let mut before = empty(first);
-    for (index, step) in steps.iter().enumerate() {
-        let came = call_one(alloc, &mut session, &before, index, step);
-        if came != Came::Out {
-            return came;
-        }
-        before = step.after;
-    }
-    Came::Out
-}
-
-// Whether all steps come out by one run.
-fn run_all(alloc: &Refusing<Global>, first: u64, steps: &[Step]) -> Made<bool> {
-    let after = steps.last().map_or(empty(first), |last| last.after);
-    let mut session = TestSession::new(alloc, first);
-    let commands = commands(alloc, steps)?;
-    let replies = run(&mut session, commands.as_slice())?;
-    Ok(are_wanted(replies.as_slice(), steps) && stands(&session, &after))
-}
-
-// Each step comes out by its call, and all of them by one run.
-fn come_out(rt: &impl Abort, alloc: Global, cases: &[(u64, &[Step])]) -> Result<(), Fail> {
-    let alloc = Refusing::new(alloc, u64::MAX);
-    for (first, steps) in cases {
-        assert_eq!(rt; call_each(&alloc, *first, steps), Came::Out);
-        assert!(rt; run_all(&alloc, *first, steps)?);
-        assert_eq!(rt; alloc.taken(), 0);
+/// Each script comes out, by its calls and by one run, with each request refused in turn.
+pub fn come_out(rt: &impl Abort, alloc: Global, scripts: &[Script]) -> Result<(), Fail> {
+    for script in scripts {
+        calls::come_out(rt, alloc, script)?;
+        runs::come_out(rt, alloc, script)?;
     }
     Ok(())
 }

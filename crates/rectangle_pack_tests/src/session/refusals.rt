@@ -1,154 +1,186 @@
 //! Commands that a session refuses, which change nothing.
 
-use super::{FIRST, Order, Standing, Step, TILE, UNKNOWN, WHOLE, come_out};
-use crate::cases::{FULL_BIN, pack_by_volume};
-use crate::exclusions::{A, B};
-use rectangle_pack::{Group, Packed, Reply, SessionError};
+use super::{
+    ADD_BIN, BIN, FIRST, Held, Line, Memory, NEW, ONE_NEW_BIN, Order, Party, Script, Standing,
+    TILE, UNKNOWN, come_out,
+};
+use rectangle_pack::{Packed, Reply, SessionError};
 use std::test::Fail;
 
-const REFUSED: Reply = Reply::Refused(SessionError::NotEnoughBinSpace);
+const NO_SPACE: Reply = Reply::Refused(SessionError::NotEnoughBinSpace);
+
+const DUPLICATE: Reply = Reply::Refused(SessionError::DuplicateBin);
 
 // What is refused is replied in its place, and the commands after it are done.
-const REFUSALS: &[Step] = &[
-    Step {
-        order: Order::AddBin("a", TILE),
-        reply: Reply::Done,
-        after: NEW_BIN,
+const REFUSALS: &[Line] = &[
+    ADD_TILE,
+    Line {
+        order: Order::AddBin(BIN, [1, 1, 1]),
+        memory: Memory::NotAsked,
+        reply: DUPLICATE,
+        after: NEW_TILE,
     },
-    Step {
-        order: Order::AddBin("a", [1, 1, 1]),
-        reply: Reply::Refused(SessionError::DuplicateBin),
-        after: NEW_BIN,
-    },
-    Step {
+    Line {
         order: Order::Release(5),
+        memory: Memory::NotAsked,
         reply: UNKNOWN,
-        after: NEW_BIN,
+        after: NEW_TILE,
     },
-    Step {
+    Line {
         order: Order::Pack(&[], &[]),
+        memory: Memory::NotAsked,
         reply: Reply::Packed(Packed { first: 0, count: 0 }),
-        after: NEW_BIN,
+        after: NEW_TILE,
     },
 ];
 
-const NEW_BIN: Standing = Standing {
-    bins: &[("a", &[FIRST])],
+// A bin that one tile fills.
+const ADD_TILE: Line = Line {
+    order: Order::AddBin(BIN, TILE),
+    memory: Memory::Asked,
+    reply: Reply::Done,
+    after: NEW_TILE,
+};
+
+const NEW_TILE: Standing = Standing {
+    bins: &[Held {
+        free: &[FIRST],
+        volumes: [16, 16, 0],
+        ..NEW
+    }],
     placed: &[],
     next: 0,
 };
 
 // The first box would fill the bin, the second is refused, and neither stays.
-const UNDONE: &[Step] = &[
-    Step {
-        order: Order::AddBin("bin", TILE),
-        reply: Reply::Done,
-        after: FULL_BIN_AS_NEW,
-    },
-    Step {
-        order: Order::Pack(&[("One", TILE, &[]), ("Two", [2, 2, 1], &[])], &[]),
-        reply: REFUSED,
-        after: FULL_BIN_AS_NEW,
+const UNDONE: &[Line] = &[
+    ADD_TILE,
+    Line {
+        order: Order::Pack(&[(1, TILE, &[]), (2, [2, 2, 1], &[])], &[]),
+        memory: Memory::Either,
+        reply: NO_SPACE,
+        after: NEW_TILE,
     },
 ];
-
-const FULL_BIN_AS_NEW: Standing = Standing {
-    bins: &[("bin", &[FIRST])],
-    placed: &[],
-    next: 0,
-};
 
 // A box alone and a group that are excluded, and one bin.
-const EXCLUDED: &[Step] = &[
-    Step {
-        order: Order::AddBin("P", [10, 10, 1]),
-        reply: Reply::Done,
-        after: ONE_NEW_BIN,
-    },
-    Step {
+const EXCLUDED: &[Line] = &[
+    ADD_BIN,
+    Line {
         order: Order::Pack(
-            &[("One", TILE, &[]), ("a", TILE, &["A"])],
-            &[(Group::Ungrouped("One"), A)],
+            &[(1, TILE, &[]), (2, TILE, &[A])],
+            &[(Party::Alone(1), Party::Named(A))],
         ),
-        reply: REFUSED,
+        memory: Memory::Either,
+        reply: NO_SPACE,
         after: ONE_NEW_BIN,
     },
 ];
 
-const ONE_NEW_BIN: Standing = Standing {
-    bins: &[("P", WHOLE)],
-    placed: &[],
-    next: 0,
-};
+// Two groups.
+const A: u32 = 0;
+
+const B: u32 = 1;
 
 // Groups of different packings do not exclude each other.
-const EXCLUDED_BEFORE: &[Step] = &[
-    Step {
-        order: Order::AddBin("P", [10, 10, 1]),
-        reply: Reply::Done,
-        after: ONE_NEW_BIN,
-    },
-    Step {
-        order: Order::Pack(&[("a", TILE, &["A"])], &[(A, B)]),
+const EXCLUDED_BEFORE: &[Line] = &[
+    ADD_BIN,
+    Line {
+        order: Order::Pack(&[(1, TILE, &[A])], &[(Party::Named(A), Party::Named(B))]),
+        memory: Memory::Asked,
         reply: Reply::Packed(Packed { first: 0, count: 1 }),
         after: Standing {
-            bins: &[("P", &[[0, 4, 0, 10, 6, 1], [4, 0, 0, 6, 4, 1]])],
-            placed: &[(0, "a", "P", FIRST)],
+            bins: &[Held {
+                free: &[[0, 4, 0, 10, 6, 1], [4, 0, 0, 6, 4, 1]],
+                volumes: [100, 84, 16],
+                counts: [2, 1],
+                ..NEW
+            }],
+            placed: &[(0, 1, BIN, FIRST)],
             next: 1,
         },
     },
-    Step {
-        order: Order::Pack(&[("b", TILE, &["B"])], &[(A, B)]),
+    Line {
+        order: Order::Pack(&[(2, TILE, &[B])], &[(Party::Named(A), Party::Named(B))]),
+        memory: Memory::Asked,
         reply: Reply::Packed(Packed { first: 1, count: 1 }),
         after: Standing {
-            bins: &[("P", &[[0, 4, 0, 10, 6, 1], [8, 0, 0, 2, 4, 1]])],
-            placed: &[(0, "a", "P", FIRST), (1, "b", "P", [4, 0, 0, 4, 4, 1])],
+            bins: &[Held {
+                free: &[[0, 4, 0, 10, 6, 1], [8, 0, 0, 2, 4, 1]],
+                volumes: [100, 68, 32],
+                counts: [2, 2],
+                ..NEW
+            }],
+            placed: &[(0, 1, BIN, FIRST), (1, 2, BIN, [4, 0, 0, 4, 4, 1])],
             next: 2,
         },
     },
 ];
 
 // A bin that is there keeps its size, its sections and what stands in it.
-const BIN_IN_USE: &[Step] = &[
-    Step {
-        order: Order::AddBin("P", [10, 10, 1]),
-        reply: Reply::Done,
-        after: ONE_NEW_BIN,
-    },
-    Step {
-        order: Order::Pack(&[("p", [4, 10, 1], &[])], &[]),
+const BIN_IN_USE: &[Line] = &[
+    ADD_BIN,
+    Line {
+        order: Order::Pack(&[(1, [4, 10, 1], &[])], &[]),
+        memory: Memory::Asked,
         reply: Reply::Packed(Packed { first: 0, count: 1 }),
         after: IN_USE,
     },
-    Step {
-        order: Order::AddBin("P", [10, 10, 1]),
-        reply: Reply::Refused(SessionError::DuplicateBin),
+    Line {
+        order: Order::AddBin(BIN, [10, 10, 1]),
+        memory: Memory::NotAsked,
+        reply: DUPLICATE,
         after: IN_USE,
     },
     // There is no room for this one beside the other.
-    Step {
-        order: Order::Pack(&[("q", [7, 10, 1], &[])], &[]),
-        reply: REFUSED,
+    Line {
+        order: Order::Pack(&[(2, [7, 10, 1], &[])], &[]),
+        memory: Memory::Either,
+        reply: NO_SPACE,
         after: IN_USE,
     },
 ];
 
 const IN_USE: Standing = Standing {
-    bins: &[("P", &[[4, 0, 0, 6, 10, 1]])],
-    placed: &[(0, "p", "P", [0, 0, 0, 4, 10, 1])],
+    bins: &[Held {
+        free: &[[4, 0, 0, 6, 10, 1]],
+        volumes: [100, 60, 40],
+        counts: [1, 1],
+        ..NEW
+    }],
+    placed: &[(0, 1, BIN, [0, 0, 0, 4, 10, 1])],
     next: 1,
 };
 
-// The box that `pack_rects` leaves in the bin, a session takes back.
+const SCRIPTS: &[Script] = &[
+    Script {
+        first: 0,
+        lines: REFUSALS,
+        refusals: 1,
+    },
+    Script {
+        first: 0,
+        lines: BIN_IN_USE,
+        refusals: 2,
+    },
+    Script {
+        first: 0,
+        lines: EXCLUDED,
+        refusals: 1,
+    },
+    Script {
+        first: 0,
+        lines: EXCLUDED_BEFORE,
+        refusals: 3,
+    },
+    Script {
+        first: 0,
+        lines: UNDONE,
+        refusals: 1,
+    },
+];
+
 #[test]
 fn refusals(rt: HostRuntime) -> Result<(), Fail> {
-    let cases = [
-        (0, REFUSALS),
-        (0, BIN_IN_USE),
-        (0, EXCLUDED),
-        (0, EXCLUDED_BEFORE),
-        (0, UNDONE),
-    ];
-    come_out(&rt, rt.alloc(), &cases)?;
-    pack_by_volume(&rt, rt.alloc(), &[FULL_BIN])
+    come_out(&rt, rt.alloc(), SCRIPTS)
 }

@@ -1,6 +1,9 @@
 //! Numbers of placements, what they release, and what is joined then.
 
-use super::{FIRST, Order, Standing, Step, TILE, UNKNOWN, WHOLE, come_out};
+use super::{
+    ADD_BIN, BIN, FIRST, Held, Line, Memory, NEW, OTHER, Order, PlacedBox, Script, Standing, TILE,
+    UNKNOWN, come_out,
+};
 use rectangle_pack::{Packed, Reply, SessionError};
 use std::test::Fail;
 
@@ -8,161 +11,269 @@ const USED_UP: Reply = Reply::Refused(SessionError::NumbersUsedUp);
 
 const NO_BIN: Reply = Reply::Refused(SessionError::UnknownBin);
 
-const NEW_BIN: Step = Step {
-    order: Order::AddBin("bin", [10, 10, 1]),
-    reply: Reply::Done,
+// Two boxes that fill the bin.
+const P: u32 = 1;
+
+const Q: u32 = 2;
+
+const PLACED_P: PlacedBox = (0, P, BIN, [0, 0, 0, 4, 10, 1]);
+
+const PLACED_Q: PlacedBox = (1, Q, BIN, [4, 0, 0, 6, 10, 1]);
+
+const PACK_P: Line = Line {
+    order: Order::Pack(&[(P, [4, 10, 1], &[])], &[]),
+    memory: Memory::Asked,
+    reply: Reply::Packed(Packed { first: 0, count: 1 }),
     after: Standing {
-        bins: &[("bin", WHOLE)],
-        placed: &[],
-        next: 0,
+        bins: &[Held {
+            free: &[[4, 0, 0, 6, 10, 1]],
+            volumes: [100, 60, 40],
+            counts: [1, 1],
+            ..NEW
+        }],
+        placed: &[PLACED_P],
+        next: 1,
     },
 };
 
-/// A bin that two boxes fill, and that is free again once both are released.
-pub const TWO_RELEASES: &[Step] = &[
-    NEW_BIN,
-    Step {
-        order: Order::Pack(&[("p", [4, 10, 1], &[])], &[]),
-        reply: Reply::Packed(Packed { first: 0, count: 1 }),
-        after: Standing {
-            bins: &[("bin", &[[4, 0, 0, 6, 10, 1]])],
-            placed: &[(0, "p", "bin", [0, 0, 0, 4, 10, 1])],
-            next: 1,
-        },
+const PACK_Q: Line = Line {
+    order: Order::Pack(&[(Q, [6, 10, 1], &[])], &[]),
+    memory: Memory::Asked,
+    reply: Reply::Packed(Packed { first: 1, count: 1 }),
+    after: Standing {
+        bins: &[FULL],
+        placed: &[PLACED_P, PLACED_Q],
+        next: 2,
     },
-    Step {
-        order: Order::Pack(&[("q", [6, 10, 1], &[])], &[]),
-        reply: Reply::Packed(Packed { first: 1, count: 1 }),
-        after: Standing {
-            bins: &[("bin", &[])],
-            placed: &[
-                (0, "p", "bin", [0, 0, 0, 4, 10, 1]),
-                (1, "q", "bin", [4, 0, 0, 6, 10, 1]),
-            ],
-            next: 2,
-        },
+};
+
+const FULL: Held = Held {
+    free: &[],
+    volumes: [100, 0, 100],
+    counts: [0, 2],
+    ..NEW
+};
+
+const RELEASE_P: Line = Line {
+    order: Order::Release(0),
+    memory: Memory::Either,
+    reply: Reply::Done,
+    after: Standing {
+        bins: &[Held {
+            free: &[[0, 0, 0, 4, 10, 1]],
+            volumes: [100, 40, 60],
+            counts: [1, 1],
+            ..NEW
+        }],
+        placed: &[PLACED_Q],
+        next: 2,
     },
-    Step {
-        order: Order::Release(0),
-        reply: Reply::Done,
-        after: Standing {
-            bins: &[("bin", &[[0, 0, 0, 4, 10, 1]])],
-            placed: &[(1, "q", "bin", [4, 0, 0, 6, 10, 1])],
-            next: 2,
-        },
-    },
-    Step {
-        order: Order::Release(1),
-        reply: Reply::Done,
-        after: BOTH_RELEASED,
-    },
+};
+
+const RELEASE_Q: Line = Line {
+    order: Order::Release(1),
+    memory: Memory::Either,
+    reply: Reply::Done,
+    after: BOTH_RELEASED,
+};
+
+// The bin once both boxes are released.
+const BOTH_RELEASED: Standing = Standing {
+    bins: &[Held {
+        free: &[[0, 0, 0, 4, 10, 1], [4, 0, 0, 6, 10, 1]],
+        counts: [2, 0],
+        ..NEW
+    }],
+    placed: &[],
+    next: 2,
+};
+
+// The bin once its two free sections are joined.
+const JOINED: Standing = Standing {
+    bins: &[Held {
+        coalesced: true,
+        ..NEW
+    }],
+    placed: &[],
+    next: 2,
+};
+
+// The same two sections, after a call that was accepted and joined nothing.
+const NOT_JOINED: Standing = Standing {
+    bins: &[Held {
+        free: &[[0, 0, 0, 4, 10, 1], [4, 0, 0, 6, 10, 1]],
+        counts: [2, 0],
+        coalesced: true,
+        ..NEW
+    }],
+    placed: &[],
+    next: 2,
+};
+
+// A bin that two boxes fill, and that is free again once both are released.
+const TWO_RELEASES: &[Line] = &[
+    ADD_BIN,
+    PACK_P,
+    PACK_Q,
+    RELEASE_P,
+    RELEASE_Q,
     // An index past the end and an empty range join nothing.
-    Step {
-        order: Order::Coalesce("bin", 2, 0, 2),
+    Line {
+        order: Order::Coalesce(BIN, 2, 0, 2),
+        memory: Memory::NotAsked,
         reply: Reply::Done,
-        after: BOTH_RELEASED,
+        after: NOT_JOINED,
     },
-    Step {
-        order: Order::Coalesce("bin", 1, 1, 0),
+    Line {
+        order: Order::Coalesce(BIN, 1, 1, 0),
+        memory: Memory::NotAsked,
         reply: Reply::Done,
-        after: BOTH_RELEASED,
+        after: NOT_JOINED,
     },
-    Step {
-        order: Order::Coalesce("other", 0, 0, 2),
+    Line {
+        order: Order::Coalesce(OTHER, 0, 0, 2),
+        memory: Memory::NotAsked,
         reply: NO_BIN,
-        after: BOTH_RELEASED,
+        after: NOT_JOINED,
     },
-    Step {
-        order: Order::Coalesce("bin", 1, 0, 2),
-        reply: Reply::Done,
-        after: JOINED,
-    },
+    JOIN,
     // A released number is unknown.
-    Step {
+    Line {
         order: Order::Release(0),
+        memory: Memory::NotAsked,
         reply: UNKNOWN,
         after: JOINED,
     },
 ];
 
-// A bin that is swept, and a bin that is not there.
-const SWEPT: &[Step] = &[
-    NEW_BIN,
-    Step {
-        order: Order::Pack(&[("p", [4, 10, 1], &[]), ("q", [6, 10, 1], &[])], &[]),
+const JOIN: Line = Line {
+    order: Order::Coalesce(BIN, 1, 0, 2),
+    memory: Memory::NotAsked,
+    reply: Reply::Done,
+    after: JOINED,
+};
+
+const JOIN_NOTHING: Line = Line {
+    order: Order::Coalesce(OTHER, 1, 0, 2),
+    memory: Memory::NotAsked,
+    reply: NO_BIN,
+    after: BOTH_RELEASED,
+};
+
+const SWEEP_NOTHING: Line = Line {
+    order: Order::CoalesceAll(OTHER),
+    memory: Memory::NotAsked,
+    reply: NO_BIN,
+    after: BOTH_RELEASED,
+};
+
+const SWEEP: Line = Line {
+    order: Order::CoalesceAll(BIN),
+    memory: Memory::NotAsked,
+    reply: Reply::Done,
+    after: JOINED,
+};
+
+// A bin that is not there is refused, and both halves of the other are joined, at the second one
+// or by a sweep.
+const HALVES_JOINED: &[Line] = &[
+    ADD_BIN,
+    PACK_P,
+    PACK_Q,
+    RELEASE_P,
+    RELEASE_Q,
+    JOIN_NOTHING,
+    SWEEP_NOTHING,
+    JOIN,
+];
+
+const HALVES_SWEPT: &[Line] = &[
+    ADD_BIN,
+    PACK_P,
+    PACK_Q,
+    RELEASE_P,
+    RELEASE_Q,
+    JOIN_NOTHING,
+    SWEEP_NOTHING,
+    SWEEP,
+];
+
+// Both boxes by one packing, the larger one first.
+const SWEPT: &[Line] = &[
+    ADD_BIN,
+    Line {
+        order: Order::Pack(&[(P, [4, 10, 1], &[]), (Q, [6, 10, 1], &[])], &[]),
+        memory: Memory::Asked,
         reply: Reply::Packed(Packed { first: 0, count: 2 }),
         after: Standing {
-            bins: &[("bin", &[])],
+            bins: &[FULL],
             placed: &[
-                (0, "q", "bin", [0, 0, 0, 6, 10, 1]),
-                (1, "p", "bin", [6, 0, 0, 4, 10, 1]),
+                (0, Q, BIN, [0, 0, 0, 6, 10, 1]),
+                (1, P, BIN, [6, 0, 0, 4, 10, 1]),
             ],
             next: 2,
         },
     },
-    Step {
+    Line {
         order: Order::Release(1),
+        memory: Memory::Either,
         reply: Reply::Done,
         after: Standing {
-            bins: &[("bin", &[[6, 0, 0, 4, 10, 1]])],
-            placed: &[(0, "q", "bin", [0, 0, 0, 6, 10, 1])],
+            bins: &[Held {
+                free: &[[6, 0, 0, 4, 10, 1]],
+                volumes: [100, 40, 60],
+                counts: [1, 1],
+                ..NEW
+            }],
+            placed: &[(0, Q, BIN, [0, 0, 0, 6, 10, 1])],
             next: 2,
         },
     },
-    Step {
+    Line {
         order: Order::Release(0),
+        memory: Memory::Either,
         reply: Reply::Done,
         after: BACKWARDS,
     },
-    Step {
-        order: Order::CoalesceAll("other"),
-        reply: NO_BIN,
+    Line {
         after: BACKWARDS,
+        ..SWEEP_NOTHING
     },
-    Step {
-        order: Order::CoalesceAll("bin"),
-        reply: Reply::Done,
-        after: JOINED,
-    },
+    SWEEP,
 ];
 
 const BACKWARDS: Standing = Standing {
-    bins: &[("bin", &[[6, 0, 0, 4, 10, 1], [0, 0, 0, 6, 10, 1]])],
+    bins: &[Held {
+        free: &[[6, 0, 0, 4, 10, 1], [0, 0, 0, 6, 10, 1]],
+        counts: [2, 0],
+        ..NEW
+    }],
     placed: &[],
     next: 2,
 };
 
-/// That bin once its two free sections are joined.
-pub const JOINED: Standing = Standing {
-    bins: &[("bin", WHOLE)],
-    placed: &[],
-    next: 2,
-};
-
-/// That bin once both boxes are released.
-pub const BOTH_RELEASED: Standing = Standing {
-    bins: &[("bin", &[[0, 0, 0, 4, 10, 1], [4, 0, 0, 6, 10, 1]])],
-    placed: &[],
-    next: 2,
-};
-
-// A box without cells takes no section, and gives none back.
-const EMPTY_BOX: &[Step] = &[
-    NEW_BIN,
-    Step {
-        order: Order::Pack(&[("empty", [0, 5, 1], &[])], &[]),
+// A box without cells takes no section, and gives none back; it is counted.
+const EMPTY_BOX: &[Line] = &[
+    ADD_BIN,
+    Line {
+        order: Order::Pack(&[(P, [0, 5, 1], &[])], &[]),
+        memory: Memory::Asked,
         reply: Reply::Packed(Packed { first: 0, count: 1 }),
         after: Standing {
-            bins: &[("bin", WHOLE)],
-            placed: &[(0, "empty", "bin", [0, 0, 0, 0, 5, 1])],
+            bins: &[Held {
+                counts: [1, 1],
+                ..NEW
+            }],
+            placed: &[(0, P, BIN, [0, 0, 0, 0, 5, 1])],
             next: 1,
         },
     },
-    Step {
+    Line {
         order: Order::Release(0),
+        memory: Memory::NotAsked,
         reply: Reply::Done,
         after: Standing {
-            bins: &[("bin", WHOLE)],
+            bins: &[NEW],
             placed: &[],
             next: 1,
         },
@@ -170,31 +281,39 @@ const EMPTY_BOX: &[Step] = &[
 ];
 
 // The greatest number is never given.
-const LAST_NUMBER: &[Step] = &[
-    Step {
-        order: Order::AddBin("bin", [8, 8, 1]),
+const LAST_NUMBER: &[Line] = &[
+    Line {
+        order: Order::AddBin(BIN, [8, 8, 1]),
+        memory: Memory::Asked,
         reply: Reply::Done,
         after: Standing {
-            bins: &[("bin", &[[0, 0, 0, 8, 8, 1]])],
+            bins: &[Held {
+                free: &[[0, 0, 0, 8, 8, 1]],
+                volumes: [64, 64, 0],
+                ..NEW
+            }],
             placed: &[],
             next: u64::MAX - 1,
         },
     },
-    Step {
-        order: Order::Pack(&[("One", TILE, &[])], &[]),
+    Line {
+        order: Order::Pack(&[(P, TILE, &[])], &[]),
+        memory: Memory::Asked,
         reply: Reply::Packed(Packed {
             first: u64::MAX - 1,
             count: 1,
         }),
         after: AT_THE_END,
     },
-    Step {
-        order: Order::Pack(&[("Two", TILE, &[])], &[]),
+    Line {
+        order: Order::Pack(&[(Q, TILE, &[])], &[]),
+        memory: Memory::NotAsked,
         reply: USED_UP,
         after: AT_THE_END,
     },
-    Step {
+    Line {
         order: Order::Pack(&[], &[]),
+        memory: Memory::NotAsked,
         reply: Reply::Packed(Packed {
             first: u64::MAX,
             count: 0,
@@ -204,14 +323,20 @@ const LAST_NUMBER: &[Step] = &[
 ];
 
 const AT_THE_END: Standing = Standing {
-    bins: &[("bin", &[[0, 4, 0, 8, 4, 1], [4, 0, 0, 4, 4, 1]])],
-    placed: &[(u64::MAX - 1, "One", "bin", FIRST)],
+    bins: &[Held {
+        free: &[[0, 4, 0, 8, 4, 1], [4, 0, 0, 4, 4, 1]],
+        volumes: [64, 48, 16],
+        counts: [2, 1],
+        ..NEW
+    }],
+    placed: &[(u64::MAX - 1, P, BIN, FIRST)],
     next: u64::MAX,
 };
 
 // That there is a number is asked before a bin is.
-const NO_NUMBER: &[Step] = &[Step {
-    order: Order::Pack(&[("One", [1, 1, 1], &[])], &[]),
+const NO_NUMBER: &[Line] = &[Line {
+    order: Order::Pack(&[(P, [1, 1, 1], &[])], &[]),
+    memory: Memory::NotAsked,
     reply: USED_UP,
     after: Standing {
         bins: &[],
@@ -220,14 +345,45 @@ const NO_NUMBER: &[Step] = &[Step {
     },
 }];
 
+const SCRIPTS: &[Script] = &[
+    Script {
+        first: 0,
+        lines: TWO_RELEASES,
+        refusals: 3,
+    },
+    Script {
+        first: 0,
+        lines: HALVES_JOINED,
+        refusals: 3,
+    },
+    Script {
+        first: 0,
+        lines: HALVES_SWEPT,
+        refusals: 3,
+    },
+    Script {
+        first: 0,
+        lines: SWEPT,
+        refusals: 2,
+    },
+    Script {
+        first: 0,
+        lines: EMPTY_BOX,
+        refusals: 2,
+    },
+    Script {
+        first: u64::MAX - 1,
+        lines: LAST_NUMBER,
+        refusals: 2,
+    },
+    Script {
+        first: u64::MAX,
+        lines: NO_NUMBER,
+        refusals: 0,
+    },
+];
+
 #[test]
 fn numbers_and_releases(rt: HostRuntime) -> Result<(), Fail> {
-    let cases = [
-        (0, TWO_RELEASES),
-        (0, SWEPT),
-        (0, EMPTY_BOX),
-        (u64::MAX - 1, LAST_NUMBER),
-        (u64::MAX, NO_NUMBER),
-    ];
-    come_out(&rt, rt.alloc(), &cases)
+    come_out(&rt, rt.alloc(), SCRIPTS)
 }
