@@ -1,112 +1,193 @@
-//! One box in one section: the six cuts, the choice among them, the errors; and sections that share a cell.
+//! One box in one section: the six cuts, the choice among them, the errors; and sections that share
+//! a cell.
 
-use super::shapes::{numbers, place, section};
+use super::shapes::{numbers, place, section, section_of};
 use rectangle_pack::{
     BinSectionError, RectToInsert, WidthHeightDepth, contains_smallest_box, volume_heuristic,
 };
+use std::alloc::Global;
 use std::cmp::Ordering;
+use std::process::Abort;
 use std::test::Fail;
 
-// Each order of the three sizes of a box chooses a cut of its own.
-#[test]
-fn six_cuts(rt: HostRuntime) -> Result<(), Fail> {
-    let cube = section(0, 0, 0, 100, 100, 100);
-    for ([width, height, depth], wanted) in [
-        (
-            [50, 25, 10],
-            [
-                [50, 0, 0, 50, 25, 10],
-                [0, 25, 0, 100, 75, 10],
-                [0, 0, 10, 100, 100, 90],
-            ],
-        ),
-        (
-            [50, 10, 25],
-            [
-                [50, 0, 0, 50, 10, 25],
-                [0, 10, 0, 100, 90, 100],
-                [0, 0, 25, 100, 10, 75],
-            ],
-        ),
-        (
-            [25, 50, 10],
-            [
-                [25, 0, 0, 75, 100, 10],
-                [0, 50, 0, 25, 50, 10],
-                [0, 0, 10, 100, 100, 90],
-            ],
-        ),
-        (
-            [10, 50, 25],
-            [
-                [10, 0, 0, 90, 100, 100],
-                [0, 50, 0, 10, 50, 25],
-                [0, 0, 25, 10, 100, 75],
-            ],
-        ),
-        (
-            [25, 10, 50],
-            [
-                [25, 0, 0, 75, 10, 100],
-                [0, 10, 0, 100, 90, 100],
-                [0, 0, 50, 25, 10, 50],
-            ],
-        ),
-        (
-            [10, 25, 50],
-            [
-                [10, 0, 0, 90, 100, 100],
-                [0, 25, 0, 10, 75, 100],
-                [0, 0, 50, 10, 25, 50],
-            ],
-        ),
-    ] {
-        let rect = RectToInsert::new(width, height, depth);
-        let (location, [right, above, behind]) = cube.try_place(
-            &rect,
-            &contains_smallest_box,
-            &volume_heuristic,
-        )?;
-        assert_eq!(rt; place(&location), [0, 0, 0, width, height, depth]);
-        assert_eq!(rt;
-            [numbers(&right), numbers(&above), numbers(&behind)],
-            wanted
-        );
-    }
-    Ok(())
+// The sizes of a section whose corner is 0, 0, 0 and of a box, and the pieces that are left right
+// of the box, above it and behind it.
+struct Cut {
+    whole: [u32; 3],
+    rect: [u32; 3],
+    pieces: [[u32; 6]; 3],
 }
 
-#[test]
-fn boxes_that_just_fit_or_not(rt: HostRuntime) -> Result<(), Fail> {
-    let strip = section(0, 0, 0, 5, 20, 1);
-    for ([width, height, depth], error) in [
-        ([6, 20, 1], BinSectionError::PlacementWiderThanBinSection),
-        ([5, 21, 1], BinSectionError::PlacementTallerThanBinSection),
-        ([5, 20, 2], BinSectionError::PlacementDeeperThanBinSection),
-    ] {
-        let rect = RectToInsert::new(width, height, depth);
-        let answer = strip.try_place(&rect, &contains_smallest_box, &volume_heuristic);
-        assert!(rt; answer.is_err_and(|found| found == error), "{error}");
-    }
-    let rect = RectToInsert::new(5, 20, 1);
-    let (location, [right, above, behind]) = strip.try_place(
+const CUBE: [u32; 3] = [100, 100, 100];
+
+// Each order of the three sizes of a box chooses a cut of its own. The box in the strip just fits.
+const CUTS: &[Cut] = &[
+    Cut {
+        whole: CUBE,
+        rect: [50, 25, 10],
+        pieces: [
+            [50, 0, 0, 50, 25, 10],
+            [0, 25, 0, 100, 75, 10],
+            [0, 0, 10, 100, 100, 90],
+        ],
+    },
+    Cut {
+        whole: CUBE,
+        rect: [50, 10, 25],
+        pieces: [
+            [50, 0, 0, 50, 10, 25],
+            [0, 10, 0, 100, 90, 100],
+            [0, 0, 25, 100, 10, 75],
+        ],
+    },
+    Cut {
+        whole: CUBE,
+        rect: [25, 50, 10],
+        pieces: [
+            [25, 0, 0, 75, 100, 10],
+            [0, 50, 0, 25, 50, 10],
+            [0, 0, 10, 100, 100, 90],
+        ],
+    },
+    Cut {
+        whole: CUBE,
+        rect: [10, 50, 25],
+        pieces: [
+            [10, 0, 0, 90, 100, 100],
+            [0, 50, 0, 10, 50, 25],
+            [0, 0, 25, 10, 100, 75],
+        ],
+    },
+    Cut {
+        whole: CUBE,
+        rect: [25, 10, 50],
+        pieces: [
+            [25, 0, 0, 75, 10, 100],
+            [0, 10, 0, 100, 90, 100],
+            [0, 0, 50, 25, 10, 50],
+        ],
+    },
+    Cut {
+        whole: CUBE,
+        rect: [10, 25, 50],
+        pieces: [
+            [10, 0, 0, 90, 100, 100],
+            [0, 25, 0, 10, 75, 100],
+            [0, 0, 50, 10, 25, 50],
+        ],
+    },
+    Cut {
+        whole: [5, 20, 1],
+        rect: [5, 20, 1],
+        pieces: [
+            [5, 0, 0, 0, 20, 1],
+            [0, 20, 0, 5, 0, 1],
+            [0, 0, 1, 5, 20, 0],
+        ],
+    },
+    // All six cuts are equally good.
+    Cut {
+        whole: [4, 4, 1],
+        rect: [2, 2, 1],
+        pieces: [[2, 0, 0, 2, 2, 1], [0, 2, 0, 4, 2, 1], [0, 0, 1, 4, 4, 0]],
+    },
+];
+
+// The place of the box and the pieces, by volumes and smallest boxes.
+fn place_and_pieces(whole: [u32; 3], rect: [u32; 3]) -> Result<[[u32; 6]; 4], BinSectionError> {
+    let ([wide, high, deep], [width, height, depth]) = (whole, rect);
+    let rect = RectToInsert::new(width, height, depth);
+    let (location, [right, above, behind]) = section(0, 0, 0, wide, high, deep).try_place(
         &rect,
         &contains_smallest_box,
         &volume_heuristic,
     )?;
-    assert_eq!(rt; place(&location), [0, 0, 0, 5, 20, 1]);
-    assert_eq!(rt;
-        [numbers(&right), numbers(&above), numbers(&behind)],
-        [
-            [5, 0, 0, 0, 20, 1],
-            [0, 20, 0, 5, 0, 1],
-            [0, 0, 1, 5, 20, 0]
-        ]
-    );
+    let pieces = [numbers(&right), numbers(&above), numbers(&behind)];
+    let [right, above, behind] = pieces;
+    Ok([place(&location), right, above, behind])
+}
+
+#[test]
+fn cuts(rt: HostRuntime) -> Result<(), Fail> {
+    for Cut {
+        whole,
+        rect,
+        pieces,
+    } in CUTS {
+        let ([width, height, depth], [right, above, behind]) = (*rect, *pieces);
+        let wanted = [[0, 0, 0, width, height, depth], right, above, behind];
+        assert_eq!(rt; place_and_pieces(*whole, *rect)?, wanted);
+    }
     Ok(())
 }
 
-// The pieces right, above and behind of 50x90x1 in 100x100x1, where every comparison answers the same.
+// A box of this size does not fit into a section of 5x20x1, with this error and its text.
+fn refuses(
+    rt: &impl Abort,
+    alloc: Global,
+    rect: [u32; 3],
+    wanted: BinSectionError,
+    text: &str,
+) -> Result<(), Fail> {
+    match place_and_pieces([5, 20, 1], rect) {
+        Ok(_) => assert!(rt; false, "{rect:?}"),
+        Err(error) => {
+            assert!(rt; error == wanted, "{error}");
+            assert_eq!(rt; format!(in alloc; "{error}")?.as_str(), text);
+        }
+    }
+    Ok(())
+}
+
+#[test]
+fn errors(rt: HostRuntime) -> Result<(), Fail> {
+    let alloc = rt.alloc();
+    refuses(
+        &rt,
+        alloc,
+        [6, 20, 1],
+        BinSectionError::PlacementWiderThanBinSection,
+        "Can not place a rectangle inside of a bin that is wider than that rectangle.",
+    )?;
+    refuses(
+        &rt,
+        alloc,
+        [5, 21, 1],
+        BinSectionError::PlacementTallerThanBinSection,
+        "Can not place a rectangle inside of a bin that is taller than that rectangle.",
+    )?;
+    refuses(
+        &rt,
+        alloc,
+        [5, 20, 2],
+        BinSectionError::PlacementDeeperThanBinSection,
+        "Can not place a rectangle inside of a bin that is deeper than that rectangle.",
+    )
+}
+
+// What every comparison answers, and then the pieces of 50x90x1 in 100x100x1. The first cut stays
+// where it is always better; else the last one is taken.
+const CONSTANT: &[(Ordering, [[u32; 6]; 3])] = &[
+    (
+        Ordering::Greater,
+        [
+            [50, 0, 0, 50, 100, 1],
+            [0, 90, 0, 50, 10, 1],
+            [0, 0, 1, 50, 90, 0],
+        ],
+    ),
+    (Ordering::Less, LAST_CUT),
+    (Ordering::Equal, LAST_CUT),
+];
+
+const LAST_CUT: [[u32; 6]; 3] = [
+    [50, 0, 0, 50, 90, 1],
+    [0, 90, 0, 100, 10, 1],
+    [0, 0, 1, 100, 100, 0],
+];
+
+// The pieces right, above and behind of 50x90x1 in 100x100x1, where every comparison answers the
+// same.
 fn pieces_by<H>(heuristic: &H, answer: Ordering) -> Result<[[u32; 6]; 3], BinSectionError>
 where
     H: Fn(WidthHeightDepth) -> u128,
@@ -118,82 +199,50 @@ where
     Ok([numbers(&right), numbers(&above), numbers(&behind)])
 }
 
-// The first cut stays where it is always better; else the last one is taken.
 #[test]
 fn constant_comparisons(rt: HostRuntime) -> Result<(), Fail> {
-    let last = [
-        [50, 0, 0, 50, 90, 1],
-        [0, 90, 0, 100, 10, 1],
-        [0, 0, 1, 100, 100, 0],
-    ];
-    for (answer, wanted) in [
-        (
-            Ordering::Greater,
-            [
-                [50, 0, 0, 50, 100, 1],
-                [0, 90, 0, 50, 10, 1],
-                [0, 0, 1, 50, 90, 0],
-            ],
-        ),
-        (Ordering::Less, last),
-        (Ordering::Equal, last),
-    ] {
-        assert_eq!(rt; pieces_by(&volume_heuristic, answer)?, wanted, "{answer:?}");
+    for (answer, wanted) in CONSTANT {
+        assert_eq!(rt;
+            pieces_by(&volume_heuristic, *answer)?,
+            *wanted,
+            "{answer:?}"
+        );
     }
     Ok(())
 }
 
+// The largest piece never decides.
 #[test]
-fn texts_of_errors(rt: HostRuntime) -> Result<(), Fail> {
-    let alloc = rt.alloc();
-    for (error, text) in [
-        (
-            BinSectionError::PlacementWiderThanBinSection,
-            "Can not place a rectangle inside of a bin that is wider than that rectangle.",
-        ),
-        (
-            BinSectionError::PlacementTallerThanBinSection,
-            "Can not place a rectangle inside of a bin that is taller than that rectangle.",
-        ),
-        (
-            BinSectionError::PlacementDeeperThanBinSection,
-            "Can not place a rectangle inside of a bin that is deeper than that rectangle.",
-        ),
-    ] {
-        assert_eq!(rt; format!(in alloc; "{error}")?.as_str(), text);
-    }
-    Ok(())
+fn largest_piece_does_not_decide(rt: HostRuntime) {
+    let (size, largest) = (
+        WidthHeightDepth::new(2, 2, 1),
+        WidthHeightDepth::new(4, 4, 1),
+    );
+    let order = contains_smallest_box([size, size, size], [largest, size, size], &volume_heuristic);
+    assert_eq!(rt; order, Ordering::Equal);
 }
 
-// Sharing is by cells: symmetric, never with an empty section, and for ends past the greatest u32.
+// Two sections, and whether they share a cell: sharing is by cells, symmetric, never with an empty
+// section, and for ends past the greatest u32.
+const SHARING: &[([u32; 6], [u32; 6], bool)] = &[
+    ([3, 4, 5, 1, 1, 1], [2, 3, 4, 2, 3, 4], true),
+    ([3, 40, 50, 1, 1, 1], [2, 3, 4, 2, 3, 4], false),
+    ([30, 4, 50, 1, 1, 1], [2, 3, 4, 2, 3, 4], false),
+    ([30, 40, 5, 1, 1, 1], [2, 3, 4, 2, 3, 4], false),
+    ([2, 3, 4, 2, 3, 4], [3, 4, 5, 1, 1, 1], true),
+    ([0, 0, 0, 4, 4, 1], [0, 0, 0, 4, 4, 1], true),
+    ([3, 4, 5, 0, 1, 1], [2, 3, 4, 2, 3, 4], false),
+    (
+        [u32::MAX, 0, 0, u32::MAX, 1, 1],
+        [u32::MAX, 0, 0, 1, 1, 1],
+        true,
+    ),
+];
+
 #[test]
 fn sections_that_share_a_cell(rt: HostRuntime) {
-    let far = u32::MAX;
-    for (one, other, wanted) in [
-        (section(3, 4, 5, 1, 1, 1), section(2, 3, 4, 2, 3, 4), true),
-        (
-            section(3, 40, 50, 1, 1, 1),
-            section(2, 3, 4, 2, 3, 4),
-            false,
-        ),
-        (
-            section(30, 4, 50, 1, 1, 1),
-            section(2, 3, 4, 2, 3, 4),
-            false,
-        ),
-        (
-            section(30, 40, 5, 1, 1, 1),
-            section(2, 3, 4, 2, 3, 4),
-            false,
-        ),
-        (section(2, 3, 4, 2, 3, 4), section(3, 4, 5, 1, 1, 1), true),
-        (section(3, 4, 5, 0, 1, 1), section(2, 3, 4, 2, 3, 4), false),
-        (
-            section(far, 0, 0, far, 1, 1),
-            section(far, 0, 0, 1, 1, 1),
-            true,
-        ),
-    ] {
-        assert_eq!(rt; one.overlaps(&other), wanted, "{one:?} {other:?}");
+    for (one, other, wanted) in SHARING {
+        let shares = section_of(*one).overlaps(&section_of(*other));
+        assert_eq!(rt; shares, *wanted, "{one:?} {other:?}");
     }
 }

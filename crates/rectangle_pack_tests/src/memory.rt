@@ -5,7 +5,7 @@ use std::alloc::Global;
 use std::process::Abort;
 use std::test::Fail;
 
-mod bins;
+pub mod bins;
 mod clones;
 mod collections;
 mod none;

@@ -14,6 +14,12 @@ pub fn section(x: u32, y: u32, z: u32, width: u32, height: u32, depth: u32) -> B
     BinSection::new(x, y, z, whd)
 }
 
+/// The section of these numbers.
+pub fn section_of(numbers: [u32; 6]) -> BinSection {
+    let [x, y, z, width, height, depth] = numbers;
+    section(x, y, z, width, height, depth)
+}
+
 /// The numbers of a section.
 pub fn numbers(section: &BinSection) -> [u32; 6] {
     let whd = section.whd();

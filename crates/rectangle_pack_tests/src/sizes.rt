@@ -1,31 +1,37 @@
 //! Sizes, sections and their orders.
 
-use super::shapes::section;
+use super::shapes::{numbers, section};
 use rectangle_pack::{BinSection, RectToInsert, WidthHeightDepth, volume_heuristic};
+
+const MOST: u32 = u32::MAX;
+
+// Sizes and their volumes.
+const VOLUMES: &[([u32; 3], u128)] = &[
+    ([2, 3, 5], 30),
+    ([MOST, MOST, MOST], 79228162458924105385300197375),
+    ([2, 2, 1], 4),
+    ([0, 0, 0], 0),
+];
 
 #[test]
 fn volumes(rt: HostRuntime) {
-    let unit = WidthHeightDepth::new(2, 3, 5);
-    let largest = WidthHeightDepth::new(u32::MAX, u32::MAX, u32::MAX);
-    for (whd, volume) in [
-        (unit, 30),
-        (largest, 79228162458924105385300197375),
-        (WidthHeightDepth::default(), 0),
-    ] {
-        assert_eq!(rt; whd.volume(), volume);
-        assert_eq!(rt; volume_heuristic(whd), volume);
+    for (size, volume) in VOLUMES {
+        let [width, height, depth] = *size;
+        let whd = section(0, 0, 0, width, height, depth).whd();
+        assert_eq!(rt; [whd.volume(), volume_heuristic(whd)], [*volume, *volume]);
     }
+    assert_eq!(rt; WidthHeightDepth::default().volume(), 0);
+    assert_eq!(rt; volume_heuristic(WidthHeightDepth::default()), 0);
 }
 
 #[test]
 fn numbers_are_kept(rt: HostRuntime) {
     let whd = WidthHeightDepth::new(1, 2, 3);
-    assert_eq!(rt; [whd.width(), whd.height(), whd.depth()], [1, 2, 3]);
     let rect = RectToInsert::new(1, 2, 3);
     assert_eq!(rt; [rect.width(), rect.height(), rect.depth()], [1, 2, 3]);
     assert_eq!(rt; WidthHeightDepth::from(rect), whd);
     let section = BinSection::new(4, 5, 6, whd);
-    assert_eq!(rt; [section.x(), section.y(), section.z()], [4, 5, 6]);
+    assert_eq!(rt; numbers(&section), [4, 5, 6, 1, 2, 3]);
     assert_eq!(rt; section.whd(), whd);
 }
 

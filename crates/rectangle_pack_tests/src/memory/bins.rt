@@ -1,144 +1,180 @@
-//! Bins whose memory is refused.
-ghost use Rattle.std.specs.Prelude.{◌≡◌, [], IfOk};
-ghost use Rattle.rectangle_pack.specs.Bins.{new_bin};
+//! Calls of bins as data, made with each request for memory refused in turn.
 
-use super::{End, refuses_each};
 use crate::refusing::Refusing;
-use crate::shapes::{has_list, numbers, section};
-use crate::trials::{LAYERS, THREE_LEAVE, THREE_PLACES, answers, layered, three_boxes};
+use crate::shapes::{has_list, numbers, place, section_of};
 use rectangle_pack::{
-    FitTests, PushBinSectionError, RectToInsert, TargetBin, contains_smallest_box, volume_heuristic,
+    BinSection, FitTests, PackedLocation, PushBinSectionError, RectToInsert, TargetBin,
+    contains_smallest_box, volume_heuristic,
 };
-use std::alloc::{AllocError, Allocator, Global};
+use std::alloc::{AllocError, Global};
 use std::process::Abort;
-use std::test::Fail;
 
-// Whether the free sections are so many of 1x1x1, one beside the other.
-fn is_row<A: Allocator + Copy>(bin: &TargetBin<A>, count: u32) -> bool {
-    let sections = bin.available_bin_sections();
-    sections.len() == count as usize
-        && (0..count)
-            .zip(sections.iter())
-            .all(|(x, section)| numbers(section) == [x, 0, 0, 1, 1, 1])
+// A bin whose memory may be refused.
+type Bin<'a> = TargetBin<&'a Refusing<Global>>;
+
+/// A call of a bin, and what it answers. A section is x, y, z, width, height and depth; a box is
+/// width, height and depth.
+#[derive(Clone, Copy)]
+pub enum Call {
+    /// Takes the section at this index out.
+    Remove(usize),
+    /// Gives this section back. The bin accepts it where the answer says so.
+    Push([u32; 6], Pushed),
+    /// Gives this section back, which the bin accepts, unchecked.
+    PushUnchecked([u32; 6]),
+    /// Joins at this index over the range from the second number to the third.
+    Coalesce(usize, usize, usize),
+    /// A sweep.
+    CoalesceAll,
+    /// A trial of at most three boxes.
+    Place(&'static [[u32; 3]], Tried),
 }
 
-// A bin 20x20x1 without free sections.
-fn bare<A: Allocator + Copy>(alloc: A) -> Result<TargetBin<A>, AllocError>
-    ensures { IfOk result (λ b. b.bin ≡
-        record (new_bin (record { width = 20; height = 20; depth = 1 })) { sections = [] }) }
-{
-    let mut bin = TargetBin::new(alloc, 20, 20, 1)?;
-    bin.remove_filled_section(0);
-    Ok(bin)
+/// What a checked push answers. A refusal names the pushed section.
+#[derive(Clone, Copy)]
+pub enum Pushed {
+    Accepted,
+    OutOfBounds,
+    /// This free section is in the way.
+    Overlaps([u32; 6]),
 }
 
-#[test]
-fn new_bins(rt: HostRuntime) -> Result<(), Fail> {
-    refuses_each(&rt, rt.alloc(), |refusing| {
-        let Ok(bin) = TargetBin::new(refusing, 4, 5, 6) else {
-            return Ok(End::Refused);
-        };
-        assert!(rt; has_list(&bin, &[[0, 0, 0, 4, 5, 6]]));
-        Ok(End::Done)
-    })
+/// What a trial answers: the places, or `None`, with so many fit tests, which are at most so many.
+#[derive(Clone, Copy)]
+pub struct Tried {
+    pub places: Option<&'static [[u32; 6]]>,
+    pub count: u128,
+    pub most: u128,
 }
 
-#[test]
-fn clones(rt: HostRuntime) -> Result<(), Fail> {
-    refuses_each(&rt, rt.alloc(), |refusing| {
-        let Ok(bin) = layered(refusing) else {
-            return Ok(End::Before);
-        };
-        let clone = bin.clone();
-        assert!(rt; has_list(&bin, &LAYERS));
-        let Ok(clone) = clone else {
-            return Ok(End::Refused);
-        };
-        assert!(rt; has_list(&clone, &LAYERS));
-        Ok(End::Done)
-    })
+/// A call, and the list afterwards.
+#[derive(Clone, Copy)]
+pub struct Step {
+    pub call: Call,
+    pub list: &'static [[u32; 6]],
 }
 
-#[test]
-fn checked_pushes(rt: HostRuntime) -> Result<(), Fail> {
-    refuses_each(&rt, rt.alloc(), |refusing| {
-        let Ok(mut bin) = bare(refusing) else {
-            return Ok(End::Before);
-        };
-        for x in 0..20u32 {
-            let pushed = section(x, 0, 0, 1, 1, 1);
-            let answer = bin.push_available_bin_section(pushed);
-            if let Err(PushBinSectionError::OutOfMemory(refused)) = &answer {
-                assert_eq!(rt; *refused, pushed);
-                assert!(rt; is_row(&bin, x), "{bin:?}");
-                return Ok(End::Refused);
+/// Calls of one bin.
+#[derive(Clone, Copy)]
+pub struct Script {
+    /// What it shows.
+    pub subject: &'static str,
+    pub size: [u32; 3],
+    /// How the bin gets the list.
+    pub start: Start,
+    /// The list before the first step.
+    pub list: &'static [[u32; 6]],
+    pub steps: &'static [Step],
+    /// The steps of a clone that is made at last, if one is. The bin keeps its list meanwhile.
+    pub on_clone: Option<&'static [Step]>,
+}
+
+/// How a bin gets its list.
+#[derive(Clone, Copy)]
+pub enum Start {
+    /// It is new.
+    New,
+    /// Its first section is taken out, and those of the list are pushed.
+    Pushed,
+    /// The same with pushes that are not checked.
+    Unchecked,
+}
+
+// How far a script comes.
+#[derive(Clone, Copy)]
+enum Came {
+    // There was no memory for the bin.
+    Unmade,
+    // A call was refused memory, and left the list as it was.
+    Refused,
+    // A call answers, or leaves, something else than is wanted.
+    Wrong(usize),
+    // All is as wanted.
+    Out,
+}
+
+type Answers = Result<bool, AllocError>;
+
+fn remove(bin: &mut Bin<'_>, idx: usize) -> bool {
+    let there = idx < bin.available_bin_sections().len();
+    if there {
+        bin.remove_filled_section(idx);
+    }
+    there
+}
+
+// Whether a checked push answers this. An error where the section is accepted and memory refused.
+fn push(bin: &mut Bin<'_>, pushed: BinSection, wanted: Pushed) -> Answers {
+    let accepted = bin.accepts(&pushed);
+    let answer = bin.push_available_bin_section(pushed);
+    let (named, answered) = match &answer {
+        Ok(()) => (numbers(&pushed), Pushed::Accepted),
+        Err(PushBinSectionError::OutOfBounds(refused)) => {
+            (numbers(refused), Pushed::OutOfBounds)
+        }
+        Err(
+            PushBinSectionError::Overlaps {
+                remaining_section,
+                new_section,
+            },
+        ) => (
+            numbers(new_section),
+            Pushed::Overlaps(numbers(remaining_section)),
+        ),
+        Err(PushBinSectionError::OutOfMemory(refused)) => {
+            if accepted && numbers(refused) == numbers(&pushed) {
+                return Err(AllocError);
             }
-            assert!(rt; answer.is_ok());
+            return Ok(false);
         }
-        assert!(rt; is_row(&bin, 20), "{bin:?}");
-        Ok(End::Done)
-    })
+    };
+    Ok(named == numbers(&pushed) && is_answer(accepted, answered, wanted))
 }
 
-#[test]
-fn unchecked_pushes(rt: HostRuntime) -> Result<(), Fail> {
-    refuses_each(&rt, rt.alloc(), |refusing| {
-        let Ok(mut bin) = bare(refusing) else {
-            return Ok(End::Before);
-        };
-        for x in 0..20u32 {
-            let pushed = section(x, 0, 0, 1, 1, 1);
-            assert!(rt; bin.accepts(&pushed));
-            if bin.push_available_bin_section_unchecked(pushed).is_err() {
-                assert!(rt; is_row(&bin, x), "{bin:?}");
-                return Ok(End::Refused);
-            }
-        }
-        assert!(rt; is_row(&bin, 20), "{bin:?}");
-        Ok(End::Done)
-    })
+// Whether a push answers as is wanted, of a section that the bin accepts or not.
+fn is_answer(accepted: bool, answered: Pushed, wanted: Pushed) -> bool {
+    match (answered, wanted) {
+        (Pushed::Accepted, Pushed::Accepted) => accepted,
+        (Pushed::OutOfBounds, Pushed::OutOfBounds) => !accepted,
+        (Pushed::Overlaps(section), Pushed::Overlaps(other)) => !accepted && section == other,
+        _ => false,
+    }
 }
 
-#[test]
-fn new_sections(rt: HostRuntime) -> Result<(), Fail> {
-    refuses_each(&rt, rt.alloc(), |refusing| {
-        let Ok(mut bin) = bare(refusing) else {
-            return Ok(End::Before);
-        };
-        let first = [
-            section(0, 0, 0, 1, 1, 1),
-            section(1, 0, 0, 1, 1, 1),
-            section(2, 0, 0, 1, 1, 1),
-        ];
-        if bin.add_new_sections(first).is_err() {
-            assert!(rt; is_row(&bin, 0), "{bin:?}");
-            return Ok(End::Refused);
-        }
-        let second = [
-            section(3, 0, 0, 1, 1, 1),
-            section(4, 0, 0, 1, 1, 1),
-            section(5, 0, 0, 1, 1, 1),
-        ];
-        if bin.add_new_sections(second).is_err() {
-            assert!(rt; is_row(&bin, 3), "{bin:?}");
-            return Ok(End::Refused);
-        }
-        assert!(rt; is_row(&bin, 6), "{bin:?}");
-        Ok(End::Done)
-    })
+fn push_unchecked(bin: &mut Bin<'_>, pushed: BinSection) -> Answers {
+    if !bin.accepts(&pushed) {
+        return Ok(false);
+    }
+    bin.push_available_bin_section_unchecked(pushed)?;
+    Ok(true)
 }
 
-// A trial answers these places, or is stuck, with so many fit tests, and leaves this list. Refused, it leaves the
-// list as it was, and counts no more than the bound.
-fn trial(
-    rt: &impl Abort,
-    mut bin: TargetBin<&Refusing<Global>>,
-    members: &[RectToInsert],
-    before: &[[u32; 6]],
-    places: Option<&[[u32; 6]]>,
-    after: &[[u32; 6]],
-    [count, bound]: [u128; 2],
-) -> Result<End, Fail> {
+// The boxes of these sizes, at most three.
+fn boxes(sizes: &[[u32; 3]]) -> [RectToInsert; 3] {
+    let mut boxes = [RectToInsert::new(0, 0, 0); 3];
+    for (rect, size) in boxes.iter_mut().zip(sizes.iter()) {
+        let [width, height, depth] = *size;
+        *rect = RectToInsert::new(width, height, depth);
+    }
+    boxes
+}
+
+fn are_at(locations: Option<&[PackedLocation]>, wanted: Option<&[[u32; 6]]>) -> bool {
+    match (locations, wanted) {
+        (Some(locations), Some(places)) => {
+            locations.len() == places.len()
+                && locations
+                    .iter()
+                    .zip(places.iter())
+                    .all(|(location, wanted)| place(location) == *wanted)
+        }
+        (None, None) => true,
+        _ => false,
+    }
+}
+
+// Whether a trial answers this. Refused, it counts no more than the bound.
+fn trial(bin: &mut Bin<'_>, members: &[RectToInsert], wanted: Tried) -> Answers {
     let mut tests = FitTests::new();
     let answer = bin.place_all(
         members,
@@ -146,41 +182,151 @@ fn trial(
         &contains_smallest_box,
         &mut tests,
     );
-    let Ok(answer) = answer else {
-        assert!(rt; tests.count() <= bound);
-        assert!(rt; has_list(&bin, before), "{bin:?}");
-        return Ok(End::Refused);
-    };
-    answers(rt, answer, places);
-    assert_eq!(rt; tests.count(), count);
-    assert!(rt; has_list(&bin, after), "{bin:?}");
-    Ok(End::Done)
+    if tests.count() > wanted.most {
+        return Ok(false);
+    }
+    match answer {
+        Err(refused) => Err(refused),
+        Ok(None) => Ok(tests.count() == wanted.count && wanted.places.is_none()),
+        Ok(Some(locations)) => {
+            let counted = tests.count() == wanted.count;
+            Ok(counted && are_at(Some(locations.as_slice()), wanted.places))
+        }
+    }
 }
 
-#[test]
-fn trials(rt: HostRuntime) -> Result<(), Fail> {
-    let alloc = rt.alloc();
-    refuses_each(&rt, alloc, |refusing| {
-        let Ok(bin) = TargetBin::new(refusing, 100, 100, 1) else {
-            return Ok(End::Before);
+// Whether the call answers as is wanted. An error where it is refused memory.
+fn obey(bin: &mut Bin<'_>, call: Call) -> Answers {
+    match call {
+        Call::Remove(idx) => Ok(remove(bin, idx)),
+        Call::Push(numbers, wanted) => push(bin, section_of(numbers), wanted),
+        Call::PushUnchecked(numbers) => push_unchecked(bin, section_of(numbers)),
+        Call::Coalesce(idx, lo, hi) => {
+            bin.coalesce_available_sections(idx, lo..hi);
+            Ok(true)
+        }
+        Call::CoalesceAll => {
+            bin.coalesce_all();
+            Ok(true)
+        }
+        Call::Place(sizes, wanted) => {
+            let boxes = boxes(sizes);
+            match boxes.get(..sizes.len()) {
+                Some(members) => trial(bin, members, wanted),
+                None => Ok(false),
+            }
+        }
+    }
+}
+
+// Pushes the sections of the list into a bin without any. Refused, it has those that came before.
+fn give(bin: &mut Bin<'_>, list: &[[u32; 6]], checked: bool) -> Answers {
+    for (index, numbers) in list.iter().enumerate() {
+        let call = if checked {
+            Call::Push(*numbers, Pushed::Accepted)
+        } else {
+            Call::PushUnchecked(*numbers)
         };
-        let before = [[0, 0, 0, 100, 100, 1]];
-        let places = Some(THREE_PLACES.as_slice());
-        trial(
-            &rt,
-            bin,
-            &three_boxes(),
-            &before,
-            places,
-            &THREE_LEAVE,
-            [4, 9],
-        )
-    })?;
-    refuses_each(&rt, alloc, |refusing| {
-        let Ok(bin) = layered(refusing) else {
-            return Ok(End::Before);
-        };
-        let members = [RectToInsert::new(20, 10, 1), RectToInsert::new(20, 20, 2)];
-        trial(&rt, bin, &members, &LAYERS, None, &LAYERS, [4, 8])
-    })
+        match (obey(bin, call), list.get(..index)) {
+            (Ok(true), _) => {}
+            (Err(refused), Some(before)) if has_list(bin, before) => return Err(refused),
+            _ => return Ok(false),
+        }
+    }
+    Ok(has_list(bin, list))
+}
+
+fn begin(bin: &mut Bin<'_>, script: &Script) -> Answers {
+    match script.start {
+        Start::New => Ok(has_list(bin, script.list)),
+        Start::Pushed => Ok(remove(bin, 0) && give(bin, script.list, true)?),
+        Start::Unchecked => Ok(remove(bin, 0) && give(bin, script.list, false)?),
+    }
+}
+
+// Makes the calls, the list before the first of which is this one.
+fn follow(bin: &mut Bin<'_>, list: &[[u32; 6]], steps: &[Step]) -> Came {
+    let mut before = list;
+    for (index, step) in steps.iter().enumerate() {
+        match obey(bin, step.call) {
+            Ok(true) if has_list(bin, step.list) => before = step.list,
+            Err(_) if has_list(bin, before) => return Came::Refused,
+            _ => return Came::Wrong(index),
+        }
+    }
+    Came::Out
+}
+
+// Makes these calls on a clone of the bin, which keeps its list.
+fn follow_on_clone(bin: &Bin<'_>, list: &[[u32; 6]], steps: &[Step]) -> Came {
+    let came = match bin.clone() {
+        Err(_) => Came::Refused,
+        Ok(mut other) => {
+            if other.max_size() == bin.max_size() && has_list(&other, list) {
+                follow(&mut other, list, steps)
+            } else {
+                Came::Wrong(0)
+            }
+        }
+    };
+    if has_list(bin, list) {
+        came
+    } else {
+        Came::Wrong(0)
+    }
+}
+
+fn follow_all(bin: &mut Bin<'_>, script: &Script) -> Came {
+    match begin(bin, script) {
+        Ok(true) => {}
+        Ok(false) => return Came::Wrong(0),
+        Err(_) => return Came::Refused,
+    }
+    let came = follow(bin, script.list, script.steps);
+    let list = match script.steps.last() {
+        Some(step) => step.list,
+        None => script.list,
+    };
+    match (came, script.on_clone) {
+        (Came::Out, Some(steps)) => follow_on_clone(bin, list, steps),
+        (came, _) => came,
+    }
+}
+
+fn run(refusing: &Refusing<Global>, script: &Script) -> Came {
+    let [width, height, depth] = script.size;
+    match TargetBin::new(refusing, width, height, depth) {
+        Ok(mut bin) => {
+            let max = bin.max_size();
+            if [max.width(), max.height(), max.depth()] == script.size {
+                follow_all(&mut bin, script)
+            } else {
+                Came::Wrong(0)
+            }
+        }
+        Err(_) => Came::Unmade,
+    }
+}
+
+/// Runs the script with each request refused in turn, until none is. Each run gives back all that
+/// it takes. Without memory there is no bin, and the last run has used up what was granted. Answers
+/// whether a request was refused once the bin was made.
+pub fn runs(rt: &impl Abort, alloc: Global, script: &Script) -> bool {
+    let mut refused = false;
+    for granted in 0..200u64 {
+        let refusing = Refusing::new(alloc, granted);
+        let came = run(&refusing, script);
+        assert_eq!(rt; refusing.taken(), 0);
+        match came {
+            Came::Unmade => {}
+            Came::Refused => refused = true,
+            Came::Wrong(step) => assert!(rt; false, "{} {step}", script.subject),
+            Came::Out => {
+                assert!(rt; granted > 0 && refusing.left() == 0, "{}", script.subject);
+                return refused;
+            }
+        }
+    }
+    assert!(rt; false, "{}", script.subject);
+    refused
 }

@@ -1,248 +1,241 @@
 //! Calls that take no memory, while every request is refused.
 
+use super::bins::{Call, Pushed, Script, Start, Step, Tried, runs};
 use super::{End, takes_none};
-use crate::cases::Rects;
 use crate::refusing::Refusing;
-use crate::session::{SizedBox, Standing, TestSession, pack, rects, stands};
-use crate::shapes::{has_list, section};
+use crate::shapes::{has_list, place};
 use rectangle_pack::{
-    FitTests, Group, GroupedRectsToPlace, Packed, PushBinSectionError, RectToInsert, Reply,
-    SessionError, TargetBin, WidthHeightDepth, contains_smallest_box, pack_rects,
-    pack_rects_counted, volume_heuristic,
+    FitTests, Group, GroupedRectsToPlace, Packed, RectToInsert, Session, SessionError, TargetBin,
+    contains_smallest_box, pack_rects, pack_rects_counted, volume_heuristic,
 };
-use std::alloc::{AllocError, Allocator, Global};
-use std::cmp::Ordering;
+use std::alloc::{AllocError, Global};
 use std::collections::BTreeMap;
 use std::process::Abort;
 use std::test::Fail;
 
-type Bins<A> = BTreeMap<u32, TargetBin<A>, A>;
+type Bins<'a> = BTreeMap<u32, TargetBin<&'a Refusing<Global>>, &'a Refusing<Global>>;
 
-type NumberedRects<A> = GroupedRectsToPlace<u32, u32, A>;
+type Rects<'a> = GroupedRectsToPlace<u32, u32, &'a Refusing<Global>>;
 
-fn one_bin<A: Allocator + Copy>(alloc: A) -> Result<Bins<A>, AllocError> {
-    let mut bins = BTreeMap::new(alloc);
-    bins.insert(7, TargetBin::new(alloc, 4, 4, 1)?)?;
-    Ok(bins)
-}
+type TestSession<'a> = Session<u32, u32, &'a Refusing<Global>>;
 
-// A packing of nothing into these bins is done.
-fn packs_nothing<A: Allocator + Copy>(
-    rt: &impl Abort,
-    alloc: A,
-    bins: &mut Bins<A>,
-) -> Result<(), Fail> {
-    let rects: NumberedRects<A> = GroupedRectsToPlace::new(alloc);
-    let packed = pack_rects(
+// Whether a packing of nothing into these bins is done.
+fn packs_nothing<'a>(alloc: &'a Refusing<Global>, bins: &mut Bins<'a>) -> bool {
+    let rects: Rects<'a> = GroupedRectsToPlace::new(alloc);
+    match pack_rects(
         alloc,
         &rects,
         bins,
         &volume_heuristic,
         &contains_smallest_box,
-    )?;
-    assert!(rt; packed.placements().is_empty());
-    assert!(rt; packed.packed_locations().is_empty());
-    Ok(())
+    ) {
+        Ok(packed) => packed.placements().is_empty() && packed.packed_locations().is_empty(),
+        Err(_) => false,
+    }
 }
 
 // The same with a counter, which stays at 0.
-fn counts_nothing<A: Allocator + Copy>(
-    rt: &impl Abort,
-    alloc: A,
-    bins: &mut Bins<A>,
-) -> Result<(), Fail> {
-    let rects: NumberedRects<A> = GroupedRectsToPlace::new(alloc);
+fn counts_nothing<'a>(alloc: &'a Refusing<Global>, bins: &mut Bins<'a>) -> bool {
+    let rects: Rects<'a> = GroupedRectsToPlace::new(alloc);
     let mut tests = FitTests::new();
-    let packed = pack_rects_counted(
+    match pack_rects_counted(
         alloc,
         &rects,
         bins,
         &volume_heuristic,
         &contains_smallest_box,
         &mut tests,
-    )?;
-    assert!(rt; packed.placements().is_empty());
-    assert_eq!(rt; tests.count(), 0);
-    Ok(())
+    ) {
+        Ok(packed) => packed.placements().is_empty() && tests.count() == 0,
+        Err(_) => false,
+    }
+}
+
+// Whether a new collection has no groups, no boxes and no pairs.
+fn is_new(rects: &Rects<'_>) -> bool {
+    rects.groups().is_empty()
+        && rects.rects().is_empty()
+        && !rects.excluded(&Group::Grouped(0), &Group::Ungrouped(0))
 }
 
 // Nothing is granted at all.
 #[test]
-fn collections_and_packings_of_nothing(rt: HostRuntime) -> Result<(), Fail> {
+fn collections_and_packings_of_nothing(rt: HostRuntime) {
     let refusing = Refusing::new(rt.alloc(), 0);
-    let rects: NumberedRects<&Refusing<Global>> = GroupedRectsToPlace::new(&refusing);
-    assert!(rt; rects.groups().is_empty() && rects.rects().is_empty());
-    assert!(rt; !rects.excluded(&Group::Grouped(0), &Group::Ungrouped(0)));
-    let mut bins: Bins<&Refusing<Global>> = BTreeMap::new(&refusing);
-    packs_nothing(&rt, &refusing, &mut bins)?;
-    counts_nothing(&rt, &refusing, &mut bins)
+    let mut bins: Bins<'_> = BTreeMap::new(&refusing);
+    assert!(rt; is_new(&GroupedRectsToPlace::new(&refusing)));
+    assert!(rt; packs_nothing(&refusing, &mut bins));
+    assert!(rt; counts_nothing(&refusing, &mut bins));
 }
 
-// Whether the groups 0 and 1 are excluded, either way round, and the group 0 and the box 1 are not.
-fn has_the_pair<A: Allocator + Copy>(rects: &NumberedRects<A>) -> bool {
+// The groups 0 and 1 are excluded, either way round, and the group 0 and the box 1 are not. To
+// exclude them again changes nothing.
+fn keeps_the_pair(rects: &mut Rects<'_>) -> bool {
     rects.excluded(&Group::Grouped(0), &Group::Grouped(1))
         && rects.excluded(&Group::Grouped(1), &Group::Grouped(0))
         && !rects.excluded(&Group::Grouped(0), &Group::Ungrouped(1))
+        && rects.exclude(Group::Grouped(1), Group::Grouped(0)).is_ok()
+        && rects.exclude(Group::Grouped(0), Group::Grouped(1)).is_ok()
 }
 
-#[test]
-fn pairs_that_are_there(rt: HostRuntime) -> Result<(), Fail> {
-    takes_none(&rt, rt.alloc(), |refusing| {
-        let mut rects: NumberedRects<&Refusing<Global>> = GroupedRectsToPlace::new(refusing);
-        if rects.exclude(Group::Grouped(0), Group::Grouped(1)).is_err() {
-            return Ok(End::Before);
-        }
-        assert_eq!(rt; refusing.left(), 0);
-        assert!(rt; has_the_pair(&rects));
-        rects.exclude(Group::Grouped(1), Group::Grouped(0))?;
-        rects.exclude(Group::Grouped(0), Group::Grouped(1))?;
-        Ok(End::Done)
-    })
-}
-
-#[test]
-fn packing_of_nothing_into_a_bin(rt: HostRuntime) -> Result<(), Fail> {
-    takes_none(&rt, rt.alloc(), |refusing| {
-        let Ok(mut bins) = one_bin(refusing) else {
-            return Ok(End::Before);
-        };
-        assert_eq!(rt; refusing.left(), 0);
-        packs_nothing(&rt, refusing, &mut bins)?;
-        counts_nothing(&rt, refusing, &mut bins)?;
-        Ok(End::Done)
-    })
-}
-
-// A bin 4x4x1, while every request is refused: its readers, and a trial without members.
-fn reads(rt: &impl Abort, bin: &mut TargetBin<&Refusing<Global>>) -> Result<(), Fail> {
-    let mut tests = FitTests::new();
-    let answer = bin.place_all(&[], &volume_heuristic, &contains_smallest_box, &mut tests)?;
-    assert!(rt; answer.is_some_and(|locations| locations.is_empty()));
-    assert_eq!(rt; tests.count(), 0);
-    assert_eq!(rt; bin.max_size(), WidthHeightDepth::new(4, 4, 1));
-    assert_eq!(rt;
-        bin.available_bin_sections().as_slice(),
-        [section(0, 0, 0, 4, 4, 1)].as_slice()
-    );
+fn add_bin<'a>(alloc: &'a Refusing<Global>, bins: &mut Bins<'a>) -> Result<(), AllocError> {
+    let bin = TargetBin::new(alloc, 4, 4, 1)?;
+    bins.insert(7, bin)?;
     Ok(())
 }
 
-// What a checked push refuses before it asks for memory.
-fn refuses_pushes(rt: &impl Abort, bin: &mut TargetBin<&Refusing<Global>>) {
-    let (whole, outside) = (section(0, 0, 0, 4, 4, 1), section(4, 0, 0, 1, 1, 1));
-    assert!(rt; !bin.accepts(&outside) && !bin.accepts(&whole));
-    let answer = bin.push_available_bin_section(outside);
-    assert!(rt; matches!(&answer, Err(PushBinSectionError::OutOfBounds(_))));
-    let answer = bin.push_available_bin_section(whole);
-    assert!(rt; matches!(&answer, Err(PushBinSectionError::Overlaps { .. })));
-    assert!(rt; has_list(bin, &[[0, 0, 0, 4, 4, 1]]));
+// What a session answers to a packing, by volumes and smallest boxes.
+fn pack<'a>(session: &mut TestSession<'a>, rects: &Rects<'a>) -> Result<Packed, SessionError> {
+    session.pack(rects, &volume_heuristic, &contains_smallest_box)
 }
 
-#[test]
-fn calls_of_a_bin(rt: HostRuntime) -> Result<(), Fail> {
-    takes_none(&rt, rt.alloc(), |refusing| {
-        let Ok(mut bin) = TargetBin::new(refusing, 4, 4, 1) else {
-            return Ok(End::Before);
-        };
-        assert_eq!(rt; refusing.left(), 0);
-        reads(&rt, &mut bin)?;
-        refuses_pushes(&rt, &mut bin);
-        Ok(End::Done)
-    })
+// Adds the bin 1 to the session and packs the box 5, which has no cells, into it.
+fn pack_empty<'a>(session: &mut TestSession<'a>, rects: &mut Rects<'a>) -> bool {
+    let empty = RectToInsert::new(0, 5, 1);
+    rects.push_rect(5, None, empty).is_ok()
+        && session.add_bin(1, 10, 10, 1).is_ok()
+        && pack(session, rects).is_ok()
 }
 
-#[test]
-fn removal(rt: HostRuntime) -> Result<(), Fail> {
-    takes_none(&rt, rt.alloc(), |refusing| {
-        let Ok(mut bin) = TargetBin::new(refusing, 4, 4, 1) else {
-            return Ok(End::Before);
-        };
-        assert_eq!(rt; refusing.left(), 0);
-        bin.remove_filled_section(0);
-        assert!(rt; bin.accepts(&section(0, 0, 0, 4, 4, 1)));
-        assert!(rt; has_list(&bin, &[]));
-        Ok(End::Done)
-    })
+// Whether the session has the bin 1, all of it free, the next number 1, and so many placements.
+fn has_bin(session: &TestSession<'_>, placed: usize) -> bool {
+    let list = &[[0, 0, 0, 10, 10, 1]];
+    session.next_number() == 1
+        && session.outstanding().len() == placed
+        && session.bins().len() == 1
+        && match session.bins().get(&1) {
+            Some(bin) => has_list(bin, list),
+            None => false,
+        }
 }
 
-// These are passed no allocator at all.
-#[test]
-fn calls_of_sizes_and_sections(rt: HostRuntime) {
-    let whole = section(0, 0, 0, 4, 4, 1);
-    assert!(rt; whole.overlaps(&whole));
-    let rect = RectToInsert::new(2, 2, 1);
-    assert!(rt;
-        whole
-            .try_place(&rect, &contains_smallest_box, &volume_heuristic)
-            .is_ok()
-    );
-    let size = WidthHeightDepth::from(rect);
-    assert_eq!(rt; (size.volume(), volume_heuristic(size)), (4, 4));
-    let (three, other) = ([size, size, size], [whole.whd(), size, size]);
-    assert_eq!(rt;
-        contains_smallest_box(three, other, &volume_heuristic),
-        Ordering::Equal
-    );
-}
-
-const EMPTY: &[SizedBox] = &[("empty", [0, 5, 1], &[])];
-
-const WITH_EMPTY: Standing = Standing {
-    bins: &[("bin", &[[0, 0, 0, 10, 10, 1]])],
-    placed: &[(0, "empty", "bin", [0, 0, 0, 0, 5, 1])],
-    next: 1,
-};
-
-// A session with a bin and, in it, a box without cells; and that box.
-fn with_empty<'a>(
-    alloc: &'a Refusing<Global>,
-) -> Option<(TestSession<'a>, Rects<&'a Refusing<Global>>)> {
-    let rects: Rects<&'a Refusing<Global>> = rects(alloc, EMPTY, &[]).ok()?;
-    let mut session: TestSession<'a> = TestSession::new(alloc, 0);
-    session.add_bin("bin", 10, 10, 1).ok()?;
-    match pack(&mut session, &rects) {
-        Reply::Packed(_) => Some((session, rects)),
-        _ => None,
+fn has_empty(session: &TestSession<'_>) -> bool {
+    match session.outstanding().first() {
+        Some(placement) => {
+            placement.number == 0
+                && placement.id == 5
+                && placement.bin == 1
+                && place(&placement.location) == [0, 0, 0, 0, 5, 1]
+        }
+        None => false,
     }
 }
 
-fn pack_nothing<'a>(alloc: &'a Refusing<Global>, session: &mut TestSession<'a>) -> Reply {
-    let nothing: Rects<&'a Refusing<Global>> = Rects::new(alloc);
-    pack(session, &nothing)
+fn releases_empty(session: &mut TestSession<'_>) -> bool {
+    has_bin(session, 1)
+        && has_empty(session)
+        && session.release(1) == Err(SessionError::UnknownPlacement)
+        && session.release(0) == Ok(())
+        && has_bin(session, 0)
 }
 
-fn pack_past_the_end<'a>(
+// Whether the packing of a box is refused where numbers are used up.
+fn refuses_past_the_end<'a>(alloc: &'a Refusing<Global>, rects: &Rects<'a>) -> bool {
+    let mut session: TestSession<'a> = Session::new(alloc, u64::MAX);
+    pack(&mut session, rects) == Err(SessionError::NumbersUsedUp)
+}
+
+// Whether a packing of nothing is done.
+fn packs_no_rects<'a>(alloc: &'a Refusing<Global>, session: &mut TestSession<'a>) -> bool {
+    let nothing: Rects<'a> = GroupedRectsToPlace::new(alloc);
+    pack(session, &nothing) == Ok(Packed { first: 1, count: 0 })
+}
+
+// The session has a bin and a box without cells, which are those of `pack_empty`.
+fn calls_of_a_session<'a>(
+    rt: &impl Abort,
     alloc: &'a Refusing<Global>,
-    rects: &Rects<&'a Refusing<Global>>,
-) -> Reply {
-    let mut session: TestSession<'a> = TestSession::new(alloc, u64::MAX);
-    pack(&mut session, rects)
+    session: &mut TestSession<'a>,
+    rects: &Rects<'a>,
+) {
+    assert_eq!(rt; alloc.left(), 0);
+    assert!(rt; session.add_bin(1, 1, 1, 1) == Err(SessionError::DuplicateBin));
+    assert!(rt; refuses_past_the_end(alloc, rects));
+    assert!(rt; packs_no_rects(alloc, session));
+    assert!(rt; releases_empty(session));
 }
 
-fn release_empty(rt: &impl Abort, session: &mut TestSession<'_>) {
-    assert!(rt; stands(session, &WITH_EMPTY));
-    assert!(rt; session.release(1) == Err(SessionError::UnknownPlacement));
-    assert!(rt; session.release(0) == Ok(()));
-    let wanted = Standing {
-        placed: &[],
-        ..WITH_EMPTY
-    };
-    assert!(rt; stands(session, &wanted));
+fn session(rt: &impl Abort, alloc: &Refusing<Global>) -> End {
+    let mut rects: Rects<'_> = GroupedRectsToPlace::new(alloc);
+    let mut session: TestSession<'_> = Session::new(alloc, 0);
+    if !pack_empty(&mut session, &mut rects) {
+        return End::Before;
+    }
+    calls_of_a_session(rt, alloc, &mut session, &rects);
+    End::Done
+}
+
+fn packings(rt: &impl Abort, alloc: &Refusing<Global>) -> End {
+    let mut bins: Bins<'_> = BTreeMap::new(alloc);
+    if add_bin(alloc, &mut bins).is_err() {
+        return End::Before;
+    }
+    assert_eq!(rt; alloc.left(), 0);
+    assert!(rt; packs_nothing(alloc, &mut bins));
+    assert!(rt; counts_nothing(alloc, &mut bins));
+    End::Done
+}
+
+fn pair(rt: &impl Abort, alloc: &Refusing<Global>) -> End {
+    let mut rects: Rects<'_> = GroupedRectsToPlace::new(alloc);
+    if rects.exclude(Group::Grouped(0), Group::Grouped(1)).is_err() {
+        return End::Before;
+    }
+    assert_eq!(rt; alloc.left(), 0);
+    assert!(rt; keeps_the_pair(&mut rects));
+    End::Done
 }
 
 #[test]
-fn calls_of_a_session(rt: HostRuntime) -> Result<(), Fail> {
-    takes_none(&rt, rt.alloc(), |refusing| {
-        let Some((mut session, rects)) = with_empty(refusing) else {
-            return Ok(End::Before);
-        };
-        assert_eq!(rt; refusing.left(), 0);
-        assert!(rt; session.add_bin("bin", 1, 1, 1) == Err(SessionError::DuplicateBin));
-        let used_up = Reply::Refused(SessionError::NumbersUsedUp);
-        assert!(rt; pack_past_the_end(refusing, &rects) == used_up);
-        let nothing = Reply::Packed(Packed { first: 1, count: 0 });
-        assert!(rt; pack_nothing(refusing, &mut session) == nothing);
-        release_empty(&rt, &mut session);
-        Ok(End::Done)
-    })
+fn calls_of_packings_and_sessions(rt: HostRuntime) -> Result<(), Fail> {
+    let alloc = rt.alloc();
+    takes_none(&rt, alloc, |refusing| Ok(session(&rt, refusing)))?;
+    takes_none(&rt, alloc, |refusing| Ok(packings(&rt, refusing)))?;
+    takes_none(&rt, alloc, |refusing| Ok(pair(&rt, refusing)))
+}
+
+const TILE: [u32; 6] = [0, 0, 0, 4, 4, 1];
+
+// The readers of a bin, a trial without members, pushes that are refused before they ask for
+// memory, and a removal, after which there is room.
+const OF_A_BIN: Script = Script {
+    subject: "a bin",
+    size: [4, 4, 1],
+    start: Start::New,
+    list: &[TILE],
+    steps: &[
+        Step {
+            call: Call::Place(
+                &[],
+                Tried {
+                    places: Some(&[]),
+                    count: 0,
+                    most: 0,
+                },
+            ),
+            list: &[TILE],
+        },
+        Step {
+            call: Call::Push([4, 0, 0, 1, 1, 1], Pushed::OutOfBounds),
+            list: &[TILE],
+        },
+        Step {
+            call: Call::Push(TILE, Pushed::Overlaps(TILE)),
+            list: &[TILE],
+        },
+        Step {
+            call: Call::Remove(0),
+            list: &[],
+        },
+        Step {
+            call: Call::Push(TILE, Pushed::Accepted),
+            list: &[TILE],
+        },
+    ],
+    on_clone: None,
+};
+
+#[test]
+fn calls_of_a_bin(rt: HostRuntime) {
+    assert!(rt; !runs(&rt, rt.alloc(), &OF_A_BIN));
 }
