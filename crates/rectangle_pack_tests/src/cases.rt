@@ -1,102 +1,101 @@
 //! Packings as data, and what comes of them.
+ghost use Rattle.rectangle_pack.specs.Closures.{AreCallable};
 
+use super::memory::End;
+use super::refusing::Refusing;
 use super::shapes::{has_list, place};
 use rectangle_pack::{
-    GroupedRectsToPlace, RectToInsert, RectanglePackError, RectanglePackOk, TargetBin,
+    Group, GroupedRectsToPlace, RectToInsert, RectanglePackError, RectanglePackOk, TargetBin,
     WidthHeightDepth, contains_smallest_box, pack_rects, volume_heuristic,
 };
-use std::alloc::{AllocError, Allocator, Global};
+use std::alloc::{AllocError, Global};
+use std::cmp::Ordering;
 use std::collections::BTreeMap;
 use std::process::Abort;
-use std::test::Fail;
 
-/// Bins by their names.
-pub type Bins<A> = BTreeMap<&'static str, TargetBin<A>, A>;
+/// A named group, or the box of this id alone.
+pub type Name = Group<u32, u32>;
 
-/// Boxes to place, by names.
-pub type Rects<A> = GroupedRectsToPlace<&'static str, &'static str, A>;
+/// Boxes to place, by numbers.
+pub type Rects<'a> = GroupedRectsToPlace<u32, u32, &'a Refusing<Global>>;
 
-/// What a packing answers.
-pub type Packed<A> = RectanglePackOk<&'static str, &'static str, A>;
+/// Bins by numbers.
+pub type Bins<'a> = BTreeMap<u32, TargetBin<&'a Refusing<Global>>, &'a Refusing<Global>>;
+
+/// What a packing placed.
+pub type Packed<'a> = RectanglePackOk<u32, u32, &'a Refusing<Global>>;
+
+/// A placement: box, bin and place.
+pub type Placed = (u32, u32, [u32; 6]);
 
 /// A packing, and what comes of it.
-#[derive(Clone, Copy)]
 pub struct Case {
-    /// The bins, by name and size.
-    pub bins: &'static [(&'static str, [u32; 3])],
-    /// The boxes, by name, size and groups; without groups a box is pushed alone.
-    pub boxes: &'static [(&'static str, [u32; 3], &'static [&'static str])],
-    /// The placements in order: box, bin and place. `None` where the packing is refused.
-    pub placements: Option<&'static [(&'static str, &'static str, [u32; 6])]>,
-    /// The lists of the bins afterwards, in the order of `bins`.
-    pub lists: &'static [&'static [[u32; 6]]],
+    /// The bins: id, size, and the free sections afterwards.
+    pub bins: &'static [(u32, [u32; 3], &'static [[u32; 6]])],
+    /// The boxes: id, size and groups; without groups a box is pushed alone.
+    pub boxes: &'static [(u32, [u32; 3], &'static [u32])],
+    /// The groups that are excluded.
+    pub excluded: &'static [(Name, Name)],
+    /// The placements in order. `None` where the packing is refused.
+    pub placements: Option<&'static [Placed]>,
 }
 
 /// A group of two, and a larger box alone, which goes first.
 pub const TWO_IN_A_GROUP: Case = Case {
     bins: &[
-        ("DestinationBinOne", [2048, 2048, 255]),
-        ("DestinationBinTwo", [4096, 4096, 1020]),
+        (
+            1,
+            [2048, 2048, 255],
+            &[
+                [40, 0, 0, 2008, 30, 255],
+                [30, 20, 0, 10, 10, 255],
+                [5, 30, 0, 2043, 2018, 255],
+                [0, 80, 0, 5, 1968, 255],
+            ],
+        ),
+        (2, [4096, 4096, 1020], &[[0, 0, 0, 4096, 4096, 1020]]),
     ],
     boxes: &[
-        ("RectOne", [10, 20, 255], &["GroupIdOne"]),
-        ("RectTwo", [5, 50, 255], &["GroupIdOne"]),
-        ("RectThree", [30, 30, 255], &[]),
+        (1, [10, 20, 255], &[1]),
+        (2, [5, 50, 255], &[1]),
+        (3, [30, 30, 255], &[]),
     ],
+    excluded: &[],
     placements: Some(&[
-        ("RectThree", "DestinationBinOne", [0, 0, 0, 30, 30, 255]),
-        ("RectOne", "DestinationBinOne", [30, 0, 0, 10, 20, 255]),
-        ("RectTwo", "DestinationBinOne", [0, 30, 0, 5, 50, 255]),
+        (3, 1, [0, 0, 0, 30, 30, 255]),
+        (1, 1, [30, 0, 0, 10, 20, 255]),
+        (2, 1, [0, 30, 0, 5, 50, 255]),
     ]),
-    lists: &[
-        &[
-            [40, 0, 0, 2008, 30, 255],
-            [30, 20, 0, 10, 10, 255],
-            [5, 30, 0, 2043, 2018, 255],
-            [0, 80, 0, 5, 1968, 255],
-        ],
-        &[[0, 0, 0, 4096, 4096, 1020]],
-    ],
-};
-
-/// Where every key is the greatest number, the group's sum stays there, and boxes alone go first.
-pub const EQUAL_KEYS: Case = Case {
-    bins: &[("bin", [8, 8, 1])],
-    boxes: &[
-        ("u", [2, 2, 1], &[]),
-        ("x", [4, 4, 1], &["a"]),
-        ("y", [4, 4, 1], &["a"]),
-    ],
-    placements: Some(&[
-        ("u", "bin", [0, 0, 0, 2, 2, 1]),
-        ("x", "bin", [0, 2, 0, 4, 4, 1]),
-        ("y", "bin", [4, 2, 0, 4, 4, 1]),
-    ]),
-    lists: &[&[[2, 0, 0, 6, 2, 1], [0, 6, 0, 8, 2, 1]]],
 };
 
 /// The first box fills the bin, the second is refused, and the first stays.
 pub const FULL_BIN: Case = Case {
-    bins: &[("bin", [4, 4, 1])],
-    boxes: &[("One", [4, 4, 1], &[]), ("Two", [2, 2, 1], &[])],
+    bins: &[(0, [4, 4, 1], &[])],
+    boxes: &[(1, [4, 4, 1], &[]), (2, [2, 2, 1], &[])],
+    excluded: &[],
     placements: None,
-    lists: &[&[]],
 };
 
-/// The bins of a case, each new.
-pub fn bins_of<A: Allocator + Copy>(alloc: A, case: &Case) -> Result<Bins<A>, AllocError> {
-    let mut bins = BTreeMap::new(alloc);
-    let named = case.bins;
-    for (name, size) in named {
+/// Puts in the bins of the case, each new.
+pub fn add_bins<'a>(
+    alloc: &'a Refusing<Global>,
+    case: &Case,
+    bins: &mut Bins<'a>,
+) -> Result<(), AllocError> {
+    let rows = case.bins;
+    for (id, size, _) in rows {
         let [width, height, depth] = *size;
-        bins.insert(*name, TargetBin::new(alloc, width, height, depth)?)?;
+        bins.insert(*id, TargetBin::new(alloc, width, height, depth)?)?;
     }
-    Ok(bins)
+    Ok(())
 }
 
-/// The boxes of a case.
-pub fn rects_of<A: Allocator + Copy>(alloc: A, case: &Case) -> Result<Rects<A>, AllocError> {
-    let mut rects = GroupedRectsToPlace::new(alloc);
+/// Pushes the boxes of the case, and says which groups are excluded.
+pub fn push_boxes<'a>(
+    alloc: &'a Refusing<Global>,
+    case: &Case,
+    rects: &mut Rects<'a>,
+) -> Result<(), AllocError> {
     let boxes = case.boxes;
     for (id, size, groups) in boxes {
         let [width, height, depth] = *size;
@@ -107,91 +106,151 @@ pub fn rects_of<A: Allocator + Copy>(alloc: A, case: &Case) -> Result<Rects<A>, 
         };
         rects.push_rect(*id, named, RectToInsert::new(width, height, depth))?;
     }
-    Ok(rects)
+    exclude_all(rects, case.excluded)
 }
 
-/// Whether the bins of the case have the case's lists.
-pub fn have_lists<A: Allocator + Copy>(bins: &Bins<A>, case: &Case) -> bool {
-    let (names, lists) = (case.bins, case.lists);
-    for ((name, _), list) in names.iter().zip(lists.iter()) {
-        match bins.get(name) {
+/// Excludes the groups of each pair, which differ.
+pub fn exclude_all(rects: &mut Rects, pairs: &[(Name, Name)]) -> Result<(), AllocError> {
+    for (one, other) in pairs {
+        let (one, other) = (one.clone()?, other.clone()?);
+        if one != other {
+            rects.exclude(one, other)?;
+        }
+    }
+    Ok(())
+}
+
+// Whether the bins have the lists of the case.
+fn have_lists(bins: &Bins, case: &Case) -> bool {
+    let rows = case.bins;
+    for (id, _, list) in rows {
+        match bins.get(id) {
             Some(bin) if has_list(bin, list) => {}
             _ => return false,
         }
     }
-    bins.len() == lists.len()
+    bins.len() == rows.len()
 }
 
-/// Whether each bin is as it was when it was new.
-pub fn are_new<A: Allocator + Copy>(bins: &Bins<A>) -> bool {
-    bins.values().all(|bin| {
+// Whether each bin is as it was when it was new.
+fn are_new(bins: &Bins) -> bool {
+    for bin in bins.values() {
         let size = bin.max_size();
-        has_list(bin, &[[0, 0, 0, size.width(), size.height(), size.depth()]])
-    })
-}
-
-/// The placements are these, in order, and each id is found at its last one.
-pub fn shows<A: Allocator + Copy>(
-    rt: &impl Abort,
-    packed: &Packed<A>,
-    wanted: &[(&'static str, &'static str, [u32; 6])],
-) -> Result<(), Fail> {
-    assert_eq!(rt; packed.placements().len(), wanted.len());
-    for (placement, (id, bin, numbers)) in packed.placements().iter().zip(wanted.iter()) {
-        assert_eq!(rt; (placement.id, placement.bin), (*id, *bin));
-        assert_eq!(rt; place(&placement.location), *numbers);
-        assert!(rt; packed.packed_locations().contains_key(id));
+        if !has_list(bin, &[[0, 0, 0, size.width(), size.height(), size.depth()]]) {
+            return false;
+        }
     }
-    finds_last(rt, packed, wanted)
+    true
 }
 
-// Each id that is found is found at the last of these placements of it.
-fn finds_last<A: Allocator + Copy>(
-    rt: &impl Abort,
-    packed: &Packed<A>,
-    wanted: &[(&'static str, &'static str, [u32; 6])],
-) -> Result<(), Fail> {
+// Bin and place of the last of these placements of the box.
+fn last_of(placed: &[Placed], id: u32) -> Option<(u32, [u32; 6])> {
+    let mut last = None;
+    for (of, bin, at) in placed {
+        if *of == id {
+            last = Some((*bin, *at));
+        }
+    }
+    last
+}
+
+// Whether the placements are these, in order, and the box of each is found.
+fn has_placements(packed: &Packed, wanted: &[Placed]) -> bool {
+    for (placed, row) in packed.placements().iter().zip(wanted.iter()) {
+        let is_found = packed.packed_locations().contains_key(&placed.id);
+        if !is_found || (placed.id, placed.bin, place(&placed.location)) != *row {
+            return false;
+        }
+    }
+    packed.placements().len() == wanted.len()
+}
+
+// Whether each box that is found is found at the last of these placements of it.
+fn finds_last(packed: &Packed, wanted: &[Placed]) -> bool {
     for (id, (bin, location)) in packed.packed_locations() {
-        let last = wanted.iter().rev().find(|(wanted, _, _)| wanted == id);
-        let (_, wanted_bin, numbers) = last.ok_or("not placed")?;
-        assert_eq!(rt; bin, wanted_bin);
-        assert_eq!(rt; place(location), *numbers);
+        if last_of(wanted, *id) != Some((*bin, place(location))) {
+            return false;
+        }
     }
-    Ok(())
+    true
 }
 
-/// The answer and the bins afterwards are those of the case.
-pub fn comes_out<A: Allocator + Copy>(
+/// Where a request was refused the bins are as they were new, and else the case came out.
+pub fn ends(
     rt: &impl Abort,
-    answer: Result<Packed<A>, RectanglePackError>,
-    bins: &Bins<A>,
+    answer: &Result<Packed, RectanglePackError>,
+    bins: &Bins,
     case: &Case,
-) -> Result<(), Fail> {
-    match (answer, case.placements) {
-        (Ok(packed), Some(wanted)) => shows(rt, &packed, wanted)?,
-        (Err(error), None) => assert_eq!(rt; error, RectanglePackError::NotEnoughBinSpace),
-        (answer, _) => assert!(rt; false, "{answer:?}"),
+) -> End {
+    if let Err(RectanglePackError::OutOfMemory) = answer {
+        assert!(rt; are_new(bins), "{bins:?}");
+        return End::Refused;
     }
+    let is_so = match (answer, case.placements) {
+        (Ok(packed), Some(wanted)) => {
+            has_placements(packed, wanted) && finds_last(packed, wanted)
+        }
+        (Err(_), None) => true,
+        _ => false,
+    };
+    assert!(rt; is_so, "{answer:?}");
     assert!(rt; have_lists(bins, case), "{bins:?}");
-    Ok(())
+    End::Done
 }
 
-/// Packs the case by `contains_smallest_box` and compares.
-pub fn packs<H>(rt: &impl Abort, alloc: Global, case: &Case, heuristic: &H) -> Result<(), Fail>
+/// Packs the boxes of the case into these bins, by closures that are handed on.
+pub fn packs_into<'a, H, C>(
+    rt: &impl Abort,
+    alloc: &'a Refusing<Global>,
+    case: &Case,
+    bins: &mut Bins<'a>,
+    heuristic: &H,
+    comparison: &C,
+) -> End
 where
     H: Fn(WidthHeightDepth) -> u128,
-    requires { H.IsAlwaysCallable heuristic.now }
+    C: Fn([WidthHeightDepth; 3], [WidthHeightDepth; 3], &H) -> Ordering,
+    requires { AreCallable H.Fn C.Fn heuristic.now comparison.now }
 {
-    let rects = rects_of(alloc, case)?;
-    let mut bins = bins_of(alloc, case)?;
-    let answer = pack_rects(alloc, &rects, &mut bins, heuristic, &contains_smallest_box);
-    comes_out(rt, answer, &bins, case)
+    let mut rects = GroupedRectsToPlace::new(alloc);
+    if push_boxes(alloc, case, &mut rects).is_err() {
+        return End::Before;
+    }
+    let answer = pack_rects(alloc, &rects, bins, heuristic, comparison);
+    ends(rt, &answer, bins, case)
 }
 
-/// The same, by volume, for each case.
-pub fn pack_by_volume(rt: &impl Abort, alloc: Global, cases: &[Case]) -> Result<(), Fail> {
-    for case in cases {
-        packs(rt, alloc, case, &volume_heuristic)?;
+/// The same, into the bins of the case.
+pub fn packs<H, C>(
+    rt: &impl Abort,
+    alloc: &Refusing<Global>,
+    case: &Case,
+    heuristic: &H,
+    comparison: &C,
+) -> End
+where
+    H: Fn(WidthHeightDepth) -> u128,
+    C: Fn([WidthHeightDepth; 3], [WidthHeightDepth; 3], &H) -> Ordering,
+    requires { AreCallable H.Fn C.Fn heuristic.now comparison.now }
+{
+    let mut bins = BTreeMap::new(alloc);
+    if add_bins(alloc, case, &mut bins).is_err() {
+        return End::Before;
     }
-    Ok(())
+    packs_into(rt, alloc, case, &mut bins, heuristic, comparison)
+}
+
+/// Each case comes out, by volume.
+pub fn pack_by_volume(rt: &impl Abort, alloc: Global, cases: &[Case]) {
+    for case in cases {
+        let refusing = Refusing::new(alloc, u64::MAX);
+        let end = packs(
+            rt,
+            &refusing,
+            case,
+            &volume_heuristic,
+            &contains_smallest_box,
+        );
+        assert_eq!(rt; end, End::Done);
+    }
 }

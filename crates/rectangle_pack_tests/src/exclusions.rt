@@ -1,16 +1,16 @@
 //! Groups that are excluded, and the fit tests of whole packings.
 
-use super::cases::{Bins, Case, Rects, bins_of, comes_out, pack_by_volume, rects_of};
+use super::cases::{Case, Name, Rects, add_bins, ends, exclude_all, pack_by_volume, push_boxes};
+use super::memory::End;
 use super::placements::{FULL_AND_EMPTY, THREE_BOXES};
+use super::refusing::Refusing;
 use rectangle_pack::{
-    FitTests, Group, contains_smallest_box, pack_rects_counted, volume_heuristic,
+    FitTests, Group, GroupedRectsToPlace, contains_smallest_box, pack_rects_counted,
+    volume_heuristic,
 };
-use std::alloc::{AllocError, Allocator, Global};
+use std::alloc::Global;
+use std::collections::BTreeMap;
 use std::process::Abort;
-use std::test::Fail;
-
-/// A named group, or the box of this id alone.
-pub type Name = Group<&'static str, &'static str>;
 
 const BIN: [u32; 3] = [10, 10, 1];
 
@@ -20,42 +20,133 @@ const FIRST: [u32; 6] = [0, 0, 0, 4, 4, 1];
 
 const SECOND: [u32; 6] = [4, 0, 0, 4, 4, 1];
 
+const WHOLE: &[[u32; 6]] = &[[0, 0, 0, 10, 10, 1]];
+
 const AFTER_ONE: &[[u32; 6]] = &[[0, 4, 0, 10, 6, 1], [4, 0, 0, 6, 4, 1]];
 
 const AFTER_TWO: &[[u32; 6]] = &[[0, 4, 0, 10, 6, 1], [8, 0, 0, 2, 4, 1]];
 
+const A: Name = Group::Grouped(1);
+
+const B: Name = Group::Grouped(2);
+
+const C: Name = Group::Grouped(3);
+
+// The box of this id alone, which is no group of this name.
+const ALONE: Name = Group::Ungrouped(1);
+
 /// Two groups of one box each, and two bins; the groups are excluded.
 pub const TWO_BINS: Case = Case {
-    bins: &[("P", BIN), ("Q", BIN)],
-    boxes: &[("p", BOX, &["A"]), ("q", BOX, &["B"])],
-    placements: Some(&[("p", "P", FIRST), ("q", "Q", FIRST)]),
-    lists: &[AFTER_ONE, AFTER_ONE],
+    bins: &[(1, BIN, AFTER_ONE), (2, BIN, AFTER_ONE)],
+    boxes: &[(1, BOX, &[1]), (2, BOX, &[2])],
+    excluded: &[(A, B)],
+    placements: Some(&[(1, 1, FIRST), (2, 2, FIRST)]),
 };
 
 /// The same groups and one bin.
 pub const ONE_BIN: Case = Case {
-    bins: &[("P", BIN)],
-    boxes: &[("p", BOX, &["A"]), ("q", BOX, &["B"])],
+    bins: &[(1, BIN, AFTER_ONE)],
+    boxes: &[(1, BOX, &[1]), (2, BOX, &[2])],
+    excluded: &[(A, B)],
     placements: None,
-    lists: &[AFTER_ONE],
 };
 
-/// The groups of most of these packings.
-pub const A: Name = Group::Grouped("A");
+// Without the pair both groups go into one bin.
+const NOT_EXCLUDED: Case = Case {
+    bins: &[(1, BIN, AFTER_TWO), (2, BIN, WHOLE)],
+    boxes: &[(1, BOX, &[1]), (2, BOX, &[2])],
+    excluded: &[],
+    placements: Some(&[(1, 1, FIRST), (2, 1, SECOND)]),
+};
 
-pub const B: Name = Group::Grouped("B");
+const NOTHING: Case = Case {
+    bins: &[(1, BIN, WHOLE)],
+    boxes: &[],
+    excluded: &[(A, B)],
+    placements: Some(&[]),
+};
 
-const C: Name = Group::Grouped("C");
+// The third group goes where the first did, with which it is not excluded.
+const CHAIN: Case = Case {
+    bins: &[(1, BIN, AFTER_TWO), (2, BIN, AFTER_ONE)],
+    boxes: &[(1, BOX, &[1]), (2, BOX, &[2]), (3, BOX, &[3])],
+    excluded: &[(A, B), (B, C)],
+    placements: Some(&[(1, 1, FIRST), (2, 2, FIRST), (3, 1, SECOND)]),
+};
 
-// The box of this id alone, which is no group of this name.
-const ALONE: Name = Group::Ungrouped("A");
+const IN_BOTH: Case = Case {
+    bins: &[(1, BIN, AFTER_ONE), (2, BIN, AFTER_ONE)],
+    boxes: &[(1, BOX, &[1, 2])],
+    excluded: &[(A, B)],
+    placements: Some(&[(1, 1, FIRST), (1, 2, FIRST)]),
+};
 
-const NONE: &[(Name, Name)] = &[];
+const ALONE_AND_GROUP: Case = Case {
+    bins: &[(1, BIN, AFTER_ONE)],
+    boxes: &[(1, BOX, &[]), (2, BOX, &[1])],
+    excluded: &[(ALONE, A)],
+    placements: None,
+};
 
-const A_AND_B: &[(Name, Name)] = &[(A, B)];
+// No box is in the group 9.
+const ONE_GROUP: Case = Case {
+    bins: &[(1, BIN, AFTER_ONE)],
+    boxes: &[(1, BOX, &[1])],
+    excluded: &[(A, Group::Grouped(9))],
+    placements: Some(&[(1, 1, FIRST)]),
+};
 
-// Whether two groups are excluded, once A and B are, and the box A and C.
-const PAIRS: [(Name, Name, bool); 7] = [
+// The count after each packing, from none before the first.
+const COUNTED: &[(Case, u128)] = &[
+    (THREE_BOXES, 4),
+    (FULL_AND_EMPTY, 4 + 2),
+    (TWO_BINS, 6 + 2),
+    (ONE_BIN, 8 + 1),
+    (NOTHING, 9),
+    (CHAIN, 9 + 3),
+    (IN_BOTH, 12 + 2),
+    (ALONE_AND_GROUP, 14 + 1),
+    (ONE_GROUP, 15 + 1),
+];
+
+/// Packs the case by volume, and adds its fit tests to a counter.
+pub fn counts(rt: &impl Abort, alloc: &Refusing<Global>, case: &Case, tests: &mut FitTests) -> End {
+    let mut rects = GroupedRectsToPlace::new(alloc);
+    let mut bins = BTreeMap::new(alloc);
+    if push_boxes(alloc, case, &mut rects).is_err() || add_bins(alloc, case, &mut bins).is_err() {
+        return End::Before;
+    }
+    let answer = pack_rects_counted(
+        alloc,
+        &rects,
+        &mut bins,
+        &volume_heuristic,
+        &contains_smallest_box,
+        tests,
+    );
+    ends(rt, &answer, &bins, case)
+}
+
+// Each packing adds its tests to those of the ones before; without groups none is added.
+#[test]
+fn counted_packings(rt: HostRuntime) {
+    let refusing = Refusing::new(rt.alloc(), u64::MAX);
+    let mut tests = FitTests::new();
+    for (case, count) in COUNTED {
+        let end = counts(&rt, &refusing, case, &mut tests);
+        assert!(rt; end == End::Done && tests.count() == *count, "{count}");
+    }
+}
+
+#[test]
+fn groups_that_are_not_excluded(rt: HostRuntime) {
+    pack_by_volume(&rt, rt.alloc(), &[NOT_EXCLUDED]);
+}
+
+const EXCLUDED: &[(Name, Name)] = &[(A, B), (B, A), (A, B), (ALONE, C)];
+
+// Whether two groups are excluded, once these are.
+const PAIRS: &[(Name, Name, bool)] = &[
     (A, B, true),
     (B, A, true),
     (ALONE, C, true),
@@ -65,130 +156,20 @@ const PAIRS: [(Name, Name, bool); 7] = [
     (A, A, false),
 ];
 
-/// Excludes the groups of each pair, which differ.
-pub fn exclude_all<M: Allocator + Copy>(
-    rects: &mut Rects<M>,
-    pairs: &[(Name, Name)],
-) -> Result<(), AllocError> {
-    for (one, other) in pairs {
-        let (one, other) = (one.clone()?, other.clone()?);
-        if one != other {
-            rects.exclude(one, other)?;
+fn has_pairs(rects: &Rects) -> bool {
+    for (one, other, wanted) in PAIRS {
+        if rects.excluded(one, other) != *wanted {
+            return false;
         }
     }
-    Ok(())
-}
-
-// The case, with these pairs excluded, adds so many fit tests to a counter.
-fn counts(
-    rt: &impl Abort,
-    alloc: Global,
-    case: &Case,
-    pairs: &[(Name, Name)],
-    tests: &mut FitTests,
-) -> Result<(), Fail> {
-    let mut bins: Bins<Global> = bins_of(alloc, case)?;
-    let mut rects: Rects<Global> = rects_of(alloc, case)?;
-    exclude_all(&mut rects, pairs)?;
-    let answer = pack_rects_counted(
-        alloc,
-        &rects,
-        &mut bins,
-        &volume_heuristic,
-        &contains_smallest_box,
-        tests,
-    );
-    comes_out(rt, answer, &bins, case)
-}
-
-// Without the pair both groups go into one bin.
-#[test]
-fn groups_that_are_not_excluded(rt: HostRuntime) -> Result<(), Fail> {
-    let case = Case {
-        placements: Some(&[("p", "P", FIRST), ("q", "P", SECOND)]),
-        lists: &[AFTER_TWO, &[[0, 0, 0, 10, 10, 1]]],
-        ..TWO_BINS
-    };
-    pack_by_volume(&rt, rt.alloc(), &[case])
-}
-
-const NOTHING: Case = Case {
-    bins: &[("P", BIN)],
-    boxes: &[],
-    placements: Some(&[]),
-    lists: &[&[[0, 0, 0, 10, 10, 1]]],
-};
-
-// Each packing adds its tests to those of the ones before; without groups none is added.
-#[test]
-fn counted_packings(rt: HostRuntime) -> Result<(), Fail> {
-    let alloc = rt.alloc();
-    let mut tests = FitTests::new();
-    for (case, pairs, count) in [
-        (THREE_BOXES, NONE, 4),
-        (FULL_AND_EMPTY, NONE, 4 + 2),
-        (TWO_BINS, A_AND_B, 4 + 2 + 2),
-        (ONE_BIN, A_AND_B, 4 + 2 + 2 + 1),
-        (NOTHING, A_AND_B, 4 + 2 + 2 + 1),
-    ] {
-        counts(&rt, alloc, &case, pairs, &mut tests)?;
-        assert_eq!(rt; tests.count(), count);
-    }
-    Ok(())
-}
-
-// The third group goes where the first did, with which it is not excluded.
-const CHAIN: Case = Case {
-    bins: &[("P", BIN), ("Q", BIN)],
-    boxes: &[("a", BOX, &["A"]), ("b", BOX, &["B"]), ("c", BOX, &["C"])],
-    placements: Some(&[("a", "P", FIRST), ("b", "Q", FIRST), ("c", "P", SECOND)]),
-    lists: &[AFTER_TWO, AFTER_ONE],
-};
-
-const IN_BOTH: Case = Case {
-    bins: &[("P", BIN), ("Q", BIN)],
-    boxes: &[("One", BOX, &["A", "B"])],
-    placements: Some(&[("One", "P", FIRST), ("One", "Q", FIRST)]),
-    lists: &[AFTER_ONE, AFTER_ONE],
-};
-
-const ALONE_AND_GROUP: Case = Case {
-    bins: &[("P", BIN)],
-    boxes: &[("One", BOX, &[]), ("a", BOX, &["A"])],
-    placements: None,
-    lists: &[AFTER_ONE],
-};
-
-const ONE_GROUP: Case = Case {
-    bins: &[("P", BIN)],
-    boxes: &[("a", BOX, &["A"])],
-    placements: Some(&[("a", "P", FIRST)]),
-    lists: &[AFTER_ONE],
-};
-
-#[test]
-fn packings_with_exclusions(rt: HostRuntime) -> Result<(), Fail> {
-    let alloc = rt.alloc();
-    let mut tests = FitTests::new();
-    for (case, pairs) in [
-        (CHAIN, [(A, B), (B, C)].as_slice()),
-        (IN_BOTH, A_AND_B),
-        (ALONE_AND_GROUP, &[(Group::Ungrouped("One"), A)]),
-        // No box is in the group Z.
-        (ONE_GROUP, &[(A, Group::Grouped("Z"))]),
-    ] {
-        counts(&rt, alloc, &case, pairs, &mut tests)?;
-    }
-    Ok(())
+    true
 }
 
 #[test]
-fn pairs(rt: HostRuntime) -> Result<(), Fail> {
-    let mut rects = Rects::new(rt.alloc());
-    exclude_all(&mut rects, &[(A, B), (B, A), (A, B), (ALONE, C)])?;
-    for (one, other, excluded) in PAIRS {
-        assert_eq!(rt; rects.excluded(&one, &other), excluded, "{one:?} {other:?}");
-    }
+fn pairs(rt: HostRuntime) {
+    let refusing = Refusing::new(rt.alloc(), u64::MAX);
+    let mut rects = GroupedRectsToPlace::new(&refusing);
+    assert!(rt; exclude_all(&mut rects, EXCLUDED).is_ok());
+    assert!(rt; has_pairs(&rects), "{rects:?}");
     assert!(rt; rects.groups().is_empty());
-    Ok(())
 }

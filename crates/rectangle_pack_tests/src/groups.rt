@@ -1,266 +1,245 @@
 //! Boxes in groups: the collection, and its packings.
 
-use super::cases::{Case, EQUAL_KEYS, TWO_IN_A_GROUP, pack_by_volume, packs};
-use rectangle_pack::{Group, GroupedRectsToPlace, RectToInsert, WidthHeightDepth};
+use super::cases::{Case, Name, TWO_IN_A_GROUP, pack_by_volume};
+use rectangle_pack::{Group, GroupedRectsToPlace, RectToInsert};
 use std::alloc::{AllocError, Global};
-use std::fmt::Debug;
-use std::process::Abort;
 use std::test::Fail;
 
 const SIZE: [u32; 3] = [10, 10, 1];
 
-// The groups are these, in order, with these ids.
-fn has_groups<Id, GroupId>(
-    rt: &impl Abort,
-    all: &GroupedRectsToPlace<Id, GroupId>,
-    groups: &[(Group<GroupId, Id>, &[Id])],
-)
-where
-    Id: Ord + Clone + Drop + Debug,
-    GroupId: Ord + Clone + Drop + Debug,
-{
-    assert_eq!(rt; all.groups().len(), groups.len());
-    for ((group, ids), (wanted, wanted_ids)) in all.groups().iter().zip(groups.iter()) {
-        assert_eq!(rt; group, wanted);
-        assert_eq!(rt; ids.as_slice(), *wanted_ids);
-    }
+// A box: id and size.
+type Sized = (u32, [u32; 3]);
+
+// Pushes, and what they give.
+struct Pushes {
+    // A box and the groups of each push; without groups it is pushed alone.
+    pushes: &'static [(Sized, &'static [u32])],
+    // The groups in order, with their ids.
+    groups: &'static [(Name, &'static [u32])],
+    // The boxes in order.
+    boxes: &'static [Sized],
 }
 
-// The boxes are these, in order, with these sizes.
-fn has_sizes<Id, GroupId>(
-    rt: &impl Abort,
-    all: &GroupedRectsToPlace<Id, GroupId>,
-    sizes: &[(Id, [u32; 3])],
-)
-where
-    Id: Ord + Clone + Drop + Debug,
-    GroupId: Ord + Clone + Drop + Debug,
-{
-    assert_eq!(rt; all.rects().len(), sizes.len());
-    for ((id, rect), (wanted, size)) in all.rects().iter().zip(sizes.iter()) {
-        assert_eq!(rt; id, wanted);
-        assert_eq!(rt; [rect.width(), rect.height(), rect.depth()], *size);
-    }
-}
+const PUSHES: &[Pushes] = &[
+    Pushes {
+        pushes: &[((1, SIZE), &[])],
+        groups: &[(Group::Ungrouped(1), &[1])],
+        boxes: &[(1, SIZE)],
+    },
+    Pushes {
+        pushes: &[((1, SIZE), &[0]), ((2, SIZE), &[0])],
+        groups: &[(Group::Grouped(0), &[1, 2])],
+        boxes: &[(1, SIZE), (2, SIZE)],
+    },
+    Pushes {
+        pushes: &[((7, SIZE), &[0, 1])],
+        groups: &[(Group::Grouped(0), &[7]), (Group::Grouped(1), &[7])],
+        boxes: &[(7, SIZE)],
+    },
+    Pushes {
+        pushes: &[((1, SIZE), &[0, 0])],
+        groups: &[(Group::Grouped(0), &[1, 1])],
+        boxes: &[(1, SIZE)],
+    },
+    // At a second push the size is the last one, and the box stays where it was before.
+    Pushes {
+        pushes: &[((1, SIZE), &[]), ((1, [3, 4, 5]), &[0])],
+        groups: &[(Group::Ungrouped(1), &[1]), (Group::Grouped(0), &[1])],
+        boxes: &[(1, [3, 4, 5])],
+    },
+];
 
-// The groups are these, in order, and each box has its size.
-fn shows<Id, GroupId>(
-    rt: &impl Abort,
-    all: &GroupedRectsToPlace<Id, GroupId>,
-    groups: &[(Group<GroupId, Id>, &[Id])],
-    sizes: &[(Id, [u32; 3])],
-) -> Result<(), Fail>
-where
-    Id: Ord + Clone + Drop + Debug,
-    GroupId: Ord + Clone + Drop + Debug,
-{
-    has_groups(rt, all, groups);
-    has_sizes(rt, all, sizes);
+fn push_all(
+    alloc: Global,
+    all: &mut GroupedRectsToPlace<u32, u32>,
+    pushes: &[(Sized, &[u32])],
+) -> Result<(), AllocError> {
+    for ((id, size), groups) in pushes {
+        let [width, height, depth] = *size;
+        let named = if groups.is_empty() {
+            None
+        } else {
+            Some(groups.to_vec(alloc)?)
+        };
+        all.push_rect(*id, named, RectToInsert::new(width, height, depth))?;
+    }
     Ok(())
 }
 
-// These pushes, each of a box 10x10x1 alone or into a list of groups, give these groups.
-fn pushes_give(
-    rt: &impl Abort,
-    alloc: Global,
-    pushes: &[(&'static str, &[u32])],
-    groups: &[(Group<u32, &'static str>, &[&'static str])],
-    sizes: &[(&'static str, [u32; 3])],
-) -> Result<(), Fail> {
-    let mut all = GroupedRectsToPlace::new(alloc);
-    for (id, named) in pushes {
-        let named = if named.is_empty() {
-            None
-        } else {
-            Some(named.to_vec(alloc)?)
-        };
-        all.push_rect(*id, named, RectToInsert::new(10, 10, 1))?;
+// Whether the groups are these, in order, with these ids.
+fn has_groups(all: &GroupedRectsToPlace<u32, u32>, wanted: &[(Name, &[u32])]) -> bool {
+    for ((group, ids), (name, members)) in all.groups().iter().zip(wanted.iter()) {
+        if group != name || ids.as_slice() != *members {
+            return false;
+        }
     }
-    shows(rt, &all, groups, sizes)
+    all.groups().len() == wanted.len()
+}
+
+// Whether the boxes are these, in order, with these sizes.
+fn has_boxes(all: &GroupedRectsToPlace<u32, u32>, wanted: &[Sized]) -> bool {
+    for ((id, rect), (name, size)) in all.rects().iter().zip(wanted.iter()) {
+        if id != name || [rect.width(), rect.height(), rect.depth()] != *size {
+            return false;
+        }
+    }
+    all.rects().len() == wanted.len()
+}
+
+// Whether the pushes give these groups and boxes.
+fn gives(alloc: Global, row: &Pushes) -> bool {
+    let mut all = GroupedRectsToPlace::new(alloc);
+    push_all(alloc, &mut all, row.pushes).is_ok()
+        && has_groups(&all, row.groups)
+        && has_boxes(&all, row.boxes)
 }
 
 #[test]
-fn pushes_into_groups(rt: HostRuntime) -> Result<(), Fail> {
-    let alloc = rt.alloc();
-    pushes_give(
-        &rt,
-        alloc,
-        &[("One", &[])],
-        &[(Group::Ungrouped("One"), &["One"])],
-        &[("One", SIZE)],
-    )?;
-    pushes_give(
-        &rt,
-        alloc,
-        &[("One", &[0]), ("Two", &[0])],
-        &[(Group::Grouped(0), &["One", "Two"])],
-        &[("One", SIZE), ("Two", SIZE)],
-    )?;
-    pushes_give(
-        &rt,
-        alloc,
-        &[("One", &[0, 1])],
-        &[(Group::Grouped(0), &["One"]), (Group::Grouped(1), &["One"])],
-        &[("One", SIZE)],
-    )?;
-    pushes_give(
-        &rt,
-        alloc,
-        &[("One", &[0, 0])],
-        &[(Group::Grouped(0), &["One", "One"])],
-        &[("One", SIZE)],
-    )
+fn pushes_into_groups(rt: HostRuntime) {
+    for row in PUSHES {
+        assert!(rt; gives(rt.alloc(), row), "{:?}", row.groups);
+    }
 }
 
-// The size is the last one, and the box stays where it was before.
-#[test]
-fn second_push_of_an_id(rt: HostRuntime) -> Result<(), Fail> {
-    let alloc = rt.alloc();
-    let mut all: GroupedRectsToPlace<&'static str, u32> = GroupedRectsToPlace::new(alloc);
-    all.push_rect("One", None, RectToInsert::new(10, 10, 1))?;
-    all.push_rect("One", Some(vec![in alloc; 0]?), RectToInsert::new(3, 4, 5))?;
-    shows(
-        &rt,
-        &all,
-        &[
-            (Group::Ungrouped("One"), &["One"]),
-            (Group::Grouped(0), &["One"]),
-        ],
-        &[("One", [3, 4, 5])],
-    )
+// Whether these are all boxes, in this one group, in order and each of the size of the pushes.
+fn are_in_one_group<T: Ord + Clone + Drop>(
+    all: &GroupedRectsToPlace<T, T>,
+    group: &Group<T, T>,
+    ids: &[T],
+) -> bool {
+    for id in ids {
+        match all.rects().get(id) {
+            Some(rect) if [rect.width(), rect.height(), rect.depth()] == SIZE => {}
+            _ => return false,
+        }
+    }
+    match all.groups().get(group) {
+        Some(members) if members.as_slice() == ids => {
+            all.groups().len() == 1 && all.rects().len() == ids.len()
+        }
+        _ => false,
+    }
 }
 
 #[test]
-fn numbers_as_ids(rt: HostRuntime) -> Result<(), Fail> {
+fn texts_as_ids(rt: HostRuntime) -> Result<(), Fail> {
     let alloc = rt.alloc();
-    let mut all: GroupedRectsToPlace<u32, u32> = GroupedRectsToPlace::new(alloc);
-    all.push_rect(7, Some(vec![in alloc; 0, 1]?), RectToInsert::new(10, 10, 1))?;
-    shows(
-        &rt,
-        &all,
-        &[(Group::Grouped(0), &[7]), (Group::Grouped(1), &[7])],
-        &[(7, SIZE)],
-    )
+    let mut all = GroupedRectsToPlace::new(alloc);
+    for id in ["One", "Two"] {
+        all.push_rect(
+            id,
+            Some(vec![in alloc; "group"]?),
+            RectToInsert::new(10, 10, 1),
+        )?;
+    }
+    assert!(rt; are_in_one_group(&all, &Group::Grouped("group"), &["One", "Two"]));
+    Ok(())
 }
 
 // Two boxes in one group, each name a string of its own.
-fn two_strings(alloc: Global) -> Result<GroupedRectsToPlace<String, String>, AllocError> {
-    let mut all = GroupedRectsToPlace::new(alloc);
+fn push_strings(
+    alloc: Global,
+    all: &mut GroupedRectsToPlace<String, String>,
+) -> Result<(), AllocError> {
     for id in ["One", "Two"] {
         let groups = vec![in alloc; String::from_str(alloc, "group")?]?;
         let id = String::from_str(alloc, id)?;
         all.push_rect(id, Some(groups), RectToInsert::new(10, 10, 1))?;
     }
-    Ok(all)
+    Ok(())
 }
 
 #[test]
 fn strings_as_ids(rt: HostRuntime) -> Result<(), Fail> {
     let alloc = rt.alloc();
-    let all = two_strings(alloc)?;
-    let wanted = [
+    let mut all = GroupedRectsToPlace::new(alloc);
+    push_strings(alloc, &mut all)?;
+    let ids = [
         String::from_str(alloc, "One")?,
         String::from_str(alloc, "Two")?,
     ];
     let group = Group::Grouped(String::from_str(alloc, "group")?);
-    let ids = all.groups().get(&group).ok_or("no such group")?;
-    assert_eq!(rt; all.groups().len(), 1);
-    assert_eq!(rt; ids.as_slice(), wanted.as_slice());
-    assert_eq!(rt; all.rects().len(), 2);
+    assert!(rt; are_in_one_group(&all, &group, &ids));
     Ok(())
 }
 
-#[derive(Clone, Copy, Debug, PartialEq, Eq, PartialOrd, Ord, Drop)]
-enum Name {
-    One,
-    Two,
-    Group,
+#[derive(Clone, Copy, PartialEq, Eq, PartialOrd, Ord, Drop)]
+enum Side {
+    Front,
+    Back,
 }
 
 #[test]
 fn names_as_ids(rt: HostRuntime) -> Result<(), Fail> {
     let alloc = rt.alloc();
-    let mut all: GroupedRectsToPlace<Name, Name> = GroupedRectsToPlace::new(alloc);
-    for id in [Name::One, Name::Two] {
+    let mut all = GroupedRectsToPlace::new(alloc);
+    for id in [Side::Front, Side::Back] {
         all.push_rect(
             id,
-            Some(vec![in alloc; Name::Group]?),
+            Some(vec![in alloc; Side::Back]?),
             RectToInsert::new(10, 10, 1),
         )?;
     }
-    shows(
-        &rt,
-        &all,
-        &[(Group::Grouped(Name::Group), &[Name::One, Name::Two])],
-        &[(Name::One, SIZE), (Name::Two, SIZE)],
-    )
+    let ids = [Side::Front, Side::Back];
+    assert!(rt; are_in_one_group(&all, &Group::Grouped(Side::Back), &ids));
+    Ok(())
 }
 
-#[test]
-fn groups_go_whole_into_a_bin(rt: HostRuntime) -> Result<(), Fail> {
-    let refused = Case {
-        bins: &[("Three", [100, 100, 1]), ("Four", [100, 100, 1])],
-        boxes: &[
-            ("One", [100, 100, 1], &["A Group"]),
-            ("Two", [100, 100, 1], &["A Group"]),
+const GROUPS: &[Case] = &[
+    // Groups go whole into a bin.
+    TWO_IN_A_GROUP,
+    Case {
+        bins: &[
+            (1, [100, 100, 1], &[[0, 0, 0, 100, 100, 1]]),
+            (2, [100, 100, 1], &[[0, 0, 0, 100, 100, 1]]),
         ],
+        boxes: &[(1, [100, 100, 1], &[0]), (2, [100, 100, 1], &[0])],
+        excluded: &[],
         placements: None,
-        lists: &[&[[0, 0, 0, 100, 100, 1]], &[[0, 0, 0, 100, 100, 1]]],
-    };
-    pack_by_volume(&rt, rt.alloc(), &[TWO_IN_A_GROUP, refused])
-}
-
-// A box is placed once for each time that it is in a group; it is found at the last place.
-#[test]
-fn box_in_several_groups(rt: HostRuntime) -> Result<(), Fail> {
-    let cases = [
-        Case {
-            bins: &[("bin", [8, 8, 1])],
-            boxes: &[("One", [4, 4, 1], &["0", "1"])],
-            placements: Some(&[
-                ("One", "bin", [0, 0, 0, 4, 4, 1]),
-                ("One", "bin", [4, 0, 0, 4, 4, 1]),
-            ]),
-            lists: &[&[[0, 4, 0, 8, 4, 1]]],
-        },
-        Case {
-            bins: &[("bin", [4, 4, 1])],
-            boxes: &[("One", [2, 2, 1], &[]), ("One", [2, 2, 1], &["0", "0"])],
-            placements: Some(&[
-                ("One", "bin", [0, 0, 0, 2, 2, 1]),
-                ("One", "bin", [2, 0, 0, 2, 2, 1]),
-                ("One", "bin", [0, 2, 0, 2, 2, 1]),
-            ]),
-            lists: &[&[[2, 2, 0, 2, 2, 1]]],
-        },
-    ];
-    pack_by_volume(&rt, rt.alloc(), &cases)
-}
+    },
+    // A box is placed once for each time that it is in a group; it is found at the last place.
+    Case {
+        bins: &[(0, [8, 8, 1], &[[0, 4, 0, 8, 4, 1]])],
+        boxes: &[(1, [4, 4, 1], &[0, 1])],
+        excluded: &[],
+        placements: Some(&[(1, 0, [0, 0, 0, 4, 4, 1]), (1, 0, [4, 0, 0, 4, 4, 1])]),
+    },
+    Case {
+        bins: &[(0, [4, 4, 1], &[[2, 2, 0, 2, 2, 1]])],
+        boxes: &[(1, [2, 2, 1], &[]), (1, [2, 2, 1], &[0, 0])],
+        excluded: &[],
+        placements: Some(&[
+            (1, 0, [0, 0, 0, 2, 2, 1]),
+            (1, 0, [2, 0, 0, 2, 2, 1]),
+            (1, 0, [0, 2, 0, 2, 2, 1]),
+        ]),
+    },
+];
 
 #[test]
-fn rates_at_the_greatest_number(rt: HostRuntime) -> Result<(), Fail> {
-    packs(
-        &rt,
-        rt.alloc(),
-        &EQUAL_KEYS,
-        &|_: WidthHeightDepth| u128::MAX,
-    )
+fn packings_of_groups(rt: HostRuntime) {
+    pack_by_volume(&rt, rt.alloc(), GROUPS);
+}
+
+// Whether each group has one member, and no more room than for a few.
+fn have_little_room(all: &GroupedRectsToPlace<u32, u32>) -> bool {
+    for members in all.groups().values() {
+        if members.len() != 1 || members.capacity() > 8 {
+            return false;
+        }
+    }
+    true
 }
 
 // A push into 200 groups with one member each leaves no list with room for more than a few.
 #[test]
 fn room_grows_as_the_groups_named(rt: HostRuntime) -> Result<(), Fail> {
     let alloc = rt.alloc();
-    let mut named = Vec::new(alloc);
-    for group in 0..200u32 {
-        named.push(group)?;
-    }
+    let named: Vec<u32> = (0..200).collect(alloc)?;
     let named = if named.is_empty() { None } else { Some(named) };
     let mut all = GroupedRectsToPlace::new(alloc);
-    all.push_rect("One", named, RectToInsert::new(1, 1, 1))?;
+    all.push_rect(1, named, RectToInsert::new(1, 1, 1))?;
     assert_eq!(rt; all.groups().len(), 200);
-    for members in all.groups().values() {
-        assert!(rt; members.capacity() <= 8, "{}", members.capacity());
-    }
+    assert!(rt; have_little_room(&all), "{all:?}");
     Ok(())
 }

@@ -12,8 +12,6 @@ mod example;
 #[cfg(test)]
 mod exclusions;
 #[cfg(test)]
-mod extremes;
-#[cfg(test)]
 mod groups;
 #[cfg(test)]
 mod joining;
