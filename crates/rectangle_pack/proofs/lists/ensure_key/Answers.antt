@@ -19,11 +19,13 @@ returns-in_err-clone g c = record { kept = refl; items = λ q. refl; others = λ
 pub returns-in_err-insert : goal.returns-in_err-insert
 returns-in_err-insert g c =
     let cmp = g.K.Ord.cmp in
-    let e = c.in_err-insert.ensures.err in
+    let old = c.args.map.now.entries in
+    let new = c.insert.new.self.entries in
+    let same : new ≡ old = c.in_err-insert.ensures.err in
     record {
-      kept = ap (λ es. filled (lists_of es)) e;
-      items = λ q. ap (λ es. items_of (lookup (is_at (cmp q)) es)) e;
-      others = λ q other. ap (λ es. lookup (is_at (cmp q)) es) e;
+      kept = ap (λ es. filled (lists_of es)) {x = new} {y = old} same;
+      items = λ q. ap (λ es. items_of (lookup (is_at (cmp q)) es)) {x = new} {y = old} same;
+      others = λ q other. ap (λ es. lookup (is_at (cmp q)) es) {x = new} {y = old} same;
       has = IfOk-from_err c.from_residual-in_err-insert.result _ c.from_residual-in_err-insert.ensures.0;
     }
 

@@ -12,7 +12,7 @@ use Rattle.rectangle_pack.specs.Groups.{lists_of, HaveSizes}
 use Rattle.rectangle_pack.specs.private.Lists.{filled}
 use Rattle.rectangle_pack.proofs.ListsLemmas.{keys-lists}
 use Rattle.rectangle_pack.proofs.GroupsLemmas.{filled-members, IsSome-cond, MembersHaveSizes-added, lists-added, lists-other, on_ok, on_err}
-use Rattle.rectangle_pack.specs.declared.grouped_rects_to_place.Group.TheVariants.{Grouped}
+use Rattle.rectangle_pack.specs.declared.grouped_rects_to_place.Group.TheVariants.{Ungrouped, Grouped}
 use Rattle.rectangle_pack.proofs.grouped_rects_to_place.GroupedRectsToPlace.push_grouped.Goals as goal
 
 pub invariant_of-self : goal.invariant_of-self
@@ -104,3 +104,9 @@ returns-clause-ok g c = tt
 
 pub returns-in-Ok-clause-err : goal.returns-in-Ok-clause-err
 returns-in-Ok-clause-err g c = tt
+
+pub add_each-requires-clause-clones_equal : goal.add_each-requires-clause-clones_equal
+add_each-requires-clause-clones_equal g c (Ungrouped x) (Ungrouped y) same = c.requires.ids x y same
+add_each-requires-clause-clones_equal g c (Ungrouped x) (Grouped y) none = absurd none
+add_each-requires-clause-clones_equal g c (Grouped x) (Ungrouped y) none = absurd none
+add_each-requires-clause-clones_equal g c (Grouped x) (Grouped y) same = c.requires.group_ids x y same

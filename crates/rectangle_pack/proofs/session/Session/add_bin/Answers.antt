@@ -30,3 +30,12 @@ returns-in-Ok-clause-always g c = invariant_of-self g c
 
 pub invariant_of-self-2 : goal.invariant_of-self-2
 invariant_of-self-2 g c = rw c.in-Err.ensures.err c.self.invariant
+
+pub returns-then-contains_key-clause-always : goal.returns-then-contains_key-clause-always
+returns-then-contains_key-clause-always g c = rw (← c.self.view_is) c.self.invariant
+
+pub returns-in_err-bin-clause-always : goal.returns-in_err-bin-clause-always
+returns-in_err-bin-clause-always g c = rw (← c.self.view_is) c.self.invariant
+
+pub returns-clause-always : goal.returns-clause-always
+returns-clause-always g c = invariant_of-self-2 g c
