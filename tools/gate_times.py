@@ -173,4 +173,5 @@ def main():
     return run(words or [".ci/run"])
 
 
-sys.exit(main())
+if __name__ == "__main__":
+    sys.exit(main())
