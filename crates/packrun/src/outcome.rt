@@ -7,7 +7,8 @@ ghost use Rattle.packrun.specs.Statuses.{status_of};
 pub enum Outcome {
     /// The input was read to its end.
     Done,
-    /// The line with this number, counted from 1, is bad. It was not done, and neither was any line after it.
+    /// The line with this number, counted from 1, is bad. It was not done, and neither was any line
+    /// after it.
     BadLine(u64),
     /// Memory was refused. What earlier lines printed stands.
     NoMemory,

@@ -5,6 +5,7 @@ use crate::outcome::Outcome;
 use crate::stop::Stop;
 use crate::store::Store;
 use std::alloc::Allocator;
+use std::io;
 use std::io::{BufRead, BufReader, BufWriter, Read, Write};
 
 // The most bytes that a line may have, its LF not counted.
@@ -12,8 +13,8 @@ const LONGEST_LINE: usize = 4096;
 
 /// Obeys the commands of `reader`, a line each, and prints to `writer`.
 ///
-/// Lines are numbered from 1, and placements from 0. What lines before the end printed stands. Where
-/// the last line of a run cannot be printed, the outcome is `IoFailed`.
+/// Lines are numbered from 1, and placements from 0. What lines before the end printed stands.
+/// Where the last line of a run cannot be printed, the outcome is `IoFailed`.
 pub fn run_lines<R: Read, W: Write, A: Allocator + Copy>(
     alloc: A,
     reader: &mut R,
@@ -29,19 +30,28 @@ pub fn run_lines<R: Read, W: Write, A: Allocator + Copy>(
     outcome
 }
 
-// Makes what a run works on, and obeys each line.
+// Makes a buffer for the input, and obeys its lines.
 fn obey_all<R: Read, W: Write, A: Allocator + Copy>(
     alloc: A,
     reader: &mut R,
     out: &mut W,
 ) -> Result<(), Stop> {
-    let mut store = Store::new(alloc, 0);
-    let Ok(mut input) = BufReader::new(alloc, reader) else {
-        return Err(Stop::NoMemory);
-    };
+    match BufReader::new(alloc, reader) {
+        Ok(mut input) => obey_input(alloc, &mut input, out),
+        Err(_) => Err(Stop::NoMemory),
+    }
+}
+
+// Makes what the lines work on, and obeys them.
+fn obey_input<R: Read, W: Write, A: Allocator + Copy>(
+    alloc: A,
+    input: &mut BufReader<R, A>,
+    out: &mut W,
+) -> Result<(), Stop> {
     // With this room a line takes no memory, so an error of `read_until` is the reader's.
     let mut line = Vec::with_capacity(alloc, LONGEST_LINE + 1)?;
-    obey_each(&mut store, &mut input, &mut line, out)
+    let mut store = Store::new(alloc, 0);
+    obey_each(&mut store, input, &mut line, out)
 }
 
 // Obeys each line, until the input ends or something stops it.
@@ -76,12 +86,18 @@ fn next_line<R: Read, W: Write, A: Allocator>(
     if !input.buffer().contains(&b'\n') {
         out.flush()?;
     }
+    Ok(read_line(input, line)?)
+}
+
+fn read_line<R: Read, A: Allocator>(
+    input: &mut BufReader<R, A>,
+    line: &mut Vec<u8, A>,
+) -> io::Result<usize> {
     line.clear();
-    let count = input
+    input
         .by_ref()
         .take(LONGEST_LINE as u64 + 1)
-        .read_until(b'\n', line)?;
-    Ok(count)
+        .read_until(b'\n', line)
 }
 
 fn obey_line<W: Write, A: Allocator + Copy>(

@@ -11,8 +11,9 @@ use rectangle_pack::{
     BinSection, BinStats, Group, GroupedRectsToPlace, Outstanding, Packed, RectToInsert,
     RectanglePackError, Session, SessionError, contains_smallest_box, volume_heuristic,
 };
-use std::alloc::Allocator;
+use std::alloc::{AllocError, Allocator};
 use std::fmt::Display;
+use std::io;
 use std::io::Write;
 use std::ops::Range;
 use std::rc::RcStr;
@@ -45,88 +46,76 @@ impl<A: Allocator + Copy> Store<A> {
     {
         match command {
             Command::Nothing => Ok(()),
-            Command::Bin { name, size } => self.add_bin(name, size, out),
-            Command::Rect { id, size, groups } => self.push_rect(id, size, groups, out),
-            Command::Exclude { one, other } => self.exclude(one, other, out),
+            Command::Bin { name, size } => report(self.add_bin(name, size), name, out),
+            Command::Rect { id, size, groups } => report(self.push_rect(id, size, groups), id, out),
+            Command::Exclude { one, other } => report(self.exclude(one, other), one, out),
             Command::Pack => self.pack(out),
             Command::Release(number) => report(self.session.release(number), number, out),
             Command::Sections { name } => self.print_sections(name, out),
-            Command::Coalesce { name, idx, range } => self.coalesce(name, idx, range, out),
-            Command::Sweep { name } => self.sweep(name, out),
+            Command::Coalesce { name, idx, range } => {
+                report(self.coalesce(name, idx, range), name, out)
+            }
+            Command::Sweep { name } => report(self.sweep(name), name, out),
             Command::Stats { name } => self.print_stats(name, out),
         }
     }
 
-    fn add_bin<W: Write>(&mut self, name: &str, size: Size, out: &mut W) -> Result<(), Stop> {
+    fn add_bin(&mut self, name: &str, size: Size) -> Result<(), SessionError> {
         let id = Word::from_str(self.alloc, name)?;
-        let answer = self
-            .session
-            .add_bin(id, size.width, size.height, size.depth);
-        report(answer, name, out)
+        self.session
+            .add_bin(id, size.width, size.height, size.depth)
     }
 
-    fn push_rect<W: Write>(
+    fn push_rect(
         &mut self,
         id: &str,
         size: Size,
         groups: SplitAsciiWhitespace<'_>,
-        out: &mut W,
-    ) -> Result<(), Stop> {
-        let named = named_groups(self.alloc, groups)?;
+    ) -> Result<(), SessionError> {
         let id = Word::from_str(self.alloc, id)?;
+        let named = named_groups(self.alloc, groups)?;
         let rect = RectToInsert::new(size.width, size.height, size.depth);
-        self.rects.push_rect(id, named, rect)?;
-        writeln!(out, "ok")?;
-        Ok(())
+        Ok(self.rects.push_rect(id, named, rect)?)
     }
 
-    fn exclude<W: Write>(&mut self, one: &str, other: &str, out: &mut W) -> Result<(), Stop>
+    fn exclude(&mut self, one: &str, other: &str) -> Result<(), SessionError>
         requires { one.now ≢ other.now }
     {
         let one = Group::Grouped(Word::from_str(self.alloc, one)?);
         let other = Group::Grouped(Word::from_str(self.alloc, other)?);
-        self.rects.exclude(one, other)?;
-        writeln!(out, "ok")?;
-        Ok(())
+        Ok(self.rects.exclude(one, other)?)
     }
 
-    // The boxes are kept where they are refused, so that a bin can be added and the packing tried
-    // again.
-    fn pack<W: Write>(&mut self, out: &mut W) -> Result<(), Stop> {
-        let answer = self
-            .session
-            .pack(&self.rects, &volume_heuristic, &contains_smallest_box);
-        match answer {
-            Ok(packed) => {
-                self.rects = GroupedRectsToPlace::new(self.alloc);
-                self.print_packed(packed, out)
-            }
-            Err(error) => refuse(error, "pack", out),
-        }
-    }
-
-    // The placements of the last packing are the last ones of the session.
-    fn print_packed<W: Write>(&self, packed: Packed, out: &mut W) -> Result<(), Stop> {
-        let Packed { first, count } = packed;
-        print_placements(self.session.outstanding(), first, out)?;
-        writeln!(out, "packed {count}")?;
-        Ok(())
-    }
-
-    fn coalesce<W: Write>(
+    fn coalesce(
         &mut self,
         name: &str,
         idx: usize,
         range: Range<usize>,
-        out: &mut W,
-    ) -> Result<(), Stop> {
+    ) -> Result<(), SessionError> {
         let bin = Word::from_str(self.alloc, name)?;
-        report(self.session.coalesce(&bin, idx, range), name, out)
+        self.session.coalesce(&bin, idx, range)
     }
 
-    fn sweep<W: Write>(&mut self, name: &str, out: &mut W) -> Result<(), Stop> {
+    fn sweep(&mut self, name: &str) -> Result<(), SessionError> {
         let bin = Word::from_str(self.alloc, name)?;
-        report(self.session.coalesce_all(&bin), name, out)
+        self.session.coalesce_all(&bin)
+    }
+
+    // Places the boxes. They are kept where they are refused, so that a bin can be added and the
+    // packing tried again.
+    fn place(&mut self) -> Result<Packed, SessionError> {
+        let packed = self
+            .session
+            .pack(&self.rects, &volume_heuristic, &contains_smallest_box)?;
+        self.rects = GroupedRectsToPlace::new(self.alloc);
+        Ok(packed)
+    }
+
+    fn pack<W: Write>(&mut self, out: &mut W) -> Result<(), Stop> {
+        match self.place() {
+            Ok(packed) => print_packed(self.session.outstanding(), packed, out),
+            Err(error) => refuse(error, "pack", out),
+        }
     }
 
     fn print_sections<W: Write>(&self, name: &str, out: &mut W) -> Result<(), Stop> {
@@ -136,24 +125,19 @@ impl<A: Allocator + Copy> Store<A> {
         print_list(bin.available_bin_sections().as_slice(), out)
     }
 
-    fn print_stats<W: Write>(&self, name: &str, out: &mut W) -> Result<(), Stop> {
+    fn stats(&self, name: &str) -> Result<BinStats, SessionError> {
         let bin = Word::from_str(self.alloc, name)?;
-        let Some(stats) = self.session.stats(&bin) else {
-            return refuse(SessionError::UnknownBin, name, out);
-        };
-        let BinStats {
-            bin_volume,
-            free_volume,
-            placed_volume,
-            free_sections,
-            placements,
-        } = stats;
-        writeln!(
-            out,
-            "free {free_volume} in {free_sections}, placed {placed_volume} in {placements}, \
-             bin {bin_volume}"
-        )?;
-        Ok(())
+        match self.session.stats(&bin) {
+            Some(stats) => Ok(stats),
+            None => Err(SessionError::UnknownBin),
+        }
+    }
+
+    fn print_stats<W: Write>(&self, name: &str, out: &mut W) -> Result<(), Stop> {
+        match self.stats(name) {
+            Ok(stats) => print_sums(stats, out),
+            Err(error) => refuse(error, name, out),
+        }
     }
 }
 
@@ -161,7 +145,7 @@ impl<A: Allocator + Copy> Store<A> {
 fn named_groups<A: Allocator + Copy>(
     alloc: A,
     groups: SplitAsciiWhitespace<'_>,
-) -> Result<Option<Vec<Word<A>, A>>, Stop>
+) -> Result<Option<Vec<Word<A>, A>>, AllocError>
     ensures { IfOk result (λ found. ForSome found (λ named. 0 < vec_len named)) }
 {
     let mut named = Vec::new(alloc);
@@ -175,22 +159,28 @@ fn push_word<A: Allocator + Copy>(
     words: &mut Vec<Word<A>, A>,
     alloc: A,
     word: &str,
-) -> Result<(), Stop> {
+) -> Result<(), AllocError> {
     words.push(Word::from_str(alloc, word)?)?;
     Ok(())
 }
 
-// Prints those of the placements that have this number or a later one, a line each.
-fn print_placements<A: Allocator, W: Write>(
+// What a write answers, as a run ends by it.
+fn printed(answer: io::Result<()>) -> Result<(), Stop> {
+    Ok(answer?)
+}
+
+// Prints the placements of the last packing, which are the last ones, and how many they are.
+fn print_packed<A: Allocator, W: Write>(
     placements: &[Outstanding<Word<A>, Word<A>>],
-    first: u64,
+    packed: Packed,
     out: &mut W,
 ) -> Result<(), Stop> {
+    let Packed { first, count } = packed;
     let start = placements.partition_point(|placement| placement.number < first);
     for placement in &placements[start..] {
         print_placement(placement, out)?;
     }
-    Ok(())
+    printed(writeln!(out, "packed {count}"))
 }
 
 fn print_placement<A: Allocator, W: Write>(
@@ -203,13 +193,12 @@ fn print_placement<A: Allocator, W: Write>(
         bin,
         location,
     } = placement;
-    let (x, y, z) = (location.x(), location.y(), location.z());
-    let (width, height, depth) = (location.width(), location.height(), location.depth());
-    writeln!(
+    printed(write!(out, "{number} {id} {bin} "))?;
+    print_box(
+        [location.x(), location.y(), location.z()],
+        [location.width(), location.height(), location.depth()],
         out,
-        "{number} {id} {bin} {x} {y} {z} {width} {height} {depth}"
-    )?;
-    Ok(())
+    )
 }
 
 // Prints the free sections, a line each, and how many there are.
@@ -218,15 +207,40 @@ fn print_list<W: Write>(sections: &[BinSection], out: &mut W) -> Result<(), Stop
         print_section(section, out)?;
     }
     let count = sections.len();
-    writeln!(out, "sections {count}")?;
-    Ok(())
+    printed(writeln!(out, "sections {count}"))
 }
 
 fn print_section<W: Write>(section: &BinSection, out: &mut W) -> Result<(), Stop> {
-    let (x, y, z, whd) = (section.x(), section.y(), section.z(), section.whd());
-    let (width, height, depth) = (whd.width(), whd.height(), whd.depth());
-    writeln!(out, "{x} {y} {z} {width} {height} {depth}")?;
-    Ok(())
+    let whd = section.whd();
+    print_box(
+        [section.x(), section.y(), section.z()],
+        [whd.width(), whd.height(), whd.depth()],
+        out,
+    )
+}
+
+// Prints the least corner of a box and its sides, to the end of the line.
+fn print_box<W: Write>(
+    [x, y, z]: [u32; 3],
+    [width, height, depth]: [u32; 3],
+    out: &mut W,
+) -> Result<(), Stop> {
+    printed(writeln!(out, "{x} {y} {z} {width} {height} {depth}"))
+}
+
+fn print_sums<W: Write>(stats: BinStats, out: &mut W) -> Result<(), Stop> {
+    let BinStats {
+        bin_volume,
+        free_volume,
+        placed_volume,
+        free_sections,
+        placements,
+    } = stats;
+    printed(writeln!(
+        out,
+        "free {free_volume} in {free_sections}, placed {placed_volume} in {placements}, \
+         bin {bin_volume}"
+    ))
 }
 
 // Prints `ok`, or why the session refused.
@@ -236,7 +250,7 @@ fn report<W: Write, T: Display + Drop>(
     out: &mut W,
 ) -> Result<(), Stop> {
     match answer {
-        Ok(()) => Ok(writeln!(out, "ok")?),
+        Ok(()) => printed(writeln!(out, "ok")),
         Err(error) => refuse(error, named, out),
     }
 }
@@ -248,16 +262,15 @@ fn refuse<W: Write, T: Display + Drop>(
     named: T,
     out: &mut W,
 ) -> Result<(), Stop> {
-    match error {
-        SessionError::DuplicateBin => writeln!(out, "refused: bin {named} exists")?,
-        SessionError::UnknownBin => writeln!(out, "refused: bin {named} is unknown")?,
-        SessionError::UnknownPlacement => writeln!(out, "refused: placement {named} is unknown")?,
-        SessionError::NumbersUsedUp => writeln!(out, "refused: numbers are used up")?,
+    printed(match error {
+        SessionError::DuplicateBin => writeln!(out, "refused: bin {named} exists"),
+        SessionError::UnknownBin => writeln!(out, "refused: bin {named} is unknown"),
+        SessionError::UnknownPlacement => writeln!(out, "refused: placement {named} is unknown"),
+        SessionError::NumbersUsedUp => writeln!(out, "refused: numbers are used up"),
         SessionError::NotEnoughBinSpace => {
             let text = RectanglePackError::NotEnoughBinSpace;
-            writeln!(out, "refused: {text}")?;
+            writeln!(out, "refused: {text}")
         }
         SessionError::OutOfMemory => return Err(Stop::NoMemory),
-    }
-    Ok(())
+    })
 }

@@ -77,6 +77,12 @@ impl Write for Kept {
 // What a run reads, what it prints, and how it ends.
 type Text = (&'static str, &'static str, Outcome);
 
+// A run ended so, and this is what it wrote.
+fn ended_so(rt: &impl Abort, ended: Outcome, written: &[u8], (output, outcome): (&str, Outcome)) {
+    assert_eq!(rt; ended, outcome, "{output}");
+    assert_eq!(rt; written, output.as_bytes(), "{output}");
+}
+
 // The input, read in pieces of so many bytes, prints this and ends so.
 fn prints(
     rt: &impl Abort,
@@ -92,8 +98,7 @@ fn prints(
     };
     let mut written = Vec::new(alloc);
     let ended = run_lines(alloc, &mut reader, &mut written);
-    assert_eq!(rt; ended, outcome, "{output}");
-    assert_eq!(rt; written.as_slice(), output.as_bytes(), "{output}");
+    ended_so(rt, ended, written.as_slice(), (output, outcome));
 }
 
 // The input, whole and in pieces, prints this and ends so.

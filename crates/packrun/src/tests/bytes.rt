@@ -5,7 +5,6 @@ use crate::outcome::Outcome;
 use std::alloc::{AllocError, Global};
 use std::process::Abort;
 use std::str;
-use std::test::Fail;
 
 const BAD: &str = "line 1 is bad\n";
 
@@ -23,34 +22,35 @@ fn with_byte(alloc: Global, text: &str, byte: u8) -> Result<Vec<u8>, AllocError>
 // What a line with this byte prints: a byte of a word stands in the output too, one that separates
 // words is as none, and one that ends the line leaves what `ended` prints. Every other byte makes
 // the line bad.
-fn says_at_byte(
-    rt: &impl Abort,
-    alloc: Global,
-    byte: u8,
-    [line, as_word, as_space, ended]: Place,
-) -> Result<(), Fail> {
-    let line = with_byte(alloc, line, byte)?;
-    let printed = with_byte(alloc, as_word, byte)?;
-    let printed = match byte {
+fn printed_at(byte: u8, [_, as_word, as_space, ended]: Place) -> &'static str {
+    match byte {
         b'\n' => ended,
         b' ' | b'\t' | b'\r' => as_space,
-        b'!'..=b'~' => str::from_utf8(printed.as_slice())?,
+        b'!'..=b'~' => as_word,
         _ => BAD,
-    };
-    let outcome = if printed == BAD {
+    }
+}
+
+fn end_of(printed: &str) -> Outcome {
+    if printed == BAD {
         Outcome::BadLine(1)
     } else {
         Outcome::Done
-    };
-    says(rt, alloc, line.as_slice(), printed, outcome);
-    Ok(())
+    }
 }
 
-fn says_at_each_byte(rt: &impl Abort, alloc: Global, place: Place) -> Result<(), Fail> {
+fn says_at_byte(rt: &impl Abort, alloc: Global, byte: u8, place: Place) {
+    let text = printed_at(byte, place);
+    let line = with_byte(alloc, place[0], byte).expect(rt, "no memory");
+    let printed = with_byte(alloc, text, byte).expect(rt, "no memory");
+    let printed = str::from_utf8(printed.as_slice()).unwrap_or("");
+    says(rt, alloc, line.as_slice(), printed, end_of(text));
+}
+
+fn says_at_each_byte(rt: &impl Abort, alloc: Global, place: Place) {
     for byte in 0..=u8::MAX {
-        says_at_byte(rt, alloc, byte, place)?;
+        says_at_byte(rt, alloc, byte, place);
     }
-    Ok(())
 }
 
 const UNKNOWN: &str = "refused: bin a is unknown\n";
@@ -63,11 +63,10 @@ const PLACES: [Place; 3] = [
 ];
 
 #[test]
-fn each_byte(rt: HostRuntime) -> Result<(), Fail> {
+fn each_byte(rt: HostRuntime) {
     for place in &PLACES {
-        says_at_each_byte(&rt, rt.alloc(), *place)?;
+        says_at_each_byte(&rt, rt.alloc(), *place);
     }
-    Ok(())
 }
 
 // How a line begins, the byte that it has from there on, what comes after it, and what is printed
@@ -97,31 +96,35 @@ fn write_long(
 }
 
 // A line of 4096 bytes is not too long.
-fn says_at_length(rt: &impl Abort, alloc: Global, length: usize, line: Long) -> Result<(), Fail> {
+fn says_at_length(rt: &impl Abort, alloc: Global, length: usize, line: Long) {
     let mut input = Vec::new(alloc);
-    write_long(&mut input, length, line)?;
+    write_long(&mut input, length, line).expect(rt, "no memory");
     let (output, outcome) = if length > 4096 {
         (BAD, Outcome::BadLine(1))
     } else {
         (line.3, Outcome::Done)
     };
     says(rt, alloc, input.as_slice(), output, outcome);
-    Ok(())
 }
 
 #[test]
-fn longest_lines(rt: HostRuntime) -> Result<(), Fail> {
+fn longest_lines(rt: HostRuntime) {
     for line in &LONG {
-        says_at_length(&rt, rt.alloc(), 4096, *line)?;
-        says_at_length(&rt, rt.alloc(), 4097, *line)?;
-        says_at_length(&rt, rt.alloc(), 20000, *line)?;
+        says_at_length(&rt, rt.alloc(), 4096, *line);
+        says_at_length(&rt, rt.alloc(), 4097, *line);
+        says_at_length(&rt, rt.alloc(), 20000, *line);
     }
-    Ok(())
 }
 
 const FIRST_LINES: &str = "bin a 2 1 1\nrect p 1 1 1\nrect q 1 1 1\npack\nrelease 0\nrelease 1\n";
 
 const FIRST_PRINTED: &str = "ok\nok\nok\n0 p a 0 0 0 1 1 1\n1 q a 1 0 0 1 1 1\npacked 2\nok\nok\n";
+
+// Those lines, and this one with the number at its `#`.
+fn with_number(rt: &impl Abort, alloc: Global, line: &str, number: &str) -> String {
+    let (before, after) = line.split_once('#').expect(rt, "no place for it");
+    format!(in alloc; "{FIRST_LINES}{before}{number}{after}").expect(rt, "no memory")
+}
 
 // After those lines, this one with the number at its `#` prints this.
 fn says_at_number(
@@ -130,27 +133,19 @@ fn says_at_number(
     (line, printed): (&str, &str),
     number: &str,
     outcome: Outcome,
-) -> Result<(), Fail> {
-    let (before, after) = line.split_once('#').ok_or("no place for a number")?;
-    let input = format!(in alloc; "{FIRST_LINES}{before}{number}{after}")?;
-    let output = format!(in alloc; "{FIRST_PRINTED}{printed}")?;
+) {
+    let input = with_number(rt, alloc, line, number);
+    let output = format!(in alloc; "{FIRST_PRINTED}{printed}").expect(rt, "no memory");
     says(rt, alloc, input.as_bytes(), output.as_str(), outcome);
-    Ok(())
 }
 
 // This line prints this with each of the numbers, and is bad with each that is past them.
-fn says_at_limit(
-    rt: &impl Abort,
-    alloc: Global,
-    (line, printed): (&str, &str),
-    numbers: &Numbers,
-) -> Result<(), Fail> {
+fn says_at_limit(rt: &impl Abort, alloc: Global, (line, printed): (&str, &str), numbers: &Numbers) {
+    let bad = (line, "line 7 is bad\n");
     for (number, past) in numbers {
-        says_at_number(rt, alloc, (line, printed), number, Outcome::Done)?;
-        let bad = (line, "line 7 is bad\n");
-        says_at_number(rt, alloc, bad, past, Outcome::BadLine(7))?;
+        says_at_number(rt, alloc, (line, printed), number, Outcome::Done);
+        says_at_number(rt, alloc, bad, past, Outcome::BadLine(7));
     }
-    Ok(())
 }
 
 // Three ways to write the greatest number, and three numbers that are past it.
@@ -172,11 +167,10 @@ const SIZES: &[(&str, &str)] = &[
 ];
 
 #[test]
-fn greatest_sizes(rt: HostRuntime) -> Result<(), Fail> {
+fn greatest_sizes(rt: HostRuntime) {
     for line in SIZES {
-        says_at_limit(&rt, rt.alloc(), *line, &GREATEST_SIZES)?;
+        says_at_limit(&rt, rt.alloc(), *line, &GREATEST_SIZES);
     }
-    Ok(())
 }
 
 const GREATEST_NUMBERS: Numbers = [
@@ -210,9 +204,8 @@ const INDICES: &[(&str, &str)] = &[
 ];
 
 #[test]
-fn greatest_numbers(rt: HostRuntime) -> Result<(), Fail> {
+fn greatest_numbers(rt: HostRuntime) {
     for line in INDICES {
-        says_at_limit(&rt, rt.alloc(), *line, &GREATEST_NUMBERS)?;
+        says_at_limit(&rt, rt.alloc(), *line, &GREATEST_NUMBERS);
     }
-    Ok(())
 }

@@ -84,19 +84,21 @@ fn placed_box(row: &Row) -> [u32; 6] {
     [x, y, z, width, height, depth]
 }
 
-// The boxes in the bin of this name, where these lines are its free sections.
-fn boxes_in(
-    alloc: Global,
-    placed: &[Row],
-    bin: u32,
-    free: &[Row],
-) -> Result<Vec<[u32; 6]>, AllocError> {
-    placed
-        .iter()
-        .filter(|row| row[2] == bin)
-        .map(placed_box)
-        .chain(free.iter().map(free_box))
-        .collect(alloc)
+// Adds the boxes that are placed in the bin of this name.
+fn push_placed(boxes: &mut Vec<[u32; 6]>, placed: &[Row], bin: u32) -> Result<(), AllocError> {
+    for row in placed {
+        if row[2] == bin {
+            boxes.push(placed_box(row))?;
+        }
+    }
+    Ok(())
+}
+
+fn push_free(boxes: &mut Vec<[u32; 6]>, free: &[Row]) -> Result<(), AllocError> {
+    for row in free {
+        boxes.push(free_box(row))?;
+    }
+    Ok(())
 }
 
 fn size_of(bins: &[Row], name: u32) -> [u32; 3] {
@@ -144,14 +146,16 @@ fn is_of_group(boxes: &[Row], id: u32, group: u32) -> bool {
 
 // Whether the boxes that are of this group alone are in one bin.
 fn share_a_bin(boxes: &[Row], lines: &[Row], group: u32) -> bool {
-    let mut homes = lines
-        .iter()
-        .filter(|row| is_of_group(boxes, row[1], group))
-        .map(|row| row[2]);
-    match homes.next() {
-        Some(home) => homes.all(|other| other == home),
-        None => true,
+    let mut home = None;
+    for row in lines {
+        if is_of_group(boxes, row[1], group) {
+            if home.unwrap_or(row[2]) != row[2] {
+                return false;
+            }
+            home = Some(row[2]);
+        }
     }
+    true
 }
 
 // Whether these lines place each box, of ids below 10, as often as it was named, in its size, and
@@ -173,10 +177,12 @@ fn release(placed: &mut Vec<Row>, number: u32) -> bool {
     placed.len().saturating_add(1) == before
 }
 
+// Whether these free sections and what is placed in the bin of this name fill it.
 fn is_full(alloc: Global, seen: &Seen, bin: u32, free: &[Row]) -> Result<bool, AllocError> {
-    let boxes = boxes_in(alloc, seen.placed.as_slice(), bin, free)?;
-    let size = size_of(seen.bins.as_slice(), bin);
-    Ok(fill_once(boxes.as_slice(), size))
+    let mut boxes = Vec::new(alloc);
+    push_placed(&mut boxes, seen.placed.as_slice(), bin)?;
+    push_free(&mut boxes, free)?;
+    Ok(fill_once(boxes.as_slice(), size_of(seen.bins.as_slice(), bin)))
 }
 
 fn pack(seen: &mut Seen, lines: &[Row]) -> Result<bool, AllocError> {
@@ -223,18 +229,17 @@ fn take_line(
     Ok(is_right)
 }
 
-// Whether the commands print these lines.
+// Whether the commands print these lines. The lines of numbers before a reply are kept in `lines`.
 fn replies_are_right(
     alloc: Global,
     seen: &mut Seen,
-    commands: &[&str],
-    printed: &str,
+    lines: &mut Vec<Row>,
+    (commands, printed): (&[&str], &str),
 ) -> Result<bool, AllocError> {
-    let mut lines = Vec::new(alloc);
     let mut done = 0usize;
     for line in printed.lines() {
         let command = commands.get(done).copied().unwrap_or("");
-        if !take_line(alloc, seen, &mut lines, (command, line))? {
+        if !take_line(alloc, seen, lines, (command, line))? {
             return Ok(false);
         }
         done = done.saturating_add(usize::from(!is_row(line)));
@@ -251,5 +256,7 @@ pub fn is_right(
     printed: &str,
 ) -> Result<bool, AllocError> {
     let commands: Vec<&str> = input.lines().take(count).filter(has_words).collect(alloc)?;
-    replies_are_right(alloc, &mut Seen::new(alloc), commands.as_slice(), printed)
+    let mut seen = Seen::new(alloc);
+    let mut lines = Vec::new(alloc);
+    replies_are_right(alloc, &mut seen, &mut lines, (commands.as_slice(), printed))
 }

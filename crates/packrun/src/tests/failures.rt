@@ -1,6 +1,6 @@
 //! Reads, writes and requests for memory of which each fails in turn.
 
-use super::{Kept, Pieces, Text};
+use super::{Kept, Pieces, Text, ended_so};
 use crate::outcome::Outcome;
 use crate::run::run_lines;
 use rectangle_pack_tests::refusing::Refusing;
@@ -77,8 +77,7 @@ fn fails_within(rt: &impl Abort, alloc: Global, given: Given) {
 
 fn comes_out(rt: &impl Abort, alloc: Global, given: Given) {
     let (outcome, kept) = run_with(rt, alloc, LINES, given);
-    assert_eq!(rt; outcome, Outcome::BadLine(7));
-    assert_eq!(rt; kept.written(), PRINTED.as_bytes());
+    ended_so(rt, outcome, kept.written(), (PRINTED, Outcome::BadLine(7)));
 }
 
 // Each of so many reads fails in turn; the last of them finds the end.
@@ -117,7 +116,8 @@ fn fails_at_each_write(rt: &impl Abort, alloc: Global, (read, piece, needed): (u
 
 // The most bytes of a read and of a write, and how many writes are needed. What is printed has 126
 // bytes, the last line 14 of them. A read of 7 bytes or of one ends at most one line, and what each
-// line prints is written before the next read. Read at once, all but the last line is written first.
+// line prints is written before the next read. Read at once, all but the last line is written
+// first.
 const WRITES: [(usize, usize, u64); 7] = [
     (98, 512, 2),
     (98, 100, 3),
@@ -135,7 +135,11 @@ fn failing_writes(rt: HostRuntime) {
     }
 }
 
-// Where this many bytes can be written and no more, the start of what is printed is.
+fn is_start(written: &[u8], whole: &[u8], length: u64) -> bool {
+    written.len() as u64 == length && whole.starts_with(written)
+}
+
+// Where so many requests are granted, and so many bytes can be written, these are written.
 fn is_cut_after(
     rt: &impl Abort,
     alloc: Global,
@@ -151,8 +155,7 @@ fn is_cut_after(
     };
     let (outcome, kept) = run_with(rt, alloc, lines, given);
     assert_eq!(rt; outcome, Outcome::IoFailed);
-    assert!(rt; whole.starts_with(kept.written()));
-    assert_eq!(rt; kept.written().len() as u64, good);
+    assert!(rt; is_start(kept.written(), whole, good));
 }
 
 // What is printed is cut off after each number of bytes that can be written.
@@ -170,31 +173,24 @@ fn ends_refused(written: &[u8], whole: &str) -> bool {
     }
 }
 
-// How these lines end where so many requests are granted. Where one is refused, what was printed
-// before stands, and the last line says so; where that cannot be printed either, that is how the run
-// ends. Where none is, all is printed.
-fn ends_with(
-    rt: &impl Abort,
-    alloc: Global,
-    (lines, whole): (&str, &str),
-    granted: u64,
-) -> Outcome {
+// Whether these lines come to their end where so many requests are granted, and print all. Where a
+// request is refused, what was printed before stands, and the last line says so; where that cannot
+// be printed either, that is how the run ends.
+fn has_memory(rt: &impl Abort, alloc: Global, (lines, whole, last): Text, granted: u64) -> bool {
     let (outcome, kept) = run_with(rt, alloc, lines, Given { granted, ..ALL });
-    if outcome == Outcome::NoMemory {
-        assert!(rt; ends_refused(kept.written(), whole));
-        is_cut_off(rt, alloc, lines, granted, kept.written());
-    } else {
-        assert_eq!(rt; kept.written(), whole.as_bytes());
+    if outcome.status() != 3 {
+        ended_so(rt, outcome, kept.written(), (whole, last));
+        return true;
     }
-    outcome
+    assert!(rt; ends_refused(kept.written(), whole));
+    is_cut_off(rt, alloc, lines, granted, kept.written());
+    false
 }
 
 // Each request is refused in turn, more than ten of them, until all are granted.
-fn refuses_each(rt: &impl Abort, alloc: Global, (lines, whole, last): Text) {
+fn refuses_each(rt: &impl Abort, alloc: Global, text: Text) {
     for granted in 0..200u64 {
-        let outcome = ends_with(rt, alloc, (lines, whole), granted);
-        if outcome.status() != 3 {
-            assert_eq!(rt; outcome, last);
+        if has_memory(rt, alloc, text, granted) {
             assert!(rt; granted > 10);
             return;
         }
@@ -220,7 +216,11 @@ fn refused_memory(rt: HostRuntime) {
 fn failing_last_line(rt: HostRuntime) {
     let writes = (1, u64::MAX);
     let (outcome, kept) = run_with(&rt, rt.alloc(), "bin", Given { writes, ..ALL });
-    assert_eq!(rt; outcome, Outcome::BadLine(1));
-    assert_eq!(rt; kept.written(), b"line 1 is bad\n".as_slice());
+    ended_so(
+        &rt,
+        outcome,
+        kept.written(),
+        ("line 1 is bad\n", Outcome::BadLine(1)),
+    );
     is_cut_off(&rt, rt.alloc(), "bin", u64::MAX, kept.written());
 }

@@ -4,8 +4,8 @@ use super::counting::is_right;
 use crate::outcome::Outcome;
 use crate::run::run_lines;
 use std::alloc::{AllocError, Global};
+use std::process::Abort;
 use std::str;
-use std::test::Fail;
 
 // In a line `@` is a name from 1 to 3, `#` a digit, `!` the side of a bin, and `%` that of a box.
 const LINES: [&str; 30] = [
@@ -118,22 +118,31 @@ fn end_of(input: &[u8]) -> Outcome {
 }
 
 // Whether these lines end as they should, and print what may be.
-fn runs_right(alloc: Global, input: &[u8]) -> Result<bool, Fail> {
+fn runs_right(alloc: Global, input: &[u8]) -> Result<bool, AllocError> {
     let mut output = Vec::new(alloc);
     let outcome = run_lines(alloc, &mut &*input, &mut output);
-    let (text, printed) = (str::from_utf8(input)?, str::from_utf8(output.as_slice())?);
+    let text = str::from_utf8(input).unwrap_or("");
+    let printed = str::from_utf8(output.as_slice()).unwrap_or("");
     Ok(outcome == end_of(input) && is_right(alloc, text, END, printed)?)
 }
 
+// The next lines run right.
+fn run_drawn(rt: &impl Abort, alloc: Global, state: &mut u64, input: &mut Vec<u8>) {
+    input.clear();
+    write_lines(input, state).expect(rt, "no memory");
+    let is_right = runs_right(alloc, input.as_slice()).expect(rt, "no memory");
+    assert!(rt;
+        is_right,
+        "{}",
+        str::from_utf8(input.as_slice()).unwrap_or("")
+    );
+}
+
 #[test]
-fn drawn_runs(rt: HostRuntime) -> Result<(), Fail> {
+fn drawn_runs(rt: HostRuntime) {
     let mut state = 20240607u64;
     let mut input = Vec::new(rt.alloc());
     for _ in 0..300 {
-        input.clear();
-        write_lines(&mut input, &mut state)?;
-        let is_right = runs_right(rt.alloc(), input.as_slice())?;
-        assert!(rt; is_right, "{}", str::from_utf8(input.as_slice())?);
+        run_drawn(&rt, rt.alloc(), &mut state, &mut input);
     }
-    Ok(())
 }

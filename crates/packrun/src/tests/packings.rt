@@ -5,6 +5,7 @@ use crate::command::parse;
 use crate::outcome::Outcome;
 use crate::store::Store;
 use std::alloc::Global;
+use std::process::Abort;
 
 const TEXTS: [Text; 8] = [
     // One box.
@@ -99,21 +100,17 @@ fn is_obeyed(store: &mut Store<Global>, line: &str, written: &mut Vec<u8>) -> bo
     }
 }
 
-fn are_obeyed(store: &mut Store<Global>, lines: &[&str], written: &mut Vec<u8>) -> bool {
-    for line in lines {
-        if !is_obeyed(store, line, written) {
-            return false;
-        }
+fn obey_last(rt: &impl Abort, store: &mut Store<Global>, written: &mut Vec<u8>) {
+    for line in &LAST_LINES {
+        assert!(rt; is_obeyed(store, line, written));
     }
-    true
+    assert_eq!(rt; written.as_slice(), LAST_PRINTED.as_bytes());
 }
 
 // The greatest number is never given.
 #[test]
 fn last_numbers(rt: HostRuntime) {
-    let alloc = rt.alloc();
-    let mut store = Store::new(alloc, u64::MAX - 1);
-    let mut written = Vec::new(alloc);
-    assert!(rt; are_obeyed(&mut store, &LAST_LINES, &mut written));
-    assert_eq!(rt; written.as_slice(), LAST_PRINTED.as_bytes());
+    let mut store = Store::new(rt.alloc(), u64::MAX - 1);
+    let mut written = Vec::new(rt.alloc());
+    obey_last(&rt, &mut store, &mut written);
 }

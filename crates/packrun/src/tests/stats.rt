@@ -5,7 +5,8 @@ use crate::outcome::Outcome;
 
 const TEXTS: [Text; 4] = [
     (
-        "bin P 10 10 1\nbin Q 10 10 1\nrect p 4 4 1 A\nrect q 4 4 1 B\nexclude A B\npack\nstats P\n",
+        "bin P 10 10 1\nbin Q 10 10 1\nrect p 4 4 1 A\nrect q 4 4 1 B\nexclude A B\npack\n\
+         stats P\n",
         "ok\nok\nok\nok\nok\n0 p P 0 0 0 4 4 1\n1 q Q 0 0 0 4 4 1\npacked 2\n\
          free 84 in 2, placed 16 in 1, bin 100\n",
         Outcome::Done,
