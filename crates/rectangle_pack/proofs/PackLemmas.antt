@@ -1,6 +1,6 @@
 -- groups that are placed
 use Rattle.std.proofs.Common.{◌≡◌, ℕ, suc, ◌+◌, ◌<◌, ◌≤◌, List, [], ◌∷◌, ◌++◌, length, take, drop, refl, ap, sym, ◌∙◌, subst, cond, true, false, Bool, arith, get_or, append_assoc, append-nil}
-use Rattle.std.specs.Prelude.{Option, Some, None, map, sum, All, nat_eq, Result, Ok, Err, IfOk, MatchBool, MatchOption}
+use Rattle.std.specs.Prelude.{Option, Some, None, map, sum, All, IsTrue, ◌↔◌, Result, Ok, Err, IfOk, MatchBool, MatchOption}
 use Rattle.std.specs.declared.cmp.Ordering.{Ordering}
 use Rattle.std.specs.declared.cmp.Ordering.TheVariants.{Equal}
 use Rattle.std.specs.Ordering.{is_eq}
@@ -206,19 +206,19 @@ packed-weaker (Ok false) f g h = g h
 packed-weaker (Err e) f g h = tt
 
 -- a map that is not empty has lists
-pub lists-some : {K X A : Type 0} (es : List (K × Vec X A)) (b : Bool) → b ≡ nat_eq (length es) 0 → b ≡ false → lists_of es ≡ [] → ⊥
-lists-some [] b is not_so h = absurd cc
+pub lists-some : {K X A : Type 0} (es : List (K × Vec X A)) (b : Bool) → (IsTrue b ↔ (length es ≡ 0)) → b ≡ false → lists_of es ≡ [] → ⊥
+lists-some [] b is not_so h = let so = is.1 refl in absurd cc
 lists-some (e ∷ es) b is not_so h = absurd cc
 
 -- as many as it has entries
-pub lists-more : {K X A : Type 0} (es : List (K × Vec X A)) (lists : List (K × List X)) (b : Bool) → b ≡ nat_eq (length es) 0 → b ≡ false → lists_of es ≡ lists → 0 < length lists
-lists-more [] lists b is not_so same = absurd cc
+pub lists-more : {K X A : Type 0} (es : List (K × Vec X A)) (lists : List (K × List X)) (b : Bool) → (IsTrue b ↔ (length es ≡ 0)) → b ≡ false → lists_of es ≡ lists → 0 < length lists
+lists-more [] lists b is not_so same = let so = is.1 refl in absurd cc
 lists-more (e ∷ es) lists b is not_so same = rw (← same) (omega arith)
 
 -- and one that is has none
-pub lists-empty : {K X A : Type 0} (es : List (K × Vec X A)) (b : Bool) → b ≡ nat_eq (length es) 0 → b ≡ true → lists_of es ≡ []
+pub lists-empty : {K X A : Type 0} (es : List (K × Vec X A)) (b : Bool) → (IsTrue b ↔ (length es ≡ 0)) → b ≡ true → lists_of es ≡ []
 lists-empty [] b is so = refl
-lists-empty (e ∷ es) b is so = grind (arith, is, so)
+lists-empty (e ∷ es) b is so = absurd (omega (arith, is.0 so))
 
 -- the last placement of each id, after one more placement, which is written under an id and a bin that equal its own
 pub AreLastPlacements-more : {Id B : Type 0} {cmp : Id → Id → Ordering} (bin_cmp : B → B → Ordering) → IsTotalOrder cmp → (placements : List (Placement Id B)) (p : Placement Id B) (key : Id) (bin : B) (old new : List (Id × (B × Cuboid))) → IsStrictlySortedBy cmp (keys_of new)

@@ -1,8 +1,11 @@
+use Rattle.std.proofs.lemmas.Result.{IfOk-from_err}
 use Rattle.std.specs.BTreeMap.{is_at}
 use Rattle.rectangle_pack.proofs.MapsLemmas.{is_some-keys}
 use Rattle.rectangle_pack.proofs.PackingOrderLemmas.{list-found}
-use Rattle.std.proofs.Common.{◌≡◌, get_or, refl, sym, ap, ◌∙◌, rules, arith, []}
+use Rattle.std.proofs.Common.{◌≡◌, get_or, refl, sym, ap, ◌∙◌, arith, [], length}
 use Rattle.std.specs.List.{sum_by}
+use Rattle.std.specs.Map.{values_of}
+use Rattle.std.specs.Prelude.{map, sum}
 use Rattle.std.proofs.lemmas.Result.{on_err_weaker}
 use Rattle.rectangle_pack.specs.Packing.{rules_by, bins_of}
 use Rattle.rectangle_pack.specs.private.Orders.{keys_of_order}
@@ -12,7 +15,7 @@ use Rattle.rectangle_pack.proofs.pack.work.pack_noted.Goals as goal
 
 pub returns-then-is_empty-clause-packed : goal.returns-then-is_empty-clause-packed
 returns-then-is_empty-clause-packed g c =
-    let none : c.args.rects_to_place.now.groups ≡ [] = sym c.groups-lists.ensures.entries ∙ lists-empty c.groups-lists.result.now.entries c.is_empty.result (search rules) c.if-is_empty.true in (
+    let none : c.args.rects_to_place.now.groups ≡ [] = sym c.groups-lists.ensures.entries ∙ lists-empty c.groups-lists.result.now.entries c.is_empty.result c.is_empty.ensures c.if-is_empty.true in (
       record {
         group_order = [];
         bin_order = [];
@@ -31,13 +34,13 @@ pub returns-in_err-groups-clause-stopped : goal.returns-in_err-groups-clause-sto
 returns-in_err-groups-clause-stopped g c = OnErr-given _ (counted-none c.args.rects_to_place.now (bins_of c.args.target_bins.now.entries) c.args.progress.now.tests (omega arith))
 
 pub returns-in_err-groups-clause-no_groups : goal.returns-in_err-groups-clause-no_groups
-returns-in_err-groups-clause-no_groups g c = λ none. absurd (lists-some c.groups-lists.result.now.entries c.is_empty.result (search rules) c.if-is_empty.false (c.groups-lists.ensures.entries ∙ none))
+returns-in_err-groups-clause-no_groups g c = λ none. absurd (lists-some c.groups-lists.result.now.entries c.is_empty.result c.is_empty.ensures c.if-is_empty.false (c.groups-lists.ensures.entries ∙ none))
 
 pub returns-in_err-reserve-clause-stopped : goal.returns-in_err-reserve-clause-stopped
 returns-in_err-reserve-clause-stopped g c = OnErr-given _ (counted-none c.args.rects_to_place.now (bins_of c.args.target_bins.now.entries) c.args.progress.now.tests (omega arith))
 
 pub returns-in_err-reserve-clause-no_groups : goal.returns-in_err-reserve-clause-no_groups
-returns-in_err-reserve-clause-no_groups g c = λ none. absurd (lists-some c.groups-lists.result.now.entries c.is_empty.result (search rules) c.if-is_empty.false (c.groups-lists.ensures.entries ∙ none))
+returns-in_err-reserve-clause-no_groups g c = λ none. absurd (lists-some c.groups-lists.result.now.entries c.is_empty.result c.is_empty.ensures c.if-is_empty.false (c.groups-lists.ensures.entries ∙ none))
 
 pub place_groups-packed-requires-clause-listed : goal.place_groups-packed-requires-clause-listed
 place_groups-packed-requires-clause-listed g c =
@@ -51,14 +54,14 @@ place_groups-packed-requires-clause-distinct_groups g c = rw c.as_slice.ensures.
 
 pub place_groups-packed-requires-clause-distinct_bins : goal.place_groups-packed-requires-clause-distinct_bins
 place_groups-packed-requires-clause-distinct_bins g c =
-    let some = lists-more c.groups-lists.result.now.entries c.args.rects_to_place.now.groups c.is_empty.result (search rules) c.if-is_empty.false c.groups-lists.ensures.entries in
+    let some = lists-more c.groups-lists.result.now.entries c.args.rects_to_place.now.groups c.is_empty.result c.is_empty.ensures c.if-is_empty.false c.groups-lists.ensures.entries in
     let by = rules_by g.Id.Ord.cmp g.BinId.Ord.cmp (g.R.Ask.may c.args.rules.now) in
     let entries = rw c.groups-lists.ensures.entries at c.in_ok-groups.ensures.counted in
     bins-differ _ by g.met.BinId.Ord.total c.args.rects_to_place.now (bins_of c.args.target_bins.now.entries) (c.requires.distinct some) (keys_of_order c.in_ok-groups.groups.items) entries c.args.order.now (c.requires.order some)
 
 pub put_back-requires-clause-distinct_bins : goal.put_back-requires-clause-distinct_bins
 put_back-requires-clause-distinct_bins g c =
-    let some = lists-more c.groups-lists.result.now.entries c.args.rects_to_place.now.groups c.is_empty.result (search rules) c.if-is_empty.false c.groups-lists.ensures.entries in
+    let some = lists-more c.groups-lists.result.now.entries c.args.rects_to_place.now.groups c.is_empty.result c.is_empty.ensures c.if-is_empty.false c.groups-lists.ensures.entries in
     let by = rules_by g.Id.Ord.cmp g.BinId.Ord.cmp (g.R.Ask.may c.args.rules.now) in
     let entries = rw c.groups-lists.ensures.entries at c.in_ok-groups.ensures.counted in
     bins-differ _ by g.met.BinId.Ord.total c.args.rects_to_place.now (bins_of c.args.target_bins.now.entries) (c.requires.distinct some) (keys_of_order c.in_ok-groups.groups.items) entries c.args.order.now (c.requires.order some)
@@ -70,7 +73,7 @@ put_back-requires-clause-found g c k d within =
 
 pub returns-clause-packed : goal.returns-clause-packed
 returns-clause-packed g c =
-    let some = lists-more c.groups-lists.result.now.entries c.args.rects_to_place.now.groups c.is_empty.result (search rules) c.if-is_empty.false c.groups-lists.ensures.entries in
+    let some = lists-more c.groups-lists.result.now.entries c.args.rects_to_place.now.groups c.is_empty.result c.is_empty.ensures c.if-is_empty.false c.groups-lists.ensures.entries in
     let by = rules_by g.Id.Ord.cmp g.BinId.Ord.cmp (g.R.Ask.may c.args.rules.now) in
     let entries = rw c.groups-lists.ensures.entries at c.in_ok-groups.ensures.counted in
     let all = c.args.rects_to_place.now in
@@ -108,7 +111,7 @@ returns-clause-packed g c =
 
 pub returns-clause-stopped : goal.returns-clause-stopped
 returns-clause-stopped g c =
-    let some = lists-more c.groups-lists.result.now.entries c.args.rects_to_place.now.groups c.is_empty.result (search rules) c.if-is_empty.false c.groups-lists.ensures.entries in
+    let some = lists-more c.groups-lists.result.now.entries c.args.rects_to_place.now.groups c.is_empty.result c.is_empty.ensures c.if-is_empty.false c.groups-lists.ensures.entries in
     let by = rules_by g.Id.Ord.cmp g.BinId.Ord.cmp (g.R.Ask.may c.args.rules.now) in
     let entries = rw c.groups-lists.ensures.entries at c.in_ok-groups.ensures.counted in
     let all = c.args.rects_to_place.now in
@@ -121,7 +124,7 @@ returns-clause-stopped g c =
     c.place_groups-packed.ensures.stopped
 
 pub returns-clause-no_groups : goal.returns-clause-no_groups
-returns-clause-no_groups g c = λ none. absurd (lists-some c.groups-lists.result.now.entries c.is_empty.result (search rules) c.if-is_empty.false (c.groups-lists.ensures.entries ∙ none))
+returns-clause-no_groups g c = λ none. absurd (lists-some c.groups-lists.result.now.entries c.is_empty.result c.is_empty.ensures c.if-is_empty.false (c.groups-lists.ensures.entries ∙ none))
 
 pub returns-clause-counted : goal.returns-clause-counted
 returns-clause-counted g c =
@@ -129,3 +132,80 @@ returns-clause-counted g c =
     done-weaker _ c.place_groups-packed.result
     (λ p. AreAllPlaced-length _ _ _ p.0 _ _ _ _ p.4 ∙ sym (AreGroups-length _ _ _ _ _ p.0 p.3) ∙ ap (sum_by _) (ap keys_of_order c.as_slice.ensures.value) ∙ entries)
     c.place_groups-packed.ensures.packed
+
+pub returns-then-is_empty-clause-stopped : goal.returns-then-is_empty-clause-stopped
+returns-then-is_empty-clause-stopped g c = tt
+
+pub returns-then-is_empty-clause-back : goal.returns-then-is_empty-clause-back
+returns-then-is_empty-clause-back g c = rw c.requires.no_journal (record { undoes = refl })
+
+pub returns-then-is_empty-clause-counted : goal.returns-then-is_empty-clause-counted
+returns-then-is_empty-clause-counted g c = 
+    let none : c.args.rects_to_place.now.groups ≡ [] = sym c.groups-lists.ensures.entries ∙ lists-empty c.groups-lists.result.now.entries c.is_empty.result c.is_empty.ensures c.if-is_empty.true in
+    ap length c.requires.no_placements ∙ sym (ap (λ gs. sum (map length (values_of gs))) none)
+
+pub returns-then-is_empty-clause-no_groups : goal.returns-then-is_empty-clause-no_groups
+returns-then-is_empty-clause-no_groups g c = λ _. (refl, c.requires.no_placements)
+
+pub returns-in_err-sizes-clause-packed : goal.returns-in_err-sizes-clause-packed
+returns-in_err-sizes-clause-packed g c = IfOk-from_err _ _ c.from_residual.ensures.0
+
+pub returns-in_err-sizes-clause-stopped : goal.returns-in_err-sizes-clause-stopped
+returns-in_err-sizes-clause-stopped g c = OnErr-given _ (counted-none c.args.rects_to_place.now (bins_of c.args.target_bins.now.entries) c.args.progress.now.tests (omega arith))
+
+pub returns-in_err-sizes-clause-back : goal.returns-in_err-sizes-clause-back
+returns-in_err-sizes-clause-back g c = rw c.requires.no_journal (record { undoes = refl })
+
+pub returns-in_err-sizes-clause-counted : goal.returns-in_err-sizes-clause-counted
+returns-in_err-sizes-clause-counted g c = IfOk-from_err _ _ c.from_residual.ensures.0
+
+pub returns-in_err-sizes-clause-no_groups : goal.returns-in_err-sizes-clause-no_groups
+returns-in_err-sizes-clause-no_groups g c = λ none. absurd (lists-some c.groups-lists.result.now.entries c.is_empty.result c.is_empty.ensures c.if-is_empty.false (c.groups-lists.ensures.entries ∙ none))
+
+pub returns-in_err-groups-clause-packed : goal.returns-in_err-groups-clause-packed
+returns-in_err-groups-clause-packed g c = IfOk-from_err _ _ c.from_residual-in_err-groups.ensures.0
+
+pub returns-in_err-groups-clause-back : goal.returns-in_err-groups-clause-back
+returns-in_err-groups-clause-back g c = rw c.requires.no_journal (record { undoes = refl })
+
+pub returns-in_err-groups-clause-counted : goal.returns-in_err-groups-clause-counted
+returns-in_err-groups-clause-counted g c = IfOk-from_err _ _ c.from_residual-in_err-groups.ensures.0
+
+pub returns-in_err-reserve-clause-packed : goal.returns-in_err-reserve-clause-packed
+returns-in_err-reserve-clause-packed g c = IfOk-from_err _ _ c.from_residual-in_err-reserve.ensures.0
+
+pub returns-in_err-reserve-clause-back : goal.returns-in_err-reserve-clause-back
+returns-in_err-reserve-clause-back g c = rw c.requires.no_journal (record { undoes = refl })
+
+pub returns-in_err-reserve-clause-counted : goal.returns-in_err-reserve-clause-counted
+returns-in_err-reserve-clause-counted g c = IfOk-from_err _ _ c.from_residual-in_err-reserve.ensures.0
+
+pub returns-clause-back : goal.returns-clause-back
+returns-clause-back g c = rw c.put_back.ensures.back (c.place_groups-packed.ensures.back _ (rw c.requires.no_journal (record { undoes = refl })))
+
+pub place_groups-packed-requires-clause-ids : goal.place_groups-packed-requires-clause-ids
+place_groups-packed-requires-clause-ids g c = c.requires.ids
+
+pub place_groups-packed-requires-clause-bin_ids : goal.place_groups-packed-requires-clause-bin_ids
+place_groups-packed-requires-clause-bin_ids g c = c.requires.bin_ids
+
+pub place_groups-packed-requires-clause-callable : goal.place_groups-packed-requires-clause-callable
+place_groups-packed-requires-clause-callable g c = c.requires.callable
+
+pub place_groups-packed-requires-clause-found : goal.place_groups-packed-requires-clause-found
+place_groups-packed-requires-clause-found g c = c.requires.found
+
+pub place_groups-packed-requires-clause-no_placements : goal.place_groups-packed-requires-clause-no_placements
+place_groups-packed-requires-clause-no_placements g c = c.in_ok-reserve.ensures.items ∙ c.requires.no_placements
+
+pub place_groups-packed-requires-clause-none_taken : goal.place_groups-packed-requires-clause-none_taken
+place_groups-packed-requires-clause-none_taken g c = c.new-taken.ensures.items
+
+pub put_back-requires-clause-within : goal.put_back-requires-clause-within
+put_back-requires-clause-within g c = c.place_groups-packed.ensures.stays_within
+
+pub group_order-requires-clause-sized : goal.group_order-requires-clause-sized
+group_order-requires-clause-sized g c = rw (c.groups-lists.ensures.entries, c.rects-rects.ensures.entries) c.groups-lists.ensures.members
+
+pub group_order-requires-clause-callable : goal.group_order-requires-clause-callable
+group_order-requires-clause-callable g c = c.requires.callable

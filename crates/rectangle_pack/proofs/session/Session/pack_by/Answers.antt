@@ -1,3 +1,6 @@
+use Rattle.rectangle_pack.proofs.TransitionLemmas.{memory_refused}
+use Rattle.rectangle_pack.specs.Session.{IsSession}
+use Rattle.std.proofs.Common.{refl, ap, subst, length}
 use Rattle.std.proofs.Common.{arith}
 use Rattle.rectangle_pack.specs.Packing.{rules_by}
 use Rattle.rectangle_pack.proofs.SessionLemmas.{IsSession-done}
@@ -10,3 +13,48 @@ invariant_of-self-2 g c =
 
 pub returns-clause-always : goal.returns-clause-always
 returns-clause-always g c = invariant_of-self-2 g c
+
+pub returns-in_default-clause-packed : goal.returns-in_default-clause-packed
+returns-in_default-clause-packed g c = (rw (← c.self.view_is) (rw c.groups.ensures.entries at c.in_default.ensures), refl)
+
+pub returns-in_default-clause-always : goal.returns-in_default-clause-always
+returns-in_default-clause-always g c = subst (λ s. IsSession g.BinId.Ord.cmp s) c.self.view_is c.self.invariant
+
+pub returns-in_err-kept-clause-packed : goal.returns-in_err-kept-clause-packed
+returns-in_err-kept-clause-packed g c = 
+    let entries = rw c.groups.ensures.entries at c.in-Some.ensures in
+    rw (memory_refused c.from_residual.result c.from_residual.ensures.1, ← c.self.view_is)
+    (omega arith, c.in_err-kept.ensures.stopped.0, cc (c.in_err-kept.ensures.stopped.1, c.in_err-kept.ensures.stopped.2))
+
+pub returns-in_err-kept-clause-no_groups : goal.returns-in_err-kept-clause-no_groups
+returns-in_err-kept-clause-no_groups g c = λ none. absurd (omega (arith, ap length none, c.in_err-kept.ensures.stopped.0))
+
+pub returns-then-not-kept-clause-packed : goal.returns-then-not-kept-clause-packed
+returns-then-not-kept-clause-packed g c = 
+    let entries = rw c.groups.ensures.entries at c.in-Some.ensures in
+    let p = rw c.if-not-kept.true at c.in_ok-kept.ensures.packed in
+    rw (← c.self.view_is) (omega arith, p.0, p.1, cc (p.2, p.3))
+
+pub returns-then-not-kept-clause-no_groups : goal.returns-then-not-kept-clause-no_groups
+returns-then-not-kept-clause-no_groups g c = λ none. cc (c.in_ok-kept.ensures.no_groups none, c.if-not-kept.true)
+
+pub returns-clause-no_groups : goal.returns-clause-no_groups
+returns-clause-no_groups g c = λ _. refl
+
+pub pack_into-requires-clause-ids : goal.pack_into-requires-clause-ids
+pack_into-requires-clause-ids g c = c.requires.ids
+
+pub pack_into-requires-clause-bin_ids : goal.pack_into-requires-clause-bin_ids
+pack_into-requires-clause-bin_ids g c = c.requires.bin_ids
+
+pub pack_into-requires-clause-callable : goal.pack_into-requires-clause-callable
+pack_into-requires-clause-callable g c = c.requires.callable
+
+pub pack_into-requires-clause-count : goal.pack_into-requires-clause-count
+pack_into-requires-clause-count g c = let entries = rw c.groups.ensures.entries at c.in-Some.ensures in omega arith
+
+pub pack_into-requires-clause-fits : goal.pack_into-requires-clause-fits
+pack_into-requires-clause-fits g c = let entries = rw c.groups.ensures.entries at c.in-Some.ensures in omega arith
+
+pub overflow_sub-count : goal.overflow_sub-count
+overflow_sub-count g c = let entries = rw c.groups.ensures.entries at c.in-Some.ensures in omega arith
