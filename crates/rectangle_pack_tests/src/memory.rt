@@ -8,6 +8,7 @@ use std::test::Fail;
 pub mod bins;
 mod clones;
 mod collections;
+mod names;
 mod none;
 mod packings;
 mod plans;

@@ -1,193 +1,271 @@
-//! Collections of boxes whose memory is refused.
+//! Collections of boxes whose memory, or whose ids' clones, are refused.
 
-use super::{End, refuses_each};
+use super::End;
+use super::names::{Name, Rects};
 use crate::refusing::Refusing;
 use rectangle_pack::{Group, GroupedRectsToPlace, RectToInsert};
-use std::alloc::{AllocError, Allocator, Global};
+use std::alloc::{AllocError, Global};
+use std::cell::Cell;
 use std::process::Abort;
-use std::test::Fail;
 
-// Ids own memory, so that their clones can be refused too.
-type Rects<A> = GroupedRectsToPlace<String<A>, u32, A>;
-
-const OLD_GROUPS: &[(Option<u32>, &[&str])] = &[(None, &["old"]), (Some(0), &["old"])];
-
-const OLD_SIZES: &[(&str, [u32; 3])] = &[("old", [1, 1, 1])];
-
-// Whether the groups are these, where a box alone has the group `None`, and the boxes these.
-fn has<A: Allocator + Copy>(
-    all: &Rects<A>,
-    groups: &[(Option<u32>, &[&str])],
-    sizes: &[(&str, [u32; 3])],
-) -> bool {
-    for ((group, ids), (number, wanted)) in all.groups().iter().zip(groups.iter()) {
-        let is_same = match group {
-            Group::Ungrouped(id) => number.is_none() && ids.first() == Some(id),
-            Group::Grouped(group) => *number == Some(*group),
-        };
-        if !is_same || !ids.iter().map(|id| id.as_str()).eq(wanted.iter().copied()) {
-            return false;
-        }
-    }
-    for ((id, rect), (wanted, size)) in all.rects().iter().zip(sizes.iter()) {
-        if id.as_str() != *wanted || [rect.width(), rect.height(), rect.depth()] != *size {
-            return false;
-        }
-    }
-    all.groups().len() == groups.len() && all.rects().len() == sizes.len()
+// What a collection holds: its groups with their boxes, where a box alone has the group `None`, and
+// the boxes with their sizes.
+struct Boxes {
+    groups: &'static [(Option<u32>, &'static [u32])],
+    sizes: &'static [(u32, [u32; 3])],
 }
 
-// An empty collection, or one with a box "old" alone and in group 0.
-fn collection<A: Allocator + Copy>(alloc: A, has_old: bool) -> Result<Rects<A>, AllocError> {
+// The id 1 is new, 2 is that of the box that is there before.
+const NEW: u32 = 1;
+
+const OLD: u32 = 2;
+
+const NONE: &Boxes = &Boxes {
+    groups: &[],
+    sizes: &[],
+};
+
+// A box that was pushed alone and into group 0.
+const ONE: &Boxes = &Boxes {
+    groups: &[(None, &[OLD]), (Some(0), &[OLD])],
+    sizes: &[(OLD, [1, 1, 1])],
+};
+
+// A push of a box 2x3x1 into these groups, or alone without any; what is there before it and after.
+struct Push {
+    before: &'static Boxes,
+    id: u32,
+    named: &'static [u32],
+    after: &'static Boxes,
+}
+
+const PUSHES: &[Push] = &[
+    Push {
+        before: NONE,
+        id: NEW,
+        named: &[],
+        after: &Boxes {
+            groups: &[(None, &[NEW])],
+            sizes: &[(NEW, [2, 3, 1])],
+        },
+    },
+    Push {
+        before: NONE,
+        id: NEW,
+        named: &[0, 1, 0],
+        after: &Boxes {
+            groups: &[(Some(0), &[NEW, NEW]), (Some(1), &[NEW])],
+            sizes: &[(NEW, [2, 3, 1])],
+        },
+    },
+    Push {
+        before: ONE,
+        id: NEW,
+        named: &[],
+        after: &Boxes {
+            groups: &[(None, &[NEW]), (None, &[OLD]), (Some(0), &[OLD])],
+            sizes: &[(NEW, [2, 3, 1]), (OLD, [1, 1, 1])],
+        },
+    },
+    Push {
+        before: ONE,
+        id: NEW,
+        named: &[0, 1, 0],
+        after: &Boxes {
+            groups: &[
+                (None, &[OLD]),
+                (Some(0), &[OLD, NEW, NEW]),
+                (Some(1), &[NEW]),
+            ],
+            sizes: &[(NEW, [2, 3, 1]), (OLD, [1, 1, 1])],
+        },
+    },
+    Push {
+        before: ONE,
+        id: OLD,
+        named: &[],
+        after: &Boxes {
+            groups: &[(None, &[OLD]), (Some(0), &[OLD])],
+            sizes: &[(OLD, [2, 3, 1])],
+        },
+    },
+    Push {
+        before: ONE,
+        id: OLD,
+        named: &[1, 0],
+        after: &Boxes {
+            groups: &[(None, &[OLD]), (Some(0), &[OLD, OLD]), (Some(1), &[OLD])],
+            sizes: &[(OLD, [2, 3, 1])],
+        },
+    },
+];
+
+// Whether these are the boxes, in this order.
+fn are(ids: &[Name<'_>], wanted: &[u32]) -> bool {
+    for (id, number) in ids.iter().zip(wanted.iter()) {
+        if id.number != *number {
+            return false;
+        }
+    }
+    ids.len() == wanted.len()
+}
+
+// Whether this is the group's number, and `None` for the group of the list's first box alone.
+fn is_group(group: &Group<u32, Name<'_>>, number: Option<u32>, boxes: &[u32]) -> bool {
+    match group {
+        Group::Ungrouped(id) => number.is_none() && boxes.first() == Some(&id.number),
+        Group::Grouped(group) => number == Some(*group),
+    }
+}
+
+// Whether the collection has these groups.
+fn has_groups(all: &Rects<'_>, groups: &[(Option<u32>, &[u32])]) -> bool {
+    for ((group, ids), (number, boxes)) in all.groups().iter().zip(groups.iter()) {
+        if !is_group(group, *number, boxes) || !are(ids.as_slice(), boxes) {
+            return false;
+        }
+    }
+    all.groups().len() == groups.len()
+}
+
+// Whether the collection has these boxes.
+fn has_sizes(all: &Rects<'_>, sizes: &[(u32, [u32; 3])]) -> bool {
+    for ((id, rect), (number, size)) in all.rects().iter().zip(sizes.iter()) {
+        if id.number != *number || [rect.width(), rect.height(), rect.depth()] != *size {
+            return false;
+        }
+    }
+    all.rects().len() == sizes.len()
+}
+
+fn has(all: &Rects<'_>, boxes: &Boxes) -> bool {
+    has_groups(all, boxes.groups) && has_sizes(all, boxes.sizes)
+}
+
+// Pushes the old box alone and into group 0.
+fn push_old<'a>(
+    all: &mut Rects<'a>,
+    alloc: &'a Refusing<Global>,
+    left: &'a Cell<u64>,
+) -> Result<(), AllocError> {
+    let rect = RectToInsert::new(1, 1, 1);
+    all.push_rect(Name { number: OLD, left }, None, rect)?;
+    let named = [0].to_vec(alloc)?;
+    all.push_rect(Name { number: OLD, left }, Some(named), rect)
+}
+
+// Pushes the box into these groups. Refused, this changes nothing.
+fn pushes<'a>(
+    rt: &impl Abort,
+    all: &mut Rects<'a>,
+    named: Vec<u32, &'a Refusing<Global>>,
+    left: &'a Cell<u64>,
+    push: &Push,
+) -> End {
+    let named = if named.is_empty() { None } else { Some(named) };
+    let number = push.id;
+    let rect = RectToInsert::new(2, 3, 1);
+    let is_done = all.push_rect(Name { number, left }, named, rect).is_ok();
+    assert!(rt; has(all, if is_done { push.after } else { push.before }));
+    if is_done { End::Done } else { End::Refused }
+}
+
+// A push for which so many clones are left. Only the collection before it takes more.
+fn end_of_push(
+    rt: &impl Abort,
+    alloc: &Refusing<Global>,
+    left: &Cell<u64>,
+    clones: u64,
+    push: &Push,
+) -> End {
     let mut all = GroupedRectsToPlace::new(alloc);
-    if has_old {
-        let rect = RectToInsert::new(1, 1, 1);
-        all.push_rect(String::from_str(alloc, "old")?, None, rect)?;
-        let groups = [0].to_vec(alloc)?;
-        all.push_rect(String::from_str(alloc, "old")?, Some(groups), rect)?;
+    if !push.before.sizes.is_empty() && push_old(&mut all, alloc, left).is_err() {
+        return End::Before;
     }
-    Ok(all)
+    let Ok(named) = push.named.to_vec(alloc) else {
+        return End::Before;
+    };
+    left.set(clones);
+    pushes(rt, &mut all, named, left, push)
 }
 
-// A push of a box 2x3x1 into these groups, or alone without any, gives these groups. Refused, it changes nothing.
-fn push(
-    rt: &impl Abort,
-    alloc: Global,
-    has_old: bool,
-    id: &str,
-    named: &[u32],
-    groups: &[(Option<u32>, &[&str])],
-    sizes: &[(&str, [u32; 3])],
-) -> Result<(), Fail> {
-    refuses_each(rt, alloc, |refusing| {
-        let (Ok(mut all), Ok(id), Ok(list)) = (
-            collection(refusing, has_old),
-            String::from_str(refusing, id),
-            named.to_vec(refusing),
-        ) else {
-            return Ok(End::Before);
-        };
-        let list = if list.is_empty() { None } else { Some(list) };
-        if all.push_rect(id, list, RectToInsert::new(2, 3, 1)).is_err() {
-            let (groups, sizes) = if has_old {
-                (OLD_GROUPS, OLD_SIZES)
-            } else {
-                ([].as_slice(), [].as_slice())
-            };
-            assert!(rt; has(&all, groups, sizes), "{all:?}");
-            return Ok(End::Refused);
-        }
-        assert!(rt; has(&all, groups, sizes), "{all:?}");
-        Ok(End::Done)
-    })
-}
-
-#[test]
-fn pushes_into_an_empty_collection(rt: HostRuntime) -> Result<(), Fail> {
-    let alloc = rt.alloc();
-    let sizes = [("new", [2, 3, 1])];
-    push(&rt, alloc, false, "new", &[], &[(None, &["new"])], &sizes)?;
-    push(
-        &rt,
-        alloc,
-        false,
-        "new",
-        &[0, 1, 0],
-        &[(Some(0), &["new", "new"]), (Some(1), &["new"])],
-        &sizes,
-    )
-}
-
-#[test]
-fn pushes_of_a_new_id(rt: HostRuntime) -> Result<(), Fail> {
-    let alloc = rt.alloc();
-    let sizes = [("new", [2, 3, 1]), ("old", [1, 1, 1])];
-    push(
-        &rt,
-        alloc,
-        true,
-        "new",
-        &[],
-        &[(None, &["new"]), (None, &["old"]), (Some(0), &["old"])],
-        &sizes,
-    )?;
-    push(
-        &rt,
-        alloc,
-        true,
-        "new",
-        &[0, 1, 0],
-        &[
-            (None, &["old"]),
-            (Some(0), &["old", "new", "new"]),
-            (Some(1), &["new"]),
-        ],
-        &sizes,
-    )
-}
-
-#[test]
-fn pushes_of_an_old_id(rt: HostRuntime) -> Result<(), Fail> {
-    let alloc = rt.alloc();
-    let sizes = [("old", [2, 3, 1])];
-    push(&rt, alloc, true, "old", &[], OLD_GROUPS, &sizes)?;
-    push(
-        &rt,
-        alloc,
-        true,
-        "old",
-        &[1, 0],
-        &[
-            (None, &["old"]),
-            (Some(0), &["old", "old"]),
-            (Some(1), &["old"]),
-        ],
-        &sizes,
-    )
-}
-
-// That collection with the old box, and two strings that are its id.
-fn collection_and_ids<A: Allocator + Copy>(
-    alloc: A,
-) -> Result<(Rects<A>, String<A>, String<A>), AllocError> {
-    let all = collection(alloc, true)?;
-    let id = String::from_str(alloc, "old")?;
-    let other = String::from_str(alloc, "old")?;
-    Ok((all, id, other))
-}
-
-// The groups 0 and 1 are excluded, and the group 0 and the box alone unless that was refused.
-fn has_pairs<A: Allocator + Copy>(
-    rt: &impl Abort,
-    all: &Rects<A>,
-    old: &Group<u32, String<A>>,
-    refused: bool,
-) {
+// The groups 0 and 1 are excluded, and the group 0 and the old box alone unless that was refused.
+fn has_pairs(rt: &impl Abort, all: &Rects<'_>, old: &Group<u32, Name<'_>>, is_done: bool) {
     assert!(rt; all.excluded(&Group::Grouped(1), &Group::Grouped(0)));
-    assert_eq!(rt; all.excluded(&Group::Grouped(0), old), !refused);
-    assert_eq!(rt; all.excluded(old, &Group::Grouped(0)), !refused);
+    assert_eq!(rt; all.excluded(&Group::Grouped(0), old), is_done);
+    assert_eq!(rt; all.excluded(old, &Group::Grouped(0)), is_done);
     assert!(rt; !all.excluded(old, &Group::Grouped(1)));
 }
 
-// Refused, `exclude` changes neither the boxes nor the pairs.
-#[test]
-fn exclusions(rt: HostRuntime) -> Result<(), Fail> {
-    refuses_each(&rt, rt.alloc(), |refusing| {
-        let Ok((mut all, old, other)) = collection_and_ids(refusing) else {
-            return Ok(End::Before);
-        };
-        if all.exclude(Group::Grouped(0), Group::Grouped(1)).is_err() {
-            return Ok(End::Before);
-        }
-        let refused = all
-            .exclude(Group::Grouped(0), Group::Ungrouped(old))
-            .is_err();
-        assert!(rt; has(&all, OLD_GROUPS, OLD_SIZES), "{all:?}");
-        has_pairs(&rt, &all, &Group::Ungrouped(other), refused);
-        if refused {
-            Ok(End::Refused)
+// Excludes the group 0 and the old box alone. Refused, this changes no boxes and no pairs.
+fn excludes<'a>(rt: &impl Abort, all: &mut Rects<'a>, left: &'a Cell<u64>) -> End {
+    let number = OLD;
+    let old = Group::Ungrouped(Name { number, left });
+    let is_done = all.exclude(Group::Grouped(0), old).is_ok();
+    assert!(rt; has(all, ONE));
+    has_pairs(rt, all, &Group::Ungrouped(Name { number, left }), is_done);
+    if is_done { End::Done } else { End::Refused }
+}
+
+// An exclusion for which so many clones are left. Only what is before it takes more.
+fn end_of_exclusion(
+    rt: &impl Abort,
+    alloc: &Refusing<Global>,
+    left: &Cell<u64>,
+    clones: u64,
+) -> End {
+    let mut all = GroupedRectsToPlace::new(alloc);
+    if push_old(&mut all, alloc, left).is_err() {
+        return End::Before;
+    }
+    if all.exclude(Group::Grouped(0), Group::Grouped(1)).is_err() {
+        return End::Before;
+    }
+    left.set(clones);
+    excludes(rt, &mut all, left)
+}
+
+// A push, or else an exclusion, under so many requests and clones. All memory is given back.
+fn end(rt: &impl Abort, alloc: Global, requests: u64, clones: u64, push: Option<&Push>) -> End {
+    let left = Cell::new(u64::MAX);
+    let refusing = Refusing::new(alloc, requests);
+    let end = match push {
+        Some(push) => end_of_push(rt, &refusing, &left, clones, push),
+        None => end_of_exclusion(rt, &refusing, &left, clones),
+    };
+    assert_eq!(rt; refusing.taken(), 0);
+    end
+}
+
+// Whether some request, or some clone, is refused in the call, where each is refused in turn, until
+// none is.
+fn is_refused(rt: &impl Abort, alloc: Global, is_clone: bool, push: Option<&Push>) -> bool {
+    let mut refused = false;
+    for granted in 0..200u64 {
+        let (requests, clones) = if is_clone {
+            (u64::MAX, granted)
         } else {
-            Ok(End::Done)
+            (granted, u64::MAX)
+        };
+        match end(rt, alloc, requests, clones, push) {
+            End::Before => {}
+            End::Refused => refused = true,
+            End::Done => return refused,
         }
-    })
+    }
+    false
+}
+
+#[test]
+fn pushes_into_collections(rt: HostRuntime) {
+    for push in PUSHES {
+        assert!(rt; is_refused(&rt, rt.alloc(), false, Some(push)));
+        assert!(rt; is_refused(&rt, rt.alloc(), true, Some(push)));
+    }
+}
+
+#[test]
+fn exclusions(rt: HostRuntime) {
+    assert!(rt; is_refused(&rt, rt.alloc(), false, None));
+    assert!(rt; is_refused(&rt, rt.alloc(), true, None));
 }
