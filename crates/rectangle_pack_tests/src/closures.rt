@@ -350,25 +350,26 @@ fn are_alike(one: &TextPacked, other: &TextPacked) -> bool {
         && one.packed_locations() == other.packed_locations()
 }
 
+// Whether both came out as the case says, and alike.
+fn come_out_alike(
+    one: &Result<TextPacked, RectanglePackError>,
+    other: &Result<TextPacked, RectanglePackError>,
+    case: &TextCase,
+) -> bool {
+    match (one, other) {
+        (Ok(one), Ok(other)) => shows_text(one, case) && are_alike(one, other),
+        _ => false,
+    }
+}
+
 // Two collections, pushed alike from strings of their own, into bins under strings of their own.
 fn pack_text_twice(rt: &impl Abort, alloc: Global, case: &TextCase) {
     let mut bins = BTreeMap::new(alloc);
     let mut other_bins = BTreeMap::new(alloc);
     let one = pack_text(alloc, case, 0, &mut bins);
     let other = pack_text(alloc, case, 64, &mut other_bins);
-    match (&one, &other) {
-        (Ok(one), Ok(other)) => {
-            assert!(rt;
-                shows_text(one, case) && are_alike(one, other),
-                "{one:?} {other:?}"
-            );
-        }
-        _ => assert!(rt; false, "{one:?} {other:?}"),
-    }
-    assert!(rt;
-        are_bins_alike(&bins, &other_bins),
-        "{bins:?} {other_bins:?}"
-    );
+    assert!(rt; come_out_alike(&one, &other, case));
+    assert!(rt; are_bins_alike(&bins, &other_bins));
 }
 
 #[test]

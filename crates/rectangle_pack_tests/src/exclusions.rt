@@ -170,6 +170,6 @@ fn pairs(rt: HostRuntime) {
     let refusing = Refusing::new(rt.alloc(), u64::MAX);
     let mut rects = GroupedRectsToPlace::new(&refusing);
     assert!(rt; exclude_all(&mut rects, EXCLUDED).is_ok());
-    assert!(rt; has_pairs(&rects), "{rects:?}");
+    assert!(rt; has_pairs(&rects));
     assert!(rt; rects.groups().is_empty());
 }

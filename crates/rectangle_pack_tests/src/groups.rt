@@ -121,10 +121,11 @@ fn are_in_one_group<T: Ord + Clone + Drop>(
     }
 }
 
-#[test]
-fn texts_as_ids(rt: HostRuntime) -> Result<(), Fail> {
-    let alloc = rt.alloc();
-    let mut all = GroupedRectsToPlace::new(alloc);
+// Two boxes in one group.
+fn push_texts(
+    alloc: Global,
+    all: &mut GroupedRectsToPlace<&'static str, &'static str>,
+) -> Result<(), AllocError> {
     for id in ["One", "Two"] {
         all.push_rect(
             id,
@@ -132,8 +133,14 @@ fn texts_as_ids(rt: HostRuntime) -> Result<(), Fail> {
             RectToInsert::new(10, 10, 1),
         )?;
     }
-    assert!(rt; are_in_one_group(&all, &Group::Grouped("group"), &["One", "Two"]));
     Ok(())
+}
+
+#[test]
+fn texts_as_ids(rt: HostRuntime) {
+    let mut all = GroupedRectsToPlace::new(rt.alloc());
+    assert!(rt; push_texts(rt.alloc(), &mut all).is_ok());
+    assert!(rt; are_in_one_group(&all, &Group::Grouped("group"), &["One", "Two"]));
 }
 
 // Two boxes in one group, each name a string of its own.
@@ -149,18 +156,24 @@ fn push_strings(
     Ok(())
 }
 
-#[test]
-fn strings_as_ids(rt: HostRuntime) -> Result<(), Fail> {
-    let alloc = rt.alloc();
-    let mut all = GroupedRectsToPlace::new(alloc);
-    push_strings(alloc, &mut all)?;
+// Whether these are in the group, under equal strings that lie elsewhere.
+fn holds_strings(
+    alloc: Global,
+    all: &GroupedRectsToPlace<String, String>,
+) -> Result<bool, AllocError> {
     let ids = [
         String::from_str(alloc, "One")?,
         String::from_str(alloc, "Two")?,
     ];
     let group = Group::Grouped(String::from_str(alloc, "group")?);
-    assert!(rt; are_in_one_group(&all, &group, &ids));
-    Ok(())
+    Ok(are_in_one_group(all, &group, &ids))
+}
+
+#[test]
+fn strings_as_ids(rt: HostRuntime) {
+    let mut all = GroupedRectsToPlace::new(rt.alloc());
+    assert!(rt; push_strings(rt.alloc(), &mut all).is_ok());
+    assert!(rt; matches!(holds_strings(rt.alloc(), &all), Ok(true)));
 }
 
 #[derive(Clone, Copy, PartialEq, Eq, PartialOrd, Ord, Drop)]
