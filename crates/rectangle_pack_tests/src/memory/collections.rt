@@ -190,7 +190,7 @@ fn end_of_push(
 }
 
 // The groups 0 and 1 are excluded, and the group 0 and the old box alone unless that was refused.
-fn has_pairs(rt: &impl Abort, all: &Rects<'_>, old: &Group<u32, Name<'_>>, is_done: bool) {
+fn has_pairs<'a>(rt: &impl Abort, all: &Rects<'a>, old: &Group<u32, Name<'a>>, is_done: bool) {
     assert!(rt; all.excluded(&Group::Grouped(1), &Group::Grouped(0)));
     assert_eq!(rt; all.excluded(&Group::Grouped(0), old), is_done);
     assert_eq!(rt; all.excluded(old, &Group::Grouped(0)), is_done);
