@@ -140,7 +140,7 @@ pub returns-then-is_empty-clause-back : goal.returns-then-is_empty-clause-back
 returns-then-is_empty-clause-back g c = rw c.requires.no_journal (record { undoes = refl })
 
 pub returns-then-is_empty-clause-counted : goal.returns-then-is_empty-clause-counted
-returns-then-is_empty-clause-counted g c = 
+returns-then-is_empty-clause-counted g c =
     let none : c.args.rects_to_place.now.groups ≡ [] = sym c.groups-lists.ensures.entries ∙ lists-empty c.groups-lists.result.now.entries c.is_empty.result c.is_empty.ensures c.if-is_empty.true in
     ap length c.requires.no_placements ∙ sym (ap (λ gs. sum (map length (values_of gs))) none)
 

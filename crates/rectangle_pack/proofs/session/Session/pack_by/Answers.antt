@@ -21,7 +21,7 @@ pub returns-in_default-clause-always : goal.returns-in_default-clause-always
 returns-in_default-clause-always g c = subst (λ s. IsSession g.BinId.Ord.cmp s) c.self.view_is c.self.invariant
 
 pub returns-in_err-kept-clause-packed : goal.returns-in_err-kept-clause-packed
-returns-in_err-kept-clause-packed g c = 
+returns-in_err-kept-clause-packed g c =
     let entries = rw c.groups.ensures.entries at c.in-Some.ensures in
     rw (memory_refused c.from_residual.result c.from_residual.ensures.1, ← c.self.view_is)
     (omega arith, c.in_err-kept.ensures.stopped.0, cc (c.in_err-kept.ensures.stopped.1, c.in_err-kept.ensures.stopped.2))
@@ -30,7 +30,7 @@ pub returns-in_err-kept-clause-no_groups : goal.returns-in_err-kept-clause-no_gr
 returns-in_err-kept-clause-no_groups g c = λ none. absurd (omega (arith, ap length none, c.in_err-kept.ensures.stopped.0))
 
 pub returns-then-not-kept-clause-packed : goal.returns-then-not-kept-clause-packed
-returns-then-not-kept-clause-packed g c = 
+returns-then-not-kept-clause-packed g c =
     let entries = rw c.groups.ensures.entries at c.in-Some.ensures in
     let p = rw c.if-not-kept.true at c.in_ok-kept.ensures.packed in
     rw (← c.self.view_is) (omega arith, p.0, p.1, cc (p.2, p.3))

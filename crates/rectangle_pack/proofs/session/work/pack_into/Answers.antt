@@ -21,7 +21,7 @@ pub returns-in_err-order-clause-packed : goal.returns-in_err-order-clause-packed
 returns-in_err-order-clause-packed g c = IfOk-from_err _ _ c.from_residual-in_err-order.ensures.0
 
 pub returns-in_err-order-clause-stopped : goal.returns-in_err-order-clause-stopped
-returns-in_err-order-clause-stopped g c = 
+returns-in_err-order-clause-stopped g c =
     let kept : (0 < length c.args.groups.now.groups) × (bins_of c.args.bins.now.entries ≡ bins_of c.args.bins.now.entries) × (c.reserve.new.self.items ≡ c.args.outstanding.now.items) = (c.in_err-order.ensures.stopped, refl, c.in_ok-reserve.ensures.items) in
     OnErr-given _ kept
 
@@ -29,7 +29,7 @@ pub returns-in_err-order-clause-no_groups : goal.returns-in_err-order-clause-no_
 returns-in_err-order-clause-no_groups g c = λ none. absurd (omega (arith, ap length none, c.in_err-order.ensures.stopped))
 
 pub returns-in-Ok-true-clause-packed : goal.returns-in-Ok-true-clause-packed
-returns-in-Ok-true-clause-packed g c = 
+returns-in-Ok-true-clause-packed g c =
     let done = rw c.in-Ok-true.field-0-test at c.in-Ok-true.ensures.packed in
     let counted = rw c.in-Ok-true.field-0-test at c.in-Ok-true.ensures.counted in
     (c.pack_noted.new.progress.placements.items, done.0, counted ∙ sym c.requires.count, rw c.in_ok-reserve.ensures.items at c.number_all.ensures)
@@ -77,12 +77,12 @@ pub pack_noted-requires-clause-no_journal : goal.pack_noted-requires-clause-no_j
 pack_noted-requires-clause-no_journal g c = c.new-progress.ensures.journal
 
 pub number_all-requires-clause-room : goal.number_all-requires-clause-room
-number_all-requires-clause-room g c = 
+number_all-requires-clause-room g c =
     let counted = rw c.in-Ok-true.field-0-test at c.in-Ok-true.ensures.counted in
     omega (arith, counted, c.in_ok-reserve.ensures.ok, c.pack_noted.new.progress.placements.ok.0, c.requires.count)
 
 pub number_all-requires-clause-fits : goal.number_all-requires-clause-fits
-number_all-requires-clause-fits g c = 
+number_all-requires-clause-fits g c =
     let counted = rw c.in-Ok-true.field-0-test at c.in-Ok-true.ensures.counted in
     omega (arith, counted, c.requires.fits, c.pack_noted.new.progress.placements.ok.0, c.requires.count)
 
