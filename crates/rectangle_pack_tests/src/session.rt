@@ -278,13 +278,32 @@ fn has_placed(placed: &[Outstanding<u32, u32>], wanted: &[PlacedBox]) -> bool {
     placed.len() == wanted.len()
 }
 
+fn has_id(bins: &[Held], id: u32) -> bool {
+    for held in bins {
+        if held.id == id {
+            return true;
+        }
+    }
+    false
+}
+
+// Whether nothing is said of the bins of scripts that are not among these.
+fn are_unknown(session: &TestSession<'_>, wanted: &[Held]) -> bool {
+    for id in [BIN, OTHER, NOWHERE] {
+        let is_known = session.stats(&id).is_some() || session.was_coalesced(&id).is_some();
+        if is_known && !has_id(wanted, id) {
+            return false;
+        }
+    }
+    true
+}
+
 /// Whether the session stands so. Nothing is said of a bin that is not there.
 pub fn stands(session: &TestSession<'_>, wanted: &Standing) -> bool {
     session.next_number() == wanted.next
         && has_bins(session, wanted.bins)
         && has_placed(session.outstanding(), wanted.placed)
-        && session.stats(&NOWHERE).is_none()
-        && session.was_coalesced(&NOWHERE).is_none()
+        && are_unknown(session, wanted.bins)
 }
 
 /// How a new session stands.

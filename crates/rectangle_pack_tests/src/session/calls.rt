@@ -98,13 +98,14 @@ fn call_all<'a>(
     Ok(call_lines(&mut session, commands.as_slice(), script))
 }
 
-// With so many requests granted, the calls come out so. All of these are used, and all memory is
-// given back.
+// With so many requests granted, the calls come out so. All of these are used, if there are not
+// more than any script makes, and all memory is given back.
 fn call_granted(rt: &impl Abort, alloc: Global, granted: u64, script: &Script) -> Made<Came> {
     let plenty = Refusing::new(alloc, u64::MAX);
     let scarce = Refusing::new(alloc, granted);
     let came = call_all(&plenty, &scarce, script)?;
-    assert!(rt; matches!(came, Came::Wrong(_)) || scarce.left() == 0);
+    let is_used = matches!(came, Came::Wrong(_)) || scarce.left() == 0;
+    assert!(rt; granted == u64::MAX || is_used);
     assert_eq!(rt; (plenty.taken(), scarce.taken()), (0, 0));
     Ok(came)
 }
@@ -129,9 +130,11 @@ fn are_allowed(script: &Script, were_refused: &[bool]) -> bool {
     refusals == 0 && script.lines.len() <= were_refused.len()
 }
 
-/// Makes the calls with each request refused in turn, until none is. The refused one changes
-/// nothing, and what is not refused comes out.
+/// Makes the calls with all memory, and then with each request refused in turn, until none is. The
+/// refused one changes nothing, and what is not refused comes out.
 pub fn come_out(rt: &impl Abort, alloc: Global, script: &Script) -> Made<()> {
+    let came = call_granted(rt, alloc, u64::MAX, script)?;
+    assert!(rt; matches!(came, Came::Out));
     let mut were_refused = [false; MOST_LINES];
     for granted in 0..300u64 {
         match call_granted(rt, alloc, granted, script)? {

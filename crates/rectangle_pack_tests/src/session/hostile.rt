@@ -234,11 +234,12 @@ fn compare(mood: Mood, asked: &Cell<u64>, one: Three, other: Three) -> Ordering 
     }
 }
 
-// By the comparison of this mood, and by smallest boxes.
-fn stays_whole_by_both<H>(
+// By the comparison of this mood, and by smallest boxes. Each begins to count anew.
+fn stays_whole_by_mood<H>(
     rt: &impl Abort,
     alloc: Global,
     mood: Mood,
+    asked: &Cell<u64>,
     heuristic: &H,
 ) -> Result<(), Fail>
 where
@@ -248,6 +249,7 @@ where
     let compared = Cell::new(0u64);
     let comparison = |one: Three, other: Three, _: &H| compare(mood, &compared, one, other);
     stays_whole(rt, alloc, heuristic, &comparison)?;
+    asked.set(0);
     stays_whole(rt, alloc, heuristic, &contains_smallest_box)
 }
 
@@ -256,7 +258,7 @@ fn answers_without_sense(rt: HostRuntime) -> Result<(), Fail> {
     for mood in MOODS {
         let asked = Cell::new(0u64);
         let heuristic = |size: WidthHeightDepth| rate(mood, &asked, size);
-        stays_whole_by_both(&rt, rt.alloc(), mood, &heuristic)?;
+        stays_whole_by_mood(&rt, rt.alloc(), mood, &asked, &heuristic)?;
     }
     Ok(())
 }

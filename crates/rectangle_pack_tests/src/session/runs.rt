@@ -119,13 +119,18 @@ fn run_granted(rt: &impl Abort, alloc: Global, granted: u64, script: &Script) ->
     Ok(came)
 }
 
-/// Runs with each request refused in turn, until none is.
+/// Runs with all memory, and then with each request refused in turn, until none is.
 pub fn come_out(rt: &impl Abort, alloc: Global, script: &Script) -> Made<()> {
+    let came = run_granted(rt, alloc, u64::MAX, script)?;
+    assert!(rt; matches!(came, Came::Out));
     for granted in 0..300u64 {
         match run_granted(rt, alloc, granted, script)? {
             Came::Refused => {}
             Came::Wrong => assert!(rt; false, "{granted} requests"),
-            Came::Out => return Ok(()),
+            Came::Out => {
+                assert!(rt; granted > 0);
+                return Ok(());
+            }
         }
     }
     assert!(rt; false);
