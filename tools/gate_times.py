@@ -68,10 +68,27 @@ def print_functions(times, crate):
 
 
 def status_of(pid):
-    """The parent of a process and the seconds of the processor that it and its ended children took."""
+    """The parent of a process, the seconds of the processor that it and its ended children took, and when it began."""
     with open(f"/proc/{pid}/stat") as file:
         fields = file.read().rpartition(")")[2].split()
-    return int(fields[1]), sum(map(int, fields[11:15])) / TICKS
+    return int(fields[1]), sum(map(int, fields[11:15])) / TICKS, fields[19]
+
+
+def edit_in(folder):
+    """The name of the edit with which the copy of a crate that is checked in this folder was made, if there is one."""
+    for edit in sorted((TOP / "crates").glob("*/must-fail/*.edit")) if "rt-edit-" in folder else []:
+        texts = edit.read_text()
+        path = re.search(r"^file: (.*)$", texts, re.M)[1]
+        pairs = re.findall(r"^old: (.*)\nnew: ?(.*)$", texts.split("\nfile: ")[0], re.M)
+        try:
+            text, here = (edit.parent.parent / path).read_text(), (pathlib.Path(folder) / path).read_text()
+        except OSError:
+            continue
+        for old, new in pairs:
+            text = text.replace(old, new)
+        if text == here:
+            return edit.stem
+    return None
 
 
 class Watch:
@@ -81,35 +98,34 @@ class Watch:
         self.root, self.checks, self.functions = root, {}, {}
 
     def look(self):
-        parents = {}
+        seen = {}
         for pid in filter(str.isdigit, os.listdir("/proc")):
             try:
-                parents[int(pid)] = status_of(pid)
+                seen[int(pid)] = status_of(pid)
             except (OSError, ValueError, IndexError):
                 pass
         below = {self.root}
         for _ in range(12):
-            below |= {pid for pid, (parent, _) in parents.items() if parent in below}
-        for pid in sorted(below - {self.root}):
-            self.note(pid, parents.get(pid, (0, 0.0))[1], parents.get(pid, (0, 0.0))[0])
+            below |= {pid for pid, (parent, _, _) in seen.items() if parent in below}
+        for pid in sorted((below - {self.root}) & seen.keys()):
+            parent, seconds, began = seen[pid]
+            # (a copy that a check forked counts as a part of it)
+            if (parent, seen.get(parent, (0, 0, 0))[2]) not in self.checks:
+                self.note(pid, (pid, began), seconds)
 
-    def note(self, pid, seconds, parent):
-        if pid not in self.checks:
+    def note(self, pid, key, seconds):
+        if key not in self.checks:
             try:
                 words = pathlib.Path(f"/proc/{pid}/cmdline").read_bytes().decode(errors="replace").split("\0")
                 folder = os.readlink(f"/proc/{pid}/cwd")
             except OSError:
                 return
-            is_check = os.path.basename(words[0]) == "rattle" and words[1:2] in (["check"], ["build"])
-            # (a copy that a check forked counts as a part of it)
-            if not is_check or parent in self.checks and self.checks[parent]:
-                self.checks[pid] = None
+            # (a process may be seen before it becomes a check)
+            if os.path.basename(words[0]) != "rattle" or words[1:2] not in (["check"], ["build"]):
                 return
-            self.checks[pid] = {"words": words, "folder": folder, "seconds": 0.0, "began": time.time()}
+            self.checks[key] = {"words": words, "folder": folder, "seconds": 0.0, "began": time.time(), "edit": edit_in(folder)}
             self.read_kept(words)
-        check = self.checks[pid]
-        if check:
-            check["seconds"] = max(check["seconds"], seconds)
+        self.checks[key]["seconds"] = max(self.checks[key]["seconds"], seconds)
 
     def read_kept(self, words):
         """At the second check over one folder of kept work: what each function took in the first."""
@@ -124,25 +140,21 @@ class Watch:
     def report(self):
         edits = {}
         rows = []
-        for check in sorted(filter(None, self.checks.values()), key=lambda it: it["began"]):
+        for check in sorted(self.checks.values(), key=lambda it: it["began"]):
             words = check["words"]
             crate = words[words.index("--crate-name") + 1] if "--crate-name" in words else "?"
             if "rt-edit-" in check["folder"]:
-                at = edits.setdefault(crate, [])
-                at.append(check["seconds"])
+                edits.setdefault(crate, []).append((check["edit"] or "the crate as it is", check["seconds"]))
             else:
                 what = "tests" if "--test" in words else "proof" if words[1] == "check" else "build"
                 rows.append((check["seconds"], crate, what))
         print("seconds of the processor, as seen once a second")
         for seconds, crate, what in rows:
             print(f"  {seconds:7.0f}  {crate}: {what}")
-        for crate, all_seconds in edits.items():
-            names = sorted(it.stem for it in (TOP / "crates" / crate / "must-fail").glob("*.edit"))
-            names[:1] = [f"{names[0]}, and the crate from nothing"] if names else []
-            names += ["the crate as it is"]
-            print(f"  {sum(all_seconds):7.0f}  {crate}: {len(all_seconds)} checks for its edits")
-            for name, seconds in zip(names, all_seconds):
-                print(f"    {seconds:7.1f}  {name}")
+        for crate, tried in edits.items():
+            print(f"  {sum(seconds for _, seconds in tried):7.0f}  {crate}: {len(tried)} checks for its edits")
+            for at, (name, seconds) in enumerate(tried):
+                print(f"    {seconds:7.1f}  {name}{', and the crate from nothing' if at == 0 else ''}")
         for crate, times in self.functions.items():
             print_functions(times, crate)
 

@@ -100,6 +100,24 @@ fn heuristic_that_captures(rt: HostRuntime) {
     }
 }
 
+// Packs the case by a heuristic that is callable on every size.
+fn packs_by<H>(rt: &impl Abort, alloc: &Refusing<Global>, case: &Case, heuristic: &H) -> End
+where
+    H: Fn(WidthHeightDepth) -> u128,
+    requires { H.IsAlwaysCallable heuristic.now }
+{
+    packs(rt, alloc, case, heuristic, &contains_smallest_box)
+}
+
+#[test]
+fn heuristic_that_borrows(rt: HostRuntime) {
+    let refusing = Refusing::new(rt.alloc(), u64::MAX);
+    let most = 20u128;
+    let heuristic = |size: WidthHeightDepth| size.volume().min(most);
+    let end = packs_by(&rt, &refusing, &EQUAL_ABOVE_20, &heuristic);
+    assert!(rt; end == End::Done);
+}
+
 fn longest_side(size: WidthHeightDepth) -> u128 {
     u128::from(size.width().max(size.height()).max(size.depth()))
 }

@@ -107,10 +107,9 @@ fn are_in_one_group<T: Ord + Clone + Drop>(
     group: &Group<T, T>,
     ids: &[T],
 ) -> bool {
-    for id in ids {
-        match all.rects().get(id) {
-            Some(rect) if [rect.width(), rect.height(), rect.depth()] == SIZE => {}
-            _ => return false,
+    for ((id, rect), wanted) in all.rects().iter().zip(ids.iter()) {
+        if id != wanted || [rect.width(), rect.height(), rect.depth()] != SIZE {
+            return false;
         }
     }
     match all.groups().get(group) {

@@ -1,4 +1,5 @@
-//! The tests of the library's calls, and the allocator that they and the program's tests refuse memory by.
+//! The tests of the library's calls but those of sessions. Of what these tests are made of, other tests take the allocator that
+//! refuses requests, and sections by their numbers.
 #![tactic(auto)]
 
 #[cfg(test)]
@@ -22,17 +23,10 @@ mod memory;
 #[cfg(test)]
 mod placements;
 #[cfg(test)]
-mod plans;
-#[cfg(test)]
 mod pushes;
 pub mod refusing;
-#[cfg(test)]
-mod session;
-#[cfg(test)]
-mod shapes;
+pub mod shapes;
 #[cfg(test)]
 mod sizes;
-#[cfg(test)]
-mod stats;
 #[cfg(test)]
 mod trials;

@@ -11,7 +11,6 @@ mod collections;
 mod names;
 mod none;
 mod packings;
-mod plans;
 
 /// What came of a run: a request was refused before the call in question, or in that call, or none was.
 #[derive(Clone, Copy, Debug, PartialEq, Eq, Drop)]

@@ -1,12 +1,13 @@
 //! Collections of boxes whose memory, or whose ids' clones, are refused.
 
-use super::End;
 use super::names::{Name, Rects};
+use super::{End, refuses_each};
 use crate::refusing::Refusing;
 use rectangle_pack::{Group, GroupedRectsToPlace, RectToInsert};
 use std::alloc::{AllocError, Global};
 use std::cell::Cell;
 use std::process::Abort;
+use std::test::Fail;
 
 // What a collection holds: its groups with their boxes, where a box alone has the group `None`, and
 // the boxes with their sizes.
@@ -268,4 +269,62 @@ fn pushes_into_collections(rt: HostRuntime) {
 fn exclusions(rt: HostRuntime) {
     assert!(rt; is_refused(&rt, rt.alloc(), false, None));
     assert!(rt; is_refused(&rt, rt.alloc(), true, None));
+}
+
+// Ids that own memory, which their clones take too.
+type Text<'a> = String<&'a Refusing<Global>>;
+
+type TextRects<'a> = GroupedRectsToPlace<Text<'a>, u32, &'a Refusing<Global>>;
+
+fn push_text<'a>(
+    all: &mut TextRects<'a>,
+    alloc: &'a Refusing<Global>,
+    id: &str,
+) -> Result<(), AllocError> {
+    let id = String::from_str(alloc, id)?;
+    let named = [0, 1, 0].to_vec(alloc)?;
+    all.push_rect(id, Some(named), RectToInsert::new(2, 3, 1))
+}
+
+// Excludes the box alone from group 0.
+fn exclude_text<'a>(
+    all: &mut TextRects<'a>,
+    alloc: &'a Refusing<Global>,
+    id: &str,
+) -> Result<(), AllocError> {
+    let alone = Group::Ungrouped(String::from_str(alloc, id)?);
+    all.exclude(alone, Group::Grouped(0))
+}
+
+// Pushes a box beside one that is there, and excludes that one alone from group 0. Where this is
+// refused, nothing is changed.
+fn calls_by_texts<'a>(
+    rt: &impl Abort,
+    alloc: &'a Refusing<Global>,
+    all: &mut TextRects<'a>,
+) -> End {
+    let Ok(old) = String::from_str(alloc, "old") else {
+        return End::Before;
+    };
+    let alone = Group::Ungrouped(old);
+    if push_text(all, alloc, "old").is_err() {
+        return End::Before;
+    }
+    if push_text(all, alloc, "new").is_err() {
+        assert_eq!(rt; (all.groups().len(), all.rects().len()), (2, 1));
+        return End::Refused;
+    }
+    assert_eq!(rt; (all.groups().len(), all.rects().len()), (2, 2));
+    let is_done = exclude_text(all, alloc, "old").is_ok();
+    assert_eq!(rt; all.excluded(&alone, &Group::Grouped(0)), is_done);
+    if is_done { End::Done } else { End::Refused }
+}
+
+// All memory of the ids and of their clones is given back.
+#[test]
+fn ids_that_own_memory(rt: HostRuntime) -> Result<(), Fail> {
+    refuses_each(&rt, rt.alloc(), |refusing| {
+        let mut all = GroupedRectsToPlace::new(refusing);
+        Ok(calls_by_texts(&rt, refusing, &mut all))
+    })
 }

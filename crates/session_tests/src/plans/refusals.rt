@@ -1,11 +1,11 @@
 //! Cutting plans whose memory is refused.
 
-use crate::plans::Order::{AddBin, Coalesce, Pack, Release};
-use crate::plans::PlanStep::{Leaf, X};
-use crate::plans::Step::{self, NoBin, Replies, Stands};
-use crate::plans::{Came, PlanStep, Standing, play_all};
-use crate::refusing::Refusing;
+use super::Order::{AddBin, Coalesce, Pack, Release};
+use super::PlanStep::{Leaf, X};
+use super::Step::{self, NoBin, Replies, Stands};
+use super::{Came, PlanStep, Standing, play_all};
 use rectangle_pack::{Packed, Reply, SessionError};
+use rectangle_pack_tests::refusing::Refusing;
 use std::test::Fail;
 
 const FIRST: Reply = Reply::Packed(Packed { first: 0, count: 1 });

@@ -3,8 +3,8 @@
 use super::{
     Line, Made, Memory, Rects, Script, Standing, TestCommand, TestSession, commands, empty, stands,
 };
-use crate::refusing::Refusing;
 use rectangle_pack::{Command, Reply, SessionError, contains_smallest_box, volume_heuristic};
+use rectangle_pack_tests::refusing::Refusing;
 use std::alloc::Global;
 use std::process::Abort;
 

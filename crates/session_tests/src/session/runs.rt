@@ -2,8 +2,8 @@
 
 use super::calls::call;
 use super::{Made, Script, TestCommand, TestSession, commands, empty, stands};
-use crate::refusing::Refusing;
 use rectangle_pack::{BinSection, Reply, contains_smallest_box, volume_heuristic};
+use rectangle_pack_tests::refusing::Refusing;
 use std::alloc::Global;
 use std::process::Abort;
 

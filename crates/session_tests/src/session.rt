@@ -8,12 +8,12 @@ mod releases;
 mod runs;
 mod strip;
 
-use super::shapes::{has_list, place};
-use crate::refusing::Refusing;
 use rectangle_pack::{
     BinStats, Command, Group, GroupedRectsToPlace, Outstanding, RectToInsert, Reply, Session,
     SessionError, TargetBin,
 };
+use rectangle_pack_tests::refusing::Refusing;
+use rectangle_pack_tests::shapes::{has_list, place};
 use std::alloc::{AllocError, Global};
 use std::process::Abort;
 use std::test::Fail;

@@ -7,13 +7,14 @@ mod joins;
 mod packings;
 mod random;
 mod read_back;
+mod refusals;
 
-use crate::refusing::Refusing;
-use crate::shapes::{has_list, place};
 use rectangle_pack::{
     Axis, CutStep, Group, GroupedRectsToPlace, Outstanding, Packed, RectToInsert, Reply, Session,
     SessionError, WidthHeightDepth, contains_smallest_box, volume_heuristic,
 };
+use rectangle_pack_tests::refusing::Refusing;
+use rectangle_pack_tests::shapes::{has_list, place};
 use std::alloc::{AllocError, Global};
 use std::cmp::Ordering;
 use std::process::Abort;

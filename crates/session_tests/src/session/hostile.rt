@@ -2,11 +2,11 @@
 ghost use Rattle.rectangle_pack.specs.Closures.{AreCallable, CanRate};
 
 use super::{BIN, OTHER, Order, TestSession, command};
-use crate::refusing::Refusing;
-use crate::shapes::{numbers, place};
 use rectangle_pack::{
     BinSection, Outstanding, Packed, Reply, TargetBin, WidthHeightDepth, contains_smallest_box,
 };
+use rectangle_pack_tests::refusing::Refusing;
+use rectangle_pack_tests::shapes::{numbers, place};
 use std::alloc::{AllocError, Global};
 use std::cell::Cell;
 use std::cmp::Ordering;

@@ -1,11 +1,11 @@
 //! Plans of the bins of random sessions, beside their definition.
 
 use super::read_back::{Cuboid, defined_plan, parts_into};
-use crate::shapes::{numbers, place};
 use rectangle_pack::{
     BinSection, CutStep, GroupedRectsToPlace, Outstanding, RectToInsert, Session, SessionError,
     TargetBin, contains_smallest_box, volume_heuristic,
 };
+use rectangle_pack_tests::shapes::{numbers, place};
 use std::alloc::{AllocError, Global};
 use std::test::Fail;
 
