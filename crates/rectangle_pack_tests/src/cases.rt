@@ -3,7 +3,7 @@ ghost use Rattle.rectangle_pack.specs.Closures.{AreCallable};
 
 use super::memory::End;
 use super::refusing::Refusing;
-use super::shapes::{has_list, place};
+use super::shapes::{has_list, named, place};
 use rectangle_pack::{
     Group, GroupedRectsToPlace, RectToInsert, RectanglePackError, RectanglePackOk, TargetBin,
     WidthHeightDepth, contains_smallest_box, pack_rects, volume_heuristic,
@@ -99,12 +99,8 @@ pub fn push_boxes<'a>(
     let boxes = case.boxes;
     for (id, size, groups) in boxes {
         let [width, height, depth] = *size;
-        let named = if groups.is_empty() {
-            None
-        } else {
-            Some(groups.to_vec(alloc)?)
-        };
-        rects.push_rect(*id, named, RectToInsert::new(width, height, depth))?;
+        let groups = named(alloc, groups)?;
+        rects.push_rect(*id, groups, RectToInsert::new(width, height, depth))?;
     }
     exclude_all(rects, case.excluded)
 }

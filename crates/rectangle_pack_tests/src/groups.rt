@@ -1,6 +1,7 @@
 //! Boxes in groups: the collection, and its packings.
 
 use super::cases::{Case, Name, TWO_IN_A_GROUP, pack_by_volume};
+use super::shapes::named;
 use rectangle_pack::{Group, GroupedRectsToPlace, RectToInsert};
 use std::alloc::{AllocError, Global};
 use std::test::Fail;
@@ -56,12 +57,8 @@ fn push_all(
 ) -> Result<(), AllocError> {
     for ((id, size), groups) in pushes {
         let [width, height, depth] = *size;
-        let named = if groups.is_empty() {
-            None
-        } else {
-            Some(groups.to_vec(alloc)?)
-        };
-        all.push_rect(*id, named, RectToInsert::new(width, height, depth))?;
+        let groups = named(alloc, groups)?;
+        all.push_rect(*id, groups, RectToInsert::new(width, height, depth))?;
     }
     Ok(())
 }

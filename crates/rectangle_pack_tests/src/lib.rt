@@ -1,5 +1,5 @@
-//! The tests of the library's calls but those of sessions. Of what these tests are made of, other tests take the allocator that
-//! refuses requests, and sections by their numbers.
+//! The tests of the library's calls but those of sessions. Of what these tests are made of, other
+//! tests take the allocator that refuses requests, sections by their numbers, and lists of groups.
 #![tactic(auto)]
 
 #[cfg(test)]
@@ -28,5 +28,7 @@ pub mod refusing;
 pub mod shapes;
 #[cfg(test)]
 mod sizes;
+#[cfg(test)]
+mod texts;
 #[cfg(test)]
 mod trials;

@@ -1,9 +1,10 @@
-//! Sections, locations and bins by their numbers: x, y, z, width, height, depth.
+//! Sections, locations and bins by their numbers (x, y, z, width, height, depth), and groups by
+//! theirs.
 ghost use Rattle.std.specs.Prelude.{◌≡◌};
 ghost use Rattle.rectangle_pack.specs.Boxes.{Size};
 
 use rectangle_pack::{BinSection, PackedLocation, RectToInsert, TargetBin, WidthHeightDepth};
-use std::alloc::Allocator;
+use std::alloc::{AllocError, Allocator};
 
 /// A section with this corner and size; any of the numbers may be 0.
 pub fn section(x: u32, y: u32, z: u32, width: u32, height: u32, depth: u32) -> BinSection
@@ -53,4 +54,15 @@ pub fn has_list<A: Allocator + Copy>(bin: &TargetBin<A>, list: &[[u32; 6]]) -> b
             .iter()
             .zip(list.iter())
             .all(|(section, wanted)| numbers(section) == *wanted)
+}
+
+/// The groups of a push. A list without groups is `None`: the box is pushed alone.
+pub fn named<A: Allocator + Copy>(
+    alloc: A,
+    groups: &[u32],
+) -> Result<Option<Vec<u32, A>>, AllocError> {
+    if groups.is_empty() {
+        return Ok(None);
+    }
+    Ok(Some(groups.to_vec(alloc)?))
 }

@@ -14,7 +14,7 @@ use rectangle_pack::{
     SessionError, WidthHeightDepth, contains_smallest_box, volume_heuristic,
 };
 use rectangle_pack_tests::refusing::Refusing;
-use rectangle_pack_tests::shapes::{has_list, place};
+use rectangle_pack_tests::shapes::{has_list, named, place};
 use std::alloc::{AllocError, Global};
 use std::cmp::Ordering;
 use std::process::Abort;
@@ -120,11 +120,7 @@ type Rects<'a> = GroupedRectsToPlace<u32, u32, Alloc<'a>>;
 
 fn push<'a>(rects: &mut Rects<'a>, alloc: Alloc<'a>, sized: &SizedBox) -> Result<(), AllocError> {
     let (id, [width, height, depth], groups) = *sized;
-    let groups = if groups.is_empty() {
-        None
-    } else {
-        Some(groups.to_vec(alloc)?)
-    };
+    let groups = named(alloc, groups)?;
     rects.push_rect(id, groups, RectToInsert::new(width, height, depth))
 }
 

@@ -13,7 +13,7 @@ use rectangle_pack::{
     SessionError, TargetBin,
 };
 use rectangle_pack_tests::refusing::Refusing;
-use rectangle_pack_tests::shapes::{has_list, place};
+use rectangle_pack_tests::shapes::{has_list, named, place};
 use std::alloc::{AllocError, Global};
 use std::process::Abort;
 use std::test::Fail;
@@ -159,12 +159,8 @@ fn push_boxes<'a>(
 ) -> Made<()> {
     for (id, size, groups) in boxes {
         let [width, height, depth] = *size;
-        let named = if groups.is_empty() {
-            None
-        } else {
-            Some(groups.to_vec(alloc)?)
-        };
-        rects.push_rect(*id, named, RectToInsert::new(width, height, depth))?;
+        let groups = named(alloc, groups)?;
+        rects.push_rect(*id, groups, RectToInsert::new(width, height, depth))?;
     }
     Ok(())
 }

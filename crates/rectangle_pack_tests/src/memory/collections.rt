@@ -296,6 +296,13 @@ fn exclude_text<'a>(
     all.exclude(alone, Group::Grouped(0))
 }
 
+// How many entries the groups 0 and 1 have, and how many boxes there are.
+fn entries(all: &TextRects<'_>) -> (Option<(usize, usize)>, usize) {
+    let zero = all.groups().get(&Group::Grouped(0)).map(Vec::len);
+    let one = all.groups().get(&Group::Grouped(1)).map(Vec::len);
+    (zero.zip(one), all.rects().len())
+}
+
 // Pushes a box beside one that is there, and excludes that one alone from group 0. Where this is
 // refused, nothing is changed.
 fn calls_by_texts<'a>(
@@ -311,10 +318,10 @@ fn calls_by_texts<'a>(
         return End::Before;
     }
     if push_text(all, alloc, "new").is_err() {
-        assert_eq!(rt; (all.groups().len(), all.rects().len()), (2, 1));
+        assert_eq!(rt; entries(all), (Some((2, 1)), 1));
         return End::Refused;
     }
-    assert_eq!(rt; (all.groups().len(), all.rects().len()), (2, 2));
+    assert_eq!(rt; entries(all), (Some((4, 2)), 2));
     let is_done = exclude_text(all, alloc, "old").is_ok();
     assert_eq!(rt; all.excluded(&alone, &Group::Grouped(0)), is_done);
     if is_done { End::Done } else { End::Refused }
