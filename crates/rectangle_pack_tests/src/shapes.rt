@@ -1,6 +1,7 @@
 //! Sections, locations and bins by their numbers (x, y, z, width, height, depth), and groups by
 //! theirs.
-ghost use Rattle.std.specs.Prelude.{◌≡◌};
+ghost use Rattle.std.specs.Prelude.{◌≡◌, ◌<◌, IfOk, vec_len};
+ghost use Rattle.std.specs.Option.{ForSome};
 ghost use Rattle.rectangle_pack.specs.Boxes.{Size};
 
 use rectangle_pack::{BinSection, PackedLocation, RectToInsert, TargetBin, WidthHeightDepth};
@@ -60,7 +61,9 @@ pub fn has_list<A: Allocator + Copy>(bin: &TargetBin<A>, list: &[[u32; 6]]) -> b
 pub fn named<A: Allocator + Copy>(
     alloc: A,
     groups: &[u32],
-) -> Result<Option<Vec<u32, A>>, AllocError> {
+) -> Result<Option<Vec<u32, A>>, AllocError>
+    ensures { IfOk result (λ groups. ForSome groups (λ named. 0 < vec_len named)) }
+{
     if groups.is_empty() {
         return Ok(None);
     }
