@@ -1,6 +1,6 @@
 -- Which bins are barred, by the bins that are kept for the groups that have partners.
-use Rattle.std.proofs.Common.{◌≡◌, ◌↔◌, ℕ, suc, zero, ◌+◌, ◌<◌, Bool, true, false, cond, ◌&&◌, ◌||◌, List, [], ◌∷◌, ◌++◌, length, take, get_or, refl, sym, ◌∙◌, ap, subst, arith}
-use Rattle.std.specs.Prelude.{Option, Some, All, AllPairs, map, unwrap_or, nat_eq}
+use Rattle.std.proofs.Common.{◌≡◌, ◌↔◌, ℕ, suc, zero, ◌+◌, ◌-◌, ◌<◌, Bool, true, false, cond, ◌&&◌, ◌||◌, List, [], ◌∷◌, ◌++◌, length, take, get_or, refl, sym, ◌∙◌, ap, subst, arith}
+use Rattle.std.specs.Prelude.{Option, Some, All, AllPairs, map, reverse, unwrap_or, nat_eq}
 use Rattle.std.specs.declared.cmp.Ordering.{Ordering}
 use Rattle.std.specs.declared.cmp.Ordering.TheVariants.{Equal}
 use Rattle.std.specs.declared.cmp.Reverse.{Reverse}
@@ -12,7 +12,7 @@ use Rattle.std.specs.List.{list_any, IsDistinct, AllByRecursion}
 use Rattle.std.specs.Map.{lookup}
 use Rattle.std.specs.BTreeMap.{is_at}
 use Rattle.std.proofs.lemmas.List.Elements.{All-nil, All-cons, All-head, All-tail, All-weaker}
-use Rattle.std.proofs.lemmas.List.{take_more, map-append, get_or-map, length-map}
+use Rattle.std.proofs.lemmas.List.{take_more, map-append, get_or-map, get_or-reverse, length-map, length-reverse}
 use Rattle.std.proofs.lemmas.List.Folds.{list_any_at}
 use Rattle.std.proofs.lemmas.Map.Keys.{IsDistinct-head, IsDistinct-tail}
 use Rattle.std.proofs.Math.Path.{fun_ext}
@@ -28,7 +28,7 @@ use Rattle.rectangle_pack.specs.declared.grouped_rects_to_place.Group.{Group}
 use Rattle.rectangle_pack.proofs.AppendLemmas.{All-front, All-middle}
 use Rattle.rectangle_pack.proofs.PackingOrderLemmas.{cmp-self}
 use Rattle.rectangle_pack.proofs.MapsLemmas.{lookup-equal, is_at-back}
-use Rattle.rectangle_pack.proofs.ExclusionsLemmas.{list_any-alike, is_at-equal, excluded-listed}
+use Rattle.rectangle_pack.proofs.ExclusionsLemmas.{list_any-alike, is_at-equal, excluded-listed, or-comm}
 
 -- tests that agree on the elements find the same
 list_any-on : {X : Type 0} (p q : X → Bool) (xs : List X) → All (λ x. p x ≡ q x) xs → list_any p xs ≡ list_any q xs
@@ -232,6 +232,12 @@ and-given : (a b : Bool) → (a && b) ≡ false → a ≡ true → b ≡ false
 and-given true b h e = h
 and-given false b h e = absurd cc
 
+-- what holds of all pairs in both orders holds of them from the end on
+AllPairs-reverse : {X : Type 0} (R : X → X → Type 0) → ((a b : X) → R a b → R b a) → (xs : List X) → AllPairs R xs → AllPairs R (reverse xs)
+AllPairs-reverse R back xs h i j d lt within =
+    let long = length-reverse xs in
+    rw (get_or-reverse xs i d (omega arith), get_or-reverse xs j d (omega arith)) (back _ _ (h (length xs - 1 - j) (length xs - 1 - i) d (omega arith) (omega arith)))
+
 module _ {Id K B : Type 0} (group_cmp : K → K → Ordering) (rules : Rules Id B) (partners : List (K × List K)) where
   abbrev Apart : K × B → K × B → Type 0
   Apart a b = are_excluded group_cmp partners a.0 b.0 ≡ true → is_at (rules.bin_cmp a.1) b.1 ≡ false
@@ -244,6 +250,11 @@ module _ {Id K B : Type 0} (group_cmp : K → K → Ordering) (rules : Rules Id 
       let p : K × B → Bool = λ h. are_excluded group_cmp partners g.0 h.0 && is_at (rules.bin_cmp placed.here) h.1 in
       let each : All (Apart (g.0, placed.here)) old.homes = All-weaker (λ h. p h ≡ false) (Apart (g.0, placed.here)) (λ h none e. and-given (are_excluded group_cmp partners g.0 h.0) (is_at (rules.bin_cmp placed.here) h.1) none e) old.homes (none-found p old.homes placed.allowed) in
       placed_apart order gs (record { bins = next; homes = (g.0, placed.here) ∷ old.homes }) rest new others later (AllPairs-cons Apart (g.0, placed.here) old.homes each was)
+
+  -- and so from the end on
+  pub apart-reverse : IsTotalOrder rules.bin_cmp → (homes : List (K × B)) → AreKeptApart group_cmp rules.bin_cmp partners homes → AreKeptApart group_cmp rules.bin_cmp partners (reverse homes)
+  apart-reverse o homes h =
+      AllPairs-reverse Apart (λ a b apart e. is_at-back o b.1 a.1 ∙ apart (or-comm (is_listed group_cmp partners a.0 b.0) (is_listed group_cmp partners b.0 a.0) ∙ e)) homes h
 
 module _ {Id B G : Type 0} (group_cmp : Group G Id → Group G Id → Ordering) (rules : Rules Id B) (all : Collection Id G) (none : (a b : Group G Id) → are_excluded group_cmp all.partners a b ≡ false) where
   pub done_without : (old new : List (B × Bin)) (placements : List (Placement Id B)) (n : ℕ)

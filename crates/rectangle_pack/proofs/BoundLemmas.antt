@@ -22,12 +22,12 @@ use Rattle.rectangle_pack.specs.Closures.{Answers}
 use Rattle.rectangle_pack.specs.Packing.{Rules, Members, Stage, at_start, bars_by, DoesNotTake, IsPlaced, IsRefused, AreGroups, AreAllPlaced, StopsAfter}
 use Rattle.std.proofs.lemmas.List.Sorted.{sum_by-IsPermutation, IsPermutation-map, length_permutation}
 use Rattle.std.proofs.lemmas.Map.Keys.{IsDistinct-cons, IsDistinct-IsPermutation}
-use Rattle.rectangle_pack.specs.Groups.{Collection}
+use Rattle.rectangle_pack.specs.Groups.{Collection, entries_of}
 use Rattle.rectangle_pack.specs.Orders.{IsBinOrder}
 use Rattle.rectangle_pack.specs.Numbers.{saturated}
 use Rattle.rectangle_pack.specs.Trials.{IsTrialAnswer, most_tests}
 use Rattle.std.specs.declared.vec.Vec.{Vec}
-use Rattle.rectangle_pack.specs.PackAnswers.{entries_of, sections_in, AreCounted}
+use Rattle.rectangle_pack.specs.PackAnswers.{sections_in, AreCounted}
 use Rattle.rectangle_pack.specs.private.Bounds.{free_in, free_of, AreWithin, AddsWithin}
 use Rattle.rectangle_pack.specs.private.Orders.{keys_of_order, entries_at}
 use Rattle.std.specs.declared.cmp.Reverse.{Reverse}

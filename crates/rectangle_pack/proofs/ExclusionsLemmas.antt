@@ -35,7 +35,7 @@ or-assoc : (p q r : Bool) → ((p || q) || r) ≡ (p || (q || r))
 or-assoc true q r = refl
 or-assoc false q r = refl
 
-or-comm : (p q : Bool) → (p || q) ≡ (q || p)
+pub or-comm : (p q : Bool) → (p || q) ≡ (q || p)
 or-comm true true = refl
 or-comm true false = refl
 or-comm false true = refl

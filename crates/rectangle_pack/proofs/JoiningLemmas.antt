@@ -15,7 +15,7 @@ use Rattle.rectangle_pack.specs.Counting.{times_filled}
 use Rattle.rectangle_pack.specs.Keeping.{KeepCells}
 use Rattle.rectangle_pack.specs.Bins.{IsSound}
 use Rattle.rectangle_pack.specs.private.Spans.{spans_of}
-use Rattle.rectangle_pack.specs.Joining.{SharesFace, join_start, join_extent, join, entry, IsFirstNeighbour, joined_list, joined_index, IsJoined, PastEnd, Alone, Joins, IsSwept}
+use Rattle.rectangle_pack.specs.Joining.{SharesFace, join_start, join_extent, join, entry, IsFirstNeighbour, joined_list, joined_index, IsJoined, PastEnd, Alone, Joins, IsSweptBelow}
 use Rattle.rectangle_pack.proofs.AxesLemmas.{cases_axis, end-is, coordinate, LiesIn, lies_in, is_cell}
 use Rattle.rectangle_pack.proofs.CountingLemmas.{KeepCells-from_counts}
 
@@ -153,14 +153,14 @@ joined_list-cells c sections idx j at within other shares =
     omega (arith, sum_by-set f sections idx b none at, sum_by-remove f (set sections idx b) j none long, ap f (get_or-set_other sections idx j b none other), join-cells c (entry sections idx) (entry sections j) shares)
 
 -- and so do joins in a row
-pub IsJoined-cells : (c : Cell) {old new : List Cuboid} {idx lo hi : ℕ} → IsJoined old idx lo hi new → times_filled c new ≡ times_filled c old
+pub IsJoined-cells : (c : Cell) {old new : List Cuboid} {idx lo hi : ℕ} → IsJoined idx lo hi old new → times_filled c new ≡ times_filled c old
 IsJoined-cells c (PastEnd past) = refl
 IsJoined-cells c (Alone at none) = refl
 IsJoined-cells c (Joins {old = old} {idx = idx} at j first next) =
     let near = first.is_one in
     IsJoined-cells c next ∙ joined_list-cells c old idx j at near.within near.other near.shares
 
-pub IsSwept-cells : (c : Cell) (n : ℕ) (old new : List Cuboid) → IsSwept n old new → times_filled c new ≡ times_filled c old
+pub IsSwept-cells : (c : Cell) (n : ℕ) (old new : List Cuboid) → IsSweptBelow n old new → times_filled c new ≡ times_filled c old
 IsSwept-cells c zero old new swept = ap (times_filled c) swept
 IsSwept-cells c (suc n) old new swept = IsSwept-cells c n swept.0 new swept.2 ∙ IsJoined-cells c swept.1
 
@@ -171,14 +171,14 @@ length-joined_list sections idx j within =
     length-remove (set sections idx b) j (omega (arith, length-set sections idx b)) ∙ length-set sections idx b
 
 -- no list gets longer
-pub IsJoined-shorter : {old new : List Cuboid} {idx lo hi : ℕ} → IsJoined old idx lo hi new → length new ≤ length old
+pub IsJoined-shorter : {old new : List Cuboid} {idx lo hi : ℕ} → IsJoined idx lo hi old new → length new ≤ length old
 IsJoined-shorter (PastEnd past) = omega arith
 IsJoined-shorter (Alone at none) = omega arith
 IsJoined-shorter (Joins {old = old} {idx = idx} at j first next) =
     let shorter = IsJoined-shorter next in
     omega (arith, length-joined_list old idx j first.is_one.within)
 
-pub IsSwept-shorter : (n : ℕ) (old new : List Cuboid) → IsSwept n old new → length new ≤ length old
+pub IsSwept-shorter : (n : ℕ) (old new : List Cuboid) → IsSweptBelow n old new → length new ≤ length old
 IsSwept-shorter zero old new swept = rw swept (omega arith)
 IsSwept-shorter (suc n) old new swept = let a = IsSwept-shorter n swept.0 new swept.2 in let b = IsJoined-shorter swept.1 in omega arith
 
@@ -199,29 +199,29 @@ module _ (P : Cuboid → Type 0) (keeps : (b e : Cuboid) → P b → P e → P (
       let new : All P (set sections idx whole) = All-set P sections idx whole (keeps _ _ (all idx _ at) (all j _ within)) all in
       All-append P (take j (set sections idx whole)) (drop (suc j) (set sections idx whole)) (All-take P j _ new) (All-drop P (suc j) _ new)
 
-  pub IsJoined-keeps : {old new : List Cuboid} {idx lo hi : ℕ} → IsJoined old idx lo hi new → All P old → All P new
+  pub IsJoined-keeps : {old new : List Cuboid} {idx lo hi : ℕ} → IsJoined idx lo hi old new → All P old → All P new
   IsJoined-keeps (PastEnd past) all = all
   IsJoined-keeps (Alone at none) all = all
   IsJoined-keeps (Joins {old = old} {idx = idx} at j first next) all = IsJoined-keeps next (joined_list-keeps old idx j at first.is_one.within all)
 
-  pub IsSwept-keeps : (n : ℕ) (old new : List Cuboid) → IsSwept n old new → All P old → All P new
+  pub IsSwept-keeps : (n : ℕ) (old new : List Cuboid) → IsSweptBelow n old new → All P old → All P new
   IsSwept-keeps zero old new swept all = rw swept all
   IsSwept-keeps (suc n) old new swept all = IsSwept-keeps n swept.0 new swept.2 (IsJoined-keeps swept.1 all)
 
 -- joining keeps the cells of sections that are apart, and a sound list sound
-pub IsJoined-KeepCells : {old new : List Cuboid} {idx lo hi : ℕ} (size : Size) → IsSound size old → IsJoined old idx lo hi new → KeepCells old new
+pub IsJoined-KeepCells : {old new : List Cuboid} {idx lo hi : ℕ} (size : Size) → IsSound size old → IsJoined idx lo hi old new → KeepCells old new
 IsJoined-KeepCells size sound joined = KeepCells-from_counts _ _ sound.apart (λ c. IsJoined-cells c joined)
 
-pub IsJoined-sound : {old new : List Cuboid} {idx lo hi : ℕ} (size : Size) → IsSound size old → IsJoined old idx lo hi new → IsSound size new
+pub IsJoined-sound : {old new : List Cuboid} {idx lo hi : ℕ} (size : Size) → IsSound size old → IsJoined idx lo hi old new → IsSound size new
 IsJoined-sound size sound joined = record {
   inside = IsJoined-keeps (IsInside size) (join-inside size) joined sound.inside;
   apart = (IsJoined-KeepCells size sound joined).apart;
 }
 
-pub IsSwept-KeepCells : (size : Size) (n : ℕ) (old new : List Cuboid) → IsSound size old → IsSwept n old new → KeepCells old new
+pub IsSwept-KeepCells : (size : Size) (n : ℕ) (old new : List Cuboid) → IsSound size old → IsSweptBelow n old new → KeepCells old new
 IsSwept-KeepCells size n old new sound swept = KeepCells-from_counts old new sound.apart (λ c. IsSwept-cells c n old new swept)
 
-pub IsSwept-sound : (size : Size) (n : ℕ) (old new : List Cuboid) → IsSound size old → IsSwept n old new → IsSound size new
+pub IsSwept-sound : (size : Size) (n : ℕ) (old new : List Cuboid) → IsSound size old → IsSweptBelow n old new → IsSound size new
 IsSwept-sound size n old new sound swept = record {
   inside = IsSwept-keeps (IsInside size) (join-inside size) n old new swept sound.inside;
   apart = (IsSwept-KeepCells size n old new sound swept).apart;
@@ -236,7 +236,7 @@ pub one_join : (sections after : List Cuboid) (idx lo hi j hi' idx' : ℕ) (a b 
     → All FitsU32 sections → idx < length sections → IsFirstNeighbour sections idx lo hi j
     → a ≡ get_or sections idx a → b ≡ get_or sections j b → whole ≡ join a b → FitsU32 whole → after ≡ remove (set sections idx whole) j
     → hi' ≡ min hi (length sections) - 1 → idx' ≡ joined_index idx j
-    → All FitsU32 after × (idx' < length after) × ((new : List Cuboid) → IsJoined after idx' lo hi' new → IsJoined sections idx lo hi new)
+    → All FitsU32 after × (idx' < length after) × ((new : List Cuboid) → IsJoined idx' lo hi' after new → IsJoined idx lo hi sections new)
 unfolding joined_list
 one_join sections after idx lo hi j hi' idx' a b whole fit at first is_a is_b is_whole fits is_after until is_idx =
     let near = first.is_one in

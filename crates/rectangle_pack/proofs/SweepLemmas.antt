@@ -5,7 +5,7 @@ use Rattle.std.proofs.lemmas.List.{get_or-set_other, get_or_default}
 use Rattle.std.proofs.lemmas.List.Edits.{get_or-remove_below, get_or-remove_above}
 use Rattle.std.specs.Prelude.{nat_lt, set}
 use Rattle.rectangle_pack.specs.Boxes.{Cuboid}
-use Rattle.rectangle_pack.specs.Joining.{SharesFace, ShareNoFace, join, entry, IsNeighbour, IsAlone, IsFirstNeighbour, joined_list, joined_index, IsJoined, PastEnd, Alone, Joins, IsSwept}
+use Rattle.rectangle_pack.specs.Joining.{SharesFace, ShareNoFace, join, entry, IsNeighbour, IsAlone, IsFirstNeighbour, joined_list, joined_index, IsJoined, PastEnd, Alone, Joins, IsSwept, IsSweptBelow}
 use Rattle.rectangle_pack.proofs.JoiningLemmas.{SharesFace-symmetric, length-joined_list}
 
 -- the entries from k on share no whole face with any other entry
@@ -71,7 +71,7 @@ unfolding Settled
 Settled-past sections k h u v from hu hv uv face = omega arith
 
 -- joining at an index over the whole list settles it, where all beyond it are settled
-IsJoined-settles : {old new : List Cuboid} {idx lo hi : ℕ} → IsJoined old idx lo hi new → lo ≡ 0 → length old ≤ hi → Around old idx → Settled new idx
+IsJoined-settles : {old new : List Cuboid} {idx lo hi : ℕ} → IsJoined idx lo hi old new → lo ≡ 0 → length old ≤ hi → Around old idx → Settled new idx
 IsJoined-settles (PastEnd {old = old} {idx = idx} past) z all around = Settled-past old idx past
 IsJoined-settles (Alone {old = old} {idx = idx} {hi = hi} at none) z all around = Settled-from_Around old idx hi all around (rw z at none)
 IsJoined-settles (Joins {old = old} {new = new} {idx = idx} {hi = hi} at j first next) z all around =
@@ -83,12 +83,12 @@ Around-from_Settled : (sections : List Cuboid) (n : ℕ) → Settled sections (s
 unfolding Around Settled
 Around-from_Settled sections n settled u v beyond hu hv uv vi face = settled u v (omega arith) hu hv uv face
 
-IsSwept-settles : (n : ℕ) (old new : List Cuboid) → IsSwept n old new → Settled old n → Settled new 0
+IsSwept-settles : (n : ℕ) (old new : List Cuboid) → IsSweptBelow n old new → Settled old n → Settled new 0
 IsSwept-settles zero old new swept settled = rw swept settled
 IsSwept-settles (suc n) old new swept settled =
     IsSwept-settles n swept.0 new swept.2 (IsJoined-settles swept.1 refl (omega arith) (Around-from_Settled old n settled))
 
-pub sweep_leaves_no_face : (old new : List Cuboid) → IsSwept (length old) old new → ShareNoFace new
+pub sweep_leaves_no_face : (old new : List Cuboid) → IsSwept old new → ShareNoFace new
 unfolding Settled
 sweep_leaves_no_face old new swept i j d lt below face =
     let settled = IsSwept-settles (length old) old new swept (Settled-past old (length old) (omega arith)) in
@@ -101,7 +101,7 @@ first_is_one sections idx lo hi j k first other = elim (cases_eq j k) [
   | inr differ ↦ elim (cases_lt j k) [ inl lt ↦ absurd (other.least j lt first.is_one) | inr ge ↦ absurd (first.least k (omega arith) other.is_one) ]
 ]
 
-pub IsJoined-one : {old a b : List Cuboid} {idx lo hi : ℕ} → IsJoined old idx lo hi a → IsJoined old idx lo hi b → a ≡ b
+pub IsJoined-one : {old a b : List Cuboid} {idx lo hi : ℕ} → IsJoined idx lo hi old a → IsJoined idx lo hi old b → a ≡ b
 IsJoined-one (PastEnd past) (PastEnd also) = refl
 IsJoined-one (PastEnd past) (Alone at none) = refl
 IsJoined-one (PastEnd past) (Joins at j first next) = absurd (omega arith)
@@ -111,17 +111,17 @@ IsJoined-one (Alone at none) (Joins here j first next) = absurd (none j first.is
 IsJoined-one (Joins at j first next) (PastEnd past) = absurd (omega arith)
 IsJoined-one (Joins at j first next) (Alone here none) = absurd (none j first.is_one)
 IsJoined-one (Joins {old = old} {idx = idx} {lo = lo} {hi = hi} at j first next) (Joins {new = b} here k other last) =
-    IsJoined-one next (subst (λ i. IsJoined (joined_list old idx i) (joined_index idx i) lo (min hi (length old) - 1) b) (first_is_one old idx lo hi k j other first) last)
+    IsJoined-one next (subst (λ i. IsJoined (joined_index idx i) lo (min hi (length old) - 1) (joined_list old idx i) b) (first_is_one old idx lo hi k j other first) last)
 
-pub IsSwept-one : (n : ℕ) (old a b : List Cuboid) → IsSwept n old a → IsSwept n old b → a ≡ b
+pub IsSwept-one : (n : ℕ) (old a b : List Cuboid) → IsSweptBelow n old a → IsSweptBelow n old b → a ≡ b
 IsSwept-one zero old a b p q = p ∙ sym q
-IsSwept-one (suc n) old a b p q = IsSwept-one n p.0 a b p.2 (subst (λ next. IsSwept n next b) (sym (IsJoined-one p.1 q.1)) q.2)
+IsSwept-one (suc n) old a b p q = IsSwept-one n p.0 a b p.2 (subst (λ next. IsSweptBelow n next b) (sym (IsJoined-one p.1 q.1)) q.2)
 
 -- an index past the end, an empty range, and a range past the end
-pub IsJoined-past_end : (old new : List Cuboid) (idx lo hi : ℕ) → length old ≤ idx → IsJoined old idx lo hi new → new ≡ old
+pub IsJoined-past_end : (old new : List Cuboid) (idx lo hi : ℕ) → length old ≤ idx → IsJoined idx lo hi old new → new ≡ old
 IsJoined-past_end old new idx lo hi past joined = IsJoined-one joined (PastEnd past)
 
-pub IsJoined-empty : (old new : List Cuboid) (idx lo hi : ℕ) → hi ≤ lo → IsJoined old idx lo hi new → new ≡ old
+pub IsJoined-empty : (old new : List Cuboid) (idx lo hi : ℕ) → hi ≤ lo → IsJoined idx lo hi old new → new ≡ old
 IsJoined-empty old new idx lo hi none joined = elim (cases_lt idx (length old)) [
   | inl at ↦ IsJoined-one joined (Alone at (λ j near. let from = near.from in let below = near.below in omega arith))
   | inr past ↦ IsJoined-one joined (PastEnd past)
@@ -133,7 +133,7 @@ IsNeighbour-within old idx lo hi other j same near =
     record { from = near.from; below = omega arith; within = near.within; other = near.other; shares = near.shares }
 
 -- ranges that are one once they are cut to the list leave the same
-pub IsJoined-within : {old new : List Cuboid} {idx lo hi : ℕ} (other : ℕ) → min hi (length old) ≡ min other (length old) → IsJoined old idx lo hi new → IsJoined old idx lo other new
+pub IsJoined-within : {old new : List Cuboid} {idx lo hi : ℕ} (other : ℕ) → min hi (length old) ≡ min other (length old) → IsJoined idx lo hi old new → IsJoined idx lo other old new
 IsJoined-within other same (PastEnd past) = PastEnd past
 IsJoined-within other same (Alone {old = old} {idx = idx} {lo = lo} {hi = hi} at none) = Alone at (λ j near. none j (IsNeighbour-within old idx lo other hi j (sym same) near))
 IsJoined-within other same (Joins {old = old} {new = new} {idx = idx} {lo = lo} {hi = hi} at j first next) =
@@ -141,4 +141,4 @@ IsJoined-within other same (Joins {old = old} {new = new} {idx = idx} {lo = lo} 
       is_one = IsNeighbour-within old idx lo hi other j same first.is_one;
       least = λ k below near. first.least k below (IsNeighbour-within old idx lo other hi k (sym same) near);
     } in
-    Joins at j here (subst (λ n. IsJoined (joined_list old idx j) (joined_index idx j) lo (n - 1) new) same next)
+    Joins at j here (subst (λ n. IsJoined (joined_index idx j) lo (n - 1) (joined_list old idx j) new) same next)

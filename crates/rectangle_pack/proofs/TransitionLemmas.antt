@@ -20,8 +20,9 @@ use Rattle.rectangle_pack.specs.declared.session.command.SessionError.TheVariant
 use Rattle.rectangle_pack.specs.Boxes.{Size, Cuboid, IsInside}
 use Rattle.rectangle_pack.specs.Bins.{Bin, Held, new_bin}
 use Rattle.rectangle_pack.specs.Groups.{Collection}
+use Rattle.rectangle_pack.specs.Joining.{IsJoined, IsSwept}
 use Rattle.rectangle_pack.specs.Packing.{Rules, bins_of}
-use Rattle.rectangle_pack.specs.Session.{State, standing_in, IsSession, IsOutstanding, GivesBack, AddsBin, Releases, Packs, Coalesces, JoinsAt, Sweeps, IsTransition, IsRun}
+use Rattle.rectangle_pack.specs.Session.{State, standing_in, IsSession, IsOutstanding, GivesBack, AddsBin, Releases, Packs, Coalesces, IsTransition, IsRun}
 use Rattle.rectangle_pack.proofs.FrameLemmas.{IsRecut, IsFrame-recut}
 use Rattle.rectangle_pack.proofs.JoiningLemmas.{IsJoined-cells, IsSwept-cells, IsJoined-keeps, IsSwept-keeps, join-inside}
 use Rattle.rectangle_pack.proofs.JournalLemmas.{bins_of-written}
@@ -104,10 +105,10 @@ module _ {Id B : Type 0} {bin_cmp : B → B → Ordering} (o : IsTotalOrder bin_
 IsRecut-beside : (old new beside : List Cuboid) → IsRecut old new → IsRecut (old ++ beside) (new ++ beside)
 IsRecut-beside old new beside h = subst (λ bs. IsRecut (old ++ beside) (new ++ bs)) (append-nil beside) (IsFrame-recut.beside old new [] beside (subst (λ bs. IsRecut old bs) (sym (append-nil new)) h))
 
-pub IsRecut-joined : (idx lo hi : ℕ) (old new : List Cuboid) → JoinsAt idx lo hi old new → IsRecut old new
+pub IsRecut-joined : (idx lo hi : ℕ) (old new : List Cuboid) → IsJoined idx lo hi old new → IsRecut old new
 IsRecut-joined idx lo hi old new h = record { cells = λ c. IsJoined-cells c h; inside = λ size all. IsJoined-keeps (IsInside size) (join-inside size) h all }
 
-pub IsRecut-swept : (old new : List Cuboid) → Sweeps old new → IsRecut old new
+pub IsRecut-swept : (old new : List Cuboid) → IsSwept old new → IsRecut old new
 IsRecut-swept old new h = record { cells = λ c. IsSwept-cells c (length old) old new h; inside = λ size all. IsSwept-keeps (IsInside size) (join-inside size) (length old) old new h all }
 
 module _ {Id B : Type 0} {bin_cmp : B → B → Ordering} (o : IsTotalOrder bin_cmp) where
@@ -166,10 +167,10 @@ module _ {Id B G : Type 0} (group_cmp : Group G Id → Group G Id → Ordering) 
   kept-transition (AddBin id width height depth) old reply new t = kept-added o id (record { width = width; height = height; depth = depth }) old reply new t
   kept-transition (Pack all) old reply new t = kept-packed all old reply new t
   kept-transition (Release number) old reply new t = kept-released o number old reply new t
-  kept-transition (Coalesce id idx lo hi) old reply new t = kept-coalesced o (JoinsAt idx lo hi) (IsRecut-joined idx lo hi) id old reply new t
-  kept-transition (CoalesceAll id) old reply new t = kept-coalesced o Sweeps IsRecut-swept id old reply new t
+  kept-transition (Coalesce id idx lo hi) old reply new t = kept-coalesced o (IsJoined idx lo hi) (IsRecut-joined idx lo hi) id old reply new t
+  kept-transition (CoalesceAll id) old reply new t = kept-coalesced o IsSwept IsRecut-swept id old reply new t
 
-  pub kept-run : {A : Type 0} (commands : List (Command Id B G A)) (old : State Id B) (replies : List Reply) (new : State Id B) → IsRun group_cmp rules commands old replies new → IsKeptSession rules.bin_cmp old new
+  pub kept-run : {A : Type 0} (commands : List (Command Id B G A)) (old : State Id B) (replies : List Reply) (new : State Id B) → IsRun (IsTransition group_cmp rules) commands old replies new → IsKeptSession rules.bin_cmp old new
   kept-run [] old [] new run = unchanged rules.bin_cmp old new run
   kept-run [] old (r ∷ rs) new run = absurd run
   kept-run (c ∷ cs) old [] new run = absurd run
@@ -178,19 +179,18 @@ module _ {Id B G : Type 0} (group_cmp : Group G Id → Group G Id → Ordering) 
       let later = kept-run cs next rs new run one.0 in
       (later.0, omega (arith, one.1, later.1))
 
--- a run goes on by one transition
-module _ {Id B G A : Type 0} (group_cmp : Group G Id → Group G Id → Ordering) (rules : Rules Id B) where
-  IsRun-push : (cs : List (Command Id B G A)) (c : Command Id B G A) (old mid new : State Id B) (rs : List Reply) (r : Reply)
-      → IsRun group_cmp rules cs old rs mid → IsTransition group_cmp rules c mid r new → IsRun group_cmp rules (cs ++ c ∷ []) old (rs ++ r ∷ []) new
-  IsRun-push [] c old mid new [] r ran step = (new, subst (λ (s : State Id B). IsTransition group_cmp rules c s r new) ran step, refl)
+-- a run goes on by one step
+module _ {C R S : Type 0} (IsStep : C → S → R → S → Type 0) where
+  IsRun-push : (cs : List C) (c : C) (old mid new : S) (rs : List R) (r : R) → IsRun IsStep cs old rs mid → IsStep c mid r new → IsRun IsStep (cs ++ c ∷ []) old (rs ++ r ∷ []) new
+  IsRun-push [] c old mid new [] r ran step = (new, subst (λ (s : S). IsStep c s r new) ran step, refl)
   IsRun-push [] c old mid new (r' ∷ rs) r ran step = absurd ran
   IsRun-push (c' ∷ cs) c old mid new [] r ran step = absurd ran
   IsRun-push (c' ∷ cs) c old mid new (r' ∷ rs) r (next, first, rest) step = (next, first, IsRun-push cs c next mid new rs r rest step)
 
-  pub IsRun-more : (cs : List (Command Id B G A)) (i : ℕ) (c : Command Id B G A) (old mid new : State Id B) (rs : List Reply) (r : Reply)
-      → i < length cs → c ≡ get_or cs i c → IsRun group_cmp rules (take i cs) old rs mid → IsTransition group_cmp rules c mid r new → IsRun group_cmp rules (take (i + 1) cs) old (rs ++ r ∷ []) new
+  pub IsRun-more : (cs : List C) (i : ℕ) (c : C) (old mid new : S) (rs : List R) (r : R) → i < length cs → c ≡ get_or cs i c
+      → IsRun IsStep (take i cs) old rs mid → IsStep c mid r new → IsRun IsStep (take (i + 1) cs) old (rs ++ r ∷ []) new
   IsRun-more cs i c old mid new rs r within is ran step =
-      subst (λ xs. IsRun group_cmp rules xs old (rs ++ r ∷ []) new) (sym (take_more cs i c within ∙ ap (λ z. take i cs ++ z ∷ []) (sym is))) (IsRun-push (take i cs) c old mid new rs r ran step)
+      subst (λ xs. IsRun IsStep xs old (rs ++ r ∷ []) new) (sym (take_more cs i c within ∙ ap (λ z. take i cs ++ z ∷ []) (sym is))) (IsRun-push (take i cs) c old mid new rs r ran step)
 
 -- what `?` makes of refused memory
 pub memory_refused : {T : Type 0} (r : Result T SessionError) → IsErrAnd r (λ e. e ≡ OutOfMemory) → r ≡ Err OutOfMemory

@@ -2,11 +2,10 @@
 use Rattle.std.specs.Prelude.{ℕ, Bool, false, List, [], ◌∷◌, All, AllPairs}
 use Rattle.rectangle_pack.specs.Boxes.{Size, Cuboid, IsInside, AreApart}
 
--- a bin as callers see it
+-- a bin: its size, its free sections, and whether a coalescing of it was done
 pub record Bin : Type 0 where
   pub size : Size
   pub sections : List Cuboid
-  -- whether a coalescing call was made on the bin
   pub coalesced : Bool
 
 -- a bin, and how many sections its list has room for
@@ -24,10 +23,10 @@ pub record IsAccepted (bin : Bin) (box : Cuboid) : Type 0 where
   pub inside : IsInside bin.size box
   pub apart : All (λ s. AreApart s box) bin.sections
 
--- the one section of a new bin: all of it
+-- the box that is all of a bin of this size
 abbrev pub whole : Size → Cuboid
 whole size = record { x = 0; y = 0; z = 0; whd = size }
 
--- a new bin: its one section is all of it
+-- a new bin of this size: its one free section is all of it
 abbrev pub new_bin : Size → Bin
 new_bin size = record { size = size; sections = whole size ∷ []; coalesced = false }

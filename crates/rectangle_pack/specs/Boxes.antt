@@ -30,7 +30,7 @@ start X b = b.x
 start Y b = b.y
 start Z b = b.z
 
--- where it ends: the first place beyond it
+-- where a box ends on an axis: the first place beyond it
 unfoldable pub end : Axis → Cuboid → ℕ
 end a b = start a b + extent a b.whd
 

@@ -12,7 +12,7 @@ pub record IsFunction (MayRate : Size → ℕ → Type 0) : Type 0 where
   pub only : (size : Size) (answer : ℕ) → MayRate size answer → answer ≡ rate size
 
 module _ {A : Type 0} (MayAnswer : A → A → Ordering → Type 0) where
-  -- the answer on these two may be something else than Greater
+  -- the comparison may answer something else than `Greater` on best and next
   pub record MayLose (best next : A) : Type 0 where
     pub answer : Ordering
     pub may : MayAnswer best next answer
@@ -25,15 +25,16 @@ module _ {A : Type 0} (MayAnswer : A → A → Ordering → Type 0) where
     pub swapped : (x y : A) → compare y x ≡ ordering_reverse (compare x y)
     pub transitive : (x y z : A) → compare x y ≢ Greater → compare y z ≢ Greater → compare x z ≢ Greater
 
-  -- on these elements there is at most one answer, swapped arguments give the reversed one, and "not Greater" is transitive
+  -- on these elements no answer but that of `compare` may come, swapped elements have the reversed one, and "not Greater" is
+  -- transitive
   pub record IsTotalPreorderOn (xs : List A) (compare : A → A → Ordering) : Type 0 where
     pub only : (x y : A) (r : Ordering) → Contains xs x → Contains xs y → MayAnswer x y r → r ≡ compare x y
     pub swapped : (x y : A) → Contains xs x → Contains xs y → compare y x ≡ ordering_reverse (compare x y)
     pub transitive : (x y z : A) → Contains xs x → Contains xs y → Contains xs z
         → compare x y ≢ Greater → compare y z ≢ Greater → compare x z ≢ Greater
 
-  -- the chosen one may be Greater than each later one, and, if it is not the first, may be no less than some earlier one;
-  -- where the answers are those of a total preorder, none is greater
+  -- the comparison may answer `Greater` on the chosen one and each later one and, if it is not the first, something else than
+  -- `Greater` on some earlier one and it; where the answers are those of a total preorder, none is greater
   pub record MayChoose (xs : List A) (chosen : A) : Type 0 where
     pub before : List A
     pub after : List A

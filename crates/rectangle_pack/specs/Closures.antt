@@ -5,14 +5,16 @@ use Rattle.std.specs.Fn.{Shared}
 use Rattle.std.specs.Borrow.{Bor}
 use Rattle.rectangle_pack.specs.Boxes.{Size, IsU32}
 
--- what a clause says of calls of a heuristic, and of a comparison: `H.Fn` and `C.Fn`
+-- what is known of a heuristic (`H.Fn`): what it may be asked and what it may answer, on one size
 abbrev pub RateCalls : Type 0 → Type 1
 RateCalls H = Shared H (Size × Unit {0}) ℕ
 
+-- what is known of a comparison (`C.Fn`): what it may be asked and what it may answer, on two lists of sizes and the
+-- heuristic
 abbrev pub CompareCalls : Type 0 → Type 0 → Type 1
 CompareCalls C H = Shared C (List Size × (List Size × (Bor H × Unit {0}))) Ordering
 
--- the heuristic may be called on each size of 32 bits
+-- the heuristic may be asked of each size of 32 bits
 abbrev pub CanRate : {H : Type 0} → RateCalls H → H → Type 0
 CanRate g heuristic = (size : Size) → IsU32 size → g.pre heuristic (size, tt)
 
@@ -21,13 +23,13 @@ pub record AreThreeSizes (sizes : List Size) : Type 0 where
   pub three : length sizes ≡ 3
   pub small : All IsU32 sizes
 
--- the comparison may be called on each two triples of such sizes, with this heuristic beside them
+-- the comparison may be asked of each two triples of sizes of 32 bits, with this heuristic beside them
 abbrev pub CanCompare : {C H : Type 0} → CompareCalls C H → C → H → Type 0
 CanCompare {C} {H} g comparison heuristic =
     (first second : List Size) (shown : Bor H) → AreThreeSizes first → AreThreeSizes second → shown.now ≡ heuristic
     → g.pre comparison (first, (second, (shown, tt)))
 
--- both, as a packing asks them
+-- the heuristic may be asked of each size of 32 bits, and the comparison of each two triples of them
 pub record AreCallable {C H : Type 0} (rates : RateCalls H) (compares : CompareCalls C H) (heuristic : H) (comparison : C) : Type 0 where
   pub rate : CanRate rates heuristic
   pub compare : CanCompare compares comparison heuristic
@@ -37,7 +39,7 @@ pub record MayRateBy {H : Type 0} (g : RateCalls H) (heuristic : H) (size : Size
   pub small : IsU32 size
   pub says : g.post heuristic (size, tt) rate
 
--- the comparison may answer r on these two triples of such sizes, with this heuristic
+-- the comparison may answer r on these two triples of sizes of 32 bits, with this heuristic
 pub record MayCompare {C H : Type 0} (g : CompareCalls C H) (comparison : C) (heuristic : H) (first second : List Size) (r : Ordering) : Type 0 where
   pub first_three : AreThreeSizes first
   pub second_three : AreThreeSizes second
@@ -45,11 +47,13 @@ pub record MayCompare {C H : Type 0} (g : CompareCalls C H) (comparison : C) (he
   pub shows : shown.now ≡ heuristic
   pub says : g.post comparison (first, (second, (shown, tt))) r
 
--- what the two closures may answer
+-- what the two closures of a packing may answer: `rate size n`, that the heuristic may answer n on this size (n is then a
+-- rate of it); `prefer first second r`, that the comparison may answer r on two triples of sizes, `Greater` where the first
+-- is better
 pub record Answers : Type 1 where
   pub rate : Size → ℕ → Type 0
   pub prefer : List Size → List Size → Ordering → Type 0
 
--- of this heuristic, and of this comparison with it
+-- what this heuristic and this comparison may answer
 abbrev pub answers : {C H : Type 0} → RateCalls H → CompareCalls C H → H → C → Answers
 answers rates compares heuristic comparison = record { rate = MayRateBy rates heuristic; prefer = MayCompare compares comparison heuristic }

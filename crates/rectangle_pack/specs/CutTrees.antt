@@ -17,8 +17,8 @@ upper X place b = record b { x = place; whd = record b.whd { width = (b.x + b.wh
 upper Y place b = record b { y = place; whd = record b.whd { height = (b.y + b.whd.height) - place } }
 upper Z place b = record b { z = place; whd = record b.whd { depth = (b.z + b.whd.depth) - place } }
 
--- a cut at this place may go through the box: from its start to its end on the axis, both allowed. A cut at a place goes
--- between the cell before it and the cell that begins there
+-- the box may be cut at this place on the axis: from its start to its end, both allowed; the cut goes just before the cell at
+-- the place
 pub record IsPlaceOf (a : Axis) (place : ℕ) (b : Cuboid) : Type 0 where
   pub from : start a b ≤ place
   pub to : place ≤ end a b
@@ -49,7 +49,7 @@ is_same_box b other =
 unfoldable pub times_in : Cuboid → List Cuboid → ℕ
 times_in b boxes = count_by (is_same_box b) boxes
 
--- the same boxes with cells, each as often; boxes without cells do not count
+-- each box with cells stands in both lists as often
 abbrev pub HaveSameBoxes : List Cuboid → List Cuboid → Type 0
 HaveSameBoxes boxes others = (b : Cuboid) → has_cells b ≡ true → times_in b boxes ≡ times_in b others
 

@@ -24,8 +24,8 @@ placed section size = record section { whd = size }
 unfoldable pub piece_start : Cuboid → Size → Axis → Axis → ℕ
 piece_start section size a b = if is_same a b then start b section + extent b size else start b section
 
--- how far it runs there: over what is left beyond the box on its own axis, over the box on an axis that is cut before,
--- and over the section on one that is cut after
+-- how far the piece of the axis a runs on the axis b: on its own axis over what is left beyond the box, on an axis that
+-- stands before a in the order over the box, else over the section
 unfoldable pub piece_extent : Cuboid → Size → List Axis → Axis → Axis → ℕ
 piece_extent section size order a b =
     if is_same a b then extent b section.whd - extent b size else if is_before order b a then extent b size else extent b section.whd

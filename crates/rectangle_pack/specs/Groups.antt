@@ -1,5 +1,5 @@
 -- Collections of boxes to place, and the groups that they are in.
-use Rattle.std.specs.Prelude.{◌≡◌, ℕ, ◌<◌, ◌||◌, List, [], ◌∷◌, ◌++◌, length, map, All, IsSome, IsSomeAnd, count_by, unwrap_or}
+use Rattle.std.specs.Prelude.{◌≡◌, ℕ, ◌<◌, ◌||◌, List, [], ◌∷◌, ◌++◌, length, map, All, IsSome, IsSomeAnd, count_by, sum, unwrap_or}
 use Rattle.std.specs.declared.cmp.Ordering.{Ordering}
 use Rattle.std.specs.declared.cmp.Ordering.TheVariants.{Equal}
 use Rattle.std.specs.declared.vec.Vec.{Vec}
@@ -11,13 +11,18 @@ use Rattle.rectangle_pack.specs.Exclusions.{are_excluded, are_these}
 use Rattle.rectangle_pack.specs.declared.grouped_rects_to_place.Group.{Group}
 use Rattle.rectangle_pack.specs.declared.grouped_rects_to_place.Group.TheVariants.{Ungrouped, Grouped}
 
--- the sizes of ids, the lists of groups, and the groups that each group is excluded with, each in the order of its keys
+-- what is to be packed: the size of each id, the list of ids of each group, and the groups listed at a group as excluded with
+-- it
 pub record Collection (Id G : Type 0) : Type 0 where
   pub sizes : List (Id × Size)
   pub groups : List (Group G Id × List Id)
   pub partners : List (Group G Id × List (Group G Id))
 
--- the entries of a map, with the items of each vector
+-- how many entries the groups of a collection have
+abbrev pub entries_of : {Id G : Type 0} → Collection Id G → ℕ
+entries_of all = sum (map length (values_of all.groups))
+
+-- the list at each key
 abbrev pub lists_of : {K X A : Type 0} → List (K × Vec X A) → List (K × List X)
 lists_of es = map (λ e. (e.0, e.1.items)) es
 

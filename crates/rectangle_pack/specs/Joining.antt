@@ -19,7 +19,7 @@ ShareNoFace sections = AllPairs (λ b other. ¬ SharesFace b other) sections
 unfoldable pub join_start : Axis → Cuboid → Cuboid → ℕ
 join_start a b other = min (start a b) (start a other)
 
--- how far it runs there: to the higher end
+-- how far the join of two boxes runs on an axis: to the higher end
 unfoldable pub join_extent : Axis → Cuboid → Cuboid → ℕ
 join_extent a b other = max (end a b) (end a other) - join_start a b other
 
@@ -36,11 +36,11 @@ join b other = record {
   };
 }
 
--- the entry at an index of the list; past the end an empty box, of which no rule below asks
+-- the entry at an index of the list; past the end an empty box
 abbrev pub entry : List Cuboid → ℕ → Cuboid
 entry sections i = slice_index_or sections i (record { x = 0; y = 0; z = 0; whd = record { width = 0; height = 0; depth = 0 } })
 
--- j is another index than idx, in the range and in the list, and the two entries share a whole face
+-- j is an index of the list from lo to before hi, other than idx, and the entries at j and idx share a whole face
 pub record IsNeighbour (sections : List Cuboid) (idx lo hi j : ℕ) : Type 0 where
   pub from : lo ≤ j
   pub below : j < hi
@@ -48,32 +48,39 @@ pub record IsNeighbour (sections : List Cuboid) (idx lo hi j : ℕ) : Type 0 whe
   pub other : j ≢ idx
   pub shares : SharesFace (entry sections idx) (entry sections j)
 
--- there is no such index
+-- no entry from lo to before hi, other than the one at idx, shares a whole face with it
 abbrev pub IsAlone : List Cuboid → ℕ → ℕ → ℕ → Type 0
 IsAlone sections idx lo hi = (j : ℕ) → ¬ IsNeighbour sections idx lo hi j
 
--- the least such index
+-- j is the least index from lo to before hi, other than idx, whose entry shares a whole face with the one at idx
 pub record IsFirstNeighbour (sections : List Cuboid) (idx lo hi j : ℕ) : Type 0 where
   pub is_one : IsNeighbour sections idx lo hi j
   pub least : (k : ℕ) → k < j → ¬ IsNeighbour sections idx lo hi k
 
--- the list with the join in the place of entry idx, and without entry j
+-- the list with the join of the entries idx and j in the place of entry idx, and without entry j
 unfoldable pub joined_list : List Cuboid → ℕ → ℕ → List Cuboid
 joined_list sections idx j = remove (slice_set sections idx (join (entry sections idx) (entry sections j))) j
 
--- where the join stands in it: one lower where the entry that was taken out stood below
+-- the index of a join that stood at idx, once the entry at j is taken out: one lower where j is below idx
 unfoldable pub joined_index : ℕ → ℕ → ℕ
 joined_index idx j = if nat_lt j idx then idx - 1 else idx
 
--- what joining at an index leaves, over the range from lo to before hi: an index past the end, or without a neighbour, leaves the
--- list; else the least neighbour is joined, and so on from there, with a range that is cut to the list and ends one earlier
-pub data IsJoined : List Cuboid → ℕ → ℕ → ℕ → List Cuboid → Type 0 where
-  PastEnd : {old : List Cuboid} {idx lo hi : ℕ} → length old ≤ idx → IsJoined old idx lo hi old
-  Alone : {old : List Cuboid} {idx lo hi : ℕ} → idx < length old → IsAlone old idx lo hi → IsJoined old idx lo hi old
+-- the list once the entry at idx is joined with its neighbours from lo to before hi. Where idx is past the end, or there is
+-- no neighbour, the list stays as it is. Else it is joined with the least neighbour, and the join goes on in the same way;
+-- the range is then cut to the list and ends one earlier
+pub data IsJoined : ℕ → ℕ → ℕ → List Cuboid → List Cuboid → Type 0 where
+  PastEnd : {old : List Cuboid} {idx lo hi : ℕ} → length old ≤ idx → IsJoined idx lo hi old old
+  Alone : {old : List Cuboid} {idx lo hi : ℕ} → idx < length old → IsAlone old idx lo hi → IsJoined idx lo hi old old
   Joins : {old new : List Cuboid} {idx lo hi : ℕ} → idx < length old → (j : ℕ) → IsFirstNeighbour old idx lo hi j
-      → IsJoined (joined_list old idx j) (joined_index idx j) lo (min hi (length old) - 1) new → IsJoined old idx lo hi new
+      → IsJoined (joined_index idx j) lo (min hi (length old) - 1) (joined_list old idx j) new → IsJoined idx lo hi old new
 
--- what a sweep leaves: joining at each index below n, from the last down to 0, each time over the whole list
-abbrev pub IsSwept : ℕ → List Cuboid → List Cuboid → Type 0
-IsSwept zero old new = new ≡ old
-IsSwept (suc n) old new = (next : List Cuboid) × IsJoined old n 0 (length old) next × IsSwept n next new
+-- the list once the entries at n - 1 down to 0 are joined with their neighbours, one after another, each in the whole list as
+-- it is then
+abbrev pub IsSweptBelow : ℕ → List Cuboid → List Cuboid → Type 0
+IsSweptBelow zero old new = new ≡ old
+IsSweptBelow (suc n) old new = (next : List Cuboid) × IsJoined n 0 (length old) old next × IsSweptBelow n next new
+
+-- the list after a sweep: each entry, from the last to the first, is joined with its neighbours in the whole list as it is
+-- then
+abbrev pub IsSwept : List Cuboid → List Cuboid → Type 0
+IsSwept old new = IsSweptBelow (length old) old new

@@ -11,11 +11,11 @@ use Rattle.rectangle_pack.specs.Boxes.{Size}
 use Rattle.rectangle_pack.specs.Bins.{Bin}
 use Rattle.rectangle_pack.specs.Numbers.{saturated}
 
--- by falling key, and at equal keys by name
+-- pairs of key and name by falling key, and at equal keys by name
 abbrev pub falling_then : {K : Type 0} → (K → K → Ordering) → ℕ × K → ℕ × K → Ordering
 falling_then cmp a b = ordering_then (nat_cmp b.0 a.0) (cmp a.1 b.1)
 
--- by rising key, and at equal keys by name
+-- pairs of key and name by rising key, and at equal keys by name
 abbrev pub rising_then : {B : Type 0} → (B → B → Ordering) → ℕ × B → ℕ × B → Ordering
 rising_then cmp a b = ordering_then (nat_cmp a.0 b.0) (cmp a.1 b.1)
 

@@ -1,21 +1,16 @@
 -- What a packing answers, and what it counts.
-use Rattle.std.specs.Prelude.{◌≡◌, ℕ, ◌+◌, ◌-◌, ◌*◌, ◌≤◌, List, length, map, sum, Result, Ok, Err}
+use Rattle.std.specs.Prelude.{◌≡◌, ℕ, ◌+◌, ◌-◌, ◌*◌, ◌≤◌, List, length, Result, Ok, Err}
 use Rattle.std.specs.declared.cmp.Ordering.{Ordering}
 use Rattle.std.specs.List.{sum_by}
-use Rattle.std.specs.Map.{values_of}
 use Rattle.rectangle_pack.specs.declared.grouped_rects_to_place.Group.{Group}
 use Rattle.rectangle_pack.specs.declared.pack.answer.RectanglePackOk.{RectanglePackOk}
 use Rattle.rectangle_pack.specs.declared.pack.answer.RectanglePackError.{RectanglePackError}
 use Rattle.rectangle_pack.specs.declared.pack.answer.RectanglePackError.TheVariants.{NotEnoughBinSpace, OutOfMemory}
 use Rattle.rectangle_pack.specs.Bins.{Bin}
-use Rattle.rectangle_pack.specs.Groups.{Collection}
+use Rattle.rectangle_pack.specs.Groups.{Collection, entries_of}
 use Rattle.rectangle_pack.specs.Numbers.{saturated}
 use Rattle.rectangle_pack.specs.Packing.{Rules, PackingDone, PackingRefused}
 use Rattle.rectangle_pack.specs.Placed.{AreLastPlacements, placements_of, locations_of}
-
--- how many entries the groups of a collection have
-abbrev pub entries_of : {Id G : Type 0} → Collection Id G → ℕ
-entries_of all = sum (map length (values_of all.groups))
 
 -- how many free sections the bins have in all
 abbrev pub sections_in : {B : Type 0} → List (B × Bin) → ℕ

@@ -15,11 +15,11 @@ use Rattle.rectangle_pack.specs.Orders.{IsGroupOrder, IsBinOrder}
 use Rattle.rectangle_pack.specs.Placed.{AreNamed}
 use Rattle.rectangle_pack.specs.Steps.{IsDone, IsStuck}
 
--- a map of bins, without the room that each list has
+-- bins by id, without the room of their lists
 abbrev pub bins_of : {B : Type 0} → List (B × Held) → List (B × Bin)
 bins_of es = map (λ e. (e.0, e.1.bin)) es
 
--- a group as a trial sees it: its ids, in order, and their sizes
+-- the ids of a group, in order, and their sizes
 pub record Members (Id : Type 0) : Type 0 where
   pub ids : List Id
   pub sizes : List Size
@@ -30,7 +30,7 @@ pub record Rules (Id B : Type 0) : Type 1 where
   pub bin_cmp : B → B → Ordering
   pub may : Answers
 
--- these, as one
+-- the rules of these orders and answers
 abbrev pub rules_by : {Id B : Type 0} → (Id → Id → Ordering) → (B → B → Ordering) → Answers → Rules Id B
 rules_by cmp bin_cmp may = record { id_cmp = cmp; bin_cmp = bin_cmp; may = may }
 
@@ -39,16 +39,16 @@ pub record Stage (K B : Type 0) : Type 0 where
   pub bins : List (B × Bin)
   pub homes : List (K × B)
 
--- before the first group
+-- a packing before its first group: no group has a bin yet
 abbrev pub at_start : {K B : Type 0} → List (B × Bin) → Stage K B
 at_start bins = record { bins = bins; homes = [] }
 
--- a bin is barred for a group where a group that is excluded with it went there earlier in the same packing
+-- whether the bin of this id is barred for the group: a group that is excluded with this group has it as its bin in `homes`
 abbrev pub bars_by : {K B : Type 0} → (K → K → Ordering) → (B → B → Ordering) → List (K × List K) → List (K × B) → K → B → Bool
 bars_by group_cmp bin_cmp partners homes group id =
     list_any (λ home. are_excluded group_cmp partners group home.0 && is_at (bin_cmp id) home.1) homes
 
--- of two groups that are excluded, neither is in the other's bin
+-- of any two entries of `homes` whose groups are excluded, the bins differ
 abbrev pub AreKeptApart : {K B : Type 0} → (K → K → Ordering) → (B → B → Ordering) → List (K × List K) → List (K × B) → Type 0
 AreKeptApart group_cmp bin_cmp partners homes =
     AllPairs (λ a b. are_excluded group_cmp partners a.0 b.0 ≡ true → is_at (bin_cmp a.1) b.1 ≡ false) homes
@@ -57,7 +57,7 @@ AreKeptApart group_cmp bin_cmp partners homes =
 abbrev pub bars_none : {K B : Type 0} → List (K × B) → K → B → Bool
 bars_none homes group id = false
 
--- the groups that an order names: the name, and the ids of the list, with their sizes
+-- the groups that an order names, each with the ids listed for it and their sizes
 pub record AreGroups {Id K : Type 0} (cmp : Id → Id → Ordering) (group_cmp : K → K → Ordering)
     (sizes : List (Id × Size)) (lists : List (K × List Id)) (order : List (ℕ × K)) (groups : List (K × Members Id)) : Type 0 where
   pub each : AllZip (λ entry group. (group.0 ≡ entry.1) × (lookup (is_at (group_cmp entry.1)) lists ≡ Some group.1.ids)
@@ -128,7 +128,8 @@ module _ {Id B : Type 0} (rules : Rules Id B) where
       pub tests_are : tests ≡ first + count
 
 module _ {Id B G : Type 0} (group_cmp : Group G Id → Group G Id → Ordering) (rules : Rules Id B) where
-  -- a packing is done, by what bars bins: each group, in one group order and by one bin order, is placed; without groups no bin is asked
+  -- a packing is done, where `bars` says which bins are barred for a group, by the bins of the groups before it: each group,
+  -- in one group order and by one bin order, is placed; without groups no bin is asked
   pub record PackingDoneBy (bars : List (Group G Id × B) → Group G Id → B → Bool)
       (all : Collection Id G) (old : List (B × Bin)) (placements : List (Placement Id B)) (new : List (B × Bin)) : Type 0 where
     pub group_order : List (ℕ × Group G Id)
@@ -141,8 +142,8 @@ module _ {Id B G : Type 0} (group_cmp : Group G Id → Group G Id → Ordering) 
     pub tests : ℕ
     pub placed : AreAllPlaced rules bars (map (λ o. o.1) bin_order) groups (at_start old) placements (record { bins = new; homes = homes }) tests
 
-  -- a packing is refused, by what bars bins: in one group order and by one bin order, a beginning of the groups is placed
-  -- and no bin takes the next group
+  -- a packing is refused, where `bars` says which bins are barred for a group, by the bins of the groups before it: in one
+  -- group order and by one bin order, a beginning of the groups is placed and no bin takes the next group
   pub record PackingRefusedBy (bars : List (Group G Id × B) → Group G Id → B → Bool)
       (all : Collection Id G) (old new : List (B × Bin)) : Type 0 where
     pub group_order : List (ℕ × Group G Id)
@@ -152,10 +153,10 @@ module _ {Id B G : Type 0} (group_cmp : Group G Id → Group G Id → Ordering) 
     pub tests : ℕ
     pub stops : StopsAfter rules bars group_cmp all.sizes all.groups group_order (map (λ o. o.1) bin_order) old new tests
 
-  -- a packing is done, where the collection's pairs bar bins
+  -- a packing is done: each group is placed, where the collection's excluded pairs bar bins
   abbrev pub PackingDone : Collection Id G → List (B × Bin) → List (Placement Id B) → List (B × Bin) → Type 0
   PackingDone all old placements new = PackingDoneBy (bars_by group_cmp rules.bin_cmp all.partners) all old placements new
 
-  -- and a packing is refused
+  -- a packing is refused: no bin takes some group, where the collection's excluded pairs bar bins
   abbrev pub PackingRefused : Collection Id G → List (B × Bin) → List (B × Bin) → Type 0
   PackingRefused all old new = PackingRefusedBy (bars_by group_cmp rules.bin_cmp all.partners) all old new

@@ -20,18 +20,19 @@ abbrev pub locations_of : {Id B A : Type 0} → RectanglePackOk Id B A → List 
 locations_of ok = ok.packed_locations.entries
 
 module _ {Id B : Type 0} (cmp : Id → Id → Ordering) (bin_cmp : B → B → Ordering) where
-  -- each id of a group at the location of its turn, all in this bin
+  -- one placement for each id, in order, at the location in the same place of the list, all in the bin `here`
   pub record AreNamed (ids : List Id) (here : B) (locations : List Cuboid) (placements : List (Placement Id B)) : Type 0 where
     pub named : AllZip (λ id p. cmp id p.id ≡ Equal) ids placements
     pub together : All (λ p. bin_cmp here p.bin ≡ Equal) placements
     pub at : map (λ p. p.location) placements ≡ locations
 
-  -- the entries of a group, each in the size of its id and in order, all in this bin
+  -- one placement for each id, in order, in the size listed for the id, all in the bin `here`
   pub record ArePlacedIn (sizes : List (Id × Size)) (ids : List Id) (here : B) (placements : List (Placement Id B)) : Type 0 where
     pub each : AllZip (λ id p. (cmp id p.id ≡ Equal) × (lookup (is_at (cmp id)) sizes ≡ Some p.location.whd)) ids placements
     pub together : All (λ p. bin_cmp here p.bin ≡ Equal) placements
 
-  -- the placements are those of one group after another, each group whole in its bin; the homes are those bins, in the order taken
+  -- `homes` names groups, each with a bin; the placements are those of these groups one after another, each id of a group's
+  -- list placed once, and all of a group in its bin
   abbrev pub ArePlacedWhole : {K : Type 0} → (K → K → Ordering) → List (Id × Size) → List (K × List Id)
       → List (K × B) → List (Placement Id B) → Type 0
   ArePlacedWhole group_cmp sizes lists [] placements = placements ≡ []

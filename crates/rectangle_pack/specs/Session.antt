@@ -19,12 +19,10 @@ use Rattle.rectangle_pack.specs.Bins.{Bin, new_bin, whole}
 use Rattle.rectangle_pack.specs.Covering.{CoverBin}
 use Rattle.rectangle_pack.specs.CutTrees.{IsFromCuts}
 use Rattle.rectangle_pack.specs.Joining.{IsJoined, IsSwept}
-use Rattle.rectangle_pack.specs.Groups.{Collection}
+use Rattle.rectangle_pack.specs.Groups.{Collection, entries_of}
 use Rattle.rectangle_pack.specs.Packing.{Rules, PackingDone, PackingRefused}
-use Rattle.rectangle_pack.specs.PackAnswers.{entries_of}
 
--- a session as callers see it: its bins, what it placed in them and was not released, in the order of numbers, and the
--- number of the next placement
+-- a session: its bins by id, a record of each placement that was not released, and the number of the next placement
 pub record State (Id B : Type 0) : Type 0 where
   pub bins : List (B × Bin)
   pub records : List (Outstanding Id B)
@@ -71,7 +69,8 @@ GivesBack bin_cmp old id box new =
     × (new ≡ set_value (is_at (bin_cmp id)) old (record bin { sections = bin.sections ++ box ∷ [] })))
     (new ≡ old)
 
--- a packing that is kept: its lists, and its placements with the numbers from the next one on
+-- a packing that is done and kept: its lists are the bins', its placements follow the old records under the next numbers, and
+-- the answer has the first of these and how many they are
 pub record IsKept {Id B G : Type 0} (group_cmp : Group G Id → Group G Id → Ordering) (rules : Rules Id B)
     (all : Collection Id G) (old : State Id B) (numbers : PackedNumbers) (new : State Id B) : Type 0 where
   pub placements : List (Placement Id B)
@@ -103,26 +102,19 @@ module _ {Id B : Type 0} (bin_cmp : B → B → Ordering) where
       (at : IsOutstanding old.records number) × (has_cells at.found.location ≡ true) × (new ≡ old)
   Releases number old _ new = ⊥
 
-  -- free sections of a bin are joined, as said of the lists before and after: the bin counts as coalesced, whether or not two
-  -- were joined; or the id is not there
+  -- the free sections of a bin become a list that `MayLeave` allows, and the bin counts as coalesced, also where nothing was
+  -- joined; or the id is not there
   abbrev pub Coalesces : (List Cuboid → List Cuboid → Type 0) → B → State Id B → Reply → State Id B → Type 0
-  Coalesces Joins id old Done new =
-      (bin : Bin) × (lookup (is_at (bin_cmp id)) old.bins ≡ Some bin) × (joined : List Cuboid) × Joins bin.sections joined
+  Coalesces MayLeave id old Done new =
+      (bin : Bin) × (lookup (is_at (bin_cmp id)) old.bins ≡ Some bin) × (joined : List Cuboid) × MayLeave bin.sections joined
       × (new ≡ record old { bins = set_value (is_at (bin_cmp id)) old.bins (record bin { sections = joined; coalesced = true }) })
-  Coalesces Joins id old (Refused UnknownBin) new = (lookup (is_at (bin_cmp id)) old.bins ≡ None) × (new ≡ old)
-  Coalesces Joins id old _ new = ⊥
-
--- joining at an index over a range
-abbrev pub JoinsAt : ℕ → ℕ → ℕ → List Cuboid → List Cuboid → Type 0
-JoinsAt idx lo hi old new = IsJoined old idx lo hi new
-
--- the sweep of a whole list
-abbrev pub Sweeps : List Cuboid → List Cuboid → Type 0
-Sweeps old new = IsSwept (length old) old new
+  Coalesces MayLeave id old (Refused UnknownBin) new = (lookup (is_at (bin_cmp id)) old.bins ≡ None) × (new ≡ old)
+  Coalesces MayLeave id old _ new = ⊥
 
 module _ {Id B G : Type 0} (group_cmp : Group G Id → Group G Id → Ordering) (rules : Rules Id B) where
-  -- a collection is packed, where the next number stays below 2^64, so that the greatest is never given: the packing is done
-  -- and kept; or it is refused, and nothing of it stays; or memory is refused, if there is a group
+  -- a collection is packed. Where the next number and the entries add up to 2^64 or more it is refused, so that the greatest
+  -- number is never given. Else the packing is done and kept; or it is refused for space; or, if there is a group, memory is
+  -- refused. What is refused changes nothing
   abbrev pub Packs : Collection Id G → State Id B → Reply → State Id B → Type 0
   Packs all old (Packed numbers) new = (old.next + entries_of all < 2 ^ 64) × IsKept group_cmp rules all old numbers new
   Packs all old (Refused NumbersUsedUp) new = (2 ^ 64 ≤ old.next + entries_of all) × (new ≡ old)
@@ -138,16 +130,8 @@ module _ {Id B G : Type 0} (group_cmp : Group G Id → Group G Id → Ordering) 
       AddsBin rules.bin_cmp id (record { width = width; height = height; depth = depth }) old reply new
   IsTransition (Pack all) old reply new = Packs all old reply new
   IsTransition (Release number) old reply new = Releases rules.bin_cmp number old reply new
-  IsTransition (Coalesce id idx lo hi) old reply new = Coalesces rules.bin_cmp (JoinsAt idx lo hi) id old reply new
-  IsTransition (CoalesceAll id) old reply new = Coalesces rules.bin_cmp Sweeps id old reply new
-
-  -- a run: a transition for each command, with its reply
-  abbrev pub IsRun : {A : Type 0} → List (Command Id B G A) → State Id B → List Reply → State Id B → Type 0
-  IsRun [] old [] new = new ≡ old
-  IsRun [] old (reply ∷ replies) new = ⊥
-  IsRun (command ∷ commands) old [] new = ⊥
-  IsRun (command ∷ commands) old (reply ∷ replies) new =
-      (next : State Id B) × IsTransition command old reply next × IsRun commands next replies new
+  IsTransition (Coalesce id idx lo hi) old reply new = Coalesces rules.bin_cmp (IsJoined idx lo hi) id old reply new
+  IsTransition (CoalesceAll id) old reply new = Coalesces rules.bin_cmp IsSwept id old reply new
 
 -- the answer of a call as a reply
 abbrev pub reply_of : Result (Unit {0}) SessionError → Reply
@@ -158,3 +142,12 @@ reply_of (Err error) = Refused error
 abbrev pub packed_reply : Result PackedNumbers SessionError → Reply
 packed_reply (Ok numbers) = Packed numbers
 packed_reply (Err error) = Refused error
+
+module _ {C R S : Type 0} (Keeps : C → S → R → S → Type 0) where
+  -- commands and replies, one for each, with a state between each two: the given relation holds of each command, the state
+  -- before it, its reply and the state after it
+  abbrev pub IsRun : List C → S → List R → S → Type 0
+  IsRun [] old [] new = new ≡ old
+  IsRun [] old (reply ∷ replies) new = ⊥
+  IsRun (command ∷ commands) old [] new = ⊥
+  IsRun (command ∷ commands) old (reply ∷ replies) new = (next : S) × Keeps command old reply next × IsRun commands next replies new

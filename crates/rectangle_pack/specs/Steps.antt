@@ -11,7 +11,8 @@ pub record AreRanked (listed ranked : List (ℕ × Cuboid)) : Type 0 where
   pub falling : AllPairs (λ p q. q.0 ≤ p.0) ranked
   pub as_listed : (rate : ℕ) → filter (λ p. p.0 == rate) ranked ≡ filter (λ p. p.0 == rate) listed
 
--- the pieces that a cut leaves, for one rate of each: in their order, without those that have no cells
+-- the pieces that a cut leaves, for one rate of each: by falling rate, and at one rate as listed, without those that have no
+-- cells
 pub record AreLeft (MayRate : Size → ℕ → Type 0) (cut left : List Cuboid) : Type 0 where
   pub rates : List ℕ
   pub rated : AllZip (λ piece rate. MayRate piece.whd rate) cut rates
@@ -20,9 +21,9 @@ pub record AreLeft (MayRate : Size → ℕ → Type 0) (cut left : List Cuboid) 
   pub are : left ≡ filter has_cells (map (λ p. p.1) ranked)
 
 module _ (may : Answers) where
-  -- a member goes to the corner of the last section that holds it; the section makes way for the pieces left of an allowed
-  -- cut, at the end of the list;
-  -- each section from there on is tested once
+  -- one step: a box of this size (the member) goes to the corner of the last section that holds it; that section is taken
+  -- out, and the pieces that an allowed cut leaves stand at the end of the list; `tests` counts that section and those after
+  -- it
   pub record IsStep (sections : List Cuboid) (member : Size) (location : Cuboid) (next : List Cuboid) (tests : ℕ) : Type 0 where
     pub before : List Cuboid
     pub section : Cuboid
@@ -38,14 +39,16 @@ module _ (may : Answers) where
     pub next_is : next ≡ before ++ after ++ left
     pub tests_are : tests ≡ 1 + length after
 
-  -- the trial is done: each member has its step, in order
+  -- a trial of a list of sizes that is done: each size has its step, in order, in the list that the step before left; `tests`
+  -- is the sum of the steps'
   abbrev pub IsDone : List Cuboid → List Size → List Cuboid → List Cuboid → ℕ → Type 0
   IsDone sections [] locations last tests = (locations ≡ []) × (last ≡ sections) × (tests ≡ 0)
   IsDone sections (m ∷ ms) [] last tests = ⊥
   IsDone sections (m ∷ ms) (l ∷ ls) last tests =
       (next : List Cuboid) × (one : ℕ) × (others : ℕ) × IsStep sections m l next one × IsDone next ms ls last others × (tests ≡ one + others)
 
-  -- the trial is stuck: no section of the list, as it stands then, holds the next member
+  -- a trial of a list of sizes that is stuck: after steps for the sizes before it, some size is held by no section of the
+  -- list that is left; `tests` is the sum of the steps' and the length of that list
   abbrev pub IsStuck : List Cuboid → List Size → ℕ → Type 0
   IsStuck sections [] tests = ⊥
   IsStuck sections (m ∷ ms) tests =

@@ -92,7 +92,7 @@ pub(crate) fn join_at<A: Allocator>(
     range: Range<usize>,
 )
     requires { All FitsU32 sections.old.items }
-    ensures joined { IsJoined sections.old.items idx range.start range.end sections.new.items }
+    ensures joined { IsJoined idx range.start range.end sections.old.items sections.new.items }
     ensures fit { All FitsU32 sections.new.items }
 {
     if idx >= sections.len() {
@@ -112,7 +112,7 @@ pub(crate) fn join_at<A: Allocator>(
 // Joins at each index from the last down to 0, each time over the whole list. Takes no memory.
 pub(crate) fn join_all<A: Allocator>(sections: &mut Vec<BinSection, A>)
     requires { All FitsU32 sections.old.items }
-    ensures swept { IsSwept (length sections.old.items) sections.old.items sections.new.items }
+    ensures swept { IsSwept sections.old.items sections.new.items }
     ensures fit { All FitsU32 sections.new.items }
 {
     for idx in (0..sections.len()).rev() {
@@ -124,32 +124,32 @@ pub(crate) fn join_all<A: Allocator>(sections: &mut Vec<BinSection, A>)
 /// A law: joining leaves each cell in as many sections as it was in, for all lists.
 pub fn joining_keeps_cells()
     ensures { (old new : List Cuboid) (idx lo hi : ℕ) →
-        IsJoined old idx lo hi new →
+        IsJoined idx lo hi old new →
         (c : Cell) → times_filled c new ≡ times_filled c old }
 {}
 
 /// A law: a sweep from the last index of a list down to 0 leaves no two sections that share a whole
 /// face, for all lists.
 pub fn sweep_leaves_no_face()
-    ensures { (old new : List Cuboid) → IsSwept (length old) old new → ShareNoFace new }
+    ensures { (old new : List Cuboid) → IsSwept old new → ShareNoFace new }
 {}
 
 /// A law: joining leaves one list alone, and so does a sweep, for all lists.
 pub fn joining_has_one_result()
     ensures joined { (old one other : List Cuboid) (idx lo hi : ℕ) →
-        IsJoined old idx lo hi one → IsJoined old idx lo hi other → one ≡ other }
+        IsJoined idx lo hi old one → IsJoined idx lo hi old other → one ≡ other }
     ensures swept { (old one other : List Cuboid) →
-        IsSwept (length old) old one → IsSwept (length old) old other → one ≡ other }
+        IsSwept old one → IsSwept old other → one ≡ other }
 {}
 
 /// A law: an index past the end of the list, and an empty range, leave the list; a range that goes
 /// past the end of the list is the range that is cut there.
 pub fn joining_stays_within_the_list()
     ensures index { (old new : List Cuboid) (idx lo hi : ℕ) →
-        length old ≤ idx → IsJoined old idx lo hi new → new ≡ old }
+        length old ≤ idx → IsJoined idx lo hi old new → new ≡ old }
     ensures empty { (old new : List Cuboid) (idx lo hi : ℕ) →
-        hi ≤ lo → IsJoined old idx lo hi new → new ≡ old }
+        hi ≤ lo → IsJoined idx lo hi old new → new ≡ old }
     ensures range { (old new : List Cuboid) (idx lo hi : ℕ) →
         length old ≤ hi →
-        IsJoined old idx lo hi new ↔ IsJoined old idx lo (length old) new }
+        IsJoined idx lo hi old new ↔ IsJoined idx lo (length old) old new }
 {}

@@ -1,5 +1,5 @@
 //! Bins with what is placed in them: boxes are packed, and given back by number.
-ghost use Rattle.std.specs.Prelude.{◌≡◌, ◌≤◌, [], List, IsTrue, IsOk};
+ghost use Rattle.std.specs.Prelude.{◌≡◌, ◌≤◌, [], List, IfSome, IsTrue, IsOk};
 ghost use Rattle.std.specs.List.Sorted.{IsStrictlySortedBy};
 ghost use Rattle.std.specs.Map.{keys_of, lookup};
 ghost use Rattle.std.specs.BTreeMap.{is_at};
@@ -7,10 +7,12 @@ ghost use Rattle.std.specs.Option.{option_map};
 ghost use Rattle.rectangle_pack.specs.Bins.{Bin};
 ghost use Rattle.rectangle_pack.specs.Boxes.{Size};
 ghost use Rattle.rectangle_pack.specs.Closures.{AreCallable, answers};
+ghost use Rattle.rectangle_pack.specs.Joining.{IsJoined, IsSwept, ShareNoFace};
 ghost use Rattle.rectangle_pack.specs.Packing.{bins_of, rules_by};
+ghost use Rattle.rectangle_pack.specs.Promise.{PacksAsPromised};
 ghost use Rattle.rectangle_pack.specs.declared.session.command.Command.{Command};
 ghost use Rattle.rectangle_pack.specs.declared.session.command.Reply.{Reply};
-ghost use Rattle.rectangle_pack.specs.Session.{State, IsSession, AddsBin, Packs, Releases, Coalesces, JoinsAt, Sweeps, IsTransition, IsRun, reply_of, packed_reply};
+ghost use Rattle.rectangle_pack.specs.Session.{State, IsSession, AddsBin, Packs, Releases, Coalesces, IsTransition, IsRun, reply_of, packed_reply};
 
 mod command;
 mod cut_plan;
@@ -180,6 +182,10 @@ where
             let may = answers H.Fn C.Fn heuristic.now comparison.now in
             Packs order (rules_by Id.cmp BinId.cmp may) groups.now
             self.old (packed_reply result) self.new }
+        ensures promise { let order = ⟦<Group<GroupId, Id> as Ord>⟧.cmp in
+            let may = answers H.Fn C.Fn heuristic.now comparison.now in
+            PacksAsPromised order (rules_by Id.cmp BinId.cmp may) groups.now
+            self.old (packed_reply result) self.new }
         ensures no_groups { groups.now.groups ≡ [] → IsOk result }
         ensures always { IsSession BinId.cmp self.new }
     {
@@ -264,7 +270,7 @@ where
         idx: usize,
         range: Range<usize>,
     ) -> Result<(), SessionError>
-        ensures joined { let joins = JoinsAt idx range.start range.end in
+        ensures joined { let joins = IsJoined idx range.start range.end in
             Coalesces BinId.cmp joins bin.now self.old (reply_of result) self.new }
         ensures always { IsSession BinId.cmp self.new }
     {
@@ -279,7 +285,9 @@ where
     /// `TargetBin::coalesce_all` does. `UnknownBin` says that there is no such bin. Takes no
     /// memory.
     pub fn coalesce_all(&mut self, bin: &BinId) -> Result<(), SessionError>
-        ensures swept { Coalesces BinId.cmp Sweeps bin.now self.old (reply_of result) self.new }
+        ensures swept { Coalesces BinId.cmp IsSwept bin.now self.old (reply_of result) self.new }
+        ensures no_face { IfSome (lookup (is_at (BinId.cmp bin.now)) self.new.bins)
+            (λ (b : Bin). ShareNoFace b.sections) }
         ensures always { IsSession BinId.cmp self.new }
     {
         let Some(place) = self.bins.get_mut(bin) else {
@@ -311,7 +319,7 @@ where
         let rules = rules_by Id.cmp BinId.cmp (answers H.Fn C.Fn heuristic.now comparison.now) in
         (commands : List (Command Id BinId GroupId A)) (replies : List Reply) →
         (old new : State Id BinId) →
-        IsRun groups rules commands old replies new →
+        IsRun (IsTransition groups rules) commands old replies new →
         IsSession BinId.cmp old →
         IsSession BinId.cmp new × (old.next ≤ new.next) }
 {}

@@ -171,7 +171,8 @@ impl<A: Allocator + Copy> TargetBin<A> {
     }
 
     /// Puts those of the three sections that are not empty at the end of the list, in this order.
-    /// An error is want of memory, and leaves the bin as it was.
+    /// An error is want of memory, where the list has no room for three more, and leaves the bin as
+    /// it was.
     ///
     /// The caller sees to it that the bin accepts each of those and that no two of them share a
     /// cell.
@@ -182,6 +183,7 @@ impl<A: Allocator + Copy> TargetBin<A> {
             (self.new.bin ≡
             record self.old.bin { sections = self.old.bin.sections ++ filter has_cells sections }) }
         ensures err { OnErr result (self.new.bin ≡ self.old.bin) }
+        ensures full { OnErr result (self.old.room < length self.old.bin.sections + 3) }
     {
         self.available_bin_sections.reserve(3)?;
         push_pieces(&mut self.available_bin_sections, sections);
@@ -234,7 +236,8 @@ impl<A: Allocator + Copy> TargetBin<A> {
     }
 
     /// Puts a section at the end of the list. The caller sees to it that the bin accepts it. An
-    /// error is want of memory, and leaves the bin as it was.
+    /// error is want of memory, where the list has no room for one more, and leaves the bin as it
+    /// was.
     pub fn push_available_bin_section_unchecked(
         &mut self,
         bin_section: BinSection,
@@ -244,6 +247,7 @@ impl<A: Allocator + Copy> TargetBin<A> {
             (self.new.bin ≡
             record self.old.bin { sections = self.old.bin.sections ++ bin_section ∷ [] }) }
         ensures err { OnErr result (self.new.bin ≡ self.old.bin) }
+        ensures full { OnErr result (self.old.room ≤ length self.old.bin.sections) }
     {
         self.available_bin_sections.push(bin_section)?;
         Ok(())
@@ -259,7 +263,7 @@ impl<A: Allocator + Copy> TargetBin<A> {
     /// empty range leave the list; a range that goes past the end is cut to the list. The free
     /// cells stay the same. Takes no memory.
     pub fn coalesce_available_sections(&mut self, idx: usize, range: Range<usize>)
-        ensures joined { IsJoined self.old.bin.sections idx range.start range.end
+        ensures joined { IsJoined idx range.start range.end self.old.bin.sections
             self.new.bin.sections }
         ensures stays { self.new.bin ≡
             record self.old.bin { sections = self.new.bin.sections; coalesced = true } }
@@ -288,8 +292,7 @@ impl<A: Allocator + Copy> TargetBin<A> {
     /// assert_eq!(rt; bin.available_bin_sections().as_slice(), [whole].as_slice());
     /// ```
     pub fn coalesce_all(&mut self)
-        ensures swept { IsSwept (length self.old.bin.sections) self.old.bin.sections
-            self.new.bin.sections }
+        ensures swept { IsSwept self.old.bin.sections self.new.bin.sections }
         ensures stays { self.new.bin ≡
             record self.old.bin { sections = self.new.bin.sections; coalesced = true } }
         ensures no_face { ShareNoFace self.new.bin.sections }

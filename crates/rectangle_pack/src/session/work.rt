@@ -6,8 +6,8 @@ ghost use Rattle.rectangle_pack.specs.declared.pack.answer.Placement.{Placement}
 ghost use Rattle.rectangle_pack.specs.declared.session.command.Outstanding.{Outstanding};
 ghost use Rattle.rectangle_pack.specs.Bins.{Bin, IsAccepted};
 ghost use Rattle.rectangle_pack.specs.Boxes.{has_cells};
+ghost use Rattle.rectangle_pack.specs.Groups.{entries_of};
 ghost use Rattle.rectangle_pack.specs.Packing.{rules_by, bins_of, PackingDone, PackingRefused};
-ghost use Rattle.rectangle_pack.specs.PackAnswers.{entries_of};
 ghost use Rattle.rectangle_pack.specs.Session.{GivesBack, numbered};
 
 use crate::bin_section::BinSection;

@@ -8,7 +8,7 @@ abbrev pub invariant-loop-j : goal.invariant-loop-j
 invariant-loop-j g l = record {
   fit : All FitsU32 l.sections.items;
   inside : l.idx < length l.sections.items;
-  rest : (new : List Cuboid) → IsJoined l.sections.items l.idx l.range.start l.end new → IsJoined l.fn.sections.items l.fn.idx l.fn.range.start l.fn.range.end new;
+  rest : (new : List Cuboid) → IsJoined l.idx l.range.start l.end l.sections.items new → IsJoined l.fn.idx l.fn.range.start l.fn.range.end l.fn.sections.items new;
 }
 
 abbrev pub decreases-loop-j : goal.decreases-loop-j

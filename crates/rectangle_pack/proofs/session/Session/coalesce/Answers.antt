@@ -3,7 +3,7 @@ use Rattle.std.specs.BTreeMap.{is_at}
 use Rattle.std.specs.declared.collections.BTreeMap.{BTreeMap}
 use Rattle.rectangle_pack.specs.Bins.{Held}
 use Rattle.rectangle_pack.specs.Packing.{bins_of}
-use Rattle.rectangle_pack.specs.Session.{JoinsAt}
+use Rattle.rectangle_pack.specs.Joining.{IsJoined}
 use Rattle.rectangle_pack.proofs.SessionLemmas.{None-bins_of}
 use Rattle.rectangle_pack.proofs.TransitionLemmas.{IsRecut-joined, coalesced-written}
 use Rattle.rectangle_pack.proofs.session.Session.coalesce.Goals as goal
@@ -17,7 +17,7 @@ invariant_of-self-2 g c =
     let lo = c.args.range.start in
     let hi = c.args.range.end in
     let done = c.coalesce_available_sections.ensures in
-    (coalesced-written g.met.BinId.Ord.total (JoinsAt idx lo hi) (IsRecut-joined idx lo hi) c.args.bin.now _ _ c.in-Some.place.now c.coalesce_available_sections.new.self _ _
+    (coalesced-written g.met.BinId.Ord.total (IsJoined idx lo hi) (IsRecut-joined idx lo hi) c.args.bin.now _ _ c.in-Some.place.now c.coalesce_available_sections.new.self _ _
     (sym c.in-Some.ensures.value) (c.get_mut.follows.holds _).0 done.stays done.joined c.self.invariant).1
 
 pub returns-clause-joined : goal.returns-clause-joined
@@ -27,7 +27,7 @@ returns-clause-joined g c =
     let hi = c.args.range.end in
     let done = c.coalesce_available_sections.ensures in
     rw (← c.self.view_is)
-    (coalesced-written g.met.BinId.Ord.total (JoinsAt idx lo hi) (IsRecut-joined idx lo hi) c.args.bin.now _ _ c.in-Some.place.now c.coalesce_available_sections.new.self _ _
+    (coalesced-written g.met.BinId.Ord.total (IsJoined idx lo hi) (IsRecut-joined idx lo hi) c.args.bin.now _ _ c.in-Some.place.now c.coalesce_available_sections.new.self _ _
     (sym c.in-Some.ensures.value) (c.get_mut.follows.holds _).0 done.stays done.joined c.self.invariant).0
 
 pub returns-clause-always : goal.returns-clause-always

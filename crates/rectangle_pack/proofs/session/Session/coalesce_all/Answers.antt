@@ -1,10 +1,12 @@
-use Rattle.std.proofs.Common.{sym, ap, rules}
+use Rattle.std.proofs.Common.{sym, ap, rules, ◌∙◌}
+use Rattle.std.specs.Map.{lookup}
 use Rattle.std.specs.BTreeMap.{is_at}
 use Rattle.std.specs.declared.collections.BTreeMap.{BTreeMap}
 use Rattle.rectangle_pack.specs.Bins.{Held}
 use Rattle.rectangle_pack.specs.Packing.{bins_of}
-use Rattle.rectangle_pack.specs.Session.{Sweeps}
-use Rattle.rectangle_pack.proofs.SessionLemmas.{None-bins_of}
+use Rattle.rectangle_pack.specs.Joining.{IsSwept}
+use Rattle.rectangle_pack.proofs.MapsLemmas.{lookup-set_here}
+use Rattle.rectangle_pack.proofs.SessionLemmas.{Some-bins_of, None-bins_of}
 use Rattle.rectangle_pack.proofs.TransitionLemmas.{IsRecut-swept, coalesced-written}
 use Rattle.rectangle_pack.proofs.session.Session.coalesce_all.Goals as goal
 
@@ -15,14 +17,25 @@ pub invariant_of-self-2 : goal.invariant_of-self-2
 invariant_of-self-2 g c =
     let w = c.coalesce_all.new.self in
     let done = c.coalesce_all.ensures in
-    (coalesced-written g.met.BinId.Ord.total Sweeps IsRecut-swept c.args.bin.now _ _ c.in-Some.place.now w _ _ (sym c.in-Some.ensures.value) (c.get_mut.follows.holds w).0 done.stays done.swept c.self.invariant).1
+    (coalesced-written g.met.BinId.Ord.total IsSwept IsRecut-swept c.args.bin.now _ _ c.in-Some.place.now w _ _ (sym c.in-Some.ensures.value) (c.get_mut.follows.holds w).0 done.stays done.swept c.self.invariant).1
 
 pub returns-clause-swept : goal.returns-clause-swept
 returns-clause-swept g c =
     let w = c.coalesce_all.new.self in
     let done = c.coalesce_all.ensures in
     rw (← c.self.view_is)
-    (coalesced-written g.met.BinId.Ord.total Sweeps IsRecut-swept c.args.bin.now _ _ c.in-Some.place.now w _ _ (sym c.in-Some.ensures.value) (c.get_mut.follows.holds w).0 done.stays done.swept c.self.invariant).0
+    (coalesced-written g.met.BinId.Ord.total IsSwept IsRecut-swept c.args.bin.now _ _ c.in-Some.place.now w _ _ (sym c.in-Some.ensures.value) (c.get_mut.follows.holds w).0 done.stays done.swept c.self.invariant).0
 
 pub returns-clause-always : goal.returns-clause-always
 returns-clause-always g c = invariant_of-self-2 g c
+
+pub returns-in_default-clause-no_face : goal.returns-in_default-clause-no_face
+returns-in_default-clause-no_face g c =
+    rw (c.get_mut.follows.holds-at-none, None-bins_of (is_at (g.BinId.Ord.cmp c.args.bin.now)) c.self.inside.bins.entries (search rules)) tt
+
+pub returns-clause-no_face : goal.returns-clause-no_face
+returns-clause-no_face g c =
+    let test = is_at (g.BinId.Ord.cmp c.args.bin.now) in
+    let w = c.coalesce_all.new.self in
+    let found = ap (lookup test) (c.get_mut.follows.holds w).0 ∙ lookup-set_here test c.self.inside.bins.entries c.in-Some.place.now w (sym c.in-Some.ensures.value) in
+    rw (Some-bins_of test (c.get_mut.follows.lender w).entries w found) c.coalesce_all.ensures.no_face
