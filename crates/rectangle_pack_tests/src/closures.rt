@@ -51,8 +51,8 @@ const RATED_AS_NOTHING: Case = Case {
     placements: Some(&[(1, 0, [0, 0, 0, 4, 4, 1])]),
 };
 
-// Where the first cut is always better, it is the one that is taken.
-const FIRST_CUTS: Case = Case {
+/// Where the first cut is always better, it is the one that is taken.
+pub const FIRST_CUTS: Case = Case {
     bins: &[(
         0,
         [4, 4, 4],

@@ -1,6 +1,8 @@
 //! Groups that are excluded, and the fit tests of whole packings.
 
-use super::cases::{Case, Name, Rects, add_bins, ends, exclude_all, pack_by_volume, push_boxes};
+use super::cases::{
+    Case, Name, Rects, add_bins, ends, exclude_all, pack_by_volume, packs, push_boxes,
+};
 use super::memory::End;
 use super::placements::{FULL_AND_EMPTY, THREE_BOXES};
 use super::refusing::Refusing;
@@ -135,6 +137,22 @@ fn counted_packings(rt: HostRuntime) {
     for (case, count) in COUNTED {
         let end = counts(&rt, &refusing, case, &mut tests);
         assert!(rt; end == End::Done && tests.count() == *count, "{count}");
+    }
+}
+
+// The same packings, without a counter.
+#[test]
+fn packings(rt: HostRuntime) {
+    let refusing = Refusing::new(rt.alloc(), u64::MAX);
+    for (case, _) in COUNTED {
+        let end = packs(
+            &rt,
+            &refusing,
+            case,
+            &volume_heuristic,
+            &contains_smallest_box,
+        );
+        assert!(rt; end == End::Done);
     }
 }
 

@@ -3,6 +3,10 @@
 #![tactic(auto)]
 
 #[cfg(test)]
+mod answers;
+#[cfg(test)]
+mod asked;
+#[cfg(test)]
 mod cases;
 #[cfg(test)]
 mod closures;
@@ -16,6 +20,10 @@ mod exclusions;
 mod groups;
 #[cfg(test)]
 mod joining;
+#[cfg(test)]
+mod large;
+#[cfg(test)]
+mod laws;
 #[cfg(test)]
 mod many;
 #[cfg(test)]

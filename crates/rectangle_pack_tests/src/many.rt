@@ -1,4 +1,4 @@
-//! Four hundred boxes 1x1x1, which fill a bin 20x20x1.
+//! Five hundred boxes 1x1x1, which fill a bin 25x20x1.
 
 use crate::refusing::Refusing;
 use rectangle_pack::{
@@ -24,7 +24,7 @@ type Commands<'a> = Vec<Command<u32, u32, u32, Alloc<'a>>, Alloc<'a>>;
 
 type Units<'a> = Session<u32, u32, Alloc<'a>>;
 
-const COUNT: u32 = 400;
+const COUNT: u32 = 500;
 
 fn push_units(rects: &mut Rects<'_>) -> Made<()> {
     for id in 0..COUNT {
@@ -45,7 +45,7 @@ fn free(bin: Option<&Bin<'_>>) -> Option<usize> {
 }
 
 fn tries(rt: &impl Abort, bin: &mut Bin<'_>) -> Made<()> {
-    let members = [RectToInsert::new(1, 1, 1); 400];
+    let members = [RectToInsert::new(1, 1, 1); 500];
     let mut tests = FitTests::new();
     let placed = bin.place_all(
         &members,
@@ -53,18 +53,18 @@ fn tries(rt: &impl Abort, bin: &mut Bin<'_>) -> Made<()> {
         &contains_smallest_box,
         &mut tests,
     )?;
-    assert!(rt; matches!(&placed, Some(places) if places.len() == 400));
+    assert!(rt; matches!(&placed, Some(places) if places.len() == 500));
     assert_eq!(rt; free(Some(bin)), Some(0));
     Ok(())
 }
 
 fn one_trial(rt: &impl Abort, alloc: Alloc<'_>) -> Made<()> {
-    let mut bin = TargetBin::new(alloc, 20, 20, 1)?;
+    let mut bin = TargetBin::new(alloc, 25, 20, 1)?;
     tries(rt, &mut bin)
 }
 
 fn packs<'a>(rt: &impl Abort, alloc: Alloc<'a>, bins: &mut Bins<'a>) -> Result<(), Fail> {
-    bins.insert(0u32, TargetBin::new(alloc, 20, 20, 1)?)?;
+    bins.insert(0u32, TargetBin::new(alloc, 25, 20, 1)?)?;
     let rects = units(alloc)?;
     let packed = pack_rects(
         alloc,
@@ -73,7 +73,7 @@ fn packs<'a>(rt: &impl Abort, alloc: Alloc<'a>, bins: &mut Bins<'a>) -> Result<(
         &volume_heuristic,
         &contains_smallest_box,
     )?;
-    assert_eq!(rt; packed.placements().len(), 400);
+    assert_eq!(rt; packed.placements().len(), 500);
     assert_eq!(rt; free(bins.get(&0)), Some(0));
     Ok(())
 }
@@ -86,7 +86,7 @@ fn one_packing(rt: &impl Abort, alloc: Alloc<'_>) -> Result<(), Fail> {
 fn push_bin_and_units<'a>(alloc: Alloc<'a>, commands: &mut Commands<'a>) -> Made<()> {
     commands.push(Command::AddBin {
         id: 0,
-        width: 20,
+        width: 25,
         height: 20,
         depth: 1,
     })?;
@@ -117,7 +117,7 @@ fn fills<'a>(rt: &impl Abort, alloc: Alloc<'a>, session: &mut Units<'a>) -> Made
     let replies = run(session, &commands)?;
     let packed = Packed {
         first: 0,
-        count: 400,
+        count: 500,
     };
     assert!(rt; replies.as_slice() == [Reply::Done, Reply::Packed(packed)].as_slice());
     Ok(())
@@ -129,7 +129,7 @@ fn are_done(replies: &[Reply]) -> bool {
             return false;
         }
     }
-    replies.len() == 400
+    replies.len() == 500
 }
 
 // Then it runs the commands that release all boxes.
@@ -139,7 +139,7 @@ fn empties<'a>(rt: &impl Abort, alloc: Alloc<'a>, session: &mut Units<'a>) -> Ma
     let replies = run(session, &commands)?;
     assert!(rt; are_done(replies.as_slice()));
     assert!(rt; session.outstanding().is_empty());
-    assert_eq!(rt; free(session.bins().get(&0)), Some(400));
+    assert_eq!(rt; free(session.bins().get(&0)), Some(500));
     Ok(())
 }
 
@@ -156,7 +156,7 @@ fn leaves(plan: &[CutStep]) -> usize {
 // The plan of the full bin has a leaf for each box.
 fn has_leaf_for_each_box(session: &Units<'_>) -> bool {
     match session.cut_plan(&0) {
-        Ok(Some(plan)) => leaves(plan.as_slice()) == 400 && plan.len() == 799,
+        Ok(Some(plan)) => leaves(plan.as_slice()) == 500 && plan.len() == 999,
         _ => false,
     }
 }

@@ -12,7 +12,8 @@ mod names;
 mod none;
 mod packings;
 
-/// What came of a run: a request was refused before the call in question, or in that call, or none was.
+/// What came of a run: a request was refused before the call in question, or in that call, or none
+/// was.
 #[derive(Clone, Copy, Debug, PartialEq, Eq, Drop)]
 pub enum End {
     Before,
@@ -31,8 +32,8 @@ where
     Ok(())
 }
 
-/// Runs with each request refused in turn, until none is. None was refused in the calls in question, which come
-/// after all that take memory.
+/// Runs with each request refused in turn, until none is. None was refused in the calls in question,
+/// which come after all that take memory.
 pub fn takes_none<F>(rt: &impl Abort, alloc: Global, run: F) -> Result<(), Fail>
 where
     F: Fn(&Refusing<Global>) -> Result<End, Fail>,
@@ -43,8 +44,9 @@ where
     Ok(())
 }
 
-// Whether a request is refused in the call in question, where each is refused in turn until none is. Each run gives
-// back all that it takes.
+// Whether a request is refused in the call in question, where each is refused in turn until none is.
+// Each run gives back all that it takes, and says that it is done where no request was refused, and
+// only there.
 fn is_refused<F>(rt: &impl Abort, alloc: Global, run: F) -> Result<bool, Fail>
 where
     F: Fn(&Refusing<Global>) -> Result<End, Fail>,
@@ -55,6 +57,7 @@ where
         let refusing = Refusing::new(alloc, granted);
         let end = run(&refusing)?;
         assert_eq!(rt; refusing.taken(), 0);
+        assert_eq!(rt; refusing.refused() == 0, end == End::Done);
         match end {
             End::Before => {}
             End::Refused => refused = true,

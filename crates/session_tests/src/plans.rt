@@ -80,7 +80,7 @@ pub struct Standing {
 /// A step of a script: a call, or what is so between two calls.
 #[derive(Clone, Copy)]
 pub enum Step {
-    /// This call is not refused.
+    /// This call is done: a packing places each entry of a group, from the next number on.
     Call(Order),
     /// This call gets this reply.
     Replies(Order, Reply),
@@ -250,14 +250,34 @@ fn came_if(is_wanted: bool) -> Came {
     if is_wanted { Came::Out } else { Came::Wrong }
 }
 
-// What comes of a reply; it is to be this one, or any that does not refuse.
-fn come_of(reply: Reply, wanted: Option<Reply>) -> Came {
+// What comes of a reply, which is to be this one.
+fn come_of(reply: Reply, wanted: Reply) -> Came {
     if reply == NO_MEMORY {
         return Came::Refused;
     }
-    came_if(match wanted {
-        Some(wanted) => reply == wanted,
-        None => !matches!(reply, Reply::Refused(_)),
+    came_if(reply == wanted)
+}
+
+// How many entries of groups these boxes make.
+fn entries(boxes: &[SizedBox]) -> u64 {
+    let mut count = 0u64;
+    for (_, _, groups) in boxes {
+        count = count.saturating_add(groups.len().max(1) as u64);
+    }
+    count
+}
+
+// What this call replies where it is done, from this next number on.
+fn done(order: &Order, next: u64) -> Reply {
+    let boxes = match order {
+        Order::Pack(boxes) => boxes,
+        Order::PackApart(boxes, _) => boxes,
+        Order::PackBy(_, boxes) => boxes,
+        _ => return Reply::Done,
+    };
+    Reply::Packed(Packed {
+        first: next,
+        count: entries(boxes),
     })
 }
 
@@ -305,8 +325,11 @@ fn stands(session: &Planned<'_>, wanted: &Standing) -> bool {
 
 fn play<'a>(session: &mut Planned<'a>, alloc: Alloc<'a>, step: &Step) -> Came {
     match step {
-        Step::Call(order) => come_of(call(session, alloc, order), None),
-        Step::Replies(order, wanted) => come_of(call(session, alloc, order), Some(*wanted)),
+        Step::Call(order) => {
+            let wanted = done(order, session.next_number());
+            come_of(call(session, alloc, order), wanted)
+        }
+        Step::Replies(order, wanted) => come_of(call(session, alloc, order), *wanted),
         Step::Plans(plans) => ask_plans(session, plans),
         Step::Stands(standing, plan) => {
             let answer = ask_plan(session, 0, plan);

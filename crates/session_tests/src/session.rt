@@ -3,6 +3,7 @@
 
 mod calls;
 mod hostile;
+mod large;
 mod refusals;
 mod releases;
 mod runs;

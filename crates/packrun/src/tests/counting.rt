@@ -170,6 +170,11 @@ fn places_all(boxes: &[Row], lines: &[Row]) -> bool {
     lines.iter().all(|row| is_in_its_size(boxes, row))
 }
 
+// Whether a bin of this name was added.
+fn is_known(bins: &[Row], name: u32) -> bool {
+    bins.iter().any(|row| row[1] == name)
+}
+
 // Whether one of these has this number, which is then taken away.
 fn release(placed: &mut Vec<Row>, number: u32) -> bool {
     let before = placed.len();
@@ -192,7 +197,9 @@ fn pack(seen: &mut Seen, lines: &[Row]) -> Result<bool, AllocError> {
     Ok(is_right)
 }
 
-// Takes over the reply to a command, with the lines of numbers before it. Whether it is right.
+// Takes over the reply to a command, with the lines of numbers before it. Whether it is right: a bin
+// is refused where its name is known, a release where nothing of its number is placed, a call of a
+// bin where its name is not known, and a packing never.
 fn take_over(
     alloc: Global,
     seen: &mut Seen,
@@ -201,15 +208,32 @@ fn take_over(
     lines: &[Row],
 ) -> Result<bool, AllocError> {
     let row = row(command);
-    match (first_word(command), first_word(reply)) {
-        ("bin", "ok") => seen.bins.push(row)?,
-        ("rect", "ok") => seen.boxes.push(row)?,
+    let is_known = is_known(seen.bins.as_slice(), row[1]);
+    let is_right = match (first_word(command), first_word(reply)) {
+        ("bin", "ok") => {
+            seen.bins.push(row)?;
+            !is_known
+        }
+        ("bin", "refused:") => is_known,
+        ("rect", "ok") => {
+            seen.boxes.push(row)?;
+            true
+        }
+        ("exclude", "ok") => true,
         ("pack", "packed") => return pack(seen, lines),
-        ("release", "ok") => return Ok(release(&mut seen.placed, row[1])),
-        ("sections", "sections") => return is_full(alloc, seen, row[1], lines),
-        _ => {}
-    }
-    Ok(lines.is_empty())
+        ("release", "ok") => release(&mut seen.placed, row[1]),
+        ("release", "refused:") => !release(&mut seen.placed, row[1]),
+        ("coalesce", "ok") => is_known,
+        ("sweep", "ok") => is_known,
+        ("sections", "sections") => {
+            return Ok(is_known && is_full(alloc, seen, row[1], lines)?);
+        }
+        (word, "refused:") => word != "pack" && !is_known,
+        // The line at which the run ends.
+        (_, "line") => true,
+        _ => false,
+    };
+    Ok(is_right && lines.is_empty())
 }
 
 // Takes over a line that was printed, where the command of a reply is the next one. Whether it is

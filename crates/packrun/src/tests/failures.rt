@@ -52,7 +52,8 @@ const ALL: Given = Given {
     writes: (usize::MAX, u64::MAX),
 };
 
-// How these lines end, and what they print. All memory is given back.
+// How these lines end, and what they print. All memory is given back, and a run that goes on to its
+// end was refused none.
 fn run_with(rt: &impl Abort, alloc: Global, lines: &str, given: Given) -> (Outcome, Kept) {
     let refusing = Refusing::new(alloc, given.granted);
     let (piece, good_reads) = given.reads;
@@ -65,14 +66,33 @@ fn run_with(rt: &impl Abort, alloc: Global, lines: &str, given: Given) -> (Outco
     let mut writer = Kept::new(piece, good_writes);
     let outcome = run_lines(&refusing, &mut reader, &mut writer);
     assert_eq!(rt; refusing.taken(), 0);
+    assert!(rt; is_said(outcome, refusing.refused()));
     (outcome, writer)
 }
 
-// These lines fail so, and what they print before is what they print at its start.
-fn fails_within(rt: &impl Abort, alloc: Global, given: Given) {
+// Whether a run may end so where so many requests were refused.
+fn is_said(outcome: Outcome, refused: u64) -> bool {
+    match outcome {
+        Outcome::NoMemory => refused > 0,
+        // The last line was not printed, or nothing was refused.
+        Outcome::IoFailed => true,
+        _ => refused == 0,
+    }
+}
+
+// These lines fail so, once they have printed so many bytes of the whole.
+fn fails_after(rt: &impl Abort, alloc: Global, given: Given, count: usize) {
     let (outcome, kept) = run_with(rt, alloc, LINES, given);
-    assert_eq!(rt; outcome, Outcome::IoFailed);
-    assert!(rt; PRINTED.as_bytes().starts_with(kept.written()));
+    ended_so(
+        rt,
+        outcome,
+        kept.written(),
+        (start(PRINTED, count), Outcome::IoFailed),
+    );
+}
+
+fn start(text: &str, count: usize) -> &str {
+    text.get(..count).unwrap_or("")
 }
 
 fn comes_out(rt: &impl Abort, alloc: Global, given: Given) {
@@ -80,11 +100,28 @@ fn comes_out(rt: &impl Abort, alloc: Global, given: Given) {
     ended_so(rt, outcome, kept.written(), (PRINTED, Outcome::BadLine(7)));
 }
 
+// How many bytes are printed where each of the first lines is done: the first comes to its end at
+// byte 16, and prints 3 bytes. The last line ends with the input.
+const DONE: [(usize, usize); 6] = [(16, 3), (33, 6), (50, 9), (67, 12), (72, 90), (84, 112)];
+
+// How many bytes are printed once so many were read: all that the lines print that came to their
+// end.
+fn printed_after(read: usize) -> usize {
+    let mut printed = 0usize;
+    for (end, count) in &DONE {
+        if *end <= read {
+            printed = *count;
+        }
+    }
+    printed
+}
+
 // Each of so many reads fails in turn; the last of them finds the end.
 fn fails_at_each_read(rt: &impl Abort, alloc: Global, piece: usize, needed: u64) {
     for good in 0..needed {
         let reads = (piece, good);
-        fails_within(rt, alloc, Given { reads, ..ALL });
+        let count = printed_after(piece.saturating_mul(good as usize));
+        fails_after(rt, alloc, Given { reads, ..ALL }, count);
     }
     let reads = (piece, needed);
     comes_out(rt, alloc, Given { reads, ..ALL });
@@ -100,38 +137,100 @@ fn failing_reads(rt: HostRuntime) {
     }
 }
 
+// The most bytes of a read and of a write, how many writes are needed, and where each write would
+// end if it took all that there is.
+struct Writes {
+    read: usize,
+    write: usize,
+    needed: u64,
+    ends: &'static [usize],
+}
+
+// How many bytes are printed after so many good writes.
+fn written_by(writes: &Writes, good: u64) -> usize {
+    let mut left = good as usize;
+    let mut written = 0usize;
+    for end in writes.ends {
+        let needed = end.saturating_sub(written).div_ceil(writes.write.max(1));
+        if left < needed {
+            return written.saturating_add(left.saturating_mul(writes.write));
+        }
+        left = left.saturating_sub(needed);
+        written = *end;
+    }
+    written
+}
+
 // Each of so many writes fails in turn, that of the last line too.
-fn fails_at_each_write(rt: &impl Abort, alloc: Global, (read, piece, needed): (usize, usize, u64)) {
+fn fails_at_each_write(rt: &impl Abort, alloc: Global, row: &Writes) {
     let given = Given {
-        reads: (read, u64::MAX),
+        reads: (row.read, u64::MAX),
         ..ALL
     };
-    for good in 0..needed {
-        let writes = (piece, good);
-        fails_within(rt, alloc, Given { writes, ..given });
+    for good in 0..row.needed {
+        let writes = (row.write, good);
+        fails_after(rt, alloc, Given { writes, ..given }, written_by(row, good));
     }
-    let writes = (piece, needed);
+    let writes = (row.write, row.needed);
     comes_out(rt, alloc, Given { writes, ..given });
 }
 
-// The most bytes of a read and of a write, and how many writes are needed. What is printed has 126
-// bytes, the last line 14 of them. A read of 7 bytes or of one ends at most one line, and what each
-// line prints is written before the next read. Read at once, all but the last line is written
-// first.
-const WRITES: [(usize, usize, u64); 7] = [
-    (98, 512, 2),
-    (98, 100, 3),
-    (98, 1, 126),
-    (7, 512, 7),
-    (7, 1, 126),
-    (1, 512, 7),
-    (1, 1, 126),
+// What is printed has 126 bytes, the last line 14 of them. A read of 7 bytes or of one ends at most
+// one line, and what each line prints is written before the next read. Read at once, all but the
+// last line is written first.
+const AT_ONCE: &[usize] = &[112, 126];
+
+const BY_LINES: &[usize] = &[3, 6, 9, 12, 90, 112, 126];
+
+const WRITES: [Writes; 7] = [
+    Writes {
+        read: 98,
+        write: 512,
+        needed: 2,
+        ends: AT_ONCE,
+    },
+    Writes {
+        read: 98,
+        write: 100,
+        needed: 3,
+        ends: AT_ONCE,
+    },
+    Writes {
+        read: 98,
+        write: 1,
+        needed: 126,
+        ends: AT_ONCE,
+    },
+    Writes {
+        read: 7,
+        write: 512,
+        needed: 7,
+        ends: BY_LINES,
+    },
+    Writes {
+        read: 7,
+        write: 1,
+        needed: 126,
+        ends: BY_LINES,
+    },
+    Writes {
+        read: 1,
+        write: 512,
+        needed: 7,
+        ends: BY_LINES,
+    },
+    Writes {
+        read: 1,
+        write: 1,
+        needed: 126,
+        ends: BY_LINES,
+    },
 ];
 
 #[test]
 fn failing_writes(rt: HostRuntime) {
     for row in &WRITES {
-        fails_at_each_write(&rt, rt.alloc(), *row);
+        fails_at_each_write(&rt, rt.alloc(), row);
     }
 }
 

@@ -7,36 +7,60 @@ use std::alloc::{AllocError, Global};
 use std::process::Abort;
 use std::str;
 
-// In a line `@` is a name from 1 to 3, `#` a digit, `!` the side of a bin, and `%` that of a box.
-const LINES: [&str; 30] = [
-    "bin @ ! ! !",
-    "bin @ ! ! 1",
+// In a line `@` is a name from 1 to 3, `#` a digit, `!` the side of a bin, `%` that of a box, and `*`
+// the number of the round.
+//
+// Each round adds two bins 6x6x6 and packs at most three entries of sides up to 2, so no packing is
+// refused. A box of sides up to 2 leaves of the section that it is put into a piece that is as large
+// on two axes, and smaller by at most 2 on the third; so a new bin takes three such boxes in a row.
+// And a group that the pairs keep out of one of the new bins may go into the other: of the groups 1,
+// 2 and 3 the pairs keep but 2 apart from the others, which go into the first bin that takes them.
+const CUBES: &str = "bin 1* 6 6 6\nbin 2* 6 6 6\n";
+
+// At most two entries.
+const TWO: [&str; 8] = [
     "rect # % % %",
     "rect # % % 1",
     "rect # % 1 1",
-    "rect # 1 % %",
     "rect # 0 % 1",
+    "rect # % % % @",
+    "rect # % % 1 @ @",
+    "rect # 1 % % @ @",
+    "rect # % % % @ @",
+];
+
+// At most one.
+const ONE: [&str; 6] = [
+    "rect # % % %",
+    "rect # 1 % %",
+    "rect # % % % @",
     "rect # % % 1 @",
-    "rect # 1 % % @",
-    "rect # % 1 1 @ @",
-    "exclude 1 2",
-    "exclude 2 3",
-    "pack",
-    "pack",
-    "pack",
-    "pack",
-    "pack",
+    "rect # % 1 1 @",
+    "",
+];
+
+const PAIRS: [&str; 5] = ["exclude 1 2", "exclude 2 3", "exclude 3 2", "", ""];
+
+const LINES: [&str; 21] = [
+    "bin @ ! ! !",
+    "bin @ ! ! 1",
     "pack",
     "release #",
     "release #",
     "release #",
     "release 1#",
     "release 1#",
+    "release 2#",
     "coalesce @ 0 0 9",
+    "coalesce 1@ 0 0 9",
+    "coalesce 2@ # # #",
     "coalesce @ # # #",
     "sweep @",
+    "sweep 1@",
     "sections @",
     "sections @",
+    "sections 1@",
+    "sections 2@",
     "",
     " \t\r",
 ];
@@ -55,13 +79,15 @@ const ENDS: [&str; 8] = [
 
 const FIRST: &str = "bin 1 ! ! !\nbin 2 ! ! 1\n";
 
-const LAST: &str = "\nbin 3 ! ! !\nsections 1\nsections 2\nsections 3\n";
+const LAST: &str = "\nbin 3 ! ! !\nsections 1\nsections 2\nsections 3\nsections 10\nsections 26\n";
 
-// How many lines stand between `FIRST` and `LAST`.
-const DRAWN: usize = 80;
+const ROUNDS: u8 = 7;
+
+// How many lines a round has.
+const ROUND: usize = 2 + 2 + 2 + 1 + 5;
 
 // The line after `LAST`.
-const END: usize = 2 + DRAWN + 5 + 1;
+const END: usize = 2 + ROUNDS as usize * ROUND + 7 + 1;
 
 // A number by chance.
 fn draw(state: &mut u64) -> u8 {
@@ -76,7 +102,7 @@ fn byte_for(at: u8, drawn: u8) -> u8 {
         b'@' => b'1' + drawn % 3,
         b'#' => b'0' + drawn % 10,
         b'!' => b'3' + drawn % 4,
-        b'%' => b'1' + drawn % 3,
+        b'%' => b'1' + drawn % 2,
         other => other,
     }
 }
@@ -88,22 +114,44 @@ fn write_text(input: &mut Vec<u8>, state: &mut u64, text: &str) -> Result<(), Al
     Ok(())
 }
 
+// The two new bins of a round.
+fn write_cubes(input: &mut Vec<u8>, round: u8) -> Result<(), AllocError> {
+    for at in CUBES.bytes() {
+        input.push(if at == b'*' { b'0' + round % 10 } else { at })?;
+    }
+    Ok(())
+}
+
 fn write_one(input: &mut Vec<u8>, state: &mut u64, texts: &[&str]) -> Result<(), AllocError> {
     let at = usize::from(draw(state)) % texts.len().max(1);
     write_text(input, state, texts.get(at).copied().unwrap_or(""))?;
     write_text(input, state, "\n")
 }
 
-fn write_drawn(input: &mut Vec<u8>, state: &mut u64) -> Result<(), AllocError> {
-    for _ in 0..DRAWN {
+// New bins, what is packed, and five lines after it.
+fn write_round(input: &mut Vec<u8>, state: &mut u64, round: u8) -> Result<(), AllocError> {
+    write_cubes(input, round)?;
+    write_one(input, state, &TWO)?;
+    write_one(input, state, &ONE)?;
+    write_one(input, state, &PAIRS)?;
+    write_one(input, state, &PAIRS)?;
+    write_text(input, state, "pack\n")?;
+    for _ in 0..5 {
         write_one(input, state, &LINES)?;
+    }
+    Ok(())
+}
+
+fn write_rounds(input: &mut Vec<u8>, state: &mut u64) -> Result<(), AllocError> {
+    for round in 0..ROUNDS {
+        write_round(input, state, round)?;
     }
     Ok(())
 }
 
 fn write_lines(input: &mut Vec<u8>, state: &mut u64) -> Result<(), AllocError> {
     write_text(input, state, FIRST)?;
-    write_drawn(input, state)?;
+    write_rounds(input, state)?;
     write_text(input, state, LAST)?;
     write_one(input, state, &ENDS)
 }

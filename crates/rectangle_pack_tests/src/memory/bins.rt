@@ -309,14 +309,21 @@ fn run(refusing: &Refusing<Global>, script: &Script) -> Came {
 }
 
 /// Runs the script with each request refused in turn, until none is. Each run gives back all that
-/// it takes. Without memory there is no bin, and the last run has used up what was granted. Answers
-/// whether a request was refused once the bin was made.
+/// it takes, and comes out where no request was refused, and only there. Without memory there is no
+/// bin, and the last run has used up what was granted. Answers whether a request was refused once
+/// the bin was made.
 pub fn runs(rt: &impl Abort, alloc: Global, script: &Script) -> bool {
     let mut refused = false;
     for granted in 0..200u64 {
         let refusing = Refusing::new(alloc, granted);
         let came = run(&refusing, script);
         assert_eq!(rt; refusing.taken(), 0);
+        assert_eq!(rt;
+            refusing.refused() == 0,
+            matches!(came, Came::Out),
+            "{}",
+            script.subject
+        );
         match came {
             Came::Unmade => {}
             Came::Refused => refused = true,

@@ -2,8 +2,8 @@
 
 use super::read_back::{Cuboid, defined_plan, parts_into};
 use rectangle_pack::{
-    BinSection, CutStep, GroupedRectsToPlace, Outstanding, RectToInsert, Session, SessionError,
-    TargetBin, contains_smallest_box, volume_heuristic,
+    BinSection, CutStep, GroupedRectsToPlace, Outstanding, Packed, RectToInsert, Session,
+    SessionError, TargetBin, contains_smallest_box, volume_heuristic,
 };
 use rectangle_pack_tests::shapes::{numbers, place};
 use std::alloc::{AllocError, Global};
@@ -85,52 +85,105 @@ fn push_some(rects: &mut Rects, alloc: Global, dice: &mut Dice) -> Result<(), Al
     Ok(())
 }
 
-fn pack(session: &mut Numbered, alloc: Global, dice: &mut Dice) -> Result<(), AllocError> {
-    let mut rects: Rects = GroupedRectsToPlace::new(alloc);
-    let pushed = push_some(&mut rects, alloc, dice);
-    if pushed.is_ok() {
-        let _ = session.pack(&rects, &volume_heuristic, &contains_smallest_box);
-    }
-    pushed
+fn holds(section: &BinSection, rect: &RectToInsert) -> bool {
+    let size = section.whd();
+    rect.width() <= size.width() && rect.height() <= size.height() && rect.depth() <= size.depth()
 }
 
-fn release(session: &mut Numbered, dice: &mut Dice) {
+// Whether a free section of a bin holds one of these boxes.
+fn hold_one(session: &Numbered, rects: &Rects) -> bool {
+    for bin in session.bins().values() {
+        for rect in rects.rects().values() {
+            if bin
+                .available_bin_sections()
+                .iter()
+                .any(|section| holds(section, rect))
+            {
+                return true;
+            }
+        }
+    }
+    false
+}
+
+// Whether these boxes, each in one group, are placed from the next number on, or have no room. One
+// box alone has none exactly where no free section holds it.
+fn pack_all(session: &mut Numbered, rects: &Rects) -> bool {
+    let is_one = rects.rects().len() == 1;
+    let is_held = hold_one(session, rects);
+    let packed = Packed {
+        first: session.next_number(),
+        count: rects.rects().len() as u64,
+    };
+    match session.pack(rects, &volume_heuristic, &contains_smallest_box) {
+        Ok(answer) => answer == packed && (is_held || !is_one),
+        Err(error) => error == SessionError::NotEnoughBinSpace && !(is_held && is_one),
+    }
+}
+
+fn pack(session: &mut Numbered, alloc: Global, dice: &mut Dice) -> Result<bool, AllocError> {
+    let mut rects: Rects = GroupedRectsToPlace::new(alloc);
+    match push_some(&mut rects, alloc, dice) {
+        Ok(()) => Ok(pack_all(session, &rects)),
+        Err(error) => Err(error),
+    }
+}
+
+fn release(session: &mut Numbered, dice: &mut Dice) -> bool {
     let index = dice.below(session.outstanding().len());
     let chosen = session.outstanding().get(index);
-    if let Some(number) = chosen.map(|placement| placement.number) {
-        let _ = session.release(number);
+    match chosen.map(|placement| placement.number) {
+        Some(number) => session.release(number).is_ok(),
+        None => true,
     }
 }
 
-fn coalesce(session: &mut Numbered, dice: &mut Dice) {
+// Whether this is what a call answers that names a bin which is there or not.
+fn is_of_bin(answer: Result<(), SessionError>, is_there: bool) -> bool {
+    match answer {
+        Ok(()) => is_there,
+        Err(error) => !is_there && error == SessionError::UnknownBin,
+    }
+}
+
+fn coalesce(session: &mut Numbered, dice: &mut Dice) -> bool {
     let bin = dice.one_of(&BINS, 0);
+    let is_there = session.bins().contains_key(&bin);
     let (idx, lo) = (dice.below(12), dice.below(12));
     let hi = lo.saturating_add(dice.below(4));
-    let _ = session.coalesce(&bin, idx, lo..hi);
+    is_of_bin(session.coalesce(&bin, idx, lo..hi), is_there)
 }
 
-fn add_bin(session: &mut Numbered, dice: &mut Dice, id: u32) {
+fn coalesce_all(session: &mut Numbered, dice: &mut Dice) -> bool {
+    let bin = dice.one_of(&BINS, 0);
+    let is_there = session.bins().contains_key(&bin);
+    is_of_bin(session.coalesce_all(&bin), is_there)
+}
+
+fn add_bin(session: &mut Numbered, dice: &mut Dice, id: u32) -> bool {
     let sides = [1, 2, 3, 3, 3, 4];
+    let is_there = session.bins().contains_key(&id);
     let (width, height) = (dice.one_of(&sides, 1), dice.one_of(&sides, 1));
-    let _ = session.add_bin(id, width, height, dice.one_of(&[1, 2], 1));
+    match session.add_bin(id, width, height, dice.one_of(&[1, 2], 1)) {
+        Ok(()) => !is_there,
+        Err(error) => is_there && error == SessionError::DuplicateBin,
+    }
 }
 
+// Whether the session answers a command as it may.
 fn command(
     session: &mut Numbered,
     alloc: Global,
     dice: &mut Dice,
     kind: Kind,
-) -> Result<(), AllocError> {
+) -> Result<bool, AllocError> {
     match kind {
-        Kind::AddBin => add_bin(session, dice, 2),
-        Kind::Pack => pack(session, alloc, dice)?,
-        Kind::Release => release(session, dice),
-        Kind::Coalesce => coalesce(session, dice),
-        Kind::CoalesceAll => {
-            let _ = session.coalesce_all(&dice.one_of(&BINS, 0));
-        }
+        Kind::AddBin => Ok(add_bin(session, dice, 2)),
+        Kind::Pack => pack(session, alloc, dice),
+        Kind::Release => Ok(release(session, dice)),
+        Kind::Coalesce => Ok(coalesce(session, dice)),
+        Kind::CoalesceAll => Ok(coalesce_all(session, dice)),
     }
-    Ok(())
 }
 
 fn commands(
@@ -138,21 +191,24 @@ fn commands(
     alloc: Global,
     dice: &mut Dice,
     kinds: &[Kind],
-) -> Result<(), AllocError> {
+) -> Result<bool, AllocError> {
     for _command in 0..40 {
         let kind = dice.one_of(kinds, Kind::Pack);
-        command(session, alloc, dice, kind)?;
+        if !command(session, alloc, dice, kind)? {
+            return Ok(false);
+        }
     }
-    Ok(())
+    Ok(true)
 }
 
-// Gives a session two or three small bins, and commands.
-fn play(session: &mut Numbered, alloc: Global, dice: &mut Dice) -> Result<(), AllocError> {
-    add_bin(session, dice, 0);
-    add_bin(session, dice, 1);
-    commands(session, alloc, dice, FILLING)?;
+// Gives a session two or three small bins, and commands. Whether it answers each as it may.
+fn play(session: &mut Numbered, alloc: Global, dice: &mut Dice) -> Result<bool, AllocError> {
+    if !add_bin(session, dice, 0) || !add_bin(session, dice, 1) {
+        return Ok(false);
+    }
+    let is_filled = commands(session, alloc, dice, FILLING)?;
     let kinds = dice.one_of(&[EMPTYING, JOINING, SWEEPING], JOINING);
-    commands(session, alloc, dice, kinds)
+    Ok(is_filled && commands(session, alloc, dice, kinds)?)
 }
 
 // Puts a box with cells into the list.
@@ -244,7 +300,7 @@ fn gather(
     Ok(())
 }
 
-// How many bins have a plan, how many rightly have none, and of how many that is wrong.
+// How many bins have a plan, how many rightly have none, and how many plans and sessions are wrong.
 #[derive(Clone, Copy)]
 struct Counts {
     with: u32,
@@ -281,7 +337,9 @@ fn count_bins(counts: &mut Counts, alloc: Global, session: &Numbered) -> Result<
 // Plays a session, and counts its bins.
 fn count_session(counts: &mut Counts, alloc: Global, dice: &mut Dice) -> Result<(), SessionError> {
     let mut session: Numbered = Session::new(alloc, 0);
-    play(&mut session, alloc, dice)?;
+    if !play(&mut session, alloc, dice)? {
+        counts.wrong = counts.wrong.saturating_add(1);
+    }
     count_bins(counts, alloc, &session)
 }
 

@@ -109,6 +109,7 @@ fn plans(rt: HostRuntime) -> Result<(), Fail> {
         let refusing = Refusing::new(rt.alloc(), granted);
         let (step, came) = play_all(&refusing, SCRIPT);
         assert_eq!(rt; refusing.taken(), 0);
+        assert_eq!(rt; refusing.refused() == 0, matches!(came, Came::Out));
         match came {
             Came::Refused => *refused.get_mut(step).ok_or("no such step")? = true,
             Came::Wrong => assert!(rt; false, "step {step}"),

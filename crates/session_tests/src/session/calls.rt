@@ -99,13 +99,15 @@ fn call_all<'a>(
 }
 
 // With so many requests granted, the calls come out so. All of these are used, if there are not
-// more than any script makes, and all memory is given back.
+// more than any script makes, and all memory is given back. A call says that memory was refused
+// where it was, and only there.
 fn call_granted(rt: &impl Abort, alloc: Global, granted: u64, script: &Script) -> Made<Came> {
     let plenty = Refusing::new(alloc, u64::MAX);
     let scarce = Refusing::new(alloc, granted);
     let came = call_all(&plenty, &scarce, script)?;
     let is_used = matches!(came, Came::Wrong(_)) || scarce.left() == 0;
     assert!(rt; granted == u64::MAX || is_used);
+    assert_eq!(rt; scarce.refused() == 0, matches!(came, Came::Out));
     assert_eq!(rt; (plenty.taken(), scarce.taken()), (0, 0));
     Ok(came)
 }

@@ -109,12 +109,14 @@ fn run_all<'a>(
     ))
 }
 
-// With so many requests granted, the run comes out so. All memory is given back.
+// With so many requests granted, the run comes out so. All memory is given back. The run says that
+// memory was refused where it was, and only there.
 fn run_granted(rt: &impl Abort, alloc: Global, granted: u64, script: &Script) -> Made<Came> {
     let plenty = Refusing::new(alloc, u64::MAX);
     let scarce = Refusing::new(alloc, granted);
     let left = Refusing::new(alloc, granted.saturating_sub(1));
     let came = run_all(&plenty, &scarce, &left, script)?;
+    assert_eq!(rt; scarce.refused() == 0, matches!(came, Came::Out));
     assert_eq!(rt; (plenty.taken(), scarce.taken(), left.taken()), (0, 0, 0));
     Ok(came)
 }
