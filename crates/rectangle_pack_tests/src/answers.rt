@@ -9,18 +9,22 @@ use std::alloc::{AllocError, Global};
 use std::collections::BTreeMap;
 use std::test::Fail;
 
-type Rects = GroupedRectsToPlace<u32, u32>;
+/// Boxes to place, by numbers.
+pub type Rects = GroupedRectsToPlace<u32, u32>;
 
-type Bins = BTreeMap<u32, TargetBin>;
+/// Bins by numbers.
+pub type Bins = BTreeMap<u32, TargetBin>;
 
-type Packed = RectanglePackOk<u32, u32>;
+/// What a packing placed.
+pub type Packed = RectanglePackOk<u32, u32>;
 
 // A box 4x4x1 in each of these groups.
 fn push(alloc: Global, rects: &mut Rects, groups: &[u32]) -> Result<(), AllocError> {
     rects.push_rect(1, named(alloc, groups)?, RectToInsert::new(4, 4, 1))
 }
 
-fn pack(alloc: Global, rects: &Rects, bins: &mut Bins) -> Result<Packed, RectanglePackError> {
+/// Packs the boxes by volumes and smallest boxes.
+pub fn pack(alloc: Global, rects: &Rects, bins: &mut Bins) -> Result<Packed, RectanglePackError> {
     pack_rects(
         alloc,
         rects,

@@ -1,20 +1,11 @@
 //! Past small sizes: fifty bins, fifty pairs of groups, fifty free sections, and two hundred boxes
 //! in groups.
 
+use super::answers::{Bins, Rects, pack};
 use super::shapes::{named, section};
-use rectangle_pack::{
-    Group, GroupedRectsToPlace, Placement, RectToInsert, RectanglePackError, RectanglePackOk,
-    TargetBin, contains_smallest_box, pack_rects, volume_heuristic,
-};
+use rectangle_pack::{Group, Placement, RectToInsert, TargetBin};
 use std::alloc::{AllocError, Global};
-use std::collections::BTreeMap;
 use std::test::Fail;
-
-type Bins = BTreeMap<u32, TargetBin>;
-
-type Rects = GroupedRectsToPlace<u32, u32>;
-
-type Packed = RectanglePackOk<u32, u32>;
 
 const COUNT: u32 = 50;
 
@@ -40,16 +31,6 @@ fn are_in_turn(placements: &[Placement<u32, u32>]) -> bool {
         }
     }
     placements.len() == 50
-}
-
-fn pack(alloc: Global, rects: &Rects, bins: &mut Bins) -> Result<Packed, RectanglePackError> {
-    pack_rects(
-        alloc,
-        rects,
-        bins,
-        &volume_heuristic,
-        &contains_smallest_box,
-    )
 }
 
 // Each bin holds one cell, and there are as many boxes of one cell.

@@ -1,5 +1,4 @@
 use Rattle.rectangle_pack.specs.Boxes.{volume_of}
-use Rattle.rectangle_pack.specs.Choice.{IsFunction}
 use Rattle.rectangle_pack_tests.proofs.laws.of_one_result.Goals as goal
 
 -- the rate of a size is its volume, and no other number
