@@ -43,10 +43,9 @@ module _ {Id B : Type 0} (rules : Rules Id B) (o : IsTotalOrder rules.bin_cmp) w
         → ((x y : B) → rules.bin_cmp x y ≡ Equal → barred x ≡ barred y)
         → IsBinOrder rules.may.rate rules.bin_cmp old.bins bin_order → AreAllPlaced rules bars (map (λ entry. entry.1) bin_order) beginning old placements new tests
         → IsRefused rules barred (map (λ entry. entry.1) bin_order) group new.bins count
-        → (q : B) → IsSome (lookup (is_at (rules.bin_cmp q)) new.bins) → (n : ℕ) × DoesNotTake rules barred new.bins group q n
+        → (q : B) → IsSome (lookup (is_at (rules.bin_cmp q)) old.bins) → (n : ℕ) × DoesNotTake rules barred new.bins group q n
     none_takes bin_order old new beginning placements tests barred group count alike by_bins placed refused q some =
-        let keys = sym (keys-placed rules bars (map (λ (entry : ℕ × B). entry.1) bin_order) beginning old placements new tests placed) in
-        at_each P same old.bins by_bins.unsorted by_bins.each unsorted q (is_some-keys (is_at (rules.bin_cmp q)) old.bins new.bins keys ∙ some)
+        at_each P same old.bins by_bins.unsorted by_bins.each unsorted q some
       where
         P : B → Type 0
         P id = (n : ℕ) × DoesNotTake rules barred new.bins group id n
@@ -71,7 +70,7 @@ one_stuck may sections sizes size n one h = by (subst (λ ms. IsStuck may sectio
 
 module _ {Id B G : Type 0} (group_cmp : Group G Id → Group G Id → Ordering) (rules : Rules Id B) (o : IsTotalOrder rules.bin_cmp) (all : Collection Id G) where
   -- the refused group of a packing is taken by no bin, as the groups before it left them
-  pub taken_nowhere : (old new : List (B × Bin)) (refused : PackingRefused group_cmp rules all old new) (id : B) → IsSome (lookup (is_at (rules.bin_cmp id)) new)
+  pub taken_nowhere : (old new : List (B × Bin)) (refused : PackingRefused group_cmp rules all old new) (id : B) → IsSome (lookup (is_at (rules.bin_cmp id)) old)
       → (n : ℕ) × DoesNotTake rules (bars_by group_cmp rules.bin_cmp all.partners refused.stops.homes refused.stops.next.0) new refused.stops.next.1 id n
   taken_nowhere old new refused =
       let bars = bars_by group_cmp rules.bin_cmp all.partners in
@@ -83,5 +82,11 @@ module _ {Id B G : Type 0} (group_cmp : Group G Id → Group G Id → Ordering) 
   pub held_nowhere : (old new : List (B × Bin)) (refused : PackingRefused group_cmp rules all old new) (size : Size) → refused.stops.next.1.sizes ≡ size ∷ [] → (id : B) (bin : Bin)
       → bars_by group_cmp rules.bin_cmp all.partners refused.stops.homes refused.stops.next.0 id ≡ false → lookup (is_at (rules.bin_cmp id)) new ≡ Some bin → All (λ s. ¬ Holds s size) bin.sections
   held_nowhere old new refused size one id bin allowed found =
-      let passed = taken_nowhere old new refused id (rw found refl) in
-      one_stuck rules.may bin.sections refused.stops.next.1.sizes size passed.0 one (rw (allowed, found) at passed.1)
+      let stops = refused.stops in
+      let bars = bars_by group_cmp rules.bin_cmp all.partners in
+      let order = map (λ (entry : ℕ × B). entry.1) refused.bin_order in
+      let keys = sym (keys-placed rules bars order stops.beginning (at_start old) stops.placements (record { bins = new; homes = stops.homes }) stops.first stops.placed) in
+      by (taken_nowhere old new refused id (is_some-keys (is_at (rules.bin_cmp id)) old new keys ∙ rw found refl))
+    where
+      by : (n : ℕ) × DoesNotTake rules (bars_by group_cmp rules.bin_cmp all.partners refused.stops.homes refused.stops.next.0) new refused.stops.next.1 id n → All (λ s. ¬ Holds s size) bin.sections
+      by passed = one_stuck rules.may bin.sections refused.stops.next.1.sizes size passed.0 one (rw (allowed, found) at passed.1)

@@ -29,11 +29,11 @@ module _ {Id B G : Type 0} (group_cmp : Group G Id → Group G Id → Ordering) 
     pub whole : ArePlacedWhole rules.id_cmp rules.bin_cmp group_cmp all.sizes all.groups homes placements
     pub apart : AreKeptApart group_cmp rules.bin_cmp all.partners homes
 
-  -- for some group, each bin is excluded or the group's trial gets stuck there; the bins are as the groups before it left them
+  -- for some group, each bin is excluded or the group's trial gets stuck there, as the groups before it left that bin
   pub record NoBinTakes (all : Collection Id G) (bins : List (B × Bin)) : Type 0 where
     pub left : List (B × Bin)
     pub refused : PackingRefused group_cmp rules all bins left
-    pub each : (id : B) → IsSome (lookup (is_at (rules.bin_cmp id)) left) → (tests : ℕ)
+    pub each : (id : B) → IsSome (lookup (is_at (rules.bin_cmp id)) bins) → (tests : ℕ)
         × DoesNotTake rules (bars_by group_cmp rules.bin_cmp all.partners refused.stops.homes refused.stops.next.0)
         left refused.stops.next.1 id tests
 
