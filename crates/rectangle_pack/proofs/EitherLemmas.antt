@@ -1,5 +1,5 @@
 -- What is allowed by some answers is allowed by more; so two packings, each by closures of its own, are packings by what either may answer.
-use Rattle.std.proofs.Common.{◌≡◌, ℕ, Bool, true, false, List, [], ◌∷◌, inl, inr, ◌⊎◌}
+use Rattle.std.proofs.Common.{◌≡◌, ◌≢◌, ℕ, Bool, true, false, List, [], ◌∷◌, inl, inr, ◌⊎◌}
 use Rattle.std.specs.Prelude.{All, Any, map, Option, Some, None, IsSomeAnd, MatchBool}
 use Rattle.std.specs.List.{AllZip}
 use Rattle.std.specs.declared.cmp.Ordering.{Ordering}
@@ -12,7 +12,7 @@ use Rattle.rectangle_pack.specs.declared.pack.answer.Placement.{Placement}
 use Rattle.rectangle_pack.specs.Boxes.{Size, Cuboid, IsU32, volume_of}
 use Rattle.rectangle_pack.specs.Bins.{Bin}
 use Rattle.rectangle_pack.specs.Closures.{Answers}
-use Rattle.rectangle_pack.specs.Choice.{MayLose, MayChoose, IsAllowedCut}
+use Rattle.rectangle_pack.specs.Choice.{MayChoose, IsAllowedCut}
 use Rattle.rectangle_pack.specs.Cuts.{cuts, sizes_of}
 use Rattle.rectangle_pack.specs.Groups.{Collection}
 use Rattle.rectangle_pack.specs.Orders.{IsGroupKey, IsGroupOrder, IsBinOrder}
@@ -39,9 +39,9 @@ some_weaker P Q passes (Some x) h = passes x h
 
 -- a choice
 module _ {A : Type 0} (R S : A → A → Ordering → Type 0) (includes : (x y : A) (r : Ordering) → R x y r → S x y r) where
-  loses : (chosen : A) (before : List A) → (before ≡ []) ⊎ Any (λ earlier. MayLose R earlier chosen) before → (before ≡ []) ⊎ Any (λ earlier. MayLose S earlier chosen) before
+  loses : (chosen : A) (before : List A) → (before ≡ []) ⊎ Any (λ earlier. (r : Ordering) × R earlier chosen r × (r ≢ Greater)) before → (before ≡ []) ⊎ Any (λ earlier. (r : Ordering) × S earlier chosen r × (r ≢ Greater)) before
   loses chosen before (inl none) = inl none
-  loses chosen before (inr (i, x, within, at, lost)) = inr (i, x, within, at, record { answer = lost.answer; may = includes x chosen lost.answer lost.may; is_not = lost.is_not })
+  loses chosen before (inr (i, x, within, at, lost)) = inr (i, x, within, at, (lost.0, includes x chosen lost.0 lost.1, lost.2))
 
   MayChoose-more : (xs : List A) (chosen : A) → MayChoose R xs chosen → MayChoose S xs chosen
   MayChoose-more xs chosen h = record {

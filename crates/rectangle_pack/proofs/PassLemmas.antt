@@ -80,7 +80,7 @@ module _ {A : Type 0} (R : A → A → Ordering → Type 0) where
     after = [];
     listed = refl;
     beats_later = All-nil _;
-    replaces = inr (rw p.listed (Any-middle _ p.before best p.after (record { answer = r; may = answer; is_not = is_not })));
+    replaces = inr (rw p.listed (Any-middle _ p.before best p.after (r, answer, is_not)));
     greatest = λ compare o.
         (let here : Contains xs best = rw p.listed (Contains-middle p.before best p.after) in
         let i = Contains-append_left xs (next ∷ []) best here in

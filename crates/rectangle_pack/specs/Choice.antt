@@ -12,12 +12,6 @@ pub record IsFunction (MayRate : Size → ℕ → Type 0) : Type 0 where
   pub only : (size : Size) (answer : ℕ) → MayRate size answer → answer ≡ rate size
 
 module _ {A : Type 0} (MayAnswer : A → A → Ordering → Type 0) where
-  -- the comparison may answer something else than `Greater` on best and next
-  pub record MayLose (best next : A) : Type 0 where
-    pub answer : Ordering
-    pub may : MayAnswer best next answer
-    pub is_not : answer ≢ Greater
-
   -- on any two elements there is at most one answer, swapped arguments give the reversed one, and "not Greater" is transitive
   pub record IsTotalPreorder : Type 0 where
     pub compare : A → A → Ordering
@@ -40,7 +34,7 @@ module _ {A : Type 0} (MayAnswer : A → A → Ordering → Type 0) where
     pub after : List A
     pub listed : xs ≡ before ++ chosen ∷ after
     pub beats_later : All (λ later. MayAnswer chosen later Greater) after
-    pub replaces : (before ≡ []) ⊎ Any (λ earlier. MayLose earlier chosen) before
+    pub replaces : (before ≡ []) ⊎ Any (λ earlier. (r : Ordering) × MayAnswer earlier chosen r × (r ≢ Greater)) before
     pub greatest : (compare : A → A → Ordering) → IsTotalPreorderOn xs compare → All (λ other. compare other chosen ≢ Greater) xs
 
 -- the pieces are those of a cut that the comparison allows
