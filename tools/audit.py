@@ -9,6 +9,8 @@ audit.py --check: fails where docs/HEADLINE.md is not what `audit.py --headline`
 
 A call rests on the definitions in specs/ that its contract names, that name how the types of its signature are seen (`Value`
 and `view` of their models), and that these name. This reads the sources, and starts nothing. Lines are counted without comments."""
+import contextlib
+import io
 import pathlib
 import re
 import sys
@@ -67,7 +69,7 @@ REST = (
     "The clause `promise` of `Session::run` says `IsRunAnswer`: one reply for each command, and `KeepsPromise` of each command, "
     "its reply and the states before and after it. The field `done` of `KeepsPromise` says what each command does. Where no "
     "command was done, the clause `always` of `run` says the same of cells and cuts. The caller sees to it that clones of ids "
-    "equal their originals, and that the closures may be asked of every size; of their answers only `rate` and `prefer` are "
+    "equal their originals, and that the closures may be asked about every size; of their answers only `rate` and `prefer` are "
     "used. The calls `add_bin`, `pack`, `release`, `coalesce` and `coalesce_all`, made one by one, each say the transition of "
     "their command and `always`, and `pack` says `PacksAsPromised` as its clause `promise`. What is left of the definitions:",
 )
@@ -393,9 +395,6 @@ def print_headline(specs, library):
 
 def printed(what, *args):
     """What a function prints."""
-    import contextlib
-    import io
-
     out = io.StringIO()
     with contextlib.redirect_stdout(out):
         what(*args)

@@ -14,7 +14,7 @@ RateCalls H = Shared H (Size × Unit {0}) ℕ
 abbrev pub CompareCalls : Type 0 → Type 0 → Type 1
 CompareCalls C H = Shared C (List Size × (List Size × (Bor H × Unit {0}))) Ordering
 
--- the heuristic may be asked of each size of 32 bits
+-- the heuristic may be asked about each size of 32 bits
 abbrev pub CanRate : {H : Type 0} → RateCalls H → H → Type 0
 CanRate g heuristic = (size : Size) → IsU32 size → g.pre heuristic (size, tt)
 
@@ -23,13 +23,13 @@ pub record AreThreeSizes (sizes : List Size) : Type 0 where
   pub three : length sizes ≡ 3
   pub small : All IsU32 sizes
 
--- the comparison may be asked of each two triples of sizes of 32 bits, with this heuristic beside them
+-- the comparison may be asked about each two triples of sizes of 32 bits, with this heuristic beside them
 abbrev pub CanCompare : {C H : Type 0} → CompareCalls C H → C → H → Type 0
 CanCompare {C} {H} g comparison heuristic =
     (first second : List Size) (shown : Bor H) → AreThreeSizes first → AreThreeSizes second → shown.now ≡ heuristic
     → g.pre comparison (first, (second, (shown, tt)))
 
--- the heuristic may be asked of each size of 32 bits, and the comparison of each two triples of them
+-- the heuristic may be asked about each size of 32 bits, and the comparison about each two triples of them
 pub record AreCallable {C H : Type 0} (rates : RateCalls H) (compares : CompareCalls C H) (heuristic : H) (comparison : C) : Type 0 where
   pub rate : CanRate rates heuristic
   pub compare : CanCompare compares comparison heuristic

@@ -1,7 +1,8 @@
 //! Bins and their free sections.
-ghost use Rattle.std.specs.Prelude.{◌≡◌, ◌+◌, ◌≤◌, ◌<◌, ◌++◌, ◌∷◌, [], IfOk, OnOk, OnErr, IfNone, IfSome, IsOk, IsTrue, true, ◌↔◌, length, remove, filter, All};
+ghost use Rattle.std.specs.Prelude.{◌≡◌, ◌+◌, ◌≤◌, ◌<◌, ◌++◌, ◌∷◌, [], Err, IfOk, OnOk, OnErr, IfNone, IfSome, IsOk, IsTrue, true, ◌↔◌, length, remove, filter, All};
 ghost use Rattle.std.specs.Vec.{vec_capacity};
-ghost use Rattle.rectangle_pack.specs.Boxes.{Cell, AreApart, has_cells};
+ghost use Rattle.rectangle_pack.specs.Boxes.{Cell, Cuboid, AreApart, has_cells};
+ghost use Rattle.rectangle_pack.specs.declared.target_bin.PushBinSectionError.TheVariants.{OutOfMemory};
 ghost use Rattle.rectangle_pack.specs.Closures.{AreCallable, answers};
 ghost use Rattle.rectangle_pack.specs.Pushes.{IsPushAnswer};
 ghost use Rattle.rectangle_pack.specs.Bins.{new_bin, IsSound, IsAccepted};
@@ -191,7 +192,8 @@ impl<A: Allocator + Copy> TargetBin<A> {
     }
 
     /// Gives a section back: puts it at the end of the list where the bin accepts it. An error
-    /// leaves the bin as it was; an empty section inside the bin is accepted.
+    /// leaves the bin as it was, and is want of memory only where the list has no room for one more;
+    /// an empty section inside the bin is accepted.
     ///
     /// ```
     /// let mut bin = TargetBin::new(alloc, 10, 10, 1)?;
@@ -217,7 +219,9 @@ impl<A: Allocator + Copy> TargetBin<A> {
         &mut self,
         bin_section: BinSection,
     ) -> Result<(), PushBinSectionError>
-        ensures { IsPushAnswer self.old.bin bin_section result self.new.bin }
+        ensures answer { IsPushAnswer self.old.bin bin_section result self.new.bin }
+        ensures full { (refused : Cuboid) → result ≡ Err (OutOfMemory refused) →
+            self.old.room ≤ length self.old.bin.sections }
     {
         if !bin_section.is_inside(&self.max_size) {
             return Err(PushBinSectionError::OutOfBounds(bin_section));

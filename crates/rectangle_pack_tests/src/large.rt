@@ -23,14 +23,15 @@ fn push_cells(rects: &mut Rects) -> Result<(), AllocError> {
     Ok(())
 }
 
-// Whether each of fifty boxes is in the bin of its own number.
-fn are_in_turn(placements: &[Placement<u32, u32>]) -> bool {
-    for (number, placed) in (0..COUNT).zip(placements.iter()) {
-        if placed.id != number || placed.bin != number {
+// Whether so many boxes are placed in the order of their numbers, each in the bin of its number, but
+// those of greater numbers in the last bin.
+fn are_in_turn(placements: &[Placement<u32, u32>], count: u32, last: u32) -> bool {
+    for (number, placed) in (0..count).zip(placements.iter()) {
+        if placed.id != number || placed.bin != number.min(last) {
             return false;
         }
     }
-    placements.len() == 50
+    placements.len() == count as usize
 }
 
 // Each bin holds one cell, and there are as many boxes of one cell.
@@ -41,7 +42,7 @@ fn fifty_bins(rt: HostRuntime) -> Result<(), Fail> {
     push_cells(&mut rects)?;
     add_cells(rt.alloc(), &mut bins)?;
     let packed = pack(rt.alloc(), &rects, &mut bins)?;
-    assert!(rt; are_in_turn(packed.placements()));
+    assert!(rt; are_in_turn(packed.placements(), COUNT, COUNT));
     Ok(())
 }
 
@@ -68,17 +69,7 @@ fn are_excluded(rects: &Rects) -> bool {
     (1..=COUNT).all(|id| rects.excluded(&Group::Grouped(id), &Group::Grouped(0)))
 }
 
-// Whether the box 0 is in bin 0, and each of fifty others in bin 1.
-fn are_apart(placements: &[Placement<u32, u32>]) -> bool {
-    for (number, placed) in (0..=COUNT).zip(placements.iter()) {
-        if placed.id != number || placed.bin != number.min(1) {
-            return false;
-        }
-    }
-    placements.len() == 51
-}
-
-// Either bin has room for all.
+// Either bin has room for all, and box 0 alone is in the first.
 #[test]
 fn fifty_pairs(rt: HostRuntime) -> Result<(), Fail> {
     let mut rects = Rects::new(rt.alloc());
@@ -88,7 +79,7 @@ fn fifty_pairs(rt: HostRuntime) -> Result<(), Fail> {
     bins.insert(0, TargetBin::new(rt.alloc(), 52, 1, 1)?)?;
     bins.insert(1, TargetBin::new(rt.alloc(), 53, 1, 1)?)?;
     let packed = pack(rt.alloc(), &rects, &mut bins)?;
-    assert!(rt; are_apart(packed.placements()));
+    assert!(rt; are_in_turn(packed.placements(), COUNT + 1, 1));
     Ok(())
 }
 

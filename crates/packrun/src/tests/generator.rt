@@ -13,8 +13,8 @@ use std::str;
 // Each round adds two bins 6x6x6 and packs at most three entries of sides up to 2, so no packing is
 // refused. A box of sides up to 2 leaves of the section that it is put into a piece that is as large
 // on two axes, and smaller by at most 2 on the third; so a new bin takes three such boxes in a row.
-// And a group that the pairs keep out of one of the new bins may go into the other: of the groups 1,
-// 2 and 3 the pairs keep but 2 apart from the others, which go into the first bin that takes them.
+// The pairs keep group 2 apart from the groups 1 and 3, and no other groups. These two go into the
+// first bin that takes them, so of the new bins they need one, and the other is left for group 2.
 const CUBES: &str = "bin 1* 6 6 6\nbin 2* 6 6 6\n";
 
 // At most two entries.

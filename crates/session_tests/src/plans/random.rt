@@ -90,17 +90,22 @@ fn holds(section: &BinSection, rect: &RectToInsert) -> bool {
     rect.width() <= size.width() && rect.height() <= size.height() && rect.depth() <= size.depth()
 }
 
-// Whether a free section of a bin holds one of these boxes.
+// Whether a free section of the bin holds one of these boxes.
+fn holds_one(bin: &TargetBin, rects: &Rects) -> bool {
+    for rect in rects.rects().values() {
+        let mut sections = bin.available_bin_sections().iter();
+        if sections.any(|section| holds(section, rect)) {
+            return true;
+        }
+    }
+    false
+}
+
+// Whether a free section of some bin does.
 fn hold_one(session: &Numbered, rects: &Rects) -> bool {
     for bin in session.bins().values() {
-        for rect in rects.rects().values() {
-            if bin
-                .available_bin_sections()
-                .iter()
-                .any(|section| holds(section, rect))
-            {
-                return true;
-            }
+        if holds_one(bin, rects) {
+            return true;
         }
     }
     false
