@@ -19,7 +19,7 @@ IsSound-push bin s sound accepted = record {
   apart = all_pairs_push AreApart bin.sections s sound.apart accepted.apart;
 }
 
-AllPairs-append : {X : Type 0} (R : X → X → Type 0) (xs ys : List X) → AllPairs R xs → AllPairs R ys → All (λ y. All (λ x. R x y) xs) ys → AllPairs R (xs ++ ys)
+pub AllPairs-append : {X : Type 0} (R : X → X → Type 0) (xs ys : List X) → AllPairs R xs → AllPairs R ys → All (λ y. All (λ x. R x y) xs) ys → AllPairs R (xs ++ ys)
 AllPairs-append R [] ys p q across = q
 AllPairs-append R (x ∷ xs) ys p q across =
     AllPairs-cons R x (xs ++ ys)

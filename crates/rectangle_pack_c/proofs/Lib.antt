@@ -1,0 +1,6 @@
+pub mod OrderLemmas
+pub mod WholeLemmas
+pub mod CollectedLemmas
+pub mod LoopLemmas
+pub mod PlacedLemmas
+pub mod AnswerLemmas

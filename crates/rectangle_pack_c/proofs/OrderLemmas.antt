@@ -1,0 +1,68 @@
+-- Orders of numbers and of groups, where equal is the same.
+use Rattle.std.proofs.Common.{◌≡◌, ◌≢◌, ℕ, ◌<◌, ◌⊎◌, inl, inr, Bool, true, false, refl, ap, sym}
+use Rattle.std.specs.declared.cmp.Ordering.{Ordering}
+use Rattle.std.specs.declared.cmp.Ordering.TheVariants.{Less, Equal, Greater}
+use Rattle.std.specs.Cmp.{IsTotalOrder, Equal-is, nat_cmp_is}
+use Rattle.std.specs.Ordering.{nat_cmp, is_eq}
+use Rattle.std.proofs.lemmas.Cmp.{nat_cmp_total}
+use Rattle.std.proofs.lemmas.Map.Lookups.{exact_unsigned}
+use mathlib.Core.Path.{fun_ext}
+use Rattle.rectangle_pack.specs.declared.grouped_rects_to_place.Group.{Group}
+use Rattle.rectangle_pack.specs.declared.grouped_rects_to_place.Group.TheVariants.{Ungrouped, Grouped}
+use Rattle.rectangle_pack.proofs.GroupOrderLemmas.{groups_total}
+use Rattle.rectangle_pack_c.specs.Arguments.{group_order}
+
+pub nat_greater : (a b : ℕ) → b < a → nat_cmp a b ≡ Greater
+nat_greater a b h = sym (nat_cmp_is a b Greater h)
+
+pub nat_same : (a : ℕ) → is_eq (nat_cmp a a) ≡ true
+nat_same a = ap is_eq (sym (nat_cmp_is a a Equal refl))
+
+pub nat_other : (a b : ℕ) → a ≢ b → is_eq (nat_cmp a b) ≡ false
+nat_other a b h = by (nat_cmp a b) refl
+  where
+    by : (r : Ordering) → nat_cmp a b ≡ r → is_eq r ≡ false
+    by Less e = refl
+    by Equal e = absurd (h (exact_unsigned a b e))
+    by Greater e = refl
+
+pub same_or_other : (a b : ℕ) → (a ≡ b) ⊎ (a ≢ b)
+same_or_other a b = by (is_eq (nat_cmp a b)) refl
+  where
+    by : (t : Bool) → is_eq (nat_cmp a b) ≡ t → (a ≡ b) ⊎ (a ≢ b)
+    by true e = inl (exact_unsigned a b ((Equal-is _).0 e))
+    by false e = inr (λ same. absurd (let yes : is_eq (nat_cmp a b) ≡ true = rw same (nat_same b) in cc))
+
+pub group_order_total : IsTotalOrder group_order
+group_order_total = groups_total group_order nat_cmp nat_cmp nat_cmp_total nat_cmp_total (λ a b. refl) (λ a b. refl) (λ a b. refl) (λ a b. refl)
+
+-- groups that compare equal are the same
+pub exact_group : (a b : Group ℕ ℕ) → is_eq (group_order a b) ≡ true → a ≡ b
+exact_group (Ungrouped a) (Ungrouped b) e = ap (λ n. Ungrouped n) (exact_unsigned a b ((Equal-is _).0 e))
+exact_group (Ungrouped a) (Grouped b) e = absurd cc
+exact_group (Grouped a) (Ungrouped b) e = absurd cc
+exact_group (Grouped a) (Grouped b) e = ap (λ n. Grouped n) (exact_unsigned a b ((Equal-is _).0 e))
+
+pub group_same : (a : Group ℕ ℕ) → is_eq (group_order a a) ≡ true
+group_same (Ungrouped a) = nat_same a
+group_same (Grouped a) = nat_same a
+
+pub group_swap : (a b : Group ℕ ℕ) → is_eq (group_order a b) ≡ is_eq (group_order b a)
+group_swap a b = by (is_eq (group_order a b)) (is_eq (group_order b a)) refl refl
+  where
+    by : (s t : Bool) → is_eq (group_order a b) ≡ s → is_eq (group_order b a) ≡ t → s ≡ t
+    by true true e f = refl
+    by true false e f = absurd (let yes : is_eq (group_order b a) ≡ true = rw (exact_group a b e) (group_same b) in cc)
+    by false true e f = absurd (let yes : is_eq (group_order a b) ≡ true = rw (exact_group b a f) (group_same a) in cc)
+    by false false e f = refl
+
+-- an order that compares groups so is this one
+pub same_order : (R : Group ℕ ℕ → Group ℕ ℕ → Ordering) → ((a b : ℕ) → R (Ungrouped a) (Ungrouped b) ≡ nat_cmp a b) → ((a b : ℕ) → R (Ungrouped a) (Grouped b) ≡ Less)
+    → ((a b : ℕ) → R (Grouped a) (Ungrouped b) ≡ Greater) → ((a b : ℕ) → R (Grouped a) (Grouped b) ≡ nat_cmp a b) → R ≡ group_order
+same_order R alone before behind named = fun_ext (λ a. fun_ext (λ b. at a b))
+  where
+    at : (a b : Group ℕ ℕ) → R a b ≡ group_order a b
+    at (Ungrouped a) (Ungrouped b) = alone a b
+    at (Ungrouped a) (Grouped b) = before a b
+    at (Grouped a) (Ungrouped b) = behind a b
+    at (Grouped a) (Grouped b) = named a b

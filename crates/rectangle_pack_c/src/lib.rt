@@ -1,0 +1,150 @@
+//! The packer for C: lists of bins and of boxes in, a list of placements out.
+#![tactic(auto)]
+
+ghost use Rattle.std.specs.Prelude.{◌≡◌, ◌<◌, ◌≤◌, ◌^◌, ◌↔◌, ◌≢◌, [], IfOk, List, length, All, AllPairs};
+ghost use Rattle.rectangle_pack_c.specs.Arguments.{HaveLengths, IsCollected, new_bins};
+ghost use Rattle.rectangle_pack_c.specs.Answers.{ArePlaced, AreWritten, IsPacked, IsRefused};
+
+#[cfg(test)]
+mod tests;
+
+use rectangle_pack::{
+    GroupedRectsToPlace, Outstanding, RectToInsert, Session, SessionError, contains_smallest_box,
+    volume_heuristic,
+};
+use std::alloc::{AllocError, Global};
+
+/// A bin, by its size in cells.
+#[repr(C)]
+#[derive(Clone, Copy)]
+pub struct RpBin {
+    pub width: u32,
+    pub height: u32,
+    pub depth: u32,
+}
+
+/// A box, by its size in cells. Boxes of one group above 0 go into one bin; in group 0 each is
+/// alone.
+#[repr(C)]
+#[derive(Clone, Copy)]
+pub struct RpBox {
+    pub width: u32,
+    pub height: u32,
+    pub depth: u32,
+    pub group: u32,
+}
+
+/// Where a box stands: the index of its bin, and its corner there.
+#[repr(C)]
+#[derive(Clone, Copy)]
+pub struct RpPlacement {
+    pub bin: u32,
+    pub x: u32,
+    pub y: u32,
+    pub z: u32,
+}
+
+/// Each box has its placement.
+pub const RP_DONE: u32 = 0;
+/// For some group each bin is too full, as the groups before it left the bins.
+pub const RP_NOT_ENOUGH_SPACE: u32 = 1;
+/// Memory was refused.
+pub const RP_OUT_OF_MEMORY: u32 = 2;
+/// There are not as many placements as boxes, or there are 2^32 bins or boxes.
+pub const RP_BAD_LENGTHS: u32 = 3;
+
+// As many bins or boxes have no index of 32 bits.
+const LIMIT: usize = 0x1_0000_0000;
+
+/// Packs all boxes into the bins: placement i is where box i stands. What is answered is the
+/// status; but for `RP_DONE` no placement is written.
+#[unsafe(no_mangle)]
+pub extern "C" fn rectangle_pack_boxes(
+    alloc: Global,
+    bins: &[RpBin],
+    boxes: &[RpBox],
+    placements: &mut [RpPlacement],
+) -> u32
+    ensures status { result ≤ RP_BAD_LENGTHS }
+    ensures lengths { (result ≢ RP_BAD_LENGTHS) ↔
+        HaveLengths bins.now boxes.now placements.old }
+    ensures unchanged { result ≢ RP_DONE → placements.new ≡ placements.old }
+    ensures done { result ≡ RP_DONE → ArePlaced bins.now boxes.now placements.new }
+    ensures packed { result ≡ RP_DONE → IsPacked bins.now boxes.now placements.new }
+    ensures one_packing { result ≡ RP_DONE → (others : List RpPlacement) →
+        IsPacked bins.now boxes.now others → others ≡ placements.new }
+    ensures never_refused { result ≡ RP_DONE → IsRefused bins.now boxes.now → ⊥ }
+    ensures refused { result ≡ RP_NOT_ENOUGH_SPACE → IsRefused bins.now boxes.now }
+    ensures never_packed { result ≡ RP_NOT_ENOUGH_SPACE → (others : List RpPlacement) →
+        IsPacked bins.now boxes.now others → ⊥ }
+{
+    if placements.len() != boxes.len() || boxes.len() >= LIMIT || bins.len() >= LIMIT {
+        return RP_BAD_LENGTHS;
+    }
+    let Ok(mut session) = session_of(alloc, bins) else {
+        return RP_OUT_OF_MEMORY;
+    };
+    let Ok(rects) = collection_of(alloc, boxes) else {
+        return RP_OUT_OF_MEMORY;
+    };
+    match session.pack(&rects, &volume_heuristic, &contains_smallest_box) {
+        Ok(_) => {
+            write_all(session.outstanding(), placements);
+            RP_DONE
+        }
+        Err(SessionError::NotEnoughBinSpace) => RP_NOT_ENOUGH_SPACE,
+        Err(_) => RP_OUT_OF_MEMORY,
+    }
+}
+
+// A session with these bins, each under its index.
+fn session_of(alloc: Global, bins: &[RpBin]) -> Result<Session<u32, u32>, SessionError>
+    requires { length bins.now < LIMIT }
+    ensures { IfOk result
+        (λ s. s ≡ record { bins = new_bins bins.now; records = []; next = 0 }) }
+{
+    let mut session = Session::new(alloc, 0);
+    for (i, bin) in bins.iter().enumerate() {
+        session.add_bin(i as u32, bin.width, bin.height, bin.depth)?;
+    }
+    Ok(session)
+}
+
+// The boxes, each under its index.
+fn collection_of(
+    alloc: Global,
+    boxes: &[RpBox],
+) -> Result<GroupedRectsToPlace<u32, u32>, AllocError>
+    requires { length boxes.now < LIMIT }
+    ensures { IfOk result (λ all. IsCollected boxes.now all) }
+{
+    let mut rects = GroupedRectsToPlace::new(alloc);
+    for (i, rect) in boxes.iter().enumerate() {
+        let size = RectToInsert::new(rect.width, rect.height, rect.depth);
+        let groups = if rect.group == 0 {
+            None
+        } else {
+            Some(vec![in alloc; rect.group]?)
+        };
+        rects.push_rect(i as u32, groups, size)?;
+        // For the proof: the groups are asked for that they ascend.
+        let _ascend = rects.groups();
+    }
+    Ok(rects)
+}
+
+// Writes each record at the index of its box.
+fn write_all(records: &[Outstanding<u32, u32>], placements: &mut [RpPlacement])
+    requires within { All (λ r. r.id < length placements.old) records.now }
+    requires once { AllPairs (λ r s. r.id ≢ s.id) records.now }
+    ensures { AreWritten records.now placements.new }
+{
+    for record in records {
+        placements[record.id as usize] = RpPlacement {
+            bin: record.bin,
+            x: record.location.x(),
+            y: record.location.y(),
+            z: record.location.z(),
+        };
+    }
+}
