@@ -1,0 +1,28 @@
+#!/usr/bin/env bash
+# Proves and builds the C library: build/rectangle_pack.h, build/librectangle_pack.a and build/librectangle_pack.so.
+set -euo pipefail
+
+root=$(dirname "$(dirname "$(readlink -f "${BASH_SOURCE[0]}")")")
+heap=$(dirname "$(rt doc)")/c/liblibc_c.a
+build=$root/build
+: "${CC:=cc}"
+
+(cd "$root/crates/rectangle_pack_c" && rt lib "$@" >&2)
+
+mkdir -p "$build"
+cp "$root/include/rectangle_pack.h" "$build/"
+
+# One archive of the library and of what takes its memory from malloc.
+rm -f "$build/librectangle_pack.a"
+ar -M <<END
+create $build/librectangle_pack.a
+addlib $root/crates/rectangle_pack_c/out/librectangle_pack_c.a
+addlib $heap
+save
+end
+END
+
+# Only the call is exported.
+$CC -shared -o "$build/librectangle_pack.so" \
+    -Wl,--whole-archive "$build/librectangle_pack.a" -Wl,--no-whole-archive \
+    -Wl,--version-script=/dev/stdin <<<'{ global: rectangle_pack_boxes; local: *; };'
