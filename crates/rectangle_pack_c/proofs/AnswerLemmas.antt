@@ -35,7 +35,8 @@ use Rattle.rectangle_pack_c.specs.declared.RpBin.{RpBin}
 use Rattle.rectangle_pack_c.specs.declared.RpBox.{RpBox}
 use Rattle.rectangle_pack_c.specs.declared.RpPlacement.{RpPlacement}
 use Rattle.rectangle_pack_c.specs.Arguments.{new_bins, group_order, IsCollected}
-use Rattle.rectangle_pack_c.specs.Answers.{ArePlaced, IsPacked, IsRefused, AreWritten, IsVolume, corner_of, by_volume}
+use Rattle.rectangle_pack_c.specs.Answers.{ArePlaced, IsPacked, IsRefused, IsVolume, corner_of, by_volume}
+use Rattle.rectangle_pack_c.specs.private.Written.{AreWritten}
 use Rattle.rectangle_pack_c.proofs.OrderLemmas.{group_order_total}
 use Rattle.rectangle_pack_c.proofs.WholeLemmas.{zip_itself, zip_right}
 use Rattle.rectangle_pack_c.proofs.CollectedLemmas.{collected_alike}

@@ -1,5 +1,5 @@
 -- One step of each loop.
-use Rattle.std.proofs.Common.{◌≡◌, ◌≢◌, ℕ, ◌+◌, ◌<◌, List, [], ◌∷◌, ◌++◌, length, get_or, take, refl, ap, sym, ◌∙◌, arith, below_more, subst, ◌==◌, false}
+use Rattle.std.proofs.Common.{◌≡◌, ◌≢◌, ℕ, ◌+◌, ◌<◌, List, [], ◌∷◌, ◌++◌, length, get_or, take, ap, sym, ◌∙◌, arith, below_more, subst, ◌==◌, false}
 use Rattle.std.specs.Prelude.{AllPairs, map, Some, slice_get}
 use Rattle.std.specs.List.{enumerate_from}
 use Rattle.std.specs.List.Sorted.{IsStrictlySortedBy}
@@ -24,7 +24,7 @@ use Rattle.rectangle_pack_c.specs.declared.RpBin.{RpBin}
 use Rattle.rectangle_pack_c.specs.declared.RpBox.{RpBox}
 use Rattle.rectangle_pack_c.specs.declared.RpPlacement.{RpPlacement}
 use Rattle.rectangle_pack_c.specs.Arguments.{bin_size, box_size, new_bins, group_order, IsCollected}
-use Rattle.rectangle_pack_c.specs.Answers.{placement_of}
+use Rattle.rectangle_pack_c.specs.private.Written.{placement_of}
 use Rattle.rectangle_pack_c.proofs.CollectedLemmas.{insert_last, Pushes, collected_more}
 
 -- one more bin
@@ -43,10 +43,6 @@ pub boxes_more : (boxes : List RpBox) (i : ℕ) (b : RpBox) (old new : Collectio
 boxes_more boxes i b old new within is h p up =
     let long : i ≡ length (take i boxes) = omega (arith, length-take i boxes) in
     rw (take_more boxes i b within, is) (collected_more (take i boxes) b old new h (subst (λ n. Pushes n b old new) long p) up)
-
-pub boxes_none : IsCollected [] (record { sizes = []; groups = []; partners = [] })
-unfolding IsStrictlySortedBy
-boxes_none = record { sizes = refl; groups = λ group. refl; ascend = tt; partners = refl }
 
 -- one more record
 pub written_more : (records : List (Outstanding ℕ ℕ)) (placements : List RpPlacement) (i : ℕ) (r : Outstanding ℕ ℕ) → i < length records → r ≡ get_or records i r → r.id < length placements

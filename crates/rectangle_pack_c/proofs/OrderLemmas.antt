@@ -1,5 +1,5 @@
 -- Orders of numbers and of groups, where equal is the same.
-use Rattle.std.proofs.Common.{◌≡◌, ◌≢◌, ℕ, ◌<◌, ◌⊎◌, inl, inr, Bool, true, false, refl, ap, sym}
+use Rattle.std.proofs.Common.{◌≡◌, ◌≢◌, ℕ, ◌<◌, Bool, true, false, refl, ap, sym}
 use Rattle.std.specs.declared.cmp.Ordering.{Ordering}
 use Rattle.std.specs.declared.cmp.Ordering.TheVariants.{Less, Equal, Greater}
 use Rattle.std.specs.Cmp.{IsTotalOrder, Equal-is, nat_cmp_is}
@@ -25,13 +25,6 @@ nat_other a b h = by (nat_cmp a b) refl
     by Less e = refl
     by Equal e = absurd (h (exact_unsigned a b e))
     by Greater e = refl
-
-pub same_or_other : (a b : ℕ) → (a ≡ b) ⊎ (a ≢ b)
-same_or_other a b = by (is_eq (nat_cmp a b)) refl
-  where
-    by : (t : Bool) → is_eq (nat_cmp a b) ≡ t → (a ≡ b) ⊎ (a ≢ b)
-    by true e = inl (exact_unsigned a b ((Equal-is _).0 e))
-    by false e = inr (λ same. absurd (let yes : is_eq (nat_cmp a b) ≡ true = rw same (nat_same b) in cc))
 
 pub group_order_total : IsTotalOrder group_order
 group_order_total = groups_total group_order nat_cmp nat_cmp nat_cmp_total nat_cmp_total (λ a b. refl) (λ a b. refl) (λ a b. refl) (λ a b. refl)

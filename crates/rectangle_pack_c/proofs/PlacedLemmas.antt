@@ -36,7 +36,8 @@ use Rattle.rectangle_pack_c.specs.declared.RpBin.{RpBin}
 use Rattle.rectangle_pack_c.specs.declared.RpBox.{RpBox}
 use Rattle.rectangle_pack_c.specs.declared.RpPlacement.{RpPlacement}
 use Rattle.rectangle_pack_c.specs.Arguments.{bin_size, box_size, new_bins, group_order, group_of, IsCollected}
-use Rattle.rectangle_pack_c.specs.Answers.{box_at, corner_of, Stands, ArePlaced, placement_of}
+use Rattle.rectangle_pack_c.specs.Answers.{box_at, corner_of, Stands, ArePlaced}
+use Rattle.rectangle_pack_c.specs.private.Written.{placement_of}
 use Rattle.rectangle_pack_c.proofs.OrderLemmas.{nat_same, group_order_total}
 use Rattle.rectangle_pack_c.proofs.CollectedLemmas.{lookup_numbered, AreHeld, collected_held}
 use Rattle.rectangle_pack_c.proofs.WholeLemmas.{none_in, in_cases, in_kept, pairs_none, homed, placed_for, placed_once, one_home, home_of_key, key_listed}

@@ -16,6 +16,7 @@ use Rattle.rectangle_pack.specs.Boxes.{Size}
 use Rattle.rectangle_pack.specs.Placed.{ArePlacedWhole}
 use Rattle.rectangle_pack.proofs.BinsLemmas.{AllPairs-append}
 use Rattle.rectangle_pack.proofs.CountingLemmas.{AllPairs-head, AllPairs-tail}
+use Rattle.rectangle_pack.proofs.OneOrderLemmas.{AllZip-back}
 use Rattle.rectangle_pack_c.specs.Arguments.{group_order}
 use Rattle.rectangle_pack_c.proofs.OrderLemmas.{exact_group, group_same}
 
@@ -34,10 +35,10 @@ in_cases x xs y h = by (Contains-append_cases (x ∷ []) xs y h)
     by (inl one) = inl (one_in x y one)
     by (inr more) = inr more
 
-pub in_first : {X : Type 0} (x : X) (xs : List X) (y : X) → x ≡ y → Contains (x ∷ xs) y
+in_first : {X : Type 0} (x : X) (xs : List X) (y : X) → x ≡ y → Contains (x ∷ xs) y
 in_first x xs y e = (0, omega arith, e)
 
-pub in_later : {X : Type 0} (x : X) (xs : List X) (y : X) → Contains xs y → Contains (x ∷ xs) y
+in_later : {X : Type 0} (x : X) (xs : List X) (y : X) → Contains xs y → Contains (x ∷ xs) y
 in_later x xs y h = Contains-append_right (x ∷ []) xs y h
 
 in_map : {X Y : Type 0} (f : X → Y) (xs : List X) (x : X) → Contains xs x → Contains (map f xs) (f x)
@@ -68,14 +69,7 @@ zip_left {X} R (x ∷ xs) (z ∷ ys) h y c = by (in_cases z ys y c) (zip_left R 
     by (inr more) ih = let (w, inside, r) = ih more in (w, in_later x xs w inside, r)
 
 pub zip_right : {X Y : Type 0} (R : X → Y → Type 0) (xs : List X) (ys : List Y) → AllZip R xs ys → (x : X) → Contains xs x → (y : Y) × Contains ys y × R x y
-zip_right R [] [] h x c = absurd (none_in x c)
-zip_right R [] (y ∷ ys) h x c = absurd h
-zip_right R (z ∷ xs) [] h x c = absurd h
-zip_right {X} {Y} R (z ∷ xs) (y ∷ ys) h x c = by (in_cases z xs x c) (zip_right R xs ys h.1 x)
-  where
-    by : (z ≡ x) ⊎ Contains xs x → (Contains xs x → (y : Y) × Contains ys y × R x y) → (w : Y) × Contains (y ∷ ys) w × R x w
-    by (inl e) ih = (y, in_first y ys y refl, rw (← e) h.0)
-    by (inr more) ih = let (w, inside, r) = ih more in (w, in_later y ys w inside, r)
+zip_right R xs ys h x c = zip_left (λ y x. R x y) ys xs (AllZip-back R (λ y x. R x y) (λ x y r. r) xs ys h) x c
 
 pub zip_itself : {X : Type 0} (R : X → X → Type 0) → ((x : X) → R x x) → (xs : List X) → AllZip R xs xs
 zip_itself R same [] = tt

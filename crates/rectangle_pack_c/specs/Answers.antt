@@ -1,7 +1,6 @@
 -- What a packing answers.
 use Rattle.std.specs.Prelude.{◌≡◌, ◌≢◌, ℕ, ◌<◌, List, length, All, Some, IsSomeAnd, slice_get}
 use Rattle.std.specs.Ordering.{nat_cmp}
-use Rattle.rectangle_pack.specs.declared.session.command.Outstanding.{Outstanding}
 use Rattle.rectangle_pack.specs.declared.pack.answer.Placement.{Placement}
 use Rattle.rectangle_pack.specs.Bins.{Bin}
 use Rattle.rectangle_pack.specs.Boxes.{Size, Cuboid, IsInside, AreApart, IsU32, volume_of}
@@ -37,7 +36,7 @@ pub record ArePlaced (bins : List RpBin) (boxes : List RpBox) (placements : List
   pub together : (i j : ℕ) (a b : RpBox) (p q : RpPlacement) → Stands boxes placements i a p → Stands boxes placements j b q
       → 0 < a.group → a.group ≡ b.group → p.bin ≡ q.bin
 
--- the rate of a size is its volume
+-- the size is one of numbers of 32 bits, and the rate is its volume
 abbrev pub IsVolume : Size → ℕ → Type 0
 IsVolume size rate = IsU32 size × (rate ≡ volume_of size)
 
@@ -60,11 +59,3 @@ pub record IsRefused (bins : List RpBin) (boxes : List RpBox) : Type 0 where
   pub all : Collection ℕ ℕ
   pub collected : IsCollected boxes all
   pub refused : NoBinTakes group_order (rules_by nat_cmp nat_cmp by_volume) all (new_bins bins)
-
--- a record as a placement
-abbrev pub placement_of : Outstanding ℕ ℕ → RpPlacement
-placement_of r = corner_of r.bin r.location
-
--- each record stands at the index of its box
-abbrev pub AreWritten : List (Outstanding ℕ ℕ) → List RpPlacement → Type 0
-AreWritten records placements = All (λ r. slice_get placements r.id ≡ Some (placement_of r)) records

@@ -33,7 +33,7 @@ box_size b = record { width = b.width; height = b.height; depth = b.depth }
 abbrev pub new_bins : List RpBin → List (ℕ × Bin)
 new_bins bins = enumerate_from 0 (map (λ b. new_bin (bin_size b)) bins)
 
--- the order of groups: those of one box first, by its id, then the named ones
+-- the order of groups: those of one box first, by its index, then the others, by their numbers
 abbrev pub group_order : Group ℕ ℕ → Group ℕ ℕ → Ordering
 group_order (Ungrouped a) (Ungrouped b) = nat_cmp a b
 group_order (Ungrouped a) (Grouped b) = Less

@@ -1,9 +1,10 @@
 //! The packer for C: lists of bins and of boxes in, a list of placements out.
 #![tactic(auto)]
 
-ghost use Rattle.std.specs.Prelude.{◌≡◌, ◌<◌, ◌≤◌, ◌^◌, ◌↔◌, ◌≢◌, [], IfOk, List, length, All, AllPairs};
+ghost use Rattle.std.specs.Prelude.{◌≡◌, ◌<◌, ◌≤◌, ◌↔◌, ◌≢◌, [], IfOk, List, length, All, AllPairs};
 ghost use Rattle.rectangle_pack_c.specs.Arguments.{HaveLengths, IsCollected, new_bins};
-ghost use Rattle.rectangle_pack_c.specs.Answers.{ArePlaced, AreWritten, IsPacked, IsRefused};
+ghost use Rattle.rectangle_pack_c.specs.Answers.{ArePlaced, IsPacked, IsRefused};
+ghost use Rattle.rectangle_pack_c.specs.private.Written.{AreWritten};
 
 #[cfg(test)]
 mod tests;
@@ -18,8 +19,11 @@ use std::alloc::{AllocError, Global};
 #[repr(C)]
 #[derive(Clone, Copy)]
 pub struct RpBin {
+    /// Its width.
     pub width: u32,
+    /// Its height.
     pub height: u32,
+    /// Its depth, which is 1 in two dimensions.
     pub depth: u32,
 }
 
@@ -28,9 +32,13 @@ pub struct RpBin {
 #[repr(C)]
 #[derive(Clone, Copy)]
 pub struct RpBox {
+    /// Its width.
     pub width: u32,
+    /// Its height.
     pub height: u32,
+    /// Its depth, which is 1 in two dimensions.
     pub depth: u32,
+    /// Its group, or 0.
     pub group: u32,
 }
 
@@ -38,15 +46,19 @@ pub struct RpBox {
 #[repr(C)]
 #[derive(Clone, Copy)]
 pub struct RpPlacement {
+    /// The index of the bin in the list of bins.
     pub bin: u32,
+    /// The distance from the bin's left side, in cells.
     pub x: u32,
+    /// The distance from its bottom.
     pub y: u32,
+    /// The distance from its front.
     pub z: u32,
 }
 
 /// Each box has its placement.
 pub const RP_DONE: u32 = 0;
-/// For some group each bin is too full, as the groups before it left the bins.
+/// For some group no bin takes all of its boxes, as the groups before it left the bins.
 pub const RP_NOT_ENOUGH_SPACE: u32 = 1;
 /// Memory was refused.
 pub const RP_OUT_OF_MEMORY: u32 = 2;
@@ -56,8 +68,10 @@ pub const RP_BAD_LENGTHS: u32 = 3;
 // As many bins or boxes have no index of 32 bits.
 const LIMIT: usize = 0x1_0000_0000;
 
-/// Packs all boxes into the bins: placement i is where box i stands. What is answered is the
-/// status; but for `RP_DONE` no placement is written.
+/// Packs all boxes into the bins: placement i is where box i stands. Groups go in falling order of
+/// the sum of their volumes, each whole into the first bin, by rising volume, that takes it. What
+/// is answered is the status; but for `RP_DONE` no placement is written. Equal bins and boxes get
+/// equal placements.
 #[unsafe(no_mangle)]
 pub extern "C" fn rectangle_pack_boxes(
     alloc: Global,

@@ -1,7 +1,7 @@
 use Rattle.std.proofs.Common.{◌≡◌, ℕ, ◌<◌, get_or}
 use Rattle.std.specs.Prelude.{Some, slice_get}
 use Rattle.rectangle_pack.specs.declared.session.command.Outstanding.{Outstanding}
-use Rattle.rectangle_pack_c.specs.Answers.{placement_of}
+use Rattle.rectangle_pack_c.specs.private.Written.{placement_of}
 use Rattle.rectangle_pack_c.proofs.write_all.Given as goal
 
 abbrev pub invariant-loop-record : goal.invariant-loop-record
