@@ -1,12 +1,18 @@
 #!/usr/bin/env python3
-"""doc_examples.py: each example in a doc comment of the library, and each Rust block of the README, has to stand word
-for word among the tests, in one piece; white space at the start and the end of a line aside. Names those that do not,
-and fails."""
+"""doc_examples.py: each example in a doc comment of the library, and each block of code of the README, has to stand word
+for word among the tests, those in other languages among the tests of the bindings, in one piece; white space at the start
+and the end of a line aside, and the slashes of a doc comment in Rust. Names those that do not, and fails."""
 import pathlib
 import sys
 
 TOP = pathlib.Path(__file__).resolve().parent.parent
 TESTS = TOP / "crates/rectangle_pack_tests/src/example.rt"
+# The README's blocks in other languages, by the fence that opens them, and the tests that have them.
+BINDINGS = {
+    "```c": TOP / "bindings/c/harness.c",
+    "```rust,ignore": TOP / "bindings/rust/src/lib.rs",
+    "```python": TOP / "bindings/python/test_rectangle_pack.py",
+}
 
 
 def doc_lines(path):
@@ -42,15 +48,22 @@ def stands_in(block, lines):
     return any(lines[i : i + size] == block for i in range(len(lines) - size + 1))
 
 
+def lines_of(path):
+    """The lines of a file of tests, without white space at their ends and the slashes of doc comments."""
+    return [line.strip().removeprefix("///").strip() for line in path.read_text().splitlines()]
+
+
 def main():
-    tests = [line.strip() for line in TESTS.read_text().splitlines()]
     readme = TOP / "README.md"
-    found = [(readme, at, b) for at, b in blocks(enumerate(readme.read_text().splitlines(), 1), ["```rust"])]
+    found = [(readme, TESTS, at, b) for at, b in blocks(enumerate(readme.read_text().splitlines(), 1), ["```rust"])]
     for path in sorted((TOP / "crates/rectangle_pack/src").rglob("*.rt")):
-        found += [(path, at, b) for at, b in blocks(doc_lines(path), ["```", "```rust"])]
-    missing = [(path, at) for path, at, block in found if not stands_in(block, tests)]
-    for path, at in missing:
-        print(f"{path.relative_to(TOP)}:{at}: this example is not in {TESTS.relative_to(TOP)}", file=sys.stderr)
+        found += [(path, TESTS, at, b) for at, b in blocks(doc_lines(path), ["```", "```rust"])]
+    for fence, tests in BINDINGS.items():
+        found += [(readme, tests, at, b) for at, b in blocks(enumerate(readme.read_text().splitlines(), 1), [fence])]
+    lines = {tests: lines_of(tests) for tests in {TESTS, *BINDINGS.values()}}
+    missing = [(path, tests, at) for path, tests, at, block in found if not stands_in(block, lines[tests])]
+    for path, tests, at in missing:
+        print(f"{path.relative_to(TOP)}:{at}: this example is not in {tests.relative_to(TOP)}", file=sys.stderr)
     if not found:
         sys.exit("doc_examples.py: there is no example")
     sys.exit(1 if missing else 0)

@@ -135,6 +135,17 @@ static long refuse_each(const rp_bin *bins, const rp_box *boxes, size_t count, u
     return all;
 }
 
+/* The example of the README. */
+static void check_readme(void)
+{
+    rp_placement placements[3];
+    rp_bin sheets[] = {{64, 64, 1}, {128, 128, 1}};
+    rp_box sprites[] = {{10, 20, 1, 1}, {5, 50, 1, 1}, {60, 60, 1, 0}};
+    uint32_t status = rectangle_pack_boxes(sheets, 2, sprites, 3, placements, 3);
+    check(status == RP_DONE, "the example is not packed");
+    check(placements[0].bin == placements[1].bin, "the example's group is in two bins");
+}
+
 int main(void)
 {
     long done = 0, no_space = 0, wants = 0;
@@ -155,6 +166,7 @@ int main(void)
         wants += refuse_each(bins, boxes, count, status, placed);
     }
     check(done > 10 && no_space > 10 && wants > 100, "the drawn boxes show too little");
+    check_readme();
     rp_bin bin = {1, 1, 1};
     rp_box box = {1, 1, 1, 0};
     rp_placement place[2];

@@ -60,6 +60,18 @@ class Pack(unittest.TestCase):
         largest = 2**32 - 1
         self.assertEqual(pack([Bin(largest, largest, largest)], [Box(largest, largest, largest)]), [Placement(0, 0, 0, 0)])
 
+    def test_the_example_of_the_readme(self):
+        from rectangle_pack import Bin, Box, pack
+        sheets, sprites = [Bin(64, 64), Bin(128, 128)], [Box(10, 20, group=1), Box(5, 50, group=1), Box(60, 60)]
+        placements = pack(sheets, sprites)
+        self.assertEqual(placements[0].bin, placements[1].bin)
+
+    def test_the_second_box_of_a_group_by_hand(self):
+        # 10x20 in the corner of 64x64 leaves 54x64 beside it and 10x44 above it, or 54x20 and 64x44: the smallest of these
+        # four is 10x44, so that cut is made. 5x50 is too high for 10x44, the newest, and stands in the corner of 54x64.
+        placed = pack([Bin(64, 64)], [Box(10, 20, group=1), Box(5, 50, group=1)])
+        self.assertEqual(placed, [Placement(0, 0, 0, 0), Placement(0, 10, 0, 0)])
+
     def test_plain_tuples_will_do(self):
         self.assertEqual(pack([(10, 10, 1)], [(4, 10, 1, 0)]), [Placement(0, 0, 0, 0)])
 

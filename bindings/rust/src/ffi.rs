@@ -3,14 +3,14 @@
 use crate::RectanglePackError;
 
 #[repr(C)]
-pub(crate) struct Bin {
+pub(crate) struct RpBin {
     pub(crate) width: u32,
     pub(crate) height: u32,
     pub(crate) depth: u32,
 }
 
 #[repr(C)]
-pub(crate) struct Box {
+pub(crate) struct RpBox {
     pub(crate) width: u32,
     pub(crate) height: u32,
     pub(crate) depth: u32,
@@ -19,7 +19,7 @@ pub(crate) struct Box {
 
 #[repr(C)]
 #[derive(Clone, Copy, Default)]
-pub(crate) struct Placement {
+pub(crate) struct RpPlacement {
     pub(crate) bin: u32,
     pub(crate) x: u32,
     pub(crate) y: u32,
@@ -32,18 +32,18 @@ const OUT_OF_MEMORY: u32 = 2;
 
 extern "C" {
     fn rectangle_pack_boxes(
-        bins: *const Bin,
+        bins: *const RpBin,
         bin_count: usize,
-        boxes: *const Box,
+        boxes: *const RpBox,
         box_count: usize,
-        placements: *mut Placement,
+        placements: *mut RpPlacement,
         placement_count: usize,
     ) -> u32;
 }
 
 /// One placement for each box, in the same place of the list.
-pub(crate) fn pack(bins: &[Bin], boxes: &[Box]) -> Result<Vec<Placement>, RectanglePackError> {
-    let mut placements = vec![Placement::default(); boxes.len()];
+pub(crate) fn pack(bins: &[RpBin], boxes: &[RpBox]) -> Result<Vec<RpPlacement>, RectanglePackError> {
+    let mut placements = vec![RpPlacement::default(); boxes.len()];
     // SAFETY: each pointer is that of a slice, with its length, so it is aligned and not null; the placements are a list of
     // their own, which nobody else reads or writes during the call.
     let status = unsafe {

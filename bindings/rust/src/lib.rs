@@ -28,7 +28,7 @@
 
 mod ffi;
 
-use std::collections::BTreeMap;
+use std::collections::{BTreeMap, BTreeSet};
 use std::error::Error;
 use std::fmt;
 
@@ -74,7 +74,7 @@ impl TargetBin {
 #[derive(Debug, Clone)]
 pub struct GroupedRectsToPlace<RectId, GroupId> {
     sizes: BTreeMap<RectId, RectToInsert>,
-    alone: BTreeMap<RectId, ()>,
+    alone: BTreeSet<RectId>,
     groups: BTreeMap<GroupId, Vec<RectId>>,
 }
 
@@ -83,7 +83,7 @@ impl<RectId: Ord + Clone, GroupId: Ord> GroupedRectsToPlace<RectId, GroupId> {
     pub fn new() -> Self {
         GroupedRectsToPlace {
             sizes: BTreeMap::new(),
-            alone: BTreeMap::new(),
+            alone: BTreeSet::new(),
             groups: BTreeMap::new(),
         }
     }
@@ -97,7 +97,7 @@ impl<RectId: Ord + Clone, GroupId: Ord> GroupedRectsToPlace<RectId, GroupId> {
     pub fn push_rect(&mut self, id: RectId, groups: Option<Vec<GroupId>>, rect: RectToInsert) {
         match groups {
             None => {
-                self.alone.insert(id.clone(), ());
+                self.alone.insert(id.clone());
             }
             Some(groups) => {
                 assert!(!groups.is_empty(), "a box is in no group, or in one or more");
@@ -112,7 +112,7 @@ impl<RectId: Ord + Clone, GroupId: Ord> GroupedRectsToPlace<RectId, GroupId> {
     /// One entry for each box and group that it is in, in the order that the library's ties go by: boxes that are alone by
     /// their ids, then groups by theirs, each with its boxes as they were pushed.
     fn entries(&self) -> Vec<(&RectId, u32)> {
-        let alone = self.alone.keys().map(|id| (id, 0));
+        let alone = self.alone.iter().map(|id| (id, 0));
         let grouped = (1..)
             .zip(self.groups.values())
             .flat_map(|(number, ids)| ids.iter().map(move |id| (id, number)));
@@ -210,6 +210,18 @@ impl fmt::Display for RectanglePackError {
 impl Error for RectanglePackError {}
 
 /// Packs all boxes into the bins, each group whole into one of them. Equal boxes and bins are packed alike, on every machine.
+///
+/// ```
+/// # use std::collections::BTreeMap;
+/// # use rectangle_pack::{pack_rects, GroupedRectsToPlace, RectToInsert, TargetBin};
+/// # let mut rects: GroupedRectsToPlace<&str, &str> = GroupedRectsToPlace::new();
+/// # let mut bins = BTreeMap::new();
+/// rects.push_rect("hat", Some(vec!["sprites"]), RectToInsert::new(10, 20, 1));
+/// bins.insert("small", TargetBin::new(64, 64, 1));
+/// let packed = pack_rects(&rects, &bins)?;
+/// # assert_eq!(packed.packed_locations()["hat"].0, "small");
+/// # Ok::<(), rectangle_pack::RectanglePackError>(())
+/// ```
 pub fn pack_rects<RectId, BinId, GroupId>(
     rects: &GroupedRectsToPlace<RectId, GroupId>,
     bins: &BTreeMap<BinId, TargetBin>,
@@ -224,19 +236,19 @@ where
         return Err(RectanglePackError::TooMany);
     }
     let bin_ids: Vec<&BinId> = bins.keys().collect();
-    let bin_list: Vec<ffi::Bin> = bins
+    let bin_list: Vec<ffi::RpBin> = bins
         .values()
-        .map(|bin| ffi::Bin {
+        .map(|bin| ffi::RpBin {
             width: bin.width,
             height: bin.height,
             depth: bin.depth,
         })
         .collect();
-    let boxes: Vec<ffi::Box> = entries
+    let boxes: Vec<ffi::RpBox> = entries
         .iter()
         .map(|&(id, group)| {
             let size = rects.sizes[id];
-            ffi::Box {
+            ffi::RpBox {
                 width: size.width,
                 height: size.height,
                 depth: size.depth,
