@@ -1,3 +1,4 @@
+pub mod HandleSteps
 pub mod OrderLemmas
 pub mod WholeLemmas
 pub mod CollectedLemmas

@@ -1,3 +1,4 @@
 pub mod Arguments
 pub mod Answers
+pub mod Handle
 pub mod private

@@ -9,6 +9,8 @@ ghost use Rattle.rectangle_pack_c.specs.private.Written.{AreWritten};
 #[cfg(test)]
 mod tests;
 
+mod handle;
+
 use rectangle_pack::{
     GroupedRectsToPlace, Outstanding, RectToInsert, Session, SessionError, contains_smallest_box,
     volume_heuristic,

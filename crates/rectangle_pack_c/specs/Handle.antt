@@ -1,0 +1,24 @@
+-- What the handle of a session owns.
+use Rattle.std.specs.Prelude.{ℕ, Option, None, Some}
+use Rattle.std.specs.declared.alloc.Global.{Global}
+use Rattle.std.specs.contracts.alloc.Global as global
+use Rattle.std.specs.contracts.impls.GlobalAllocator.TheImpl as heap
+use Rattle.std.specs.contracts.prelude.U32Ord.TheImpl as order
+use Rattle.std.specs.contracts.prelude.U32PartialEq.TheImpl as equality
+use Rattle.std.specs.contracts.prelude.U32PartialOrd.TheImpl as partial_order
+use Rattle.std.specs.Box.Ownership.{box_owns}
+use Rattle.rectangle_pack.specs.Session.{State}
+use Rattle.rectangle_pack.specs.contracts.session.Session as session
+use base.Fml.{Fml, feq}
+use denote.Builtin.{u32}
+use denote.RattleType.{RattleType}
+use denote.RawPtr.{Ptr, null_ptr}
+
+-- the sessions of this crate: the ids of their boxes and of their bins are numbers
+abbrev pub session_row : RattleType
+session_row = session.the_row u32 u32 global.the_row order.ghosts equality.ghosts partial_order.ghosts heap.ghosts
+
+-- a handle owns nothing where its pointer is null; else the session that is there, in this state
+abbrev pub holds : Global → Ptr → Option (State ℕ ℕ) → Fml
+holds alloc at None = feq Ptr at null_ptr
+holds alloc at (Some state) = box_owns (heap.ghosts.dealloc_token alloc) session_row at state

@@ -1,0 +1,99 @@
+//! The handle by which C holds a session.
+ghost use Rattle.std.specs.Prelude.{◌≡◌, ℕ, Option, None, Some, IsSome};
+ghost use Rattle.std.specs.Box.Ownership.{box_owns};
+ghost use Rattle.rectangle_pack.specs.Session.{State};
+ghost use Rattle.rectangle_pack_c.specs.Handle.{holds};
+
+use rectangle_pack::Session;
+use std::alloc::{Allocator, Global};
+use std::marker::Model;
+use std::ptr::null_mut;
+
+/// A session, or nothing where the pointer is null.
+#[repr(C)]
+pub struct RpSession {
+    at: *mut u8,
+    alloc: Global,
+    pub ghost state: { Option (State ℕ ℕ) },
+}
+
+impl Model for RpSession {
+    ghost use Rattle.rectangle_pack_c.specs.Handle.{holds};
+
+    ghost also_owns = { λ handle. holds handle.alloc handle.at handle.state };
+}
+
+impl RpSession {
+    // The handle that holds nothing.
+    pub(crate) fn none(alloc: Global) -> Self
+        ensures { result.state ≡ None }
+    {
+        RpSession {
+            at: null_mut(),
+            alloc,
+        }
+    }
+
+    // The handle of a session.
+    pub(crate) fn of(session: Box<Session<u32, u32>>) -> Self
+        ensures { result.state ≡ Some session.value }
+    {
+        RpSession::shut(Unboxed::of(session))
+    }
+
+    // The session of a handle.
+    pub(crate) fn into_box(self) -> Box<Session<u32, u32>>
+        requires { IsSome self.state }
+        ensures { self.state ≡ Some result.value }
+    {
+        self.open().into_box()
+    }
+
+    fn shut(session: Unboxed<Session<u32, u32>, Global>) -> Self
+        ensures { result.state ≡ Some session.value }
+    {
+        let Unboxed { at, alloc } = session;
+        RpSession {
+            at: at as *mut u8,
+            alloc,
+        }
+    }
+
+    fn open(self) -> Unboxed<Session<u32, u32>, Global>
+        requires { IsSome self.state }
+        ensures { self.state ≡ Some result.value }
+    {
+        let RpSession { at, alloc } = self;
+        Unboxed {
+            at: at as *mut Session<u32, u32>,
+            alloc,
+        }
+    }
+}
+
+// A box as its pointer, with the right to what is there.
+struct Unboxed<T, A: Allocator> {
+    at: *mut T,
+    alloc: A,
+    ghost value: { T },
+}
+
+impl<T, A: Allocator> Model for Unboxed<T, A> {
+    ghost also_owns = { λ u. box_owns (A.dealloc_token u.alloc) T.row u.at u.value };
+}
+
+impl<T: Drop, A: Allocator> Unboxed<T, A> {
+    fn of(owner: Box<T, A>) -> Self
+        ensures { result.value ≡ owner.value }
+    {
+        let (at, alloc) = Box::into_raw_with_allocator(owner);
+        Unboxed { at, alloc }
+    }
+
+    fn into_box(self) -> Box<T, A>
+        ensures { result.value ≡ self.value }
+    {
+        let Unboxed { at, alloc } = self;
+        unsafe { Box::from_raw(alloc, at) }
+    }
+}
