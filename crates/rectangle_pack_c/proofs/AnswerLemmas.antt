@@ -75,12 +75,12 @@ module _ (R : Group ℕ ℕ → Group ℕ ℕ → Ordering) (may : Answers) (bin
     pub answer_ids : All (λ r. r.id < length boxes) new.records
     answer_ids =
         rw after.records (records_each (λ id p. id < length boxes) 0 after.placements
-        (known_ids bins boxes all collected may new.bins after.placements after.done found.homes found.moved found.are))
+        (known_ids boxes all collected after.placements found.homes found.moved found.are))
 
     pub answer_once : AllPairs (λ r s. r.id ≢ s.id) new.records
     answer_once =
         rw after.records (records_once 0 after.placements
-        (placed_alone bins boxes all collected may new.bins after.placements after.done found.homes found.moved found.are))
+        (placed_alone boxes all collected after.placements found.homes found.moved found.are))
 
     module _ (placements : List RpPlacement) (written : AreWritten new.records placements) where
       stood : All (λ p. slice_get placements p.id ≡ Some (corner_of p.bin p.location)) after.placements
@@ -88,7 +88,7 @@ module _ (R : Group ℕ ℕ → Group ℕ ℕ → Ordering) (may : Answers) (bin
 
       -- where they are written, the boxes are placed
       pub answer_placed : ArePlaced bins boxes placements
-      answer_placed = packed_placed bins boxes all collected may new.bins after.placements after.done found.homes found.moved found.are placements stood
+      answer_placed = packed_placed boxes all collected after.placements found.homes found.moved found.are placements stood bins may new.bins after.done
 
       -- and the placements are those of the packing
       pub answer_packed : length placements ≡ length boxes → Includes may by_volume → IsPacked bins boxes placements
@@ -169,7 +169,7 @@ one_packing bins boxes one other h g = same_lists other one (g.as_many ∙ sym h
 
     same : (i : ℕ) (d : RpPlacement) → i < length other → get_or other i d ≡ get_or one i d
     same i d low =
-        let (p, inside, p_id) = placed_each bins boxes h.all h.collected by_volume h.left h.made h.done found.homes found.moved found.are i (omega (arith, low, g.as_many)) in
+        let (p, inside, p_id) = placed_each boxes h.all h.collected h.made found.homes found.moved found.are i (omega (arith, low, g.as_many)) in
         let (q, among, like) = zip_right (λ p q. (nat_cmp p.id q.id ≡ Equal) × (nat_cmp p.bin q.bin ≡ Equal) × (p.location ≡ q.location)) h.made g.made alike p inside in
         let q_id : q.id ≡ i = sym (exact_unsigned p.id q.id like.0) ∙ p_id in
         let here : slice_get one i ≡ Some (corner_of p.bin p.location) = rw p_id at (All-contains (λ (p : Placement ℕ ℕ). slice_get one p.id ≡ Some (corner_of p.bin p.location)) h.made p h.written inside) in

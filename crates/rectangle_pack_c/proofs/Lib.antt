@@ -5,3 +5,4 @@ pub mod CollectedLemmas
 pub mod LoopLemmas
 pub mod PlacedLemmas
 pub mod AnswerLemmas
+pub mod SessionLemmas

@@ -22,9 +22,7 @@ use Rattle.rectangle_pack.specs.Groups.{Collection, PushesAlone, PushesInto}
 use Rattle.rectangle_pack.specs.Session.{State, AddsBin}
 use Rattle.rectangle_pack_c.specs.declared.RpBin.{RpBin}
 use Rattle.rectangle_pack_c.specs.declared.RpBox.{RpBox}
-use Rattle.rectangle_pack_c.specs.declared.RpPlacement.{RpPlacement}
 use Rattle.rectangle_pack_c.specs.Arguments.{bin_size, box_size, new_bins, group_order, IsCollected}
-use Rattle.rectangle_pack_c.specs.private.Written.{placement_of}
 use Rattle.rectangle_pack_c.proofs.CollectedLemmas.{insert_last, Pushes, collected_more}
 
 -- one more bin
@@ -45,29 +43,29 @@ boxes_more boxes i b old new within is h p up =
     rw (take_more boxes i b within, is) (collected_more (take i boxes) b old new h (subst (λ n. Pushes n b old new) long p) up)
 
 -- one more record
-pub written_more : (records : List (Outstanding ℕ ℕ)) (placements : List RpPlacement) (i : ℕ) (r : Outstanding ℕ ℕ) → i < length records → r ≡ get_or records i r → r.id < length placements
+pub written_more : {X : Type 0} (entry : Outstanding ℕ ℕ → X) (records : List (Outstanding ℕ ℕ)) (placements : List X) (i : ℕ) (r : Outstanding ℕ ℕ) → i < length records → r ≡ get_or records i r → r.id < length placements
     → AllPairs (λ r s. r.id ≢ s.id) records
-    → ((k : ℕ) → k < i → (d : Outstanding ℕ ℕ) → slice_get placements (get_or records k d).id ≡ Some (placement_of (get_or records k d)))
-    → (k : ℕ) → k < i + 1 → (d : Outstanding ℕ ℕ) → slice_get (set placements r.id (placement_of r)) (get_or records k d).id ≡ Some (placement_of (get_or records k d))
-written_more records placements i r within is fits once before = below_more _ _ earlier here
+    → ((k : ℕ) → k < i → (d : Outstanding ℕ ℕ) → slice_get placements (get_or records k d).id ≡ Some (entry (get_or records k d)))
+    → (k : ℕ) → k < i + 1 → (d : Outstanding ℕ ℕ) → slice_get (set placements r.id (entry r)) (get_or records k d).id ≡ Some (entry (get_or records k d))
+written_more entry records placements i r within is fits once before = below_more _ _ earlier here
   where
-    at_last : slice_get (set placements r.id (placement_of r)) r.id ≡ Some (placement_of r)
+    at_last : slice_get (set placements r.id (entry r)) r.id ≡ Some (entry r)
     at_last =
-        let long : r.id < length (set placements r.id (placement_of r)) = omega (arith, length-set placements r.id (placement_of r)) in
-        slice_get-get_or (set placements r.id (placement_of r)) r.id (placement_of r) long ∙ ap (λ p. Some p) (get_or-set_same placements r.id (placement_of r) (placement_of r) fits)
+        let long : r.id < length (set placements r.id (entry r)) = omega (arith, length-set placements r.id (entry r)) in
+        slice_get-get_or (set placements r.id (entry r)) r.id (entry r) long ∙ ap (λ p. Some p) (get_or-set_same placements r.id (entry r) (entry r) fits)
 
-    here : (d : Outstanding ℕ ℕ) → slice_get (set placements r.id (placement_of r)) (get_or records i d).id ≡ Some (placement_of (get_or records i d))
+    here : (d : Outstanding ℕ ℕ) → slice_get (set placements r.id (entry r)) (get_or records i d).id ≡ Some (entry (get_or records i d))
     here d =
         let same : get_or records i d ≡ r = sym (is ∙ get_or_default records i r d within) in
         rw same at_last
 
-    kept : (s : Outstanding ℕ ℕ) → s.id ≢ r.id → slice_get placements s.id ≡ Some (placement_of s) → slice_get (set placements r.id (placement_of r)) s.id ≡ Some (placement_of s)
+    kept : (s : Outstanding ℕ ℕ) → s.id ≢ r.id → slice_get placements s.id ≡ Some (entry s) → slice_get (set placements r.id (entry r)) s.id ≡ Some (entry s)
     kept s ne at =
-        let short : s.id < length placements = slice_get_within placements s.id (placement_of s) at in
-        let long : s.id < length (set placements r.id (placement_of r)) = omega (arith, length-set placements r.id (placement_of r)) in
-        slice_get-get_or (set placements r.id (placement_of r)) s.id (placement_of s) long ∙ ap (λ q. Some q) (get_or-set_other placements r.id s.id (placement_of r) (placement_of s) ne ∙ get_or_from_slice_get placements s.id (placement_of s) (placement_of s) at)
+        let short : s.id < length placements = slice_get_within placements s.id (entry s) at in
+        let long : s.id < length (set placements r.id (entry r)) = omega (arith, length-set placements r.id (entry r)) in
+        slice_get-get_or (set placements r.id (entry r)) s.id (entry s) long ∙ ap (λ q. Some q) (get_or-set_other placements r.id s.id (entry r) (entry s) ne ∙ get_or_from_slice_get placements s.id (entry s) (entry s) at)
 
-    earlier : (k : ℕ) → k < i → (d : Outstanding ℕ ℕ) → slice_get (set placements r.id (placement_of r)) (get_or records k d).id ≡ Some (placement_of (get_or records k d))
+    earlier : (k : ℕ) → k < i → (d : Outstanding ℕ ℕ) → slice_get (set placements r.id (entry r)) (get_or records k d).id ≡ Some (entry (get_or records k d))
     earlier k below d =
         let differ : (get_or records k d).id ≢ (get_or records i d).id = once k i d below within in
         let same : get_or records i d ≡ r = sym (is ∙ get_or_default records i r d within) in

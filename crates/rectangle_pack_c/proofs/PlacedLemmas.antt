@@ -37,7 +37,7 @@ use Rattle.rectangle_pack_c.specs.declared.RpBox.{RpBox}
 use Rattle.rectangle_pack_c.specs.declared.RpPlacement.{RpPlacement}
 use Rattle.rectangle_pack_c.specs.Arguments.{bin_size, box_size, new_bins, group_order, group_of, IsCollected}
 use Rattle.rectangle_pack_c.specs.Answers.{box_at, corner_of, Stands, ArePlaced}
-use Rattle.rectangle_pack_c.specs.private.Written.{placement_of}
+use Rattle.rectangle_pack_c.specs.private.Written.{as_placement}
 use Rattle.rectangle_pack_c.proofs.OrderLemmas.{nat_same, group_order_total}
 use Rattle.rectangle_pack_c.proofs.CollectedLemmas.{lookup_numbered, AreHeld, collected_held}
 use Rattle.rectangle_pack_c.proofs.WholeLemmas.{none_in, in_cases, in_kept, pairs_none, homed, placed_for, placed_once, one_home, home_of_key, key_listed}
@@ -52,18 +52,18 @@ found_map f None y h = absurd cc
 found_map f (Some x) y h = (x, refl, cc)
 
 -- what holds of each placement holds of each record, and the other way round
-pub records_each : (P : ℕ → RpPlacement → Type 0) (n : ℕ) (ps : List (Placement ℕ ℕ)) → All (λ p. P p.id (corner_of p.bin p.location)) ps → All (λ r. P r.id (placement_of r)) (numbered n ps)
+pub records_each : (P : ℕ → RpPlacement → Type 0) (n : ℕ) (ps : List (Placement ℕ ℕ)) → All (λ p. P p.id (corner_of p.bin p.location)) ps → All (λ r. P r.id (as_placement r)) (numbered n ps)
 records_each P n [] h = All-nil _
 records_each P n (p ∷ ps) h =
-    All-cons (λ (r : Outstanding ℕ ℕ). P r.id (placement_of r)) (record { number = n; id = p.id; bin = p.bin; location = p.location }) (numbered (n + 1) ps)
+    All-cons (λ (r : Outstanding ℕ ℕ). P r.id (as_placement r)) (record { number = n; id = p.id; bin = p.bin; location = p.location }) (numbered (n + 1) ps)
     (All-head (λ (p : Placement ℕ ℕ). P p.id (corner_of p.bin p.location)) p ps h) (records_each P (n + 1) ps (All-tail (λ (p : Placement ℕ ℕ). P p.id (corner_of p.bin p.location)) p ps h))
 
-pub placements_each : (P : ℕ → RpPlacement → Type 0) (n : ℕ) (ps : List (Placement ℕ ℕ)) → All (λ r. P r.id (placement_of r)) (numbered n ps) → All (λ p. P p.id (corner_of p.bin p.location)) ps
+pub placements_each : (P : ℕ → RpPlacement → Type 0) (n : ℕ) (ps : List (Placement ℕ ℕ)) → All (λ r. P r.id (as_placement r)) (numbered n ps) → All (λ p. P p.id (corner_of p.bin p.location)) ps
 placements_each P n [] h = All-nil _
 placements_each P n (p ∷ ps) h =
     let first : Outstanding ℕ ℕ = record { number = n; id = p.id; bin = p.bin; location = p.location } in
     All-cons (λ (p : Placement ℕ ℕ). P p.id (corner_of p.bin p.location)) p ps
-    (All-head (λ (r : Outstanding ℕ ℕ). P r.id (placement_of r)) first (numbered (n + 1) ps) h) (placements_each P (n + 1) ps (All-tail (λ (r : Outstanding ℕ ℕ). P r.id (placement_of r)) first (numbered (n + 1) ps) h))
+    (All-head (λ (r : Outstanding ℕ ℕ). P r.id (as_placement r)) first (numbered (n + 1) ps) h) (placements_each P (n + 1) ps (All-tail (λ (r : Outstanding ℕ ℕ). P r.id (as_placement r)) first (numbered (n + 1) ps) h))
 
 pub records_once : (n : ℕ) (ps : List (Placement ℕ ℕ)) → AllPairs (λ p q. p.id ≢ q.id) ps → AllPairs (λ r s. r.id ≢ s.id) (numbered n ps)
 records_once n [] h = pairs_none (λ (r s : Outstanding ℕ ℕ). r.id ≢ s.id)
@@ -106,8 +106,7 @@ lookup_bin bins i before is =
     let f : RpBin → Bin = λ b. new_bin (bin_size b) in
     found_map f (slice_get bins i) before (sym (slice_get-map f bins i) ∙ sym (lookup_numbered 0 (map f bins) i i (omega arith)) ∙ is)
 
-module _ (bins : List RpBin) (boxes : List RpBox) (all : Collection ℕ ℕ) (collected : IsCollected boxes all)
-    (may : Answers) (after : List (ℕ × Bin)) (ps : List (Placement ℕ ℕ)) (done : PackingDone group_order (rules_by nat_cmp nat_cmp may) all (new_bins bins) ps after)
+module _ (boxes : List RpBox) (all : Collection ℕ ℕ) (collected : IsCollected boxes all) (ps : List (Placement ℕ ℕ))
     (homes : List (Group ℕ ℕ × ℕ)) (moved : IsPermutation (keys_of all.groups) (map (λ h. h.0) homes)) (are : ArePlacedWhole nat_cmp nat_cmp group_order all.sizes all.groups homes ps) where
   no_box : RpBox
   no_box = record { width = 0; height = 0; depth = 0; group = 0 }
@@ -145,16 +144,28 @@ module _ (bins : List RpBin) (boxes : List RpBox) (all : Collection ℕ ℕ) (co
       let (home, inside, named) = home_of_key homes key (Contains-permutation (keys_of all.groups) (map (λ h. h.0) homes) key moved (key_listed all.groups key ids is)) in
       placed_for all.sizes all.groups homes ps are home inside ids (rw named is) i member
 
+  -- the home of a box in a named group
+  home_is : (i : ℕ) (b : RpBox) (q : Placement ℕ ℕ) → slice_get boxes i ≡ Some b → Contains ps q → q.id ≡ i → 0 < b.group → (home : Group ℕ ℕ × ℕ) × Contains homes home × (home.0 ≡ Grouped b.group) × (home.1 ≡ q.bin)
+  home_is i b q box inside id named =
+      let (home, there, has) = homed all.sizes all.groups homes ps are q inside in
+      let is_b : get_or boxes i no_box ≡ b = get_or_from_slice_get boxes i b no_box box in
+      let member : (q.id < length boxes) × (group_of q.id (get_or boxes q.id no_box) ≡ home.0) =
+      All-contains (λ i. (i < length boxes) × (group_of i (get_or boxes i no_box) ≡ home.0)) has.ids q.id (held.members home.0 has.ids has.listed) has.member in
+      let key = member.1 in
+      let not_alone : (b.group == 0) ≡ false = grind (arith, nat_tests) in
+      let group : group_of q.id (get_or boxes q.id no_box) ≡ Grouped b.group = rw (id, is_b, not_alone) refl in
+      (home, there, sym key ∙ group, has.bin)
+
   -- what a box stands at is its placement
-  record ComesFrom (i : ℕ) (b : RpBox) (p : RpPlacement) : Type 0 where
-    from : Placement ℕ ℕ
-    inside : Contains ps from
-    id : from.id ≡ i
-    bin : p.bin ≡ from.bin
-    location : box_at b p ≡ from.location
+  pub record ComesFrom (i : ℕ) (b : RpBox) (p : RpPlacement) : Type 0 where
+    pub from : Placement ℕ ℕ
+    pub inside : Contains ps from
+    pub id : from.id ≡ i
+    pub bin : p.bin ≡ from.bin
+    pub location : box_at b p ≡ from.location
 
   module _ (placements : List RpPlacement) (written : All (λ p. slice_get placements p.id ≡ Some (corner_of p.bin p.location)) ps) where
-    comes_from : (i : ℕ) (b : RpBox) (p : RpPlacement) → Stands boxes placements i b p → ComesFrom i b p
+    pub comes_from : (i : ℕ) (b : RpBox) (p : RpPlacement) → Stands boxes placements i b p → ComesFrom i b p
     comes_from i b p s =
         let low : i < length boxes = slice_get_within boxes i b s.box in
         let is_b : get_or boxes i no_box ≡ b = get_or_from_slice_get boxes i b no_box s.box in
@@ -174,69 +185,62 @@ module _ (bins : List RpBin) (boxes : List RpBox) (all : Collection ℕ ℕ) (co
           location = ap (box_at b) p_is ∙ ap (λ w. record q.location { whd = w }) (sym size);
         }
 
-    -- the bin of a placement, and what it has become
-    record StandsIn (q : Placement ℕ ℕ) : Type 0 where
-      bin : RpBin
-      is : slice_get bins q.bin ≡ Some bin
-      changed : IsChanged IsRecut nat_cmp ps after q.bin (new_bin (bin_size bin))
+    -- two boxes of one group are in one bin
+    pub stand_together : (i j : ℕ) (a b : RpBox) (p q : RpPlacement) → Stands boxes placements i a p → Stands boxes placements j b q → 0 < a.group → a.group ≡ b.group → p.bin ≡ q.bin
+    stand_together i j a b p q s t named same =
+        let f = comes_from i a p s in
+        let g = comes_from j b q t in
+        let (ha, in_a, key_a, bin_a) = home_is i a f.from s.box f.inside f.id named in
+        let (hb, in_b, key_b, bin_b) = home_is j b g.from t.box g.inside g.id (rw (← same) named) in
+        let one = one_home homes one_each ha hb in_a in_b (key_a ∙ ap (λ n. Grouped n) same ∙ sym key_b) in
+        f.bin ∙ sym bin_a ∙ one ∙ bin_b ∙ sym g.bin
 
-    stands_in : (q : Placement ℕ ℕ) → Contains ps q → StandsIn q
-    stands_in q inside =
-        let rules : Rules ℕ ℕ = rules_by nat_cmp nat_cmp may in
-        let bars = bars_by group_order nat_cmp all.partners in
-        let order = map (λ (o : ℕ × ℕ). o.1) done.bin_order in
-        let last : Stage (Group ℕ ℕ) ℕ = record { bins = after; homes = done.homes } in
-        let keys = keys-placed rules bars order done.groups (at_start (new_bins bins)) ps last done.tests done.placed in
-        let known = All-contains (λ (p : Placement ℕ ℕ). IsSome (lookup (is_at (nat_cmp p.bin)) after)) ps q (known-placed rules bars nat_cmp_total order done.groups (at_start (new_bins bins)) ps last done.tests done.placed) inside in
-        let there = some_of (lookup (is_at (nat_cmp q.bin)) (new_bins bins)) (sym (is_some-keys (is_at (nat_cmp q.bin)) after (new_bins bins) keys) ∙ known) in
-        let (bin, is, before) = lookup_bin bins q.bin there.0 there.1 in
-        record {
-          bin = bin;
-          is = is;
-          changed = changed-all IsFrame-recut rules nat_cmp_total (KeptBySteps-recut may) bars order done.groups (at_start (new_bins bins)) ps last done.tests done.placed q.bin (new_bin (bin_size bin)) (rw (← before) there.1);
-        }
+    module _ (bins : List RpBin) (may : Answers) (after : List (ℕ × Bin)) (done : PackingDone group_order (rules_by nat_cmp nat_cmp may) all (new_bins bins) ps after) where
+      -- the bin of a placement, and what it has become
+      record StandsIn (q : Placement ℕ ℕ) : Type 0 where
+        bin : RpBin
+        is : slice_get bins q.bin ≡ Some bin
+        changed : IsChanged IsRecut nat_cmp ps after q.bin (new_bin (bin_size bin))
 
-    inside_bin : (q : Placement ℕ ℕ) (c : Contains ps q) (s : StandsIn q) → IsInside (bin_size s.bin) q.location
-    inside_bin q c s =
-        let size = bin_size s.bin in
-        let first : All (IsInside size) (whole size ∷ []) = All-cons (IsInside size) (whole size) [] (record { within_x = omega arith; within_y = omega arith; within_z = omega arith }) (All-nil (IsInside size)) in
-        All-contains (IsInside size) (s.changed.after.sections ++ placed_in nat_cmp ps q.bin) q.location (s.changed.framed.inside size first)
-        (Contains-append_right s.changed.after.sections (placed_in nat_cmp ps q.bin) q.location (in_kept (λ (p : Placement ℕ ℕ). p.location) (λ p. is_at (nat_cmp p.bin) q.bin) ps q c (nat_same q.bin)))
+      stands_in : (q : Placement ℕ ℕ) → Contains ps q → StandsIn q
+      stands_in q inside =
+          let rules : Rules ℕ ℕ = rules_by nat_cmp nat_cmp may in
+          let bars = bars_by group_order nat_cmp all.partners in
+          let order = map (λ (o : ℕ × ℕ). o.1) done.bin_order in
+          let last : Stage (Group ℕ ℕ) ℕ = record { bins = after; homes = done.homes } in
+          let keys = keys-placed rules bars order done.groups (at_start (new_bins bins)) ps last done.tests done.placed in
+          let known = All-contains (λ (p : Placement ℕ ℕ). IsSome (lookup (is_at (nat_cmp p.bin)) after)) ps q (known-placed rules bars nat_cmp_total order done.groups (at_start (new_bins bins)) ps last done.tests done.placed) inside in
+          let there = some_of (lookup (is_at (nat_cmp q.bin)) (new_bins bins)) (sym (is_some-keys (is_at (nat_cmp q.bin)) after (new_bins bins) keys) ∙ known) in
+          let (bin, is, before) = lookup_bin bins q.bin there.0 there.1 in
+          record {
+            bin = bin;
+            is = is;
+            changed = changed-all IsFrame-recut rules nat_cmp_total (KeptBySteps-recut may) bars order done.groups (at_start (new_bins bins)) ps last done.tests done.placed q.bin (new_bin (bin_size bin)) (rw (← before) there.1);
+          }
 
-    apart_in : (a b : Placement ℕ ℕ) → Contains ps a → Contains ps b → a.id ≢ b.id → b.bin ≡ a.bin → AreApart a.location b.location
-    apart_in a b ca cb ne same =
-        let s = stands_in a ca in
-        let boxes = s.changed.after.sections ++ placed_in nat_cmp ps a.bin in
-        let pairs = apart_from_counts boxes (λ c. rw (s.changed.framed.cells c) (filled_one c (whole (bin_size s.bin)))) in
-        pairs_kept (λ p. is_at (nat_cmp p.bin) a.bin) ps a b (pairs_right AreApart s.changed.after.sections (placed_in nat_cmp ps a.bin) pairs) ca cb (nat_same a.bin) (rw same (nat_same a.bin)) ne
+      inside_bin : (q : Placement ℕ ℕ) (c : Contains ps q) (s : StandsIn q) → IsInside (bin_size s.bin) q.location
+      inside_bin q c s =
+          let size = bin_size s.bin in
+          let first : All (IsInside size) (whole size ∷ []) = All-cons (IsInside size) (whole size) [] (record { within_x = omega arith; within_y = omega arith; within_z = omega arith }) (All-nil (IsInside size)) in
+          All-contains (IsInside size) (s.changed.after.sections ++ placed_in nat_cmp ps q.bin) q.location (s.changed.framed.inside size first)
+          (Contains-append_right s.changed.after.sections (placed_in nat_cmp ps q.bin) q.location (in_kept (λ (p : Placement ℕ ℕ). p.location) (λ p. is_at (nat_cmp p.bin) q.bin) ps q c (nat_same q.bin)))
 
-    -- the home of a box in a named group
-    home_is : (i : ℕ) (b : RpBox) (q : Placement ℕ ℕ) → slice_get boxes i ≡ Some b → Contains ps q → q.id ≡ i → 0 < b.group → (home : Group ℕ ℕ × ℕ) × Contains homes home × (home.0 ≡ Grouped b.group) × (home.1 ≡ q.bin)
-    home_is i b q box inside id named =
-        let (home, there, has) = homed all.sizes all.groups homes ps are q inside in
-        let is_b : get_or boxes i no_box ≡ b = get_or_from_slice_get boxes i b no_box box in
-        let member : (q.id < length boxes) × (group_of q.id (get_or boxes q.id no_box) ≡ home.0) =
-        All-contains (λ i. (i < length boxes) × (group_of i (get_or boxes i no_box) ≡ home.0)) has.ids q.id (held.members home.0 has.ids has.listed) has.member in
-        let key = member.1 in
-        let not_alone : (b.group == 0) ≡ false = grind (arith, nat_tests) in
-        let group : group_of q.id (get_or boxes q.id no_box) ≡ Grouped b.group = rw (id, is_b, not_alone) refl in
-        (home, there, sym key ∙ group, has.bin)
+      apart_in : (a b : Placement ℕ ℕ) → Contains ps a → Contains ps b → a.id ≢ b.id → b.bin ≡ a.bin → AreApart a.location b.location
+      apart_in a b ca cb ne same =
+          let s = stands_in a ca in
+          let boxes = s.changed.after.sections ++ placed_in nat_cmp ps a.bin in
+          let pairs = apart_from_counts boxes (λ c. rw (s.changed.framed.cells c) (filled_one c (whole (bin_size s.bin)))) in
+          pairs_kept (λ p. is_at (nat_cmp p.bin) a.bin) ps a b (pairs_right AreApart s.changed.after.sections (placed_in nat_cmp ps a.bin) pairs) ca cb (nat_same a.bin) (rw same (nat_same a.bin)) ne
 
-    pub packed_placed : ArePlaced bins boxes placements
-    packed_placed = record {
-      inside = λ i b p s.
-          let f = comes_from i b p s in
-          let in_bin = stands_in f.from f.inside in
-          rw (f.bin, in_bin.is, f.location) (inside_bin f.from f.inside in_bin);
-      apart = λ i j a b p q s t ne same.
-          let f = comes_from i a p s in
-          let g = comes_from j b q t in
-          rw (f.location, g.location) (apart_in f.from g.from f.inside g.inside (λ e. ne (sym f.id ∙ e ∙ g.id)) (sym g.bin ∙ sym same ∙ f.bin));
-      together = λ i j a b p q s t named same.
-          let f = comes_from i a p s in
-          let g = comes_from j b q t in
-          let (ha, in_a, key_a, bin_a) = home_is i a f.from s.box f.inside f.id named in
-          let (hb, in_b, key_b, bin_b) = home_is j b g.from t.box g.inside g.id (rw (← same) named) in
-          let one = one_home homes one_each ha hb in_a in_b (key_a ∙ ap (λ n. Grouped n) same ∙ sym key_b) in
-          f.bin ∙ sym bin_a ∙ one ∙ bin_b ∙ sym g.bin;
-    }
+      pub packed_placed : ArePlaced bins boxes placements
+      packed_placed = record {
+        inside = λ i b p s.
+            let f = comes_from i b p s in
+            let in_bin = stands_in f.from f.inside in
+            rw (f.bin, in_bin.is, f.location) (inside_bin f.from f.inside in_bin);
+        apart = λ i j a b p q s t ne same.
+            let f = comes_from i a p s in
+            let g = comes_from j b q t in
+            rw (f.location, g.location) (apart_in f.from g.from f.inside g.inside (λ e. ne (sym f.id ∙ e ∙ g.id)) (sym g.bin ∙ sym same ∙ f.bin));
+        together = stand_together;
+      }

@@ -35,10 +35,10 @@ in_cases x xs y h = by (Contains-append_cases (x ∷ []) xs y h)
     by (inl one) = inl (one_in x y one)
     by (inr more) = inr more
 
-in_first : {X : Type 0} (x : X) (xs : List X) (y : X) → x ≡ y → Contains (x ∷ xs) y
+pub in_first : {X : Type 0} (x : X) (xs : List X) (y : X) → x ≡ y → Contains (x ∷ xs) y
 in_first x xs y e = (0, omega arith, e)
 
-in_later : {X : Type 0} (x : X) (xs : List X) (y : X) → Contains xs y → Contains (x ∷ xs) y
+pub in_later : {X : Type 0} (x : X) (xs : List X) (y : X) → Contains xs y → Contains (x ∷ xs) y
 in_later x xs y h = Contains-append_right (x ∷ []) xs y h
 
 in_map : {X Y : Type 0} (f : X → Y) (xs : List X) (x : X) → Contains xs x → Contains (map f xs) (f x)

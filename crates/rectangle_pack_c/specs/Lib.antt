@@ -1,4 +1,5 @@
 pub mod Arguments
 pub mod Answers
 pub mod Handle
+pub mod Sessions
 pub mod private

@@ -7,10 +7,13 @@ ghost use Rattle.rectangle_pack_c.specs.Handle.{holds};
 use rectangle_pack::Session;
 use std::alloc::{Allocator, Global};
 use std::marker::Model;
+use std::mem::replace;
 use std::ptr::null_mut;
 
 /// A session, or nothing where the pointer is null.
+// It is dropped only where it has no session: what `also_owns` says is not freed with it.
 #[repr(C)]
+#[derive(Drop)]
 pub struct RpSession {
     at: *mut u8,
     alloc: Global,
@@ -47,6 +50,15 @@ impl RpSession {
         ensures { self.state ≡ Some result.value }
     {
         self.open().into_box()
+    }
+
+    // The session is taken out of its handle.
+    pub(crate) fn take(&mut self, alloc: Global) -> Box<Session<u32, u32>>
+        requires { IsSome self.old.state }
+        ensures taken { self.old.state ≡ Some result.value }
+        ensures left { self.new.state ≡ None }
+    {
+        replace(self, RpSession::none(alloc)).into_box()
     }
 
     fn shut(session: Unboxed<Session<u32, u32>, Global>) -> Self

@@ -4,12 +4,12 @@
 ghost use Rattle.std.specs.Prelude.{◌≡◌, ◌<◌, ◌≤◌, ◌↔◌, ◌≢◌, [], IfOk, List, length, All, AllPairs};
 ghost use Rattle.rectangle_pack_c.specs.Arguments.{HaveLengths, IsCollected, new_bins};
 ghost use Rattle.rectangle_pack_c.specs.Answers.{ArePlaced, IsPacked, IsRefused};
-ghost use Rattle.rectangle_pack_c.specs.private.Written.{AreWritten};
-
-#[cfg(test)]
-mod tests;
+ghost use Rattle.rectangle_pack_c.specs.private.Written.{AreWritten, as_placement};
 
 mod handle;
+mod session;
+#[cfg(test)]
+mod tests;
 
 use rectangle_pack::{
     GroupedRectsToPlace, Outstanding, RectToInsert, Session, SessionError, contains_smallest_box,
@@ -66,6 +66,14 @@ pub const RP_NOT_ENOUGH_SPACE: u32 = 1;
 pub const RP_OUT_OF_MEMORY: u32 = 2;
 /// There are not as many placements as boxes, or there are 2^32 bins or boxes.
 pub const RP_BAD_LENGTHS: u32 = 3;
+/// A bin of this id is there already.
+pub const RP_DUPLICATE_BIN: u32 = 4;
+/// There is no bin of this id.
+pub const RP_UNKNOWN_BIN: u32 = 5;
+/// No placement of this number is outstanding.
+pub const RP_UNKNOWN_PLACEMENT: u32 = 6;
+/// The numbers of the placements would reach 2^64 - 1, which is never given.
+pub const RP_NUMBERS_USED_UP: u32 = 7;
 
 // As many bins or boxes have no index of 32 bits.
 const LIMIT: usize = 0x1_0000_0000;
@@ -156,11 +164,18 @@ fn write_all(records: &[Outstanding<u32, u32>], placements: &mut [RpPlacement])
     ensures { AreWritten records.now placements.new }
 {
     for record in records {
-        placements[record.id as usize] = RpPlacement {
-            bin: record.bin,
-            x: record.location.x(),
-            y: record.location.y(),
-            z: record.location.z(),
-        };
+        placements[record.id as usize] = placement_of(record);
+    }
+}
+
+// Where a box stands, by its record.
+fn placement_of(outstanding: &Outstanding<u32, u32>) -> RpPlacement
+    ensures { result ≡ as_placement outstanding.now }
+{
+    RpPlacement {
+        bin: outstanding.bin,
+        x: outstanding.location.x(),
+        y: outstanding.location.y(),
+        z: outstanding.location.z(),
     }
 }

@@ -5,6 +5,8 @@ use super::{
 };
 use std::test::Fail;
 
+mod session;
+
 const NOWHERE: RpPlacement = RpPlacement {
     bin: 9,
     x: 9,

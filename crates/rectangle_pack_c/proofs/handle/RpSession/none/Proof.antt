@@ -1,31 +1,27 @@
 -- The pointer is null.
-use Rattle.std.proofs.Common.{◌≡◌, List, [], ◌∷◌, ◌++◌, refl, sym, subst, lit<}
-use mir.Val.{Val, vptr, vint, has_ty}
+use Rattle.std.proofs.Common.{List, [], ◌∷◌, ◌++◌, refl, sym, subst, lit<}
+use mir.Val.{Val, vint, has_ty}
 use mir.Syntax.{w64}
 use base.Logic.{SProp, ent, id⊢}
 use base.Fml.{ftrue}
 use prog.Wp.{WpFn}
-use types.Kit.{‵, raw, ◌⊛◌, ◌$◌, ◌∵◌, !, qed, done, move, keep, split, join, fsplit, fjoin, suffices}
-use types.Run.{stop, fld, lit, of_opd, no_more, and_then, returns, enter}
-use types.ByLocal.{alloc_all, pass_all, free_all, look_at, get, get_in, sets}
-use types.Part.{agg, sub, whole}
-use contract.Monad.{fact}
+use types.Kit.{‵, ◌⊛◌, ◌$◌, ◌∵◌, !, qed, done, move, keep, split, join, fsplit, fjoin, suffices}
+use types.Run.{lit, no_more, and_then, returns, enter}
+use types.ByLocal.{alloc_all, pass_all, free_all, look_at, get, sets}
+use types.Part.{agg}
 use contract.Running.{tables}
-use denote.Exit.{yes, no}
-use denote.RattleType.{RattleType, owns}
+use denote.Exit.{yes}
+use denote.RattleType.{owns}
 use denote.Signature.{types_at, plain}
-use denote.RawPtr.{block_ptr, null_ptr}
+use denote.RawPtr.{null_ptr}
 use denote.Param.{layout}
-use denote.Steps.{nothing, heard}
+use denote.Steps.{nothing}
 use denote.Triple.Walked.{Stays, stay_dropped, walk_of, says, ends_at}
-use Rattle.std.specs.Prelude.{IsSome, None, Some}
+use Rattle.std.specs.Prelude.{None}
 use Rattle.std.proofs.alloc.Calls.{Goes-blank, handle_tells}
 use Rattle.std.proofs.ResultValues.{and_tt}
-use Rattle.std.specs.contracts.impls.GlobalAllocator.TheImpl as heap
-use Rattle.std.proofs.alloc.Global.TheLaws as global_laws
 use Rattle.std.proofs.raw_atomic.Walks.{proved_at}
-use Rattle.rectangle_pack_c.specs.Handle.{session_row}
-use Rattle.rectangle_pack_c.proofs.HandleSteps.{two, Unboxed, unboxed_fits, unboxed_out, unboxed_in, value_of, Held, Heap, heap_al, held_out, held_in, none_in}
+use Rattle.rectangle_pack_c.proofs.HandleSteps.{two, Heap, heap_al, none_in}
 use Rattle.rectangle_pack_c.specs.contracts.handle.RpSession.none.{ended, clauses}
 use Rattle.rectangle_pack_c.specs.contracts.handle.RpSession.none.Key.{name as #self}
 use Rattle.rectangle_pack_c.proofs.handle.RpSession.none.Statement.{statement}

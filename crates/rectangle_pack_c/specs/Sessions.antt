@@ -1,0 +1,110 @@
+-- Calls of a session by its handle: what each answers, and what it makes of the session.
+use Rattle.std.specs.Prelude.{◌≡◌, ℕ, ◌+◌, ◌*◌, ◌^◌, ◌<◌, ◌≤◌, List, length, Contains, Option, Some, MatchOption, slice_get}
+use Rattle.std.specs.Option.{option_map}
+use Rattle.std.specs.Ordering.{nat_cmp}
+use Rattle.std.specs.Map.{lookup}
+use Rattle.std.specs.BTreeMap.{is_at}
+use Rattle.rectangle_pack.specs.declared.session.command.Outstanding.{Outstanding}
+use Rattle.rectangle_pack.specs.declared.session.command.Reply.{Reply}
+use Rattle.rectangle_pack.specs.declared.session.command.Reply.TheVariants.{Done, Packed, Refused}
+use Rattle.rectangle_pack.specs.declared.session.command.SessionError.TheVariants.{DuplicateBin, UnknownBin, UnknownPlacement, NumbersUsedUp, NotEnoughBinSpace, OutOfMemory}
+use Rattle.rectangle_pack.specs.declared.session.stats.BinStats.{BinStats}
+use Rattle.rectangle_pack.specs.Bins.{Bin}
+use Rattle.rectangle_pack.specs.Groups.{Collection}
+use Rattle.rectangle_pack.specs.Packing.{rules_by}
+use Rattle.rectangle_pack.specs.Promise.{PacksAsPromised}
+use Rattle.rectangle_pack.specs.Session.{State, IsSession, Packs, standing_in}
+use Rattle.rectangle_pack.specs.Stats.{stats_of}
+use Rattle.rectangle_pack_c.specs.declared.RpBox.{RpBox}
+use Rattle.rectangle_pack_c.specs.declared.session.RpOutstanding.{RpOutstanding}
+use Rattle.rectangle_pack_c.specs.declared.session.RpVolume.{RpVolume}
+use Rattle.rectangle_pack_c.specs.declared.session.RpStats.{RpStats}
+use Rattle.rectangle_pack_c.specs.Arguments.{group_order, IsCollected}
+use Rattle.rectangle_pack_c.specs.Answers.{box_at, by_volume}
+
+-- a reply as a status: the one of the header under its name
+abbrev pub status_of : Reply → ℕ
+status_of Done = 0
+status_of (Packed numbers) = 0
+status_of (Refused NotEnoughBinSpace) = 1
+status_of (Refused OutOfMemory) = 2
+status_of (Refused DuplicateBin) = 4
+status_of (Refused UnknownBin) = 5
+status_of (Refused UnknownPlacement) = 6
+status_of (Refused NumbersUsedUp) = 7
+
+-- the handle has a session before the call and after it; the status is that of a reply with which the session may have been
+-- changed so; and of the session holds what always holds of one: each cell of each bin is in exactly one free section or
+-- outstanding placement
+pub record Answers (MayChange : State ℕ ℕ → Reply → State ℕ ℕ → Type 0) (old : Option (State ℕ ℕ)) (status : ℕ) (new : Option (State ℕ ℕ)) : Type 0 where
+  pub before : State ℕ ℕ
+  pub after : State ℕ ℕ
+  pub reply : Reply
+  pub had : old ≡ Some before
+  pub has : new ≡ Some after
+  pub status_is : status ≡ status_of reply
+  pub changed : MayChange before reply after
+  pub always : IsSession nat_cmp after
+
+-- as many placements as boxes, and an index of 32 bits for each box
+pub record AreAsMany (boxes : List RpBox) (placements : List RpOutstanding) : Type 0 where
+  pub same : length placements ≡ length boxes
+  pub few_boxes : length boxes < 2 ^ 32
+
+-- the boxes are packed as a session packs their collection, by volume; or memory is refused, and the session is as it was
+abbrev pub PacksBoxes : List RpBox → State ℕ ℕ → Reply → State ℕ ℕ → Type 0
+PacksBoxes boxes old (Refused OutOfMemory) new = new ≡ old
+PacksBoxes boxes old reply new =
+    (all : Collection ℕ ℕ) × IsCollected boxes all
+    × Packs group_order (rules_by nat_cmp nat_cmp by_volume) all old reply new
+    × PacksAsPromised group_order (rules_by nat_cmp nat_cmp by_volume) all old reply new
+
+-- box i is this one, and this is its placement, with its number
+pub record IsAt (boxes : List RpBox) (placements : List RpOutstanding) (i : ℕ) (b : RpBox) (p : RpOutstanding) : Type 0 where
+  pub box : slice_get boxes i ≡ Some b
+  pub at : slice_get placements i ≡ Some p
+
+-- box i at its placement, as a session records it
+abbrev pub record_of : ℕ → RpBox → RpOutstanding → Outstanding ℕ ℕ
+record_of i b p = record { number = p.number; id = i; bin = p.placement.bin; location = box_at b p.placement }
+
+-- each box is outstanding at its placement, under a number that was not given before; those of one group are in one bin
+pub record AreOutstanding (boxes : List RpBox) (placements : List RpOutstanding) (old new : State ℕ ℕ) : Type 0 where
+  pub outstanding : (i : ℕ) (b : RpBox) (p : RpOutstanding) → IsAt boxes placements i b p → Contains new.records (record_of i b p)
+  pub fresh : (i : ℕ) (b : RpBox) (p : RpOutstanding) → IsAt boxes placements i b p → old.next ≤ p.number
+  pub together : (i j : ℕ) (a b : RpBox) (p q : RpOutstanding) → IsAt boxes placements i a p → IsAt boxes placements j b q
+      → 0 < a.group → a.group ≡ b.group → p.placement.bin ≡ q.placement.bin
+
+-- the same of the sessions that a handle has before and after
+pub record ArePackedNow (boxes : List RpBox) (placements : List RpOutstanding) (old new : Option (State ℕ ℕ)) : Type 0 where
+  pub before : State ℕ ℕ
+  pub after : State ℕ ℕ
+  pub had : old ≡ Some before
+  pub has : new ≡ Some after
+  pub are : AreOutstanding boxes placements before after
+
+-- the number whose lower 64 bits and whose other bits these are
+abbrev pub volume : RpVolume → ℕ
+volume v = v.low + v.high * 2 ^ 64
+
+-- the statistics that are written so
+abbrev pub stats_written : RpStats → BinStats
+stats_written s = record {
+  bin_volume = volume s.bin_volume;
+  free_volume = volume s.free_volume;
+  placed_volume = volume s.placed_volume;
+  free_sections = s.free_sections;
+  placements = s.placements;
+}
+
+-- the statistics of a bin of a session, where the bin is there
+abbrev pub stats_in : State ℕ ℕ → ℕ → Option BinStats
+stats_in state bin = option_map (λ (b : Bin). stats_of b (standing_in nat_cmp state.records bin)) (lookup (is_at (nat_cmp bin)) state.bins)
+
+-- what is said of a bin: the statistics of it, whose free and placed volumes add up to that of the bin; or that it is not there,
+-- and nothing is written
+pub record TellsStats (held : Option (State ℕ ℕ)) (bin status : ℕ) (old new : RpStats) : Type 0 where
+  pub state : State ℕ ℕ
+  pub has : held ≡ Some state
+  pub told : MatchOption (stats_in state bin) ((status ≡ 5) × (new ≡ old)) (λ stats. (status ≡ 0) × (stats_written new ≡ stats))
+  pub whole : status ≡ 0 → volume new.free_volume + volume new.placed_volume ≡ volume new.bin_volume

@@ -1,0 +1,274 @@
+//! A session for C: bins that stay, and boxes that are packed into them and released by number.
+ghost use Rattle.std.specs.Prelude.{◌≡◌, ◌≢◌, ◌<◌, ◌↔◌, ◌⊎◌, [], None, Some, IsSome, IfOk, IfErr, length, All, AllPairs};
+ghost use Rattle.std.specs.Ordering.{nat_cmp};
+ghost use Rattle.rectangle_pack.specs.Boxes.{Size};
+ghost use Rattle.rectangle_pack.specs.Joining.{IsSwept};
+ghost use Rattle.rectangle_pack.specs.Session.{IsSession, AddsBin, Releases, Coalesces, reply_of, packed_reply};
+ghost use Rattle.rectangle_pack.specs.declared.session.command.Reply.TheVariants.{Refused};
+ghost use Rattle.rectangle_pack_c.specs.Sessions.{Answers, AreAsMany, PacksBoxes, AreOutstanding, ArePackedNow, TellsStats, status_of, volume};
+ghost use Rattle.rectangle_pack_c.specs.private.Written.{AreNumbered};
+
+use super::handle::RpSession;
+use super::{
+    LIMIT, RP_BAD_LENGTHS, RP_DONE, RP_DUPLICATE_BIN, RP_NOT_ENOUGH_SPACE, RP_NUMBERS_USED_UP,
+    RP_OUT_OF_MEMORY, RP_UNKNOWN_BIN, RP_UNKNOWN_PLACEMENT, RpBox, RpPlacement, collection_of,
+    placement_of,
+};
+use rectangle_pack::{
+    Outstanding, Packed, Session, SessionError, contains_smallest_box, volume_heuristic,
+};
+use std::alloc::Global;
+
+// What a number of 64 bits does not hold.
+const WORD: u128 = 0x1_0000_0000_0000_0000;
+
+/// A placement with its number, by which it is released.
+#[repr(C)]
+#[derive(Clone, Copy)]
+pub struct RpOutstanding {
+    /// Its number.
+    pub number: u64,
+    /// Where the box stands.
+    pub placement: RpPlacement,
+}
+
+/// A volume in cells: `low + high * 2^64`.
+#[repr(C)]
+#[derive(Clone, Copy)]
+pub struct RpVolume {
+    /// Its lower 64 bits.
+    pub low: u64,
+    /// Its other bits, 0 in two dimensions.
+    pub high: u64,
+}
+
+/// What is free and what is placed in a bin.
+#[repr(C)]
+#[derive(Clone, Copy)]
+pub struct RpStats {
+    /// The volume of the bin.
+    pub bin_volume: RpVolume,
+    /// The volumes of its free sections, added up.
+    pub free_volume: RpVolume,
+    /// The volumes of the outstanding placements in it, added up.
+    pub placed_volume: RpVolume,
+    /// How many free sections it has.
+    pub free_sections: usize,
+    /// How many placements are outstanding in it.
+    pub placements: usize,
+}
+
+/// Makes a session without bins; the first placement gets the number 0. `RP_DONE` or
+/// `RP_OUT_OF_MEMORY`, and then the handle is as before.
+#[unsafe(no_mangle)]
+pub extern "C" fn rectangle_pack_session_new(alloc: Global, session: &mut RpSession) -> u32
+    requires empty { session.old.state ≡ None }
+    ensures status { (result ≡ RP_DONE) ⊎ (result ≡ RP_OUT_OF_MEMORY) }
+    ensures made { result ≡ RP_DONE →
+        session.new.state ≡ Some (record { bins = []; records = []; next = 0 }) }
+    ensures refused { result ≡ RP_OUT_OF_MEMORY → session.new.state ≡ None }
+{
+    let Ok(made) = Box::new(alloc, Session::new(alloc, 0)) else {
+        return RP_OUT_OF_MEMORY;
+    };
+    *session = RpSession::of(made);
+    RP_DONE
+}
+
+/// Frees a session with its bins. The handle is then as before `rectangle_pack_session_new`.
+#[unsafe(no_mangle)]
+pub extern "C" fn rectangle_pack_session_free(alloc: Global, session: &mut RpSession)
+    requires made { IsSome session.old.state }
+    ensures freed { session.new.state ≡ None }
+{
+    drop(session.take(alloc));
+}
+
+/// Adds a bin of this size, in cells, all of it free. `RP_DONE`, `RP_DUPLICATE_BIN` where a bin of
+/// this id is there, or `RP_OUT_OF_MEMORY`. What is not done leaves the session as it was.
+#[unsafe(no_mangle)]
+pub extern "C" fn rectangle_pack_session_add_bin(
+    alloc: Global,
+    session: &mut RpSession,
+    bin: u32,
+    width: u32,
+    height: u32,
+    depth: u32,
+) -> u32
+    requires made { IsSome session.old.state }
+    ensures added { let size : Size = record { width = width; height = height; depth = depth } in
+        Answers (AddsBin nat_cmp bin size) session.old.state result session.new.state }
+{
+    let mut held = session.take(alloc);
+    let answer = held.add_bin(bin, width, height, depth);
+    *session = RpSession::of(held);
+    status(&answer)
+}
+
+/// Gives a placement back by its number: its cells are free again. `RP_DONE`,
+/// `RP_UNKNOWN_PLACEMENT` where no placement of this number is outstanding, or `RP_OUT_OF_MEMORY`.
+/// What is not done leaves the session as it was.
+#[unsafe(no_mangle)]
+pub extern "C" fn rectangle_pack_session_release(
+    alloc: Global,
+    session: &mut RpSession,
+    number: u64,
+) -> u32
+    requires made { IsSome session.old.state }
+    ensures released { Answers (Releases nat_cmp number)
+        session.old.state result session.new.state }
+{
+    let mut held = session.take(alloc);
+    let answer = held.release(number);
+    *session = RpSession::of(held);
+    status(&answer)
+}
+
+/// Joins the free sections of a bin until no two share a whole face. `RP_DONE`, or
+/// `RP_UNKNOWN_BIN` where there is no such bin. Takes no memory.
+#[unsafe(no_mangle)]
+pub extern "C" fn rectangle_pack_session_coalesce_all(
+    alloc: Global,
+    session: &mut RpSession,
+    bin: u32,
+) -> u32
+    requires made { IsSome session.old.state }
+    ensures swept { Answers (Coalesces nat_cmp IsSwept bin)
+        session.old.state result session.new.state }
+{
+    let mut held = session.take(alloc);
+    let answer = held.coalesce_all(&bin);
+    *session = RpSession::of(held);
+    status(&answer)
+}
+
+/// Packs all boxes into the bins of the session: placement i, with its number, is that of box i.
+/// Groups go in falling order of the sum of their volumes, each whole into the first bin, by rising
+/// volume, that takes it. `RP_DONE`, `RP_NOT_ENOUGH_SPACE` where for some group no bin takes all of
+/// its boxes, `RP_OUT_OF_MEMORY`, `RP_NUMBERS_USED_UP` or `RP_BAD_LENGTHS`. What is not done leaves
+/// the session as it was, and writes no placement.
+#[unsafe(no_mangle)]
+pub extern "C" fn rectangle_pack_session_pack(
+    alloc: Global,
+    session: &mut RpSession,
+    boxes: &[RpBox],
+    placements: &mut [RpOutstanding],
+) -> u32
+    requires made { IsSome session.old.state }
+    ensures lengths { (result ≢ RP_BAD_LENGTHS) ↔ AreAsMany boxes.now placements.old }
+    ensures bad_lengths { result ≡ RP_BAD_LENGTHS → session.new.state ≡ session.old.state }
+    ensures packed { result ≢ RP_BAD_LENGTHS →
+        Answers (PacksBoxes boxes.now) session.old.state result session.new.state }
+    ensures done { result ≡ RP_DONE →
+        ArePackedNow boxes.now placements.new session.old.state session.new.state }
+    ensures unchanged { result ≢ RP_DONE → placements.new ≡ placements.old }
+{
+    if placements.len() != boxes.len() || boxes.len() >= LIMIT {
+        return RP_BAD_LENGTHS;
+    }
+    let mut held = session.take(alloc);
+    let answer = pack_into(alloc, &mut held, boxes, placements);
+    *session = RpSession::of(held);
+    match answer {
+        Ok(_) => RP_DONE,
+        Err(error) => refusal(error),
+    }
+}
+
+// Packs the boxes into the session, and writes the placements.
+fn pack_into(
+    alloc: Global,
+    session: &mut Session<u32, u32>,
+    boxes: &[RpBox],
+    placements: &mut [RpOutstanding],
+) -> Result<Packed, SessionError>
+    requires lengths { AreAsMany boxes.now placements.old }
+    ensures packed { PacksBoxes boxes.now session.old (packed_reply result) session.new }
+    ensures always { IsSession nat_cmp session.new }
+    ensures done { IfOk result
+        (λ _. AreOutstanding boxes.now placements.new session.old session.new) }
+    ensures unchanged { IfErr result (λ _. placements.new ≡ placements.old) }
+{
+    let known = session.outstanding().len();
+    let rects = collection_of(alloc, boxes)?;
+    let packed = session.pack(&rects, &volume_heuristic, &contains_smallest_box)?;
+    number_all(&session.outstanding()[known..], placements);
+    Ok(packed)
+}
+
+// Writes each record, with its number, at the index of its box.
+fn number_all(records: &[Outstanding<u32, u32>], placements: &mut [RpOutstanding])
+    requires within { All (λ r. r.id < length placements.old) records.now }
+    requires once { AllPairs (λ r s. r.id ≢ s.id) records.now }
+    ensures { AreNumbered records.now placements.new }
+{
+    for record in records {
+        placements[record.id as usize] = RpOutstanding {
+            number: record.number,
+            placement: placement_of(record),
+        };
+    }
+}
+
+/// Writes the statistics of a bin. `RP_DONE`, or `RP_UNKNOWN_BIN` where there is no such bin, and
+/// then nothing is written. Takes no memory, and leaves the session as it was.
+#[unsafe(no_mangle)]
+pub extern "C" fn rectangle_pack_session_stats(
+    alloc: Global,
+    session: &mut RpSession,
+    bin: u32,
+    stats: &mut RpStats,
+) -> u32
+    requires made { IsSome session.old.state }
+    ensures told { TellsStats session.old.state bin result stats.old stats.new }
+    ensures unchanged { session.new.state ≡ session.old.state }
+{
+    let held = session.take(alloc);
+    let answer = held.stats(&bin);
+    *session = RpSession::of(held);
+    let Some(found) = answer else {
+        return RP_UNKNOWN_BIN;
+    };
+    *stats = RpStats {
+        bin_volume: parted(found.bin_volume),
+        free_volume: parted(found.free_volume),
+        placed_volume: parted(found.placed_volume),
+        free_sections: found.free_sections,
+        placements: found.placements,
+    };
+    RP_DONE
+}
+
+// The two parts of a volume.
+fn parted(cells: u128) -> RpVolume
+    ensures { volume result ≡ cells }
+{
+    RpVolume {
+        low: (cells % WORD) as u64,
+        high: (cells / WORD) as u64,
+    }
+}
+
+// The status of an answer.
+fn status(answer: &Result<(), SessionError>) -> u32
+    ensures { result ≡ status_of (reply_of answer.now) }
+{
+    match answer {
+        Ok(()) => RP_DONE,
+        Err(error) => refusal(*error),
+    }
+}
+
+// The status of a refusal.
+fn refusal(error: SessionError) -> u32
+    ensures { result ≡ status_of (Refused error) }
+{
+    match error {
+        SessionError::NotEnoughBinSpace => RP_NOT_ENOUGH_SPACE,
+        SessionError::OutOfMemory => RP_OUT_OF_MEMORY,
+        SessionError::DuplicateBin => RP_DUPLICATE_BIN,
+        SessionError::UnknownBin => RP_UNKNOWN_BIN,
+        SessionError::UnknownPlacement => RP_UNKNOWN_PLACEMENT,
+        SessionError::NumbersUsedUp => RP_NUMBERS_USED_UP,
+    }
+}
