@@ -1,5 +1,7 @@
-/* rectangle_pack: packs boxes into bins, in two and three dimensions, without overlaps. One call, which is proved; what
-   is proved of it stands at the call, and as its contract in crates/rectangle_pack_c/src/lib.rt. C99 and C++.
+/* rectangle_pack: packs boxes into bins, in two and three dimensions, without overlaps. rectangle_pack_boxes packs a list
+   of boxes and keeps nothing. A session keeps its bins from call to call: boxes are packed into them and released again.
+   All calls are proved; what is proved of them stands beside them, and as their contracts in crates/rectangle_pack_c/src
+   (lib.rt and session.rt). C99 and C++.
 
    Sizes and corners are counted in cells. In two dimensions each depth is 1 and each z is 0. */
 #ifndef RECTANGLE_PACK_H
@@ -17,34 +19,44 @@ typedef struct rp_bin {
     uint32_t width, height, depth;
 } rp_bin;
 
-/* A box, by its size, also 0. Boxes of one group above 0 go into one bin together; in group 0 each box is alone. */
+/* A box, by its size, also 0. The boxes of one call that have one group above 0 go into one bin together; in group 0 each box
+   is alone. */
 typedef struct rp_box {
     uint32_t width, height, depth;
     uint32_t group;
 } rp_box;
 
-/* Where a box stands: the index of its bin in the list of bins, and its corner there. Boxes are never turned. */
+/* Where a box stands: its bin, and its corner there. The bin is an index in the list of bins, but in a session the id that it
+   was added under. Boxes are never turned. */
 typedef struct rp_placement {
     uint32_t bin;
     uint32_t x, y, z;
 } rp_placement;
 
-/* What the call answers. */
+/* What the calls answer. */
 enum {
-    /* Each box has its placement. */
+    /* It is done. Where boxes were packed, each has its placement. */
     RP_DONE = 0,
     /* For some group no bin takes all of its boxes, as the groups before it left the bins. */
     RP_NOT_ENOUGH_SPACE = 1,
     /* malloc or realloc answered NULL. */
     RP_OUT_OF_MEMORY = 2,
     /* box_count and placement_count differ, or a list has 2^32 entries or more. */
-    RP_BAD_LENGTHS = 3
+    RP_BAD_LENGTHS = 3,
+    /* The session has a bin of this id already. */
+    RP_DUPLICATE_BIN = 4,
+    /* The session has no bin of this id. */
+    RP_UNKNOWN_BIN = 5,
+    /* No placement of this number is outstanding in the session. */
+    RP_UNKNOWN_PLACEMENT = 6,
+    /* The numbers of the session's placements would reach 2^64 - 1, which is never given. */
+    RP_NUMBERS_USED_UP = 7
 };
 
 /* Packs all boxes into the bins; placements[i] is where boxes[i] stands.
 
    Proved, for all lists, wherever memory is refused:
-   - The answer is one of the four. It is RP_BAD_LENGTHS exactly under its condition.
+   - The answer is one of the first four. It is RP_BAD_LENGTHS exactly under its condition.
    - RP_DONE: each box stands inside its bin, and the bin is one of the list; no two boxes share a cell of one bin; the
      boxes of one group above 0 are in one bin; and the placements are those of the packing rule. Equal bins and boxes get
      equal placements, in every call, on every machine.
@@ -61,6 +73,109 @@ enum {
    keeps nothing from call to call, and needs a processor of x86-64-v2. */
 uint32_t rectangle_pack_boxes(const rp_bin *bins, size_t bin_count, const rp_box *boxes, size_t box_count,
                               rp_placement *placements, size_t placement_count);
+
+/* A session: bins that stay, and boxes that come and go, as in a texture atlas that is filled while a program runs.
+
+       rp_session session = RP_NO_SESSION;
+       rp_box hat = {10, 20, 1, 0};
+       rp_outstanding place;
+       rectangle_pack_session_new(&session);
+       rectangle_pack_session_add_bin(&session, 7, 64, 64, 1);
+       rectangle_pack_session_pack(&session, &hat, 1, &place, 1);
+       rectangle_pack_session_release(&session, place.number);
+       rectangle_pack_session_free(&session);
+
+   Each of these calls but the last answers a status, which is to be looked at. bindings/c/session.c does so.
+
+   The caller names each bin by an id, any number. The session gives each box that it packs a number, by which the box is
+   released. Until then its placement is outstanding: the box stays where it is. What is free in a bin is kept as a list of
+   free sections, each of them a box of free cells. A box goes to the corner of the newest free section that holds it, and
+   what is left of that section is cut into new ones.
+
+   Proved of every session, after each call, whatever was called before and wherever memory is refused:
+   - Each cell of each bin is in exactly one free section or outstanding placement, and each of these is inside the bin. So
+     no two outstanding boxes share a cell, and no cell is lost.
+   - A call that answers anything but RP_DONE leaves the session as it was and writes nothing. Each status but
+     RP_OUT_OF_MEMORY comes exactly under its condition where memory is not refused.
+   - Placements are numbered 0, 1, 2 and so on, in the order of packing. No number is given twice in a session.
+   Only tested: that RP_OUT_OF_MEMORY comes only where malloc or realloc answered NULL, and that free gives all memory back.
+
+   The caller sees to it that:
+   - rectangle_pack_session_new gets a handle that is as RP_NO_SESSION makes it, and every other call one that
+     rectangle_pack_session_new made with RP_DONE and that was not freed since.
+   - Calls of one session come one at a time, from whatever threads. Different sessions have nothing in common, and may be
+     called from several threads at once.
+   - Where a handle is copied, one copy alone is used from then on. So a session may be moved.
+   - Until a call returns, the handle, the statistics and the lists are there and aligned, no two of them overlap, each list has
+     as many entries as its count says, nobody writes to them, and nobody else reads those that are not const. No pointer is
+     NULL: for an empty list any other aligned pointer will do.
+   - No call is made from a signal handler, nor after fork in the child of a process with threads. The calls need a processor
+     of x86-64-v2. */
+typedef struct rp_session {
+    /* The library's own. */
+    void *at;
+} rp_session;
+
+/* A handle without a session: rp_session session = RP_NO_SESSION; */
+#define RP_NO_SESSION {0}
+
+/* Where a box stands in a session, and the number by which it is released. */
+typedef struct rp_outstanding {
+    uint64_t number;
+    rp_placement placement;
+} rp_outstanding;
+
+/* A volume in cells: low + high * 2^64. In two dimensions high is 0. */
+typedef struct rp_volume {
+    uint64_t low, high;
+} rp_volume;
+
+/* What is free and what is placed in a bin. */
+typedef struct rp_stats {
+    /* The volumes of the bin, of all its free sections and of all outstanding placements in it. */
+    rp_volume bin_volume, free_volume, placed_volume;
+    /* How many free sections and outstanding placements there are, boxes without cells too. */
+    size_t free_sections, placements;
+} rp_stats;
+
+/* Makes a session without bins. RP_DONE, or RP_OUT_OF_MEMORY, and then the handle is still as RP_NO_SESSION makes it. */
+uint32_t rectangle_pack_session_new(rp_session *session);
+
+/* Frees a session, with all that is in it. The handle is then again as RP_NO_SESSION makes it. */
+void rectangle_pack_session_free(rp_session *session);
+
+/* Adds a bin of this size, also 0, under an id of the caller's choice. All of it is free. It stays until the session is
+   freed. RP_DONE, RP_DUPLICATE_BIN or RP_OUT_OF_MEMORY. */
+uint32_t rectangle_pack_session_add_bin(rp_session *session, uint32_t bin, uint32_t width, uint32_t height, uint32_t depth);
+
+/* Packs all boxes into what is free in the bins; placements[i] is where boxes[i] stands, with its number. RP_DONE,
+   RP_NOT_ENOUGH_SPACE, RP_OUT_OF_MEMORY, RP_BAD_LENGTHS, or after some 2^64 boxes RP_NUMBERS_USED_UP.
+
+   Proved:
+   - RP_DONE: each box is outstanding at its placement, in its size, under a number that was not given before; the numbers
+     are the next box_count ones; the boxes of one group above 0 are in one bin; and what was outstanding before stays where
+     it is.
+   - Groups go in falling order of the sum of their volumes; at equal sums boxes of group 0 go by their indices, and before
+     the other groups, which go by their numbers. Each goes into the first bin, by rising volume and at equal volumes by id,
+     in which all of its boxes, by their indices, find a place in turn.
+   - RP_NOT_ENOUGH_SPACE comes only where for some group there is no such bin. Another order might succeed, and so might
+     rectangle_pack_session_coalesce_all before it. */
+uint32_t rectangle_pack_session_pack(rp_session *session, const rp_box *boxes, size_t box_count, rp_outstanding *placements,
+                                     size_t placement_count);
+
+/* Releases a placement by its number, which is not outstanding any more. Its cells are free again, as the newest free section
+   of its bin; a box without cells leaves none. RP_DONE, RP_UNKNOWN_PLACEMENT or RP_OUT_OF_MEMORY. */
+uint32_t rectangle_pack_session_release(rp_session *session, uint64_t number);
+
+/* Joins free sections of a bin, two at a time, until no two share a whole face. It is worth while after releases: a box goes
+   into one free section, and not across two. RP_DONE or RP_UNKNOWN_BIN. */
+uint32_t rectangle_pack_session_coalesce_all(rp_session *session, uint32_t bin);
+
+/* Writes what is free and what is placed in a bin, and leaves the session as it is. RP_DONE or RP_UNKNOWN_BIN.
+
+   Proved: the sums and the counts are those of the bin's free sections and outstanding placements, and the free and the
+   placed volume add up to that of the bin. */
+uint32_t rectangle_pack_session_stats(rp_session *session, uint32_t bin, rp_stats *stats);
 
 #ifdef __cplusplus
 }

@@ -22,7 +22,7 @@ save
 end
 END
 
-# Only the call is exported.
+# Only the calls are exported.
 $CC -shared -o "$build/librectangle_pack.so" \
     -Wl,--whole-archive "$build/librectangle_pack.a" -Wl,--no-whole-archive \
-    -Wl,--version-script=/dev/stdin <<<'{ global: rectangle_pack_boxes; local: *; };'
+    -Wl,--version-script=/dev/stdin <<<'{ global: rectangle_pack_*; local: *; };'
