@@ -3,71 +3,12 @@
    all memory given back, and equal answers to equal lists. Link it with -Wl,--wrap=malloc,--wrap=realloc,--wrap=free. */
 #include <limits.h>
 #include <stdio.h>
-#include <stdlib.h>
 #include <string.h>
 
 #include "rectangle_pack.h"
+#include "refusing.h"
 
-void *__real_malloc(size_t size);
-void *__real_realloc(void *block, size_t size);
-void __real_free(void *block);
-
-/* Requests for memory so far, the first and the last one that are refused, and the blocks that were not given back. */
-static long requests, first_refused, last_refused = -1, blocks;
-static int refused;
-
-static int refuse(void)
-{
-    int now = first_refused <= requests && requests <= last_refused;
-    requests++;
-    refused |= now;
-    return now;
-}
-
-void *__wrap_malloc(size_t size)
-{
-    void *block = refuse() ? NULL : __real_malloc(size);
-    blocks += block != NULL;
-    return block;
-}
-
-void *__wrap_realloc(void *block, size_t size)
-{
-    void *moved = refuse() ? NULL : __real_realloc(block, size);
-    blocks += block == NULL && moved != NULL;
-    return moved;
-}
-
-void __wrap_free(void *block)
-{
-    blocks -= block != NULL;
-    __real_free(block);
-}
-
-enum { BINS = 4, BOXES = 24, SIDE = 12, UNTOUCHED = 0xAB, NONE = -1 };
-
-static void fail(const char *what)
-{
-    fprintf(stderr, "harness: %s\n", what);
-    exit(1);
-}
-
-static void check(int holds, const char *what)
-{
-    if (!holds)
-        fail(what);
-}
-
-/* Numbers that look drawn: xorshift. */
-static uint32_t state = 2463534242u;
-
-static uint32_t within(uint32_t low, uint32_t high)
-{
-    state ^= state << 13;
-    state ^= state >> 17;
-    state ^= state << 5;
-    return low + state % (high - low + 1);
-}
+enum { BINS = 4, BOXES = 24, SIDE = 12 };
 
 /* Each cell of each bin is in at most one box. */
 static void check_cells(const rp_bin *bins, const rp_box *boxes, size_t count, const rp_placement *placed)
@@ -102,12 +43,9 @@ static uint32_t call(long first, long last, const rp_bin *bins, const rp_box *bo
     static rp_placement untouched[BOXES];
     memset(untouched, UNTOUCHED, sizeof untouched);
     memset(placed, UNTOUCHED, sizeof untouched);
-    requests = 0;
-    refused = 0;
-    first_refused = first;
-    last_refused = last;
+    refuse_requests(first, last);
     uint32_t status = rectangle_pack_boxes(bins, BINS, boxes, count, placed, count);
-    last_refused = NONE;
+    refuse_nothing();
     check(blocks == 0, "memory is not given back");
     check(status <= RP_OUT_OF_MEMORY, "an answer that does not fit");
     check(status != RP_OUT_OF_MEMORY || refused, "want of memory is answered where all was there");
