@@ -4,16 +4,26 @@
     >>> pack([Bin(64, 64)], [Box(10, 20, group=1), Box(5, 50, group=1)])
     [Placement(bin=0, x=0, y=0, z=0), Placement(bin=0, x=10, y=0, z=0)]
 
+A Session keeps its bins from packing to packing, and releases boxes again.
+
 The library is build/librectangle_pack.so, which tools/build_c.sh writes, or the file that RECTANGLE_PACK names."""
 from __future__ import annotations
 
 import ctypes
 import os
-from collections.abc import Sequence
+import threading
+import weakref
+from collections.abc import Iterable
 from pathlib import Path
+from types import TracebackType
 from typing import NamedTuple
 
-__all__ = ["Bin", "Box", "Placement", "PackError", "NotEnoughBinSpace", "OutOfMemory", "TooMany", "pack"]
+__all__ = [
+    "Bin", "Box", "Placement", "pack",
+    "Session", "Outstanding", "Stats",
+    "PackError", "NotEnoughBinSpace", "OutOfMemory", "TooMany",
+    "DuplicateBin", "UnknownBin", "UnknownPlacement", "NumbersUsedUp",
+]
 
 
 class Bin(NamedTuple):
@@ -24,7 +34,7 @@ class Bin(NamedTuple):
 
 
 class Box(NamedTuple):
-    """A box, by its size in cells. Boxes of one group above 0 go into one bin; in group 0 each is alone."""
+    """A box, by its size in cells. Boxes of one packing and of one group above 0 go into one bin; in group 0 each is alone."""
     width: int
     height: int
     depth: int = 1
@@ -39,29 +49,73 @@ class Placement(NamedTuple):
     z: int
 
 
+class Outstanding(NamedTuple):
+    """Where a box stands in a session: its number, by which it is released, the id of its bin, and its corner there."""
+    number: int
+    bin: int
+    x: int
+    y: int
+    z: int
+
+
+class Stats(NamedTuple):
+    """What is free and what is placed in a bin: volumes in cells, and how many free sections and placements there are."""
+    bin_volume: int
+    free_volume: int
+    placed_volume: int
+    free_sections: int
+    placements: int
+
+
 class PackError(Exception):
-    """Nothing was packed."""
+    """A call was refused. Nothing was packed, and a session is as it was."""
+
+    text = ""
+
+    def __init__(self) -> None:
+        super().__init__(self.text)
 
 
 class NotEnoughBinSpace(PackError):
     """For some group no bin takes all of its boxes, as the groups before it left the bins."""
 
-    def __init__(self) -> None:
-        super().__init__("not enough bin space")
+    text = "Not enough space to place all of the rectangles."
 
 
 class OutOfMemory(PackError, MemoryError):
     """Memory was refused."""
 
-    def __init__(self) -> None:
-        super().__init__("out of memory")
+    text = "Out of memory."
 
 
 class TooMany(PackError, ValueError):
     """There are 2**32 bins or boxes, or more."""
 
-    def __init__(self) -> None:
-        super().__init__("too many bins or boxes")
+    text = "Too many bins or boxes."
+
+
+class DuplicateBin(PackError):
+    """The session has a bin of this id already."""
+
+    text = "The bin is there already."
+
+
+class UnknownBin(PackError):
+    """The session has no bin of this id."""
+
+    text = "There is no such bin."
+
+
+class UnknownPlacement(PackError):
+    """No placement of this number is outstanding in the session."""
+
+    text = "No placement of this number is outstanding."
+
+
+class NumbersUsedUp(PackError):
+    """The numbers of the session's placements would reach 2**64 - 1, which is never given."""
+
+    text = "The numbers of placements are used up."
 
 
 class _Bin(ctypes.Structure):
@@ -76,46 +130,195 @@ class _Placement(ctypes.Structure):
     _fields_ = [(name, ctypes.c_uint32) for name in Placement._fields]
 
 
-_ERRORS = {1: NotEnoughBinSpace, 2: OutOfMemory, 3: TooMany}
+class _Session(ctypes.Structure):
+    _fields_ = [("at", ctypes.c_void_p)]
+
+
+class _Outstanding(ctypes.Structure):
+    _fields_ = [("number", ctypes.c_uint64), ("placement", _Placement)]
+
+
+class _Volume(ctypes.Structure):
+    _fields_ = [("low", ctypes.c_uint64), ("high", ctypes.c_uint64)]
+
+
+class _Stats(ctypes.Structure):
+    _fields_ = [
+        ("bin_volume", _Volume), ("free_volume", _Volume), ("placed_volume", _Volume),
+        ("free_sections", ctypes.c_size_t), ("placements", ctypes.c_size_t),
+    ]
+
+
+_ERRORS = {
+    1: NotEnoughBinSpace, 2: OutOfMemory, 3: TooMany,
+    4: DuplicateBin, 5: UnknownBin, 6: UnknownPlacement, 7: NumbersUsedUp,
+}
+
+_ARGUMENTS = {
+    "boxes": [
+        ctypes.POINTER(_Bin), ctypes.c_size_t,
+        ctypes.POINTER(_Box), ctypes.c_size_t,
+        ctypes.POINTER(_Placement), ctypes.c_size_t,
+    ],
+    "session_new": [ctypes.POINTER(_Session)],
+    "session_free": [ctypes.POINTER(_Session)],
+    "session_add_bin": [ctypes.POINTER(_Session)] + [ctypes.c_uint32] * 4,
+    "session_pack": [
+        ctypes.POINTER(_Session),
+        ctypes.POINTER(_Box), ctypes.c_size_t,
+        ctypes.POINTER(_Outstanding), ctypes.c_size_t,
+    ],
+    "session_release": [ctypes.POINTER(_Session), ctypes.c_uint64],
+    "session_coalesce_all": [ctypes.POINTER(_Session), ctypes.c_uint32],
+    "session_stats": [ctypes.POINTER(_Session), ctypes.c_uint32, ctypes.POINTER(_Stats)],
+}
 
 
 def _loaded() -> ctypes.CDLL:
     here = Path(__file__).resolve().parent
     library = ctypes.CDLL(os.environ.get("RECTANGLE_PACK", str(here.parent.parent / "build" / "librectangle_pack.so")))
-    library.rectangle_pack_boxes.restype = ctypes.c_uint32
-    library.rectangle_pack_boxes.argtypes = [
-        ctypes.POINTER(_Bin), ctypes.c_size_t,
-        ctypes.POINTER(_Box), ctypes.c_size_t,
-        ctypes.POINTER(_Placement), ctypes.c_size_t,
-    ]
+    for name, arguments in _ARGUMENTS.items():
+        function = getattr(library, f"rectangle_pack_{name}")
+        function.argtypes = arguments
+        function.restype = None if name == "session_free" else ctypes.c_uint32
     return library
 
 
 _library = _loaded()
 
 
-def _number(value: int) -> int:
-    """The number, where 32 bits hold it: ctypes alone would drop the bits above."""
-    if not isinstance(value, int):
+def _number(value: int, bits: int = 32) -> int:
+    """The number, where so many bits hold it: ctypes alone would drop the bits above."""
+    if not isinstance(value, int) or isinstance(value, bool):
         raise TypeError(f"not a whole number: {value!r}")
-    if not 0 <= value < 2**32:
-        raise ValueError(f"not a number from 0 to 2**32 - 1: {value}")
+    if not 0 <= value < 2**bits:
+        raise ValueError(f"not a number from 0 to 2**{bits} - 1: {value}")
     return value
 
 
-def _numbers(values: Sequence[int]) -> list[int]:
+def _numbers(values: Iterable[int]) -> list[int]:
     return [_number(value) for value in values]
 
 
-def pack(bins: Sequence[Bin], boxes: Sequence[Box]) -> list[Placement]:
+def _listed(kind: type[ctypes.Structure], entries: list[ctypes.Structure]) -> ctypes.Array[ctypes.Structure]:
+    """The entries as C takes them. An empty list has one that is not counted, so that no pointer is NULL."""
+    return (kind * max(len(entries), 1))(*entries)
+
+
+def _boxes(boxes: Iterable[Box]) -> list[ctypes.Structure]:
+    return [_Box(*_numbers(Box(*box))) for box in boxes]
+
+
+def pack(bins: Iterable[Bin], boxes: Iterable[Box]) -> list[Placement]:
     """One placement for each box, in the same place of the list. Equal bins and boxes are packed alike, on every machine.
 
     Raises NotEnoughBinSpace, OutOfMemory or TooMany, and ValueError or TypeError where a number is not one of 32 bits."""
-    # An empty list has an entry that is not counted, so that no pointer is NULL.
-    bin_list = (_Bin * max(len(bins), 1))(*(_Bin(*_numbers(Bin(*size))) for size in bins))
-    box_list = (_Box * max(len(boxes), 1))(*(_Box(*_numbers(Box(*box))) for box in boxes))
-    placements = (_Placement * max(len(boxes), 1))()
-    status = _library.rectangle_pack_boxes(bin_list, len(bins), box_list, len(boxes), placements, len(boxes))
+    bin_list, box_list = [_Bin(*_numbers(Bin(*size))) for size in bins], _boxes(boxes)
+    placements = (_Placement * max(len(box_list), 1))()
+    status = _library.rectangle_pack_boxes(
+        _listed(_Bin, bin_list), len(bin_list), _listed(_Box, box_list), len(box_list), placements, len(box_list))
     if status:
         raise _ERRORS[status]()
-    return [Placement(it.bin, it.x, it.y, it.z) for it in placements[:len(boxes)]]
+    return [Placement(it.bin, it.x, it.y, it.z) for it in placements[:len(box_list)]]
+
+
+def _volume(parts: _Volume) -> int:
+    return parts.low + (parts.high << 64)
+
+
+class Session:
+    """Bins that stay, and boxes that are packed into them and released by number.
+
+    >>> from rectangle_pack import Box, Session
+    >>> with Session() as session:
+    ...     session.add_bin(7, 10, 10)
+    ...     [hat] = session.pack([Box(4, 10)])
+    ...     session.release(hat.number)
+    ...     session.coalesce_all(7)
+    ...     session.stats(7)
+    Stats(bin_volume=100, free_volume=100, placed_volume=0, free_sections=1, placements=0)
+
+    Each cell of a bin is in exactly one free section or outstanding placement. A call that raises leaves the session as it
+    was. Memory is given back at the end of the with block, by close(), or when nothing refers to the session any more.
+
+    Each method raises ValueError where the session is closed, and ValueError or TypeError where a number is not one of 32
+    bits, or of 64 where it is that of a placement."""
+
+    def __init__(self) -> None:
+        """A session without bins. Raises OutOfMemory."""
+        self._handle = _Session()
+        # ctypes lets other threads run during a call, and calls of one session come one at a time.
+        self._one_at_a_time = threading.RLock()
+        status = _library.rectangle_pack_session_new(self._handle)
+        if status:
+            raise _ERRORS[status]()
+        self._free = weakref.finalize(self, _library.rectangle_pack_session_free, self._handle)
+        # At the end of the process a thread may still be in a call.
+        self._free.atexit = False
+
+    def __enter__(self) -> Session:
+        with self._one_at_a_time:
+            self._check_open()
+        return self
+
+    def __exit__(
+        self, kind: type[BaseException] | None, error: BaseException | None, trace: TracebackType | None,
+    ) -> None:
+        self.close()
+
+    def close(self) -> None:
+        """Gives the memory back. To close a session again does nothing."""
+        with self._one_at_a_time:
+            self._free()
+
+    def _check_open(self) -> None:
+        if not self._free.alive:
+            raise ValueError("the session is closed")
+
+    def _call(self, name: str, *arguments: object) -> None:
+        with self._one_at_a_time:
+            self._check_open()
+            status = getattr(_library, f"rectangle_pack_session_{name}")(self._handle, *arguments)
+        if status:
+            raise _ERRORS[status]()
+
+    def add_bin(self, bin: int, width: int, height: int, depth: int = 1) -> None:
+        """Adds a bin of this size under an id of the caller's choice. It stays until the session is closed.
+
+        Raises DuplicateBin or OutOfMemory."""
+        self._call("add_bin", *_numbers((bin, width, height, depth)))
+
+    def pack(self, boxes: Iterable[Box]) -> list[Outstanding]:
+        """Packs all boxes into what is free; one placement for each box, in the same place of the list.
+
+        Placements are numbered 0, 1, 2 and so on, in the order of packing: groups by falling volume, ties in the order of the
+        list, boxes without a group first, and then groups by their numbers. Each group goes into the first bin that takes it,
+        by rising volume, at ties by id.
+
+        Raises NotEnoughBinSpace, OutOfMemory, TooMany or NumbersUsedUp."""
+        box_list = _boxes(boxes)
+        places = (_Outstanding * max(len(box_list), 1))()
+        self._call("pack", _listed(_Box, box_list), len(box_list), places, len(box_list))
+        placed = [(it.number, it.placement) for it in places[:len(box_list)]]
+        return [Outstanding(number, at.bin, at.x, at.y, at.z) for number, at in placed]
+
+    def release(self, number: int) -> None:
+        """Releases a placement by its number: its cells are free again, as the newest free section of its bin.
+
+        Raises UnknownPlacement or OutOfMemory."""
+        self._call("release", _number(number, 64))
+
+    def coalesce_all(self, bin: int) -> None:
+        """Joins free sections of a bin until no two share a whole face. It is worth while after releases.
+
+        Raises UnknownBin."""
+        self._call("coalesce_all", _number(bin))
+
+    def stats(self, bin: int) -> Stats:
+        """What is free and what is placed in a bin. The free and the placed volume add up to that of the bin.
+
+        Raises UnknownBin."""
+        it = _Stats()
+        self._call("stats", _number(bin), it)
+        volumes = (_volume(it.bin_volume), _volume(it.free_volume), _volume(it.placed_volume))
+        return Stats(*volumes, it.free_sections, it.placements)
