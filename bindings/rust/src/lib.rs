@@ -23,14 +23,19 @@
 //! assert_eq!(locations["hat"].0, locations["shoe"].0);
 //! # Ok::<(), rectangle_pack::RectanglePackError>(())
 //! ```
+//!
+//! `pack_rects` packs once. A [`Session`] keeps its bins: boxes are packed into them and released again.
 
 #![warn(missing_docs)]
 
 mod ffi;
+mod session;
 
 use std::collections::{BTreeMap, BTreeSet};
 use std::error::Error;
 use std::fmt;
+
+pub use session::{BinStats, Outstanding, Session, SessionError};
 
 /// The size of a box that is to be placed, in cells.
 #[derive(Debug, Clone, Copy, PartialEq, Eq, Hash)]
@@ -118,6 +123,19 @@ impl<RectId: Ord + Clone, GroupId: Ord> GroupedRectsToPlace<RectId, GroupId> {
             .flat_map(|(number, ids)| ids.iter().map(move |id| (id, number)));
         alone.chain(grouped).collect()
     }
+
+    /// The boxes of these entries, as C takes them.
+    fn boxes(&self, entries: &[(&RectId, u32)]) -> Vec<ffi::RpBox> {
+        let sized = entries.iter().map(|&(id, group)| (self.sizes[id], group));
+        sized
+            .map(|(size, group)| ffi::RpBox {
+                width: size.width,
+                height: size.height,
+                depth: size.depth,
+                group,
+            })
+            .collect()
+    }
 }
 
 impl<RectId: Ord + Clone, GroupId: Ord> Default for GroupedRectsToPlace<RectId, GroupId> {
@@ -200,9 +218,9 @@ pub enum RectanglePackError {
 impl fmt::Display for RectanglePackError {
     fn fmt(&self, f: &mut fmt::Formatter<'_>) -> fmt::Result {
         f.write_str(match self {
-            RectanglePackError::NotEnoughBinSpace => "not enough bin space",
-            RectanglePackError::OutOfMemory => "out of memory",
-            RectanglePackError::TooMany => "too many boxes or bins",
+            RectanglePackError::NotEnoughBinSpace => "Not enough space to place all of the rectangles.",
+            RectanglePackError::OutOfMemory => "Out of memory.",
+            RectanglePackError::TooMany => "Too many bins or boxes.",
         })
     }
 }
@@ -244,19 +262,7 @@ where
             depth: bin.depth,
         })
         .collect();
-    let boxes: Vec<ffi::RpBox> = entries
-        .iter()
-        .map(|&(id, group)| {
-            let size = rects.sizes[id];
-            ffi::RpBox {
-                width: size.width,
-                height: size.height,
-                depth: size.depth,
-                group,
-            }
-        })
-        .collect();
-    let placed = ffi::pack(&bin_list, &boxes)?;
+    let placed = ffi::pack(&bin_list, &rects.boxes(&entries))?;
     let mut packed = RectanglePackOk {
         packed_locations: BTreeMap::new(),
         placements: Vec::with_capacity(entries.len()),

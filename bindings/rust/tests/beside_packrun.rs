@@ -1,31 +1,14 @@
 //! Drawn boxes, packed by this crate and by the program `packrun`: both answer the same.
+mod shared;
+
 use std::collections::BTreeMap;
-use std::io::Write;
-use std::path::Path;
-use std::process::{Command, Stdio};
 
 use rectangle_pack::{
     pack_rects, GroupedRectsToPlace, RectToInsert, RectanglePackError, TargetBin,
 };
+use shared::{packrun, Draw};
 
 const RUNS: usize = 200;
-
-/// Numbers that look drawn, from a seed: xorshift.
-struct Draw(u64);
-
-impl Draw {
-    fn next(&mut self) -> u64 {
-        self.0 ^= self.0 << 13;
-        self.0 ^= self.0 >> 7;
-        self.0 ^= self.0 << 17;
-        self.0
-    }
-
-    fn within(&mut self, low: u32, high: u32) -> u32 {
-        let span = u64::from(high - low) + 1;
-        low + u32::try_from(self.next() % span).expect("below the span")
-    }
-}
 
 struct Input {
     bins: BTreeMap<String, [u32; 3]>,
@@ -71,18 +54,7 @@ fn by_packrun(input: &Input) -> Option<Placed> {
         lines += &format!("rect {id} {w} {h} {d} {}\n", groups.join(" "));
     }
     lines += "pack\n";
-    let program = Path::new(env!("CARGO_MANIFEST_DIR")).join("../../packrun");
-    let mut child = Command::new(program)
-        .stdin(Stdio::piped())
-        .stdout(Stdio::piped())
-        .spawn()
-        .expect("packrun starts");
-    let mut stdin = child.stdin.take().expect("it is piped");
-    stdin.write_all(lines.as_bytes()).expect("packrun reads");
-    drop(stdin);
-    let output = child.wait_with_output().expect("packrun ends");
-    assert!(output.status.success(), "packrun refuses lines: {lines}");
-    let text = String::from_utf8(output.stdout).expect("text");
+    let text = packrun(&lines);
     if text.contains("refused") {
         return None;
     }
