@@ -1,7 +1,7 @@
 #!/usr/bin/env bash
 # test_bindings.sh [RUNS]: builds the C library and tests it as its users call it: from C, C++, Rust and Python, on RUNS drawn
-# inputs beside packrun (300 if left out), with each request for memory refused in turn, and under the sanitizers for
-# addresses and undefined behaviour. What this machine has no compiler for is skipped, which is said.
+# inputs and RUNS drawn sessions beside packrun (300 if left out), with each request for memory refused in turn, and under the
+# sanitizers for addresses and undefined behaviour. What this machine has no compiler for is skipped, which is said.
 set -euo pipefail
 cd "$(dirname "${BASH_SOURCE[0]}")/.."
 runs=${1:-300}
@@ -13,36 +13,54 @@ have() {
     command -v "$1" >/dev/null || { skipped+=("$2: no $1"); false; }
 }
 
+# run_harness NAME [FLAG..]: a harness takes memory by way of its own functions.
+run_harness() {
+    cc -std=c99 -g "${@:2}" "${flags[@]}" "bindings/c/$1.c" "$link" -Wl,--wrap=malloc,--wrap=realloc,--wrap=free -o "$work/$1"
+    "$work/$1"
+}
+
 tools/build_c.sh
 ./packrun </dev/null
 flags=(-Wall -Wextra -Werror -Ibuild)
 link=build/librectangle_pack.a
 
+# The shared library exports the calls of the header, and nothing else.
+if have nm "the exported calls"; then
+    nm -D --defined-only build/librectangle_pack.so | awk '{ print $3 }' | sort >"$work/exported.txt"
+    sed -n 's/^[a-z].*\b\(rectangle_pack_[a-z_]*\)(.*/\1/p' include/rectangle_pack.h | sort | diff - "$work/exported.txt"
+fi
 if have cc C; then
-    cc -std=c99 "${flags[@]}" bindings/c/atlas.c "$link" -o "$work/atlas_c"
-    "$work/atlas_c" >"$work/atlas.txt"
-    cc -std=c99 -g "${flags[@]}" bindings/c/harness.c "$link" -Wl,--wrap=malloc,--wrap=realloc,--wrap=free -o "$work/harness"
-    "$work/harness"
-    cc -std=c99 -g -fsanitize=address,undefined -fno-sanitize-recover=all "${flags[@]}" bindings/c/harness.c "$link" \
-        -Wl,--wrap=malloc,--wrap=realloc,--wrap=free -o "$work/harness_sanitized"
-    "$work/harness_sanitized"
-    echo "C: the example and the harness, which also ran under the sanitizers"
+    for it in atlas session; do
+        cc -std=c99 "${flags[@]}" "bindings/c/$it.c" "$link" -o "$work/${it}_c"
+        "$work/${it}_c" >"$work/$it.txt"
+    done
+    for it in harness session_harness; do
+        run_harness "$it"
+        run_harness "$it" -fsanitize=address,undefined -fno-sanitize-recover=all
+    done
+    echo "C: the examples and the harnesses, which also ran under the sanitizers"
 fi
 if have c++ C++; then
-    c++ -std=c++11 "${flags[@]}" -x c++ bindings/c/atlas.c -x none "$link" -o "$work/atlas_cpp"
-    "$work/atlas_cpp" | diff - "$work/atlas.txt"
-    echo "C++: the example prints what it prints in C"
+    for it in atlas session; do
+        c++ -std=c++11 "${flags[@]}" -x c++ "bindings/c/$it.c" -x none "$link" -o "$work/${it}_cpp"
+        "$work/${it}_cpp" | diff - "$work/$it.txt"
+    done
+    echo "C++: the examples print what they print in C"
 fi
 if have cargo Rust; then
-    cargo test -q --offline --manifest-path bindings/rust/Cargo.toml --target-dir "$work/rust"
-    cargo run -q --offline --manifest-path bindings/rust/Cargo.toml --target-dir "$work/rust" --example atlas >/dev/null
-    echo "Rust: cargo test, which compares with packrun, and the example"
+    cargo=(--offline --manifest-path bindings/rust/Cargo.toml --target-dir "$work/rust")
+    cargo test -q "${cargo[@]}"
+    cargo run -q "${cargo[@]}" --example atlas >/dev/null
+    cargo run -q "${cargo[@]}" --example session | diff - "$work/session.txt"
+    echo "Rust: cargo test, which compares with packrun, and the examples"
 fi
 if have python3 Python; then
     python3 -m unittest discover -q -s bindings/python
-    python3 bindings/python/atlas.py | diff - "$work/atlas.txt"
+    for it in atlas session; do
+        python3 "bindings/python/$it.py" | diff - "$work/$it.txt"
+    done
     tools/c_beside_packrun.py "$runs"
-    echo "Python: the tests, the example, and the drawn inputs beside packrun"
+    echo "Python: the tests, the examples, and the drawn inputs and sessions beside packrun"
 fi
 for it in ${skipped[@]+"${skipped[@]}"}; do
     echo "skipped: $it"
