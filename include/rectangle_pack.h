@@ -103,8 +103,8 @@ uint32_t rectangle_pack_boxes(const rp_bin *bins, size_t bin_count, const rp_box
    The caller sees to it that:
    - rectangle_pack_session_new gets a handle that is as RP_NO_SESSION makes it, and every other call one that
      rectangle_pack_session_new made with RP_DONE and that was not freed since.
-   - Calls of one session come one at a time, from whatever threads. Different sessions have nothing in common, and may be
-     called from several threads at once.
+   - A session stays on the thread that made it. Different sessions have nothing in common, and may be called from several
+     threads at once.
    - Where a handle is copied, one copy alone is used from then on. So a session may be moved.
    - Until a call returns, the handle, the statistics and the lists are there and aligned, no two of them overlap, each list has
      as many entries as its count says, nobody writes to them, and nobody else reads those that are not const. No pointer is

@@ -242,23 +242,22 @@ class Session:
     was. Memory is given back at the end of the with block, by close(), or when nothing refers to the session any more.
 
     Each method raises ValueError where the session is closed, and ValueError or TypeError where a number is not one of 32
-    bits, or of 64 where it is that of a placement."""
+    bits, or of 64 where it is that of a placement. A session stays on the thread that made it: a call from another one
+    raises RuntimeError."""
 
     def __init__(self) -> None:
         """A session without bins. Raises OutOfMemory."""
         self._handle = _Session()
-        # ctypes lets other threads run during a call, and calls of one session come one at a time.
-        self._one_at_a_time = threading.RLock()
+        self._thread = threading.get_ident()
         status = _library.rectangle_pack_session_new(self._handle)
         if status:
             raise _ERRORS[status]()
         self._free = weakref.finalize(self, _library.rectangle_pack_session_free, self._handle)
-        # At the end of the process a thread may still be in a call.
+        # At the end of the process all memory goes anyway.
         self._free.atexit = False
 
     def __enter__(self) -> Session:
-        with self._one_at_a_time:
-            self._check_open()
+        self._check_open()
         return self
 
     def __exit__(
@@ -268,17 +267,21 @@ class Session:
 
     def close(self) -> None:
         """Gives the memory back. To close a session again does nothing."""
-        with self._one_at_a_time:
-            self._free()
+        self._check_thread()
+        self._free()
+
+    def _check_thread(self) -> None:
+        if threading.get_ident() != self._thread:
+            raise RuntimeError("a session stays on the thread that made it")
 
     def _check_open(self) -> None:
+        self._check_thread()
         if not self._free.alive:
             raise ValueError("the session is closed")
 
     def _call(self, name: str, *arguments: object) -> None:
-        with self._one_at_a_time:
-            self._check_open()
-            status = getattr(_library, f"rectangle_pack_session_{name}")(self._handle, *arguments)
+        self._check_open()
+        status = getattr(_library, f"rectangle_pack_session_{name}")(self._handle, *arguments)
         if status:
             raise _ERRORS[status]()
 

@@ -310,12 +310,20 @@ class Threads(unittest.TestCase):
         for i in range(4):
             self.assertEqual((stats[i].free_volume, stats[i].placed_volume), (2500 - (i + 1), i + 1))
 
-    def test_calls_of_one_session_come_one_at_a_time(self):
-        numbers = []
-        with session_with((7, 1000, 1000)) as session:
-            self.run_all(lambda i: numbers.extend(session.pack([Box(1, 1)])[0].number for _ in range(200)))
-            self.assertEqual(sorted(numbers), list(range(800)))
-            self.assertEqual(session.stats(7).placements, 800)
+    def test_a_session_stays_on_its_thread(self):
+        refused = []
+
+        def work(i):
+            for call in (lambda: session.stats(7), session.close):
+                try:
+                    call()
+                except RuntimeError:
+                    refused.append(i)
+
+        with session_with((7, 10, 10)) as session:
+            self.run_all(work)
+            self.assertEqual(sorted(refused), [0, 0, 1, 1, 2, 2, 3, 3])
+            self.assertEqual(session.stats(7).free_volume, 100)
 
 
 def load_tests(loader, tests, pattern):

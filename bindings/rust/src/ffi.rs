@@ -122,11 +122,8 @@ pub(crate) fn pack(bins: &[RpBin], boxes: &[RpBox]) -> Result<Vec<RpPlacement>, 
 
 /// A session of the C library, from `rectangle_pack_session_new` on and until it is dropped.
 ///
-/// The cell keeps it from being shared between threads, and no call calls back, so that calls come one at a time.
+/// The pointer keeps it on the thread that made it, and no call calls back, so that calls come one at a time.
 pub(crate) struct Handle(UnsafeCell<RpSession>);
-
-// SAFETY: a session is plain memory behind one pointer, which this handle alone has. Calls may come from any thread.
-unsafe impl Send for Handle {}
 
 impl Handle {
     pub(crate) fn new() -> Result<Self, SessionError> {
@@ -172,7 +169,7 @@ impl Handle {
 
     pub(crate) fn stats(&self, bin: u32) -> Result<BinStats, SessionError> {
         let mut stats = RpStats::default();
-        // SAFETY: the handle has a session. It is in a cell and not shared between threads, so nobody else reads or writes it
+        // SAFETY: the handle has a session. It stays on its thread, so nobody else reads or writes it
         // during the call. The statistics are those of this function.
         answer(unsafe { rectangle_pack_session_stats(self.0.get(), bin, &mut stats) })?;
         Ok(BinStats {

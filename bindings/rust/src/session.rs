@@ -96,22 +96,12 @@ impl Error for SessionError {}
 /// # Ok::<(), rectangle_pack::SessionError>(())
 /// ```
 ///
-/// It may be sent to another thread:
-///
-/// ```
-/// # use rectangle_pack::{Session, SessionError, TargetBin};
-/// let mut session: Session<u32, u32> = Session::new()?;
-/// let sent = std::thread::spawn(move || session.add_bin(7, TargetBin::new(10, 10, 1)));
-/// assert_eq!(sent.join().unwrap(), Ok(()));
-/// # Ok::<(), SessionError>(())
-/// ```
-///
-/// but not shared between threads:
+/// It stays on the thread that made it:
 ///
 /// ```compile_fail,E0277
 /// # use rectangle_pack::Session;
-/// fn shared<T: Sync>() {}
-/// shared::<Session<u32, u32>>();
+/// fn sent<T: Send>() {}
+/// sent::<Session<u32, u32>>();
 /// ```
 #[derive(Debug)]
 pub struct Session<RectId, BinId> {
