@@ -95,14 +95,15 @@ uint32_t rectangle_pack_boxes(const rp_bin *bins, size_t bin_count, const rp_box
    Proved of every session, after each call, whatever was called before and wherever memory is refused:
    - Each cell of each bin is in exactly one free section or outstanding placement, and each of these is inside the bin. So
      no two outstanding boxes share a cell, and no cell is lost.
-   - A call that answers anything but RP_DONE leaves the session as it was and writes nothing. Each status but
-     RP_OUT_OF_MEMORY comes exactly under its condition where memory is not refused.
+   - A call that answers anything but RP_DONE leaves the session as it was and writes nothing. RP_BAD_LENGTHS,
+     RP_DUPLICATE_BIN, RP_UNKNOWN_BIN and RP_UNKNOWN_PLACEMENT come exactly under their conditions, and RP_NUMBERS_USED_UP
+     too, unless RP_OUT_OF_MEMORY is answered in its place.
    - Placements are numbered 0, 1, 2 and so on, in the order of packing. No number is given twice in a session.
    Only tested: that RP_OUT_OF_MEMORY comes only where malloc or realloc answered NULL, and that free gives all memory back.
 
    The caller sees to it that:
    - rectangle_pack_session_new gets a handle that is as RP_NO_SESSION makes it, and every other call one that
-     rectangle_pack_session_new made with RP_DONE and that was not freed since.
+     rectangle_pack_session_new made with RP_DONE and that was not freed since. Nobody else writes to it.
    - A session stays on the thread that made it. Different sessions have nothing in common, and may be called from several
      threads at once.
    - Where a handle is copied, one copy alone is used from then on. So a session may be moved.
@@ -141,7 +142,8 @@ typedef struct rp_stats {
 /* Makes a session without bins. RP_DONE, or RP_OUT_OF_MEMORY, and then the handle is still as RP_NO_SESSION makes it. */
 uint32_t rectangle_pack_session_new(rp_session *session);
 
-/* Frees a session, with all that is in it. The handle is then again as RP_NO_SESSION makes it. */
+/* Frees a session, with all that is in it. The handle is then again as RP_NO_SESSION makes it. A handle without a session is
+   not freed: unlike free(NULL), that is a mistake. */
 void rectangle_pack_session_free(rp_session *session);
 
 /* Adds a bin of this size, also 0, under an id of the caller's choice. All of it is free. It stays until the session is
@@ -152,9 +154,9 @@ uint32_t rectangle_pack_session_add_bin(rp_session *session, uint32_t bin, uint3
    RP_NOT_ENOUGH_SPACE, RP_OUT_OF_MEMORY, RP_BAD_LENGTHS, or after some 2^64 boxes RP_NUMBERS_USED_UP.
 
    Proved:
-   - RP_DONE: each box is outstanding at its placement, in its size, under a number that was not given before; the numbers
-     are the next box_count ones; the boxes of one group above 0 are in one bin; and what was outstanding before stays where
-     it is.
+   - RP_DONE: each box is outstanding at its placement, in its size, under a number that was not given before; the boxes of
+     one group above 0 are in one bin; and what was outstanding before stays where it is. Only tested: that the numbers are
+     the next box_count ones.
    - Groups go in falling order of the sum of their volumes; at equal sums boxes of group 0 go by their indices, and before
      the other groups, which go by their numbers. Each goes into the first bin, by rising volume and at equal volumes by id,
      in which all of its boxes, by their indices, find a place in turn.
@@ -164,7 +166,7 @@ uint32_t rectangle_pack_session_pack(rp_session *session, const rp_box *boxes, s
                                      size_t placement_count);
 
 /* Releases a placement by its number, which is not outstanding any more. Its cells are free again, as the newest free section
-   of its bin; a box without cells leaves none. RP_DONE, RP_UNKNOWN_PLACEMENT or RP_OUT_OF_MEMORY. */
+   of its bin, the last of the list; a box without cells leaves none. RP_DONE, RP_UNKNOWN_PLACEMENT or RP_OUT_OF_MEMORY. */
 uint32_t rectangle_pack_session_release(rp_session *session, uint64_t number);
 
 /* Joins free sections of a bin, two at a time, until no two share a whole face. It is worth while after releases: a box goes
