@@ -154,9 +154,10 @@ uint32_t rectangle_pack_session_add_bin(rp_session *session, uint32_t bin, uint3
    RP_NOT_ENOUGH_SPACE, RP_OUT_OF_MEMORY, RP_BAD_LENGTHS, or after some 2^64 boxes RP_NUMBERS_USED_UP.
 
    Proved:
-   - RP_DONE: each box is outstanding at its placement, in its size, under a number that was not given before; the boxes of
-     one group above 0 are in one bin; and what was outstanding before stays where it is. Only tested: that the numbers are
-     the next box_count ones.
+   - RP_DONE: each box is outstanding at its placement, in its size, under a number of its own that was not given before;
+     the boxes of one group above 0 are in one bin; and what was outstanding before stays where it is. Only tested: that the
+     numbers are the next box_count ones.
+   - RP_OUT_OF_MEMORY does not come where there are no boxes.
    - Groups go in falling order of the sum of their volumes; at equal sums boxes of group 0 go by their indices, and before
      the other groups, which go by their numbers. Each goes into the first bin, by rising volume and at equal volumes by id,
      in which all of its boxes, by their indices, find a place in turn.
@@ -170,7 +171,9 @@ uint32_t rectangle_pack_session_pack(rp_session *session, const rp_box *boxes, s
 uint32_t rectangle_pack_session_release(rp_session *session, uint64_t number);
 
 /* Joins free sections of a bin, two at a time, until no two share a whole face. It is worth while after releases: a box goes
-   into one free section, and not across two. RP_DONE or RP_UNKNOWN_BIN. */
+   into one free section, and not across two. RP_DONE or RP_UNKNOWN_BIN.
+
+   Proved: the free cells are the same as before, and no two free sections of the bin share a whole face. */
 uint32_t rectangle_pack_session_coalesce_all(rp_session *session, uint32_t bin);
 
 /* Writes what is free and what is placed in a bin, and leaves the session as it is. RP_DONE or RP_UNKNOWN_BIN.

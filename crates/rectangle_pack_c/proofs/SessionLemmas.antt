@@ -1,10 +1,13 @@
 -- What a session's answer to a packing says of the boxes of a C caller: in its order of groups and by volume, and of the
 -- placements that are written.
 use Rattle.std.proofs.Common.{◌≡◌, ◌≢◌, ◌⊎◌, inl, inr, ℕ, ◌+◌, ◌-◌, ◌<◌, ◌≤◌, List, [], ◌∷◌, ◌++◌, length, take, drop, refl, ap, sym, ◌∙◌, subst, arith, length-append}
-use Rattle.std.specs.Prelude.{All, AllPairs, Contains, Some, map, slice_get}
+use Rattle.std.specs.Prelude.{All, AllPairs, Contains, None, Some, map, slice_get}
 use Rattle.std.specs.Option.{option_map}
 use Rattle.std.specs.Ordering.{nat_cmp}
 use Rattle.std.specs.declared.cmp.Ordering.{Ordering}
+use Rattle.std.specs.Map.{lookup}
+use Rattle.std.specs.BTreeMap.{is_at}
+use Rattle.rectangle_pack_c.proofs.OrderLemmas.{group_same}
 use Rattle.std.proofs.Math.Seq.{drop-append_seam}
 use Rattle.std.proofs.lemmas.Cmp.{nat_cmp_total}
 use Rattle.std.proofs.lemmas.List.{take_all}
@@ -55,6 +58,40 @@ found_number n (p ∷ ps) q h = by (in_cases p ps q h) (found_number (n + 1) ps 
         (here, in_first here (numbered (n + 1) ps) here refl, ap (λ (x : Placement ℕ ℕ). x.id) e, ap (λ (x : Placement ℕ ℕ). x.bin) e, ap (λ (x : Placement ℕ ℕ). x.location) e, omega arith)
     by (inr more) ih = let (r, inside, id, bin, location, low) = ih more in (r, in_later here (numbered (n + 1) ps) r inside, id, bin, location, omega (arith, low))
 
+-- numbers rise from the first one on, so two records of one number are of one box
+numbers_from : (n : ℕ) (ps : List (Placement ℕ ℕ)) (r : Outstanding ℕ ℕ) → Contains (numbered n ps) r → n ≤ r.number
+numbers_from n [] r h = absurd (none_in r h)
+numbers_from n (p ∷ ps) r h = by (in_cases (record { number = n; id = p.id; bin = p.bin; location = p.location }) (numbered (n + 1) ps) r h) (numbers_from (n + 1) ps r)
+  where
+    by : (record { number = n; id = p.id; bin = p.bin; location = p.location } ≡ r) ⊎ Contains (numbered (n + 1) ps) r → (Contains (numbered (n + 1) ps) r → n + 1 ≤ r.number) → n ≤ r.number
+    by (inl e) ih = omega (arith, ap (λ (x : Outstanding ℕ ℕ). x.number) e)
+    by (inr more) ih = omega (arith, ih more)
+
+same_number : (n : ℕ) (ps : List (Placement ℕ ℕ)) (r s : Outstanding ℕ ℕ) → Contains (numbered n ps) r → Contains (numbered n ps) s → r.number ≡ s.number → r ≡ s
+same_number n [] r s h g e = absurd (none_in r h)
+same_number n (p ∷ ps) r s h g e =
+    by (in_cases (record { number = n; id = p.id; bin = p.bin; location = p.location }) (numbered (n + 1) ps) r h) (in_cases (record { number = n; id = p.id; bin = p.bin; location = p.location }) (numbered (n + 1) ps) s g) (λ x y. same_number (n + 1) ps r s x y e)
+  where
+    is_n : (q : Outstanding ℕ ℕ) → record { number = n; id = p.id; bin = p.bin; location = p.location } ≡ q → n ≡ q.number
+    is_n q x = ap (λ (o : Outstanding ℕ ℕ). o.number) x
+
+    by : (record { number = n; id = p.id; bin = p.bin; location = p.location } ≡ r) ⊎ Contains (numbered (n + 1) ps) r → (record { number = n; id = p.id; bin = p.bin; location = p.location } ≡ s) ⊎ Contains (numbered (n + 1) ps) s
+        → (Contains (numbered (n + 1) ps) r → Contains (numbered (n + 1) ps) s → r ≡ s) → r ≡ s
+    by (inl x) (inl y) ih = sym x ∙ y
+    by (inl x) (inr y) ih = absurd (omega (arith, is_n r x, numbers_from (n + 1) ps s y, e))
+    by (inr x) (inl y) ih = absurd (omega (arith, is_n s y, numbers_from (n + 1) ps r x, e))
+    by (inr x) (inr y) ih = ih x y
+
+-- where there is a group there is a box
+some_boxes : (boxes : List RpBox) (all : Collection ℕ ℕ) → IsCollected boxes all → 0 < length all.groups → 0 < length boxes
+some_boxes (b ∷ boxes) all collected some = omega arith
+some_boxes [] all collected some = absurd (none all.groups collected.groups some)
+  where
+    none : (groups : List (Group ℕ ℕ × List ℕ)) → ((group : Group ℕ ℕ) → lookup (is_at (group_order group)) groups ≡ None) → 0 < length groups → ⊥
+    none [] absent some = omega (arith, some)
+    none (g ∷ gs) absent some = let found : lookup (is_at (group_order g.0)) (g ∷ gs) ≡ Some g.1 = rw (group_same g.0) refl in
+        let missing : lookup (is_at (group_order g.0)) (g ∷ gs) ≡ None = absent g.0 in absurd (let both : Some g.1 ≡ None = sym found ∙ missing in cc)
+
 module _ (R : Group ℕ ℕ → Group ℕ ℕ → Ordering) (may : Answers) (same : R ≡ group_order) (all : Collection ℕ ℕ) (old new : State ℕ ℕ) where
   abbrev whole_by_order : PlacesWhole R (rules_by nat_cmp nat_cmp may) all old new → PlacesWhole group_order (rules_by nat_cmp nat_cmp may) all old new
   whole_by_order h = subst (λ r. PlacesWhole r (rules_by nat_cmp nat_cmp may) all old new) same h
@@ -97,7 +134,7 @@ module _ (R : Group ℕ ℕ → Group ℕ ℕ → Ordering) (may : Answers) (sam
           (low, left, more, as_before),
           record { left = left; refused = more; each = taken_nowhere group_order (rules_by nat_cmp nat_cmp by_volume) nat_cmp_total all old.bins left more },
         )
-    refused_by_volume OutOfMemory (low, some, as_before) = as_before
+    refused_by_volume OutOfMemory (low, some, as_before) = (some_boxes boxes all collected some, as_before)
 
   -- what is written of a packing that is kept
   module _ (boxes : List RpBox) (collected : IsCollected boxes all) (promised : PlacesWhole R (rules_by nat_cmp nat_cmp may) all old new) where
@@ -148,10 +185,13 @@ module _ (R : Group ℕ ℕ → Group ℕ ℕ → Ordering) (may : Answers) (sam
           ∙ ap (λ n. record { number = r.number; id = r.id; bin = r.bin; location = n }) place in
           (rw same_record inside, rw number low)
 
-      pub are_outstanding : AreOutstanding boxes outs old new
-      are_outstanding = record {
+      pub are_outstanding : length outs ≡ length boxes → AreOutstanding boxes outs old new
+      are_outstanding as_many = record {
+        as_many = as_many;
         outstanding = λ i b p a. rw records_are (Contains-append_right old.records new_records (record_of i b p) (found i b p a).0);
         fresh = λ i b p a. (found i b p a).1;
+        apart = λ i j a b p q s t differ same.
+            differ (ap (λ (r : Outstanding ℕ ℕ). r.id) (same_number old.next made.placements (record_of i a p) (record_of j b q) (found i a p s).0 (found j b q t).0 same));
         together = λ i j a b p q s t named same.
             stand_together boxes all collected made.placements made.homes made.groups made.whole (map placement outs) stood i j a b p.placement q.placement (standing i a p s) (standing j b q t) named same;
       }

@@ -1,5 +1,5 @@
 -- Calls of a session by its handle: what each answers, and what it makes of the session.
-use Rattle.std.specs.Prelude.{◌≡◌, ℕ, ◌+◌, ◌*◌, ◌^◌, ◌<◌, ◌≤◌, List, length, Contains, Option, Some, MatchOption, slice_get}
+use Rattle.std.specs.Prelude.{◌≡◌, ◌≢◌, ℕ, ◌+◌, ◌*◌, ◌^◌, ◌<◌, ◌≤◌, List, length, Contains, Option, Some, MatchOption, slice_get}
 use Rattle.std.specs.Option.{option_map}
 use Rattle.std.specs.Ordering.{nat_cmp}
 use Rattle.std.specs.Map.{lookup}
@@ -51,9 +51,10 @@ pub record AreAsMany (boxes : List RpBox) (placements : List RpOutstanding) : Ty
   pub same : length placements ≡ length boxes
   pub few_boxes : length boxes < 2 ^ 32
 
--- the boxes are packed as a session packs their collection, by volume; or memory is refused, and the session is as it was
+-- the boxes are packed as a session packs their collection, by volume; or, if there is a box, memory is refused, and the
+-- session is as it was
 abbrev pub PacksBoxes : List RpBox → State ℕ ℕ → Reply → State ℕ ℕ → Type 0
-PacksBoxes boxes old (Refused OutOfMemory) new = new ≡ old
+PacksBoxes boxes old (Refused OutOfMemory) new = (0 < length boxes) × (new ≡ old)
 PacksBoxes boxes old reply new =
     (all : Collection ℕ ℕ) × IsCollected boxes all
     × Packs group_order (rules_by nat_cmp nat_cmp by_volume) all old reply new
@@ -68,10 +69,14 @@ pub record IsAt (boxes : List RpBox) (placements : List RpOutstanding) (i : ℕ)
 abbrev pub record_of : ℕ → RpBox → RpOutstanding → Outstanding ℕ ℕ
 record_of i b p = record { number = p.number; id = i; bin = p.placement.bin; location = box_at b p.placement }
 
--- each box is outstanding at its placement, under a number that was not given before; those of one group are in one bin
+-- each box is outstanding at its placement, under a number of its own that was not given before; those of one group are in
+-- one bin
 pub record AreOutstanding (boxes : List RpBox) (placements : List RpOutstanding) (old new : State ℕ ℕ) : Type 0 where
+  pub as_many : length placements ≡ length boxes
   pub outstanding : (i : ℕ) (b : RpBox) (p : RpOutstanding) → IsAt boxes placements i b p → Contains new.records (record_of i b p)
   pub fresh : (i : ℕ) (b : RpBox) (p : RpOutstanding) → IsAt boxes placements i b p → old.next ≤ p.number
+  pub apart : (i j : ℕ) (a b : RpBox) (p q : RpOutstanding) → IsAt boxes placements i a p → IsAt boxes placements j b q
+      → i ≢ j → p.number ≢ q.number
   pub together : (i j : ℕ) (a b : RpBox) (p q : RpOutstanding) → IsAt boxes placements i a p → IsAt boxes placements j b q
       → 0 < a.group → a.group ≡ b.group → p.placement.bin ≡ q.placement.bin
 

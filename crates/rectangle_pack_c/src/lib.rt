@@ -1,7 +1,7 @@
 //! The packer for C: lists of bins and of boxes in, a list of placements out.
 #![tactic(auto)]
 
-ghost use Rattle.std.specs.Prelude.{◌≡◌, ◌<◌, ◌≤◌, ◌↔◌, ◌≢◌, [], IfOk, List, length, All, AllPairs};
+ghost use Rattle.std.specs.Prelude.{◌≡◌, ◌<◌, ◌≤◌, ◌↔◌, ◌≢◌, [], IfOk, IsOk, List, length, All, AllPairs};
 ghost use Rattle.rectangle_pack_c.specs.Arguments.{HaveLengths, IsCollected, new_bins};
 ghost use Rattle.rectangle_pack_c.specs.Answers.{ArePlaced, IsPacked, IsRefused};
 ghost use Rattle.rectangle_pack_c.specs.private.Written.{AreWritten, as_placement};
@@ -44,11 +44,11 @@ pub struct RpBox {
     pub group: u32,
 }
 
-/// Where a box stands: the index of its bin, and its corner there.
+/// Where a box stands: its bin, and its corner there.
 #[repr(C)]
 #[derive(Clone, Copy)]
 pub struct RpPlacement {
-    /// The index of the bin in the list of bins.
+    /// The index of the bin in the list of bins; in a session its id.
     pub bin: u32,
     /// The distance from the bin's left side, in cells.
     pub x: u32,
@@ -58,13 +58,13 @@ pub struct RpPlacement {
     pub z: u32,
 }
 
-/// Each box has its placement.
+/// It is done. Where boxes were packed, each has its placement.
 pub const RP_DONE: u32 = 0;
 /// For some group no bin takes all of its boxes, as the groups before it left the bins.
 pub const RP_NOT_ENOUGH_SPACE: u32 = 1;
 /// Memory was refused.
 pub const RP_OUT_OF_MEMORY: u32 = 2;
-/// There are not as many placements as boxes, or there are 2^32 bins or boxes.
+/// There are not as many placements as boxes, or there are 2^32 bins or boxes, or more.
 pub const RP_BAD_LENGTHS: u32 = 3;
 /// A bin of this id is there already.
 pub const RP_DUPLICATE_BIN: u32 = 4;
@@ -75,7 +75,7 @@ pub const RP_UNKNOWN_PLACEMENT: u32 = 6;
 /// The numbers of the placements would reach 2^64 - 1, which is never given.
 pub const RP_NUMBERS_USED_UP: u32 = 7;
 
-// As many bins or boxes have no index of 32 bits.
+// There are fewer bins and boxes than this, so that each index and their count is of 32 bits.
 const LIMIT: usize = 0x1_0000_0000;
 
 /// Packs all boxes into the bins: placement i is where box i stands. Groups go in falling order of
@@ -140,7 +140,8 @@ fn collection_of(
     boxes: &[RpBox],
 ) -> Result<GroupedRectsToPlace<u32, u32>, AllocError>
     requires { length boxes.now < LIMIT }
-    ensures { IfOk result (λ all. IsCollected boxes.now all) }
+    ensures collected { IfOk result (λ all. IsCollected boxes.now all) }
+    ensures no_boxes { length boxes.now ≡ 0 → IsOk result }
 {
     let mut rects = GroupedRectsToPlace::new(alloc);
     for (i, rect) in boxes.iter().enumerate() {

@@ -1,9 +1,12 @@
 //! A session for C: bins that stay, and boxes that are packed into them and released by number.
-ghost use Rattle.std.specs.Prelude.{◌≡◌, ◌≢◌, ◌<◌, ◌↔◌, ◌⊎◌, [], None, Some, IsSome, IfOk, IfErr, length, All, AllPairs};
+ghost use Rattle.std.specs.Prelude.{◌≡◌, ◌≢◌, ◌<◌, ◌↔◌, ◌⊎◌, [], None, Some, IsSome, IfSome, IfOk, IfErr, ℕ, length, All, AllPairs};
 ghost use Rattle.std.specs.Ordering.{nat_cmp};
+ghost use Rattle.std.specs.Map.{lookup};
+ghost use Rattle.std.specs.BTreeMap.{is_at};
+ghost use Rattle.rectangle_pack.specs.Bins.{Bin};
 ghost use Rattle.rectangle_pack.specs.Boxes.{Size};
-ghost use Rattle.rectangle_pack.specs.Joining.{IsSwept};
-ghost use Rattle.rectangle_pack.specs.Session.{IsSession, AddsBin, Releases, Coalesces, reply_of, packed_reply};
+ghost use Rattle.rectangle_pack.specs.Joining.{IsSwept, ShareNoFace};
+ghost use Rattle.rectangle_pack.specs.Session.{State, IsSession, AddsBin, Releases, Coalesces, reply_of, packed_reply};
 ghost use Rattle.rectangle_pack.specs.declared.session.command.Reply.TheVariants.{Refused};
 ghost use Rattle.rectangle_pack_c.specs.Sessions.{Answers, AreAsMany, PacksBoxes, AreOutstanding, ArePackedNow, TellsStats, status_of, volume};
 ghost use Rattle.rectangle_pack_c.specs.private.Written.{AreNumbered};
@@ -135,6 +138,8 @@ pub extern "C" fn rectangle_pack_session_coalesce_all(
     requires made { IsSome session.old.state }
     ensures swept { Answers (Coalesces nat_cmp IsSwept bin)
         session.old.state result session.new.state }
+    ensures no_face { IfSome session.new.state (λ (state : State ℕ ℕ).
+        IfSome (lookup (is_at (nat_cmp bin)) state.bins) (λ (b : Bin). ShareNoFace b.sections)) }
 {
     let mut held = session.take(alloc);
     let answer = held.coalesce_all(&bin);
