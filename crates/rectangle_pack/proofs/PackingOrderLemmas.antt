@@ -16,7 +16,15 @@ use Rattle.std.specs.Option.{option_map}
 use Rattle.rectangle_pack.proofs.ListsLemmas.{lookup-lists}
 use Rattle.rectangle_pack.specs.Groups.{lists_of}
 use Rattle.std.specs.declared.cmp.Ordering.{Ordering}
-use Rattle.std.specs.List.Sorted.{IsSorted}
+use Rattle.std.specs.List.Sorted.{IsSorted, IsPermutation, IsStrictlySortedBy}
+use Rattle.std.proofs.lemmas.Map.Keys.{Less-from_sorted}
+use Rattle.std.proofs.lemmas.List.Sorted.{All-permutation}
+use Rattle.std.proofs.lemmas.Bool.{cases_order, lt-ltb}
+use Rattle.std.proofs.lemmas.Cmp.{tied_itself}
+use Rattle.std.specs.Ordering.{nat_cmp}
+use Rattle.std.proofs.lemmas.List.{get_or_default}
+use Rattle.std.proofs.Common.{inl, inr}
+use Rattle.std.specs.Prelude.{AllPairs}
 use Rattle.std.specs.List.{AllZip, sum_by, slice_range}
 use Rattle.std.specs.BTreeMap.{BTreeMap, IsOrdered}
 use Rattle.std.proofs.lemmas.Map.Entries.{btree_map_get_place}
@@ -61,11 +69,43 @@ IsSorted-map {A} R f (x ∷ xs) h = λ k d low up.
     let here : k < length (x ∷ xs) = omega arith in
     rw (get_or-map f (x ∷ xs) (k + 1) x d long, get_or-map f (x ∷ xs) k x d here) (h k x low long)
 
--- what is not less by two tests, one after the other, is not less by the first
-pub not_less-then : (a b : Ordering) → is_lt (ordering_then a b) ≡ false → is_lt a ≡ false
-not_less-then Less b h = h
-not_less-then Equal b h = refl
-not_less-then Greater b h = refl
+-- what is not less by two tests, one after the other, is so too where a third that is less at no more takes the second's place
+pub not_less-then : (a b c : Ordering) → is_lt (ordering_then a b) ≡ false → (c ≡ Less → b ≡ Less) → is_lt (ordering_then a c) ≡ false
+not_less-then Less b c h k = h
+not_less-then Equal b Less h k = rw (k refl) at h
+not_less-then Equal b Equal h k = refl
+not_less-then Equal b Greater h k = refl
+not_less-then Greater b c h k = refl
+
+-- a lesser number is less
+pub less-nat_cmp : (m n : ℕ) → m < n → nat_cmp m n ≡ Less
+less-nat_cmp m n lt = rw (lt-ltb m n lt) refl
+
+-- names that are the keys of a map rise
+pub rise-names : {X K : Type 0} (cmp : K → K → Ordering) (name : X → K) (xs : List X) (keys : List K) → map name xs ≡ keys → IsStrictlySortedBy cmp keys → AllPairs (λ x y. cmp (name x) (name y) ≡ Less) xs
+rise-names cmp name xs keys same up = λ i j d less within.
+    let here : i < length xs = omega arith in
+    let long : j < length (map name xs) = simp length-map within in
+    rw (← get_or-map name xs i d (name d) here, ← get_or-map name xs j d (name d) within) (Less-from_sorted cmp (map name xs) i j (name d) (rw (← same) at up) less long)
+
+-- where names and numbers rise along a list, the lesser of two names has the lesser number
+pub rise-alike : {X K : Type 0} {cmp : K → K → Ordering} → IsTotalOrder cmp → (name : X → K) (number : X → ℕ) (xs : List X)
+    → AllPairs (λ x y. (cmp (name x) (name y) ≡ Less) × (number x < number y)) xs → All (λ x. All (λ y. cmp (name x) (name y) ≡ Less → number x < number y) xs) xs
+rise-alike {cmp = cmp} o name number xs up = λ i d within j e below less.
+    let there = get_or_default xs j e d below in
+    let before : cmp (name (get_or xs i d)) (name (get_or xs j d)) ≡ Less = rw (← there) less in
+    elim (cases_order i j) [
+      | inl same ↦ absurd (let itself = tied_itself o (name (get_or xs i d)) in let twice : cmp (name (get_or xs i d)) (name (get_or xs i d)) ≡ Less = rw (← same) at before in cc)
+      | inr apart ↦ elim apart [
+        | inl early ↦ rw there (up i j d early below).1
+        | inr late ↦ absurd (let back = o.antisymm (name (get_or xs i d)) (name (get_or xs j d)) in let after = (up j i d late within).0 in cc)
+      ]
+    ]
+
+-- what holds of any two of a list holds of any two of them in another order
+pub any_two-permutation : {X : Type 0} (R : X → X → Type 0) (xs ys : List X) → IsPermutation xs ys → All (λ x. All (R x) xs) xs → All (λ x. All (R x) ys) ys
+any_two-permutation R xs ys moved h =
+    All-permutation (λ x. All (R x) ys) xs ys moved (All-weaker (λ x. All (R x) xs) (λ x. All (R x) ys) (λ x. All-permutation (R x) xs ys moved) xs h)
 
 -- what holds of each list holds of each vector's items
 pub All-lists_of : {K X A : Type 0} (P : List X → Type 0) (es : List (K × Vec X A)) → All P (values_of (lists_of es)) → All (λ e. P e.1.items) es

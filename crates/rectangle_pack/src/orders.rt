@@ -2,7 +2,8 @@
 ghost use Rattle.std.specs.Prelude.{ℕ, List, ◌≡◌, ◌++◌, ◌<◌, IsTrue, IfOk, OnOk, OnErr, IsSome, Some, All, sum, map, length};
 ghost use Rattle.std.specs.BTreeMap.{get, is_at};
 ghost use Rattle.std.specs.Ordering.{eq_by_cmp};
-ghost use Rattle.std.specs.List.{AllZip, sum_by, IsDistinct};
+ghost use Rattle.std.specs.declared.cmp.Ordering.TheVariants.{Less};
+ghost use Rattle.std.specs.List.{AllPairs, AllZip, sum_by, IsDistinct};
 ghost use Rattle.std.specs.Map.{keys_of, lookup, values_of};
 ghost use Rattle.std.specs.List.Sorted.{IsPermutation, IsSorted};
 ghost use Rattle.rectangle_pack.specs.Orders.{IsBinOrder, IsGroupOrder, falling_then};
@@ -117,14 +118,16 @@ where
 // A group in an order: its key, its name, its ids, and where their sizes begin among those of all.
 pub(crate) type Turn<'a, K, Id, A> = (Reverse<u128>, &'a K, &'a Vec<Id, A>, usize);
 
-// By falling key, and then by what the references point to.
+// By falling key, and at equal keys as they come. Where the sizes of a group begin rises with its
+// name, and is compared in its place, so that no reference is followed.
 fn sort_falling<K: Ord, Id: Ord, A: Allocator>(order: &mut Vec<Turn<'_, K, Id, A>, A>)
+    requires rising { AllPairs (λ o p. (K.cmp o.1.now p.1.now ≡ Less) × (o.3 < p.3)) order.old.items }
     ensures permutation { IsPermutation (keys_of_order order.old.items)
         (keys_of_order order.new.items) }
     ensures same { IsPermutation order.old.items order.new.items }
     ensures falling { IsSorted (falling_then K.cmp) (keys_of_order order.new.items) }
 {
-    order.sort_unstable();
+    order.sort_unstable_by_key(|turn| (turn.0, turn.3));
 }
 
 // All groups, by falling key and then by name, and the sizes of the ids of each.

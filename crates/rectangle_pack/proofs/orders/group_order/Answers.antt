@@ -16,7 +16,9 @@ use Rattle.rectangle_pack.specs.Orders.{IsGroupKey}
 use Rattle.rectangle_pack.specs.private.Orders.{keys_of_order, entries_at, SizesStandAt}
 use Rattle.std.specs.List.{AllZip, slice_range}
 use Rattle.rectangle_pack.specs.Groups.{HaveSizes}
-use Rattle.rectangle_pack.proofs.PackingOrderLemmas.{AllZip-more, AllZip-map_right, items-turn, lists_of-turn, listed-zip, counted-zip, lookup-each, names-zip, SizesStandAt-more, SizesStandAt-last, AllZip-rated}
+use Rattle.rectangle_pack.proofs.PackingOrderLemmas.{AllZip-more, AllZip-map_right, items-turn, lists_of-turn, listed-zip, counted-zip, lookup-each, names-zip, rise-names, SizesStandAt-more, SizesStandAt-last, AllZip-rated}
+use Rattle.rectangle_pack.proofs.OneOrderLemmas.{length-zip}
+use Rattle.std.proofs.lemmas.List.Quantifiers.{all_pairs_push}
 use Rattle.std.specs.Map.{lookup}
 use Rattle.std.specs.BTreeMap.{is_at}
 use Rattle.std.specs.Borrow.{Bor}
@@ -53,6 +55,12 @@ loop-group-preserved g c =
     let each : AllZip (λ id size. lookup (is_at (cmp id)) rects ≡ Some size) ids added = rw (← c.as_slice.ensures.value) c.in_ok-add_sizes.ensures.1 in
     let starts : start ≡ length old = c.len-start.ensures ∙ c.loop-group.sizes.ok.0 in
     let tail : slice_range c.deref.result.now start (length c.deref.result.now) ≡ added = take_rest c.deref.result.now start ∙ ap (drop start) (c.deref.ensures.value ∙ more) ∙ ap (λ n. drop n (old ++ added)) starts ∙ drop-append_seam old added in
+    let Turn : Type 0 = Reverse ℕ × Bor g.row.K.Denot × Bor (Vec g.row.Id.Denot g.row.A.Denot) × ℕ in
+    let new = c.add_sizes.new.sizes.items in
+    let some = items-turn (λ ids. 0 < length ids) c.args.lists.now.entries _ _ _ _ _ _
+    (All-weaker (λ ids. (0 < length ids) × HaveSizes cmp rects ids) (λ ids. 0 < length ids) (λ ids p. p.0) (values_of (lists_of c.args.lists.now.entries)) c.requires.sized)
+    c.into_iter-group-iterator.ensures.into_iter_gives.0 c.loop-group.yielded_by c.in-Some.is c.next.ensures.steps in
+    let grown : length old < length new = omega (arith, ap length more, length-append old added, length-zip _ ids added each, some) in
     let rated = c.group_key-key.ensures in
     let rates : AllZip (g.R.Ask.may c.args.rules.now).rate added rated.0 = rw (← tail) rated.1 in
     record {
@@ -63,14 +71,31 @@ loop-group-preserved g c =
           rw (map_push deref_pair c.loop-group.yielded (c.in-Some.group, c.in-Some.ids), c.in_ok-push.ensures.items)
           (AllZip-more _ (map deref_pair c.loop-group.yielded) c.loop-group.order.items (deref_pair (c.in-Some.group, c.in-Some.ids)) (_, c.in-Some.group, c.in-Some.ids, _) c.loop-group.invariant.lent (refl, refl));
       sized =
-          let Turn : Type 0 = Reverse ℕ × Bor g.row.K.Denot × Bor (Vec g.row.Id.Denot g.row.A.Denot) × ℕ in
-          let new = c.add_sizes.new.sizes.items in
           let P : Turn → Type 0 = λ o. SizesStandAt cmp rects new o.2.now.items o.3 in
           rw c.in_ok-push.ensures.items
           (All-push P c.loop-group.order.items _
           (All-weaker (λ (o : Turn). SizesStandAt cmp rects old o.2.now.items o.3) P (λ o h. SizesStandAt-more cmp rects old added new o.2.now.items o.3 more h) c.loop-group.order.items c.loop-group.invariant.sized)
           (SizesStandAt-last cmp rects old added new ids start more starts each));
+      rising =
+          rw c.in_ok-push.ensures.items
+          (all_pairs_push (λ (o p : Turn). o.3 < p.3) c.loop-group.order.items _ c.loop-group.invariant.rising (λ k d within. rw starts (c.loop-group.invariant.begun k d within)));
+      begun =
+          let P : Turn → Type 0 = λ o. o.3 < length new in
+          rw c.in_ok-push.ensures.items
+          (All-push P c.loop-group.order.items _
+          (All-weaker (λ (o : Turn). o.3 < length old) P (λ o h. omega (arith, h, grown)) c.loop-group.order.items c.loop-group.invariant.begun)
+          (omega (arith, starts, grown)));
     }
+
+pub sort_falling-requires : goal.sort_falling-requires
+sort_falling-requires g c =
+    let Turn : Type 0 = Reverse ℕ × Bor g.row.K.Denot × Bor (Vec g.row.Id.Denot g.row.A.Denot) × ℕ in
+    let entries = c.args.lists.now.entries in
+    let order = c.loop-group.order.items in
+    let e : map deref_pair c.loop-group.yielded ≡ entries = (iter_end deref_pair _ _ _ _ _ _ c.into_iter-group-iterator.ensures.into_iter_gives.0 c.loop-group.yielded_by c.in-None.is c.next.ensures.steps).0 in
+    let name : Turn → g.row.K.Denot = λ o. o.1.now in
+    let names : map name order ≡ keys_of entries = names-zip name _ (lists_of entries) order (rw e at c.loop-group.invariant.keyed) ∙ keys-lists entries in
+    record { rising = λ i j d less within. (rise-names g.K.Ord.cmp name order (keys_of entries) names c.len.ensures.ordered i j d less within, c.loop-group.invariant.rising i j d less within) }
 
 pub returns : goal.returns
 returns g c =
@@ -122,7 +147,7 @@ returns-in_err-push g c =
 pub loop-group-init : goal.loop-group-init
 loop-group-init g c =
     let none = c.in_ok-order.ensures.items in
-    record { keyed = rw none tt; lent = rw none tt; sized = rw none (All-nil _) }
+    record { keyed = rw none tt; lent = rw none tt; sized = rw none (All-nil _); rising = rw none (λ i j d less within. absurd (omega arith)); begun = rw none (All-nil _) }
 
 pub next-requires : goal.next-requires
 next-requires g c = tt
