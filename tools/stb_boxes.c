@@ -2,8 +2,8 @@
    The header is that of Debian's libstb-dev.
 
 Reads the lines `bin NAME W H D`, one of them, `rect ID W H D` and, as the last one, `pack`; prints as many lines as packrun,
-in the same form. stb_rect_pack has another rule, a skyline in two dimensions: the boxes stand elsewhere, and are printed in the
-order of the input. Depths are taken to be 1. Nothing is checked: all lines are good, and want of memory ends the program. */
+in the same form. stb_rect_pack has another rule, a skyline in two dimensions: its boxes stand elsewhere, and are printed in
+the order of the input. Depths are taken to be 1. Nothing is checked: all lines are good, and want of memory ends the run. */
 #include <stddef.h>
 #include <stdint.h>
 #include <stdio.h>
