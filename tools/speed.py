@@ -78,7 +78,7 @@ def long_list():
 
 def many_packings_after():
     """Boxes that are packed one by one into a bin with a long list."""
-    return long_list() + one_by_one(boxes(random.Random(1), 2000, 4, 64, "s"))
+    return long_list() + one_by_one(boxes(random.Random(1), 2000, 4, 24, "s"))
 
 
 def stuck_groups():
@@ -89,10 +89,10 @@ def stuck_groups():
 
 
 def stuck_groups_after():
-    """Groups whose last box alone is too large for a bin with a long list, and which go into the large bin."""
+    """Groups whose last box is too wide for a bin with a long list, and which go into the large bin."""
     r = random.Random(1)
-    groups = [boxes(r, 200, 4, 64, f"s{n}_", f" g{n}") + [f"rect t{n} 8192 8192 1 g{n}"] for n in range(100)]
-    return long_list() + ["bin large 131072 131072 1"] + sum(groups, []) + ["pack"]
+    groups = [boxes(r, 200, 4, 24, f"s{n}_", f" g{n}") + [f"rect t{n} 8193 4 1 g{n}"] for n in range(100)]
+    return long_list() + ["bin large 32768 32768 1"] + sum(groups, []) + ["pack"]
 
 
 def one_group():
