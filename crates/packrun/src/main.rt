@@ -3,7 +3,9 @@
 #![tactic(auto)]
 
 mod command;
+mod digits;
 mod outcome;
+mod print;
 mod run;
 mod stop;
 mod store;

@@ -6,14 +6,13 @@ ghost use Rattle.std.specs.Vec.{vec_len};
 ghost use Rattle.packrun.specs.Commands.{NamesTwo};
 
 use crate::command::{Command, Size};
+use crate::print::{print_list, print_packed, print_sums, refuse, report};
 use crate::stop::Stop;
 use rectangle_pack::{
-    BinSection, BinStats, Group, GroupedRectsToPlace, Outstanding, Packed, RectToInsert,
-    RectanglePackError, Session, SessionError, contains_smallest_box, volume_heuristic,
+    BinStats, Group, GroupedRectsToPlace, Packed, RectToInsert, Session, SessionError,
+    contains_smallest_box, volume_heuristic,
 };
 use std::alloc::{AllocError, Allocator};
-use std::fmt::Display;
-use std::io;
 use std::io::Write;
 use std::ops::Range;
 use std::rc::RcStr;
@@ -162,115 +161,4 @@ fn push_word<A: Allocator + Copy>(
 ) -> Result<(), AllocError> {
     words.push(Word::from_str(alloc, word)?)?;
     Ok(())
-}
-
-// What a write answers, as a run ends by it.
-fn printed(answer: io::Result<()>) -> Result<(), Stop> {
-    Ok(answer?)
-}
-
-// Prints the placements of the last packing, which are the last ones, and how many they are.
-fn print_packed<A: Allocator, W: Write>(
-    placements: &[Outstanding<Word<A>, Word<A>>],
-    packed: Packed,
-    out: &mut W,
-) -> Result<(), Stop> {
-    let Packed { first, count } = packed;
-    let start = placements.partition_point(|placement| placement.number < first);
-    for placement in &placements[start..] {
-        print_placement(placement, out)?;
-    }
-    printed(writeln!(out, "packed {count}"))
-}
-
-fn print_placement<A: Allocator, W: Write>(
-    placement: &Outstanding<Word<A>, Word<A>>,
-    out: &mut W,
-) -> Result<(), Stop> {
-    let Outstanding {
-        number,
-        id,
-        bin,
-        location,
-    } = placement;
-    printed(write!(out, "{number} {id} {bin} "))?;
-    print_box(
-        [location.x(), location.y(), location.z()],
-        [location.width(), location.height(), location.depth()],
-        out,
-    )
-}
-
-// Prints the free sections, a line each, and how many there are.
-fn print_list<W: Write>(sections: &[BinSection], out: &mut W) -> Result<(), Stop> {
-    for section in sections {
-        print_section(section, out)?;
-    }
-    let count = sections.len();
-    printed(writeln!(out, "sections {count}"))
-}
-
-fn print_section<W: Write>(section: &BinSection, out: &mut W) -> Result<(), Stop> {
-    let whd = section.whd();
-    print_box(
-        [section.x(), section.y(), section.z()],
-        [whd.width(), whd.height(), whd.depth()],
-        out,
-    )
-}
-
-// Prints the least corner of a box and its sides, to the end of the line.
-fn print_box<W: Write>(
-    [x, y, z]: [u32; 3],
-    [width, height, depth]: [u32; 3],
-    out: &mut W,
-) -> Result<(), Stop> {
-    printed(writeln!(out, "{x} {y} {z} {width} {height} {depth}"))
-}
-
-fn print_sums<W: Write>(stats: BinStats, out: &mut W) -> Result<(), Stop> {
-    let BinStats {
-        bin_volume,
-        free_volume,
-        placed_volume,
-        free_sections,
-        placements,
-    } = stats;
-    printed(writeln!(
-        out,
-        "free {free_volume} in {free_sections}, placed {placed_volume} in {placements}, \
-         bin {bin_volume}"
-    ))
-}
-
-// Prints `ok`, or why the session refused.
-fn report<W: Write, T: Display + Drop>(
-    answer: Result<(), SessionError>,
-    named: T,
-    out: &mut W,
-) -> Result<(), Stop> {
-    match answer {
-        Ok(()) => printed(writeln!(out, "ok")),
-        Err(error) => refuse(error, named, out),
-    }
-}
-
-// Prints why the session refused; `named` is the bin, or the number, of which the line speaks.
-// Refused memory ends the run.
-fn refuse<W: Write, T: Display + Drop>(
-    error: SessionError,
-    named: T,
-    out: &mut W,
-) -> Result<(), Stop> {
-    printed(match error {
-        SessionError::DuplicateBin => writeln!(out, "refused: bin {named} exists"),
-        SessionError::UnknownBin => writeln!(out, "refused: bin {named} is unknown"),
-        SessionError::UnknownPlacement => writeln!(out, "refused: placement {named} is unknown"),
-        SessionError::NumbersUsedUp => writeln!(out, "refused: numbers are used up"),
-        SessionError::NotEnoughBinSpace => {
-            let text = RectanglePackError::NotEnoughBinSpace;
-            writeln!(out, "refused: {text}")
-        }
-        SessionError::OutOfMemory => return Err(Stop::NoMemory),
-    })
 }
