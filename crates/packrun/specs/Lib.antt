@@ -1,4 +1,5 @@
 pub mod Commands
 pub mod Lines
+pub mod Names
 pub mod Statuses
 pub mod Words

@@ -11,6 +11,7 @@ mod stop;
 mod store;
 #[cfg(test)]
 mod tests;
+mod word;
 
 use run::run_lines;
 use std::process::ExitCode;

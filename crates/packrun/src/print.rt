@@ -2,16 +2,16 @@
 ghost use Rattle.std.specs.Prelude.{[], ◌∷◌, ◌++◌, IsOk, OnOk};
 ghost use Rattle.std.specs.Fmt.{decimal};
 ghost use Rattle.std.specs.Io.KnownBytes.{Appends};
-ghost use Rattle.packrun.specs.Lines.{box_text};
+ghost use Rattle.packrun.specs.Lines.{box_text, cuboid_text, placement_text};
 
 use crate::digits::{LONGEST_NUMBER, LONGEST_THREE, put_number, put_three};
 use crate::stop::Stop;
+use crate::word::Word;
 use rectangle_pack::{BinSection, BinStats, Outstanding, Packed, RectanglePackError, SessionError};
 use std::alloc::Allocator;
 use std::fmt::Display;
 use std::io;
 use std::io::Write;
-use std::rc::RcStr;
 
 // What a write answers, as a run ends by it.
 fn printed(answer: io::Result<()>) -> Result<(), Stop>
@@ -22,7 +22,7 @@ fn printed(answer: io::Result<()>) -> Result<(), Stop>
 
 // Prints the placements of the last packing, which are the last ones, and how many they are.
 pub fn print_packed<A: Allocator, W: Write>(
-    placements: &[Outstanding<RcStr<A>, RcStr<A>>],
+    placements: &[Outstanding<Word<A>, Word<A>>],
     packed: Packed,
     out: &mut W,
 ) -> Result<(), Stop> {
@@ -36,9 +36,12 @@ pub fn print_packed<A: Allocator, W: Write>(
 
 // Prints number, names and box of the placement.
 fn print_placement<A: Allocator, W: Write>(
-    placement: &Outstanding<RcStr<A>, RcStr<A>>,
+    placement: &Outstanding<Word<A>, Word<A>>,
     out: &mut W,
-) -> Result<(), Stop> {
+) -> Result<(), Stop>
+    ensures { OnOk result (Appends (W.contents out.old) (W.contents out.new)
+        (placement_text placement.now)) }
+{
     let Outstanding {
         number,
         id,
@@ -46,8 +49,8 @@ fn print_placement<A: Allocator, W: Write>(
         location,
     } = placement;
     print_number(*number, out)?;
-    print_word(id.as_str(), out)?;
-    print_word(bin.as_str(), out)?;
+    print_word(id, out)?;
+    print_word(bin, out)?;
     print_box(
         [location.x(), location.y(), location.z()],
         [location.width(), location.height(), location.depth()],
@@ -65,7 +68,9 @@ fn print_number<W: Write>(number: u64, out: &mut W) -> Result<(), Stop>
 }
 
 // Prints the word and the space behind it.
-fn print_word<W: Write>(word: &str, out: &mut W) -> Result<(), Stop> {
+fn print_word<A: Allocator, W: Write>(word: &Word<A>, out: &mut W) -> Result<(), Stop>
+    ensures { OnOk result (Appends (W.contents out.old) (W.contents out.new) (word.now ++ 32 ∷ [])) }
+{
     printed(out.write_all(word.as_bytes()))?;
     printed(out.write_all(b" "))
 }
@@ -79,7 +84,10 @@ pub fn print_list<W: Write>(sections: &[BinSection], out: &mut W) -> Result<(), 
     printed(writeln!(out, "sections {count}"))
 }
 
-fn print_section<W: Write>(section: &BinSection, out: &mut W) -> Result<(), Stop> {
+fn print_section<W: Write>(section: &BinSection, out: &mut W) -> Result<(), Stop>
+    ensures { OnOk result (Appends (W.contents out.old) (W.contents out.new)
+        (cuboid_text section.now)) }
+{
     let whd = section.whd();
     print_box(
         [section.x(), section.y(), section.z()],

@@ -8,6 +8,7 @@ ghost use Rattle.packrun.specs.Commands.{NamesTwo};
 use crate::command::{Command, Size};
 use crate::print::{print_list, print_packed, print_sums, refuse, report};
 use crate::stop::Stop;
+use crate::word::Word;
 use rectangle_pack::{
     BinStats, Group, GroupedRectsToPlace, Packed, RectToInsert, Session, SessionError,
     contains_smallest_box, volume_heuristic,
@@ -15,11 +16,7 @@ use rectangle_pack::{
 use std::alloc::{AllocError, Allocator};
 use std::io::Write;
 use std::ops::Range;
-use std::rc::RcStr;
 use std::str::SplitAsciiWhitespace;
-
-// The name of a bin, a box or a group. Clones share one text, so that they take no memory.
-type Word<A> = RcStr<A>;
 
 /// A session, and the boxes that its next packing places.
 #[derive(Drop)]
@@ -60,7 +57,7 @@ impl<A: Allocator + Copy> Store<A> {
     }
 
     fn add_bin(&mut self, name: &str, size: Size) -> Result<(), SessionError> {
-        let id = Word::from_str(self.alloc, name)?;
+        let id = Word::new(self.alloc, name)?;
         self.session
             .add_bin(id, size.width, size.height, size.depth)
     }
@@ -71,7 +68,7 @@ impl<A: Allocator + Copy> Store<A> {
         size: Size,
         groups: SplitAsciiWhitespace<'_>,
     ) -> Result<(), SessionError> {
-        let id = Word::from_str(self.alloc, id)?;
+        let id = Word::new(self.alloc, id)?;
         let named = named_groups(self.alloc, groups)?;
         let rect = RectToInsert::new(size.width, size.height, size.depth);
         Ok(self.rects.push_rect(id, named, rect)?)
@@ -80,8 +77,8 @@ impl<A: Allocator + Copy> Store<A> {
     fn exclude(&mut self, one: &str, other: &str) -> Result<(), SessionError>
         requires { one.now ≢ other.now }
     {
-        let one = Group::Grouped(Word::from_str(self.alloc, one)?);
-        let other = Group::Grouped(Word::from_str(self.alloc, other)?);
+        let one = Group::Grouped(Word::new(self.alloc, one)?);
+        let other = Group::Grouped(Word::new(self.alloc, other)?);
         Ok(self.rects.exclude(one, other)?)
     }
 
@@ -91,12 +88,12 @@ impl<A: Allocator + Copy> Store<A> {
         idx: usize,
         range: Range<usize>,
     ) -> Result<(), SessionError> {
-        let bin = Word::from_str(self.alloc, name)?;
+        let bin = Word::new(self.alloc, name)?;
         self.session.coalesce(&bin, idx, range)
     }
 
     fn sweep(&mut self, name: &str) -> Result<(), SessionError> {
-        let bin = Word::from_str(self.alloc, name)?;
+        let bin = Word::new(self.alloc, name)?;
         self.session.coalesce_all(&bin)
     }
 
@@ -118,14 +115,15 @@ impl<A: Allocator + Copy> Store<A> {
     }
 
     fn print_sections<W: Write>(&self, name: &str, out: &mut W) -> Result<(), Stop> {
-        let Some(bin) = self.session.bins().get(name) else {
+        let id = Word::new(self.alloc, name)?;
+        let Some(bin) = self.session.bins().get(&id) else {
             return refuse(SessionError::UnknownBin, name, out);
         };
         print_list(bin.available_bin_sections().as_slice(), out)
     }
 
     fn stats(&self, name: &str) -> Result<BinStats, SessionError> {
-        let bin = Word::from_str(self.alloc, name)?;
+        let bin = Word::new(self.alloc, name)?;
         match self.session.stats(&bin) {
             Some(stats) => Ok(stats),
             None => Err(SessionError::UnknownBin),
@@ -159,6 +157,6 @@ fn push_word<A: Allocator + Copy>(
     alloc: A,
     word: &str,
 ) -> Result<(), AllocError> {
-    words.push(Word::from_str(alloc, word)?)?;
+    words.push(Word::new(alloc, word)?)?;
     Ok(())
 }

@@ -36,6 +36,17 @@ const GROUPED_PRINTED: &str =
      refused: placement 1 is unknown\nrefused: bin C is unknown\n\
      free 1069254270 in 5, placed 293250 in 2, bin 1069547520\nrefused: bin C is unknown\n";
 
+// Names that take memory.
+const LONG: &str =
+    "bin the-atlas-of-the-game 9 4 1\nrect a-tree-with-many-leaves 4 4 1 all-that-grows-there\n\
+     exclude all-that-grows-there all-that-stands-there\npack\nsections the-atlas-of-the-game\n\
+     sweep the-atlas-of-the-game\nstats the-atlas-of-the-game\nsections the-atlas-of-a-book\n";
+
+const LONG_PRINTED: &str =
+    "ok\nok\nok\n0 a-tree-with-many-leaves the-atlas-of-the-game 0 0 0 4 4 1\npacked 1\n\
+     4 0 0 5 4 1\nsections 1\nok\nfree 20 in 1, placed 16 in 1, bin 36\n\
+     refused: bin the-atlas-of-a-book is unknown\n";
+
 // What a run over memory is given: how many requests for memory are granted, and the most bytes and
 // the good ones of reads, and of writes.
 #[derive(Clone, Copy)]
@@ -297,10 +308,11 @@ fn refuses_each(rt: &impl Abort, alloc: Global, text: Text) {
     assert!(rt; false);
 }
 
-const TEXTS: [Text; 3] = [
+const TEXTS: [Text; 4] = [
     (LINES, PRINTED, Outcome::BadLine(7)),
     (JOINED, JOINED_PRINTED, Outcome::Done),
     (GROUPED, GROUPED_PRINTED, Outcome::Done),
+    (LONG, LONG_PRINTED, Outcome::Done),
 ];
 
 #[test]

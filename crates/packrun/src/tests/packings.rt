@@ -7,7 +7,7 @@ use crate::store::Store;
 use std::alloc::Global;
 use std::process::Abort;
 
-const TEXTS: [Text; 8] = [
+const TEXTS: [Text; 9] = [
     // One box.
     (
         "bin a 100 100 1\nrect one 50 90 1\npack\n",
@@ -70,6 +70,16 @@ const TEXTS: [Text; 8] = [
     (
         "bin a 8 8 1\nrect one 4 4 1 0 1\npack\n",
         "ok\nok\n0 one a 0 0 0 4 4 1\n1 one a 4 0 0 4 4 1\npacked 2\n",
+        Outcome::Done,
+    ),
+    // Boxes of one size come in the order of their names' bytes, short and long.
+    (
+        "bin c 6 1 1\nrect b 1 1 1\nrect aaaaaaaaaaaaaab 1 1 1\nrect aaaaaaaaaaaaaa 1 1 1\n\
+         rect aaaaaaaaaaaaab 1 1 1\nrect aaaaaaaa 1 1 1\nrect aaaaaaaaaaaaaaa 1 1 1\npack\n",
+        "ok\nok\nok\nok\nok\nok\nok\n0 aaaaaaaa c 0 0 0 1 1 1\n\
+         1 aaaaaaaaaaaaaa c 1 0 0 1 1 1\n2 aaaaaaaaaaaaaaa c 2 0 0 1 1 1\n\
+         3 aaaaaaaaaaaaaab c 3 0 0 1 1 1\n4 aaaaaaaaaaaaab c 4 0 0 1 1 1\n\
+         5 b c 5 0 0 1 1 1\npacked 6\n",
         Outcome::Done,
     ),
 ];

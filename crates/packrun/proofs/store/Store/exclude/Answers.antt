@@ -1,5 +1,4 @@
 use Rattle.std.proofs.Common.{◌≡◌, Bool, true, false, refl, sym, ◌∙◌}
-use Rattle.std.specs.Rc.{rc_str_bytes}
 use Rattle.std.specs.Str.{bytes_eq}
 use Rattle.std.proofs.lemmas.Slice.Eq.{bytes_eq-Decides}
 use Rattle.packrun.proofs.store.Store.exclude.Goals as goal
@@ -10,6 +9,6 @@ not_true false h = refl
 
 pub exclude-requires-clause-different : goal.exclude-requires-clause-different
 exclude-requires-clause-different g c =
-    let a = rc_str_bytes c.in_ok-from_str.field-0 in
-    let b = rc_str_bytes c.in_ok-from_str-2.field-0 in
-    not_true (bytes_eq a b) (λ e. c.requires (sym c.in_ok-from_str.ensures.ok ∙ (bytes_eq-Decides a b).0 e ∙ c.in_ok-from_str-2.ensures.ok))
+    let a = c.in_ok-new.field-0 in
+    let b = c.in_ok-new-2.field-0 in
+    not_true (bytes_eq a b) (λ e. c.requires (sym c.in_ok-new.ensures ∙ (bytes_eq-Decides a b).0 e ∙ c.in_ok-new-2.ensures))
