@@ -47,10 +47,13 @@ pub mod RefusedLemmas
 pub mod RestoreLemmas
 pub mod SameBoxesLemmas
 pub mod SessionLemmas
+pub mod SlotsLemmas
 pub mod SmallestBoxLemmas
 pub mod SplitLemmas
 pub mod StatsLemmas
 pub mod StepsLemmas
+pub mod StretchLemmas
+pub mod SummariesLemmas
 pub mod SweepLemmas
 pub mod TakeBackLemmas
 pub mod TakenLemmas

@@ -7,7 +7,9 @@ pub mod Journal
 pub mod Lists
 pub mod Orders
 pub mod Ranks
+pub mod Slots
 pub mod Spans
+pub mod Summaries
 pub mod Taken
 pub mod TrialJournal
 pub mod TrialNotes

@@ -16,6 +16,7 @@ pub mod pack;
 pub mod packed_location;
 mod plans;
 pub mod rect_to_insert;
+mod section_slots;
 pub mod session;
 pub mod target_bin;
 mod trial;

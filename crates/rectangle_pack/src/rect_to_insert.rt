@@ -89,6 +89,13 @@ impl RectToInsert {
     {
         self.whd.depth()
     }
+
+    // The size, in cells.
+    pub(crate) fn whd(&self) -> WidthHeightDepth
+        ensures { result ≡ self.now }
+    {
+        self.whd
+    }
 }
 
 impl From<RectToInsert> for WidthHeightDepth {

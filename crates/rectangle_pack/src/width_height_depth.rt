@@ -2,6 +2,7 @@
 ghost use Rattle.std.specs.Prelude.{◌≡◌, ◌<◌, ◌↔◌, true};
 ghost use Rattle.std.specs.Cmp.{IsTotalOrder};
 ghost use Rattle.rectangle_pack.specs.Boxes.{Size, volume_of, size_order};
+ghost use Rattle.rectangle_pack.specs.private.Summaries.{middle_of};
 
 use std::cmp::Ordering;
 use std::marker::Model;
@@ -74,6 +75,14 @@ impl WidthHeightDepth {
         ensures { result ≡ volume_of self.now }
     {
         self.width as u128 * self.height as u128 * self.depth as u128
+    }
+
+    // The one of the three numbers that is neither the greatest nor the least.
+    pub(crate) fn middle(&self) -> u32
+        ensures { result ≡ middle_of self.now }
+    {
+        let (w, h) = (self.width, self.height);
+        w.min(h).max(w.max(h).min(self.depth))
     }
 }
 

@@ -1,0 +1,45 @@
+-- What a summary says of a stretch of slots, and a list of summaries of the whole stretches of a width.
+use Rattle.std.specs.Prelude.{◌≡◌, ℕ, ◌+◌, ◌*◌, ◌<◌, ◌≤◌, List, length, min, max, All, Option, take, drop, slice_index_or}
+use Rattle.rectangle_pack.specs.Boxes.{Size, Cuboid, volume_of}
+use Rattle.rectangle_pack.specs.private.Slots.{sections_of}
+use Rattle.rectangle_pack.specs.declared.section_slots.summary.Summary.{Summary}
+
+-- the one of the three numbers that is neither the greatest nor the least
+abbrev pub middle_of : Size → ℕ
+middle_of s = max (min s.width s.height) (min (max s.width s.height) s.depth)
+
+-- the section is not greater than the summary says
+pub record IsWithin (summary : Summary) (section : Cuboid) : Type 0 where
+  pub wide : section.whd.width ≤ summary.width
+  pub high : section.whd.height ≤ summary.height
+  pub deep : section.whd.depth ≤ summary.depth
+  pub middle : middle_of section.whd ≤ summary.middle
+  pub volume : volume_of section.whd ≤ summary.volume
+
+-- how many sections stand in the slots, and what none of them goes beyond
+pub record Sums (summary : Summary) (slots : List (Option Cuboid)) : Type 0 where
+  pub count : summary.count ≡ length (sections_of slots)
+  pub within : All (IsWithin summary) (sections_of slots)
+
+-- each whole stretch of the width, from the first slot on, has its summary
+pub record SumAll (width : ℕ) (slots : List (Option Cuboid)) (summaries : List Summary) : Type 0 where
+  pub whole : length summaries * width ≤ length slots
+  pub rest : length slots < length summaries * width + width
+  pub each : (k : ℕ) (d : Summary) → k < length summaries → Sums (slice_index_or summaries k d) (take width (drop (k * width) slots))
+
+-- the whole blocks and the whole rows of slots have their summaries
+pub record AreSummed (block row : ℕ) (slots : List (Option Cuboid)) (blocks rows : List Summary) : Type 0 where
+  pub in_blocks : SumAll block slots blocks
+  pub in_rows : SumAll row slots rows
+
+-- the summary with one section more, of this size
+abbrev pub with_section : Summary → Size → Summary
+with_section s z =
+    record {
+      width = max s.width z.width;
+      height = max s.height z.height;
+      depth = max s.depth z.depth;
+      middle = max s.middle (middle_of z);
+      volume = max s.volume (volume_of z);
+      count = s.count + 1;
+    }
