@@ -1,17 +1,17 @@
 -- Summaries of stretches of slots.
-use Rattle.std.proofs.Common.{◌≡◌, ◌≤◌, ◌<◌, ◌+◌, ◌*◌, ◌≢◌, ℕ, List, [], ◌∷◌, ◌++◌, length, take, drop, set, arith, inl, inr, length-append, length-drop, append-nil}
+use Rattle.std.proofs.Common.{◌≡◌, ◌≤◌, ◌<◌, ◌+◌, ◌*◌, ◌^◌, ◌≢◌, ℕ, List, [], ◌∷◌, ◌++◌, length, take, drop, set, get_or, arith, inl, inr, length-append, length-drop, append-nil}
 use Rattle.std.specs.Prelude.{Option, Some, None}
 use Rattle.std.proofs.Math.Nat.{lt_of_mul-lt-mul_right}
 use Rattle.std.proofs.Math.ListN.{length-set}
-use Rattle.std.proofs.Math.Seq.{get_or-append_seam}
+use Rattle.std.proofs.Math.Seq.{get_or-append_seam, take-add}
 use Rattle.std.proofs.lemmas.Bool.{cases_order}
-use Rattle.std.proofs.lemmas.List.{get_or_append_left, get_or-set_same, get_or-set_other, get_or-take, take_all, length-take-le}
-use Rattle.std.proofs.lemmas.List.Elements.{All-push, All-weaker}
+use Rattle.std.proofs.lemmas.List.{drop-drop, get_or-drop, get_or_append_left, get_or-set_same, get_or-set_other, get_or-take, take_all, length-take-le}
+use Rattle.std.proofs.lemmas.List.Elements.{All-append, All-push, All-weaker}
 use Rattle.rectangle_pack.specs.Boxes.{Cuboid, Size, Holds}
 use Rattle.rectangle_pack.specs.private.Slots.{sections_of, NoneHolds}
-use Rattle.rectangle_pack.specs.private.Summaries.{IsWithin, Sums, SumAll, with_section}
+use Rattle.rectangle_pack.specs.private.Summaries.{IsWithin, Sums, SumAll, HaveSlots, with_section, joined}
 use Rattle.rectangle_pack.specs.declared.section_slots.summary.Summary.{Summary}
-use Rattle.rectangle_pack.proofs.SlotsLemmas.{sections_of-append}
+use Rattle.rectangle_pack.proofs.SlotsLemmas.{sections_of-append, length-sections_of}
 use Rattle.rectangle_pack.proofs.StretchLemmas.{stretch-ends, stretch-append, stretch-set, stretch-take}
 
 -- a section within a summary is within the wider one
@@ -24,9 +24,39 @@ within-wider s z x p = record {
   volume = omega (arith, p.volume);
 }
 
+-- a section within one of two summaries is within both joined
+within-first : (s t : Summary) (x : Cuboid) → IsWithin s x → IsWithin (joined s t) x
+within-first s t x p = record {
+  wide = omega (arith, p.wide);
+  high = omega (arith, p.high);
+  deep = omega (arith, p.deep);
+  middle = omega (arith, p.middle);
+  volume = omega (arith, p.volume);
+}
+
+within-second : (s t : Summary) (x : Cuboid) → IsWithin t x → IsWithin (joined s t) x
+within-second s t x p = record {
+  wide = omega (arith, p.wide);
+  high = omega (arith, p.high);
+  deep = omega (arith, p.deep);
+  middle = omega (arith, p.middle);
+  volume = omega (arith, p.volume);
+}
+
 -- the section that widens a summary is within it
 within-new : (s : Summary) (x : Cuboid) → IsWithin (with_section s x.whd) x
 within-new s x = record { wide = omega arith; high = omega arith; deep = omega arith; middle = omega arith; volume = omega arith }
+
+-- the slots of two stretches
+Sums-join : (a b : Summary) (s t : List (Option Cuboid)) → Sums a s → Sums b t → Sums (joined a b) (s ++ t)
+Sums-join a b s t p q =
+    let e = sections_of-append s t in
+    record {
+      count = rw e (omega (arith, p.count, q.count, length-append (sections_of s) (sections_of t)));
+      within = rw e (All-append (IsWithin (joined a b)) (sections_of s) (sections_of t)
+          (All-weaker (IsWithin a) (IsWithin (joined a b)) (within-first a b) (sections_of s) p.within)
+          (All-weaker (IsWithin b) (IsWithin (joined a b)) (within-second a b) (sections_of t) q.within));
+    }
 
 -- one slot more, with a section
 pub Sums-more : (s : Summary) (slots : List (Option Cuboid)) (x : Cuboid) → Sums s slots → Sums (with_section s x.whd) (slots ++ Some x ∷ [])
@@ -116,3 +146,47 @@ SumAll-take w s ss m q from to in' p =
           let below : k < q = omega (arith, short) in
           rw (get_or-take q ss k d below, stretch-take w (k * w) m s (omega (arith, stretch-ends w k q below)) in') (p.each k d (omega (arith, lt_of_mul-lt-mul_right w less)));
     }
+
+-- the slots of a block more
+pub Sums-block : (summary : Summary) (slots : List (Option Cuboid)) (blocks : List Summary) (i : ℕ) (d : Summary) → i < length blocks → SumAll 8 slots blocks → Sums summary (take (i * 8) slots) → Sums (joined summary (get_or blocks i d)) (take ((i + 1) * 8) slots)
+Sums-block summary slots blocks i d h p so_far =
+    let more : (i + 1) * 8 ≡ i * 8 + 8 = omega arith in
+    rw (more, take-add (i * 8) 8 slots) (Sums-join summary (get_or blocks i d) (take (i * 8) slots) (take 8 (drop (i * 8) slots)) so_far (p.each i d h))
+
+-- and their number is below that of all slots
+pub count-block : (summary : Summary) (blocks : List Summary) (i : ℕ) (d : Summary) → i < length blocks → HaveSlots blocks → ((slots : List (Option Cuboid)) → SumAll 8 slots blocks → Sums summary (take (i * 8) slots)) → summary.count + (get_or blocks i d).count < 2 ^ 64
+count-block summary blocks i d h (slots, few, p) so_far =
+    let more = Sums-block summary slots blocks i d h p (so_far slots p) in
+    let short = length-take-le ((i + 1) * 8) slots (omega (arith, p.whole)) in
+    omega (arith, more.count, length-sections_of (take ((i + 1) * 8) slots), short, few, p.whole)
+
+-- the slots without those of the first blocks
+SumAll-drop : (s : List (Option Cuboid)) (ss : List Summary) (q : ℕ) → q ≤ length ss → SumAll 8 s ss → SumAll 8 (drop (q * 8) s) (drop q ss)
+SumAll-drop s ss q h p =
+    let short = length-drop q ss in
+    let left = length-drop (q * 8) s in
+    record {
+      whole = omega (arith, p.whole, short, left);
+      rest = omega (arith, p.whole, p.rest, short, left);
+      each = λ k d lt.
+          let place : q * 8 + k * 8 ≡ (q + k) * 8 = omega arith in
+          rw (get_or-drop q ss k d, drop-drop (k * 8) (q * 8) s, place) (p.each (q + k) d (omega (arith, short)));
+    }
+
+-- the slots of so many blocks from a block on
+SumAll-stretch : (s : List (Option Cuboid)) (ss : List Summary) (q n : ℕ) → q + n ≤ length ss → SumAll 8 s ss → SumAll 8 (take (n * 8) (drop (q * 8) s)) (take n (drop q ss))
+SumAll-stretch s ss q n h p =
+    SumAll-take 8 (drop (q * 8) s) (drop q ss) (n * 8) n (omega arith) (omega arith) (omega (arith, p.whole, length-drop (q * 8) s)) (SumAll-drop s ss q (omega arith) p)
+
+pub HaveSlots-stretch : (ss : List Summary) (q n : ℕ) → q + n ≤ length ss → HaveSlots ss → HaveSlots (take n (drop q ss))
+HaveSlots-stretch ss q n h (s, few, p) =
+    let fewer = length-take-le (n * 8) (drop (q * 8) s) (omega (arith, p.whole, length-drop (q * 8) s)) in
+    (take (n * 8) (drop (q * 8) s), omega (arith, fewer, p.whole), SumAll-stretch s ss q n h p)
+
+-- what sums the slots of the eight blocks of a row sums the row
+pub Sums-row : (s : List (Option Cuboid)) (blocks : List Summary) (r : ℕ) (new : Summary) → r * 8 + 8 ≤ length blocks → SumAll 8 s blocks → ((slots : List (Option Cuboid)) → length slots ≡ length (take 8 (drop (r * 8) blocks)) * 8 → SumAll 8 slots (take 8 (drop (r * 8) blocks)) → Sums new slots) → Sums new (take 64 (drop (r * 64) s))
+Sums-row s blocks r new h p sums =
+    let place : r * 8 * 8 ≡ r * 64 = omega arith in
+    let eight = length-take-le 8 (drop (r * 8) blocks) (omega (arith, length-drop (r * 8) blocks)) in
+    let long = length-take-le 64 (drop (r * 64) s) (omega (arith, p.whole, length-drop (r * 64) s)) in
+    sums (take 64 (drop (r * 64) s)) (omega (arith, eight, long)) (rw place at (SumAll-stretch s blocks (r * 8) 8 h p))

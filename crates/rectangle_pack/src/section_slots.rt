@@ -7,14 +7,12 @@ mod summary;
 
 use crate::bin_section::BinSection;
 use crate::rect_to_insert::RectToInsert;
-use crate::section_slots::summary::{Summary, count_if_too_small, sum_anew, sum_last};
+use crate::section_slots::summary::{
+    BLOCK, ROW, Summary, count_if_too_small, sum_block_anew, sum_last_block, sum_last_row,
+    sum_row_anew,
+};
 use std::alloc::{AllocError, Allocator};
 use std::marker::Model;
-
-// How many slots a block has, and how many a row.
-const BLOCK: usize = 8;
-
-const ROW: usize = 64;
 
 // An ordered list of sections in which the last one that holds a box is found without a look at
 // each. A section that is taken out leaves its slot empty, so no section is moved.
@@ -98,9 +96,8 @@ impl<A: Allocator + Copy> SectionSlots<A> {
         ensures room { self.new.room ≡ self.old.room }
     {
         self.slots.push_reserved(Some(section));
-        let slots = self.slots.as_slice();
-        sum_last(&mut self.blocks, BLOCK, slots);
-        sum_last(&mut self.rows, ROW, slots);
+        sum_last_block(&mut self.blocks, self.slots.as_slice());
+        sum_last_row(&mut self.rows, self.blocks.as_slice());
     }
 
     // Looks for the last section that holds the member.
@@ -172,9 +169,8 @@ impl<A: Allocator + Copy> SectionSlots<A> {
         ensures room { self.new.room ≡ self.old.room }
     {
         self.slots[slot] = content;
-        let slots = self.slots.as_slice();
-        sum_anew(&mut self.blocks, BLOCK, slots, slot);
-        sum_anew(&mut self.rows, ROW, slots, slot);
+        sum_block_anew(&mut self.blocks, self.slots.as_slice(), slot);
+        sum_row_anew(&mut self.rows, self.blocks.as_slice(), slot);
     }
 
     // Takes off the last slots, so that so many are left. Takes no memory.

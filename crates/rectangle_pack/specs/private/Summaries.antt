@@ -1,5 +1,5 @@
 -- What a summary says of a stretch of slots, and a list of summaries of the whole stretches of a width.
-use Rattle.std.specs.Prelude.{◌≡◌, ℕ, ◌+◌, ◌*◌, ◌<◌, ◌≤◌, List, length, min, max, All, Option, take, drop, slice_index_or}
+use Rattle.std.specs.Prelude.{◌≡◌, ℕ, ◌+◌, ◌*◌, ◌^◌, ◌<◌, ◌≤◌, List, length, min, max, All, Option, take, drop, slice_index_or}
 use Rattle.rectangle_pack.specs.Boxes.{Size, Cuboid, volume_of}
 use Rattle.rectangle_pack.specs.private.Slots.{sections_of}
 use Rattle.rectangle_pack.specs.declared.section_slots.summary.Summary.{Summary}
@@ -31,6 +31,22 @@ pub record SumAll (width : ℕ) (slots : List (Option Cuboid)) (summaries : List
 pub record AreSummed (block row : ℕ) (slots : List (Option Cuboid)) (blocks rows : List Summary) : Type 0 where
   pub in_blocks : SumAll block slots blocks
   pub in_rows : SumAll row slots rows
+
+-- the summaries are those of the blocks of some slots
+abbrev pub HaveSlots : List Summary → Type 0
+HaveSlots blocks = (slots : List (Option Cuboid)) × (length slots < 2 ^ 64) × SumAll 8 slots blocks
+
+-- the summary of the slots of both
+abbrev pub joined : Summary → Summary → Summary
+joined s t =
+    record {
+      width = max s.width t.width;
+      height = max s.height t.height;
+      depth = max s.depth t.depth;
+      middle = max s.middle t.middle;
+      volume = max s.volume t.volume;
+      count = s.count + t.count;
+    }
 
 -- the summary with one section more, of this size
 abbrev pub with_section : Summary → Size → Summary

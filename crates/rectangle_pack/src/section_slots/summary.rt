@@ -4,11 +4,19 @@ ghost use Rattle.std.specs.Vec.{vec_capacity};
 ghost use Rattle.std.specs.Bool.{OnFalse};
 ghost use Rattle.rectangle_pack.specs.Boxes.{Cuboid, Holds};
 ghost use Rattle.rectangle_pack.specs.private.Slots.{NoneHolds};
-ghost use Rattle.rectangle_pack.specs.private.Summaries.{IsWithin, Sums, SumAll, with_section};
+ghost use Rattle.rectangle_pack.specs.private.Summaries.{IsWithin, Sums, SumAll, HaveSlots, with_section, joined};
 
 use crate::bin_section::BinSection;
 use crate::width_height_depth::WidthHeightDepth;
 use std::alloc::Allocator;
+
+// How many slots a block has, and how many a row.
+pub(crate) const BLOCK: usize = 8;
+
+pub(crate) const ROW: usize = 64;
+
+// How many blocks a row has.
+const ROW_BLOCKS: usize = 8;
 
 // Of the sections in a stretch of slots: the greatest width, height, depth, middle side and volume,
 // and how many there are.
@@ -58,6 +66,43 @@ impl Summary {
         }
     }
 
+    // The summary of all slots of these blocks, of the summaries of the blocks.
+    fn of_blocks(blocks: &[Summary]) -> Self
+        requires { HaveSlots blocks.now }
+        ensures { (slots : List (Option Cuboid)) →
+            length slots ≡ length blocks.now * 8 →
+            SumAll 8 slots blocks.now →
+            Sums result slots }
+    {
+        let mut summary = Summary {
+            width: 0,
+            height: 0,
+            depth: 0,
+            middle: 0,
+            volume: 0,
+            count: 0,
+        };
+        for block in blocks {
+            summary = summary.join(block);
+        }
+        summary
+    }
+
+    // The summary of the slots of both.
+    fn join(self, other: &Self) -> Self
+        requires { self.count + other.now.count < 2 ^ 64 }
+        ensures { result ≡ joined self other.now }
+    {
+        Summary {
+            width: self.width.max(other.width),
+            height: self.height.max(other.height),
+            depth: self.depth.max(other.depth),
+            middle: self.middle.max(other.middle),
+            volume: self.volume.max(other.volume),
+            count: self.count + other.count,
+        }
+    }
+
     // Whether a section within the summary may hold this size.
     #[inline(always)]
     fn may_hold(&self, size: &WidthHeightDepth) -> bool
@@ -102,46 +147,81 @@ pub(crate) fn count_if_too_small(
     }
 }
 
-// Sums the stretch that the last slot completes, if it does.
-pub(crate) fn sum_last<A: Allocator>(
-    summaries: &mut Vec<Summary, A>,
-    width: usize,
+// Sums the block that the last slot completes, if it does.
+pub(crate) fn sum_last_block<A: Allocator>(
+    blocks: &mut Vec<Summary, A>,
     slots: &[Option<BinSection>],
 )
-    requires wide { 0 < width }
-    requires whole { length summaries.old.items * width < length slots.now }
-    requires rest { length slots.now ≤ length summaries.old.items * width + width }
-    requires room { length slots.now < vec_capacity summaries.old * width + width }
+    requires whole { length blocks.old.items * 8 < length slots.now }
+    requires rest { length slots.now ≤ length blocks.old.items * 8 + 8 }
+    requires room { length slots.now < vec_capacity blocks.old * 8 + 8 }
     ensures sums { (before : List (Option Cuboid)) (slot : Option Cuboid) →
         slots.now ≡ before ++ slot ∷ [] →
-        SumAll width before summaries.old.items →
-        SumAll width slots.now summaries.new.items }
-    ensures capacity { vec_capacity summaries.new ≡ vec_capacity summaries.old }
+        SumAll 8 before blocks.old.items →
+        SumAll 8 slots.now blocks.new.items }
+    ensures capacity { vec_capacity blocks.new ≡ vec_capacity blocks.old }
 {
-    let summed = summaries.len() * width;
-    if slots.len() - summed == width {
-        summaries.push_reserved(Summary::of(&slots[summed..]));
+    let summed = blocks.len() * BLOCK;
+    if slots.len() - summed == BLOCK {
+        blocks.push_reserved(Summary::of(&slots[summed..]));
     }
 }
 
-// Sums the stretch of this slot anew, if it is whole.
-pub(crate) fn sum_anew<A: Allocator>(
-    summaries: &mut Vec<Summary, A>,
-    width: usize,
+// Sums the row that the last block completes, if it does.
+pub(crate) fn sum_last_row<A: Allocator>(rows: &mut Vec<Summary, A>, blocks: &[Summary])
+    requires whole { length rows.old.items * 8 ≤ length blocks.now }
+    requires rest { length blocks.now ≤ length rows.old.items * 8 + 8 }
+    requires room { length blocks.now < vec_capacity rows.old * 8 + 8 }
+    requires summed { HaveSlots blocks.now }
+    ensures sums { (before : List (Option Cuboid)) (slot : Option Cuboid) →
+        SumAll 8 (before ++ slot ∷ []) blocks.now →
+        SumAll 64 before rows.old.items →
+        SumAll 64 (before ++ slot ∷ []) rows.new.items }
+    ensures capacity { vec_capacity rows.new ≡ vec_capacity rows.old }
+{
+    let summed = rows.len() * ROW_BLOCKS;
+    if blocks.len() - summed == ROW_BLOCKS {
+        rows.push_reserved(Summary::of_blocks(&blocks[summed..]));
+    }
+}
+
+// Sums the block of this slot anew, if it is whole.
+pub(crate) fn sum_block_anew<A: Allocator>(
+    blocks: &mut Vec<Summary, A>,
     slots: &[Option<BinSection>],
     slot: usize,
 )
-    requires wide { 0 < width }
-    requires whole { length summaries.old.items * width ≤ length slots.now }
+    requires whole { length blocks.old.items * 8 ≤ length slots.now }
     ensures sums { (before : List (Option Cuboid)) (content : Option Cuboid) →
         slots.now ≡ set before slot content →
-        SumAll width before summaries.old.items →
-        SumAll width slots.now summaries.new.items }
-    ensures capacity { vec_capacity summaries.new ≡ vec_capacity summaries.old }
+        SumAll 8 before blocks.old.items →
+        SumAll 8 slots.now blocks.new.items }
+    ensures capacity { vec_capacity blocks.new ≡ vec_capacity blocks.old }
 {
-    let stretch = slot / width;
-    if stretch < summaries.len() {
-        let first = stretch * width;
-        summaries[stretch] = Summary::of(&slots[first..first + width]);
+    let block = slot / BLOCK;
+    if block < blocks.len() {
+        let first = block * BLOCK;
+        blocks[block] = Summary::of(&slots[first..first + BLOCK]);
+    }
+}
+
+// Sums the row of this slot anew, if it is whole.
+pub(crate) fn sum_row_anew<A: Allocator>(
+    rows: &mut Vec<Summary, A>,
+    blocks: &[Summary],
+    slot: usize,
+)
+    requires whole { length rows.old.items * 8 ≤ length blocks.now }
+    requires summed { HaveSlots blocks.now }
+    ensures sums { (before : List (Option Cuboid)) (content : Option Cuboid) →
+        SumAll 8 (set before slot content) blocks.now →
+        SumAll 64 before rows.old.items →
+        SumAll 64 (set before slot content) rows.new.items }
+    ensures capacity { vec_capacity rows.new ≡ vec_capacity rows.old }
+{
+    let row = slot / ROW;
+    if row < rows.len() {
+        let first = row * ROW_BLOCKS;
+        rows[row] = Summary::of_blocks(&blocks[first..first + ROW_BLOCKS]);
     }
 }
