@@ -1,5 +1,5 @@
 //! Lists of sections in slots.
-ghost use Rattle.std.specs.Prelude.{◌≡◌, ◌+◌, ◌<◌, ◌≤◌, ◌++◌, ◌∷◌, [], map, length, take, set, slice_index_or, IfOk, OnOk, IfSome, IsSome, MatchOption};
+ghost use Rattle.std.specs.Prelude.{◌≡◌, ◌+◌, ◌<◌, ◌≤◌, ◌++◌, ◌∷◌, [], map, length, take, set, slice_index_or, IfOk, OnOk, IsOk, IfSome, IsSome, MatchOption};
 ghost use Rattle.std.specs.Vec.{vec_capacity};
 ghost use Rattle.rectangle_pack.specs.private.Slots.{sections_of, IsLastHolding, NoneHolds};
 
@@ -73,10 +73,12 @@ impl<A: Allocator + Copy> SectionSlots<A> {
         ensures ok { OnOk result (length self.old.all + extra ≤ self.new.room) }
         ensures all { self.new.all ≡ self.old.all }
         ensures room { self.old.room ≤ self.new.room }
+        ensures succeeds { length self.old.all + extra ≤ self.old.room → IsOk result }
     {
         self.slots.reserve(extra)?;
-        self.blocks.reserve(extra / BLOCK + 1)?;
-        self.rows.reserve(extra / ROW + 1)?;
+        let most = self.slots.len() + extra;
+        self.blocks.reserve(most / BLOCK - self.blocks.len())?;
+        self.rows.reserve(most / ROW - self.rows.len())?;
         Ok(())
     }
 
