@@ -52,16 +52,22 @@ pub(crate) struct Search {
 }
 
 impl<A: Allocator + Copy> SectionSlots<A> {
-    // The list of these sections. An error is want of memory.
-    pub(crate) fn from_slice(alloc: A, sections: &[BinSection]) -> Result<Self, AllocError>
-        ensures { IfOk result (λ l. l.all ≡ map (λ s. Some s) sections.now) }
+    // The list of these sections, with room for so many slots more. An error is want of memory.
+    pub(crate) fn from_slice(
+        alloc: A,
+        sections: &[BinSection],
+        extra: usize,
+    ) -> Result<Self, AllocError>
+        ensures all { IfOk result (λ l. l.all ≡ map (λ s. Some s) sections.now) }
+        ensures room { IfOk result (λ l. length sections.now + extra ≤ l.room) }
     {
+        let most = sections.len().checked_add(extra).ok_or(AllocError)?;
         let mut list = SectionSlots {
             slots: Vec::new(alloc),
             blocks: Vec::new(alloc),
             rows: Vec::new(alloc),
         };
-        list.reserve(sections.len())?;
+        list.reserve(most)?;
         for section in sections {
             list.push_reserved(*section);
         }

@@ -1,4 +1,4 @@
-use Rattle.std.proofs.Common.{◌≡◌, ◌≤◌, length, take}
+use Rattle.std.proofs.Common.{◌≡◌, ◌≤◌, ◌+◌, length, take}
 use Rattle.std.specs.Prelude.{map, Some}
 use Rattle.rectangle_pack.proofs.section_slots.SectionSlots.from_slice.Given as goal
 
@@ -6,5 +6,5 @@ abbrev pub invariant-loop-section : goal.invariant-loop-section
 invariant-loop-section g l = record {
   all : l.list.all ≡ map (λ s. Some s) (take l.section-index l.sections);
   count : length l.list.all ≡ l.section-index;
-  room : length l.sections ≤ l.list.room;
+  room : length l.sections + l.extra ≤ l.list.room;
 }
