@@ -2,7 +2,7 @@
 ghost use Rattle.std.specs.Prelude.{◌≡◌, ◌<◌, ◌↔◌, true};
 ghost use Rattle.std.specs.Cmp.{IsTotalOrder};
 ghost use Rattle.rectangle_pack.specs.Boxes.{Size, volume_of, size_order};
-ghost use Rattle.rectangle_pack.specs.private.Summaries.{middle_of};
+ghost use Rattle.rectangle_pack.specs.private.Summaries.{bounded_volume_of, middle_of};
 
 use std::cmp::Ordering;
 use std::marker::Model;
@@ -75,6 +75,14 @@ impl WidthHeightDepth {
         ensures { result ≡ volume_of self.now }
     {
         self.width as u128 * self.height as u128 * self.depth as u128
+    }
+
+    // The number of cells, up to the greatest number of 64 bits.
+    pub(crate) fn bounded_volume(&self) -> u64
+        ensures { result ≡ bounded_volume_of self.now }
+    {
+        let cells = self.width as u64 * self.height as u64;
+        cells.saturating_mul(self.depth as u64)
     }
 
     // The one of the three numbers that is neither the greatest nor the least.

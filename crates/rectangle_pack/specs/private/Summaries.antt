@@ -1,5 +1,5 @@
 -- What a summary says of a stretch of slots, and a list of summaries of the whole stretches of a width.
-use Rattle.std.specs.Prelude.{◌≡◌, ℕ, ◌+◌, ◌*◌, ◌^◌, ◌<◌, ◌≤◌, List, length, min, max, All, Option, take, drop, slice_index_or}
+use Rattle.std.specs.Prelude.{◌≡◌, ℕ, ◌+◌, ◌*◌, ◌-◌, ◌^◌, ◌<◌, ◌≤◌, List, length, min, max, All, Option, take, drop, slice_index_or}
 use Rattle.rectangle_pack.specs.Boxes.{Size, Cuboid, volume_of}
 use Rattle.rectangle_pack.specs.private.Slots.{sections_of}
 use Rattle.rectangle_pack.specs.declared.section_slots.summary.Summary.{Summary}
@@ -8,13 +8,17 @@ use Rattle.rectangle_pack.specs.declared.section_slots.summary.Summary.{Summary}
 abbrev pub middle_of : Size → ℕ
 middle_of s = max (min s.width s.height) (min (max s.width s.height) s.depth)
 
+-- how many cells a size has, up to the greatest number of 64 bits
+abbrev pub bounded_volume_of : Size → ℕ
+bounded_volume_of s = min (volume_of s) (2 ^ 64 - 1)
+
 -- the section is not greater than the summary says
 pub record IsWithin (summary : Summary) (section : Cuboid) : Type 0 where
   pub wide : section.whd.width ≤ summary.width
   pub high : section.whd.height ≤ summary.height
   pub deep : section.whd.depth ≤ summary.depth
   pub middle : middle_of section.whd ≤ summary.middle
-  pub volume : volume_of section.whd ≤ summary.volume
+  pub volume : bounded_volume_of section.whd ≤ summary.volume
 
 -- how many sections stand in the slots, and what none of them goes beyond
 pub record Sums (summary : Summary) (slots : List (Option Cuboid)) : Type 0 where
@@ -56,6 +60,6 @@ with_section s z =
       height = max s.height z.height;
       depth = max s.depth z.depth;
       middle = max s.middle (middle_of z);
-      volume = max s.volume (volume_of z);
+      volume = max s.volume (bounded_volume_of z);
       count = s.count + 1;
     }

@@ -26,7 +26,7 @@ pub(crate) struct Summary {
     height: u32,
     depth: u32,
     middle: u32,
-    volume: u128,
+    volume: u64,
     count: usize,
 }
 
@@ -61,7 +61,7 @@ impl Summary {
             height: self.height.max(size.height()),
             depth: self.depth.max(size.depth()),
             middle: self.middle.max(size.middle()),
-            volume: self.volume.max(size.volume()),
+            volume: self.volume.max(size.bounded_volume()),
             count: self.count + 1,
         }
     }
@@ -113,7 +113,7 @@ impl Summary {
             & (self.height >= size.height())
             & (self.depth >= size.depth())
             & (self.middle >= size.middle())
-            & (self.volume >= size.volume())
+            & (self.volume >= size.bounded_volume())
     }
 }
 
