@@ -81,8 +81,7 @@ impl WidthHeightDepth {
     pub(crate) fn bounded_volume(&self) -> u64
         ensures { result ≡ bounded_volume_of self.now }
     {
-        let cells = self.width as u64 * self.height as u64;
-        cells.saturating_mul(self.depth as u64)
+        u64::try_from(self.volume()).unwrap_or(u64::MAX)
     }
 
     // The one of the three numbers that is neither the greatest nor the least.

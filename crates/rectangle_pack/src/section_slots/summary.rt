@@ -109,11 +109,14 @@ impl Summary {
         ensures { OnFalse result
             ((section : Cuboid) → IsWithin self.now section → ¬ Holds section size.now) }
     {
-        (self.width >= size.width())
-            & (self.height >= size.height())
-            & (self.depth >= size.depth())
-            & (self.middle >= size.middle())
-            & (self.volume >= size.bounded_volume())
+        // What the size has beyond the summary. One branch for all of it, as any one alone often
+        // decides.
+        let sides = size.width().saturating_sub(self.width)
+            | size.height().saturating_sub(self.height)
+            | size.depth().saturating_sub(self.depth)
+            | size.middle().saturating_sub(self.middle);
+        let volume = size.bounded_volume().saturating_sub(self.volume);
+        u64::from(sides) | volume == 0
     }
 }
 
