@@ -1,28 +1,18 @@
 -- Summaries of stretches of slots.
-use Rattle.std.proofs.Common.{◌≡◌, ◌≤◌, ◌<◌, ◌+◌, ◌*◌, ◌^◌, ◌≢◌, ℕ, List, [], ◌∷◌, ◌++◌, length, take, drop, set, get_or, arith, inl, inr, length-append, length-drop, append-nil}
+use Rattle.std.proofs.Common.{◌≡◌, ◌≤◌, ◌<◌, ◌+◌, ◌*◌, ◌^◌, ◌≢◌, ℕ, List, [], ◌∷◌, ◌++◌, length, take, drop, set, get_or, refl, arith, inl, inr, length-append, length-drop, append-nil}
 use Rattle.std.specs.Prelude.{Option, Some, None}
 use Rattle.std.proofs.Math.Nat.{lt_of_mul-lt-mul_right}
 use Rattle.std.proofs.Math.ListN.{length-set}
 use Rattle.std.proofs.Math.Seq.{get_or-append_seam, take-add}
 use Rattle.std.proofs.lemmas.Bool.{cases_order}
 use Rattle.std.proofs.lemmas.List.{drop-drop, get_or-drop, get_or_append_left, get_or-set_same, get_or-set_other, get_or-take, take_all, length-take-le}
-use Rattle.std.proofs.lemmas.List.Elements.{All-append, All-push, All-weaker}
+use Rattle.std.proofs.lemmas.List.Elements.{All-append, All-cons, All-nil, All-weaker}
 use Rattle.rectangle_pack.specs.Boxes.{Cuboid, Size, Holds}
 use Rattle.rectangle_pack.specs.private.Slots.{sections_of, NoneHolds}
-use Rattle.rectangle_pack.specs.private.Summaries.{IsWithin, Sums, SumAll, HaveSlots, with_section, joined}
+use Rattle.rectangle_pack.specs.private.Summaries.{IsWithin, Sums, SumAll, HaveSlots, of_section, joined}
 use Rattle.rectangle_pack.specs.declared.section_slots.summary.Summary.{Summary}
 use Rattle.rectangle_pack.proofs.SlotsLemmas.{sections_of-append, length-sections_of}
 use Rattle.rectangle_pack.proofs.StretchLemmas.{stretch-ends, stretch-append, stretch-set, stretch-take}
-
--- a section within a summary is within the wider one
-within-wider : (s : Summary) (z : Size) (x : Cuboid) → IsWithin s x → IsWithin (with_section s z) x
-within-wider s z x p = record {
-  wide = omega (arith, p.wide);
-  high = omega (arith, p.high);
-  deep = omega (arith, p.deep);
-  middle = omega (arith, p.middle);
-  volume = omega (arith, p.volume);
-}
 
 -- a section within one of two summaries is within both joined
 within-first : (s t : Summary) (x : Cuboid) → IsWithin s x → IsWithin (joined s t) x
@@ -43,10 +33,6 @@ within-second s t x p = record {
   volume = omega (arith, p.volume);
 }
 
--- the section that widens a summary is within it
-within-new : (s : Summary) (x : Cuboid) → IsWithin (with_section s x.whd) x
-within-new s x = record { wide = omega arith; high = omega arith; deep = omega arith; middle = omega arith; volume = omega arith }
-
 -- the slots of two stretches
 Sums-join : (a b : Summary) (s t : List (Option Cuboid)) → Sums a s → Sums b t → Sums (joined a b) (s ++ t)
 Sums-join a b s t p q =
@@ -58,16 +44,15 @@ Sums-join a b s t p q =
           (All-weaker (IsWithin b) (IsWithin (joined a b)) (within-second a b) (sections_of t) q.within));
     }
 
+-- one slot, with a section
+Sums-one : (x : Cuboid) → Sums (of_section x.whd) (Some x ∷ [])
+Sums-one x =
+    let within : IsWithin (of_section x.whd) x = record { wide = omega arith; high = omega arith; deep = omega arith; middle = omega arith; volume = omega arith } in
+    record { count = refl; within = All-cons (IsWithin (of_section x.whd)) x [] within (All-nil (IsWithin (of_section x.whd))) }
+
 -- one slot more, with a section
-pub Sums-more : (s : Summary) (slots : List (Option Cuboid)) (x : Cuboid) → Sums s slots → Sums (with_section s x.whd) (slots ++ Some x ∷ [])
-Sums-more s slots x p =
-    let e = sections_of-append slots (Some x ∷ []) in
-    record {
-      count = rw e (omega (arith, p.count, length-append (sections_of slots) (x ∷ [])));
-      within = rw e (All-push (IsWithin (with_section s x.whd)) (sections_of slots) x
-          (All-weaker (IsWithin s) (IsWithin (with_section s x.whd)) (within-wider s x.whd) (sections_of slots) p.within)
-          (within-new s x));
-    }
+pub Sums-more : (s : Summary) (slots : List (Option Cuboid)) (x : Cuboid) → Sums s slots → Sums (joined s (of_section x.whd)) (slots ++ Some x ∷ [])
+Sums-more s slots x p = Sums-join s (of_section x.whd) slots (Some x ∷ []) p (Sums-one x)
 
 -- one slot more, an empty one
 pub Sums-empty : (s : Summary) (slots : List (Option Cuboid)) → Sums s slots → Sums s (slots ++ None ∷ [])

@@ -40,6 +40,18 @@ pub record AreSummed (block row : ℕ) (slots : List (Option Cuboid)) (blocks ro
 abbrev pub HaveSlots : List Summary → Type 0
 HaveSlots blocks = (slots : List (Option Cuboid)) × (length slots < 2 ^ 64) × SumAll 8 slots blocks
 
+-- the summary of one section, of this size
+abbrev pub of_section : Size → Summary
+of_section z =
+    record {
+      width = z.width;
+      height = z.height;
+      depth = z.depth;
+      middle = middle_of z;
+      volume = bounded_volume_of z;
+      count = 1;
+    }
+
 -- the summary of the slots of both
 abbrev pub joined : Summary → Summary → Summary
 joined s t =
@@ -50,16 +62,4 @@ joined s t =
       middle = max s.middle t.middle;
       volume = max s.volume t.volume;
       count = s.count + t.count;
-    }
-
--- the summary with one section more, of this size
-abbrev pub with_section : Summary → Size → Summary
-with_section s z =
-    record {
-      width = max s.width z.width;
-      height = max s.height z.height;
-      depth = max s.depth z.depth;
-      middle = max s.middle (middle_of z);
-      volume = max s.volume (bounded_volume_of z);
-      count = s.count + 1;
     }

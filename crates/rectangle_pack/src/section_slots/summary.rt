@@ -4,7 +4,7 @@ ghost use Rattle.std.specs.Vec.{vec_capacity};
 ghost use Rattle.std.specs.Bool.{OnFalse};
 ghost use Rattle.rectangle_pack.specs.Boxes.{Cuboid, Holds};
 ghost use Rattle.rectangle_pack.specs.private.Slots.{NoneHolds};
-ghost use Rattle.rectangle_pack.specs.private.Summaries.{IsWithin, Sums, SumAll, HaveSlots, with_section, joined};
+ghost use Rattle.rectangle_pack.specs.private.Summaries.{IsWithin, Sums, SumAll, HaveSlots, of_section, joined};
 
 use crate::bin_section::BinSection;
 use crate::width_height_depth::WidthHeightDepth;
@@ -31,39 +31,45 @@ pub(crate) struct Summary {
 }
 
 impl Summary {
-    // The summary of these slots.
-    fn of(slots: &[Option<BinSection>]) -> Self
-        ensures { Sums result slots.now }
+    // The summary of no section.
+    fn empty() -> Self
+        ensures { Sums result [] }
     {
-        let mut summary = Summary {
+        Summary {
             width: 0,
             height: 0,
             depth: 0,
             middle: 0,
             volume: 0,
             count: 0,
-        };
+        }
+    }
+
+    // The summary of one section, of this size.
+    fn of_section(size: &WidthHeightDepth) -> Self
+        ensures { result ≡ of_section size.now }
+    {
+        Summary {
+            width: size.width(),
+            height: size.height(),
+            depth: size.depth(),
+            middle: size.middle(),
+            volume: size.bounded_volume(),
+            count: 1,
+        }
+    }
+
+    // The summary of these slots.
+    fn of(slots: &[Option<BinSection>]) -> Self
+        ensures { Sums result slots.now }
+    {
+        let mut summary = Summary::empty();
         for slot in slots {
             if let Some(section) = slot {
-                summary = summary.with(&section.whd());
+                summary = summary.join(&Summary::of_section(&section.whd()));
             }
         }
         summary
-    }
-
-    // The summary with one section more, of this size.
-    fn with(self, size: &WidthHeightDepth) -> Self
-        requires { self.count + 1 < 2 ^ 64 }
-        ensures { result ≡ with_section self size.now }
-    {
-        Summary {
-            width: self.width.max(size.width()),
-            height: self.height.max(size.height()),
-            depth: self.depth.max(size.depth()),
-            middle: self.middle.max(size.middle()),
-            volume: self.volume.max(size.bounded_volume()),
-            count: self.count + 1,
-        }
     }
 
     // The summary of all slots of these blocks, of the summaries of the blocks.
@@ -74,14 +80,7 @@ impl Summary {
             SumAll 8 slots blocks.now →
             Sums result slots }
     {
-        let mut summary = Summary {
-            width: 0,
-            height: 0,
-            depth: 0,
-            middle: 0,
-            volume: 0,
-            count: 0,
-        };
+        let mut summary = Summary::empty();
         for block in blocks {
             summary = summary.join(block);
         }
