@@ -32,16 +32,21 @@ NoneHolds-append a b size m n p q =
 pub NoneHolds-most : (s : List (Option Cuboid)) (i : ℕ) (size : Size) (n : ℕ) → NoneHolds (drop i s) size n → n ≤ length s - i
 NoneHolds-most s i size n p = omega (arith, p.tests_are, length-sections_of (drop i s), length-drop i s)
 
--- a stretch that ends at a place, and the slots from there on
-pub NoneHolds-skip : (s : List (Option Cuboid)) (w end : ℕ) (size : Size) (m n : ℕ) → w ≤ end → NoneHolds (take w (drop (end - w) s)) size m → NoneHolds (drop end s) size n → NoneHolds (drop (end - w) s) size (n + m)
-NoneHolds-skip s w end size m n h p q =
-    let begins : end - w + w ≡ end = omega arith in
-    let rest : drop w (drop (end - w) s) ≡ drop end s = rw (drop-drop w (end - w) s, begins) refl in
-    let both = NoneHolds-append (take w (drop (end - w) s)) (drop w (drop (end - w) s)) size m n p (rw rest q) in
-    rw (take-append-drop w (drop (end - w) s)) at both
+-- a stretch, and the slots from its end on
+pub NoneHolds-skip :
+    (s : List (Option Cuboid)) (begin end : ℕ) (size : Size) (m n : ℕ) → begin ≤ end →
+    NoneHolds (take (end - begin) (drop begin s)) size m → NoneHolds (drop end s) size n →
+    NoneHolds (drop begin s) size (n + m)
+NoneHolds-skip s begin end size m n h p q =
+    let ends : begin + (end - begin) ≡ end = omega arith in
+    let rest : drop (end - begin) (drop begin s) ≡ drop end s = rw (drop-drop (end - begin) begin s, ends) refl in
+    let both = NoneHolds-append (take (end - begin) (drop begin s)) (drop (end - begin) (drop begin s)) size m n p (rw rest q) in
+    rw (take-append-drop (end - begin) (drop begin s)) at both
 
 -- the slot before a place, and the slots from there on
-pub drop-slot : (s : List (Option Cuboid)) (end : ℕ) (x d : Option Cuboid) → 0 < end → end ≤ length s → x ≡ get_or s (end - 1) d → drop (end - 1) s ≡ x ∷ drop end s
+pub drop-slot :
+    (s : List (Option Cuboid)) (end : ℕ) (x d : Option Cuboid) → 0 < end → end ≤ length s → x ≡ get_or s (end - 1) d →
+    drop (end - 1) s ≡ x ∷ drop end s
 drop-slot s end x d h l e =
     let next : suc (end - 1) ≡ end = omega arith in
     let here = drop-cons s (end - 1) d (omega arith) in
@@ -52,14 +57,19 @@ pub NoneHolds-empty : (s rest : List (Option Cuboid)) (size : Size) (n : ℕ) �
 NoneHolds-empty s rest size n e p = rw e (record { none = p.none; tests_are = p.tests_are })
 
 -- a slot more, whose section does not hold the size
-pub NoneHolds-section : (s rest : List (Option Cuboid)) (x : Cuboid) (size : Size) (n : ℕ) → s ≡ Some x ∷ rest → ¬ Holds x size → NoneHolds rest size n → NoneHolds s size (n + 1)
+pub NoneHolds-section :
+    (s rest : List (Option Cuboid)) (x : Cuboid) (size : Size) (n : ℕ) → s ≡ Some x ∷ rest → ¬ Holds x size →
+    NoneHolds rest size n → NoneHolds s size (n + 1)
 NoneHolds-section s rest x size n e apart p = rw e (record {
   none = All-cons (λ y. ¬ Holds y size) x (sections_of rest) apart p.none;
   tests_are = omega (arith, p.tests_are);
 })
 
 -- the slot before a place has a section that holds the size, and from there on none does
-pub IsLastHolding-at : (s : List (Option Cuboid)) (end : ℕ) (x : Cuboid) (size : Size) (n : ℕ) → end ≤ length s → drop (end - 1) s ≡ Some x ∷ drop end s → Holds x size → NoneHolds (drop end s) size n → IsLastHolding s size (end - 1) (n + 1)
+pub IsLastHolding-at :
+    (s : List (Option Cuboid)) (end : ℕ) (x : Cuboid) (size : Size) (n : ℕ) → end ≤ length s →
+    drop (end - 1) s ≡ Some x ∷ drop end s → Holds x size → NoneHolds (drop end s) size n →
+    IsLastHolding s size (end - 1) (n + 1)
 IsLastHolding-at s end x size n l e held p = record {
   before = take (end - 1) s;
   section = x;
@@ -72,7 +82,9 @@ IsLastHolding-at s end x size n l e held p = record {
 }
 
 -- before a slot with a section there are fewer sections than in all
-pub sections_of-fewer : (s : List (Option Cuboid)) (i : ℕ) (x : Cuboid) (d : Option Cuboid) → i < length s → get_or s i d ≡ Some x → length (sections_of (take i s)) < length (sections_of s)
+pub sections_of-fewer :
+    (s : List (Option Cuboid)) (i : ℕ) (x : Cuboid) (d : Option Cuboid) → i < length s → get_or s i d ≡ Some x →
+    length (sections_of (take i s)) < length (sections_of s)
 sections_of-fewer s i x d l e =
     let rest : drop i s ≡ Some x ∷ drop (suc i) s = drop-cons s i d l ∙ ap (λ y. y ∷ drop (suc i) s) e in
     let all : sections_of s ≡ sections_of (take i s) ++ x ∷ sections_of (drop (suc i) s) =
@@ -81,5 +93,7 @@ sections_of-fewer s i x d l e =
     omega (arith, ap length all, length-append (sections_of (take i s)) (x ∷ sections_of (drop (suc i) s)))
 
 -- the sections of a slot more
-pub sections_of-more : (s : List (Option Cuboid)) (i : ℕ) (x d : Option Cuboid) → i < length s → get_or s i d ≡ x → sections_of (take (i + 1) s) ≡ sections_of (take i s) ++ sections_of (x ∷ [])
+pub sections_of-more :
+    (s : List (Option Cuboid)) (i : ℕ) (x d : Option Cuboid) → i < length s → get_or s i d ≡ x →
+    sections_of (take (i + 1) s) ≡ sections_of (take i s) ++ sections_of (x ∷ [])
 sections_of-more s i x d l e = rw (take_more s i d l, e) (sections_of-append (take i s) (x ∷ []))

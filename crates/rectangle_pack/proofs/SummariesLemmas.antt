@@ -64,14 +64,18 @@ Sums-empty s slots p =
     }
 
 -- no section of a stretch holds a size that no section within its summary does
-pub none-held : (s : Summary) (slots : List (Option Cuboid)) (size : Size) → Sums s slots → ((x : Cuboid) → IsWithin s x → ¬ Holds x size) → NoneHolds slots size s.count
+pub none-held :
+    (s : Summary) (slots : List (Option Cuboid)) (size : Size) → Sums s slots →
+    ((x : Cuboid) → IsWithin s x → ¬ Holds x size) → NoneHolds slots size s.count
 none-held s slots size p apart = record {
   none = All-weaker (IsWithin s) (λ x. ¬ Holds x size) apart (sections_of slots) p.within;
   tests_are = p.count;
 }
 
 -- a slot more, which completes no stretch
-pub SumAll-same : (w : ℕ) (s : List (Option Cuboid)) (ss : List Summary) (x : Option Cuboid) → length s + 1 < length ss * w + w → SumAll w s ss → SumAll w (s ++ x ∷ []) ss
+pub SumAll-same :
+    (w : ℕ) (s : List (Option Cuboid)) (ss : List Summary) (x : Option Cuboid) → length s + 1 < length ss * w + w →
+    SumAll w s ss → SumAll w (s ++ x ∷ []) ss
 SumAll-same w s ss x h p = record {
   whole = omega (arith, p.whole, length-append s (x ∷ []));
   rest = omega (arith, length-append s (x ∷ []));
@@ -79,7 +83,10 @@ SumAll-same w s ss x h p = record {
 }
 
 -- a slot more, which completes a stretch
-pub SumAll-more : (w : ℕ) (s : List (Option Cuboid)) (ss : List Summary) (x : Option Cuboid) (new : Summary) → length s + 1 ≡ length ss * w + w → Sums new (drop (length ss * w) (s ++ x ∷ [])) → SumAll w s ss → SumAll w (s ++ x ∷ []) (ss ++ new ∷ [])
+pub SumAll-more :
+    (w : ℕ) (s : List (Option Cuboid)) (ss : List Summary) (x : Option Cuboid) (new : Summary) →
+    length s + 1 ≡ length ss * w + w → Sums new (drop (length ss * w) (s ++ x ∷ [])) → SumAll w s ss →
+    SumAll w (s ++ x ∷ []) (ss ++ new ∷ [])
 SumAll-more w s ss x new h n p =
     let one : length (ss ++ new ∷ []) ≡ length ss + 1 = omega (arith, length-append ss (new ∷ [])) in
     let long : length (s ++ x ∷ []) ≡ length ss * w + w = omega (arith, length-append s (x ∷ [])) in
@@ -95,7 +102,9 @@ SumAll-more w s ss x new h n p =
     }
 
 -- a slot that is written, in no whole stretch
-pub SumAll-out : (w : ℕ) (s : List (Option Cuboid)) (ss : List Summary) (i : ℕ) (v : Option Cuboid) → length ss * w ≤ i → SumAll w s ss → SumAll w (set s i v) ss
+pub SumAll-out :
+    (w : ℕ) (s : List (Option Cuboid)) (ss : List Summary) (i : ℕ) (v : Option Cuboid) → length ss * w ≤ i →
+    SumAll w s ss → SumAll w (set s i v) ss
 SumAll-out w s ss i v h p = record {
   whole = omega (arith, p.whole, length-set s i v);
   rest = omega (arith, p.rest, length-set s i v);
@@ -103,7 +112,10 @@ SumAll-out w s ss i v h p = record {
 }
 
 -- a slot that is written, with its stretch summed anew
-pub SumAll-in : (w : ℕ) (s : List (Option Cuboid)) (ss : List Summary) (i q : ℕ) (v : Option Cuboid) (new : Summary) → q * w ≤ i → i < q * w + w → q < length ss → Sums new (take w (drop (q * w) (set s i v))) → SumAll w s ss → SumAll w (set s i v) (set ss q new)
+pub SumAll-in :
+    (w : ℕ) (s : List (Option Cuboid)) (ss : List Summary) (i q : ℕ) (v : Option Cuboid) (new : Summary) → q * w ≤ i →
+    i < q * w + w → q < length ss → Sums new (take w (drop (q * w) (set s i v))) → SumAll w s ss →
+    SumAll w (set s i v) (set ss q new)
 SumAll-in w s ss i q v new from to in' n p = record {
   whole = rw (length-set ss q new, length-set s i v) p.whole;
   rest = rw (length-set ss q new, length-set s i v) p.rest;
@@ -119,7 +131,9 @@ SumAll-in w s ss i q v new from to in' n p = record {
 }
 
 -- the first slots, with the summaries of their stretches
-pub SumAll-take : (w : ℕ) (s : List (Option Cuboid)) (ss : List Summary) (m q : ℕ) → q * w ≤ m → m < q * w + w → m ≤ length s → SumAll w s ss → SumAll w (take m s) (take q ss)
+pub SumAll-take :
+    (w : ℕ) (s : List (Option Cuboid)) (ss : List Summary) (m q : ℕ) → q * w ≤ m → m < q * w + w → m ≤ length s →
+    SumAll w s ss → SumAll w (take m s) (take q ss)
 SumAll-take w s ss m q from to in' p =
     let less : q * w < (length ss + 1) * w = omega (arith, p.rest) in
     let short = length-take-le q ss (omega (arith, lt_of_mul-lt-mul_right w less)) in
@@ -133,13 +147,19 @@ SumAll-take w s ss m q from to in' p =
     }
 
 -- the slots of a block more
-pub Sums-block : (summary : Summary) (slots : List (Option Cuboid)) (blocks : List Summary) (i : ℕ) (d : Summary) → i < length blocks → SumAll 8 slots blocks → Sums summary (take (i * 8) slots) → Sums (joined summary (get_or blocks i d)) (take ((i + 1) * 8) slots)
+pub Sums-block :
+    (summary : Summary) (slots : List (Option Cuboid)) (blocks : List Summary) (i : ℕ) (d : Summary) →
+    i < length blocks → SumAll 8 slots blocks → Sums summary (take (i * 8) slots) →
+    Sums (joined summary (get_or blocks i d)) (take ((i + 1) * 8) slots)
 Sums-block summary slots blocks i d h p so_far =
     let more : (i + 1) * 8 ≡ i * 8 + 8 = omega arith in
     rw (more, take-add (i * 8) 8 slots) (Sums-join summary (get_or blocks i d) (take (i * 8) slots) (take 8 (drop (i * 8) slots)) so_far (p.each i d h))
 
 -- and their number is below that of all slots
-pub count-block : (summary : Summary) (blocks : List Summary) (i : ℕ) (d : Summary) → i < length blocks → HaveSlots blocks → ((slots : List (Option Cuboid)) → SumAll 8 slots blocks → Sums summary (take (i * 8) slots)) → summary.count + (get_or blocks i d).count < 2 ^ 64
+pub count-block :
+    (summary : Summary) (blocks : List Summary) (i : ℕ) (d : Summary) → i < length blocks → HaveSlots blocks →
+    ((slots : List (Option Cuboid)) → SumAll 8 slots blocks → Sums summary (take (i * 8) slots)) →
+    summary.count + (get_or blocks i d).count < 2 ^ 64
 count-block summary blocks i d h (slots, few, p) so_far =
     let more = Sums-block summary slots blocks i d h p (so_far slots p) in
     let short = length-take-le ((i + 1) * 8) slots (omega (arith, p.whole)) in
@@ -159,7 +179,9 @@ SumAll-drop s ss q h p =
     }
 
 -- the slots of so many blocks from a block on
-SumAll-stretch : (s : List (Option Cuboid)) (ss : List Summary) (q n : ℕ) → q + n ≤ length ss → SumAll 8 s ss → SumAll 8 (take (n * 8) (drop (q * 8) s)) (take n (drop q ss))
+SumAll-stretch :
+    (s : List (Option Cuboid)) (ss : List Summary) (q n : ℕ) → q + n ≤ length ss → SumAll 8 s ss →
+    SumAll 8 (take (n * 8) (drop (q * 8) s)) (take n (drop q ss))
 SumAll-stretch s ss q n h p =
     SumAll-take 8 (drop (q * 8) s) (drop q ss) (n * 8) n (omega arith) (omega arith) (omega (arith, p.whole, length-drop (q * 8) s)) (SumAll-drop s ss q (omega arith) p)
 
@@ -169,7 +191,11 @@ HaveSlots-stretch ss q n h (s, few, p) =
     (take (n * 8) (drop (q * 8) s), omega (arith, fewer, p.whole), SumAll-stretch s ss q n h p)
 
 -- what sums the slots of the eight blocks of a row sums the row
-pub Sums-row : (s : List (Option Cuboid)) (blocks : List Summary) (r : ℕ) (new : Summary) → r * 8 + 8 ≤ length blocks → SumAll 8 s blocks → ((slots : List (Option Cuboid)) → length slots ≡ length (take 8 (drop (r * 8) blocks)) * 8 → SumAll 8 slots (take 8 (drop (r * 8) blocks)) → Sums new slots) → Sums new (take 64 (drop (r * 64) s))
+pub Sums-row :
+    (s : List (Option Cuboid)) (blocks : List Summary) (r : ℕ) (new : Summary) → r * 8 + 8 ≤ length blocks →
+    SumAll 8 s blocks →
+    ((slots : List (Option Cuboid)) → length slots ≡ length (take 8 (drop (r * 8) blocks)) * 8 → SumAll 8 slots (take 8 (drop (r * 8) blocks)) → Sums new slots) →
+    Sums new (take 64 (drop (r * 64) s))
 Sums-row s blocks r new h p sums =
     let place : r * 8 * 8 ≡ r * 64 = omega arith in
     let eight = length-take-le 8 (drop (r * 8) blocks) (omega (arith, length-drop (r * 8) blocks)) in

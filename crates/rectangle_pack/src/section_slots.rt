@@ -1,5 +1,5 @@
 //! Lists of sections in slots.
-ghost use Rattle.std.specs.Prelude.{◌≡◌, ◌+◌, ◌<◌, ◌≤◌, ◌++◌, ◌∷◌, [], map, length, take, set, slice_index_or, IfOk, OnOk, IsOk, IfSome, IsSome, MatchOption};
+ghost use Rattle.std.specs.Prelude.{◌≡◌, ◌+◌, ◌-◌, ◌<◌, ◌≤◌, ◌++◌, ◌∷◌, [], map, length, take, drop, set, slice_index_or, IfOk, OnOk, IsOk, IfSome, IsSome, MatchOption};
 ghost use Rattle.std.specs.Vec.{vec_capacity};
 ghost use Rattle.rectangle_pack.specs.private.Slots.{sections_of, IsLastHolding, NoneHolds};
 
@@ -11,6 +11,7 @@ use crate::section_slots::summary::{
     BLOCK, ROW, Summary, count_if_too_small, sum_block_anew, sum_last_block, sum_last_row,
     sum_row_anew,
 };
+use crate::width_height_depth::WidthHeightDepth;
 use std::alloc::{AllocError, Allocator};
 use std::marker::Model;
 
@@ -121,17 +122,9 @@ impl<A: Allocator + Copy> SectionSlots<A> {
         let mut end = self.slots.len();
         let mut tests = 0;
         while end > 0 {
-            if let Some(count) = count_if_too_small(self.rows.as_slice(), ROW, end, &size) {
+            if let Some((begin, count)) = self.too_small_before(end, &size) {
+                end = begin;
                 tests += count;
-                end -= ROW;
-            } else if let Some(count) = count_if_too_small(
-                self.blocks.as_slice(),
-                BLOCK,
-                end,
-                &size,
-            ) {
-                tests += count;
-                end -= BLOCK;
             } else {
                 end -= 1;
                 if let Some(section) = self.slots[end] {
@@ -146,6 +139,28 @@ impl<A: Allocator + Copy> SectionSlots<A> {
             }
         }
         Search { slot: None, tests }
+    }
+
+    // Where a row or a block ends here and no section in it holds the size: where it begins, and
+    // how many sections stand in it.
+    #[inline(always)]
+    fn too_small_before(&self, end: usize, size: &WidthHeightDepth) -> Option<(usize, usize)>
+        requires from { 0 < end }
+        requires to { end ≤ length self.now.all }
+        ensures begin { IfSome result (λ r. r.0 < end) }
+        ensures none { IfSome result
+            (λ r. NoneHolds (take (end - r.0) (drop r.0 self.now.all)) size.now r.1) }
+    {
+        if end % BLOCK > 0 {
+            return None;
+        }
+        if let Some(count) = count_if_too_small(self.rows.as_slice(), ROW, end, size) {
+            return Some((end - ROW, count));
+        }
+        match count_if_too_small(self.blocks.as_slice(), BLOCK, end, size) {
+            Some(count) => Some((end - BLOCK, count)),
+            None => None,
+        }
     }
 
     // Takes the section out of its slot, which stays empty. The caller sees to it that there is
