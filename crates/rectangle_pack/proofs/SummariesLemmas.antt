@@ -47,7 +47,9 @@ Sums-join a b s t p q =
 -- one slot, with a section
 Sums-one : (x : Cuboid) → Sums (of_section x.whd) (Some x ∷ [])
 Sums-one x =
-    let within : IsWithin (of_section x.whd) x = record { wide = omega arith; high = omega arith; deep = omega arith; middle = omega arith; volume = omega arith } in
+    let within : IsWithin (of_section x.whd) x =
+    record { wide = omega arith; high = omega arith; deep = omega arith; middle = omega arith; volume = omega arith }
+    in
     record { count = refl; within = All-cons (IsWithin (of_section x.whd)) x [] within (All-nil (IsWithin (of_section x.whd))) }
 
 -- one slot more, with a section
@@ -96,7 +98,9 @@ SumAll-more w s ss x new h n p =
       rest = rw (one, long) (omega (arith, p.rest));
       each = λ k d lt. elim (cases_order k (length ss)) [
         | inl e ↦ rw (e, get_or-append_seam ss new [] d, take_all w (drop (length ss * w) (s ++ x ∷ [])) last) n
-        | inr (inl below) ↦ rw (get_or_append_left ss (new ∷ []) d k below, stretch-append w (k * w) s (x ∷ []) (omega (arith, stretch-ends w k (length ss) below, p.whole))) (p.each k d below)
+        | inr (inl below) ↦
+            let before = stretch-append w (k * w) s (x ∷ []) (omega (arith, stretch-ends w k (length ss) below, p.whole)) in
+            rw (get_or_append_left ss (new ∷ []) d k below, before) (p.each k d below)
         | inr (inr above) ↦ absurd (omega (arith, one))
       ];
     }
@@ -123,10 +127,12 @@ SumAll-in w s ss i q v new from to in' n p = record {
     | inl e ↦ rw (e, get_or-set_same ss q new d in') n
     | inr (inl below) ↦
         let other : k ≢ q = omega arith in
-        rw (get_or-set_other ss q k new d other, stretch-set w (k * w) i s v (inr (omega (arith, stretch-ends w k q below)))) (p.each k d (omega arith))
+        let before = stretch-set w (k * w) i s v (inr (omega (arith, stretch-ends w k q below))) in
+        rw (get_or-set_other ss q k new d other, before) (p.each k d (omega arith))
     | inr (inr above) ↦
         let other : k ≢ q = omega arith in
-        rw (get_or-set_other ss q k new d other, stretch-set w (k * w) i s v (inl (omega (arith, stretch-ends w q k above)))) (p.each k d (omega (arith, length-set ss q new)))
+        let beyond = stretch-set w (k * w) i s v (inl (omega (arith, stretch-ends w q k above))) in
+        rw (get_or-set_other ss q k new d other, beyond) (p.each k d (omega (arith, length-set ss q new)))
   ];
 }
 
@@ -143,7 +149,8 @@ SumAll-take w s ss m q from to in' p =
       rest = rw (short, kept) to;
       each = λ k d lt.
           let below : k < q = omega (arith, short) in
-          rw (get_or-take q ss k d below, stretch-take w (k * w) m s (omega (arith, stretch-ends w k q below)) in') (p.each k d (omega (arith, lt_of_mul-lt-mul_right w less)));
+          let first = stretch-take w (k * w) m s (omega (arith, stretch-ends w k q below)) in' in
+          rw (get_or-take q ss k d below, first) (p.each k d (omega (arith, lt_of_mul-lt-mul_right w less)));
     }
 
 -- the slots of a block more
@@ -183,7 +190,8 @@ SumAll-stretch :
     (s : List (Option Cuboid)) (ss : List Summary) (q n : ℕ) → q + n ≤ length ss → SumAll 8 s ss →
     SumAll 8 (take (n * 8) (drop (q * 8) s)) (take n (drop q ss))
 SumAll-stretch s ss q n h p =
-    SumAll-take 8 (drop (q * 8) s) (drop q ss) (n * 8) n (omega arith) (omega arith) (omega (arith, p.whole, length-drop (q * 8) s)) (SumAll-drop s ss q (omega arith) p)
+    let short : n * 8 ≤ length (drop (q * 8) s) = omega (arith, p.whole, length-drop (q * 8) s) in
+    SumAll-take 8 (drop (q * 8) s) (drop q ss) (n * 8) n (omega arith) (omega arith) short (SumAll-drop s ss q (omega arith) p)
 
 pub HaveSlots-stretch : (ss : List Summary) (q n : ℕ) → q + n ≤ length ss → HaveSlots ss → HaveSlots (take n (drop q ss))
 HaveSlots-stretch ss q n h (s, few, p) =
@@ -194,7 +202,8 @@ HaveSlots-stretch ss q n h (s, few, p) =
 pub Sums-row :
     (s : List (Option Cuboid)) (blocks : List Summary) (r : ℕ) (new : Summary) → r * 8 + 8 ≤ length blocks →
     SumAll 8 s blocks →
-    ((slots : List (Option Cuboid)) → length slots ≡ length (take 8 (drop (r * 8) blocks)) * 8 → SumAll 8 slots (take 8 (drop (r * 8) blocks)) → Sums new slots) →
+    ((slots : List (Option Cuboid)) → length slots ≡ length (take 8 (drop (r * 8) blocks)) * 8 →
+    SumAll 8 slots (take 8 (drop (r * 8) blocks)) → Sums new slots) →
     Sums new (take 64 (drop (r * 64) s))
 Sums-row s blocks r new h p sums =
     let place : r * 8 * 8 ≡ r * 64 = omega arith in

@@ -1,4 +1,4 @@
-use Rattle.std.proofs.Common.{arith, rules, ◌≡◌, ◌∷◌, ◌-◌, drop, ap, sym, ◌∙◌}
+use Rattle.std.proofs.Common.{arith, rules, ap, sym, ◌∙◌}
 use Rattle.std.specs.Prelude.{Some, None}
 use Rattle.rectangle_pack.specs.private.Slots.{Slots}
 use Rattle.rectangle_pack.proofs.SlotsLemmas.{NoneHolds-most, NoneHolds-skip, NoneHolds-empty, NoneHolds-section, IsLastHolding-at, drop-slot}

@@ -23,7 +23,7 @@ loop-slot-preserved g c =
           record {
             items = rw (w.sections-is, w.push_reserved.ensures.items, before.items) (sym more);
             all = before.all;
-            capacity = rw w.sections-is (w.push_reserved.ensures.capacity ∙ before.capacity);
+            capacity = rw (w.sections-is, w.push_reserved.ensures.capacity) before.capacity;
           }
       | in_default w ↦
           let more = sections_of-more slots i None c.slot-item.result c.loop-slot-test.true (sym c.slot-item.is ∙ w.in_default.is) in

@@ -9,7 +9,9 @@ pub returns-then-row-len-clause-sums : goal.returns-then-row-len-clause-sums
 returns-then-row-len-clause-sums g c = λ before content in_blocks in_rows.
     let first = c.args.slot / 64 * 8 in
     let eight : first + 8 - first ≡ 8 = omega arith in
-    let row = Sums-row (set before c.args.slot content) c.args.blocks.now (c.args.slot / 64) c.of_blocks.result (omega arith) in_blocks (rw eight at c.of_blocks.ensures) in
+    let slots = set before c.args.slot content in
+    let sums = rw eight at c.of_blocks.ensures in
+    let row = Sums-row slots c.args.blocks.now (c.args.slot / 64) c.of_blocks.result (omega arith) in_blocks sums in
     SumAll-in 64 before c.args.rows.now.items c.args.slot (c.args.slot / 64) content c.of_blocks.result (omega arith) (omega arith) (omega arith) row in_rows
 
 pub returns-else-row-len-clause-sums : goal.returns-else-row-len-clause-sums

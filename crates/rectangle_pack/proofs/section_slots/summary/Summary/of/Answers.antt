@@ -9,7 +9,9 @@ use Rattle.rectangle_pack.proofs.section_slots.summary.Summary.of.Goals.{in-Some
 pub join-summary-requires : goal.join-summary-requires
 join-summary-requires c =
     let seen = length-take-le c.loop-slot.slot-index c.args.slots.now (omega arith) in
-    omega (arith, seen, ap (λ (s : Summary). s.count) c.of_section.ensures, c.loop-slot.invariant.count, length-sections_of (take c.loop-slot.slot-index c.args.slots.now))
+    let one = ap (λ (s : Summary). s.count) c.of_section.ensures in
+    let no_more = length-sections_of (take c.loop-slot.slot-index c.args.slots.now) in
+    omega (arith, seen, one, c.loop-slot.invariant.count, no_more)
 
 pub loop-slot-preserved : goal.loop-slot-preserved
 loop-slot-preserved c =
