@@ -38,7 +38,8 @@ use Rattle.rectangle_pack.proofs.ExclusionsLemmas.{is_at-equal}
 use Rattle.rectangle_pack.proofs.MapsLemmas.{lookup-equal, is_at-back}
 use Rattle.rectangle_pack.proofs.OneOrderLemmas.{length-zip}
 use Rattle.rectangle_pack.proofs.PlacedLemmas.{lookup-placed}
-use Rattle.rectangle_pack.proofs.StepsLemmas.{length-step}
+use Rattle.std.specs.Bool.{OnTrue, OnFalse}
+use Rattle.rectangle_pack.proofs.StepsLemmas.{length-step, trial_passes}
 use Rattle.rectangle_pack.proofs.TrialLemmas.{saturated-add, saturated-from}
 
 -- what holds anyway holds on an error
@@ -101,6 +102,12 @@ module _ (may : Answers) where
       let a = length-step may sections m l next one step in
       let b = grown-le next ms ls last others done in
       omega arith
+
+  pub grown-tried : (sections : List Cuboid) (ms : List Size) (ls last : List Cuboid) (counted : ℕ → Type 0) (done : Bool)
+      → OnTrue done ((n : ℕ) × IsDone may sections ms ls last n × counted n) → OnFalse done (last ≡ sections) → length last ≤ length sections + 2 * length ms
+  grown-tried sections ms ls last counted done is_done stuck =
+      trial_passes may (λ (l : List Cuboid). length l ≤ length sections + 2 * length ms) sections ms ls last counted done is_done stuck
+      (λ n is h. grown-le sections ms ls last n is) (omega arith)
 
 -- of more entries than were tried there are as few tests
 pub AreWithin-more : {B : Type 0} (bin_cmp : B → B → Ordering) (bins : List (B × Bin)) (order : List B) (some all n : ℕ) → some ≤ all → AreWithin bin_cmp bins order some n → AreWithin bin_cmp bins order all n

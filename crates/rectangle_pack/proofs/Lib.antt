@@ -47,6 +47,7 @@ pub mod RefusedLemmas
 pub mod RestoreLemmas
 pub mod SameBoxesLemmas
 pub mod SessionLemmas
+pub mod SlotJournalLemmas
 pub mod SlotsLemmas
 pub mod SmallestBoxLemmas
 pub mod SplitLemmas

@@ -1,6 +1,7 @@
 -- groups that are placed
+use lib.Dec.{eqb-suc-zero}
 use Rattle.std.proofs.Common.{◌≡◌, ℕ, suc, ◌+◌, ◌<◌, ◌≤◌, List, [], ◌∷◌, ◌++◌, length, take, drop, refl, ap, sym, ◌∙◌, subst, cond, true, false, Bool, arith, get_or, append_assoc, append-nil}
-use Rattle.std.specs.Prelude.{Option, Some, None, map, sum, All, IsTrue, ◌↔◌, Result, Ok, Err, IfOk, MatchBool, MatchOption}
+use Rattle.std.specs.Prelude.{Option, Some, None, map, sum, All, IsTrue, ◌↔◌, nat_eq, if◌then◌else◌, Result, Ok, Err, IfOk, MatchBool, MatchOption}
 use Rattle.std.specs.declared.cmp.Ordering.{Ordering}
 use Rattle.std.specs.declared.cmp.Ordering.TheVariants.{Equal}
 use Rattle.std.specs.Ordering.{is_eq}
@@ -27,11 +28,12 @@ use Rattle.rectangle_pack.specs.declared.pack.answer.Placement.{Placement}
 use Rattle.rectangle_pack.specs.Bins.{Bin, Held, IsSound}
 use Rattle.rectangle_pack.specs.Packing.{Rules, bins_of, Members, Stage, at_start, IsPlaced, DoesNotTake, IsStuckIn, IsRefused, AreAllPlaced, AreGroups, StopsAfter}
 use Rattle.rectangle_pack.specs.Boxes.{Size, Cuboid}
-use Rattle.rectangle_pack.specs.private.Journal.{before_notes, CanUndo}
+use Rattle.rectangle_pack.specs.declared.trial.Note.{Note}
+use Rattle.rectangle_pack.specs.private.Journal.{before_notes, CanUndo, LeadsBack}
 use Rattle.rectangle_pack.specs.Steps.{IsDone}
 use Rattle.rectangle_pack.specs.Placed.{AreNamed, IsLastOf, AreLastPlacements}
 use Rattle.rectangle_pack.specs.private.Taken.{IsTriedIn}
-use Rattle.rectangle_pack.specs.private.TrialJournal.{GoesBack}
+use Rattle.rectangle_pack.specs.private.TrialJournal.{GoesBack, trials_noted}
 use Rattle.rectangle_pack.proofs.PackingOrderLemmas.{AllZip-more}
 use Rattle.rectangle_pack.proofs.MapsLemmas.{is_eq-back}
 use Rattle.rectangle_pack.proofs.JournalLemmas.{bins_of-written, lookup-bins_of, IsRoomier-grown, IsRoomier-bins, GoesBack-more, GoesBack-pushed}
@@ -57,13 +59,24 @@ GoesBack-done cmp now journal new e v w start found pushed rest before can sound
     (record { bin = ap (λ (b : Bin). record b { sections = before_notes e.notes.items w.bin.sections }) rest ∙ ap (λ (s : List Cuboid). record v.bin { sections = s }) before; room = more })
     h
 
--- and one in the bin of an id, where the bins are those of before
+-- and one in the bin of an id, where the bins are those of before, and where it leaves no notes, the bin's own list stays
 pub GoesBack-tried : {B A : Type 0} (cmp : B → B → Ordering) (first now next : List (B × Held)) (journal new : List (DoneTrial B A)) (e : DoneTrial B A) (v w : Held) (start : List (B × Bin))
-    → IsTriedIn cmp e.bin.now now v w next → now ≡ first → new ≡ journal ++ e ∷ []
-    → w.bin ≡ record v.bin { sections = w.bin.sections } → (before_notes e.notes.items w.bin.sections ≡ v.bin.sections) × CanUndo w.room e.notes.items w.bin.sections
+    → IsTriedIn cmp e.bin.now now v w next → now ≡ first → new ≡ journal ++ trials_noted e
+    → w.bin ≡ record v.bin { sections = w.bin.sections } → LeadsBack w.room w.bin.sections e.notes.items v.bin.sections
     → GoesBack cmp first journal start → GoesBack cmp next new start
-GoesBack-tried cmp first now next journal new e v w start tried same pushed rest noted h =
-    rw tried.written (GoesBack-done cmp now journal new e v w start tried.found pushed rest noted.0 noted.1 tried.sound tried.room (rw same h))
+GoesBack-tried {B} {A} cmp first now next journal new e v w start tried same pushed rest back h = rw tried.written (at e.notes.items refl pushed back.before)
+  where
+    start_now : GoesBack cmp now journal start
+    start_now = rw same h
+
+    at : (notes : List Note) → e.notes.items ≡ notes → new ≡ journal ++ (if nat_eq (length notes) 0 then [] else e ∷ []) → before_notes notes w.bin.sections ≡ v.bin.sections → GoesBack cmp (set_value (is_at (cmp e.bin.now)) now w) new start
+    at [] none is before =
+        let stays : w.bin ≡ v.bin = rest ∙ ap (λ (s : List Cuboid). record v.bin { sections = s }) before in
+        subst (λ (js : List (DoneTrial B A)). GoesBack cmp (set_value (is_at (cmp e.bin.now)) now w) js start) (sym (is ∙ append-nil journal))
+        (GoesBack-grown cmp now journal e.bin.now v w start tried.found stays tried.room start_now)
+    at (note ∷ notes) some is before =
+        let more : new ≡ journal ++ e ∷ [] = is ∙ ap (λ b. journal ++ (if b then [] else e ∷ [])) (eqb-suc-zero (length notes)) in
+        GoesBack-done cmp now journal new e v w start tried.found more rest back.before back.can tried.sound tried.room start_now
 
 -- what a look-up finds, without its room
 pub found-bins_of : {B : Type 0} (test : B → Bool) (now : List (B × Held)) (old : List (B × Bin)) (v : Held) → bins_of now ≡ old → lookup test now ≡ Some v → lookup test old ≡ Some v.bin

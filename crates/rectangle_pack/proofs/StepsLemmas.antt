@@ -1,5 +1,5 @@
 -- What a step and a trial keep.
-use Rattle.std.proofs.Common.{◌≡◌, ℕ, ◌+◌, ◌≤◌, Bool, true, false, cond, List, [], ◌∷◌, ◌++◌, length, arith, refl, ap, sym, ◌∙◌, length-append}
+use Rattle.std.proofs.Common.{◌≡◌, ℕ, ◌+◌, ◌≤◌, Bool, true, false, cond, List, [], ◌∷◌, ◌++◌, length, arith, refl, ap, sym, subst, ◌∙◌, length-append}
 use Rattle.std.specs.Prelude.{All, map, filter}
 use Rattle.std.specs.Bool.{OnTrue, OnFalse}
 use Rattle.std.specs.List.{AllZip, zip, count_by}
@@ -142,18 +142,25 @@ module _ (may : Answers) where
   IsDone-inside size sections ms ls last n = IsDone-keeps (IsInside size) sections ms ls last n
       (λ b s part inside. record { within_x = omega arith; within_y = omega arith; within_z = omega arith })
 
-  -- a trial leaves a sound list sound
+  -- a trial that is done leaves a sound list sound
   pub IsSound-done : (size : Size) (sections : List Cuboid) (ms : List Size) (ls last : List Cuboid) (n : ℕ) → IsDone may sections ms ls last n → IsSound size sections → IsSound size last
   IsSound-done size sections ms ls last n done sound = record {
     inside = IsDone-inside size sections ms ls last n done sound.inside;
     apart = apart_from_counts last (λ c. omega (arith, filled-done c sections ms ls last n done, counts_from_apart c sections sound.apart));
   }
 
-  -- and so does one that is stuck
+  -- what a trial that is done passes on holds after one that is stuck too, which leaves the list
+  pub trial_passes : (P : List Cuboid → Type 0) (sections : List Cuboid) (ms : List Size) (ls last : List Cuboid) (counted : ℕ → Type 0) (done : Bool)
+      → OnTrue done ((n : ℕ) × IsDone may sections ms ls last n × counted n) → OnFalse done (last ≡ sections)
+      → ((n : ℕ) → IsDone may sections ms ls last n → P sections → P last) → P sections → P last
+  trial_passes P sections ms ls last counted true done stuck passes h = passes done.0 done.1 h
+  trial_passes P sections ms ls last counted false done stuck passes h = subst P (sym stuck) h
+
+  -- a trial leaves a sound list sound
   pub IsSound-tried : (size : Size) (sections : List Cuboid) (ms : List Size) (ls last : List Cuboid) (counted : ℕ → Type 0) (done : Bool)
       → OnTrue done ((n : ℕ) × IsDone may sections ms ls last n × counted n) → OnFalse done (last ≡ sections) → IsSound size sections → IsSound size last
-  IsSound-tried size sections ms ls last counted true done stuck sound = IsSound-done size sections ms ls last done.0 done.1 sound
-  IsSound-tried size sections ms ls last counted false done stuck sound = rw stuck sound
+  IsSound-tried size sections ms ls last counted done is_done stuck =
+      trial_passes (IsSound size) sections ms ls last counted done is_done stuck (λ n. IsSound-done size sections ms ls last n)
 
   -- a trial that is done keeps the cells
   pub KeepCells-done : (sections : List Cuboid) (ms : List Size) (ls last : List Cuboid) (n : ℕ) → AreAllApart sections → IsDone may sections ms ls last n → KeepCells sections (last ++ ls)

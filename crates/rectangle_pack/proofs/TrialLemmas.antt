@@ -13,7 +13,7 @@ use Rattle.rectangle_pack.specs.Choice.{IsAllowedCut}
 use Rattle.rectangle_pack.specs.Steps.{IsStep, IsDone, IsStuck, AreLeft}
 use Rattle.rectangle_pack.specs.private.Ranks.{by_falling_rate}
 use Rattle.rectangle_pack.proofs.RanksLemmas.{AreRanked-by_falling_rate}
-use Rattle.rectangle_pack.specs.private.Journal.{before_note, before_notes, CanUndo, CanUndoOne}
+use Rattle.rectangle_pack.specs.private.Journal.{before_note, before_notes, CanUndo, CanUndoOne, LeadsBack}
 
 All-from_within_end : {X : Type 0} (P : X → Type 0) (xs : List X) (low : ℕ) → AllWithin P xs low (length xs) → All P (drop low xs)
 All-from_within_end P xs low h k d within =
@@ -73,7 +73,7 @@ before_notes-popped old notes note sections same =
     ap (λ (ns : List Note). before_notes ns sections) same ∙ before_notes-push notes note sections
 
 pub CanUndoOne-more : (room more : ℕ) (note : Note) (sections : List Cuboid) → room ≤ more → CanUndoOne room note sections → CanUndoOne more note sections
-CanUndoOne-more room more note sections le one = record { pushed = one.pushed; index = one.index; fits = omega arith }
+CanUndoOne-more room more note sections le one = record { kept = one.kept; index = one.index; fits = omega arith }
 
 pub CanUndo-more : (room more : ℕ) (notes : List Note) (sections : List Cuboid) → room ≤ more → CanUndo room notes sections → CanUndo more notes sections
 CanUndo-more room more [] sections le h = tt
@@ -122,16 +122,19 @@ pub saturated-add : (t s u a b : ℕ) → s ≡ saturated (t + a) → u ≡ satu
 saturated-add t s u a b first second = omega arith
 
 -- one more noted step
-pub before_notes-more : (notes notes' : List Note) (note : Note) (first mid next : List Cuboid) → notes' ≡ notes ++ note ∷ []
-    → before_note note next ≡ mid → before_notes notes mid ≡ first → before_notes notes' next ≡ first
-before_notes-more notes notes' note first mid next same one before =
-    before_notes-popped notes' notes note next same ∙ ap (before_notes notes) one ∙ before
+pub LeadsBack-noted : (room more : ℕ) (notes : List Note) (note : Note) (mid next start : List Cuboid)
+    → before_note note next ≡ mid → room ≤ more → CanUndoOne more note next → LeadsBack room mid notes start → LeadsBack more next (notes ++ note ∷ []) start
+LeadsBack-noted room more notes note mid next start one le can back = record {
+  before = before_notes-push notes note next ∙ ap (before_notes notes) one ∙ back.before;
+  can = CanUndo-push more notes note next can (subst (CanUndo more notes) (sym one) (CanUndo-more room more notes mid le back.can));
+}
 
-pub CanUndo-noted : (room more : ℕ) (notes notes' : List Note) (note : Note) (mid next : List Cuboid) → notes' ≡ notes ++ note ∷ []
-    → before_note note next ≡ mid → room ≤ more → CanUndoOne more note next → CanUndo room notes mid → CanUndo more notes' next
-CanUndo-noted room more notes notes' note mid next same one le can before =
-    subst (λ (ns : List Note). CanUndo more ns next) (sym same)
-    (CanUndo-push more notes note next can (subst (CanUndo more notes) (sym one) (CanUndo-more room more notes mid le before)))
+-- the last noted step is undone, and then the others
+pub LeadsBack-popped : (room more : ℕ) (sections : List Cuboid) (old notes : List Note) (note : Note) (start : List Cuboid) → room ≤ more
+    → old ≡ notes ++ note ∷ [] → LeadsBack room sections old start → CanUndoOne room note sections × LeadsBack more (before_note note sections) notes start
+LeadsBack-popped room more sections old notes note start le same back =
+    let (one, others) = CanUndo-popped room old notes note sections same back.can in
+    (one, record { before = sym (before_notes-popped old notes note sections same) ∙ back.before; can = CanUndo-more room more notes _ le others })
 
 -- a list of three, by its elements
 pub three_of : {X : Type 0} (xs : List X) (a b c : X) → length xs ≡ 3 → a ≡ get_or xs 0 a → b ≡ get_or xs 1 b → c ≡ get_or xs 2 c → xs ≡ a ∷ b ∷ c ∷ []

@@ -17,6 +17,7 @@ ghost use Rattle.rectangle_pack.specs.SmallestBox.{IsSmallestOrder};
 ghost use Rattle.rectangle_pack.specs.Results.{ClosuresDecide, either_of, AreCollectionsAlike, AreBinsAlike, ArePlacementsAlike, AreLocationsAlike, HaveOneResult};
 
 mod answer;
+mod open_bin;
 mod taken;
 pub(crate) mod work;
 
@@ -25,7 +26,7 @@ use crate::fit_tests::FitTests;
 use crate::grouped_rects_to_place::{Group, GroupedRectsToPlace};
 use crate::orders::bins_to_try;
 use crate::pack::answer::last_placements;
-use crate::pack::work::{Progress, pack_noted, undo_all};
+use crate::pack::work::{Progress, keep, pack_noted, undo_all};
 use crate::target_bin::TargetBin;
 use crate::width_height_depth::WidthHeightDepth;
 pub use answer::{Placement, RectanglePackError, RectanglePackOk};
@@ -159,16 +160,22 @@ where
     tests.add_all(&progress.tests);
     let last = match packed {
         Ok(true) => last_placements(alloc, progress.placements.as_slice()),
-        Ok(false) => return Err(RectanglePackError::NotEnoughBinSpace),
+        Ok(false) => {
+            keep(target_bins, order.as_slice(), &mut progress);
+            return Err(RectanglePackError::NotEnoughBinSpace);
+        }
         Err(error) => Err(error),
     };
     match last {
-        Ok(packed_locations) => Ok(RectanglePackOk {
-            packed_locations,
-            placements: progress.placements,
-        }),
+        Ok(packed_locations) => {
+            keep(target_bins, order.as_slice(), &mut progress);
+            Ok(RectanglePackOk {
+                packed_locations,
+                placements: progress.placements,
+            })
+        }
         Err(_) => {
-            undo_all(target_bins, &mut progress.journal);
+            undo_all(target_bins, order.as_slice(), &mut progress);
             Err(RectanglePackError::OutOfMemory)
         }
     }

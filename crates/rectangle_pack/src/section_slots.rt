@@ -1,5 +1,5 @@
 //! Lists of sections in slots.
-ghost use Rattle.std.specs.Prelude.{◌≡◌, ◌+◌, ◌-◌, ◌<◌, ◌≤◌, ◌++◌, ◌∷◌, [], map, length, take, drop, set, slice_index_or, IfOk, OnOk, IsOk, IfSome, IsSome, MatchOption};
+ghost use Rattle.std.specs.Prelude.{◌≡◌, ◌+◌, ◌-◌, ◌<◌, ◌≤◌, ◌^◌, ◌++◌, ◌∷◌, [], map, length, take, drop, set, slice_index_or, IfOk, OnOk, IsOk, IfSome, IsSome, MatchOption};
 ghost use Rattle.std.specs.Vec.{vec_capacity};
 ghost use Rattle.rectangle_pack.specs.private.Slots.{sections_of, IsLastHolding, NoneHolds};
 
@@ -80,6 +80,7 @@ impl<A: Allocator + Copy> SectionSlots<A> {
         ensures ok { OnOk result (length self.old.all + extra ≤ self.new.room) }
         ensures all { self.new.all ≡ self.old.all }
         ensures room { self.old.room ≤ self.new.room }
+        ensures small { OnOk result (length self.old.all + extra < 2 ^ 64) }
         ensures succeeds { length self.old.all + extra ≤ self.old.room → IsOk result }
     {
         self.slots.reserve(extra)?;

@@ -1,7 +1,8 @@
 //! Bins and their free sections.
-ghost use Rattle.std.specs.Prelude.{◌≡◌, ◌+◌, ◌≤◌, ◌<◌, ◌++◌, ◌∷◌, [], Err, IfOk, OnOk, OnErr, IfNone, IfSome, IsOk, IsTrue, true, ◌↔◌, length, remove, filter, All};
+ghost use Rattle.std.specs.Prelude.{◌≡◌, ◌+◌, ◌≤◌, ◌<◌, ◌++◌, ◌∷◌, [], List, Err, IfOk, OnOk, OnErr, IsOk, IsTrue, true, ◌↔◌, length, remove, filter, All};
+ghost use Rattle.std.specs.Bool.{OnTrue};
 ghost use Rattle.std.specs.Vec.{vec_capacity};
-ghost use Rattle.rectangle_pack.specs.Boxes.{Cell, Cuboid, AreApart, has_cells};
+ghost use Rattle.rectangle_pack.specs.Boxes.{Cell, Cuboid, FitsU32, IsInside, has_cells};
 ghost use Rattle.rectangle_pack.specs.declared.target_bin.PushBinSectionError.TheVariants.{OutOfMemory};
 ghost use Rattle.rectangle_pack.specs.Closures.{AreCallable, answers};
 ghost use Rattle.rectangle_pack.specs.Pushes.{IsPushAnswer};
@@ -10,8 +11,11 @@ ghost use Rattle.rectangle_pack.specs.Counting.{AreAllApart, times_filled};
 ghost use Rattle.rectangle_pack.specs.Joining.{IsJoined, IsSwept, ShareNoFace};
 ghost use Rattle.rectangle_pack.specs.Keeping.{KeepCells};
 ghost use Rattle.rectangle_pack.specs.Trials.{IsTrialAnswer, most_tests};
-ghost use Rattle.rectangle_pack.specs.private.Journal.{before_notes, CanUndo};
-ghost use Rattle.rectangle_pack.specs.private.TrialNotes.{IsNotedAnswer, LeavesNotes};
+ghost use Rattle.rectangle_pack.specs.private.Journal.{LeadsBack};
+ghost use Rattle.rectangle_pack.specs.private.Slots.{sections_of};
+ghost use Rattle.rectangle_pack.specs.private.TrialNotes.{IsNotedAnswer, LeavesNotes, IsStuckAtOnce};
+
+pub(crate) mod slotted;
 
 use crate::bin_section::{BinSection, first_sharing};
 use crate::closures::{Ask, Closures};
@@ -19,7 +23,10 @@ pub use crate::fit_tests::FitTests;
 use crate::joining::{join_all, join_at};
 use crate::packed_location::PackedLocation;
 use crate::rect_to_insert::RectToInsert;
-use crate::trial::{Note, is_stuck_at_once, push_pieces, run_trial, undo};
+use crate::section_slots::SectionSlots;
+use crate::target_bin::slotted::{Slotted, are_worth_it};
+use crate::trial::plain::{is_stuck_at_once, push_pieces};
+use crate::trial::{FreeList, Note, run_trial};
 use crate::width_height_depth::WidthHeightDepth;
 use std::alloc::{AllocError, Allocator, Global};
 use std::cmp::Ordering;
@@ -335,14 +342,107 @@ impl<A: Allocator + Copy> TargetBin<A> {
         ensures no_members { length members.now ≡ 0 → IsOk result }
     {
         let alloc = *self.available_bin_sections.allocator();
-        let mut notes = Vec::with_capacity(alloc, members.len())?;
         let mut locations = Vec::with_capacity(alloc, members.len())?;
         let rules = Closures {
             heuristic,
             comparison,
         };
-        let done = self.place_noted(members, &rules, tests, &mut notes, &mut locations)?;
+        let done = self.place_members(members, &rules, tests, &mut locations)?;
         if done { Ok(Some(locations)) } else { Ok(None) }
+    }
+
+    // One trial, with room for its locations; whether it is done.
+    fn place_members<R>(
+        &mut self,
+        members: &[RectToInsert],
+        rules: &R,
+        tests: &mut FitTests,
+        locations: &mut Vec<PackedLocation, A>,
+    ) -> Result<bool, AllocError>
+    where
+        R: Ask,
+        requires callable { R.can_ask rules.now }
+        requires no_locations { locations.old.items ≡ [] }
+        requires location_room { length members.now ≤ vec_capacity locations.old }
+        ensures answer { IsNotedAnswer (R.may rules.now) self.old.bin members.now tests.old result
+            locations.new.items self.new.bin tests.new }
+        ensures no_members { length members.now ≡ 0 → IsOk result }
+    {
+        let sections = self.available_bin_sections.len();
+        if !members.is_empty() && are_worth_it(sections, members.len(), members.len()) {
+            return self.place_slotted(members, rules, tests, locations);
+        }
+        let alloc = *self.available_bin_sections.allocator();
+        let mut notes = Vec::with_capacity(alloc, members.len())?;
+        self.place_noted(members, rules, tests, &mut notes, locations)
+    }
+
+    // The same in slots that are made for it.
+    fn place_slotted<R>(
+        &mut self,
+        members: &[RectToInsert],
+        rules: &R,
+        tests: &mut FitTests,
+        locations: &mut Vec<PackedLocation, A>,
+    ) -> Result<bool, AllocError>
+    where
+        R: Ask,
+        requires callable { R.can_ask rules.now }
+        requires no_locations { locations.old.items ≡ [] }
+        requires location_room { length members.now ≤ vec_capacity locations.old }
+        ensures answer { IsNotedAnswer (R.may rules.now) self.old.bin members.now tests.old result
+            locations.new.items self.new.bin tests.new }
+    {
+        if self.is_stuck_at_once(members) {
+            tests.add(self.available_bin_sections.len());
+            return Ok(false);
+        }
+        let mut slots = self.slotted(members)?;
+        let done = slots.place(self, members, rules, tests, locations)?;
+        if done {
+            self.write_back(slots.sections());
+        }
+        Ok(done)
+    }
+
+    // The free sections in slots, in which trials are made that leave the bin's own list, with room
+    // for one of these members. An error is want of memory.
+    pub(crate) fn slotted(&self, members: &[RectToInsert]) -> Result<Slotted<A>, AllocError>
+        ensures sections { IfOk result (λ s. sections_of s.all ≡ self.now.bin.sections) }
+        ensures sound { IsSound self.now.bin.size self.now.bin.sections }
+        ensures within { length self.now.bin.sections ≤ self.now.room }
+    {
+        Slotted::new(&self.available_bin_sections, members.len() * 3)
+    }
+
+    // Whether no free section holds the first member, so that no step comes.
+    pub(crate) fn is_stuck_at_once(&self, members: &[RectToInsert]) -> bool
+        ensures { OnTrue result (IsStuckAtOnce self.now.bin.sections members.now) }
+    {
+        is_stuck_at_once(self.available_bin_sections.as_slice(), members)
+    }
+
+    // Makes room in the list for so many sections in all. An error is want of memory.
+    pub(crate) fn make_room(&mut self, sections: usize) -> Result<(), AllocError>
+        ensures bin { self.new.bin ≡ self.old.bin }
+        ensures room { self.old.room ≤ self.new.room }
+        ensures ok { OnOk result (sections ≤ self.new.room) }
+        ensures ends { (boxes : List Cuboid) → All (IsInside self.old.bin.size) boxes →
+            All FitsU32 boxes }
+    {
+        let list = &mut self.available_bin_sections;
+        list.reserve(sections.saturating_sub(list.len()))
+    }
+
+    // Writes the sections in slots over the list, which has room for them. Takes no memory.
+    pub(crate) fn write_back(&mut self, slots: &SectionSlots<A>)
+        requires sound { IsSound self.old.bin.size (sections_of slots.now.all) }
+        requires room { length (sections_of slots.now.all) ≤ self.old.room }
+        ensures bin { self.new.bin ≡
+            record self.old.bin { sections = sections_of slots.now.all } }
+        ensures room { self.new.room ≡ self.old.room }
+    {
+        slots.write_back(&mut self.available_bin_sections);
     }
 
     // One trial, with room for its notes and its locations; whether it is done. Then what undoes it
@@ -366,8 +466,7 @@ impl<A: Allocator + Copy> TargetBin<A> {
         ensures answer { IsNotedAnswer (R.may rules.now) self.old.bin members.now tests.old result
             locations.new.items self.new.bin tests.new }
         ensures room { self.old.room ≤ self.new.room }
-        ensures noted { LeavesNotes result notes.new.items locations.new.items self.new.room
-            self.old.bin.sections self.new.bin.sections }
+        ensures noted { LeavesNotes result notes.new.items locations.new.items self.old self.new }
         ensures note_room_stays { vec_capacity notes.new ≡ vec_capacity notes.old }
         ensures location_room_stays { vec_capacity locations.new ≡ vec_capacity locations.old }
         ensures no_members { length members.now ≡ 0 → IsOk result }
@@ -388,13 +487,13 @@ impl<A: Allocator + Copy> TargetBin<A> {
 
     // Undoes a noted trial. Takes no memory.
     pub(crate) fn undo_notes(&mut self, notes: &mut Vec<Note, A>)
-        requires can { CanUndo self.old.room notes.old.items self.old.bin.sections }
-        requires sound { IsSound self.old.bin.size
-            (before_notes notes.old.items self.old.bin.sections) }
-        ensures bin { self.new.bin ≡
-            record self.old.bin { sections = before_notes notes.old.items self.old.bin.sections } }
+        requires { (start : List Cuboid) × IsSound self.old.bin.size start ×
+            LeadsBack self.old.room self.old.bin.sections notes.old.items start }
+        ensures bin { (start : List Cuboid) →
+            LeadsBack self.old.room self.old.bin.sections notes.old.items start →
+            self.new.bin ≡ record self.old.bin { sections = start } }
         ensures room { self.old.room ≤ self.new.room }
     {
-        undo(&mut self.available_bin_sections, notes);
+        self.available_bin_sections.undo(notes);
     }
 }

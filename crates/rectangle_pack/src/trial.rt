@@ -1,17 +1,20 @@
-//! One trial, on a list of sections, with notes by which it is undone.
-ghost use Rattle.std.specs.Prelude.{ℕ, ◌≡◌, ◌<◌, ◌≤◌, ◌+◌, ◌-◌, ◌*◌, ◌++◌, ◌⊎◌, ◌∷◌, [], List, length, All, IfNone, IfSome, vec_len, map, filter};
+//! One trial, on a list of free sections, with notes by which it is undone.
+ghost use Rattle.std.specs.Prelude.{ℕ, ◌≡◌, ◌≤◌, ◌<◌, ◌+◌, ◌++◌, ◌⊎◌, ◌∷◌, [], List, length, All, IfNone, IfSome, map, filter};
 ghost use Rattle.std.specs.Vec.{vec_capacity};
 ghost use Rattle.std.specs.Bool.{OnTrue, OnFalse};
-ghost use Rattle.std.specs.List.{HoldsAt, AllWithin};
 ghost use Rattle.rectangle_pack.specs.Boxes.{Size, Cuboid, Holds, FitsU32, has_cells};
+ghost use Rattle.rectangle_pack.specs.Choice.{IsAllowedCut};
 ghost use Rattle.rectangle_pack.specs.Closures.{answers};
 ghost use Rattle.rectangle_pack.specs.Counting.{AreAllApart};
+ghost use Rattle.rectangle_pack.specs.Cuts.{placed};
 ghost use Rattle.rectangle_pack.specs.Keeping.{KeepCells};
 ghost use Rattle.rectangle_pack.specs.Numbers.{saturated};
-ghost use Rattle.rectangle_pack.specs.Steps.{IsStep, IsDone, IsStuck};
+ghost use Rattle.rectangle_pack.specs.Steps.{IsStep, IsDone, IsStuck, AreLeft};
 ghost use Rattle.rectangle_pack.specs.Trials.{most_tests};
-ghost use Rattle.rectangle_pack.specs.private.Journal.{before_note, before_notes, CanUndoOne, CanUndo};
 ghost use Rattle.rectangle_pack.specs.private.Ranks.{by_falling_rate};
+
+pub(crate) mod plain;
+mod slots;
 
 use crate::bin_section::BinSection;
 use crate::closures::Ask;
@@ -22,46 +25,69 @@ use crate::width_height_depth::WidthHeightDepth;
 use std::alloc::Allocator;
 use std::cmp::Ordering;
 
-// What a step did to the list: the section that it removed, and how many pieces it pushed.
+// What a step did to a list: which section it took out, where that stood, and how long the list was
+// before the pieces were pushed.
 #[derive(Clone, Copy)]
 pub(crate) struct Note {
     pub index: usize,
     pub section: BinSection,
-    pub pushed: usize,
+    pub kept: usize,
 }
 
-// The index of the last section that holds a member. Among its callers' values the loop would lack
-// registers.
-#[inline(never)]
-fn newest(sections: &[BinSection], member: &RectToInsert) -> Option<usize>
-    ensures none { IfNone result (All (λ s. ¬ Holds s member.now) sections.now) }
-    ensures some { IfSome result
-        (λ i.
-        (i < length sections.now) ×
-        HoldsAt (λ s. Holds s member.now) sections.now i ×
-        AllWithin (λ s. ¬ Holds s member.now) sections.now (i + 1) (length sections.now)) }
-{
-    // A copy, which is not read again for each section.
-    let member = *member;
-    for i in (0..sections.len()).rev() {
-        if sections[i].holds(&member) {
-            return Some(i);
-        }
-    }
-    None
-}
+// A list of free sections in which trials are made.
+pub(crate) trait FreeList {
+    ghost use Rattle.rectangle_pack.specs.declared.trial.Note.{Note};
 
-// Whether no section holds the first member, so that no step comes.
-pub(crate) fn is_stuck_at_once(sections: &[BinSection], members: &[RectToInsert]) -> bool
-    ensures { OnTrue result
-        ((first : Size) × (others : List Size) ×
-        (members.now ≡ first ∷ others) ×
-        All (λ s. ¬ Holds s first) sections.now) }
-{
-    match members.first() {
-        Some(first) => newest(sections, first).is_none(),
-        None => false,
-    }
+    // The sections, the newest last.
+    ghost sections: { Self → List Cuboid };
+
+    // How much the list has room for.
+    ghost room: { Self → ℕ };
+
+    // For how many steps there is room.
+    ghost room_for: { Self → ℕ };
+
+    // Undoing the notes, from the last, leads from the list back to these sections.
+    ghost LeadsBack: { Self → List Note → List Cuboid → Type 0 };
+
+    // Places one member into the newest section that holds it, if one does, and notes the step.
+    fn place<R: Ask>(
+        &mut self,
+        member: &RectToInsert,
+        rules: &R,
+        tests: &mut FitTests,
+    ) -> Option<(PackedLocation, Note)>
+        requires callable { R.can_ask rules.now }
+        requires fits { All FitsU32 (sections self.old) }
+        requires room { 0 < room_for self.old }
+        ensures room { room self.old ≤ room self.new }
+        ensures room_for { room_for self.old ≤ room_for self.new + 1 }
+        ensures none { IfNone result
+            (All (λ s. ¬ Holds s member.now) (sections self.old) ×
+            (sections self.new ≡ sections self.old) ×
+            (tests.new ≡ saturated (tests.old + length (sections self.old)))) }
+        ensures some { IfSome result
+            (λ r.
+            (count : ℕ) ×
+            IsStep (R.may rules.now) (sections self.old) member.now r.0 (sections self.new)
+            count ×
+            (tests.new ≡ saturated (tests.old + count))) }
+        ensures kept { IfNone result
+            ((notes : List Note) (start : List Cuboid) → LeadsBack self.old notes start →
+            LeadsBack self.new notes start) }
+        ensures noted { IfSome result
+            (λ r.
+            (notes : List Note) (start : List Cuboid) → LeadsBack self.old notes start →
+            LeadsBack self.new (notes ++ r.1 ∷ []) start) };
+
+    // Undoes all noted steps, from the last. Takes no memory.
+    fn undo<A: Allocator>(&mut self, notes: &mut Vec<Note, A>)
+        requires { (start : List Cuboid) × LeadsBack self.old notes.old.items start }
+        ensures sections { (start : List Cuboid) → LeadsBack self.old notes.old.items start →
+            sections self.new ≡ start }
+        ensures room { room self.old ≤ room self.new }
+        ensures notes { notes.new.items ≡ [] }
+        ensures note_room { vec_capacity notes.new ≡ vec_capacity notes.old };
 }
 
 // The three pieces by falling rate; at equal rates the one listed first stands first.
@@ -90,135 +116,33 @@ fn by_falling_rate(
     }
 }
 
-// Pushes a piece that has cells, where there is room.
-fn push_piece<A: Allocator>(sections: &mut Vec<BinSection, A>, piece: BinSection)
-    requires { vec_len sections.old < vec_capacity sections.old }
-    ensures items { sections.new.items ≡ sections.old.items ++ filter has_cells (piece ∷ []) }
-    ensures capacity { vec_capacity sections.old ≤ vec_capacity sections.new }
-{
-    if piece.has_cells() {
-        sections.push_reserved(piece);
-    }
-}
-
-// Pushes the pieces that have cells, in order, where there is room for all.
-pub(crate) fn push_pieces<A: Allocator>(sections: &mut Vec<BinSection, A>, pieces: [BinSection; 3])
-    requires { vec_len sections.old + 3 ≤ vec_capacity sections.old }
-    ensures items { sections.new.items ≡ sections.old.items ++ filter has_cells pieces }
-    ensures capacity { vec_capacity sections.old ≤ vec_capacity sections.new }
-{
-    let [first, second, third] = pieces;
-    push_piece(sections, first);
-    push_piece(sections, second);
-    push_piece(sections, third);
-}
-
-// Takes a section out of the list and pushes what is left of it round a member.
-fn place_at<A, R>(
-    sections: &mut Vec<BinSection, A>,
-    index: usize,
+// Places a member at the corner of a section that holds it: its location, and the three pieces that
+// are left of the section, by falling rate.
+fn place_in<R: Ask>(
+    section: &BinSection,
     member: &RectToInsert,
     rules: &R,
-) -> (PackedLocation, Note)
-where
-    A: Allocator,
-    R: Ask,
+) -> (PackedLocation, [BinSection; 3])
     requires callable { R.can_ask rules.now }
-    requires index { index < length sections.old.items }
-    requires holds { HoldsAt (λ s. Holds s member.now) sections.old.items index }
-    requires newest { AllWithin (λ s. ¬ Holds s member.now) sections.old.items (index + 1)
-        (length sections.old.items) }
-    requires fits { All FitsU32 sections.old.items }
-    requires room { vec_len sections.old + 2 ≤ vec_capacity sections.old }
-    ensures capacity { vec_capacity sections.old ≤ vec_capacity sections.new }
-    ensures step { IsStep (R.may rules.now) sections.old.items member.now result.0
-        sections.new.items (length sections.old.items - index) }
-    ensures before { before_note result.1 sections.new.items ≡ sections.old.items }
-    ensures can_undo { CanUndoOne (vec_capacity sections.new) result.1 sections.new.items }
+    requires ends { FitsU32 section.now }
+    requires holds { Holds section.now member.now }
+    ensures location { result.0 ≡ placed section.now member.now }
+    ensures pieces { (cut : List Cuboid) ×
+        IsAllowedCut (R.may rules.now).prefer section.now member.now cut ×
+        AreLeft (R.may rules.now).rate cut (filter has_cells result.1) }
 {
-    let section = sections.remove(index);
-    let placed = rules.place(&section, member);
-    let (location, [right, above, behind]) = placed.unwrap();
+    let (location, [right, above, behind]) = rules.place(section, member).unwrap();
     let pieces = by_falling_rate(
         (rules.rate(right.whd()), right),
         (rules.rate(above.whd()), above),
         (rules.rate(behind.whd()), behind),
     );
-    let kept = sections.len();
-    push_pieces(sections, pieces);
-    let pushed = sections.len() - kept;
-    let note = Note {
-        index,
-        section,
-        pushed,
-    };
-    (location, note)
-}
-
-// Places one member, if some section holds it.
-fn place<A, R>(
-    sections: &mut Vec<BinSection, A>,
-    member: &RectToInsert,
-    rules: &R,
-    tests: &mut FitTests,
-) -> Option<(PackedLocation, Note)>
-where
-    A: Allocator,
-    R: Ask,
-    requires callable { R.can_ask rules.now }
-    requires fits { All FitsU32 sections.old.items }
-    requires room { vec_len sections.old + 2 ≤ vec_capacity sections.old }
-    ensures capacity { vec_capacity sections.old ≤ vec_capacity sections.new }
-    ensures none { IfNone result
-        (All (λ s. ¬ Holds s member.now) sections.old.items ×
-        (sections.new.items ≡ sections.old.items) ×
-        (tests.new ≡ saturated (tests.old + length sections.old.items))) }
-    ensures some { IfSome result
-        (λ r.
-        (count : ℕ) ×
-        IsStep (R.may rules.now) sections.old.items member.now r.0 sections.new.items count ×
-        (tests.new ≡ saturated (tests.old + count))) }
-    ensures noted { IfSome result
-        (λ r.
-        (before_note r.1 sections.new.items ≡ sections.old.items) ×
-        CanUndoOne (vec_capacity sections.new) r.1 sections.new.items) }
-{
-    let Some(index) = newest(sections.as_slice(), member) else {
-        tests.add(sections.len());
-        return None;
-    };
-    tests.add(sections.len() - index);
-    Some(place_at(sections, index, member, rules))
-}
-
-// Undoes one step.
-fn unstep<A: Allocator>(sections: &mut Vec<BinSection, A>, note: Note)
-    requires { CanUndoOne (vec_capacity sections.old) note sections.old.items }
-    ensures items { sections.new.items ≡ before_note note sections.old.items }
-    ensures capacity { vec_capacity sections.old ≤ vec_capacity sections.new }
-{
-    let kept = sections.len() - note.pushed;
-    sections.truncate(kept);
-    // There is room for it, so it is not refused.
-    let _ = sections.insert(note.index, note.section);
-}
-
-// Undoes all noted steps, from the last. Takes no memory.
-pub(crate) fn undo<A: Allocator>(sections: &mut Vec<BinSection, A>, notes: &mut Vec<Note, A>)
-    requires { CanUndo (vec_capacity sections.old) notes.old.items sections.old.items }
-    ensures items { sections.new.items ≡ before_notes notes.old.items sections.old.items }
-    ensures notes { notes.new.items ≡ [] }
-    ensures capacity { vec_capacity sections.old ≤ vec_capacity sections.new }
-    ensures note_room { vec_capacity notes.new ≡ vec_capacity notes.old }
-{
-    while let Some(note) = notes.pop() {
-        unstep(sections, note);
-    }
+    (location, pieces)
 }
 
 // One trial. The room that it needs is there. A stuck trial is undone, and leaves the room.
-pub(crate) fn run_trial<A, R>(
-    sections: &mut Vec<BinSection, A>,
+pub(crate) fn run_trial<L, R, A>(
+    list: &mut L,
     members: &[RectToInsert],
     rules: &R,
     tests: &mut FitTests,
@@ -226,30 +150,30 @@ pub(crate) fn run_trial<A, R>(
     locations: &mut Vec<PackedLocation, A>,
 ) -> bool
 where
-    A: Allocator,
+    L: FreeList,
     R: Ask,
+    A: Allocator,
     requires callable { R.can_ask rules.now }
-    requires fits { All FitsU32 sections.old.items }
-    requires room { vec_len sections.old + 2 * length members.now ≤ vec_capacity sections.old }
+    requires fits { All FitsU32 (L.sections list.old) }
+    requires room { length members.now ≤ L.room_for list.old }
     requires note_room { length members.now ≤ vec_capacity notes.old }
     requires location_room { length members.now ≤ vec_capacity locations.old }
     requires no_notes { notes.old.items ≡ [] }
     requires no_locations { locations.old.items ≡ [] }
-    ensures capacity { vec_capacity sections.old ≤ vec_capacity sections.new }
+    requires leads_back { L.LeadsBack list.old [] (L.sections list.old) }
+    ensures room { L.room list.old ≤ L.room list.new }
     ensures done { OnTrue result
         ((count : ℕ) ×
-        IsDone (R.may rules.now) sections.old.items members.now locations.new.items
-        sections.new.items count ×
+        IsDone (R.may rules.now) (L.sections list.old) members.now locations.new.items
+        (L.sections list.new) count ×
         (tests.new ≡ saturated (tests.old + count))) }
     ensures stuck { OnFalse result
         ((count : ℕ) ×
-        IsStuck (R.may rules.now) sections.old.items members.now count ×
+        IsStuck (R.may rules.now) (L.sections list.old) members.now count ×
         (tests.new ≡ saturated (tests.old + count))) }
-    ensures kept { OnFalse result (sections.new.items ≡ sections.old.items) }
+    ensures kept { OnFalse result (L.sections list.new ≡ L.sections list.old) }
     ensures noted { OnTrue result
-        (before_notes notes.new.items sections.new.items ≡ sections.old.items) }
-    ensures can_undo { OnTrue result
-        (CanUndo (vec_capacity sections.new) notes.new.items sections.new.items) }
+        (L.LeadsBack list.new notes.new.items (L.sections list.old)) }
     ensures emptied { OnFalse result
         ((notes.new.items ≡ []) × (locations.new.items ≡ [])) }
     ensures note_room_stays { vec_capacity notes.new ≡ vec_capacity notes.old }
@@ -258,13 +182,13 @@ where
     // For the proof alone: what is read is known to be of 128 bits.
     let _counted = tests.count();
     for member in members {
-        match place(sections, member, rules, tests) {
-            Some(step) => {
-                locations.push_reserved(step.0);
-                notes.push_reserved(step.1);
+        match list.place(member, rules, tests) {
+            Some((location, note)) => {
+                locations.push_reserved(location);
+                notes.push_reserved(note);
             }
             None => {
-                undo(sections, notes);
+                list.undo(notes);
                 locations.clear();
                 return false;
             }

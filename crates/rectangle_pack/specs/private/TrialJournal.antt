@@ -1,5 +1,5 @@
 -- Journals of done trials, by which a packing is undone in place.
-use Rattle.std.specs.Prelude.{◌≡◌, List, [], ◌∷◌, Some, reverse}
+use Rattle.std.specs.Prelude.{◌≡◌, List, [], ◌∷◌, Some, reverse, length, nat_eq, if◌then◌else◌}
 use Rattle.std.specs.declared.cmp.Ordering.{Ordering}
 use Rattle.std.specs.Map.{lookup, set_value}
 use Rattle.std.specs.BTreeMap.{is_at}
@@ -16,6 +16,10 @@ pub record CanUndoTrial {B A : Type 0} (done : DoneTrial B A) (held : Held) : Ty
 -- the bin before the trial
 abbrev pub before_trial : {B A : Type 0} → DoneTrial B A → Held → Held
 before_trial done held = record held { bin = record held.bin { sections = before_notes done.notes.items held.bin.sections } }
+
+-- the trial, where it left notes
+abbrev pub trials_noted : {B A : Type 0} → DoneTrial B A → List (DoneTrial B A)
+trials_noted done = if nat_eq (length done.notes.items) 0 then [] else done ∷ []
 
 -- undoing the trials, the first of the list first, leads from now to start
 abbrev pub Undoes : {B A : Type 0} → (B → B → Ordering) → List (DoneTrial B A) → List (B × Held) → List (B × Bin) → Type 0

@@ -1,12 +1,16 @@
 -- What a noted trial in a bin answers, and what it leaves.
-use Rattle.std.specs.Prelude.{◌≡◌, ℕ, ◌+◌, List, [], Bool, true, false, Result, Ok, Err}
+use Rattle.std.specs.Prelude.{◌≡◌, ℕ, ◌+◌, List, [], ◌∷◌, All, Bool, true, false, Result, Ok, Err}
 use Rattle.rectangle_pack.specs.declared.trial.Note.{Note}
-use Rattle.rectangle_pack.specs.Boxes.{Size, Cuboid}
-use Rattle.rectangle_pack.specs.Bins.{Bin}
+use Rattle.rectangle_pack.specs.Boxes.{Size, Cuboid, Holds}
+use Rattle.rectangle_pack.specs.Bins.{Bin, Held}
 use Rattle.rectangle_pack.specs.Closures.{Answers}
 use Rattle.rectangle_pack.specs.Numbers.{saturated}
 use Rattle.rectangle_pack.specs.Steps.{IsDone, IsStuck}
-use Rattle.rectangle_pack.specs.private.Journal.{before_notes, CanUndo}
+use Rattle.rectangle_pack.specs.private.Journal.{LeadsBack}
+
+-- no section holds the first member
+abbrev pub IsStuckAtOnce : List Cuboid → List Size → Type 0
+IsStuckAtOnce sections members = (first : Size) × (others : List Size) × (members ≡ first ∷ others) × All (λ s. ¬ Holds s first) sections
 
 -- done: the bin has the trial's list; stuck, or out of memory: the bin is as it was. The tests are counted, except out of memory
 abbrev pub IsNotedAnswer : {E : Type 0} → Answers → Bin → List Size → ℕ → Result Bool E → List Cuboid → Bin → ℕ → Type 0
@@ -17,8 +21,10 @@ IsNotedAnswer may old members counted (Ok false) locations new counter =
     (tests : ℕ) × IsStuck may old.sections members tests × (new ≡ old) × (counter ≡ saturated (counted + tests))
 IsNotedAnswer may old members counted (Err error) locations new counter = (new ≡ old) × (counter ≡ counted)
 
--- done: the notes lead from the new list back to the old, with this much room; stuck: no note and no location is left
-abbrev pub LeavesNotes : {E : Type 0} → Result Bool E → List Note → List Cuboid → ℕ → List Cuboid → List Cuboid → Type 0
-LeavesNotes (Ok true) notes locations room old new = (before_notes notes new ≡ old) × CanUndo room notes new
-LeavesNotes (Ok false) notes locations room old new = (notes ≡ []) × (locations ≡ [])
-LeavesNotes (Err error) notes locations room old new = Unit {0}
+-- done: the notes lead from the new list back to the old; stuck: the bin stays, and no note and no location is left; out of
+-- memory: the bin stays
+abbrev pub LeavesNotes : {E : Type 0} → Result Bool E → List Note → List Cuboid → Held → Held → Type 0
+LeavesNotes (Ok true) notes locations old new =
+    (new.bin ≡ record old.bin { sections = new.bin.sections }) × LeadsBack new.room new.bin.sections notes old.bin.sections
+LeavesNotes (Ok false) notes locations old new = (new.bin ≡ old.bin) × (notes ≡ []) × (locations ≡ [])
+LeavesNotes (Err error) notes locations old new = new.bin ≡ old.bin

@@ -1,5 +1,5 @@
 //! Summaries of stretches of slots: how many sections stand there, and bounds that none exceeds.
-ghost use Rattle.std.specs.Prelude.{◌≡◌, ◌+◌, ◌*◌, ◌-◌, ◌<◌, ◌≤◌, ◌++◌, ◌^◌, ◌∷◌, [], ℕ, List, Option, Some, None, All, length, take, drop, IfSome, set, vec_len};
+ghost use Rattle.std.specs.Prelude.{◌≡◌, ◌+◌, ◌*◌, ◌-◌, ◌<◌, ◌≤◌, ◌++◌, ◌^◌, ◌∷◌, [], List, Option, length, take, drop, IfSome, set};
 ghost use Rattle.std.specs.Vec.{vec_capacity};
 ghost use Rattle.std.specs.Bool.{OnFalse};
 ghost use Rattle.rectangle_pack.specs.Boxes.{Cuboid, Holds};

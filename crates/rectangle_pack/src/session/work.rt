@@ -15,7 +15,7 @@ use crate::closures::Ask;
 use crate::grouped_rects_to_place::{Group, GroupedRectsToPlace};
 use crate::orders::bins_to_try;
 use crate::pack::Placement;
-use crate::pack::work::{Progress, pack_noted, undo_all};
+use crate::pack::work::{Progress, keep, pack_noted, undo_all};
 use crate::packed_location::PackedLocation;
 use crate::session::command::Outstanding;
 use crate::target_bin::TargetBin;
@@ -137,15 +137,16 @@ where
     let mut progress = Progress::new(alloc);
     match pack_noted(groups, bins, order.as_slice(), rules, &mut progress) {
         Ok(true) => {
+            keep(bins, order.as_slice(), &mut progress);
             number_all(outstanding, progress.placements, first);
             Ok(true)
         }
         Ok(false) => {
-            undo_all(bins, &mut progress.journal);
+            undo_all(bins, order.as_slice(), &mut progress);
             Ok(false)
         }
         Err(error) => {
-            undo_all(bins, &mut progress.journal);
+            undo_all(bins, order.as_slice(), &mut progress);
             Err(error)
         }
     }

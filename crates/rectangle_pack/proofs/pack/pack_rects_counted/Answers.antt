@@ -12,7 +12,7 @@ returns-in_default-clause-answer g c = (refl, counted-none c.args.rects_to_place
 pub returns-in-Ok-false-clause-answer : goal.returns-in-Ok-false-clause-answer
 returns-in-Ok-false-clause-answer g c =
     let p = rw c.in-Ok-false.field-0-test at c.in-Ok-false.ensures.packed in
-    (p.0, AreCounted-added c.args.rects_to_place.now (bins_of c.args.target_bins.now.entries) p.0.tests c.new-progress.result.tests c.pack_noted-packed.new.progress.tests c.args.tests.now _ c.new-progress.ensures.tests p.1 c.add_all.ensures)
+    (rw (c.keep.ensures.bins, c.as_slice-in-Ok-false.ensures.value) (rw c.as_slice.ensures.value at p.0), AreCounted-added c.args.rects_to_place.now (bins_of c.args.target_bins.now.entries) p.0.tests c.new-progress.result.tests c.pack_noted-packed.new.progress.tests c.args.tests.now _ c.new-progress.ensures.tests p.1 c.add_all.ensures)
 
 pub returns-in-Ok-last-clause-answer : goal.returns-in-Ok-last-clause-answer
 returns-in-Ok-last-clause-answer g c =
@@ -20,9 +20,9 @@ returns-in-Ok-last-clause-answer g c =
       | in-Ok-true w ↦
           let p = rw w.in-Ok-true.field-0-test at w.in-Ok-true.ensures.packed in (
             record {
-              done = p.0;
-              counted = rw w.in-Ok-true.field-0-test at w.in-Ok-true.ensures.counted;
-              last = rw (← w.as_slice-in-Ok-true.ensures.value) (rw (sym w.last-is ∙ c.in-Ok-last.is) at w.last_placements-last.ensures.last);
+              done = rw (c.keep-in-Ok-last.ensures.placements, c.keep-in-Ok-last.ensures.bins, c.as_slice-in-Ok-last.ensures.value) (rw c.as_slice.ensures.value at p.0);
+              counted = rw c.keep-in-Ok-last.ensures.placements (rw w.in-Ok-true.field-0-test at w.in-Ok-true.ensures.counted);
+              last = rw (c.keep-in-Ok-last.ensures.placements, ← w.as_slice-in-Ok-true.ensures.value) (rw (sym w.last-is ∙ c.in-Ok-last.is) at w.last_placements-last.ensures.last);
             },
             AreCounted-added c.args.rects_to_place.now (bins_of c.args.target_bins.now.entries) p.0.tests c.new-progress.result.tests c.pack_noted-packed.new.progress.tests c.args.tests.now _ c.new-progress.ensures.tests p.1 c.add_all.ensures,
           )
@@ -41,7 +41,7 @@ returns-clause-answer g c =
           let p = w.in-Err.ensures.stopped in
           (p.0, AreCounted-added all old p.0 c.new-progress.result.tests c.pack_noted-packed.new.progress.tests c.args.tests.now _ c.new-progress.ensures.tests p.1 c.add_all.ensures)
     ] in
-    (c.undo_all.ensures old c.pack_noted-packed.ensures.back, counted)
+    (c.undo_all.ensures old (rw c.as_slice-in-Err-last.ensures.value (rw c.as_slice.ensures.value at c.pack_noted-packed.ensures.back)), counted)
 
 pub count-counted-requires : goal.count-counted-requires
 count-counted-requires g c = tt
@@ -55,8 +55,17 @@ bins_to_try-requires g c = record { bin_ids = c.requires.bin_ids; callable = c.r
 pub last_placements-last-requires : goal.last_placements-last-requires
 last_placements-last-requires g c = record { ids = c.requires.ids; bin_ids = c.requires.bin_ids }
 
+pub keep-requires : goal.keep-requires
+keep-requires g c = rw c.as_slice-in-Ok-false.ensures.value (rw c.as_slice.ensures.value at c.pack_noted-packed.ensures.out)
+
+pub keep-requires-in-Ok-last : goal.keep-requires-in-Ok-last
+keep-requires-in-Ok-last g c = rw c.as_slice-in-Ok-last.ensures.value (rw c.as_slice.ensures.value at c.pack_noted-packed.ensures.out)
+
 pub undo_all-requires : goal.undo_all-requires
-undo_all-requires g c = (bins_of c.args.target_bins.now.entries, c.pack_noted-packed.ensures.back)
+undo_all-requires g c = record {
+  out = rw c.as_slice-in-Err-last.ensures.value (rw c.as_slice.ensures.value at c.pack_noted-packed.ensures.out);
+  back = (bins_of c.args.target_bins.now.entries, rw c.as_slice-in-Err-last.ensures.value (rw c.as_slice.ensures.value at c.pack_noted-packed.ensures.back));
+}
 
 pub returns-in_default-clause-no_groups : goal.returns-in_default-clause-no_groups
 returns-in_default-clause-no_groups g c = λ none. absurd (omega (arith, c.in_default.ensures.stopped, ap length none))
@@ -81,15 +90,32 @@ returns-clause-no_groups g c = λ none.
       | in-Err w ↦ absurd (let done = packed.0 in let is = w.in-Err.is in cc)
     ]
 
-pub pack_noted-packed-requires : goal.pack_noted-packed-requires
-pack_noted-packed-requires g c =
-    record {
-      ids = c.requires.ids;
-      bin_ids = c.requires.bin_ids;
-      callable = c.requires.callable;
-      order = rw c.as_slice.ensures.value c.in-Ok.ensures.order;
-      found = rw c.as_slice.ensures.value c.in-Ok.ensures.found;
-      distinct = c.in-Ok.ensures.distinct;
-      no_placements = c.new-progress.ensures.placements;
-      no_journal = c.new-progress.ensures.journal;
-    }
+pub pack_noted-packed-requires-clause-ids : goal.pack_noted-packed-requires-clause-ids
+pack_noted-packed-requires-clause-ids g c = c.requires.ids
+
+pub pack_noted-packed-requires-clause-bin_ids : goal.pack_noted-packed-requires-clause-bin_ids
+pack_noted-packed-requires-clause-bin_ids g c = c.requires.bin_ids
+
+pub pack_noted-packed-requires-clause-callable : goal.pack_noted-packed-requires-clause-callable
+pack_noted-packed-requires-clause-callable g c = c.requires.callable
+
+pub pack_noted-packed-requires-clause-order : goal.pack_noted-packed-requires-clause-order
+pack_noted-packed-requires-clause-order g c = rw c.as_slice.ensures.value c.in-Ok.ensures.order
+
+pub pack_noted-packed-requires-clause-found : goal.pack_noted-packed-requires-clause-found
+pack_noted-packed-requires-clause-found g c = rw c.as_slice.ensures.value c.in-Ok.ensures.found
+
+pub pack_noted-packed-requires-clause-distinct : goal.pack_noted-packed-requires-clause-distinct
+pack_noted-packed-requires-clause-distinct g c = c.in-Ok.ensures.distinct
+
+pub pack_noted-packed-requires-clause-no_placements : goal.pack_noted-packed-requires-clause-no_placements
+pack_noted-packed-requires-clause-no_placements g c = c.new-progress.ensures.placements
+
+pub pack_noted-packed-requires-clause-no_journal : goal.pack_noted-packed-requires-clause-no_journal
+pack_noted-packed-requires-clause-no_journal g c = c.new-progress.ensures.journal
+
+pub pack_noted-packed-requires-clause-none_taken : goal.pack_noted-packed-requires-clause-none_taken
+pack_noted-packed-requires-clause-none_taken g c = c.new-progress.ensures.taken
+
+pub pack_noted-packed-requires-clause-no_notes : goal.pack_noted-packed-requires-clause-no_notes
+pack_noted-packed-requires-clause-no_notes g c = c.new-progress.ensures.notes

@@ -20,7 +20,7 @@ returns-clause-keys g c =
     rw h.0 (keys-set_value (is_at (g.B.Ord.cmp c.index-order-index.result.1)) c.args.bins.now.entries c.replace.new.dest)
 
 pub returns-clause-same : goal.returns-clause-same
-returns-clause-same g c =
+returns-clause-same g c = λ kept.
     let o = c.index-order-index.result in
     let taken = c.args.taken.now.items in
     let place : c.args.index ≡ length taken = omega (arith, c.if-index-len.false, c.len.ensures, c.args.taken.now.ok.0) in
@@ -29,4 +29,5 @@ returns-clause-same g c =
     let held = c.unwrap-bin.result.now in
     let found : lookup (is_at (g.B.Ord.cmp o.1)) c.args.bins.now.entries ≡ Some held = sym c.get_mut.ensures.value ∙ ap option_copied_mut c.unwrap-bin.ensures in
     let h = c.get_mut.follows.holds c.replace.new.dest in
-    rw (h.0, c.push_reserved.ensures.items, c.replace.ensures.value) (with_taken-taken g.met.B.Ord.total c.args.order.now taken c.args.bins.now.entries o held c.replace.new.dest c.requires.distinct_bins next is found)
+    rw (h.0, c.push_reserved.ensures.items, c.new-open.ensures, c.replace.ensures.value)
+    (with_taken-taken g.met.B.Ord.total kept c.args.order.now taken c.args.bins.now.entries o held c.replace.new.dest c.requires.distinct_bins next is found)

@@ -30,9 +30,9 @@ try_bin-requires-clause-found g c k d within =
 pub returns-in_err-done-clause-back : goal.returns-in_err-done-clause-back
 returns-in_err-done-clause-back g c start b =
     let o = c.index-order-i.result in
-    let tried = c.in_err-done.ensures.tried o c.index-order-i.is in
-    let now = with_taken g.B.Ord.cmp c.args.order.now c.take_out.new.taken.items c.take_out.new.bins.entries in
-    rw tried.2.written (GoesBack-grown g.B.Ord.cmp now c.loop-i.progress.journal.items o.1 tried.0 tried.1 start tried.2.found tried.3.0 tried.2.room (rw c.take_out.ensures.same (c.loop-i.invariant.back start b)))
+    let noted = c.in_err-done.ensures.noted o c.index-order-i.is in
+    let own = with_taken g.B.Ord.cmp false c.args.order.now c.take_out.new.taken.items c.take_out.new.bins.entries in
+    rw noted.2.written (GoesBack-grown g.B.Ord.cmp own c.loop-i.progress.journal.items o.1 noted.0 noted.1 start noted.2.found noted.3 noted.2.room (rw (c.take_out.ensures.same false) (c.loop-i.invariant.back start b)))
 
 pub name_all-requires-clause-lengths : goal.name_all-requires-clause-lengths
 name_all-requires-clause-lengths g c =
@@ -42,18 +42,17 @@ name_all-requires-clause-lengths g c =
 
 pub returns-in_err-name_all-clause-back : goal.returns-in_err-name_all-clause-back
 returns-in_err-name_all-clause-back g c start b =
-    let tried = c.in_ok-done.ensures.tried c.index-order-i.result c.index-order-i.is in
-    let done = rw c.if-done.true at tried.3 in
-    let noted = rw c.if-done.true at tried.4 in
-    GoesBack-tried g.B.Ord.cmp _ _ _ _ _ _ tried.0 tried.1 start tried.2 c.take_out.ensures.same c.push_reserved.ensures.items done.2 noted (c.loop-i.invariant.back start b)
+    let noted = c.in_ok-done.ensures.noted c.index-order-i.result c.index-order-i.is in
+    let (rest, leads) = rw c.if-done.true at noted.3 in
+    GoesBack-tried g.B.Ord.cmp _ _ _ _ _ _ noted.0 noted.1 start noted.2 (c.take_out.ensures.same false) c.note_trial.ensures.journal rest leads (c.loop-i.invariant.back start b)
 
 pub returns-then-done-clause-placed : goal.returns-then-done-clause-placed
 returns-then-done-clause-placed g c =
     let o = c.index-order-i.result in
     let tried = c.in_ok-done.ensures.tried o c.index-order-i.is in
-    let now = with_taken g.B.Ord.cmp c.args.order.now c.take_out.new.taken.items c.take_out.new.bins.entries in
-    let first = with_taken g.B.Ord.cmp c.args.order.now c.args.taken.now.items c.args.bins.now.entries in
-    let same : bins_of now ≡ bins_of first = ap bins_of c.take_out.ensures.same ∙ c.loop-i.invariant.same in
+    let now = with_taken g.B.Ord.cmp true c.args.order.now c.take_out.new.taken.items c.take_out.new.bins.entries in
+    let first = with_taken g.B.Ord.cmp true c.args.order.now c.args.progress.now.taken.items c.args.bins.now.entries in
+    let same : bins_of now ≡ bins_of first = ap bins_of (c.take_out.ensures.same true) ∙ c.loop-i.invariant.same in
     let done = rw c.if-done.true at tried.3 in
     let named = c.in_ok-name_all.ensures in
     let group : Members g.row.Id.Denot = record { ids = c.args.ids.now; sizes = c.args.sizes.now } in
@@ -75,10 +74,9 @@ returns-then-done-clause-placed g c =
 
 pub returns-then-done-clause-back : goal.returns-then-done-clause-back
 returns-then-done-clause-back g c start b =
-    let tried = c.in_ok-done.ensures.tried c.index-order-i.result c.index-order-i.is in
-    let done = rw c.if-done.true at tried.3 in
-    let noted = rw c.if-done.true at tried.4 in
-    GoesBack-tried g.B.Ord.cmp _ _ _ _ _ _ tried.0 tried.1 start tried.2 c.take_out.ensures.same c.push_reserved.ensures.items done.2 noted (c.loop-i.invariant.back start b)
+    let noted = c.in_ok-done.ensures.noted c.index-order-i.result c.index-order-i.is in
+    let (rest, leads) = rw c.if-done.true at noted.3 in
+    GoesBack-tried g.B.Ord.cmp _ _ _ _ _ _ noted.0 noted.1 start noted.2 (c.take_out.ensures.same false) c.note_trial.ensures.journal rest leads (c.loop-i.invariant.back start b)
 
 pub loop-i-init : goal.loop-i-init
 loop-i-init g c = record { same = refl; keys = refl; within = c.requires.within; passed = ([], tt, omega arith); no_notes = search rules; note_room = search rules; no_locations = search rules; location_room = search rules; journal_room = c.requires.journal_room; journal_len = refl; journal_capacity = refl; placements = refl; back = λ start b. b }
@@ -86,14 +84,14 @@ loop-i-init g c = record { same = refl; keys = refl; within = c.requires.within;
 pub loop-i-preserved-then-contains : goal.loop-i-preserved-then-contains
 loop-i-preserved-then-contains g c =
     let o = c.index-order-i.result in
-    let old = bins_of (with_taken g.B.Ord.cmp c.args.order.now c.args.taken.now.items c.args.bins.now.entries) in
+    let old = bins_of (with_taken g.B.Ord.cmp true c.args.order.now c.args.progress.now.taken.items c.args.bins.now.entries) in
     let group : Members g.row.Id.Denot = record { ids = c.args.ids.now; sizes = c.args.sizes.now } in
     let rules = rules_by g.Id.Ord.cmp g.B.Ord.cmp (g.R.Ask.may c.args.rules.now) in
     let barred : g.row.B.Denot → Bool = are_in g.B.Ord.cmp c.args.barred.now.keys in
     let passed = c.loop-i.invariant.passed in
     let here : barred o.1 ≡ true = sym c.contains.ensures ∙ c.if-contains.true in
     record {
-      same = ap bins_of c.take_out.ensures.same ∙ c.loop-i.invariant.same;
+      same = ap bins_of (c.take_out.ensures.same true) ∙ c.loop-i.invariant.same;
       keys = c.take_out.ensures.keys ∙ c.loop-i.invariant.keys;
       within = c.take_out.ensures.stays_within;
       passed = (
@@ -109,7 +107,7 @@ loop-i-preserved-then-contains g c =
       journal_len = c.loop-i.invariant.journal_len;
       journal_capacity = c.loop-i.invariant.journal_capacity;
       placements = c.loop-i.invariant.placements;
-      back = λ start b. rw c.take_out.ensures.same (c.loop-i.invariant.back start b);
+      back = λ start b. rw (c.take_out.ensures.same false) (c.loop-i.invariant.back start b);
     }
 
 pub loop-i-preserved : goal.loop-i-preserved
@@ -117,15 +115,17 @@ loop-i-preserved g c =
     let cmp = g.B.Ord.cmp in
     let o = c.index-order-i.result in
     let tried = c.in_ok-done.ensures.tried o c.index-order-i.is in
-    let now = with_taken g.B.Ord.cmp c.args.order.now c.take_out.new.taken.items c.take_out.new.bins.entries in
-    let first = with_taken g.B.Ord.cmp c.args.order.now c.args.taken.now.items c.args.bins.now.entries in
-    let same : bins_of now ≡ bins_of first = ap bins_of c.take_out.ensures.same ∙ c.loop-i.invariant.same in
+    let now = with_taken g.B.Ord.cmp true c.args.order.now c.take_out.new.taken.items c.take_out.new.bins.entries in
+    let first = with_taken g.B.Ord.cmp true c.args.order.now c.args.progress.now.taken.items c.args.bins.now.entries in
+    let same : bins_of now ≡ bins_of first = ap bins_of (c.take_out.ensures.same true) ∙ c.loop-i.invariant.same in
     let old = bins_of first in
     let group : Members g.row.Id.Denot = record { ids = c.args.ids.now; sizes = c.args.sizes.now } in
     let rules = rules_by g.Id.Ord.cmp g.B.Ord.cmp (g.R.Ask.may c.args.rules.now) in
     let stuck = rw c.if-done.false at tried.3 in
     let unchanged = stuck.2 in
-    let empty = rw c.if-done.false at tried.4 in
+    let noted = c.in_ok-done.ensures.noted o c.index-order-i.is in
+    let left = rw c.if-done.false at noted.3 in
+    let own = with_taken cmp false c.args.order.now c.take_out.new.taken.items c.take_out.new.bins.entries in
     let there = found-bins_of (is_at (cmp o.1)) now old tried.0 same tried.2.found in
     let barred : g.row.B.Denot → Bool = are_in cmp c.args.barred.now.keys in
     let passed = c.loop-i.invariant.passed in
@@ -140,15 +140,15 @@ loop-i-preserved g c =
             (DoesNotTake-stuck rules barred old group o.1 stuck.0 allowed (rw there stuck.1)) passed.1,
         saturated-add c.args.progress.now.tests c.loop-i.progress.tests _ (sum passed.0) stuck.0 passed.2 stuck.3 ∙ ap (λ n. saturated (c.args.progress.now.tests + n)) (sym (sum_by_push (λ x. x) passed.0 stuck.0)),
       );
-      no_notes = empty.0;
+      no_notes = left.1;
       note_room = omega arith;
-      no_locations = empty.1;
+      no_locations = left.2;
       location_room = omega arith;
       journal_room = c.loop-i.invariant.journal_room;
       journal_len = c.loop-i.invariant.journal_len;
       journal_capacity = c.loop-i.invariant.journal_capacity;
       placements = c.loop-i.invariant.placements;
-      back = λ start b. rw tried.2.written (GoesBack-grown cmp now c.loop-i.progress.journal.items o.1 tried.0 tried.1 start tried.2.found unchanged tried.2.room (rw c.take_out.ensures.same (c.loop-i.invariant.back start b)));
+      back = λ start b. rw noted.2.written (GoesBack-grown cmp own c.loop-i.progress.journal.items o.1 noted.0 noted.1 start noted.2.found left.0 noted.2.room (rw (c.take_out.ensures.same false) (c.loop-i.invariant.back start b)));
     }
 
 pub returns-clause-placed : goal.returns-clause-placed
@@ -157,11 +157,11 @@ returns-clause-placed g c =
     let passed = rw e at c.loop-i.invariant.passed in
     (sum passed.0, record { counts = passed.0; passed = passed.1; tests_are = refl }, c.loop-i.invariant.same, c.loop-i.invariant.placements, passed.2)
 
-pub returns-in_err-reserve-clause-stopped : goal.returns-in_err-reserve-clause-stopped
-returns-in_err-reserve-clause-stopped g c =
+pub returns-in_err-reserve-2-clause-stopped : goal.returns-in_err-reserve-2-clause-stopped
+returns-in_err-reserve-2-clause-stopped g c =
     let group : Members g.row.Id.Denot = record { ids = c.args.ids.now; sizes = c.args.sizes.now } in
     let rules = rules_by g.Id.Ord.cmp g.B.Ord.cmp (g.R.Ask.may c.args.rules.now) in
-    OnErr-given _ (adds-begun rules g.met.B.Ord.total (are_in g.B.Ord.cmp c.args.barred.now.keys) c.args.order.now 0 group (bins_of (with_taken g.B.Ord.cmp c.args.order.now c.args.taken.now.items c.args.bins.now.entries)) [] c.args.progress.now.tests _ tt (omega arith))
+    OnErr-given _ (adds-begun rules g.met.B.Ord.total (are_in g.B.Ord.cmp c.args.barred.now.keys) c.args.order.now 0 group (bins_of (with_taken g.B.Ord.cmp true c.args.order.now c.args.progress.now.taken.items c.args.bins.now.entries)) [] c.args.progress.now.tests _ tt (omega arith))
 
 pub returns-in_err-done-clause-stopped : goal.returns-in_err-done-clause-stopped
 returns-in_err-done-clause-stopped g c =
@@ -170,15 +170,15 @@ returns-in_err-done-clause-stopped g c =
     let tried = c.in_err-done.ensures.tried c.index-order-i.result c.index-order-i.is in
     let passed = c.loop-i.invariant.passed in
     OnErr-given _
-    (adds-begun rules g.met.B.Ord.total (are_in g.B.Ord.cmp c.args.barred.now.keys) c.args.order.now c.loop-i.i group (bins_of (with_taken g.B.Ord.cmp c.args.order.now c.args.taken.now.items c.args.bins.now.entries)) passed.0 c.args.progress.now.tests _ passed.1 (tried.3.1 ∙ passed.2))
+    (adds-begun rules g.met.B.Ord.total (are_in g.B.Ord.cmp c.args.barred.now.keys) c.args.order.now c.loop-i.i group (bins_of (with_taken g.B.Ord.cmp true c.args.order.now c.args.progress.now.taken.items c.args.bins.now.entries)) passed.0 c.args.progress.now.tests _ passed.1 (tried.3.1 ∙ passed.2))
 
 pub returns-in_err-name_all-clause-stopped : goal.returns-in_err-name_all-clause-stopped
 returns-in_err-name_all-clause-stopped g c =
     let o = c.index-order-i.result in
     let tried = c.in_ok-done.ensures.tried o c.index-order-i.is in
-    let now = with_taken g.B.Ord.cmp c.args.order.now c.take_out.new.taken.items c.take_out.new.bins.entries in
-    let first = with_taken g.B.Ord.cmp c.args.order.now c.args.taken.now.items c.args.bins.now.entries in
-    let same : bins_of now ≡ bins_of first = ap bins_of c.take_out.ensures.same ∙ c.loop-i.invariant.same in
+    let now = with_taken g.B.Ord.cmp true c.args.order.now c.take_out.new.taken.items c.take_out.new.bins.entries in
+    let first = with_taken g.B.Ord.cmp true c.args.order.now c.args.progress.now.taken.items c.args.bins.now.entries in
+    let same : bins_of now ≡ bins_of first = ap bins_of (c.take_out.ensures.same true) ∙ c.loop-i.invariant.same in
     let done = rw c.if-done.true at tried.3 in
     let group : Members g.row.Id.Denot = record { ids = c.args.ids.now; sizes = c.args.sizes.now } in
     let rules = rules_by g.Id.Ord.cmp g.B.Ord.cmp (g.R.Ask.may c.args.rules.now) in
@@ -189,32 +189,14 @@ returns-in_err-name_all-clause-stopped g c =
     (adds-tried rules g.met.B.Ord.total (are_in g.B.Ord.cmp c.args.barred.now.keys) c.args.order.now c.loop-i.i c.index-order-i.result group old passed.0 tried.0.bin c.try_bin.new.locations.items tried.1.bin.sections done.0
     c.args.progress.now.tests _ c.loop-i-test.true c.index-order-i.is passed.1 there done.1 (saturated-add c.args.progress.now.tests c.loop-i.progress.tests _ (sum passed.0) done.0 passed.2 done.3))
 
-pub returns-in_err-notes-clause-stopped : goal.returns-in_err-notes-clause-stopped
-returns-in_err-notes-clause-stopped g c =
+pub returns-in_err-reserve-clause-stopped : goal.returns-in_err-reserve-clause-stopped
+returns-in_err-reserve-clause-stopped g c =
     let group : Members g.row.Id.Denot = record { ids = c.args.ids.now; sizes = c.args.sizes.now } in
     let rules = rules_by g.Id.Ord.cmp g.B.Ord.cmp (g.R.Ask.may c.args.rules.now) in
-    OnErr-given _ (adds-begun rules g.met.B.Ord.total (are_in g.B.Ord.cmp c.args.barred.now.keys) c.args.order.now 0 group (bins_of (with_taken g.B.Ord.cmp c.args.order.now c.args.taken.now.items c.args.bins.now.entries)) [] c.args.progress.now.tests _ tt (omega arith))
-
-pub returns-in_err-notes-clause-placed : goal.returns-in_err-notes-clause-placed
-returns-in_err-notes-clause-placed g c = IfOk-from_err _ _ c.from_residual.ensures.0
-
-pub returns-in_err-notes-clause-back : goal.returns-in_err-notes-clause-back
-returns-in_err-notes-clause-back g c = λ _ b. b
-
-pub returns-in_err-notes-clause-keys : goal.returns-in_err-notes-clause-keys
-returns-in_err-notes-clause-keys g c = refl
-
-pub returns-in_err-notes-clause-stays_within : goal.returns-in_err-notes-clause-stays_within
-returns-in_err-notes-clause-stays_within g c = c.requires.within
-
-pub returns-in_err-notes-clause-journal_grows : goal.returns-in_err-notes-clause-journal_grows
-returns-in_err-notes-clause-journal_grows g c = omega arith
-
-pub returns-in_err-notes-clause-journal_room_stays : goal.returns-in_err-notes-clause-journal_room_stays
-returns-in_err-notes-clause-journal_room_stays g c = refl
+    OnErr-given _ (adds-begun rules g.met.B.Ord.total (are_in g.B.Ord.cmp c.args.barred.now.keys) c.args.order.now 0 group (bins_of (with_taken g.B.Ord.cmp true c.args.order.now c.args.progress.now.taken.items c.args.bins.now.entries)) [] c.args.progress.now.tests _ tt (omega arith))
 
 pub returns-in_err-reserve-clause-placed : goal.returns-in_err-reserve-clause-placed
-returns-in_err-reserve-clause-placed g c = IfOk-from_err _ _ c.from_residual-in_err-reserve.ensures.0
+returns-in_err-reserve-clause-placed g c = IfOk-from_err _ _ c.from_residual.ensures.0
 
 pub returns-in_err-reserve-clause-back : goal.returns-in_err-reserve-clause-back
 returns-in_err-reserve-clause-back g c = λ _ b. b
@@ -230,6 +212,24 @@ returns-in_err-reserve-clause-journal_grows g c = omega arith
 
 pub returns-in_err-reserve-clause-journal_room_stays : goal.returns-in_err-reserve-clause-journal_room_stays
 returns-in_err-reserve-clause-journal_room_stays g c = refl
+
+pub returns-in_err-reserve-2-clause-placed : goal.returns-in_err-reserve-2-clause-placed
+returns-in_err-reserve-2-clause-placed g c = IfOk-from_err _ _ c.from_residual-in_err-reserve-2.ensures.0
+
+pub returns-in_err-reserve-2-clause-back : goal.returns-in_err-reserve-2-clause-back
+returns-in_err-reserve-2-clause-back g c = λ _ b. b
+
+pub returns-in_err-reserve-2-clause-keys : goal.returns-in_err-reserve-2-clause-keys
+returns-in_err-reserve-2-clause-keys g c = refl
+
+pub returns-in_err-reserve-2-clause-stays_within : goal.returns-in_err-reserve-2-clause-stays_within
+returns-in_err-reserve-2-clause-stays_within g c = c.requires.within
+
+pub returns-in_err-reserve-2-clause-journal_grows : goal.returns-in_err-reserve-2-clause-journal_grows
+returns-in_err-reserve-2-clause-journal_grows g c = omega arith
+
+pub returns-in_err-reserve-2-clause-journal_room_stays : goal.returns-in_err-reserve-2-clause-journal_room_stays
+returns-in_err-reserve-2-clause-journal_room_stays g c = refl
 
 pub returns-in_err-done-clause-placed : goal.returns-in_err-done-clause-placed
 returns-in_err-done-clause-placed g c = IfOk-from_err _ _ c.from_residual-in_err-done.ensures.0
@@ -256,10 +256,10 @@ pub returns-in_err-name_all-clause-stays_within : goal.returns-in_err-name_all-c
 returns-in_err-name_all-clause-stays_within g c = omega (arith, c.in_ok-done.ensures.as_many, c.take_out.ensures.stays_within)
 
 pub returns-in_err-name_all-clause-journal_grows : goal.returns-in_err-name_all-clause-journal_grows
-returns-in_err-name_all-clause-journal_grows g c = omega (arith, c.push_reserved.ensures.len, c.loop-i.invariant.journal_len)
+returns-in_err-name_all-clause-journal_grows g c = omega (arith, c.note_trial.ensures.grows, c.loop-i.invariant.journal_len)
 
 pub returns-in_err-name_all-clause-journal_room_stays : goal.returns-in_err-name_all-clause-journal_room_stays
-returns-in_err-name_all-clause-journal_room_stays g c = c.push_reserved.ensures.capacity ∙ c.loop-i.invariant.journal_capacity
+returns-in_err-name_all-clause-journal_room_stays g c = c.note_trial.ensures.room_stays ∙ c.loop-i.invariant.journal_capacity
 
 pub returns-then-done-clause-stopped : goal.returns-then-done-clause-stopped
 returns-then-done-clause-stopped g c = tt
@@ -271,10 +271,10 @@ pub returns-then-done-clause-stays_within : goal.returns-then-done-clause-stays_
 returns-then-done-clause-stays_within g c = omega (arith, c.in_ok-done.ensures.as_many, c.take_out.ensures.stays_within)
 
 pub returns-then-done-clause-journal_grows : goal.returns-then-done-clause-journal_grows
-returns-then-done-clause-journal_grows g c = omega (arith, c.push_reserved.ensures.len, c.loop-i.invariant.journal_len)
+returns-then-done-clause-journal_grows g c = omega (arith, c.note_trial.ensures.grows, c.loop-i.invariant.journal_len)
 
 pub returns-then-done-clause-journal_room_stays : goal.returns-then-done-clause-journal_room_stays
-returns-then-done-clause-journal_room_stays g c = c.push_reserved.ensures.capacity ∙ c.loop-i.invariant.journal_capacity
+returns-then-done-clause-journal_room_stays g c = c.note_trial.ensures.room_stays ∙ c.loop-i.invariant.journal_capacity
 
 pub returns-clause-stopped : goal.returns-clause-stopped
 returns-clause-stopped g c = tt
@@ -294,8 +294,14 @@ returns-clause-journal_grows g c = omega (arith, c.loop-i.invariant.journal_len)
 pub returns-clause-journal_room_stays : goal.returns-clause-journal_room_stays
 returns-clause-journal_room_stays g c = c.loop-i.invariant.journal_capacity
 
-pub push_reserved-requires : goal.push_reserved-requires
-push_reserved-requires g c = c.loop-i.invariant.journal_room
+pub note_trial-requires : goal.note_trial-requires
+note_trial-requires g c = c.loop-i.invariant.journal_room
+
+pub returns-then-done-clause-no_notes_left : goal.returns-then-done-clause-no_notes_left
+returns-then-done-clause-no_notes_left g c = c.note_trial.ensures.notes
+
+pub returns-clause-no_notes_left : goal.returns-clause-no_notes_left
+returns-clause-no_notes_left g c = c.loop-i.invariant.no_notes
 
 pub take_out-requires-clause-distinct_bins : goal.take_out-requires-clause-distinct_bins
 take_out-requires-clause-distinct_bins g c = c.requires.distinct_bins

@@ -20,7 +20,7 @@ use Rattle.rectangle_pack.specs.declared.pack.answer.Placement.{Placement}
 use Rattle.std.proofs.Math.Path.{fun_ext}
 use Rattle.std.specs.List.{list_any, slice_range}
 use Rattle.std.proofs.lemmas.List.Elements.{All-nil}
-use Rattle.std.proofs.Common.{Bool, ap, subst, length}
+use Rattle.std.proofs.Common.{Bool, true, ap, subst, length}
 use Rattle.rectangle_pack.proofs.PackingOrderLemmas.{SizesStandAt-part}
 use Rattle.std.specs.Borrow.{Bor}
 use Rattle.rectangle_pack.proofs.pack.work.place_groups.Goals as goal
@@ -33,6 +33,7 @@ loop-group-init g c =
       done = ([], [], 0, record { each = tt }, rw none (c.requires.no_placements, refl, refl), omega arith, Knows-none (group_cmp g) g.B.Ord.cmp (group_total g) c.args.rects_to_place.now.partners c.new-homes.result.entries c.new-homes.ensures.empty, λ q h. All-nil _);
       keys = refl;
       within = rw none (omega arith);
+      no_notes = c.requires.no_notes;
       room = omega (arith, c.in_ok-reserve-2.ensures.ok);
       back = λ start b. rw (none, c.in_ok-reserve-2.ensures.items) b;
     }
@@ -75,9 +76,9 @@ returns-in-None-clause-packed g c =
     ∙ ap (λ (ps : List (Group g.row.GroupId.Denot g.row.Id.Denot)). list_any (λ p. went_to (group_cmp g) g.B.Ord.cmp c.loop-group.homes.entries p id) ps) partners
     ∙ barred_by_partners (group_cmp g) g.B.Ord.cmp (group_total g) c.args.rects_to_place.now.partners done.1 c.loop-group.homes.entries (rw (← c.exclusions-exclusions.ensures) c.partners-partners.ensures.mutual) done.6 name id) in
     let refused = rw c.in-None.is at c.in_ok-place_group.ensures.placed in
-    let P : (g.row.B.Denot → Bool) → Type 0 = λ (b : g.row.B.Denot → Bool). IsRefused rules b (map (λ o. o.1) c.args.order.now) group (bins_of (with_taken g.B.Ord.cmp c.args.order.now c.loop-group.taken.items c.loop-group.bins.entries)) refused.0 in (
+    let P : (g.row.B.Denot → Bool) → Type 0 = λ (b : g.row.B.Denot → Bool). IsRefused rules b (map (λ o. o.1) c.args.order.now) group (bins_of (with_taken g.B.Ord.cmp true c.args.order.now c.loop-group.progress.taken.items c.loop-group.bins.entries)) refused.0 in (
       done.2 + refused.0,
-      StopsAfter-at rules (group_cmp g) bars c.args.rects_to_place.now.sizes c.args.rects_to_place.now.groups c.args.groups.now (map (λ o. o.1) c.args.order.now) (c.loop-group.group-index + 1) done.0 (name, group) _ _ (bins_of (with_taken g.B.Ord.cmp c.args.order.now c.loop-group.taken.items c.loop-group.bins.entries)) done.1 c.loop-group.progress.placements.items done.2 refused.0
+      StopsAfter-at rules (group_cmp g) bars c.args.rects_to_place.now.sizes c.args.rects_to_place.now.groups c.args.groups.now (map (λ o. o.1) c.args.order.now) (c.loop-group.group-index + 1) done.0 (name, group) _ _ (bins_of (with_taken g.B.Ord.cmp true c.args.order.now c.loop-group.progress.taken.items c.loop-group.bins.entries)) done.1 c.loop-group.progress.placements.items done.2 refused.0
           more done.4 refused.2 (subst P barred refused.1),
       saturated-add c.args.progress.now.tests c.loop-group.progress.tests _ done.2 refused.0 done.5 refused.4,
     )
@@ -103,9 +104,9 @@ loop-group-preserved g c =
     ∙ barred_by_partners (group_cmp g) g.B.Ord.cmp (group_total g) c.args.rects_to_place.now.partners done.1 c.loop-group.homes.entries (rw (← c.exclusions-exclusions.ensures) c.partners-partners.ensures.mutual) done.6 name id) in
     let placed = rw c.in-Some.is at c.in_ok-place_group.ensures.placed in
     let here = c.in-Some.here in
-    let P : (g.row.B.Denot → Bool) → Type 0 = λ (b : g.row.B.Denot → Bool). (p : IsPlaced rules b (map (λ o. o.1) c.args.order.now) group (bins_of (with_taken g.B.Ord.cmp c.args.order.now c.loop-group.taken.items c.loop-group.bins.entries)) placed.0 (bins_of (with_taken g.B.Ord.cmp c.args.order.now c.place_group.new.taken.items c.place_group.new.bins.entries)) placed.1) × (p.here ≡ here.now) in
+    let P : (g.row.B.Denot → Bool) → Type 0 = λ (b : g.row.B.Denot → Bool). (p : IsPlaced rules b (map (λ o. o.1) c.args.order.now) group (bins_of (with_taken g.B.Ord.cmp true c.args.order.now c.loop-group.progress.taken.items c.loop-group.bins.entries)) placed.0 (bins_of (with_taken g.B.Ord.cmp true c.args.order.now c.place_group.new.progress.taken.items c.place_group.new.bins.entries)) placed.1) × (p.here ≡ here.now) in
     let there = subst P barred (placed.2, placed.3) in
-    let Q : List (Placement g.row.Id.Denot g.row.B.Denot) → Type 0 = λ (ps : List (Placement g.row.Id.Denot g.row.B.Denot)). AreAllPlaced rules bars (map (λ o. o.1) c.args.order.now) (done.0 ++ (name, group) ∷ []) (at_start (bins_of c.args.bins.now.entries)) ps (record { bins = bins_of (with_taken g.B.Ord.cmp c.args.order.now c.place_group.new.taken.items c.place_group.new.bins.entries); homes = (name, there.0.here) ∷ done.1 }) (done.2 + placed.1) in
+    let Q : List (Placement g.row.Id.Denot g.row.B.Denot) → Type 0 = λ (ps : List (Placement g.row.Id.Denot g.row.B.Denot)). AreAllPlaced rules bars (map (λ o. o.1) c.args.order.now) (done.0 ++ (name, group) ∷ []) (at_start (bins_of c.args.bins.now.entries)) ps (record { bins = bins_of (with_taken g.B.Ord.cmp true c.args.order.now c.place_group.new.progress.taken.items c.place_group.new.bins.entries); homes = (name, there.0.here) ∷ done.1 }) (done.2 + placed.1) in
     let fresh = Named-fresh (group_cmp g) g.B.Ord.cmp (group_total g) c.args.groups.now c.loop-group.group-index c.loop-group-item.result done.1 c.requires.distinct_groups c.loop-group-test.true c.loop-group-item.is done.7 in
     let R : List (Bor (Group g.row.GroupId.Denot g.row.Id.Denot) × Bor g.row.B.Denot) → Type 0 = λ (kept : List (Bor (Group g.row.GroupId.Denot g.row.Id.Denot) × Bor g.row.B.Denot)). Knows (group_cmp g) g.B.Ord.cmp (group_total g) c.args.rects_to_place.now.partners ((name, here.now) ∷ done.1) kept in
     let knows : Knows (group_cmp g) g.B.Ord.cmp (group_total g) c.args.rects_to_place.now.partners ((name, here.now) ∷ done.1) c.if-not-is_empty.homes.entries = elim c.if-not-is_empty.branch [
@@ -120,13 +121,14 @@ loop-group-preserved g c =
         (name, there.0.here) ∷ done.1,
         done.2 + placed.1,
         more,
-        subst Q (sym placed.4) (AreAllPlaced-push rules bars (map (λ o. o.1) c.args.order.now) done.0 (name, group) (at_start (bins_of c.args.bins.now.entries)) (bins_of (with_taken g.B.Ord.cmp c.args.order.now c.loop-group.taken.items c.loop-group.bins.entries)) done.1 (bins_of (with_taken g.B.Ord.cmp c.args.order.now c.place_group.new.taken.items c.place_group.new.bins.entries)) c.loop-group.progress.placements.items placed.0 done.2 placed.1 done.4 there.0),
+        subst Q (sym placed.4) (AreAllPlaced-push rules bars (map (λ o. o.1) c.args.order.now) done.0 (name, group) (at_start (bins_of c.args.bins.now.entries)) (bins_of (with_taken g.B.Ord.cmp true c.args.order.now c.loop-group.progress.taken.items c.loop-group.bins.entries)) done.1 (bins_of (with_taken g.B.Ord.cmp true c.args.order.now c.place_group.new.progress.taken.items c.place_group.new.bins.entries)) c.loop-group.progress.placements.items placed.0 done.2 placed.1 done.4 there.0),
         saturated-add c.args.progress.now.tests c.loop-group.progress.tests _ done.2 placed.1 done.5 placed.5,
         rw there.1 knows,
         Named-more (group_cmp g) g.B.Ord.cmp (group_total g) c.args.groups.now c.loop-group.group-index c.loop-group-item.result done.1 there.0.here c.loop-group-test.true c.loop-group-item.is done.7,
       );
       keys = c.in_ok-place_group.ensures.keys ∙ c.loop-group.invariant.keys;
       within = c.in_ok-place_group.ensures.stays_within;
+      no_notes = c.in_ok-place_group.ensures.no_notes_left;
       room = omega arith;
       back = λ start b. c.place_group.ensures.back start (c.loop-group.invariant.back start b);
     }
@@ -179,7 +181,7 @@ returns-in_err-place_group-clause-stopped g c =
     let bars : List ((Group g.row.GroupId.Denot g.row.Id.Denot) × g.row.B.Denot) → (Group g.row.GroupId.Denot g.row.Id.Denot) → g.row.B.Denot → Bool = bars_by (group_cmp g) g.B.Ord.cmp c.args.rects_to_place.now.partners in
     OnErr-given _
     (adds-more rules g.met.B.Ord.total bars (group_cmp g) c.args.rects_to_place.now.sizes c.args.rects_to_place.now.groups c.args.groups.now (c.loop-group.group-index + 1) (map (λ o. o.1) c.args.order.now) done.0 (name, group) (at_start (bins_of c.args.bins.now.entries)) _
-    (record { bins = bins_of (with_taken g.B.Ord.cmp c.args.order.now c.loop-group.taken.items c.loop-group.bins.entries); homes = done.1 }) done.2 c.args.progress.now.tests c.loop-group.progress.tests _ c.requires.distinct_bins more done.4 done.5 c.in_err-place_group.ensures.stopped)
+    (record { bins = bins_of (with_taken g.B.Ord.cmp true c.args.order.now c.loop-group.progress.taken.items c.loop-group.bins.entries); homes = done.1 }) done.2 c.args.progress.now.tests c.loop-group.progress.tests _ c.requires.distinct_bins more done.4 done.5 c.in_err-place_group.ensures.stopped)
 
 pub returns-in_err-place_group-clause-back : goal.returns-in_err-place_group-clause-back
 returns-in_err-place_group-clause-back g c = λ start b. c.place_group.ensures.back start (c.loop-group.invariant.back start b)
@@ -207,10 +209,10 @@ returns-in_err-insert-in-Some-clause-stopped g c =
     let names : List g.row.B.Denot = map (λ o. o.1) c.args.order.now in
     OnErr-given _
     (adds-more rules g.met.B.Ord.total bars (group_cmp g) c.args.rects_to_place.now.sizes c.args.rects_to_place.now.groups c.args.groups.now (c.loop-group.group-index + 1) names done.0 (name, group) (at_start (bins_of c.args.bins.now.entries)) _
-    (record { bins = bins_of (with_taken g.B.Ord.cmp c.args.order.now c.loop-group.taken.items c.loop-group.bins.entries); homes = done.1 }) done.2 c.args.progress.now.tests c.loop-group.progress.tests _ c.requires.distinct_bins more done.4 done.5
+    (record { bins = bins_of (with_taken g.B.Ord.cmp true c.args.order.now c.loop-group.progress.taken.items c.loop-group.bins.entries); homes = done.1 }) done.2 c.args.progress.now.tests c.loop-group.progress.tests _ c.requires.distinct_bins more done.4 done.5
     (record {
       tests = placed.1;
-      within = placed-le rules g.met.B.Ord.total (are_in g.B.Ord.cmp c.in_ok-barred.barred.keys) names group (bins_of (with_taken g.B.Ord.cmp c.args.order.now c.loop-group.taken.items c.loop-group.bins.entries)) placed.0 (bins_of (with_taken g.B.Ord.cmp c.args.order.now c.place_group.new.taken.items c.place_group.new.bins.entries)) placed.1 placed.2;
+      within = placed-le rules g.met.B.Ord.total (are_in g.B.Ord.cmp c.in_ok-barred.barred.keys) names group (bins_of (with_taken g.B.Ord.cmp true c.args.order.now c.loop-group.progress.taken.items c.loop-group.bins.entries)) placed.0 (bins_of (with_taken g.B.Ord.cmp true c.args.order.now c.place_group.new.progress.taken.items c.place_group.new.bins.entries)) placed.1 placed.2;
       added = placed.5;
     }))
 
@@ -303,6 +305,9 @@ place_group-requires-clause-distinct_bins g c = c.requires.distinct_bins
 
 pub place_group-requires-clause-within : goal.place_group-requires-clause-within
 place_group-requires-clause-within g c = c.loop-group.invariant.within
+
+pub place_group-requires-clause-no_notes : goal.place_group-requires-clause-no_notes
+place_group-requires-clause-no_notes g c = c.loop-group.invariant.no_notes
 
 pub place_group-requires-clause-journal_room : goal.place_group-requires-clause-journal_room
 place_group-requires-clause-journal_room g c = omega (arith, c.loop-group.invariant.room, c.loop-group-test.true)

@@ -1,4 +1,4 @@
-use Rattle.std.proofs.Common.{◌≡◌, refl, ◌≤◌, ◌+◌, ℕ, List, take, length, vec_len, vec_capacity}
+use Rattle.std.proofs.Common.{◌≡◌, refl, ◌≤◌, ◌+◌, ℕ, List, [], true, false, take, length, vec_len, vec_capacity}
 use Rattle.std.specs.Prelude.{map}
 use Rattle.std.specs.Cmp.{IsTotalOrder}
 use Rattle.std.specs.declared.cmp.Ordering.{Ordering}
@@ -27,12 +27,13 @@ abbrev pub invariant-loop-group : goal.invariant-loop-group
 invariant-loop-group g l = record {
   done : (gs : List (Group g.row.GroupId.Denot g.row.Id.Denot × Members g.row.Id.Denot)) × (at : List (Group g.row.GroupId.Denot g.row.Id.Denot × g.row.B.Denot)) × (count : ℕ)
       × AreGroups g.Id.Ord.cmp (group_cmp g) l.rects_to_place.sizes l.rects_to_place.groups (keys_of_order (take l.group-index l.groups)) gs
-      × AreAllPlaced (rules_by g.Id.Ord.cmp g.B.Ord.cmp (g.R.Ask.may l.rules)) (bars_by (group_cmp g) g.B.Ord.cmp l.rects_to_place.partners) (map (λ o. o.1) l.order) gs (at_start (bins_of l.fn.bins.entries)) l.progress.placements.items (record { bins = bins_of (with_taken g.B.Ord.cmp l.order l.taken.items l.bins.entries); homes = at }) count
+      × AreAllPlaced (rules_by g.Id.Ord.cmp g.B.Ord.cmp (g.R.Ask.may l.rules)) (bars_by (group_cmp g) g.B.Ord.cmp l.rects_to_place.partners) (map (λ o. o.1) l.order) gs (at_start (bins_of l.fn.bins.entries)) l.progress.placements.items (record { bins = bins_of (with_taken g.B.Ord.cmp true l.order l.progress.taken.items l.bins.entries); homes = at }) count
       × (l.progress.tests ≡ saturated (l.fn.progress.tests + count))
       × Knows (group_cmp g) g.B.Ord.cmp (group_total g) l.rects_to_place.partners at l.homes.entries
       × Named (group_cmp g) g.B.Ord.cmp (group_total g) (take l.group-index l.groups) at;
   keys : keys_of l.bins.entries ≡ keys_of l.fn.bins.entries;
-  within : length l.taken.items ≤ length l.order;
+  within : length l.progress.taken.items ≤ length l.order;
+  no_notes : l.progress.notes.items ≡ [];
   room : vec_len l.progress.journal + length l.groups ≤ vec_capacity l.progress.journal + l.group-index;
-  back : (start : List (g.row.B.Denot × Bin)) → GoesBack g.B.Ord.cmp l.fn.bins.entries l.fn.progress.journal.items start → GoesBack g.B.Ord.cmp (with_taken g.B.Ord.cmp l.order l.taken.items l.bins.entries) l.progress.journal.items start;
+  back : (start : List (g.row.B.Denot × Bin)) → GoesBack g.B.Ord.cmp l.fn.bins.entries l.fn.progress.journal.items start → GoesBack g.B.Ord.cmp (with_taken g.B.Ord.cmp false l.order l.progress.taken.items l.bins.entries) l.progress.journal.items start;
 }

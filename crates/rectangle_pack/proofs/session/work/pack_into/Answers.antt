@@ -1,5 +1,5 @@
 use Rattle.rectangle_pack.proofs.BoundLemmas.{OnErr-given}
-use Rattle.std.proofs.Common.{refl, sym, ap, ◌∙◌, arith, length, ◌≡◌, ◌<◌, List, [], ◌∷◌}
+use Rattle.std.proofs.Common.{refl, sym, ap, ◌∙◌, arith, length, vec_len, ◌≡◌, ◌<◌, List, [], ◌∷◌}
 use Rattle.std.proofs.lemmas.Result.{IfOk-from_err}
 use Rattle.rectangle_pack.specs.Packing.{bins_of}
 use Rattle.rectangle_pack.proofs.session.work.pack_into.Goals as goal
@@ -12,7 +12,7 @@ some-listed (x ∷ xs) h = omega arith
 pub returns-in-Ok-false-clause-packed : goal.returns-in-Ok-false-clause-packed
 returns-in-Ok-false-clause-packed g c =
     let refused = rw c.in-Ok-false.field-0-test at c.in-Ok-false.ensures.packed in
-    (bins_of c.pack_noted.new.target_bins.entries, refused.0, c.undo_all.ensures _ c.pack_noted.ensures.back, c.reserve.ensures.items)
+    (_, refused.0, c.undo_all.ensures _ (rw c.as_slice-in-Ok-false.ensures.value (rw c.as_slice.ensures.value at c.pack_noted.ensures.back)), c.reserve.ensures.items)
 
 pub returns-in_err-reserve-clause-packed : goal.returns-in_err-reserve-clause-packed
 returns-in_err-reserve-clause-packed g c = IfOk-from_err _ _ c.from_residual.ensures.0
@@ -32,7 +32,7 @@ pub returns-in-Ok-true-clause-packed : goal.returns-in-Ok-true-clause-packed
 returns-in-Ok-true-clause-packed g c =
     let done = rw c.in-Ok-true.field-0-test at c.in-Ok-true.ensures.packed in
     let counted = rw c.in-Ok-true.field-0-test at c.in-Ok-true.ensures.counted in
-    (c.pack_noted.new.progress.placements.items, done.0, counted ∙ sym c.requires.count, rw c.in_ok-reserve.ensures.items at c.number_all.ensures)
+    (c.pack_noted.new.progress.placements.items, rw (c.keep.ensures.bins, c.as_slice-in-Ok-true.ensures.value) (rw c.as_slice.ensures.value at done.0), counted ∙ sym c.requires.count, rw (c.in_ok-reserve.ensures.items, c.keep.ensures.placements) at c.number_all.ensures)
 
 pub returns-in-Ok-true-clause-stopped : goal.returns-in-Ok-true-clause-stopped
 returns-in-Ok-true-clause-stopped g c = tt
@@ -79,15 +79,17 @@ pack_noted-requires-clause-no_journal g c = c.new-progress.ensures.journal
 pub number_all-requires-clause-room : goal.number_all-requires-clause-room
 number_all-requires-clause-room g c =
     let counted = rw c.in-Ok-true.field-0-test at c.in-Ok-true.ensures.counted in
-    omega (arith, counted, c.in_ok-reserve.ensures.ok, c.pack_noted.new.progress.placements.ok.0, c.requires.count)
+    let same = ap vec_len c.keep.ensures.placements in
+    omega (arith, same, counted, c.in_ok-reserve.ensures.ok, c.pack_noted.new.progress.placements.ok.0, c.requires.count)
 
 pub number_all-requires-clause-fits : goal.number_all-requires-clause-fits
 number_all-requires-clause-fits g c =
     let counted = rw c.in-Ok-true.field-0-test at c.in-Ok-true.ensures.counted in
-    omega (arith, counted, c.requires.fits, c.pack_noted.new.progress.placements.ok.0, c.requires.count)
+    let same = ap vec_len c.keep.ensures.placements in
+    omega (arith, same, counted, c.requires.fits, c.pack_noted.new.progress.placements.ok.0, c.requires.count)
 
 pub undo_all-requires : goal.undo_all-requires
-undo_all-requires g c = (bins_of c.args.bins.now.entries, c.pack_noted.ensures.back)
+undo_all-requires g c = record { out = rw c.as_slice-in-Ok-false.ensures.value (rw c.as_slice.ensures.value at c.pack_noted.ensures.out); back = (bins_of c.args.bins.now.entries, rw c.as_slice-in-Ok-false.ensures.value (rw c.as_slice.ensures.value at c.pack_noted.ensures.back)) }
 
 pub returns-clause-packed : goal.returns-clause-packed
 returns-clause-packed g c = tt
@@ -95,10 +97,19 @@ returns-clause-packed g c = tt
 pub returns-clause-stopped : goal.returns-clause-stopped
 returns-clause-stopped g c =
     let some = some-listed c.args.groups.now.groups (λ none. cc ((c.in-Err.ensures.no_groups none).0)) in
-    (some, c.undo_all-in-Err.ensures _ c.pack_noted.ensures.back, c.in_ok-reserve.ensures.items)
+    (some, c.undo_all-in-Err.ensures _ (rw c.as_slice-in-Err.ensures.value (rw c.as_slice.ensures.value at c.pack_noted.ensures.back)), c.in_ok-reserve.ensures.items)
 
 pub returns-clause-no_groups : goal.returns-clause-no_groups
 returns-clause-no_groups g c = λ none. (c.in-Err.ensures.no_groups none).0
 
 pub undo_all-requires-in-Err : goal.undo_all-requires-in-Err
-undo_all-requires-in-Err g c = (bins_of c.args.bins.now.entries, c.pack_noted.ensures.back)
+undo_all-requires-in-Err g c = record { out = rw c.as_slice-in-Err.ensures.value (rw c.as_slice.ensures.value at c.pack_noted.ensures.out); back = (bins_of c.args.bins.now.entries, rw c.as_slice-in-Err.ensures.value (rw c.as_slice.ensures.value at c.pack_noted.ensures.back)) }
+
+pub pack_noted-requires-clause-none_taken : goal.pack_noted-requires-clause-none_taken
+pack_noted-requires-clause-none_taken g c = c.new-progress.ensures.taken
+
+pub pack_noted-requires-clause-no_notes : goal.pack_noted-requires-clause-no_notes
+pack_noted-requires-clause-no_notes g c = c.new-progress.ensures.notes
+
+pub keep-requires : goal.keep-requires
+keep-requires g c = rw c.as_slice-in-Ok-true.ensures.value (rw c.as_slice.ensures.value at c.pack_noted.ensures.out)

@@ -1,7 +1,7 @@
 use Rattle.std.proofs.Common.{List, vec_len}
 use Rattle.rectangle_pack.specs.Bins.{Bin}
 use Rattle.rectangle_pack.specs.private.TrialJournal.{GoesBack}
-use Rattle.rectangle_pack.proofs.pack.work.undo_all.Given as goal
+use Rattle.rectangle_pack.proofs.pack.work.undo_trials.Given as goal
 
 abbrev pub invariant-loop-done : goal.invariant-loop-done
 invariant-loop-done g l = record {

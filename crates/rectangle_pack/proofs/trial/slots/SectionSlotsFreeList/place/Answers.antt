@@ -1,0 +1,6 @@
+use Rattle.rectangle_pack.proofs.SlotJournalLemmas.{SlotsLeadBack-noted}
+use Rattle.rectangle_pack.proofs.trial.slots.SectionSlotsFreeList.place.Goals as goal
+
+pub returns-clause-noted : goal.returns-clause-noted
+returns-clause-noted g c = λ notes start back.
+    SlotsLeadBack-noted notes c.place_at.result.1 c.args.self.now.all c.place_at.new.slots.all start c.place_at.ensures.before c.place_at.ensures.can_undo back
