@@ -25,6 +25,8 @@ mod large;
 #[cfg(test)]
 mod laws;
 #[cfg(test)]
+mod long_lists;
+#[cfg(test)]
 mod many;
 #[cfg(test)]
 mod memory;

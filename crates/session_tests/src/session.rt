@@ -4,6 +4,7 @@
 mod calls;
 mod hostile;
 mod large;
+mod long_list;
 mod refusals;
 mod releases;
 mod runs;
