@@ -36,7 +36,7 @@ use Rattle.rectangle_pack_c.specs.declared.RpBox.{RpBox}
 use Rattle.rectangle_pack_c.specs.declared.RpPlacement.{RpPlacement}
 use Rattle.rectangle_pack_c.specs.Arguments.{new_bins, group_order, IsCollected}
 use Rattle.rectangle_pack_c.specs.Answers.{ArePlaced, IsPacked, IsRefused, IsVolume, corner_of, by_volume}
-use Rattle.rectangle_pack_c.specs.private.Written.{AreWritten}
+use Rattle.rectangle_pack_c.specs.private.Written.{AreWritten, as_placement}
 use Rattle.rectangle_pack_c.proofs.OrderLemmas.{group_order_total}
 use Rattle.rectangle_pack_c.proofs.WholeLemmas.{zip_itself, zip_right}
 use Rattle.rectangle_pack_c.proofs.CollectedLemmas.{collected_alike}
@@ -82,9 +82,9 @@ module _ (R : Group ℕ ℕ → Group ℕ ℕ → Ordering) (may : Answers) (bin
         rw after.records (records_once 0 after.placements
         (placed_alone boxes all collected after.placements found.homes found.moved found.are))
 
-    module _ (placements : List RpPlacement) (written : AreWritten new.records placements) where
+    module _ (placements : List RpPlacement) (written : AreWritten as_placement new.records placements) where
       stood : All (λ p. slice_get placements p.id ≡ Some (corner_of p.bin p.location)) after.placements
-      stood = placements_each (λ id q. slice_get placements id ≡ Some q) 0 after.placements (subst (λ rs. AreWritten rs placements) after.records written)
+      stood = placements_each (λ id q. slice_get placements id ≡ Some q) 0 after.placements (subst (λ rs. AreWritten as_placement rs placements) after.records written)
 
       -- where they are written, the boxes are placed
       pub answer_placed : ArePlaced bins boxes placements

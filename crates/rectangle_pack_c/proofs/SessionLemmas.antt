@@ -33,7 +33,7 @@ use Rattle.rectangle_pack_c.specs.declared.session.RpOutstanding.{RpOutstanding}
 use Rattle.rectangle_pack_c.specs.Arguments.{group_order, IsCollected}
 use Rattle.rectangle_pack_c.specs.Answers.{Stands, corner_of, box_at, by_volume}
 use Rattle.rectangle_pack_c.specs.Sessions.{PacksBoxes, IsAt, record_of, AreOutstanding}
-use Rattle.rectangle_pack_c.specs.private.Written.{as_outstanding, AreNumbered}
+use Rattle.rectangle_pack_c.specs.private.Written.{as_outstanding, AreWritten}
 use Rattle.rectangle_pack_c.proofs.WholeLemmas.{none_in, in_cases, in_first, in_later}
 use Rattle.rectangle_pack_c.proofs.PlacedLemmas.{records_each, placements_each, records_once, known_ids, placed_alone, comes_from, stand_together}
 
@@ -154,7 +154,7 @@ module _ (R : Group ℕ ℕ → Group ℕ ℕ → Ordering) (may : Answers) (sam
     pub new_once : AllPairs (λ r s. r.id ≢ s.id) new_records
     new_once = records_once old.next made.placements (placed_alone boxes all collected made.placements made.homes made.groups made.whole)
 
-    module _ (outs : List RpOutstanding) (written : AreNumbered new_records outs) where
+    module _ (outs : List RpOutstanding) (written : AreWritten as_outstanding new_records outs) where
       abbrev placement : RpOutstanding → RpPlacement
       placement o = o.placement
 

@@ -1,10 +1,11 @@
 //! The packer for C: lists of bins and of boxes in, a list of placements out.
 #![tactic(auto)]
 
-ghost use Rattle.std.specs.Prelude.{◌≡◌, ◌<◌, ◌≤◌, ◌↔◌, ◌≢◌, [], IfOk, IsOk, List, length, All, AllPairs};
+ghost use Rattle.std.specs.Prelude.{ℕ, ◌≡◌, ◌<◌, ◌≤◌, ◌↔◌, ◌≢◌, [], IfOk, IsOk, List, length, All, AllPairs};
 ghost use Rattle.rectangle_pack_c.specs.Arguments.{HaveLengths, IsCollected, new_bins};
 ghost use Rattle.rectangle_pack_c.specs.Answers.{ArePlaced, IsPacked, IsRefused};
-ghost use Rattle.rectangle_pack_c.specs.private.Written.{AreWritten, as_placement};
+ghost use Rattle.rectangle_pack_c.specs.private.Written.{AreWritten};
+ghost use Rattle.rectangle_pack.specs.declared.session.command.Outstanding.{Outstanding};
 
 mod handle;
 mod session;
@@ -158,25 +159,36 @@ fn collection_of(
     Ok(rects)
 }
 
-// Writes each record at the index of its box.
-fn write_all(records: &[Outstanding<u32, u32>], placements: &mut [RpPlacement])
-    requires within { All (λ r. r.id < length placements.old) records.now }
-    requires once { AllPairs (λ r s. r.id ≢ s.id) records.now }
-    ensures { AreWritten records.now placements.new }
-{
-    for record in records {
-        placements[record.id as usize] = placement_of(record);
+// What is written of an outstanding placement.
+pub(crate) trait Written: Copy {
+    ghost written: { Outstanding ℕ ℕ → Self };
+
+    fn of(outstanding: &Outstanding<u32, u32>) -> Self
+        ensures { result ≡ written outstanding.now };
+}
+
+impl Written for RpPlacement {
+    ghost use Rattle.rectangle_pack_c.specs.private.Written.{as_placement};
+
+    ghost written = { as_placement };
+
+    fn of(outstanding: &Outstanding<u32, u32>) -> Self {
+        RpPlacement {
+            bin: outstanding.bin,
+            x: outstanding.location.x(),
+            y: outstanding.location.y(),
+            z: outstanding.location.z(),
+        }
     }
 }
 
-// Where a box stands, by its record.
-fn placement_of(outstanding: &Outstanding<u32, u32>) -> RpPlacement
-    ensures { result ≡ as_placement outstanding.now }
+// Writes each outstanding placement at the index of its box.
+fn write_all<T: Written>(outstanding: &[Outstanding<u32, u32>], placements: &mut [T])
+    requires within { All (λ o. o.id < length placements.old) outstanding.now }
+    requires once { AllPairs (λ o p. o.id ≢ p.id) outstanding.now }
+    ensures { AreWritten T.written outstanding.now placements.new }
 {
-    RpPlacement {
-        bin: outstanding.bin,
-        x: outstanding.location.x(),
-        y: outstanding.location.y(),
-        z: outstanding.location.z(),
+    for placement in outstanding {
+        placements[placement.id as usize] = T::of(placement);
     }
 }

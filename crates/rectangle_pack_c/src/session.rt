@@ -9,13 +9,13 @@ ghost use Rattle.rectangle_pack.specs.Joining.{IsSwept, ShareNoFace};
 ghost use Rattle.rectangle_pack.specs.Session.{State, IsSession, AddsBin, Releases, Coalesces, reply_of, packed_reply};
 ghost use Rattle.rectangle_pack.specs.declared.session.command.Reply.TheVariants.{Refused};
 ghost use Rattle.rectangle_pack_c.specs.Sessions.{Answers, AreAsMany, PacksBoxes, AreOutstanding, ArePackedNow, TellsStats, status_of, volume};
-ghost use Rattle.rectangle_pack_c.specs.private.Written.{AreNumbered};
 
 use super::handle::RpSession;
 use super::{
     LIMIT, RP_BAD_LENGTHS, RP_DONE, RP_DUPLICATE_BIN, RP_NOT_ENOUGH_SPACE, RP_NUMBERS_USED_UP,
     RP_OUT_OF_MEMORY, RP_UNKNOWN_BIN, RP_UNKNOWN_PLACEMENT, RpBox, RpPlacement, collection_of,
-    placement_of,
+    Written,
+    write_all,
 };
 use rectangle_pack::{
     Outstanding, Packed, Session, SessionError, contains_smallest_box, volume_heuristic,
@@ -197,21 +197,20 @@ fn pack_into(
     let known = session.outstanding().len();
     let rects = collection_of(alloc, boxes)?;
     let packed = session.pack(&rects, &volume_heuristic, &contains_smallest_box)?;
-    number_all(&session.outstanding()[known..], placements);
+    write_all(&session.outstanding()[known..], placements);
     Ok(packed)
 }
 
-// Writes each record, with its number, at the index of its box.
-fn number_all(records: &[Outstanding<u32, u32>], placements: &mut [RpOutstanding])
-    requires within { All (λ r. r.id < length placements.old) records.now }
-    requires once { AllPairs (λ r s. r.id ≢ s.id) records.now }
-    ensures { AreNumbered records.now placements.new }
-{
-    for record in records {
-        placements[record.id as usize] = RpOutstanding {
-            number: record.number,
-            placement: placement_of(record),
-        };
+impl Written for RpOutstanding {
+    ghost use Rattle.rectangle_pack_c.specs.private.Written.{as_outstanding};
+
+    ghost written = { as_outstanding };
+
+    fn of(outstanding: &Outstanding<u32, u32>) -> Self {
+        RpOutstanding {
+            number: outstanding.number,
+            placement: RpPlacement::of(outstanding),
+        }
     }
 }
 

@@ -1,22 +1,18 @@
--- What is written of a packing's records.
+-- What is written of the placements of a packing.
 use Rattle.std.specs.Prelude.{◌≡◌, ℕ, List, All, Some, slice_get}
 use Rattle.rectangle_pack.specs.declared.session.command.Outstanding.{Outstanding}
 use Rattle.rectangle_pack_c.specs.declared.RpPlacement.{RpPlacement}
 use Rattle.rectangle_pack_c.specs.declared.session.RpOutstanding.{RpOutstanding}
 use Rattle.rectangle_pack_c.specs.Answers.{corner_of}
 
--- a record as a placement
+-- an outstanding placement as a placement
 abbrev pub as_placement : Outstanding ℕ ℕ → RpPlacement
-as_placement r = corner_of r.bin r.location
+as_placement o = corner_of o.bin o.location
 
--- each record stands at the index of its box
-abbrev pub AreWritten : List (Outstanding ℕ ℕ) → List RpPlacement → Type 0
-AreWritten records placements = All (λ r. slice_get placements r.id ≡ Some (as_placement r)) records
-
--- a record as a placement with its number
+-- an outstanding placement with its number
 abbrev pub as_outstanding : Outstanding ℕ ℕ → RpOutstanding
-as_outstanding r = record { number = r.number; placement = as_placement r }
+as_outstanding o = record { number = o.number; placement = as_placement o }
 
--- each record stands with its number at the index of its box
-abbrev pub AreNumbered : List (Outstanding ℕ ℕ) → List RpOutstanding → Type 0
-AreNumbered records placements = All (λ r. slice_get placements r.id ≡ Some (as_outstanding r)) records
+-- each outstanding placement is written at the index of its box
+abbrev pub AreWritten : {X : Type 0} → (Outstanding ℕ ℕ → X) → List (Outstanding ℕ ℕ) → List X → Type 0
+AreWritten written outstanding entries = All (λ o. slice_get entries o.id ≡ Some (written o)) outstanding

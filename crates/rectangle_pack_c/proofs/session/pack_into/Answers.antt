@@ -15,16 +15,16 @@ returns-in_err-packed-clause-packed c =
     (record { rate = λ size rate says. (says.small, says.says.1); prefer = λ first second r says. smallest_includes (λ size rate. Size × (rate ≡ volume_of size)) (λ size rate rates. rates.1) first second r says.first_three.small says.second_three.small says.says.2 })
     c.args.boxes.now all.ensures.collected c.in_err-packed.field-0.0 c.in_err-packed.ensures.packed)
 
-pub number_all-requires-clause-within : goal.number_all-requires-clause-within
-number_all-requires-clause-within c =
+pub write_all-requires-clause-within : goal.write_all-requires-clause-within
+write_all-requires-clause-within c =
     let all = c.in_ok-rects in
     let same = same_order _ (λ a b. refl) (λ a b. refl) (λ a b. refl) (λ a b. refl) in
     let are = records_are _ _ same all.rects c.args.session.now c.pack.new.self c.args.boxes.now all.ensures.collected c.in_ok-packed.ensures.promise in
     rw (c.outstanding-known.ensures.records, new_part _ _ _ (c.outstanding.ensures.records ∙ are), c.requires.lengths.same)
     (new_ids _ _ same all.rects c.args.session.now c.pack.new.self c.args.boxes.now all.ensures.collected c.in_ok-packed.ensures.promise)
 
-pub number_all-requires-clause-once : goal.number_all-requires-clause-once
-number_all-requires-clause-once c =
+pub write_all-requires-clause-once : goal.write_all-requires-clause-once
+write_all-requires-clause-once c =
     let all = c.in_ok-rects in
     let same = same_order _ (λ a b. refl) (λ a b. refl) (λ a b. refl) (λ a b. refl) in
     let are = records_are _ _ same all.rects c.args.session.now c.pack.new.self c.args.boxes.now all.ensures.collected c.in_ok-packed.ensures.promise in
@@ -43,6 +43,6 @@ returns-clause-done c =
     let all = c.in_ok-rects in
     let same = same_order _ (λ a b. refl) (λ a b. refl) (λ a b. refl) (λ a b. refl) in
     let are = records_are _ _ same all.rects c.args.session.now c.pack.new.self c.args.boxes.now all.ensures.collected c.in_ok-packed.ensures.promise in
-    are_outstanding _ _ same all.rects c.args.session.now c.pack.new.self c.args.boxes.now all.ensures.collected c.in_ok-packed.ensures.promise c.number_all.new.placements
-    (rw (c.outstanding-known.ensures.records, new_part _ _ _ (c.outstanding.ensures.records ∙ are)) at c.number_all.ensures)
-    (c.number_all.auto.placements ∙ c.requires.lengths.same)
+    are_outstanding _ _ same all.rects c.args.session.now c.pack.new.self c.args.boxes.now all.ensures.collected c.in_ok-packed.ensures.promise c.write_all.new.placements
+    (rw (c.outstanding-known.ensures.records, new_part _ _ _ (c.outstanding.ensures.records ∙ are)) at c.write_all.ensures)
+    (c.write_all.auto.placements ∙ c.requires.lengths.same)
