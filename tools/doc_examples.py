@@ -6,12 +6,13 @@ import pathlib
 import sys
 
 TOP = pathlib.Path(__file__).resolve().parent.parent
-TESTS = TOP / "crates/rectangle_pack_tests/src/example.rt"
+# The examples in Rattle, of the README and of the library, in the crates of its tests.
+TESTS = sorted(TOP.glob("crates/tests_of_*/src/examples.rt"))
 # The README's blocks in other languages, by the fence that opens them, and the tests that have them.
 BINDINGS = {
-    "```c": TOP / "bindings/c/harness.c",
-    "```rust,ignore": TOP / "bindings/rust/src/lib.rs",
-    "```python": TOP / "bindings/python/test_rectangle_pack.py",
+    "```c": [TOP / "bindings/c/harness.c"],
+    "```rust,ignore": [TOP / "bindings/rust/src/lib.rs"],
+    "```python": [TOP / "bindings/python/test_rectangle_pack.py"],
 }
 
 
@@ -60,10 +61,11 @@ def main():
         found += [(path, TESTS, at, b) for at, b in blocks(doc_lines(path), ["```", "```rust"])]
     for fence, tests in BINDINGS.items():
         found += [(readme, tests, at, b) for at, b in blocks(enumerate(readme.read_text().splitlines(), 1), [fence])]
-    lines = {tests: lines_of(tests) for tests in {TESTS, *BINDINGS.values()}}
-    missing = [(path, tests, at) for path, tests, at, block in found if not stands_in(block, lines[tests])]
-    for path, tests, at in missing:
-        print(f"{path.relative_to(TOP)}:{at}: this example is not in {tests.relative_to(TOP)}", file=sys.stderr)
+    lines = {file: lines_of(file) for tests in [TESTS, *BINDINGS.values()] for file in tests}
+    missing = [it for it in found if not any(stands_in(it[3], lines[file]) for file in it[1])]
+    for path, tests, at, _ in missing:
+        names = " or ".join(str(file.relative_to(TOP)) for file in tests)
+        print(f"{path.relative_to(TOP)}:{at}: this example is not in {names}", file=sys.stderr)
     if not found:
         sys.exit("doc_examples.py: there is no example")
     sys.exit(1 if missing else 0)

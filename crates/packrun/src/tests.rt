@@ -1,13 +1,11 @@
-//! Whole runs over memory, and the library that they rest on.
+//! Whole runs over memory, by the module that each shows: how lines are read (`command`), what the
+//! commands do (`store`), statuses (`outcome`), and runs in which reads, writes and requests for
+//! memory fail, or whose lines are drawn by chance (`run`).
 
-mod bytes;
-mod counting;
-mod exclusions;
-mod failures;
-mod generator;
-mod packings;
-mod reading;
-mod stats;
+mod command;
+mod outcome;
+mod run;
+mod store;
 
 use crate::outcome::Outcome;
 use crate::run::run_lines;
@@ -111,19 +109,5 @@ fn says(rt: &impl Abort, alloc: Global, input: &[u8], output: &str, outcome: Out
 fn all_say(rt: &impl Abort, alloc: Global, texts: &[Text]) {
     for (input, output, outcome) in texts {
         says(rt, alloc, input.as_bytes(), output, *outcome);
-    }
-}
-
-const STATUSES: [(Outcome, u8); 4] = [
-    (Outcome::Done, 0),
-    (Outcome::IoFailed, 1),
-    (Outcome::BadLine(7), 2),
-    (Outcome::NoMemory, 3),
-];
-
-#[test]
-fn statuses(rt: HostRuntime) {
-    for (outcome, status) in &STATUSES {
-        assert_eq!(rt; outcome.status(), *status);
     }
 }

@@ -1,0 +1,152 @@
+//! The examples of the README and of the library's documentation, but those of sessions.
+
+use rectangle_pack::{
+    BinSection, FitTests, Group, GroupedRectsToPlace, Placement, RectToInsert, TargetBin,
+    WidthHeightDepth, contains_smallest_box, pack_rects, volume_heuristic,
+    volume_packing_has_one_result,
+};
+use std::collections::BTreeMap;
+use std::test::Fail;
+
+#[test]
+fn readme(rt: HostRuntime) -> Result<(), Fail> {
+    let alloc = rt.alloc();
+    let mut rects: GroupedRectsToPlace<&'static str, &'static str> = GroupedRectsToPlace::new(
+        alloc,
+    );
+    let sprites = vec![in alloc; "sprites"]?;
+    rects.push_rect("hat", Some(sprites), RectToInsert::new(10, 20, 255))?;
+    let sprites = vec![in alloc; "sprites"]?;
+    rects.push_rect("shoe", Some(sprites), RectToInsert::new(5, 50, 255))?;
+    rects.push_rect("tree", None, RectToInsert::new(30, 30, 255))?;
+
+    let mut bins = BTreeMap::new(alloc);
+    bins.insert("atlas", TargetBin::new(alloc, 2048, 2048, 255)?)?;
+
+    let packed = pack_rects(
+        alloc,
+        &rects,
+        &mut bins,
+        &volume_heuristic,
+        &contains_smallest_box,
+    );
+    for Placement { id, bin, location } in packed.ok().ok_or("refused")?.placements() {
+        let (x, y, z) = (location.x(), location.y(), location.z());
+        println!(rt; "{id} in {bin} at {x} {y} {z}")?;
+    }
+    Ok(())
+}
+
+#[test]
+fn pack_rects_places_boxes(rt: HostRuntime) -> Result<(), Fail> {
+    let alloc = rt.alloc();
+    let mut rects: GroupedRectsToPlace<u32, u32> = GroupedRectsToPlace::new(alloc);
+    rects.push_rect(7, None, RectToInsert::new(2, 3, 1))?;
+    rects.push_rect(8, None, RectToInsert::new(4, 4, 1))?;
+    let mut bins = BTreeMap::new(alloc);
+    bins.insert(1u32, TargetBin::new(alloc, 10, 10, 1)?)?;
+    let packed = pack_rects(
+        alloc,
+        &rects,
+        &mut bins,
+        &volume_heuristic,
+        &contains_smallest_box,
+    )?;
+    // The larger box goes first, and the other one beside it.
+    let ids = packed.placements().iter().map(|placed| placed.id);
+    assert!(rt; ids.eq([8, 7]));
+    let (bin, location) = packed.packed_locations().get(&7).ok_or("not placed")?;
+    assert_eq!(rt; *bin, 1);
+    assert_eq!(rt; (location.x(), location.y(), location.z()), (4, 0, 0));
+    Ok(())
+}
+
+#[test]
+fn push_rect_puts_a_box_into_groups(rt: HostRuntime) -> Result<(), Fail> {
+    let alloc = rt.alloc();
+    let mut rects: GroupedRectsToPlace<u32, &'static str> = GroupedRectsToPlace::new(alloc);
+    let groups = vec![in alloc; "menu", "game"]?;
+    rects.push_rect(7, Some(groups), RectToInsert::new(10, 20, 1))?;
+    let groups = vec![in alloc; "game"]?;
+    rects.push_rect(8, Some(groups), RectToInsert::new(5, 50, 1))?;
+    rects.push_rect(9, None, RectToInsert::new(30, 30, 1))?;
+    // Box 9 alone, and the boxes of the two groups.
+    assert_eq!(rt; rects.groups().len(), 3);
+    let game = rects
+        .groups()
+        .get(&Group::Grouped("game"))
+        .ok_or("no such group")?;
+    assert_eq!(rt; game.as_slice(), [7, 8].as_slice());
+    Ok(())
+}
+
+#[test]
+fn push_available_bin_section_gives_a_box_back(rt: HostRuntime) -> Result<(), Fail> {
+    let alloc = rt.alloc();
+    let mut bin = TargetBin::new(alloc, 10, 10, 1)?;
+    let members = [RectToInsert::new(4, 10, 1)];
+    let mut tests = FitTests::new();
+    let placed = bin.place_all(
+        &members,
+        &volume_heuristic,
+        &contains_smallest_box,
+        &mut tests,
+    )?;
+    assert!(rt; placed.is_some());
+    // The box stands at (0, 0, 0). Its cells are free again once they are given back.
+    let given = BinSection::new(0, 0, 0, WidthHeightDepth::new(4, 10, 1));
+    bin.push_available_bin_section(given)?;
+    let rest = BinSection::new(4, 0, 0, WidthHeightDepth::new(6, 10, 1));
+    assert_eq!(rt;
+        bin.available_bin_sections().as_slice(),
+        [rest, given].as_slice()
+    );
+    Ok(())
+}
+
+#[test]
+fn coalesce_all_joins_two_halves(rt: HostRuntime) -> Result<(), Fail> {
+    let alloc = rt.alloc();
+    let mut bin = TargetBin::new(alloc, 10, 10, 1)?;
+    bin.remove_filled_section(0);
+    let left = BinSection::new(0, 0, 0, WidthHeightDepth::new(4, 10, 1));
+    let right = BinSection::new(4, 0, 0, WidthHeightDepth::new(6, 10, 1));
+    bin.push_available_bin_section(left)?;
+    bin.push_available_bin_section(right)?;
+    bin.coalesce_all();
+    let whole = BinSection::new(0, 0, 0, WidthHeightDepth::new(10, 10, 1));
+    assert_eq!(rt; bin.available_bin_sections().as_slice(), [whole].as_slice());
+    Ok(())
+}
+
+#[test]
+fn try_place_cuts_a_section(rt: HostRuntime) -> Result<(), Fail> {
+    let section = BinSection::new(0, 0, 0, WidthHeightDepth::new(100, 100, 1));
+    let rect = RectToInsert::new(50, 90, 1);
+    let (location, [right, above, behind]) = section.try_place(
+        &rect,
+        &contains_smallest_box,
+        &volume_heuristic,
+    )?;
+    assert_eq!(rt; (location.x(), location.y(), location.z()), (0, 0, 0));
+    assert_eq!(rt;
+        right,
+        BinSection::new(50, 0, 0, WidthHeightDepth::new(50, 100, 1))
+    );
+    assert_eq!(rt;
+        above,
+        BinSection::new(0, 90, 0, WidthHeightDepth::new(50, 10, 1))
+    );
+    assert_eq!(rt; behind.whd().volume(), 0);
+    Ok(())
+}
+
+#[test]
+fn the_law_takes_the_two_functions() {
+    volume_packing_has_one_result::<u32, u32, u32, _, _, _, _>(
+        &volume_heuristic,
+        &contains_smallest_box,
+        &volume_heuristic,
+        &contains_smallest_box,
+    );
+}

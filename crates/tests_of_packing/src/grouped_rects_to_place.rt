@@ -1,0 +1,277 @@
+//! Collections: boxes and the groups that they are pushed into, and groups that are excluded.
+
+mod memory;
+
+use rectangle_pack::{Group, GroupedRectsToPlace, RectToInsert};
+use std::alloc::{AllocError, Global};
+use std::test::Fail;
+use tests_support::boxes::{GroupName, Rects, SizedBox, exclude_all, push_boxes};
+use tests_support::refusing::Refusing;
+use tests_support::shapes::named;
+
+const SIZE: [u32; 3] = [10, 10, 1];
+
+// A box: id and size.
+type Sized = (u32, [u32; 3]);
+
+// Pushes, and what they give.
+struct Pushes {
+    pushes: &'static [SizedBox],
+    // The groups in order, with their ids.
+    groups: &'static [(GroupName, &'static [u32])],
+    // The boxes in order.
+    boxes: &'static [Sized],
+}
+
+const PUSHES: &[Pushes] = &[
+    Pushes {
+        pushes: &[(1, SIZE, &[])],
+        groups: &[(Group::Ungrouped(1), &[1])],
+        boxes: &[(1, SIZE)],
+    },
+    Pushes {
+        pushes: &[(1, SIZE, &[0]), (2, SIZE, &[0])],
+        groups: &[(Group::Grouped(0), &[1, 2])],
+        boxes: &[(1, SIZE), (2, SIZE)],
+    },
+    Pushes {
+        pushes: &[(7, SIZE, &[0, 1])],
+        groups: &[(Group::Grouped(0), &[7]), (Group::Grouped(1), &[7])],
+        boxes: &[(7, SIZE)],
+    },
+    Pushes {
+        pushes: &[(1, SIZE, &[0, 0])],
+        groups: &[(Group::Grouped(0), &[1, 1])],
+        boxes: &[(1, SIZE)],
+    },
+    // At a second push the size is the last one, and the box stays where it was before.
+    Pushes {
+        pushes: &[(1, SIZE, &[]), (1, [3, 4, 5], &[0])],
+        groups: &[(Group::Ungrouped(1), &[1]), (Group::Grouped(0), &[1])],
+        boxes: &[(1, [3, 4, 5])],
+    },
+];
+
+// Whether the groups are these, in order, with these ids.
+fn has_groups(all: &GroupedRectsToPlace<u32, u32>, wanted: &[(GroupName, &[u32])]) -> bool {
+    for ((group, ids), (name, members)) in all.groups().iter().zip(wanted.iter()) {
+        if group != name || ids.as_slice() != *members {
+            return false;
+        }
+    }
+    all.groups().len() == wanted.len()
+}
+
+// Whether the boxes are these, in order, with these sizes.
+fn has_boxes(all: &GroupedRectsToPlace<u32, u32>, wanted: &[Sized]) -> bool {
+    for ((id, rect), (name, size)) in all.rects().iter().zip(wanted.iter()) {
+        if id != name || [rect.width(), rect.height(), rect.depth()] != *size {
+            return false;
+        }
+    }
+    all.rects().len() == wanted.len()
+}
+
+// Whether the pushes give these groups and boxes.
+fn gives(alloc: Global, row: &Pushes) -> bool {
+    let mut all = GroupedRectsToPlace::new(alloc);
+    push_boxes(alloc, &mut all, row.pushes).is_ok()
+        && has_groups(&all, row.groups)
+        && has_boxes(&all, row.boxes)
+}
+
+#[test]
+fn pushes_into_groups(rt: HostRuntime) {
+    for row in PUSHES {
+        assert!(rt; gives(rt.alloc(), row), "{:?}", row.groups);
+    }
+}
+
+// Whether these are all boxes, in this one group, in order and each of the size of the pushes.
+fn are_in_one_group<T: Ord + Clone + Drop>(
+    all: &GroupedRectsToPlace<T, T>,
+    group: &Group<T, T>,
+    ids: &[T],
+) -> bool {
+    for ((id, rect), wanted) in all.rects().iter().zip(ids.iter()) {
+        if id != wanted || [rect.width(), rect.height(), rect.depth()] != SIZE {
+            return false;
+        }
+    }
+    match all.groups().get(group) {
+        Some(members) if members.as_slice() == ids => {
+            all.groups().len() == 1 && all.rects().len() == ids.len()
+        }
+        _ => false,
+    }
+}
+
+// Two boxes in one group.
+fn push_texts(
+    alloc: Global,
+    all: &mut GroupedRectsToPlace<&'static str, &'static str>,
+) -> Result<(), AllocError> {
+    for id in ["One", "Two"] {
+        all.push_rect(
+            id,
+            Some(vec![in alloc; "group"]?),
+            RectToInsert::new(10, 10, 1),
+        )?;
+    }
+    Ok(())
+}
+
+#[test]
+fn texts_as_ids(rt: HostRuntime) {
+    let mut all = GroupedRectsToPlace::new(rt.alloc());
+    assert!(rt; push_texts(rt.alloc(), &mut all).is_ok());
+    assert!(rt; are_in_one_group(&all, &Group::Grouped("group"), &["One", "Two"]));
+}
+
+// Two boxes in one group, each name a string of its own.
+fn push_strings(
+    alloc: Global,
+    all: &mut GroupedRectsToPlace<String, String>,
+) -> Result<(), AllocError> {
+    for id in ["One", "Two"] {
+        let groups = vec![in alloc; String::from_str(alloc, "group")?]?;
+        let id = String::from_str(alloc, id)?;
+        all.push_rect(id, Some(groups), RectToInsert::new(10, 10, 1))?;
+    }
+    Ok(())
+}
+
+// Whether these are in the group, under equal strings that lie elsewhere.
+fn holds_strings(
+    alloc: Global,
+    all: &GroupedRectsToPlace<String, String>,
+) -> Result<bool, AllocError> {
+    let ids = [
+        String::from_str(alloc, "One")?,
+        String::from_str(alloc, "Two")?,
+    ];
+    let group = Group::Grouped(String::from_str(alloc, "group")?);
+    Ok(are_in_one_group(all, &group, &ids))
+}
+
+#[test]
+fn strings_as_ids(rt: HostRuntime) {
+    let mut all = GroupedRectsToPlace::new(rt.alloc());
+    assert!(rt; push_strings(rt.alloc(), &mut all).is_ok());
+    assert!(rt; matches!(holds_strings(rt.alloc(), &all), Ok(true)));
+}
+
+#[derive(Clone, Copy, PartialEq, Eq, PartialOrd, Ord, Drop)]
+enum Side {
+    Front,
+    Back,
+}
+
+#[test]
+fn names_as_ids(rt: HostRuntime) -> Result<(), Fail> {
+    let alloc = rt.alloc();
+    let mut all = GroupedRectsToPlace::new(alloc);
+    for id in [Side::Front, Side::Back] {
+        all.push_rect(
+            id,
+            Some(vec![in alloc; Side::Back]?),
+            RectToInsert::new(10, 10, 1),
+        )?;
+    }
+    let ids = [Side::Front, Side::Back];
+    assert!(rt; are_in_one_group(&all, &Group::Grouped(Side::Back), &ids));
+    Ok(())
+}
+
+// Whether each group has one member, and no more room than for a few.
+fn have_little_room(all: &GroupedRectsToPlace<u32, u32>) -> bool {
+    for members in all.groups().values() {
+        if members.len() != 1 || members.capacity() > 8 {
+            return false;
+        }
+    }
+    true
+}
+
+// A push into 200 groups with one member each leaves no list with room for more than a few.
+#[test]
+fn room_grows_as_the_groups_named(rt: HostRuntime) -> Result<(), Fail> {
+    let alloc = rt.alloc();
+    let named: Vec<u32> = (0..200).collect(alloc)?;
+    let named = if named.is_empty() { None } else { Some(named) };
+    let mut all = GroupedRectsToPlace::new(alloc);
+    all.push_rect(1, named, RectToInsert::new(1, 1, 1))?;
+    assert_eq!(rt; all.groups().len(), 200);
+    assert!(rt; have_little_room(&all), "{all:?}");
+    Ok(())
+}
+
+// Each box is in one of four groups, and all are in group 4.
+fn push_into_five(
+    alloc: Global,
+    rects: &mut GroupedRectsToPlace<u32, u32>,
+) -> Result<(), AllocError> {
+    for id in 0..200u32 {
+        let groups = named(alloc, &[id % 4, 4])?;
+        rects.push_rect(id, groups, RectToInsert::new(1, 1, 1))?;
+    }
+    Ok(())
+}
+
+// Whether the group has so many members.
+fn has_members(rects: &GroupedRectsToPlace<u32, u32>, group: u32, count: usize) -> bool {
+    match rects.groups().get(&Group::Grouped(group)) {
+        Some(members) => members.len() == count,
+        None => false,
+    }
+}
+
+#[test]
+fn two_hundred_boxes_in_groups(rt: HostRuntime) -> Result<(), Fail> {
+    let mut rects = GroupedRectsToPlace::new(rt.alloc());
+    push_into_five(rt.alloc(), &mut rects)?;
+    assert!(rt; (0..4).all(|group| has_members(&rects, group, 50)));
+    assert!(rt; has_members(&rects, 4, 200));
+    assert_eq!(rt; (rects.groups().len(), rects.rects().len()), (5, 200));
+    Ok(())
+}
+
+const A: GroupName = Group::Grouped(1);
+
+const B: GroupName = Group::Grouped(2);
+
+const C: GroupName = Group::Grouped(3);
+
+// The box of this id alone, which is no group of this name.
+const ALONE: GroupName = Group::Ungrouped(1);
+
+const EXCLUDED: &[(GroupName, GroupName)] = &[(A, B), (B, A), (A, B), (ALONE, C)];
+
+// Whether two groups are excluded, once these are.
+const PAIRS: &[(GroupName, GroupName, bool)] = &[
+    (A, B, true),
+    (B, A, true),
+    (ALONE, C, true),
+    (C, ALONE, true),
+    (A, C, false),
+    (ALONE, B, false),
+    (A, A, false),
+];
+
+fn has_pairs(rects: &Rects<'_>) -> bool {
+    for (one, other, wanted) in PAIRS {
+        if rects.excluded(one, other) != *wanted {
+            return false;
+        }
+    }
+    true
+}
+
+#[test]
+fn pairs(rt: HostRuntime) {
+    let refusing = Refusing::new(rt.alloc(), u64::MAX);
+    let mut rects = GroupedRectsToPlace::new(&refusing);
+    assert!(rt; exclude_all(&mut rects, EXCLUDED).is_ok());
+    assert!(rt; has_pairs(&rects));
+    assert!(rt; rects.groups().is_empty());
+}

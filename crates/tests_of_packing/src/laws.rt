@@ -1,0 +1,52 @@
+//! The laws that speak of any ids and closures, at ids and closures of a user.
+
+use rectangle_pack::{
+    contains_smallest_box, equal_pushes_leave_equal_collections, excluded_groups_are_apart,
+    groups_are_ordered, groups_are_placed_whole, locations_follow_placements,
+    packing_has_one_result, packing_keeps_cells, packing_without_exclusions, preorders_decide,
+    refused_box_is_held_nowhere, smallest_box_is_preorder, step_adds_at_most_two,
+    trial_keeps_cells, trial_tests_are_bounded, volume_heuristic, volume_packing_has_one_result,
+};
+
+#[test]
+fn of_ids() {
+    groups_are_ordered::<&'static str, u32>();
+    equal_pushes_leave_equal_collections::<u32, &'static str>();
+    locations_follow_placements::<u32, &'static str>();
+}
+
+#[test]
+fn of_trials() {
+    step_adds_at_most_two(&volume_heuristic, &contains_smallest_box);
+    trial_keeps_cells(&volume_heuristic, &contains_smallest_box);
+    trial_tests_are_bounded(&volume_heuristic, &contains_smallest_box);
+}
+
+#[test]
+fn of_packings() {
+    packing_keeps_cells::<u32, u32, u32, _, _>(&volume_heuristic, &contains_smallest_box);
+    refused_box_is_held_nowhere::<u32, u32, u32, _, _>(&volume_heuristic, &contains_smallest_box);
+    packing_without_exclusions::<u32, u32, u32, _, _>(&volume_heuristic, &contains_smallest_box);
+    groups_are_placed_whole::<u32, u32, u32, _, _>(&volume_heuristic, &contains_smallest_box);
+    excluded_groups_are_apart::<u32, u32, u32, _, _>(&volume_heuristic, &contains_smallest_box);
+}
+
+// These closures meet the conditions: volumes are one answer on each size, and so the comparison by
+// smallest boxes is a total preorder.
+#[test]
+fn of_one_result() {
+    smallest_box_is_preorder(&volume_heuristic, &contains_smallest_box);
+    preorders_decide(&volume_heuristic, &contains_smallest_box);
+    packing_has_one_result::<u32, u32, u32, _, _, _, _>(
+        &volume_heuristic,
+        &contains_smallest_box,
+        &volume_heuristic,
+        &contains_smallest_box,
+    );
+    volume_packing_has_one_result::<u32, u32, u32, _, _, _, _>(
+        &volume_heuristic,
+        &contains_smallest_box,
+        &volume_heuristic,
+        &contains_smallest_box,
+    );
+}

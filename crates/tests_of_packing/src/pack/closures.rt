@@ -1,0 +1,223 @@
+//! Heuristics and comparisons of users.
+ghost use Rattle.rectangle_pack.specs.Closures.{CanRate};
+
+use super::{Case, TWO_IN_A_GROUP, packs};
+use rectangle_pack::{
+    WidthHeightDepth, contains_smallest_box, volume_heuristic, volume_packing_has_one_result,
+};
+use std::alloc::Global;
+use std::cmp::Ordering;
+use std::process::Abort;
+use tests_support::each_request::End;
+use tests_support::refusing::Refusing;
+
+// By the longest side the long box goes first; by volume the square would.
+const LONG_BEFORE_SQUARE: Case = Case {
+    bins: &[(0, [10, 10, 1], &[[4, 1, 0, 6, 9, 1], [0, 5, 0, 4, 5, 1]])],
+    boxes: &[(1, [4, 4, 1], &[]), (2, [10, 1, 1], &[])],
+    excluded: &[],
+    placements: Some(&[(2, 0, [0, 0, 0, 10, 1, 1]), (1, 0, [0, 1, 0, 4, 4, 1])]),
+};
+
+// By volumes up to 20 the boxes are worth the same and go by id; by volume 2 would go first.
+const EQUAL_ABOVE_20: Case = Case {
+    bins: &[(0, [12, 6, 1], &[[0, 5, 0, 5, 1, 1], [11, 0, 0, 1, 6, 1]])],
+    boxes: &[(2, [6, 6, 1], &[]), (1, [5, 5, 1], &[])],
+    excluded: &[],
+    placements: Some(&[(1, 0, [0, 0, 0, 5, 5, 1]), (2, 0, [5, 0, 0, 6, 6, 1])]),
+};
+
+/// Where every key is the greatest number, the group's sum stays there, and boxes alone go first.
+pub const EQUAL_KEYS: Case = Case {
+    bins: &[(0, [8, 8, 1], &[[2, 0, 0, 6, 2, 1], [0, 6, 0, 8, 2, 1]])],
+    boxes: &[
+        (3, [2, 2, 1], &[]),
+        (1, [4, 4, 1], &[0]),
+        (2, [4, 4, 1], &[0]),
+    ],
+    excluded: &[],
+    placements: Some(&[
+        (3, 0, [0, 0, 0, 2, 2, 1]),
+        (1, 0, [0, 2, 0, 4, 4, 1]),
+        (2, 0, [4, 2, 0, 4, 4, 1]),
+    ]),
+};
+
+// All cuts are equal, so the last is taken, and its pieces stay in their order.
+const RATED_AS_NOTHING: Case = Case {
+    bins: &[(0, [8, 8, 1], &[[4, 0, 0, 4, 4, 1], [0, 4, 0, 8, 4, 1]])],
+    boxes: &[(1, [4, 4, 1], &[])],
+    excluded: &[],
+    placements: Some(&[(1, 0, [0, 0, 0, 4, 4, 1])]),
+};
+
+/// Where the first cut is always better, it is the one that is taken.
+pub const FIRST_CUTS: Case = Case {
+    bins: &[(
+        0,
+        [4, 4, 4],
+        &[
+            [2, 0, 0, 2, 4, 4],
+            [0, 2, 0, 2, 2, 4],
+            [1, 0, 2, 1, 2, 2],
+            [0, 1, 2, 1, 1, 2],
+            [0, 0, 3, 1, 1, 1],
+        ],
+    )],
+    boxes: &[(1, [2, 2, 2], &[]), (2, [1, 1, 1], &[])],
+    excluded: &[],
+    placements: Some(&[(1, 0, [0, 0, 0, 2, 2, 2]), (2, 0, [0, 0, 2, 1, 1, 1])]),
+};
+
+/// Packs the case where a size is rated at its volume, but at least and at most so much.
+pub fn packs_between(
+    rt: &impl Abort,
+    alloc: &Refusing<Global>,
+    case: &Case,
+    least: u128,
+    most: u128,
+) -> End {
+    let heuristic = move |size: WidthHeightDepth| size.volume().max(least).min(most);
+    packs(rt, alloc, case, &heuristic, &contains_smallest_box)
+}
+
+const BETWEEN: &[(u128, u128, Case)] = &[
+    (0, 20, EQUAL_ABOVE_20),
+    (u128::MAX, u128::MAX, EQUAL_KEYS),
+    (0, 0, RATED_AS_NOTHING),
+];
+
+#[test]
+fn heuristic_that_captures(rt: HostRuntime) {
+    let refusing = Refusing::new(rt.alloc(), u64::MAX);
+    for (least, most, case) in BETWEEN {
+        let end = packs_between(&rt, &refusing, case, *least, *most);
+        assert!(rt; end == End::Done);
+    }
+}
+
+// Packs the case by a heuristic that is callable on every size.
+fn packs_by<H>(rt: &impl Abort, alloc: &Refusing<Global>, case: &Case, heuristic: &H) -> End
+where
+    H: Fn(WidthHeightDepth) -> u128,
+    requires { H.IsAlwaysCallable heuristic.now }
+{
+    packs(rt, alloc, case, heuristic, &contains_smallest_box)
+}
+
+#[test]
+fn heuristic_that_borrows(rt: HostRuntime) {
+    let refusing = Refusing::new(rt.alloc(), u64::MAX);
+    let most = 20u128;
+    let heuristic = |size: WidthHeightDepth| size.volume().min(most);
+    let end = packs_by(&rt, &refusing, &EQUAL_ABOVE_20, &heuristic);
+    assert!(rt; end == End::Done);
+}
+
+fn longest_side(size: WidthHeightDepth) -> u128 {
+    u128::from(size.width().max(size.height()).max(size.depth()))
+}
+
+#[test]
+fn heuristic_written_by_hand(rt: HostRuntime) {
+    let refusing = Refusing::new(rt.alloc(), u64::MAX);
+    let case = &LONG_BEFORE_SQUARE;
+    let end = packs(&rt, &refusing, case, &longest_side, &contains_smallest_box);
+    assert!(rt; end == End::Done);
+}
+
+fn always_greater<H>(
+    _one: [WidthHeightDepth; 3],
+    _other: [WidthHeightDepth; 3],
+    _heuristic: &H,
+) -> Ordering {
+    Ordering::Greater
+}
+
+#[test]
+fn comparison_written_by_hand(rt: HostRuntime) {
+    let refusing = Refusing::new(rt.alloc(), u64::MAX);
+    let end = packs(
+        &rt,
+        &refusing,
+        &FIRST_CUTS,
+        &volume_heuristic,
+        &always_greater,
+    );
+    assert!(rt; end == End::Done);
+}
+
+// The law takes a closure that answers as `volume_heuristic` does beside that one.
+#[test]
+fn closure_that_rates_by_volume(rt: HostRuntime) {
+    let refusing = Refusing::new(rt.alloc(), u64::MAX);
+    let volume = |size: WidthHeightDepth| size.volume();
+    let end = packs(
+        &rt,
+        &refusing,
+        &TWO_IN_A_GROUP,
+        &volume,
+        &contains_smallest_box,
+    );
+    assert!(rt; end == End::Done);
+    volume_packing_has_one_result::<u32, u32, u32, _, _, _, _>(
+        &volume,
+        &contains_smallest_box,
+        &volume_heuristic,
+        &contains_smallest_box,
+    );
+}
+
+fn is_wide(sizes: &[WidthHeightDepth; 3]) -> bool {
+    for size in sizes {
+        if size.width() > 4096 {
+            return true;
+        }
+    }
+    false
+}
+
+// As `contains_smallest_box` where each size is at most 4096 wide; else `Greater`, whichever way
+// round.
+fn odd_where_wide<H>(
+    one: [WidthHeightDepth; 3],
+    other: [WidthHeightDepth; 3],
+    heuristic: &H,
+) -> Ordering
+where
+    H: Fn(WidthHeightDepth) -> u128,
+    requires { CanRate H.Fn heuristic.now }
+{
+    if is_wide(&one) || is_wide(&other) {
+        return Ordering::Greater;
+    }
+    contains_smallest_box(one, other, heuristic)
+}
+
+#[test]
+fn comparison_is_odd_where_wide(rt: HostRuntime) {
+    let wide = [WidthHeightDepth::new(5000, 1, 1); 3];
+    let wider = [WidthHeightDepth::new(6000, 1, 1); 3];
+    let one_way = odd_where_wide(wide, wider, &volume_heuristic);
+    let other_way = odd_where_wide(wider, wide, &volume_heuristic);
+    assert_eq!(rt;
+        (one_way, other_way),
+        (Ordering::Greater, Ordering::Greater)
+    );
+    let smallest = contains_smallest_box(wider, wide, &volume_heuristic);
+    assert_eq!(rt; smallest, Ordering::Less);
+}
+
+// No section of these bins is wider than 4096, so its answers on wider ones are never asked.
+#[test]
+fn comparison_that_is_odd_on_what_is_not_met(rt: HostRuntime) {
+    let refusing = Refusing::new(rt.alloc(), u64::MAX);
+    let end = packs(
+        &rt,
+        &refusing,
+        &TWO_IN_A_GROUP,
+        &volume_heuristic,
+        &odd_where_wide,
+    );
+    assert!(rt; end == End::Done);
+}

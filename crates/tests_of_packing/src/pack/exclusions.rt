@@ -1,0 +1,162 @@
+//! Groups that are excluded, and the fit tests of whole packings.
+
+use super::placements::{FULL_AND_EMPTY, THREE_BOXES};
+use super::{Case, add_bins, ends, pack_by_volume, packs};
+use rectangle_pack::{
+    FitTests, Group, contains_smallest_box, pack_rects_counted, volume_heuristic,
+};
+use std::alloc::Global;
+use std::collections::BTreeMap;
+use std::process::Abort;
+use tests_support::boxes::{GroupName, collect};
+use tests_support::each_request::End;
+use tests_support::refusing::Refusing;
+
+const BIN: [u32; 3] = [10, 10, 1];
+
+const BOX: [u32; 3] = [4, 4, 1];
+
+const FIRST: [u32; 6] = [0, 0, 0, 4, 4, 1];
+
+const SECOND: [u32; 6] = [4, 0, 0, 4, 4, 1];
+
+const WHOLE: &[[u32; 6]] = &[[0, 0, 0, 10, 10, 1]];
+
+const AFTER_ONE: &[[u32; 6]] = &[[0, 4, 0, 10, 6, 1], [4, 0, 0, 6, 4, 1]];
+
+const AFTER_TWO: &[[u32; 6]] = &[[0, 4, 0, 10, 6, 1], [8, 0, 0, 2, 4, 1]];
+
+const A: GroupName = Group::Grouped(1);
+
+const B: GroupName = Group::Grouped(2);
+
+const C: GroupName = Group::Grouped(3);
+
+// The box of this id alone, which is no group of this name.
+const ALONE: GroupName = Group::Ungrouped(1);
+
+/// Two groups of one box each, and two bins; the groups are excluded.
+pub const TWO_BINS: Case = Case {
+    bins: &[(1, BIN, AFTER_ONE), (2, BIN, AFTER_ONE)],
+    boxes: &[(1, BOX, &[1]), (2, BOX, &[2])],
+    excluded: &[(A, B)],
+    placements: Some(&[(1, 1, FIRST), (2, 2, FIRST)]),
+};
+
+/// The same groups and one bin.
+pub const ONE_BIN: Case = Case {
+    bins: &[(1, BIN, AFTER_ONE)],
+    boxes: &[(1, BOX, &[1]), (2, BOX, &[2])],
+    excluded: &[(A, B)],
+    placements: None,
+};
+
+// Without the pair both groups go into one bin.
+const NOT_EXCLUDED: Case = Case {
+    bins: &[(1, BIN, AFTER_TWO), (2, BIN, WHOLE)],
+    boxes: &[(1, BOX, &[1]), (2, BOX, &[2])],
+    excluded: &[],
+    placements: Some(&[(1, 1, FIRST), (2, 1, SECOND)]),
+};
+
+const NOTHING: Case = Case {
+    bins: &[(1, BIN, WHOLE)],
+    boxes: &[],
+    excluded: &[(A, B)],
+    placements: Some(&[]),
+};
+
+// The third group goes where the first did, with which it is not excluded.
+const CHAIN: Case = Case {
+    bins: &[(1, BIN, AFTER_TWO), (2, BIN, AFTER_ONE)],
+    boxes: &[(1, BOX, &[1]), (2, BOX, &[2]), (3, BOX, &[3])],
+    excluded: &[(A, B), (B, C)],
+    placements: Some(&[(1, 1, FIRST), (2, 2, FIRST), (3, 1, SECOND)]),
+};
+
+const IN_BOTH: Case = Case {
+    bins: &[(1, BIN, AFTER_ONE), (2, BIN, AFTER_ONE)],
+    boxes: &[(1, BOX, &[1, 2])],
+    excluded: &[(A, B)],
+    placements: Some(&[(1, 1, FIRST), (1, 2, FIRST)]),
+};
+
+const ALONE_AND_GROUP: Case = Case {
+    bins: &[(1, BIN, AFTER_ONE)],
+    boxes: &[(1, BOX, &[]), (2, BOX, &[1])],
+    excluded: &[(ALONE, A)],
+    placements: None,
+};
+
+// No box is in the group 9.
+const ONE_GROUP: Case = Case {
+    bins: &[(1, BIN, AFTER_ONE)],
+    boxes: &[(1, BOX, &[1])],
+    excluded: &[(A, Group::Grouped(9))],
+    placements: Some(&[(1, 1, FIRST)]),
+};
+
+// The count after each packing, from none before the first.
+const COUNTED: &[(Case, u128)] = &[
+    (THREE_BOXES, 4),
+    (FULL_AND_EMPTY, 4 + 2),
+    (TWO_BINS, 6 + 2),
+    (ONE_BIN, 8 + 1),
+    (NOTHING, 9),
+    (CHAIN, 9 + 3),
+    (IN_BOTH, 12 + 2),
+    (ALONE_AND_GROUP, 14 + 1),
+    (ONE_GROUP, 15 + 1),
+];
+
+/// Packs the case by volume, and adds its fit tests to a counter.
+pub fn counts(rt: &impl Abort, alloc: &Refusing<Global>, case: &Case, tests: &mut FitTests) -> End {
+    let Ok(rects) = collect(alloc, case.boxes, case.excluded) else {
+        return End::Before;
+    };
+    let mut bins = BTreeMap::new(alloc);
+    if add_bins(alloc, case, &mut bins).is_err() {
+        return End::Before;
+    }
+    let answer = pack_rects_counted(
+        alloc,
+        &rects,
+        &mut bins,
+        &volume_heuristic,
+        &contains_smallest_box,
+        tests,
+    );
+    ends(rt, &answer, &bins, case)
+}
+
+// Each packing adds its tests to those of the ones before; without groups none is added.
+#[test]
+fn counted_packings(rt: HostRuntime) {
+    let refusing = Refusing::new(rt.alloc(), u64::MAX);
+    let mut tests = FitTests::new();
+    for (case, count) in COUNTED {
+        let end = counts(&rt, &refusing, case, &mut tests);
+        assert!(rt; end == End::Done && tests.count() == *count, "{count}");
+    }
+}
+
+// The same packings, without a counter.
+#[test]
+fn packings(rt: HostRuntime) {
+    let refusing = Refusing::new(rt.alloc(), u64::MAX);
+    for (case, _) in COUNTED {
+        let end = packs(
+            &rt,
+            &refusing,
+            case,
+            &volume_heuristic,
+            &contains_smallest_box,
+        );
+        assert!(rt; end == End::Done);
+    }
+}
+
+#[test]
+fn groups_that_are_not_excluded(rt: HostRuntime) {
+    pack_by_volume(&rt, rt.alloc(), &[NOT_EXCLUDED]);
+}

@@ -1,0 +1,278 @@
+//! Packings of single boxes: where each is placed, and what is free afterwards.
+
+use super::{Case, FULL_BIN, add_bins, pack_by_volume, packs_into};
+use rectangle_pack::{RectanglePackError, contains_smallest_box, volume_heuristic};
+use std::collections::BTreeMap;
+use std::test::Fail;
+use tests_support::each_request::End;
+use tests_support::refusing::Refusing;
+
+const MAX: u32 = u32::MAX;
+
+/// The larger box fills the first bin, which then has no section to test.
+pub const FULL_AND_EMPTY: Case = Case {
+    bins: &[
+        (3, [20, 20, 1], &[]),
+        (
+            2,
+            [50, 50, 1],
+            &[[0, 15, 0, 50, 35, 1], [15, 0, 0, 35, 15, 1]],
+        ),
+    ],
+    boxes: &[(1, [15, 15, 1], &[]), (2, [20, 20, 1], &[])],
+    excluded: &[],
+    placements: Some(&[(2, 3, [0, 0, 0, 20, 20, 1]), (1, 2, [0, 0, 0, 15, 15, 1])]),
+};
+
+/// Three boxes in one bin: the hole of 60x5 is smaller, and is not taken.
+pub const THREE_BOXES: Case = Case {
+    bins: &[(
+        0,
+        [100, 100, 1],
+        &[
+            [0, 95, 0, 60, 5, 1],
+            [60, 11, 0, 40, 89, 1],
+            [61, 10, 0, 39, 1, 1],
+        ],
+    )],
+    boxes: &[
+        (1, [60, 95, 1], &[]),
+        (3, [40, 10, 1], &[]),
+        (2, [1, 1, 1], &[]),
+    ],
+    excluded: &[],
+    placements: Some(&[
+        (1, 0, [0, 0, 0, 60, 95, 1]),
+        (3, 0, [60, 0, 0, 40, 10, 1]),
+        (2, 0, [60, 10, 0, 1, 1, 1]),
+    ]),
+};
+
+const ONE_BOX: &[Case] = &[
+    Case {
+        bins: &[(3, [5, 5, 1], &[[1, 0, 0, 4, 5, 1], [0, 2, 0, 1, 3, 1]])],
+        boxes: &[(1, [1, 2, 1], &[])],
+        excluded: &[],
+        placements: Some(&[(1, 3, [0, 0, 0, 1, 2, 1])]),
+    },
+    // The smallest bin goes first, whatever its number.
+    Case {
+        bins: &[
+            (3, [5, 5, 1], &[[0, 2, 0, 5, 3, 1], [2, 0, 0, 3, 2, 1]]),
+            (2, [5, 5, 2], &[[0, 0, 0, 5, 5, 2]]),
+        ],
+        boxes: &[(1, [2, 2, 1], &[])],
+        excluded: &[],
+        placements: Some(&[(1, 3, [0, 0, 0, 2, 2, 1])]),
+    },
+    // An empty box leaves the whole section.
+    Case {
+        bins: &[(0, [10, 10, 1], &[[0, 0, 0, 10, 10, 1]])],
+        boxes: &[(1, [0, 5, 1], &[])],
+        excluded: &[],
+        placements: Some(&[(1, 0, [0, 0, 0, 0, 5, 1])]),
+    },
+    // So does a box without any size.
+    Case {
+        bins: &[(0, [10, 10, 1], &[[0, 0, 0, 10, 10, 1]])],
+        boxes: &[(1, [0, 0, 0], &[])],
+        excluded: &[],
+        placements: Some(&[(1, 0, [0, 0, 0, 0, 0, 0])]),
+    },
+];
+
+#[test]
+fn one_box(rt: HostRuntime) {
+    pack_by_volume(&rt, rt.alloc(), ONE_BOX);
+}
+
+const LARGEST_FIRST: &[Case] = &[
+    Case {
+        bins: &[(
+            0,
+            [20, 20, 2],
+            &[
+                [0, 0, 1, 20, 20, 1],
+                [0, 10, 0, 20, 10, 1],
+                [10, 5, 0, 10, 5, 1],
+                [15, 0, 0, 5, 5, 1],
+            ],
+        )],
+        boxes: &[(1, [10, 10, 1], &[]), (2, [5, 5, 1], &[])],
+        excluded: &[],
+        placements: Some(&[(1, 0, [0, 0, 0, 10, 10, 1]), (2, 0, [10, 0, 0, 5, 5, 1])]),
+    },
+    FULL_AND_EMPTY,
+];
+
+#[test]
+fn largest_boxes_first(rt: HostRuntime) {
+    pack_by_volume(&rt, rt.alloc(), LARGEST_FIRST);
+}
+
+const NEWEST_FIRST: &[Case] = &[
+    Case {
+        bins: &[(
+            0,
+            [100, 100, 1],
+            &[
+                [50, 0, 0, 50, 100, 1],
+                [1, 90, 0, 49, 10, 1],
+                [0, 91, 0, 1, 9, 1],
+            ],
+        )],
+        boxes: &[(1, [50, 90, 1], &[]), (2, [1, 1, 1], &[])],
+        excluded: &[],
+        placements: Some(&[(1, 0, [0, 0, 0, 50, 90, 1]), (2, 0, [0, 90, 0, 1, 1, 1])]),
+    },
+    Case {
+        bins: &[(
+            0,
+            [100, 100, 1],
+            &[[60, 10, 0, 40, 90, 1], [0, 98, 0, 60, 2, 1]],
+        )],
+        boxes: &[
+            (1, [60, 95, 1], &[]),
+            (3, [40, 10, 1], &[]),
+            (2, [60, 3, 1], &[]),
+        ],
+        excluded: &[],
+        placements: Some(&[
+            (1, 0, [0, 0, 0, 60, 95, 1]),
+            (3, 0, [60, 0, 0, 40, 10, 1]),
+            (2, 0, [0, 95, 0, 60, 3, 1]),
+        ]),
+    },
+    THREE_BOXES,
+];
+
+#[test]
+fn newest_sections_first(rt: HostRuntime) {
+    pack_by_volume(&rt, rt.alloc(), NEWEST_FIRST);
+}
+
+const TILE: [u32; 3] = [4, 4, 1];
+
+const BIN: [u32; 3] = [8, 8, 1];
+
+const WHOLE: &[[u32; 6]] = &[[0, 0, 0, 8, 8, 1]];
+
+const FIVE_TILES: Case = Case {
+    bins: &[
+        (0, BIN, &[]),
+        (1, BIN, &[[0, 4, 0, 8, 4, 1], [4, 0, 0, 4, 4, 1]]),
+        (2, BIN, WHOLE),
+        (3, BIN, WHOLE),
+        (4, BIN, WHOLE),
+    ],
+    boxes: &[
+        (0, TILE, &[]),
+        (1, TILE, &[]),
+        (2, TILE, &[]),
+        (3, TILE, &[]),
+        (4, TILE, &[]),
+    ],
+    excluded: &[],
+    placements: Some(&[
+        (0, 0, [0, 0, 0, 4, 4, 1]),
+        (1, 0, [4, 0, 0, 4, 4, 1]),
+        (2, 0, [0, 4, 0, 4, 4, 1]),
+        (3, 0, [4, 4, 0, 4, 4, 1]),
+        (4, 1, [0, 0, 0, 4, 4, 1]),
+    ]),
+};
+
+const NOTHING: Case = Case {
+    bins: &[],
+    boxes: &[],
+    excluded: &[],
+    placements: Some(&[]),
+};
+
+#[test]
+fn several_boxes_and_none(rt: HostRuntime) {
+    pack_by_volume(&rt, rt.alloc(), &[FIVE_TILES, NOTHING]);
+}
+
+const WITHOUT_ROOM: &[Case] = &[
+    FULL_BIN,
+    Case {
+        bins: &[(0, [2, 100, 1], &[[0, 0, 0, 2, 100, 1]])],
+        boxes: &[(1, [3, 1, 1], &[])],
+        excluded: &[],
+        placements: None,
+    },
+    Case {
+        bins: &[],
+        boxes: &[(1, [1, 1, 1], &[])],
+        excluded: &[],
+        placements: None,
+    },
+];
+
+#[test]
+fn boxes_without_room(rt: HostRuntime) {
+    pack_by_volume(&rt, rt.alloc(), WITHOUT_ROOM);
+}
+
+const CELL: Case = Case {
+    bins: &[(
+        0,
+        [MAX, MAX, MAX],
+        &[
+            [0, 0, 1, MAX, MAX, MAX - 1],
+            [0, 1, 0, MAX, MAX - 1, 1],
+            [1, 0, 0, MAX - 1, 1, 1],
+        ],
+    )],
+    boxes: &[(1, [1, 1, 1], &[])],
+    excluded: &[],
+    placements: Some(&[(1, 0, [0, 0, 0, 1, 1, 1])]),
+};
+
+const BEHIND_CELL: Case = Case {
+    bins: &[(
+        0,
+        [MAX, MAX, MAX],
+        &[[0, 1, 0, MAX, MAX - 1, 1], [1, 0, 0, MAX - 1, 1, 1]],
+    )],
+    boxes: &[(2, [MAX, MAX, MAX - 1], &[])],
+    excluded: &[],
+    placements: Some(&[(2, 0, [0, 0, 1, MAX, MAX, MAX - 1])]),
+};
+
+// One cell of the largest bin, and then all that is behind it.
+#[test]
+fn rest_of_the_largest_bin(rt: HostRuntime) {
+    let refusing = Refusing::new(rt.alloc(), u64::MAX);
+    let mut bins = BTreeMap::new(&refusing);
+    assert!(rt; add_bins(&refusing, &CELL, &mut bins).is_ok());
+    for case in [&CELL, &BEHIND_CELL] {
+        let end = packs_into(
+            &rt,
+            &refusing,
+            case,
+            &mut bins,
+            &volume_heuristic,
+            &contains_smallest_box,
+        );
+        assert!(rt; end == End::Done);
+    }
+}
+
+const TEXTS: &[(RectanglePackError, &str)] = &[
+    (
+        RectanglePackError::NotEnoughBinSpace,
+        "Not enough space to place all of the rectangles.",
+    ),
+    (RectanglePackError::OutOfMemory, "Out of memory."),
+];
+
+#[test]
+fn texts_of_errors(rt: HostRuntime) -> Result<(), Fail> {
+    let alloc = rt.alloc();
+    for (error, text) in TEXTS {
+        assert_eq!(rt; format!(in alloc; "{error}")?.as_str(), *text);
+    }
+    Ok(())
+}

@@ -1,0 +1,187 @@
+//! Packings of equal texts that lie elsewhere.
+
+use rectangle_pack::{
+    GroupedRectsToPlace, RectToInsert, RectanglePackError, RectanglePackOk, TargetBin,
+    contains_smallest_box, pack_rects, volume_heuristic, volume_packing_has_one_result,
+};
+use std::alloc::{AllocError, Global};
+use std::collections::BTreeMap;
+use std::process::Abort;
+use tests_support::shapes::place;
+
+type TextRects = GroupedRectsToPlace<String, String>;
+
+type TextBins = BTreeMap<String, TargetBin>;
+
+type TextPacked = RectanglePackOk<String, String>;
+
+// A packing under names, and what it places.
+struct TextCase {
+    bins: &'static [(&'static str, [u32; 3])],
+    boxes: &'static [(&'static str, [u32; 3], &'static [&'static str])],
+    placements: &'static [(&'static str, &'static str, [u32; 6])],
+}
+
+const TEXT_CASES: &[TextCase] = &[
+    TextCase {
+        bins: &[
+            ("DestinationBinOne", [2048, 2048, 255]),
+            ("DestinationBinTwo", [4096, 4096, 1020]),
+        ],
+        boxes: &[
+            ("RectOne", [10, 20, 255], &["GroupIdOne"]),
+            ("RectTwo", [5, 50, 255], &["GroupIdOne"]),
+            ("RectThree", [30, 30, 255], &[]),
+        ],
+        placements: &[
+            ("RectThree", "DestinationBinOne", [0, 0, 0, 30, 30, 255]),
+            ("RectOne", "DestinationBinOne", [30, 0, 0, 10, 20, 255]),
+            ("RectTwo", "DestinationBinOne", [0, 30, 0, 5, 50, 255]),
+        ],
+    },
+    // The box is placed once for each of its groups.
+    TextCase {
+        bins: &[("bin", [8, 8, 1])],
+        boxes: &[("One", [4, 4, 1], &["0", "1"])],
+        placements: &[
+            ("One", "bin", [0, 0, 0, 4, 4, 1]),
+            ("One", "bin", [4, 0, 0, 4, 4, 1]),
+        ],
+    },
+];
+
+// A string of its own with so much room.
+fn text(alloc: Global, from: &str, room: usize) -> Result<String, AllocError> {
+    let mut text = String::with_capacity(alloc, room)?;
+    text.push_str(from)?;
+    Ok(text)
+}
+
+fn texts(alloc: Global, from: &[&str], room: usize) -> Result<Vec<String>, AllocError> {
+    let mut texts = Vec::new(alloc);
+    for name in from {
+        texts.push(text(alloc, name, room)?)?;
+    }
+    Ok(texts)
+}
+
+// The boxes of a case, under strings of their own with so much room.
+fn push_texts(
+    alloc: Global,
+    case: &TextCase,
+    room: usize,
+    rects: &mut TextRects,
+) -> Result<(), AllocError> {
+    let boxes = case.boxes;
+    for (id, size, groups) in boxes {
+        let [width, height, depth] = *size;
+        let named = texts(alloc, groups, room)?;
+        let named = if named.is_empty() { None } else { Some(named) };
+        let id = text(alloc, id, room)?;
+        rects.push_rect(id, named, RectToInsert::new(width, height, depth))?;
+    }
+    Ok(())
+}
+
+// The bins of a case, under strings of their own with so much room.
+fn add_text_bins(
+    alloc: Global,
+    case: &TextCase,
+    room: usize,
+    bins: &mut TextBins,
+) -> Result<(), AllocError> {
+    let named = case.bins;
+    for (name, size) in named {
+        let [width, height, depth] = *size;
+        let name = text(alloc, name, room)?;
+        bins.insert(name, TargetBin::new(alloc, width, height, depth)?)?;
+    }
+    Ok(())
+}
+
+// The boxes and bins of a case, under strings with so much room, packed by volume.
+fn pack_text(
+    alloc: Global,
+    case: &TextCase,
+    room: usize,
+    bins: &mut TextBins,
+) -> Result<TextPacked, RectanglePackError> {
+    let mut rects = GroupedRectsToPlace::new(alloc);
+    if push_texts(alloc, case, room, &mut rects).is_err()
+        || add_text_bins(alloc, case, room, bins).is_err()
+    {
+        return Err(RectanglePackError::OutOfMemory);
+    }
+    pack_rects(
+        alloc,
+        &rects,
+        bins,
+        &volume_heuristic,
+        &contains_smallest_box,
+    )
+}
+
+// Whether equal strings stand in the same places of both maps, and the bins have the same lists.
+fn are_bins_alike(bins: &TextBins, others: &TextBins) -> bool {
+    for ((id, bin), (other_id, other)) in bins.iter().zip(others.iter()) {
+        let has_same_list = bin.available_bin_sections() == other.available_bin_sections();
+        if id != other_id || !has_same_list {
+            return false;
+        }
+    }
+    bins.len() == others.len()
+}
+
+// Whether the placements are those of the case, in order.
+fn shows_text(packed: &TextPacked, case: &TextCase) -> bool {
+    let wanted = case.placements;
+    for (placed, (id, bin, numbers)) in packed.placements().iter().zip(wanted.iter()) {
+        let is_named = placed.id.as_str() == *id && placed.bin.as_str() == *bin;
+        if !is_named || place(&placed.location) != *numbers {
+            return false;
+        }
+    }
+    packed.placements().len() == wanted.len()
+}
+
+// Whether the two are equal as a whole, and in both parts.
+fn are_alike(one: &TextPacked, other: &TextPacked) -> bool {
+    one == other
+        && one.placements() == other.placements()
+        && one.packed_locations() == other.packed_locations()
+}
+
+// Whether both came out as the case says, and alike.
+fn come_out_alike(
+    one: &Result<TextPacked, RectanglePackError>,
+    other: &Result<TextPacked, RectanglePackError>,
+    case: &TextCase,
+) -> bool {
+    match (one, other) {
+        (Ok(one), Ok(other)) => shows_text(one, case) && are_alike(one, other),
+        _ => false,
+    }
+}
+
+// Two collections, pushed alike from strings of their own, into bins under strings of their own.
+fn pack_text_twice(rt: &impl Abort, alloc: Global, case: &TextCase) {
+    let mut bins = BTreeMap::new(alloc);
+    let mut other_bins = BTreeMap::new(alloc);
+    let one = pack_text(alloc, case, 0, &mut bins);
+    let other = pack_text(alloc, case, 64, &mut other_bins);
+    assert!(rt; come_out_alike(&one, &other, case));
+    assert!(rt; are_bins_alike(&bins, &other_bins));
+}
+
+#[test]
+fn equal_strings_pack_alike(rt: HostRuntime) {
+    for case in TEXT_CASES {
+        pack_text_twice(&rt, rt.alloc(), case);
+    }
+    volume_packing_has_one_result::<String, String, String, _, _, _, _>(
+        &volume_heuristic,
+        &contains_smallest_box,
+        &volume_heuristic,
+        &contains_smallest_box,
+    );
+}

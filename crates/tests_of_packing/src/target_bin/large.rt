@@ -1,0 +1,80 @@
+//! Bins past small sizes: fifty free sections, and a trial of five hundred boxes.
+
+use super::Bin;
+use rectangle_pack::{FitTests, RectToInsert, TargetBin, contains_smallest_box, volume_heuristic};
+use std::alloc::{AllocError, Global};
+use std::process::Abort;
+use std::test::Fail;
+use tests_support::refusing::Refusing;
+use tests_support::shapes::section;
+
+// Whether the free sections of the bin are so many single cells, in a row.
+fn has_row(bin: &TargetBin, count: u32) -> bool {
+    let sections = bin.available_bin_sections();
+    for (x, free) in (0..count).zip(sections.iter()) {
+        if *free != section(x, 0, 0, 1, 1, 1) {
+            return false;
+        }
+    }
+    sections.len() == count as usize
+}
+
+// Whether fifty cells in a row are accepted, one after another.
+fn accepts_row(bin: &mut TargetBin) -> bool {
+    for x in 0..50 {
+        if bin
+            .push_available_bin_section(section(x, 0, 0, 1, 1, 1))
+            .is_err()
+        {
+            return false;
+        }
+    }
+    has_row(bin, 50)
+}
+
+// Whether a new section goes to the end of the row.
+fn adds_one(bin: &mut TargetBin) -> bool {
+    let new = section(50, 0, 0, 1, 1, 1);
+    let none = section(0, 0, 0, 0, 0, 0);
+    bin.accepts(&new) && bin.add_new_sections([none, new, none]).is_ok() && has_row(bin, 51)
+}
+
+// A row of fifty free sections: its clone is the same row, and takes one more.
+#[test]
+fn fifty_sections(rt: HostRuntime) -> Result<(), Fail> {
+    let mut bin = TargetBin::new(rt.alloc(), 60, 1, 1)?;
+    bin.remove_filled_section(0);
+    assert!(rt; accepts_row(&mut bin));
+    let mut other = bin.clone()?;
+    assert!(rt; has_row(&other, 50) && adds_one(&mut other));
+    assert!(rt; has_row(&bin, 50));
+    Ok(())
+}
+
+fn tries(rt: &impl Abort, bin: &mut Bin<'_>) -> Result<(), AllocError> {
+    let members = [RectToInsert::new(1, 1, 1); 500];
+    let mut tests = FitTests::new();
+    let placed = bin.place_all(
+        &members,
+        &volume_heuristic,
+        &contains_smallest_box,
+        &mut tests,
+    )?;
+    assert!(rt; matches!(&placed, Some(places) if places.len() == 500));
+    assert!(rt; bin.available_bin_sections().is_empty());
+    Ok(())
+}
+
+fn one_trial(rt: &impl Abort, alloc: &Refusing<Global>) -> Result<(), AllocError> {
+    let mut bin = TargetBin::new(alloc, 25, 20, 1)?;
+    tries(rt, &mut bin)
+}
+
+// Boxes of one cell fill a bin. All memory is given back.
+#[test]
+fn five_hundred_boxes(rt: HostRuntime) -> Result<(), Fail> {
+    let alloc = Refusing::new(rt.alloc(), u64::MAX);
+    one_trial(&rt, &alloc)?;
+    assert_eq!(rt; alloc.taken(), 0);
+    Ok(())
+}

@@ -1,0 +1,278 @@
+//! Sections that are given back to a bin.
+
+use super::{Call, Pushed, Script, Start, Step, runs};
+use rectangle_pack::{PushBinSectionError, TargetBin};
+use std::alloc::Global;
+use std::process::Abort;
+use std::test::Fail;
+use tests_support::each_request::{End, is_refused};
+use tests_support::refusing::Refusing;
+use tests_support::shapes::{has_list, section};
+
+const SHEET: [u32; 6] = [0, 0, 0, 100, 100, 1];
+
+// Which sections a bin accepts, and which is named as the first in the way.
+const SCRIPTS: &[Script] = &[
+    Script {
+        subject: "a new bin",
+        size: [4, 5, 6],
+        start: Start::New,
+        list: &[[0, 0, 0, 4, 5, 6]],
+        steps: &[],
+        on_clone: None,
+    },
+    // An empty section shares no cell with the whole bin, also where the bin ends.
+    Script {
+        subject: "pushes into a new bin",
+        size: [100, 100, 1],
+        start: Start::New,
+        list: &[SHEET],
+        steps: &[
+            Step {
+                call: Call::Push([101, 0, 0, 1, 1, 1], Pushed::OutOfBounds),
+                list: &[SHEET],
+            },
+            Step {
+                call: Call::Push([0, 0, 0, 1, 1, 1], Pushed::Overlaps(SHEET)),
+                list: &[SHEET],
+            },
+            Step {
+                call: Call::Push([1, 1, 0, 1, 1, 1], Pushed::Overlaps(SHEET)),
+                list: &[SHEET],
+            },
+            Step {
+                call: Call::Push([100, 0, 0, 0, 1, 1], Pushed::Accepted),
+                list: &[SHEET, [100, 0, 0, 0, 1, 1]],
+            },
+        ],
+        on_clone: None,
+    },
+    Script {
+        subject: "a push after a removal",
+        size: [100, 100, 1],
+        start: Start::New,
+        list: &[SHEET],
+        steps: &[
+            Step {
+                call: Call::Remove(0),
+                list: &[],
+            },
+            Step {
+                call: Call::Push([1, 2, 0, 1, 1, 1], Pushed::Accepted),
+                list: &[[1, 2, 0, 1, 1, 1]],
+            },
+        ],
+        on_clone: None,
+    },
+    // The fourth one shares cells too, but the bounds are asked first.
+    Script {
+        subject: "the first overlap is named",
+        size: [10, 10, 1],
+        start: Start::Pushed,
+        list: &[],
+        steps: &[
+            Step {
+                call: Call::Push([0, 0, 0, 4, 4, 1], Pushed::Accepted),
+                list: &[[0, 0, 0, 4, 4, 1]],
+            },
+            Step {
+                call: Call::Push([6, 6, 0, 4, 4, 1], Pushed::Accepted),
+                list: &[[0, 0, 0, 4, 4, 1], [6, 6, 0, 4, 4, 1]],
+            },
+            Step {
+                call: Call::Push([3, 3, 0, 4, 4, 1], Pushed::Overlaps([0, 0, 0, 4, 4, 1])),
+                list: &[[0, 0, 0, 4, 4, 1], [6, 6, 0, 4, 4, 1]],
+            },
+            Step {
+                call: Call::Push([7, 7, 0, 4, 4, 1], Pushed::OutOfBounds),
+                list: &[[0, 0, 0, 4, 4, 1], [6, 6, 0, 4, 4, 1]],
+            },
+            Step {
+                call: Call::Push([4, 0, 0, 6, 6, 1], Pushed::Accepted),
+                list: THREE,
+            },
+        ],
+        on_clone: None,
+    },
+];
+
+const THREE: &[[u32; 6]] = &[[0, 0, 0, 4, 4, 1], [6, 6, 0, 4, 4, 1], [4, 0, 0, 6, 6, 1]];
+
+// Each request for memory is refused in turn.
+#[test]
+fn pushes(rt: HostRuntime) {
+    let alloc = rt.alloc();
+    for script in SCRIPTS {
+        runs(&rt, alloc, script);
+    }
+}
+
+const ROW: &[[u32; 6]] = &[
+    [0, 0, 0, 1, 1, 1],
+    [1, 0, 0, 1, 1, 1],
+    [2, 0, 0, 1, 1, 1],
+    [3, 0, 0, 1, 1, 1],
+    [4, 0, 0, 1, 1, 1],
+    [5, 0, 0, 1, 1, 1],
+    [6, 0, 0, 1, 1, 1],
+    [7, 0, 0, 1, 1, 1],
+    [8, 0, 0, 1, 1, 1],
+    [9, 0, 0, 1, 1, 1],
+    [10, 0, 0, 1, 1, 1],
+    [11, 0, 0, 1, 1, 1],
+    [12, 0, 0, 1, 1, 1],
+    [13, 0, 0, 1, 1, 1],
+    [14, 0, 0, 1, 1, 1],
+    [15, 0, 0, 1, 1, 1],
+    [16, 0, 0, 1, 1, 1],
+    [17, 0, 0, 1, 1, 1],
+    [18, 0, 0, 1, 1, 1],
+    [19, 0, 0, 1, 1, 1],
+];
+
+// Scripts in which a request is refused once the bin is made.
+const REFUSED: &[Script] = &[
+    Script {
+        subject: "checked pushes",
+        size: [20, 20, 1],
+        start: Start::Pushed,
+        list: ROW,
+        steps: &[],
+        on_clone: None,
+    },
+    Script {
+        subject: "unchecked pushes",
+        size: [20, 20, 1],
+        start: Start::Unchecked,
+        list: ROW,
+        steps: &[],
+        on_clone: None,
+    },
+    Script {
+        subject: "a clone of a new bin",
+        size: [4, 5, 6],
+        start: Start::New,
+        list: &[[0, 0, 0, 4, 5, 6]],
+        steps: &[],
+        on_clone: Some(&[]),
+    },
+];
+
+#[test]
+fn pushes_that_take_memory(rt: HostRuntime) {
+    let alloc = rt.alloc();
+    for script in REFUSED {
+        assert!(rt; runs(&rt, alloc, script), "{}", script.subject);
+    }
+}
+
+// The first six of a row, three at a time, in a bin 20x20x1 without free sections. Refused, the
+// list stays.
+fn adds_a_row(rt: &impl Abort, alloc: &Refusing<Global>) -> End {
+    let Ok(mut bin) = TargetBin::new(alloc, 20, 20, 1) else {
+        return End::Before;
+    };
+    bin.remove_filled_section(0);
+    let first = [
+        section(0, 0, 0, 1, 1, 1),
+        section(1, 0, 0, 1, 1, 1),
+        section(2, 0, 0, 1, 1, 1),
+    ];
+    if bin.add_new_sections(first).is_err() {
+        assert!(rt; has_list(&bin, &[]));
+        return End::Refused;
+    }
+    let second = [
+        section(3, 0, 0, 1, 1, 1),
+        section(4, 0, 0, 1, 1, 1),
+        section(5, 0, 0, 1, 1, 1),
+    ];
+    if bin.add_new_sections(second).is_err() {
+        assert!(rt; has_list(&bin, ROW.get(..3).unwrap_or(&[])));
+        return End::Refused;
+    }
+    assert!(rt; has_list(&bin, ROW.get(..6).unwrap_or(&[])));
+    End::Done
+}
+
+#[test]
+fn new_sections(rt: HostRuntime) -> Result<(), Fail> {
+    let refused = is_refused(rt.alloc(), |refusing| Ok(adds_a_row(&rt, refusing)))?;
+    assert!(rt; refused);
+    Ok(())
+}
+
+const CHANGED: [[u32; 6]; 6] = [
+    [0, 0, 0, 4, 4, 1],
+    [6, 6, 0, 4, 4, 1],
+    [4, 0, 0, 6, 6, 1],
+    [0, 4, 0, 4, 6, 1],
+    [4, 6, 0, 2, 2, 1],
+    [4, 8, 0, 2, 2, 1],
+];
+
+// New sections without the empty one, and a push that is not checked, on a clone.
+#[test]
+fn clone_has_its_own_list(rt: HostRuntime) -> Result<(), Fail> {
+    let mut bin = TargetBin::new(rt.alloc(), 10, 10, 1)?;
+    bin.remove_filled_section(0);
+    bin.push_available_bin_section(section(0, 0, 0, 4, 4, 1))?;
+    bin.push_available_bin_section(section(6, 6, 0, 4, 4, 1))?;
+    bin.push_available_bin_section(section(4, 0, 0, 6, 6, 1))?;
+    let mut other = bin.clone()?;
+    other.add_new_sections([
+        section(0, 4, 0, 4, 6, 1),
+        section(4, 6, 0, 0, 1, 1),
+        section(4, 6, 0, 2, 2, 1),
+    ])?;
+    assert!(rt; has_list(&other, &CHANGED[..5]));
+    let last = section(4, 8, 0, 2, 2, 1);
+    assert!(rt; other.accepts(&last));
+    other.push_available_bin_section_unchecked(last)?;
+    assert!(rt; has_list(&other, &CHANGED));
+    assert!(rt; has_list(&bin, &CHANGED[..3]));
+    assert_eq!(rt; other.max_size(), bin.max_size());
+    Ok(())
+}
+
+const OUT_OF_BOUNDS: &str = "BinSection(BinSection { x: 0, y: 0, z: 0, \
+    whd: WidthHeightDepth { width: 4, height: 4, depth: 1 } })";
+
+const OVERLAPS: &str = "Overlaps { remaining_section: BinSection { x: 0, y: 0, z: 0, \
+    whd: WidthHeightDepth { width: 4, height: 4, depth: 1 } }, \
+    new_section: BinSection { x: 3, y: 3, z: 0, \
+    whd: WidthHeightDepth { width: 4, height: 4, depth: 1 } } }";
+
+// The error's text is this.
+fn prints(
+    rt: &impl Abort,
+    alloc: Global,
+    error: &PushBinSectionError,
+    text: &str,
+) -> Result<(), Fail> {
+    assert_eq!(rt; format!(in alloc; "{error}")?.as_str(), text);
+    Ok(())
+}
+
+#[test]
+fn texts_of_errors(rt: HostRuntime) -> Result<(), Fail> {
+    let alloc = rt.alloc();
+    let a = section(0, 0, 0, 4, 4, 1);
+    let overlaps = PushBinSectionError::Overlaps {
+        remaining_section: a,
+        new_section: section(3, 3, 0, 4, 4, 1),
+    };
+    prints(
+        &rt,
+        alloc,
+        &PushBinSectionError::OutOfBounds(a),
+        OUT_OF_BOUNDS,
+    )?;
+    prints(&rt, alloc, &overlaps, OVERLAPS)?;
+    prints(
+        &rt,
+        alloc,
+        &PushBinSectionError::OutOfMemory(a),
+        "Out of memory.",
+    )
+}

@@ -1,0 +1,47 @@
+//! Sizes: their numbers, their volumes and their order.
+
+use rectangle_pack::{RectToInsert, WidthHeightDepth};
+use tests_support::shapes::section;
+
+const MOST: u32 = u32::MAX;
+
+/// Sizes and their volumes.
+pub const VOLUMES: &[([u32; 3], u128)] = &[
+    ([2, 3, 5], 30),
+    ([MOST, MOST, MOST], 79228162458924105385300197375),
+    ([2, 2, 1], 4),
+    ([0, 0, 0], 0),
+];
+
+#[test]
+fn volumes(rt: HostRuntime) {
+    for (size, volume) in VOLUMES {
+        let [width, height, depth] = *size;
+        assert_eq!(rt;
+            section(0, 0, 0, width, height, depth).whd().volume(),
+            *volume
+        );
+    }
+    assert_eq!(rt; WidthHeightDepth::default().volume(), 0);
+}
+
+#[test]
+fn size_of_a_box(rt: HostRuntime) {
+    let rect = RectToInsert::new(1, 2, 3);
+    assert_eq!(rt;
+        WidthHeightDepth::from(rect),
+        WidthHeightDepth::new(1, 2, 3)
+    );
+}
+
+#[test]
+fn default_is_zero(rt: HostRuntime) {
+    let whd = WidthHeightDepth::default();
+    assert_eq!(rt; [whd.width(), whd.height(), whd.depth()], [0, 0, 0]);
+}
+
+// The first number that differs decides.
+#[test]
+fn order(rt: HostRuntime) {
+    assert!(rt; WidthHeightDepth::new(1, 9, 9) < WidthHeightDepth::new(2, 1, 1));
+}

@@ -1,0 +1,281 @@
+//! Sessions: what they reply to each command, and their state after it, with all memory and where
+//! it is refused. Each script of commands is obeyed by `calls`, and then by one `run`.
+
+mod calls;
+mod clones;
+mod cut_plan;
+mod hostile;
+mod large;
+mod no_memory;
+mod refusals;
+mod releases;
+mod run;
+mod stats;
+mod strip;
+mod units;
+
+use rectangle_pack::{BinStats, Command, Outstanding, Reply, Session, SessionError, TargetBin};
+use std::alloc::{AllocError, Global};
+use std::process::Abort;
+use std::test::Fail;
+use tests_support::boxes::{GroupName, SizedBox, collect};
+use tests_support::refusing::Refusing;
+use tests_support::shapes::{has_list, place};
+
+/// A session whose memory may be refused.
+pub type TestSession<'a> = Session<u32, u32, &'a Refusing<Global>>;
+
+/// A command for it.
+pub type TestCommand<'a> = Command<u32, u32, u32, &'a Refusing<Global>>;
+
+/// Commands for it.
+pub type Commands<'a> = Vec<TestCommand<'a>, &'a Refusing<Global>>;
+
+/// What is made where there is memory for it.
+pub type Made<T> = Result<T, AllocError>;
+
+/// A command, as data.
+#[derive(Clone, Copy)]
+pub enum Order {
+    /// A bin of this id and size.
+    AddBin(u32, [u32; 3]),
+    /// Boxes.
+    Pack(&'static [SizedBox]),
+    /// The same, with pairs of groups that are excluded.
+    PackApart(&'static [SizedBox], &'static [(GroupName, GroupName)]),
+    /// The placement of this number.
+    Release(u64),
+    /// The section of this index in the bin of this id, joined over the range.
+    Coalesce(u32, usize, usize, usize),
+    /// A sweep of the bin of this id.
+    CoalesceAll(u32),
+}
+
+/// The state of a bin.
+#[derive(Clone, Copy)]
+pub struct Held {
+    pub id: u32,
+    /// Its free sections.
+    pub free: &'static [[u32; 6]],
+    /// The volumes of the bin, of what is free and of what is placed in it.
+    pub volumes: [u128; 3],
+    /// The counts of free sections and of placements.
+    pub counts: [usize; 2],
+    /// Whether it counts as coalesced.
+    pub coalesced: bool,
+}
+
+/// An outstanding placement: number, box, bin and place.
+pub type PlacedBox = (u64, u32, u32, [u32; 6]);
+
+/// The state of a session.
+#[derive(Clone, Copy)]
+pub struct State {
+    pub bins: &'static [Held],
+    /// In the order of their numbers.
+    pub placed: &'static [PlacedBox],
+    /// The number of the next placement.
+    pub next: u64,
+}
+
+/// Whether a call asks for memory, where that is promised or plain.
+#[derive(Clone, Copy)]
+pub enum Memory {
+    Asked,
+    NotAsked,
+    Either,
+}
+
+/// A command, the reply to it, and the state of the session afterwards.
+#[derive(Clone, Copy)]
+pub struct Line {
+    pub order: Order,
+    pub memory: Memory,
+    pub reply: Reply,
+    pub after: State,
+}
+
+/// What becomes of a new session.
+#[derive(Clone, Copy)]
+pub struct Script {
+    /// The number of its first placement.
+    pub first: u64,
+    pub lines: &'static [Line],
+    /// At least so many of the calls are refused memory, one where each request is refused in turn.
+    pub refusals: usize,
+}
+
+/// The bin of most scripts.
+pub const BIN: u32 = 0;
+
+/// A bin that is in few of them.
+pub const OTHER: u32 = 1;
+
+// A bin that is in none.
+const NOWHERE: u32 = 2;
+
+/// A new bin of ten by ten cells.
+pub const NEW: Held = Held {
+    id: BIN,
+    free: &[[0, 0, 0, 10, 10, 1]],
+    volumes: [100, 100, 0],
+    counts: [1, 0],
+    coalesced: false,
+};
+
+/// A session with that bin alone.
+pub const ONE_NEW_BIN: State = State {
+    bins: &[NEW],
+    placed: &[],
+    next: 0,
+};
+
+/// Adds it to a session that has no bin.
+pub const ADD_BIN: Line = Line {
+    order: Order::AddBin(BIN, [10, 10, 1]),
+    memory: Memory::Asked,
+    reply: Reply::Done,
+    after: ONE_NEW_BIN,
+};
+
+/// Nothing of this number is outstanding.
+pub const UNKNOWN: Reply = Reply::Refused(SessionError::UnknownPlacement);
+
+/// A size of many boxes.
+pub const TILE: [u32; 3] = [4, 4, 1];
+
+/// Where the first of them is placed.
+pub const FIRST: [u32; 6] = [0, 0, 0, 4, 4, 1];
+
+fn packing<'a>(
+    alloc: &'a Refusing<Global>,
+    boxes: &[SizedBox],
+    pairs: &[(GroupName, GroupName)],
+) -> Made<TestCommand<'a>> {
+    Ok(Command::Pack(collect(alloc, boxes, pairs)?))
+}
+
+/// The command of an order.
+pub fn command<'a>(alloc: &'a Refusing<Global>, order: &Order) -> Made<TestCommand<'a>> {
+    match order {
+        Order::AddBin(id, [width, height, depth]) => Ok(Command::AddBin {
+            id: *id,
+            width: *width,
+            height: *height,
+            depth: *depth,
+        }),
+        Order::Pack(boxes) => packing(alloc, boxes, &[]),
+        Order::PackApart(boxes, pairs) => packing(alloc, boxes, pairs),
+        Order::Release(number) => Ok(Command::Release(*number)),
+        Order::Coalesce(bin, idx, lo, hi) => Ok(Command::Coalesce {
+            bin: *bin,
+            idx: *idx,
+            lo: *lo,
+            hi: *hi,
+        }),
+        Order::CoalesceAll(bin) => Ok(Command::CoalesceAll(*bin)),
+    }
+}
+
+fn push_commands<'a>(
+    alloc: &'a Refusing<Global>,
+    commands: &mut Commands<'a>,
+    lines: &[Line],
+) -> Made<()> {
+    for line in lines {
+        commands.push(command(alloc, &line.order)?)?;
+    }
+    Ok(())
+}
+
+fn commands<'a>(alloc: &'a Refusing<Global>, script: &Script) -> Made<Commands<'a>> {
+    let mut commands = Vec::new(alloc);
+    push_commands(alloc, &mut commands, script.lines)?;
+    Ok(commands)
+}
+
+fn stats_of(held: &Held) -> BinStats {
+    let [bin_volume, free_volume, placed_volume] = held.volumes;
+    let [free_sections, placements] = held.counts;
+    BinStats {
+        bin_volume,
+        free_volume,
+        placed_volume,
+        free_sections,
+        placements,
+    }
+}
+
+fn is_held(session: &TestSession<'_>, bin: &TargetBin<&Refusing<Global>>, held: &Held) -> bool {
+    has_list(bin, held.free)
+        && session.stats(&held.id) == Some(stats_of(held))
+        && session.was_coalesced(&held.id) == Some(held.coalesced)
+}
+
+fn has_bins(session: &TestSession<'_>, wanted: &[Held]) -> bool {
+    for ((id, bin), held) in session.bins().iter().zip(wanted.iter()) {
+        if *id != held.id || !is_held(session, bin, held) {
+            return false;
+        }
+    }
+    session.bins().len() == wanted.len()
+}
+
+fn has_placed(placed: &[Outstanding<u32, u32>], wanted: &[PlacedBox]) -> bool {
+    for (placement, (number, id, bin, numbers)) in placed.iter().zip(wanted.iter()) {
+        if placement.number != *number
+            || placement.id != *id
+            || placement.bin != *bin
+            || place(&placement.location) != *numbers
+        {
+            return false;
+        }
+    }
+    placed.len() == wanted.len()
+}
+
+fn has_id(bins: &[Held], id: u32) -> bool {
+    for held in bins {
+        if held.id == id {
+            return true;
+        }
+    }
+    false
+}
+
+// Whether nothing is said of the bins of scripts that are not among these.
+fn are_unknown(session: &TestSession<'_>, wanted: &[Held]) -> bool {
+    for id in [BIN, OTHER, NOWHERE] {
+        let is_known = session.stats(&id).is_some() || session.was_coalesced(&id).is_some();
+        if is_known && !has_id(wanted, id) {
+            return false;
+        }
+    }
+    true
+}
+
+/// Whether the session is in this state. Nothing is said of a bin that is not there.
+pub fn is_in(session: &TestSession<'_>, wanted: &State) -> bool {
+    session.next_number() == wanted.next
+        && has_bins(session, wanted.bins)
+        && has_placed(session.outstanding(), wanted.placed)
+        && are_unknown(session, wanted.bins)
+}
+
+/// The state of a new session.
+pub fn empty(first: u64) -> State {
+    State {
+        bins: &[],
+        placed: &[],
+        next: first,
+    }
+}
+
+/// Each script comes out, by its calls and by one run, with each request refused in turn.
+pub fn come_out(rt: &impl Abort, alloc: Global, scripts: &[Script]) -> Result<(), Fail> {
+    for script in scripts {
+        calls::come_out(rt, alloc, script)?;
+        run::come_out(rt, alloc, script)?;
+    }
+    Ok(())
+}

@@ -1,0 +1,271 @@
+//! Cutting plans of the bins that sessions leave: scripts of calls, with the plans between them.
+ghost use Rattle.rectangle_pack.specs.Closures.{CanRate};
+
+mod empty;
+mod groups;
+mod joins;
+mod packings;
+mod random;
+mod read_back;
+mod refusals;
+
+use super::calls::{NO_MEMORY, call};
+use super::{Order, State, TestSession, command, is_in};
+use rectangle_pack::{
+    Axis, CutStep, Packed, Reply, SessionError, WidthHeightDepth, contains_smallest_box,
+    volume_heuristic,
+};
+use std::alloc::Global;
+use std::cmp::Ordering;
+use std::process::Abort;
+use tests_support::boxes::{Rects, SizedBox, collect};
+use tests_support::refusing::Refusing;
+use tests_support::shapes::has_list;
+
+/// A step of a plan, as data: a cut at a place on an axis, or a leaf.
+#[derive(Clone, Copy)]
+pub enum PlanStep {
+    X(u32),
+    Y(u32),
+    Z(u32),
+    Leaf,
+}
+
+/// What the two closures of a packing answer.
+#[derive(Clone, Copy)]
+pub enum Rule {
+    /// Volumes, and this answer to each comparison.
+    Compares(Ordering),
+    /// This rate of each size, and comparisons by smallest boxes.
+    Rates(u128),
+}
+
+/// A step of a script: a call, or what is so between two calls.
+#[derive(Clone, Copy)]
+pub enum Step {
+    /// This call is done: a packing places each entry of a group, from the next number on.
+    Call(Order),
+    /// A packing of these boxes by other closures is done.
+    PackBy(Rule, &'static [SizedBox]),
+    /// This call gets this reply.
+    Replies(Order, Reply),
+    /// These are all bins, each with its plan.
+    Plans(&'static [(u32, &'static [PlanStep])]),
+    /// Bin 0 has this plan, and the session is in this state, also where the plan is refused
+    /// memory.
+    IsIn(State, &'static [PlanStep]),
+    /// No straight cuts leave the boxes of this bin whole.
+    NoPlan(u32),
+    /// There is no such bin.
+    NoBin(u32),
+    /// The free sections of this bin.
+    Free(u32, &'static [[u32; 6]]),
+}
+
+/// How a step came out.
+#[derive(Clone, Copy)]
+pub enum Came {
+    /// As wanted.
+    Out,
+    /// Memory was refused.
+    Refused,
+    /// Not as wanted.
+    Wrong,
+}
+
+/// There is no room for the boxes.
+pub const NO_ROOM: Reply = Reply::Refused(SessionError::NotEnoughBinSpace);
+
+type Alloc<'a> = &'a Refusing<Global>;
+
+// Where every comparison answers the same.
+fn pack_comparing<'a, H>(
+    session: &mut TestSession<'a>,
+    rects: &Rects<'a>,
+    heuristic: &H,
+    answer: Ordering,
+) -> Result<Packed, SessionError>
+where
+    H: Fn(WidthHeightDepth) -> u128,
+    requires { CanRate H.Fn heuristic.now }
+{
+    let comparison = |_: [WidthHeightDepth; 3], _: [WidthHeightDepth; 3], _: &H| answer;
+    session.pack(rects, heuristic, &comparison)
+}
+
+// Where every size has the same rate.
+fn pack_rating<'a>(
+    session: &mut TestSession<'a>,
+    rects: &Rects<'a>,
+    rate: u128,
+) -> Result<Packed, SessionError> {
+    let heuristic = |_: WidthHeightDepth| rate;
+    session.pack(rects, &heuristic, &contains_smallest_box)
+}
+
+fn pack_by<'a>(
+    session: &mut TestSession<'a>,
+    alloc: Alloc<'a>,
+    rule: Rule,
+    boxes: &[SizedBox],
+) -> Reply {
+    let Ok(rects) = collect(alloc, boxes, &[]) else {
+        return NO_MEMORY;
+    };
+    let answer = match rule {
+        Rule::Compares(answer) => pack_comparing(session, &rects, &volume_heuristic, answer),
+        Rule::Rates(rate) => pack_rating(session, &rects, rate),
+    };
+    match answer {
+        Ok(packed) => Reply::Packed(packed),
+        Err(error) => Reply::Refused(error),
+    }
+}
+
+fn obey<'a>(session: &mut TestSession<'a>, alloc: Alloc<'a>, order: &Order) -> Reply {
+    match command(alloc, order) {
+        Ok(command) => call(session, &command),
+        Err(_) => NO_MEMORY,
+    }
+}
+
+fn cut_step(step: &PlanStep) -> CutStep {
+    let (axis, place) = match step {
+        PlanStep::X(place) => (Axis::X, *place),
+        PlanStep::Y(place) => (Axis::Y, *place),
+        PlanStep::Z(place) => (Axis::Z, *place),
+        PlanStep::Leaf => return CutStep::Leaf,
+    };
+    CutStep::Cut { axis, place }
+}
+
+fn is_plan(plan: &[CutStep], wanted: &[PlanStep]) -> bool {
+    for (step, wanted) in plan.iter().zip(wanted.iter()) {
+        if *step != cut_step(wanted) {
+            return false;
+        }
+    }
+    plan.len() == wanted.len()
+}
+
+fn came_if(is_wanted: bool) -> Came {
+    if is_wanted { Came::Out } else { Came::Wrong }
+}
+
+// What comes of a reply, which is to be this one.
+fn come_of(reply: Reply, wanted: Reply) -> Came {
+    if reply == NO_MEMORY {
+        return Came::Refused;
+    }
+    came_if(reply == wanted)
+}
+
+// How many entries of groups these boxes make.
+fn entries(boxes: &[SizedBox]) -> u64 {
+    let mut count = 0u64;
+    for (_, _, groups) in boxes {
+        count = count.saturating_add(groups.len().max(1) as u64);
+    }
+    count
+}
+
+// What a packing of these boxes replies where it is done, from this next number on.
+fn placed(boxes: &[SizedBox], next: u64) -> Reply {
+    Reply::Packed(Packed {
+        first: next,
+        count: entries(boxes),
+    })
+}
+
+// What this call replies where it is done.
+fn done(order: &Order, next: u64) -> Reply {
+    match order {
+        Order::Pack(boxes) => placed(boxes, next),
+        Order::PackApart(boxes, _) => placed(boxes, next),
+        _ => Reply::Done,
+    }
+}
+
+fn ask_plan(session: &TestSession<'_>, bin: u32, wanted: &[PlanStep]) -> Came {
+    match session.cut_plan(&bin) {
+        Ok(Some(plan)) => came_if(is_plan(plan.as_slice(), wanted)),
+        Err(SessionError::OutOfMemory) => Came::Refused,
+        _ => Came::Wrong,
+    }
+}
+
+fn ask_plans(session: &TestSession<'_>, plans: &[(u32, &'static [PlanStep])]) -> Came {
+    for (bin, wanted) in plans {
+        match ask_plan(session, *bin, wanted) {
+            Came::Out => {}
+            other => return other,
+        }
+    }
+    came_if(session.bins().len() == plans.len())
+}
+
+fn is_free(session: &TestSession<'_>, bin: u32, list: &[[u32; 6]]) -> bool {
+    match session.bins().get(&bin) {
+        Some(bin) => has_list(bin, list),
+        None => false,
+    }
+}
+
+fn play<'a>(session: &mut TestSession<'a>, alloc: Alloc<'a>, step: &Step) -> Came {
+    let next = session.next_number();
+    match step {
+        Step::Call(order) => come_of(obey(session, alloc, order), done(order, next)),
+        Step::PackBy(rule, boxes) => {
+            come_of(pack_by(session, alloc, *rule, boxes), placed(boxes, next))
+        }
+        Step::Replies(order, wanted) => come_of(obey(session, alloc, order), *wanted),
+        Step::Plans(plans) => ask_plans(session, plans),
+        Step::IsIn(state, plan) => {
+            let answer = ask_plan(session, 0, plan);
+            if is_in(session, state) {
+                answer
+            } else {
+                Came::Wrong
+            }
+        }
+        Step::NoPlan(bin) => came_if(matches!(session.cut_plan(bin), Ok(None))),
+        Step::NoBin(bin) => {
+            came_if(matches!(session.cut_plan(bin), Err(SessionError::UnknownBin)))
+        }
+        Step::Free(bin, list) => came_if(is_free(session, *bin, list)),
+    }
+}
+
+// Plays the steps until one does not come out as wanted, and says which.
+fn play_each<'a>(
+    session: &mut TestSession<'a>,
+    alloc: Alloc<'a>,
+    script: &[Step],
+) -> (usize, Came) {
+    for (index, step) in script.iter().enumerate() {
+        match play(session, alloc, step) {
+            Came::Out => {}
+            other => return (index, other),
+        }
+    }
+    (script.len(), Came::Out)
+}
+
+/// Plays a script in a new session. Says how it came out, and at which step.
+pub fn play_all(alloc: &Refusing<Global>, script: &[Step]) -> (usize, Came) {
+    let mut session = TestSession::new(alloc, 0);
+    play_each(&mut session, alloc, script)
+}
+
+/// Each script comes out, and all that it takes is given back.
+pub fn come_out(rt: &impl Abort, alloc: Global, subject: &str, scripts: &[&[Step]]) {
+    for (index, script) in scripts.iter().enumerate() {
+        let alloc = Refusing::new(alloc, u64::MAX);
+        let (step, came) = play_all(&alloc, script);
+        assert!(rt;
+            matches!(came, Came::Out),
+            "{subject}: script {index}, step {step}"
+        );
+        assert_eq!(rt; alloc.taken(), 0);
+    }
+}

@@ -1,0 +1,258 @@
+//! Sessions whose heuristic and comparison answer without sense.
+ghost use Rattle.rectangle_pack.specs.Closures.{AreCallable, CanRate};
+
+use super::{BIN, OTHER, Order, TestSession, command};
+use rectangle_pack::{
+    BinSection, Outstanding, Packed, Reply, TargetBin, WidthHeightDepth, contains_smallest_box,
+};
+use std::alloc::{AllocError, Global};
+use std::cell::Cell;
+use std::cmp::Ordering;
+use std::process::Abort;
+use std::test::Fail;
+use tests_support::refusing::Refusing;
+use tests_support::shapes::{numbers, place};
+
+// Two groups.
+const ONE_GROUP: u32 = 1;
+
+const OTHER_GROUP: u32 = 2;
+
+// Whatever the closures answer, the first bin has room: of its million cells a free section that
+// does not hold one of these boxes has at most 30,000, and there are never more than 30 of them.
+const ORDERS: &[(Order, Reply)] = &[
+    (Order::AddBin(BIN, [100, 100, 100]), Reply::Done),
+    (Order::AddBin(OTHER, [7, 5, 3]), Reply::Done),
+    (
+        Order::Pack(&[(1, [3, 2, 2], &[]), (2, [1, 1, 1], &[])]),
+        Reply::Packed(Packed { first: 0, count: 2 }),
+    ),
+    (
+        Order::Pack(&[
+            (3, [2, 1, 1], &[ONE_GROUP]),
+            (4, [1, 2, 3], &[ONE_GROUP, OTHER_GROUP]),
+            (5, [4, 1, 2], &[]),
+        ]),
+        Reply::Packed(Packed { first: 2, count: 4 }),
+    ),
+    (Order::Release(1), Reply::Done),
+    (Order::Release(4), Reply::Done),
+    (
+        Order::Pack(&[
+            (6, [2, 2, 2], &[]),
+            (7, [0, 1, 1], &[OTHER_GROUP, OTHER_GROUP]),
+        ]),
+        Reply::Packed(Packed { first: 6, count: 3 }),
+    ),
+    (Order::Release(0), Reply::Done),
+    (Order::CoalesceAll(BIN), Reply::Done),
+    (Order::CoalesceAll(OTHER), Reply::Done),
+    (
+        Order::Pack(&[(8, [3, 4, 1], &[]), (9, [1, 1, 3], &[])]),
+        Reply::Packed(Packed { first: 9, count: 2 }),
+    ),
+    (Order::Release(10), Reply::Done),
+    (Order::Release(3), Reply::Done),
+];
+
+type Three = [WidthHeightDepth; 3];
+
+fn volume([_, _, _, width, height, depth]: [u32; 6]) -> u64 {
+    u64::from(width)
+        .wrapping_mul(u64::from(height))
+        .wrapping_mul(u64::from(depth))
+}
+
+fn free_volume(sections: &[BinSection]) -> u64 {
+    let mut sum = 0u64;
+    for section in sections {
+        sum = sum.wrapping_add(volume(numbers(section)));
+    }
+    sum
+}
+
+fn placed_volume(outstanding: &[Outstanding<u32, u32>], bin: u32) -> u64 {
+    let mut sum = 0u64;
+    for placed in outstanding {
+        if placed.bin == bin {
+            sum = sum.wrapping_add(volume(place(&placed.location)));
+        }
+    }
+    sum
+}
+
+// Whether what is free and what is placed in the bin make up the whole.
+fn is_whole(
+    bin: &TargetBin<&Refusing<Global>>,
+    id: u32,
+    outstanding: &[Outstanding<u32, u32>],
+) -> bool {
+    let size = bin.max_size();
+    let whole = [0, 0, 0, size.width(), size.height(), size.depth()];
+    let free = free_volume(bin.available_bin_sections().as_slice());
+    free.wrapping_add(placed_volume(outstanding, id)) == volume(whole)
+}
+
+fn are_whole(session: &TestSession<'_>) -> bool {
+    for (id, bin) in session.bins() {
+        if !is_whole(bin, *id, session.outstanding()) {
+            return false;
+        }
+    }
+    true
+}
+
+fn obey<'a, H, C>(
+    alloc: &'a Refusing<Global>,
+    session: &mut TestSession<'a>,
+    order: &Order,
+    heuristic: &H,
+    comparison: &C,
+) -> Result<Option<Reply>, AllocError>
+where
+    H: Fn(WidthHeightDepth) -> u128,
+    C: Fn(Three, Three, &H) -> Ordering,
+    requires { AreCallable H.Fn C.Fn heuristic.now comparison.now }
+{
+    let commands = [command(alloc, order)?];
+    let replies = session.run(&commands, heuristic, comparison)?;
+    Ok(replies.first().copied())
+}
+
+// With these closures the commands are obeyed, and after each the volumes add up.
+fn obey_all<'a, H, C>(
+    rt: &impl Abort,
+    alloc: &'a Refusing<Global>,
+    session: &mut TestSession<'a>,
+    heuristic: &H,
+    comparison: &C,
+) -> Result<(), Fail>
+where
+    H: Fn(WidthHeightDepth) -> u128,
+    C: Fn(Three, Three, &H) -> Ordering,
+    requires { AreCallable H.Fn C.Fn heuristic.now comparison.now }
+{
+    for (index, (order, wanted)) in ORDERS.iter().enumerate() {
+        let reply = obey(alloc, session, order, heuristic, comparison)?;
+        assert!(rt;
+            reply == Some(*wanted) && are_whole(session),
+            "at {index}: {reply:?}"
+        );
+    }
+    Ok(())
+}
+
+// In a new session.
+fn stays_whole<H, C>(
+    rt: &impl Abort,
+    alloc: Global,
+    heuristic: &H,
+    comparison: &C,
+) -> Result<(), Fail>
+where
+    H: Fn(WidthHeightDepth) -> u128,
+    C: Fn(Three, Three, &H) -> Ordering,
+    requires { AreCallable H.Fn C.Fn heuristic.now comparison.now }
+{
+    let alloc = Refusing::new(alloc, u64::MAX);
+    let mut session = TestSession::new(&alloc, 0);
+    obey_all(rt, &alloc, &mut session, heuristic, comparison)
+}
+
+// How the closures answer.
+#[derive(Clone, Copy)]
+enum Mood {
+    // By how often they were asked.
+    Counting,
+    // By hashes of the sizes.
+    Hashing,
+    // The heuristic by hashes; of three the first is below the second, the second below the
+    // third, and the third below the first.
+    InACircle,
+    // The heuristic the least and the greatest number in turn.
+    LeastAndGreatest,
+}
+
+const MOODS: [Mood; 4] = [
+    Mood::Counting,
+    Mood::Hashing,
+    Mood::InACircle,
+    Mood::LeastAndGreatest,
+];
+
+fn count(counter: &Cell<u64>) -> u64 {
+    let now = counter.get();
+    counter.set(now.wrapping_add(1));
+    now
+}
+
+fn any_of_three(number: u64) -> Ordering {
+    match number % 3 {
+        0 => Ordering::Less,
+        1 => Ordering::Equal,
+        _ => Ordering::Greater,
+    }
+}
+
+fn hash_on(hash: u64, side: u32) -> u64 {
+    (hash ^ u64::from(side)).wrapping_mul(0x100000001b3)
+}
+
+fn hash(size: WidthHeightDepth) -> u64 {
+    let hash = hash_on(0xcbf29ce484222325, size.width());
+    hash_on(hash_on(hash, size.height()), size.depth())
+}
+
+fn hash_of_three([right, above, behind]: Three) -> u64 {
+    hash(right)
+        .rotate_left(1)
+        .wrapping_add(hash(above).rotate_left(2))
+        .wrapping_add(hash(behind))
+}
+
+fn rate(mood: Mood, asked: &Cell<u64>, size: WidthHeightDepth) -> u128 {
+    match mood {
+        Mood::Counting => u128::from(count(asked) % 7),
+        Mood::Hashing | Mood::InACircle => u128::from(hash(size)),
+        Mood::LeastAndGreatest if count(asked) % 2 == 0 => 0,
+        Mood::LeastAndGreatest => u128::MAX,
+    }
+}
+
+fn compare(mood: Mood, asked: &Cell<u64>, one: Three, other: Three) -> Ordering {
+    let (one, other) = (hash_of_three(one), hash_of_three(other));
+    match mood {
+        Mood::Counting | Mood::LeastAndGreatest => any_of_three(count(asked)),
+        Mood::Hashing => any_of_three(one ^ other.rotate_left(7)),
+        Mood::InACircle => any_of_three((one % 3 + 4 - other % 3) % 3),
+    }
+}
+
+// By the comparison of this mood, and by smallest boxes. Each begins to count anew.
+fn stays_whole_by_mood<H>(
+    rt: &impl Abort,
+    alloc: Global,
+    mood: Mood,
+    asked: &Cell<u64>,
+    heuristic: &H,
+) -> Result<(), Fail>
+where
+    H: Fn(WidthHeightDepth) -> u128,
+    requires { CanRate H.Fn heuristic.now }
+{
+    let compared = Cell::new(0u64);
+    let comparison = |one: Three, other: Three, _: &H| compare(mood, &compared, one, other);
+    stays_whole(rt, alloc, heuristic, &comparison)?;
+    asked.set(0);
+    stays_whole(rt, alloc, heuristic, &contains_smallest_box)
+}
+
+#[test]
+fn answers_without_sense(rt: HostRuntime) -> Result<(), Fail> {
+    for mood in MOODS {
+        let asked = Cell::new(0u64);
+        let heuristic = |size: WidthHeightDepth| rate(mood, &asked, size);
+        stays_whole_by_mood(&rt, rt.alloc(), mood, &asked, &heuristic)?;
+    }
+    Ok(())
+}

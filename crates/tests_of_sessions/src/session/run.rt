@@ -1,0 +1,140 @@
+//! One run of all commands of a script, beside its calls.
+
+use super::calls::call;
+use super::{Made, Script, TestCommand, TestSession, commands, empty, is_in};
+use rectangle_pack::{BinSection, Reply, contains_smallest_box, volume_heuristic};
+use std::alloc::Global;
+use std::process::Abort;
+use tests_support::refusing::Refusing;
+
+// How a run came out: a request was refused, or the replies or the session are wrong, or all is as
+// wanted.
+#[derive(Clone, Copy)]
+enum Came {
+    Refused,
+    Wrong,
+    Out,
+}
+
+// Whether calls answer these replies.
+fn are_called<'a>(
+    replies: &[Reply],
+    session: &mut TestSession<'a>,
+    commands: &[TestCommand<'a>],
+) -> bool {
+    for (reply, command) in replies.iter().zip(commands.iter()) {
+        if *reply != call(session, command) {
+            return false;
+        }
+    }
+    replies.len() == commands.len()
+}
+
+// Whether the sessions have the same bins, free sections, placements and next number.
+fn are_alike<'a>(one: &TestSession<'a>, other: &TestSession<'a>) -> bool {
+    for ((id, bin), (twin_id, twin)) in one.bins().iter().zip(other.bins().iter()) {
+        if id != twin_id || bin.available_bin_sections() != twin.available_bin_sections() {
+            return false;
+        }
+    }
+    one.bins().len() == other.bins().len()
+        && one.outstanding() == other.outstanding()
+        && one.next_number() == other.next_number()
+}
+
+// Whether the replies are those of the lines.
+fn are_wanted(replies: &[Reply], script: &Script) -> bool {
+    for (reply, line) in replies.iter().zip(script.lines.iter()) {
+        if *reply != line.reply {
+            return false;
+        }
+    }
+    replies.len() == script.lines.len()
+}
+
+// Each reply is what its call answers, and where the replies are those of the script, the session
+// is in the state that it is to be in after the last line.
+fn compare<'a>(
+    replies: &[Reply],
+    session: &TestSession<'a>,
+    twin: &mut TestSession<'a>,
+    commands: &[TestCommand<'a>],
+    script: &Script,
+) -> Came {
+    if !are_called(replies, twin, commands) || !are_alike(session, twin) {
+        return Came::Wrong;
+    }
+    if !are_wanted(replies, script) {
+        return Came::Refused;
+    }
+    match script.lines.last() {
+        Some(line) if is_in(session, &line.after) => Came::Out,
+        _ => Came::Wrong,
+    }
+}
+
+// Without room for the replies nothing is done. Else each reply is what its call answers with the
+// memory that the room for the replies leaves.
+fn run_beside_calls<'a>(
+    has_room: bool,
+    session: &mut TestSession<'a>,
+    twin: &mut TestSession<'a>,
+    commands: &[TestCommand<'a>],
+    script: &Script,
+) -> Came {
+    match session.run(commands, &volume_heuristic, &contains_smallest_box) {
+        Ok(replies) => compare(replies.as_slice(), session, twin, commands, script),
+        Err(_) if !has_room && is_in(session, &empty(script.first)) => Came::Refused,
+        Err(_) => Came::Wrong,
+    }
+}
+
+// In two new sessions. Commands take their memory elsewhere.
+fn run_all<'a>(
+    plenty: &'a Refusing<Global>,
+    scarce: &'a Refusing<Global>,
+    left: &'a Refusing<Global>,
+    script: &Script,
+) -> Made<Came> {
+    let commands = commands(plenty, script)?;
+    let has_room = scarce.left() > 0;
+    let mut session = TestSession::new(scarce, script.first);
+    let mut twin = TestSession::new(left, script.first);
+    Ok(run_beside_calls(
+        has_room,
+        &mut session,
+        &mut twin,
+        commands.as_slice(),
+        script,
+    ))
+}
+
+// With so many requests granted, the run comes out so. All memory is given back. The run says that
+// memory was refused where it was, and only there.
+fn run_granted(rt: &impl Abort, alloc: Global, granted: u64, script: &Script) -> Made<Came> {
+    let plenty = Refusing::new(alloc, u64::MAX);
+    let scarce = Refusing::new(alloc, granted);
+    let left = Refusing::new(alloc, granted.saturating_sub(1));
+    let came = run_all(&plenty, &scarce, &left, script)?;
+    assert_eq!(rt; scarce.refused() == 0, matches!(came, Came::Out));
+    assert_eq!(rt; (plenty.taken(), scarce.taken(), left.taken()), (0, 0, 0));
+    Ok(came)
+}
+
+/// Runs with all memory, and then with each request refused in turn, until none is.
+pub fn come_out(rt: &impl Abort, alloc: Global, script: &Script) -> Made<()> {
+    let came = run_granted(rt, alloc, u64::MAX, script)?;
+    assert!(rt; matches!(came, Came::Out));
+    for granted in 0..300u64 {
+        match run_granted(rt, alloc, granted, script)? {
+            Came::Refused => {}
+            Came::Wrong => assert!(rt; false, "{granted} requests"),
+            Came::Out => {
+                assert!(rt; granted > 0);
+                return Ok(());
+            }
+        }
+    }
+    assert!(rt; false);
+    Ok(())
+}

@@ -1,0 +1,73 @@
+//! Boxes, groups and bins by their numbers.
+
+use super::refusing::Refusing;
+use super::shapes::named;
+use rectangle_pack::{Group, GroupedRectsToPlace, RectToInsert, TargetBin};
+use std::alloc::{AllocError, Allocator, Global};
+use std::collections::BTreeMap;
+
+/// A box by id, size and groups; without groups it is pushed alone.
+pub type SizedBox = (u32, [u32; 3], &'static [u32]);
+
+/// A bin by id and size, and its free sections.
+pub type SizedBin = (u32, [u32; 3], &'static [[u32; 6]]);
+
+/// A named group, or the box of this id alone.
+pub type GroupName = Group<u32, u32>;
+
+/// Boxes to place, whose memory may be refused.
+pub type Rects<'a> = GroupedRectsToPlace<u32, u32, &'a Refusing<Global>>;
+
+/// Bins, whose memory may be refused.
+pub type Bins<'a> = BTreeMap<u32, TargetBin<&'a Refusing<Global>>, &'a Refusing<Global>>;
+
+/// Pushes the boxes.
+pub fn push_boxes<A: Allocator + Copy>(
+    alloc: A,
+    rects: &mut GroupedRectsToPlace<u32, u32, A>,
+    boxes: &[SizedBox],
+) -> Result<(), AllocError> {
+    for sized in boxes {
+        let (id, [width, height, depth], groups) = *sized;
+        let groups = named(alloc, groups)?;
+        rects.push_rect(id, groups, RectToInsert::new(width, height, depth))?;
+    }
+    Ok(())
+}
+
+/// Pushes so many boxes of one cell, each alone under its number, from 0 on.
+pub fn push_units<A: Allocator + Copy>(
+    rects: &mut GroupedRectsToPlace<u32, u32, A>,
+    count: u32,
+) -> Result<(), AllocError> {
+    for id in 0..count {
+        rects.push_rect(id, None, RectToInsert::new(1, 1, 1))?;
+    }
+    Ok(())
+}
+
+/// Excludes the groups of each pair, which differ.
+pub fn exclude_all(
+    rects: &mut Rects<'_>,
+    pairs: &[(GroupName, GroupName)],
+) -> Result<(), AllocError> {
+    for (one, other) in pairs {
+        let (one, other) = (one.clone()?, other.clone()?);
+        if one != other {
+            rects.exclude(one, other)?;
+        }
+    }
+    Ok(())
+}
+
+/// These boxes, and the pairs of groups that are excluded.
+pub fn collect<'a>(
+    alloc: &'a Refusing<Global>,
+    boxes: &[SizedBox],
+    excluded: &[(GroupName, GroupName)],
+) -> Result<Rects<'a>, AllocError> {
+    let mut rects = Rects::new(alloc);
+    push_boxes(alloc, &mut rects, boxes)?;
+    exclude_all(&mut rects, excluded)?;
+    Ok(rects)
+}

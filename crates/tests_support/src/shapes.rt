@@ -1,0 +1,77 @@
+//! Sections, locations and bins by their numbers (x, y, z, width, height, depth), and groups by
+//! theirs.
+ghost use Rattle.std.specs.Prelude.{◌≡◌, ◌<◌, IfOk, vec_len};
+ghost use Rattle.std.specs.Option.{ForSome};
+ghost use Rattle.rectangle_pack.specs.Boxes.{Size};
+
+use rectangle_pack::{BinSection, PackedLocation, RectToInsert, TargetBin, WidthHeightDepth};
+use std::alloc::{AllocError, Allocator};
+
+/// A section with this corner and size; any of the numbers may be 0.
+pub fn section(x: u32, y: u32, z: u32, width: u32, height: u32, depth: u32) -> BinSection
+    ensures { let size : Size = record { width = width; height = height; depth = depth } in
+        result ≡ record { x = x; y = y; z = z; whd = size } }
+{
+    let whd = WidthHeightDepth::from(RectToInsert::new(width, height, depth));
+    BinSection::new(x, y, z, whd)
+}
+
+/// The section of these numbers.
+pub fn section_of(numbers: [u32; 6]) -> BinSection {
+    let [x, y, z, width, height, depth] = numbers;
+    section(x, y, z, width, height, depth)
+}
+
+/// The numbers of a section.
+pub fn numbers(section: &BinSection) -> [u32; 6] {
+    let whd = section.whd();
+    [
+        section.x(),
+        section.y(),
+        section.z(),
+        whd.width(),
+        whd.height(),
+        whd.depth(),
+    ]
+}
+
+/// The numbers of a location.
+pub fn place(location: &PackedLocation) -> [u32; 6] {
+    [
+        location.x(),
+        location.y(),
+        location.z(),
+        location.width(),
+        location.height(),
+        location.depth(),
+    ]
+}
+
+/// Whether these are the bin's free sections, in this order.
+pub fn has_list<A: Allocator + Copy>(bin: &TargetBin<A>, list: &[[u32; 6]]) -> bool {
+    let sections = bin.available_bin_sections();
+    sections.len() == list.len()
+        && sections
+            .iter()
+            .zip(list.iter())
+            .all(|(section, wanted)| numbers(section) == *wanted)
+}
+
+/// Whether all of the bin is free, in one section, as when it was new.
+pub fn is_new<A: Allocator + Copy>(bin: &TargetBin<A>) -> bool {
+    let size = bin.max_size();
+    has_list(bin, &[[0, 0, 0, size.width(), size.height(), size.depth()]])
+}
+
+/// The groups of a push. A list without groups is `None`: the box is pushed alone.
+pub fn named<A: Allocator + Copy>(
+    alloc: A,
+    groups: &[u32],
+) -> Result<Option<Vec<u32, A>>, AllocError>
+    ensures { IfOk result (λ groups. ForSome groups (λ named. 0 < vec_len named)) }
+{
+    if groups.is_empty() {
+        return Ok(None);
+    }
+    Ok(Some(groups.to_vec(alloc)?))
+}
