@@ -1,6 +1,6 @@
 -- Boxes and cells, axis by axis.
 use Rattle.std.proofs.Common.{ℕ, ◌≡◌, ◌≢◌, ◌+◌, ◌<◌, ◌≤◌, ◌⊎◌, inl, inr, true, refl, subst, arith}
-use Rattle.std.proofs.lemmas.Bool.{and_parts, and_from, ltb-true, lt-ltb}
+use Rattle.std.proofs.lemmas.Bool.Decides.{nat_tests}
 use Rattle.rectangle_pack.specs.declared.axis.Axis.{Axis}
 use Rattle.rectangle_pack.specs.declared.axis.Axis.TheVariants.{X, Y, Z}
 use Rattle.rectangle_pack.specs.Boxes.{Cuboid, Cell, IsPartOf, is_cell_of, extent, start, end, has_cells}
@@ -8,26 +8,19 @@ use Rattle.rectangle_pack.proofs.BoxesLemmas.{is_cell_of-true, is_cell_of-from}
 
 pub cases_axis : (a b : Axis) → (a ≡ b) ⊎ (a ≢ b)
 cases_axis X X = inl refl
-cases_axis X Y = inr (λ e. cc)
-cases_axis X Z = inr (λ e. cc)
-cases_axis Y X = inr (λ e. cc)
 cases_axis Y Y = inl refl
-cases_axis Y Z = inr (λ e. cc)
-cases_axis Z X = inr (λ e. cc)
-cases_axis Z Y = inr (λ e. cc)
 cases_axis Z Z = inl refl
+cases_axis _ _ = inr (λ e. cc)
 
 -- what holds of each axis and each other one holds of any two that differ
 pub by_other : (P : Axis → Axis → Type 0) → P X Y → P X Z → P Y X → P Y Z → P Z X → P Z Y → (a e : Axis) → a ≢ e → P a e
-by_other P xy xz yx yz zx zy X X n = absurd (n refl)
 by_other P xy xz yx yz zx zy X Y n = xy
 by_other P xy xz yx yz zx zy X Z n = xz
 by_other P xy xz yx yz zx zy Y X n = yx
-by_other P xy xz yx yz zx zy Y Y n = absurd (n refl)
 by_other P xy xz yx yz zx zy Y Z n = yz
 by_other P xy xz yx yz zx zy Z X n = zx
 by_other P xy xz yx yz zx zy Z Y n = zy
-by_other P xy xz yx yz zx zy Z Z n = absurd (n refl)
+by_other P xy xz yx yz zx zy _ _ n = absurd (n refl)
 
 -- what holds of one axis and of each other one holds of every axis
 pub by_axis : (P : Axis → Type 0) (a : Axis) → P a → ((e : Axis) → a ≢ e → P e) → (e : Axis) → P e
@@ -62,24 +55,30 @@ is_cell c b h =
 pub cell_at : (f : Axis → ℕ) → Cell
 cell_at f = record { i = f X; j = f Y; k = f Z }
 
-pub coordinate-cell_at : (f : Axis → ℕ) (a : Axis) → coordinate a (cell_at f) ≡ f a
+coordinate-cell_at : (f : Axis → ℕ) (a : Axis) → coordinate a (cell_at f) ≡ f a
 unfolding cell_at
 coordinate-cell_at f X = refl
-coordinate-cell_at f Y = refl
-coordinate-cell_at f Z = refl
+coordinate-cell_at f _ = refl
+
+-- it is in a box where each place is in the box's span on the axis
+abbrev pub IsAt : Cuboid → (Axis → ℕ) → Type 0
+IsAt b f = (a : Axis) → (start a b ≤ f a) × (f a < end a b)
+
+pub is_cell_at : (f : Axis → ℕ) (b : Cuboid) → IsAt b f → is_cell_of (cell_at f) b ≡ true
+is_cell_at f b h = is_cell (cell_at f) b (λ a. rw (coordinate-cell_at f a) (h a))
+
+pub lies_at : (f : Axis → ℕ) (b : Cuboid) → is_cell_of (cell_at f) b ≡ true → IsAt b f
+lies_at f b t a = rw (coordinate-cell_at f a) at (lies_in (cell_at f) b t a)
 
 -- a box has cells where it ends after its start on each axis
 pub runs_on : (b : Cuboid) → has_cells b ≡ true → (a : Axis) → start a b < end a b
 unfolding start extent end
-runs_on b h X = omega (arith, ltb-true 0 b.whd.width (and_parts _ _ (and_parts _ _ h).0).0)
-runs_on b h Y = omega (arith, ltb-true 0 b.whd.height (and_parts _ _ (and_parts _ _ h).0).1)
-runs_on b h Z = omega (arith, ltb-true 0 b.whd.depth (and_parts _ _ h).1)
+runs_on b h X = grind (arith, nat_tests)
+runs_on b h _ = grind (arith, nat_tests)
 
 pub has_cells-by : (b : Cuboid) → ((a : Axis) → start a b < end a b) → has_cells b ≡ true
 unfolding start extent end
-has_cells-by b h =
-    let x = h X in let y = h Y in let z = h Z in
-    and_from _ _ (and_from _ _ (lt-ltb 0 b.whd.width (omega arith)) (lt-ltb 0 b.whd.height (omega arith))) (lt-ltb 0 b.whd.depth (omega arith))
+has_cells-by b h = let x = h X in let y = h Y in let z = h Z in grind (arith, nat_tests)
 
 -- a part starts no earlier and ends no later on each axis
 abbrev pub StaysIn : Cuboid → Cuboid → Axis → Type 0
@@ -98,10 +97,10 @@ is_part b whole h =
     record { from_x = x.0; to_x = x.1; from_y = y.0; to_y = y.1; from_z = z.0; to_z = z.1 }
 
 pub IsPartOf-refl : (b : Cuboid) → IsPartOf b b
-IsPartOf-refl b = record { from_x = omega arith; to_x = omega arith; from_y = omega arith; to_y = omega arith; from_z = omega arith; to_z = omega arith }
+IsPartOf-refl b = is_part b b (λ a. (omega arith, omega arith))
 
 pub IsPartOf-trans : (b mid whole : Cuboid) → IsPartOf b mid → IsPartOf mid whole → IsPartOf b whole
-IsPartOf-trans b mid whole h k = record { from_x = omega arith; to_x = omega arith; from_y = omega arith; to_y = omega arith; from_z = omega arith; to_z = omega arith }
+IsPartOf-trans b mid whole h k = is_part b whole (λ a. let p = stays_in b mid h a in let q = stays_in mid whole k a in (omega arith, omega arith))
 
 -- what a part of a box has, the box has
 pub cell-part : (c : Cell) (b whole : Cuboid) → IsPartOf b whole → is_cell_of c b ≡ true → is_cell_of c whole ≡ true

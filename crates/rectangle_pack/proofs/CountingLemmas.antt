@@ -1,10 +1,10 @@
 -- Counts of an element's passes, and what counts of cells say of boxes.
-use Rattle.std.proofs.Common.{arith, ◌≡◌, ℕ, zero, suc, ◌+◌, ◌<◌, ◌≤◌, Bool, true, false, List, [], ◌∷◌, ◌++◌, cond, refl, IsTrue, ◌⊎◌, inl, inr}
-use Rattle.std.specs.List.{All, Any, AllPairs, count_by, list_any}
+use Rattle.std.proofs.Common.{arith, ◌≡◌, ℕ, zero, suc, ◌+◌, ◌<◌, ◌≤◌, Bool, true, false, List, [], ◌∷◌, ◌++◌, cond, refl, ap, IsTrue, inl, inr}
+use Rattle.std.specs.List.{All, Any, AllPairs, count_by, filter}
+use Rattle.std.proofs.lemmas.Bool.{cases_lt, cases_Bool, false_from_ne_true, both_ways}
 use Rattle.std.proofs.lemmas.List.Elements.{All-nil, All-cons, All-head, All-tail}
 use Rattle.std.proofs.lemmas.List.Kept.{AllPairs-cons}
 use Rattle.std.proofs.lemmas.List.Sums.{sum_by-append, count_by-le-length}
-use Rattle.std.proofs.lemmas.List.Folds.{Any-from_list_any, list_any-from_Any}
 use Rattle.rectangle_pack.specs.Boxes.{Cuboid, Cell, IsCellOf, AreApart, is_cell_of, has_cells}
 use Rattle.rectangle_pack.specs.Counting.{times_filled, Tiles, AreAllApart, Cover}
 use Rattle.rectangle_pack.specs.Keeping.{KeepCells}
@@ -35,24 +35,24 @@ module _ {X : Type 0} (p : X → Bool) where
       (λ k d below both. count_none xs (omega (arith, count_yes x xs both.0)) k d below both.1)
       (count_once xs (omega (arith, count-cons x xs)))
 
-  -- the count beside the test that some element passes
-  abbrev Counts : List X → Type 0
-  Counts xs = ((0 < count_by p xs) × (list_any p xs ≡ true)) ⊎ ((count_by p xs ≡ 0) × (list_any p xs ≡ false))
-
-  counted_step : (x : X) (xs : List X) (b : Bool) → p x ≡ b → Counts xs → Counts (x ∷ xs)
-  counted_step x xs true e c = inl (omega (arith, count_yes x xs e), rw e refl)
-  counted_step x xs false e (inl c) = inl (omega (arith, count_no x xs e), rw e c.1)
-  counted_step x xs false e (inr c) = inr (omega (arith, count_no x xs e), rw e c.1)
-
-  counted : (xs : List X) → Counts xs
-  counted [] = inr (refl, refl)
-  counted (x ∷ xs) = counted_step x xs (p x) refl (counted xs)
-
   some_from_count : (xs : List X) → 0 < count_by p xs → Any (λ x. IsTrue (p x)) xs
-  some_from_count xs h = elim (counted xs) [ inl c ↦ Any-from_list_any p xs c.1 | inr c ↦ absurd (omega arith) ]
+  some_from_count [] h = absurd (omega arith)
+  some_from_count (x ∷ xs) h = elim (cases_Bool (p x)) [
+    | inl t ↦ (zero, x, omega arith, refl, t)
+    | inr f ↦ let r = some_from_count xs (omega (arith, count_no x xs f)) in (suc r.0, r.1, omega arith, r.3, r.4)
+  ]
 
   count_from_some : (xs : List X) → Any (λ x. IsTrue (p x)) xs → 0 < count_by p xs
-  count_from_some xs h = let e = list_any-from_Any p xs h in elim (counted xs) [ inl c ↦ c.0 | inr c ↦ cc ]
+  count_from_some xs h = elim (cases_lt 0 (count_by p xs)) [ inl lt ↦ lt | inr ge ↦ absurd (count_none xs ge h.0 h.1 h.2 (rw h.3 h.4)) ]
+
+  -- a filter that all pass, and one that none passes
+  pub filter_all : (xs : List X) → All (λ x. p x ≡ true) xs → filter p xs ≡ xs
+  filter_all [] h = refl
+  filter_all (x ∷ xs) h = rw (All-head (λ x. p x ≡ true) x xs h) (ap (λ l. x ∷ l) (filter_all xs (All-tail (λ x. p x ≡ true) x xs h)))
+
+  pub filter_none : (xs : List X) → All (λ x. p x ≡ false) xs → filter p xs ≡ []
+  filter_none [] h = refl
+  filter_none (x ∷ xs) h = rw (All-head (λ x. p x ≡ false) x xs h) (filter_none xs (All-tail (λ x. p x ≡ false) x xs h))
 
 -- the pieces of a count of cells
 pub filled-append : (c : Cell) (xs ys : List Cuboid) → times_filled c (xs ++ ys) ≡ times_filled c xs + times_filled c ys
@@ -73,35 +73,32 @@ filled_yes c b bs h = count_yes (is_cell_of c) b bs (is_cell_of-from c b h)
 -- a box without cells fills none
 pub filled_none : (c : Cell) (b : Cuboid) → has_cells b ≡ false → times_filled c (b ∷ []) ≡ 0
 unfolding times_filled
-filled_none c b empty = by (is_cell_of c b) refl
-  where
-    by : (t : Bool) → is_cell_of c b ≡ t → count_by (is_cell_of c) (b ∷ []) ≡ 0
-    by true e = let some : has_cells b ≡ true = has_cells-from c b e in cc
-    by false e = count_no (is_cell_of c) b [] e
+filled_none c b empty = count_no (is_cell_of c) b [] (false_from_ne_true _ (λ t. both_ways _ empty (has_cells-from c b t)))
 
 -- one box has a cell at most once
-pub filled_one : (c : Cell) (b : Cuboid) → times_filled c (b ∷ []) ≤ 1
+filled_one : (c : Cell) (b : Cuboid) → times_filled c (b ∷ []) ≤ 1
 unfolding times_filled
 filled_one c b = count_by-le-length (is_cell_of c) (b ∷ [])
 
 -- a box that has a counted cell has it
 pub cell_from_filled : (c : Cell) (b : Cuboid) → 0 < times_filled c (b ∷ []) → IsCellOf c b
 unfolding times_filled
-cell_from_filled c b h = by (is_cell_of c b) refl
-  where
-    by : (t : Bool) → is_cell_of c b ≡ t → IsCellOf c b
-    by true e = is_cell_of-true c b e
-    by false e = absurd (omega (arith, count_no (is_cell_of c) b [] e))
+cell_from_filled c b h = elim (cases_Bool (is_cell_of c b)) [
+  | inl t ↦ is_cell_of-true c b t
+  | inr f ↦ absurd (omega (arith, count_no (is_cell_of c) b [] f))
+]
 
 -- where no cell is in two of the boxes, no two of them share one
 pub apart_from_counts : (boxes : List Cuboid) → ((c : Cell) → times_filled c boxes ≤ 1) → AreAllApart boxes
 unfolding times_filled
-apart_from_counts boxes h = λ i j d lt below. record { none = λ c a b. count_once (is_cell_of c) boxes (h c) i j d lt below (is_cell_of-from c _ a, is_cell_of-from c _ b) }
+apart_from_counts boxes h = λ i j d lt below. record {
+  none = λ c a b. count_once (is_cell_of c) boxes (h c) i j d lt below (is_cell_of-from c _ a, is_cell_of-from c _ b);
+}
 
 pub tiles_apart : (boxes : List Cuboid) (whole : Cuboid) → Tiles boxes whole → AreAllApart boxes
 tiles_apart boxes whole t = apart_from_counts boxes (λ c. omega (arith, t.same c, filled_one c whole))
 
-pub some_from_filled : (c : Cell) (boxes : List Cuboid) → 0 < times_filled c boxes → Any (IsCellOf c) boxes
+some_from_filled : (c : Cell) (boxes : List Cuboid) → 0 < times_filled c boxes → Any (IsCellOf c) boxes
 unfolding times_filled
 some_from_filled c boxes h =
     let some = some_from_count (is_cell_of c) boxes h in
@@ -123,25 +120,22 @@ AllPairs-head R x xs h k d within = h zero (suc k) d (omega arith) (omega arith)
 pub AllPairs-tail : {X : Type 0} (R : X → X → Type 0) (x : X) (xs : List X) → AllPairs R (x ∷ xs) → AllPairs R xs
 AllPairs-tail R x xs h i j d below within = h (suc i) (suc j) d (omega arith) (omega arith)
 
--- boxes that are apart from one that has the cell do not have it
-unfilled : (c : Cell) (b : Cuboid) → IsCellOf c b → (bs : List Cuboid) → All (AreApart b) bs → times_filled c bs ≡ 0
-unfolding times_filled
-unfilled c b h [] all = refl
-unfilled c b h (e ∷ bs) all = by (unfilled c b h bs (All-tail (AreApart b) e bs all)) (is_cell_of c e) refl
-  where
-    by : count_by (is_cell_of c) bs ≡ 0 → (t : Bool) → is_cell_of c e ≡ t → count_by (is_cell_of c) (e ∷ bs) ≡ 0
-    by ih true q = absurd ((All-head (AreApart b) e bs all).none c h (is_cell_of-true c e q))
-    by ih false q = omega (arith, count_no (is_cell_of c) e bs q, ih)
-
 -- where no two boxes share a cell, each is in at most one
 pub counts_from_apart : (c : Cell) (boxes : List Cuboid) → AreAllApart boxes → times_filled c boxes ≤ 1
 unfolding times_filled
 counts_from_apart c [] h = omega arith
-counts_from_apart c (b ∷ bs) h = by (counts_from_apart c bs (AllPairs-tail AreApart b bs h)) (is_cell_of c b) refl
-  where
-    by : count_by (is_cell_of c) bs ≤ 1 → (t : Bool) → is_cell_of c b ≡ t → count_by (is_cell_of c) (b ∷ bs) ≤ 1
-    by ih true q = let none : count_by (is_cell_of c) bs ≡ 0 = unfilled c b (is_cell_of-true c b q) bs (AllPairs-head AreApart b bs h) in omega (arith, count_yes (is_cell_of c) b bs q)
-    by ih false q = omega (arith, count_no (is_cell_of c) b bs q)
+counts_from_apart c (b ∷ bs) h =
+    let rest : count_by (is_cell_of c) bs ≤ 1 = counts_from_apart c bs (AllPairs-tail AreApart b bs h) in
+    elim (cases_Bool (is_cell_of c b)) [
+      | inr f ↦ omega (arith, count_no (is_cell_of c) b bs f, rest)
+      | inl t ↦ elim (cases_lt 0 (count_by (is_cell_of c) bs)) [
+        | inr none ↦ omega (arith, count_yes (is_cell_of c) b bs t)
+        | inl some ↦
+            let e = some_from_count (is_cell_of c) bs some in
+            let apart : AreApart b e.1 = rw e.3 at (AllPairs-head AreApart b bs h e.0 e.1 e.2) in
+            absurd (apart.none c (is_cell_of-true c b t) (is_cell_of-true c e.1 e.4))
+      ]
+    ]
 
 -- boxes that fill each cell as often as others that are apart keep the cells
 pub KeepCells-from_counts : (old new : List Cuboid) → AreAllApart old → ((c : Cell) → times_filled c new ≡ times_filled c old) → KeepCells old new

@@ -1,12 +1,12 @@
--- Boxes that cover a bin have its volume: the cells of the bin are counted box by box.
-use Rattle.std.proofs.Common.{arith, ◌≡◌, ℕ, zero, suc, ◌+◌, ◌*◌, ◌-◌, ◌<◌, ◌≤◌, Bool, true, false, ◌&&◌, List, [], ◌∷◌, cond, refl, ◌∙◌, min}
+-- Boxes that cover a bin, or fill a box, have its volume: the cells are counted box by box.
+use Rattle.std.proofs.Common.{arith, ◌≡◌, ℕ, zero, suc, ◌+◌, ◌*◌, ◌-◌, ◌<◌, ◌≤◌, Bool, true, false, ◌&&◌, List, [], ◌∷◌, cond, refl, sym, ◌∙◌, min}
 use Rattle.std.specs.Prelude.{All}
-use Rattle.std.proofs.lemmas.List.Elements.{All-head, All-tail}
+use Rattle.std.proofs.lemmas.List.Elements.{All-head, All-tail, All-weaker}
 use Rattle.std.proofs.lemmas.List.Sums.{sum_by-cons}
 use Rattle.std.proofs.lemmas.Bool.Decides.{nat_tests}
-use Rattle.rectangle_pack.specs.Boxes.{Size, Cuboid, Cell, IsCellOf, IsInside, is_within, is_cell_of, volume_of}
+use Rattle.rectangle_pack.specs.Boxes.{Size, Cuboid, Cell, IsCellOf, IsInside, IsPartOf, is_within, is_cell_of, volume_of}
 use Rattle.rectangle_pack.specs.Bins.{whole}
-use Rattle.rectangle_pack.specs.Counting.{times_filled, total_volume}
+use Rattle.rectangle_pack.specs.Counting.{times_filled, total_volume, Tiles, HaveVolumeOf}
 use Rattle.rectangle_pack.specs.Covering.{CoverBin}
 use Rattle.rectangle_pack.proofs.CountingLemmas.{filled-cons, filled-nil}
 
@@ -35,11 +35,11 @@ sum_to-const : (n m : ℕ) → sum_to n (λ i. m) ≡ n * m
 sum_to-const zero m = omega arith
 sum_to-const (suc n) m = omega (arith, sum_to-const n m)
 
--- 1 at the places of a stretch, 0 at all others
-abbrev mark : ℕ → ℕ → ℕ → ℕ
+-- 1 at the places of a span, 0 at all others
+abbrev pub mark : ℕ → ℕ → ℕ → ℕ
 mark first long place = cond (is_within first long place) 1 0
 
--- a stretch has as many places as it is long
+-- a span has as many places as it is long
 marks-below : (n first long : ℕ) → sum_to n (mark first long) ≡ min n (first + long) - first
 marks-below zero first long = omega arith
 marks-below (suc n) first long = let before = marks-below n first long in grind (arith, nat_tests, before)
@@ -56,7 +56,8 @@ over-same s f g same =
     sum_to-same s.width _ _ (λ i in_x.
     sum_to-same s.height _ _ (λ j in_y.
     sum_to-same s.depth _ _ (λ k in_z.
-    same (record { i = i; j = j; k = k }) (record { from_x = omega arith; below_x = omega arith; from_y = omega arith; below_y = omega arith; from_z = omega arith; below_z = omega arith }))))
+    same (record { i = i; j = j; k = k })
+    (record { from_x = omega arith; below_x = omega arith; from_y = omega arith; below_y = omega arith; from_z = omega arith; below_z = omega arith }))))
 
 over-add : (s : Size) (f g : Cell → ℕ) → over_cells s (λ c. f c + g c) ≡ over_cells s f + over_cells s g
 over-add s f g = simp sum_to-add
@@ -75,7 +76,8 @@ all_three true false true = refl
 all_three true false false = refl
 all_three false q r = omega arith
 
-filled-marks : (c : Cell) (b : Cuboid) → times_filled c (b ∷ []) ≡ mark b.x b.whd.width c.i * mark b.y b.whd.height c.j * mark b.z b.whd.depth c.k
+pub filled-marks : (c : Cell) (b : Cuboid)
+    → times_filled c (b ∷ []) ≡ mark b.x b.whd.width c.i * mark b.y b.whd.height c.j * mark b.z b.whd.depth c.k
 unfolding times_filled is_cell_of
 filled-marks c b = omega (arith, all_three (is_within b.x b.whd.width c.i) (is_within b.y b.whd.height c.j) (is_within b.z b.whd.depth c.k))
 
@@ -91,7 +93,21 @@ filled-boxes s [] inside = over-same s _ (λ c. 0) (λ c in_bin. filled-nil c) �
 filled-boxes s (b ∷ bs) inside =
     over-same s _ (λ c. times_filled c (b ∷ []) + times_filled c bs) (λ c in_bin. filled-cons c b bs)
     ∙ over-add s (λ c. times_filled c (b ∷ [])) (λ c. times_filled c bs)
-    ∙ omega (arith, filled-box s b (All-head (IsInside s) b bs inside), filled-boxes s bs (All-tail (IsInside s) b bs inside), sum_by-cons (λ (e : Cuboid). volume_of e.whd) b bs)
+    ∙ omega (
+      arith,
+      filled-box s b (All-head (IsInside s) b bs inside),
+      filled-boxes s bs (All-tail (IsInside s) b bs inside),
+      sum_by-cons (λ (e : Cuboid). volume_of e.whd) b bs,
+    )
 
 pub CoverBin-volume : (boxes : List Cuboid) (s : Size) → CoverBin boxes s → total_volume boxes ≡ volume_of s
-CoverBin-volume boxes s cover = omega (arith, filled-boxes s boxes cover.inside, over-same s (λ c. times_filled c boxes) (λ c. 1) cover.once, over-const s 1)
+CoverBin-volume boxes s cover =
+    omega (arith, filled-boxes s boxes cover.inside, over-same s (λ c. times_filled c boxes) (λ c. 1) cover.once, over-const s 1)
+
+pub Tiles-volume : (boxes : List Cuboid) (b : Cuboid) → All (λ e. IsPartOf e b) boxes → Tiles boxes b → HaveVolumeOf boxes b
+Tiles-volume boxes b parts tiles =
+    let s : Size = record { width = b.x + b.whd.width; height = b.y + b.whd.height; depth = b.z + b.whd.depth } in
+    let inside : (e : Cuboid) → IsPartOf e b → IsInside s e = λ e part. record { within_x = part.to_x; within_y = part.to_y; within_z = part.to_z } in
+    sym (filled-boxes s boxes (All-weaker (λ e. IsPartOf e b) (IsInside s) inside boxes parts))
+    ∙ over-same s (λ c. times_filled c boxes) (λ c. times_filled c (b ∷ [])) (λ c in_bin. tiles.same c)
+    ∙ filled-box s b (record { within_x = omega arith; within_y = omega arith; within_z = omega arith })

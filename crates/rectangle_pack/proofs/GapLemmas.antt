@@ -1,15 +1,17 @@
 -- How far boxes go on from one another along an axis, so that no plane is open between them.
-use Rattle.std.proofs.Common.{ℕ, ◌≡◌, ◌+◌, ◌<◌, ◌≤◌, max, Bool, true, false, List, [], ◌∷◌, ◌++◌, length, get_or, take, drop, refl, ap, sym, ◌∙◌, subst, arith, inl, inr, ◌⊎◌}
+use Rattle.std.proofs.Common.{ℕ, ◌≡◌, ◌+◌, ◌<◌, ◌≤◌, max, Bool, true, false, List, ◌++◌, length, get_or, take, drop, refl, ap, sym, ◌∙◌, subst, arith, inl, inr}
+use Rattle.std.proofs.Common.{◌⊎◌}
 use Rattle.std.specs.Prelude.{All, Contains, filter, nat_le}
 use Rattle.std.specs.List.Sorted.{IsNonDecreasingBy}
 use Rattle.std.proofs.lemmas.Bool.{cases_lt, le-leb, lt-leb}
 use Rattle.std.proofs.lemmas.List.{length-drop, get_or_default, get_or-drop, take-append-drop, take_all, append-nil}
-use Rattle.std.proofs.lemmas.List.Elements.{All-nil, All-head, All-tail, All-contains, All-more, All-weaker, All-append, All-take, All-drop}
+use Rattle.std.proofs.lemmas.List.Elements.{All-contains, All-more, All-weaker, All-append, All-take, All-drop, filter-append}
 use Rattle.rectangle_pack.specs.declared.axis.Axis.{Axis}
 use Rattle.rectangle_pack.specs.Boxes.{Cuboid, start, end, has_cells}
 use Rattle.rectangle_pack.specs.CutPlans.{IsUncut, lower_boxes, upper_boxes}
 use Rattle.rectangle_pack.specs.private.CutPlans.{IsFilled, IsClosedBelow, IsClosedOn, IsGap}
 use Rattle.rectangle_pack.proofs.AxesLemmas.{runs_on, stays_in, cells-part}
+use Rattle.rectangle_pack.proofs.CountingLemmas.{filter_all, filter_none}
 use Rattle.rectangle_pack.proofs.FillingLemmas.{entries_inside, entry_at_start, entry_at_end}
 use Rattle.rectangle_pack.proofs.TimesLemmas.{All-times_in}
 
@@ -28,22 +30,16 @@ IsClosedBelow-more a whole boxes place b there cells early closed q lt is_open =
 
 -- a filter that passes the one of two joined lists and nothing of the other
 filter_front : {X : Type 0} (t : X → Bool) (xs ys : List X) → All (λ x. t x ≡ true) xs → All (λ y. t y ≡ false) ys → filter t (xs ++ ys) ≡ xs
-filter_front t [] [] kept left = refl
-filter_front t [] (y ∷ ys) kept left = rw (All-head (λ y. t y ≡ false) y ys left) (filter_front t [] ys kept (All-tail (λ y. t y ≡ false) y ys left))
-filter_front t (x ∷ xs) ys kept left = rw (All-head (λ x. t x ≡ true) x xs kept) (ap (λ l. x ∷ l) (filter_front t xs ys (All-tail (λ x. t x ≡ true) x xs kept) left))
+filter_front t xs ys kept left = rw (filter-append t xs ys, filter_all t xs kept, filter_none t ys left) (append-nil xs)
 
 filter_back : {X : Type 0} (t : X → Bool) (xs ys : List X) → All (λ x. t x ≡ false) xs → All (λ y. t y ≡ true) ys → filter t (xs ++ ys) ≡ ys
-filter_back t [] ys left kept = ap (filter t) (sym (append-nil ys)) ∙ filter_front t ys [] kept (All-nil (λ x. t x ≡ false))
-filter_back t (x ∷ xs) ys left kept = rw (All-head (λ x. t x ≡ false) x xs left) (filter_back t xs ys (All-tail (λ x. t x ≡ false) x xs left) kept)
+filter_back t xs ys left kept = rw (filter-append t xs ys, filter_none t xs left, filter_all t ys kept) refl
 
 -- how far the first i entries reach: they all end there or before, and no plane is open below it
 pub record IsReached (a : Axis) (whole : Cuboid) (entries : List Cuboid) (i reach : ℕ) : Type 0 where
   pub closed : IsClosedBelow a reach whole entries
   pub ended : All (λ e. end a e ≤ reach) (take i entries)
   pub begun : 0 < i → start a whole < reach
-
-pub IsReached-start : (a : Axis) (whole : Cuboid) (entries : List Cuboid) → IsReached a whole entries 0 (start a whole)
-IsReached-start a whole entries = record { closed = λ q lt o. omega (arith, o.after_start); ended = λ k d within. absurd (omega arith); begun = λ some. absurd (omega arith) }
 
 module _ (a : Axis) (whole : Cuboid) (entries : List Cuboid) (filled : IsFilled whole entries) (ordered : IsNonDecreasingBy (start a) entries) where
   -- an entry runs on along the axis, inside the box
@@ -74,17 +70,21 @@ module _ (a : Axis) (whole : Cuboid) (entries : List Cuboid) (filled : IsFilled 
   first_starts : (e : Cuboid) → 0 < length entries → e ≡ get_or entries 0 e → start a e ≤ start a whole
   first_starts e some at =
       let h = entry_at_start whole entries filled.tiles (whole_has_cells some) in
-      let least : All (λ x. start a e ≤ start a x) entries = λ k d within. omega (arith, ordered 0 k e (omega arith) within, ap (start a) at, ap (start a) (get_or_default entries k d e within)) in
+      let least : All (λ x. start a e ≤ start a x) entries = λ k d within.
+      omega (arith, ordered 0 k e (omega arith) within, ap (start a) at, ap (start a) (get_or_default entries k d e within)) in
       omega (arith, All-times_in (λ x. start a e ≤ start a x) h.0 entries least h.2, h.3 a)
 
   -- the next entry, where it does not leave a gap
-  pub IsReached-more : (i reach : ℕ) (e : Cuboid) → i < length entries → e ≡ get_or entries i e → (0 < i → start a e < reach) → IsReached a whole entries i reach
-      → IsReached a whole entries (i + 1) (max reach (end a e))
+  pub IsReached-more : (i reach : ℕ) (e : Cuboid) → i < length entries → e ≡ get_or entries i e → (0 < i → start a e < reach)
+      → IsReached a whole entries i reach → IsReached a whole entries (i + 1) (max reach (end a e))
   IsReached-more i reach e within at next h =
       let r = at_entry i e within at in
       record {
         closed = IsClosedBelow-more a whole entries reach e (i, within, sym at) r.cells
-            (elim (cases_lt 0 i) [ inl some ↦ inr (next some) | inr none ↦ inl (first_starts e (omega arith) (at ∙ ap (λ k. get_or entries k e) (omega arith))) ]) h.closed;
+            (elim (cases_lt 0 i) [
+              | inl some ↦ inr (next some)
+              | inr none ↦ inl (first_starts e (omega arith) (at ∙ ap (λ k. get_or entries k e) (omega arith)))
+            ]) h.closed;
         ended = All-more (λ x. end a x ≤ max reach (end a e)) entries i e within
             (All-weaker (λ x. end a x ≤ reach) (λ x. end a x ≤ max reach (end a e)) (λ x k. omega arith) (take i entries) h.ended)
             (omega (arith, ap (end a) at));
@@ -99,14 +99,17 @@ module _ (a : Axis) (whole : Cuboid) (entries : List Cuboid) (filled : IsFilled 
       h.closed q (omega (arith, All-times_in (λ e. end a e ≤ reach) last.0 entries ended last.2, last.3 a, is_open.before_end)) is_open
 
   -- an entry that starts at the reach or beyond it leaves the plane there open
-  pub IsReached-gap : (i reach : ℕ) (e : Cuboid) → i < length entries → e ≡ get_or entries i e → 0 < i → reach ≤ start a e → IsReached a whole entries i reach → IsGap a whole entries reach i
+  pub IsReached-gap : (i reach : ℕ) (e : Cuboid) → i < length entries → e ≡ get_or entries i e → 0 < i → reach ≤ start a e
+      → IsReached a whole entries i reach → IsGap a whole entries reach i
   IsReached-gap i reach e within at some gap h =
+      let IsUncutHere : Cuboid → Type 0 = λ x. has_cells x ≡ true → IsUncut a reach x in
       let xs = take i entries in
       let ys = drop i entries in
       let joined : xs ++ ys ≡ entries = take-append-drop i entries in
       let after : All (λ x. reach ≤ start a x) ys = λ k d inside.
       let place : i + k < length entries = omega (arith, length-drop i entries) in
-      omega (arith, gap, ap (start a) at, ap (start a) (get_or_default entries i d e within), ordered i (i + k) d (omega arith) place, ap (start a) (get_or-drop i entries k d)) in
+      let here : start a e ≡ start a (get_or entries i d) = ap (start a) (at ∙ get_or_default entries i e d within) in
+      omega (arith, here, ordered i (i + k) d (omega arith) place, ap (start a) (get_or-drop i entries k d)) in
       let r = at_entry i e within at in
       let front : All RunsInside xs = All-take RunsInside i entries runs_inside in
       let back : All RunsInside ys = All-drop RunsInside i entries runs_inside in
@@ -114,16 +117,17 @@ module _ (a : Axis) (whole : Cuboid) (entries : List Cuboid) (filled : IsFilled 
         is_open = record {
           after_start = h.begun some;
           before_end = omega (arith, r.on, r.to);
-          uncut = subst (All (λ x. has_cells x ≡ true → IsUncut a reach x)) joined
-              (All-append (λ x. has_cells x ≡ true → IsUncut a reach x) xs ys
-              (All-weaker (λ x. end a x ≤ reach) (λ x. has_cells x ≡ true → IsUncut a reach x) (λ x k cells. inl k) xs h.ended)
-              (All-weaker (λ x. reach ≤ start a x) (λ x. has_cells x ≡ true → IsUncut a reach x) (λ x k cells. inr k) ys after));
+          uncut = subst (All IsUncutHere) joined (All-append IsUncutHere xs ys
+              (All-weaker (λ x. end a x ≤ reach) IsUncutHere (λ x k cells. inl k) xs h.ended)
+              (All-weaker (λ x. reach ≤ start a x) IsUncutHere (λ x k cells. inr k) ys after));
         };
         least = h.closed;
         some_below = some;
         some_above = within;
         front = sym (ap (lower_boxes a reach) (sym joined) ∙ filter_front (λ x. nat_le (end a x) reach) xs ys
-            (λ k d inside. le-leb _ _ (h.ended k d inside)) (λ k d inside. lt-leb _ _ (let b = back k d inside in omega (arith, after k d inside, b.on))));
+            (λ k d inside. le-leb _ _ (h.ended k d inside))
+            (λ k d inside. lt-leb _ _ (let b = back k d inside in omega (arith, after k d inside, b.on))));
         back = sym (ap (upper_boxes a reach) (sym joined) ∙ filter_back (λ x. nat_le reach (start a x)) xs ys
-            (λ k d inside. lt-leb _ _ (let f = front k d inside in omega (arith, h.ended k d inside, f.on))) (λ k d inside. le-leb _ _ (after k d inside)));
+            (λ k d inside. lt-leb _ _ (let f = front k d inside in omega (arith, h.ended k d inside, f.on)))
+            (λ k d inside. le-leb _ _ (after k d inside)));
       }

@@ -1,6 +1,5 @@
 -- A packing keeps the cells of each bin.
-use Rattle.std.proofs.Common.{◌≡◌, ℕ, List, ◌++◌, refl, ap, ◌∙◌, Bool, false}
-use Rattle.std.specs.Prelude.{Option, Some, None}
+use Rattle.std.proofs.Common.{ℕ, List, ◌++◌, ap, ◌∙◌, Bool}
 use Rattle.std.specs.Option.{is_some}
 use Rattle.std.specs.Cmp.{IsTotalOrder}
 use Rattle.std.specs.BTreeMap.{is_at}
@@ -10,14 +9,13 @@ use Rattle.rectangle_pack.specs.Keeping.{KeepsEachBin, placed_in}
 use Rattle.rectangle_pack.specs.Packing.{Rules, Members, Stage, AreAllPlaced}
 use Rattle.rectangle_pack.proofs.CountingLemmas.{KeepCells-from_counts}
 use Rattle.rectangle_pack.proofs.FrameLemmas.{IsFrame-recut, KeptBySteps-recut, changed-all}
+use Rattle.rectangle_pack.proofs.ListsLemmas.{none_of}
 use Rattle.rectangle_pack.proofs.MapsLemmas.{is_some-keys}
 use Rattle.rectangle_pack.proofs.PlacedLemmas.{keys-placed}
 
-none_from : {X : Type 0} (o : Option X) → is_some o ≡ false → o ≡ None
-none_from None h = refl
-none_from (Some x) h = absurd cc
-
-pub KeepsEachBin-placed : {Id B K : Type 0} (rules : Rules Id B) → IsTotalOrder rules.bin_cmp → (bars : List (K × B) → K → B → Bool) (order : List B) (gs : List (K × Members Id)) (old : Stage K B) (placements : List (Placement Id B)) (new : Stage K B) (tests : ℕ)
+pub KeepsEachBin-placed : {Id B K : Type 0} (rules : Rules Id B) → IsTotalOrder rules.bin_cmp
+    → (bars : List (K × B) → K → B → Bool) (order : List B) (gs : List (K × Members Id)) (old : Stage K B) (placements : List (Placement Id B))
+    (new : Stage K B) (tests : ℕ)
     → AreAllPlaced rules bars order gs old placements new tests → KeepsEachBin rules.bin_cmp old.bins placements new.bins
 KeepsEachBin-placed rules o bars order gs old placements new n h = record {
   each = λ q before was apart.
@@ -27,5 +25,6 @@ KeepsEachBin-placed rules o bars order gs old placements new n h = record {
         ap (λ (b : Bin). b.size) changed.kept,
         KeepCells-from_counts before.sections (changed.after.sections ++ placed_in rules.bin_cmp placements q) apart changed.framed.cells,
       );
-  absent = λ q none. none_from _ (is_some-keys (is_at (rules.bin_cmp q)) new.bins old.bins (keys-placed rules bars order gs old placements new n h) ∙ ap is_some none);
+  absent = λ q none. none_of _
+      (is_some-keys (is_at (rules.bin_cmp q)) new.bins old.bins (keys-placed rules bars order gs old placements new n h) ∙ ap is_some none);
 }

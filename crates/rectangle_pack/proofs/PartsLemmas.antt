@@ -1,39 +1,44 @@
 -- The two parts of a box at a place on an axis.
-use Rattle.std.proofs.Common.{ℕ, ◌-◌, ◌<◌, ◌≤◌, ◌≡◌, ◌≢◌, true, refl, ap, arith}
+use Rattle.std.proofs.Common.{ℕ, ◌-◌, ◌<◌, ◌≤◌, ◌≡◌, ◌≢◌, true, false, refl, ap, arith}
+use Rattle.std.proofs.lemmas.Bool.{false_from_ne_true}
 use Rattle.rectangle_pack.specs.declared.axis.Axis.{Axis}
 use Rattle.rectangle_pack.specs.declared.axis.Axis.TheVariants.{X, Y, Z}
 use Rattle.rectangle_pack.specs.Boxes.{Cuboid, IsPartOf, extent, start, end, has_cells}
 use Rattle.rectangle_pack.specs.CutTrees.{lower, upper, IsPlaceOf}
 use Rattle.rectangle_pack.proofs.AxesLemmas.{by_other, by_axis, runs_on, has_cells-by, StaysIn, is_part}
+use Rattle.rectangle_pack.proofs.TimesLemmas.{box_ext}
 
 -- where the parts start and end on the axis of the cut
 pub start-lower : (a : Axis) (p : ℕ) (b : Cuboid) → start a (lower a p b) ≡ start a b
 unfolding start lower
 start-lower X p b = refl
-start-lower Y p b = refl
-start-lower Z p b = refl
+start-lower _ p b = refl
 
 pub end-lower : (a : Axis) (p : ℕ) (b : Cuboid) → start a b ≤ p → end a (lower a p b) ≡ p
 unfolding start extent end lower
 end-lower X p b h = omega arith
-end-lower Y p b h = omega arith
-end-lower Z p b h = omega arith
+end-lower _ p b h = omega arith
 
 pub start-upper : (a : Axis) (p : ℕ) (b : Cuboid) → start a (upper a p b) ≡ p
 unfolding start upper
 start-upper X p b = refl
-start-upper Y p b = refl
-start-upper Z p b = refl
+start-upper _ p b = refl
 
 pub end-upper : (a : Axis) (p : ℕ) (b : Cuboid) → p ≤ end a b → end a (upper a p b) ≡ end a b
 unfolding start extent end upper
 end-upper X p b h = omega arith
-end-upper Y p b h = omega arith
-end-upper Z p b h = omega arith
+end-upper _ p b h = omega arith
 
 -- and on another axis: where the box does
 abbrev pub RunAlike : Cuboid → Cuboid → Axis → Type 0
 RunAlike b d e = (start e b ≡ start e d) × (end e b ≡ end e d)
+
+-- boxes that run alike on each axis are one
+pub box_alike : (b d : Cuboid) → ((a : Axis) → RunAlike b d a) → b ≡ d
+unfolding start extent end
+box_alike b d h =
+    let x = h X in let y = h Y in let z = h Z in
+    box_ext b d x.0 y.0 z.0 (omega arith) (omega arith) (omega arith)
 
 module _ (p : ℕ) (b : Cuboid) where
   pub lower_other : (a e : Axis) → a ≢ e → RunAlike (lower a p b) b e
@@ -48,8 +53,7 @@ module _ (p : ℕ) (b : Cuboid) where
 pub lower-lower : (a : Axis) (p q : ℕ) (b : Cuboid) → lower a p (lower a q b) ≡ lower a p b
 unfolding lower
 lower-lower X p q b = refl
-lower-lower Y p q b = refl
-lower-lower Z p q b = refl
+lower-lower _ p q b = refl
 
 pub upper-upper : (a : Axis) (p q : ℕ) (b : Cuboid) → p ≤ end a b → upper a q (upper a p b) ≡ upper a q b
 unfolding start extent end upper
@@ -113,6 +117,13 @@ module _ (a : Axis) (p : ℕ) (b : Cuboid) (place : IsPlaceOf a p b) where
 
   pub upper-part : IsPartOf (upper a p b) b
   upper-part = part_alike (upper a p b) b a (omega (arith, start-upper a p b), omega (arith, end-upper a p b place.to)) (upper_other p b a)
+
+  -- and one that does not run on has no cells
+  pub lower-empty : p ≤ start a b → has_cells (lower a p b) ≡ false
+  lower-empty ge = false_from_ne_true _ (λ t. absurd (omega (arith, runs_on (lower a p b) t a, start-lower a p b, end-lower a p b place.from)))
+
+  pub upper-empty : end a b ≤ p → has_cells (upper a p b) ≡ false
+  upper-empty ge = false_from_ne_true _ (λ t. absurd (omega (arith, runs_on (upper a p b) t a, start-upper a p b, end-upper a p b place.to)))
 
 -- the lower part has cells where the place is after the start
 pub lower-cells : (a : Axis) (p : ℕ) (b : Cuboid) → start a b < p → has_cells b ≡ true → has_cells (lower a p b) ≡ true

@@ -1,15 +1,12 @@
 -- One pass over a list that keeps a best.
 use Rattle.std.proofs.Common.{◌≡◌, ◌≢◌, List, [], ◌∷◌, ◌++◌, refl, append_assoc, inl, inr, length, length-append, arith, not, true, false, get_or}
-use Rattle.std.specs.List.{Contains}
-use Rattle.std.specs.Ordering.{ordering_reverse}
-use Rattle.std.proofs.lemmas.List.Elements.{Contains-append_left, All-contains_itself}
-use Rattle.std.specs.Ordering.{ordering_index}
+use Rattle.std.specs.List.{Contains, Any}
+use Rattle.std.specs.Ordering.{ordering_reverse, ordering_index}
+use Rattle.std.proofs.lemmas.List.Elements.{Contains-append_left, All-contains_itself, All-nil, All-push}
 use Rattle.std.specs.Bool.{◌==◌}
 use Rattle.std.proofs.Math.Seq.{get_or-append_seam}
 use Rattle.std.specs.declared.cmp.Ordering.{Ordering}
 use Rattle.std.specs.declared.cmp.Ordering.TheVariants.{Less, Equal, Greater}
-use Rattle.std.specs.List.{Any}
-use Rattle.std.proofs.lemmas.List.Elements.{All-nil, All-push}
 use Rattle.rectangle_pack.specs.Choice.{MayChoose, IsTotalPreorderOn}
 
 -- an element between two lists is one of the whole
@@ -88,6 +85,8 @@ module _ {A : Type 0} (R : A → A → Ordering → Type 0) where
         let under : compare best next ≢ Greater = rw (← o.only best next r i j answer) is_not in
         let below = p.greatest compare (preorder-left xs (next ∷ []) compare o) in
         All-push (λ other. compare other next ≢ Greater) xs next
-        (λ k d lt. o.transitive (get_or xs k d) best next (Contains-append_left xs (next ∷ []) (get_or xs k d) (All-contains_itself xs k d lt)) i j (below k d lt) under)
+        (λ k d lt.
+        let there = Contains-append_left xs (next ∷ []) (get_or xs k d) (All-contains_itself xs k d lt) in
+        o.transitive (get_or xs k d) best next there i j (below k d lt) under)
         (not_over_itself (compare next next) (o.swapped next next j j)));
   }

@@ -1,6 +1,7 @@
 -- The pinwheel covers its bin and is not from cuts.
-use Rattle.std.proofs.Common.{ℕ, ◌+◌, ◌<◌, ◌≤◌, ◌≡◌, refl, arith, inl, inr}
+use Rattle.std.proofs.Common.{true, nat_le, ◌&&◌, ℕ, ◌+◌, ◌<◌, ◌≡◌, refl, arith, inl, inr}
 use Rattle.std.proofs.lemmas.Bool.{cases_eq}
+use Rattle.std.proofs.lemmas.Bool.Decides.{nat_tests}
 use Rattle.std.proofs.lemmas.List.Elements.{All-from_recursion}
 use Rattle.rectangle_pack.specs.declared.axis.Axis.{Axis}
 use Rattle.rectangle_pack.specs.declared.axis.Axis.TheVariants.{X, Y, Z}
@@ -32,21 +33,14 @@ once i j k hi hj hk =
     (below_3 (λ j. times_filled (record { i = 2; j = j; k = 0 }) pinwheel ≡ 1) refl refl refl j hj)
     i hi)
 
-flat_inside : (x y width height : ℕ) → x + width ≤ 3 → y + height ≤ 3 → IsInside pinwheel_size (flat x y width height)
-flat_inside x y width height h k = record { within_x = h; within_y = k; within_z = omega arith }
+flat_inside : (x y width height : ℕ) → (nat_le (x + width) 3 && nat_le (y + height) 3) ≡ true → IsInside pinwheel_size (flat x y width height)
+flat_inside x y width height t = record { within_x = grind (arith, nat_tests); within_y = grind (arith, nat_tests); within_z = omega arith }
 
 pub pinwheel_covers : CoverBin pinwheel pinwheel_size
 pinwheel_covers = record {
-  inside = All-from_recursion (IsInside pinwheel_size) pinwheel (
-    flat_inside 0 0 2 1 (omega arith) (omega arith),
-    (
-      flat_inside 2 0 1 2 (omega arith) (omega arith),
-      (
-        flat_inside 1 2 2 1 (omega arith) (omega arith),
-        (flat_inside 0 1 1 2 (omega arith) (omega arith), (flat_inside 1 1 1 1 (omega arith) (omega arith), tt)),
-      ),
-    ),
-  );
+  inside = let at = flat_inside in
+      All-from_recursion (IsInside pinwheel_size) pinwheel
+      (at 0 0 2 1 refl, (at 2 0 1 2 refl, (at 1 2 2 1 refl, (at 0 1 1 2 refl, (at 1 1 1 1 refl, tt)))));
   once = λ c h. once c.i c.j c.k (omega arith) (omega arith) (omega arith);
 }
 

@@ -1,8 +1,8 @@
 -- A plane that cuts no box with cells: what is on either side of it fills either part.
 use Rattle.std.proofs.Common.{ℕ, ◌+◌, ◌≡◌, Bool, true, List, [], ◌∷◌, ◌++◌, arith, inl, inr}
-use Rattle.std.specs.Prelude.{All, nat_le, filter, count_by}
+use Rattle.std.specs.Prelude.{All, filter, count_by}
 use Rattle.std.proofs.lemmas.Bool.{cases_lt, leb-true, le-leb}
-use Rattle.std.proofs.lemmas.List.Elements.{All-nil, All-cons, filter_passes}
+use Rattle.std.proofs.lemmas.List.Elements.{All-from_recursion, filter_passes}
 use Rattle.rectangle_pack.specs.declared.axis.Axis.{Axis}
 use Rattle.rectangle_pack.specs.Boxes.{Cuboid, Cell, IsPartOf, is_cell_of, start, end, has_cells}
 use Rattle.rectangle_pack.specs.Counting.{times_filled, Tiles}
@@ -14,7 +14,7 @@ use Rattle.rectangle_pack.proofs.CountingLemmas.{count-append}
 use Rattle.rectangle_pack.proofs.CutCoverLemmas.{filled-parts}
 use Rattle.rectangle_pack.proofs.PartsLemmas.{start-upper, end-lower, lower-part, upper-part}
 use Rattle.rectangle_pack.proofs.SameBoxesLemmas.{count-same}
-use Rattle.rectangle_pack.proofs.SplitLemmas.{open_planes_split_cuts, HaveSameBoxes-split}
+use Rattle.rectangle_pack.proofs.SplitLemmas.{is_below, is_above, open_planes_split_cuts, HaveSameBoxes-split}
 use Rattle.rectangle_pack.proofs.TimesLemmas.{times_in-append, which_passes, All-times_in}
 
 -- an open plane is at a place of the box
@@ -28,24 +28,22 @@ pub record IsSide (whole : Cuboid) (boxes : List Cuboid) (part : Cuboid) (there 
   pub from_cuts : IsFromCuts boxes whole → IsFromCuts there part
 
 module _ (a : Axis) (p : ℕ) where
-  abbrev is_below : Cuboid → Bool
-  is_below b = nat_le (end a b) p
-
-  abbrev is_above : Cuboid → Bool
-  is_above b = nat_le p (start a b)
-
   abbrev AreUncut : List Cuboid → Type 0
   AreUncut boxes = All (λ b. has_cells b ≡ true → IsUncut a p b) boxes
 
   -- the boxes are those on the two sides
-  pub times_in-sides : (boxes : List Cuboid) → AreUncut boxes → (b : Cuboid) → has_cells b ≡ true → times_in b (lower_boxes a p boxes) + times_in b (upper_boxes a p boxes) ≡ times_in b boxes
-  times_in-sides boxes uncut b cells = omega (arith, HaveSameBoxes-split boxes a p uncut b cells, times_in-append b (lower_boxes a p boxes) (upper_boxes a p boxes))
+  pub times_in-sides : (boxes : List Cuboid) → AreUncut boxes → (b : Cuboid) → has_cells b ≡ true
+      → times_in b (lower_boxes a p boxes) + times_in b (upper_boxes a p boxes) ≡ times_in b boxes
+  times_in-sides boxes uncut b cells =
+      omega (arith, HaveSameBoxes-split boxes a p uncut b cells, times_in-append b (lower_boxes a p boxes) (upper_boxes a p boxes))
 
-  filled-sides : (boxes : List Cuboid) → AreUncut boxes → (c : Cell) → times_filled c (lower_boxes a p boxes) + times_filled c (upper_boxes a p boxes) ≡ times_filled c boxes
+  filled-sides : (boxes : List Cuboid) → AreUncut boxes → (c : Cell)
+      → times_filled c (lower_boxes a p boxes) + times_filled c (upper_boxes a p boxes) ≡ times_filled c boxes
   unfolding times_filled
   filled-sides boxes uncut c =
       let both = lower_boxes a p boxes ++ upper_boxes a p boxes in
-      omega (arith, count-same (is_cell_of c) (has_cells-from c) both boxes (HaveSameBoxes-split boxes a p uncut), count-append (is_cell_of c) (lower_boxes a p boxes) (upper_boxes a p boxes))
+      let same = count-same (is_cell_of c) (has_cells-from c) both boxes (HaveSameBoxes-split boxes a p uncut) in
+      omega (arith, same, count-append (is_cell_of c) (lower_boxes a p boxes) (upper_boxes a p boxes))
 
   -- a cell that lies in no box on a side of the plane is in none of those there, and not in the part there
   module _ (c : Cell) (side : Cuboid → Bool) (outside : (b : Cuboid) → side b ≡ true → ¬ LiesIn c b a) where
@@ -60,26 +58,38 @@ module _ (a : Axis) (p : ℕ) where
 
     none_there : (boxes : List Cuboid) (part : Cuboid) → side part ≡ true → (times_filled c (filter side boxes) ≡ 0) × (times_filled c (part ∷ []) ≡ 0)
     none_there boxes part there =
-        (none_of (filter side boxes) (filter_passes side boxes), none_of (part ∷ []) (All-cons (λ b. side b ≡ true) part [] there (All-nil (λ b. side b ≡ true))))
+        (none_of (filter side boxes) (filter_passes side boxes), none_of (part ∷ []) (All-from_recursion (λ b. side b ≡ true) (part ∷ []) (there, tt)))
 
   -- boxes that fill a box fill both sides of it
   module _ (whole : Cuboid) (boxes : List Cuboid) (place : IsPlaceOf a p whole) (uncut : AreUncut boxes) (tiles : Tiles boxes whole) where
-    same_parts : (c : Cell) → (times_filled c (lower_boxes a p boxes) ≡ times_filled c (lower a p whole ∷ [])) × (times_filled c (upper_boxes a p boxes) ≡ times_filled c (upper a p whole ∷ []))
+    same_parts : (c : Cell)
+        → (times_filled c (lower_boxes a p boxes) ≡ times_filled c (lower a p whole ∷ []))
+        × (times_filled c (upper_boxes a p boxes) ≡ times_filled c (upper a p whole ∷ []))
     same_parts c =
         let both = filled-sides boxes uncut c in
         let parts = filled-parts c a p whole place in
         let all = tiles.same c in
         elim (cases_lt (coordinate a c) p) [
           | inl before ↦
-              let none = none_there c is_above (λ b above l. omega (arith, leb-true p (start a b) above)) boxes (upper a p whole) (le-leb _ _ (omega (arith, start-upper a p whole))) in
+              let there : is_above a p (upper a p whole) ≡ true = le-leb _ _ (omega (arith, start-upper a p whole)) in
+              let none = none_there c (is_above a p) (λ b above l. omega (arith, leb-true p (start a b) above)) boxes (upper a p whole) there in
               (omega arith, omega arith)
           | inr beyond ↦
-              let none = none_there c is_below (λ b below l. omega (arith, leb-true (end a b) p below)) boxes (lower a p whole) (le-leb _ _ (omega (arith, end-lower a p whole place.from))) in
+              let there : is_below a p (lower a p whole) ≡ true = le-leb _ _ (omega (arith, end-lower a p whole place.from)) in
+              let none = none_there c (is_below a p) (λ b below l. omega (arith, leb-true (end a b) p below)) boxes (lower a p whole) there in
               (omega arith, omega arith)
         ]
 
     pub lower_side : IsSide whole boxes (lower a p whole) (lower_boxes a p boxes)
-    lower_side = record { inside = lower-part a p whole place; tiles = record { same = λ c. (same_parts c).0 }; from_cuts = λ from. (open_planes_split_cuts boxes whole a p from place uncut).0 }
+    lower_side = record {
+      inside = lower-part a p whole place;
+      tiles = record { same = λ c. (same_parts c).0 };
+      from_cuts = λ from. (open_planes_split_cuts boxes whole a p from place uncut).0;
+    }
 
     pub upper_side : IsSide whole boxes (upper a p whole) (upper_boxes a p boxes)
-    upper_side = record { inside = upper-part a p whole place; tiles = record { same = λ c. (same_parts c).1 }; from_cuts = λ from. (open_planes_split_cuts boxes whole a p from place uncut).1 }
+    upper_side = record {
+      inside = upper-part a p whole place;
+      tiles = record { same = λ c. (same_parts c).1 };
+      from_cuts = λ from. (open_planes_split_cuts boxes whole a p from place uncut).1;
+    }

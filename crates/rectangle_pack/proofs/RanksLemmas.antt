@@ -1,15 +1,15 @@
 -- Rated pieces have one order.
-use Rattle.std.proofs.Common.{◌≡◌, ℕ, ◌<◌, ◌≤◌, ◌==◌, Bool, true, false, cond, nat_le, nat_lt, List, [], ◌∷◌, refl, sym, ◌∙◌, ap, arith}
+use Rattle.std.proofs.Common.{◌≡◌, ℕ, ◌<◌, ◌≤◌, ◌==◌, Bool, true, false, cond, nat_le, nat_lt, List, [], ◌∷◌, refl, sym, ◌∙◌, ap, arith, inl, inr}
 use Rattle.std.specs.Prelude.{All, AllPairs, filter}
 use Rattle.std.specs.List.Sorted.{IsPermutation}
-use Rattle.std.proofs.lemmas.Bool.{eqb-true, eq-eqb, leb-true, leb-false, ltb-true, ltb-false}
-use Rattle.std.proofs.lemmas.List.Elements.{All-cons, All-head, All-tail, All-weaker}
+use Rattle.std.proofs.lemmas.Bool.{cases_Bool, eqb-true, eq-eqb, ne_eqb, leb-true, leb-false, ltb-true, ltb-false}
+use Rattle.std.proofs.lemmas.List.Elements.{All-cons, All-weaker}
 use Rattle.std.proofs.lemmas.List.Kept.{AllPairs-cons}
-use Rattle.std.proofs.lemmas.List.Sorted.{IsPermutation-refl, IsPermutation-cons, IsPermutation-trans, IsPermutation-append_left, IsPermutation-middle, All-permutation}
+use Rattle.std.proofs.lemmas.List.Sorted.{IsPermutation-refl, IsPermutation-cons, IsPermutation-trans, IsPermutation-middle, All-permutation}
 use Rattle.rectangle_pack.specs.Boxes.{Cuboid}
 use Rattle.rectangle_pack.specs.Steps.{AreRanked}
 use Rattle.rectangle_pack.specs.private.Ranks.{put_in, by_falling_rate}
-use Rattle.rectangle_pack.proofs.CountingLemmas.{AllPairs-head, AllPairs-tail}
+use Rattle.rectangle_pack.proofs.CountingLemmas.{AllPairs-head, AllPairs-tail, filter_none}
 
 abbrev Falls : List (ℕ × Cuboid) → Type 0
 Falls ps = AllPairs (λ p q. q.0 ≤ p.0) ps
@@ -21,13 +21,11 @@ of_rate rate ps = filter (λ p. p.0 == rate) ps
 -- putting in only moves elements
 IsPermutation-put_in : (p : ℕ × Cuboid) (ps : List (ℕ × Cuboid)) → IsPermutation (p ∷ ps) (put_in p ps)
 IsPermutation-put_in p [] = IsPermutation-refl (p ∷ [])
-IsPermutation-put_in p (q ∷ qs) =
-    elim (nat_le q.0 p.0) as (λ b. IsPermutation (p ∷ q ∷ qs) (cond b (p ∷ q ∷ qs) (q ∷ put_in p qs))) [
-      | true ↦ IsPermutation-refl (p ∷ q ∷ qs)
-      | false ↦ IsPermutation-trans (p ∷ q ∷ qs) (q ∷ p ∷ qs) (q ∷ put_in p qs)
-          (IsPermutation-append_left qs (p ∷ q ∷ []) (q ∷ p ∷ []) (IsPermutation-middle (p ∷ []) q []))
-          (IsPermutation-cons q (p ∷ qs) (put_in p qs) (IsPermutation-put_in p qs))
-    ]
+IsPermutation-put_in p (q ∷ qs) = elim (cases_Bool (nat_le q.0 p.0)) [
+  | inl t ↦ rw t (IsPermutation-refl (p ∷ q ∷ qs))
+  | inr f ↦ rw f (IsPermutation-trans (p ∷ q ∷ qs) (q ∷ p ∷ qs) (q ∷ put_in p qs)
+      (IsPermutation-middle (p ∷ []) q qs) (IsPermutation-cons q (p ∷ qs) (put_in p qs) (IsPermutation-put_in p qs)))
+]
 
 IsPermutation-by_falling_rate : (ps : List (ℕ × Cuboid)) → IsPermutation ps (by_falling_rate ps)
 IsPermutation-by_falling_rate [] = IsPermutation-refl []
@@ -39,35 +37,34 @@ IsPermutation-by_falling_rate (p ∷ ps) =
 -- putting in keeps the falling order
 Falls-put_in : (p : ℕ × Cuboid) (ps : List (ℕ × Cuboid)) → Falls ps → Falls (put_in p ps)
 Falls-put_in p [] h = λ i j d before within. absurd (omega arith)
-Falls-put_in p (q ∷ qs) h = by (nat_le q.0 p.0) refl (Falls-put_in p qs (AllPairs-tail (λ p q. q.0 ≤ p.0) q qs h))
-  where
-    rest : All (λ x. x.0 ≤ q.0) qs
-    rest = AllPairs-head (λ p q. q.0 ≤ p.0) q qs h
-
-    by : (b : Bool) → nat_le q.0 p.0 ≡ b → Falls (put_in p qs) → Falls (cond b (p ∷ q ∷ qs) (q ∷ put_in p qs))
-    by true e ih =
-        let at : q.0 ≤ p.0 = leb-true q.0 p.0 e in
-        AllPairs-cons (λ p q. q.0 ≤ p.0) p (q ∷ qs) (All-cons (λ x. x.0 ≤ p.0) q qs at (All-weaker (λ x. x.0 ≤ q.0) (λ x. x.0 ≤ p.0) (λ x k. omega arith) qs rest)) h
-    by false e ih =
-        let at : p.0 < q.0 = leb-false q.0 p.0 e in
-        AllPairs-cons (λ p q. q.0 ≤ p.0) q (put_in p qs)
-        (All-permutation (λ x. x.0 ≤ q.0) (p ∷ qs) (put_in p qs) (IsPermutation-put_in p qs) (All-cons (λ x. x.0 ≤ q.0) p qs (omega arith) rest))
-        ih
+Falls-put_in p (q ∷ qs) h =
+    let Below : ℕ × Cuboid → ℕ × Cuboid → Type 0 = λ p q. q.0 ≤ p.0 in
+    let rest : All (Below q) qs = AllPairs-head Below q qs h in
+    elim (cases_Bool (nat_le q.0 p.0)) [
+      | inl t ↦
+          let at = leb-true q.0 p.0 t in
+          rw t (AllPairs-cons Below p (q ∷ qs) (All-cons (Below p) q qs at (All-weaker (Below q) (Below p) (λ x k. omega arith) qs rest)) h)
+      | inr f ↦
+          let at = leb-false q.0 p.0 f in
+          let all = All-permutation (Below q) (p ∷ qs) (put_in p qs) (IsPermutation-put_in p qs) (All-cons (Below q) p qs (omega arith) rest) in
+          rw f (AllPairs-cons Below q (put_in p qs) all (Falls-put_in p qs (AllPairs-tail Below q qs h)))
+    ]
 
 -- and, among those of one rate, the order in which they are listed
 of_rate-put_in : (rate : ℕ) (p : ℕ × Cuboid) (ps : List (ℕ × Cuboid)) → of_rate rate (put_in p ps) ≡ of_rate rate (p ∷ ps)
 of_rate-put_in rate p [] = refl
-of_rate-put_in rate p (q ∷ qs) = by (nat_le q.0 p.0) refl (of_rate-put_in rate p qs)
-  where
-    swapped : p.0 < q.0 → (s : Bool) → (p.0 == rate) ≡ s → (t : Bool) → (q.0 == rate) ≡ t → (F G : List (ℕ × Cuboid)) → G ≡ cond s (p ∷ F) F → cond t (q ∷ G) G ≡ cond s (p ∷ cond t (q ∷ F) F) (cond t (q ∷ F) F)
-    swapped lt true e true f F G h = let a = eqb-true p.0 rate e in let b = eqb-true q.0 rate f in absurd (omega arith)
-    swapped lt true e false f F G h = h
-    swapped lt false e true f F G h = ap (λ (xs : List (ℕ × Cuboid)). q ∷ xs) h
-    swapped lt false e false f F G h = h
-
-    by : (b : Bool) → nat_le q.0 p.0 ≡ b → of_rate rate (put_in p qs) ≡ of_rate rate (p ∷ qs) → of_rate rate (cond b (p ∷ q ∷ qs) (q ∷ put_in p qs)) ≡ of_rate rate (p ∷ q ∷ qs)
-    by true e ih = refl
-    by false e ih = swapped (leb-false q.0 p.0 e) (p.0 == rate) refl (q.0 == rate) refl (of_rate rate qs) (of_rate rate (put_in p qs)) ih
+of_rate-put_in rate p (q ∷ qs) = elim (cases_Bool (nat_le q.0 p.0)) [
+  | inl t ↦ rw t refl
+  | inr f ↦
+      let lt = leb-false q.0 p.0 f in
+      let ih = of_rate-put_in rate p qs in
+      rw f (elim (cases_Bool (p.0 == rate)) [
+        | inl t ↦
+            let other : (q.0 == rate) ≡ false = ne_eqb q.0 rate (λ e. let at = eqb-true p.0 rate t in omega arith) in
+            rw (other, t) (rw t at ih)
+        | inr g ↦ rw (ih, g) refl
+      ])
+]
 
 -- so all put in, one after another, are in their order
 pub AreRanked-by_falling_rate : (ps : List (ℕ × Cuboid)) → AreRanked ps (by_falling_rate ps)
@@ -79,19 +76,12 @@ AreRanked-by_falling_rate (p ∷ ps) =
       as_listed = λ rate. of_rate-put_in rate p (by_falling_rate ps) ∙ ap (λ (xs : List (ℕ × Cuboid)). cond (p.0 == rate) (p ∷ xs) xs) (h.as_listed rate);
     }
 
--- none has a rate that is above all
-none_of_rate : (rate : ℕ) (ps : List (ℕ × Cuboid)) → All (λ p. p.0 < rate) ps → of_rate rate ps ≡ []
-none_of_rate rate [] h = refl
-none_of_rate rate (p ∷ ps) h = by (p.0 == rate) refl (none_of_rate rate ps (All-tail (λ p. p.0 < rate) p ps h))
-  where
-    by : (b : Bool) → (p.0 == rate) ≡ b → of_rate rate ps ≡ [] → cond b (p ∷ of_rate rate ps) (of_rate rate ps) ≡ []
-    by true e ih = let a = eqb-true p.0 rate e in let lt = All-head (λ p. p.0 < rate) p ps h in absurd (omega arith)
-    by false e ih = ih
-
 -- the first of a list in falling order is no lower than any
 below_first : (rate : ℕ) (p : ℕ × Cuboid) (ps : List (ℕ × Cuboid)) → Falls (p ∷ ps) → p.0 < rate → of_rate rate (p ∷ ps) ≡ []
 below_first rate p ps h lt =
-    none_of_rate rate (p ∷ ps) (All-cons (λ x. x.0 < rate) p ps lt (All-weaker (λ x. x.0 ≤ p.0) (λ x. x.0 < rate) (λ x k. omega arith) ps (AllPairs-head (λ p q. q.0 ≤ p.0) p ps h)))
+    let others =
+    All-weaker (λ x. x.0 ≤ p.0) (λ x. (x.0 == rate) ≡ false) (λ x le. ne_eqb x.0 rate (λ e. omega arith)) ps (AllPairs-head (λ p q. q.0 ≤ p.0) p ps h) in
+    filter_none (λ x. x.0 == rate) (p ∷ ps) (All-cons (λ x. (x.0 == rate) ≡ false) p ps (ne_eqb p.0 rate (λ e. omega arith)) others)
 
 -- lists in falling order, with the same pieces at each rate, are the same
 falls_once : (ps qs : List (ℕ × Cuboid)) → Falls ps → Falls qs → ((rate : ℕ) → of_rate rate ps ≡ of_rate rate qs) → ps ≡ qs

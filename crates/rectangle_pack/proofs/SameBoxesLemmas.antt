@@ -7,6 +7,7 @@ use Rattle.rectangle_pack.specs.Boxes.{Cuboid, has_cells}
 use Rattle.rectangle_pack.specs.CutTrees.{times_in, HaveSameBoxes, IsFromCuts}
 use Rattle.rectangle_pack.proofs.CountingLemmas.{count-cons, count_no}
 use Rattle.rectangle_pack.proofs.TimesLemmas.{cases_box, times_in-nil, times_in-cons, times_in-same, times_in-other, times_in-permutation, times_in-kept}
+use Rattle.rectangle_pack.proofs.TimesLemmas.{times_in-dropped}
 
 pub HaveSameBoxes-sym : (bs es : List Cuboid) → HaveSameBoxes bs es → HaveSameBoxes es bs
 HaveSameBoxes-sym bs es same = λ b cells. sym (same b cells)
@@ -21,6 +22,13 @@ HaveSameBoxes-permutation bs es moved = λ b cells. sym (times_in-permutation b 
 pub HaveSameBoxes-filter : (bs : List Cuboid) → HaveSameBoxes (filter has_cells bs) bs
 HaveSameBoxes-filter bs = λ b cells. times_in-kept has_cells b bs cells
 
+-- a filter keeps the same boxes of both
+pub HaveSameBoxes-filtered : (t : Cuboid → Bool) (bs es : List Cuboid) → HaveSameBoxes bs es → HaveSameBoxes (filter t bs) (filter t es)
+HaveSameBoxes-filtered t bs es same = λ b cells. elim (cases_Bool (t b)) [
+  | inl y ↦ omega (arith, same b cells, times_in-kept t b bs y, times_in-kept t b es y)
+  | inr f ↦ omega (arith, times_in-dropped t b bs f, times_in-dropped t b es f)
+]
+
 -- the same boxes are from the same cuts
 pub IsFromCuts-same : {whole : Cuboid} (bs es : List Cuboid) → HaveSameBoxes bs es → IsFromCuts bs whole → IsFromCuts es whole
 IsFromCuts-same bs es same from = record { tree = from.tree; is_tree = from.is_tree; same = λ b cells. from.same b cells ∙ same b cells }
@@ -34,12 +42,12 @@ none_in q cells (e ∷ es) same = elim (cases_Bool (q e)) [
 ]
 
 -- a box that stands in a list can stand in front
-record InFront (q : Cuboid → Bool) (b : Cuboid) (es : List Cuboid) : Type 0 where
+pub record InFront (q : Cuboid → Bool) (b : Cuboid) (es : List Cuboid) : Type 0 where
   pub others : List Cuboid
   pub same : (e : Cuboid) → times_in e es ≡ times_in e (b ∷ others)
   pub counted : count_by q es ≡ count_by q (b ∷ others)
 
-in_front : (q : Cuboid → Bool) (b : Cuboid) (es : List Cuboid) → 0 < times_in b es → InFront q b es
+pub in_front : (q : Cuboid → Bool) (b : Cuboid) (es : List Cuboid) → 0 < times_in b es → InFront q b es
 in_front q b [] some = absurd (omega (arith, times_in-nil b))
 in_front q b (e ∷ es) some = elim (cases_box b e) [
   | inl p ↦ record { others = es; same = λ x. rw p refl; counted = rw p refl }
@@ -53,7 +61,8 @@ in_front q b (e ∷ es) some = elim (cases_box b e) [
 ]
 
 -- as many of the same boxes pass a test that only boxes with cells pass
-pub count-same : (q : Cuboid → Bool) → ((b : Cuboid) → q b ≡ true → has_cells b ≡ true) → (bs es : List Cuboid) → HaveSameBoxes bs es → count_by q bs ≡ count_by q es
+pub count-same : (q : Cuboid → Bool) → ((b : Cuboid) → q b ≡ true → has_cells b ≡ true) → (bs es : List Cuboid) → HaveSameBoxes bs es
+    → count_by q bs ≡ count_by q es
 count-same q cells [] es same = sym (none_in q cells es same)
 count-same q cells (b ∷ bs) es same = elim (cases_Bool (has_cells b)) [
   | inl full ↦

@@ -27,7 +27,7 @@ use Rattle.rectangle_pack.specs.Packing.{Rules, Members, Stage, AreAllPlaced, Pa
 use Rattle.rectangle_pack.specs.Session.{State, standing_in, boxes_of, IsSession, IsOutstanding, numbered, GivesBack}
 use Rattle.rectangle_pack.proofs.AppendLemmas.{All-front, All-back, All-middle, All-without}
 use Rattle.rectangle_pack.proofs.CountingLemmas.{filled-append, filled-nil, filled_yes, filled_from_some}
-use Rattle.rectangle_pack.proofs.CutTreeLemmas.{HasLeaves-leaf, IsFromCuts-by}
+use Rattle.rectangle_pack.proofs.CutTreeLemmas.{IsFromCuts-leaf}
 use Rattle.rectangle_pack.proofs.FrameLemmas.{IsRecut, changed-all}
 use Rattle.rectangle_pack.proofs.JournalLemmas.{lookup-bins_of, is_some-bins_of}
 use Rattle.rectangle_pack.proofs.KeepsCutsLemmas.{KeepsCuts, KeepsBoxes, IsFrame-boxes, KeptBySteps-boxes}
@@ -361,7 +361,7 @@ IsSession-added {Id} {B} {bin_cmp} o bins new records next id size absent seen h
         let now : Some bin ≡ Some (new_bin size) = sym found ∙ seen q ∙ rw e refl in
         let same : bin ≡ new_bin size = cc in
         let none : lookup (is_at (bin_cmp q)) bins ≡ None = sym (lookup-equal o id q ((Equal-is _).0 e) bins) ∙ absent in
-        rw (same, standing_in-absent o bins records q none h.known) (whole-covers size, λ not_so. IsFromCuts-by (whole size ∷ []) (HasLeaves-leaf (whole size)))
+        rw (same, standing_in-absent o bins records q none h.known) (whole-covers size, λ not_so. IsFromCuts-leaf (whole size))
     each q bin found false e =
         let was = sym (seen q ∙ rw e refl) ∙ found in
         (h.covered q bin was, h.from_cuts q bin was)

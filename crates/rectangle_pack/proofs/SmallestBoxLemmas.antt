@@ -5,7 +5,7 @@ use Rattle.std.specs.declared.cmp.Ordering.{Ordering}
 use Rattle.std.specs.declared.cmp.Ordering.TheVariants.{Greater}
 use Rattle.std.specs.Prelude.{All, Contains}
 use Rattle.std.proofs.lemmas.Bool.Decides.{nat_tests}
-use Rattle.std.proofs.lemmas.List.Elements.{All-head, All-tail}
+use Rattle.std.proofs.lemmas.List.Elements.{recursion_from_All}
 use Rattle.rectangle_pack.specs.SmallestBox.{Rates, AreRates, smallest_order, smallest, second_smallest, IsSmallestOrder}
 use Rattle.rectangle_pack.specs.Boxes.{Size, Cuboid, IsU32}
 use Rattle.rectangle_pack.specs.Cuts.{sizes_of}
@@ -17,7 +17,8 @@ use Rattle.rectangle_pack.specs.Results.{MayBeCut, ClosuresDecide}
 swapped : (p q r s : ℕ) → ordering_then (nat_cmp p q) (nat_cmp r s) ≡ ordering_reverse (ordering_then (nat_cmp q p) (nat_cmp s r))
 swapped p q r s = grind (arith, nat_tests)
 
-transitive : (p q r x y z : ℕ) → ordering_then (nat_cmp p q) (nat_cmp x y) ≢ Greater → ordering_then (nat_cmp q r) (nat_cmp y z) ≢ Greater → ordering_then (nat_cmp p r) (nat_cmp x z) ≢ Greater
+transitive : (p q r x y z : ℕ) → ordering_then (nat_cmp p q) (nat_cmp x y) ≢ Greater → ordering_then (nat_cmp q r) (nat_cmp y z) ≢ Greater
+    → ordering_then (nat_cmp p r) (nat_cmp x z) ≢ Greater
 transitive p q r x y z f g = grind (arith, nat_tests)
 
 -- where one answer is allowed at each size, the order is a total preorder
@@ -34,15 +35,15 @@ module _ (MayRate : Size → ℕ → Type 0) (rate : Size → ℕ) (only : (s : 
   same_rates (x ∷ []) t u h = absurd h.1
   same_rates (x ∷ y ∷ []) t u h = absurd h.1.1
   same_rates (x ∷ y ∷ z ∷ []) t u h =
-      let v = All-tail IsU32 x (y ∷ z ∷ []) u in
-      let w = All-tail IsU32 y (z ∷ []) v in
-      rw (← only x t.right (All-head IsU32 x (y ∷ z ∷ []) u) h.0, ← only y t.above (All-head IsU32 y (z ∷ []) v) h.1.0, ← only z t.behind (All-head IsU32 z [] w) h.1.1.0) refl
+      let v = recursion_from_All IsU32 (x ∷ y ∷ z ∷ []) u in
+      rw (← only x t.right v.0 h.0, ← only y t.above v.1.0 h.1.0, ← only z t.behind v.1.1.0 h.1.1.0) refl
   same_rates (x ∷ y ∷ z ∷ r ∷ xs) t u h = absurd h.1.1.1
 
   order_of : List Size → List Size → Ordering
   order_of a b = smallest_order (rates a) (rates b)
 
-  pub smallest_is_preorder : (MayPrefer : List Size → List Size → Ordering → Type 0) → ((a b : List Size) (r : Ordering) → MayPrefer a b r → All IsU32 a × All IsU32 b)
+  pub smallest_is_preorder : (MayPrefer : List Size → List Size → Ordering → Type 0)
+      → ((a b : List Size) (r : Ordering) → MayPrefer a b r → All IsU32 a × All IsU32 b)
       → ((a b : List Size) (r : Ordering) → MayPrefer a b r → IsSmallestOrder MayRate a b r) → IsTotalPreorder MayPrefer
   unfolding order_of
   smallest_is_preorder MayPrefer u32 answers = record {
@@ -52,18 +53,16 @@ module _ (MayRate : Size → ℕ → Type 0) (rate : Size → ℕ) (only : (s : 
         let o = answers a b r says in
         rw (o.answer_is, same_rates a o.rates_first u.0 o.rated_first, same_rates b o.rates_second u.1 o.rated_second) refl;
     swapped = λ a b.
-        let p = rates a in
-        let q = rates b in
+        let p = rates a in let q = rates b in
         swapped (smallest p) (smallest q) (second_smallest p) (second_smallest q);
     transitive = λ a b c f g.
-        let p = rates a in
-        let q = rates b in
-        let r = rates c in
+        let p = rates a in let q = rates b in let r = rates c in
         transitive (smallest r) (smallest q) (smallest p) (second_smallest r) (second_smallest q) (second_smallest p) g f;
   }
 
 -- what is a total preorder on all triples is one on all cuts
-pub preorder_on_cuts : (IsMet : Cuboid → Size → Type 0) (MayPrefer : List Size → List Size → Ordering → Type 0) → IsTotalPreorder MayPrefer → IsPreorderOnCuts IsMet MayPrefer
+pub preorder_on_cuts : (IsMet : Cuboid → Size → Type 0) (MayPrefer : List Size → List Size → Ordering → Type 0)
+    → IsTotalPreorder MayPrefer → IsPreorderOnCuts IsMet MayPrefer
 preorder_on_cuts IsMet MayPrefer o = record {
   compare = λ section member a b. o.compare (sizes_of a) (sizes_of b);
   preorder = λ section member met held. record {

@@ -1,168 +1,183 @@
 -- A plane that cuts no box splits a list from cuts into two that are.
-use Rattle.std.proofs.Common.{ℕ, ◌+◌, ◌<◌, ◌≤◌, ◌≡◌, ◌≢◌, Bool, true, false, List, [], ◌∷◌, ◌++◌, sym, ◌∙◌, subst, arith, inl, inr, le_antisymm}
+use Rattle.std.proofs.Common.{ℕ, ◌<◌, ◌≤◌, ◌≡◌, ◌≢◌, Bool, true, false, List, [], ◌∷◌, ◌++◌, sym, arith, inl, inr, le_antisymm}
 use Rattle.std.specs.Prelude.{All, filter, nat_le}
 use Rattle.std.proofs.lemmas.Bool.{cases_lt, cases_Bool, both_ways, false_from_ne_true, le-leb, lt-leb}
+use Rattle.std.proofs.lemmas.List.Elements.{All-from_recursion, filter-append}
 use Rattle.rectangle_pack.specs.declared.axis.Axis.{Axis}
-use Rattle.rectangle_pack.specs.Boxes.{Cuboid, start, end, has_cells}
+use Rattle.rectangle_pack.specs.Boxes.{Cuboid, IsPartOf, start, end, has_cells}
 use Rattle.rectangle_pack.specs.CutTrees.{lower, upper, IsPlaceOf, CutTree, Leaf, Cut, IsTreeOf, leaves, times_in, HaveSameBoxes, IsFromCuts}
 use Rattle.rectangle_pack.specs.CutPlans.{IsUncut, lower_boxes, upper_boxes}
+use Rattle.rectangle_pack.proofs.AppendLemmas.{All-front, All-back}
 use Rattle.rectangle_pack.proofs.AxesLemmas.{cases_axis, runs_on, stays_in, cells-part}
-use Rattle.rectangle_pack.proofs.PartsLemmas.{start-lower, end-lower, start-upper, end-upper, lower-lower, upper-upper, upper-lower, upper-start, lower-end, lower-lower_other, lower-upper_other, upper-upper_other, lower-part, upper-part, IsPlaceOf-lower_other, IsPlaceOf-upper_other}
-use Rattle.rectangle_pack.proofs.TimesLemmas.{times_in-same, times_in-append, times_in-kept, times_in-dropped, times_in-filter, All-times_in}
-use Rattle.rectangle_pack.proofs.CutTreeLemmas.{HasLeaves, HasLeaves-same, HasLeaves-tree, HasLeaves-leaf, HasLeaves-none, HasLeaves-cut, HasLeaves-part, IsFromCuts-by, times_in-empty, times_in-leaves}
+use Rattle.rectangle_pack.proofs.PartsLemmas.{start-lower, end-lower, start-upper, end-upper, lower-lower, upper-upper, upper-lower, upper-start, lower-end}
+use Rattle.rectangle_pack.proofs.PartsLemmas.{lower-lower_other, lower-upper_other, upper-upper_other, lower-part, upper-part, lower-empty, upper-empty}
+use Rattle.rectangle_pack.proofs.PartsLemmas.{IsPlaceOf-lower_other, IsPlaceOf-upper_other}
+use Rattle.rectangle_pack.proofs.TimesLemmas.{times_in-nil, times_in-append, times_in-kept, times_in-dropped, times_in-filter, All-times_in, All-from_times_in}
+use Rattle.rectangle_pack.proofs.SameBoxesLemmas.{HaveSameBoxes-filtered, IsFromCuts-same}
+use Rattle.rectangle_pack.proofs.CutTreeLemmas.{times_in-empty, IsFromCuts-tree, IsFromCuts-leaf, IsFromCuts-none, IsFromCuts-cut, IsFromCuts-part}
 
--- how often each box with cells is a leaf of the lower part and of the upper part
-record HasHalves (a : Axis) (p : ℕ) (b : Cuboid) (times : Cuboid → ℕ) : Type 0 where
-  pub below : Cuboid → ℕ
-  pub above : Cuboid → ℕ
-  pub lower_has : HasLeaves (lower a p b) below
-  pub upper_has : HasLeaves (upper a p b) above
-  pub both : (e : Cuboid) → has_cells e ≡ true → below e + above e ≡ times e
+-- of boxes with cells that pass the one test and not the other, the one keeps all and the other none
+one_side : (t u : Cuboid → Bool) (bs : List Cuboid) → ((e : Cuboid) → has_cells e ≡ true → 0 < times_in e bs → (t e ≡ true) × (u e ≡ false))
+    → HaveSameBoxes bs (filter t bs) × HaveSameBoxes [] (filter u bs)
+one_side t u bs h = (
+  λ e cells. elim (cases_lt 0 (times_in e bs)) [
+    | inl some ↦ sym (times_in-kept t e bs (h e cells some).0)
+    | inr none ↦ omega (arith, times_in-filter t e bs)
+  ],
+  λ e cells. elim (cases_lt 0 (times_in e bs)) [
+    | inl some ↦ omega (arith, times_in-nil e, times_in-dropped u e bs (h e cells some).1)
+    | inr none ↦ omega (arith, times_in-nil e, times_in-filter u e bs)
+  ],
+)
 
--- the plane is strictly inside no box that is counted
-record CutsNone (a : Axis) (p : ℕ) (times : Cuboid → ℕ) : Type 0 where
-  pub uncut : (e : Cuboid) → has_cells e ≡ true → 0 < times e → IsUncut a p e
+module _ (a : Axis) (p : ℕ) where
+  -- a box that ends at the plane or before it, and one that starts there or after
+  abbrev pub is_below : Cuboid → Bool
+  is_below b = nat_le (end a b) p
 
--- each plane of the box that cuts none splits it
-record Splits (b : Cuboid) (times : Cuboid → ℕ) : Type 0 where
-  pub at : (a : Axis) (p : ℕ) → IsPlaceOf a p b → CutsNone a p times → HasHalves a p b times
+  abbrev pub is_above : Cuboid → Bool
+  is_above b = nat_le p (start a b)
 
-splits_leaf : (b : Cuboid) → Splits b (λ e. times_in e (b ∷ []))
-splits_leaf b = record {
-  at = λ a p place none. elim (cases_Bool (has_cells b)) [
-    | inl full ↦ elim (none.uncut b full (omega (arith, times_in-same b []))) [
-      | inl ends ↦ at_end a p place (le_antisymm ends place.to)
-      | inr starts ↦ at_start a p place (le_antisymm starts place.from)
+  -- a box with cells is not both
+  below_alone : (e : Cuboid) → has_cells e ≡ true → end a e ≤ p → (is_below e ≡ true) × (is_above e ≡ false)
+  below_alone e cells ends = (le-leb _ _ ends, lt-leb _ _ (omega (arith, runs_on e cells a)))
+
+  above_alone : (e : Cuboid) → has_cells e ≡ true → p ≤ start a e → (is_above e ≡ true) × (is_below e ≡ false)
+  above_alone e cells starts = (le-leb _ _ starts, lt-leb _ _ (omega (arith, runs_on e cells a)))
+
+  all_below : (bs : List Cuboid) → ((e : Cuboid) → has_cells e ≡ true → 0 < times_in e bs → end a e ≤ p)
+      → HaveSameBoxes bs (lower_boxes a p bs) × HaveSameBoxes [] (upper_boxes a p bs)
+  all_below bs h = one_side is_below is_above bs (λ e cells some. below_alone e cells (h e cells some))
+
+  all_above : (bs : List Cuboid) → ((e : Cuboid) → has_cells e ≡ true → 0 < times_in e bs → p ≤ start a e)
+      → HaveSameBoxes bs (upper_boxes a p bs) × HaveSameBoxes [] (lower_boxes a p bs)
+  all_above bs h = one_side is_above is_below bs (λ e cells some. above_alone e cells (h e cells some))
+
+  abbrev AreUncut : List Cuboid → Type 0
+  AreUncut bs = All (λ b. has_cells b ≡ true → IsUncut a p b) bs
+
+  -- the boxes below the plane are from cuts of the lower part, and those above it of the upper part
+  abbrev AreSplit : List Cuboid → Cuboid → Type 0
+  AreSplit bs b = IsFromCuts (lower_boxes a p bs) (lower a p b) × IsFromCuts (upper_boxes a p bs) (upper a p b)
+
+  split_leaf : (b : Cuboid) → IsPlaceOf a p b → AreUncut (b ∷ []) → AreSplit (b ∷ []) b
+  split_leaf b place uncut = elim (cases_Bool (has_cells b)) [
+    | inr empty ↦
+        let none : (t : Cuboid → Bool) → HaveSameBoxes [] (filter t (b ∷ [])) = λ t e cells.
+        omega (arith, times_in-nil e, times_in-filter t e (b ∷ []), times_in-empty e b cells empty) in
+        let no_cells : (d : Cuboid) → IsPartOf d b → has_cells d ≡ false = λ d part.
+        false_from_ne_true _ (λ t. both_ways _ empty (cells-part d b part t)) in (
+          IsFromCuts-same [] (lower_boxes a p (b ∷ [])) (none is_below) (IsFromCuts-none (lower a p b) (no_cells _ (lower-part a p b place))),
+          IsFromCuts-same [] (upper_boxes a p (b ∷ [])) (none is_above) (IsFromCuts-none (upper a p b) (no_cells _ (upper-part a p b place))),
+        )
+    | inl full ↦ elim (uncut 0 b (omega arith) full) [
+      | inl ends ↦
+          let at : (e : Cuboid) → 0 < times_in e (b ∷ []) → end a e ≤ p = λ e some.
+          All-times_in (λ e. end a e ≤ p) e (b ∷ []) (All-from_recursion (λ e. end a e ≤ p) (b ∷ []) (ends, tt)) some in
+          let s = all_below (b ∷ []) (λ e cells some. at e some) in
+          let same : lower a p b ≡ b = rw (le_antisymm place.to ends) (lower-end a b) in (
+            rw same (IsFromCuts-same (b ∷ []) (lower_boxes a p (b ∷ [])) s.0 (IsFromCuts-leaf b)),
+            IsFromCuts-same [] (upper_boxes a p (b ∷ [])) s.1 (IsFromCuts-none (upper a p b) (upper-empty a p b place ends)),
+          )
+      | inr starts ↦
+          let at : (e : Cuboid) → 0 < times_in e (b ∷ []) → p ≤ start a e = λ e some.
+          All-times_in (λ e. p ≤ start a e) e (b ∷ []) (All-from_recursion (λ e. p ≤ start a e) (b ∷ []) (starts, tt)) some in
+          let s = all_above (b ∷ []) (λ e cells some. at e some) in
+          let same : upper a p b ≡ b = rw (le_antisymm starts place.from) (upper-start a b) in (
+            IsFromCuts-same [] (lower_boxes a p (b ∷ [])) s.1 (IsFromCuts-none (lower a p b) (lower-empty a p b place starts)),
+            rw same (IsFromCuts-same (b ∷ []) (upper_boxes a p (b ∷ [])) s.0 (IsFromCuts-leaf b)),
+          )
     ]
-    | inr empty ↦ record {
-      below = λ e. 0;
-      above = λ e. 0;
-      lower_has = HasLeaves-none (lower a p b) (false_from_ne_true _ (λ t. both_ways _ empty (cells-part _ b (lower-part a p b place) t)));
-      upper_has = HasLeaves-none (upper a p b) (false_from_ne_true _ (λ t. both_ways _ empty (cells-part _ b (upper-part a p b place) t)));
-      both = λ e cells. sym (times_in-empty e b cells empty);
-    }
-  ];
-}
-  where
-    one : (c : Cuboid) → c ≡ b → HasLeaves c (λ e. times_in e (b ∷ []))
-    one c q = subst (λ z. HasLeaves c (λ e. times_in e (z ∷ []))) q (HasLeaves-leaf c)
-
-    at_end : (a : Axis) (p : ℕ) → IsPlaceOf a p b → end a b ≡ p → HasHalves a p b (λ e. times_in e (b ∷ []))
-    at_end a p place q = record {
-      below = λ e. times_in e (b ∷ []);
-      above = λ e. 0;
-      lower_has = one (lower a p b) (subst (λ p. lower a p b ≡ b) q (lower-end a b));
-      upper_has = HasLeaves-none (upper a p b) (false_from_ne_true _ (λ t. absurd (omega (arith, runs_on (upper a p b) t a, start-upper a p b, end-upper a p b place.to))));
-      both = λ e cells. omega arith;
-    }
-
-    at_start : (a : Axis) (p : ℕ) → IsPlaceOf a p b → p ≡ start a b → HasHalves a p b (λ e. times_in e (b ∷ []))
-    at_start a p place q = record {
-      below = λ e. 0;
-      above = λ e. times_in e (b ∷ []);
-      lower_has = HasLeaves-none (lower a p b) (false_from_ne_true _ (λ t. absurd (omega (arith, runs_on (lower a p b) t a, start-lower a p b, end-lower a p b place.from))));
-      upper_has = one (upper a p b) (subst (λ p. upper a p b ≡ b) (sym q) (upper-start a b));
-      both = λ e cells. omega arith;
-    }
-
-module _ (b : Cuboid) (n m : Cuboid → ℕ) where
-  -- a box that is cut on the axis of the plane: the part that the plane is in is split
-  splits_same : (a : Axis) (q : ℕ) → IsPlaceOf a q b → HasLeaves (lower a q b) n → HasLeaves (upper a q b) m → Splits (lower a q b) n → Splits (upper a q b) m
-      → (p : ℕ) → IsPlaceOf a p b → CutsNone a p (λ e. n e + m e) → HasHalves a p b (λ e. n e + m e)
-  splits_same a q cut l u split_l split_u p place none = elim (cases_lt p q) [
-    | inl lt ↦
-        let r = split_l.at a p (record { from = omega (arith, place.from, start-lower a q b); to = omega (arith, end-lower a q b cut.from) }) (record { uncut = λ e cells some. none.uncut e cells (omega arith) }) in
-        record {
-          below = r.below;
-          above = λ e. r.above e + m e;
-          lower_has = subst (λ z. HasLeaves z r.below) (lower-lower a p q b) r.lower_has;
-          upper_has = HasLeaves-cut a q (upper a p b) r.above m (record { from = omega (arith, start-upper a p b); to = omega (arith, cut.to, end-upper a p b place.to) })
-              (subst (λ z. HasLeaves z r.above) (upper-lower a p q b cut.from place.to) r.upper_has)
-              (subst (λ z. HasLeaves z m) (sym (upper-upper a p q b place.to)) u);
-          both = λ e cells. omega (arith, r.both e cells);
-        }
-    | inr ge ↦
-        let r = split_u.at a p (record { from = omega (arith, start-upper a q b); to = omega (arith, place.to, end-upper a q b cut.to) }) (record { uncut = λ e cells some. none.uncut e cells (omega arith) }) in
-        record {
-          below = λ e. n e + r.below e;
-          above = r.above;
-          lower_has = HasLeaves-cut a q (lower a p b) n r.below (record { from = omega (arith, cut.from, start-lower a p b); to = omega (arith, end-lower a p b place.from) })
-              (subst (λ z. HasLeaves z n) (sym (lower-lower a q p b)) l)
-              (subst (λ z. HasLeaves z r.below) (sym (upper-lower a q p b place.from cut.to)) r.lower_has);
-          upper_has = subst (λ z. HasLeaves z r.above) (upper-upper a q p b cut.to) r.upper_has;
-          both = λ e cells. omega (arith, r.both e cells);
-        }
   ]
 
-  -- one that is cut on another axis: both parts are split
-  splits_other : (a e : Axis) (q : ℕ) → a ≢ e → IsPlaceOf e q b → Splits (lower e q b) n → Splits (upper e q b) m
-      → (p : ℕ) → IsPlaceOf a p b → CutsNone a p (λ e. n e + m e) → HasHalves a p b (λ e. n e + m e)
-  splits_other a e q other cut split_l split_u p place none =
-      let back : e ≢ a = λ i. other (sym i) in
-      let r = split_l.at a p (IsPlaceOf-lower_other e a q p b back place) (record { uncut = λ x cells some. none.uncut x cells (omega arith) }) in
-      let s = split_u.at a p (IsPlaceOf-upper_other e a q p b back place) (record { uncut = λ x cells some. none.uncut x cells (omega arith) }) in
-      record {
-        below = λ x. r.below x + s.below x;
-        above = λ x. r.above x + s.above x;
-        lower_has = HasLeaves-cut e q (lower a p b) r.below s.below (IsPlaceOf-lower_other a e p q b other cut)
-            (subst (λ z. HasLeaves z r.below) (lower-lower_other p q b a e other) r.lower_has)
-            (subst (λ z. HasLeaves z s.below) (lower-upper_other p q b a e other) s.lower_has);
-        upper_has = HasLeaves-cut e q (upper a p b) r.above s.above (IsPlaceOf-upper_other a e p q b other cut)
-            (subst (λ z. HasLeaves z r.above) (sym (lower-upper_other q p b e a back)) r.upper_has)
-            (subst (λ z. HasLeaves z s.above) (upper-upper_other p q b a e other) s.upper_has);
-        both = λ x cells. omega (arith, r.both x cells, s.both x cells);
-      }
+  -- boxes from cuts of the parts of a box that is cut on an axis
+  module _ (q : ℕ) (b : Cuboid) (place : IsPlaceOf a p b) (low high : List Cuboid) where
+    -- on the plane's axis: the part that the plane is in is split
+    split_same : IsPlaceOf a q b → IsFromCuts low (lower a q b) → IsFromCuts high (upper a q b)
+        → (IsPlaceOf a p (lower a q b) → AreSplit low (lower a q b)) → (IsPlaceOf a p (upper a q b) → AreSplit high (upper a q b)) → AreSplit (low ++ high) b
+    split_same cut from_l from_u split_l split_u = elim (cases_lt p q) [
+      | inl lt ↦
+          let r = split_l (record { from = omega (arith, place.from, start-lower a q b); to = omega (arith, end-lower a q b cut.from) }) in
+          let s = all_above high (λ e cells some. omega (arith, stays_in e (upper a q b) (IsFromCuts-part from_u e cells some) a, start-upper a q b)) in
+          let over : IsPlaceOf a q (upper a p b) = record { from = omega (arith, start-upper a p b); to = omega (arith, cut.to, end-upper a p b place.to) } in (
+            rw (filter-append is_below low high) (IsFromCuts-same (lower_boxes a p low) (lower_boxes a p low ++ lower_boxes a p high)
+                (λ e k. omega (arith, times_in-append e (lower_boxes a p low) (lower_boxes a p high), s.1 e k, times_in-nil e))
+                (rw (lower-lower a p q b) at r.0)),
+            rw (filter-append is_above low high) (IsFromCuts-cut a q (upper a p b) (upper_boxes a p low) (upper_boxes a p high) over
+                (rw (upper-lower a p q b cut.from place.to) at r.1)
+                (rw (upper-upper a p q b place.to) (IsFromCuts-same high (upper_boxes a p high) s.0 from_u))),
+          )
+      | inr ge ↦
+          let r = split_u (record { from = omega (arith, start-upper a q b); to = omega (arith, place.to, end-upper a q b cut.to) }) in
+          let s = all_below low (λ e cells some. omega (arith, stays_in e (lower a q b) (IsFromCuts-part from_l e cells some) a, end-lower a q b cut.from)) in
+          let under : IsPlaceOf a q (lower a p b) = record { from = omega (arith, cut.from, start-lower a p b); to = omega (arith, end-lower a p b place.from) } in (
+            rw (filter-append is_below low high) (IsFromCuts-cut a q (lower a p b) (lower_boxes a p low) (lower_boxes a p high) under
+                (rw (lower-lower a q p b) (IsFromCuts-same low (lower_boxes a p low) s.0 from_l))
+                (rw (upper-lower a q p b place.from cut.to) r.0)),
+            rw (filter-append is_above low high) (IsFromCuts-same (upper_boxes a p high) (upper_boxes a p low ++ upper_boxes a p high)
+                (λ e k. omega (arith, times_in-append e (upper_boxes a p low) (upper_boxes a p high), s.1 e k, times_in-nil e))
+                (rw (upper-upper a q p b cut.to) at r.1)),
+          )
+    ]
 
-  splits_cut : (e : Axis) (q : ℕ) → IsPlaceOf e q b → HasLeaves (lower e q b) n → HasLeaves (upper e q b) m → Splits (lower e q b) n → Splits (upper e q b) m → Splits b (λ e. n e + m e)
-  splits_cut e q cut l u split_l split_u = record {
-    at = λ a p place none. elim (cases_axis e a) [
-      | inl same ↦ subst (λ a. (p : ℕ) → IsPlaceOf a p b → CutsNone a p (λ e. n e + m e) → HasHalves a p b (λ e. n e + m e)) same (splits_same e q cut l u split_l split_u) p place none
-      | inr other ↦ splits_other a e q (λ i. other (sym i)) cut split_l split_u p place none
-    ];
-  }
+    -- on another axis: both parts are split
+    split_other : (e : Axis) → a ≢ e → IsPlaceOf e q b
+        → (IsPlaceOf a p (lower e q b) → AreSplit low (lower e q b)) → (IsPlaceOf a p (upper e q b) → AreSplit high (upper e q b)) → AreSplit (low ++ high) b
+    split_other e other cut split_l split_u =
+        let back : e ≢ a = λ i. other (sym i) in
+        let l = split_l (IsPlaceOf-lower_other e a q p b back place) in
+        let u = split_u (IsPlaceOf-upper_other e a q p b back place) in (
+          rw (filter-append is_below low high) (IsFromCuts-cut e q (lower a p b) (lower_boxes a p low) (lower_boxes a p high)
+              (IsPlaceOf-lower_other a e p q b other cut) (rw (lower-lower_other p q b a e other) at l.0) (rw (lower-upper_other p q b a e other) at u.0)),
+          rw (filter-append is_above low high) (IsFromCuts-cut e q (upper a p b) (upper_boxes a p low) (upper_boxes a p high)
+              (IsPlaceOf-upper_other a e p q b other cut) (rw (lower-upper_other q p b e a back) l.1) (rw (upper-upper_other p q b a e other) at u.1)),
+        )
 
-splits_like : (b : Cuboid) (n m : Cuboid → ℕ) → ((e : Cuboid) → m e ≡ n e) → Splits b n → Splits b m
-splits_like b n m same split = record {
-  at = λ a p place none.
-      let r = split.at a p place (record { uncut = λ e cells some. none.uncut e cells (omega (arith, same e)) }) in
-      record { below = r.below; above = r.above; lower_has = r.lower_has; upper_has = r.upper_has; both = λ e cells. r.both e cells ∙ sym (same e) };
-}
+    split_cut : (e : Axis) → IsPlaceOf e q b → IsFromCuts low (lower e q b) → IsFromCuts high (upper e q b)
+        → (IsPlaceOf a p (lower e q b) → AreSplit low (lower e q b)) → (IsPlaceOf a p (upper e q b) → AreSplit high (upper e q b)) → AreSplit (low ++ high) b
+    split_cut e cut from_l from_u split_l split_u = elim (cases_axis e a) [
+      | inl same ↦ split_same (rw same at cut) (rw same at from_l) (rw same at from_u) (rw same at split_l) (rw same at split_u)
+      | inr other ↦ split_other e (λ i. other (sym i)) cut split_l split_u
+    ]
 
--- by induction on the tree
-splits_tree : (t : CutTree) (b : Cuboid) → IsTreeOf t b → Splits b (λ e. times_in e (leaves t b))
-unfolding leaves
-splits_tree Leaf b is = splits_leaf b
-splits_tree (Cut a p l u) b is = splits_like b _ (λ e. times_in e (leaves (Cut a p l u) b)) (λ e. times_in-leaves e a p l u b)
-    (splits_cut b _ _ a p is.0 (HasLeaves-tree l (lower a p b) is.1) (HasLeaves-tree u (upper a p b) is.2) (splits_tree l (lower a p b) is.1) (splits_tree u (upper a p b) is.2))
-
--- what a test keeps, where n of a box pass it and m do not
-kept_by : (t : Cuboid → Bool) (boxes : List Cuboid) (e : Cuboid) (n m : ℕ) → n + m ≡ times_in e boxes → (0 < n → t e ≡ true) → (0 < m → t e ≡ false) → n ≡ times_in e (filter t boxes)
-kept_by t boxes e n m both passes fails = elim (cases_Bool (t e)) [
-  | inl y ↦ elim (cases_lt 0 m) [ inl lt ↦ absurd (both_ways _ (fails lt) y) | inr ge ↦ omega (arith, times_in-kept t e boxes y) ]
-  | inr f ↦ elim (cases_lt 0 n) [ inl lt ↦ absurd (both_ways _ f (passes lt)) | inr ge ↦ omega (arith, times_in-dropped t e boxes f) ]
-]
+  -- by induction on the tree
+  split_tree : (t : CutTree) (b : Cuboid) → IsTreeOf t b → IsPlaceOf a p b → AreUncut (leaves t b) → AreSplit (leaves t b) b
+  unfolding leaves
+  split_tree Leaf b is place uncut = split_leaf b place uncut
+  split_tree (Cut e q l u) b is place uncut =
+      let low = leaves l (lower e q b) in
+      let high = leaves u (upper e q b) in
+      let Uncut : Cuboid → Type 0 = λ b. has_cells b ≡ true → IsUncut a p b in
+      split_cut q b place low high e is.0 (IsFromCuts-tree l (lower e q b) is.1) (IsFromCuts-tree u (upper e q b) is.2)
+      (λ at. split_tree l (lower e q b) is.1 at (All-front Uncut low high uncut))
+      (λ at. split_tree u (upper e q b) is.2 at (All-back Uncut low high uncut))
 
 -- the leaves of the lower part are the boxes below the plane, and those of the upper part the boxes above it
-pub open_planes_split_cuts : (boxes : List Cuboid) (whole : Cuboid) (a : Axis) (p : ℕ) → IsFromCuts boxes whole → IsPlaceOf a p whole → All (λ b. has_cells b ≡ true → IsUncut a p b) boxes
+pub open_planes_split_cuts : (boxes : List Cuboid) (whole : Cuboid) (a : Axis) (p : ℕ)
+    → IsFromCuts boxes whole → IsPlaceOf a p whole → All (λ b. has_cells b ≡ true → IsUncut a p b) boxes
     → IsFromCuts (lower_boxes a p boxes) (lower a p whole) × IsFromCuts (upper_boxes a p boxes) (upper a p whole)
 open_planes_split_cuts boxes whole a p from place uncut =
-    let r = (splits_tree from.tree whole from.is_tree).at a p place (record { uncut = λ e cells some. All-times_in (λ b. has_cells b ≡ true → IsUncut a p b) e boxes uncut (omega (arith, from.same e cells)) cells }) in
-    let ends : (e : Cuboid) → has_cells e ≡ true → 0 < r.below e → end a e ≤ p = λ e cells some. let s = stays_in e _ (HasLeaves-part r.lower_has e cells some) a in omega (arith, end-lower a p whole place.from) in
-    let starts : (e : Cuboid) → has_cells e ≡ true → 0 < r.above e → p ≤ start a e = λ e cells some. let s = stays_in e _ (HasLeaves-part r.upper_has e cells some) a in omega (arith, start-upper a p whole) in
-    let first : (e : Cuboid) → has_cells e ≡ true → r.below e ≡ times_in e (lower_boxes a p boxes) = λ e cells. kept_by (λ b. nat_le (end a b) p) boxes e (r.below e) (r.above e)
-    (omega (arith, r.both e cells, from.same e cells)) (λ some. le-leb _ _ (ends e cells some)) (λ some. lt-leb _ _ (omega (arith, starts e cells some, runs_on e cells a))) in
-    let second : (e : Cuboid) → has_cells e ≡ true → r.above e ≡ times_in e (upper_boxes a p boxes) = λ e cells. kept_by (λ b. nat_le p (start a b)) boxes e (r.above e) (r.below e)
-    (omega (arith, r.both e cells, from.same e cells)) (λ some. le-leb _ _ (starts e cells some)) (λ some. lt-leb _ _ (omega (arith, ends e cells some, runs_on e cells a))) in
-    (IsFromCuts-by (lower_boxes a p boxes) (HasLeaves-same r.below _ first r.lower_has), IsFromCuts-by (upper_boxes a p boxes) (HasLeaves-same r.above _ second r.upper_has))
+    let all = leaves from.tree whole in
+    let Uncut : Cuboid → Type 0 = λ b. has_cells b ≡ true → IsUncut a p b in
+    let none : All Uncut all = All-from_times_in Uncut all (λ e some cells. All-times_in Uncut e boxes uncut (omega (arith, some, from.same e cells)) cells) in
+    let r = split_tree a p from.tree whole from.is_tree place none in (
+      IsFromCuts-same (lower_boxes a p all) (lower_boxes a p boxes) (HaveSameBoxes-filtered (is_below a p) all boxes from.same) r.0,
+      IsFromCuts-same (upper_boxes a p all) (upper_boxes a p boxes) (HaveSameBoxes-filtered (is_above a p) all boxes from.same) r.1,
+    )
 
 -- the boxes below an open plane and those above it are all of the boxes
-pub HaveSameBoxes-split : (boxes : List Cuboid) (a : Axis) (p : ℕ) → All (λ b. has_cells b ≡ true → IsUncut a p b) boxes → HaveSameBoxes (lower_boxes a p boxes ++ upper_boxes a p boxes) boxes
+pub HaveSameBoxes-split : (boxes : List Cuboid) (a : Axis) (p : ℕ) → All (λ b. has_cells b ≡ true → IsUncut a p b) boxes
+    → HaveSameBoxes (lower_boxes a p boxes ++ upper_boxes a p boxes) boxes
 HaveSameBoxes-split boxes a p uncut = λ e cells.
     let sum = times_in-append e (lower_boxes a p boxes) (upper_boxes a p boxes) in
     elim (cases_lt 0 (times_in e boxes)) [
       | inl lt ↦ elim (All-times_in (λ b. has_cells b ≡ true → IsUncut a p b) e boxes uncut lt cells) [
-        | inl ends ↦ omega (arith, times_in-kept (λ b. nat_le (end a b) p) e boxes (le-leb _ _ ends), times_in-dropped (λ b. nat_le p (start a b)) e boxes (lt-leb _ _ (omega (arith, runs_on e cells a))))
-        | inr starts ↦ omega (arith, times_in-kept (λ b. nat_le p (start a b)) e boxes (le-leb _ _ starts), times_in-dropped (λ b. nat_le (end a b) p) e boxes (lt-leb _ _ (omega (arith, runs_on e cells a))))
+        | inl ends ↦
+            let is = below_alone a p e cells ends in
+            omega (arith, times_in-kept (is_below a p) e boxes is.0, times_in-dropped (is_above a p) e boxes is.1)
+        | inr starts ↦
+            let is = above_alone a p e cells starts in
+            omega (arith, times_in-kept (is_above a p) e boxes is.0, times_in-dropped (is_below a p) e boxes is.1)
       ]
-      | inr ge ↦ omega (arith, times_in-filter (λ b. nat_le (end a b) p) e boxes, times_in-filter (λ b. nat_le p (start a b)) e boxes)
+      | inr ge ↦ omega (arith, times_in-filter (is_below a p) e boxes, times_in-filter (is_above a p) e boxes)
     ]

@@ -1,5 +1,6 @@
 -- Stretches of lists: so many elements from a place on.
-use Rattle.std.proofs.Common.{◌≡◌, ◌≤◌, ◌<◌, ◌+◌, ◌-◌, ◌*◌, ℕ, zero, suc, List, ◌++◌, length, take, drop, set, ap, subst, arith, inl, inr, ◌⊎◌, length-drop, ◌∙◌, add-one}
+use Rattle.std.proofs.Common.{◌≡◌, ◌≤◌, ◌<◌, ◌+◌, ◌-◌, ◌*◌, ℕ, zero, suc, List, ◌++◌, length, take, drop, set, ap, subst, arith, inl, inr, ◌⊎◌, length-drop}
+use Rattle.std.proofs.Common.{◌∙◌, add-one}
 use Rattle.std.proofs.Math.Nat.{mul-le-mul_right, lt_of_mul-lt-mul_right}
 use Rattle.std.proofs.Math.Seq.{take-add}
 use Rattle.std.proofs.lemmas.List.{drop-append-le, take-append-le, drop-set-lt, drop-set-add, take-set-le, drop-take, take_all, length-take-le}
@@ -8,12 +9,6 @@ use Rattle.std.proofs.lemmas.List.{drop-append-le, take-append-le, drop-set-lt, 
 pub stretch-ends : (w k n : ℕ) → k < n → k * w + w ≤ n * w
 stretch-ends w k n h =
     let le : (k + 1) * w ≤ n * w = mul-le-mul_right w (omega arith) in
-    omega (arith, le)
-
--- what is in a stretch of a later number lies beyond the stretches before
-pub stretches-before : (w n i q : ℕ) → n ≤ q → q * w ≤ i → n * w ≤ i
-stretches-before w n i q h l =
-    let le : n * w ≤ q * w = mul-le-mul_right w h in
     omega (arith, le)
 
 -- the stretch before an end begins the width before it

@@ -1,12 +1,13 @@
 -- A sweep leaves no two sections that share a whole face.
 use Rattle.std.proofs.Common.{arith, ℕ, zero, suc, ◌≡◌, ◌≢◌, ◌+◌, ◌-◌, ◌<◌, ◌≤◌, ◌⊎◌, inl, inr, List, length, get_or, refl, subst, sym, ◌∙◌, min, length-set}
-use Rattle.std.proofs.lemmas.Bool.{cases_lt, cases_eq, cases_Bool, ltb-true, ltb-false}
+use Rattle.std.proofs.lemmas.Bool.{cases_lt, cases_eq}
 use Rattle.std.proofs.lemmas.List.{get_or-set_other, get_or_default}
 use Rattle.std.proofs.lemmas.List.Edits.{get_or-remove_below, get_or-remove_above}
-use Rattle.std.specs.Prelude.{nat_lt, set}
+use Rattle.std.specs.Prelude.{set}
 use Rattle.rectangle_pack.specs.Boxes.{Cuboid}
-use Rattle.rectangle_pack.specs.Joining.{SharesFace, ShareNoFace, join, entry, IsNeighbour, IsAlone, IsFirstNeighbour, joined_list, joined_index, IsJoined, PastEnd, Alone, Joins, IsSwept, IsSweptBelow}
-use Rattle.rectangle_pack.proofs.JoiningLemmas.{SharesFace-symmetric, length-joined_list}
+use Rattle.rectangle_pack.specs.Joining.{SharesFace, ShareNoFace, join, entry, IsNeighbour, IsAlone, IsFirstNeighbour, joined_list, joined_index, IsJoined}
+use Rattle.rectangle_pack.specs.Joining.{PastEnd, Alone, Joins, IsSwept, IsSweptBelow}
+use Rattle.rectangle_pack.proofs.JoiningLemmas.{SharesFace-symmetric, length-joined_list, joined_index-at}
 
 -- the entries from k on share no whole face with any other entry
 Settled : List Cuboid → ℕ → Type 0
@@ -15,13 +16,6 @@ Settled sections k = (u v : ℕ) → k ≤ u → u < length sections → v < len
 -- the entries beyond idx share no whole face with any other entry than that at idx
 Around : List Cuboid → ℕ → Type 0
 Around sections idx = (u v : ℕ) → idx < u → u < length sections → v < length sections → u ≢ v → v ≢ idx → ¬ SharesFace (entry sections u) (entry sections v)
-
-joined_index-cases : (idx j : ℕ) → ((j < idx) × (joined_index idx j ≡ idx - 1)) ⊎ ((idx ≤ j) × (joined_index idx j ≡ idx))
-unfolding joined_index
-joined_index-cases idx j = elim (cases_Bool (nat_lt j idx)) [ inl t ↦ inl (ltb-true j idx t, rw t refl) | inr f ↦ inr (ltb-false j idx f, rw f refl) ]
-
-joined_index-le : (idx j : ℕ) → joined_index idx j ≤ idx
-joined_index-le idx j = elim (joined_index-cases idx j) [ inl w ↦ omega arith | inr w ↦ omega arith ]
 
 -- where an entry other than the join stood before
 entry-joined_list : (sections : List Cuboid) (idx j u : ℕ) → j < length sections → u < length (joined_list sections idx j) → u ≢ joined_index idx j
@@ -32,32 +26,34 @@ entry-joined_list sections idx j u within here n =
     let none : Cuboid = record { x = 0; y = 0; z = 0; whd = record { width = 0; height = 0; depth = 0 } } in
     let short = length-joined_list sections idx j within in
     let long : j < length (set sections idx b) = omega (arith, length-set sections idx b) in
-    let at = joined_index-cases idx j in
+    let at = joined_index-at idx j in
     elim (cases_lt u j) [
       | inl lt ↦
-          let ui : u ≢ idx = λ e. elim at [ inl w ↦ omega arith | inr w ↦ n (omega arith) ] in
-          (u, omega arith, ui, inl (lt, refl), get_or-remove_below (set sections idx b) j none u lt long ∙ get_or-set_other sections idx u b none ui)
+          let ui : u ≢ idx = λ e. omega arith in
+          let same = get_or-remove_below (set sections idx b) j none u lt long ∙ get_or-set_other sections idx u b none ui in
+          (u, omega arith, ui, inl (lt, refl), same)
       | inr ge ↦
-          let ui : u + 1 ≢ idx = λ e. elim at [ inl w ↦ n (omega arith) | inr w ↦ omega arith ] in
-          (u + 1, omega arith, ui, inr (ge, refl), get_or-remove_above (set sections idx b) j none u ge long ∙ get_or-set_other sections idx (u + 1) b none ui)
+          let ui : u + 1 ≢ idx = λ e. omega arith in
+          let same = get_or-remove_above (set sections idx b) j none u ge long ∙ get_or-set_other sections idx (u + 1) b none ui in
+          (u + 1, omega arith, ui, inr (ge, refl), same)
     ]
 
 Around-joined_list : (sections : List Cuboid) (idx j : ℕ) → j < length sections → Around sections idx → Around (joined_list sections idx j) (joined_index idx j)
 unfolding Around
 Around-joined_list sections idx j within around u v beyond hu hv uv vi face =
-    let at = joined_index-cases idx j in
+    let at = joined_index-at idx j in
     let r = entry-joined_list sections idx j u within hu (λ e. omega arith) in
     let s = entry-joined_list sections idx j v within hv vi in
-    let past : idx < r.0 = elim at [ inl w ↦ elim r.3 [ inl k ↦ omega arith | inr k ↦ omega arith ] | inr w ↦ elim r.3 [ inl k ↦ omega arith | inr k ↦ omega arith ] ] in
-    let differ : r.0 ≢ s.0 = λ e. elim r.3 [ inl k ↦ elim s.3 [ inl m ↦ omega arith | inr m ↦ omega arith ] | inr k ↦ elim s.3 [ inl m ↦ omega arith | inr m ↦ omega arith ] ] in
-    around r.0 s.0 past r.1 s.1 differ s.2 (subst (λ z. SharesFace z (entry sections s.0)) r.4 (subst (λ z. SharesFace (entry (joined_list sections idx j) u) z) s.4 face))
+    around r.0 s.0 (omega arith) r.1 s.1 (λ e. omega arith) s.2 (rw (r.4, s.4) at face)
 
 Settled-from_Around : (sections : List Cuboid) (idx hi : ℕ) → length sections ≤ hi → Around sections idx → IsAlone sections idx 0 hi → Settled sections idx
 unfolding Around Settled
 Settled-from_Around sections idx hi all around none u v from hu hv uv face = elim (cases_eq u idx) [
   | inl p ↦ none v (record { from = omega arith; below = omega arith; within = hv; other = omega arith; shares = rw p at face })
   | inr n ↦ elim (cases_eq v idx) [
-    | inl q ↦ none u (record { from = omega arith; below = omega arith; within = hu; other = n; shares = rw q at (SharesFace-symmetric (entry sections u) (entry sections v) face) })
+    | inl q ↦
+        let back = rw q at (SharesFace-symmetric (entry sections u) (entry sections v) face) in
+        none u (record { from = omega arith; below = omega arith; within = hu; other = n; shares = back })
     | inr m ↦ around u v (omega arith) hu hv uv m face
   ]
 ]
@@ -76,7 +72,7 @@ IsJoined-settles (PastEnd {old = old} {idx = idx} past) z all around = Settled-p
 IsJoined-settles (Alone {old = old} {idx = idx} {hi = hi} at none) z all around = Settled-from_Around old idx hi all around (rw z at none)
 IsJoined-settles (Joins {old = old} {new = new} {idx = idx} {hi = hi} at j first next) z all around =
     let within = first.is_one.within in
-    Settled-weaker new (joined_index idx j) idx (joined_index-le idx j)
+    Settled-weaker new (joined_index idx j) idx (omega (arith, joined_index-at idx j))
     (IsJoined-settles next z (omega (arith, length-joined_list old idx j within)) (Around-joined_list old idx j within around))
 
 Around-from_Settled : (sections : List Cuboid) (n : ℕ) → Settled sections (suc n) → Around sections n
@@ -92,7 +88,9 @@ pub sweep_leaves_no_face : (old new : List Cuboid) → IsSwept old new → Share
 unfolding Settled
 sweep_leaves_no_face old new swept i j d lt below face =
     let settled = IsSwept-settles (length old) old new swept (Settled-past old (length old) (omega arith)) in
-    settled i j (omega arith) (omega arith) below (omega arith) (subst (λ z. SharesFace z (entry new j)) (get_or_default new i d _ (omega arith)) (subst (λ z. SharesFace (get_or new i d) z) (get_or_default new j d _ below) face))
+    let a : get_or new i d ≡ entry new i = get_or_default new i d _ (omega arith) in
+    let b : get_or new j d ≡ entry new j = get_or_default new j d _ below in
+    settled i j (omega arith) (omega arith) below (omega arith) (rw (a, b) at face)
 
 -- the rule leaves one list alone
 first_is_one : (sections : List Cuboid) (idx lo hi j k : ℕ) → IsFirstNeighbour sections idx lo hi j → IsFirstNeighbour sections idx lo hi k → j ≡ k
@@ -111,11 +109,11 @@ IsJoined-one (Alone at none) (Joins here j first next) = absurd (none j first.is
 IsJoined-one (Joins at j first next) (PastEnd past) = absurd (omega arith)
 IsJoined-one (Joins at j first next) (Alone here none) = absurd (none j first.is_one)
 IsJoined-one (Joins {old = old} {idx = idx} {lo = lo} {hi = hi} at j first next) (Joins {new = b} here k other last) =
-    IsJoined-one next (subst (λ i. IsJoined (joined_index idx i) lo (min hi (length old) - 1) (joined_list old idx i) b) (first_is_one old idx lo hi k j other first) last)
+    IsJoined-one next (rw (first_is_one old idx lo hi k j other first) at last)
 
 pub IsSwept-one : (n : ℕ) (old a b : List Cuboid) → IsSweptBelow n old a → IsSweptBelow n old b → a ≡ b
 IsSwept-one zero old a b p q = p ∙ sym q
-IsSwept-one (suc n) old a b p q = IsSwept-one n p.0 a b p.2 (subst (λ next. IsSweptBelow n next b) (sym (IsJoined-one p.1 q.1)) q.2)
+IsSwept-one (suc n) old a b p q = IsSwept-one n p.0 a b p.2 (rw (IsJoined-one q.1 p.1) at q.2)
 
 -- an index past the end, an empty range, and a range past the end
 pub IsJoined-past_end : (old new : List Cuboid) (idx lo hi : ℕ) → length old ≤ idx → IsJoined idx lo hi old new → new ≡ old
@@ -127,15 +125,18 @@ IsJoined-empty old new idx lo hi none joined = elim (cases_lt idx (length old)) 
   | inr past ↦ IsJoined-one joined (PastEnd past)
 ]
 
-IsNeighbour-within : (old : List Cuboid) (idx lo hi other j : ℕ) → min hi (length old) ≡ min other (length old) → IsNeighbour old idx lo hi j → IsNeighbour old idx lo other j
+IsNeighbour-within : (old : List Cuboid) (idx lo hi other j : ℕ) → min hi (length old) ≡ min other (length old)
+    → IsNeighbour old idx lo hi j → IsNeighbour old idx lo other j
 IsNeighbour-within old idx lo hi other j same near =
     let below = near.below in let within = near.within in
     record { from = near.from; below = omega arith; within = near.within; other = near.other; shares = near.shares }
 
 -- ranges that are one once they are cut to the list leave the same
-pub IsJoined-within : {old new : List Cuboid} {idx lo hi : ℕ} (other : ℕ) → min hi (length old) ≡ min other (length old) → IsJoined idx lo hi old new → IsJoined idx lo other old new
+pub IsJoined-within : {old new : List Cuboid} {idx lo hi : ℕ} (other : ℕ) → min hi (length old) ≡ min other (length old)
+    → IsJoined idx lo hi old new → IsJoined idx lo other old new
 IsJoined-within other same (PastEnd past) = PastEnd past
-IsJoined-within other same (Alone {old = old} {idx = idx} {lo = lo} {hi = hi} at none) = Alone at (λ j near. none j (IsNeighbour-within old idx lo other hi j (sym same) near))
+IsJoined-within other same (Alone {old = old} {idx = idx} {lo = lo} {hi = hi} at none) =
+    Alone at (λ j near. none j (IsNeighbour-within old idx lo other hi j (sym same) near))
 IsJoined-within other same (Joins {old = old} {new = new} {idx = idx} {lo = lo} {hi = hi} at j first next) =
     let here : IsFirstNeighbour old idx lo other j = record {
       is_one = IsNeighbour-within old idx lo hi other j same first.is_one;

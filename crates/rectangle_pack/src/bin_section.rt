@@ -3,7 +3,6 @@ ghost use Rattle.std.specs.Prelude.{◌≡◌, ◌↔◌, ◌∷◌, List, All, 
 ghost use Rattle.std.specs.Bool.{OnFalse};
 ghost use Rattle.std.specs.Cmp.{IsTotalOrder};
 ghost use Rattle.rectangle_pack.specs.Boxes.{Size, Cuboid, Cell, IsCellOf, is_cell_of, section_order, Holds, FitsU32, IsInside, SharesCell, AreApart, has_cells};
-ghost use Rattle.rectangle_pack.specs.private.Spans.{SpansMeet};
 ghost use Rattle.rectangle_pack.specs.Closures.{CanRate, CanCompare, MayRateBy, MayCompare};
 ghost use Rattle.rectangle_pack.specs.Cuts.{placed, pieces, orders, cuts, sizes_of};
 ghost use Rattle.rectangle_pack.specs.Choice.{IsAllowedCut, IsFunction, IsTotalPreorder, IsPreorderOnCuts};
@@ -18,6 +17,7 @@ mod cutting;
 use crate::bin_section::cutting::pieces_round;
 use crate::packed_location::PackedLocation;
 use crate::rect_to_insert::RectToInsert;
+use crate::span::spans;
 use crate::width_height_depth::WidthHeightDepth;
 use std::cmp::Ordering;
 use std::error::Error;
@@ -212,14 +212,13 @@ impl BinSection {
     }
 
     /// Whether the two sections share a cell, for all numbers; an empty section shares none.
-    #[tactic(auto, using(crate::proofs::BoxesLemmas::sharing))]
+    #[tactic(auto, using(crate::proofs::BoxesLemmas::sharing), unfolding(crate::specs::Boxes::start, crate::specs::Boxes::extent))]
     pub fn overlaps(&self, other: &BinSection) -> bool
         ensures shares { IsTrue result ↔ SharesCell self.now other.now }
         ensures apart { OnFalse result (AreApart self.now other.now) }
     {
-        let wide = spans_meet(self.x, self.whd.width(), other.x, other.whd.width());
-        let high = spans_meet(self.y, self.whd.height(), other.y, other.whd.height());
-        let deep = spans_meet(self.z, self.whd.depth(), other.z, other.whd.depth());
+        let ((ax, ay, az), (bx, by, bz)) = (spans(self), spans(other));
+        let (wide, high, deep) = (ax.overlaps(bx), ay.overlaps(by), az.overlaps(bz));
         wide && high && deep
     }
 
@@ -285,15 +284,6 @@ impl BinSection {
             pieces_round(corner, end, rest, (h, d), (width, d), (width, height)),
         ]
     }
-}
-
-// Whether two stretches of an axis, each by its start and its length, have a place in common.
-fn spans_meet(start: u32, length: u32, other_start: u32, other_length: u32) -> bool
-    ensures { IsTrue result ↔ SpansMeet start length other_start other_length }
-{
-    let first = u64::from(start.max(other_start));
-    first < u64::from(start) + u64::from(length)
-        && first < u64::from(other_start) + u64::from(other_length)
 }
 
 fn sizes(sections: &[BinSection; 3]) -> [WidthHeightDepth; 3]

@@ -1,47 +1,17 @@
 //! Joining sections that share a whole face, in a list of sections.
-ghost use Rattle.std.specs.Prelude.{ℕ, ◌≡◌, ◌<◌, ◌≤◌, ◌↔◌, ◌⊎◌, min, max, List, length, All, IfNone, IfSome, IsTrue};
+ghost use Rattle.std.specs.Prelude.{ℕ, ◌≡◌, ◌<◌, ◌≤◌, ◌↔◌, List, length, All, IfNone, IfSome, IsTrue};
 ghost use Rattle.rectangle_pack.specs.Boxes.{Cell, Cuboid, FitsU32};
 ghost use Rattle.rectangle_pack.specs.Counting.{times_filled};
 ghost use Rattle.rectangle_pack.specs.Joining.{SharesFace, ShareNoFace, join, IsAlone, IsFirstNeighbour, IsJoined, IsSwept};
-ghost use Rattle.rectangle_pack.specs.private.Spans.{spans_of};
 
 use crate::bin_section::BinSection;
+use crate::span::spans;
 use crate::width_height_depth::WidthHeightDepth;
 use std::alloc::Allocator;
 use std::ops::Range;
 
-// A stretch of an axis, by its start and its end.
-type Span = (u32, u32);
-
-// The stretches of a section on x, y and z.
-fn spans(section: &BinSection) -> (Span, Span, Span)
-    requires { FitsU32 section.now }
-    ensures { result ≡ spans_of section.now }
-{
-    let (x, y, z) = (section.x(), section.y(), section.z());
-    let whd = section.whd();
-    (
-        (x, x + whd.width()),
-        (y, y + whd.height()),
-        (z, z + whd.depth()),
-    )
-}
-
-// Whether one of the two stretches ends where the other starts.
-fn meet(a: Span, b: Span) -> bool
-    ensures { IsTrue result ↔ ((a.1 ≡ b.0) ⊎ (b.1 ≡ a.0)) }
-{
-    (a.1 == b.0) | (b.1 == a.0)
-}
-
-// From the lower start to the higher end.
-fn hull(a: Span, b: Span) -> Span
-    ensures { result ≡ (min a.0 b.0, max a.1 b.1) }
-{
-    (a.0.min(b.0), a.1.max(b.1))
-}
-
 // Whether the two sections share a whole face.
+#[tactic(auto, unfolding(crate::specs::Boxes::start, crate::specs::Boxes::extent))]
 fn shares_face(a: &BinSection, b: &BinSection) -> bool
     requires first { FitsU32 a.now }
     requires second { FitsU32 b.now }
@@ -49,9 +19,9 @@ fn shares_face(a: &BinSection, b: &BinSection) -> bool
 {
     let ((ax, ay, az), (bx, by, bz)) = (spans(a), spans(b));
     let (same_x, same_y, same_z) = (ax == bx, ay == by, az == bz);
-    (meet(ax, bx) & same_y & same_z)
-        | (meet(ay, by) & same_x & same_z)
-        | (meet(az, bz) & same_x & same_y)
+    (ax.touches(bx) & same_y & same_z)
+        | (ay.touches(by) & same_x & same_z)
+        | (az.touches(bz) & same_x & same_y)
 }
 
 // The join of the two sections.
@@ -63,9 +33,9 @@ fn join(a: &BinSection, b: &BinSection) -> BinSection
     ensures fits { FitsU32 result }
 {
     let ((ax, ay, az), (bx, by, bz)) = (spans(a), spans(b));
-    let (x, y, z) = (hull(ax, bx), hull(ay, by), hull(az, bz));
-    let whd = WidthHeightDepth::of(x.1 - x.0, y.1 - y.0, z.1 - z.0);
-    BinSection::new(x.0, y.0, z.0, whd)
+    let (x, y, z) = (ax.hull(bx), ay.hull(by), az.hull(bz));
+    let whd = WidthHeightDepth::of(x.length, y.length, z.length);
+    BinSection::new(x.start, y.start, z.start, whd)
 }
 
 // The least other index of the range whose section shares a whole face with the section at `idx`.

@@ -18,6 +18,7 @@ mod plans;
 pub mod rect_to_insert;
 mod section_slots;
 pub mod session;
+mod span;
 pub mod target_bin;
 mod trial;
 pub mod width_height_depth;

@@ -1,36 +1,12 @@
-//! Boxes along an axis, and the two parts of a box at a place on it.
+//! The two parts of a box at a place on an axis.
 ghost use Rattle.std.specs.Prelude.{◌≡◌};
-ghost use Rattle.rectangle_pack.specs.Boxes.{FitsU32, start, end};
+ghost use Rattle.rectangle_pack.specs.Boxes.{FitsU32};
 ghost use Rattle.rectangle_pack.specs.CutTrees.{IsPlaceOf, lower, upper};
 
 use crate::axis::Axis;
 use crate::bin_section::BinSection;
+use crate::span::Span;
 use crate::width_height_depth::WidthHeightDepth;
-
-// Where a box starts on an axis.
-#[tactic(auto, unfolding(crate::specs::Boxes::start))]
-pub(crate) fn start(section: &BinSection, axis: Axis) -> u32
-    ensures { result ≡ start axis section.now }
-{
-    match axis {
-        Axis::X => section.x(),
-        Axis::Y => section.y(),
-        Axis::Z => section.z(),
-    }
-}
-
-// Where it ends: the first place beyond it.
-#[tactic(auto, unfolding(crate::specs::Boxes::start, crate::specs::Boxes::extent, crate::specs::Boxes::end))]
-pub(crate) fn end(section: &BinSection, axis: Axis) -> u32
-    requires { FitsU32 section.now }
-    ensures { result ≡ end axis section.now }
-{
-    match axis {
-        Axis::X => section.x() + section.whd().width(),
-        Axis::Y => section.y() + section.whd().height(),
-        Axis::Z => section.z() + section.whd().depth(),
-    }
-}
 
 // The part of a box below a place on an axis.
 #[tactic(auto, unfolding(crate::specs::Boxes::start, crate::specs::CutTrees::lower))]
@@ -59,7 +35,7 @@ pub(crate) fn upper(whole: &BinSection, axis: Axis, place: u32) -> BinSection
     let (x, y, z) = (whole.x(), whole.y(), whole.z());
     let size = whole.whd();
     let (width, height, depth) = (size.width(), size.height(), size.depth());
-    let rest = end(whole, axis) - place;
+    let rest = Span::of(whole, axis).end() - place;
     match axis {
         Axis::X => BinSection::new(place, y, z, WidthHeightDepth::of(rest, height, depth)),
         Axis::Y => BinSection::new(x, place, z, WidthHeightDepth::of(width, rest, depth)),

@@ -7,14 +7,14 @@ ghost use Rattle.rectangle_pack.specs.private.CutPlans.{AreEntries, IsFilled, Ar
 
 use crate::axis::Axis;
 use crate::bin_section::BinSection;
-use crate::plans::axes::{end, start};
+use crate::span::Span;
 
 // Puts entries in order of their starts on an axis. Takes no memory.
 fn order_on(axis: Axis, entries: &mut [BinSection])
     ensures permutation { IsPermutation entries.old entries.new }
     ensures ordered { IsNonDecreasingBy (start axis) entries.new }
 {
-    entries.sort_unstable_by_key(|entry| start(entry, axis));
+    entries.sort_unstable_by_key(|entry| Span::of(entry, axis).start);
 }
 
 // Puts entries back in order on an axis, if one is named. Takes no memory.
@@ -34,9 +34,9 @@ fn go_on(whole: &BinSection, axis: Axis, place: u32, entry: &BinSection) -> u32
     ensures { (boxes : List Cuboid) → Contains boxes entry.now →
         IsClosedBelow axis place whole.now boxes → IsClosedBelow axis result whole.now boxes }
 {
-    let begin = start(entry, axis);
-    if (begin <= start(whole, axis)) | (begin < place) {
-        place.max(end(entry, axis))
+    let run = Span::of(entry, axis);
+    if (run.start <= Span::of(whole, axis).start) | (run.start < place) {
+        place.max(run.end())
     } else {
         place
     }
@@ -54,7 +54,7 @@ fn is_first_next(
     ensures { MatchBool result (i < length first.now) (j < length second.now) }
 {
     match (first.get(i), second.get(j)) {
-        (Some(a), Some(b)) => start(a, axis) <= start(b, axis),
+        (Some(a), Some(b)) => Span::of(a, axis).start <= Span::of(b, axis).start,
         (Some(_), None) => true,
         (None, _) => false,
     }
@@ -67,7 +67,7 @@ fn reach(whole: &BinSection, axis: Axis, first: &[BinSection], second: &[BinSect
     requires second { AreEntries second.now }
     ensures { IsClosedBelow axis result whole.now (first.now ++ second.now) }
 {
-    let mut place = start(whole, axis);
+    let mut place = Span::of(whole, axis).start;
     let (mut i, mut j) = (0, 0);
     while i < first.len() || j < second.len() {
         if is_first_next(axis, first, i, second, j) {
@@ -102,7 +102,7 @@ fn is_blocked(
     let (_, back) = rest.split_at_mut(between);
     order_on(axis, front);
     order_on(axis, back);
-    let blocked = end(whole, axis) <= reach(whole, axis, front, back);
+    let blocked = Span::of(whole, axis).end() <= reach(whole, axis, front, back);
     put_back(ordered, front);
     put_back(ordered, back);
     blocked

@@ -7,8 +7,8 @@ ghost use Rattle.rectangle_pack.specs.private.CutPlans.{IsFilled, AreOrdered, Is
 
 use crate::axis::Axis;
 use crate::bin_section::BinSection;
-use crate::plans::axes::{end, start};
 use crate::plans::order::put_in_order;
+use crate::span::Span;
 
 // Where a part is cut, and how many of its entries are below the cut.
 #[derive(Clone, Copy)]
@@ -27,13 +27,13 @@ fn first_gap(whole: &BinSection, axis: Axis, entries: &[BinSection]) -> Option<(
     ensures { MatchOption result (IsClosedOn axis whole.now entries.now)
         (λ gap. IsGap axis whole.now entries.now gap.0 gap.1) }
 {
-    let mut reach = start(whole, axis);
+    let mut reach = Span::of(whole, axis).start;
     for (i, entry) in entries.iter().enumerate() {
-        let begin = start(entry, axis);
-        if i > 0 && reach <= begin {
+        let run = Span::of(entry, axis);
+        if i > 0 && reach <= run.start {
             return Some((reach, i));
         }
-        reach = reach.max(end(entry, axis));
+        reach = reach.max(run.end());
     }
     None
 }

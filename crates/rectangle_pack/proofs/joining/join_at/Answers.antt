@@ -11,7 +11,7 @@ loop-j-preserved-then-j-idx g c =
     let now = c.loop-j in
     let r = one_join now.sections.items c.remove.new.self.items now.idx c.args.range.start now.end c.in-Some.j (c.min-end.result - 1) (now.idx - 1) c.index.result.now c.index-in-Some.result.now c.join.result
     now.invariant.fit now.invariant.inside (rw c.as_slice.ensures.value at c.in-Some.ensures.some)
-    (search rules) (search rules) c.join.ensures.joined c.join.ensures.fits (search rules) (search rules) ((joined_index-at now.idx c.in-Some.j).0 c.if-j-idx.true) in
+    (search rules) (search rules) c.join.ensures.joined c.join.ensures.fits (search rules) (search rules) (omega (arith, joined_index-at now.idx c.in-Some.j)) in
     record { fit = r.0; inside = r.1; rest = λ new left. now.invariant.rest new (r.2 new left) }
 
 pub loop-j-preserved : goal.loop-j-preserved
@@ -19,7 +19,7 @@ loop-j-preserved g c =
     let now = c.loop-j in
     let r = one_join now.sections.items c.remove.new.self.items now.idx c.args.range.start now.end c.in-Some.j (c.min-end.result - 1) now.idx c.index.result.now c.index-in-Some.result.now c.join.result
     now.invariant.fit now.invariant.inside (rw c.as_slice.ensures.value at c.in-Some.ensures.some)
-    (search rules) (search rules) c.join.ensures.joined c.join.ensures.fits (search rules) (search rules) ((joined_index-at now.idx c.in-Some.j).1 c.if-j-idx.false) in
+    (search rules) (search rules) c.join.ensures.joined c.join.ensures.fits (search rules) (search rules) (omega (arith, joined_index-at now.idx c.in-Some.j)) in
     record { fit = r.0; inside = r.1; rest = λ new left. now.invariant.rest new (r.2 new left) }
 
 pub returns-clause-joined : goal.returns-clause-joined

@@ -35,6 +35,6 @@ returns c =
       permutation = rw parts (ends_moved front between back first last front_moved back_moved);
       ordered = ends_ordered front between back first last front_moved back_moved c.args.ordered (rw parts at c.requires.ordered) c.put_back.ensures.ordered c.put_back-2.ensures.ordered;
       closed = OnTrue_from (leb c.end.result c.reach.result) (IsClosedOn c.args.axis whole (first ++ (between ++ last))) (λ t q is_open.
-          c.reach.ensures q (omega (arith, leb-true c.end.result c.reach.result t, c.end.ensures, is_open.before_end))
+          c.reach.ensures q (omega (arith, leb-true c.end.result c.reach.result t, c.end.ensures ∙ c.of.ensures.ends, is_open.before_end))
           (ends_open c.order_on.new.entries between c.order_on-2.new.entries first last c.put_back.ensures.permutation c.put_back-2.ensures.permutation c.args.axis q whole is_open));
     }
