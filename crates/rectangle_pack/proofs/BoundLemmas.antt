@@ -28,6 +28,7 @@ use Rattle.rectangle_pack.specs.Numbers.{saturated}
 use Rattle.rectangle_pack.specs.Trials.{IsTrialAnswer, most_tests}
 use Rattle.std.specs.declared.vec.Vec.{Vec}
 use Rattle.rectangle_pack.specs.PackAnswers.{sections_in, AreCounted}
+use Rattle.rectangle_pack.specs.private.TrialNotes.{IsTried}
 use Rattle.rectangle_pack.specs.private.Bounds.{free_in, free_of, AreWithin, AddsWithin}
 use Rattle.rectangle_pack.specs.private.Orders.{keys_of_order, entries_at}
 use Rattle.std.specs.declared.cmp.Reverse.{Reverse}
@@ -38,7 +39,6 @@ use Rattle.rectangle_pack.proofs.ExclusionsLemmas.{is_at-equal}
 use Rattle.rectangle_pack.proofs.MapsLemmas.{lookup-equal, is_at-back}
 use Rattle.rectangle_pack.proofs.OneOrderLemmas.{length-zip}
 use Rattle.rectangle_pack.proofs.PlacedLemmas.{lookup-placed}
-use Rattle.std.specs.Bool.{OnTrue, OnFalse}
 use Rattle.rectangle_pack.proofs.StepsLemmas.{length-step, trial_passes}
 use Rattle.rectangle_pack.proofs.TrialLemmas.{saturated-add, saturated-from}
 
@@ -103,10 +103,10 @@ module _ (may : Answers) where
       let b = grown-le next ms ls last others done in
       omega arith
 
-  pub grown-tried : (sections : List Cuboid) (ms : List Size) (ls last : List Cuboid) (counted : ℕ → Type 0) (done : Bool)
-      → OnTrue done ((n : ℕ) × IsDone may sections ms ls last n × counted n) → OnFalse done (last ≡ sections) → length last ≤ length sections + 2 * length ms
-  grown-tried sections ms ls last counted done is_done stuck =
-      trial_passes may (λ (l : List Cuboid). length l ≤ length sections + 2 * length ms) sections ms ls last counted done is_done stuck
+  pub grown-tried : {E : Type 0} (sections : List Cuboid) (ms : List Size) (counted : ℕ) (r : Result Bool E) (ls last : List Cuboid) (counter : ℕ)
+      → IsTried may sections ms counted r ls last counter → length last ≤ length sections + 2 * length ms
+  grown-tried sections ms counted r ls last counter tried =
+      trial_passes may (λ (l : List Cuboid). length l ≤ length sections + 2 * length ms) sections ms counted r ls last counter tried
       (λ n is h. grown-le sections ms ls last n is) (omega arith)
 
 -- of more entries than were tried there are as few tests
@@ -379,6 +379,11 @@ module _ {Id B : Type 0} (rules : Rules Id B) (o : IsTotalOrder rules.bin_cmp) w
         distinct = IsDistinct-IsPermutation (eq_by_cmp rules.bin_cmp) (λ x y. is_at-back o x y) (map name p.unsorted) (map name order) (IsPermutation-map name p.unsorted order p.permutation) (names-differ bins p.unsorted d p.each);
       }
 
+  -- no bin is named twice in an order of a map
+  pub order-differs : (bins : List (B × Bin)) (order : List (ℕ × B)) → IsDistinct (eq_by_cmp rules.bin_cmp) (keys_of bins) → IsBinOrder rules.may.rate rules.bin_cmp bins order
+      → IsDistinct (eq_by_cmp rules.bin_cmp) (map (λ (u : ℕ × B). u.1) order)
+  order-differs bins order d p = (ordered-from bins order d p).distinct
+
 -- a count that began at none, added to another
 pub AreCounted-added : {Id B G : Type 0} (all : Collection Id G) (old : List (B × Bin)) (tests none made before after : ℕ) → none ≡ 0 → AreCounted all old tests none made → after ≡ saturated (before + made) → AreCounted all old tests before after
 AreCounted-added all old tests none made before after empty h added = record { most = h.most; added = saturated-from before none made after tests empty h.added added }
@@ -427,7 +432,3 @@ module _ {Id B G : Type 0} (group_cmp : Group G Id → Group G Id → Ordering) 
   pub counted-stopped : (before after : ℕ) → AddsWithin rules.bin_cmp old (map (λ (u : ℕ × B). u.1) order) (sum_by (entries_at group_cmp all.groups) group_order) before after → (tests : ℕ) × AreCounted all old tests before after
   counted-stopped before after h =
       (h.tests, most-within rules o all old order h.tests before after d by_bins (subst (λ (e : ℕ). AreWithin rules.bin_cmp old (map (λ (u : ℕ × B). u.1) order) e h.tests) entries h.within) h.added)
-
-  -- no bin is named twice
-  pub bins-differ : IsDistinct (eq_by_cmp rules.bin_cmp) (map (λ (u : ℕ × B). u.1) order)
-  bins-differ = (ordered-from rules o old order d by_bins).distinct

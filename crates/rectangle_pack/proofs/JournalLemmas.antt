@@ -8,7 +8,7 @@ use Rattle.std.specs.Map.{lookup, set_value, keys_of}
 use Rattle.std.specs.Option.{is_some, option_map}
 use Rattle.std.specs.BTreeMap.{is_at}
 use Rattle.std.proofs.lemmas.Map.Made.{lookup-map_values, keys_of-map_values}
-use Rattle.rectangle_pack.specs.declared.pack.work.DoneTrial.{DoneTrial}
+use Rattle.rectangle_pack.specs.declared.pack.journal.DoneTrial.{DoneTrial}
 use Rattle.rectangle_pack.specs.Bins.{Bin, Held}
 use Rattle.rectangle_pack.specs.Packing.{bins_of}
 use Rattle.rectangle_pack.specs.private.TrialJournal.{CanUndoTrial, before_trial, Undoes, GoesBack}
@@ -99,30 +99,30 @@ pub Undoes-more : {B A : Type 0} (cmp : B → B → Ordering) (es : List (DoneTr
 Undoes-more cmp [] now more start r h = IsRoomier-bins now more r ∙ h
 Undoes-more cmp (e ∷ es) now more start r h =
     let (held, found, can, rest) = h in
-    let (larger, there, m) = IsRoomier-lookup (is_at (cmp e.bin.now)) now more held r found in (
+    let (larger, there, m) = IsRoomier-lookup (is_at (cmp e.id.now)) now more held r found in (
       larger,
       there,
       CanUndoTrial-more e held larger m can,
-      Undoes-more cmp es _ _ start (IsRoomier-set (is_at (cmp e.bin.now)) now more (before_trial e held) (before_trial e larger) r (before_trial-more e held larger m)) rest,
+      Undoes-more cmp es _ _ start (IsRoomier-set (is_at (cmp e.id.now)) now more (before_trial e held) (before_trial e larger) r (before_trial-more e held larger m)) rest,
     )
 
 -- what a look-up finds, written back with a trial done
 pub Undoes-noted : {B A : Type 0} (cmp : B → B → Ordering) (e : DoneTrial B A) (es : List (DoneTrial B A)) (now : List (B × Held)) (v w : Held) (start : List (B × Bin))
-    → lookup (is_at (cmp e.bin.now)) now ≡ Some v → CanUndoTrial e w → IsMore v (before_trial e w)
-    → Undoes cmp es now start → Undoes cmp (e ∷ es) (set_value (is_at (cmp e.bin.now)) now w) start
+    → lookup (is_at (cmp e.id.now)) now ≡ Some v → CanUndoTrial e w → IsMore v (before_trial e w)
+    → Undoes cmp es now start → Undoes cmp (e ∷ es) (set_value (is_at (cmp e.id.now)) now w) start
 Undoes-noted cmp e es now v w start found can back h = (
   w,
-  lookup-set_here (is_at (cmp e.bin.now)) now v w found,
+  lookup-set_here (is_at (cmp e.id.now)) now v w found,
   can,
-  rw (set_value-twice (is_at (cmp e.bin.now)) now w (before_trial e w)) (Undoes-more cmp es now _ start (IsRoomier-grown (is_at (cmp e.bin.now)) now v (before_trial e w) found back) h),
+  rw (set_value-twice (is_at (cmp e.id.now)) now w (before_trial e w)) (Undoes-more cmp es now _ start (IsRoomier-grown (is_at (cmp e.id.now)) now v (before_trial e w) found back) h),
 )
 
 -- the last trial of a journal
 pub record IsUndone {B A : Type 0} (cmp : B → B → Ordering) (now : List (B × Held)) (e : DoneTrial B A) (journal : List (DoneTrial B A)) (start : List (B × Bin)) : Type 0 where
   pub held : Held
-  pub found : lookup (is_at (cmp e.bin.now)) now ≡ Some held
+  pub found : lookup (is_at (cmp e.id.now)) now ≡ Some held
   pub can : CanUndoTrial e held
-  pub back : GoesBack cmp (set_value (is_at (cmp e.bin.now)) now (before_trial e held)) journal start
+  pub back : GoesBack cmp (set_value (is_at (cmp e.id.now)) now (before_trial e held)) journal start
 
 -- the last trial of a journal can be undone, and then the others
 pub GoesBack-popped : {B A : Type 0} (cmp : B → B → Ordering) (now : List (B × Held)) (old journal : List (DoneTrial B A)) (e : DoneTrial B A) (start : List (B × Bin)) → old ≡ journal ++ e ∷ [] → GoesBack cmp now old start → IsUndone cmp now e journal start
@@ -132,10 +132,10 @@ GoesBack-popped {B} {A} cmp now old journal e start same h =
 
 -- a done trial that is noted can be undone with those before it
 pub GoesBack-pushed : {B A : Type 0} (cmp : B → B → Ordering) (now : List (B × Held)) (journal new : List (DoneTrial B A)) (e : DoneTrial B A) (v w : Held) (start : List (B × Bin)) → new ≡ journal ++ e ∷ []
-    → lookup (is_at (cmp e.bin.now)) now ≡ Some v → CanUndoTrial e w → IsMore v (before_trial e w)
-    → GoesBack cmp now journal start → GoesBack cmp (set_value (is_at (cmp e.bin.now)) now w) new start
+    → lookup (is_at (cmp e.id.now)) now ≡ Some v → CanUndoTrial e w → IsMore v (before_trial e w)
+    → GoesBack cmp now journal start → GoesBack cmp (set_value (is_at (cmp e.id.now)) now w) new start
 GoesBack-pushed {B} {A} cmp now journal new e v w start same found can back h =
-    record { undoes = subst (λ (es : List (DoneTrial B A)). Undoes cmp es (set_value (is_at (cmp e.bin.now)) now w) start) (sym (ap reverse same ∙ reverse-append journal (e ∷ []))) (Undoes-noted cmp e (reverse journal) now v w start found can back h.undoes) }
+    record { undoes = subst (λ (es : List (DoneTrial B A)). Undoes cmp es (set_value (is_at (cmp e.id.now)) now w) start) (sym (ap reverse same ∙ reverse-append journal (e ∷ []))) (Undoes-noted cmp e (reverse journal) now v w start found can back h.undoes) }
 
 -- more room does no harm to a journal
 pub GoesBack-more : {B A : Type 0} (cmp : B → B → Ordering) (now more : List (B × Held)) (journal : List (DoneTrial B A)) (start : List (B × Bin)) → IsRoomier now more → GoesBack cmp now journal start → GoesBack cmp more journal start

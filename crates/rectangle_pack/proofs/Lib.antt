@@ -4,6 +4,7 @@ pub mod BarredLemmas
 pub mod BinsLemmas
 pub mod BoundLemmas
 pub mod BoxesLemmas
+pub mod CheckoutLemmas
 pub mod CountingLemmas
 pub mod CoverVolumesLemmas
 pub mod CutCoverLemmas
@@ -57,7 +58,6 @@ pub mod StretchLemmas
 pub mod SummariesLemmas
 pub mod SweepLemmas
 pub mod TakeBackLemmas
-pub mod TakenLemmas
 pub mod TimesLemmas
 pub mod TransitionLemmas
 pub mod TrialLemmas

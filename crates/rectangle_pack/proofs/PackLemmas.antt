@@ -20,19 +20,20 @@ use Rattle.std.specs.declared.vec.Vec.{Vec}
 use Rattle.std.specs.declared.cmp.Reverse.{Reverse}
 use Rattle.std.specs.Borrow.{Bor}
 use Rattle.rectangle_pack.specs.Closures.{Answers}
-use Rattle.rectangle_pack.specs.Groups.{lists_of}
+use Rattle.rectangle_pack.specs.Groups.{Collection, lists_of}
 use Rattle.rectangle_pack.specs.private.Orders.{keys_of_order, entries_at}
 use Rattle.std.proofs.lemmas.List.Elements.{All-push, All-nil}
-use Rattle.rectangle_pack.specs.declared.pack.work.DoneTrial.{DoneTrial}
+use Rattle.rectangle_pack.specs.declared.pack.journal.DoneTrial.{DoneTrial}
+use Rattle.rectangle_pack.specs.declared.grouped_rects_to_place.Group.{Group}
 use Rattle.rectangle_pack.specs.declared.pack.answer.Placement.{Placement}
 use Rattle.rectangle_pack.specs.Bins.{Bin, Held, IsSound}
-use Rattle.rectangle_pack.specs.Packing.{Rules, bins_of, Members, Stage, at_start, IsPlaced, DoesNotTake, IsStuckIn, IsRefused, AreAllPlaced, AreGroups, StopsAfter}
+use Rattle.rectangle_pack.specs.Packing.{Rules, bins_of, Members, Stage, at_start, IsPlaced, DoesNotTake, IsStuckIn, IsRefused, AreAllPlaced, AreGroups, StopsAfter, PackingDone}
 use Rattle.rectangle_pack.specs.Boxes.{Size, Cuboid}
 use Rattle.rectangle_pack.specs.declared.trial.Note.{Note}
 use Rattle.rectangle_pack.specs.private.Journal.{before_notes, CanUndo, LeadsBack}
 use Rattle.rectangle_pack.specs.Steps.{IsDone}
 use Rattle.rectangle_pack.specs.Placed.{AreNamed, IsLastOf, AreLastPlacements}
-use Rattle.rectangle_pack.specs.private.Taken.{IsTriedIn}
+use Rattle.rectangle_pack.specs.private.Checkout.{IsTriedIn}
 use Rattle.rectangle_pack.specs.private.TrialJournal.{GoesBack, trials_noted}
 use Rattle.rectangle_pack.proofs.PackingOrderLemmas.{AllZip-more}
 use Rattle.rectangle_pack.proofs.MapsLemmas.{is_eq-back}
@@ -50,9 +51,9 @@ bins_of-grown test now v w found same more = IsRoomier-bins now (set_value test 
 
 -- a trial that is done and noted
 pub GoesBack-done : {B A : Type 0} (cmp : B → B → Ordering) (now : List (B × Held)) (journal new : List (DoneTrial B A)) (e : DoneTrial B A) (v w : Held) (start : List (B × Bin))
-    → lookup (is_at (cmp e.bin.now)) now ≡ Some v → new ≡ journal ++ e ∷ []
+    → lookup (is_at (cmp e.id.now)) now ≡ Some v → new ≡ journal ++ e ∷ []
     → w.bin ≡ record v.bin { sections = w.bin.sections } → before_notes e.notes.items w.bin.sections ≡ v.bin.sections → CanUndo w.room e.notes.items w.bin.sections → IsSound v.bin.size v.bin.sections → v.room ≤ w.room
-    → GoesBack cmp now journal start → GoesBack cmp (set_value (is_at (cmp e.bin.now)) now w) new start
+    → GoesBack cmp now journal start → GoesBack cmp (set_value (is_at (cmp e.id.now)) now w) new start
 GoesBack-done cmp now journal new e v w start found pushed rest before can sound more h =
     GoesBack-pushed cmp now journal new e v w start pushed found
     (record { can = can; sound = rw (ap (λ (b : Bin). b.size) rest, before) sound })
@@ -61,7 +62,7 @@ GoesBack-done cmp now journal new e v w start found pushed rest before can sound
 
 -- and one in the bin of an id, where the bins are those of before, and where it leaves no notes, the bin's own list stays
 pub GoesBack-tried : {B A : Type 0} (cmp : B → B → Ordering) (first now next : List (B × Held)) (journal new : List (DoneTrial B A)) (e : DoneTrial B A) (v w : Held) (start : List (B × Bin))
-    → IsTriedIn cmp e.bin.now now v w next → now ≡ first → new ≡ journal ++ trials_noted e
+    → IsTriedIn cmp e.id.now now v w next → now ≡ first → new ≡ journal ++ trials_noted e
     → w.bin ≡ record v.bin { sections = w.bin.sections } → LeadsBack w.room w.bin.sections e.notes.items v.bin.sections
     → GoesBack cmp first journal start → GoesBack cmp next new start
 GoesBack-tried {B} {A} cmp first now next journal new e v w start tried same pushed rest back h = rw tried.written (at e.notes.items refl pushed back.before)
@@ -69,11 +70,11 @@ GoesBack-tried {B} {A} cmp first now next journal new e v w start tried same pus
     start_now : GoesBack cmp now journal start
     start_now = rw same h
 
-    at : (notes : List Note) → e.notes.items ≡ notes → new ≡ journal ++ (if nat_eq (length notes) 0 then [] else e ∷ []) → before_notes notes w.bin.sections ≡ v.bin.sections → GoesBack cmp (set_value (is_at (cmp e.bin.now)) now w) new start
+    at : (notes : List Note) → e.notes.items ≡ notes → new ≡ journal ++ (if nat_eq (length notes) 0 then [] else e ∷ []) → before_notes notes w.bin.sections ≡ v.bin.sections → GoesBack cmp (set_value (is_at (cmp e.id.now)) now w) new start
     at [] none is before =
         let stays : w.bin ≡ v.bin = rest ∙ ap (λ (s : List Cuboid). record v.bin { sections = s }) before in
-        subst (λ (js : List (DoneTrial B A)). GoesBack cmp (set_value (is_at (cmp e.bin.now)) now w) js start) (sym (is ∙ append-nil journal))
-        (GoesBack-grown cmp now journal e.bin.now v w start tried.found stays tried.room start_now)
+        subst (λ (js : List (DoneTrial B A)). GoesBack cmp (set_value (is_at (cmp e.id.now)) now w) js start) (sym (is ∙ append-nil journal))
+        (GoesBack-grown cmp now journal e.id.now v w start tried.found stays tried.room start_now)
     at (note ∷ notes) some is before =
         let more : new ≡ journal ++ e ∷ [] = is ∙ ap (λ b. journal ++ (if b then [] else e ∷ [])) (eqb-suc-zero (length notes)) in
         GoesBack-done cmp now journal new e v w start tried.found more rest back.before back.can tried.sound tried.room start_now
@@ -118,14 +119,14 @@ AreSizesOf-length cmp sizes (x ∷ xs) (m ∷ ms) h = let e = AreSizesOf-length 
 
 module _ {Id B : Type 0} (rules : Rules Id B) where
   -- the group is placed in the bin that the loop is at
-  pub IsPlaced-at : (barred : B → Bool) (order : List (ℕ × B)) (i : ℕ) (o : ℕ × B) (group : Members Id)
-      (now : List (B × Held)) (old : List (B × Bin)) (v w : Held) (locations : List Cuboid) (counts : List ℕ) (count : ℕ) (added : List (Placement Id B))
+  pub IsPlaced-at : (barred : B → Bool) (order : List (ℕ × B)) (i : ℕ) (o : ℕ × B) (group : Members Id) (now new : List (B × Held)) (old : List (B × Bin))
+      (v w : Held) (locations : List Cuboid) (counts : List ℕ) (count : ℕ) (added : List (Placement Id B))
       → i < length order → o ≡ get_or order i o → bins_of now ≡ old
       → AllZip (DoesNotTake rules barred old group) (map (λ (x : ℕ × B). x.1) (take i order)) counts → barred o.1 ≡ false
-      → lookup (is_at (rules.bin_cmp o.1)) now ≡ Some v → w.bin ≡ record v.bin { sections = w.bin.sections } → IsDone rules.may v.bin.sections group.sizes locations w.bin.sections count
-      → AreNamed rules.id_cmp rules.bin_cmp group.ids o.1 locations added
-      → (p : IsPlaced rules barred (map (λ (x : ℕ × B). x.1) order) group old added (bins_of (set_value (is_at (rules.bin_cmp o.1)) now w)) (sum counts + count)) × (p.here ≡ o.1)
-  IsPlaced-at barred order i o group now old v w locations counts count added within is same passed allowed found rest done named = (
+      → IsTriedIn rules.bin_cmp o.1 now v w new → w.bin ≡ record v.bin { sections = w.bin.sections }
+      → IsDone rules.may v.bin.sections group.sizes locations w.bin.sections count → AreNamed rules.id_cmp rules.bin_cmp group.ids o.1 locations added
+      → (p : IsPlaced rules barred (map (λ (x : ℕ × B). x.1) order) group old added (bins_of new) (sum counts + count)) × (p.here ≡ o.1)
+  IsPlaced-at barred order i o group now new old v w locations counts count added within is same passed allowed tried rest done named = (
     record {
       before = map (λ (x : ℕ × B). x.1) (take i order);
       here = o.1;
@@ -135,17 +136,26 @@ module _ {Id B : Type 0} (rules : Rules Id B) where
       passed = passed;
       allowed = allowed;
       bin = v.bin;
-      found = found-bins_of (is_at (rules.bin_cmp o.1)) now old v same found;
+      found = found-bins_of (is_at (rules.bin_cmp o.1)) now old v same tried.found;
       last = w.bin.sections;
       locations = locations;
       count = count;
       done = done;
       named = named;
-      new_is = bins_of-written (is_at (rules.bin_cmp o.1)) now _ w _ refl rest ∙ ap (λ es. set_value (is_at (rules.bin_cmp o.1)) es (record v.bin { sections = w.bin.sections })) same;
+      new_is = bins_of-written (is_at (rules.bin_cmp o.1)) now new w _ tried.written rest
+          ∙ ap (λ es. set_value (is_at (rules.bin_cmp o.1)) es (record v.bin { sections = w.bin.sections })) same;
       tests_are = refl;
     },
     refl,
   )
+
+  -- where the order and the excluded bins are given in another way, the group goes to the same bin
+  IsPlaced-alike : (a b : B → Bool) (order names : List B) (group : Members Id) (old : List (B × Bin)) (added : List (Placement Id B)) (new : List (B × Bin))
+      (count : ℕ) (here : B) → a ≡ b → order ≡ names → (p : IsPlaced rules a order group old added new count) → p.here ≡ here
+      → (q : IsPlaced rules b names group old added new count) × (q.here ≡ here)
+  IsPlaced-alike a b order names group old added new count here same same_order p is =
+      let P : (B → Bool) → List B → Type 0 = λ (x : B → Bool) (ns : List B). (q : IsPlaced rules x ns group old added new count) × (q.here ≡ here) in
+      subst (P b) same_order (subst (λ (x : B → Bool). P x order) same (p, is))
 
   -- one more bin is passed over
   pub DoesNotTake-more : (barred : B → Bool) (old : List (B × Bin)) (group : Members Id) (order : List (ℕ × B)) (i : ℕ) (o : ℕ × B) (counts : List ℕ) (count : ℕ)
@@ -167,7 +177,7 @@ module _ {Id B : Type 0} (rules : Rules Id B) where
 
   module _ {K : Type 0} (bars : List (K × B) → K → B → Bool) where
     -- one more group is placed
-    pub AreAllPlaced-push : (order : List B) (gs : List (K × Members Id)) (g : K × Members Id) (old : Stage K B) (mid : List (B × Bin)) (homes : List (K × B)) (next : List (B × Bin)) (placements added : List (Placement Id B)) (tests one : ℕ)
+    AreAllPlaced-push : (order : List B) (gs : List (K × Members Id)) (g : K × Members Id) (old : Stage K B) (mid : List (B × Bin)) (homes : List (K × B)) (next : List (B × Bin)) (placements added : List (Placement Id B)) (tests one : ℕ)
         → AreAllPlaced rules bars order gs old placements (record { bins = mid; homes = homes }) tests
         → (p : IsPlaced rules (bars homes g.0) order g.1 mid added next one)
         → AreAllPlaced rules bars order (gs ++ g ∷ []) old (placements ++ added) (record { bins = next; homes = (g.0, p.here) ∷ homes }) (tests + one)
@@ -177,6 +187,19 @@ module _ {Id B : Type 0} (rules : Rules Id B) where
         (added, next, one, [], 0, placed, (refl, refl, refl), ap (λ ps. ps ++ added) done.0 ∙ sym (append-nil added), (let z = done.2 in omega arith))
     AreAllPlaced-push order (g' ∷ gs) g old mid homes next placements added tests one (first, mid', n, rest, m, here, later, joined, counted) placed =
         (first, mid', n, rest ++ added, m + one, here, AreAllPlaced-push order gs g (record { bins = mid'; homes = (g'.0, here.here) ∷ old.homes }) mid homes next rest added m one later placed, rw joined (append_assoc first rest added), omega arith)
+
+    -- and it is known where it went
+    pub AreAllPlaced-next : (excluded : B → Bool) (order names : List B) (gs : List (K × Members Id)) (g : K × Members Id) (old : Stage K B)
+        (mid : List (B × Bin)) (homes : List (K × B)) (next : List (B × Bin)) (before added after : List (Placement Id B)) (tests one : ℕ) (here : B)
+        → excluded ≡ bars homes g.0 → order ≡ names → AreAllPlaced rules bars names gs old before (record { bins = mid; homes = homes }) tests
+        → (p : IsPlaced rules excluded order g.1 mid added next one) → p.here ≡ here → after ≡ before ++ added
+        → AreAllPlaced rules bars names (gs ++ g ∷ []) old after (record { bins = next; homes = (g.0, here) ∷ homes }) (tests + one)
+    AreAllPlaced-next excluded order names gs g old mid homes next before added after tests one here same same_order done p is joined =
+        let q = IsPlaced-alike excluded (bars homes g.0) order names g.1 mid added next one here same same_order p is in
+        let P : List (Placement Id B) → B → Type 0 = λ (ps : List (Placement Id B)) (b : B).
+        AreAllPlaced rules bars names (gs ++ g ∷ []) old ps (record { bins = next; homes = (g.0, b) ∷ homes }) (tests + one) in
+        subst (λ (ps : List (Placement Id B)). P ps here) (sym joined)
+        (subst (P (before ++ added)) q.1 (AreAllPlaced-push names gs g old mid homes next before added tests one done q.0))
 
   module _ {K : Type 0} (group_cmp : K → K → Ordering) where
     -- one more group is named
@@ -232,6 +255,25 @@ lists-more (e ∷ es) lists b is not_so same = rw (← same) (omega arith)
 pub lists-empty : {K X A : Type 0} (es : List (K × Vec X A)) (b : Bool) → (IsTrue b ↔ (length es ≡ 0)) → b ≡ true → lists_of es ≡ []
 lists-empty [] b is so = refl
 lists-empty (e ∷ es) b is so = absurd (omega (arith, is.0 so))
+
+-- without groups a packing is done, and makes no test
+pub PackingDone-none : {Id B G : Type 0} (group_cmp : Group G Id → Group G Id → Ordering) (rules : Rules Id B) (all : Collection Id G)
+    (old : List (B × Bin)) (placements : List (Placement Id B)) → all.groups ≡ [] → placements ≡ [] → (done : PackingDone group_cmp rules all old placements old) × (done.tests ≡ 0)
+PackingDone-none group_cmp rules all old placements none nothing = (
+  record {
+    group_order = [];
+    bin_order = [];
+    groups = [];
+    by_groups = rw none
+        (record { unsorted = []; each = tt; permutation = record { moves = []; below = tt; is = refl }; falling = λ k d low up. absurd (omega arith) });
+    by_bins = λ some. absurd (omega arith);
+    listed = record { each = tt };
+    homes = [];
+    tests = 0;
+    placed = (nothing, refl, refl);
+  },
+  refl,
+)
 
 -- the last placement of each id, after one more placement, which is written under an id and a bin that equal its own
 pub AreLastPlacements-more : {Id B : Type 0} {cmp : Id → Id → Ordering} (bin_cmp : B → B → Ordering) → IsTotalOrder cmp → (placements : List (Placement Id B)) (p : Placement Id B) (key : Id) (bin : B) (old new : List (Id × (B × Cuboid))) → IsStrictlySortedBy cmp (keys_of new)

@@ -1,7 +1,6 @@
 -- What a step and a trial keep.
 use Rattle.std.proofs.Common.{◌≡◌, ℕ, ◌+◌, ◌≤◌, Bool, true, false, cond, List, [], ◌∷◌, ◌++◌, length, arith, refl, ap, sym, subst, ◌∙◌, length-append}
-use Rattle.std.specs.Prelude.{All, map, filter}
-use Rattle.std.specs.Bool.{OnTrue, OnFalse}
+use Rattle.std.specs.Prelude.{All, map, filter, Result, Ok, Err}
 use Rattle.std.specs.List.{AllZip, zip, count_by}
 use Rattle.std.specs.List.Sorted.{IsPermutation}
 use Rattle.std.proofs.lemmas.List.Elements.{All-head, All-tail, All-append, All-filter, All-same, All-weaker}
@@ -15,6 +14,7 @@ use Rattle.rectangle_pack.specs.CutTrees.{times_in, HaveSameBoxes}
 use Rattle.rectangle_pack.specs.Counting.{times_filled, AreAllApart}
 use Rattle.rectangle_pack.specs.Keeping.{KeepCells}
 use Rattle.rectangle_pack.specs.Steps.{AreLeft, IsStep, IsDone}
+use Rattle.rectangle_pack.specs.private.TrialNotes.{IsTried}
 use Rattle.rectangle_pack.proofs.AppendLemmas.{All-front, All-back}
 use Rattle.rectangle_pack.proofs.BoxesLemmas.{has_cells-from}
 use Rattle.rectangle_pack.proofs.CountingLemmas.{count-cons, count_no, filled-append, filled-cons, filled-nil, apart_from_counts, counts_from_apart, KeepCells-from_counts}
@@ -149,18 +149,19 @@ module _ (may : Answers) where
     apart = apart_from_counts last (λ c. omega (arith, filled-done c sections ms ls last n done, counts_from_apart c sections sound.apart));
   }
 
-  -- what a trial that is done passes on holds after one that is stuck too, which leaves the list
-  pub trial_passes : (P : List Cuboid → Type 0) (sections : List Cuboid) (ms : List Size) (ls last : List Cuboid) (counted : ℕ → Type 0) (done : Bool)
-      → OnTrue done ((n : ℕ) × IsDone may sections ms ls last n × counted n) → OnFalse done (last ≡ sections)
+  -- what a trial that is done passes on holds after each one: stuck, or out of memory, it leaves the list
+  pub trial_passes : {E : Type 0} (P : List Cuboid → Type 0) (sections : List Cuboid) (ms : List Size) (counted : ℕ) (r : Result Bool E) (ls last : List Cuboid) (counter : ℕ)
+      → IsTried may sections ms counted r ls last counter
       → ((n : ℕ) → IsDone may sections ms ls last n → P sections → P last) → P sections → P last
-  trial_passes P sections ms ls last counted true done stuck passes h = passes done.0 done.1 h
-  trial_passes P sections ms ls last counted false done stuck passes h = subst P (sym stuck) h
+  trial_passes P sections ms counted (Ok true) ls last counter (n, done, is) passes h = passes n done h
+  trial_passes P sections ms counted (Ok false) ls last counter (n, stuck, same, is) passes h = subst P (sym same) h
+  trial_passes P sections ms counted (Err error) ls last counter (same, is) passes h = subst P (sym same) h
 
   -- a trial leaves a sound list sound
-  pub IsSound-tried : (size : Size) (sections : List Cuboid) (ms : List Size) (ls last : List Cuboid) (counted : ℕ → Type 0) (done : Bool)
-      → OnTrue done ((n : ℕ) × IsDone may sections ms ls last n × counted n) → OnFalse done (last ≡ sections) → IsSound size sections → IsSound size last
-  IsSound-tried size sections ms ls last counted done is_done stuck =
-      trial_passes (IsSound size) sections ms ls last counted done is_done stuck (λ n. IsSound-done size sections ms ls last n)
+  pub IsSound-tried : {E : Type 0} (size : Size) (sections : List Cuboid) (ms : List Size) (counted : ℕ) (r : Result Bool E) (ls last : List Cuboid) (counter : ℕ)
+      → IsTried may sections ms counted r ls last counter → IsSound size sections → IsSound size last
+  IsSound-tried size sections ms counted r ls last counter tried =
+      trial_passes (IsSound size) sections ms counted r ls last counter tried (λ n. IsSound-done size sections ms ls last n)
 
   -- a trial that is done keeps the cells
   pub KeepCells-done : (sections : List Cuboid) (ms : List Size) (ls last : List Cuboid) (n : ℕ) → AreAllApart sections → IsDone may sections ms ls last n → KeepCells sections (last ++ ls)

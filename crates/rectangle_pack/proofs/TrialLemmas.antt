@@ -1,6 +1,7 @@
 -- Steps by index, and the undoing of noted steps.
-use Rattle.std.proofs.Common.{◌≡◌, ℕ, suc, ◌+◌, ◌-◌, ◌<◌, ◌≤◌, List, [], ◌∷◌, ◌++◌, length, get_or, take, drop, arith, refl, ap, sym, ◌∙◌, subst, length-drop, add-one, inl, inr}
-use Rattle.std.specs.Prelude.{All, remove, map, filter}
+use Rattle.std.proofs.Common.{◌≡◌, ℕ, zero, suc, ◌+◌, ◌-◌, ◌<◌, ◌≤◌, List, [], ◌∷◌, ◌++◌, length, get_or, take, drop, arith, refl, ap, sym, ◌∙◌, subst, length-drop, add-one, inl, inr}
+use Rattle.std.specs.Prelude.{All, remove, map, filter, Bool, true, false, Result, Ok, Err, IfOk, IsErr}
+use Rattle.std.specs.Bool.{OnTrue}
 use Rattle.std.specs.List.{AllWithin, HoldsAt}
 use Rattle.std.proofs.Math.Seq.{split_at}
 use Rattle.std.proofs.lemmas.List.{get_or-drop, take_more}
@@ -8,10 +9,12 @@ use Rattle.rectangle_pack.specs.Closures.{Answers}
 use Rattle.rectangle_pack.specs.Numbers.{saturated}
 use Rattle.rectangle_pack.specs.declared.trial.Note.{Note}
 use Rattle.rectangle_pack.specs.Boxes.{Size, Cuboid, Holds, has_cells}
+use Rattle.rectangle_pack.specs.Bins.{Bin, Held}
 use Rattle.rectangle_pack.specs.Cuts.{placed}
 use Rattle.rectangle_pack.specs.Choice.{IsAllowedCut}
 use Rattle.rectangle_pack.specs.Steps.{IsStep, IsDone, IsStuck, AreLeft}
 use Rattle.rectangle_pack.specs.private.Ranks.{by_falling_rate}
+use Rattle.rectangle_pack.specs.private.TrialNotes.{IsTried, IsNotedAnswer, LeavesNotes}
 use Rattle.rectangle_pack.proofs.RanksLemmas.{AreRanked-by_falling_rate}
 use Rattle.rectangle_pack.specs.private.Journal.{before_note, before_notes, CanUndo, CanUndoOne, LeadsBack}
 
@@ -161,3 +164,37 @@ AreLeft-three MayRate cut a b c i j k same x y z =
 -- a count that began at none, added
 pub saturated-from : (t z s u n : ℕ) → z ≡ 0 → s ≡ saturated (z + n) → u ≡ saturated (t + s) → u ≡ saturated (t + n)
 saturated-from t z s u n none first second = omega arith
+
+-- a trial that is refused memory before its first step leaves the list
+pub IsTried-refused : {E : Type 0} (may : Answers) (sections : List Cuboid) (ms : List Size) (i : ℕ) (ls last : List Cuboid) (n before after : ℕ) (r : Result Bool E) (locations now : List Cuboid)
+    → IsErr r → i ≡ 0 → IsDone may sections (take i ms) ls last n → now ≡ last → before ≡ saturated (before + 0) → after ≡ saturated (before + n) → IsTried may sections ms before r locations now after
+IsTried-refused may sections ms i ls last n before after (Ok done) locations now error first steps same small is = absurd cc
+IsTried-refused may sections ms i ls last n before after (Err e) locations now error first steps same small is =
+    let none : IsDone may sections [] ls last n = rw first at steps in
+    (same ∙ none.1, (let e = none.2 in omega arith))
+
+-- what has no less than nothing before it is first
+pub is_first : (i : ℕ) → ((0 < i) → ⊥) → i ≡ 0
+is_first zero h = refl
+is_first (suc i) h = absurd (h (omega arith))
+
+-- what a trial in the list of a bin answers
+pub IsNotedAnswer-tried : {E : Type 0} (may : Answers) (old : Bin) (ms : List Size) (counted : ℕ) (r : Result Bool E) (ls last : List Cuboid) (counter : ℕ)
+    → IsTried may old.sections ms counted r ls last counter → IsNotedAnswer may old ms counted r ls (record old { sections = last }) counter
+IsNotedAnswer-tried may old ms counted (Ok true) ls last counter (n, done, is) = (n, done, refl, is)
+IsNotedAnswer-tried may old ms counted (Ok false) ls last counter (n, stuck, same, is) = (n, stuck, ap (λ (s : List Cuboid). record old { sections = s }) same, is)
+IsNotedAnswer-tried may old ms counted (Err error) ls last counter (same, is) = (ap (λ (s : List Cuboid). record old { sections = s }) same, is)
+
+-- and which notes it leaves
+pub LeavesNotes-tried : {E : Type 0} (may : Answers) (old : Held) (room : ℕ) (ms : List Size) (counted : ℕ) (r : Result Bool E) (notes : List Note) (ls last : List Cuboid) (counter : ℕ)
+    → IsTried may old.bin.sections ms counted r ls last counter → IfOk r (λ done. OnTrue done (LeadsBack room last notes old.bin.sections))
+    → LeavesNotes r notes old (record { bin = record old.bin { sections = last }; room = room })
+LeavesNotes-tried may old room ms counted (Ok true) notes ls last counter tried back = (refl, back)
+LeavesNotes-tried may old room ms counted (Ok false) notes ls last counter (n, stuck, same, is) back = ap (λ (s : List Cuboid). record old.bin { sections = s }) same
+LeavesNotes-tried may old room ms counted (Err error) notes ls last counter (same, is) back = ap (λ (s : List Cuboid). record old.bin { sections = s }) same
+
+-- a trial that leaves the bin leaves no notes
+pub LeavesNotes-none : {E : Type 0} (r : Result Bool E) (old new : Held) → new.bin ≡ old.bin → LeavesNotes r [] old new
+LeavesNotes-none (Ok true) old new same = (rw same refl, record { before = ap (λ (b : Bin). b.sections) same; can = tt })
+LeavesNotes-none (Ok false) old new same = same
+LeavesNotes-none (Err error) old new same = same

@@ -1,6 +1,7 @@
 -- Definitions that only the clauses of private functions use.
 pub mod Barred
 pub mod Bounds
+pub mod Checkout
 pub mod CutPlans
 pub mod Exclusions
 pub mod Journal
@@ -10,6 +11,5 @@ pub mod Ranks
 pub mod Slots
 pub mod Spans
 pub mod Summaries
-pub mod Taken
 pub mod TrialJournal
 pub mod TrialNotes

@@ -198,17 +198,38 @@ impl BinSection {
             incoming.now p.1) }
     {
         self.check_fit(incoming)?;
-        let cuts = self.cuts(incoming);
+        Ok(self.place_held(incoming, container_comparison_fn, heuristic_fn))
+    }
+
+    // The same for a box that the section holds.
+    #[inline(always)]
+    pub(crate) fn place_held<H, C>(
+        &self,
+        held: &RectToInsert,
+        comparison: &C,
+        heuristic: &H,
+    ) -> (PackedLocation, [BinSection; 3])
+    where
+        H: Fn(WidthHeightDepth) -> u128,
+        C: Fn([WidthHeightDepth; 3], [WidthHeightDepth; 3], &H) -> Ordering,
+        requires ends { FitsU32 self.now }
+        requires comparable { CanCompare C.Fn comparison.now heuristic.now }
+        requires holds { Holds self.now held.now }
+        ensures location { result.0 ≡ placed self.now held.now }
+        ensures pieces { IsAllowedCut (MayCompare C.Fn comparison.now heuristic.now) self.now
+            held.now result.1 }
+    {
+        let cuts = self.cuts(held);
         let mut best = cuts[0];
         for next in 1..6 {
             let challenger = cuts[next];
-            let order = container_comparison_fn(sizes(&best), sizes(&challenger), heuristic_fn);
+            let order = comparison(sizes(&best), sizes(&challenger), heuristic);
             if order != Ordering::Greater {
                 best = challenger;
             }
         }
-        let whd = WidthHeightDepth::from(*incoming);
-        Ok((PackedLocation::new(self.x, self.y, self.z, whd), best))
+        let whd = WidthHeightDepth::from(*held);
+        (PackedLocation::new(self.x, self.y, self.z, whd), best)
     }
 
     /// Whether the two sections share a cell, for all numbers; an empty section shares none.

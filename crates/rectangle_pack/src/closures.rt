@@ -1,12 +1,11 @@
 //! The closures that a caller gives, as one value.
-ghost use Rattle.std.specs.Prelude.{◌≡◌, IfOk};
-ghost use Rattle.rectangle_pack.specs.Boxes.{FitsU32};
+ghost use Rattle.std.specs.Prelude.{◌≡◌};
+ghost use Rattle.rectangle_pack.specs.Boxes.{FitsU32, Holds};
 ghost use Rattle.rectangle_pack.specs.Choice.{IsAllowedCut};
 ghost use Rattle.rectangle_pack.specs.Closures.{AreCallable, Answers, answers};
 ghost use Rattle.rectangle_pack.specs.Cuts.{placed};
-ghost use Rattle.rectangle_pack.specs.Fitting.{IsFitAnswer};
 
-use crate::bin_section::{BinSection, BinSectionError};
+use crate::bin_section::BinSection;
 use crate::packed_location::PackedLocation;
 use crate::rect_to_insert::RectToInsert;
 use crate::width_height_depth::WidthHeightDepth;
@@ -23,18 +22,17 @@ pub(crate) trait Ask {
         requires { can_ask self.now }
         ensures { (may self.now).rate size result };
 
-    // Places a box into a section, by the comparison's choice of a cut.
+    // Places a box into a section that holds it, by the comparison's choice of a cut.
     fn place(
         &self,
         section: &BinSection,
         member: &RectToInsert,
-    ) -> Result<(PackedLocation, [BinSection; 3]), BinSectionError>
+    ) -> (PackedLocation, [BinSection; 3])
         requires callable { can_ask self.now }
         requires ends { FitsU32 section.now }
-        ensures fits { IsFitAnswer section.now member.now result }
-        ensures location { IfOk result (λ p. p.0 ≡ placed section.now member.now) }
-        ensures pieces { IfOk result
-            (λ p. IsAllowedCut (may self.now).prefer section.now member.now p.1) };
+        requires holds { Holds section.now member.now }
+        ensures location { result.0 ≡ placed section.now member.now }
+        ensures pieces { IsAllowedCut (may self.now).prefer section.now member.now result.1 };
 }
 
 // The two closures of a caller.
@@ -57,11 +55,13 @@ where
         (self.heuristic)(size)
     }
 
+    // Inlined, as its answer would go through memory.
+    #[inline(always)]
     fn place(
         &self,
         section: &BinSection,
         member: &RectToInsert,
-    ) -> Result<(PackedLocation, [BinSection; 3]), BinSectionError> {
-        section.try_place(member, self.comparison, self.heuristic)
+    ) -> (PackedLocation, [BinSection; 3]) {
+        section.place_held(member, self.comparison, self.heuristic)
     }
 }

@@ -14,7 +14,6 @@ ghost use Rattle.rectangle_pack.specs.Boxes.{Size};
 ghost use Rattle.rectangle_pack.specs.Numbers.{saturated};
 
 use crate::closures::Ask;
-use crate::grouped_rects_to_place::GroupedRectsToPlace;
 use crate::rect_to_insert::RectToInsert;
 use crate::target_bin::TargetBin;
 use crate::width_height_depth::WidthHeightDepth;
@@ -58,7 +57,7 @@ where
 }
 
 // All bins, by rising rate of their whole sizes and then by id.
-fn bin_order<B, R, A>(
+pub(crate) fn bin_order<B, R, A>(
     alloc: A,
     bins: &BTreeMap<B, TargetBin<A>, A>,
     rules: &R,
@@ -72,6 +71,7 @@ where
     ensures order { IfOk result
         (λ v. IsBinOrder (R.may rules.now).rate B.cmp (bins_of bins.now.entries) v.items) }
     ensures found { IfOk result (λ v. All (λ o. IsSome (get B.cmp bins.now o.1)) v.items) }
+    ensures ids { IfOk result (λ v. IsDistinct (eq_by_cmp B.cmp) (map (λ o. o.1) v.items)) }
     ensures distinct { OnOk result
         (IsDistinct (eq_by_cmp B.cmp) (keys_of (bins_of bins.now.entries))) }
 {
@@ -81,38 +81,6 @@ where
     }
     order.sort_unstable();
     Ok(order)
-}
-
-// The order of the bins for a packing. Without groups no bin is listed and no memory is taken.
-pub(crate) fn bins_to_try<Id, BinId, GroupId, R, A>(
-    alloc: A,
-    rects_to_place: &GroupedRectsToPlace<Id, GroupId, A>,
-    target_bins: &BTreeMap<BinId, TargetBin<A>, A>,
-    rules: &R,
-) -> Result<Vec<(u128, BinId), A>, AllocError>
-where
-    Id: Ord + Clone + Drop,
-    BinId: Ord + Clone + Drop,
-    GroupId: Ord + Clone + Drop,
-    R: Ask,
-    A: Allocator + Copy,
-    requires bin_ids { (a b : BinId) → BinId.is_clone a b → IsTrue (BinId.eq a b) }
-    requires callable { R.can_ask rules.now }
-    ensures order { IfOk result
-        (λ v.
-        0 < length rects_to_place.now.groups →
-        IsBinOrder (R.may rules.now).rate BinId.cmp (bins_of target_bins.now.entries) v.items) }
-    ensures found { IfOk result
-        (λ v. All (λ o. IsSome (get BinId.cmp target_bins.now o.1)) v.items) }
-    ensures distinct { OnOk result
-        (0 < length rects_to_place.now.groups →
-        IsDistinct (eq_by_cmp BinId.cmp) (keys_of (bins_of target_bins.now.entries))) }
-    ensures stopped { OnErr result (0 < length rects_to_place.now.groups) }
-{
-    if rects_to_place.groups().is_empty() {
-        return Ok(Vec::new(alloc));
-    }
-    bin_order(alloc, target_bins, rules)
 }
 
 // A group in an order: its key, its name, its ids, and where their sizes begin among those of all.

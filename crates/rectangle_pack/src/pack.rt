@@ -17,22 +17,25 @@ ghost use Rattle.rectangle_pack.specs.SmallestBox.{IsSmallestOrder};
 ghost use Rattle.rectangle_pack.specs.Results.{ClosuresDecide, either_of, AreCollectionsAlike, AreBinsAlike, ArePlacementsAlike, AreLocationsAlike, HaveOneResult};
 
 mod answer;
+mod checkout;
+pub(crate) mod first_fit;
+mod journal;
 mod open_bin;
-mod taken;
-pub(crate) mod work;
 
 use crate::closures::Closures;
 use crate::fit_tests::FitTests;
 use crate::grouped_rects_to_place::{Group, GroupedRectsToPlace};
-use crate::orders::bins_to_try;
+use crate::lists::number_after;
+use crate::orders::bin_order;
 use crate::pack::answer::last_placements;
-use crate::pack::work::{Progress, keep, pack_noted, undo_all};
+use crate::pack::first_fit::{Packing, pack_noted};
 use crate::target_bin::TargetBin;
 use crate::width_height_depth::WidthHeightDepth;
 pub use answer::{Placement, RectanglePackError, RectanglePackOk};
 use std::alloc::Allocator;
 use std::cmp::Ordering;
 use std::collections::BTreeMap;
+use std::mem;
 
 /// Packs all groups into the bins: each group whole into the first bin that takes all of its boxes.
 /// A bin is passed over for a group where a group that is excluded with it went there in this call.
@@ -146,36 +149,41 @@ where
         heuristic: box_size_heuristic,
         comparison: more_suitable_containers_fn,
     };
-    let Ok(order) = bins_to_try(alloc, rects_to_place, target_bins, &rules) else {
+    let groups = rects_to_place.groups();
+    if groups.is_empty() {
+        return Ok(RectanglePackOk {
+            packed_locations: BTreeMap::new(alloc),
+            placements: Vec::new(alloc),
+        });
+    }
+    let entries = number_after(0, groups).unwrap_or(u64::MAX) as usize;
+    let Ok(order) = bin_order(alloc, target_bins, &rules) else {
         return Err(RectanglePackError::OutOfMemory);
     };
-    let mut progress = Progress::new(alloc);
-    let packed = pack_noted(
-        rects_to_place,
-        target_bins,
-        order.as_slice(),
-        &rules,
-        &mut progress,
-    );
-    tests.add_all(&progress.tests);
+    let bins = mem::replace(target_bins, BTreeMap::new(alloc));
+    let mut packing = Packing::new(bins, order.as_slice(), alloc);
+    let packed = pack_noted(&mut packing, rects_to_place, entries, &rules);
+    tests.add_all(&packing.tests);
     let last = match packed {
-        Ok(true) => last_placements(alloc, progress.placements.as_slice()),
+        Ok(true) => last_placements(alloc, packing.placements.as_slice()),
         Ok(false) => {
-            keep(target_bins, order.as_slice(), &mut progress);
+            let (bins, _) = packing.keep();
+            *target_bins = bins;
             return Err(RectanglePackError::NotEnoughBinSpace);
         }
         Err(error) => Err(error),
     };
     match last {
         Ok(packed_locations) => {
-            keep(target_bins, order.as_slice(), &mut progress);
+            let (bins, placements) = packing.keep();
+            *target_bins = bins;
             Ok(RectanglePackOk {
                 packed_locations,
-                placements: progress.placements,
+                placements,
             })
         }
         Err(_) => {
-            undo_all(target_bins, order.as_slice(), &mut progress);
+            *target_bins = packing.roll_back();
             Err(RectanglePackError::OutOfMemory)
         }
     }

@@ -1,5 +1,5 @@
 //! Lists of sections in slots.
-ghost use Rattle.std.specs.Prelude.{◌≡◌, ◌+◌, ◌-◌, ◌<◌, ◌≤◌, ◌^◌, ◌++◌, ◌∷◌, [], map, length, take, drop, set, slice_index_or, IfOk, OnOk, IsOk, IfSome, IsSome, MatchOption};
+ghost use Rattle.std.specs.Prelude.{◌≡◌, ◌+◌, ◌-◌, ◌<◌, ◌≤◌, ◌^◌, ◌++◌, ◌∷◌, [], length, take, drop, set, slice_index_or, IfOk, OnOk, OnErr, IfSome, IsSome, MatchOption};
 ghost use Rattle.std.specs.Vec.{vec_capacity};
 ghost use Rattle.rectangle_pack.specs.private.Slots.{sections_of, IsLastHolding, NoneHolds};
 
@@ -59,8 +59,7 @@ impl<A: Allocator + Copy> SectionSlots<A> {
         sections: &[BinSection],
         extra: usize,
     ) -> Result<Self, AllocError>
-        ensures all { IfOk result (λ l. l.all ≡ map (λ s. Some s) sections.now) }
-        ensures room { IfOk result (λ l. length sections.now + extra ≤ l.room) }
+        ensures { IfOk result (λ l. sections_of l.all ≡ sections.now) }
     {
         let most = sections.len().checked_add(extra).ok_or(AllocError)?;
         let mut list = SectionSlots {
@@ -81,7 +80,7 @@ impl<A: Allocator + Copy> SectionSlots<A> {
         ensures all { self.new.all ≡ self.old.all }
         ensures room { self.old.room ≤ self.new.room }
         ensures small { OnOk result (length self.old.all + extra < 2 ^ 64) }
-        ensures succeeds { length self.old.all + extra ≤ self.old.room → IsOk result }
+        ensures full { OnErr result (self.old.room < length self.old.all + extra) }
     {
         self.slots.reserve(extra)?;
         let most = self.slots.len() + extra;

@@ -1,7 +1,5 @@
 //! Bins and their free sections.
-ghost use Rattle.std.specs.Prelude.{◌≡◌, ◌+◌, ◌≤◌, ◌<◌, ◌++◌, ◌∷◌, [], List, Err, IfOk, OnOk, OnErr, IsOk, IsTrue, true, ◌↔◌, length, remove, filter, All};
-ghost use Rattle.std.specs.Bool.{OnTrue};
-ghost use Rattle.std.specs.Vec.{vec_capacity};
+ghost use Rattle.std.specs.Prelude.{◌≡◌, ◌+◌, ◌≤◌, ◌<◌, ◌++◌, ◌∷◌, [], List, Some, Err, IfOk, OnOk, OnErr, IsOk, IsTrue, true, ◌↔◌, length, remove, filter, All};
 ghost use Rattle.rectangle_pack.specs.Boxes.{Cell, Cuboid, FitsU32, IsInside, has_cells};
 ghost use Rattle.rectangle_pack.specs.declared.target_bin.PushBinSectionError.TheVariants.{OutOfMemory};
 ghost use Rattle.rectangle_pack.specs.Closures.{AreCallable, answers};
@@ -13,7 +11,8 @@ ghost use Rattle.rectangle_pack.specs.Keeping.{KeepCells};
 ghost use Rattle.rectangle_pack.specs.Trials.{IsTrialAnswer, most_tests};
 ghost use Rattle.rectangle_pack.specs.private.Journal.{LeadsBack};
 ghost use Rattle.rectangle_pack.specs.private.Slots.{sections_of};
-ghost use Rattle.rectangle_pack.specs.private.TrialNotes.{IsNotedAnswer, LeavesNotes, IsStuckAtOnce};
+ghost use Rattle.rectangle_pack.specs.private.Checkout.{CanWriteBack};
+ghost use Rattle.rectangle_pack.specs.private.TrialNotes.{IsNotedAnswer, LeavesNotes};
 
 pub(crate) mod slotted;
 
@@ -24,9 +23,9 @@ use crate::joining::{join_all, join_at};
 use crate::packed_location::PackedLocation;
 use crate::rect_to_insert::RectToInsert;
 use crate::section_slots::SectionSlots;
-use crate::target_bin::slotted::{Slotted, are_worth_it};
-use crate::trial::plain::{is_stuck_at_once, push_pieces};
-use crate::trial::{FreeList, Note, run_trial};
+use crate::target_bin::slotted::{are_worth_it, place_slotted};
+use crate::trial::plain::push_pieces;
+use crate::trial::{Buffers, Note, run_trial, undo};
 use crate::width_height_depth::WidthHeightDepth;
 use std::alloc::{AllocError, Allocator, Global};
 use std::cmp::Ordering;
@@ -341,85 +340,55 @@ impl<A: Allocator + Copy> TargetBin<A> {
             most_tests (length members.now) (length self.old.bin.sections) }
         ensures no_members { length members.now ≡ 0 → IsOk result }
     {
-        let alloc = *self.available_bin_sections.allocator();
-        let mut locations = Vec::with_capacity(alloc, members.len())?;
+        let mut buffers = Buffers::new(*self.available_bin_sections.allocator());
         let rules = Closures {
             heuristic,
             comparison,
         };
-        let done = self.place_members(members, &rules, tests, &mut locations)?;
-        if done { Ok(Some(locations)) } else { Ok(None) }
+        let done = self.place_members(members, &rules, tests, &mut buffers)?;
+        if done {
+            Ok(Some(buffers.locations))
+        } else {
+            Ok(None)
+        }
     }
 
-    // One trial, with room for its locations; whether it is done.
+    // One trial; whether it is done. For a long one slots are made.
     fn place_members<R>(
         &mut self,
         members: &[RectToInsert],
         rules: &R,
         tests: &mut FitTests,
-        locations: &mut Vec<PackedLocation, A>,
+        buffers: &mut Buffers<A>,
     ) -> Result<bool, AllocError>
     where
         R: Ask,
         requires callable { R.can_ask rules.now }
-        requires no_locations { locations.old.items ≡ [] }
-        requires location_room { length members.now ≤ vec_capacity locations.old }
         ensures answer { IsNotedAnswer (R.may rules.now) self.old.bin members.now tests.old result
-            locations.new.items self.new.bin tests.new }
+            buffers.new.locations.items self.new.bin tests.new }
         ensures no_members { length members.now ≡ 0 → IsOk result }
     {
         let sections = self.available_bin_sections.len();
-        if !members.is_empty() && are_worth_it(sections, members.len(), members.len()) {
-            return self.place_slotted(members, rules, tests, locations);
+        if members.is_empty() || !are_worth_it(sections, members.len(), members.len()) {
+            return self.place_noted(members, rules, tests, buffers);
         }
-        let alloc = *self.available_bin_sections.allocator();
-        let mut notes = Vec::with_capacity(alloc, members.len())?;
-        self.place_noted(members, rules, tests, &mut notes, locations)
-    }
-
-    // The same in slots that are made for it.
-    fn place_slotted<R>(
-        &mut self,
-        members: &[RectToInsert],
-        rules: &R,
-        tests: &mut FitTests,
-        locations: &mut Vec<PackedLocation, A>,
-    ) -> Result<bool, AllocError>
-    where
-        R: Ask,
-        requires callable { R.can_ask rules.now }
-        requires no_locations { locations.old.items ≡ [] }
-        requires location_room { length members.now ≤ vec_capacity locations.old }
-        ensures answer { IsNotedAnswer (R.may rules.now) self.old.bin members.now tests.old result
-            locations.new.items self.new.bin tests.new }
-    {
-        if self.is_stuck_at_once(members) {
-            tests.add(self.available_bin_sections.len());
-            return Ok(false);
-        }
-        let mut slots = self.slotted(members)?;
-        let done = slots.place(self, members, rules, tests, locations)?;
+        let mut slots = None;
+        let done = place_slotted(self, &mut slots, members, rules, tests, buffers)?;
         if done {
-            self.write_back(slots.sections());
+            if let Some(slots) = slots {
+                self.write_back(&slots);
+            }
         }
         Ok(done)
     }
 
-    // The free sections in slots, in which trials are made that leave the bin's own list, with room
-    // for one of these members. An error is want of memory.
-    pub(crate) fn slotted(&self, members: &[RectToInsert]) -> Result<Slotted<A>, AllocError>
+    // The free sections in slots, with room for so many slots more. An error is want of memory.
+    pub(crate) fn in_slots(&self, extra: usize) -> Result<SectionSlots<A>, AllocError>
         ensures sections { IfOk result (λ s. sections_of s.all ≡ self.now.bin.sections) }
-        ensures sound { IsSound self.now.bin.size self.now.bin.sections }
-        ensures within { length self.now.bin.sections ≤ self.now.room }
+        ensures can_write_back { IfOk result (λ s. CanWriteBack self.now (Some s)) }
     {
-        Slotted::new(&self.available_bin_sections, members.len() * 3)
-    }
-
-    // Whether no free section holds the first member, so that no step comes.
-    pub(crate) fn is_stuck_at_once(&self, members: &[RectToInsert]) -> bool
-        ensures { OnTrue result (IsStuckAtOnce self.now.bin.sections members.now) }
-    {
-        is_stuck_at_once(self.available_bin_sections.as_slice(), members)
+        let sections = &self.available_bin_sections;
+        SectionSlots::from_slice(*sections.allocator(), sections.as_slice(), extra)
     }
 
     // Makes room in the list for so many sections in all. An error is want of memory.
@@ -445,43 +414,26 @@ impl<A: Allocator + Copy> TargetBin<A> {
         slots.write_back(&mut self.available_bin_sections);
     }
 
-    // One trial, with room for its notes and its locations; whether it is done. Then what undoes it
-    // is noted; where it is stuck, both lists stay empty. Room that the list lacks is made where a
-    // step is sure to come.
+    // One trial in the bin's own list; whether it is done. Then what undoes it is noted.
     pub(crate) fn place_noted<R>(
         &mut self,
         members: &[RectToInsert],
         rules: &R,
         tests: &mut FitTests,
-        notes: &mut Vec<Note, A>,
-        locations: &mut Vec<PackedLocation, A>,
+        buffers: &mut Buffers<A>,
     ) -> Result<bool, AllocError>
     where
         R: Ask,
         requires callable { R.can_ask rules.now }
-        requires no_notes { notes.old.items ≡ [] }
-        requires no_locations { locations.old.items ≡ [] }
-        requires note_room { length members.now ≤ vec_capacity notes.old }
-        requires location_room { length members.now ≤ vec_capacity locations.old }
         ensures answer { IsNotedAnswer (R.may rules.now) self.old.bin members.now tests.old result
-            locations.new.items self.new.bin tests.new }
+            buffers.new.locations.items self.new.bin tests.new }
         ensures room { self.old.room ≤ self.new.room }
-        ensures noted { LeavesNotes result notes.new.items locations.new.items self.old self.new }
-        ensures note_room_stays { vec_capacity notes.new ≡ vec_capacity notes.old }
-        ensures location_room_stays { vec_capacity locations.new ≡ vec_capacity locations.old }
+        ensures noted { LeavesNotes result buffers.new.notes.items self.old self.new }
         ensures no_members { length members.now ≡ 0 → IsOk result }
         ensures sound { IsSound self.old.bin.size self.old.bin.sections }
     {
         let sections = &mut self.available_bin_sections;
-        let steps = members.len() * 2;
-        if sections.capacity() < sections.len() + steps {
-            if is_stuck_at_once(sections.as_slice(), members) {
-                tests.add(sections.len());
-                return Ok(false);
-            }
-            sections.reserve(steps)?;
-        }
-        let done = run_trial(sections, members, rules, tests, notes, locations);
+        let done = run_trial(sections, members, rules, tests, buffers)?;
         Ok(done)
     }
 
@@ -494,6 +446,6 @@ impl<A: Allocator + Copy> TargetBin<A> {
             self.new.bin ≡ record self.old.bin { sections = start } }
         ensures room { self.old.room ≤ self.new.room }
     {
-        self.available_bin_sections.undo(notes);
+        undo(&mut self.available_bin_sections, notes);
     }
 }

@@ -1,5 +1,5 @@
 -- What a noted trial in a bin answers, and what it leaves.
-use Rattle.std.specs.Prelude.{◌≡◌, ℕ, ◌+◌, List, [], ◌∷◌, All, Bool, true, false, Result, Ok, Err}
+use Rattle.std.specs.Prelude.{◌≡◌, ℕ, ◌+◌, List, ◌∷◌, All, Bool, true, false, Result, Ok, Err}
 use Rattle.rectangle_pack.specs.declared.trial.Note.{Note}
 use Rattle.rectangle_pack.specs.Boxes.{Size, Cuboid, Holds}
 use Rattle.rectangle_pack.specs.Bins.{Bin, Held}
@@ -12,6 +12,15 @@ use Rattle.rectangle_pack.specs.private.Journal.{LeadsBack}
 abbrev pub IsStuckAtOnce : List Cuboid → List Size → Type 0
 IsStuckAtOnce sections members = (first : Size) × (others : List Size) × (members ≡ first ∷ others) × All (λ s. ¬ Holds s first) sections
 
+-- what a trial in a list of sections answers: done, with the last list; or stuck, or out of memory, and the list is as it was. The
+-- tests are counted, except out of memory
+abbrev pub IsTried : {E : Type 0} → Answers → List Cuboid → List Size → ℕ → Result Bool E → List Cuboid → List Cuboid → ℕ → Type 0
+IsTried may old members counted (Ok true) locations new counter =
+    (tests : ℕ) × IsDone may old members locations new tests × (counter ≡ saturated (counted + tests))
+IsTried may old members counted (Ok false) locations new counter =
+    (tests : ℕ) × IsStuck may old members tests × (new ≡ old) × (counter ≡ saturated (counted + tests))
+IsTried may old members counted (Err error) locations new counter = (new ≡ old) × (counter ≡ counted)
+
 -- done: the bin has the trial's list; stuck, or out of memory: the bin is as it was. The tests are counted, except out of memory
 abbrev pub IsNotedAnswer : {E : Type 0} → Answers → Bin → List Size → ℕ → Result Bool E → List Cuboid → Bin → ℕ → Type 0
 IsNotedAnswer may old members counted (Ok true) locations new counter =
@@ -21,10 +30,9 @@ IsNotedAnswer may old members counted (Ok false) locations new counter =
     (tests : ℕ) × IsStuck may old.sections members tests × (new ≡ old) × (counter ≡ saturated (counted + tests))
 IsNotedAnswer may old members counted (Err error) locations new counter = (new ≡ old) × (counter ≡ counted)
 
--- done: the notes lead from the new list back to the old; stuck: the bin stays, and no note and no location is left; out of
--- memory: the bin stays
-abbrev pub LeavesNotes : {E : Type 0} → Result Bool E → List Note → List Cuboid → Held → Held → Type 0
-LeavesNotes (Ok true) notes locations old new =
+-- done: the notes lead from the new list back to the old; stuck, or out of memory: the bin stays
+abbrev pub LeavesNotes : {E : Type 0} → Result Bool E → List Note → Held → Held → Type 0
+LeavesNotes (Ok true) notes old new =
     (new.bin ≡ record old.bin { sections = new.bin.sections }) × LeadsBack new.room new.bin.sections notes old.bin.sections
-LeavesNotes (Ok false) notes locations old new = (new.bin ≡ old.bin) × (notes ≡ []) × (locations ≡ [])
-LeavesNotes (Err error) notes locations old new = new.bin ≡ old.bin
+LeavesNotes (Ok false) notes old new = new.bin ≡ old.bin
+LeavesNotes (Err error) notes old new = new.bin ≡ old.bin

@@ -1,5 +1,5 @@
 //! What a packing answers.
-ghost use Rattle.std.specs.Prelude.{◌≡◌, ◌++◌, [], List, length, IsTrue, IfOk, IsOk, OnOk};
+ghost use Rattle.std.specs.Prelude.{◌≡◌, ◌++◌, List, length, IsTrue, IfOk, OnOk};
 ghost use Rattle.rectangle_pack.specs.declared.pack.answer.Placement.{Placement};
 ghost use Rattle.rectangle_pack.specs.Placed.{AreNamed, AreLastPlacements, placements_of, locations_of};
 
@@ -84,8 +84,7 @@ where
     A: Allocator + Copy,
     requires ids { (a b : Id) → Id.is_clone a b → IsTrue (Id.eq a b) }
     requires bin_ids { (a b : BinId) → BinId.is_clone a b → IsTrue (BinId.eq a b) }
-    ensures last { IfOk result (λ m. AreLastPlacements Id.cmp BinId.cmp placements.now m.entries) }
-    ensures no_placements { placements.now ≡ [] → IsOk result }
+    ensures { IfOk result (λ m. AreLastPlacements Id.cmp BinId.cmp placements.now m.entries) }
 {
     let mut last = BTreeMap::new(alloc);
     for placement in placements {

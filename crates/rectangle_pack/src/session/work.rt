@@ -13,14 +13,15 @@ ghost use Rattle.rectangle_pack.specs.Session.{GivesBack, numbered};
 use crate::bin_section::BinSection;
 use crate::closures::Ask;
 use crate::grouped_rects_to_place::{Group, GroupedRectsToPlace};
-use crate::orders::bins_to_try;
+use crate::orders::bin_order;
 use crate::pack::Placement;
-use crate::pack::work::{Progress, keep, pack_noted, undo_all};
+use crate::pack::first_fit::{Packing, pack_noted};
 use crate::packed_location::PackedLocation;
 use crate::session::command::Outstanding;
 use crate::target_bin::TargetBin;
 use std::alloc::{AllocError, Allocator};
 use std::collections::BTreeMap;
+use std::mem;
 
 // Where the placement of this number is; the numbers rise.
 pub(crate) fn position_of<Id, B>(outstanding: &[Outstanding<Id, B>], number: u64) -> Option<usize>
@@ -131,22 +132,27 @@ where
         (outstanding.new.items ≡ outstanding.old.items)) }
     ensures no_groups { groups.now.groups ≡ [] → result ≡ Ok true }
 {
+    if groups.groups().is_empty() {
+        return Ok(true);
+    }
     outstanding.reserve(count as usize)?;
     let alloc = *outstanding.allocator();
-    let order = bins_to_try(alloc, groups, bins, rules)?;
-    let mut progress = Progress::new(alloc);
-    match pack_noted(groups, bins, order.as_slice(), rules, &mut progress) {
+    let order = bin_order(alloc, bins, rules)?;
+    let old = mem::replace(bins, BTreeMap::new(alloc));
+    let mut packing = Packing::new(old, order.as_slice(), alloc);
+    match pack_noted(&mut packing, groups, count as usize, rules) {
         Ok(true) => {
-            keep(bins, order.as_slice(), &mut progress);
-            number_all(outstanding, progress.placements, first);
+            let (kept, placements) = packing.keep();
+            *bins = kept;
+            number_all(outstanding, placements, first);
             Ok(true)
         }
         Ok(false) => {
-            undo_all(bins, order.as_slice(), &mut progress);
+            *bins = packing.roll_back();
             Ok(false)
         }
         Err(error) => {
-            undo_all(bins, order.as_slice(), &mut progress);
+            *bins = packing.roll_back();
             Err(error)
         }
     }

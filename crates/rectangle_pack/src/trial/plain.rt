@@ -10,11 +10,11 @@ ghost use Rattle.rectangle_pack.specs.private.TrialNotes.{IsStuckAtOnce};
 
 use crate::bin_section::BinSection;
 use crate::closures::Ask;
-use crate::fit_tests::FitTests;
 use crate::packed_location::PackedLocation;
 use crate::rect_to_insert::RectToInsert;
+use crate::section_slots::Search;
 use crate::trial::{FreeList, Note, place_in};
-use std::alloc::Allocator;
+use std::alloc::{AllocError, Allocator};
 
 // The index of the last section that holds a member. Among its callers' values the loop would lack
 // registers.
@@ -117,8 +117,10 @@ fn undo_one<A: Allocator>(sections: &mut Vec<BinSection, A>, note: Note)
 }
 
 impl<A: Allocator> FreeList for Vec<BinSection, A> {
-    ghost use Rattle.std.specs.Prelude.{◌-◌, ◌/◌, vec_len};
+    ghost use Rattle.std.specs.Prelude.{◌≡◌, ◌<◌, ◌+◌, ◌-◌, ◌/◌, length, vec_len, refl};
     ghost use Rattle.std.specs.Vec.{vec_capacity};
+    ghost use Rattle.std.specs.List.{HoldsAt, AllWithin};
+    ghost use Rattle.rectangle_pack.specs.Boxes.{Holds};
     ghost use Rattle.rectangle_pack.specs.private.Journal.{LeadsBack};
 
     ghost sections = { λ v. v.items };
@@ -130,23 +132,41 @@ impl<A: Allocator> FreeList for Vec<BinSection, A> {
 
     ghost LeadsBack = { λ v. LeadsBack (vec_capacity v) v.items };
 
-    fn place<R: Ask>(
-        &mut self,
-        member: &RectToInsert,
-        rules: &R,
-        tests: &mut FitTests,
-    ) -> Option<(PackedLocation, Note)> {
-        let Some(index) = newest(self.as_slice(), member) else {
-            tests.add(self.len());
-            return None;
-        };
-        tests.add(self.len() - index);
-        Some(place_at(self, index, member, rules))
-    }
+    ghost IsNewest = { λ v size index tests.
+        (index < length v.items) ×
+        HoldsAt (λ s. Holds s size) v.items index ×
+        AllWithin (λ s. ¬ Holds s size) v.items (index + 1) (length v.items) ×
+        (tests ≡ length v.items - index) };
 
-    fn undo<B: Allocator>(&mut self, notes: &mut Vec<Note, B>) {
-        while let Some(note) = notes.pop() {
-            undo_one(self, note);
+    fn find(&self, member: &RectToInsert) -> Search {
+        match newest(self.as_slice(), member) {
+            Some(index) => Search {
+                slot: Some(index),
+                tests: self.len() - index,
+            },
+            None => Search {
+                slot: None,
+                tests: self.len(),
+            },
         }
     }
+
+    fn place<R: Ask>(
+        &mut self,
+        index: usize,
+        member: &RectToInsert,
+        rules: &R,
+        steps: usize,
+    ) -> Result<(PackedLocation, Note), AllocError> {
+        self.reserve(steps * 2)?;
+        Ok(place_at(self, index, member, rules))
+    }
+
+    fn undo(&mut self, note: Note) {
+        undo_one(self, note);
+    }
+
+    ghost stays = { λ l. record { before = refl; can = tt } };
+
+    ghost leads = { λ l start back. back.before };
 }

@@ -8,12 +8,11 @@ ghost use Rattle.rectangle_pack.specs.private.Slots.{sections_of, IsLastHolding}
 
 use crate::bin_section::BinSection;
 use crate::closures::Ask;
-use crate::fit_tests::FitTests;
 use crate::packed_location::PackedLocation;
 use crate::rect_to_insert::RectToInsert;
-use crate::section_slots::SectionSlots;
+use crate::section_slots::{Search, SectionSlots};
 use crate::trial::{FreeList, Note, place_in};
-use std::alloc::Allocator;
+use std::alloc::{AllocError, Allocator};
 
 // Pushes a piece that has cells, where there is room.
 fn push_piece<A: Allocator + Copy>(slots: &mut SectionSlots<A>, piece: BinSection)
@@ -85,9 +84,9 @@ fn undo_one<A: Allocator + Copy>(slots: &mut SectionSlots<A>, note: Note)
 }
 
 impl<A: Allocator + Copy> FreeList for SectionSlots<A> {
-    ghost use Rattle.std.specs.Prelude.{◌-◌, ◌/◌, length};
+    ghost use Rattle.std.specs.Prelude.{◌-◌, ◌/◌, length, refl};
     ghost use Rattle.rectangle_pack.specs.private.Journal.{SlotsLeadBack};
-    ghost use Rattle.rectangle_pack.specs.private.Slots.{sections_of};
+    ghost use Rattle.rectangle_pack.specs.private.Slots.{sections_of, IsLastHolding};
 
     ghost sections = { λ l. sections_of l.all };
 
@@ -98,21 +97,28 @@ impl<A: Allocator + Copy> FreeList for SectionSlots<A> {
 
     ghost LeadsBack = { λ l. SlotsLeadBack l.all };
 
-    fn place<R: Ask>(
-        &mut self,
-        member: &RectToInsert,
-        rules: &R,
-        tests: &mut FitTests,
-    ) -> Option<(PackedLocation, Note)> {
-        let found = self.last_holding(member);
-        tests.add(found.tests);
-        let slot = found.slot?;
-        Some(place_at(self, slot, member, rules))
+    ghost IsNewest = { λ l. IsLastHolding l.all };
+
+    fn find(&self, member: &RectToInsert) -> Search {
+        self.last_holding(member)
     }
 
-    fn undo<B: Allocator>(&mut self, notes: &mut Vec<Note, B>) {
-        while let Some(note) = notes.pop() {
-            undo_one(self, note);
-        }
+    fn place<R: Ask>(
+        &mut self,
+        index: usize,
+        member: &RectToInsert,
+        rules: &R,
+        steps: usize,
+    ) -> Result<(PackedLocation, Note), AllocError> {
+        self.reserve(steps * 3)?;
+        Ok(place_at(self, index, member, rules))
     }
+
+    fn undo(&mut self, note: Note) {
+        undo_one(self, note);
+    }
+
+    ghost stays = { λ l. record { before = refl; can = tt } };
+
+    ghost leads = { λ l start back. back.before };
 }

@@ -1,4 +1,4 @@
-use Rattle.std.proofs.Common.{arith, ap, length, refl}
+use Rattle.std.proofs.Common.{arith, ap}
 use Rattle.std.proofs.Math.Seq.{take-length}
 use Rattle.std.proofs.lemmas.List.Elements.{All-nil}
 use Rattle.std.proofs.lemmas.Result.{IfOk-from_err}
@@ -20,13 +20,13 @@ loop-placement-preserved g c =
     same same_bin c.in_ok-insert.ensures.updates.0 c.loop-placement.invariant)
 
 pub returns-in_err-clone : goal.returns-in_err-clone
-returns-in_err-clone g c = record { last = IfOk-from_err c.from_residual.result _ c.from_residual.ensures.0; no_placements = λ none. absurd (omega (arith, c.loop-placement-test.true, ap length none)) }
+returns-in_err-clone g c = IfOk-from_err c.from_residual.result _ c.from_residual.ensures.0
 
 pub returns-in_err-clone-2 : goal.returns-in_err-clone-2
-returns-in_err-clone-2 g c = record { last = IfOk-from_err c.from_residual-in_err-clone-2.result _ c.from_residual-in_err-clone-2.ensures.0; no_placements = λ none. absurd (omega (arith, c.loop-placement-test.true, ap length none)) }
+returns-in_err-clone-2 g c = IfOk-from_err c.from_residual-in_err-clone-2.result _ c.from_residual-in_err-clone-2.ensures.0
 
 pub returns-in_err-insert : goal.returns-in_err-insert
-returns-in_err-insert g c = record { last = IfOk-from_err c.from_residual-in_err-insert.result _ c.from_residual-in_err-insert.ensures.0; no_placements = λ none. absurd (omega (arith, c.loop-placement-test.true, ap length none)) }
+returns-in_err-insert g c = IfOk-from_err c.from_residual-in_err-insert.result _ c.from_residual-in_err-insert.ensures.0
 
 pub loop-placement-init : goal.loop-placement-init
 loop-placement-init g c = record { ascend = c.new-last.ensures.ordered; each = λ id. rw c.new-last.ensures.empty (All-nil _) }
@@ -44,4 +44,4 @@ pub returns : goal.returns
 returns g c =
     let placements = c.args.placements.now in
     let all : take c.loop-placement.placement-index placements ≡ placements = ap (λ n. take n placements) (omega (arith, c.loop-placement.auto.placement-index-end, c.loop-placement-test.false)) ∙ take-length placements in
-    record { last = rw all at c.loop-placement.invariant; no_placements = λ none. refl }
+    rw all at c.loop-placement.invariant

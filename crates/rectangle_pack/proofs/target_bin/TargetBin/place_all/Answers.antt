@@ -7,7 +7,7 @@ use Rattle.rectangle_pack.proofs.target_bin.TargetBin.place_all.Goals as goal
 pub returns-then-done-clause-most : goal.returns-then-done-clause-most
 returns-then-done-clause-most g c =
     let may = answers g.H.Fn g.C.Fn c.args.heuristic.now c.args.comparison.now in
-    counted-le may {E = AllocError} _ c.args.members.now c.args.tests.now (Ok (Some c.place_members.new.locations)) _ c.place_members.new.tests (rw c.if-done.true at c.in_ok-done.ensures.answer)
+    counted-le may {E = AllocError} _ c.args.members.now c.args.tests.now (Ok (Some c.place_members.new.buffers.locations)) _ c.place_members.new.tests (rw c.if-done.true at c.in_ok-done.ensures.answer)
 
 pub returns-else-done-clause-most : goal.returns-else-done-clause-most
 returns-else-done-clause-most g c =

@@ -1,12 +1,26 @@
-use Rattle.std.proofs.Common.{◌≡◌, ap, ◌∙◌}
+use Rattle.std.specs.Prelude.{Ok}
+use Rattle.std.specs.declared.alloc.AllocError.{AllocError}
+use Rattle.std.proofs.Common.{subst}
+use Rattle.rectangle_pack.specs.Bins.{Held}
+use Rattle.rectangle_pack.specs.private.TrialNotes.{IsNotedAnswer}
 use Rattle.rectangle_pack.proofs.StepsLemmas.{IsSound-tried}
+use Rattle.rectangle_pack.proofs.TrialLemmas.{IsNotedAnswer-tried, LeavesNotes-tried}
 use Rattle.rectangle_pack.proofs.target_bin.TargetBin.place_noted.Goals as goal
-use Rattle.rectangle_pack.proofs.target_bin.TargetBin.place_noted.Goals.{then-capacity-len+else-is_stuck_at_once+in_ok-reserve, else-capacity-len}
 
 pub invariant_of-self-2 : goal.invariant_of-self-2
 invariant_of-self-2 g c =
-    let same : c.if-capacity-len.sections.items ≡ c.self.inside.available_bin_sections.items = elim c.if-capacity-len.branch [
-      | then-capacity-len+else-is_stuck_at_once+in_ok-reserve w ↦ ap (λ v. v.items) w.sections-is ∙ w.in_ok-reserve.ensures.items
-      | else-capacity-len w ↦ ap (λ v. v.items) w.sections-is
-    ] in
-    IsSound-tried _ c.self.inside.max_size c.if-capacity-len.sections.items _ _ _ _ c.run_trial-done.result c.run_trial-done.ensures.done c.run_trial-done.ensures.kept (rw same c.self.invariant)
+    IsSound-tried _ {E = AllocError} c.self.inside.max_size _ _ _ (Ok c.in_ok-done.done) _ _ _ c.in_ok-done.ensures.tried c.self.invariant
+
+pub returns-clause-answer : goal.returns-clause-answer
+returns-clause-answer g c =
+    let may = g.R.Ask.may c.args.rules.now in
+    let last = c.run_trial.new.list.items in
+    let now = c.run_trial.new.tests in
+    let locations = c.run_trial.new.buffers.locations.items in
+    subst (λ (h : Held). IsNotedAnswer {E = AllocError} may h.bin c.args.members.now c.args.tests.now (Ok c.in_ok-done.done) locations
+    (record { size = c.self.inside.max_size; sections = last; coalesced = c.self.inside.was_coalesced }) now) c.self.view_is
+    (IsNotedAnswer-tried {E = AllocError} may _ c.args.members.now c.args.tests.now (Ok c.in_ok-done.done) locations last now c.in_ok-done.ensures.tried)
+
+pub returns-clause-noted : goal.returns-clause-noted
+returns-clause-noted g c =
+    rw (← c.self.view_is) (LeavesNotes-tried {E = AllocError} _ _ _ c.args.members.now _ (Ok c.in_ok-done.done) _ _ _ _ c.in_ok-done.ensures.tried c.in_ok-done.ensures.noted)
