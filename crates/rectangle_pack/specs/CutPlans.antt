@@ -2,8 +2,8 @@
 use Rattle.std.specs.Prelude.{ℕ, ◌≡◌, ◌<◌, ◌≤◌, ◌⊎◌, true, nat_le, List, [], ◌∷◌, ◌++◌, All, filter, count_by}
 use Rattle.rectangle_pack.specs.declared.axis.Axis.{Axis}
 use Rattle.rectangle_pack.specs.declared.axis.Axis.TheVariants.{X, Y, Z}
-use Rattle.rectangle_pack.specs.declared.plans.CutStep.{CutStep}
-use Rattle.rectangle_pack.specs.declared.plans.CutStep.TheVariants.{Cut as CutAt, Leaf as LeafHere}
+use Rattle.rectangle_pack.specs.declared.cut_plan.CutStep.{CutStep}
+use Rattle.rectangle_pack.specs.declared.cut_plan.CutStep.TheVariants.{Cut as CutAt, Leaf as LeafHere}
 use Rattle.rectangle_pack.specs.Boxes.{Cuboid, start, end, has_cells}
 use Rattle.rectangle_pack.specs.CutTrees.{CutTree, Leaf, Cut, lower, upper, IsFromCuts}
 

@@ -4,7 +4,7 @@ use Rattle.std.specs.declared.cmp.Ordering.{Ordering}
 use Rattle.std.specs.declared.vec.Vec.{Vec}
 use Rattle.std.specs.Map.{lookup}
 use Rattle.std.specs.BTreeMap.{is_at}
-use Rattle.rectangle_pack.specs.declared.plans.CutStep.{CutStep}
+use Rattle.rectangle_pack.specs.declared.cut_plan.CutStep.{CutStep}
 use Rattle.rectangle_pack.specs.declared.session.command.SessionError.{SessionError}
 use Rattle.rectangle_pack.specs.declared.session.command.SessionError.TheVariants.{UnknownBin, OutOfMemory}
 use Rattle.rectangle_pack.specs.Bins.{Bin, whole}

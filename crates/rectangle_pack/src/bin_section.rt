@@ -1,24 +1,27 @@
 //! Free sections of a bin, and how a box is placed into one.
-ghost use Rattle.std.specs.Prelude.{◌≡◌, ◌↔◌, ◌∷◌, List, All, IfOk, IfNone, IfSome, IsTrue, true};
+ghost use Rattle.std.specs.Prelude.{◌≡◌, ◌↔◌, ◌∷◌, All, IfOk, IfNone, IfSome, IsTrue};
 ghost use Rattle.std.specs.Bool.{OnFalse};
-ghost use Rattle.std.specs.Cmp.{IsTotalOrder};
-ghost use Rattle.rectangle_pack.specs.Boxes.{Size, Cuboid, Cell, IsCellOf, is_cell_of, section_order, Holds, FitsU32, IsInside, SharesCell, AreApart, has_cells};
-ghost use Rattle.rectangle_pack.specs.Closures.{CanRate, CanCompare, MayRateBy, MayCompare};
-ghost use Rattle.rectangle_pack.specs.Cuts.{placed, pieces, orders, cuts, sizes_of};
-ghost use Rattle.rectangle_pack.specs.Choice.{IsAllowedCut, IsFunction, IsTotalPreorder, IsPreorderOnCuts};
+ghost use Rattle.rectangle_pack.specs.Boxes.{Cuboid, Holds, FitsU32, IsInside, SharesCell, AreApart, has_cells};
+ghost use Rattle.rectangle_pack.specs.Closures.{CanRate, CanCompare, MayCompare};
+ghost use Rattle.rectangle_pack.specs.Cuts.{placed, cuts, sizes_of};
+ghost use Rattle.rectangle_pack.specs.Choice.{IsAllowedCut};
 ghost use Rattle.rectangle_pack.specs.SmallestBox.{Rates, AreRates, smallest, second_smallest, IsSmallestOrder};
 ghost use Rattle.rectangle_pack.specs.Fitting.{IsFitAnswer};
 ghost use Rattle.rectangle_pack.specs.Counting.{Tiles, AreAllApart, Cover, HaveVolumeOf};
-ghost use Rattle.rectangle_pack.specs.CutTrees.{IsFromCuts};
 ghost use Rattle.rectangle_pack.specs.Pushes.{IsFirstSharing};
 
 mod cutting;
+mod laws;
 
 use crate::bin_section::cutting::pieces_round;
 use crate::packed_location::PackedLocation;
 use crate::rect_to_insert::RectToInsert;
 use crate::span::spans;
 use crate::width_height_depth::WidthHeightDepth;
+pub use laws::{
+    cell_test_is_membership, pieces_are_from_cuts, sections_are_ordered, sharing_is_symmetric,
+    smallest_box_is_preorder,
+};
 use std::cmp::Ordering;
 use std::error::Error;
 use std::fmt;
@@ -233,7 +236,7 @@ impl BinSection {
     }
 
     /// Whether the two sections share a cell, for all numbers; an empty section shares none.
-    #[tactic(auto, using(crate::proofs::BoxesLemmas::sharing), unfolding(crate::specs::Boxes::start, crate::specs::Boxes::extent))]
+    #[tactic(auto, using(crate::proofs::lemmas::cuts::Boxes::sharing), unfolding(crate::specs::Boxes::start, crate::specs::Boxes::extent))]
     pub fn overlaps(&self, other: &BinSection) -> bool
         ensures shares { IsTrue result ↔ SharesCell self.now other.now }
         ensures apart { OnFalse result (AreApart self.now other.now) }
@@ -351,46 +354,3 @@ pub(crate) fn first_sharing(sections: &[BinSection], section: &BinSection) -> Op
     }
     None
 }
-
-/// A law: sections are in a total order, by x, then by y, then by z, then by size, in which two are
-/// equal where they are the same.
-pub fn sections_are_ordered()
-    ensures total { IsTotalOrder ⟦<BinSection as Ord>⟧.cmp }
-    ensures by_field { (a b : Cuboid) → ⟦<BinSection as Ord>⟧.cmp a b ≡ section_order a b }
-    ensures equal { (a b : Cuboid) → (⟦<BinSection as Ord>⟧.cmp a b ≡ Ordering.Equal) ↔ (a ≡ b) }
-    ensures equality { (a b : Cuboid) → (⟦<BinSection as PartialEq>⟧.eq a b ≡ true) ↔ (a ≡ b) }
-{}
-
-/// A law: the test that counts are made of answers whether a cell is a cell of a box.
-pub fn cell_test_is_membership()
-    ensures { (c : Cell) (b : Cuboid) → IsTrue (is_cell_of c b) ↔ IsCellOf c b }
-{}
-
-/// A law: a box shares a cell with another where the other shares one with it.
-pub fn sharing_is_symmetric()
-    ensures { (a b : Cuboid) → SharesCell a b → SharesCell b a }
-{}
-
-/// A law: the box at the corner of a section that holds it and the three pieces, in each of the six
-/// orders of the axes, are from cuts of the section.
-pub fn pieces_are_from_cuts()
-    ensures { (section : Cuboid) (size : Size) → Holds section size →
-        All (λ order. IsFromCuts (placed section size ∷ pieces section size order) section)
-        orders }
-{}
-
-/// A law: with a heuristic that has one answer on each size, a comparison that answers as
-/// `contains_smallest_box` does is a total preorder on all triples of sizes, and so on the cuts of
-/// each section: `try_place` takes a cut than which none is better.
-pub fn smallest_box_is_preorder<H, C>(heuristic: &H, comparison: &C)
-where
-    H: Fn(WidthHeightDepth) -> u128,
-    C: Fn([WidthHeightDepth; 3], [WidthHeightDepth; 3], &H) -> Ordering,
-    requires one_rate { IsFunction (MayRateBy H.Fn heuristic.now) }
-    requires smallest { (a b : List Size) (r : Ordering) →
-        MayCompare C.Fn comparison.now heuristic.now a b r →
-        IsSmallestOrder (H.post heuristic.now) a b r }
-    ensures triples { IsTotalPreorder (MayCompare C.Fn comparison.now heuristic.now) }
-    ensures cuts { IsPreorderOnCuts (λ section member. Unit {0})
-        (MayCompare C.Fn comparison.now heuristic.now) }
-{}

@@ -5,22 +5,14 @@ mod axis;
 pub mod bin_section;
 pub mod box_size_heuristics;
 mod closures;
-mod cut_trees;
-mod exclusions;
-mod fit_tests;
+mod cut_plan;
 pub mod grouped_rects_to_place;
-mod joining;
-mod lists;
-mod orders;
 pub mod pack;
 pub mod packed_location;
-mod plans;
 pub mod rect_to_insert;
-mod section_slots;
 pub mod session;
 mod span;
 pub mod target_bin;
-mod trial;
 pub mod width_height_depth;
 
 pub use axis::Axis;
@@ -29,15 +21,13 @@ pub use bin_section::{
     pieces_are_from_cuts, sections_are_ordered, sharing_is_symmetric, smallest_box_is_preorder,
 };
 pub use box_size_heuristics::volume_heuristic;
-pub use cut_trees::{
+pub use cut_plan::CutStep;
+pub use cut_plan::laws::{
     cuts_cover_bins, cuts_have_open_planes, open_planes_split_cuts, pinwheel_is_not_from_cuts,
+    plans_are_unique,
 };
 pub use grouped_rects_to_place::{
     Group, GroupedRectsToPlace, equal_pushes_leave_equal_collections, groups_are_ordered,
-};
-pub use joining::{
-    joining_has_one_result, joining_keeps_cells, joining_stays_within_the_list,
-    sweep_leaves_no_face,
 };
 pub use pack::{
     Placement, RectanglePackError, RectanglePackOk, excluded_groups_are_apart,
@@ -46,11 +36,13 @@ pub use pack::{
     refused_box_is_held_nowhere, volume_packing_has_one_result,
 };
 pub use packed_location::{PackedLocation, RotatedBy};
-pub use plans::{CutStep, plans_are_unique};
 pub use rect_to_insert::RectToInsert;
 pub use session::{
     BinStats, Command, Outstanding, Packed, Reply, Session, SessionError, transitions_keep_sessions,
 };
+pub use target_bin::laws::{
+    joining_has_one_result, joining_keeps_cells, joining_stays_within_the_list,
+    step_adds_at_most_two, sweep_leaves_no_face, trial_keeps_cells, trial_tests_are_bounded,
+};
 pub use target_bin::{FitTests, PushBinSectionError, TargetBin};
-pub use trial::{step_adds_at_most_two, trial_keeps_cells, trial_tests_are_bounded};
 pub use width_height_depth::{WidthHeightDepth, sizes_are_ordered};

@@ -1,5 +1,5 @@
 //! Bins with what is placed in them: boxes are packed, and given back by number.
-ghost use Rattle.std.specs.Prelude.{◌≡◌, ◌≤◌, [], List, IfSome, IsTrue, IsOk};
+ghost use Rattle.std.specs.Prelude.{◌≡◌, [], IfSome, IsTrue, IsOk};
 ghost use Rattle.std.specs.List.Sorted.{IsStrictlySortedBy};
 ghost use Rattle.std.specs.Map.{keys_of, lookup};
 ghost use Rattle.std.specs.BTreeMap.{is_at};
@@ -10,23 +10,25 @@ ghost use Rattle.rectangle_pack.specs.Closures.{AreCallable, answers};
 ghost use Rattle.rectangle_pack.specs.Joining.{IsJoined, IsSwept, ShareNoFace};
 ghost use Rattle.rectangle_pack.specs.Packing.{bins_of, rules_by};
 ghost use Rattle.rectangle_pack.specs.Promise.{PacksAsPromised};
-ghost use Rattle.rectangle_pack.specs.declared.session.command.Command.{Command};
-ghost use Rattle.rectangle_pack.specs.declared.session.command.Reply.{Reply};
-ghost use Rattle.rectangle_pack.specs.Session.{State, IsSession, AddsBin, Packs, Releases, Coalesces, IsTransition, IsRun, reply_of, packed_reply};
+ghost use Rattle.rectangle_pack.specs.Session.{State, IsSession, AddsBin, Packs, Releases, Coalesces, reply_of, packed_reply};
 
 mod command;
 mod cut_plan;
+mod laws;
+mod outstanding;
+mod packing;
 mod run;
 mod stats;
-mod work;
 
 use crate::closures::{Ask, Closures};
+use crate::grouped_rects_to_place::multimap::number_after;
 use crate::grouped_rects_to_place::{Group, GroupedRectsToPlace};
-use crate::lists::number_after;
-use crate::session::work::{give_back, pack_into, position_of};
+use crate::session::outstanding::{give_back, position_of};
+use crate::session::packing::pack_into;
 use crate::target_bin::TargetBin;
 use crate::width_height_depth::WidthHeightDepth;
 pub use command::{Command, Outstanding, Packed, Reply, SessionError};
+pub use laws::transitions_keep_sessions;
 pub use stats::BinStats;
 use std::alloc::{Allocator, Global};
 use std::cmp::Ordering;
@@ -297,29 +299,3 @@ where
         Ok(())
     }
 }
-
-/// A law: what holds of a session always holds after each transition of its machine, and after each
-/// run: each bin is covered, by boxes that are from straight cuts of it until it is coalesced. And
-/// the next number does not fall, so that no number is given twice.
-pub fn transitions_keep_sessions<Id, BinId, GroupId, H, C, A>(heuristic: &H, comparison: &C)
-where
-    Id: Ord,
-    BinId: Ord,
-    GroupId: Ord,
-    H: Fn(WidthHeightDepth) -> u128,
-    C: Fn([WidthHeightDepth; 3], [WidthHeightDepth; 3], &H) -> Ordering,
-    A: Allocator + Copy,
-    ensures transition { let groups = ⟦<Group<GroupId, Id> as Ord>⟧.cmp in
-        let rules = rules_by Id.cmp BinId.cmp (answers H.Fn C.Fn heuristic.now comparison.now) in
-        (command : Command Id BinId GroupId A) (reply : Reply) (old new : State Id BinId) →
-        IsTransition groups rules command old reply new →
-        IsSession BinId.cmp old →
-        IsSession BinId.cmp new × (old.next ≤ new.next) }
-    ensures run { let groups = ⟦<Group<GroupId, Id> as Ord>⟧.cmp in
-        let rules = rules_by Id.cmp BinId.cmp (answers H.Fn C.Fn heuristic.now comparison.now) in
-        (commands : List (Command Id BinId GroupId A)) (replies : List Reply) →
-        (old new : State Id BinId) →
-        IsRun (IsTransition groups rules) commands old replies new →
-        IsSession BinId.cmp old →
-        IsSession BinId.cmp new × (old.next ≤ new.next) }
-{}

@@ -14,18 +14,23 @@ ghost use Rattle.rectangle_pack.specs.private.Slots.{sections_of};
 ghost use Rattle.rectangle_pack.specs.private.Checkout.{CanWriteBack};
 ghost use Rattle.rectangle_pack.specs.private.TrialNotes.{IsNotedAnswer, LeavesNotes};
 
+pub(crate) mod coalesce;
+pub(crate) mod fit_tests;
+pub(crate) mod laws;
+pub(crate) mod section_slots;
 pub(crate) mod slotted;
+pub(crate) mod trial;
 
 use crate::bin_section::{BinSection, first_sharing};
 use crate::closures::{Ask, Closures};
-pub use crate::fit_tests::FitTests;
-use crate::joining::{join_all, join_at};
 use crate::packed_location::PackedLocation;
 use crate::rect_to_insert::RectToInsert;
-use crate::section_slots::SectionSlots;
+use crate::target_bin::coalesce::{join_all, join_at};
+pub use crate::target_bin::fit_tests::FitTests;
+use crate::target_bin::section_slots::SectionSlots;
 use crate::target_bin::slotted::{are_worth_it, place_slotted};
-use crate::trial::plain::push_pieces;
-use crate::trial::{Buffers, Note, run_trial, undo};
+use crate::target_bin::trial::plain::push_pieces;
+use crate::target_bin::trial::{Buffers, Note, run_trial, undo};
 use crate::width_height_depth::WidthHeightDepth;
 use std::alloc::{AllocError, Allocator, Global};
 use std::cmp::Ordering;

@@ -1,10 +1,11 @@
 //! Sizes.
-ghost use Rattle.std.specs.Prelude.{◌≡◌, ◌<◌, ◌↔◌, true};
-ghost use Rattle.std.specs.Cmp.{IsTotalOrder};
-ghost use Rattle.rectangle_pack.specs.Boxes.{Size, volume_of, size_order};
+ghost use Rattle.std.specs.Prelude.{◌≡◌, ◌<◌};
+ghost use Rattle.rectangle_pack.specs.Boxes.{Size, volume_of};
 ghost use Rattle.rectangle_pack.specs.private.Summaries.{bounded_volume_of, middle_of};
 
-use std::cmp::Ordering;
+mod laws;
+
+pub use laws::sizes_are_ordered;
 use std::marker::Model;
 
 /// The size of a box: its width, height and depth, in cells.
@@ -92,13 +93,3 @@ impl WidthHeightDepth {
         w.min(h).max(w.max(h).min(self.depth))
     }
 }
-
-/// A law: sizes are in a total order, by width, then by height, then by depth, in which two are
-/// equal where they are the same.
-pub fn sizes_are_ordered()
-    ensures total { IsTotalOrder ⟦<WidthHeightDepth as Ord>⟧.cmp }
-    ensures by_field { (a b : Size) → ⟦<WidthHeightDepth as Ord>⟧.cmp a b ≡ size_order a b }
-    ensures equal { (a b : Size) →
-        (⟦<WidthHeightDepth as Ord>⟧.cmp a b ≡ Ordering.Equal) ↔ (a ≡ b) }
-    ensures equality { (a b : Size) → (⟦<WidthHeightDepth as PartialEq>⟧.eq a b ≡ true) ↔ (a ≡ b) }
-{}

@@ -25,12 +25,12 @@ use Rattle.rectangle_pack.specs.Packing.{rules_by, at_start, bars_by, PackingDon
 use Rattle.rectangle_pack.specs.Placed.{ArePlacedWhole}
 use Rattle.rectangle_pack.specs.Results.{HaveOneResult, AreSameBins, ArePlacementsAlike}
 use Rattle.rectangle_pack.specs.Session.{State, IsKept}
-use Rattle.rectangle_pack.proofs.EitherLemmas.{Includes, PackingDone-more, PackingRefused-more}
-use Rattle.rectangle_pack.proofs.OnePackingLemmas.{one_result}
-use Rattle.rectangle_pack.proofs.PackingOrderLemmas.{names-zip}
-use Rattle.rectangle_pack.proofs.RefusedLemmas.{taken_nowhere}
-use Rattle.rectangle_pack.proofs.SmallestBoxLemmas.{smallest_is_preorder, total_decides}
-use Rattle.rectangle_pack.proofs.WholeLemmas.{all_whole}
+use Rattle.rectangle_pack.proofs.lemmas.determinism.Either.{Includes, PackingDone-more, PackingRefused-more}
+use Rattle.rectangle_pack.proofs.lemmas.determinism.OnePacking.{one_result}
+use Rattle.rectangle_pack.proofs.lemmas.packing.Orders.{names-zip}
+use Rattle.rectangle_pack.proofs.lemmas.packing.Refused.{taken_nowhere}
+use Rattle.rectangle_pack.proofs.lemmas.cuts.SmallestBox.{smallest_is_preorder, total_decides}
+use Rattle.rectangle_pack.proofs.lemmas.packing.Whole.{all_whole}
 use Rattle.rectangle_pack_c.specs.declared.RpBin.{RpBin}
 use Rattle.rectangle_pack_c.specs.declared.RpBox.{RpBox}
 use Rattle.rectangle_pack_c.specs.declared.RpPlacement.{RpPlacement}

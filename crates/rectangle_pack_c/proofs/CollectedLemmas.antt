@@ -19,9 +19,9 @@ use Rattle.rectangle_pack.specs.declared.grouped_rects_to_place.Group.{Group}
 use Rattle.rectangle_pack.specs.declared.grouped_rects_to_place.Group.TheVariants.{Ungrouped, Grouped}
 use Rattle.rectangle_pack.specs.Groups.{Collection, SetsSize, PushesAlone, PushesInto, Appends, times_named}
 use Rattle.rectangle_pack.specs.Results.{AreCollectionsAlike}
-use Rattle.rectangle_pack.proofs.CountingLemmas.{count_yes, count_no}
-use Rattle.rectangle_pack.proofs.MapsLemmas.{lookup-inserted, AreOptionsAlike}
-use Rattle.rectangle_pack.proofs.OneLocationsLemmas.{maps_alike}
+use Rattle.rectangle_pack.proofs.lemmas.cuts.Counting.{count_yes, count_no}
+use Rattle.rectangle_pack.proofs.lemmas.util.Maps.{lookup-inserted, AreOptionsAlike}
+use Rattle.rectangle_pack.proofs.lemmas.determinism.OneLocations.{maps_alike}
 use Rattle.rectangle_pack_c.specs.declared.RpBox.{RpBox}
 use Rattle.rectangle_pack_c.specs.Arguments.{box_size, group_order, group_of, members_of, unless_empty, IsCollected}
 use Rattle.rectangle_pack_c.proofs.OrderLemmas.{nat_same, nat_greater, nat_other, group_order_total, exact_group, group_same, group_swap}

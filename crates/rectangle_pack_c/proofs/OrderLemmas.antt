@@ -9,7 +9,7 @@ use Rattle.std.proofs.lemmas.Map.Lookups.{exact_unsigned}
 use mathlib.Core.Path.{fun_ext}
 use Rattle.rectangle_pack.specs.declared.grouped_rects_to_place.Group.{Group}
 use Rattle.rectangle_pack.specs.declared.grouped_rects_to_place.Group.TheVariants.{Ungrouped, Grouped}
-use Rattle.rectangle_pack.proofs.GroupOrderLemmas.{groups_total}
+use Rattle.rectangle_pack.proofs.lemmas.packing.GroupOrder.{groups_total}
 use Rattle.rectangle_pack_c.specs.Arguments.{group_order}
 
 pub nat_greater : (a b : ℕ) → b < a → nat_cmp a b ≡ Greater

@@ -27,11 +27,11 @@ use Rattle.rectangle_pack.specs.Keeping.{placed_in}
 use Rattle.rectangle_pack.specs.Packing.{Rules, rules_by, Stage, at_start, bars_by, PackingDone}
 use Rattle.rectangle_pack.specs.Placed.{ArePlacedWhole}
 use Rattle.rectangle_pack.specs.Session.{numbered}
-use Rattle.rectangle_pack.proofs.CountingLemmas.{apart_from_counts, filled_one, AllPairs-head, AllPairs-tail}
-use Rattle.rectangle_pack.proofs.FrameLemmas.{IsRecut, IsFrame-recut, KeptBySteps-recut, IsChanged, changed-all}
-use Rattle.rectangle_pack.proofs.MapsLemmas.{is_some-keys, is_at-back}
-use Rattle.rectangle_pack.proofs.PlacedLemmas.{keys-placed, known-placed}
-use Rattle.rectangle_pack.proofs.SessionLemmas.{some_of}
+use Rattle.rectangle_pack.proofs.lemmas.cuts.Counting.{apart_from_counts, filled_one, AllPairs-head, AllPairs-tail}
+use Rattle.rectangle_pack.proofs.lemmas.packing.Frame.{IsRecut, IsFrame-recut, KeptBySteps-recut, IsChanged, changed-all}
+use Rattle.rectangle_pack.proofs.lemmas.util.Maps.{is_some-keys, is_at-back}
+use Rattle.rectangle_pack.proofs.lemmas.packing.Placed.{keys-placed, known-placed}
+use Rattle.rectangle_pack.proofs.lemmas.session.Keeps.{some_of}
 use Rattle.rectangle_pack_c.specs.declared.RpBin.{RpBin}
 use Rattle.rectangle_pack_c.specs.declared.RpBox.{RpBox}
 use Rattle.rectangle_pack_c.specs.declared.RpPlacement.{RpPlacement}

@@ -25,8 +25,8 @@ use Rattle.rectangle_pack.specs.Groups.{Collection}
 use Rattle.rectangle_pack.specs.Packing.{rules_by, bars_by, PackingRefused}
 use Rattle.rectangle_pack.specs.Promise.{PlacesWhole}
 use Rattle.rectangle_pack.specs.Session.{State, IsKept, Packs, numbered}
-use Rattle.rectangle_pack.proofs.EitherLemmas.{Includes, PackingDone-more, PackingRefused-more}
-use Rattle.rectangle_pack.proofs.RefusedLemmas.{taken_nowhere}
+use Rattle.rectangle_pack.proofs.lemmas.determinism.Either.{Includes, PackingDone-more, PackingRefused-more}
+use Rattle.rectangle_pack.proofs.lemmas.packing.Refused.{taken_nowhere}
 use Rattle.rectangle_pack_c.specs.declared.RpBox.{RpBox}
 use Rattle.rectangle_pack_c.specs.declared.RpPlacement.{RpPlacement}
 use Rattle.rectangle_pack_c.specs.declared.session.RpOutstanding.{RpOutstanding}

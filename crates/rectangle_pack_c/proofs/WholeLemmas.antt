@@ -14,9 +14,9 @@ use Rattle.rectangle_pack.specs.declared.grouped_rects_to_place.Group.{Group}
 use Rattle.rectangle_pack.specs.declared.pack.answer.Placement.{Placement}
 use Rattle.rectangle_pack.specs.Boxes.{Size}
 use Rattle.rectangle_pack.specs.Placed.{ArePlacedWhole}
-use Rattle.rectangle_pack.proofs.BinsLemmas.{AllPairs-append}
-use Rattle.rectangle_pack.proofs.CountingLemmas.{AllPairs-head, AllPairs-tail}
-use Rattle.rectangle_pack.proofs.OneOrderLemmas.{AllZip-back}
+use Rattle.rectangle_pack.proofs.lemmas.cuts.SoundBins.{AllPairs-append}
+use Rattle.rectangle_pack.proofs.lemmas.cuts.Counting.{AllPairs-head, AllPairs-tail}
+use Rattle.rectangle_pack.proofs.lemmas.determinism.OneOrder.{AllZip-back}
 use Rattle.rectangle_pack_c.specs.Arguments.{group_order}
 use Rattle.rectangle_pack_c.proofs.OrderLemmas.{exact_group, group_same}
 

@@ -13,9 +13,8 @@ ghost use Rattle.rectangle_pack_c.specs.Sessions.{Answers, AreAsMany, PacksBoxes
 use super::handle::RpSession;
 use super::{
     LIMIT, RP_BAD_LENGTHS, RP_DONE, RP_DUPLICATE_BIN, RP_NOT_ENOUGH_SPACE, RP_NUMBERS_USED_UP,
-    RP_OUT_OF_MEMORY, RP_UNKNOWN_BIN, RP_UNKNOWN_PLACEMENT, RpBox, RpPlacement, collection_of,
-    Written,
-    write_all,
+    RP_OUT_OF_MEMORY, RP_UNKNOWN_BIN, RP_UNKNOWN_PLACEMENT, RpBox, RpPlacement, Written,
+    collection_of, write_all,
 };
 use rectangle_pack::{
     Outstanding, Packed, Session, SessionError, contains_smallest_box, volume_heuristic,

@@ -2,8 +2,8 @@
 use Rattle.std.specs.Prelude.{ℕ, ◌≡◌, ◌-◌, ◌<◌, true, List, take, drop, length, All, Option, Some, IfSome}
 use Rattle.std.specs.List.Sorted.{IsNonDecreasingBy}
 use Rattle.rectangle_pack.specs.declared.axis.Axis.{Axis}
-use Rattle.rectangle_pack.specs.declared.plans.Part.{Part}
-use Rattle.rectangle_pack.specs.declared.plans.split.Split.{Split}
+use Rattle.rectangle_pack.specs.declared.cut_plan.Part.{Part}
+use Rattle.rectangle_pack.specs.declared.cut_plan.split.Split.{Split}
 use Rattle.rectangle_pack.specs.Boxes.{Cuboid, FitsU32, start, has_cells}
 use Rattle.rectangle_pack.specs.Counting.{Tiles}
 use Rattle.rectangle_pack.specs.CutTrees.{lower, upper}

@@ -1,6 +1,6 @@
 -- Notes of steps, by which steps are undone in place.
 use Rattle.std.specs.Prelude.{ℕ, ◌≡◌, ◌<◌, ◌≤◌, List, [], ◌∷◌, length, take, insert, set, Option, Some}
-use Rattle.rectangle_pack.specs.declared.trial.Note.{Note}
+use Rattle.rectangle_pack.specs.declared.target_bin.trial.Note.{Note}
 use Rattle.rectangle_pack.specs.Boxes.{Cuboid}
 use Rattle.rectangle_pack.specs.private.Slots.{sections_of}
 

@@ -2,7 +2,7 @@
 use Rattle.std.specs.Prelude.{◌≡◌, ℕ, ◌+◌, ◌*◌, ◌-◌, ◌^◌, ◌<◌, ◌≤◌, List, length, min, max, All, Option, take, drop, slice_index_or}
 use Rattle.rectangle_pack.specs.Boxes.{Size, Cuboid, volume_of}
 use Rattle.rectangle_pack.specs.private.Slots.{sections_of}
-use Rattle.rectangle_pack.specs.declared.section_slots.summary.Summary.{Summary}
+use Rattle.rectangle_pack.specs.declared.target_bin.section_slots.summary.Summary.{Summary}
 
 -- the one of the three numbers that is neither the greatest nor the least
 abbrev pub middle_of : Size → ℕ

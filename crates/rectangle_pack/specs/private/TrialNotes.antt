@@ -1,6 +1,6 @@
 -- What a noted trial in a bin answers, and what it leaves.
 use Rattle.std.specs.Prelude.{◌≡◌, ℕ, ◌+◌, List, ◌∷◌, All, Bool, true, false, Result, Ok, Err}
-use Rattle.rectangle_pack.specs.declared.trial.Note.{Note}
+use Rattle.rectangle_pack.specs.declared.target_bin.trial.Note.{Note}
 use Rattle.rectangle_pack.specs.Boxes.{Size, Cuboid, Holds}
 use Rattle.rectangle_pack.specs.Bins.{Bin, Held}
 use Rattle.rectangle_pack.specs.Closures.{Answers}

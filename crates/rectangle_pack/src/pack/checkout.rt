@@ -1,7 +1,7 @@
 //! The bins of a packing. In the order in which they are tried they are checked out of their map
 //! while it lasts: with many bins and groups, to look each up by its id for each group would take
 //! most of the time.
-ghost use Rattle.std.specs.Prelude.{ℕ, ◌≡◌, ◌<◌, ◌≤◌, [], length, IsSome, All, map, slice_index_or};
+ghost use Rattle.std.specs.Prelude.{ℕ, ◌≡◌, ◌<◌, length, IsSome, All, map, slice_index_or};
 ghost use Rattle.std.specs.BTreeMap.{get};
 ghost use Rattle.std.specs.List.{IsDistinct};
 ghost use Rattle.std.specs.Ordering.{eq_by_cmp};
@@ -9,12 +9,12 @@ ghost use Rattle.rectangle_pack.specs.private.Checkout.{Open, left_of, IsTried};
 ghost use Rattle.rectangle_pack.specs.private.TrialNotes.{IsNotedAnswer, LeavesNotes};
 
 use crate::closures::Ask;
-use crate::fit_tests::FitTests;
 use crate::pack::open_bin::OpenBin;
 use crate::rect_to_insert::RectToInsert;
 use crate::target_bin::TargetBin;
+use crate::target_bin::fit_tests::FitTests;
 use crate::target_bin::slotted::are_worth_it;
-use crate::trial::Buffers;
+use crate::target_bin::trial::Buffers;
 use crate::width_height_depth::WidthHeightDepth;
 use std::alloc::{AllocError, Allocator};
 use std::collections::BTreeMap;

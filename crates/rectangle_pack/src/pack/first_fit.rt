@@ -1,5 +1,5 @@
 //! One packing: group after group into the first bin that takes it.
-ghost use Rattle.std.specs.Prelude.{ℕ, ◌≡◌, ◌<◌, ◌+◌, ◌≤◌, ◌++◌, [], length, vec_len, List, IsTrue, IfOk, OnOk, OnErr, IsSome, All, MatchBool, MatchOption, Some, map};
+ghost use Rattle.std.specs.Prelude.{ℕ, ◌≡◌, ◌<◌, ◌+◌, ◌≤◌, ◌++◌, [], length, vec_len, List, IsTrue, IfOk, OnErr, IsSome, All, MatchBool, MatchOption, Some, map};
 ghost use Rattle.std.specs.BTreeMap.{get, is_at};
 ghost use Rattle.std.specs.Bool.{OnTrue};
 ghost use Rattle.std.specs.List.{list_any, sum_by, IsDistinct};
@@ -19,15 +19,15 @@ ghost use Rattle.rectangle_pack.specs.private.Orders.{keys_of_order, entries_at,
 ghost use Rattle.rectangle_pack.specs.private.TrialJournal.{RollsBackTo, StaysUndoable};
 
 use crate::closures::Ask;
-use crate::fit_tests::FitTests;
 use crate::grouped_rects_to_place::{Group, GroupedRectsToPlace};
-use crate::orders::{Turn, group_order};
 use crate::pack::answer::{Placement, name_all};
 use crate::pack::checkout::PackingBins;
 use crate::pack::journal::{DoneTrial, note_trial, undo_trials};
+use crate::pack::order::{Turn, group_order};
 use crate::rect_to_insert::RectToInsert;
 use crate::target_bin::TargetBin;
-use crate::trial::Buffers;
+use crate::target_bin::fit_tests::FitTests;
+use crate::target_bin::trial::Buffers;
 use std::alloc::{AllocError, Allocator};
 use std::collections::{BTreeMap, BTreeSet};
 

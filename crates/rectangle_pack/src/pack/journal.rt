@@ -1,12 +1,12 @@
 //! The journal of a packing: its trials that are done, by which it is rolled back.
-ghost use Rattle.std.specs.Prelude.{◌≡◌, ◌<◌, ◌+◌, ◌≤◌, ◌++◌, [], vec_len, List};
+ghost use Rattle.std.specs.Prelude.{◌≡◌, ◌<◌, ◌+◌, ◌≤◌, ◌++◌, vec_len, List};
 ghost use Rattle.std.specs.Vec.{vec_capacity};
 ghost use Rattle.rectangle_pack.specs.Bins.{Bin};
 ghost use Rattle.rectangle_pack.specs.Packing.{bins_of};
 ghost use Rattle.rectangle_pack.specs.private.TrialJournal.{GoesBack, trials_noted};
 
 use crate::target_bin::TargetBin;
-use crate::trial::Note;
+use crate::target_bin::trial::Note;
 use std::alloc::Allocator;
 use std::collections::BTreeMap;
 use std::mem;

@@ -5,12 +5,12 @@ ghost use Rattle.rectangle_pack.specs.private.Checkout.{closed};
 ghost use Rattle.rectangle_pack.specs.private.TrialNotes.{IsNotedAnswer, LeavesNotes};
 
 use crate::closures::Ask;
-use crate::fit_tests::FitTests;
 use crate::rect_to_insert::RectToInsert;
-use crate::section_slots::SectionSlots;
 use crate::target_bin::TargetBin;
+use crate::target_bin::fit_tests::FitTests;
+use crate::target_bin::section_slots::SectionSlots;
 use crate::target_bin::slotted::{are_worth_it, place_slotted};
-use crate::trial::Buffers;
+use crate::target_bin::trial::Buffers;
 use std::alloc::{AllocError, Allocator};
 use std::marker::Model;
 

@@ -6,10 +6,10 @@ ghost use Rattle.rectangle_pack.specs.Session.{standing_in, boxes_of};
 ghost use Rattle.rectangle_pack.specs.PlanAnswers.{IsPlanAnswer};
 
 use crate::bin_section::BinSection;
-use crate::plans::{CutStep, plan_of};
+use crate::cut_plan::{CutStep, plan_of};
 use crate::session::Session;
 use crate::session::command::{Outstanding, SessionError};
-use crate::session::work::section_at;
+use crate::session::outstanding::section_at;
 use crate::target_bin::TargetBin;
 use std::alloc::{AllocError, Allocator};
 

@@ -4,12 +4,12 @@ ghost use Rattle.rectangle_pack.specs.private.Checkout.{with_slots, CanWriteBack
 ghost use Rattle.rectangle_pack.specs.private.TrialNotes.{IsNotedAnswer, LeavesNotes};
 
 use crate::closures::Ask;
-use crate::fit_tests::FitTests;
 use crate::rect_to_insert::RectToInsert;
-use crate::section_slots::SectionSlots;
 use crate::target_bin::TargetBin;
-use crate::trial::plain::is_stuck_at_once;
-use crate::trial::{Buffers, run_trial};
+use crate::target_bin::fit_tests::FitTests;
+use crate::target_bin::section_slots::SectionSlots;
+use crate::target_bin::trial::plain::is_stuck_at_once;
+use crate::target_bin::trial::{Buffers, run_trial};
 use std::alloc::{AllocError, Allocator};
 
 // From how many sections, with the members to come, slots are quicker than a plain list.

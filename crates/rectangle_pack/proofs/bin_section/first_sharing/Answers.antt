@@ -2,7 +2,7 @@ use Rattle.std.proofs.Common.{refl, take}
 use Rattle.std.proofs.lemmas.List.{take_more}
 use Rattle.std.proofs.lemmas.List.Elements.{All-push}
 use Rattle.rectangle_pack.specs.Boxes.{AreApart}
-use Rattle.rectangle_pack.proofs.BinsLemmas.{first_at}
+use Rattle.rectangle_pack.proofs.lemmas.cuts.SoundBins.{first_at}
 use Rattle.rectangle_pack.proofs.bin_section.first_sharing.Goals as goal
 
 pub returns-then-overlaps-clause-first : goal.returns-then-overlaps-clause-first

@@ -1,8 +1,8 @@
 use Rattle.std.proofs.Common.{sym, ◌∙◌, ap}
 use Rattle.std.specs.Map.{remove_entry, set_value}
 use Rattle.std.specs.BTreeMap.{is_at}
-use Rattle.rectangle_pack.proofs.MapsLemmas.{lookup-equal}
-use Rattle.rectangle_pack.proofs.RestoreLemmas.{remove-insert, set-insert}
+use Rattle.rectangle_pack.proofs.lemmas.util.Maps.{lookup-equal}
+use Rattle.rectangle_pack.proofs.lemmas.multimap.Restore.{remove-insert, set-insert}
 use Rattle.rectangle_pack.proofs.grouped_rects_to_place.restore.Goals as goal
 
 pub returns-in-None : goal.returns-in-None

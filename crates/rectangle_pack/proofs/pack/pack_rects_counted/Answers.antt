@@ -5,8 +5,8 @@ use Rattle.std.proofs.lemmas.List.Elements.{All-nil}
 use Rattle.rectangle_pack.specs.Closures.{answers}
 use Rattle.rectangle_pack.specs.Packing.{bins_of, rules_by}
 use Rattle.rectangle_pack.specs.PackAnswers.{AreCounted}
-use Rattle.rectangle_pack.proofs.BoundLemmas.{AreCounted-added, counted-none}
-use Rattle.rectangle_pack.proofs.PackLemmas.{PackingDone-none, lists-some, lists-empty}
+use Rattle.rectangle_pack.proofs.lemmas.packing.FitTests.{AreCounted-added, counted-none}
+use Rattle.rectangle_pack.proofs.lemmas.packing.Groups.{PackingDone-none, lists-some, lists-empty}
 use Rattle.rectangle_pack.proofs.pack.pack_rects_counted.Goals as goal
 use Rattle.rectangle_pack.proofs.pack.pack_rects_counted.Goals.{in-Ok-true, in-Err}
 

@@ -2,8 +2,8 @@ use Rattle.std.proofs.Common.{arith, ◌≡◌, ◌<◌, [], length, add-one, re
 use Rattle.std.proofs.Math.Seq.{take-suc}
 use Rattle.rectangle_pack.specs.Closures.{AreThreeSizes}
 use Rattle.rectangle_pack.specs.Cuts.{cuts, sizes_of}
-use Rattle.rectangle_pack.proofs.PassLemmas.{pass_start, pass_keeps, pass_moves, not_greater, is_greater}
-use Rattle.rectangle_pack.proofs.CutsLemmas.{length-cuts, take_cuts, nth_three, taken_three}
+use Rattle.rectangle_pack.proofs.lemmas.cuts.BestOfAPass.{pass_start, pass_keeps, pass_moves, not_greater, is_greater}
+use Rattle.rectangle_pack.proofs.lemmas.cuts.Pieces.{length-cuts, take_cuts, nth_three, taken_three}
 use Rattle.rectangle_pack.proofs.bin_section.BinSection.place_held.Goals as goal
 use Rattle.rectangle_pack.proofs.bin_section.BinSection.place_held.Goals.{then-ne, else-ne}
 

@@ -1,6 +1,6 @@
-use Rattle.rectangle_pack.proofs.CutsLemmas.{chosen_tiles}
-use Rattle.rectangle_pack.proofs.VolumesLemmas.{chosen_volumes}
-use Rattle.rectangle_pack.proofs.CountingLemmas.{tiles_apart, tiles_cover}
+use Rattle.rectangle_pack.proofs.lemmas.cuts.Pieces.{chosen_tiles}
+use Rattle.rectangle_pack.proofs.lemmas.cuts.Volumes.{chosen_volumes}
+use Rattle.rectangle_pack.proofs.lemmas.cuts.Counting.{tiles_apart, tiles_cover}
 use Rattle.rectangle_pack.proofs.bin_section.BinSection.try_place.Goals as goal
 
 pub returns-clause-tiles : goal.returns-clause-tiles

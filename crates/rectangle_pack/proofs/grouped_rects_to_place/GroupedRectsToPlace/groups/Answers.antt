@@ -1,4 +1,4 @@
-use Rattle.rectangle_pack.proofs.ListsLemmas.{keys-lists}
+use Rattle.rectangle_pack.proofs.lemmas.multimap.Vectors.{keys-lists}
 use Rattle.rectangle_pack.proofs.grouped_rects_to_place.GroupedRectsToPlace.groups.Goals as goal
 
 pub returns-clause-ascend : goal.returns-clause-ascend

@@ -1,13 +1,13 @@
 use Rattle.std.proofs.Common.{arith, ap, ◌++◌}
 use Rattle.std.proofs.lemmas.Result.{IfOk-from_err}
-use Rattle.rectangle_pack.proofs.BoundLemmas.{OnErr-given}
+use Rattle.rectangle_pack.proofs.lemmas.packing.FitTests.{OnErr-given}
 use Rattle.std.proofs.Common.{◌≡◌, [], ◌∷◌, sym, ◌∙◌, true, refl}
 use Rattle.std.specs.Cmp.{Equal-is, tied_back}
 use Rattle.std.specs.declared.cmp.Ordering.TheVariants.{Equal}
 use Rattle.std.proofs.lemmas.Cmp.{tied_itself}
 use Rattle.rectangle_pack.specs.declared.grouped_rects_to_place.Group.TheVariants.{Ungrouped}
-use Rattle.rectangle_pack.proofs.ListsLemmas.{lists_of-insert_entry}
-use Rattle.rectangle_pack.proofs.GroupsLemmas.{MembersHaveSizes-alone, IsSome-cond}
+use Rattle.rectangle_pack.proofs.lemmas.multimap.Vectors.{lists_of-insert_entry}
+use Rattle.rectangle_pack.proofs.lemmas.multimap.Sized.{MembersHaveSizes-alone, IsSome-cond}
 use Rattle.rectangle_pack.proofs.grouped_rects_to_place.GroupedRectsToPlace.push_alone.Goals as goal
 
 pub invariant_of-self-in-Ok : goal.invariant_of-self-in-Ok

@@ -1,5 +1,5 @@
 use Rattle.std.proofs.lemmas.Result.{IfOk-from_err}
-use Rattle.rectangle_pack.proofs.BoundLemmas.{OnErr-given}
+use Rattle.rectangle_pack.proofs.lemmas.packing.FitTests.{OnErr-given}
 use Rattle.std.proofs.Common.{◌≡◌, ◌<◌, refl, sym, ◌∙◌, ap, arith}
 use Rattle.std.specs.Prelude.{IsSome, length, vec_len}
 use Rattle.std.specs.Map.{lookup}
@@ -10,8 +10,8 @@ use Rattle.std.proofs.lemmas.List.Elements.{All-weaker}
 use Rattle.std.specs.BTreeMap.{is_at}
 use Rattle.rectangle_pack.specs.Groups.{lists_of, HaveSizes}
 use Rattle.rectangle_pack.specs.private.Lists.{filled}
-use Rattle.rectangle_pack.proofs.ListsLemmas.{keys-lists}
-use Rattle.rectangle_pack.proofs.GroupsLemmas.{filled-members, IsSome-cond, MembersHaveSizes-added, lists-added, lists-other, on_ok, on_err}
+use Rattle.rectangle_pack.proofs.lemmas.multimap.Vectors.{keys-lists}
+use Rattle.rectangle_pack.proofs.lemmas.multimap.Sized.{filled-members, IsSome-cond, MembersHaveSizes-added, lists-added, lists-other, on_ok, on_err}
 use Rattle.rectangle_pack.specs.declared.grouped_rects_to_place.Group.TheVariants.{Ungrouped, Grouped}
 use Rattle.rectangle_pack.proofs.grouped_rects_to_place.GroupedRectsToPlace.push_grouped.Goals as goal
 

@@ -6,7 +6,7 @@ use Rattle.std.proofs.Common.{◌≡◌, sym, ◌∙◌, take}
 use Rattle.std.specs.Cmp.{Equal-is}
 use Rattle.std.specs.declared.cmp.Ordering.TheVariants.{Equal}
 use Rattle.std.proofs.lemmas.List.{take_more}
-use Rattle.rectangle_pack.proofs.PackLemmas.{AreLastPlacements-more}
+use Rattle.rectangle_pack.proofs.lemmas.packing.Groups.{AreLastPlacements-more}
 use Rattle.rectangle_pack.proofs.pack.answer.last_placements.Goals as goal
 
 pub loop-placement-preserved : goal.loop-placement-preserved

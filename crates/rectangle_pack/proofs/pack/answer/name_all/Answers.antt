@@ -3,7 +3,7 @@ use Rattle.std.specs.Cmp.{Equal-is}
 use Rattle.std.specs.declared.cmp.Ordering.TheVariants.{Equal}
 use Rattle.std.proofs.lemmas.List.Elements.{All-nil}
 use Rattle.rectangle_pack.specs.declared.pack.answer.Placement.{Placement}
-use Rattle.rectangle_pack.proofs.PackLemmas.{AreNamed-more}
+use Rattle.rectangle_pack.proofs.lemmas.packing.Groups.{AreNamed-more}
 use Rattle.rectangle_pack.proofs.pack.answer.name_all.Goals as goal
 
 pub loop-i-init : goal.loop-i-init

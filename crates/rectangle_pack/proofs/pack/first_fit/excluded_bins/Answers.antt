@@ -9,7 +9,7 @@ use Rattle.std.specs.List.{list_any}
 use Rattle.std.specs.Borrow.{Bor}
 use Rattle.std.proofs.lemmas.List.Folds.{list_any_more}
 use Rattle.rectangle_pack.specs.private.Barred.{are_in, went_to}
-use Rattle.rectangle_pack.proofs.BarredLemmas.{barred-more, or-none}
+use Rattle.rectangle_pack.proofs.lemmas.packing.Excluded.{barred-more, or-none}
 use Rattle.rectangle_pack.proofs.pack.first_fit.excluded_bins.Goals as goal
 use Rattle.rectangle_pack.proofs.pack.first_fit.excluded_bins.Goals.{in-Some+in_ok-insert, in_default}
 

@@ -1,11 +1,11 @@
-use Rattle.rectangle_pack.proofs.PackingOrderLemmas.{list-found}
+use Rattle.rectangle_pack.proofs.lemmas.packing.Orders.{list-found}
 use Rattle.std.proofs.Common.{sym, ap, ◌∙◌, arith}
 use Rattle.std.specs.List.{sum_by}
 use Rattle.std.proofs.lemmas.Result.{on_err_weaker}
 use Rattle.rectangle_pack.specs.Packing.{rules_by, bins_of}
 use Rattle.rectangle_pack.specs.private.Orders.{keys_of_order}
-use Rattle.rectangle_pack.proofs.BoundLemmas.{OnErr-given, counted-none, counted-done, counted-refused, counted-stopped}
-use Rattle.rectangle_pack.proofs.PackLemmas.{packed-weaker, done-weaker, AreAllPlaced-length, AreGroups-length}
+use Rattle.rectangle_pack.proofs.lemmas.packing.FitTests.{OnErr-given, counted-none, counted-done, counted-refused, counted-stopped}
+use Rattle.rectangle_pack.proofs.lemmas.packing.Groups.{packed-weaker, done-weaker, AreAllPlaced-length, AreGroups-length}
 use Rattle.rectangle_pack.proofs.pack.first_fit.pack_noted.Goals as goal
 
 pub returns-in_err-groups-clause-stopped : goal.returns-in_err-groups-clause-stopped

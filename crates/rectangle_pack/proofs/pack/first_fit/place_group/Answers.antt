@@ -7,10 +7,10 @@ use Rattle.rectangle_pack.specs.Numbers.{saturated}
 use Rattle.rectangle_pack.specs.Packing.{Rules, rules_by, bins_of, Members}
 use Rattle.rectangle_pack.specs.private.Barred.{are_in}
 use Rattle.rectangle_pack.specs.private.Checkout.{closed}
-use Rattle.rectangle_pack.proofs.CheckoutLemmas.{stays}
-use Rattle.rectangle_pack.proofs.PackLemmas.{GoesBack-grown, bins_of-grown, GoesBack-tried, found-bins_of, IsPlaced-at, DoesNotTake-more, DoesNotTake-stuck, DoesNotTake-barred, IsDone-length}
-use Rattle.rectangle_pack.proofs.BoundLemmas.{OnErr-given, adds-begun, adds-tried}
-use Rattle.rectangle_pack.proofs.TrialLemmas.{saturated-add}
+use Rattle.rectangle_pack.proofs.lemmas.packing.Checkout.{stays}
+use Rattle.rectangle_pack.proofs.lemmas.packing.Groups.{GoesBack-grown, bins_of-grown, GoesBack-tried, found-bins_of, IsPlaced-at, DoesNotTake-more, DoesNotTake-stuck, DoesNotTake-barred, IsDone-length}
+use Rattle.rectangle_pack.proofs.lemmas.packing.FitTests.{OnErr-given, adds-begun, adds-tried}
+use Rattle.rectangle_pack.proofs.lemmas.trial.StepsByIndex.{saturated-add}
 use Rattle.rectangle_pack.proofs.pack.first_fit.place_group.Given.{Over}
 use Rattle.rectangle_pack.proofs.pack.first_fit.place_group.Goals as goal
 

@@ -12,12 +12,12 @@ use Rattle.rectangle_pack.specs.Exclusions.{listed_at}
 use Rattle.rectangle_pack.specs.Packing.{Rules, rules_by, bins_of, bars_by, at_start, Members, AreGroups, IsRefused}
 use Rattle.rectangle_pack.specs.private.Barred.{are_in, went_to}
 use Rattle.rectangle_pack.specs.private.Orders.{keys_of_order}
-use Rattle.rectangle_pack.proofs.BarredLemmas.{Knows, Knows-none, Knows-alone, Knows-kept, Named-more, Named-fresh, barred_by_partners, none-listed}
-use Rattle.rectangle_pack.proofs.BoundLemmas.{OnErr-given, adds-placed, adds-more, placed-le}
-use Rattle.rectangle_pack.proofs.CheckoutLemmas.{stays}
-use Rattle.rectangle_pack.proofs.PackLemmas.{AreSizesOf, AreSizesOf-length, AreGroups-more, StopsAfter-at, AreAllPlaced-next}
-use Rattle.rectangle_pack.proofs.PackingOrderLemmas.{SizesStandAt-part}
-use Rattle.rectangle_pack.proofs.TrialLemmas.{saturated-add}
+use Rattle.rectangle_pack.proofs.lemmas.packing.Excluded.{Knows, Knows-none, Knows-alone, Knows-kept, Named-more, Named-fresh, barred_by_partners, none-listed}
+use Rattle.rectangle_pack.proofs.lemmas.packing.FitTests.{OnErr-given, adds-placed, adds-more, placed-le}
+use Rattle.rectangle_pack.proofs.lemmas.packing.Checkout.{stays}
+use Rattle.rectangle_pack.proofs.lemmas.packing.Groups.{AreSizesOf, AreSizesOf-length, AreGroups-more, StopsAfter-at, AreAllPlaced-next}
+use Rattle.rectangle_pack.proofs.lemmas.packing.Orders.{SizesStandAt-part}
+use Rattle.rectangle_pack.proofs.lemmas.trial.StepsByIndex.{saturated-add}
 use Rattle.rectangle_pack.proofs.pack.first_fit.place_groups.Invariants.{group_cmp, group_total}
 use Rattle.rectangle_pack.proofs.pack.first_fit.place_groups.Given.{Over}
 use Rattle.rectangle_pack.proofs.pack.first_fit.place_groups.Goals as goal

@@ -8,8 +8,8 @@ use Rattle.rectangle_pack.specs.Numbers.{saturated}
 use Rattle.rectangle_pack.specs.private.Orders.{keys_of_order}
 use Rattle.rectangle_pack.specs.Packing.{rules_by, bins_of, bars_by, at_start, Members, AreGroups, AreAllPlaced}
 use Rattle.rectangle_pack.specs.private.TrialJournal.{StaysUndoable}
-use Rattle.rectangle_pack.proofs.BarredLemmas.{Knows, Named}
-use Rattle.rectangle_pack.proofs.GroupOrderLemmas.{groups_total}
+use Rattle.rectangle_pack.proofs.lemmas.packing.Excluded.{Knows, Named}
+use Rattle.rectangle_pack.proofs.lemmas.packing.GroupOrder.{groups_total}
 use Rattle.rectangle_pack.proofs.pack.first_fit.place_groups.Given as goal
 
 -- the order of groups

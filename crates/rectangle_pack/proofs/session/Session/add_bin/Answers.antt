@@ -1,10 +1,10 @@
 use Rattle.std.proofs.Common.{refl, ap, sym, ◌∙◌}
 use Rattle.std.specs.BTreeMap.{is_at}
 use Rattle.rectangle_pack.specs.Packing.{bins_of}
-use Rattle.rectangle_pack.proofs.JournalLemmas.{is_some-bins_of}
-use Rattle.rectangle_pack.proofs.ListsLemmas.{none_of}
-use Rattle.rectangle_pack.proofs.SessionLemmas.{None-bins_of}
-use Rattle.rectangle_pack.proofs.TransitionLemmas.{added-inserted, memory_refused}
+use Rattle.rectangle_pack.proofs.lemmas.packing.RollBack.{is_some-bins_of}
+use Rattle.rectangle_pack.proofs.lemmas.multimap.Vectors.{none_of}
+use Rattle.rectangle_pack.proofs.lemmas.session.Keeps.{None-bins_of}
+use Rattle.rectangle_pack.proofs.lemmas.session.Transitions.{added-inserted, memory_refused}
 use Rattle.rectangle_pack.proofs.session.Session.add_bin.Goals as goal
 
 pub returns-then-contains_key-clause-added : goal.returns-then-contains_key-clause-added

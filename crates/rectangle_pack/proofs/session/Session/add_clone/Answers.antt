@@ -1,10 +1,10 @@
 use Rattle.std.proofs.Common.{refl, sym, ◌∙◌}
 use Rattle.std.specs.BTreeMap.{is_at}
 use Rattle.std.specs.Cmp.{Equal-is}
-use Rattle.rectangle_pack.proofs.ListsLemmas.{none_of}
-use Rattle.rectangle_pack.proofs.JournalLemmas.{is_some-bins_of}
-use Rattle.rectangle_pack.proofs.SessionLemmas.{None-bins_of}
-use Rattle.rectangle_pack.proofs.TransitionLemmas.{AddsBin-equal, memory_refused}
+use Rattle.rectangle_pack.proofs.lemmas.multimap.Vectors.{none_of}
+use Rattle.rectangle_pack.proofs.lemmas.packing.RollBack.{is_some-bins_of}
+use Rattle.rectangle_pack.proofs.lemmas.session.Keeps.{None-bins_of}
+use Rattle.rectangle_pack.proofs.lemmas.session.Transitions.{AddsBin-equal, memory_refused}
 use Rattle.rectangle_pack.proofs.session.Session.add_clone.Goals as goal
 
 pub returns-then-contains_key : goal.returns-then-contains_key

@@ -1,6 +1,6 @@
 use Rattle.std.proofs.Common.{List, sym, subst}
 use Rattle.std.specs.List.Sorted.{IsStrictlySortedBy}
-use Rattle.rectangle_pack.proofs.JournalLemmas.{keys-bins}
+use Rattle.rectangle_pack.proofs.lemmas.packing.RollBack.{keys-bins}
 use Rattle.rectangle_pack.proofs.session.Session.bins.Goals as goal
 
 pub returns-clause-ascend : goal.returns-clause-ascend

@@ -4,8 +4,8 @@ use Rattle.std.specs.declared.collections.BTreeMap.{BTreeMap}
 use Rattle.rectangle_pack.specs.Bins.{Held}
 use Rattle.rectangle_pack.specs.Packing.{bins_of}
 use Rattle.rectangle_pack.specs.Joining.{IsJoined}
-use Rattle.rectangle_pack.proofs.SessionLemmas.{None-bins_of}
-use Rattle.rectangle_pack.proofs.TransitionLemmas.{IsRecut-joined, coalesced-written}
+use Rattle.rectangle_pack.proofs.lemmas.session.Keeps.{None-bins_of}
+use Rattle.rectangle_pack.proofs.lemmas.session.Transitions.{IsRecut-joined, coalesced-written}
 use Rattle.rectangle_pack.proofs.session.Session.coalesce.Goals as goal
 
 pub returns-in_default-clause-joined : goal.returns-in_default-clause-joined

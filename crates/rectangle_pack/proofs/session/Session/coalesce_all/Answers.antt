@@ -5,9 +5,9 @@ use Rattle.std.specs.declared.collections.BTreeMap.{BTreeMap}
 use Rattle.rectangle_pack.specs.Bins.{Held}
 use Rattle.rectangle_pack.specs.Packing.{bins_of}
 use Rattle.rectangle_pack.specs.Joining.{IsSwept}
-use Rattle.rectangle_pack.proofs.MapsLemmas.{lookup-set_here}
-use Rattle.rectangle_pack.proofs.SessionLemmas.{Some-bins_of, None-bins_of}
-use Rattle.rectangle_pack.proofs.TransitionLemmas.{IsRecut-swept, coalesced-written}
+use Rattle.rectangle_pack.proofs.lemmas.util.Maps.{lookup-set_here}
+use Rattle.rectangle_pack.proofs.lemmas.session.Keeps.{Some-bins_of, None-bins_of}
+use Rattle.rectangle_pack.proofs.lemmas.session.Transitions.{IsRecut-swept, coalesced-written}
 use Rattle.rectangle_pack.proofs.session.Session.coalesce_all.Goals as goal
 
 pub returns-in_default-clause-swept : goal.returns-in_default-clause-swept

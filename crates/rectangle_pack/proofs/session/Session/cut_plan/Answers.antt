@@ -4,7 +4,7 @@ use Rattle.std.specs.declared.cmp.Ordering.{Ordering}
 use Rattle.std.specs.declared.vec.Vec.{Vec}
 use Rattle.std.specs.Map.{lookup}
 use Rattle.std.specs.BTreeMap.{is_at}
-use Rattle.rectangle_pack.specs.declared.plans.CutStep.{CutStep}
+use Rattle.rectangle_pack.specs.declared.cut_plan.CutStep.{CutStep}
 use Rattle.rectangle_pack.specs.Bins.{Bin, whole}
 use Rattle.rectangle_pack.specs.Boxes.{has_cells}
 use Rattle.rectangle_pack.specs.CutTrees.{IsFromCuts}
@@ -12,11 +12,11 @@ use Rattle.rectangle_pack.specs.CutPlans.{IsCutPlan}
 use Rattle.rectangle_pack.specs.Packing.{bins_of}
 use Rattle.rectangle_pack.specs.Session.{State, boxes_of}
 use Rattle.rectangle_pack.specs.PlanAnswers.{IsPlanAnswer}
-use Rattle.rectangle_pack.proofs.CutPlanLemmas.{IsCutPlan-same}
-use Rattle.rectangle_pack.proofs.FillingLemmas.{IsFilled-bin}
-use Rattle.rectangle_pack.proofs.SameBoxesLemmas.{HaveSameBoxes-sym, HaveSameBoxes-filter, IsFromCuts-same}
-use Rattle.rectangle_pack.proofs.SessionLemmas.{Some-bins_of, None-bins_of}
-use Rattle.rectangle_pack.proofs.TransitionLemmas.{memory_refused}
+use Rattle.rectangle_pack.proofs.lemmas.cut_plan.FirstPlanes.{IsCutPlan-same}
+use Rattle.rectangle_pack.proofs.lemmas.cut_plan.Filling.{IsFilled-bin}
+use Rattle.rectangle_pack.proofs.lemmas.cuts.SameBoxes.{HaveSameBoxes-sym, HaveSameBoxes-filter, IsFromCuts-same}
+use Rattle.rectangle_pack.proofs.lemmas.session.Keeps.{Some-bins_of, None-bins_of}
+use Rattle.rectangle_pack.proofs.lemmas.session.Transitions.{memory_refused}
 use Rattle.rectangle_pack.proofs.session.Session.cut_plan.Goals as goal
 
 -- a plan of the boxes with cells is a plan of the boxes

@@ -1,9 +1,9 @@
-use Rattle.rectangle_pack.proofs.TransitionLemmas.{memory_refused}
+use Rattle.rectangle_pack.proofs.lemmas.session.Transitions.{memory_refused}
 use Rattle.rectangle_pack.specs.Session.{IsSession}
 use Rattle.std.proofs.Common.{refl, ap, subst, length}
 use Rattle.std.proofs.Common.{arith}
 use Rattle.rectangle_pack.specs.Packing.{rules_by}
-use Rattle.rectangle_pack.proofs.SessionLemmas.{IsSession-done}
+use Rattle.rectangle_pack.proofs.lemmas.session.Keeps.{IsSession-done}
 use Rattle.rectangle_pack.proofs.session.Session.pack_by.Goals as goal
 
 pub invariant_of-self-2 : goal.invariant_of-self-2

@@ -1,6 +1,6 @@
 use Rattle.std.proofs.Common.{refl, ap}
-use Rattle.rectangle_pack.proofs.SessionLemmas.{IsSession-found, outstanding_at}
-use Rattle.rectangle_pack.proofs.TransitionLemmas.{released-removed, memory_refused}
+use Rattle.rectangle_pack.proofs.lemmas.session.Keeps.{IsSession-found, outstanding_at}
+use Rattle.rectangle_pack.proofs.lemmas.session.Transitions.{released-removed, memory_refused}
 use Rattle.rectangle_pack.proofs.session.Session.release.Goals as goal
 
 pub give_back-requires : goal.give_back-requires

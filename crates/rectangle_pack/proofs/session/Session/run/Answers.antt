@@ -2,8 +2,8 @@ use Rattle.std.proofs.Common.{arith}
 use Rattle.std.proofs.lemmas.List.{take_all}
 use Rattle.rectangle_pack.specs.Closures.{answers}
 use Rattle.rectangle_pack.specs.Packing.{rules_by}
-use Rattle.rectangle_pack.proofs.PromiseLemmas.{KeepsPromise-transition}
-use Rattle.rectangle_pack.proofs.TransitionLemmas.{IsRun-more}
+use Rattle.rectangle_pack.proofs.lemmas.session.Promise.{KeepsPromise-transition}
+use Rattle.rectangle_pack.proofs.lemmas.session.Transitions.{IsRun-more}
 use Rattle.rectangle_pack.proofs.session.Session.run.Goals as goal
 
 pub loop-command-preserved : goal.loop-command-preserved

@@ -1,8 +1,8 @@
 use Rattle.std.proofs.Common.{refl, sym, ap, rules, arith}
 use Rattle.std.specs.BTreeMap.{is_at}
 use Rattle.rectangle_pack.specs.Boxes.{volume_of}
-use Rattle.rectangle_pack.proofs.SessionLemmas.{Some-bins_of, None-bins_of}
-use Rattle.rectangle_pack.proofs.StatsLemmas.{IsSession-volumes}
+use Rattle.rectangle_pack.proofs.lemmas.session.Keeps.{Some-bins_of, None-bins_of}
+use Rattle.rectangle_pack.proofs.lemmas.session.Stats.{IsSession-volumes}
 use Rattle.rectangle_pack.proofs.session.Session.stats.Goals as goal
 
 pub returns-in_err-place-clause-stats : goal.returns-in_err-place-clause-stats

@@ -1,6 +1,6 @@
 use Rattle.std.proofs.Common.{refl, sym, rules}
 use Rattle.std.specs.BTreeMap.{is_at}
-use Rattle.rectangle_pack.proofs.SessionLemmas.{Some-bins_of, None-bins_of}
+use Rattle.rectangle_pack.proofs.lemmas.session.Keeps.{Some-bins_of, None-bins_of}
 use Rattle.rectangle_pack.proofs.session.Session.was_coalesced.Goals as goal
 
 pub returns-in_err-get : goal.returns-in_err-get

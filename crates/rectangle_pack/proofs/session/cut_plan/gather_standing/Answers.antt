@@ -4,7 +4,7 @@ use Rattle.std.proofs.Math.Seq.{take-length}
 use Rattle.std.proofs.lemmas.Result.{IfOk-from_err}
 use Rattle.rectangle_pack.specs.Boxes.{has_cells}
 use Rattle.rectangle_pack.specs.Session.{standing_in}
-use Rattle.rectangle_pack.proofs.StatsLemmas.{gathered-more}
+use Rattle.rectangle_pack.proofs.lemmas.session.Stats.{gathered-more}
 use Rattle.rectangle_pack.proofs.session.cut_plan.gather_standing.Goals.{then-eq+in_ok-gather, else-eq}
 use Rattle.rectangle_pack.proofs.session.cut_plan.gather_standing.Goals as goal
 

@@ -2,7 +2,7 @@ use Rattle.std.proofs.Common.{◌≡◌, refl, ap, sym, ◌∙◌, arith, length
 use Rattle.std.proofs.Math.Seq.{take-length}
 use Rattle.rectangle_pack.specs.Counting.{total_volume}
 use Rattle.rectangle_pack.specs.Session.{standing_in}
-use Rattle.rectangle_pack.proofs.StatsLemmas.{standing-before, added-more}
+use Rattle.rectangle_pack.proofs.lemmas.session.Stats.{standing-before, added-more}
 use Rattle.rectangle_pack.proofs.session.stats.placed_in.Goals.{then-eq, else-eq}
 use Rattle.rectangle_pack.proofs.session.stats.placed_in.Goals as goal
 

@@ -1,5 +1,5 @@
 use Rattle.std.proofs.Common.{ap, rules}
-use Rattle.rectangle_pack.proofs.BinsLemmas.{accepts_by}
+use Rattle.rectangle_pack.proofs.lemmas.cuts.SoundBins.{accepts_by}
 use Rattle.rectangle_pack.proofs.target_bin.TargetBin.accepts.Goals as goal
 
 pub returns-then-is_inside : goal.returns-then-is_inside

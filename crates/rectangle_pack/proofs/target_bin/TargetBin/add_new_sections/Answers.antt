@@ -2,7 +2,7 @@ use Rattle.std.proofs.Common.{subst, sym}
 use Rattle.std.specs.Prelude.{All, filter}
 use Rattle.rectangle_pack.specs.Boxes.{has_cells}
 use Rattle.rectangle_pack.specs.Bins.{IsAccepted}
-use Rattle.rectangle_pack.proofs.BinsLemmas.{IsSound-append}
+use Rattle.rectangle_pack.proofs.lemmas.cuts.SoundBins.{IsSound-append}
 use Rattle.rectangle_pack.proofs.target_bin.TargetBin.add_new_sections.Goals as goal
 
 pub invariant_of-self-2 : goal.invariant_of-self-2

@@ -1,8 +1,8 @@
 use Rattle.std.proofs.Common.{length, ◌≡◌, ◌≤◌, subst}
 use Rattle.rectangle_pack.specs.Counting.{times_filled}
 use Rattle.rectangle_pack.specs.Keeping.{KeepCells}
-use Rattle.rectangle_pack.proofs.JoiningLemmas.{IsSwept-cells, IsSwept-shorter, IsSwept-KeepCells, IsSwept-sound}
-use Rattle.rectangle_pack.proofs.SweepLemmas.{sweep_leaves_no_face}
+use Rattle.rectangle_pack.proofs.lemmas.joining.Joins.{IsSwept-cells, IsSwept-shorter, IsSwept-KeepCells, IsSwept-sound}
+use Rattle.rectangle_pack.proofs.lemmas.joining.Sweeps.{sweep_leaves_no_face}
 use Rattle.rectangle_pack.proofs.target_bin.TargetBin.coalesce_all.Goals as goal
 
 pub invariant_of-self : goal.invariant_of-self

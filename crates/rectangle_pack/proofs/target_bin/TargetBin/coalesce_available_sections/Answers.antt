@@ -1,7 +1,7 @@
 use Rattle.std.proofs.Common.{length, ◌≡◌, ◌≤◌, subst}
 use Rattle.rectangle_pack.specs.Counting.{times_filled}
 use Rattle.rectangle_pack.specs.Keeping.{KeepCells}
-use Rattle.rectangle_pack.proofs.JoiningLemmas.{IsJoined-cells, IsJoined-shorter, IsJoined-KeepCells, IsJoined-sound}
+use Rattle.rectangle_pack.proofs.lemmas.joining.Joins.{IsJoined-cells, IsJoined-shorter, IsJoined-KeepCells, IsJoined-sound}
 use Rattle.rectangle_pack.proofs.target_bin.TargetBin.coalesce_available_sections.Goals as goal
 
 pub invariant_of-self : goal.invariant_of-self

@@ -1,7 +1,7 @@
 use Rattle.std.specs.Prelude.{Ok, Some, None}
 use Rattle.std.specs.declared.alloc.AllocError.{AllocError}
 use Rattle.rectangle_pack.specs.Closures.{answers}
-use Rattle.rectangle_pack.proofs.BoundLemmas.{counted-le}
+use Rattle.rectangle_pack.proofs.lemmas.packing.FitTests.{counted-le}
 use Rattle.rectangle_pack.proofs.target_bin.TargetBin.place_all.Goals as goal
 
 pub returns-then-done-clause-most : goal.returns-then-done-clause-most

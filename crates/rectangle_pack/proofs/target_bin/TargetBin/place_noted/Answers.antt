@@ -3,8 +3,8 @@ use Rattle.std.specs.declared.alloc.AllocError.{AllocError}
 use Rattle.std.proofs.Common.{subst}
 use Rattle.rectangle_pack.specs.Bins.{Held}
 use Rattle.rectangle_pack.specs.private.TrialNotes.{IsNotedAnswer}
-use Rattle.rectangle_pack.proofs.StepsLemmas.{IsSound-tried}
-use Rattle.rectangle_pack.proofs.TrialLemmas.{IsNotedAnswer-tried, LeavesNotes-tried}
+use Rattle.rectangle_pack.proofs.lemmas.trial.Steps.{IsSound-tried}
+use Rattle.rectangle_pack.proofs.lemmas.trial.StepsByIndex.{IsNotedAnswer-tried, LeavesNotes-tried}
 use Rattle.rectangle_pack.proofs.target_bin.TargetBin.place_noted.Goals as goal
 
 pub invariant_of-self-2 : goal.invariant_of-self-2

@@ -1,6 +1,6 @@
 use Rattle.std.proofs.Common.{subst, sym}
 use Rattle.rectangle_pack.specs.Bins.{IsAccepted}
-use Rattle.rectangle_pack.proofs.BinsLemmas.{IsSound-push}
+use Rattle.rectangle_pack.proofs.lemmas.cuts.SoundBins.{IsSound-push}
 use Rattle.rectangle_pack.proofs.target_bin.TargetBin.push_available_bin_section_unchecked.Goals as goal
 
 pub invariant_of-self-2 : goal.invariant_of-self-2

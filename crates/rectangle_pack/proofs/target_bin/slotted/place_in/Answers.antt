@@ -5,10 +5,10 @@ use Rattle.rectangle_pack.specs.Boxes.{Cuboid}
 use Rattle.rectangle_pack.specs.Bins.{Bin}
 use Rattle.rectangle_pack.specs.private.Slots.{sections_of}
 use Rattle.rectangle_pack.specs.private.TrialNotes.{IsTried, IsNotedAnswer}
-use Rattle.rectangle_pack.proofs.BoundLemmas.{grown-tried}
-use Rattle.rectangle_pack.proofs.SlotsLemmas.{length-sections_of}
-use Rattle.rectangle_pack.proofs.StepsLemmas.{IsSound-tried}
-use Rattle.rectangle_pack.proofs.TrialLemmas.{IsNotedAnswer-tried, LeavesNotes-none}
+use Rattle.rectangle_pack.proofs.lemmas.packing.FitTests.{grown-tried}
+use Rattle.rectangle_pack.proofs.lemmas.trial.Slots.{length-sections_of}
+use Rattle.rectangle_pack.proofs.lemmas.trial.Steps.{IsSound-tried}
+use Rattle.rectangle_pack.proofs.lemmas.trial.StepsByIndex.{IsNotedAnswer-tried, LeavesNotes-none}
 use Rattle.rectangle_pack.proofs.target_bin.slotted.place_in.Goals as goal
 
 pub returns-clause-answer : goal.returns-clause-answer

@@ -4,8 +4,8 @@ use Rattle.std.specs.Option.{is_some, option_copied_mut}
 use Rattle.std.specs.Map.{lookup}
 use Rattle.std.specs.BTreeMap.{is_at}
 use Rattle.std.proofs.lemmas.Map.{keys-set_value}
-use Rattle.rectangle_pack.proofs.MapsLemmas.{is_some-option_map}
-use Rattle.rectangle_pack.proofs.CheckoutLemmas.{stays, CanCheckIn-written, in_use-out}
+use Rattle.rectangle_pack.proofs.lemmas.util.Maps.{is_some-option_map}
+use Rattle.rectangle_pack.proofs.lemmas.packing.Checkout.{stays, CanCheckIn-written, in_use-out}
 use Rattle.rectangle_pack.proofs.pack.checkout.PackingBins.check_out.Goals as goal
 
 pub unwrap-bin-requires : goal.unwrap-bin-requires

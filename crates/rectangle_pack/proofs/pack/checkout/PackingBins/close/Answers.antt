@@ -5,8 +5,8 @@ use Rattle.std.specs.Map.{lookup}
 use Rattle.std.specs.BTreeMap.{is_at}
 use Rattle.std.proofs.lemmas.List.{length-append}
 use Rattle.std.proofs.lemmas.Map.{keys-set_value}
-use Rattle.rectangle_pack.proofs.MapsLemmas.{is_some-option_map}
-use Rattle.rectangle_pack.proofs.CheckoutLemmas.{CanCheckIn-written, checked_in-none, left_of-in_use, checked_in-last}
+use Rattle.rectangle_pack.proofs.lemmas.util.Maps.{is_some-option_map}
+use Rattle.rectangle_pack.proofs.lemmas.packing.Checkout.{CanCheckIn-written, checked_in-none, left_of-in_use, checked_in-last}
 use Rattle.rectangle_pack.proofs.pack.checkout.PackingBins.close.Goals as goal
 
 pub loop-open-init : goal.loop-open-init

@@ -1,4 +1,4 @@
-use Rattle.rectangle_pack.proofs.CheckoutLemmas.{stays}
+use Rattle.rectangle_pack.proofs.lemmas.packing.Checkout.{stays}
 use Rattle.rectangle_pack.proofs.pack.checkout.PackingBins.make_room.Goals as goal
 
 pub returns-clause-distinct : goal.returns-clause-distinct

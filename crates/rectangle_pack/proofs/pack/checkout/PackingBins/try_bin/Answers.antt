@@ -5,22 +5,24 @@ use Rattle.std.specs.Map.{lookup}
 use Rattle.std.specs.BTreeMap.{is_at}
 use Rattle.std.proofs.lemmas.List.{get_or_default}
 use Rattle.std.proofs.lemmas.Map.{keys-set_value}
-use Rattle.rectangle_pack.proofs.MapsLemmas.{is_some-option_map}
-use Rattle.rectangle_pack.proofs.CheckoutLemmas.{stays, CanCheckIn-written, IsTried-out, IsTried-map}
+use Rattle.rectangle_pack.proofs.lemmas.util.Maps.{is_some-option_map}
+use Rattle.rectangle_pack.proofs.lemmas.packing.Checkout.{stays, CanCheckIn-written, IsTried-out, IsTried-map}
 use Rattle.rectangle_pack.proofs.pack.checkout.PackingBins.try_bin.Goals as goal
 
 pub returns-then-index-len : goal.returns-then-index-len
-returns-then-index-len g c = record { tried = λ o is.
-    let v = c.index_mut.result.now in
-    let w = c.place_noted.new.self in
-    let same = (stays c.self.view_is).2 in
-    let at : o ≡ get_or c.self.inside.order.now c.args.index o = rw same is in
-    let in_order : c.args.index < length c.self.inside.order.now = rw same c.requires.in_order in
-    let within : c.args.index < length c.self.inside.out.items = omega (arith, c.if-index-len.true, c.len.ensures, c.self.inside.out.ok.0) in
-    let tried = IsTried-out g.met.B.Ord.total _ _ c.self.inside.bins.entries c.args.index o v w c.self.invariant.distinct within in_order at
-    c.index_mut.ensures.value
-    (rw at (c.self.invariant.found c.args.index o in_order)) c.place_noted.ensures.sound c.place_noted.ensures.sound_now c.place_noted.ensures.room in
-    rw (← c.self.view_is) (v, w, tried, c.place_noted.ensures.answer, c.place_noted.ensures.noted) }
+returns-then-index-len g c = record {
+  tried = λ o is.
+      let v = c.index_mut.result.now in
+      let w = c.place_noted.new.self in
+      let same = (stays c.self.view_is).2 in
+      let at : o ≡ get_or c.self.inside.order.now c.args.index o = rw same is in
+      let in_order : c.args.index < length c.self.inside.order.now = rw same c.requires.in_order in
+      let within : c.args.index < length c.self.inside.out.items = omega (arith, c.if-index-len.true, c.len.ensures, c.self.inside.out.ok.0) in
+      let tried = IsTried-out g.met.B.Ord.total _ _ c.self.inside.bins.entries c.args.index o v w c.self.invariant.distinct within in_order at
+      c.index_mut.ensures.value
+      (rw at (c.self.invariant.found c.args.index o in_order)) c.place_noted.ensures.sound c.place_noted.ensures.sound_now c.place_noted.ensures.room in
+      rw (← c.self.view_is) (v, w, tried, c.place_noted.ensures.answer, c.place_noted.ensures.noted);
+}
 
 pub bounds-order-index : goal.bounds-order-index
 bounds-order-index g c = rw (stays c.self.view_is).2 c.requires.in_order
@@ -45,22 +47,24 @@ invariant_of-self-2 g c =
     c.self.invariant.within c.self.invariant)
 
 pub returns : goal.returns
-returns g c = record { tried = λ o is.
-    let here = c.index-order-index.result in
-    let v = c.unwrap-bin.result.now in
-    let w = c.place_noted-2.new.self in
-    let same = (stays c.self.view_is).2 in
-    let in_order : c.args.index < length c.self.inside.order.now = rw same c.requires.in_order in
-    let one : here ≡ o = c.index-order-index.is ∙ get_or_default c.self.inside.order.now c.args.index here o in_order ∙ sym (rw same is) in
-    let past : length c.self.inside.out.items ≤ c.args.index = omega (arith, c.if-index-len.false, c.len.ensures, c.self.inside.out.ok.0) in
-    let found : lookup (is_at (g.B.Ord.cmp here.1)) c.self.inside.bins.entries ≡ Some v =
-    sym c.get_mut.ensures.value ∙ ap option_copied_mut c.unwrap-bin.ensures in
-    let tried = IsTried-map g.met.B.Ord.total c.self.inside.order.now c.self.inside.out.items c.self.inside.bins.entries c.args.index here v w
-    c.self.invariant.distinct past in_order c.index-order-index.is found c.place_noted-2.ensures.sound c.place_noted-2.ensures.room in
-    rw (← one, ← c.self.view_is) (
-      record { own = v; now = v.bin },
-      record { own = w; now = w.bin },
-      rw (c.get_mut.follows.holds w).0 tried,
-      c.place_noted-2.ensures.answer,
-      c.place_noted-2.ensures.noted,
-    ) }
+returns g c = record {
+  tried = λ o is.
+      let here = c.index-order-index.result in
+      let v = c.unwrap-bin.result.now in
+      let w = c.place_noted-2.new.self in
+      let same = (stays c.self.view_is).2 in
+      let in_order : c.args.index < length c.self.inside.order.now = rw same c.requires.in_order in
+      let one : here ≡ o = c.index-order-index.is ∙ get_or_default c.self.inside.order.now c.args.index here o in_order ∙ sym (rw same is) in
+      let past : length c.self.inside.out.items ≤ c.args.index = omega (arith, c.if-index-len.false, c.len.ensures, c.self.inside.out.ok.0) in
+      let found : lookup (is_at (g.B.Ord.cmp here.1)) c.self.inside.bins.entries ≡ Some v =
+      sym c.get_mut.ensures.value ∙ ap option_copied_mut c.unwrap-bin.ensures in
+      let tried = IsTried-map g.met.B.Ord.total c.self.inside.order.now c.self.inside.out.items c.self.inside.bins.entries c.args.index here v w
+      c.self.invariant.distinct past in_order c.index-order-index.is found c.place_noted-2.ensures.sound c.place_noted-2.ensures.room in
+      rw (← one, ← c.self.view_is) (
+        record { own = v; now = v.bin },
+        record { own = w; now = w.bin },
+        rw (c.get_mut.follows.holds w).0 tried,
+        c.place_noted-2.ensures.answer,
+        c.place_noted-2.ensures.noted,
+      );
+}

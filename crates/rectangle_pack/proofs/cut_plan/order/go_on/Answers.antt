@@ -1,0 +1,21 @@
+use Rattle.std.proofs.Common.{leb, ltb, ◌≡◌, ◌<◌, ◌≤◌, ◌⊎◌, inl, inr, ap, arith}
+use Rattle.std.proofs.lemmas.Bool.{or_cases, leb-true, ltb-true}
+use Rattle.rectangle_pack.specs.declared.span.Span.{Span}
+use Rattle.rectangle_pack.specs.Boxes.{start}
+use Rattle.rectangle_pack.proofs.lemmas.cut_plan.Gaps.{IsClosedBelow-more}
+use Rattle.rectangle_pack.proofs.cut_plan.order.go_on.Goals as goal
+
+pub returns-then-run-of : goal.returns-then-run-of
+returns-then-run-of c boxes there closed =
+    let a = c.args.axis in
+    let whole = c.args.whole.now in
+    let e = c.args.entry.now in
+    let run = c.of-run.result in
+    let begin : run.start ≡ start a e = ap (λ (s : Span). s.start) c.of-run.ensures.is in
+    let first : c.of.result.start ≡ start a whole = ap (λ (s : Span). s.start) c.of.ensures.is in
+    let early : (start a e ≤ start a whole) ⊎ (start a e < c.args.place) =
+    elim (or_cases (leb run.start c.of.result.start) (ltb run.start c.args.place) c.if-run-of.true) [
+      | inl t ↦ inl (omega (arith, leb-true run.start c.of.result.start t))
+      | inr t ↦ inr (omega (arith, ltb-true run.start c.args.place t))
+    ] in
+    rw (c.max.ensures, c.end.ensures, c.of-run.ensures.ends) (IsClosedBelow-more a whole boxes c.args.place e there c.requires.cells early closed)

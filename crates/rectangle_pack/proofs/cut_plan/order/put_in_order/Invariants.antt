@@ -1,0 +1,14 @@
+use Rattle.std.proofs.Common.{◌<◌, ◌-◌, length}
+use Rattle.std.specs.List.Sorted.{IsPermutation}
+use Rattle.rectangle_pack.specs.private.CutPlans.{AreOrdered}
+use Rattle.rectangle_pack.proofs.cut_plan.order.put_in_order.Given as goal
+
+abbrev pub invariant-loop-count : goal.invariant-loop-count
+invariant-loop-count l = record {
+  some : 0 < l.count;
+  permutation : IsPermutation l.fn.entries l.entries;
+  ordered : AreOrdered l.ordered l.entries;
+}
+
+abbrev pub decreases-loop-count : goal.decreases-loop-count
+decreases-loop-count l = length l.fn.entries - l.count

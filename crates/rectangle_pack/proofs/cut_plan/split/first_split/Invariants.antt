@@ -1,0 +1,11 @@
+use Rattle.std.specs.List.Sorted.{IsPermutation}
+use Rattle.rectangle_pack.specs.private.CutPlans.{IsFilled, AreOrdered, AreClosed}
+use Rattle.rectangle_pack.proofs.cut_plan.split.first_split.Given as goal
+
+abbrev pub invariant-loop-axis : goal.invariant-loop-axis
+invariant-loop-axis l = record {
+  permutation : IsPermutation l.fn.entries l.entries;
+  filled : IsFilled l.whole l.entries;
+  ordered : AreOrdered l.ordered l.entries;
+  closed : AreClosed l.axis-index l.whole l.entries;
+}

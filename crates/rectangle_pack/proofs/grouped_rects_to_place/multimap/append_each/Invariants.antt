@@ -1,0 +1,15 @@
+use Rattle.std.proofs.Common.{◌≡◌, ◌+◌, ◌<◌, length, take}
+use Rattle.std.specs.Prelude.{All, Contains, reverse}
+use Rattle.std.specs.BTreeMap.{get, IsOrdered}
+use Rattle.rectangle_pack.specs.Groups.{lists_of}
+use Rattle.rectangle_pack.specs.private.Lists.{times, AreAppended, TakesBack}
+use Rattle.rectangle_pack.proofs.grouped_rects_to_place.multimap.append_each.Given as goal
+
+abbrev pub invariant-loop-i : goal.invariant-loop-i
+invariant-loop-i g l = record {
+  left : length l.items.items + l.i ≡ length l.keys;
+  given : All (Contains l.fn.items.items) l.items.items;
+  added : (q : g.row.K.Denot) → AreAppended l.fn.items.items (times g.K.Ord.cmp (take l.i l.keys) q) (get g.K.Ord.cmp l.fn.map q) (get g.K.Ord.cmp l.map q);
+  back : TakesBack g.K.Ord.cmp (reverse (take l.i l.keys)) (lists_of l.map.entries) (lists_of l.fn.map.entries);
+  ordered : 0 < l.i → IsOrdered g.K.Ord.cmp l.map;
+}

@@ -1,0 +1,12 @@
+use Rattle.std.proofs.Common.{List, take}
+use Rattle.std.specs.Prelude.{reverse}
+use Rattle.rectangle_pack.specs.Groups.{lists_of}
+use Rattle.rectangle_pack.specs.private.Lists.{TakesBack}
+use Rattle.rectangle_pack.proofs.grouped_rects_to_place.multimap.take_back.Given as goal
+
+abbrev pub invariant-loop-i : goal.invariant-loop-i
+invariant-loop-i g l = record {
+  some : (start : List (g.row.K.Denot × List g.row.T.Denot)) × TakesBack g.K.Ord.cmp (reverse (take l.i l.keys)) (lists_of l.map.entries) start;
+  each : (start : List (g.row.K.Denot × List g.row.T.Denot)) → TakesBack g.K.Ord.cmp (reverse l.keys) (lists_of l.fn.map.entries) start
+      → TakesBack g.K.Ord.cmp (reverse (take l.i l.keys)) (lists_of l.map.entries) start;
+}

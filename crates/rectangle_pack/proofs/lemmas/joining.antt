@@ -1,0 +1,3 @@
+-- Joins of sections. Read Joins first: two that share a face, and what joining keeps. The main lemma is in Sweeps: a sweep leaves no two that share a face.
+pub mod Joins
+pub mod Sweeps

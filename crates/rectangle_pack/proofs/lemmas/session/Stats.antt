@@ -1,0 +1,74 @@
+-- What the boxes that stand in a bin become with one record more, and what they add up to with the free sections.
+use Rattle.std.proofs.Common.{◌≡◌, ℕ, suc, ◌+◌, ◌<◌, ◌≤◌, List, [], ◌∷◌, ◌++◌, Bool, true, cond, length, take, drop, ap, sym, subst, ◌∙◌, arith, get_or, append_assoc}
+use Rattle.std.specs.Prelude.{Some, filter}
+use Rattle.std.specs.declared.cmp.Ordering.{Ordering}
+use Rattle.std.specs.Ordering.{is_eq}
+use Rattle.std.specs.Map.{lookup}
+use Rattle.std.specs.BTreeMap.{is_at}
+use Rattle.std.proofs.Math.Seq.{split_at}
+use Rattle.std.proofs.lemmas.List.{length-append, length-take, length-map, take_more}
+use Rattle.std.proofs.lemmas.List.Elements.{filter-append}
+use Rattle.std.proofs.lemmas.List.Sums.{sum_by-cons, sum_by-append, length-filter, count_by-le-length}
+use Rattle.rectangle_pack.specs.declared.session.command.Outstanding.{Outstanding}
+use Rattle.rectangle_pack.specs.Boxes.{Cuboid, has_cells, volume_of}
+use Rattle.rectangle_pack.specs.Bins.{Held}
+use Rattle.rectangle_pack.specs.Counting.{total_volume}
+use Rattle.rectangle_pack.specs.Packing.{bins_of}
+use Rattle.rectangle_pack.specs.Session.{IsSession, standing_in}
+use Rattle.rectangle_pack.proofs.lemmas.cuts.CoverVolumes.{CoverBin-volume}
+use Rattle.rectangle_pack.proofs.lemmas.session.Keeps.{Some-bins_of, standing_in-record}
+
+total_volume-append : (xs ys : List Cuboid) → total_volume (xs ++ ys) ≡ total_volume xs + total_volume ys
+total_volume-append xs ys = sum_by-append (λ (b : Cuboid). volume_of b.whd) xs ys
+
+-- the volumes of a bin's free sections and of what stands in it add up to the bin's
+pub IsSession-volumes : {Id B : Type 0} (bin_cmp : B → B → Ordering) (bins : List (B × Held)) (records : List (Outstanding Id B)) (next : ℕ) (id : B) (held : Held)
+    → IsSession bin_cmp (record { bins = bins_of bins; records = records; next = next }) → lookup (is_at (bin_cmp id)) bins ≡ Some held
+    → total_volume held.bin.sections + total_volume (standing_in bin_cmp records id) ≡ volume_of held.bin.size
+IsSession-volumes bin_cmp bins records next id held h found =
+    let standing = standing_in bin_cmp records id in
+    omega (
+      arith,
+      total_volume-append held.bin.sections standing,
+      CoverBin-volume (held.bin.sections ++ standing) held.bin.size (h.covered id held.bin (Some-bins_of (is_at (bin_cmp id)) bins held found)),
+    )
+
+-- what stands in the bin before a record that stands there leaves room for it, in volume and in number
+pub standing-before : {Id B : Type 0} (bin_cmp : B → B → Ordering) (records : List (Outstanding Id B)) (i : ℕ) (r : Outstanding Id B) (q : B) → i < length records → r ≡ get_or records i r → is_eq (bin_cmp r.bin q) ≡ true
+    → (total_volume (standing_in bin_cmp (take i records) q) + volume_of r.location.whd ≤ total_volume (standing_in bin_cmp records q)) × (length (standing_in bin_cmp (take i records) q) < length records)
+standing-before {Id} {B} bin_cmp records i r q within is here =
+    let first = take i records in
+    let later = drop (suc i) records in
+    let before = standing_in bin_cmp first q in
+    let after = standing_in bin_cmp later q in
+    let split : records ≡ first ++ r ∷ later = subst (λ (x : Outstanding Id B). records ≡ first ++ x ∷ later) (sym is) (split_at records i r within) in
+    let parts = ap (λ rs. standing_in bin_cmp rs q) split ∙ standing_in-record bin_cmp first r later q true here in
+    let Here : Outstanding Id B → Bool = λ x. is_at (bin_cmp x.bin) q in (
+      omega (arith, ap total_volume parts, total_volume-append before (r.location ∷ after), sum_by-cons (λ (b : Cuboid). volume_of b.whd) r.location after),
+      omega (arith, length-map (filter Here first) (λ (x : Outstanding Id B). x.location), length-filter Here first, count_by-le-length Here first, length-take i records),
+    )
+
+-- one record more, which stands in the bin or does not
+module _ {Id B : Type 0} (bin_cmp : B → B → Ordering) (records : List (Outstanding Id B)) (i : ℕ) (r : Outstanding Id B) (q : B) (b : Bool) (within : i < length records) (is : r ≡ get_or records i r) (here : is_eq (bin_cmp r.bin q) ≡ b) where
+  abbrev first : List Cuboid
+  first = standing_in bin_cmp (take i records) q
+
+  abbrev box : List Cuboid
+  box = cond b (r.location ∷ []) []
+
+  standing_in-more : standing_in bin_cmp (take (i + 1) records) q ≡ first ++ box
+  standing_in-more =
+      ap (λ rs. standing_in bin_cmp rs q) (take_more records i r within ∙ ap (λ (x : Outstanding Id B). take i records ++ x ∷ []) (sym is))
+      ∙ standing_in-record bin_cmp (take i records) r [] q b here
+
+  -- its box is gathered after those before, if it has cells
+  pub gathered-more : (start boxes new : List Cuboid) → boxes ≡ start ++ filter has_cells first → new ≡ boxes ++ filter has_cells box
+      → new ≡ start ++ filter has_cells (standing_in bin_cmp (take (i + 1) records) q)
+  gathered-more start boxes new before now =
+      now ∙ ap (λ l. l ++ filter has_cells box) before ∙ append_assoc start (filter has_cells first) (filter has_cells box)
+      ∙ ap (λ l. start ++ l) (sym (filter-append has_cells first box) ∙ ap (filter has_cells) (sym standing_in-more))
+
+  -- it adds its volume, and one placement
+  pub added-more : (total_volume (standing_in bin_cmp (take (i + 1) records) q) ≡ total_volume first + total_volume box)
+      × (length (standing_in bin_cmp (take (i + 1) records) q) ≡ length first + length box)
+  added-more = (ap total_volume standing_in-more ∙ total_volume-append first box, ap length standing_in-more ∙ length-append first box)

@@ -1,8 +1,0 @@
-use Rattle.std.proofs.Common.{◌≡◌, ◌+◌}
-use Rattle.std.specs.Prelude.{map}
-use Rattle.std.specs.Map.Iter.{deref_pair}
-use Rattle.rectangle_pack.proofs.NumberingLemmas.{entries_in}
-use Rattle.rectangle_pack.proofs.lists.number_after.Given as goal
-
-abbrev pub invariant-loop-list : goal.invariant-loop-list
-invariant-loop-list g l = l.number ≡ l.first + entries_in (map deref_pair l.yielded)

@@ -1,0 +1,86 @@
+use Rattle.std.proofs.Common.{arith, length, ap}
+use Rattle.std.proofs.lemmas.Result.{IfOk-from_err}
+use Rattle.std.proofs.lemmas.Map.Iter.{rest_more}
+use Rattle.std.proofs.Common.{◌≡◌, ℕ, List, subst, sym, ◌∙◌, true}
+use Rattle.std.specs.Prelude.{map, IsSome}
+use Rattle.std.specs.Map.{lookup, keys_of}
+use Rattle.std.specs.List.{IsDistinct}
+use Rattle.std.specs.Ordering.{eq_by_cmp}
+use Rattle.std.proofs.lemmas.Map.Keys.{IsDistinct-from_sorted}
+use Rattle.rectangle_pack.specs.Orders.{IsBinOrder}
+use Rattle.rectangle_pack.specs.Packing.{bins_of, rules_by}
+use Rattle.rectangle_pack.proofs.lemmas.packing.FitTests.{order-differs}
+use Rattle.rectangle_pack.proofs.lemmas.packing.RollBack.{keys-bins}
+use Rattle.std.specs.BTreeMap.{is_at}
+use Rattle.std.proofs.lemmas.List.Sorted.{All-permutation}
+use Rattle.std.specs.Cmp.{Equal-is}
+use Rattle.std.specs.Map.Iter.{deref_pair}
+use Rattle.std.specs.declared.cmp.Ordering.TheVariants.{Equal}
+use Rattle.std.proofs.lemmas.List.{map_push}
+use Rattle.std.proofs.lemmas.Map.Iter.{iter_end}
+use Rattle.rectangle_pack.proofs.lemmas.packing.Orders.{AllZip-more, AllZip-map_left, found-zip}
+use Rattle.rectangle_pack.specs.Bins.{Held}
+use Rattle.rectangle_pack.proofs.pack.order.bin_order.Goals as goal
+
+pub loop-id-preserved : goal.loop-id-preserved
+loop-id-preserved g c =
+    let same : g.B.PartialEq.eq c.in-Some.id.now c.in_ok-clone.field-0 ≡ true = c.requires.bin_ids _ _ c.in_ok-clone.ensures.cases in
+    let equal : g.B.Ord.cmp c.in-Some.id.now c.in_ok-clone.field-0 ≡ Equal = (Equal-is _).0 (sym (g.met.B.Ord.matches_eq _ _) ∙ same) in
+    rw (map_push deref_pair c.loop-id.yielded (c.in-Some.id, c.in-Some.bin), c.in_ok-push.ensures.items)
+    (AllZip-more _ (map deref_pair c.loop-id.yielded) c.loop-id.order.items (deref_pair (c.in-Some.id, c.in-Some.bin))
+    (c.rate.result, c.in_ok-clone.field-0) c.loop-id.invariant (equal, rw (← c.max_size.ensures) c.rate.ensures))
+
+pub returns : goal.returns
+returns g c =
+    let cmp = g.B.Ord.cmp in
+    let may = g.R.Ask.may c.args.rules.now in
+    let bins = c.args.bins.now.entries in
+    let e : map deref_pair c.loop-id.yielded ≡ bins =
+    (iter_end deref_pair _ _ _ _ _ _ c.into_iter-id-iterator.ensures.into_iter_gives.0 c.loop-id.yielded_by c.in-None.is c.next.ensures.steps).0 in
+    let order : IsBinOrder may.rate cmp (bins_of bins) _ = record {
+      unsorted = c.loop-id.order.items;
+      each = rw (← e) (AllZip-map_left _ (λ (x : g.row.B.Denot × Held). (x.0, x.1.bin)) (map deref_pair c.loop-id.yielded) c.loop-id.order.items
+          c.loop-id.invariant);
+      permutation = c.sort_unstable.ensures.permutation;
+      rising = c.sort_unstable.ensures.sorted;
+    } in
+    let distinct : IsDistinct (eq_by_cmp cmp) (keys_of (bins_of bins)) =
+    subst (λ (ks : List g.row.B.Denot). IsDistinct (eq_by_cmp cmp) ks) (sym (keys-bins bins))
+    (IsDistinct-from_sorted cmp (keys_of bins) c.len.ensures.ordered) in
+    record {
+      order = order;
+      found = All-permutation (λ (o : ℕ × g.row.B.Denot). IsSome (lookup (is_at (cmp o.1)) bins)) c.loop-id.order.items _ c.sort_unstable.ensures.permutation
+          (found-zip g.met.B.Ord.total (λ (o : ℕ × g.row.B.Denot). o.1) _ (λ b o r. r.0) bins c.loop-id.order.items (rw e at c.loop-id.invariant));
+      ids = order-differs (rules_by cmp cmp may) g.met.B.Ord.total (bins_of bins) _ distinct order;
+      distinct = distinct;
+    }
+
+pub returns-in_err-order : goal.returns-in_err-order
+returns-in_err-order g c =
+    let r = c.from_residual.result in
+    let e = c.from_residual.ensures.0 in
+    record { order = IfOk-from_err r _ e; found = IfOk-from_err r _ e; ids = IfOk-from_err r _ e; distinct = IfOk-from_err r _ e }
+
+pub returns-in_err-clone : goal.returns-in_err-clone
+returns-in_err-clone g c =
+    let r = c.from_residual-in_err-clone.result in
+    let e = c.from_residual-in_err-clone.ensures.0 in
+    record { order = IfOk-from_err r _ e; found = IfOk-from_err r _ e; ids = IfOk-from_err r _ e; distinct = IfOk-from_err r _ e }
+
+pub returns-in_err-push : goal.returns-in_err-push
+returns-in_err-push g c =
+    let r = c.from_residual-in_err-push.result in
+    let e = c.from_residual-in_err-push.ensures.0 in
+    record { order = IfOk-from_err r _ e; found = IfOk-from_err r _ e; ids = IfOk-from_err r _ e; distinct = IfOk-from_err r _ e }
+
+pub loop-id-init : goal.loop-id-init
+loop-id-init g c = rw c.in_ok-order.ensures.items tt
+
+pub next-requires : goal.next-requires
+next-requires g c = tt
+
+pub rate-requires : goal.rate-requires
+rate-requires g c = c.requires.callable
+
+pub loop-id-smaller : goal.loop-id-smaller
+loop-id-smaller g c = omega (arith, ap length (rest_more deref_pair _ _ _ _ c.in-Some.is c.next.ensures.steps))

@@ -1,9 +1,0 @@
-use Rattle.std.proofs.Common.{arith, ap, ◌∙◌}
-use Rattle.std.proofs.lemmas.List.{take_all}
-use Rattle.rectangle_pack.specs.private.Slots.{sections_of}
-use Rattle.rectangle_pack.proofs.SlotJournalLemmas.{sections_of-full}
-use Rattle.rectangle_pack.proofs.section_slots.SectionSlots.from_slice.Goals as goal
-
-pub returns : goal.returns
-returns g c =
-    ap sections_of c.loop-section.invariant.all ∙ sections_of-full _ ∙ take_all c.loop-section.section-index c.args.sections.now (omega arith)

@@ -1,0 +1,28 @@
+use Rattle.std.proofs.Common.{◌≡◌, sym, ◌∙◌, rules, true, ◌++◌, ◌∷◌, []}
+use Rattle.std.specs.BTreeMap.{is_at}
+use Rattle.std.proofs.lemmas.Result.{on_ok_weaker, on_err_weaker}
+use Rattle.std.proofs.lemmas.Map.Steps.{set_value_same}
+use Rattle.rectangle_pack.specs.Boxes.{has_cells}
+use Rattle.rectangle_pack.specs.Packing.{bins_of}
+use Rattle.rectangle_pack.specs.Session.{GivesBack}
+use Rattle.rectangle_pack.proofs.lemmas.packing.RollBack.{bins_of-written}
+use Rattle.rectangle_pack.proofs.lemmas.session.Keeps.{Some-bins_of}
+use Rattle.rectangle_pack.proofs.session.outstanding.give_back.Goals as goal
+
+pub returns : goal.returns
+returns g c =
+    let test = is_at (g.B.Ord.cmp c.args.id.now) in
+    let old = c.args.bins.now.entries in
+    let v = c.in-Some.bin.now in
+    let w = c.push_available_bin_section_unchecked.new.self in
+    let written = (c.get_mut.follows.holds w).0 in
+    let pushed = c.push_available_bin_section_unchecked.ensures in
+    let found = Some-bins_of test old v (sym c.in-Some.ensures.value) in
+    let section : c.section_at-section.result ≡ c.args.location = c.section_at-section.ensures in
+    let full : has_cells c.args.location ≡ true = search rules in
+    record {
+      ok = on_ok_weaker {Q = GivesBack g.B.Ord.cmp (bins_of old) c.args.id.now c.args.location (bins_of (c.get_mut.follows.lender w).entries)} _
+          (λ (more : w.bin ≡ record v.bin { sections = v.bin.sections ++ c.args.location ∷ [] }). rw full (v.bin, found, bins_of-written test old _ w _ written more)) (rw section at pushed.ok);
+      err = on_err_weaker {Q = (has_cells c.args.location ≡ true) × (bins_of (c.get_mut.follows.lender w).entries ≡ bins_of old)} _
+          (λ same. (full, bins_of-written test old _ w _ written same ∙ set_value_same test (bins_of old) v.bin found)) pushed.err;
+    }

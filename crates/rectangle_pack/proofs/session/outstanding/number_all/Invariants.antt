@@ -1,0 +1,13 @@
+use Rattle.std.proofs.Common.{◌≡◌, ◌+◌, ◌++◌, ◌≤◌, length, vec_len, vec_capacity}
+use Rattle.std.specs.Vec.Iter.{into_iter_len}
+use Rattle.rectangle_pack.specs.Session.{numbered}
+use Rattle.rectangle_pack.proofs.session.outstanding.number_all.Given as goal
+
+abbrev pub invariant-loop-placement : goal.invariant-loop-placement
+invariant-loop-placement g l = record {
+  records : l.outstanding.items ≡ l.fn.outstanding.items ++ numbered l.fn.first l.yielded;
+  number : l.number ≡ l.fn.first + length l.yielded;
+  len : vec_len l.outstanding ≡ vec_len l.fn.outstanding + length l.yielded;
+  room : vec_capacity l.fn.outstanding ≤ vec_capacity l.outstanding;
+  left : length l.yielded + into_iter_len l.placement-iterator ≡ vec_len l.fn.placements;
+}

@@ -1,0 +1,57 @@
+use Rattle.std.proofs.Common.{arith, rules, ap, sym, ◌∙◌}
+use Rattle.std.specs.Prelude.{Some, None}
+use Rattle.rectangle_pack.specs.private.Slots.{Slots}
+use Rattle.rectangle_pack.proofs.lemmas.trial.Slots.{NoneHolds-most, NoneHolds-skip, NoneHolds-empty, NoneHolds-section, IsLastHolding-at, drop-slot}
+use Rattle.rectangle_pack.proofs.target_bin.section_slots.SectionSlots.last_holding.Goals as goal
+
+pub overflow_add-tests : goal.overflow_add-tests
+overflow_add-tests g c =
+    let slots = c.self.inside.slots.items in
+    let stretch = rw (c.whd-size.ensures, ← ap (λ (v : Slots). v.all) c.self.view_is) at c.in-Some.ensures.none in
+    let less = c.in-Some.ensures.begin in
+    let skipped = NoneHolds-skip slots c.in-Some.begin c.loop-end.end _ _ _ (omega (arith, less)) stretch c.loop-end.invariant.none in
+    omega (arith, NoneHolds-most slots c.in-Some.begin _ _ skipped)
+
+pub loop-end-preserved-in-Some : goal.loop-end-preserved-in-Some
+loop-end-preserved-in-Some g c =
+    let slots = c.self.inside.slots.items in
+    let stretch = rw (c.whd-size.ensures, ← ap (λ (v : Slots). v.all) c.self.view_is) at c.in-Some.ensures.none in
+    let less = c.in-Some.ensures.begin in
+    record {
+      within = omega (arith, less);
+      none = NoneHolds-skip slots c.in-Some.begin c.loop-end.end _ _ _ (omega (arith, less)) stretch c.loop-end.invariant.none;
+    }
+
+pub overflow_add-tests-in-Some-index : goal.overflow_add-tests-in-Some-index
+overflow_add-tests-in-Some-index g c =
+    omega (arith, NoneHolds-most c.self.inside.slots.items c.loop-end.end _ _ c.loop-end.invariant.none)
+
+pub returns-then-holds-clause-found : goal.returns-then-holds-clause-found
+returns-then-holds-clause-found g c =
+    let slots = c.self.inside.slots.items in
+    let last = c.loop-end.end in
+    let read = sym c.in-Some-index.is ∙ c.index.ensures in
+    let here = drop-slot slots last (Some c.in-Some-index.section) c.index.result.now c.loop-end-test.true c.loop-end.invariant.within read in
+    rw (← ap (λ (v : Slots). v.all) c.self.view_is)
+    (IsLastHolding-at slots last c.in-Some-index.section _ _ c.loop-end.invariant.within here (search rules) c.loop-end.invariant.none)
+
+pub loop-end-preserved-else-holds : goal.loop-end-preserved-else-holds
+loop-end-preserved-else-holds g c =
+    let slots = c.self.inside.slots.items in
+    let last = c.loop-end.end in
+    let read = sym c.in-Some-index.is ∙ c.index.ensures in
+    let here = drop-slot slots last (Some c.in-Some-index.section) c.index.result.now c.loop-end-test.true c.loop-end.invariant.within read in
+    record {
+      within = omega arith;
+      none = NoneHolds-section _ _ c.in-Some-index.section _ _ here (search rules) c.loop-end.invariant.none;
+    }
+
+pub loop-end-preserved : goal.loop-end-preserved
+loop-end-preserved g c =
+    let slots = c.self.inside.slots.items in
+    let read = sym c.in_default-index.is ∙ c.index.ensures in
+    let here = drop-slot slots c.loop-end.end None c.index.result.now c.loop-end-test.true c.loop-end.invariant.within read in
+    record {
+      within = omega arith;
+      none = NoneHolds-empty _ _ _ _ here c.loop-end.invariant.none;
+    }

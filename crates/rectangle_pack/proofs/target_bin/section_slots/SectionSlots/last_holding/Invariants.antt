@@ -1,0 +1,12 @@
+use Rattle.std.proofs.Common.{◌≤◌, length, drop}
+use Rattle.rectangle_pack.specs.private.Slots.{NoneHolds}
+use Rattle.rectangle_pack.proofs.target_bin.section_slots.SectionSlots.last_holding.Given as goal
+
+abbrev pub invariant-loop-end : goal.invariant-loop-end
+invariant-loop-end g l = record {
+  within : l.end ≤ length l.self-inside.slots.items;
+  none : NoneHolds (drop l.end l.self-inside.slots.items) l.member l.tests;
+}
+
+abbrev pub decreases-loop-end : goal.decreases-loop-end
+decreases-loop-end g l = l.end

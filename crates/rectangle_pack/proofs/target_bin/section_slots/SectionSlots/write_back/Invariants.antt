@@ -1,0 +1,11 @@
+use Rattle.std.proofs.Common.{◌≡◌, take}
+use Rattle.std.specs.Vec.{vec_capacity}
+use Rattle.rectangle_pack.specs.private.Slots.{sections_of}
+use Rattle.rectangle_pack.proofs.target_bin.section_slots.SectionSlots.write_back.Given as goal
+
+abbrev pub invariant-loop-slot : goal.invariant-loop-slot
+invariant-loop-slot g l = record {
+  items : l.sections.items ≡ sections_of (take l.slot-index l.slot-items);
+  all : l.slot-items ≡ l.self.all;
+  capacity : vec_capacity l.sections ≡ vec_capacity l.fn.sections;
+}

@@ -1,0 +1,7 @@
+use Rattle.std.proofs.Common.{length}
+use Rattle.std.specs.List.{AllWithin}
+use Rattle.rectangle_pack.specs.Boxes.{Holds}
+use Rattle.rectangle_pack.proofs.target_bin.trial.plain.newest.Given as goal
+
+abbrev pub invariant-loop-i : goal.invariant-loop-i
+invariant-loop-i l = AllWithin (λ s. ¬ Holds s l.member) l.sections l.i (length l.sections)

@@ -1,7 +1,0 @@
-use Rattle.std.proofs.Common.{length}
-use Rattle.std.specs.List.{AllWithin}
-use Rattle.rectangle_pack.specs.Boxes.{Holds}
-use Rattle.rectangle_pack.proofs.trial.plain.newest.Given as goal
-
-abbrev pub invariant-loop-i : goal.invariant-loop-i
-invariant-loop-i l = AllWithin (λ s. ¬ Holds s l.member) l.sections l.i (length l.sections)

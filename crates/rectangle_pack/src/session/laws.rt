@@ -1,0 +1,38 @@
+//! The law of a session's transitions.
+ghost use Rattle.std.specs.Prelude.{◌≤◌, List};
+ghost use Rattle.rectangle_pack.specs.Closures.{answers};
+ghost use Rattle.rectangle_pack.specs.Packing.{rules_by};
+ghost use Rattle.rectangle_pack.specs.declared.session.command.Command.{Command};
+ghost use Rattle.rectangle_pack.specs.declared.session.command.Reply.{Reply};
+ghost use Rattle.rectangle_pack.specs.Session.{State, IsSession, IsTransition, IsRun};
+
+use crate::grouped_rects_to_place::Group;
+use crate::width_height_depth::WidthHeightDepth;
+use std::alloc::Allocator;
+use std::cmp::Ordering;
+
+/// A law: what holds of a session always holds after each transition of its machine, and after each
+/// run: each bin is covered, by boxes that are from straight cuts of it until it is coalesced. And
+/// the next number does not fall, so that no number is given twice.
+pub fn transitions_keep_sessions<Id, BinId, GroupId, H, C, A>(heuristic: &H, comparison: &C)
+where
+    Id: Ord,
+    BinId: Ord,
+    GroupId: Ord,
+    H: Fn(WidthHeightDepth) -> u128,
+    C: Fn([WidthHeightDepth; 3], [WidthHeightDepth; 3], &H) -> Ordering,
+    A: Allocator + Copy,
+    ensures transition { let groups = ⟦<Group<GroupId, Id> as Ord>⟧.cmp in
+        let rules = rules_by Id.cmp BinId.cmp (answers H.Fn C.Fn heuristic.now comparison.now) in
+        (command : Command Id BinId GroupId A) (reply : Reply) (old new : State Id BinId) →
+        IsTransition groups rules command old reply new →
+        IsSession BinId.cmp old →
+        IsSession BinId.cmp new × (old.next ≤ new.next) }
+    ensures run { let groups = ⟦<Group<GroupId, Id> as Ord>⟧.cmp in
+        let rules = rules_by Id.cmp BinId.cmp (answers H.Fn C.Fn heuristic.now comparison.now) in
+        (commands : List (Command Id BinId GroupId A)) (replies : List Reply) →
+        (old new : State Id BinId) →
+        IsRun (IsTransition groups rules) commands old replies new →
+        IsSession BinId.cmp old →
+        IsSession BinId.cmp new × (old.next ≤ new.next) }
+{}

@@ -1,0 +1,85 @@
+//! The outstanding placements of a session, and a box given back to its bin.
+ghost use Rattle.std.specs.Prelude.{◌≡◌, ◌≢◌, ◌+◌, ◌≤◌, ◌<◌, ◌^◌, ◌++◌, length, OnOk, OnErr, IfSome, IfNone, IsSome, All, AllPairs, slice_index_or, vec_len, true};
+ghost use Rattle.std.specs.BTreeMap.{get};
+ghost use Rattle.std.specs.Vec.{vec_capacity};
+ghost use Rattle.rectangle_pack.specs.declared.session.command.Outstanding.{Outstanding};
+ghost use Rattle.rectangle_pack.specs.Bins.{IsAccepted};
+ghost use Rattle.rectangle_pack.specs.Boxes.{has_cells};
+ghost use Rattle.rectangle_pack.specs.Packing.{bins_of};
+ghost use Rattle.rectangle_pack.specs.Session.{GivesBack, numbered};
+
+use crate::bin_section::BinSection;
+use crate::pack::Placement;
+use crate::packed_location::PackedLocation;
+use crate::session::command::Outstanding;
+use crate::target_bin::TargetBin;
+use std::alloc::{AllocError, Allocator};
+use std::collections::BTreeMap;
+
+// Where the placement of this number is; the numbers rise.
+pub(crate) fn position_of<Id, B>(outstanding: &[Outstanding<Id, B>], number: u64) -> Option<usize>
+    requires rising { AllPairs (λ a b. a.number < b.number) outstanding.now }
+    ensures some { IfSome result
+        (λ i.
+        (i < length outstanding.now) ×
+        ((d : Outstanding Id B) → (slice_index_or outstanding.now i d).number ≡ number)) }
+    ensures none { IfNone result (All (λ o. o.number ≢ number) outstanding.now) }
+{
+    outstanding
+        .binary_search_by_key(&number, |placement| placement.number)
+        .ok()
+}
+
+// The box that stands at a location.
+pub(crate) fn section_at(location: &PackedLocation) -> BinSection
+    ensures { result ≡ location.now }
+{
+    BinSection::new(location.x(), location.y(), location.z(), location.whd())
+}
+
+// Gives a box back to its bin, at the end of the list. A box without cells leaves no section.
+pub(crate) fn give_back<B: Ord + Drop, A: Allocator + Copy>(
+    bins: &mut BTreeMap<B, TargetBin<A>, A>,
+    id: &B,
+    location: PackedLocation,
+) -> Result<(), AllocError>
+    requires accepted { IsSome (get B.cmp bins.old id.now) ×
+        IfSome (get B.cmp bins.old id.now) (λ held. IsAccepted held.bin location) }
+    ensures ok { OnOk result
+        (GivesBack B.cmp (bins_of bins.old.entries) id.now location (bins_of bins.new.entries)) }
+    ensures err { OnErr result
+        ((has_cells location ≡ true) × (bins_of bins.new.entries ≡ bins_of bins.old.entries)) }
+{
+    let section = section_at(&location);
+    if !section.has_cells() {
+        return Ok(());
+    }
+    match bins.get_mut(id) {
+        Some(bin) => bin.push_available_bin_section_unchecked(section),
+        None => unreachable!(),
+    }
+}
+
+// Puts placements at the end of the records, with their numbers, in the room that is there.
+pub(crate) fn number_all<Id: Drop, B: Drop, A: Allocator>(
+    outstanding: &mut Vec<Outstanding<Id, B>, A>,
+    placements: Vec<Placement<Id, B>, A>,
+    first: u64,
+)
+    requires room { vec_len outstanding.old + vec_len placements ≤ vec_capacity outstanding.old }
+    requires fits { first + vec_len placements < 2 ^ 64 }
+    ensures { outstanding.new.items ≡
+        outstanding.old.items ++ numbered first placements.items }
+{
+    let mut number = first;
+    for placement in placements {
+        let Placement { id, bin, location } = placement;
+        outstanding.push_reserved(Outstanding {
+            number,
+            id,
+            bin,
+            location,
+        });
+        number += 1;
+    }
+}

@@ -1,0 +1,86 @@
+//! One packing of a session.
+ghost use Rattle.std.specs.Prelude.{◌≡◌, ◌+◌, ◌<◌, ◌^◌, ◌++◌, [], length, List, IsTrue, IfOk, OnErr, MatchBool, Ok, true};
+ghost use Rattle.rectangle_pack.specs.declared.pack.answer.Placement.{Placement};
+ghost use Rattle.rectangle_pack.specs.Bins.{Bin};
+ghost use Rattle.rectangle_pack.specs.Groups.{entries_of};
+ghost use Rattle.rectangle_pack.specs.Packing.{rules_by, bins_of, PackingDone, PackingRefused};
+ghost use Rattle.rectangle_pack.specs.Session.{numbered};
+
+use crate::closures::Ask;
+use crate::grouped_rects_to_place::{Group, GroupedRectsToPlace};
+use crate::pack::Placement;
+use crate::pack::first_fit::{Packing, pack_noted};
+use crate::pack::order::bin_order;
+use crate::session::command::Outstanding;
+use crate::session::outstanding::number_all;
+use crate::target_bin::TargetBin;
+use std::alloc::{AllocError, Allocator};
+use std::collections::BTreeMap;
+use std::mem;
+
+// One packing, which is kept where it is done, and undone where it is not; whether it is done.
+pub(crate) fn pack_into<Id, BinId, GroupId, R, A>(
+    groups: &GroupedRectsToPlace<Id, GroupId, A>,
+    bins: &mut BTreeMap<BinId, TargetBin<A>, A>,
+    outstanding: &mut Vec<Outstanding<Id, BinId>, A>,
+    first: u64,
+    count: u64,
+    rules: &R,
+) -> Result<bool, AllocError>
+where
+    Id: Ord + Clone + Drop,
+    BinId: Ord + Clone + Drop,
+    GroupId: Ord + Clone + Drop,
+    R: Ask,
+    A: Allocator + Copy,
+    requires ids { (a b : Id) → Id.is_clone a b → IsTrue (Id.eq a b) }
+    requires bin_ids { (a b : BinId) → BinId.is_clone a b → IsTrue (BinId.eq a b) }
+    requires callable { R.can_ask rules.now }
+    requires count { count ≡ entries_of groups.now }
+    requires fits { first + count < 2 ^ 64 }
+    ensures packed { IfOk result
+        (λ done.
+        let order = ⟦<Group<GroupId, Id> as Ord>⟧.cmp in
+        let by = rules_by Id.cmp BinId.cmp (R.may rules.now) in
+        let old = bins_of bins.old.entries in
+        let new = bins_of bins.new.entries in
+        MatchBool done
+        ((placements : List (Placement Id BinId)) ×
+        PackingDone order by groups.now old placements new ×
+        (length placements ≡ count) ×
+        (outstanding.new.items ≡ outstanding.old.items ++ numbered first placements))
+        ((left : List (BinId × Bin)) ×
+        PackingRefused order by groups.now old left ×
+        (new ≡ old) ×
+        (outstanding.new.items ≡ outstanding.old.items))) }
+    ensures stopped { OnErr result
+        ((0 < length groups.now.groups) ×
+        (bins_of bins.new.entries ≡ bins_of bins.old.entries) ×
+        (outstanding.new.items ≡ outstanding.old.items)) }
+    ensures no_groups { groups.now.groups ≡ [] → result ≡ Ok true }
+{
+    if groups.groups().is_empty() {
+        return Ok(true);
+    }
+    outstanding.reserve(count as usize)?;
+    let alloc = *outstanding.allocator();
+    let order = bin_order(alloc, bins, rules)?;
+    let old = mem::replace(bins, BTreeMap::new(alloc));
+    let mut packing = Packing::new(old, order.as_slice(), alloc);
+    match pack_noted(&mut packing, groups, count as usize, rules) {
+        Ok(true) => {
+            let (kept, placements) = packing.keep();
+            *bins = kept;
+            number_all(outstanding, placements, first);
+            Ok(true)
+        }
+        Ok(false) => {
+            *bins = packing.roll_back();
+            Ok(false)
+        }
+        Err(error) => {
+            *bins = packing.roll_back();
+            Err(error)
+        }
+    }
+}
