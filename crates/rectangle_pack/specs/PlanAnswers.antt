@@ -18,10 +18,10 @@ module _ {Id B : Type 0} (bin_cmp : B → B → Ordering) (state : State Id B) (
   abbrev pub IsPlanAnswer : {A : Type 0} → Result (Option (Vec CutStep A)) SessionError → Type 0
   IsPlanAnswer (Ok (Some plan)) =
       (bin : Bin) × (lookup (is_at (bin_cmp id)) state.bins ≡ Some bin)
-      × IsCutPlan (boxes_of bin_cmp state.records id bin) (whole bin.size) plan.items
+      × IsCutPlan (boxes_of bin_cmp state.outstanding id bin) (whole bin.size) plan.items
   IsPlanAnswer (Ok None) =
       (bin : Bin) × (lookup (is_at (bin_cmp id)) state.bins ≡ Some bin)
-      × ¬ IsFromCuts (boxes_of bin_cmp state.records id bin) (whole bin.size)
+      × ¬ IsFromCuts (boxes_of bin_cmp state.outstanding id bin) (whole bin.size)
   IsPlanAnswer (Err UnknownBin) = lookup (is_at (bin_cmp id)) state.bins ≡ None
   IsPlanAnswer (Err OutOfMemory) = IsSome (lookup (is_at (bin_cmp id)) state.bins)
   IsPlanAnswer (Err _) = ⊥

@@ -14,16 +14,16 @@ use Rattle.rectangle_pack.specs.declared.session.command.Command.{Command}
 use Rattle.rectangle_pack.specs.declared.session.command.Command.TheVariants.{Pack}
 use Rattle.rectangle_pack.specs.Bins.{Bin}
 use Rattle.rectangle_pack.specs.Groups.{Collection}
-use Rattle.rectangle_pack.specs.Packing.{Rules, DoesNotTake, PackingRefused, bars_by, AreKeptApart}
+use Rattle.rectangle_pack.specs.Packing.{Rules, DoesNotTake, PackingRefused, excludes_by, AreKeptApart}
 use Rattle.rectangle_pack.specs.Placed.{ArePlacedWhole}
 use Rattle.rectangle_pack.specs.Session.{State, IsSession, numbered, IsTransition, IsRun}
 
 module _ {Id B G : Type 0} (group_cmp : Group G Id → Group G Id → Ordering) (rules : Rules Id B) where
-  -- the new records place every entry of every group once, in its size, each group in one bin: each group has one home, and
+  -- the new outstanding place every entry of every group once, in its size, each group in one bin: each group has one home, and
   -- groups that are excluded have different ones
   pub record PlacesWhole (all : Collection Id G) (old new : State Id B) : Type 0 where
     pub placements : List (Placement Id B)
-    pub records : new.records ≡ old.records ++ numbered old.next placements
+    pub outstanding : new.outstanding ≡ old.outstanding ++ numbered old.next placements
     pub homes : List (Group G Id × B)
     pub groups : IsPermutation (keys_of all.groups) (map (λ home. home.0) homes)
     pub whole : ArePlacedWhole rules.id_cmp rules.bin_cmp group_cmp all.sizes all.groups homes placements
@@ -34,7 +34,7 @@ module _ {Id B G : Type 0} (group_cmp : Group G Id → Group G Id → Ordering) 
     pub left : List (B × Bin)
     pub refused : PackingRefused group_cmp rules all bins left
     pub each : (id : B) → IsSome (lookup (is_at (rules.bin_cmp id)) bins) → (tests : ℕ)
-        × DoesNotTake rules (bars_by group_cmp rules.bin_cmp all.partners refused.stops.homes refused.stops.next.0)
+        × DoesNotTake rules (excludes_by group_cmp rules.bin_cmp all.partners refused.stops.homes refused.stops.next.0)
         left refused.stops.next.1 id tests
 
   -- of a packing: one that is kept places whole; one that is refused for space found no bin for some group; of other replies

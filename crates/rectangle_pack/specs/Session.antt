@@ -25,40 +25,40 @@ use Rattle.rectangle_pack.specs.Packing.{Rules, PackingDone, PackingRefused}
 -- a session: its bins by id, a record of each placement that was not released, and the number of the next placement
 pub record State (Id B : Type 0) : Type 0 where
   pub bins : List (B × Bin)
-  pub records : List (Outstanding Id B)
+  pub outstanding : List (Outstanding Id B)
   pub next : ℕ
 
 -- the boxes that stand in the bin of this id
-abbrev pub standing_in : {Id B : Type 0} → (B → B → Ordering) → List (Outstanding Id B) → B → List Cuboid
-standing_in bin_cmp records id = map (λ r. r.location) (filter (λ r. is_at (bin_cmp r.bin) id) records)
+abbrev pub outstanding_in : {Id B : Type 0} → (B → B → Ordering) → List (Outstanding Id B) → B → List Cuboid
+outstanding_in bin_cmp outstanding id = map (λ r. r.location) (filter (λ r. is_at (bin_cmp r.bin) id) outstanding)
 
 -- the boxes of a bin: its free sections, and the boxes that stand in it
 abbrev pub boxes_of : {Id B : Type 0} → (B → B → Ordering) → List (Outstanding Id B) → B → Bin → List Cuboid
-boxes_of bin_cmp records id bin = bin.sections ++ standing_in bin_cmp records id
+boxes_of bin_cmp outstanding id bin = bin.sections ++ outstanding_in bin_cmp outstanding id
 
 -- what holds of a session always: the boxes of each bin cover it, so that each cell is in exactly one free section or
 -- outstanding placement, and until it is coalesced they are from cuts of it; each placement's bin is there; numbers rise,
 -- and are below the next one
 pub record IsSession {Id B : Type 0} (bin_cmp : B → B → Ordering) (state : State Id B) : Type 0 where
   pub covered : (id : B) (bin : Bin) → lookup (is_at (bin_cmp id)) state.bins ≡ Some bin
-      → CoverBin (boxes_of bin_cmp state.records id bin) bin.size
+      → CoverBin (boxes_of bin_cmp state.outstanding id bin) bin.size
   pub from_cuts : (id : B) (bin : Bin) → lookup (is_at (bin_cmp id)) state.bins ≡ Some bin → bin.coalesced ≡ false
-      → IsFromCuts (boxes_of bin_cmp state.records id bin) (whole bin.size)
-  pub known : All (λ r. IsSome (lookup (is_at (bin_cmp r.bin)) state.bins)) state.records
-  pub rising : AllPairs (λ a b. a.number < b.number) state.records
-  pub below : All (λ r. r.number < state.next) state.records
+      → IsFromCuts (boxes_of bin_cmp state.outstanding id bin) (whole bin.size)
+  pub known : All (λ r. IsSome (lookup (is_at (bin_cmp r.bin)) state.bins)) state.outstanding
+  pub rising : AllPairs (λ a b. a.number < b.number) state.outstanding
+  pub below : All (λ r. r.number < state.next) state.outstanding
 
--- placements as records, numbered from n on
+-- placements as outstanding, numbered from n on
 abbrev pub numbered : {Id B : Type 0} → ℕ → List (Placement Id B) → List (Outstanding Id B)
 numbered n [] = []
 numbered n (p ∷ ps) = record { number = n; id = p.id; bin = p.bin; location = p.location } ∷ numbered (n + 1) ps
 
 -- a placement of this number is outstanding
-pub record IsOutstanding {Id B : Type 0} (records : List (Outstanding Id B)) (number : ℕ) : Type 0 where
+pub record IsOutstanding {Id B : Type 0} (outstanding : List (Outstanding Id B)) (number : ℕ) : Type 0 where
   pub before : List (Outstanding Id B)
   pub found : Outstanding Id B
   pub after : List (Outstanding Id B)
-  pub splits : records ≡ before ++ found ∷ after
+  pub splits : outstanding ≡ before ++ found ∷ after
   pub number_is : found.number ≡ number
 
 -- a box is given back: it is put at the end of the list of its bin, unless it has no cells
@@ -69,7 +69,7 @@ GivesBack bin_cmp old id box new =
     × (new ≡ set_value (is_at (bin_cmp id)) old (record bin { sections = bin.sections ++ box ∷ [] })))
     (new ≡ old)
 
--- a packing that is done and kept: its lists are the bins', its placements follow the old records under the next numbers, and
+-- a packing that is done and kept: its lists are the bins', its placements follow the old outstanding under the next numbers, and
 -- the answer has the first of these and how many they are
 pub record IsKept {Id B G : Type 0} (group_cmp : Group G Id → Group G Id → Ordering) (rules : Rules Id B)
     (all : Collection Id G) (old : State Id B) (numbers : PackedNumbers) (new : State Id B) : Type 0 where
@@ -78,7 +78,7 @@ pub record IsKept {Id B G : Type 0} (group_cmp : Group G Id → Group G Id → O
   pub counted : length placements ≡ entries_of all
   pub first : numbers.first ≡ old.next
   pub count : numbers.count ≡ entries_of all
-  pub records : new.records ≡ old.records ++ numbered old.next placements
+  pub outstanding : new.outstanding ≡ old.outstanding ++ numbered old.next placements
   pub next : new.next ≡ old.next + entries_of all
 
 module _ {Id B : Type 0} (bin_cmp : B → B → Ordering) where
@@ -95,11 +95,11 @@ module _ {Id B : Type 0} (bin_cmp : B → B → Ordering) where
   -- refused for a box with cells
   abbrev pub Releases : ℕ → State Id B → Reply → State Id B → Type 0
   Releases number old Done new =
-      (at : IsOutstanding old.records number) × GivesBack bin_cmp old.bins at.found.bin at.found.location new.bins
-      × (new.records ≡ at.before ++ at.after) × (new.next ≡ old.next)
-  Releases number old (Refused UnknownPlacement) new = All (λ r. r.number ≢ number) old.records × (new ≡ old)
+      (at : IsOutstanding old.outstanding number) × GivesBack bin_cmp old.bins at.found.bin at.found.location new.bins
+      × (new.outstanding ≡ at.before ++ at.after) × (new.next ≡ old.next)
+  Releases number old (Refused UnknownPlacement) new = All (λ r. r.number ≢ number) old.outstanding × (new ≡ old)
   Releases number old (Refused OutOfMemory) new =
-      (at : IsOutstanding old.records number) × (has_cells at.found.location ≡ true) × (new ≡ old)
+      (at : IsOutstanding old.outstanding number) × (has_cells at.found.location ≡ true) × (new ≡ old)
   Releases number old _ new = ⊥
 
   -- the free sections of a bin become a list that `MayLeave` allows, and the bin counts as coalesced, also where nothing was

@@ -8,10 +8,10 @@ use Rattle.rectangle_pack.specs.Counting.{total_volume}
 -- the statistics of a bin in which these boxes stand: its volume; the volumes of its free sections, and of the boxes that stand
 -- in it, added up; and how many there are of each, those without cells counted too
 abbrev pub stats_of : Bin → List Cuboid → BinStats
-stats_of bin standing = record {
+stats_of bin boxes = record {
   bin_volume = volume_of bin.size;
   free_volume = total_volume bin.sections;
-  placed_volume = total_volume standing;
+  placed_volume = total_volume boxes;
   free_sections = length bin.sections;
-  placements = length standing;
+  placements = length boxes;
 }

@@ -12,14 +12,14 @@ use crate::width_height_depth::WidthHeightDepth;
 use std::cmp::Ordering;
 
 // What a packing asks of the closures: whether it may ask, and what they may answer.
-pub(crate) trait Ask {
-    ghost can_ask: { Self → Type 0 };
+pub(crate) trait Policy {
+    ghost is_callable: { Self → Type 0 };
 
     ghost may: { Self → Answers };
 
     // What the heuristic answers on a size.
     fn rate(&self, size: WidthHeightDepth) -> u128
-        requires { can_ask self.now }
+        requires { is_callable self.now }
         ensures { (may self.now).rate size result };
 
     // Places a box into a section that holds it, by the comparison's choice of a cut.
@@ -28,7 +28,7 @@ pub(crate) trait Ask {
         section: &BinSection,
         member: &RectToInsert,
     ) -> (PackedLocation, [BinSection; 3])
-        requires callable { can_ask self.now }
+        requires callable { is_callable self.now }
         requires ends { FitsU32 section.now }
         requires holds { Holds section.now member.now }
         ensures location { result.0 ≡ placed section.now member.now }
@@ -42,12 +42,12 @@ pub(crate) struct Closures<'a, H, C> {
     pub comparison: &'a C,
 }
 
-impl<H, C> Ask for Closures<'_, H, C>
+impl<H, C> Policy for Closures<'_, H, C>
 where
     H: Fn(WidthHeightDepth) -> u128,
     C: Fn([WidthHeightDepth; 3], [WidthHeightDepth; 3], &H) -> Ordering,
 {
-    ghost can_ask = { λ s. AreCallable H.Fn C.Fn s.heuristic.now s.comparison.now };
+    ghost is_callable = { λ s. AreCallable H.Fn C.Fn s.heuristic.now s.comparison.now };
 
     ghost may = { λ s. answers H.Fn C.Fn s.heuristic.now s.comparison.now };
 

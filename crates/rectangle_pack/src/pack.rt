@@ -140,7 +140,7 @@ where
 {
     // For the proof alone: what is read is known to be of 128 bits.
     let _counted = tests.count();
-    let rules = Closures {
+    let policy = Closures {
         heuristic: box_size_heuristic,
         comparison: more_suitable_containers_fn,
     };
@@ -152,12 +152,12 @@ where
         });
     }
     let entries = number_after(0, groups).unwrap_or(u64::MAX) as usize;
-    let Ok(order) = bin_order(alloc, target_bins, &rules) else {
+    let Ok(order) = bin_order(alloc, target_bins, &policy) else {
         return Err(RectanglePackError::OutOfMemory);
     };
     let bins = mem::replace(target_bins, BTreeMap::new(alloc));
     let mut packing = Packing::new(bins, order.as_slice(), alloc);
-    let packed = pack_noted(&mut packing, rects_to_place, entries, &rules);
+    let packed = pack_noted(&mut packing, rects_to_place, entries, &policy);
     tests.add_all(&packing.tests);
     let last = match packed {
         Ok(true) => last_placements(alloc, packing.placements.as_slice()),

@@ -20,7 +20,7 @@ mod packing;
 mod run;
 mod stats;
 
-use crate::closures::{Ask, Closures};
+use crate::closures::{Closures, Policy};
 use crate::grouped_rects_to_place::multimap::number_after;
 use crate::grouped_rects_to_place::{Group, GroupedRectsToPlace};
 use crate::session::outstanding::{give_back, position_of};
@@ -73,13 +73,13 @@ impl<Id, BinId: Ord, A: Allocator + Copy> Model for Session<Id, BinId, A> {
 
     ghost view = { λ s. record {
       bins = bins_of s.bins.entries;
-      records = s.outstanding.items;
+      outstanding = s.outstanding.items;
       next = s.next;
     } };
 
     ghost invariant = { λ s. IsSession BinId.cmp (record {
       bins = bins_of s.bins.entries;
-      records = s.outstanding.items;
+      outstanding = s.outstanding.items;
       next = s.next;
     }) };
 }
@@ -93,7 +93,7 @@ where
     /// A session without bins, whose memory is to come from `alloc`. The first placement gets the
     /// number `first`, but for the greatest `u64`, which is never given. This takes no memory.
     pub fn new(alloc: A, first: u64) -> Self
-        ensures { result ≡ record { bins = []; records = []; next = first } }
+        ensures { result ≡ record { bins = []; outstanding = []; next = first } }
     {
         Session {
             bins: BTreeMap::new(alloc),
@@ -115,7 +115,7 @@ where
 
     /// The placements that were not released, in the order of their numbers.
     pub fn outstanding(&self) -> &[Outstanding<Id, BinId>]
-        ensures records { result.now ≡ self.now.records }
+        ensures outstanding { result.now ≡ self.now.outstanding }
         ensures always { IsSession BinId.cmp self.now }
     {
         self.outstanding.as_slice()
@@ -191,26 +191,26 @@ where
         ensures no_groups { groups.now.groups ≡ [] → IsOk result }
         ensures always { IsSession BinId.cmp self.new }
     {
-        let rules = Closures {
+        let policy = Closures {
             heuristic,
             comparison,
         };
-        self.pack_by(groups, &rules)
+        self.pack_by(groups, &policy)
     }
 
     fn pack_by<GroupId, R>(
         &mut self,
         groups: &GroupedRectsToPlace<Id, GroupId, A>,
-        rules: &R,
+        policy: &R,
     ) -> Result<Packed, SessionError>
     where
         GroupId: Ord + Clone + Drop,
-        R: Ask,
+        R: Policy,
         requires ids { (a b : Id) → Id.is_clone a b → IsTrue (Id.eq a b) }
         requires bin_ids { (a b : BinId) → BinId.is_clone a b → IsTrue (BinId.eq a b) }
-        requires callable { R.can_ask rules.now }
+        requires callable { R.is_callable policy.now }
         ensures packed { let order = ⟦<Group<GroupId, Id> as Ord>⟧.cmp in
-            Packs order (rules_by Id.cmp BinId.cmp (R.may rules.now)) groups.now
+            Packs order (rules_by Id.cmp BinId.cmp (R.may policy.now)) groups.now
             self.old (packed_reply result) self.new }
         ensures no_groups { groups.now.groups ≡ [] → IsOk result }
         ensures always { IsSession BinId.cmp self.new }
@@ -226,7 +226,7 @@ where
             &mut self.outstanding,
             first,
             count,
-            rules,
+            policy,
         )?;
         if !kept {
             return Err(SessionError::NotEnoughBinSpace);

@@ -9,7 +9,7 @@ ghost use Rattle.rectangle_pack.specs.Counting.{AreAllApart, times_filled};
 ghost use Rattle.rectangle_pack.specs.Joining.{IsJoined, IsSwept, ShareNoFace};
 ghost use Rattle.rectangle_pack.specs.Keeping.{KeepCells};
 ghost use Rattle.rectangle_pack.specs.Trials.{IsTrialAnswer, most_tests};
-ghost use Rattle.rectangle_pack.specs.private.Journal.{LeadsBack};
+ghost use Rattle.rectangle_pack.specs.private.Notes.{LeadsBack};
 ghost use Rattle.rectangle_pack.specs.private.Slots.{sections_of};
 ghost use Rattle.rectangle_pack.specs.private.Checkout.{CanWriteBack};
 ghost use Rattle.rectangle_pack.specs.private.TrialNotes.{IsNotedAnswer, LeavesNotes};
@@ -22,7 +22,7 @@ pub(crate) mod slotted;
 pub(crate) mod trial;
 
 use crate::bin_section::{BinSection, first_sharing};
-use crate::closures::{Ask, Closures};
+use crate::closures::{Closures, Policy};
 use crate::packed_location::PackedLocation;
 use crate::rect_to_insert::RectToInsert;
 use crate::target_bin::coalesce::{join_all, join_at};
@@ -346,11 +346,11 @@ impl<A: Allocator + Copy> TargetBin<A> {
         ensures no_members { length members.now ≡ 0 → IsOk result }
     {
         let mut buffers = Buffers::new(*self.available_bin_sections.allocator());
-        let rules = Closures {
+        let policy = Closures {
             heuristic,
             comparison,
         };
-        let done = self.place_members(members, &rules, tests, &mut buffers)?;
+        let done = self.place_members(members, &policy, tests, &mut buffers)?;
         if done {
             Ok(Some(buffers.locations))
         } else {
@@ -362,23 +362,23 @@ impl<A: Allocator + Copy> TargetBin<A> {
     fn place_members<R>(
         &mut self,
         members: &[RectToInsert],
-        rules: &R,
+        policy: &R,
         tests: &mut FitTests,
         buffers: &mut Buffers<A>,
     ) -> Result<bool, AllocError>
     where
-        R: Ask,
-        requires callable { R.can_ask rules.now }
-        ensures answer { IsNotedAnswer (R.may rules.now) self.old.bin members.now tests.old result
+        R: Policy,
+        requires callable { R.is_callable policy.now }
+        ensures answer { IsNotedAnswer (R.may policy.now) self.old.bin members.now tests.old result
             buffers.new.locations.items self.new.bin tests.new }
         ensures no_members { length members.now ≡ 0 → IsOk result }
     {
         let sections = self.available_bin_sections.len();
         if members.is_empty() || !are_worth_it(sections, members.len(), members.len()) {
-            return self.place_noted(members, rules, tests, buffers);
+            return self.place_noted(members, policy, tests, buffers);
         }
         let mut slots = None;
-        let done = place_slotted(self, &mut slots, members, rules, tests, buffers)?;
+        let done = place_slotted(self, &mut slots, members, policy, tests, buffers)?;
         if done {
             if let Some(slots) = slots {
                 self.write_back(&slots);
@@ -423,14 +423,14 @@ impl<A: Allocator + Copy> TargetBin<A> {
     pub(crate) fn place_noted<R>(
         &mut self,
         members: &[RectToInsert],
-        rules: &R,
+        policy: &R,
         tests: &mut FitTests,
         buffers: &mut Buffers<A>,
     ) -> Result<bool, AllocError>
     where
-        R: Ask,
-        requires callable { R.can_ask rules.now }
-        ensures answer { IsNotedAnswer (R.may rules.now) self.old.bin members.now tests.old result
+        R: Policy,
+        requires callable { R.is_callable policy.now }
+        ensures answer { IsNotedAnswer (R.may policy.now) self.old.bin members.now tests.old result
             buffers.new.locations.items self.new.bin tests.new }
         ensures room { self.old.room ≤ self.new.room }
         ensures noted { LeavesNotes result buffers.new.notes.items self.old self.new }
@@ -438,7 +438,7 @@ impl<A: Allocator + Copy> TargetBin<A> {
         ensures sound { IsSound self.old.bin.size self.old.bin.sections }
     {
         let sections = &mut self.available_bin_sections;
-        let done = run_trial(sections, members, rules, tests, buffers)?;
+        let done = run_trial(sections, members, policy, tests, buffers)?;
         Ok(done)
     }
 

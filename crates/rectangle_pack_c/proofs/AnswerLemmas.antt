@@ -21,7 +21,7 @@ use Rattle.rectangle_pack.specs.SmallestBox.{IsSmallestOrder}
 use Rattle.rectangle_pack.specs.Bins.{Bin}
 use Rattle.rectangle_pack.specs.Closures.{Answers}
 use Rattle.rectangle_pack.specs.Groups.{Collection}
-use Rattle.rectangle_pack.specs.Packing.{rules_by, at_start, bars_by, PackingDone, PackingRefused}
+use Rattle.rectangle_pack.specs.Packing.{rules_by, at_start, excludes_by, PackingDone, PackingRefused}
 use Rattle.rectangle_pack.specs.Placed.{ArePlacedWhole}
 use Rattle.rectangle_pack.specs.Results.{HaveOneResult, AreSameBins, ArePlacementsAlike}
 use Rattle.rectangle_pack.specs.Session.{State, IsKept}
@@ -44,7 +44,7 @@ use Rattle.rectangle_pack_c.proofs.PlacedLemmas.{records_each, placements_each, 
 
 -- a session that has these bins, and nothing in them
 abbrev pub start : List RpBin → State ℕ ℕ
-start bins = record { bins = new_bins bins; records = []; next = 0 }
+start bins = record { bins = new_bins bins; outstanding = []; next = 0 }
 
 -- where the groups of a packing that is done are
 record HasHomes (all : Collection ℕ ℕ) (ps : List (Placement ℕ ℕ)) : Type 0 where
@@ -72,19 +72,19 @@ module _ (R : Group ℕ ℕ → Group ℕ ℕ → Ordering) (may : Answers) (bin
     found = has_homes may all (new_bins bins) new.bins after.placements after.done
 
     -- the ids of the records are indices of boxes, each once
-    pub answer_ids : All (λ r. r.id < length boxes) new.records
+    pub answer_ids : All (λ r. r.id < length boxes) new.outstanding
     answer_ids =
-        rw after.records (records_each (λ id p. id < length boxes) 0 after.placements
+        rw after.outstanding (records_each (λ id p. id < length boxes) 0 after.placements
         (known_ids boxes all collected after.placements found.homes found.moved found.are))
 
-    pub answer_once : AllPairs (λ r s. r.id ≢ s.id) new.records
+    pub answer_once : AllPairs (λ r s. r.id ≢ s.id) new.outstanding
     answer_once =
-        rw after.records (records_once 0 after.placements
+        rw after.outstanding (records_once 0 after.placements
         (placed_alone boxes all collected after.placements found.homes found.moved found.are))
 
-    module _ (placements : List RpPlacement) (written : AreWritten as_placement new.records placements) where
+    module _ (placements : List RpPlacement) (written : AreWritten as_placement new.outstanding placements) where
       stood : All (λ p. slice_get placements p.id ≡ Some (corner_of p.bin p.location)) after.placements
-      stood = placements_each (λ id q. slice_get placements id ≡ Some q) 0 after.placements (subst (λ rs. AreWritten as_placement rs placements) after.records written)
+      stood = placements_each (λ id q. slice_get placements id ≡ Some q) 0 after.placements (subst (λ rs. AreWritten as_placement rs placements) after.outstanding written)
 
       -- where they are written, the boxes are placed
       pub answer_placed : ArePlaced bins boxes placements
@@ -97,7 +97,7 @@ module _ (R : Group ℕ ℕ → Group ℕ ℕ → Ordering) (may : Answers) (bin
         collected = collected;
         made = after.placements;
         left = new.bins;
-        done = PackingDone-more nat_cmp nat_cmp may by_volume includes group_order (bars_by group_order nat_cmp all.partners) all (new_bins bins) after.placements new.bins after.done;
+        done = PackingDone-more nat_cmp nat_cmp may by_volume includes group_order (excludes_by group_order nat_cmp all.partners) all (new_bins bins) after.placements new.bins after.done;
         written = stood;
         as_many = as_many;
       }
@@ -107,7 +107,7 @@ module _ (R : Group ℕ ℕ → Group ℕ ℕ → Ordering) (may : Answers) (bin
   answer_refused left refused same was includes =
       let here : PackingRefused group_order (rules_by nat_cmp nat_cmp may) all (new_bins bins) left =
       subst (λ (o : State ℕ ℕ). PackingRefused group_order (rules_by nat_cmp nat_cmp may) all o.bins left) was (subst (λ r. PackingRefused r (rules_by nat_cmp nat_cmp may) all old.bins left) same refused) in
-      let more = PackingRefused-more nat_cmp nat_cmp may by_volume includes group_order (bars_by group_order nat_cmp all.partners) all (new_bins bins) left here in
+      let more = PackingRefused-more nat_cmp nat_cmp may by_volume includes group_order (excludes_by group_order nat_cmp all.partners) all (new_bins bins) left here in
       record {
         all = all;
         collected = collected;

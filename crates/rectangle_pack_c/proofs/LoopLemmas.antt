@@ -72,11 +72,11 @@ written_more entry records placements i r within is fits once before = below_mor
         kept (get_or records k d) (rw same at differ) (before k below d)
 
 -- the session with one more bin
-pub added_more : (bins : List RpBin) (i : ℕ) (bin : RpBin) → i < length bins → get_or bins i bin ≡ bin → (old new : State ℕ ℕ) → old ≡ record { bins = new_bins (take i bins); records = []; next = 0 }
-    → AddsBin nat_cmp i (bin_size bin) old Done new → new ≡ record { bins = new_bins (take (i + 1) bins); records = []; next = 0 }
+pub added_more : (bins : List RpBin) (i : ℕ) (bin : RpBin) → i < length bins → get_or bins i bin ≡ bin → (old new : State ℕ ℕ) → old ≡ record { bins = new_bins (take i bins); outstanding = []; next = 0 }
+    → AddsBin nat_cmp i (bin_size bin) old Done new → new ≡ record { bins = new_bins (take (i + 1) bins); outstanding = []; next = 0 }
 added_more bins i bin within is old new was (absent, key, same, are) =
     let grown = bins_more bins i bin within is key same in
-    are ∙ rw was (ap (λ (bs : List (ℕ × Bin)). record { bins = bs; records = []; next = 0 }) grown)
+    are ∙ rw was (ap (λ (bs : List (ℕ × Bin)). record { bins = bs; outstanding = []; next = 0 }) grown)
 
 -- what a push says, by the order of groups that the call has
 pub pushes_alone : (R : Group ℕ ℕ → Group ℕ ℕ → Ordering) (i : ℕ) (b : RpBox) (old new : Collection ℕ ℕ) (size : Size) → PushesAlone nat_cmp R old new i size → size ≡ box_size b → b.group ≡ 0 → R ≡ group_order → Pushes i b old new

@@ -23,8 +23,8 @@ use Rattle.rectangle_pack.specs.Bins.{Bin, new_bin, whole}
 use Rattle.rectangle_pack.specs.Counting.{AreAllApart}
 use Rattle.rectangle_pack.specs.Closures.{Answers}
 use Rattle.rectangle_pack.specs.Groups.{Collection}
-use Rattle.rectangle_pack.specs.Keeping.{placed_in}
-use Rattle.rectangle_pack.specs.Packing.{Rules, rules_by, Stage, at_start, bars_by, PackingDone}
+use Rattle.rectangle_pack.specs.Keeping.{locations_in}
+use Rattle.rectangle_pack.specs.Packing.{Rules, rules_by, Stage, at_start, excludes_by, PackingDone}
 use Rattle.rectangle_pack.specs.Placed.{ArePlacedWhole}
 use Rattle.rectangle_pack.specs.Session.{numbered}
 use Rattle.rectangle_pack.proofs.lemmas.cuts.Counting.{apart_from_counts, filled_one, AllPairs-head, AllPairs-tail}
@@ -205,32 +205,32 @@ module _ (boxes : List RpBox) (all : Collection ℕ ℕ) (collected : IsCollecte
       stands_in : (q : Placement ℕ ℕ) → Contains ps q → StandsIn q
       stands_in q inside =
           let rules : Rules ℕ ℕ = rules_by nat_cmp nat_cmp may in
-          let bars = bars_by group_order nat_cmp all.partners in
+          let excludes = excludes_by group_order nat_cmp all.partners in
           let order = map (λ (o : ℕ × ℕ). o.1) done.bin_order in
           let last : Stage (Group ℕ ℕ) ℕ = record { bins = after; homes = done.homes } in
-          let keys = keys-placed rules bars order done.groups (at_start (new_bins bins)) ps last done.tests done.placed in
-          let known = All-contains (λ (p : Placement ℕ ℕ). IsSome (lookup (is_at (nat_cmp p.bin)) after)) ps q (known-placed rules bars nat_cmp_total order done.groups (at_start (new_bins bins)) ps last done.tests done.placed) inside in
+          let keys = keys-placed rules excludes order done.groups (at_start (new_bins bins)) ps last done.tests done.placed in
+          let known = All-contains (λ (p : Placement ℕ ℕ). IsSome (lookup (is_at (nat_cmp p.bin)) after)) ps q (known-placed rules excludes nat_cmp_total order done.groups (at_start (new_bins bins)) ps last done.tests done.placed) inside in
           let there = some_of (lookup (is_at (nat_cmp q.bin)) (new_bins bins)) (sym (is_some-keys (is_at (nat_cmp q.bin)) after (new_bins bins) keys) ∙ known) in
           let (bin, is, before) = lookup_bin bins q.bin there.0 there.1 in
           record {
             bin = bin;
             is = is;
-            changed = changed-all IsFrame-recut rules nat_cmp_total (KeptBySteps-recut may) bars order done.groups (at_start (new_bins bins)) ps last done.tests done.placed q.bin (new_bin (bin_size bin)) (rw (← before) there.1);
+            changed = changed-all IsFrame-recut rules nat_cmp_total (KeptBySteps-recut may) excludes order done.groups (at_start (new_bins bins)) ps last done.tests done.placed q.bin (new_bin (bin_size bin)) (rw (← before) there.1);
           }
 
       inside_bin : (q : Placement ℕ ℕ) (c : Contains ps q) (s : StandsIn q) → IsInside (bin_size s.bin) q.location
       inside_bin q c s =
           let size = bin_size s.bin in
           let first : All (IsInside size) (whole size ∷ []) = All-cons (IsInside size) (whole size) [] (record { within_x = omega arith; within_y = omega arith; within_z = omega arith }) (All-nil (IsInside size)) in
-          All-contains (IsInside size) (s.changed.after.sections ++ placed_in nat_cmp ps q.bin) q.location (s.changed.framed.inside size first)
-          (Contains-append_right s.changed.after.sections (placed_in nat_cmp ps q.bin) q.location (in_kept (λ (p : Placement ℕ ℕ). p.location) (λ p. is_at (nat_cmp p.bin) q.bin) ps q c (nat_same q.bin)))
+          All-contains (IsInside size) (s.changed.after.sections ++ locations_in nat_cmp ps q.bin) q.location (s.changed.framed.inside size first)
+          (Contains-append_right s.changed.after.sections (locations_in nat_cmp ps q.bin) q.location (in_kept (λ (p : Placement ℕ ℕ). p.location) (λ p. is_at (nat_cmp p.bin) q.bin) ps q c (nat_same q.bin)))
 
       apart_in : (a b : Placement ℕ ℕ) → Contains ps a → Contains ps b → a.id ≢ b.id → b.bin ≡ a.bin → AreApart a.location b.location
       apart_in a b ca cb ne same =
           let s = stands_in a ca in
-          let boxes = s.changed.after.sections ++ placed_in nat_cmp ps a.bin in
+          let boxes = s.changed.after.sections ++ locations_in nat_cmp ps a.bin in
           let pairs = apart_from_counts boxes (λ c. rw (s.changed.framed.cells c) (filled_one c (whole (bin_size s.bin)))) in
-          pairs_kept (λ p. is_at (nat_cmp p.bin) a.bin) ps a b (pairs_right AreApart s.changed.after.sections (placed_in nat_cmp ps a.bin) pairs) ca cb (nat_same a.bin) (rw same (nat_same a.bin)) ne
+          pairs_kept (λ p. is_at (nat_cmp p.bin) a.bin) ps a b (pairs_right AreApart s.changed.after.sections (locations_in nat_cmp ps a.bin) pairs) ca cb (nat_same a.bin) (rw same (nat_same a.bin)) ne
 
       pub packed_placed : ArePlaced bins boxes placements
       packed_placed = record {

@@ -22,7 +22,7 @@ use Rattle.rectangle_pack.specs.declared.session.command.SessionError.{SessionEr
 use Rattle.rectangle_pack.specs.declared.session.command.SessionError.TheVariants.{DuplicateBin, UnknownBin, UnknownPlacement, NumbersUsedUp, NotEnoughBinSpace, OutOfMemory}
 use Rattle.rectangle_pack.specs.Closures.{Answers}
 use Rattle.rectangle_pack.specs.Groups.{Collection}
-use Rattle.rectangle_pack.specs.Packing.{rules_by, bars_by, PackingRefused}
+use Rattle.rectangle_pack.specs.Packing.{rules_by, excludes_by, PackingRefused}
 use Rattle.rectangle_pack.specs.Promise.{PlacesWhole}
 use Rattle.rectangle_pack.specs.Session.{State, IsKept, Packs, numbered}
 use Rattle.rectangle_pack.proofs.lemmas.determinism.Either.{Includes, PackingDone-more, PackingRefused-more}
@@ -109,15 +109,15 @@ module _ (R : Group ℕ ℕ → Group ℕ ℕ → Ordering) (may : Answers) (sam
             low,
             record {
               placements = k.placements;
-              done = PackingDone-more nat_cmp nat_cmp may by_volume includes group_order (bars_by group_order nat_cmp all.partners) all old.bins k.placements new.bins k.done;
+              done = PackingDone-more nat_cmp nat_cmp may by_volume includes group_order (excludes_by group_order nat_cmp all.partners) all old.bins k.placements new.bins k.done;
               counted = k.counted;
               first = k.first;
               count = k.count;
-              records = k.records;
+              outstanding = k.outstanding;
               next = k.next;
             },
           ),
-          record { placements = w.placements; records = w.records; homes = w.homes; groups = w.groups; whole = w.whole; apart = w.apart },
+          record { placements = w.placements; outstanding = w.outstanding; homes = w.homes; groups = w.groups; whole = w.whole; apart = w.apart },
         )
 
     -- and so is one that is refused
@@ -128,7 +128,7 @@ module _ (R : Group ℕ ℕ → Group ℕ ℕ → Ordering) (may : Answers) (sam
     refused_by_volume NumbersUsedUp h = (all, collected, h, tt)
     refused_by_volume NotEnoughBinSpace (low, left, refused, as_before) =
         let here = subst (λ r. PackingRefused r (rules_by nat_cmp nat_cmp may) all old.bins left) same refused in
-        let more = PackingRefused-more nat_cmp nat_cmp may by_volume includes group_order (bars_by group_order nat_cmp all.partners) all old.bins left here in (
+        let more = PackingRefused-more nat_cmp nat_cmp may by_volume includes group_order (excludes_by group_order nat_cmp all.partners) all old.bins left here in (
           all,
           collected,
           (low, left, more, as_before),
@@ -144,8 +144,8 @@ module _ (R : Group ℕ ℕ → Group ℕ ℕ → Ordering) (may : Answers) (sam
     abbrev pub new_records : List (Outstanding ℕ ℕ)
     new_records = numbered old.next made.placements
 
-    pub records_are : new.records ≡ old.records ++ new_records
-    records_are = made.records
+    pub records_are : new.outstanding ≡ old.outstanding ++ new_records
+    records_are = made.outstanding
 
     -- the new records have indices of boxes as ids, each once
     pub new_ids : All (λ r. r.id < length boxes) new_records
@@ -188,7 +188,7 @@ module _ (R : Group ℕ ℕ → Group ℕ ℕ → Ordering) (may : Answers) (sam
       pub are_outstanding : length outs ≡ length boxes → AreOutstanding boxes outs old new
       are_outstanding as_many = record {
         as_many = as_many;
-        outstanding = λ i b p a. rw records_are (Contains-append_right old.records new_records (record_of i b p) (found i b p a).0);
+        outstanding = λ i b p a. rw records_are (Contains-append_right old.outstanding new_records (record_of i b p) (found i b p a).0);
         fresh = λ i b p a. (found i b p a).1;
         apart = λ i j a b p q s t differ same.
             differ (ap (λ (r : Outstanding ℕ ℕ). r.id) (same_number old.next made.placements (record_of i a p) (record_of j b q) (found i a p s).0 (found j b q t).0 same));

@@ -13,7 +13,7 @@ use Rattle.rectangle_pack.specs.Bins.{Bin}
 use Rattle.rectangle_pack.specs.Groups.{Collection}
 use Rattle.rectangle_pack.specs.Packing.{rules_by}
 use Rattle.rectangle_pack.specs.Promise.{PacksAsPromised}
-use Rattle.rectangle_pack.specs.Session.{State, IsSession, Packs, standing_in}
+use Rattle.rectangle_pack.specs.Session.{State, IsSession, Packs, outstanding_in}
 use Rattle.rectangle_pack.specs.Stats.{stats_of}
 use Rattle.rectangle_pack_c.specs.declared.RpBox.{RpBox}
 use Rattle.rectangle_pack_c.specs.declared.session.RpOutstanding.{RpOutstanding}
@@ -73,7 +73,7 @@ record_of i b p = record { number = p.number; id = i; bin = p.placement.bin; loc
 -- one bin
 pub record AreOutstanding (boxes : List RpBox) (placements : List RpOutstanding) (old new : State ℕ ℕ) : Type 0 where
   pub as_many : length placements ≡ length boxes
-  pub outstanding : (i : ℕ) (b : RpBox) (p : RpOutstanding) → IsAt boxes placements i b p → Contains new.records (record_of i b p)
+  pub outstanding : (i : ℕ) (b : RpBox) (p : RpOutstanding) → IsAt boxes placements i b p → Contains new.outstanding (record_of i b p)
   pub fresh : (i : ℕ) (b : RpBox) (p : RpOutstanding) → IsAt boxes placements i b p → old.next ≤ p.number
   pub apart : (i j : ℕ) (a b : RpBox) (p q : RpOutstanding) → IsAt boxes placements i a p → IsAt boxes placements j b q
       → i ≢ j → p.number ≢ q.number
@@ -104,7 +104,7 @@ stats_written s = record {
 
 -- the statistics of a bin of a session, where the bin is there
 abbrev pub stats_in : State ℕ ℕ → ℕ → Option BinStats
-stats_in state bin = option_map (λ (b : Bin). stats_of b (standing_in nat_cmp state.records bin)) (lookup (is_at (nat_cmp bin)) state.bins)
+stats_in state bin = option_map (λ (b : Bin). stats_of b (outstanding_in nat_cmp state.outstanding bin)) (lookup (is_at (nat_cmp bin)) state.bins)
 
 -- what is said of a bin: the statistics of it, whose free and placed volumes add up to that of the bin; or that it is not there,
 -- and nothing is written

@@ -126,7 +126,7 @@ pub extern "C" fn rectangle_pack_boxes(
 fn session_of(alloc: Global, bins: &[RpBin]) -> Result<Session<u32, u32>, SessionError>
     requires { length bins.now < LIMIT }
     ensures { IfOk result
-        (λ s. s ≡ record { bins = new_bins bins.now; records = []; next = 0 }) }
+        (λ s. s ≡ record { bins = new_bins bins.now; outstanding = []; next = 0 }) }
 {
     let mut session = Session::new(alloc, 0);
     for (i, bin) in bins.iter().enumerate() {

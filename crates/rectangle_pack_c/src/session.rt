@@ -67,7 +67,7 @@ pub extern "C" fn rectangle_pack_session_new(alloc: Global, session: &mut RpSess
     requires empty { session.old.state ≡ None }
     ensures status { (result ≡ RP_DONE) ⊎ (result ≡ RP_OUT_OF_MEMORY) }
     ensures made { result ≡ RP_DONE →
-        session.new.state ≡ Some (record { bins = []; records = []; next = 0 }) }
+        session.new.state ≡ Some (record { bins = []; outstanding = []; next = 0 }) }
     ensures refused { result ≡ RP_OUT_OF_MEMORY → session.new.state ≡ None }
 {
     let Ok(made) = Box::new(alloc, Session::new(alloc, 0)) else {

@@ -6,7 +6,7 @@ use Rattle.rectangle_pack.specs.Bins.{Bin, Held}
 use Rattle.rectangle_pack.specs.Closures.{Answers}
 use Rattle.rectangle_pack.specs.Numbers.{saturated}
 use Rattle.rectangle_pack.specs.Steps.{IsDone, IsStuck}
-use Rattle.rectangle_pack.specs.private.Journal.{LeadsBack}
+use Rattle.rectangle_pack.specs.private.Notes.{LeadsBack}
 
 -- no section holds the first member
 abbrev pub IsStuckAtOnce : List Cuboid → List Size → Type 0

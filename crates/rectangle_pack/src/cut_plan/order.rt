@@ -18,7 +18,7 @@ fn order_on(axis: Axis, entries: &mut [BinSection])
 }
 
 // Puts entries back in order on an axis, if one is named. Takes no memory.
-fn put_back(ordered: Option<Axis>, entries: &mut [BinSection])
+fn restore_order(ordered: Option<Axis>, entries: &mut [BinSection])
     ensures permutation { IsPermutation entries.old entries.new }
     ensures ordered { AreOrdered ordered entries.new }
 {
@@ -103,8 +103,8 @@ fn is_blocked(
     order_on(axis, front);
     order_on(axis, back);
     let blocked = Span::of(whole, axis).end() <= reach(whole, axis, front, back);
-    put_back(ordered, front);
-    put_back(ordered, back);
+    restore_order(ordered, front);
+    restore_order(ordered, back);
     blocked
 }
 

@@ -4,7 +4,7 @@ ghost use Rattle.std.specs.Ordering.{is_eq};
 ghost use Rattle.std.specs.List.{list_any};
 ghost use Rattle.std.specs.BTreeMap.{is_at};
 ghost use Rattle.rectangle_pack.specs.Groups.{lists_of};
-ghost use Rattle.rectangle_pack.specs.private.Lists.{filled};
+ghost use Rattle.rectangle_pack.specs.private.Multimaps.{filled};
 ghost use Rattle.rectangle_pack.specs.Exclusions.{listed_at, is_listed, are_excluded, are_these};
 ghost use Rattle.rectangle_pack.specs.private.Exclusions.{AreMutual, AreNonempty};
 

@@ -5,7 +5,7 @@ ghost use Rattle.std.specs.Map.{lookup, set_value, values_of};
 ghost use Rattle.std.specs.Cmp.{IsTotalOrder};
 ghost use Rattle.std.specs.Ordering.{is_eq};
 ghost use Rattle.rectangle_pack.specs.Groups.{lists_of};
-ghost use Rattle.rectangle_pack.specs.private.Lists.{filled, times, items_of, HasRoom, AreAppended, IsAdded, TakesBack, CanTakeBack};
+ghost use Rattle.rectangle_pack.specs.private.Multimaps.{filled, times, items_of, HasRoom, AreAppended, IsAdded, TakesBack, CanTakeBack};
 
 use std::alloc::{AllocError, Allocator};
 use std::collections::BTreeMap;

@@ -8,7 +8,7 @@ ghost use Rattle.std.specs.Ordering.{eq_by_cmp};
 ghost use Rattle.rectangle_pack.specs.private.Checkout.{Open, left_of, IsTried};
 ghost use Rattle.rectangle_pack.specs.private.TrialNotes.{IsNotedAnswer, LeavesNotes};
 
-use crate::closures::Ask;
+use crate::closures::Policy;
 use crate::pack::open_bin::OpenBin;
 use crate::rect_to_insert::RectToInsert;
 use crate::target_bin::TargetBin;
@@ -99,28 +99,28 @@ impl<'b, B: Ord, A: Allocator + Copy> PackingBins<'b, B, A> {
         &mut self,
         index: usize,
         sizes: &[RectToInsert],
-        rules: &R,
+        policy: &R,
         tests: &mut FitTests,
         buffers: &mut Buffers<A>,
     ) -> Result<bool, AllocError>
     where
-        R: Ask,
-        requires callable { R.can_ask rules.now }
+        R: Policy,
+        requires callable { R.is_callable policy.now }
         requires in_order { index < length self.old.order }
         ensures tried { (o : ℕ × B) → o ≡ slice_index_or self.old.order index o →
             (before after : Open) ×
             IsTried B.cmp o.1 self.old before after self.new ×
-            IsNotedAnswer (R.may rules.now) before.now sizes.now tests.old result
+            IsNotedAnswer (R.may policy.now) before.now sizes.now tests.old result
             buffers.new.locations.items after.now tests.new ×
             LeavesNotes result buffers.new.notes.items before.own after.own }
     {
         if index < self.out.len() {
-            return self.out[index].place_noted(sizes, rules, tests, buffers);
+            return self.out[index].place_noted(sizes, policy, tests, buffers);
         }
         let order = self.order;
         let (_, id) = &order[index];
         let bin = self.bins.get_mut(id).unwrap();
-        bin.place_noted(sizes, rules, tests, buffers)
+        bin.place_noted(sizes, policy, tests, buffers)
     }
 
     // Checks all bins in: where the packing is kept as it has them, and else with their own lists.

@@ -10,20 +10,20 @@ ghost use Rattle.rectangle_pack.specs.Bins.{Bin};
 ghost use Rattle.std.specs.Ordering.{eq_by_cmp};
 ghost use Rattle.rectangle_pack.specs.Numbers.{saturated};
 ghost use Rattle.rectangle_pack.specs.Orders.{IsBinOrder};
-ghost use Rattle.rectangle_pack.specs.Packing.{rules_by, bins_of, bars_by, at_start, Members, IsPlaced, IsRefused, AreAllPlaced, AreGroups, StopsAfter, PackingDone, PackingRefused};
+ghost use Rattle.rectangle_pack.specs.Packing.{rules_by, bins_of, excludes_by, at_start, Members, IsPlaced, IsRefused, AreAllPlaced, AreGroups, StopsAfter, PackingDone, PackingRefused};
 ghost use Rattle.rectangle_pack.specs.Groups.{entries_of};
 ghost use Rattle.rectangle_pack.specs.PackAnswers.{AreCounted};
-ghost use Rattle.rectangle_pack.specs.private.Barred.{are_in, went_to};
+ghost use Rattle.rectangle_pack.specs.private.Excluded.{are_in, went_to};
 ghost use Rattle.rectangle_pack.specs.private.Bounds.{AddsWithin};
 ghost use Rattle.rectangle_pack.specs.private.Orders.{keys_of_order, entries_at, SizesStandAt};
-ghost use Rattle.rectangle_pack.specs.private.TrialJournal.{RollsBackTo, StaysUndoable};
+ghost use Rattle.rectangle_pack.specs.private.RollBack.{RollsBackTo, StaysUndoable};
 
-use crate::closures::Ask;
+use crate::closures::Policy;
 use crate::grouped_rects_to_place::{Group, GroupedRectsToPlace};
 use crate::pack::answer::{Placement, name_all};
 use crate::pack::checkout::PackingBins;
 use crate::pack::journal::{DoneTrial, note_trial, undo_trials};
-use crate::pack::order::{Turn, group_order};
+use crate::pack::order::{OrderedGroup, group_order};
 use crate::rect_to_insert::RectToInsert;
 use crate::target_bin::TargetBin;
 use crate::target_bin::fit_tests::FitTests;
@@ -100,35 +100,35 @@ fn place_group<'b, Id, B, R, A>(
     ids: &[Id],
     sizes: &[RectToInsert],
     excluded: &BTreeSet<&'b B, A>,
-    rules: &R,
+    policy: &R,
 ) -> Result<Option<&'b B>, AllocError>
 where
     Id: Ord + Clone + Drop,
     B: Ord + Clone + Drop,
-    R: Ask,
+    R: Policy,
     A: Allocator + Copy,
     requires ids { (a b : Id) → Id.is_clone a b → IsTrue (Id.eq a b) }
     requires bin_ids { (a b : B) → B.is_clone a b → IsTrue (B.eq a b) }
-    requires callable { R.can_ask rules.now }
+    requires callable { R.is_callable policy.now }
     requires lengths { length ids.now ≡ length sizes.now }
     requires journal_room { vec_len packing.old.journal < vec_capacity packing.old.journal }
     ensures placed { IfOk result
         (λ placed.
-        let by = rules_by Id.cmp B.cmp (R.may rules.now) in
-        let bars = are_in B.cmp excluded.now.keys in
+        let by = rules_by Id.cmp B.cmp (R.may policy.now) in
+        let excludes = are_in B.cmp excluded.now.keys in
         let names = map (λ o. o.1) packing.old.bins.order in
         let group : Members Id = record { ids = ids.now; sizes = sizes.now } in
         let old = bins_of packing.old.bins.kept in
         let new = bins_of packing.new.bins.kept in
         MatchOption placed
         ((count : ℕ) ×
-        IsRefused by bars names group old count ×
+        IsRefused by excludes names group old count ×
         (new ≡ old) ×
         (packing.new.placements.items ≡ packing.old.placements.items) ×
         (packing.new.tests ≡ saturated (packing.old.tests + count)))
         (λ here.
         (added : List (Placement Id B)) × (count : ℕ) ×
-        (at : IsPlaced by bars names group old added new count) ×
+        (at : IsPlaced by excludes names group old added new count) ×
         (at.here ≡ here.now) ×
         (packing.new.placements.items ≡ packing.old.placements.items ++ added) ×
         (packing.new.tests ≡ saturated (packing.old.tests + count)))) }
@@ -152,7 +152,7 @@ where
         }
         let done = packing
             .bins
-            .try_bin(i, sizes, rules, &mut packing.tests, &mut packing.buffers)?;
+            .try_bin(i, sizes, policy, &mut packing.tests, &mut packing.buffers)?;
         if done {
             note_trial(&mut packing.journal, id, &mut packing.buffers.notes);
             name_all(
@@ -191,19 +191,19 @@ fn excluded_bins<'a, 'b, K: Ord, B: Ord, A: Allocator + Copy>(
 fn place_groups<'a, 'b, Id, B, GroupId, R, A>(
     packing: &mut Packing<'b, Id, B, A>,
     rects_to_place: &'a GroupedRectsToPlace<Id, GroupId, A>,
-    groups: &[Turn<'a, Group<GroupId, Id>, Id, A>],
+    groups: &[OrderedGroup<'a, Group<GroupId, Id>, Id, A>],
     sizes: &[RectToInsert],
-    rules: &R,
+    policy: &R,
 ) -> Result<bool, AllocError>
 where
     Id: Ord + Clone + Drop,
     B: Ord + Clone + Drop,
     GroupId: Ord + Clone + Drop,
-    R: Ask,
+    R: Policy,
     A: Allocator + Copy,
     requires ids { (a b : Id) → Id.is_clone a b → IsTrue (Id.eq a b) }
     requires bin_ids { (a b : B) → B.is_clone a b → IsTrue (B.eq a b) }
-    requires callable { R.can_ask rules.now }
+    requires callable { R.is_callable policy.now }
     requires listed { All
         (λ o.
         lookup (is_at (⟦<Group<GroupId, Id> as Ord>⟧.cmp o.1.now)) rects_to_place.now.groups ≡
@@ -216,9 +216,9 @@ where
     ensures packed { IfOk result
         (λ done.
         let group_cmp = ⟦<Group<GroupId, Id> as Ord>⟧.cmp in
-        let by = rules_by Id.cmp B.cmp (R.may rules.now) in
+        let by = rules_by Id.cmp B.cmp (R.may policy.now) in
         let all = rects_to_place.now in
-        let bars = bars_by group_cmp B.cmp all.partners in
+        let excludes = excludes_by group_cmp B.cmp all.partners in
         let names = map (λ o. o.1) packing.old.bins.order in
         let groups = keys_of_order groups.now in
         let old = bins_of packing.old.bins.kept in
@@ -227,11 +227,11 @@ where
         ((gs : List (Group GroupId Id × Members Id)) × (homes : List (Group GroupId Id × B)) ×
         (count : ℕ) ×
         AreGroups Id.cmp group_cmp all.sizes all.groups groups gs ×
-        AreAllPlaced by bars names gs (at_start old) packing.new.placements.items
+        AreAllPlaced by excludes names gs (at_start old) packing.new.placements.items
         (record { bins = new; homes = homes }) count ×
         (packing.new.tests ≡ saturated (packing.old.tests + count)))
         ((count : ℕ) ×
-        StopsAfter by bars group_cmp all.sizes all.groups groups names old new count ×
+        StopsAfter by excludes group_cmp all.sizes all.groups groups names old new count ×
         (packing.new.tests ≡ saturated (packing.old.tests + count)))) }
     ensures stopped { OnErr result
         (AddsWithin B.cmp (bins_of packing.old.bins.kept) (map (λ o. o.1) packing.old.bins.order)
@@ -251,7 +251,7 @@ where
         let members = &sizes[*start..*start + ids.len()];
         let partners = exclusions.partners(*group);
         let excluded = excluded_bins(alloc, partners, &homes)?;
-        match place_group(packing, ids.as_slice(), members, &excluded, rules)? {
+        match place_group(packing, ids.as_slice(), members, &excluded, policy)? {
             None => return Ok(false),
             Some(here) => {
                 if !partners.is_empty() {
@@ -269,18 +269,18 @@ pub(crate) fn pack_noted<Id, BinId, GroupId, R, A>(
     packing: &mut Packing<'_, Id, BinId, A>,
     rects_to_place: &GroupedRectsToPlace<Id, GroupId, A>,
     entries: usize,
-    rules: &R,
+    policy: &R,
 ) -> Result<bool, AllocError>
 where
     Id: Ord + Clone + Drop,
     BinId: Ord + Clone + Drop,
     GroupId: Ord + Clone + Drop,
-    R: Ask,
+    R: Policy,
     A: Allocator + Copy,
     requires ids { (a b : Id) → Id.is_clone a b → IsTrue (Id.eq a b) }
     requires bin_ids { (a b : BinId) → BinId.is_clone a b → IsTrue (BinId.eq a b) }
-    requires callable { R.can_ask rules.now }
-    requires order { IsBinOrder (R.may rules.now).rate BinId.cmp (bins_of packing.old.bins.kept)
+    requires callable { R.is_callable policy.now }
+    requires order { IsBinOrder (R.may policy.now).rate BinId.cmp (bins_of packing.old.bins.kept)
         packing.old.bins.order }
     requires distinct { IsDistinct (eq_by_cmp BinId.cmp)
         (keys_of (bins_of packing.old.bins.kept)) }
@@ -288,7 +288,7 @@ where
     ensures packed { IfOk result
         (λ done.
         let groups = ⟦<Group<GroupId, Id> as Ord>⟧.cmp in
-        let by = rules_by Id.cmp BinId.cmp (R.may rules.now) in
+        let by = rules_by Id.cmp BinId.cmp (R.may policy.now) in
         let old = bins_of packing.old.bins.kept in
         let new = bins_of packing.new.bins.kept in
         MatchBool done
@@ -313,13 +313,13 @@ where
     let lists = rects_to_place.groups();
     let alloc = *packing.journal.allocator();
     let mut sizes = Vec::with_capacity(alloc, entries)?;
-    let groups = group_order(alloc, rects, lists, rules, &mut sizes)?;
+    let groups = group_order(alloc, rects, lists, policy, &mut sizes)?;
     packing.placements.reserve(entries)?;
     place_groups(
         packing,
         rects_to_place,
         groups.as_slice(),
         sizes.as_slice(),
-        rules,
+        policy,
     )
 }

@@ -3,7 +3,7 @@ ghost use Rattle.std.specs.Prelude.{◌≡◌, ◌<◌, ◌+◌, ◌≤◌, ◌+
 ghost use Rattle.std.specs.Vec.{vec_capacity};
 ghost use Rattle.rectangle_pack.specs.Bins.{Bin};
 ghost use Rattle.rectangle_pack.specs.Packing.{bins_of};
-ghost use Rattle.rectangle_pack.specs.private.TrialJournal.{GoesBack, trials_noted};
+ghost use Rattle.rectangle_pack.specs.private.RollBack.{GoesBack, trials_noted};
 
 use crate::target_bin::TargetBin;
 use crate::target_bin::trial::Note;

@@ -9,7 +9,7 @@ ghost use Rattle.rectangle_pack.specs.Closures.{MayRateBy, MayCompare, answers};
 ghost use Rattle.rectangle_pack.specs.Choice.{IsFunction, IsTotalPreorder};
 ghost use Rattle.rectangle_pack.specs.Groups.{Collection};
 ghost use Rattle.rectangle_pack.specs.Exclusions.{are_excluded};
-ghost use Rattle.rectangle_pack.specs.Packing.{rules_by, bars_by, bars_none, AreKeptApart, PackingDone, PackingDoneBy, PackingRefused, PackingRefusedBy};
+ghost use Rattle.rectangle_pack.specs.Packing.{rules_by, excludes_by, excludes_none, AreKeptApart, PackingDone, PackingDoneBy, PackingRefused, PackingRefusedBy};
 ghost use Rattle.rectangle_pack.specs.Placed.{AreLastPlacements, ArePlacedWhole};
 ghost use Rattle.rectangle_pack.specs.Keeping.{KeepsEachBin};
 ghost use Rattle.rectangle_pack.specs.SmallestBox.{IsSmallestOrder};
@@ -120,7 +120,7 @@ where
         KeepsEachBin BinId.cmp old placements new }
 {}
 
-/// A law: where no two groups are excluded, a packing is one that bars no bin, done or refused, and
+/// A law: where no two groups are excluded, a packing is one that excludes no bin, done or refused, and
 /// makes as many fit tests.
 pub fn packing_without_exclusions<Id: Ord, BinId: Ord, GroupId: Ord, H, C>(
     heuristic: &H,
@@ -135,7 +135,7 @@ where
         ((a b : Group GroupId Id) → are_excluded groups all.partners a b ≡ false) →
         (old new : List (BinId × Bin)) (placements : List (Placement Id BinId)) (n : ℕ) →
         ((done : PackingDone groups rules all old placements new) × (done.tests ≡ n)) ↔
-        ((done : PackingDoneBy groups rules bars_none all old placements new) ×
+        ((done : PackingDoneBy groups rules excludes_none all old placements new) ×
         (done.tests ≡ n)) }
     ensures refused { let groups = ⟦<Group<GroupId, Id> as Ord>⟧.cmp in
         let rules = rules_by Id.cmp BinId.cmp (answers H.Fn C.Fn heuristic.now comparison.now) in
@@ -143,7 +143,7 @@ where
         ((a b : Group GroupId Id) → are_excluded groups all.partners a b ≡ false) →
         (old new : List (BinId × Bin)) (n : ℕ) →
         ((refused : PackingRefused groups rules all old new) × (refused.tests ≡ n)) ↔
-        ((refused : PackingRefusedBy groups rules bars_none all old new) ×
+        ((refused : PackingRefusedBy groups rules excludes_none all old new) ×
         (refused.tests ≡ n)) }
 {}
 
@@ -159,7 +159,7 @@ where
         ClosuresDecide boxes bins (answers H.Fn C.Fn heuristic.now comparison.now) }
 {}
 
-/// A law: where the refused group has one entry, no free section of a bin that is not barred for
+/// A law: where the refused group has one entry, no free section of a bin that is not excluded for
 /// it, as the groups before it left them, holds its box.
 pub fn refused_box_is_held_nowhere<Id: Ord, BinId: Ord, GroupId: Ord, H, C>(
     heuristic: &H,
@@ -174,7 +174,7 @@ where
         (refused : PackingRefused groups rules all old new) →
         let stops = refused.stops in
         (size : Size) → stops.next.1.sizes ≡ size ∷ [] → (id : BinId) (bin : Bin) →
-        bars_by groups BinId.cmp all.partners stops.homes stops.next.0 id ≡ false →
+        excludes_by groups BinId.cmp all.partners stops.homes stops.next.0 id ≡ false →
         lookup (is_at (BinId.cmp id)) new ≡ Some bin →
         All (λ s. ¬ Holds s size) bin.sections }
 {}

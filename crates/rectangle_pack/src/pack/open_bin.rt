@@ -4,7 +4,7 @@ ghost use Rattle.rectangle_pack.specs.Bins.{IsSound};
 ghost use Rattle.rectangle_pack.specs.private.Checkout.{closed};
 ghost use Rattle.rectangle_pack.specs.private.TrialNotes.{IsNotedAnswer, LeavesNotes};
 
-use crate::closures::Ask;
+use crate::closures::Policy;
 use crate::rect_to_insert::RectToInsert;
 use crate::target_bin::TargetBin;
 use crate::target_bin::fit_tests::FitTests;
@@ -50,14 +50,14 @@ impl<A: Allocator + Copy> OpenBin<A> {
     pub(crate) fn place_noted<R>(
         &mut self,
         members: &[RectToInsert],
-        rules: &R,
+        policy: &R,
         tests: &mut FitTests,
         buffers: &mut Buffers<A>,
     ) -> Result<bool, AllocError>
     where
-        R: Ask,
-        requires callable { R.can_ask rules.now }
-        ensures answer { IsNotedAnswer (R.may rules.now) self.old.now members.now tests.old result
+        R: Policy,
+        requires callable { R.is_callable policy.now }
+        ensures answer { IsNotedAnswer (R.may policy.now) self.old.now members.now tests.old result
             buffers.new.locations.items self.new.now tests.new }
         ensures noted { LeavesNotes result buffers.new.notes.items self.old.own self.new.own }
         ensures room { self.old.own.room ≤ self.new.own.room }
@@ -66,13 +66,13 @@ impl<A: Allocator + Copy> OpenBin<A> {
     {
         let sections = self.bin.available_bin_sections().len();
         if self.slots.is_none() && !are_worth_it(sections, members.len(), self.boxes) {
-            return self.bin.place_noted(members, rules, tests, buffers);
+            return self.bin.place_noted(members, policy, tests, buffers);
         }
         place_slotted(
             &mut self.bin,
             &mut self.slots,
             members,
-            rules,
+            policy,
             tests,
             buffers,
         )

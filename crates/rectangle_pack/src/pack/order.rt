@@ -13,7 +13,7 @@ ghost use Rattle.rectangle_pack.specs.Groups.{HaveSizes, MembersHaveSizes, lists
 ghost use Rattle.rectangle_pack.specs.Boxes.{Size};
 ghost use Rattle.rectangle_pack.specs.Numbers.{saturated};
 
-use crate::closures::Ask;
+use crate::closures::Policy;
 use crate::rect_to_insert::RectToInsert;
 use crate::target_bin::TargetBin;
 use crate::width_height_depth::WidthHeightDepth;
@@ -22,15 +22,15 @@ use std::cmp::Reverse;
 use std::collections::BTreeMap;
 
 // The saturating sum of the rates of the sizes.
-fn group_key<R: Ask>(sizes: &[RectToInsert], rules: &R) -> u128
-    requires { R.can_ask rules.now }
+fn group_key<R: Policy>(sizes: &[RectToInsert], policy: &R) -> u128
+    requires { R.is_callable policy.now }
     ensures { (rates : List ℕ) ×
-        AllZip (R.may rules.now).rate sizes.now rates ×
+        AllZip (R.may policy.now).rate sizes.now rates ×
         (result ≡ saturated (sum rates)) }
 {
     let mut key = 0u128;
     for size in sizes {
-        key = key.saturating_add(rules.rate(WidthHeightDepth::from(*size)));
+        key = key.saturating_add(policy.rate(WidthHeightDepth::from(*size)));
     }
     key
 }
@@ -60,16 +60,16 @@ where
 pub(crate) fn bin_order<B, R, A>(
     alloc: A,
     bins: &BTreeMap<B, TargetBin<A>, A>,
-    rules: &R,
+    policy: &R,
 ) -> Result<Vec<(u128, B), A>, AllocError>
 where
     B: Ord + Clone + Drop,
-    R: Ask,
+    R: Policy,
     A: Allocator + Copy,
     requires bin_ids { (a b : B) → B.is_clone a b → IsTrue (B.eq a b) }
-    requires callable { R.can_ask rules.now }
+    requires callable { R.is_callable policy.now }
     ensures order { IfOk result
-        (λ v. IsBinOrder (R.may rules.now).rate B.cmp (bins_of bins.now.entries) v.items) }
+        (λ v. IsBinOrder (R.may policy.now).rate B.cmp (bins_of bins.now.entries) v.items) }
     ensures found { IfOk result (λ v. All (λ o. IsSome (get B.cmp bins.now o.1)) v.items) }
     ensures ids { IfOk result (λ v. IsDistinct (eq_by_cmp B.cmp) (map (λ o. o.1) v.items)) }
     ensures distinct { OnOk result
@@ -77,18 +77,18 @@ where
 {
     let mut order = Vec::with_capacity(alloc, bins.len())?;
     for (id, bin) in bins {
-        order.push((rules.rate(bin.max_size()), id.clone()?))?;
+        order.push((policy.rate(bin.max_size()), id.clone()?))?;
     }
     order.sort_unstable();
     Ok(order)
 }
 
 // A group in an order: its key, its name, its ids, and where their sizes begin among those of all.
-pub(crate) type Turn<'a, K, Id, A> = (Reverse<u128>, &'a K, &'a Vec<Id, A>, usize);
+pub(crate) type OrderedGroup<'a, K, Id, A> = (Reverse<u128>, &'a K, &'a Vec<Id, A>, usize);
 
 // By falling key, and at equal keys as they come. Where the sizes of a group begin rises with its
 // name, and is compared in its place, so that no reference is followed.
-fn sort_falling<K: Ord, Id: Ord, A: Allocator>(order: &mut Vec<Turn<'_, K, Id, A>, A>)
+fn sort_falling<K: Ord, Id: Ord, A: Allocator>(order: &mut Vec<OrderedGroup<'_, K, Id, A>, A>)
     requires rising { AllPairs (λ o p. (K.cmp o.1.now p.1.now ≡ Less) × (o.3 < p.3)) order.old.items }
     ensures permutation { IsPermutation (keys_of_order order.old.items)
         (keys_of_order order.new.items) }
@@ -103,19 +103,19 @@ pub(crate) fn group_order<'a, Id, K, R, A>(
     alloc: A,
     rects: &BTreeMap<Id, RectToInsert, A>,
     lists: &'a BTreeMap<K, Vec<Id, A>, A>,
-    rules: &R,
+    policy: &R,
     sizes: &mut Vec<RectToInsert, A>,
-) -> Result<Vec<Turn<'a, K, Id, A>, A>, AllocError>
+) -> Result<Vec<OrderedGroup<'a, K, Id, A>, A>, AllocError>
 where
     Id: Ord,
     K: Ord,
-    R: Ask,
+    R: Policy,
     A: Allocator + Copy,
     requires sized { MembersHaveSizes Id.cmp rects.now.entries (lists_of lists.now.entries) }
-    requires callable { R.can_ask rules.now }
+    requires callable { R.is_callable policy.now }
     ensures order { IfOk result
         (λ v.
-        IsGroupOrder (R.may rules.now).rate K.cmp Id.cmp rects.now.entries
+        IsGroupOrder (R.may policy.now).rate K.cmp Id.cmp rects.now.entries
         (lists_of lists.now.entries) (keys_of_order v.items)) }
     ensures listed { IfOk result
         (λ v. All (λ o. get K.cmp lists.now o.1.now ≡ Some o.2.now) v.items) }
@@ -133,7 +133,7 @@ where
     for (group, ids) in lists {
         let start = sizes.len();
         add_sizes(sizes, ids.as_slice(), rects)?;
-        let key = group_key(&sizes[start..], rules);
+        let key = group_key(&sizes[start..], policy);
         order.push((Reverse(key), group, ids, start))?;
     }
     sort_falling(&mut order);

@@ -2,7 +2,7 @@
 ghost use Rattle.std.specs.Prelude.{◌≡◌, ◌++◌, ◌∷◌, [], filter, IfOk, OnOk};
 ghost use Rattle.rectangle_pack.specs.Bins.{whole};
 ghost use Rattle.rectangle_pack.specs.Boxes.{FitsU32, has_cells};
-ghost use Rattle.rectangle_pack.specs.Session.{standing_in, boxes_of};
+ghost use Rattle.rectangle_pack.specs.Session.{outstanding_in, boxes_of};
 ghost use Rattle.rectangle_pack.specs.PlanAnswers.{IsPlanAnswer};
 
 use crate::bin_section::BinSection;
@@ -42,14 +42,14 @@ fn gather_free<A: Allocator>(
 }
 
 // Puts the boxes with cells that stand in the bin at the end of the list.
-fn gather_standing<Id, B: Ord, A: Allocator>(
+fn gather_outstanding<Id, B: Ord, A: Allocator>(
     boxes: &mut Vec<BinSection, A>,
     outstanding: &[Outstanding<Id, B>],
     bin: &B,
 ) -> Result<(), AllocError>
     ensures { OnOk result
         (boxes.new.items ≡
-        boxes.old.items ++ filter has_cells (standing_in B.cmp outstanding.now bin.now)) }
+        boxes.old.items ++ filter has_cells (outstanding_in B.cmp outstanding.now bin.now)) }
 {
     for placement in outstanding {
         if placement.bin == *bin {
@@ -79,7 +79,7 @@ fn boxes_of<Id, B: Ord, A: Allocator + Copy>(
 {
     let mut boxes = Vec::new(alloc);
     gather_free(&mut boxes, bin.available_bin_sections().as_slice())?;
-    gather_standing(&mut boxes, outstanding, id)?;
+    gather_outstanding(&mut boxes, outstanding, id)?;
     Ok(boxes)
 }
 

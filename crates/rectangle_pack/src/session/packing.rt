@@ -6,7 +6,7 @@ ghost use Rattle.rectangle_pack.specs.Groups.{entries_of};
 ghost use Rattle.rectangle_pack.specs.Packing.{rules_by, bins_of, PackingDone, PackingRefused};
 ghost use Rattle.rectangle_pack.specs.Session.{numbered};
 
-use crate::closures::Ask;
+use crate::closures::Policy;
 use crate::grouped_rects_to_place::{Group, GroupedRectsToPlace};
 use crate::pack::Placement;
 use crate::pack::first_fit::{Packing, pack_noted};
@@ -25,23 +25,23 @@ pub(crate) fn pack_into<Id, BinId, GroupId, R, A>(
     outstanding: &mut Vec<Outstanding<Id, BinId>, A>,
     first: u64,
     count: u64,
-    rules: &R,
+    policy: &R,
 ) -> Result<bool, AllocError>
 where
     Id: Ord + Clone + Drop,
     BinId: Ord + Clone + Drop,
     GroupId: Ord + Clone + Drop,
-    R: Ask,
+    R: Policy,
     A: Allocator + Copy,
     requires ids { (a b : Id) → Id.is_clone a b → IsTrue (Id.eq a b) }
     requires bin_ids { (a b : BinId) → BinId.is_clone a b → IsTrue (BinId.eq a b) }
-    requires callable { R.can_ask rules.now }
+    requires callable { R.is_callable policy.now }
     requires count { count ≡ entries_of groups.now }
     requires fits { first + count < 2 ^ 64 }
     ensures packed { IfOk result
         (λ done.
         let order = ⟦<Group<GroupId, Id> as Ord>⟧.cmp in
-        let by = rules_by Id.cmp BinId.cmp (R.may rules.now) in
+        let by = rules_by Id.cmp BinId.cmp (R.may policy.now) in
         let old = bins_of bins.old.entries in
         let new = bins_of bins.new.entries in
         MatchBool done
@@ -64,10 +64,10 @@ where
     }
     outstanding.reserve(count as usize)?;
     let alloc = *outstanding.allocator();
-    let order = bin_order(alloc, bins, rules)?;
+    let order = bin_order(alloc, bins, policy)?;
     let old = mem::replace(bins, BTreeMap::new(alloc));
     let mut packing = Packing::new(old, order.as_slice(), alloc);
-    match pack_noted(&mut packing, groups, count as usize, rules) {
+    match pack_noted(&mut packing, groups, count as usize, policy) {
         Ok(true) => {
             let (kept, placements) = packing.keep();
             *bins = kept;

@@ -6,7 +6,7 @@ ghost use Rattle.rectangle_pack.specs.Packing.{rules_by};
 ghost use Rattle.rectangle_pack.specs.Promise.{IsRunAnswer};
 ghost use Rattle.rectangle_pack.specs.Session.{IsSession, AddsBin, IsTransition, reply_of};
 
-use crate::closures::{Ask, Closures};
+use crate::closures::{Closures, Policy};
 use crate::grouped_rects_to_place::Group;
 use crate::session::Session;
 use crate::session::command::{Command, Reply, SessionError};
@@ -51,26 +51,26 @@ where
             IsRunAnswer order rules commands.now self.old result self.new }
         ensures always { IsSession BinId.cmp self.new }
     {
-        let rules = Closures {
+        let policy = Closures {
             heuristic,
             comparison,
         };
         let mut replies = Vec::with_capacity(*self.outstanding.allocator(), commands.len())?;
         for command in commands {
-            replies.push_reserved(self.obey(command, &rules));
+            replies.push_reserved(self.obey(command, &policy));
         }
         Ok(replies)
     }
 
-    fn obey<GroupId, R>(&mut self, command: &Command<Id, BinId, GroupId, A>, rules: &R) -> Reply
+    fn obey<GroupId, R>(&mut self, command: &Command<Id, BinId, GroupId, A>, policy: &R) -> Reply
     where
         GroupId: Ord + Clone + Drop,
-        R: Ask,
+        R: Policy,
         requires ids { (a b : Id) → Id.is_clone a b → IsTrue (Id.eq a b) }
         requires bin_ids { (a b : BinId) → BinId.is_clone a b → IsTrue (BinId.eq a b) }
-        requires callable { R.can_ask rules.now }
+        requires callable { R.is_callable policy.now }
         ensures { let order = ⟦<Group<GroupId, Id> as Ord>⟧.cmp in
-            IsTransition order (rules_by Id.cmp BinId.cmp (R.may rules.now)) command.now
+            IsTransition order (rules_by Id.cmp BinId.cmp (R.may policy.now)) command.now
             self.old result self.new }
     {
         match command {
@@ -80,7 +80,7 @@ where
                 height,
                 depth,
             } => reply(self.add_clone(id, *width, *height, *depth)),
-            Command::Pack(groups) => match self.pack_by(groups, rules) {
+            Command::Pack(groups) => match self.pack_by(groups, policy) {
                 Ok(packed) => Reply::Packed(packed),
                 Err(error) => Reply::Refused(error),
             },

@@ -5,7 +5,7 @@ ghost use Rattle.std.specs.BTreeMap.{is_at};
 ghost use Rattle.std.specs.Option.{option_map};
 ghost use Rattle.rectangle_pack.specs.Bins.{Bin};
 ghost use Rattle.rectangle_pack.specs.Counting.{total_volume};
-ghost use Rattle.rectangle_pack.specs.Session.{standing_in};
+ghost use Rattle.rectangle_pack.specs.Session.{outstanding_in};
 ghost use Rattle.rectangle_pack.specs.Stats.{stats_of};
 
 use crate::bin_section::BinSection;
@@ -40,18 +40,18 @@ where
     /// This looks once at each free section of the bin, and once at each outstanding placement of
     /// the session.
     pub fn stats(&self, bin: &BinId) -> Option<BinStats>
-        ensures stats { let standing = standing_in BinId.cmp self.now.records bin.now in
-            result ≡ option_map (λ (b : Bin). stats_of b standing)
+        ensures stats { let boxes = outstanding_in BinId.cmp self.now.outstanding bin.now in
+            result ≡ option_map (λ (b : Bin). stats_of b boxes)
             (lookup (is_at (BinId.cmp bin.now)) self.now.bins) }
         ensures whole { IfSome result (λ s. s.free_volume + s.placed_volume ≡ s.bin_volume) }
     {
         let place = self.bins.get(bin)?;
         let bin_volume = place.max_size().volume();
         let sections = place.available_bin_sections().as_slice();
-        let (placed_volume, placements) = placed_in(self.outstanding.as_slice(), bin);
+        let (placed_volume, placements) = totals_in(self.outstanding.as_slice(), bin);
         Some(BinStats {
             bin_volume,
-            free_volume: free_in(sections),
+            free_volume: free_volume_of(sections),
             placed_volume,
             free_sections: sections.len(),
             placements,
@@ -60,7 +60,7 @@ where
 }
 
 // The volumes of sections, added up.
-fn free_in(sections: &[BinSection]) -> u128
+fn free_volume_of(sections: &[BinSection]) -> u128
     requires { total_volume sections.now < 2 ^ 128 }
     ensures { result ≡ total_volume sections.now }
 {
@@ -68,10 +68,10 @@ fn free_in(sections: &[BinSection]) -> u128
 }
 
 // The volumes of the boxes that stand in a bin, added up, and how many there are.
-fn placed_in<Id, B: Ord>(outstanding: &[Outstanding<Id, B>], bin: &B) -> (u128, usize)
-    requires { total_volume (standing_in B.cmp outstanding.now bin.now) < 2 ^ 128 }
-    ensures volume { result.0 ≡ total_volume (standing_in B.cmp outstanding.now bin.now) }
-    ensures count { result.1 ≡ length (standing_in B.cmp outstanding.now bin.now) }
+fn totals_in<Id, B: Ord>(outstanding: &[Outstanding<Id, B>], bin: &B) -> (u128, usize)
+    requires { total_volume (outstanding_in B.cmp outstanding.now bin.now) < 2 ^ 128 }
+    ensures volume { result.0 ≡ total_volume (outstanding_in B.cmp outstanding.now bin.now) }
+    ensures count { result.1 ≡ length (outstanding_in B.cmp outstanding.now bin.now) }
 {
     let mut volume = 0;
     let mut count = 0;

@@ -3,7 +3,7 @@ ghost use Rattle.std.specs.Prelude.{◌≡◌, ◌≤◌, Some};
 ghost use Rattle.rectangle_pack.specs.private.Checkout.{with_slots, CanWriteBack};
 ghost use Rattle.rectangle_pack.specs.private.TrialNotes.{IsNotedAnswer, LeavesNotes};
 
-use crate::closures::Ask;
+use crate::closures::Policy;
 use crate::rect_to_insert::RectToInsert;
 use crate::target_bin::TargetBin;
 use crate::target_bin::fit_tests::FitTests;
@@ -31,16 +31,16 @@ pub(crate) fn place_slotted<R, A>(
     bin: &mut TargetBin<A>,
     slots: &mut Option<SectionSlots<A>>,
     members: &[RectToInsert],
-    rules: &R,
+    policy: &R,
     tests: &mut FitTests,
     buffers: &mut Buffers<A>,
 ) -> Result<bool, AllocError>
 where
-    R: Ask,
+    R: Policy,
     A: Allocator + Copy,
-    requires callable { R.can_ask rules.now }
+    requires callable { R.is_callable policy.now }
     requires can_write_back { CanWriteBack bin.old slots.old }
-    ensures answer { IsNotedAnswer (R.may rules.now) (with_slots bin.old.bin slots.old) members.now
+    ensures answer { IsNotedAnswer (R.may policy.now) (with_slots bin.old.bin slots.old) members.now
         tests.old result buffers.new.locations.items (with_slots bin.new.bin slots.new) tests.new }
     ensures noted { LeavesNotes result buffers.new.notes.items bin.old bin.new }
     ensures bin { bin.new.bin ≡ bin.old.bin }
@@ -56,7 +56,7 @@ where
         *slots = Some(bin.in_slots(members.len() * 3)?);
     }
     match slots {
-        Some(slots) => place_in(bin, slots, members, rules, tests, buffers),
+        Some(slots) => place_in(bin, slots, members, policy, tests, buffers),
         None => unreachable!(),
     }
 }
@@ -66,16 +66,16 @@ fn place_in<R, A>(
     bin: &mut TargetBin<A>,
     slots: &mut SectionSlots<A>,
     members: &[RectToInsert],
-    rules: &R,
+    policy: &R,
     tests: &mut FitTests,
     buffers: &mut Buffers<A>,
 ) -> Result<bool, AllocError>
 where
-    R: Ask,
+    R: Policy,
     A: Allocator + Copy,
-    requires callable { R.can_ask rules.now }
+    requires callable { R.is_callable policy.now }
     requires can_write_back { CanWriteBack bin.old (Some slots.old) }
-    ensures answer { IsNotedAnswer (R.may rules.now) (with_slots bin.old.bin (Some slots.old))
+    ensures answer { IsNotedAnswer (R.may policy.now) (with_slots bin.old.bin (Some slots.old))
         members.now tests.old result buffers.new.locations.items
         (with_slots bin.new.bin (Some slots.new)) tests.new }
     ensures noted { LeavesNotes result buffers.new.notes.items bin.old bin.new }
@@ -85,7 +85,7 @@ where
 {
     slots.reserve(members.len() * 3)?;
     bin.make_room(slots.slots() + members.len() * 2)?;
-    let done = run_trial(slots, members, rules, tests, buffers)?;
+    let done = run_trial(slots, members, policy, tests, buffers)?;
     buffers.notes.clear();
     Ok(done)
 }

@@ -6,14 +6,14 @@ ghost use Rattle.rectangle_pack.specs.Boxes.{Size, Cuboid, Holds, FitsU32, has_c
 ghost use Rattle.rectangle_pack.specs.Choice.{IsAllowedCut};
 ghost use Rattle.rectangle_pack.specs.Cuts.{placed};
 ghost use Rattle.rectangle_pack.specs.Steps.{IsStep, AreLeft};
-ghost use Rattle.rectangle_pack.specs.private.Ranks.{by_falling_rate};
+ghost use Rattle.rectangle_pack.specs.private.FallingRates.{by_falling_rate};
 ghost use Rattle.rectangle_pack.specs.private.TrialNotes.{IsTried};
 
 pub(crate) mod plain;
 mod slots;
 
 use crate::bin_section::BinSection;
-use crate::closures::Ask;
+use crate::closures::Policy;
 use crate::packed_location::PackedLocation;
 use crate::rect_to_insert::RectToInsert;
 use crate::target_bin::fit_tests::FitTests;
@@ -60,14 +60,14 @@ pub(crate) trait FreeList {
 
     // Places one member into the section at this index, and notes the step. Before it, room is made
     // for so many steps; where it is there, that takes no memory. An error is want of memory.
-    fn place<R: Ask>(
+    fn place<R: Policy>(
         &mut self,
         index: usize,
         member: &RectToInsert,
-        rules: &R,
+        policy: &R,
         steps: usize,
     ) -> Result<(PackedLocation, Note), AllocError>
-        requires callable { R.can_ask rules.now }
+        requires callable { R.is_callable policy.now }
         requires fits { All FitsU32 (sections self.old) }
         requires newest { (tests : ℕ) × IsNewest self.old member.now index tests }
         requires some { 0 < steps }
@@ -79,7 +79,7 @@ pub(crate) trait FreeList {
         ensures step { IfOk result
             (λ r.
             (tests : ℕ) → IsNewest self.old member.now index tests →
-            IsStep (R.may rules.now) (sections self.old) member.now r.0 (sections self.new)
+            IsStep (R.may policy.now) (sections self.old) member.now r.0 (sections self.new)
             tests) }
         ensures noted { IfOk result
             (λ r.
@@ -141,24 +141,24 @@ fn by_falling_rate(
 // Places a member at the corner of a section that holds it: its location, and the three pieces that
 // are left of the section, by falling rate.
 #[inline(always)]
-fn place_in<R: Ask>(
+fn place_in<R: Policy>(
     section: &BinSection,
     member: &RectToInsert,
-    rules: &R,
+    policy: &R,
 ) -> (PackedLocation, [BinSection; 3])
-    requires callable { R.can_ask rules.now }
+    requires callable { R.is_callable policy.now }
     requires ends { FitsU32 section.now }
     requires holds { Holds section.now member.now }
     ensures location { result.0 ≡ placed section.now member.now }
     ensures pieces { (cut : List Cuboid) ×
-        IsAllowedCut (R.may rules.now).prefer section.now member.now cut ×
-        AreLeft (R.may rules.now).rate cut (filter has_cells result.1) }
+        IsAllowedCut (R.may policy.now).prefer section.now member.now cut ×
+        AreLeft (R.may policy.now).rate cut (filter has_cells result.1) }
 {
-    let (location, [right, above, behind]) = rules.place(section, member);
+    let (location, [right, above, behind]) = policy.place(section, member);
     let pieces = by_falling_rate(
-        (rules.rate(right.whd()), right),
-        (rules.rate(above.whd()), above),
-        (rules.rate(behind.whd()), behind),
+        (policy.rate(right.whd()), right),
+        (policy.rate(above.whd()), above),
+        (policy.rate(behind.whd()), behind),
     );
     (location, pieces)
 }
@@ -202,18 +202,18 @@ impl<A: Allocator + Copy> Buffers<A> {
 pub(crate) fn run_trial<L, R, A>(
     list: &mut L,
     members: &[RectToInsert],
-    rules: &R,
+    policy: &R,
     tests: &mut FitTests,
     buffers: &mut Buffers<A>,
 ) -> Result<bool, AllocError>
 where
     L: FreeList,
-    R: Ask,
+    R: Policy,
     A: Allocator + Copy,
-    requires callable { R.can_ask rules.now }
+    requires callable { R.is_callable policy.now }
     requires fits { All FitsU32 (L.sections list.old) }
     ensures room { L.room list.old ≤ L.room list.new }
-    ensures tried { IsTried (R.may rules.now) (L.sections list.old) members.now tests.old result
+    ensures tried { IsTried (R.may policy.now) (L.sections list.old) members.now tests.old result
         buffers.new.locations.items (L.sections list.new) tests.new }
     ensures noted { IfOk result
         (λ done.
@@ -233,7 +233,7 @@ where
         };
         let steps = members.len() - i;
         buffers.reserve(steps)?;
-        let (location, note) = list.place(index, member, rules, steps)?;
+        let (location, note) = list.place(index, member, policy, steps)?;
         tests.add(found.tests);
         buffers.locations.push_reserved(location);
         buffers.notes.push_reserved(note);

@@ -8,14 +8,14 @@ pub write_all-requires-clause-within : goal.write_all-requires-clause-within
 write_all-requires-clause-within c =
     let all = c.in-Ok-collection_of in
     let same : length c.args.placements.now ≡ length c.args.boxes.now = c.if-placements-boxes.false in
-    rw (same, c.outstanding.ensures.records)
+    rw (same, c.outstanding.ensures.outstanding)
     (answer_ids _ _ c.args.bins.now c.args.boxes.now all.rects all.ensures.collected c.in-Ok.session c.pack.new.self c.in-Ok-pack.field-0 c.in-Ok-pack.ensures.packed.1
     (same_order _ (λ a b. refl) (λ a b. refl) (λ a b. refl) (λ a b. refl)) c.in-Ok.ensures)
 
 pub write_all-requires-clause-once : goal.write_all-requires-clause-once
 write_all-requires-clause-once c =
     let all = c.in-Ok-collection_of in
-    rw c.outstanding.ensures.records
+    rw c.outstanding.ensures.outstanding
     (answer_once _ _ c.args.bins.now c.args.boxes.now all.rects all.ensures.collected c.in-Ok.session c.pack.new.self c.in-Ok-pack.field-0 c.in-Ok-pack.ensures.packed.1
     (same_order _ (λ a b. refl) (λ a b. refl) (λ a b. refl) (λ a b. refl)) c.in-Ok.ensures)
 
@@ -23,14 +23,14 @@ pub returns-in-Ok-pack-clause-done : goal.returns-in-Ok-pack-clause-done
 returns-in-Ok-pack-clause-done c = λ _.
     let all = c.in-Ok-collection_of in
     answer_placed _ _ c.args.bins.now c.args.boxes.now all.rects all.ensures.collected c.in-Ok.session c.pack.new.self c.in-Ok-pack.field-0 c.in-Ok-pack.ensures.packed.1
-    (same_order _ (λ a b. refl) (λ a b. refl) (λ a b. refl) (λ a b. refl)) c.in-Ok.ensures c.write_all.new.placements (rw c.outstanding.ensures.records at c.write_all.ensures)
+    (same_order _ (λ a b. refl) (λ a b. refl) (λ a b. refl) (λ a b. refl)) c.in-Ok.ensures c.write_all.new.placements (rw c.outstanding.ensures.outstanding at c.write_all.ensures)
 
 pub returns-in-Ok-pack-clause-packed : goal.returns-in-Ok-pack-clause-packed
 returns-in-Ok-pack-clause-packed c = λ _.
     let all = c.in-Ok-collection_of in
     let as_many : length c.write_all.new.placements ≡ length c.args.boxes.now = c.write_all.auto.placements ∙ c.if-placements-boxes.false in
     answer_packed _ _ c.args.bins.now c.args.boxes.now all.rects all.ensures.collected c.in-Ok.session c.pack.new.self c.in-Ok-pack.field-0 c.in-Ok-pack.ensures.packed.1
-    (same_order _ (λ a b. refl) (λ a b. refl) (λ a b. refl) (λ a b. refl)) c.in-Ok.ensures c.write_all.new.placements (rw c.outstanding.ensures.records at c.write_all.ensures) as_many
+    (same_order _ (λ a b. refl) (λ a b. refl) (λ a b. refl) (λ a b. refl)) c.in-Ok.ensures c.write_all.new.placements (rw c.outstanding.ensures.outstanding at c.write_all.ensures) as_many
     (record { rate = λ size rate says. (says.small, says.says.1); prefer = λ first second r says. smallest_includes (λ size rate. Size × (rate ≡ volume_of size)) (λ size rate rates. rates.1) first second r says.first_three.small says.second_three.small says.says.2 })
 
 pub returns-in-Ok-pack-clause-one_packing : goal.returns-in-Ok-pack-clause-one_packing

@@ -8,7 +8,7 @@ use Rattle.std.proofs.lemmas.List.Kept.{AllPairs-cons}
 use Rattle.std.proofs.lemmas.List.Sorted.{IsPermutation-refl, IsPermutation-cons, IsPermutation-trans, IsPermutation-middle, All-permutation}
 use Rattle.rectangle_pack.specs.Boxes.{Cuboid}
 use Rattle.rectangle_pack.specs.Steps.{AreRanked}
-use Rattle.rectangle_pack.specs.private.Ranks.{put_in, by_falling_rate}
+use Rattle.rectangle_pack.specs.private.FallingRates.{put_in, by_falling_rate}
 use Rattle.rectangle_pack.proofs.lemmas.cuts.Counting.{AllPairs-head, AllPairs-tail, filter_none}
 
 abbrev Falls : List (ℕ × Cuboid) → Type 0

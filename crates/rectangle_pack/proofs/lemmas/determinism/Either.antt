@@ -17,7 +17,7 @@ use Rattle.rectangle_pack.specs.Cuts.{cuts, sizes_of}
 use Rattle.rectangle_pack.specs.Groups.{Collection}
 use Rattle.rectangle_pack.specs.Orders.{IsGroupKey, IsGroupOrder, IsBinOrder}
 use Rattle.rectangle_pack.specs.Steps.{AreLeft, IsStep, IsDone, IsStuck}
-use Rattle.rectangle_pack.specs.Packing.{Rules, rules_by, Members, Stage, at_start, bars_by, IsStuckIn, DoesNotTake, IsPlaced, IsRefused, AreAllPlaced, StopsAfter, PackingDoneBy, PackingRefusedBy}
+use Rattle.rectangle_pack.specs.Packing.{Rules, rules_by, Members, Stage, at_start, excludes_by, IsStuckIn, DoesNotTake, IsPlaced, IsRefused, AreAllPlaced, StopsAfter, PackingDoneBy, PackingRefusedBy}
 use Rattle.rectangle_pack.specs.Results.{either_of, ClosuresDecide, HaveOneResult}
 use Rattle.rectangle_pack.specs.SmallestBox.{IsSmallestOrder}
 use Rattle.rectangle_pack.proofs.lemmas.cuts.SmallestBox.{smallest_is_preorder, total_decides}
@@ -135,22 +135,22 @@ module _ {Id B : Type 0} (cmp : Id → Id → Ordering) (bin_cmp : B → B → O
       some_weaker (λ (bin : Bin). IsStuck may bin.sections group.sizes n) (λ (bin : Bin). IsStuck more bin.sections group.sizes n)
       (λ bin. stuck_more may more includes bin.sections group.sizes n) (lookup (is_at (bin_cmp id)) bins)
 
-  passed_more : (barred : B → Bool) (bins : List (B × Bin)) (group : Members Id) (id : B) (n : ℕ) → DoesNotTake Less barred bins group id n → DoesNotTake More barred bins group id n
-  passed_more barred bins group id n = by (barred id)
+  passed_more : (excluded : B → Bool) (bins : List (B × Bin)) (group : Members Id) (id : B) (n : ℕ) → DoesNotTake Less excluded bins group id n → DoesNotTake More excluded bins group id n
+  passed_more excluded bins group id n = by (excluded id)
     where
       by : (b : Bool) → MatchBool b (n ≡ 0) (IsStuckIn Less bins group id n) → MatchBool b (n ≡ 0) (IsStuckIn More bins group id n)
       by true h = h
       by false h = stuck_in_more bins group id n h
 
-  abbrev placed_more : (barred : B → Bool) (order : List B) (group : Members Id) (old : List (B × Bin)) (placements : List (Placement Id B)) (new : List (B × Bin)) (n : ℕ)
-      → IsPlaced Less barred order group old placements new n → IsPlaced More barred order group old placements new n
-  placed_more barred order group old placements new n h = record {
+  abbrev placed_more : (excluded : B → Bool) (order : List B) (group : Members Id) (old : List (B × Bin)) (placements : List (Placement Id B)) (new : List (B × Bin)) (n : ℕ)
+      → IsPlaced Less excluded order group old placements new n → IsPlaced More excluded order group old placements new n
+  placed_more excluded order group old placements new n h = record {
     before = h.before;
     here = h.here;
     after = h.after;
     order_is = h.order_is;
     counts = h.counts;
-    passed = AllZip-weaker (DoesNotTake Less barred old group) (DoesNotTake More barred old group) (passed_more barred old group) h.before h.counts h.passed;
+    passed = AllZip-weaker (DoesNotTake Less excluded old group) (DoesNotTake More excluded old group) (passed_more excluded old group) h.before h.counts h.passed;
     allowed = h.allowed;
     bin = h.bin;
     found = h.found;
@@ -163,16 +163,16 @@ module _ {Id B : Type 0} (cmp : Id → Id → Ordering) (bin_cmp : B → B → O
     tests_are = h.tests_are;
   }
 
-  refused_more : (barred : B → Bool) (order : List B) (group : Members Id) (bins : List (B × Bin)) (n : ℕ) → IsRefused Less barred order group bins n → IsRefused More barred order group bins n
-  refused_more barred order group bins n h = record {
+  refused_more : (excluded : B → Bool) (order : List B) (group : Members Id) (bins : List (B × Bin)) (n : ℕ) → IsRefused Less excluded order group bins n → IsRefused More excluded order group bins n
+  refused_more excluded order group bins n h = record {
     counts = h.counts;
-    passed = AllZip-weaker (DoesNotTake Less barred bins group) (DoesNotTake More barred bins group) (passed_more barred bins group) order h.counts h.passed;
+    passed = AllZip-weaker (DoesNotTake Less excluded bins group) (DoesNotTake More excluded bins group) (passed_more excluded bins group) order h.counts h.passed;
     tests_are = h.tests_are;
   }
 
-  module _ {K : Type 0} (bars : List (K × B) → K → B → Bool) where
+  module _ {K : Type 0} (excludes : List (K × B) → K → B → Bool) where
     all_placed_more : (order : List B) (groups : List (K × Members Id)) (old : Stage K B) (placements : List (Placement Id B)) (new : Stage K B) (n : ℕ)
-        → AreAllPlaced Less bars order groups old placements new n → AreAllPlaced More bars order groups old placements new n
+        → AreAllPlaced Less excludes order groups old placements new n → AreAllPlaced More excludes order groups old placements new n
     all_placed_more order [] old placements new n h = h
     all_placed_more order (g ∷ gs) old placements new n (first, next, one, later, others, placed, rest, joined, count) = (
       first,
@@ -180,14 +180,14 @@ module _ {Id B : Type 0} (cmp : Id → Id → Ordering) (bin_cmp : B → B → O
       one,
       later,
       others,
-      placed_more (bars old.homes g.0) order g.1 old.bins first next one placed,
+      placed_more (excludes old.homes g.0) order g.1 old.bins first next one placed,
       all_placed_more order gs (record { bins = next; homes = (g.0, placed.here) ∷ old.homes }) later new others rest,
       joined,
       count,
     )
 
     stops_more : (group_cmp : K → K → Ordering) (sizes : List (Id × Size)) (lists : List (K × List Id)) (group_order : List (ℕ × K)) (order : List B) (old new : List (B × Bin)) (n : ℕ)
-        → StopsAfter Less bars group_cmp sizes lists group_order order old new n → StopsAfter More bars group_cmp sizes lists group_order order old new n
+        → StopsAfter Less excludes group_cmp sizes lists group_order order old new n → StopsAfter More excludes group_cmp sizes lists group_order order old new n
     stops_more group_cmp sizes lists group_order order old new n h = record {
       taken = h.taken;
       later = h.later;
@@ -200,14 +200,14 @@ module _ {Id B : Type 0} (cmp : Id → Id → Ordering) (bin_cmp : B → B → O
       first = h.first;
       placed = all_placed_more order h.beginning (at_start old) h.placements (record { bins = new; homes = h.homes }) h.first h.placed;
       count = h.count;
-      refused = refused_more (bars h.homes h.next.0) order h.next.1 new h.count h.refused;
+      refused = refused_more (excludes h.homes h.next.0) order h.next.1 new h.count h.refused;
       tests_are = h.tests_are;
     }
 
-  module _ {G : Type 0} (group_cmp : Group G Id → Group G Id → Ordering) (bars : List (Group G Id × B) → Group G Id → B → Bool) where
+  module _ {G : Type 0} (group_cmp : Group G Id → Group G Id → Ordering) (excludes : List (Group G Id × B) → Group G Id → B → Bool) where
     -- a packing that is done
     pub PackingDone-more : (all : Collection Id G) (old : List (B × Bin)) (placements : List (Placement Id B)) (new : List (B × Bin))
-        → PackingDoneBy group_cmp Less bars all old placements new → PackingDoneBy group_cmp More bars all old placements new
+        → PackingDoneBy group_cmp Less excludes all old placements new → PackingDoneBy group_cmp More excludes all old placements new
     PackingDone-more all old placements new h = record {
       group_order = h.group_order;
       bin_order = h.bin_order;
@@ -217,18 +217,18 @@ module _ {Id B : Type 0} (cmp : Id → Id → Ordering) (bin_cmp : B → B → O
       listed = h.listed;
       homes = h.homes;
       tests = h.tests;
-      placed = all_placed_more bars (map (λ o. o.1) h.bin_order) h.groups (at_start old) placements (record { bins = new; homes = h.homes }) h.tests h.placed;
+      placed = all_placed_more excludes (map (λ o. o.1) h.bin_order) h.groups (at_start old) placements (record { bins = new; homes = h.homes }) h.tests h.placed;
     }
 
     -- and one that is refused
-    pub PackingRefused-more : (all : Collection Id G) (old new : List (B × Bin)) → PackingRefusedBy group_cmp Less bars all old new → PackingRefusedBy group_cmp More bars all old new
+    pub PackingRefused-more : (all : Collection Id G) (old new : List (B × Bin)) → PackingRefusedBy group_cmp Less excludes all old new → PackingRefusedBy group_cmp More excludes all old new
     PackingRefused-more all old new h = record {
       group_order = h.group_order;
       bin_order = h.bin_order;
       by_groups = groups_more may more includes group_cmp cmp all.sizes all.groups h.group_order h.by_groups;
       by_bins = bins_more may more includes bin_cmp old h.bin_order h.by_bins;
       tests = h.tests;
-      stops = stops_more bars group_cmp all.sizes all.groups h.group_order (map (λ o. o.1) h.bin_order) old new h.tests h.stops;
+      stops = stops_more excludes group_cmp all.sizes all.groups h.group_order (map (λ o. o.1) h.bin_order) old new h.tests h.stops;
     }
 
 -- each of two may answer what either may
@@ -245,15 +245,15 @@ pub HaveOneResult-either : {Id B G : Type 0} (group_cmp : Group G Id → Group G
     → HaveOneResult group_cmp (rules_by cmp bin_cmp one) (rules_by cmp bin_cmp other) all others bins other_bins
 HaveOneResult-either group_cmp cmp bin_cmp one other all others bins other_bins h =
     let both = either_of one other in
-    let bars = bars_by group_cmp bin_cmp all.partners in
-    let other_bars = bars_by group_cmp bin_cmp others.partners in
+    let excludes = excludes_by group_cmp bin_cmp all.partners in
+    let other_bars = excludes_by group_cmp bin_cmp others.partners in
     let l = either_one one other in
     let r = either_other one other in
     record {
-      done = λ ps qs m n p q. h.done ps qs m n (PackingDone-more cmp bin_cmp one both l group_cmp bars all bins ps m p) (PackingDone-more cmp bin_cmp other both r group_cmp other_bars others other_bins qs n q);
-      refused = λ m n p q. h.refused m n (PackingRefused-more cmp bin_cmp one both l group_cmp bars all bins m p) (PackingRefused-more cmp bin_cmp other both r group_cmp other_bars others other_bins n q);
-      not_done_and_refused = λ ps m n p q. h.not_done_and_refused ps m n (PackingDone-more cmp bin_cmp one both l group_cmp bars all bins ps m p) (PackingRefused-more cmp bin_cmp other both r group_cmp other_bars others other_bins n q);
-      not_refused_and_done = λ qs m n p q. h.not_refused_and_done qs m n (PackingRefused-more cmp bin_cmp one both l group_cmp bars all bins m p) (PackingDone-more cmp bin_cmp other both r group_cmp other_bars others other_bins qs n q);
+      done = λ ps qs m n p q. h.done ps qs m n (PackingDone-more cmp bin_cmp one both l group_cmp excludes all bins ps m p) (PackingDone-more cmp bin_cmp other both r group_cmp other_bars others other_bins qs n q);
+      refused = λ m n p q. h.refused m n (PackingRefused-more cmp bin_cmp one both l group_cmp excludes all bins m p) (PackingRefused-more cmp bin_cmp other both r group_cmp other_bars others other_bins n q);
+      not_done_and_refused = λ ps m n p q. h.not_done_and_refused ps m n (PackingDone-more cmp bin_cmp one both l group_cmp excludes all bins ps m p) (PackingRefused-more cmp bin_cmp other both r group_cmp other_bars others other_bins n q);
+      not_refused_and_done = λ qs m n p q. h.not_refused_and_done qs m n (PackingRefused-more cmp bin_cmp one both l group_cmp excludes all bins m p) (PackingDone-more cmp bin_cmp other both r group_cmp other_bars others other_bins qs n q);
     }
 
 -- smallest boxes, by what either heuristic may answer

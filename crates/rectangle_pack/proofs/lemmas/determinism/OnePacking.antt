@@ -19,7 +19,7 @@ use Rattle.rectangle_pack.specs.Groups.{Collection}
 use Rattle.rectangle_pack.specs.Orders.{IsGroupOrder, IsBinOrder}
 use Rattle.rectangle_pack.specs.Placed.{AreNamed}
 use Rattle.rectangle_pack.specs.Steps.{IsDone, IsStuck}
-use Rattle.rectangle_pack.specs.Packing.{Rules, Members, Stage, at_start, bars_by, IsStuckIn, DoesNotTake, IsPlaced, IsRefused, AreAllPlaced, AreGroups, PackingDone, PackingRefused}
+use Rattle.rectangle_pack.specs.Packing.{Rules, Members, Stage, at_start, excludes_by, IsStuckIn, DoesNotTake, IsPlaced, IsRefused, AreAllPlaced, AreGroups, PackingDone, PackingRefused}
 use Rattle.rectangle_pack.specs.Results.{MayBeCut, MayBeRated, ClosuresDecide, AreMapsAlike, AreSameBins, AreBinsAlike, AreCollectionsAlike, ArePlacementsAlike, HaveOneResult}
 use Rattle.rectangle_pack.proofs.lemmas.multimap.Append.{All-middle}
 use Rattle.rectangle_pack.proofs.lemmas.multimap.Mutual.{is_at-equal, excluded-alike}
@@ -125,9 +125,9 @@ record AreStagesAlike {K B : Type 0} (group_cmp : K → K → Ordering) (bin_cmp
   pub bins : AreBinsAlike bin_cmp one.bins two.bins
   pub homes : AreHomesAlike group_cmp bin_cmp one.homes two.homes
 
--- equal bins are barred alike
+-- equal bins are excluded alike
 abbrev pub BarAlike : {B : Type 0} → (B → B → Ordering) → (B → Bool) → (B → Bool) → Type 0
-BarAlike {B} bin_cmp barred1 barred2 = (a b : B) → bin_cmp a b ≡ Equal → barred1 a ≡ barred2 b
+BarAlike {B} bin_cmp excluded1 excluded2 = (a b : B) → bin_cmp a b ≡ Equal → excluded1 a ≡ excluded2 b
 
 -- what two packings of one collection into one map of bins share
 record SamePacking {Id B : Type 0} (cmp : Id → Id → Ordering) (bin_cmp : B → B → Ordering) (p q : List (Placement Id B)) (m n : List (B × Bin)) : Type 0 where
@@ -142,31 +142,31 @@ record ArePackedAlike {Id B : Type 0} (cmp : Id → Id → Ordering) (bin_cmp : 
 module _ {Id B : Type 0} (rules : Rules Id B) (boxes : List Size) (bins : List Bin)
     (decide : ClosuresDecide boxes bins rules.may) (id_total : IsTotalOrder rules.id_cmp) (bin_total : IsTotalOrder rules.bin_cmp) where
   -- where a bin does not take a group, a bin that is the same does not take it
-  not_taken_alike : (sizes : List Size) (n : ℕ) (barred : Bool) (x y : Option Bin) → AreOptionsAlike AreSameBins x y
-      → MatchBool barred (n ≡ 0) (IsSomeAnd x (λ (bin : Bin). IsStuck rules.may bin.sections sizes n)) → MatchBool barred (n ≡ 0) (IsSomeAnd y (λ (bin : Bin). IsStuck rules.may bin.sections sizes n))
+  not_taken_alike : (sizes : List Size) (n : ℕ) (excluded : Bool) (x y : Option Bin) → AreOptionsAlike AreSameBins x y
+      → MatchBool excluded (n ≡ 0) (IsSomeAnd x (λ (bin : Bin). IsStuck rules.may bin.sections sizes n)) → MatchBool excluded (n ≡ 0) (IsSomeAnd y (λ (bin : Bin). IsStuck rules.may bin.sections sizes n))
   not_taken_alike sizes n true x y same h = h
   not_taken_alike sizes n false None y same h = absurd h
   not_taken_alike sizes n false (Some x) None same h = absurd same
   not_taken_alike sizes n false (Some x) (Some y) same h = subst (λ (sections : List Cuboid). IsStuck rules.may sections sizes n) same.sections h
 
   -- a bin that is passed over, is passed over alike
-  passed_alike : (barred1 barred2 : B → Bool) (g h : Members Id) (old1 old2 : List (B × Bin)) (a b : B) (n : ℕ) → BarAlike rules.bin_cmp barred1 barred2 → AreMembersAlike rules.id_cmp g h → AreBinsAlike rules.bin_cmp old1 old2 → rules.bin_cmp a b ≡ Equal
-      → DoesNotTake rules barred1 old1 g a n → DoesNotTake rules barred2 old2 h b n
-  passed_alike barred1 barred2 g h old1 old2 a b n bar members alike e passed =
-      let P : Bool → List Size → Option Bin → Type 0 = λ barred sizes found. MatchBool barred (n ≡ 0) (IsSomeAnd found (λ (bin : Bin). IsStuck rules.may bin.sections sizes n)) in
-      subst (λ (sizes : List Size). P (barred2 b) sizes (lookup (is_at (rules.bin_cmp b)) old2)) members.sizes
-      (not_taken_alike g.sizes n (barred2 b) (lookup (is_at (rules.bin_cmp a)) old1) (lookup (is_at (rules.bin_cmp b)) old2) (lookup-alike bin_total AreSameBins a b e old1 old2 alike)
-      (subst (λ (barred : Bool). P barred g.sizes (lookup (is_at (rules.bin_cmp a)) old1)) (bar a b e) passed))
+  passed_alike : (excluded1 excluded2 : B → Bool) (g h : Members Id) (old1 old2 : List (B × Bin)) (a b : B) (n : ℕ) → BarAlike rules.bin_cmp excluded1 excluded2 → AreMembersAlike rules.id_cmp g h → AreBinsAlike rules.bin_cmp old1 old2 → rules.bin_cmp a b ≡ Equal
+      → DoesNotTake rules excluded1 old1 g a n → DoesNotTake rules excluded2 old2 h b n
+  passed_alike excluded1 excluded2 g h old1 old2 a b n bar members alike e passed =
+      let P : Bool → List Size → Option Bin → Type 0 = λ excluded sizes found. MatchBool excluded (n ≡ 0) (IsSomeAnd found (λ (bin : Bin). IsStuck rules.may bin.sections sizes n)) in
+      subst (λ (sizes : List Size). P (excluded2 b) sizes (lookup (is_at (rules.bin_cmp b)) old2)) members.sizes
+      (not_taken_alike g.sizes n (excluded2 b) (lookup (is_at (rules.bin_cmp a)) old1) (lookup (is_at (rules.bin_cmp b)) old2) (lookup-alike bin_total AreSameBins a b e old1 old2 alike)
+      (subst (λ (excluded : Bool). P excluded g.sizes (lookup (is_at (rules.bin_cmp a)) old1)) (bar a b e) passed))
 
-  all_passed_alike : (barred1 barred2 : B → Bool) (order1 order2 : List B) (counts : List ℕ) (g h : Members Id) (old1 old2 : List (B × Bin)) → BarAlike rules.bin_cmp barred1 barred2 → AllZip (λ a b. rules.bin_cmp a b ≡ Equal) order1 order2 → AreMembersAlike rules.id_cmp g h → AreBinsAlike rules.bin_cmp old1 old2
-      → AllZip (DoesNotTake rules barred1 old1 g) order1 counts → AllZip (DoesNotTake rules barred2 old2 h) order2 counts
-  all_passed_alike barred1 barred2 order1 order2 counts g h old1 old2 bar order members alike r =
-      AllZip-along (λ a b. rules.bin_cmp a b ≡ Equal) (DoesNotTake rules barred1 old1 g) (DoesNotTake rules barred2 old2 h) (λ a b n e p. passed_alike barred1 barred2 g h old1 old2 a b n bar members alike e p) order1 order2 counts order r
+  all_passed_alike : (excluded1 excluded2 : B → Bool) (order1 order2 : List B) (counts : List ℕ) (g h : Members Id) (old1 old2 : List (B × Bin)) → BarAlike rules.bin_cmp excluded1 excluded2 → AllZip (λ a b. rules.bin_cmp a b ≡ Equal) order1 order2 → AreMembersAlike rules.id_cmp g h → AreBinsAlike rules.bin_cmp old1 old2
+      → AllZip (DoesNotTake rules excluded1 old1 g) order1 counts → AllZip (DoesNotTake rules excluded2 old2 h) order2 counts
+  all_passed_alike excluded1 excluded2 order1 order2 counts g h old1 old2 bar order members alike r =
+      AllZip-along (λ a b. rules.bin_cmp a b ≡ Equal) (DoesNotTake rules excluded1 old1 g) (DoesNotTake rules excluded2 old2 h) (λ a b n e p. passed_alike excluded1 excluded2 g h old1 old2 a b n bar members alike e p) order1 order2 counts order r
 
-  refused_alike : (barred1 barred2 : B → Bool) (order1 order2 : List B) (g h : Members Id) (old1 old2 : List (B × Bin)) (n : ℕ) → BarAlike rules.bin_cmp barred1 barred2 → AllZip (λ a b. rules.bin_cmp a b ≡ Equal) order1 order2 → AreMembersAlike rules.id_cmp g h → AreBinsAlike rules.bin_cmp old1 old2
-      → IsRefused rules barred1 order1 g old1 n → IsRefused rules barred2 order2 h old2 n
-  refused_alike barred1 barred2 order1 order2 g h old1 old2 n bar order members alike r =
-      record { counts = r.counts; passed = all_passed_alike barred1 barred2 order1 order2 r.counts g h old1 old2 bar order members alike r.passed; tests_are = r.tests_are }
+  refused_alike : (excluded1 excluded2 : B → Bool) (order1 order2 : List B) (g h : Members Id) (old1 old2 : List (B × Bin)) (n : ℕ) → BarAlike rules.bin_cmp excluded1 excluded2 → AllZip (λ a b. rules.bin_cmp a b ≡ Equal) order1 order2 → AreMembersAlike rules.id_cmp g h → AreBinsAlike rules.bin_cmp old1 old2
+      → IsRefused rules excluded1 order1 g old1 n → IsRefused rules excluded2 order2 h old2 n
+  refused_alike excluded1 excluded2 order1 order2 g h old1 old2 n bar order members alike r =
+      record { counts = r.counts; passed = all_passed_alike excluded1 excluded2 order1 order2 r.counts g h old1 old2 bar order members alike r.passed; tests_are = r.tests_are }
 
   named_alike : (ids1 ids2 : List Id) (a b : B) (locations : List Cuboid) (ps : List (Placement Id B)) → AllZip (λ x y. rules.id_cmp x y ≡ Equal) ids1 ids2 → rules.bin_cmp a b ≡ Equal
       → AreNamed rules.id_cmp rules.bin_cmp ids1 a locations ps → AreNamed rules.id_cmp rules.bin_cmp ids2 b locations ps
@@ -177,15 +177,15 @@ module _ {Id B : Type 0} (rules : Rules Id B) (boxes : List Size) (bins : List B
   }
 
   -- a group is placed alike for equal ids, in equal bins
-  record PlacesAlike (barred : B → Bool) (order : List B) (h : Members Id) (here : B) (old new : List (B × Bin)) (ps : List (Placement Id B)) (n : ℕ) : Type 0 where
+  record PlacesAlike (excluded : B → Bool) (order : List B) (h : Members Id) (here : B) (old new : List (B × Bin)) (ps : List (Placement Id B)) (n : ℕ) : Type 0 where
     pub other : List (B × Bin)
     pub alike : AreBinsAlike rules.bin_cmp new other
-    pub placed : IsPlaced rules barred order h old ps other n
+    pub placed : IsPlaced rules excluded order h old ps other n
     pub home : rules.bin_cmp here placed.here ≡ Equal
 
-  placed_alike : (barred1 barred2 : B → Bool) (order1 order2 : List B) (g h : Members Id) (old1 old2 new : List (B × Bin)) (ps : List (Placement Id B)) (n : ℕ) → BarAlike rules.bin_cmp barred1 barred2 → AllZip (λ a b. rules.bin_cmp a b ≡ Equal) order1 order2 → AreMembersAlike rules.id_cmp g h → AreBinsAlike rules.bin_cmp old1 old2
-      → (p : IsPlaced rules barred1 order1 g old1 ps new n) → PlacesAlike barred2 order2 h p.here old2 new ps n
-  placed_alike barred1 barred2 order1 order2 g h old1 old2 new ps n bar order members alike p =
+  placed_alike : (excluded1 excluded2 : B → Bool) (order1 order2 : List B) (g h : Members Id) (old1 old2 new : List (B × Bin)) (ps : List (Placement Id B)) (n : ℕ) → BarAlike rules.bin_cmp excluded1 excluded2 → AllZip (λ a b. rules.bin_cmp a b ≡ Equal) order1 order2 → AreMembersAlike rules.id_cmp g h → AreBinsAlike rules.bin_cmp old1 old2
+      → (p : IsPlaced rules excluded1 order1 g old1 ps new n) → PlacesAlike excluded2 order2 h p.here old2 new ps n
+  placed_alike excluded1 excluded2 order1 order2 g h old1 old2 new ps n bar order members alike p =
       let s = split_alike (λ a b. rules.bin_cmp a b ≡ Equal) p.before p.here p.after order2 (subst (λ (xs : List B). AllZip (λ a b. rules.bin_cmp a b ≡ Equal) xs order2) p.order_is order) in
       let (bin, found, same) = found-alike AreSameBins p.bin (lookup (is_at (rules.bin_cmp p.here)) old1) (lookup (is_at (rules.bin_cmp s.at)) old2) p.found (lookup-alike bin_total AreSameBins p.here s.at s.alike old1 old2 alike) in
       let left : Bin = record p.bin { sections = p.last } in
@@ -200,7 +200,7 @@ module _ {Id B : Type 0} (rules : Rules Id B) (boxes : List Size) (bins : List B
           after = s.back;
           order_is = s.splits;
           counts = p.counts;
-          passed = all_passed_alike barred1 barred2 p.before s.front p.counts g h old1 old2 bar s.before_alike members alike p.passed;
+          passed = all_passed_alike excluded1 excluded2 p.before s.front p.counts g h old1 old2 bar s.before_alike members alike p.passed;
           allowed = sym (bar p.here s.at s.alike) ∙ p.allowed;
           bin = bin;
           found = found;
@@ -217,15 +217,15 @@ module _ {Id B : Type 0} (rules : Rules Id B) (boxes : List Size) (bins : List B
 
   -- the bin is passed over
   abbrev Passes : (B → Bool) → List (B × Bin) → Members Id → B → Type 0
-  Passes barred old g id = (n : ℕ) × DoesNotTake rules barred old g id n
+  Passes excluded old g id = (n : ℕ) × DoesNotTake rules excluded old g id n
 
-  all_pass : (barred : B → Bool) (old : List (B × Bin)) (g : Members Id) (order : List B) (counts : List ℕ) → AllZip (DoesNotTake rules barred old g) order counts → All (Passes barred old g) order
-  all_pass barred old g order counts h = All-from_zip (DoesNotTake rules barred old g) (Passes barred old g) (λ id n p. (n, p)) order counts h
+  all_pass : (excluded : B → Bool) (old : List (B × Bin)) (g : Members Id) (order : List B) (counts : List ℕ) → AllZip (DoesNotTake rules excluded old g) order counts → All (Passes excluded old g) order
+  all_pass excluded old g order counts h = All-from_zip (DoesNotTake rules excluded old g) (Passes excluded old g) (λ id n p. (n, p)) order counts h
 
   -- where a group is placed its bin is not passed over
-  not_passed_here : (barred : B → Bool) (order : List B) (g : Members Id) (old new : List (B × Bin)) (ps : List (Placement Id B)) (n : ℕ) → All (MayBeCutIn bins) (values_of old) → All (Contains boxes) g.sizes
-      → (p : IsPlaced rules barred order g old ps new n) → ¬ Passes barred old g p.here
-  not_passed_here barred order g old new ps n u among p passed =
+  not_passed_here : (excluded : B → Bool) (order : List B) (g : Members Id) (old new : List (B × Bin)) (ps : List (Placement Id B)) (n : ℕ) → All (MayBeCutIn bins) (values_of old) → All (Contains boxes) g.sizes
+      → (p : IsPlaced rules excluded order g old ps new n) → ¬ Passes excluded old g p.here
+  not_passed_here excluded order g old new ps n u among p passed =
       let stuck : IsStuckIn rules old g p.here passed.0 = subst (λ (b : Bool). MatchBool b (passed.0 ≡ 0) (IsStuckIn rules old g p.here passed.0)) p.allowed passed.1 in
       let here : IsStuck rules.may p.bin.sections g.sizes passed.0 = subst (λ (x : Option Bin). IsSomeAnd x (λ (b : Bin). IsStuck rules.may b.sections g.sizes passed.0)) p.found stuck in
       not_done_and_stuck boxes bins rules.may decide p.bin.sections g.sizes p.locations p.last p.count passed.0 (found_met rules.bin_cmp bins old p.here p.bin p.found u) among p.done here
@@ -243,20 +243,20 @@ module _ {Id B : Type 0} (rules : Rules Id B) (boxes : List Size) (bins : List B
       ((ids_same, same, cc), named_once ids here ps qs h.1 k.1 (All-tail (λ p. rules.bin_cmp here p.bin ≡ Equal) p ps a) (All-tail (λ p. rules.bin_cmp here p.bin ≡ Equal) q qs b) (cc))
 
   -- what is left of sections that may be cut may be cut
-  placed_met : (barred : B → Bool) (order : List B) (g : Members Id) (old m : List (B × Bin)) (ps : List (Placement Id B)) (n : ℕ) → IsPlaced rules barred order g old ps m n → All (MayBeCutIn bins) (values_of old) → All (MayBeCutIn bins) (values_of m)
-  placed_met barred order g old m ps n p u =
+  placed_met : (excluded : B → Bool) (order : List B) (g : Members Id) (old m : List (B × Bin)) (ps : List (Placement Id B)) (n : ℕ) → IsPlaced rules excluded order g old ps m n → All (MayBeCutIn bins) (values_of old) → All (MayBeCutIn bins) (values_of m)
+  placed_met excluded order g old m ps n p u =
       subst (λ (es : List (B × Bin)). All (MayBeCutIn bins) (values_of es)) (sym p.new_is)
       (All-values-set_value (is_at (rules.bin_cmp p.here)) (MayBeCutIn bins) old (record p.bin { sections = p.last }) u
       (IsDone-keeps rules.may (MayBeCut bins) p.bin.sections g.sizes p.locations p.last p.count (MayBeCut-part bins) p.done (found_met rules.bin_cmp bins old p.here p.bin p.found u)))
 
   -- a group is placed in one way
-  one_placed : (barred : B → Bool) (order : List B) (g : Members Id) (old m n : List (B × Bin)) (ps qs : List (Placement Id B)) (i j : ℕ) → All (MayBeCutIn bins) (values_of old) → All (Contains boxes) g.sizes
-      → (p : IsPlaced rules barred order g old ps m i) → (q : IsPlaced rules barred order g old qs n j) → SamePacking rules.id_cmp rules.bin_cmp ps qs m n × (p.here ≡ q.here)
-  one_placed barred order g old m n ps qs i j u among p q =
+  one_placed : (excluded : B → Bool) (order : List B) (g : Members Id) (old m n : List (B × Bin)) (ps qs : List (Placement Id B)) (i j : ℕ) → All (MayBeCutIn bins) (values_of old) → All (Contains boxes) g.sizes
+      → (p : IsPlaced rules excluded order g old ps m i) → (q : IsPlaced rules excluded order g old qs n j) → SamePacking rules.id_cmp rules.bin_cmp ps qs m n × (p.here ≡ q.here)
+  one_placed excluded order g old m n ps qs i j u among p q =
       let p_met = found_met rules.bin_cmp bins old p.here p.bin p.found u in
-      let here : p.here ≡ q.here = split_first (Passes barred old g) p.before p.here p.after q.before q.here q.after (sym p.order_is ∙ q.order_is)
-      (all_pass barred old g p.before p.counts p.passed) (all_pass barred old g q.before q.counts q.passed)
-      (not_passed_here barred order g old m ps i u among p) (not_passed_here barred order g old n qs j u among q) in
+      let here : p.here ≡ q.here = split_first (Passes excluded old g) p.before p.here p.after q.before q.here q.after (sym p.order_is ∙ q.order_is)
+      (all_pass excluded old g p.before p.counts p.passed) (all_pass excluded old g q.before q.counts q.passed)
+      (not_passed_here excluded order g old m ps i u among p) (not_passed_here excluded order g old n qs j u among q) in
       let found : Some p.bin ≡ Some q.bin = sym p.found ∙ ap (λ (id : B). lookup (is_at (rules.bin_cmp id)) old) here ∙ q.found in
       let bin : p.bin ≡ q.bin = cc in
       let trial = one_trial boxes bins rules.may decide p.bin.sections g.sizes p.locations q.locations p.last q.last p.count q.count p_met among p.done
@@ -273,34 +273,34 @@ module _ {Id B : Type 0} (rules : Rules Id B) (boxes : List Size) (bins : List B
       )
 
   -- and equal groups are placed alike
-  one_placed_alike : (barred1 barred2 : B → Bool) (order1 order2 : List B) (g h : Members Id) (old1 old2 m n : List (B × Bin)) (ps qs : List (Placement Id B)) (i j : ℕ) → All (MayBeCutIn bins) (values_of old2) → All (Contains boxes) h.sizes
-      → BarAlike rules.bin_cmp barred1 barred2 → AllZip (λ a b. rules.bin_cmp a b ≡ Equal) order1 order2 → AreMembersAlike rules.id_cmp g h → AreBinsAlike rules.bin_cmp old1 old2
-      → (p : IsPlaced rules barred1 order1 g old1 ps m i) → (q : IsPlaced rules barred2 order2 h old2 qs n j) → ArePackedAlike rules.id_cmp rules.bin_cmp ps qs m n × (rules.bin_cmp p.here q.here ≡ Equal)
-  one_placed_alike barred1 barred2 order1 order2 g h old1 old2 m n ps qs i j u among bar order members alike p q =
-      let t = placed_alike barred1 barred2 order1 order2 g h old1 old2 m ps i bar order members alike p in
-      let one = one_placed barred2 order2 h old2 t.other n ps qs i j u among t.placed q in (
+  one_placed_alike : (excluded1 excluded2 : B → Bool) (order1 order2 : List B) (g h : Members Id) (old1 old2 m n : List (B × Bin)) (ps qs : List (Placement Id B)) (i j : ℕ) → All (MayBeCutIn bins) (values_of old2) → All (Contains boxes) h.sizes
+      → BarAlike rules.bin_cmp excluded1 excluded2 → AllZip (λ a b. rules.bin_cmp a b ≡ Equal) order1 order2 → AreMembersAlike rules.id_cmp g h → AreBinsAlike rules.bin_cmp old1 old2
+      → (p : IsPlaced rules excluded1 order1 g old1 ps m i) → (q : IsPlaced rules excluded2 order2 h old2 qs n j) → ArePackedAlike rules.id_cmp rules.bin_cmp ps qs m n × (rules.bin_cmp p.here q.here ≡ Equal)
+  one_placed_alike excluded1 excluded2 order1 order2 g h old1 old2 m n ps qs i j u among bar order members alike p q =
+      let t = placed_alike excluded1 excluded2 order1 order2 g h old1 old2 m ps i bar order members alike p in
+      let one = one_placed excluded2 order2 h old2 t.other n ps qs i j u among t.placed q in (
         record { bins = subst (λ (x : List (B × Bin)). AreBinsAlike rules.bin_cmp m x) one.0.bins t.alike; placements = one.0.placements },
         subst (λ (id : B). rules.bin_cmp p.here id ≡ Equal) one.1 t.home,
       )
 
   -- a group is not both placed and refused
-  not_placed_and_refused : (barred1 barred2 : B → Bool) (order1 order2 : List B) (g h : Members Id) (old1 old2 m : List (B × Bin)) (ps : List (Placement Id B)) (i j : ℕ) → All (MayBeCutIn bins) (values_of old2) → All (Contains boxes) h.sizes
-      → BarAlike rules.bin_cmp barred1 barred2 → AllZip (λ a b. rules.bin_cmp a b ≡ Equal) order1 order2 → AreMembersAlike rules.id_cmp g h → AreBinsAlike rules.bin_cmp old1 old2
-      → IsPlaced rules barred1 order1 g old1 ps m i → IsRefused rules barred2 order2 h old2 j → ⊥
-  not_placed_and_refused barred1 barred2 order1 order2 g h old1 old2 m ps i j u among bar order members alike placed r =
-      let t = placed_alike barred1 barred2 order1 order2 g h old1 old2 m ps i bar order members alike placed in
+  not_placed_and_refused : (excluded1 excluded2 : B → Bool) (order1 order2 : List B) (g h : Members Id) (old1 old2 m : List (B × Bin)) (ps : List (Placement Id B)) (i j : ℕ) → All (MayBeCutIn bins) (values_of old2) → All (Contains boxes) h.sizes
+      → BarAlike rules.bin_cmp excluded1 excluded2 → AllZip (λ a b. rules.bin_cmp a b ≡ Equal) order1 order2 → AreMembersAlike rules.id_cmp g h → AreBinsAlike rules.bin_cmp old1 old2
+      → IsPlaced rules excluded1 order1 g old1 ps m i → IsRefused rules excluded2 order2 h old2 j → ⊥
+  not_placed_and_refused excluded1 excluded2 order1 order2 g h old1 old2 m ps i j u among bar order members alike placed r =
+      let t = placed_alike excluded1 excluded2 order1 order2 g h old1 old2 m ps i bar order members alike placed in
       let p = t.placed in
-      not_passed_here barred2 order2 h old2 t.other ps i u among p
-      (All-middle (Passes barred2 old2 h) order2 p.before p.after p.here p.order_is (all_pass barred2 old2 h order2 r.counts r.passed))
+      not_passed_here excluded2 order2 h old2 t.other ps i u among p
+      (All-middle (Passes excluded2 old2 h) order2 p.before p.after p.here p.order_is (all_pass excluded2 old2 h order2 r.counts r.passed))
 
   -- and is not both refused and placed
-  not_refused_and_placed : (barred1 barred2 : B → Bool) (order1 order2 : List B) (g h : Members Id) (old1 old2 n : List (B × Bin)) (qs : List (Placement Id B)) (i j : ℕ) → All (MayBeCutIn bins) (values_of old2) → All (Contains boxes) h.sizes
-      → BarAlike rules.bin_cmp barred1 barred2 → AllZip (λ a b. rules.bin_cmp a b ≡ Equal) order1 order2 → AreMembersAlike rules.id_cmp g h → AreBinsAlike rules.bin_cmp old1 old2
-      → IsRefused rules barred1 order1 g old1 i → IsPlaced rules barred2 order2 h old2 qs n j → ⊥
-  not_refused_and_placed barred1 barred2 order1 order2 g h old1 old2 n qs i j u among bar order members alike r p =
-      let s = refused_alike barred1 barred2 order1 order2 g h old1 old2 i bar order members alike r in
-      not_passed_here barred2 order2 h old2 n qs j u among p
-      (All-middle (Passes barred2 old2 h) order2 p.before p.after p.here p.order_is (all_pass barred2 old2 h order2 s.counts s.passed))
+  not_refused_and_placed : (excluded1 excluded2 : B → Bool) (order1 order2 : List B) (g h : Members Id) (old1 old2 n : List (B × Bin)) (qs : List (Placement Id B)) (i j : ℕ) → All (MayBeCutIn bins) (values_of old2) → All (Contains boxes) h.sizes
+      → BarAlike rules.bin_cmp excluded1 excluded2 → AllZip (λ a b. rules.bin_cmp a b ≡ Equal) order1 order2 → AreMembersAlike rules.id_cmp g h → AreBinsAlike rules.bin_cmp old1 old2
+      → IsRefused rules excluded1 order1 g old1 i → IsPlaced rules excluded2 order2 h old2 qs n j → ⊥
+  not_refused_and_placed excluded1 excluded2 order1 order2 g h old1 old2 n qs i j u among bar order members alike r p =
+      let s = refused_alike excluded1 excluded2 order1 order2 g h old1 old2 i bar order members alike r in
+      not_passed_here excluded2 order2 h old2 n qs j u among p
+      (All-middle (Passes excluded2 old2 h) order2 p.before p.after p.here p.order_is (all_pass excluded2 old2 h order2 s.counts s.passed))
 
   module _ {K : Type 0} (group_cmp : K → K → Ordering) (bars1 bars2 : List (K × B) → K → B → Bool)
       (bar : (homes1 homes2 : List (K × B)) (g h : K) → AreHomesAlike group_cmp rules.bin_cmp homes1 homes2 → group_cmp g h ≡ Equal → BarAlike rules.bin_cmp (bars1 homes1 g) (bars2 homes2 h)) where
@@ -483,7 +483,7 @@ module _ {Id B G : Type 0} (group_cmp : Group G Id → Group G Id → Ordering) 
 
   -- the pairs of collections that are alike bar alike
   bar_alike : (homes1 homes2 : List (Group G Id × B)) (g h : Group G Id) → AreHomesAlike group_cmp rules.bin_cmp homes1 homes2 → group_cmp g h ≡ Equal
-      → BarAlike rules.bin_cmp (bars_by group_cmp rules.bin_cmp all1.partners homes1 g) (bars_by group_cmp rules.bin_cmp all2.partners homes2 h)
+      → BarAlike rules.bin_cmp (excludes_by group_cmp rules.bin_cmp all1.partners homes1 g) (excludes_by group_cmp rules.bin_cmp all2.partners homes2 h)
   bar_alike [] [] g h homes names a b e = refl
   bar_alike [] (y ∷ ys) g h homes names a b e = absurd homes
   bar_alike (x ∷ xs) [] g h homes names a b e = absurd homes
@@ -499,7 +499,7 @@ module _ {Id B G : Type 0} (group_cmp : Group G Id → Group G Id → Ordering) 
       let agree = agree_by p.group_order q.group_order p.group_order [] q.group_order [] p.groups q.groups p.by_groups q.by_groups (sym (append-nil p.group_order)) (sym (append-nil q.group_order)) p.listed q.listed in
       let long : length p.groups ≡ length q.groups =
       sym (length-zip _ p.group_order p.groups p.listed.each) ∙ length-zip _ p.group_order q.group_order (same_order p.group_order q.group_order p.by_groups q.by_groups) ∙ length-zip _ q.group_order q.groups q.listed.each in
-      let one = one_all_placed rules (values_of all2.sizes) (values_of old2) decide id_total bin_total group_cmp (bars_by group_cmp rules.bin_cmp all1.partners) (bars_by group_cmp rules.bin_cmp all2.partners) bar_alike (map (λ o. o.1) p.bin_order) (map (λ o. o.1) q.bin_order) p.groups q.groups (at_start old1) (at_start old2) (record { bins = m; homes = p.homes }) (record { bins = n; homes = q.homes }) ps qs p.tests q.tests (bins_met (values_of old2)) (among q.group_order q.groups q.listed)
+      let one = one_all_placed rules (values_of all2.sizes) (values_of old2) decide id_total bin_total group_cmp (excludes_by group_cmp rules.bin_cmp all1.partners) (excludes_by group_cmp rules.bin_cmp all2.partners) bar_alike (map (λ o. o.1) p.bin_order) (map (λ o. o.1) q.bin_order) p.groups q.groups (at_start old1) (at_start old2) (record { bins = m; homes = p.homes }) (record { bins = n; homes = q.homes }) ps qs p.tests q.tests (bins_met (values_of old2)) (among q.group_order q.groups q.listed)
       (λ some. same_bin_order p.bin_order q.bin_order (p.by_bins some) (q.by_bins (omega arith)))
       (zip_from_agree (AreGroupsAlike group_cmp rules.id_cmp) p.groups q.groups agree long) (record { bins = old; homes = tt }) p.placed q.placed in
       (one.bins, one.placements)
@@ -509,7 +509,7 @@ module _ {Id B G : Type 0} (group_cmp : Group G Id → Group G Id → Ordering) 
   one_refused m n p q =
       let agree = agree_by p.group_order q.group_order p.stops.taken p.stops.later q.stops.taken q.stops.later (p.stops.beginning ++ p.stops.next ∷ []) (q.stops.beginning ++ q.stops.next ∷ [])
       p.by_groups q.by_groups p.stops.order_is q.stops.order_is p.stops.listed q.stops.listed in
-      one_stop rules (values_of all2.sizes) (values_of old2) decide id_total bin_total group_cmp (bars_by group_cmp rules.bin_cmp all1.partners) (bars_by group_cmp rules.bin_cmp all2.partners) bar_alike (map (λ o. o.1) p.bin_order) (map (λ o. o.1) q.bin_order) p.stops.beginning q.stops.beginning p.stops.next q.stops.next (at_start old1) (at_start old2) (record { bins = m; homes = p.stops.homes }) (record { bins = n; homes = q.stops.homes })
+      one_stop rules (values_of all2.sizes) (values_of old2) decide id_total bin_total group_cmp (excludes_by group_cmp rules.bin_cmp all1.partners) (excludes_by group_cmp rules.bin_cmp all2.partners) bar_alike (map (λ o. o.1) p.bin_order) (map (λ o. o.1) q.bin_order) p.stops.beginning q.stops.beginning p.stops.next q.stops.next (at_start old1) (at_start old2) (record { bins = m; homes = p.stops.homes }) (record { bins = n; homes = q.stops.homes })
       p.stops.placements q.stops.placements p.stops.first q.stops.first p.stops.count q.stops.count (bins_met (values_of old2)) (among q.stops.taken (q.stops.beginning ++ q.stops.next ∷ []) q.stops.listed) (same_bin_order p.bin_order q.bin_order p.by_bins q.by_bins) (record { bins = old; homes = tt }) agree p.stops.placed p.stops.refused q.stops.placed q.stops.refused
 
   -- a packing is not both done and refused
@@ -522,7 +522,7 @@ module _ {Id B G : Type 0} (group_cmp : Group G Id → Group G Id → Ordering) 
       let long3 = length-zip _ p.group_order q.group_order (same_order p.group_order q.group_order p.by_groups q.by_groups) in
       let long4 : length q.group_order ≡ length q.stops.taken + length q.stops.later = ap length q.stops.order_is ∙ length-append q.stops.taken q.stops.later in
       let long5 = length-append q.stops.beginning (q.stops.next ∷ []) in
-      not_done_and_stopped rules (values_of all2.sizes) (values_of old2) decide id_total bin_total group_cmp (bars_by group_cmp rules.bin_cmp all1.partners) (bars_by group_cmp rules.bin_cmp all2.partners) bar_alike (map (λ o. o.1) p.bin_order) (map (λ o. o.1) q.bin_order) p.groups q.stops.beginning q.stops.next (at_start old1) (at_start old2) (record { bins = m; homes = p.homes }) (record { bins = n; homes = q.stops.homes }) ps q.stops.placements p.tests q.stops.first q.stops.count
+      not_done_and_stopped rules (values_of all2.sizes) (values_of old2) decide id_total bin_total group_cmp (excludes_by group_cmp rules.bin_cmp all1.partners) (excludes_by group_cmp rules.bin_cmp all2.partners) bar_alike (map (λ o. o.1) p.bin_order) (map (λ o. o.1) q.bin_order) p.groups q.stops.beginning q.stops.next (at_start old1) (at_start old2) (record { bins = m; homes = p.homes }) (record { bins = n; homes = q.stops.homes }) ps q.stops.placements p.tests q.stops.first q.stops.count
       (bins_met (values_of old2)) (among q.stops.taken refused q.stops.listed) (same_bin_order p.bin_order q.bin_order (p.by_bins (omega arith)) q.by_bins) (record { bins = old; homes = tt }) agree (omega arith) p.placed q.stops.placed q.stops.refused
 
 -- maps that agree agree the other way round

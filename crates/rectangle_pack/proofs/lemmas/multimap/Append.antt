@@ -13,7 +13,7 @@ use Rattle.std.proofs.lemmas.Cmp.{eq_by_cmp_equiv}
 use Rattle.std.proofs.lemmas.List.{append-nil}
 use Rattle.std.proofs.lemmas.List.Sums.{count_by_more_yes, count_by_more_no, sum_by-take-le, sum_by-cons}
 use Rattle.std.proofs.lemmas.List.Elements.{All-append, All-cons, All-head, All-nil, All-tail, All-weaker, All-contains}
-use Rattle.rectangle_pack.specs.private.Lists.{times, items_of, AreAppended, IsAdded}
+use Rattle.rectangle_pack.specs.private.Multimaps.{times, items_of, AreAppended, IsAdded}
 use Rattle.rectangle_pack.proofs.lemmas.util.Maps.{lookup-equal}
 
 module _ {K : Type 0} {cmp : K → K → Ordering} (o : IsTotalOrder cmp) (keys : List K) (i : ℕ) (k q : K) (inside : i < length keys) (at : k ≡ get_or keys i k) where

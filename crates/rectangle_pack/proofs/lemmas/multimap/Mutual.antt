@@ -16,7 +16,7 @@ use Rattle.std.proofs.lemmas.Cmp.{eq_by_cmp_equiv}
 use Rattle.std.proofs.lemmas.Map.Keys.{IsDistinct-from_sorted}
 use Rattle.std.proofs.lemmas.Map.Views.{All-values_from_lookup, IfSome-lookup_from_All}
 use Rattle.rectangle_pack.specs.Groups.{lists_of}
-use Rattle.rectangle_pack.specs.private.Lists.{items_of}
+use Rattle.rectangle_pack.specs.private.Multimaps.{items_of}
 use Rattle.rectangle_pack.specs.Exclusions.{listed_at, is_listed, are_excluded, are_these}
 use Rattle.rectangle_pack.specs.private.Exclusions.{AreNonempty}
 use Rattle.rectangle_pack.proofs.lemmas.multimap.Vectors.{lookup-lists, keys-lists}

@@ -12,7 +12,7 @@ use Rattle.std.proofs.lemmas.List.Elements.{All-weaker, All-contains, All-tail, 
 use Rattle.std.proofs.lemmas.Map.Views.{All-values_from_lookup, IfSome-lookup_from_All, All-values-insert_entry}
 use Rattle.rectangle_pack.proofs.lemmas.multimap.Vectors.{lists_of-insert_entry}
 use Rattle.rectangle_pack.specs.Groups.{lists_of}
-use Rattle.rectangle_pack.specs.private.Lists.{filled, times, IsAdded}
+use Rattle.rectangle_pack.specs.private.Multimaps.{filled, times, IsAdded}
 use Rattle.std.specs.List.Sorted.{IsStrictlySortedBy}
 use Rattle.std.proofs.lemmas.Map.Keys.{IsDistinct-from_sorted}
 use Rattle.std.proofs.lemmas.Cmp.{eq_by_cmp_equiv}

@@ -7,7 +7,7 @@ use Rattle.std.specs.Map.{lookup, set_value}
 use Rattle.std.specs.BTreeMap.{is_at}
 use Rattle.std.proofs.lemmas.List.{reverse-append}
 use Rattle.std.proofs.lemmas.Map.Steps.{set_value_same}
-use Rattle.rectangle_pack.specs.private.Lists.{TakesBack}
+use Rattle.rectangle_pack.specs.private.Multimaps.{TakesBack}
 use Rattle.rectangle_pack.proofs.lemmas.util.Maps.{set_value-twice, lookup-set_here}
 
 -- one more item is appended

@@ -12,7 +12,7 @@ use Rattle.std.specs.BTreeMap.{is_at, insert_entry}
 use Rattle.std.proofs.lemmas.Cmp.{tied_itself}
 use Rattle.std.proofs.lemmas.Map.Made.{lookup-map_values, keys_of-map_values}
 use Rattle.rectangle_pack.specs.Groups.{lists_of}
-use Rattle.rectangle_pack.specs.private.Lists.{filled, items_of}
+use Rattle.rectangle_pack.specs.private.Multimaps.{filled, items_of}
 use Rattle.rectangle_pack.proofs.lemmas.util.Maps.{lookup-equal, set_value-map_values, insert_entry-map_values}
 
 -- what is not there is `None`

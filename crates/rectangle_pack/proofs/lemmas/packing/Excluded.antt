@@ -1,4 +1,4 @@
--- Which bins are barred, by the bins that are kept for the groups that have partners.
+-- Which bins are excluded, by the bins that are kept for the groups that have partners.
 use Rattle.std.proofs.Common.{◌≡◌, ◌↔◌, ℕ, suc, zero, ◌+◌, ◌-◌, ◌<◌, Bool, true, false, cond, ◌&&◌, ◌||◌, List, [], ◌∷◌, ◌++◌, length, take, get_or, refl, sym, ◌∙◌, ap, subst, arith}
 use Rattle.std.specs.Prelude.{Option, Some, All, AllPairs, map, reverse, unwrap_or, nat_eq}
 use Rattle.std.specs.declared.cmp.Ordering.{Ordering}
@@ -21,8 +21,8 @@ use Rattle.rectangle_pack.specs.declared.pack.answer.Placement.{Placement}
 use Rattle.rectangle_pack.specs.Groups.{Collection}
 use Rattle.rectangle_pack.specs.Exclusions.{listed_at, is_listed, are_excluded}
 use Rattle.rectangle_pack.specs.private.Exclusions.{AreMutual}
-use Rattle.rectangle_pack.specs.private.Barred.{are_in, went_to}
-use Rattle.rectangle_pack.specs.Packing.{Rules, AreKeptApart, bars_by, bars_none, Members, Stage, AreAllPlaced, PackingDone, PackingDoneBy, PackingRefused, PackingRefusedBy}
+use Rattle.rectangle_pack.specs.private.Excluded.{are_in, went_to}
+use Rattle.rectangle_pack.specs.Packing.{Rules, AreKeptApart, excludes_by, excludes_none, Members, Stage, AreAllPlaced, PackingDone, PackingDoneBy, PackingRefused, PackingRefusedBy}
 use Rattle.rectangle_pack.specs.Bins.{Bin}
 use Rattle.rectangle_pack.specs.declared.grouped_rects_to_place.Group.{Group}
 use Rattle.rectangle_pack.proofs.lemmas.multimap.Append.{All-front, All-middle}
@@ -97,9 +97,9 @@ or-none true q h = refl
 or-none false q h = h
 
 -- one more bin
-pub barred-more : {B : Type 0} {bin_cmp : B → B → Ordering} → IsTotalOrder bin_cmp → (old new : List (Bor B)) (bin : Bor B) (found now : Bool) (id : B)
+pub excluded-more : {B : Type 0} {bin_cmp : B → B → Ordering} → IsTotalOrder bin_cmp → (old new : List (Bor B)) (bin : Bor B) (found now : Bool) (id : B)
     → are_in bin_cmp new id ≡ cond (is_at (bin_cmp bin.now) id) true (are_in bin_cmp old id) → are_in bin_cmp old id ≡ found → now ≡ is_at (bin_cmp id) bin.now → are_in bin_cmp new id ≡ (found || now)
-barred-more {B} {bin_cmp} o old new bin found now id updates was is = updates ∙ rw (was, is, is_at-back o bin.now id) (by (is_at (bin_cmp id) bin.now) found)
+excluded-more {B} {bin_cmp} o old new bin found now id updates was is = updates ∙ rw (was, is, is_at-back o bin.now id) (by (is_at (bin_cmp id) bin.now) found)
   where
     by : (b f : Bool) → cond b true f ≡ (f || b)
     by true true = refl
@@ -121,10 +121,10 @@ module _ {K B : Type 0} (cmp : K → K → Ordering) (bin_cmp : B → B → Orde
       let there : is_listed cmp partners q p ≡ true = list_any_at (is_at (cmp p)) xs k d within (ap is_eq (cmp-self o p)) in
       some-found (is_at (cmp q)) (listed_at cmp partners p) (sym (m q p) ∙ there)
 
-  -- so the bins of a group's partners are those that are barred for it
-  pub barred_by_partners : (partners : List (K × List K)) (homes : List (K × B)) (kept : List (Bor K × Bor B)) → AreMutual cmp partners → Knows partners homes kept → (q : K) (id : B)
-      → list_any (λ p. went_to cmp bin_cmp kept p id) (listed_at cmp partners q) ≡ bars_by cmp bin_cmp partners homes q id
-  barred_by_partners partners homes kept m known q id =
+  -- so the bins of a group's partners are those that are excluded for it
+  pub excluded_by_partners : (partners : List (K × List K)) (homes : List (K × B)) (kept : List (Bor K × Bor B)) → AreMutual cmp partners → Knows partners homes kept → (q : K) (id : B)
+      → list_any (λ p. went_to cmp bin_cmp kept p id) (listed_at cmp partners q) ≡ excludes_by cmp bin_cmp partners homes q id
+  excluded_by_partners partners homes kept m known q id =
       let xs = listed_at cmp partners q in
       let f : K → K × B → Bool = λ p h. is_at (cmp p) h.0 && is_at (bin_cmp id) h.1 in
       let has = listed_has_list partners m q in
@@ -202,15 +202,15 @@ module _ {K B : Type 0} (cmp : K → K → Ordering) (bin_cmp : B → B → Orde
       let at : f x ≡ get_or (map f order) i (f x) = ap f is ∙ sym (get_or-map f order i x (f x) within) in
       named (f x) (subst (All (λ n. is_at (cmp n) (f x) ≡ false)) (take-map f i order) (distinct-before (eq_by_cmp cmp) (map f order) i (f x) distinct (rw length-map within) at))
 
--- equal bins are barred alike
-pub bars-alike : {K B : Type 0} (cmp : K → K → Ordering) {bin_cmp : B → B → Ordering} → IsTotalOrder bin_cmp → (partners : List (K × List K)) (homes : List (K × B)) (group : K) (x y : B) → bin_cmp x y ≡ Equal → bars_by cmp bin_cmp partners homes group x ≡ bars_by cmp bin_cmp partners homes group y
-bars-alike cmp {bin_cmp} o partners homes group x y e =
+-- equal bins are excluded alike
+pub excludes-alike : {K B : Type 0} (cmp : K → K → Ordering) {bin_cmp : B → B → Ordering} → IsTotalOrder bin_cmp → (partners : List (K × List K)) (homes : List (K × B)) (group : K) (x y : B) → bin_cmp x y ≡ Equal → excludes_by cmp bin_cmp partners homes group x ≡ excludes_by cmp bin_cmp partners homes group y
+excludes-alike cmp {bin_cmp} o partners homes group x y e =
     list_any-alike (λ h. are_excluded cmp partners group h.0 && is_at (bin_cmp x) h.1) (λ h. are_excluded cmp partners group h.0 && is_at (bin_cmp y) h.1)
     (λ h. ap (λ b. are_excluded cmp partners group h.0 && b) (is_at-equal o x y h.1 e)) homes
 
--- where no two groups are excluded no bin is barred
-bars-without : {K B : Type 0} (cmp : K → K → Ordering) (bin_cmp : B → B → Ordering) (partners : List (K × List K)) → ((a b : K) → are_excluded cmp partners a b ≡ false) → bars_by cmp bin_cmp partners ≡ bars_none
-bars-without cmp bin_cmp partners none =
+-- where no two groups are excluded no bin is excluded
+excludes-without : {K B : Type 0} (cmp : K → K → Ordering) (bin_cmp : B → B → Ordering) (partners : List (K × List K)) → ((a b : K) → are_excluded cmp partners a b ≡ false) → excludes_by cmp bin_cmp partners ≡ excludes_none
+excludes-without cmp bin_cmp partners none =
     fun_ext (λ homes.
     fun_ext (λ group.
     fun_ext (λ id. list_any-alike (λ h. are_excluded cmp partners group h.0 && is_at (bin_cmp id) h.1) (λ h. false) (λ h. rw (none group h.0) refl) homes ∙ list_any-false homes)))
@@ -243,7 +243,7 @@ module _ {Id K B : Type 0} (group_cmp : K → K → Ordering) (rules : Rules Id 
   Apart a b = are_excluded group_cmp partners a.0 b.0 ≡ true → is_at (rules.bin_cmp a.1) b.1 ≡ false
 
   -- groups that are excluded do not share a bin
-  pub placed_apart : (order : List B) (gs : List (K × Members Id)) (old : Stage K B) (placements : List (Placement Id B)) (new : Stage K B) (tests : ℕ) → AreAllPlaced rules (bars_by group_cmp rules.bin_cmp partners) order gs old placements new tests
+  pub placed_apart : (order : List B) (gs : List (K × Members Id)) (old : Stage K B) (placements : List (Placement Id B)) (new : Stage K B) (tests : ℕ) → AreAllPlaced rules (excludes_by group_cmp rules.bin_cmp partners) order gs old placements new tests
       → AreKeptApart group_cmp rules.bin_cmp partners old.homes → AreKeptApart group_cmp rules.bin_cmp partners new.homes
   placed_apart order [] old placements new n h was = subst (λ (s : Stage K B). AllPairs Apart s.homes) (sym h.1) was
   placed_apart order (g ∷ gs) old placements new n (first, next, one, rest, others, placed, later, joined, counted) was =
@@ -258,15 +258,15 @@ module _ {Id K B : Type 0} (group_cmp : K → K → Ordering) (rules : Rules Id 
 
 module _ {Id B G : Type 0} (group_cmp : Group G Id → Group G Id → Ordering) (rules : Rules Id B) (all : Collection Id G) (none : (a b : Group G Id) → are_excluded group_cmp all.partners a b ≡ false) where
   pub done_without : (old new : List (B × Bin)) (placements : List (Placement Id B)) (n : ℕ)
-      → ((done : PackingDone group_cmp rules all old placements new) × (done.tests ≡ n)) ↔ ((done : PackingDoneBy group_cmp rules bars_none all old placements new) × (done.tests ≡ n))
+      → ((done : PackingDone group_cmp rules all old placements new) × (done.tests ≡ n)) ↔ ((done : PackingDoneBy group_cmp rules excludes_none all old placements new) × (done.tests ≡ n))
   done_without old new placements n =
-      let P : (List (Group G Id × B) → Group G Id → B → Bool) → Type 0 = λ (bars : List (Group G Id × B) → Group G Id → B → Bool). (done : PackingDoneBy group_cmp rules bars all old placements new) × (done.tests ≡ n) in
-      let e = bars-without group_cmp rules.bin_cmp all.partners none in
+      let P : (List (Group G Id × B) → Group G Id → B → Bool) → Type 0 = λ (excludes : List (Group G Id × B) → Group G Id → B → Bool). (done : PackingDoneBy group_cmp rules excludes all old placements new) × (done.tests ≡ n) in
+      let e = excludes-without group_cmp rules.bin_cmp all.partners none in
       (subst P e, subst P (sym e))
 
   pub refused_without : (old new : List (B × Bin)) (n : ℕ)
-      → ((refused : PackingRefused group_cmp rules all old new) × (refused.tests ≡ n)) ↔ ((refused : PackingRefusedBy group_cmp rules bars_none all old new) × (refused.tests ≡ n))
+      → ((refused : PackingRefused group_cmp rules all old new) × (refused.tests ≡ n)) ↔ ((refused : PackingRefusedBy group_cmp rules excludes_none all old new) × (refused.tests ≡ n))
   refused_without old new n =
-      let P : (List (Group G Id × B) → Group G Id → B → Bool) → Type 0 = λ (bars : List (Group G Id × B) → Group G Id → B → Bool). (refused : PackingRefusedBy group_cmp rules bars all old new) × (refused.tests ≡ n) in
-      let e = bars-without group_cmp rules.bin_cmp all.partners none in
+      let P : (List (Group G Id × B) → Group G Id → B → Bool) → Type 0 = λ (excludes : List (Group G Id × B) → Group G Id → B → Bool). (refused : PackingRefusedBy group_cmp rules excludes all old new) × (refused.tests ≡ n) in
+      let e = excludes-without group_cmp rules.bin_cmp all.partners none in
       (subst P e, subst P (sym e))

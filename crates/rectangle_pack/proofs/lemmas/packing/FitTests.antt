@@ -19,7 +19,7 @@ use Rattle.rectangle_pack.specs.Boxes.{Size, Cuboid}
 use Rattle.rectangle_pack.specs.Bins.{Bin}
 use Rattle.rectangle_pack.specs.Steps.{IsStep, IsDone, IsStuck}
 use Rattle.rectangle_pack.specs.Closures.{Answers}
-use Rattle.rectangle_pack.specs.Packing.{Rules, Members, Stage, at_start, bars_by, DoesNotTake, IsPlaced, IsRefused, AreGroups, AreAllPlaced, StopsAfter}
+use Rattle.rectangle_pack.specs.Packing.{Rules, Members, Stage, at_start, excludes_by, DoesNotTake, IsPlaced, IsRefused, AreGroups, AreAllPlaced, StopsAfter}
 use Rattle.std.proofs.lemmas.List.Sorted.{sum_by-IsPermutation, IsPermutation-map, length_permutation}
 use Rattle.std.proofs.lemmas.Map.Keys.{IsDistinct-cons, IsDistinct-IsPermutation}
 use Rattle.rectangle_pack.specs.Groups.{Collection, entries_of}
@@ -29,7 +29,7 @@ use Rattle.rectangle_pack.specs.Trials.{IsTrialAnswer, most_tests}
 use Rattle.std.specs.declared.vec.Vec.{Vec}
 use Rattle.rectangle_pack.specs.PackAnswers.{sections_in, AreCounted}
 use Rattle.rectangle_pack.specs.private.TrialNotes.{IsTried}
-use Rattle.rectangle_pack.specs.private.Bounds.{free_in, free_of, AreWithin, AddsWithin}
+use Rattle.rectangle_pack.specs.private.Bounds.{free_sections_at, free_sections_of, AreWithin, AddsWithin}
 use Rattle.rectangle_pack.specs.private.Orders.{keys_of_order, entries_at}
 use Rattle.std.specs.declared.cmp.Reverse.{Reverse}
 use Rattle.std.specs.Borrow.{Bor}
@@ -113,7 +113,7 @@ module _ (may : Answers) where
 pub AreWithin-more : {B : Type 0} (bin_cmp : B → B → Ordering) (bins : List (B × Bin)) (order : List B) (some all n : ℕ) → some ≤ all → AreWithin bin_cmp bins order some n → AreWithin bin_cmp bins order all n
 AreWithin-more bin_cmp bins order some all n le h =
     let e : all ≡ some + (all - some) = omega arith in
-    record { most = rw e (by (length order) (free_of bin_cmp bins order) some (all - some) n h.most) }
+    record { most = rw e (by (length order) (free_sections_of bin_cmp bins order) some (all - some) n h.most) }
   where
     by : (k f e d n : ℕ) → n + k * e ≤ e * f + k * (e * e) → n + k * (e + d) ≤ (e + d) * f + k * ((e + d) * (e + d))
     by k f e d n h = omega (arith, h, mul-le-mul_left k (square d))
@@ -132,9 +132,9 @@ fewer-entries {K} {X} {Y} f order i =
     omega (arith, ap (sum_by f) split, sum_by-append f (keys_of_order (take i order)) (keys_of_order (drop i order)))
 
 module _ {Id B : Type 0} (rules : Rules Id B) (o : IsTotalOrder rules.bin_cmp) where
-  passed-le : (barred : B → Bool) (g : Members Id) (bins : List (B × Bin)) (id : B) (n : ℕ) → DoesNotTake rules barred bins g id n
-      → n + length g.sizes ≤ length g.sizes * free_in rules.bin_cmp bins id + length g.sizes * length g.sizes
-  passed-le barred g bins id n h = at (barred id) (lookup (is_at (rules.bin_cmp id)) bins) h
+  passed-le : (excluded : B → Bool) (g : Members Id) (bins : List (B × Bin)) (id : B) (n : ℕ) → DoesNotTake rules excluded bins g id n
+      → n + length g.sizes ≤ length g.sizes * free_sections_at rules.bin_cmp bins id + length g.sizes * length g.sizes
+  passed-le excluded g bins id n h = at (excluded id) (lookup (is_at (rules.bin_cmp id)) bins) h
     where
       at : (b : Bool) (found : Option Bin) → MatchBool b (n ≡ 0) (IsSomeAnd found (λ (bin : Bin). IsStuck rules.may bin.sections g.sizes n))
           → n + length g.sizes ≤ length g.sizes * unwrap_or (option_map (λ (b : Bin). length b.sections) found) 0 + length g.sizes * length g.sizes
@@ -142,80 +142,80 @@ module _ {Id B : Type 0} (rules : Rules Id B) (o : IsTotalOrder rules.bin_cmp) w
       at false None h = absurd h
       at false (Some bin) h = stuck-le rules.may bin.sections g.sizes n h
 
-  all-passed-le : (barred : B → Bool) (g : Members Id) (bins : List (B × Bin)) (order : List B) (counts : List ℕ) → AllZip (DoesNotTake rules barred bins g) order counts
-      → sum counts + length order * length g.sizes ≤ length g.sizes * free_of rules.bin_cmp bins order + length order * (length g.sizes * length g.sizes)
-  all-passed-le barred g bins [] [] h = omega arith
-  all-passed-le barred g bins [] (n ∷ counts) h = absurd h
-  all-passed-le barred g bins (id ∷ order) [] h = absurd h
-  all-passed-le barred g bins (id ∷ order) (n ∷ counts) h =
+  all-passed-le : (excluded : B → Bool) (g : Members Id) (bins : List (B × Bin)) (order : List B) (counts : List ℕ) → AllZip (DoesNotTake rules excluded bins g) order counts
+      → sum counts + length order * length g.sizes ≤ length g.sizes * free_sections_of rules.bin_cmp bins order + length order * (length g.sizes * length g.sizes)
+  all-passed-le excluded g bins [] [] h = omega arith
+  all-passed-le excluded g bins [] (n ∷ counts) h = absurd h
+  all-passed-le excluded g bins (id ∷ order) [] h = absurd h
+  all-passed-le excluded g bins (id ∷ order) (n ∷ counts) h =
       let m = length g.sizes in
-      let a = passed-le barred g bins id n h.0 in
-      let b = all-passed-le barred g bins order counts h.1 in
-      let s = sum_by-cons (free_in rules.bin_cmp bins) id order in
-      let t : m * free_of rules.bin_cmp bins (id ∷ order) ≡ m * (free_in rules.bin_cmp bins id + free_of rules.bin_cmp bins order) = ap (λ k. m * k) s in
+      let a = passed-le excluded g bins id n h.0 in
+      let b = all-passed-le excluded g bins order counts h.1 in
+      let s = sum_by-cons (free_sections_at rules.bin_cmp bins) id order in
+      let t : m * free_sections_of rules.bin_cmp bins (id ∷ order) ≡ m * (free_sections_at rules.bin_cmp bins id + free_sections_of rules.bin_cmp bins order) = ap (λ k. m * k) s in
       omega (arith, a, b, t, sum_by-cons (λ k. k) n counts)
 
   -- of a list that is split
-  free-append : (bins : List (B × Bin)) (xs ys : List B) → free_of rules.bin_cmp bins (xs ++ ys) ≡ free_of rules.bin_cmp bins xs + free_of rules.bin_cmp bins ys
-  free-append bins xs ys = sum_by-append (free_in rules.bin_cmp bins) xs ys
+  free-append : (bins : List (B × Bin)) (xs ys : List B) → free_sections_of rules.bin_cmp bins (xs ++ ys) ≡ free_sections_of rules.bin_cmp bins xs + free_sections_of rules.bin_cmp bins ys
+  free-append bins xs ys = sum_by-append (free_sections_at rules.bin_cmp bins) xs ys
 
   -- a group that was tried in a beginning of an order
-  pub begun-le : (barred : B → Bool) (order before later : List B) (g : Members Id) (bins : List (B × Bin)) (counts : List ℕ) → order ≡ before ++ later → AllZip (DoesNotTake rules barred bins g) before counts
+  pub begun-le : (excluded : B → Bool) (order before later : List B) (g : Members Id) (bins : List (B × Bin)) (counts : List ℕ) → order ≡ before ++ later → AllZip (DoesNotTake rules excluded bins g) before counts
       → AreWithin rules.bin_cmp bins order (length g.sizes) (sum counts)
-  begun-le barred order before later g bins counts splits passed =
+  begun-le excluded order before later g bins counts splits passed =
       let m = length g.sizes in
-      let a = all-passed-le barred g bins before counts passed in
+      let a = all-passed-le excluded g bins before counts passed in
       let k : length order ≡ length before + length later = ap length splits ∙ length-append before later in
-      let s : free_of rules.bin_cmp bins order ≡ free_of rules.bin_cmp bins before + free_of rules.bin_cmp bins later = ap (free_of rules.bin_cmp bins) splits ∙ free-append bins before later in
-      record { most = rw (k, s) (by m (length before) (length later) (free_of rules.bin_cmp bins before) (free_of rules.bin_cmp bins later) (sum counts) a) }
+      let s : free_sections_of rules.bin_cmp bins order ≡ free_sections_of rules.bin_cmp bins before + free_sections_of rules.bin_cmp bins later = ap (free_sections_of rules.bin_cmp bins) splits ∙ free-append bins before later in
+      record { most = rw (k, s) (by m (length before) (length later) (free_sections_of rules.bin_cmp bins before) (free_sections_of rules.bin_cmp bins later) (sum counts) a) }
     where
       by : (m b l fb fl c : ℕ) → c + b * m ≤ m * fb + b * (m * m) → c + (b + l) * m ≤ m * (fb + fl) + (b + l) * (m * m)
       by m b l fb fl c h = omega (arith, h, mul-le-mul_left l (square m))
 
   -- and whose trial is done in the bin after it
-  pub tried-le : (barred : B → Bool) (order before : List B) (here : B) (after : List B) (g : Members Id) (bins : List (B × Bin)) (counts : List ℕ) (bin : Bin) (ls last : List Cuboid) (count : ℕ) → order ≡ before ++ here ∷ after
-      → AllZip (DoesNotTake rules barred bins g) before counts → lookup (is_at (rules.bin_cmp here)) bins ≡ Some bin → IsDone rules.may bin.sections g.sizes ls last count
+  pub tried-le : (excluded : B → Bool) (order before : List B) (here : B) (after : List B) (g : Members Id) (bins : List (B × Bin)) (counts : List ℕ) (bin : Bin) (ls last : List Cuboid) (count : ℕ) → order ≡ before ++ here ∷ after
+      → AllZip (DoesNotTake rules excluded bins g) before counts → lookup (is_at (rules.bin_cmp here)) bins ≡ Some bin → IsDone rules.may bin.sections g.sizes ls last count
       → AreWithin rules.bin_cmp bins order (length g.sizes) (sum counts + count)
-  tried-le barred order before here after g bins counts bin ls last count splits passed found done =
+  tried-le excluded order before here after g bins counts bin ls last count splits passed found done =
       let m = length g.sizes in
-      let a = all-passed-le barred g bins before counts passed in
+      let a = all-passed-le excluded g bins before counts passed in
       let b = done-le rules.may bin.sections g.sizes ls last count done in
       let k : length order ≡ length before + (1 + length after) = ap length splits ∙ length-append before (here ∷ after) ∙ omega arith in
-      let s : free_of rules.bin_cmp bins order ≡ free_of rules.bin_cmp bins before + (free_in rules.bin_cmp bins here + free_of rules.bin_cmp bins after) =
-      ap (free_of rules.bin_cmp bins) splits ∙ free-append bins before (here ∷ after) ∙ ap (λ x. free_of rules.bin_cmp bins before + x) (sum_by-cons (free_in rules.bin_cmp bins) here after) in
-      let f : free_in rules.bin_cmp bins here ≡ length bin.sections = ap (λ (x : Option Bin). unwrap_or (option_map (λ (b : Bin). length b.sections) x) 0) found in
-      record { most = rw (k, s, f) (by m (length before) (length after) (free_of rules.bin_cmp bins before) (free_of rules.bin_cmp bins after) (length bin.sections) (sum counts) count a b) }
+      let s : free_sections_of rules.bin_cmp bins order ≡ free_sections_of rules.bin_cmp bins before + (free_sections_at rules.bin_cmp bins here + free_sections_of rules.bin_cmp bins after) =
+      ap (free_sections_of rules.bin_cmp bins) splits ∙ free-append bins before (here ∷ after) ∙ ap (λ x. free_sections_of rules.bin_cmp bins before + x) (sum_by-cons (free_sections_at rules.bin_cmp bins) here after) in
+      let f : free_sections_at rules.bin_cmp bins here ≡ length bin.sections = ap (λ (x : Option Bin). unwrap_or (option_map (λ (b : Bin). length b.sections) x) 0) found in
+      record { most = rw (k, s, f) (by m (length before) (length after) (free_sections_of rules.bin_cmp bins before) (free_sections_of rules.bin_cmp bins after) (length bin.sections) (sum counts) count a b) }
     where
       by : (m b a fb fa l c d : ℕ) → c + b * m ≤ m * fb + b * (m * m) → d + m ≤ m * l + m * m → (c + d) + (b + (1 + a)) * m ≤ m * (fb + (l + fa)) + (b + (1 + a)) * (m * m)
       by m b a fb fa l c d p q = omega (arith, p, q, mul-le-mul_left a (square m))
 
   -- the same of an order with keys, at an index, with the tests counted
-  pub adds-begun : (barred : B → Bool) (order : List (ℕ × B)) (i : ℕ) (g : Members Id) (bins : List (B × Bin)) (counts : List ℕ) (before after : ℕ) → AllZip (DoesNotTake rules barred bins g) (map (λ (x : ℕ × B). x.1) (take i order)) counts
+  pub adds-begun : (excluded : B → Bool) (order : List (ℕ × B)) (i : ℕ) (g : Members Id) (bins : List (B × Bin)) (counts : List ℕ) (before after : ℕ) → AllZip (DoesNotTake rules excluded bins g) (map (λ (x : ℕ × B). x.1) (take i order)) counts
       → after ≡ saturated (before + sum counts) → AddsWithin rules.bin_cmp bins (map (λ (x : ℕ × B). x.1) order) (length g.sizes) before after
-  adds-begun barred order i g bins counts before after passed added =
+  adds-begun excluded order i g bins counts before after passed added =
       let name : ℕ × B → B = λ (x : ℕ × B). x.1 in
       let split : map name order ≡ map name (take i order) ++ map name (drop i order) = ap (map name) (sym (take-append-drop i order)) ∙ map-append name (take i order) (drop i order) in
-      record { tests = sum counts; within = begun-le barred (map name order) (map name (take i order)) (map name (drop i order)) g bins counts split passed; added = added }
+      record { tests = sum counts; within = begun-le excluded (map name order) (map name (take i order)) (map name (drop i order)) g bins counts split passed; added = added }
 
-  pub adds-tried : (barred : B → Bool) (order : List (ℕ × B)) (i : ℕ) (x : ℕ × B) (g : Members Id) (bins : List (B × Bin)) (counts : List ℕ) (bin : Bin) (ls last : List Cuboid) (count before after : ℕ) → i < length order → x ≡ get_or order i x
-      → AllZip (DoesNotTake rules barred bins g) (map (λ (x : ℕ × B). x.1) (take i order)) counts → lookup (is_at (rules.bin_cmp x.1)) bins ≡ Some bin → IsDone rules.may bin.sections g.sizes ls last count
+  pub adds-tried : (excluded : B → Bool) (order : List (ℕ × B)) (i : ℕ) (x : ℕ × B) (g : Members Id) (bins : List (B × Bin)) (counts : List ℕ) (bin : Bin) (ls last : List Cuboid) (count before after : ℕ) → i < length order → x ≡ get_or order i x
+      → AllZip (DoesNotTake rules excluded bins g) (map (λ (x : ℕ × B). x.1) (take i order)) counts → lookup (is_at (rules.bin_cmp x.1)) bins ≡ Some bin → IsDone rules.may bin.sections g.sizes ls last count
       → after ≡ saturated (before + (sum counts + count)) → AddsWithin rules.bin_cmp bins (map (λ (x : ℕ × B). x.1) order) (length g.sizes) before after
-  adds-tried barred order i x g bins counts bin ls last count before after within is passed found done added =
+  adds-tried excluded order i x g bins counts bin ls last count before after within is passed found done added =
       let name : ℕ × B → B = λ (x : ℕ × B). x.1 in
       record {
         tests = sum counts + count;
-        within = tried-le barred (map name order) (map name (take i order)) x.1 (map name (drop (suc i) order)) g bins counts bin ls last count (names-split order i x within is) passed found done;
+        within = tried-le excluded (map name order) (map name (take i order)) x.1 (map name (drop (suc i) order)) g bins counts bin ls last count (names-split order i x within is) passed found done;
         added = added;
       }
 
   -- so a group that is placed
-  pub placed-le : (barred : B → Bool) (order : List B) (g : Members Id) (old : List (B × Bin)) (ps : List (Placement Id B)) (new : List (B × Bin)) (n : ℕ) → IsPlaced rules barred order g old ps new n
+  pub placed-le : (excluded : B → Bool) (order : List B) (g : Members Id) (old : List (B × Bin)) (ps : List (Placement Id B)) (new : List (B × Bin)) (n : ℕ) → IsPlaced rules excluded order g old ps new n
       → AreWithin rules.bin_cmp old order (length g.sizes) n
-  placed-le barred order g old ps new n p = rw p.tests_are (tried-le barred order p.before p.here p.after g old p.counts p.bin p.locations p.last p.count p.order_is p.passed p.found p.done)
+  placed-le excluded order g old ps new n p = rw p.tests_are (tried-le excluded order p.before p.here p.after g old p.counts p.bin p.locations p.last p.count p.order_is p.passed p.found p.done)
 
   -- and one that is refused
-  pub refused-le : (barred : B → Bool) (order : List B) (g : Members Id) (bins : List (B × Bin)) (n : ℕ) → IsRefused rules barred order g bins n → AreWithin rules.bin_cmp bins order (length g.sizes) n
-  refused-le barred order g bins n r = rw r.tests_are (begun-le barred order order [] g bins r.counts (sym (append-nil order)) r.passed)
+  pub refused-le : (excluded : B → Bool) (order : List B) (g : Members Id) (bins : List (B × Bin)) (n : ℕ) → IsRefused rules excluded order g bins n → AreWithin rules.bin_cmp bins order (length g.sizes) n
+  refused-le excluded order g bins n r = rw r.tests_are (begun-le excluded order order [] g bins r.counts (sym (append-nil order)) r.passed)
 
   -- what one element of a list gains
   gained : (f h : B → ℕ) (here : B) (extra : ℕ) (order : List B) → IsDistinct (eq_by_cmp rules.bin_cmp) order → ((id : B) → is_at (rules.bin_cmp here) id ≡ true → h id ≤ f id + extra) → ((id : B) → is_at (rules.bin_cmp here) id ≡ false → h id ≡ f id)
@@ -237,9 +237,9 @@ module _ {Id B : Type 0} (rules : Rules Id B) (o : IsTotalOrder rules.bin_cmp) w
       by false e rest = omega (arith, off x e, rest, sum_by-cons h x xs, sum_by-cons f x xs)
 
   -- the bins have at most two free sections more for each member
-  pub placed-grown : (barred : B → Bool) (order : List B) (g : Members Id) (old : List (B × Bin)) (ps : List (Placement Id B)) (new : List (B × Bin)) (n : ℕ) → IsDistinct (eq_by_cmp rules.bin_cmp) order → IsPlaced rules barred order g old ps new n
-      → free_of rules.bin_cmp new order ≤ free_of rules.bin_cmp old order + 2 * length g.sizes
-  placed-grown barred order g old ps new n d p = gained (free_in rules.bin_cmp old) (free_in rules.bin_cmp new) p.here (2 * length g.sizes) order d at off
+  pub placed-grown : (excluded : B → Bool) (order : List B) (g : Members Id) (old : List (B × Bin)) (ps : List (Placement Id B)) (new : List (B × Bin)) (n : ℕ) → IsDistinct (eq_by_cmp rules.bin_cmp) order → IsPlaced rules excluded order g old ps new n
+      → free_sections_of rules.bin_cmp new order ≤ free_sections_of rules.bin_cmp old order + 2 * length g.sizes
+  placed-grown excluded order g old ps new n d p = gained (free_sections_at rules.bin_cmp old) (free_sections_at rules.bin_cmp new) p.here (2 * length g.sizes) order d at off
     where
       count : Option Bin → ℕ
       count x = unwrap_or (option_map (λ (b : Bin). length b.sections) x) 0
@@ -248,18 +248,18 @@ module _ {Id B : Type 0} (rules : Rules Id B) (o : IsTotalOrder rules.bin_cmp) w
       after = record p.bin { sections = p.last }
 
       seen : (id : B) → lookup (is_at (rules.bin_cmp id)) new ≡ cond (is_at (rules.bin_cmp p.here) id) (Some after) (lookup (is_at (rules.bin_cmp id)) old)
-      seen id = lookup-placed rules o barred order g old ps new n p id
+      seen id = lookup-placed rules o excluded order g old ps new n p id
 
-      at : (id : B) → is_at (rules.bin_cmp p.here) id ≡ true → free_in rules.bin_cmp new id ≤ free_in rules.bin_cmp old id + 2 * length g.sizes
+      at : (id : B) → is_at (rules.bin_cmp p.here) id ≡ true → free_sections_at rules.bin_cmp new id ≤ free_sections_at rules.bin_cmp old id + 2 * length g.sizes
       at id e =
-          let now : free_in rules.bin_cmp new id ≡ length p.last = ap (λ (x : Option Bin). unwrap_or (option_map (λ (b : Bin). length b.sections) x) 0) (seen id ∙ ap (λ (b : Bool). cond b (Some after) (lookup (is_at (rules.bin_cmp id)) old)) e) in
-          let was : free_in rules.bin_cmp old id ≡ length p.bin.sections = ap (λ (x : Option Bin). unwrap_or (option_map (λ (b : Bin). length b.sections) x) 0) (sym (lookup-equal o p.here id ((Equal-is _).0 e) old) ∙ p.found) in
+          let now : free_sections_at rules.bin_cmp new id ≡ length p.last = ap (λ (x : Option Bin). unwrap_or (option_map (λ (b : Bin). length b.sections) x) 0) (seen id ∙ ap (λ (b : Bool). cond b (Some after) (lookup (is_at (rules.bin_cmp id)) old)) e) in
+          let was : free_sections_at rules.bin_cmp old id ≡ length p.bin.sections = ap (λ (x : Option Bin). unwrap_or (option_map (λ (b : Bin). length b.sections) x) 0) (sym (lookup-equal o p.here id ((Equal-is _).0 e) old) ∙ p.found) in
           omega (arith, now, was, grown-le rules.may p.bin.sections g.sizes p.locations p.last p.count p.done)
 
-      off : (id : B) → is_at (rules.bin_cmp p.here) id ≡ false → free_in rules.bin_cmp new id ≡ free_in rules.bin_cmp old id
+      off : (id : B) → is_at (rules.bin_cmp p.here) id ≡ false → free_sections_at rules.bin_cmp new id ≡ free_sections_at rules.bin_cmp old id
       off id e = ap (λ (x : Option Bin). unwrap_or (option_map (λ (b : Bin). length b.sections) x) 0) (seen id ∙ ap (λ (b : Bool). cond b (Some after) (lookup (is_at (rules.bin_cmp id)) old)) e)
 
-  module _ {K : Type 0} (bars : List (K × B) → K → B → Bool) where
+  module _ {K : Type 0} (excludes : List (K × B) → K → B → Bool) where
     -- as many tests as so many members may make, for so many sections in a number of bins, and no more sections after them
     record Bounded (k f f' e n : ℕ) : Type 0 where
       pub tests : n + k * e ≤ e * f + k * (e * e)
@@ -274,29 +274,29 @@ module _ {Id B : Type 0} (rules : Rules Id B) (o : IsTotalOrder rules.bin_cmp) w
         let d : (m + e) * 1 ≤ (m + e) * k = mul-le-mul_left (m + e) some in
         record { tests = omega (arith, first, a, b, c); grown = (let g = rest.grown in omega arith); some = omega (arith, d) }
 
-    all-le : (order : List B) (gs : List (K × Members Id)) (old : Stage K B) (ps : List (Placement Id B)) (new : Stage K B) (n : ℕ) → IsDistinct (eq_by_cmp rules.bin_cmp) order → AreAllPlaced rules bars order gs old ps new n
-        → Bounded (length order) (free_of rules.bin_cmp old.bins order) (free_of rules.bin_cmp new.bins order) (members_in gs) n
+    all-le : (order : List B) (gs : List (K × Members Id)) (old : Stage K B) (ps : List (Placement Id B)) (new : Stage K B) (n : ℕ) → IsDistinct (eq_by_cmp rules.bin_cmp) order → AreAllPlaced rules excludes order gs old ps new n
+        → Bounded (length order) (free_sections_of rules.bin_cmp old.bins order) (free_sections_of rules.bin_cmp new.bins order) (members_in gs) n
     all-le order [] old ps new n d h =
-        let e = ap (λ (s : Stage K B). free_of rules.bin_cmp s.bins order) h.1 in
+        let e = ap (λ (s : Stage K B). free_sections_of rules.bin_cmp s.bins order) h.1 in
         let z = h.2 in
         record { tests = omega arith; grown = omega arith; some = omega arith }
     all-le order (g ∷ gs) old ps new n d (first, next, one, rest, others, placed, later, joined, counted) =
         let tail = all-le order gs (record { bins = next; homes = (g.0, placed.here) ∷ old.homes }) rest new others d later in
         let long : length order ≡ length placed.before + (1 + length placed.after) = ap length placed.order_is ∙ length-append placed.before (placed.here ∷ placed.after) ∙ omega arith in
         rw (counted, sum_by-cons (λ (g : K × Members Id). length g.1.sizes) g gs)
-        (joined-le (length order) (free_of rules.bin_cmp old.bins order) (free_of rules.bin_cmp next order) (free_of rules.bin_cmp new.bins order) (length g.1.sizes) (members_in gs) one others (omega arith)
-        (placed-le (bars old.homes g.0) order g.1 old.bins first next one placed).most (placed-grown (bars old.homes g.0) order g.1 old.bins first next one d placed) tail)
+        (joined-le (length order) (free_sections_of rules.bin_cmp old.bins order) (free_sections_of rules.bin_cmp next order) (free_sections_of rules.bin_cmp new.bins order) (length g.1.sizes) (members_in gs) one others (omega arith)
+        (placed-le (excludes old.homes g.0) order g.1 old.bins first next one placed).most (placed-grown (excludes old.homes g.0) order g.1 old.bins first next one d placed) tail)
 
     -- groups that are placed
-    pub all-within : (order : List B) (gs : List (K × Members Id)) (old : Stage K B) (ps : List (Placement Id B)) (new : Stage K B) (n : ℕ) → IsDistinct (eq_by_cmp rules.bin_cmp) order → AreAllPlaced rules bars order gs old ps new n
+    pub all-within : (order : List B) (gs : List (K × Members Id)) (old : Stage K B) (ps : List (Placement Id B)) (new : Stage K B) (n : ℕ) → IsDistinct (eq_by_cmp rules.bin_cmp) order → AreAllPlaced rules excludes order gs old ps new n
         → AreWithin rules.bin_cmp old.bins order (members_in gs) n
     all-within order gs old ps new n d h = record { most = (all-le order gs old ps new n d h).tests }
 
     -- and the tests of one more group
-    pub more-within : (order : List B) (gs : List (K × Members Id)) (old : Stage K B) (ps : List (Placement Id B)) (new : Stage K B) (n m one : ℕ) → IsDistinct (eq_by_cmp rules.bin_cmp) order → AreAllPlaced rules bars order gs old ps new n
+    pub more-within : (order : List B) (gs : List (K × Members Id)) (old : Stage K B) (ps : List (Placement Id B)) (new : Stage K B) (n m one : ℕ) → IsDistinct (eq_by_cmp rules.bin_cmp) order → AreAllPlaced rules excludes order gs old ps new n
         → AreWithin rules.bin_cmp new.bins order m one → AreWithin rules.bin_cmp old.bins order (members_in gs + m) (n + one)
     more-within order gs old ps new n m one d h last =
-        record { most = by (length order) (free_of rules.bin_cmp old.bins order) (free_of rules.bin_cmp new.bins order) (members_in gs) m n one (all-le order gs old ps new n d h) last.most }
+        record { most = by (length order) (free_sections_of rules.bin_cmp old.bins order) (free_sections_of rules.bin_cmp new.bins order) (members_in gs) m n one (all-le order gs old ps new n d h) last.most }
       where
         by : (k f f' e m n1 n2 : ℕ) → Bounded k f f' e n1 → n2 + k * m ≤ m * f' + k * (m * m) → (n1 + n2) + k * (e + m) ≤ (e + m) * f + k * ((e + m) * (e + m))
         by k f f' e m n1 n2 b last =
@@ -307,7 +307,7 @@ module _ {Id B : Type 0} (rules : Rules Id B) (o : IsTotalOrder rules.bin_cmp) w
 
     -- the same of a beginning of an order of groups, with the tests counted
     pub adds-placed : {X Y : Type 0} (group_cmp : K → K → Ordering) (sizes : List (Id × Size)) (lists : List (K × List Id)) (order : List (Reverse ℕ × Bor K × X × Y)) (i : ℕ) (names : List B) (gs : List (K × Members Id)) (old : Stage K B) (ps : List (Placement Id B)) (new : Stage K B) (n before after : ℕ)
-        → IsDistinct (eq_by_cmp rules.bin_cmp) names → AreGroups rules.id_cmp group_cmp sizes lists (keys_of_order (take i order)) gs → AreAllPlaced rules bars names gs old ps new n → after ≡ saturated (before + n)
+        → IsDistinct (eq_by_cmp rules.bin_cmp) names → AreGroups rules.id_cmp group_cmp sizes lists (keys_of_order (take i order)) gs → AreAllPlaced rules excludes names gs old ps new n → after ≡ saturated (before + n)
         → AddsWithin rules.bin_cmp old.bins names (sum_by (entries_at group_cmp lists) (keys_of_order order)) before after
     adds-placed group_cmp sizes lists order i names gs old ps new n before after d listed placed added =
         let e = AreGroups-length rules.id_cmp group_cmp sizes lists (keys_of_order (take i order)) gs listed in
@@ -315,7 +315,7 @@ module _ {Id B : Type 0} (rules : Rules Id B) (o : IsTotalOrder rules.bin_cmp) w
         record { tests = n; within = AreWithin-more rules.bin_cmp old.bins names (members_in gs) _ n (omega (arith, e, f)) (all-within names gs old ps new n d placed); added = added }
 
     pub adds-more : {X Y : Type 0} (group_cmp : K → K → Ordering) (sizes : List (Id × Size)) (lists : List (K × List Id)) (order : List (Reverse ℕ × Bor K × X × Y)) (i : ℕ) (names : List B) (gs : List (K × Members Id)) (g : K × Members Id) (old : Stage K B) (ps : List (Placement Id B)) (new : Stage K B) (n before mid after : ℕ)
-        → IsDistinct (eq_by_cmp rules.bin_cmp) names → AreGroups rules.id_cmp group_cmp sizes lists (keys_of_order (take i order)) (gs ++ g ∷ []) → AreAllPlaced rules bars names gs old ps new n → mid ≡ saturated (before + n)
+        → IsDistinct (eq_by_cmp rules.bin_cmp) names → AreGroups rules.id_cmp group_cmp sizes lists (keys_of_order (take i order)) (gs ++ g ∷ []) → AreAllPlaced rules excludes names gs old ps new n → mid ≡ saturated (before + n)
         → AddsWithin rules.bin_cmp new.bins names (length g.1.sizes) mid after → AddsWithin rules.bin_cmp old.bins names (sum_by (entries_at group_cmp lists) (keys_of_order order)) before after
     adds-more group_cmp sizes lists order i names gs g old ps new n before mid after d listed placed first last =
         let e = AreGroups-length rules.id_cmp group_cmp sizes lists (keys_of_order (take i order)) (gs ++ g ∷ []) listed in
@@ -329,27 +329,27 @@ module _ {Id B : Type 0} (rules : Rules Id B) (o : IsTotalOrder rules.bin_cmp) w
 
   -- an entry of a map whose keys differ from another's
   skipped : (x : B × Bin) (bins es : List (B × Bin)) (us : List (ℕ × B)) → AllByRecursion (λ y. eq_by_cmp rules.bin_cmp x.0 y ≡ false) (keys_of es) → AllZip (λ e u. (rules.bin_cmp e.0 u.1 ≡ Equal) × rules.may.rate e.1.size u.0) es us
-      → sum_by (λ u. free_in rules.bin_cmp (x ∷ bins) u.1) us ≡ sum_by (λ u. free_in rules.bin_cmp bins u.1) us
+      → sum_by (λ u. free_sections_at rules.bin_cmp (x ∷ bins) u.1) us ≡ sum_by (λ u. free_sections_at rules.bin_cmp bins u.1) us
   skipped x bins [] [] a h = refl
   skipped x bins [] (u ∷ us) a h = absurd h
   skipped x bins (e ∷ es) [] a h = absurd h
   skipped x bins (e ∷ es) (u ∷ us) a h =
       let off : is_at (rules.bin_cmp u.1) x.0 ≡ false = is_at-back o u.1 x.0 ∙ is_at-back o x.0 u.1 ∙ sym (is_at-equal o e.0 u.1 x.0 h.0.0) ∙ is_at-back o e.0 x.0 ∙ a.0 in
-      let one : free_in rules.bin_cmp (x ∷ bins) u.1 ≡ free_in rules.bin_cmp bins u.1 = ap (λ (b : Bool). unwrap_or (option_map (λ (b : Bin). length b.sections) (cond b (Some x.1) (lookup (is_at (rules.bin_cmp u.1)) bins))) 0) off in
+      let one : free_sections_at rules.bin_cmp (x ∷ bins) u.1 ≡ free_sections_at rules.bin_cmp bins u.1 = ap (λ (b : Bool). unwrap_or (option_map (λ (b : Bin). length b.sections) (cond b (Some x.1) (lookup (is_at (rules.bin_cmp u.1)) bins))) 0) off in
       let rest = skipped x bins es us a.1 h.1 in
-      omega (arith, one, rest, sum_by-cons (λ (u : ℕ × B). free_in rules.bin_cmp (x ∷ bins) u.1) u us, sum_by-cons (λ (u : ℕ × B). free_in rules.bin_cmp bins u.1) u us)
+      omega (arith, one, rest, sum_by-cons (λ (u : ℕ × B). free_sections_at rules.bin_cmp (x ∷ bins) u.1) u us, sum_by-cons (λ (u : ℕ × B). free_sections_at rules.bin_cmp bins u.1) u us)
 
   -- each bin of a map, once
-  each-once : (es : List (B × Bin)) (us : List (ℕ × B)) → IsDistinct (eq_by_cmp rules.bin_cmp) (keys_of es) → AllZip (λ e u. (rules.bin_cmp e.0 u.1 ≡ Equal) × rules.may.rate e.1.size u.0) es us → sum_by (λ u. free_in rules.bin_cmp es u.1) us ≡ sections_in es
+  each-once : (es : List (B × Bin)) (us : List (ℕ × B)) → IsDistinct (eq_by_cmp rules.bin_cmp) (keys_of es) → AllZip (λ e u. (rules.bin_cmp e.0 u.1 ≡ Equal) × rules.may.rate e.1.size u.0) es us → sum_by (λ u. free_sections_at rules.bin_cmp es u.1) us ≡ sections_in es
   each-once [] [] d h = refl
   each-once [] (u ∷ us) d h = absurd h
   each-once (e ∷ es) [] d h = absurd h
   each-once (e ∷ es) (u ∷ us) d h =
       let on : is_at (rules.bin_cmp u.1) e.0 ≡ true = is_at-back o u.1 e.0 ∙ ap is_eq h.0.0 in
-      let one : free_in rules.bin_cmp (e ∷ es) u.1 ≡ length e.1.sections = ap (λ (b : Bool). unwrap_or (option_map (λ (b : Bin). length b.sections) (cond b (Some e.1) (lookup (is_at (rules.bin_cmp u.1)) es))) 0) on in
+      let one : free_sections_at rules.bin_cmp (e ∷ es) u.1 ≡ length e.1.sections = ap (λ (b : Bool). unwrap_or (option_map (λ (b : Bin). length b.sections) (cond b (Some e.1) (lookup (is_at (rules.bin_cmp u.1)) es))) 0) on in
       let skip = skipped e es es us (IsDistinct-head (eq_by_cmp rules.bin_cmp) e.0 (keys_of es) d) h.1 in
       let rest = each-once es us (IsDistinct-tail (eq_by_cmp rules.bin_cmp) e.0 (keys_of es) d) h.1 in
-      omega (arith, one, skip, rest, sum_by-cons (λ (u : ℕ × B). free_in rules.bin_cmp (e ∷ es) u.1) u us, sum_by-cons (λ (e : B × Bin). length e.1.sections) e es)
+      omega (arith, one, skip, rest, sum_by-cons (λ (u : ℕ × B). free_sections_at rules.bin_cmp (e ∷ es) u.1) u us, sum_by-cons (λ (e : B × Bin). length e.1.sections) e es)
 
   -- names that equal keys that differ
   names-differ : (es : List (B × Bin)) (us : List (ℕ × B)) → IsDistinct (eq_by_cmp rules.bin_cmp) (keys_of es) → AllZip (λ e u. (rules.bin_cmp e.0 u.1 ≡ Equal) × rules.may.rate e.1.size u.0) es us → IsDistinct (eq_by_cmp rules.bin_cmp) (map (λ u. u.1) us)
@@ -367,14 +367,14 @@ module _ {Id B : Type 0} (rules : Rules Id B) (o : IsTotalOrder rules.bin_cmp) w
           (sym (is_at-equal o e.0 u.1 v.1 h.0.0) ∙ is_at-back o e.0 v.1 ∙ sym (is_at-equal o f.0 v.1 e.0 h'.0.0) ∙ is_at-back o f.0 e.0 ∙ a.0, apart es us a.1 h'.1)
 
   record Ordered (bins : List (B × Bin)) (order : List B) : Type 0 where
-    pub free : free_of rules.bin_cmp bins order ≡ sections_in bins
+    pub free : free_sections_of rules.bin_cmp bins order ≡ sections_in bins
     pub long : length order ≡ length bins
     pub distinct : IsDistinct (eq_by_cmp rules.bin_cmp) order
 
   ordered-from : (bins : List (B × Bin)) (order : List (ℕ × B)) → IsDistinct (eq_by_cmp rules.bin_cmp) (keys_of bins) → IsBinOrder rules.may.rate rules.bin_cmp bins order → Ordered bins (map (λ (u : ℕ × B). u.1) order)
   ordered-from bins order d p =
       let name : ℕ × B → B = λ (u : ℕ × B). u.1 in record {
-        free = sum_by-map (free_in rules.bin_cmp bins) name order ∙ sum_by-IsPermutation (λ (u : ℕ × B). free_in rules.bin_cmp bins u.1) p.unsorted order p.permutation ∙ each-once bins p.unsorted d p.each;
+        free = sum_by-map (free_sections_at rules.bin_cmp bins) name order ∙ sum_by-IsPermutation (λ (u : ℕ × B). free_sections_at rules.bin_cmp bins u.1) p.unsorted order p.permutation ∙ each-once bins p.unsorted d p.each;
         long = length-map order name ∙ length_permutation p.unsorted order p.permutation ∙ sym (length-zip _ bins p.unsorted p.each);
         distinct = IsDistinct-IsPermutation (eq_by_cmp rules.bin_cmp) (λ x y. is_at-back o x y) (map name p.unsorted) (map name order) (IsPermutation-map name p.unsorted order p.permutation) (names-differ bins p.unsorted d p.each);
       }
@@ -407,22 +407,22 @@ module _ {Id B G : Type 0} (group_cmp : Group G Id → Group G Id → Ordering) 
     (group_order : List (ℕ × Group G Id)) (entries : sum_by (entries_at group_cmp all.groups) group_order ≡ entries_of all) (order : List (ℕ × B)) (by_bins : IsBinOrder rules.may.rate rules.bin_cmp old order) where
   -- a packing that is done
   pub counted-done : (gs : List (Group G Id × Members Id)) (placements : List (Placement Id B)) (new : Stage (Group G Id) B) (n before after : ℕ) → AreGroups rules.id_cmp group_cmp all.sizes all.groups group_order gs
-      → AreAllPlaced rules (bars_by group_cmp rules.bin_cmp all.partners) (map (λ (u : ℕ × B). u.1) order) gs (at_start old) placements new n → after ≡ saturated (before + n) → AreCounted all old n before after
+      → AreAllPlaced rules (excludes_by group_cmp rules.bin_cmp all.partners) (map (λ (u : ℕ × B). u.1) order) gs (at_start old) placements new n → after ≡ saturated (before + n) → AreCounted all old n before after
   counted-done gs placements new n before after listed placed added =
       let b = ordered-from rules o old order d by_bins in
-      let whole = all-within rules o (bars_by group_cmp rules.bin_cmp all.partners) (map (λ (u : ℕ × B). u.1) order) gs (at_start old) placements new n b.distinct placed in
+      let whole = all-within rules o (excludes_by group_cmp rules.bin_cmp all.partners) (map (λ (u : ℕ × B). u.1) order) gs (at_start old) placements new n b.distinct placed in
       let e : members_in gs ≡ entries_of all = sym (AreGroups-length rules.id_cmp group_cmp all.sizes all.groups group_order gs listed) ∙ entries in
       most-within rules o all old order n before after d by_bins (AreWithin-more rules.bin_cmp old (map (λ (u : ℕ × B). u.1) order) (members_in gs) (entries_of all) n (omega (arith, e)) whole) added
 
   -- and one that is refused
-  pub counted-refused : (new : List (B × Bin)) (n before after : ℕ) → StopsAfter rules (bars_by group_cmp rules.bin_cmp all.partners) group_cmp all.sizes all.groups group_order (map (λ (u : ℕ × B). u.1) order) old new n
+  pub counted-refused : (new : List (B × Bin)) (n before after : ℕ) → StopsAfter rules (excludes_by group_cmp rules.bin_cmp all.partners) group_cmp all.sizes all.groups group_order (map (λ (u : ℕ × B). u.1) order) old new n
       → after ≡ saturated (before + n) → AreCounted all old n before after
   counted-refused new n before after s added =
-      let bars = bars_by group_cmp rules.bin_cmp all.partners in
+      let excludes = excludes_by group_cmp rules.bin_cmp all.partners in
       let names : List B = map (λ (u : ℕ × B). u.1) order in
       let b = ordered-from rules o old order d by_bins in
-      let last = refused-le rules o (bars s.homes s.next.0) names s.next.1 new s.count s.refused in
-      let whole = more-within rules o bars names s.beginning (at_start old) s.placements (record { bins = new; homes = s.homes }) s.first (length s.next.1.sizes) s.count b.distinct s.placed last in
+      let last = refused-le rules o (excludes s.homes s.next.0) names s.next.1 new s.count s.refused in
+      let whole = more-within rules o excludes names s.beginning (at_start old) s.placements (record { bins = new; homes = s.homes }) s.first (length s.next.1.sizes) s.count b.distinct s.placed last in
       let e : members_in s.beginning + length s.next.1.sizes ≡ sum_by (entries_at group_cmp all.groups) s.taken = sym (members_in-more s.beginning s.next) ∙ sym (AreGroups-length rules.id_cmp group_cmp all.sizes all.groups s.taken (s.beginning ++ s.next ∷ []) s.listed) in
       let f = ap (sum_by (entries_at group_cmp all.groups)) s.order_is ∙ sum_by-append (entries_at group_cmp all.groups) s.taken s.later in
       most-within rules o all old order n before after d by_bins

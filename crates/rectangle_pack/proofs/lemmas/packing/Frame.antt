@@ -16,13 +16,13 @@ use Rattle.rectangle_pack.specs.Boxes.{Size, Cuboid, Cell, IsInside, IsPartOf, h
 use Rattle.rectangle_pack.specs.Bins.{Bin}
 use Rattle.rectangle_pack.specs.Closures.{Answers}
 use Rattle.rectangle_pack.specs.Counting.{times_filled}
-use Rattle.rectangle_pack.specs.Keeping.{placed_in}
+use Rattle.rectangle_pack.specs.Keeping.{locations_in}
 use Rattle.rectangle_pack.specs.Packing.{Rules, Members, Stage, IsPlaced, AreAllPlaced}
 use Rattle.rectangle_pack.specs.Steps.{IsStep, IsDone}
 use Rattle.rectangle_pack.proofs.lemmas.multimap.Append.{All-front, All-back, All-middle}
 use Rattle.rectangle_pack.proofs.lemmas.cuts.Counting.{filled-append, filled-cons, filled_none}
 use Rattle.rectangle_pack.proofs.lemmas.util.Maps.{lookup-equal}
-use Rattle.rectangle_pack.proofs.lemmas.packing.Placed.{placed_in-here, placed_in-none, placed_in-append, lookup-placed}
+use Rattle.rectangle_pack.proofs.lemmas.packing.Placed.{locations_in-here, locations_in-none, locations_in-append, lookup-placed}
 use Rattle.rectangle_pack.proofs.lemmas.trial.Steps.{IsStep-keeps, filled-permutation, filled-step}
 
 -- a relation between the boxes of a bin before and after a change: it goes on from one change to the next, boxes may stand
@@ -122,19 +122,19 @@ pub record IsChanged {Id B : Type 0} (R : List Cuboid → List Cuboid → Type 0
   pub after : Bin
   pub found : lookup (is_at (bin_cmp id)) new ≡ Some after
   pub kept : after ≡ record before { sections = after.sections }
-  pub framed : R before.sections (after.sections ++ placed_in bin_cmp placements id)
+  pub framed : R before.sections (after.sections ++ locations_in bin_cmp placements id)
 
 module _ {R : List Cuboid → List Cuboid → Type 0} (frame : IsFrame R) {Id B : Type 0} (rules : Rules Id B) (o : IsTotalOrder rules.bin_cmp)
     (kept : KeptBySteps rules.may R) where
   -- one group that is placed
-  changed-placed : (barred : B → Bool) (order : List B) (group : Members Id) (old : List (B × Bin)) (placements : List (Placement Id B))
-      (new : List (B × Bin)) (tests : ℕ) → IsPlaced rules barred order group old placements new tests
+  changed-placed : (excluded : B → Bool) (order : List B) (group : Members Id) (old : List (B × Bin)) (placements : List (Placement Id B))
+      (new : List (B × Bin)) (tests : ℕ) → IsPlaced rules excluded order group old placements new tests
       → (q : B) (before : Bin) → lookup (is_at (rules.bin_cmp q)) old ≡ Some before → IsChanged R rules.bin_cmp placements new q before
-  changed-placed barred order group old placements new n h q before was = by (is_eq (rules.bin_cmp h.here q)) refl
+  changed-placed excluded order group old placements new n h q before was = by (is_eq (rules.bin_cmp h.here q)) refl
     where
       seen : lookup (is_at (rules.bin_cmp q)) new
           ≡ cond (is_eq (rules.bin_cmp h.here q)) (Some (record h.bin { sections = h.last })) (lookup (is_at (rules.bin_cmp q)) old)
-      seen = lookup-placed rules o barred order group old placements new n h q
+      seen = lookup-placed rules o excluded order group old placements new n h q
 
       tests : (b : Bool) → is_eq (rules.bin_cmp h.here q) ≡ b → All (λ (p : Placement Id B). is_at (rules.bin_cmp p.bin) q ≡ b) placements
       tests b e = All-weaker (λ (p : Placement Id B). rules.bin_cmp h.here p.bin ≡ Equal) (λ (p : Placement Id B). is_at (rules.bin_cmp p.bin) q ≡ b)
@@ -145,7 +145,7 @@ module _ {R : List Cuboid → List Cuboid → Type 0} (frame : IsFrame R) {Id B 
           let equal : rules.bin_cmp h.here q ≡ Equal = (Equal-is _).0 e in
           let same : Some before ≡ Some h.bin = sym was ∙ sym (lookup-equal o h.here q equal old) ∙ h.found in
           let is : before ≡ h.bin = cc in
-          let there : placed_in rules.bin_cmp placements q ≡ h.locations = placed_in-here rules.bin_cmp placements q (tests true e) ∙ h.named.at in
+          let there : locations_in rules.bin_cmp placements q ≡ h.locations = locations_in-here rules.bin_cmp placements q (tests true e) ∙ h.named.at in
           record {
             after = record h.bin { sections = h.last };
             found = seen ∙ rw e refl;
@@ -156,24 +156,24 @@ module _ {R : List Cuboid → List Cuboid → Type 0} (frame : IsFrame R) {Id B 
         after = before;
         found = seen ∙ rw e was;
         kept = refl;
-        framed = rw (placed_in-none rules.bin_cmp placements q (tests false e), append-nil before.sections) (frame.same before.sections);
+        framed = rw (locations_in-none rules.bin_cmp placements q (tests false e), append-nil before.sections) (frame.same before.sections);
       }
 
-  module _ {K : Type 0} (bars : List (K × B) → K → B → Bool) where
+  module _ {K : Type 0} (excludes : List (K × B) → K → B → Bool) where
     -- all groups of a list
     pub changed-all : (order : List B) (gs : List (K × Members Id)) (old : Stage K B) (placements : List (Placement Id B)) (new : Stage K B)
-        (tests : ℕ) → AreAllPlaced rules bars order gs old placements new tests
+        (tests : ℕ) → AreAllPlaced rules excludes order gs old placements new tests
         → (q : B) (before : Bin) → lookup (is_at (rules.bin_cmp q)) old.bins ≡ Some before → IsChanged R rules.bin_cmp placements new.bins q before
     changed-all order [] old placements new n h q before was =
         rw (h.0, h.1) (record { after = before; found = was; kept = refl; framed = rw (append-nil before.sections) (frame.same before.sections) })
     changed-all order (g ∷ gs) old placements new n (first, next, one, rest, others, placed, later, joined, counted) q before was =
-        let head = changed-placed (bars old.homes g.0) order g.1 old.bins first next one placed q before was in
+        let head = changed-placed (excludes old.homes g.0) order g.1 old.bins first next one placed q before was in
         let tail = changed-all order gs (record { bins = next; homes = (g.0, placed.here) ∷ old.homes }) rest new others later q head.after head.found in
         record {
           after = tail.after;
           found = tail.found;
           kept = tail.kept ∙ ap (λ (b : Bin). record b { sections = tail.after.sections }) head.kept;
-          framed = rw (joined, placed_in-append rules.bin_cmp first rest q)
-              (frame.next before.sections head.after.sections (placed_in rules.bin_cmp first q) tail.after.sections (placed_in rules.bin_cmp rest q)
+          framed = rw (joined, locations_in-append rules.bin_cmp first rest q)
+              (frame.next before.sections head.after.sections (locations_in rules.bin_cmp first q) tail.after.sections (locations_in rules.bin_cmp rest q)
               head.framed tail.framed);
         }

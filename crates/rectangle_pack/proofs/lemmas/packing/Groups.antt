@@ -30,11 +30,11 @@ use Rattle.rectangle_pack.specs.Bins.{Bin, Held, IsSound}
 use Rattle.rectangle_pack.specs.Packing.{Rules, bins_of, Members, Stage, at_start, IsPlaced, DoesNotTake, IsStuckIn, IsRefused, AreAllPlaced, AreGroups, StopsAfter, PackingDone}
 use Rattle.rectangle_pack.specs.Boxes.{Size, Cuboid}
 use Rattle.rectangle_pack.specs.declared.target_bin.trial.Note.{Note}
-use Rattle.rectangle_pack.specs.private.Journal.{before_notes, CanUndo, LeadsBack}
+use Rattle.rectangle_pack.specs.private.Notes.{before_notes, CanUndo, LeadsBack}
 use Rattle.rectangle_pack.specs.Steps.{IsDone}
 use Rattle.rectangle_pack.specs.Placed.{AreNamed, IsLastOf, AreLastPlacements}
 use Rattle.rectangle_pack.specs.private.Checkout.{IsTriedIn}
-use Rattle.rectangle_pack.specs.private.TrialJournal.{GoesBack, trials_noted}
+use Rattle.rectangle_pack.specs.private.RollBack.{GoesBack, trials_noted}
 use Rattle.rectangle_pack.proofs.lemmas.packing.Orders.{AllZip-more}
 use Rattle.rectangle_pack.proofs.lemmas.util.Maps.{is_eq-back}
 use Rattle.rectangle_pack.proofs.lemmas.packing.RollBack.{bins_of-written, lookup-bins_of, IsRoomier-grown, IsRoomier-bins, GoesBack-more, GoesBack-pushed}
@@ -119,14 +119,14 @@ AreSizesOf-length cmp sizes (x ∷ xs) (m ∷ ms) h = let e = AreSizesOf-length 
 
 module _ {Id B : Type 0} (rules : Rules Id B) where
   -- the group is placed in the bin that the loop is at
-  pub IsPlaced-at : (barred : B → Bool) (order : List (ℕ × B)) (i : ℕ) (o : ℕ × B) (group : Members Id) (now new : List (B × Held)) (old : List (B × Bin))
+  pub IsPlaced-at : (excluded : B → Bool) (order : List (ℕ × B)) (i : ℕ) (o : ℕ × B) (group : Members Id) (now new : List (B × Held)) (old : List (B × Bin))
       (v w : Held) (locations : List Cuboid) (counts : List ℕ) (count : ℕ) (added : List (Placement Id B))
       → i < length order → o ≡ get_or order i o → bins_of now ≡ old
-      → AllZip (DoesNotTake rules barred old group) (map (λ (x : ℕ × B). x.1) (take i order)) counts → barred o.1 ≡ false
+      → AllZip (DoesNotTake rules excluded old group) (map (λ (x : ℕ × B). x.1) (take i order)) counts → excluded o.1 ≡ false
       → IsTriedIn rules.bin_cmp o.1 now v w new → w.bin ≡ record v.bin { sections = w.bin.sections }
       → IsDone rules.may v.bin.sections group.sizes locations w.bin.sections count → AreNamed rules.id_cmp rules.bin_cmp group.ids o.1 locations added
-      → (p : IsPlaced rules barred (map (λ (x : ℕ × B). x.1) order) group old added (bins_of new) (sum counts + count)) × (p.here ≡ o.1)
-  IsPlaced-at barred order i o group now new old v w locations counts count added within is same passed allowed tried rest done named = (
+      → (p : IsPlaced rules excluded (map (λ (x : ℕ × B). x.1) order) group old added (bins_of new) (sum counts + count)) × (p.here ≡ o.1)
+  IsPlaced-at excluded order i o group now new old v w locations counts count added within is same passed allowed tried rest done named = (
     record {
       before = map (λ (x : ℕ × B). x.1) (take i order);
       here = o.1;
@@ -158,32 +158,32 @@ module _ {Id B : Type 0} (rules : Rules Id B) where
       subst (P b) same_order (subst (λ (x : B → Bool). P x order) same (p, is))
 
   -- one more bin is passed over
-  pub DoesNotTake-more : (barred : B → Bool) (old : List (B × Bin)) (group : Members Id) (order : List (ℕ × B)) (i : ℕ) (o : ℕ × B) (counts : List ℕ) (count : ℕ)
-      → i < length order → o ≡ get_or order i o → DoesNotTake rules barred old group o.1 count
-      → AllZip (DoesNotTake rules barred old group) (map (λ (x : ℕ × B). x.1) (take i order)) counts
-      → AllZip (DoesNotTake rules barred old group) (map (λ (x : ℕ × B). x.1) (take (i + 1) order)) (counts ++ count ∷ [])
-  DoesNotTake-more barred old group order i o counts count within is here before =
+  pub DoesNotTake-more : (excluded : B → Bool) (old : List (B × Bin)) (group : Members Id) (order : List (ℕ × B)) (i : ℕ) (o : ℕ × B) (counts : List ℕ) (count : ℕ)
+      → i < length order → o ≡ get_or order i o → DoesNotTake rules excluded old group o.1 count
+      → AllZip (DoesNotTake rules excluded old group) (map (λ (x : ℕ × B). x.1) (take i order)) counts
+      → AllZip (DoesNotTake rules excluded old group) (map (λ (x : ℕ × B). x.1) (take (i + 1) order)) (counts ++ count ∷ [])
+  DoesNotTake-more excluded old group order i o counts count within is here before =
       let same : map (λ (x : ℕ × B). x.1) (take (i + 1) order) ≡ map (λ (x : ℕ × B). x.1) (take i order) ++ o.1 ∷ [] = ap (map (λ (x : ℕ × B). x.1)) (take_more order i o within) ∙ map-append (λ (x : ℕ × B). x.1) (take i order) (get_or order i o ∷ []) ∙ ap (λ (z : ℕ × B). map (λ (x : ℕ × B). x.1) (take i order) ++ z.1 ∷ []) (sym is) in
-      let P : B → ℕ → Type 0 = DoesNotTake rules barred old group in
+      let P : B → ℕ → Type 0 = DoesNotTake rules excluded old group in
       subst (λ ns. AllZip P ns (counts ++ count ∷ [])) (sym same) (AllZip-more P (map (λ (x : ℕ × B). x.1) (take i order)) counts o.1 count before here)
 
-  -- a bin that is barred is passed over
-  pub DoesNotTake-barred : (barred : B → Bool) (old : List (B × Bin)) (group : Members Id) (id : B) → barred id ≡ true → DoesNotTake rules barred old group id 0
-  DoesNotTake-barred barred old group id h = rw h refl
+  -- a bin that is excluded is passed over
+  pub DoesNotTake-excluded : (excluded : B → Bool) (old : List (B × Bin)) (group : Members Id) (id : B) → excluded id ≡ true → DoesNotTake rules excluded old group id 0
+  DoesNotTake-excluded excluded old group id h = rw h refl
 
   -- and so is one in which the trial is stuck
-  pub DoesNotTake-stuck : (barred : B → Bool) (old : List (B × Bin)) (group : Members Id) (id : B) (count : ℕ) → barred id ≡ false → IsStuckIn rules old group id count → DoesNotTake rules barred old group id count
-  DoesNotTake-stuck barred old group id count h stuck = rw h stuck
+  pub DoesNotTake-stuck : (excluded : B → Bool) (old : List (B × Bin)) (group : Members Id) (id : B) (count : ℕ) → excluded id ≡ false → IsStuckIn rules old group id count → DoesNotTake rules excluded old group id count
+  DoesNotTake-stuck excluded old group id count h stuck = rw h stuck
 
-  module _ {K : Type 0} (bars : List (K × B) → K → B → Bool) where
+  module _ {K : Type 0} (excludes : List (K × B) → K → B → Bool) where
     -- one more group is placed
     AreAllPlaced-push : (order : List B) (gs : List (K × Members Id)) (g : K × Members Id) (old : Stage K B) (mid : List (B × Bin)) (homes : List (K × B)) (next : List (B × Bin)) (placements added : List (Placement Id B)) (tests one : ℕ)
-        → AreAllPlaced rules bars order gs old placements (record { bins = mid; homes = homes }) tests
-        → (p : IsPlaced rules (bars homes g.0) order g.1 mid added next one)
-        → AreAllPlaced rules bars order (gs ++ g ∷ []) old (placements ++ added) (record { bins = next; homes = (g.0, p.here) ∷ homes }) (tests + one)
+        → AreAllPlaced rules excludes order gs old placements (record { bins = mid; homes = homes }) tests
+        → (p : IsPlaced rules (excludes homes g.0) order g.1 mid added next one)
+        → AreAllPlaced rules excludes order (gs ++ g ∷ []) old (placements ++ added) (record { bins = next; homes = (g.0, p.here) ∷ homes }) (tests + one)
     AreAllPlaced-push order [] g old mid homes next placements added tests one done placed =
         let S : Stage K B = record { bins = mid; homes = homes } in
-        subst (λ (s : Stage K B). AreAllPlaced rules bars order (g ∷ []) s (placements ++ added) (record { bins = next; homes = (g.0, placed.here) ∷ homes }) (tests + one)) done.1
+        subst (λ (s : Stage K B). AreAllPlaced rules excludes order (g ∷ []) s (placements ++ added) (record { bins = next; homes = (g.0, placed.here) ∷ homes }) (tests + one)) done.1
         (added, next, one, [], 0, placed, (refl, refl, refl), ap (λ ps. ps ++ added) done.0 ∙ sym (append-nil added), (let z = done.2 in omega arith))
     AreAllPlaced-push order (g' ∷ gs) g old mid homes next placements added tests one (first, mid', n, rest, m, here, later, joined, counted) placed =
         (first, mid', n, rest ++ added, m + one, here, AreAllPlaced-push order gs g (record { bins = mid'; homes = (g'.0, here.here) ∷ old.homes }) mid homes next rest added m one later placed, rw joined (append_assoc first rest added), omega arith)
@@ -191,13 +191,13 @@ module _ {Id B : Type 0} (rules : Rules Id B) where
     -- and it is known where it went
     pub AreAllPlaced-next : (excluded : B → Bool) (order names : List B) (gs : List (K × Members Id)) (g : K × Members Id) (old : Stage K B)
         (mid : List (B × Bin)) (homes : List (K × B)) (next : List (B × Bin)) (before added after : List (Placement Id B)) (tests one : ℕ) (here : B)
-        → excluded ≡ bars homes g.0 → order ≡ names → AreAllPlaced rules bars names gs old before (record { bins = mid; homes = homes }) tests
+        → excluded ≡ excludes homes g.0 → order ≡ names → AreAllPlaced rules excludes names gs old before (record { bins = mid; homes = homes }) tests
         → (p : IsPlaced rules excluded order g.1 mid added next one) → p.here ≡ here → after ≡ before ++ added
-        → AreAllPlaced rules bars names (gs ++ g ∷ []) old after (record { bins = next; homes = (g.0, here) ∷ homes }) (tests + one)
+        → AreAllPlaced rules excludes names (gs ++ g ∷ []) old after (record { bins = next; homes = (g.0, here) ∷ homes }) (tests + one)
     AreAllPlaced-next excluded order names gs g old mid homes next before added after tests one here same same_order done p is joined =
-        let q = IsPlaced-alike excluded (bars homes g.0) order names g.1 mid added next one here same same_order p is in
+        let q = IsPlaced-alike excluded (excludes homes g.0) order names g.1 mid added next one here same same_order p is in
         let P : List (Placement Id B) → B → Type 0 = λ (ps : List (Placement Id B)) (b : B).
-        AreAllPlaced rules bars names (gs ++ g ∷ []) old ps (record { bins = next; homes = (g.0, b) ∷ homes }) (tests + one) in
+        AreAllPlaced rules excludes names (gs ++ g ∷ []) old ps (record { bins = next; homes = (g.0, b) ∷ homes }) (tests + one) in
         subst (λ (ps : List (Placement Id B)). P ps here) (sym joined)
         (subst (P (before ++ added)) q.1 (AreAllPlaced-push names gs g old mid homes next before added tests one done q.0))
 
@@ -212,13 +212,13 @@ module _ {Id B : Type 0} (rules : Rules Id B) where
         record { each = rw more (AllZip-more (λ (x : ℕ × K) (g : K × Members Id). (g.0 ≡ x.1) × (lookup (is_at (group_cmp x.1)) lists ≡ Some g.1.ids) × AreSizesOf rules.id_cmp sizes g.1.ids g.1.sizes) (keys_of_order (take i order)) gs (f o) (o.1.now, group) h.each (refl, found, sized)) }
 
     -- the loop stops at a group that is refused
-    pub StopsAfter-at : {X Y : Type 0} (bars : List (K × B) → K → B → Bool) (sizes : List (Id × Size)) (lists : List (K × List Id)) (order : List (Reverse ℕ × Bor K × X × Y)) (bin_order : List B) (i : ℕ)
+    pub StopsAfter-at : {X Y : Type 0} (excludes : List (K × B) → K → B → Bool) (sizes : List (Id × Size)) (lists : List (K × List Id)) (order : List (Reverse ℕ × Bor K × X × Y)) (bin_order : List B) (i : ℕ)
         (gs : List (K × Members Id)) (next : K × Members Id) (old new mid : List (B × Bin)) (homes : List (K × B)) (placements : List (Placement Id B)) (first count : ℕ)
         → AreGroups rules.id_cmp group_cmp sizes lists (keys_of_order (take i order)) (gs ++ next ∷ [])
-        → AreAllPlaced rules bars bin_order gs (at_start old) placements (record { bins = mid; homes = homes }) first → new ≡ mid
-        → IsRefused rules (bars homes next.0) bin_order next.1 mid count
-        → StopsAfter rules bars group_cmp sizes lists (keys_of_order order) bin_order old new (first + count)
-    StopsAfter-at {X} {Y} bars sizes lists order bin_order i gs next old new mid homes placements first count listed placed same refused =
+        → AreAllPlaced rules excludes bin_order gs (at_start old) placements (record { bins = mid; homes = homes }) first → new ≡ mid
+        → IsRefused rules (excludes homes next.0) bin_order next.1 mid count
+        → StopsAfter rules excludes group_cmp sizes lists (keys_of_order order) bin_order old new (first + count)
+    StopsAfter-at {X} {Y} excludes sizes lists order bin_order i gs next old new mid homes placements first count listed placed same refused =
         let f : Reverse ℕ × Bor K × X × Y → ℕ × K = λ x. (x.0.0, x.1.now) in record {
           taken = keys_of_order (take i order);
           later = keys_of_order (drop i order);
@@ -307,12 +307,12 @@ abbrev pub members_in : {Id K : Type 0} → List (K × Members Id) → ℕ
 members_in {Id} {K} gs = sum_by (λ (g : K × Members Id). length g.1.sizes) gs
 
 -- one placement for each member
-pub AreAllPlaced-length : {Id B K : Type 0} (rules : Rules Id B) (bars : List (K × B) → K → B → Bool) (order : List B) (gs : List (K × Members Id)) (old new : Stage K B) (placements : List (Placement Id B)) (tests : ℕ)
-    → AreAllPlaced rules bars order gs old placements new tests → length placements ≡ members_in gs
-AreAllPlaced-length rules bars order [] old new placements tests h = rw h.0 refl
-AreAllPlaced-length {Id} {B} {K} rules bars order (g ∷ gs) old new placements tests (first, next, one, rest, others, placed, later, joined, counted) =
+pub AreAllPlaced-length : {Id B K : Type 0} (rules : Rules Id B) (excludes : List (K × B) → K → B → Bool) (order : List B) (gs : List (K × Members Id)) (old new : Stage K B) (placements : List (Placement Id B)) (tests : ℕ)
+    → AreAllPlaced rules excludes order gs old placements new tests → length placements ≡ members_in gs
+AreAllPlaced-length rules excludes order [] old new placements tests h = rw h.0 refl
+AreAllPlaced-length {Id} {B} {K} rules excludes order (g ∷ gs) old new placements tests (first, next, one, rest, others, placed, later, joined, counted) =
     let here : length first ≡ length g.1.sizes = sym (length-map first (λ (p : Placement Id B). p.location)) ∙ ap length placed.named.at ∙ sym (IsDone-length rules.may placed.bin.sections g.1.sizes placed.locations placed.last placed.count placed.done) in
-    let tail = AreAllPlaced-length rules bars order gs (record { bins = next; homes = (g.0, placed.here) ∷ old.homes }) new rest others later in
+    let tail = AreAllPlaced-length rules excludes order gs (record { bins = next; homes = (g.0, placed.here) ∷ old.homes }) new rest others later in
     omega (arith, ap length joined, length-append first rest, here, tail, sum_by-cons (λ (m : K × Members Id). length m.1.sizes) g gs)
 
 -- the entries that an order names are those of its groups

@@ -17,9 +17,9 @@ use Rattle.rectangle_pack.specs.Bins.{Bin}
 use Rattle.rectangle_pack.specs.Closures.{Answers}
 use Rattle.rectangle_pack.specs.Groups.{Collection}
 use Rattle.rectangle_pack.specs.Orders.{IsBinOrder}
-use Rattle.rectangle_pack.specs.Packing.{Rules, Members, Stage, at_start, bars_by, DoesNotTake, IsRefused, AreAllPlaced, PackingRefused}
+use Rattle.rectangle_pack.specs.Packing.{Rules, Members, Stage, at_start, excludes_by, DoesNotTake, IsRefused, AreAllPlaced, PackingRefused}
 use Rattle.rectangle_pack.specs.Steps.{IsStuck}
-use Rattle.rectangle_pack.proofs.lemmas.packing.Excluded.{bars-alike}
+use Rattle.rectangle_pack.proofs.lemmas.packing.Excluded.{excludes-alike}
 use Rattle.rectangle_pack.proofs.lemmas.util.Maps.{lookup-equal, is_some-keys}
 use Rattle.rectangle_pack.proofs.lemmas.determinism.OneOrder.{All-from_zip}
 use Rattle.rectangle_pack.proofs.lemmas.packing.Placed.{keys-placed}
@@ -37,24 +37,24 @@ module _ {Id B : Type 0} (rules : Rules Id B) (o : IsTotalOrder rules.bin_cmp) w
       by true t h ih = same q u.1 (o.congr q e.0 u.1 ((Equal-is _).0 t) ∙ each.0.0) (All-head P u.1 (map (λ (entry : ℕ × B). entry.1) us) all)
       by false t h ih = ih h
 
-  module _ {K : Type 0} (bars : List (K × B) → K → B → Bool) where
+  module _ {K : Type 0} (excludes : List (K × B) → K → B → Bool) where
     -- a group that is refused is taken by no bin
-    none_takes : (bin_order : List (ℕ × B)) (old : Stage K B) (new : Stage K B) (beginning : List (K × Members Id)) (placements : List (Placement Id B)) (tests : ℕ) (barred : B → Bool) (group : Members Id) (count : ℕ)
-        → ((x y : B) → rules.bin_cmp x y ≡ Equal → barred x ≡ barred y)
-        → IsBinOrder rules.may.rate rules.bin_cmp old.bins bin_order → AreAllPlaced rules bars (map (λ entry. entry.1) bin_order) beginning old placements new tests
-        → IsRefused rules barred (map (λ entry. entry.1) bin_order) group new.bins count
-        → (q : B) → IsSome (lookup (is_at (rules.bin_cmp q)) old.bins) → (n : ℕ) × DoesNotTake rules barred new.bins group q n
-    none_takes bin_order old new beginning placements tests barred group count alike by_bins placed refused q some =
+    none_takes : (bin_order : List (ℕ × B)) (old : Stage K B) (new : Stage K B) (beginning : List (K × Members Id)) (placements : List (Placement Id B)) (tests : ℕ) (excluded : B → Bool) (group : Members Id) (count : ℕ)
+        → ((x y : B) → rules.bin_cmp x y ≡ Equal → excluded x ≡ excluded y)
+        → IsBinOrder rules.may.rate rules.bin_cmp old.bins bin_order → AreAllPlaced rules excludes (map (λ entry. entry.1) bin_order) beginning old placements new tests
+        → IsRefused rules excluded (map (λ entry. entry.1) bin_order) group new.bins count
+        → (q : B) → IsSome (lookup (is_at (rules.bin_cmp q)) old.bins) → (n : ℕ) × DoesNotTake rules excluded new.bins group q n
+    none_takes bin_order old new beginning placements tests excluded group count alike by_bins placed refused q some =
         at_each P same old.bins by_bins.unsorted by_bins.each unsorted q some
       where
         P : B → Type 0
-        P id = (n : ℕ) × DoesNotTake rules barred new.bins group id n
+        P id = (n : ℕ) × DoesNotTake rules excluded new.bins group id n
 
         same : (x y : B) → rules.bin_cmp x y ≡ Equal → P y → P x
         same x y e h = (h.0, rw (alike x y e, lookup-equal o x y e new.bins) h.1)
 
         each : All P (map (λ (entry : ℕ × B). entry.1) bin_order)
-        each = All-from_zip (DoesNotTake rules barred new.bins group) P (λ id n passed. (n, passed)) (map (λ (entry : ℕ × B). entry.1) bin_order) refused.counts refused.passed
+        each = All-from_zip (DoesNotTake rules excluded new.bins group) P (λ id n passed. (n, passed)) (map (λ (entry : ℕ × B). entry.1) bin_order) refused.counts refused.passed
 
         unsorted : All P (map (λ (entry : ℕ × B). entry.1) by_bins.unsorted)
         unsorted = All-permutation P (map (λ (entry : ℕ × B). entry.1) bin_order) (map (λ (entry : ℕ × B). entry.1) by_bins.unsorted)
@@ -71,22 +71,22 @@ one_stuck may sections sizes size n one h = by (subst (λ ms. IsStuck may sectio
 module _ {Id B G : Type 0} (group_cmp : Group G Id → Group G Id → Ordering) (rules : Rules Id B) (o : IsTotalOrder rules.bin_cmp) (all : Collection Id G) where
   -- the refused group of a packing is taken by no bin, as the groups before it left them
   pub taken_nowhere : (old new : List (B × Bin)) (refused : PackingRefused group_cmp rules all old new) (id : B) → IsSome (lookup (is_at (rules.bin_cmp id)) old)
-      → (n : ℕ) × DoesNotTake rules (bars_by group_cmp rules.bin_cmp all.partners refused.stops.homes refused.stops.next.0) new refused.stops.next.1 id n
+      → (n : ℕ) × DoesNotTake rules (excludes_by group_cmp rules.bin_cmp all.partners refused.stops.homes refused.stops.next.0) new refused.stops.next.1 id n
   taken_nowhere old new refused =
-      let bars = bars_by group_cmp rules.bin_cmp all.partners in
+      let excludes = excludes_by group_cmp rules.bin_cmp all.partners in
       let stops = refused.stops in
-      none_takes rules o bars refused.bin_order (at_start old) (record { bins = new; homes = stops.homes }) stops.beginning stops.placements stops.first
-      (bars stops.homes stops.next.0) stops.next.1 stops.count (bars-alike group_cmp o all.partners stops.homes stops.next.0) refused.by_bins stops.placed stops.refused
+      none_takes rules o excludes refused.bin_order (at_start old) (record { bins = new; homes = stops.homes }) stops.beginning stops.placements stops.first
+      (excludes stops.homes stops.next.0) stops.next.1 stops.count (excludes-alike group_cmp o all.partners stops.homes stops.next.0) refused.by_bins stops.placed stops.refused
 
-  -- and its box, if it has one entry, is held nowhere where it is not barred
+  -- and its box, if it has one entry, is held nowhere where it is not excluded
   pub held_nowhere : (old new : List (B × Bin)) (refused : PackingRefused group_cmp rules all old new) (size : Size) → refused.stops.next.1.sizes ≡ size ∷ [] → (id : B) (bin : Bin)
-      → bars_by group_cmp rules.bin_cmp all.partners refused.stops.homes refused.stops.next.0 id ≡ false → lookup (is_at (rules.bin_cmp id)) new ≡ Some bin → All (λ s. ¬ Holds s size) bin.sections
+      → excludes_by group_cmp rules.bin_cmp all.partners refused.stops.homes refused.stops.next.0 id ≡ false → lookup (is_at (rules.bin_cmp id)) new ≡ Some bin → All (λ s. ¬ Holds s size) bin.sections
   held_nowhere old new refused size one id bin allowed found =
       let stops = refused.stops in
-      let bars = bars_by group_cmp rules.bin_cmp all.partners in
+      let excludes = excludes_by group_cmp rules.bin_cmp all.partners in
       let order = map (λ (entry : ℕ × B). entry.1) refused.bin_order in
-      let keys = sym (keys-placed rules bars order stops.beginning (at_start old) stops.placements (record { bins = new; homes = stops.homes }) stops.first stops.placed) in
+      let keys = sym (keys-placed rules excludes order stops.beginning (at_start old) stops.placements (record { bins = new; homes = stops.homes }) stops.first stops.placed) in
       by (taken_nowhere old new refused id (is_some-keys (is_at (rules.bin_cmp id)) old new keys ∙ rw found refl))
     where
-      by : (n : ℕ) × DoesNotTake rules (bars_by group_cmp rules.bin_cmp all.partners refused.stops.homes refused.stops.next.0) new refused.stops.next.1 id n → All (λ s. ¬ Holds s size) bin.sections
+      by : (n : ℕ) × DoesNotTake rules (excludes_by group_cmp rules.bin_cmp all.partners refused.stops.homes refused.stops.next.0) new refused.stops.next.1 id n → All (λ s. ¬ Holds s size) bin.sections
       by passed = one_stuck rules.may bin.sections refused.stops.next.1.sizes size passed.0 one (rw (allowed, found) at passed.1)

@@ -11,7 +11,7 @@ use Rattle.std.proofs.lemmas.Map.Made.{lookup-map_values, keys_of-map_values}
 use Rattle.rectangle_pack.specs.declared.pack.journal.DoneTrial.{DoneTrial}
 use Rattle.rectangle_pack.specs.Bins.{Bin, Held}
 use Rattle.rectangle_pack.specs.Packing.{bins_of}
-use Rattle.rectangle_pack.specs.private.TrialJournal.{CanUndoTrial, before_trial, Undoes, GoesBack}
+use Rattle.rectangle_pack.specs.private.RollBack.{CanUndoTrial, before_trial, Undoes, GoesBack}
 use Rattle.rectangle_pack.proofs.lemmas.util.Maps.{is_some-keys, set_value-map_values, set_value-twice, lookup-set_here}
 use Rattle.rectangle_pack.proofs.lemmas.trial.StepsByIndex.{CanUndo-more}
 

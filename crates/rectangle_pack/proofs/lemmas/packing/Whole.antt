@@ -64,15 +64,15 @@ module _ {Id B K : Type 0} (rules : Rules Id B) (group_cmp : K → K → Orderin
     pub names : map (λ h. h.0) added ≡ map (λ g. g.0) groups
     pub whole : ArePlacedWhole rules.id_cmp rules.bin_cmp group_cmp sizes lists added placements
 
-  placed_whole : (bars : List (K × B) → K → B → Bool) (order : List B) (gs : List (K × Members Id)) (old : Stage K B) (placements : List (Placement Id B))
+  placed_whole : (excludes : List (K × B) → K → B → Bool) (order : List B) (gs : List (K × Members Id)) (old : Stage K B) (placements : List (Placement Id B))
       (new : Stage K B) (n : ℕ)
-      → AreKnown gs → AreAllPlaced rules bars order gs old placements new n → AddsHomes gs placements old.homes new.homes
-  placed_whole bars order [] old placements new n k h =
+      → AreKnown gs → AreAllPlaced rules excludes order gs old placements new n → AddsHomes gs placements old.homes new.homes
+  placed_whole excludes order [] old placements new n k h =
       let same : new.homes ≡ old.homes = ap (λ (s : Stage K B). s.homes) h.1 in
       record { added = []; homes = ap reverse same ∙ sym (append-nil (reverse old.homes)); names = refl; whole = h.0 }
-  placed_whole bars order (g ∷ gs) old placements new n k (first, next, one, later, others, placed, rest, joined, count) =
+  placed_whole excludes order (g ∷ gs) old placements new n k (first, next, one, later, others, placed, rest, joined, count) =
       let home : K × B = (g.0, placed.here) in
-      let ih = placed_whole bars order gs (record { bins = next; homes = home ∷ old.homes }) later new others k.2 rest in
+      let ih = placed_whole excludes order gs (record { bins = next; homes = home ∷ old.homes }) later new others k.2 rest in
       let sized : map (λ l. l.whd) (map (λ p. p.location) first) ≡ g.1.sizes =
       ap (map (λ l. l.whd)) placed.named.at ∙ IsDone-sizes rules.may placed.bin.sections g.1.sizes placed.locations placed.last placed.count placed.done in
       record {
@@ -93,10 +93,10 @@ module _ {Id B K : Type 0} (rules : Rules Id B) (group_cmp : K → K → Orderin
         );
       }
 
-  pub all_whole : (bars : List (K × B) → K → B → Bool) (names : List (ℕ × K)) (order : List B) (gs : List (K × Members Id)) (old : Stage K B)
+  pub all_whole : (excludes : List (K × B) → K → B → Bool) (names : List (ℕ × K)) (order : List B) (gs : List (K × Members Id)) (old : Stage K B)
       (placements : List (Placement Id B)) (new : Stage K B) (n : ℕ)
-      → AreGroups rules.id_cmp group_cmp sizes lists names gs → AreAllPlaced rules bars order gs old placements new n
+      → AreGroups rules.id_cmp group_cmp sizes lists names gs → AreAllPlaced rules excludes order gs old placements new n
       → AddsHomes gs placements old.homes new.homes × (map (λ g. g.0) gs ≡ map (λ o. o.1) names)
-  all_whole bars names order gs old placements new n listed placed =
+  all_whole excludes names order gs old placements new n listed placed =
       let k = known names gs listed.each in
-      (placed_whole bars order gs old placements new n k.0 placed, k.1)
+      (placed_whole excludes order gs old placements new n k.0 placed, k.1)

@@ -1,4 +1,4 @@
--- What a session's calls keep: the boxes of each bin, the bins of the records, and the order of numbers.
+-- What a session's calls keep: the boxes of each bin, the bins of the outstanding, and the order of numbers.
 use Rattle.std.proofs.Common.{◌≡◌, ℕ, suc, ◌+◌, ◌-◌, ◌<◌, List, [], ◌∷◌, ◌++◌, refl, ap, sym, ◌∙◌, subst, cond, true, false, Bool, arith, length, append-nil, append_assoc, get_or, take, drop}
 use Rattle.std.specs.Prelude.{Option, Some, None, IsSome, MatchBool, map, filter, All, AllPairs, remove}
 use Rattle.std.specs.declared.cmp.Ordering.{Ordering}
@@ -21,10 +21,10 @@ use Rattle.rectangle_pack.specs.Boxes.{Size, Cuboid, IsCellOf, IsInside, has_cel
 use Rattle.rectangle_pack.specs.Bins.{Bin, Held, IsAccepted, whole, new_bin}
 use Rattle.rectangle_pack.specs.Covering.{CoverBin}
 use Rattle.rectangle_pack.specs.CutTrees.{IsFromCuts}
-use Rattle.rectangle_pack.specs.Keeping.{placed_in}
+use Rattle.rectangle_pack.specs.Keeping.{locations_in}
 use Rattle.rectangle_pack.specs.Groups.{Collection}
-use Rattle.rectangle_pack.specs.Packing.{Rules, Members, Stage, AreAllPlaced, PackingDone, at_start, bars_by, bins_of}
-use Rattle.rectangle_pack.specs.Session.{State, standing_in, boxes_of, IsSession, IsOutstanding, numbered, GivesBack}
+use Rattle.rectangle_pack.specs.Packing.{Rules, Members, Stage, AreAllPlaced, PackingDone, at_start, excludes_by, bins_of}
+use Rattle.rectangle_pack.specs.Session.{State, outstanding_in, boxes_of, IsSession, IsOutstanding, numbered, GivesBack}
 use Rattle.rectangle_pack.proofs.lemmas.multimap.Append.{All-front, All-back, All-middle, All-without}
 use Rattle.rectangle_pack.proofs.lemmas.cuts.Counting.{filled-append, filled-nil, filled_yes, filled_from_some}
 use Rattle.rectangle_pack.proofs.lemmas.cuts.Trees.{IsFromCuts-leaf}
@@ -47,7 +47,7 @@ pub record IsCarried {Id B : Type 0} (bin_cmp : B → B → Ordering) (old new :
   pub found : lookup (is_at (bin_cmp id)) old.bins ≡ Some before
   pub size : after.size ≡ before.size
   pub uncoalesced : after.coalesced ≡ false → before.coalesced ≡ false
-  pub framed : KeepsBoxes after.coalesced (boxes_of bin_cmp old.records id before) (boxes_of bin_cmp new.records id after)
+  pub framed : KeepsBoxes after.coalesced (boxes_of bin_cmp old.outstanding id before) (boxes_of bin_cmp new.outstanding id after)
 
 -- each bin of the new state is carried
 abbrev pub AreCarried : {Id B : Type 0} → (B → B → Ordering) → State Id B → State Id B → Type 0
@@ -62,47 +62,47 @@ IsFromCuts-kept : (size : Size) (old new : List Cuboid) → KeepsCuts old new �
 IsFromCuts-kept size old new keeps h =
     subst (λ bs. IsFromCuts bs (whole size)) (append-nil new) (keeps.kept [] (whole size) (subst (λ bs. IsFromCuts bs (whole size)) (sym (append-nil old)) h))
 
--- the boxes of lists of records
+-- the boxes of lists of outstanding
 module _ {Id B : Type 0} (bin_cmp : B → B → Ordering) where
-  standing_in-append : (before after : List (Outstanding Id B)) (q : B) → standing_in bin_cmp (before ++ after) q ≡ standing_in bin_cmp before q ++ standing_in bin_cmp after q
-  standing_in-append before after q =
+  outstanding_in-append : (before after : List (Outstanding Id B)) (q : B) → outstanding_in bin_cmp (before ++ after) q ≡ outstanding_in bin_cmp before q ++ outstanding_in bin_cmp after q
+  outstanding_in-append before after q =
       ap (map (λ (r : Outstanding Id B). r.location)) (filter-append (λ r. is_at (bin_cmp r.bin) q) before after)
       ∙ map-append (λ (r : Outstanding Id B). r.location) (filter (λ r. is_at (bin_cmp r.bin) q) before) (filter (λ r. is_at (bin_cmp r.bin) q) after)
 
-  standing_in-numbered : (n : ℕ) (ps : List (Placement Id B)) (q : B) → standing_in bin_cmp (numbered n ps) q ≡ placed_in bin_cmp ps q
-  standing_in-numbered n [] q = refl
-  standing_in-numbered n (p ∷ ps) q = by (is_eq (bin_cmp p.bin q)) refl (standing_in-numbered (n + 1) ps q)
+  outstanding_in-numbered : (n : ℕ) (ps : List (Placement Id B)) (q : B) → outstanding_in bin_cmp (numbered n ps) q ≡ locations_in bin_cmp ps q
+  outstanding_in-numbered n [] q = refl
+  outstanding_in-numbered n (p ∷ ps) q = by (is_eq (bin_cmp p.bin q)) refl (outstanding_in-numbered (n + 1) ps q)
     where
-      by : (b : Bool) → is_eq (bin_cmp p.bin q) ≡ b → standing_in bin_cmp (numbered (n + 1) ps) q ≡ placed_in bin_cmp ps q → standing_in bin_cmp (numbered n (p ∷ ps)) q ≡ placed_in bin_cmp (p ∷ ps) q
+      by : (b : Bool) → is_eq (bin_cmp p.bin q) ≡ b → outstanding_in bin_cmp (numbered (n + 1) ps) q ≡ locations_in bin_cmp ps q → outstanding_in bin_cmp (numbered n (p ∷ ps)) q ≡ locations_in bin_cmp (p ∷ ps) q
       by true e ih = rw e (ap (λ l. p.location ∷ l) ih)
       by false e ih = rw e ih
 
-  pub standing_in-record : (before : List (Outstanding Id B)) (r : Outstanding Id B) (after : List (Outstanding Id B)) (q : B) (b : Bool) → is_eq (bin_cmp r.bin q) ≡ b
-      → standing_in bin_cmp (before ++ r ∷ after) q ≡ standing_in bin_cmp before q ++ cond b (r.location ∷ standing_in bin_cmp after q) (standing_in bin_cmp after q)
-  standing_in-record before r after q b e = standing_in-append before (r ∷ after) q ∙ ap (λ l. standing_in bin_cmp before q ++ l) (here b e)
+  pub outstanding_in-record : (before : List (Outstanding Id B)) (r : Outstanding Id B) (after : List (Outstanding Id B)) (q : B) (b : Bool) → is_eq (bin_cmp r.bin q) ≡ b
+      → outstanding_in bin_cmp (before ++ r ∷ after) q ≡ outstanding_in bin_cmp before q ++ cond b (r.location ∷ outstanding_in bin_cmp after q) (outstanding_in bin_cmp after q)
+  outstanding_in-record before r after q b e = outstanding_in-append before (r ∷ after) q ∙ ap (λ l. outstanding_in bin_cmp before q ++ l) (here b e)
     where
-      here : (b : Bool) → is_eq (bin_cmp r.bin q) ≡ b → standing_in bin_cmp (r ∷ after) q ≡ cond b (r.location ∷ standing_in bin_cmp after q) (standing_in bin_cmp after q)
+      here : (b : Bool) → is_eq (bin_cmp r.bin q) ≡ b → outstanding_in bin_cmp (r ∷ after) q ≡ cond b (r.location ∷ outstanding_in bin_cmp after q) (outstanding_in bin_cmp after q)
       here true e = rw e refl
       here false e = rw e refl
 
 -- numbers rise, and are below n
-pub record AreNumbered {Id B : Type 0} (records : List (Outstanding Id B)) (n : ℕ) : Type 0 where
-  pub rising : AllPairs (λ a b. a.number < b.number) records
-  pub below : All (λ r. r.number < n) records
+pub record AreNumbered {Id B : Type 0} (outstanding : List (Outstanding Id B)) (n : ℕ) : Type 0 where
+  pub rising : AllPairs (λ a b. a.number < b.number) outstanding
+  pub below : All (λ r. r.number < n) outstanding
 
-AreNumbered-more : {Id B : Type 0} (ps : List (Placement Id B)) (records : List (Outstanding Id B)) (n : ℕ) → AreNumbered records n → AreNumbered (records ++ numbered n ps) (n + length ps)
-AreNumbered-more {Id} {B} [] records n h =
+AreNumbered-more : {Id B : Type 0} (ps : List (Placement Id B)) (outstanding : List (Outstanding Id B)) (n : ℕ) → AreNumbered outstanding n → AreNumbered (outstanding ++ numbered n ps) (n + length ps)
+AreNumbered-more {Id} {B} [] outstanding n h =
     let same : n ≡ n + length {0} {A = Placement Id B} [] = omega arith in
-    rw (append-nil records) (subst (λ m. AreNumbered records m) same h)
-AreNumbered-more {Id} {B} (p ∷ ps) records n h =
+    rw (append-nil outstanding) (subst (λ m. AreNumbered outstanding m) same h)
+AreNumbered-more {Id} {B} (p ∷ ps) outstanding n h =
     let r : Outstanding Id B = record { number = n; id = p.id; bin = p.bin; location = p.location } in
-    let next : AreNumbered (records ++ r ∷ []) (n + 1) = record {
-      rising = all_pairs_push (λ (a b : Outstanding Id B). a.number < b.number) records r h.rising (λ k d within. h.below k d within);
-      below = All-push (λ (x : Outstanding Id B). x.number < n + 1) records r (All-weaker (λ (x : Outstanding Id B). x.number < n) (λ (x : Outstanding Id B). x.number < n + 1) (λ x lt. omega arith) records h.below) (omega arith);
+    let next : AreNumbered (outstanding ++ r ∷ []) (n + 1) = record {
+      rising = all_pairs_push (λ (a b : Outstanding Id B). a.number < b.number) outstanding r h.rising (λ k d within. h.below k d within);
+      below = All-push (λ (x : Outstanding Id B). x.number < n + 1) outstanding r (All-weaker (λ (x : Outstanding Id B). x.number < n) (λ (x : Outstanding Id B). x.number < n + 1) (λ x lt. omega arith) outstanding h.below) (omega arith);
     } in
     let count : n + 1 + length ps ≡ n + length (p ∷ ps) = omega arith in
-    subst (λ m. AreNumbered (records ++ r ∷ numbered (n + 1) ps) m) count
-    (subst (λ rs. AreNumbered rs (n + 1 + length ps)) (append_assoc records (r ∷ []) (numbered (n + 1) ps)) (AreNumbered-more ps (records ++ r ∷ []) (n + 1) next))
+    subst (λ m. AreNumbered (outstanding ++ r ∷ numbered (n + 1) ps) m) count
+    (subst (λ rs. AreNumbered rs (n + 1 + length ps)) (append_assoc outstanding (r ∷ []) (numbered (n + 1) ps)) (AreNumbered-more ps (outstanding ++ r ∷ []) (n + 1) next))
 
 All-numbered : {Id B : Type 0} (P : B → Type 0) (n : ℕ) (ps : List (Placement Id B)) → All (λ p. P p.bin) ps → All (λ r. P r.bin) (numbered n ps)
 All-numbered {Id} {B} P n [] h = All-nil (λ (r : Outstanding Id B). P r.bin)
@@ -110,67 +110,67 @@ All-numbered {Id} {B} P n (p ∷ ps) h =
     All-cons (λ (r : Outstanding Id B). P r.bin) (record { number = n; id = p.id; bin = p.bin; location = p.location }) (numbered (n + 1) ps)
     (All-head (λ (x : Placement Id B). P x.bin) p ps h) (All-numbered P (n + 1) ps (All-tail (λ (x : Placement Id B). P x.bin) p ps h))
 
--- where no bin comes or goes, the bins of the records stay there
-pub known-kept : {Id B : Type 0} (bin_cmp : B → B → Ordering) (old new : List (B × Bin)) → keys_of new ≡ keys_of old → (records : List (Outstanding Id B))
-    → All (λ r. IsSome (lookup (is_at (bin_cmp r.bin)) old)) records → All (λ r. IsSome (lookup (is_at (bin_cmp r.bin)) new)) records
-known-kept {Id} {B} bin_cmp old new same records =
+-- where no bin comes or goes, the bins of the outstanding stay there
+pub known-kept : {Id B : Type 0} (bin_cmp : B → B → Ordering) (old new : List (B × Bin)) → keys_of new ≡ keys_of old → (outstanding : List (Outstanding Id B))
+    → All (λ r. IsSome (lookup (is_at (bin_cmp r.bin)) old)) outstanding → All (λ r. IsSome (lookup (is_at (bin_cmp r.bin)) new)) outstanding
+known-kept {Id} {B} bin_cmp old new same outstanding =
     All-weaker (λ (r : Outstanding Id B). IsSome (lookup (is_at (bin_cmp r.bin)) old)) (λ (r : Outstanding Id B). IsSome (lookup (is_at (bin_cmp r.bin)) new))
-    (λ r some. is_some-keys (is_at (bin_cmp r.bin)) new old same ∙ some) records
+    (λ r some. is_some-keys (is_at (bin_cmp r.bin)) new old same ∙ some) outstanding
 
 -- so a session whose bins are carried stays one
-pub IsSession-carried : {Id B : Type 0} (bin_cmp : B → B → Ordering) (old new : State Id B) → AreCarried bin_cmp old new → All (λ r. IsSome (lookup (is_at (bin_cmp r.bin)) new.bins)) new.records → AreNumbered new.records new.next
+pub IsSession-carried : {Id B : Type 0} (bin_cmp : B → B → Ordering) (old new : State Id B) → AreCarried bin_cmp old new → All (λ r. IsSome (lookup (is_at (bin_cmp r.bin)) new.bins)) new.outstanding → AreNumbered new.outstanding new.next
     → IsSession bin_cmp old → IsSession bin_cmp new
 IsSession-carried bin_cmp old new carried known numbers h = record {
   covered = λ id bin found.
       let c = carried id bin found in
-      rw c.size (CoverBin-recut c.before.size (boxes_of bin_cmp old.records id c.before) (boxes_of bin_cmp new.records id bin) c.framed.0 (h.covered id c.before c.found));
+      rw c.size (CoverBin-recut c.before.size (boxes_of bin_cmp old.outstanding id c.before) (boxes_of bin_cmp new.outstanding id bin) c.framed.0 (h.covered id c.before c.found));
   from_cuts = λ id bin found not_so.
       let c = carried id bin found in
-      rw c.size (IsFromCuts-kept c.before.size (boxes_of bin_cmp old.records id c.before) (boxes_of bin_cmp new.records id bin) (c.framed.1 not_so) (h.from_cuts id c.before c.found (c.uncoalesced not_so)));
+      rw c.size (IsFromCuts-kept c.before.size (boxes_of bin_cmp old.outstanding id c.before) (boxes_of bin_cmp new.outstanding id bin) (c.framed.1 not_so) (h.from_cuts id c.before c.found (c.uncoalesced not_so)));
   known = known;
   rising = numbers.rising;
   below = numbers.below;
 }
 
 -- a packing that is kept
-module _ {Id B : Type 0} (rules : Rules Id B) (o : IsTotalOrder rules.bin_cmp) {K : Type 0} (bars : List (K × B) → K → B → Bool) where
-  AreCarried-packed : (order : List B) (gs : List (K × Members Id)) (old new : Stage K B) (placements : List (Placement Id B)) (tests : ℕ) (records : List (Outstanding Id B)) (next : ℕ)
-      → AreAllPlaced rules bars order gs old placements new tests
-      → AreCarried rules.bin_cmp (record { bins = old.bins; records = records; next = next }) (record { bins = new.bins; records = records ++ numbered next placements; next = next + length placements })
-  AreCarried-packed order gs old new placements tests records next done id bin found =
-      let before = some_of _ (is_some-keys (is_at (rules.bin_cmp id)) old.bins new.bins (sym (keys-placed rules bars order gs old placements new tests done)) ∙ rw found refl) in
-      let changed = changed-all (IsFrame-boxes bin.coalesced) rules o (KeptBySteps-boxes rules.may bin.coalesced) bars order gs old placements new tests done id before.0 before.1 in
+module _ {Id B : Type 0} (rules : Rules Id B) (o : IsTotalOrder rules.bin_cmp) {K : Type 0} (excludes : List (K × B) → K → B → Bool) where
+  AreCarried-packed : (order : List B) (gs : List (K × Members Id)) (old new : Stage K B) (placements : List (Placement Id B)) (tests : ℕ) (outstanding : List (Outstanding Id B)) (next : ℕ)
+      → AreAllPlaced rules excludes order gs old placements new tests
+      → AreCarried rules.bin_cmp (record { bins = old.bins; outstanding = outstanding; next = next }) (record { bins = new.bins; outstanding = outstanding ++ numbered next placements; next = next + length placements })
+  AreCarried-packed order gs old new placements tests outstanding next done id bin found =
+      let before = some_of _ (is_some-keys (is_at (rules.bin_cmp id)) old.bins new.bins (sym (keys-placed rules excludes order gs old placements new tests done)) ∙ rw found refl) in
+      let changed = changed-all (IsFrame-boxes bin.coalesced) rules o (KeptBySteps-boxes rules.may bin.coalesced) excludes order gs old placements new tests done id before.0 before.1 in
       let same : Some changed.after ≡ Some bin = sym changed.found ∙ found in
       let is : changed.after ≡ bin = cc in
-      let standing : standing_in rules.bin_cmp (records ++ numbered next placements) id ≡ standing_in rules.bin_cmp records id ++ placed_in rules.bin_cmp placements id =
-      standing_in-append rules.bin_cmp records (numbered next placements) id ∙ ap (λ l. standing_in rules.bin_cmp records id ++ l) (standing_in-numbered rules.bin_cmp next placements id) in
+      let boxes : outstanding_in rules.bin_cmp (outstanding ++ numbered next placements) id ≡ outstanding_in rules.bin_cmp outstanding id ++ locations_in rules.bin_cmp placements id =
+      outstanding_in-append rules.bin_cmp outstanding (numbered next placements) id ∙ ap (λ l. outstanding_in rules.bin_cmp outstanding id ++ l) (outstanding_in-numbered rules.bin_cmp next placements id) in
       record {
         before = before.0;
         found = before.1;
         size = rw (← is) (ap (λ (b : Bin). b.size) changed.kept);
         uncoalesced = λ not_so. sym (ap (λ (b : Bin). b.coalesced) changed.kept) ∙ ap (λ (b : Bin). b.coalesced) is ∙ not_so;
-        framed = rw (standing, ap (λ (b : Bin). b.sections) (sym is)) ((IsFrame-boxes bin.coalesced).beside before.0.sections changed.after.sections (placed_in rules.bin_cmp placements id) (standing_in rules.bin_cmp records id) changed.framed);
+        framed = rw (boxes, ap (λ (b : Bin). b.sections) (sym is)) ((IsFrame-boxes bin.coalesced).beside before.0.sections changed.after.sections (locations_in rules.bin_cmp placements id) (outstanding_in rules.bin_cmp outstanding id) changed.framed);
       }
 
-  IsSession-packed : (order : List B) (gs : List (K × Members Id)) (old new : Stage K B) (placements : List (Placement Id B)) (tests : ℕ) (records : List (Outstanding Id B)) (next : ℕ)
-      → AreAllPlaced rules bars order gs old placements new tests
-      → IsSession rules.bin_cmp (record { bins = old.bins; records = records; next = next })
-      → IsSession rules.bin_cmp (record { bins = new.bins; records = records ++ numbered next placements; next = next + length placements })
-  IsSession-packed order gs old new placements tests records next done h =
+  IsSession-packed : (order : List B) (gs : List (K × Members Id)) (old new : Stage K B) (placements : List (Placement Id B)) (tests : ℕ) (outstanding : List (Outstanding Id B)) (next : ℕ)
+      → AreAllPlaced rules excludes order gs old placements new tests
+      → IsSession rules.bin_cmp (record { bins = old.bins; outstanding = outstanding; next = next })
+      → IsSession rules.bin_cmp (record { bins = new.bins; outstanding = outstanding ++ numbered next placements; next = next + length placements })
+  IsSession-packed order gs old new placements tests outstanding next done h =
       let There : B → Type 0 = λ id. IsSome (lookup (is_at (rules.bin_cmp id)) new.bins) in
-      IsSession-carried rules.bin_cmp (record { bins = old.bins; records = records; next = next }) (record { bins = new.bins; records = records ++ numbered next placements; next = next + length placements })
-      (AreCarried-packed order gs old new placements tests records next done)
-      (All-append (λ (r : Outstanding Id B). There r.bin) records (numbered next placements)
-      (known-kept rules.bin_cmp old.bins new.bins (keys-placed rules bars order gs old placements new tests done) records h.known)
-      (All-numbered There next placements (known-placed rules bars o order gs old placements new tests done)))
-      (AreNumbered-more placements records next (record { rising = h.rising; below = h.below })) h
+      IsSession-carried rules.bin_cmp (record { bins = old.bins; outstanding = outstanding; next = next }) (record { bins = new.bins; outstanding = outstanding ++ numbered next placements; next = next + length placements })
+      (AreCarried-packed order gs old new placements tests outstanding next done)
+      (All-append (λ (r : Outstanding Id B). There r.bin) outstanding (numbered next placements)
+      (known-kept rules.bin_cmp old.bins new.bins (keys-placed rules excludes order gs old placements new tests done) outstanding h.known)
+      (All-numbered There next placements (known-placed rules excludes o order gs old placements new tests done)))
+      (AreNumbered-more placements outstanding next (record { rising = h.rising; below = h.below })) h
 
 -- the same, of a packing that is done
-pub IsSession-done : {Id B G : Type 0} (group_cmp : Group G Id → Group G Id → Ordering) (rules : Rules Id B) → IsTotalOrder rules.bin_cmp → (all : Collection Id G) (old new : List (B × Bin)) (placements : List (Placement Id B)) (records later : List (Outstanding Id B)) (next after : ℕ)
-    → PackingDone group_cmp rules all old placements new → later ≡ records ++ numbered next placements → after ≡ next + length placements
-    → IsSession rules.bin_cmp (record { bins = old; records = records; next = next }) → IsSession rules.bin_cmp (record { bins = new; records = later; next = after })
-IsSession-done group_cmp rules o all old new placements records later next after done are is h =
-    rw (are, is) (IsSession-packed rules o (bars_by group_cmp rules.bin_cmp all.partners) (map (λ o. o.1) done.bin_order) done.groups (at_start old) (record { bins = new; homes = done.homes }) placements done.tests records next done.placed h)
+pub IsSession-done : {Id B G : Type 0} (group_cmp : Group G Id → Group G Id → Ordering) (rules : Rules Id B) → IsTotalOrder rules.bin_cmp → (all : Collection Id G) (old new : List (B × Bin)) (placements : List (Placement Id B)) (outstanding later : List (Outstanding Id B)) (next after : ℕ)
+    → PackingDone group_cmp rules all old placements new → later ≡ outstanding ++ numbered next placements → after ≡ next + length placements
+    → IsSession rules.bin_cmp (record { bins = old; outstanding = outstanding; next = next }) → IsSession rules.bin_cmp (record { bins = new; outstanding = later; next = after })
+IsSession-done group_cmp rules o all old new placements outstanding later next after done are is h =
+    rw (are, is) (IsSession-packed rules o (excludes_by group_cmp rules.bin_cmp all.partners) (map (λ o. o.1) done.bin_order) done.groups (at_start old) (record { bins = new; homes = done.homes }) placements done.tests outstanding next done.placed h)
 
 -- where a box is given back no bin comes or goes
 keys-released : {B : Type 0} (bin_cmp : B → B → Ordering) (old new : List (B × Bin)) (id : B) (box : Cuboid) → GivesBack bin_cmp old id box new → keys_of new ≡ keys_of old
@@ -182,13 +182,13 @@ keys-released {B} bin_cmp old new id box = by (has_cells box)
 
 module _ {Id B : Type 0} {bin_cmp : B → B → Ordering} (o : IsTotalOrder bin_cmp) where
   -- one bin is written, and what stands in the others stays
-  pub AreCarried-written : (old : State Id B) (id : B) (v w : Bin) (records : List (Outstanding Id B)) → lookup (is_at (bin_cmp id)) old.bins ≡ Some v → w.size ≡ v.size → (w.coalesced ≡ false → v.coalesced ≡ false)
-      → ((q : B) → is_eq (bin_cmp id q) ≡ true → KeepsBoxes w.coalesced (boxes_of bin_cmp old.records q v) (boxes_of bin_cmp records q w)) → ((q : B) → is_eq (bin_cmp id q) ≡ false → standing_in bin_cmp records q ≡ standing_in bin_cmp old.records q)
-      → AreCarried bin_cmp old (record { bins = set_value (is_at (bin_cmp id)) old.bins w; records = records; next = old.next })
-  AreCarried-written old id v w records there size uncoalesced here beside q after found = by (is_eq (bin_cmp id q)) refl
+  pub AreCarried-written : (old : State Id B) (id : B) (v w : Bin) (outstanding : List (Outstanding Id B)) → lookup (is_at (bin_cmp id)) old.bins ≡ Some v → w.size ≡ v.size → (w.coalesced ≡ false → v.coalesced ≡ false)
+      → ((q : B) → is_eq (bin_cmp id q) ≡ true → KeepsBoxes w.coalesced (boxes_of bin_cmp old.outstanding q v) (boxes_of bin_cmp outstanding q w)) → ((q : B) → is_eq (bin_cmp id q) ≡ false → outstanding_in bin_cmp outstanding q ≡ outstanding_in bin_cmp old.outstanding q)
+      → AreCarried bin_cmp old (record { bins = set_value (is_at (bin_cmp id)) old.bins w; outstanding = outstanding; next = old.next })
+  AreCarried-written old id v w outstanding there size uncoalesced here beside q after found = by (is_eq (bin_cmp id q)) refl
     where
       new : State Id B
-      new = record { bins = set_value (is_at (bin_cmp id)) old.bins w; records = records; next = old.next }
+      new = record { bins = set_value (is_at (bin_cmp id)) old.bins w; outstanding = outstanding; next = old.next }
 
       by : (b : Bool) → is_eq (bin_cmp id q) ≡ b → IsCarried bin_cmp old new q after
       by true e =
@@ -206,50 +206,50 @@ module _ {Id B : Type 0} {bin_cmp : B → B → Ordering} (o : IsTotalOrder bin_
         found = sym (lookup-written o id old.bins v w q there ∙ rw e refl) ∙ found;
         size = refl;
         uncoalesced = λ not_so. not_so;
-        framed = rw (beside q e) ((IsFrame-boxes after.coalesced).same (boxes_of bin_cmp old.records q after));
+        framed = rw (beside q e) ((IsFrame-boxes after.coalesced).same (boxes_of bin_cmp old.outstanding q after));
       }
 
   -- a placement that is released, of a bin that is there
   AreCarried-released : (old new : List (B × Bin)) (before : List (Outstanding Id B)) (r : Outstanding Id B) (after : List (Outstanding Id B)) (next : ℕ) (v : Bin)
       → lookup (is_at (bin_cmp r.bin)) old ≡ Some v → GivesBack bin_cmp old r.bin r.location new
-      → AreCarried bin_cmp (record { bins = old; records = before ++ r ∷ after; next = next }) (record { bins = new; records = before ++ after; next = next })
+      → AreCarried bin_cmp (record { bins = old; outstanding = before ++ r ∷ after; next = next }) (record { bins = new; outstanding = before ++ after; next = next })
   AreCarried-released old new before r after next v there gives = by (has_cells r.location) refl gives
     where
       was : State Id B
-      was = record { bins = old; records = before ++ r ∷ after; next = next }
+      was = record { bins = old; outstanding = before ++ r ∷ after; next = next }
 
       left : B → List Cuboid
-      left q = standing_in bin_cmp before q
+      left q = outstanding_in bin_cmp before q
 
       right : B → List Cuboid
-      right q = standing_in bin_cmp after q
+      right q = outstanding_in bin_cmp after q
 
-      both : (q : B) → standing_in bin_cmp (before ++ after) q ≡ left q ++ right q
-      both q = standing_in-append bin_cmp before after q
+      both : (q : B) → outstanding_in bin_cmp (before ++ after) q ≡ left q ++ right q
+      both q = outstanding_in-append bin_cmp before after q
 
-      beside : (q : B) → is_eq (bin_cmp r.bin q) ≡ false → standing_in bin_cmp (before ++ after) q ≡ standing_in bin_cmp (before ++ r ∷ after) q
-      beside q e = both q ∙ sym (standing_in-record bin_cmp before r after q false e)
+      beside : (q : B) → is_eq (bin_cmp r.bin q) ≡ false → outstanding_in bin_cmp (before ++ after) q ≡ outstanding_in bin_cmp (before ++ r ∷ after) q
+      beside q e = both q ∙ sym (outstanding_in-record bin_cmp before r after q false e)
 
       by : (cells : Bool) → has_cells r.location ≡ cells
           → MatchBool cells ((b : Bin) × (lookup (is_at (bin_cmp r.bin)) old ≡ Some b) × (new ≡ set_value (is_at (bin_cmp r.bin)) old (record b { sections = b.sections ++ r.location ∷ [] }))) (new ≡ old)
-          → AreCarried bin_cmp was (record { bins = new; records = before ++ after; next = next })
+          → AreCarried bin_cmp was (record { bins = new; outstanding = before ++ after; next = next })
       by true cells (b, found, written) =
           rw written (AreCarried-written was r.bin b (record b { sections = b.sections ++ r.location ∷ [] }) (before ++ after) found refl (λ not_so. not_so)
-          (λ q e. rw (standing_in-record bin_cmp before r after q true e, both q) ((IsFrame-boxes b.coalesced).moved b.sections (left q) (right q) r.location)) beside)
+          (λ q e. rw (outstanding_in-record bin_cmp before r after q true e, both q) ((IsFrame-boxes b.coalesced).moved b.sections (left q) (right q) r.location)) beside)
       by false cells same =
           rw (same ∙ sym (set_value_same (is_at (bin_cmp r.bin)) old v there)) (AreCarried-written was r.bin v v (before ++ after) there refl (λ not_so. not_so)
-          (λ q e. rw (standing_in-record bin_cmp before r after q true e, both q) ((IsFrame-boxes v.coalesced).dropped v.sections (left q) (right q) r.location cells)) beside)
+          (λ q e. rw (outstanding_in-record bin_cmp before r after q true e, both q) ((IsFrame-boxes v.coalesced).dropped v.sections (left q) (right q) r.location cells)) beside)
 
   pub IsSession-released : (old new : List (B × Bin)) (before : List (Outstanding Id B)) (r : Outstanding Id B) (after : List (Outstanding Id B)) (next : ℕ)
       → GivesBack bin_cmp old r.bin r.location new
-      → IsSession bin_cmp (record { bins = old; records = before ++ r ∷ after; next = next }) → IsSession bin_cmp (record { bins = new; records = before ++ after; next = next })
+      → IsSession bin_cmp (record { bins = old; outstanding = before ++ r ∷ after; next = next }) → IsSession bin_cmp (record { bins = new; outstanding = before ++ after; next = next })
   IsSession-released old new before r after next gives h =
       let There : Outstanding Id B → Type 0 = λ x. IsSome (lookup (is_at (bin_cmp x.bin)) old) in
       let Below : Outstanding Id B → Type 0 = λ x. x.number < next in
       let without : remove (before ++ r ∷ after) (length before) ≡ before ++ after =
       remove-append_right before (r ∷ after) (length before) (length before) refl (omega arith) ∙ (let none : length before - length before ≡ 0 = omega arith in ap (λ n. before ++ remove (r ∷ after) n) none) in
       let there = some_of _ (All-middle There (before ++ r ∷ after) before after r refl h.known) in
-      IsSession-carried bin_cmp (record { bins = old; records = before ++ r ∷ after; next = next }) (record { bins = new; records = before ++ after; next = next })
+      IsSession-carried bin_cmp (record { bins = old; outstanding = before ++ r ∷ after; next = next }) (record { bins = new; outstanding = before ++ after; next = next })
       (AreCarried-released old new before r after next there.0 there.1 gives)
       (known-kept bin_cmp old new (keys-released bin_cmp old new r.bin r.location gives) (before ++ after) (All-without There before r after h.known))
       (record {
@@ -260,13 +260,13 @@ module _ {Id B : Type 0} {bin_cmp : B → B → Ordering} (o : IsTotalOrder bin_
 
   -- an outstanding box can be given back
   IsSession-accepts : (bins : List (B × Bin)) (before : List (Outstanding Id B)) (r : Outstanding Id B) (after : List (Outstanding Id B)) (next : ℕ) (bin : Bin)
-      → IsSession bin_cmp (record { bins = bins; records = before ++ r ∷ after; next = next }) → lookup (is_at (bin_cmp r.bin)) bins ≡ Some bin → IsAccepted bin r.location
+      → IsSession bin_cmp (record { bins = bins; outstanding = before ++ r ∷ after; next = next }) → lookup (is_at (bin_cmp r.bin)) bins ≡ Some bin → IsAccepted bin r.location
   IsSession-accepts bins before r after next bin h found =
-      let left = standing_in bin_cmp before r.bin in
-      let right = standing_in bin_cmp after r.bin in
+      let left = outstanding_in bin_cmp before r.bin in
+      let right = outstanding_in bin_cmp after r.bin in
       let box = r.location in
       let P : Cuboid → Type 0 = IsInside bin.size in
-      let cover : CoverBin (bin.sections ++ (left ++ box ∷ right)) bin.size = rw (standing_in-record bin_cmp before r after r.bin true (ap is_eq (cmp-self o r.bin))) at (h.covered r.bin bin found) in
+      let cover : CoverBin (bin.sections ++ (left ++ box ∷ right)) bin.size = rw (outstanding_in-record bin_cmp before r after r.bin true (ap is_eq (cmp-self o r.bin))) at (h.covered r.bin bin found) in
       record {
         inside = All-head P box right (All-back P left (box ∷ right) (All-back P bin.sections (left ++ box ∷ right) cover.inside));
         apart = λ k d within. record {
@@ -299,22 +299,22 @@ pub None-bins_of : {B : Type 0} (test : B → Bool) (es : List (B × Held)) → 
 None-bins_of test es h = lookup-bins_of test es ∙ ap (option_map (λ (x : Held). x.bin)) h
 
 -- the record at an index is outstanding
-abbrev pub outstanding_at : {Id B : Type 0} (records : List (Outstanding Id B)) (number i : ℕ) (r : Outstanding Id B) → (i < length records) × ((d : Outstanding Id B) → (get_or records i d).number ≡ number) → r ≡ get_or records i r → IsOutstanding records number
-outstanding_at {Id} {B} records number i r at is = record {
-  before = take i records;
+abbrev pub outstanding_at : {Id B : Type 0} (outstanding : List (Outstanding Id B)) (number i : ℕ) (r : Outstanding Id B) → (i < length outstanding) × ((d : Outstanding Id B) → (get_or outstanding i d).number ≡ number) → r ≡ get_or outstanding i r → IsOutstanding outstanding number
+outstanding_at {Id} {B} outstanding number i r at is = record {
+  before = take i outstanding;
   found = r;
-  after = drop (suc i) records;
-  splits = subst (λ (z : Outstanding Id B). records ≡ take i records ++ z ∷ drop (suc i) records) (sym is) (split_at records i r at.0);
+  after = drop (suc i) outstanding;
+  splits = subst (λ (z : Outstanding Id B). outstanding ≡ take i outstanding ++ z ∷ drop (suc i) outstanding) (sym is) (split_at outstanding i r at.0);
   number_is = ap (λ (x : Outstanding Id B). x.number) is ∙ at.1 r;
 }
 
 -- its bin is there, and accepts its box
-pub IsSession-found : {Id B : Type 0} {bin_cmp : B → B → Ordering} → IsTotalOrder bin_cmp → (bins : List (B × Held)) (records : List (Outstanding Id B)) (next number : ℕ) (at : IsOutstanding records number)
-    → IsSession bin_cmp (record { bins = bins_of bins; records = records; next = next }) → (held : Held) × (lookup (is_at (bin_cmp at.found.bin)) bins ≡ Some held) × IsAccepted held.bin at.found.location
-IsSession-found {Id} {B} {bin_cmp} o bins records next number at h =
+pub IsSession-found : {Id B : Type 0} {bin_cmp : B → B → Ordering} → IsTotalOrder bin_cmp → (bins : List (B × Held)) (outstanding : List (Outstanding Id B)) (next number : ℕ) (at : IsOutstanding outstanding number)
+    → IsSession bin_cmp (record { bins = bins_of bins; outstanding = outstanding; next = next }) → (held : Held) × (lookup (is_at (bin_cmp at.found.bin)) bins ≡ Some held) × IsAccepted held.bin at.found.location
+IsSession-found {Id} {B} {bin_cmp} o bins outstanding next number at h =
     let test = is_at (bin_cmp at.found.bin) in
-    let session : IsSession bin_cmp (record { bins = bins_of bins; records = at.before ++ at.found ∷ at.after; next = next }) = subst (λ rs. IsSession bin_cmp (record { bins = bins_of bins; records = rs; next = next })) at.splits h in
-    let known = All-middle (λ (r : Outstanding Id B). IsSome (lookup (is_at (bin_cmp r.bin)) (bins_of bins))) records at.before at.after at.found at.splits h.known in
+    let session : IsSession bin_cmp (record { bins = bins_of bins; outstanding = at.before ++ at.found ∷ at.after; next = next }) = subst (λ rs. IsSession bin_cmp (record { bins = bins_of bins; outstanding = rs; next = next })) at.splits h in
+    let known = All-middle (λ (r : Outstanding Id B). IsSome (lookup (is_at (bin_cmp r.bin)) (bins_of bins))) outstanding at.before at.after at.found at.splits h.known in
     let there = some_of (lookup test bins) (sym (is_some-bins_of test bins) ∙ known) in
     (there.0, there.1, IsSession-accepts o (bins_of bins) at.before at.found at.after next there.0.bin session (Some-bins_of test bins there.0 there.1))
 
@@ -326,27 +326,27 @@ whole-covers size = record {
 }
 
 -- no record stands in a bin that is not there
-standing_in-absent : {Id B : Type 0} {bin_cmp : B → B → Ordering} → IsTotalOrder bin_cmp → (bins : List (B × Bin)) (records : List (Outstanding Id B)) (q : B)
-    → lookup (is_at (bin_cmp q)) bins ≡ None → All (λ r. IsSome (lookup (is_at (bin_cmp r.bin)) bins)) records → standing_in bin_cmp records q ≡ []
-standing_in-absent o bins [] q absent known = refl
-standing_in-absent {Id} {B} {bin_cmp} o bins (r ∷ rs) q absent known =
-    at (is_eq (bin_cmp r.bin q)) refl (standing_in-absent o bins rs q absent (All-tail (λ (x : Outstanding Id B). IsSome (lookup (is_at (bin_cmp x.bin)) bins)) r rs known))
+outstanding_in-absent : {Id B : Type 0} {bin_cmp : B → B → Ordering} → IsTotalOrder bin_cmp → (bins : List (B × Bin)) (outstanding : List (Outstanding Id B)) (q : B)
+    → lookup (is_at (bin_cmp q)) bins ≡ None → All (λ r. IsSome (lookup (is_at (bin_cmp r.bin)) bins)) outstanding → outstanding_in bin_cmp outstanding q ≡ []
+outstanding_in-absent o bins [] q absent known = refl
+outstanding_in-absent {Id} {B} {bin_cmp} o bins (r ∷ rs) q absent known =
+    at (is_eq (bin_cmp r.bin q)) refl (outstanding_in-absent o bins rs q absent (All-tail (λ (x : Outstanding Id B). IsSome (lookup (is_at (bin_cmp x.bin)) bins)) r rs known))
   where
-    at : (b : Bool) → is_eq (bin_cmp r.bin q) ≡ b → standing_in bin_cmp rs q ≡ [] → standing_in bin_cmp (r ∷ rs) q ≡ []
+    at : (b : Bool) → is_eq (bin_cmp r.bin q) ≡ b → outstanding_in bin_cmp rs q ≡ [] → outstanding_in bin_cmp (r ∷ rs) q ≡ []
     at true e ih =
         let none : lookup (is_at (bin_cmp r.bin)) bins ≡ None = lookup-equal o r.bin q ((Equal-is _).0 e) bins ∙ absent in
         let some : IsSome {T = Bin} None = rw none at (All-head (λ (x : Outstanding Id B). IsSome (lookup (is_at (bin_cmp x.bin)) bins)) r rs known) in
         absurd cc
     at false e ih = rw e ih
 
-pub IsSession-added : {Id B : Type 0} {bin_cmp : B → B → Ordering} → IsTotalOrder bin_cmp → (bins new : List (B × Bin)) (records : List (Outstanding Id B)) (next : ℕ) (id : B) (size : Size)
+pub IsSession-added : {Id B : Type 0} {bin_cmp : B → B → Ordering} → IsTotalOrder bin_cmp → (bins new : List (B × Bin)) (outstanding : List (Outstanding Id B)) (next : ℕ) (id : B) (size : Size)
     → lookup (is_at (bin_cmp id)) bins ≡ None
     → ((q : B) → lookup (is_at (bin_cmp q)) new ≡ cond (is_at (bin_cmp id) q) (Some (new_bin size)) (lookup (is_at (bin_cmp q)) bins))
-    → IsSession bin_cmp (record { bins = bins; records = records; next = next }) → IsSession bin_cmp (record { bins = new; records = records; next = next })
-IsSession-added {Id} {B} {bin_cmp} o bins new records next id size absent seen h = record {
+    → IsSession bin_cmp (record { bins = bins; outstanding = outstanding; next = next }) → IsSession bin_cmp (record { bins = new; outstanding = outstanding; next = next })
+IsSession-added {Id} {B} {bin_cmp} o bins new outstanding next id size absent seen h = record {
   covered = λ q bin found. (each q bin found (is_eq (bin_cmp id q)) refl).0;
   from_cuts = λ q bin found not_so. (each q bin found (is_eq (bin_cmp id q)) refl).1 not_so;
-  known = All-weaker (λ (r : Outstanding Id B). IsSome (lookup (is_at (bin_cmp r.bin)) bins)) (λ (r : Outstanding Id B). IsSome (lookup (is_at (bin_cmp r.bin)) new)) (λ r some. there r.bin (is_eq (bin_cmp id r.bin)) refl some) records h.known;
+  known = All-weaker (λ (r : Outstanding Id B). IsSome (lookup (is_at (bin_cmp r.bin)) bins)) (λ (r : Outstanding Id B). IsSome (lookup (is_at (bin_cmp r.bin)) new)) (λ r some. there r.bin (is_eq (bin_cmp id r.bin)) refl some) outstanding h.known;
   rising = h.rising;
   below = h.below;
 }
@@ -356,12 +356,12 @@ IsSession-added {Id} {B} {bin_cmp} o bins new records next id size absent seen h
     there q false e some = rw (seen q, e) some
 
     each : (q : B) (bin : Bin) → lookup (is_at (bin_cmp q)) new ≡ Some bin → (b : Bool) → is_eq (bin_cmp id q) ≡ b
-        → CoverBin (boxes_of bin_cmp records q bin) bin.size × (bin.coalesced ≡ false → IsFromCuts (boxes_of bin_cmp records q bin) (whole bin.size))
+        → CoverBin (boxes_of bin_cmp outstanding q bin) bin.size × (bin.coalesced ≡ false → IsFromCuts (boxes_of bin_cmp outstanding q bin) (whole bin.size))
     each q bin found true e =
         let now : Some bin ≡ Some (new_bin size) = sym found ∙ seen q ∙ rw e refl in
         let same : bin ≡ new_bin size = cc in
         let none : lookup (is_at (bin_cmp q)) bins ≡ None = sym (lookup-equal o id q ((Equal-is _).0 e) bins) ∙ absent in
-        rw (same, standing_in-absent o bins records q none h.known) (whole-covers size, λ not_so. IsFromCuts-leaf (whole size))
+        rw (same, outstanding_in-absent o bins outstanding q none h.known) (whole-covers size, λ not_so. IsFromCuts-leaf (whole size))
     each q bin found false e =
         let was = sym (seen q ∙ rw e refl) ∙ found in
         (h.covered q bin was, h.from_cuts q bin was)

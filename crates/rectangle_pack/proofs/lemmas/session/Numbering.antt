@@ -31,17 +31,17 @@ pub numbered-push : {Id B : Type 0} (n : ℕ) (ps : List (Placement Id B)) (p : 
 numbered-push {Id} {B} n [] p m h = let same : m ≡ n = omega (arith, h) in rw same refl
 numbered-push {Id} {B} n (q ∷ ps) p m h = ap (λ (l : List (Outstanding Id B)). record { number = n; id = q.id; bin = q.bin; location = q.location } ∷ l) (numbered-push (n + 1) ps p m (omega (arith, h)))
 
--- records go on by one more placement
-pub numbered-more : {Id B : Type 0} (before records new : List (Outstanding Id B)) (n : ℕ) (ps : List (Placement Id B)) (p : Placement Id B) (m : ℕ) → m ≡ n + length ps
-    → records ≡ before ++ numbered n ps → new ≡ records ++ record { number = m; id = p.id; bin = p.bin; location = p.location } ∷ []
+-- outstanding go on by one more placement
+pub numbered-more : {Id B : Type 0} (before outstanding new : List (Outstanding Id B)) (n : ℕ) (ps : List (Placement Id B)) (p : Placement Id B) (m : ℕ) → m ≡ n + length ps
+    → outstanding ≡ before ++ numbered n ps → new ≡ outstanding ++ record { number = m; id = p.id; bin = p.bin; location = p.location } ∷ []
     → new ≡ before ++ numbered n (ps ++ p ∷ [])
-numbered-more {Id} {B} before records new n ps p m h are more =
+numbered-more {Id} {B} before outstanding new n ps p m h are more =
     let r : Outstanding Id B = record { number = m; id = p.id; bin = p.bin; location = p.location } in
     more ∙ ap (λ (rs : List (Outstanding Id B)). rs ++ r ∷ []) are ∙ append_assoc before (numbered n ps) (r ∷ []) ∙ ap (λ (rs : List (Outstanding Id B)). before ++ rs) (sym (numbered-push n ps p m h))
 
--- where the numbers of records rise, so does how they compare with a number
-comparisons_rise : {Id B : Type 0} (records : List (Outstanding Id B)) (number : ℕ) → AllPairs (λ a b. a.number < b.number) records → IsNonDecreasingBy (λ r. ordering_index (nat_cmp r.number number)) records
-comparisons_rise records number rising i j d le within = grind (arith, nat_tests, rising i j d, λ (same : i ≡ j). ap (λ k. (get_or records k d).number) same)
+-- where the numbers of outstanding rise, so does how they compare with a number
+comparisons_rise : {Id B : Type 0} (outstanding : List (Outstanding Id B)) (number : ℕ) → AllPairs (λ a b. a.number < b.number) outstanding → IsNonDecreasingBy (λ r. ordering_index (nat_cmp r.number number)) outstanding
+comparisons_rise outstanding number rising i j d le within = grind (arith, nat_tests, rising i j d, λ (same : i ≡ j). ap (λ k. (get_or outstanding k d).number) same)
 
 -- a number is below another, or not
 below_or : (k n : ℕ) → (k < n) ⊎ (n ≤ k)
@@ -50,11 +50,11 @@ below_or zero (suc n) = inl (omega arith)
 below_or (suc k) (suc n) = elim (below_or k n) [ inl lt ↦ inl (omega arith) | inr le ↦ inr (omega arith) ]
 
 -- so a search ends at the number, or finds that it is not there
-pub searched : {Id B : Type 0} (records : List (Outstanding Id B)) (number : ℕ) (r : Result ℕ ℕ) → AllPairs (λ a b. a.number < b.number) records → IsSearchInRange r (length records) → IsBinarySearchResult (λ o. nat_cmp o.number number) records r
-    → IfSome (result_ok r) (λ i. (i < length records) × ((d : Outstanding Id B) → (get_or records i d).number ≡ number)) × IfNone (result_ok r) (All (λ o. o.number ≢ number) records)
-searched {Id} {B} records number (Ok at) rising within equal = ((within, λ d. ranked _ number _ (sym (equal d))), tt)
-searched {Id} {B} records number (Err at) rising within parted =
-    let halves = parted (comparisons_rise records number rising) in
-    let less : (k : ℕ) (d : Outstanding Id B) → k < at → (get_or records k d).number < number = λ k d lt. ranked _ number _ (sym (halves.0 k d (omega arith) lt)) in
-    let more : (k : ℕ) (d : Outstanding Id B) → at ≤ k → k < length records → number < (get_or records k d).number = λ k d le lt. ranked _ number _ (sym (halves.1 k d le lt)) in
+pub searched : {Id B : Type 0} (outstanding : List (Outstanding Id B)) (number : ℕ) (r : Result ℕ ℕ) → AllPairs (λ a b. a.number < b.number) outstanding → IsSearchInRange r (length outstanding) → IsBinarySearchResult (λ o. nat_cmp o.number number) outstanding r
+    → IfSome (result_ok r) (λ i. (i < length outstanding) × ((d : Outstanding Id B) → (get_or outstanding i d).number ≡ number)) × IfNone (result_ok r) (All (λ o. o.number ≢ number) outstanding)
+searched {Id} {B} outstanding number (Ok at) rising within equal = ((within, λ d. ranked _ number _ (sym (equal d))), tt)
+searched {Id} {B} outstanding number (Err at) rising within parted =
+    let halves = parted (comparisons_rise outstanding number rising) in
+    let less : (k : ℕ) (d : Outstanding Id B) → k < at → (get_or outstanding k d).number < number = λ k d lt. ranked _ number _ (sym (halves.0 k d (omega arith) lt)) in
+    let more : (k : ℕ) (d : Outstanding Id B) → at ≤ k → k < length outstanding → number < (get_or outstanding k d).number = λ k d le lt. ranked _ number _ (sym (halves.1 k d le lt)) in
     (tt, λ k d below same. elim (below_or k at) [ inl lt ↦ absurd (omega (arith, less k d lt, same)) | inr le ↦ absurd (omega (arith, more k d le below, same)) ])

@@ -30,7 +30,7 @@ module _ {Id B G : Type 0} (group_cmp : Group G Id → Group G Id → Ordering) 
       let apart = placed_apart group_cmp rules all.partners _ done.groups (at_start old.bins) kept.placements _ done.tests done.placed (λ i j d lt within. absurd (omega arith)) in
       record {
         placements = kept.placements;
-        records = kept.records;
+        outstanding = kept.outstanding;
         homes = whole.0.added;
         groups = rw (names, ← names-zip (λ (e : ℕ × Group G Id). e.1) _ all.groups order.unsorted order.each) (IsPermutation-map (λ e. e.1) order.unsorted done.group_order order.permutation);
         whole = whole.0.whole;

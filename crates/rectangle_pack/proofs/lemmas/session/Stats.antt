@@ -14,61 +14,61 @@ use Rattle.rectangle_pack.specs.Boxes.{Cuboid, has_cells, volume_of}
 use Rattle.rectangle_pack.specs.Bins.{Held}
 use Rattle.rectangle_pack.specs.Counting.{total_volume}
 use Rattle.rectangle_pack.specs.Packing.{bins_of}
-use Rattle.rectangle_pack.specs.Session.{IsSession, standing_in}
+use Rattle.rectangle_pack.specs.Session.{IsSession, outstanding_in}
 use Rattle.rectangle_pack.proofs.lemmas.cuts.CoverVolumes.{CoverBin-volume}
-use Rattle.rectangle_pack.proofs.lemmas.session.Keeps.{Some-bins_of, standing_in-record}
+use Rattle.rectangle_pack.proofs.lemmas.session.Keeps.{Some-bins_of, outstanding_in-record}
 
 total_volume-append : (xs ys : List Cuboid) → total_volume (xs ++ ys) ≡ total_volume xs + total_volume ys
 total_volume-append xs ys = sum_by-append (λ (b : Cuboid). volume_of b.whd) xs ys
 
 -- the volumes of a bin's free sections and of what stands in it add up to the bin's
-pub IsSession-volumes : {Id B : Type 0} (bin_cmp : B → B → Ordering) (bins : List (B × Held)) (records : List (Outstanding Id B)) (next : ℕ) (id : B) (held : Held)
-    → IsSession bin_cmp (record { bins = bins_of bins; records = records; next = next }) → lookup (is_at (bin_cmp id)) bins ≡ Some held
-    → total_volume held.bin.sections + total_volume (standing_in bin_cmp records id) ≡ volume_of held.bin.size
-IsSession-volumes bin_cmp bins records next id held h found =
-    let standing = standing_in bin_cmp records id in
+pub IsSession-volumes : {Id B : Type 0} (bin_cmp : B → B → Ordering) (bins : List (B × Held)) (outstanding : List (Outstanding Id B)) (next : ℕ) (id : B) (held : Held)
+    → IsSession bin_cmp (record { bins = bins_of bins; outstanding = outstanding; next = next }) → lookup (is_at (bin_cmp id)) bins ≡ Some held
+    → total_volume held.bin.sections + total_volume (outstanding_in bin_cmp outstanding id) ≡ volume_of held.bin.size
+IsSession-volumes bin_cmp bins outstanding next id held h found =
+    let boxes = outstanding_in bin_cmp outstanding id in
     omega (
       arith,
-      total_volume-append held.bin.sections standing,
-      CoverBin-volume (held.bin.sections ++ standing) held.bin.size (h.covered id held.bin (Some-bins_of (is_at (bin_cmp id)) bins held found)),
+      total_volume-append held.bin.sections boxes,
+      CoverBin-volume (held.bin.sections ++ boxes) held.bin.size (h.covered id held.bin (Some-bins_of (is_at (bin_cmp id)) bins held found)),
     )
 
 -- what stands in the bin before a record that stands there leaves room for it, in volume and in number
-pub standing-before : {Id B : Type 0} (bin_cmp : B → B → Ordering) (records : List (Outstanding Id B)) (i : ℕ) (r : Outstanding Id B) (q : B) → i < length records → r ≡ get_or records i r → is_eq (bin_cmp r.bin q) ≡ true
-    → (total_volume (standing_in bin_cmp (take i records) q) + volume_of r.location.whd ≤ total_volume (standing_in bin_cmp records q)) × (length (standing_in bin_cmp (take i records) q) < length records)
-standing-before {Id} {B} bin_cmp records i r q within is here =
-    let first = take i records in
-    let later = drop (suc i) records in
-    let before = standing_in bin_cmp first q in
-    let after = standing_in bin_cmp later q in
-    let split : records ≡ first ++ r ∷ later = subst (λ (x : Outstanding Id B). records ≡ first ++ x ∷ later) (sym is) (split_at records i r within) in
-    let parts = ap (λ rs. standing_in bin_cmp rs q) split ∙ standing_in-record bin_cmp first r later q true here in
+pub outstanding-before : {Id B : Type 0} (bin_cmp : B → B → Ordering) (outstanding : List (Outstanding Id B)) (i : ℕ) (r : Outstanding Id B) (q : B) → i < length outstanding → r ≡ get_or outstanding i r → is_eq (bin_cmp r.bin q) ≡ true
+    → (total_volume (outstanding_in bin_cmp (take i outstanding) q) + volume_of r.location.whd ≤ total_volume (outstanding_in bin_cmp outstanding q)) × (length (outstanding_in bin_cmp (take i outstanding) q) < length outstanding)
+outstanding-before {Id} {B} bin_cmp outstanding i r q within is here =
+    let first = take i outstanding in
+    let later = drop (suc i) outstanding in
+    let before = outstanding_in bin_cmp first q in
+    let after = outstanding_in bin_cmp later q in
+    let split : outstanding ≡ first ++ r ∷ later = subst (λ (x : Outstanding Id B). outstanding ≡ first ++ x ∷ later) (sym is) (split_at outstanding i r within) in
+    let parts = ap (λ rs. outstanding_in bin_cmp rs q) split ∙ outstanding_in-record bin_cmp first r later q true here in
     let Here : Outstanding Id B → Bool = λ x. is_at (bin_cmp x.bin) q in (
       omega (arith, ap total_volume parts, total_volume-append before (r.location ∷ after), sum_by-cons (λ (b : Cuboid). volume_of b.whd) r.location after),
-      omega (arith, length-map (filter Here first) (λ (x : Outstanding Id B). x.location), length-filter Here first, count_by-le-length Here first, length-take i records),
+      omega (arith, length-map (filter Here first) (λ (x : Outstanding Id B). x.location), length-filter Here first, count_by-le-length Here first, length-take i outstanding),
     )
 
 -- one record more, which stands in the bin or does not
-module _ {Id B : Type 0} (bin_cmp : B → B → Ordering) (records : List (Outstanding Id B)) (i : ℕ) (r : Outstanding Id B) (q : B) (b : Bool) (within : i < length records) (is : r ≡ get_or records i r) (here : is_eq (bin_cmp r.bin q) ≡ b) where
+module _ {Id B : Type 0} (bin_cmp : B → B → Ordering) (outstanding : List (Outstanding Id B)) (i : ℕ) (r : Outstanding Id B) (q : B) (b : Bool) (within : i < length outstanding) (is : r ≡ get_or outstanding i r) (here : is_eq (bin_cmp r.bin q) ≡ b) where
   abbrev first : List Cuboid
-  first = standing_in bin_cmp (take i records) q
+  first = outstanding_in bin_cmp (take i outstanding) q
 
   abbrev box : List Cuboid
   box = cond b (r.location ∷ []) []
 
-  standing_in-more : standing_in bin_cmp (take (i + 1) records) q ≡ first ++ box
-  standing_in-more =
-      ap (λ rs. standing_in bin_cmp rs q) (take_more records i r within ∙ ap (λ (x : Outstanding Id B). take i records ++ x ∷ []) (sym is))
-      ∙ standing_in-record bin_cmp (take i records) r [] q b here
+  outstanding_in-more : outstanding_in bin_cmp (take (i + 1) outstanding) q ≡ first ++ box
+  outstanding_in-more =
+      ap (λ rs. outstanding_in bin_cmp rs q) (take_more outstanding i r within ∙ ap (λ (x : Outstanding Id B). take i outstanding ++ x ∷ []) (sym is))
+      ∙ outstanding_in-record bin_cmp (take i outstanding) r [] q b here
 
   -- its box is gathered after those before, if it has cells
   pub gathered-more : (start boxes new : List Cuboid) → boxes ≡ start ++ filter has_cells first → new ≡ boxes ++ filter has_cells box
-      → new ≡ start ++ filter has_cells (standing_in bin_cmp (take (i + 1) records) q)
+      → new ≡ start ++ filter has_cells (outstanding_in bin_cmp (take (i + 1) outstanding) q)
   gathered-more start boxes new before now =
       now ∙ ap (λ l. l ++ filter has_cells box) before ∙ append_assoc start (filter has_cells first) (filter has_cells box)
-      ∙ ap (λ l. start ++ l) (sym (filter-append has_cells first box) ∙ ap (filter has_cells) (sym standing_in-more))
+      ∙ ap (λ l. start ++ l) (sym (filter-append has_cells first box) ∙ ap (filter has_cells) (sym outstanding_in-more))
 
   -- it adds its volume, and one placement
-  pub added-more : (total_volume (standing_in bin_cmp (take (i + 1) records) q) ≡ total_volume first + total_volume box)
-      × (length (standing_in bin_cmp (take (i + 1) records) q) ≡ length first + length box)
-  added-more = (ap total_volume standing_in-more ∙ total_volume-append first box, ap length standing_in-more ∙ length-append first box)
+  pub added-more : (total_volume (outstanding_in bin_cmp (take (i + 1) outstanding) q) ≡ total_volume first + total_volume box)
+      × (length (outstanding_in bin_cmp (take (i + 1) outstanding) q) ≡ length first + length box)
+  added-more = (ap total_volume outstanding_in-more ∙ total_volume-append first box, ap length outstanding_in-more ∙ length-append first box)

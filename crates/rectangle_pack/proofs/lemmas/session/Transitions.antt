@@ -22,7 +22,7 @@ use Rattle.rectangle_pack.specs.Bins.{Bin, Held, new_bin}
 use Rattle.rectangle_pack.specs.Groups.{Collection}
 use Rattle.rectangle_pack.specs.Joining.{IsJoined, IsSwept}
 use Rattle.rectangle_pack.specs.Packing.{Rules, bins_of}
-use Rattle.rectangle_pack.specs.Session.{State, standing_in, IsSession, IsOutstanding, GivesBack, AddsBin, Releases, Packs, Coalesces, IsTransition, IsRun}
+use Rattle.rectangle_pack.specs.Session.{State, outstanding_in, IsSession, IsOutstanding, GivesBack, AddsBin, Releases, Packs, Coalesces, IsTransition, IsRun}
 use Rattle.rectangle_pack.proofs.lemmas.packing.Frame.{IsRecut, IsFrame-recut}
 use Rattle.rectangle_pack.proofs.lemmas.joining.Joins.{IsJoined-cells, IsSwept-cells, IsJoined-keeps, IsSwept-keeps, join-inside}
 use Rattle.rectangle_pack.proofs.lemmas.packing.RollBack.{bins_of-written}
@@ -53,7 +53,7 @@ module _ {Id B : Type 0} {bin_cmp : B → B → Ordering} (o : IsTotalOrder bin_
   kept-added : (id : B) (size : Size) (old : State Id B) (reply : Reply) (new : State Id B) → AddsBin bin_cmp id size old reply new → IsKeptSession bin_cmp old new
   kept-added id size old Done new (absent, key, equal, are) = λ h.
       let none : lookup (is_at (bin_cmp key)) old.bins ≡ None = sym (lookup-equal o id key equal old.bins) ∙ absent in
-      rw are (IsSession-added o old.bins _ old.records old.next key size none (lookup-inserted o old.bins key (new_bin size) none) h, omega arith)
+      rw are (IsSession-added o old.bins _ old.outstanding old.next key size none (lookup-inserted o old.bins key (new_bin size) none) h, omega arith)
   kept-added id size old (Packed p) new a = absurd a
   kept-added id size old (Refused DuplicateBin) new a = unchanged bin_cmp old new a.1
   kept-added id size old (Refused UnknownBin) new a = absurd a
@@ -63,25 +63,25 @@ module _ {Id B : Type 0} {bin_cmp : B → B → Ordering} (o : IsTotalOrder bin_
   kept-added id size old (Refused OutOfMemory) new a = unchanged bin_cmp old new a.1
 
   -- a new bin is put into a map: a transition, and a session stays one
-  pub added-inserted : (id : B) (size : Size) (old new : List (B × Held)) (v : Held) (records : List (Outstanding Id B)) (next : ℕ)
+  pub added-inserted : (id : B) (size : Size) (old new : List (B × Held)) (v : Held) (outstanding : List (Outstanding Id B)) (next : ℕ)
       → lookup (is_at (bin_cmp id)) old ≡ None → new ≡ insert_entry bin_cmp old id v → v.bin ≡ new_bin size
-      → IsSession bin_cmp (record { bins = bins_of old; records = records; next = next })
-      → AddsBin bin_cmp id size (record { bins = bins_of old; records = records; next = next }) Done (record { bins = bins_of new; records = records; next = next }) × IsSession bin_cmp (record { bins = bins_of new; records = records; next = next })
-  added-inserted id size old new v records next absent inserted fresh h =
-      let was : State Id B = record { bins = bins_of old; records = records; next = next } in
-      let is : State Id B = record { bins = bins_of new; records = records; next = next } in
+      → IsSession bin_cmp (record { bins = bins_of old; outstanding = outstanding; next = next })
+      → AddsBin bin_cmp id size (record { bins = bins_of old; outstanding = outstanding; next = next }) Done (record { bins = bins_of new; outstanding = outstanding; next = next }) × IsSession bin_cmp (record { bins = bins_of new; outstanding = outstanding; next = next })
+  added-inserted id size old new v outstanding next absent inserted fresh h =
+      let was : State Id B = record { bins = bins_of old; outstanding = outstanding; next = next } in
+      let is : State Id B = record { bins = bins_of new; outstanding = outstanding; next = next } in
       let step : AddsBin bin_cmp id size was Done is = (
         None-bins_of (is_at (bin_cmp id)) old absent,
         id,
         cmp-self o id,
-        ap (λ (bs : List (B × Bin)). record { bins = bs; records = records; next = next }) (ap bins_of inserted ∙ bins_of-insert_entry bin_cmp old id v ∙ ap (insert_entry bin_cmp (bins_of old) id) fresh),
+        ap (λ (bs : List (B × Bin)). record { bins = bs; outstanding = outstanding; next = next }) (ap bins_of inserted ∙ bins_of-insert_entry bin_cmp old id v ∙ ap (insert_entry bin_cmp (bins_of old) id) fresh),
       ) in
       (step, (kept-added id size was Done is step h).0)
 
   kept-released : (number : ℕ) (old : State Id B) (reply : Reply) (new : State Id B) → Releases bin_cmp number old reply new → IsKeptSession bin_cmp old new
-  kept-released number old Done new (at, gives, records, next) = λ h.
-      let was : IsSession bin_cmp (record { bins = old.bins; records = at.before ++ at.found ∷ at.after; next = old.next }) = subst (λ rs. IsSession bin_cmp (record { bins = old.bins; records = rs; next = old.next })) at.splits h in
-      let is : new ≡ record { bins = new.bins; records = at.before ++ at.after; next = old.next } = rw (← records, ← next) refl in
+  kept-released number old Done new (at, gives, outstanding, next) = λ h.
+      let was : IsSession bin_cmp (record { bins = old.bins; outstanding = at.before ++ at.found ∷ at.after; next = old.next }) = subst (λ rs. IsSession bin_cmp (record { bins = old.bins; outstanding = rs; next = old.next })) at.splits h in
+      let is : new ≡ record { bins = new.bins; outstanding = at.before ++ at.after; next = old.next } = rw (← outstanding, ← next) refl in
       (rw is (IsSession-released o old.bins new.bins at.before at.found at.after old.next gives was), omega (arith, next))
   kept-released number old (Packed p) new r = absurd r
   kept-released number old (Refused DuplicateBin) new r = absurd r
@@ -92,12 +92,12 @@ module _ {Id B : Type 0} {bin_cmp : B → B → Ordering} (o : IsTotalOrder bin_
   kept-released number old (Refused OutOfMemory) new r = unchanged bin_cmp old new r.2
 
   -- a record leaves the list, where its box was given back: the same
-  pub released-removed : (number : ℕ) (old new : List (B × Bin)) (records : List (Outstanding Id B)) (next : ℕ) (at : IsOutstanding records number) → GivesBack bin_cmp old at.found.bin at.found.location new
-      → IsSession bin_cmp (record { bins = old; records = records; next = next })
-      → Releases bin_cmp number (record { bins = old; records = records; next = next }) Done (record { bins = new; records = at.before ++ at.after; next = next }) × IsSession bin_cmp (record { bins = new; records = at.before ++ at.after; next = next })
-  released-removed number old new records next at gives h =
-      let was : State Id B = record { bins = old; records = records; next = next } in
-      let is : State Id B = record { bins = new; records = at.before ++ at.after; next = next } in
+  pub released-removed : (number : ℕ) (old new : List (B × Bin)) (outstanding : List (Outstanding Id B)) (next : ℕ) (at : IsOutstanding outstanding number) → GivesBack bin_cmp old at.found.bin at.found.location new
+      → IsSession bin_cmp (record { bins = old; outstanding = outstanding; next = next })
+      → Releases bin_cmp number (record { bins = old; outstanding = outstanding; next = next }) Done (record { bins = new; outstanding = at.before ++ at.after; next = next }) × IsSession bin_cmp (record { bins = new; outstanding = at.before ++ at.after; next = next })
+  released-removed number old new outstanding next at gives h =
+      let was : State Id B = record { bins = old; outstanding = outstanding; next = next } in
+      let is : State Id B = record { bins = new; outstanding = at.before ++ at.after; next = next } in
       let step : Releases bin_cmp number was Done is = (at, gives, refl, refl) in
       (step, (kept-released number was Done is step h).0)
 
@@ -118,8 +118,8 @@ module _ {Id B : Type 0} {bin_cmp : B → B → Ordering} (o : IsTotalOrder bin_
       let joint : Bin = record bin { sections = joined; coalesced = true } in
       let new : State Id B = record old { bins = set_value (is_at (bin_cmp id)) old.bins joint } in
       IsSession-carried bin_cmp old new
-      (AreCarried-written o old id bin joint old.records there refl (λ not_so. absurd cc) (λ q e. (IsRecut-beside bin.sections joined (standing_in bin_cmp old.records q) recut, λ not_so. absurd cc)) (λ q e. refl))
-      (known-kept bin_cmp old.bins new.bins (keys-set_value (is_at (bin_cmp id)) old.bins joint) old.records h.known)
+      (AreCarried-written o old id bin joint old.outstanding there refl (λ not_so. absurd cc) (λ q e. (IsRecut-beside bin.sections joined (outstanding_in bin_cmp old.outstanding q) recut, λ not_so. absurd cc)) (λ q e. refl))
+      (known-kept bin_cmp old.bins new.bins (keys-set_value (is_at (bin_cmp id)) old.bins joint) old.outstanding h.known)
       (record { rising = h.rising; below = h.below }) h
 
   kept-coalesced : (Joins : List Cuboid → List Cuboid → Type 0) → ((a b : List Cuboid) → Joins a b → IsRecut a b) → (id : B) (old : State Id B) (reply : Reply) (new : State Id B) → Coalesces bin_cmp Joins id old reply new → IsKeptSession bin_cmp old new
@@ -133,19 +133,19 @@ module _ {Id B : Type 0} {bin_cmp : B → B → Ordering} (o : IsTotalOrder bin_
   kept-coalesced Joins recuts id old (Refused OutOfMemory) new c = absurd c
 
   -- one bin of a map is written, with a list that joining leaves: the same
-  pub coalesced-written : (Joins : List Cuboid → List Cuboid → Type 0) → ((a b : List Cuboid) → Joins a b → IsRecut a b) → (id : B) (old new : List (B × Held)) (v w : Held) (records : List (Outstanding Id B)) (next : ℕ)
+  pub coalesced-written : (Joins : List Cuboid → List Cuboid → Type 0) → ((a b : List Cuboid) → Joins a b → IsRecut a b) → (id : B) (old new : List (B × Held)) (v w : Held) (outstanding : List (Outstanding Id B)) (next : ℕ)
       → lookup (is_at (bin_cmp id)) old ≡ Some v → new ≡ set_value (is_at (bin_cmp id)) old w → w.bin ≡ record v.bin { sections = w.bin.sections; coalesced = true } → Joins v.bin.sections w.bin.sections
-      → IsSession bin_cmp (record { bins = bins_of old; records = records; next = next })
-      → Coalesces bin_cmp Joins id (record { bins = bins_of old; records = records; next = next }) Done (record { bins = bins_of new; records = records; next = next }) × IsSession bin_cmp (record { bins = bins_of new; records = records; next = next })
-  coalesced-written Joins recuts id old new v w records next found written stays joins h =
-      let was : State Id B = record { bins = bins_of old; records = records; next = next } in
-      let is : State Id B = record { bins = bins_of new; records = records; next = next } in
+      → IsSession bin_cmp (record { bins = bins_of old; outstanding = outstanding; next = next })
+      → Coalesces bin_cmp Joins id (record { bins = bins_of old; outstanding = outstanding; next = next }) Done (record { bins = bins_of new; outstanding = outstanding; next = next }) × IsSession bin_cmp (record { bins = bins_of new; outstanding = outstanding; next = next })
+  coalesced-written Joins recuts id old new v w outstanding next found written stays joins h =
+      let was : State Id B = record { bins = bins_of old; outstanding = outstanding; next = next } in
+      let is : State Id B = record { bins = bins_of new; outstanding = outstanding; next = next } in
       let step : Coalesces bin_cmp Joins id was Done is = (
         v.bin,
         Some-bins_of (is_at (bin_cmp id)) old v found,
         w.bin.sections,
         joins,
-        ap (λ (bs : List (B × Bin)). record { bins = bs; records = records; next = next }) (bins_of-written (is_at (bin_cmp id)) old new w _ written stays),
+        ap (λ (bs : List (B × Bin)). record { bins = bs; outstanding = outstanding; next = next }) (bins_of-written (is_at (bin_cmp id)) old new w _ written stays),
       ) in
       (step, (kept-coalesced Joins recuts id was Done is step h).0)
 
@@ -153,7 +153,7 @@ module _ {Id B G : Type 0} (group_cmp : Group G Id → Group G Id → Ordering) 
   kept-packed : (all : Collection Id G) (old : State Id B) (reply : Reply) (new : State Id B) → Packs group_cmp rules all old reply new → IsKeptSession rules.bin_cmp old new
   kept-packed all old Done new p = absurd p
   kept-packed all old (Packed numbers) new (fits, kept) = λ h. (
-    IsSession-done group_cmp rules o all old.bins new.bins kept.placements old.records new.records old.next new.next kept.done kept.records (kept.next ∙ ap (λ n. old.next + n) (sym kept.counted)) h,
+    IsSession-done group_cmp rules o all old.bins new.bins kept.placements old.outstanding new.outstanding old.next new.next kept.done kept.outstanding (kept.next ∙ ap (λ n. old.next + n) (sym kept.counted)) h,
     omega (arith, kept.next),
   )
   kept-packed all old (Refused DuplicateBin) new p = absurd p

@@ -10,7 +10,7 @@ use Rattle.rectangle_pack.specs.Closures.{Answers}
 use Rattle.rectangle_pack.specs.Cuts.{placed}
 use Rattle.rectangle_pack.specs.Steps.{IsStep, AreLeft}
 use Rattle.rectangle_pack.specs.declared.target_bin.trial.Note.{Note}
-use Rattle.rectangle_pack.specs.private.Journal.{slots_before_note, slots_before_notes, CanUndoSlot, CanUndoSlots, SlotsLeadBack}
+use Rattle.rectangle_pack.specs.private.Notes.{slots_before_note, slots_before_notes, CanUndoSlot, CanUndoSlots, SlotsLeadBack}
 use Rattle.rectangle_pack.specs.private.Slots.{sections_of, IsLastHolding}
 use Rattle.rectangle_pack.proofs.lemmas.multimap.Append.{All-back}
 use Rattle.rectangle_pack.proofs.lemmas.trial.Slots.{sections_of-append}

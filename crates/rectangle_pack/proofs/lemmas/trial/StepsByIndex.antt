@@ -13,10 +13,10 @@ use Rattle.rectangle_pack.specs.Bins.{Bin, Held}
 use Rattle.rectangle_pack.specs.Cuts.{placed}
 use Rattle.rectangle_pack.specs.Choice.{IsAllowedCut}
 use Rattle.rectangle_pack.specs.Steps.{IsStep, IsDone, IsStuck, AreLeft}
-use Rattle.rectangle_pack.specs.private.Ranks.{by_falling_rate}
+use Rattle.rectangle_pack.specs.private.FallingRates.{by_falling_rate}
 use Rattle.rectangle_pack.specs.private.TrialNotes.{IsTried, IsNotedAnswer, LeavesNotes}
 use Rattle.rectangle_pack.proofs.lemmas.cuts.FallingRates.{AreRanked-by_falling_rate}
-use Rattle.rectangle_pack.specs.private.Journal.{before_note, before_notes, CanUndo, CanUndoOne, LeadsBack}
+use Rattle.rectangle_pack.specs.private.Notes.{before_note, before_notes, CanUndo, CanUndoOne, LeadsBack}
 
 All-from_within_end : {X : Type 0} (P : X → Type 0) (xs : List X) (low : ℕ) → AllWithin P xs low (length xs) → All P (drop low xs)
 All-from_within_end P xs low h k d within =

@@ -5,11 +5,11 @@ ghost use Rattle.std.specs.Bool.{OnTrue};
 ghost use Rattle.std.specs.List.{HoldsAt, AllWithin};
 ghost use Rattle.rectangle_pack.specs.Boxes.{Holds, FitsU32, has_cells};
 ghost use Rattle.rectangle_pack.specs.Steps.{IsStep};
-ghost use Rattle.rectangle_pack.specs.private.Journal.{before_note, CanUndoOne};
+ghost use Rattle.rectangle_pack.specs.private.Notes.{before_note, CanUndoOne};
 ghost use Rattle.rectangle_pack.specs.private.TrialNotes.{IsStuckAtOnce};
 
 use crate::bin_section::BinSection;
-use crate::closures::Ask;
+use crate::closures::Policy;
 use crate::packed_location::PackedLocation;
 use crate::rect_to_insert::RectToInsert;
 use crate::target_bin::section_slots::Search;
@@ -75,12 +75,12 @@ fn place_at<A, R>(
     sections: &mut Vec<BinSection, A>,
     index: usize,
     member: &RectToInsert,
-    rules: &R,
+    policy: &R,
 ) -> (PackedLocation, Note)
 where
     A: Allocator,
-    R: Ask,
-    requires callable { R.can_ask rules.now }
+    R: Policy,
+    requires callable { R.is_callable policy.now }
     requires index { index < length sections.old.items }
     requires holds { HoldsAt (λ s. Holds s member.now) sections.old.items index }
     requires newest { AllWithin (λ s. ¬ Holds s member.now) sections.old.items (index + 1)
@@ -88,13 +88,13 @@ where
     requires fits { All FitsU32 sections.old.items }
     requires room { vec_len sections.old + 2 ≤ vec_capacity sections.old }
     ensures capacity { vec_capacity sections.old ≤ vec_capacity sections.new }
-    ensures step { IsStep (R.may rules.now) sections.old.items member.now result.0
+    ensures step { IsStep (R.may policy.now) sections.old.items member.now result.0
         sections.new.items (length sections.old.items - index) }
     ensures before { before_note result.1 sections.new.items ≡ sections.old.items }
     ensures can_undo { CanUndoOne (vec_capacity sections.new) result.1 sections.new.items }
 {
     let section = sections.remove(index);
-    let (location, pieces) = place_in(&section, member, rules);
+    let (location, pieces) = place_in(&section, member, policy);
     let kept = sections.len();
     push_pieces(sections, pieces);
     let note = Note {
@@ -121,7 +121,7 @@ impl<A: Allocator> FreeList for Vec<BinSection, A> {
     ghost use Rattle.std.specs.Vec.{vec_capacity};
     ghost use Rattle.std.specs.List.{HoldsAt, AllWithin};
     ghost use Rattle.rectangle_pack.specs.Boxes.{Holds};
-    ghost use Rattle.rectangle_pack.specs.private.Journal.{LeadsBack};
+    ghost use Rattle.rectangle_pack.specs.private.Notes.{LeadsBack};
 
     ghost sections = { λ v. v.items };
 
@@ -151,15 +151,15 @@ impl<A: Allocator> FreeList for Vec<BinSection, A> {
         }
     }
 
-    fn place<R: Ask>(
+    fn place<R: Policy>(
         &mut self,
         index: usize,
         member: &RectToInsert,
-        rules: &R,
+        policy: &R,
         steps: usize,
     ) -> Result<(PackedLocation, Note), AllocError> {
         self.reserve(steps * 2)?;
-        Ok(place_at(self, index, member, rules))
+        Ok(place_at(self, index, member, policy))
     }
 
     fn undo(&mut self, note: Note) {

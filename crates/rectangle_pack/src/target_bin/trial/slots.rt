@@ -3,11 +3,11 @@
 ghost use Rattle.std.specs.Prelude.{ℕ, ◌≡◌, ◌<◌, ◌≤◌, ◌+◌, ◌++◌, ◌∷◌, [], Some, length, map, filter, All};
 ghost use Rattle.rectangle_pack.specs.Boxes.{FitsU32, has_cells};
 ghost use Rattle.rectangle_pack.specs.Steps.{IsStep};
-ghost use Rattle.rectangle_pack.specs.private.Journal.{slots_before_note, CanUndoSlot};
+ghost use Rattle.rectangle_pack.specs.private.Notes.{slots_before_note, CanUndoSlot};
 ghost use Rattle.rectangle_pack.specs.private.Slots.{sections_of, IsLastHolding};
 
 use crate::bin_section::BinSection;
-use crate::closures::Ask;
+use crate::closures::Policy;
 use crate::packed_location::PackedLocation;
 use crate::rect_to_insert::RectToInsert;
 use crate::target_bin::section_slots::{Search, SectionSlots};
@@ -44,26 +44,26 @@ fn place_at<A, R>(
     slots: &mut SectionSlots<A>,
     index: usize,
     member: &RectToInsert,
-    rules: &R,
+    policy: &R,
 ) -> (PackedLocation, Note)
 where
     A: Allocator + Copy,
-    R: Ask,
-    requires callable { R.can_ask rules.now }
+    R: Policy,
+    requires callable { R.is_callable policy.now }
     requires newest { (tests : ℕ) × IsLastHolding slots.old.all member.now index tests }
     requires fits { All FitsU32 (sections_of slots.old.all) }
     requires room { length slots.old.all + 3 ≤ slots.old.room }
     ensures room { slots.new.room ≡ slots.old.room }
     ensures no_longer { length slots.new.all ≤ length slots.old.all + 3 }
     ensures step { (tests : ℕ) → IsLastHolding slots.old.all member.now index tests →
-        IsStep (R.may rules.now) (sections_of slots.old.all) member.now result.0
+        IsStep (R.may policy.now) (sections_of slots.old.all) member.now result.0
         (sections_of slots.new.all) tests }
     ensures before { slots_before_note result.1 slots.new.all ≡ slots.old.all }
     ensures can_undo { CanUndoSlot result.1 slots.new.all }
 {
     let kept = slots.slots();
     let section = slots.take(index);
-    let (location, pieces) = place_in(&section, member, rules);
+    let (location, pieces) = place_in(&section, member, policy);
     push_pieces(slots, pieces);
     let note = Note {
         index,
@@ -85,7 +85,7 @@ fn undo_one<A: Allocator + Copy>(slots: &mut SectionSlots<A>, note: Note)
 
 impl<A: Allocator + Copy> FreeList for SectionSlots<A> {
     ghost use Rattle.std.specs.Prelude.{◌-◌, ◌/◌, length, refl};
-    ghost use Rattle.rectangle_pack.specs.private.Journal.{SlotsLeadBack};
+    ghost use Rattle.rectangle_pack.specs.private.Notes.{SlotsLeadBack};
     ghost use Rattle.rectangle_pack.specs.private.Slots.{sections_of, IsLastHolding};
 
     ghost sections = { λ l. sections_of l.all };
@@ -103,15 +103,15 @@ impl<A: Allocator + Copy> FreeList for SectionSlots<A> {
         self.last_holding(member)
     }
 
-    fn place<R: Ask>(
+    fn place<R: Policy>(
         &mut self,
         index: usize,
         member: &RectToInsert,
-        rules: &R,
+        policy: &R,
         steps: usize,
     ) -> Result<(PackedLocation, Note), AllocError> {
         self.reserve(steps * 3)?;
-        Ok(place_at(self, index, member, rules))
+        Ok(place_at(self, index, member, policy))
     }
 
     fn undo(&mut self, note: Note) {

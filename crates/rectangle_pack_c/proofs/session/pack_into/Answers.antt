@@ -20,7 +20,7 @@ write_all-requires-clause-within c =
     let all = c.in_ok-rects in
     let same = same_order _ (λ a b. refl) (λ a b. refl) (λ a b. refl) (λ a b. refl) in
     let are = records_are _ _ same all.rects c.args.session.now c.pack.new.self c.args.boxes.now all.ensures.collected c.in_ok-packed.ensures.promise in
-    rw (c.outstanding-known.ensures.records, new_part _ _ _ (c.outstanding.ensures.records ∙ are), c.requires.lengths.same)
+    rw (c.outstanding-known.ensures.outstanding, new_part _ _ _ (c.outstanding.ensures.outstanding ∙ are), c.requires.lengths.same)
     (new_ids _ _ same all.rects c.args.session.now c.pack.new.self c.args.boxes.now all.ensures.collected c.in_ok-packed.ensures.promise)
 
 pub write_all-requires-clause-once : goal.write_all-requires-clause-once
@@ -28,7 +28,7 @@ write_all-requires-clause-once c =
     let all = c.in_ok-rects in
     let same = same_order _ (λ a b. refl) (λ a b. refl) (λ a b. refl) (λ a b. refl) in
     let are = records_are _ _ same all.rects c.args.session.now c.pack.new.self c.args.boxes.now all.ensures.collected c.in_ok-packed.ensures.promise in
-    rw (c.outstanding-known.ensures.records, new_part _ _ _ (c.outstanding.ensures.records ∙ are))
+    rw (c.outstanding-known.ensures.outstanding, new_part _ _ _ (c.outstanding.ensures.outstanding ∙ are))
     (new_once _ _ same all.rects c.args.session.now c.pack.new.self c.args.boxes.now all.ensures.collected c.in_ok-packed.ensures.promise)
 
 pub returns-clause-packed : goal.returns-clause-packed
@@ -44,5 +44,5 @@ returns-clause-done c =
     let same = same_order _ (λ a b. refl) (λ a b. refl) (λ a b. refl) (λ a b. refl) in
     let are = records_are _ _ same all.rects c.args.session.now c.pack.new.self c.args.boxes.now all.ensures.collected c.in_ok-packed.ensures.promise in
     are_outstanding _ _ same all.rects c.args.session.now c.pack.new.self c.args.boxes.now all.ensures.collected c.in_ok-packed.ensures.promise c.write_all.new.placements
-    (rw (c.outstanding-known.ensures.records, new_part _ _ _ (c.outstanding.ensures.records ∙ are)) at c.write_all.ensures)
+    (rw (c.outstanding-known.ensures.outstanding, new_part _ _ _ (c.outstanding.ensures.outstanding ∙ are)) at c.write_all.ensures)
     (c.write_all.auto.placements ∙ c.requires.lengths.same)

@@ -26,15 +26,15 @@ returns c =
     let front = c.split_at_mut-front.result.0.now in
     let between = c.split_at_mut-back.result.0.now in
     let back = c.split_at_mut-back.result.1.now in
-    let first = c.put_back.new.entries in
-    let last = c.put_back-2.new.entries in
+    let first = c.restore_order.new.entries in
+    let last = c.restore_order-2.new.entries in
     let parts : c.args.entries.now ≡ front ++ (between ++ back) = c.split_at_mut-front.ensures.value ∙ ap (λ l. front ++ l) c.split_at_mut-back.ensures.value in
-    let front_moved = IsPermutation-trans _ _ _ c.order_on.ensures.permutation c.put_back.ensures.permutation in
-    let back_moved = IsPermutation-trans _ _ _ c.order_on-2.ensures.permutation c.put_back-2.ensures.permutation in
+    let front_moved = IsPermutation-trans _ _ _ c.order_on.ensures.permutation c.restore_order.ensures.permutation in
+    let back_moved = IsPermutation-trans _ _ _ c.order_on-2.ensures.permutation c.restore_order-2.ensures.permutation in
     record {
       permutation = rw parts (ends_moved front between back first last front_moved back_moved);
-      ordered = ends_ordered front between back first last front_moved back_moved c.args.ordered (rw parts at c.requires.ordered) c.put_back.ensures.ordered c.put_back-2.ensures.ordered;
+      ordered = ends_ordered front between back first last front_moved back_moved c.args.ordered (rw parts at c.requires.ordered) c.restore_order.ensures.ordered c.restore_order-2.ensures.ordered;
       closed = OnTrue_from (leb c.end.result c.reach.result) (IsClosedOn c.args.axis whole (first ++ (between ++ last))) (λ t q is_open.
           c.reach.ensures q (omega (arith, leb-true c.end.result c.reach.result t, c.end.ensures ∙ c.of.ensures.ends, is_open.before_end))
-          (ends_open c.order_on.new.entries between c.order_on-2.new.entries first last c.put_back.ensures.permutation c.put_back-2.ensures.permutation c.args.axis q whole is_open));
+          (ends_open c.order_on.new.entries between c.order_on-2.new.entries first last c.restore_order.ensures.permutation c.restore_order-2.ensures.permutation c.args.axis q whole is_open));
     }

@@ -9,7 +9,7 @@ use Rattle.std.proofs.lemmas.Cmp.{tied_itself}
 use Rattle.std.proofs.lemmas.List.Elements.{All-weaker}
 use Rattle.std.specs.BTreeMap.{is_at}
 use Rattle.rectangle_pack.specs.Groups.{lists_of, HaveSizes}
-use Rattle.rectangle_pack.specs.private.Lists.{filled}
+use Rattle.rectangle_pack.specs.private.Multimaps.{filled}
 use Rattle.rectangle_pack.proofs.lemmas.multimap.Vectors.{keys-lists}
 use Rattle.rectangle_pack.proofs.lemmas.multimap.Sized.{filled-members, IsSome-cond, MembersHaveSizes-added, lists-added, lists-other, on_ok, on_err}
 use Rattle.rectangle_pack.specs.declared.grouped_rects_to_place.Group.TheVariants.{Ungrouped, Grouped}

@@ -2,7 +2,7 @@ use Rattle.std.proofs.Common.{◌∙◌, sym}
 use Rattle.std.specs.BTreeMap.{get, is_at}
 use Rattle.std.proofs.lemmas.Result.{on_ok_weaker}
 use Rattle.rectangle_pack.specs.Groups.{lists_of}
-use Rattle.rectangle_pack.specs.private.Lists.{times}
+use Rattle.rectangle_pack.specs.private.Multimaps.{times}
 use Rattle.rectangle_pack.proofs.lemmas.multimap.Vectors.{lookup-lists}
 use Rattle.rectangle_pack.proofs.lemmas.multimap.Append.{appended-named, appended-other}
 use Rattle.rectangle_pack.proofs.grouped_rects_to_place.multimap.add_each.Goals as goal

@@ -6,7 +6,7 @@ use Rattle.std.proofs.lemmas.Cmp.{tied_itself}
 use Rattle.std.proofs.Math.Seq.{take-length}
 use Rattle.std.proofs.lemmas.List.Elements.{All-contains_itself}
 use Rattle.rectangle_pack.specs.Groups.{lists_of}
-use Rattle.rectangle_pack.specs.private.Lists.{times, AreAppended, TakesBack}
+use Rattle.rectangle_pack.specs.private.Multimaps.{times, AreAppended, TakesBack}
 use Rattle.rectangle_pack.proofs.lemmas.multimap.Sized.{on_ok}
 use Rattle.rectangle_pack.proofs.lemmas.multimap.Append.{AreAppended-none, AreAppended-step, AreAppended-known, AreAppended-roomier, times-more_same, times-more_le, All-front, All-middle}
 use Rattle.rectangle_pack.proofs.lemmas.multimap.TakeBack.{reverse-take_more}

@@ -2,7 +2,7 @@ use Rattle.std.proofs.Common.{◌≡◌, ◌+◌, ◌<◌, length, take}
 use Rattle.std.specs.Prelude.{All, Contains, reverse}
 use Rattle.std.specs.BTreeMap.{get, IsOrdered}
 use Rattle.rectangle_pack.specs.Groups.{lists_of}
-use Rattle.rectangle_pack.specs.private.Lists.{times, AreAppended, TakesBack}
+use Rattle.rectangle_pack.specs.private.Multimaps.{times, AreAppended, TakesBack}
 use Rattle.rectangle_pack.proofs.grouped_rects_to_place.multimap.append_each.Given as goal
 
 abbrev pub invariant-loop-i : goal.invariant-loop-i

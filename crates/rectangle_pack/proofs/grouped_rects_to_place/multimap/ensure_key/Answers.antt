@@ -6,7 +6,7 @@ use Rattle.std.specs.BTreeMap.{is_at}
 use Rattle.std.specs.declared.cmp.Ordering.TheVariants.{Equal}
 use Rattle.std.proofs.lemmas.Result.{IfOk-from_err}
 use Rattle.rectangle_pack.specs.Groups.{lists_of}
-use Rattle.rectangle_pack.specs.private.Lists.{filled, items_of}
+use Rattle.rectangle_pack.specs.private.Multimaps.{filled, items_of}
 use Rattle.rectangle_pack.proofs.lemmas.multimap.Vectors.{filled-new_key, items-new_key, others-new_key, has-new_key}
 use Rattle.rectangle_pack.proofs.grouped_rects_to_place.multimap.ensure_key.Goals as goal
 

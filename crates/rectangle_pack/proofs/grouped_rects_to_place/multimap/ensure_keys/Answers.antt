@@ -1,7 +1,7 @@
 use Rattle.std.proofs.Common.{◌≡◌, refl, ap, ◌∙◌, arith, take}
 use Rattle.std.proofs.Math.Seq.{take-length}
 use Rattle.std.proofs.lemmas.Result.{IfOk-from_err}
-use Rattle.rectangle_pack.specs.private.Lists.{times}
+use Rattle.rectangle_pack.specs.private.Multimaps.{times}
 use Rattle.rectangle_pack.proofs.lemmas.multimap.Append.{times-more_le, times-more_none, known-more}
 use Rattle.rectangle_pack.proofs.grouped_rects_to_place.multimap.ensure_keys.Goals as goal
 

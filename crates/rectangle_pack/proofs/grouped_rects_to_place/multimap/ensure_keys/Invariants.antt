@@ -2,7 +2,7 @@ use Rattle.std.proofs.Common.{◌≡◌, ◌<◌, take}
 use Rattle.std.specs.Prelude.{IsSome}
 use Rattle.std.specs.BTreeMap.{get}
 use Rattle.rectangle_pack.specs.Groups.{lists_of}
-use Rattle.rectangle_pack.specs.private.Lists.{filled, times, items_of}
+use Rattle.rectangle_pack.specs.private.Multimaps.{filled, times, items_of}
 use Rattle.rectangle_pack.proofs.grouped_rects_to_place.multimap.ensure_keys.Given as goal
 
 abbrev pub invariant-loop-key : goal.invariant-loop-key

@@ -8,8 +8,8 @@ use Rattle.std.specs.BTreeMap.{is_at}
 use Rattle.std.specs.List.{list_any}
 use Rattle.std.specs.Borrow.{Bor}
 use Rattle.std.proofs.lemmas.List.Folds.{list_any_more}
-use Rattle.rectangle_pack.specs.private.Barred.{are_in, went_to}
-use Rattle.rectangle_pack.proofs.lemmas.packing.Excluded.{barred-more, or-none}
+use Rattle.rectangle_pack.specs.private.Excluded.{are_in, went_to}
+use Rattle.rectangle_pack.proofs.lemmas.packing.Excluded.{excluded-more, or-none}
 use Rattle.rectangle_pack.proofs.pack.first_fit.excluded_bins.Goals as goal
 use Rattle.rectangle_pack.proofs.pack.first_fit.excluded_bins.Goals.{in-Some+in_ok-insert, in_default}
 
@@ -28,7 +28,7 @@ loop-partner-preserved g c = λ id.
           ap (λ f. unwrap_or (option_map (λ b. is_at (g.B.Ord.cmp id) b.now) f) false) (sym w.in-Some.ensures.value) in
           let key : Bor g.row.B.Denot = record bin { now = id } in
           ap (λ s. are_in g.B.Ord.cmp s.keys id) w.excluded-is
-          ∙ barred-more g.met.B.Ord.total c.loop-partner.excluded.keys w.insert.new.self.keys bin (list_any t (take i c.args.partners.now)) (t p) id
+          ∙ excluded-more g.met.B.Ord.total c.loop-partner.excluded.keys w.insert.new.self.keys bin (list_any t (take i c.args.partners.now)) (t p) id
           (w.in_ok-insert.ensures.updates.0 key) before here ∙ sym more
       | in_default w ↦
           let none : t p ≡ false =

@@ -29,7 +29,7 @@ place_groups-requires-clause-distinct_groups g c = rw c.as_slice.ensures.value c
 
 pub returns-clause-packed : goal.returns-clause-packed
 returns-clause-packed g c =
-    let by = rules_by g.Id.Ord.cmp g.BinId.Ord.cmp (g.R.Ask.may c.args.rules.now) in
+    let by = rules_by g.Id.Ord.cmp g.BinId.Ord.cmp (g.R.Policy.may c.args.policy.now) in
     let entries = rw c.groups-lists.ensures.entries at c.in_ok-groups.ensures.counted in
     let all = c.args.rects_to_place.now in
     let old = bins_of c.args.packing.now.bins.kept in
@@ -69,7 +69,7 @@ returns-clause-packed g c =
 
 pub returns-clause-stopped : goal.returns-clause-stopped
 returns-clause-stopped g c =
-    let by = rules_by g.Id.Ord.cmp g.BinId.Ord.cmp (g.R.Ask.may c.args.rules.now) in
+    let by = rules_by g.Id.Ord.cmp g.BinId.Ord.cmp (g.R.Policy.may c.args.policy.now) in
     let entries = rw c.groups-lists.ensures.entries at c.in_ok-groups.ensures.counted in
     let all = c.args.rects_to_place.now in
     let old = bins_of c.args.packing.now.bins.kept in

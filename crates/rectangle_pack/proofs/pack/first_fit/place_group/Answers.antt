@@ -5,17 +5,17 @@ use Rattle.std.proofs.lemmas.List.{take_all}
 use Rattle.std.proofs.lemmas.List.Sums.{sum_by_push}
 use Rattle.rectangle_pack.specs.Numbers.{saturated}
 use Rattle.rectangle_pack.specs.Packing.{Rules, rules_by, bins_of, Members}
-use Rattle.rectangle_pack.specs.private.Barred.{are_in}
+use Rattle.rectangle_pack.specs.private.Excluded.{are_in}
 use Rattle.rectangle_pack.specs.private.Checkout.{closed}
 use Rattle.rectangle_pack.proofs.lemmas.packing.Checkout.{stays}
-use Rattle.rectangle_pack.proofs.lemmas.packing.Groups.{GoesBack-grown, bins_of-grown, GoesBack-tried, found-bins_of, IsPlaced-at, DoesNotTake-more, DoesNotTake-stuck, DoesNotTake-barred, IsDone-length}
+use Rattle.rectangle_pack.proofs.lemmas.packing.Groups.{GoesBack-grown, bins_of-grown, GoesBack-tried, found-bins_of, IsPlaced-at, DoesNotTake-more, DoesNotTake-stuck, DoesNotTake-excluded, IsDone-length}
 use Rattle.rectangle_pack.proofs.lemmas.packing.FitTests.{OnErr-given, adds-begun, adds-tried}
 use Rattle.rectangle_pack.proofs.lemmas.trial.StepsByIndex.{saturated-add}
 use Rattle.rectangle_pack.proofs.pack.first_fit.place_group.Given.{Over}
 use Rattle.rectangle_pack.proofs.pack.first_fit.place_group.Goals as goal
 
 abbrev by : (g : Over) → g.row.R.Denot → Rules g.row.Id.Denot g.row.B.Denot
-by g rules = rules_by g.Id.Ord.cmp g.B.Ord.cmp (g.R.Ask.may rules)
+by g rules = rules_by g.Id.Ord.cmp g.B.Ord.cmp (g.R.Policy.may rules)
 
 pub returns-in_err-done-clause-back : goal.returns-in_err-done-clause-back
 returns-in_err-done-clause-back g c start b =
@@ -62,7 +62,7 @@ returns-then-done-clause-placed g c =
     let done = rw c.if-done.true at tried.3 in
     let named = c.in_ok-name_all.ensures in
     let group : Members g.row.Id.Denot = record { ids = c.args.ids.now; sizes = c.args.sizes.now } in
-    let rules = by g c.args.rules.now in
+    let rules = by g c.args.policy.now in
     let excluded = are_in g.B.Ord.cmp c.args.excluded.now.keys in
     let passed = c.loop-i.invariant.passed in
     let allowed : excluded o.1 ≡ false = sym c.contains.ensures ∙ c.if-contains.false in
@@ -93,7 +93,7 @@ loop-i-preserved-then-contains g c =
     let o = c.index-order-i.result in
     let old = bins_of c.args.packing.now.bins.kept in
     let group : Members g.row.Id.Denot = record { ids = c.args.ids.now; sizes = c.args.sizes.now } in
-    let rules = by g c.args.rules.now in
+    let rules = by g c.args.policy.now in
     let excluded = are_in g.B.Ord.cmp c.args.excluded.now.keys in
     let passed = c.loop-i.invariant.passed in
     let here : excluded o.1 ≡ true = sym c.contains.ensures ∙ c.if-contains.true in
@@ -103,7 +103,7 @@ loop-i-preserved-then-contains g c =
       passed = (
         passed.0 ++ 0 ∷ [],
         DoesNotTake-more rules excluded old group c.order-order.result.now c.loop-i.i o passed.0 0 c.loop-i-test.true c.index-order-i.is
-            (DoesNotTake-barred rules excluded old group o.1 here) passed.1,
+            (DoesNotTake-excluded rules excluded old group o.1 here) passed.1,
         passed.2 ∙ ap (λ n. saturated (c.args.packing.now.tests + n)) (sym (sum_by_push (λ x. x) passed.0 0 ∙ omega arith)),
       );
       journal = c.loop-i.invariant.journal;
@@ -121,7 +121,7 @@ loop-i-preserved g c =
     let old = bins_of c.args.packing.now.bins.kept in
     let same : bins_of now ≡ old = ap bins_of (stays c.check_out.ensures).0 ∙ c.loop-i.invariant.same in
     let group : Members g.row.Id.Denot = record { ids = c.args.ids.now; sizes = c.args.sizes.now } in
-    let rules = by g c.args.rules.now in
+    let rules = by g c.args.policy.now in
     let stuck = rw c.if-done.false at tried.3 in
     let left = rw c.if-done.false at tried.4 in
     let there = found-bins_of (is_at (cmp o.1)) now old (closed true tried.0) same tried.2.kept.found in
@@ -157,7 +157,7 @@ returns-clause-placed g c =
 pub returns-in_err-done-clause-stopped : goal.returns-in_err-done-clause-stopped
 returns-in_err-done-clause-stopped g c =
     let group : Members g.row.Id.Denot = record { ids = c.args.ids.now; sizes = c.args.sizes.now } in
-    let rules = by g c.args.rules.now in
+    let rules = by g c.args.policy.now in
     let same_order = (stays c.check_out.ensures).2 ∙ c.loop-i.invariant.order in
     let tried = c.in_err-done.ensures.tried c.index-order-i.result (rw same_order c.index-order-i.is) in
     let passed = c.loop-i.invariant.passed in
@@ -176,7 +176,7 @@ returns-in_err-name_all-clause-stopped g c =
     let same : bins_of now ≡ old = ap bins_of (stays c.check_out.ensures).0 ∙ c.loop-i.invariant.same in
     let done = rw c.if-done.true at tried.3 in
     let group : Members g.row.Id.Denot = record { ids = c.args.ids.now; sizes = c.args.sizes.now } in
-    let rules = by g c.args.rules.now in
+    let rules = by g c.args.policy.now in
     let passed = c.loop-i.invariant.passed in
     let there = found-bins_of (is_at (g.B.Ord.cmp o.1)) now old (closed true tried.0) same tried.2.kept.found in
     rw (← c.order-order.ensures)

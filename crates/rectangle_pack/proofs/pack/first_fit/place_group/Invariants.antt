@@ -3,8 +3,8 @@ use Rattle.std.specs.Prelude.{map, sum}
 use Rattle.std.specs.List.{AllZip}
 use Rattle.rectangle_pack.specs.Numbers.{saturated}
 use Rattle.rectangle_pack.specs.Packing.{rules_by, DoesNotTake, bins_of}
-use Rattle.rectangle_pack.specs.private.Barred.{are_in}
-use Rattle.rectangle_pack.specs.private.TrialJournal.{StaysUndoable}
+use Rattle.rectangle_pack.specs.private.Excluded.{are_in}
+use Rattle.rectangle_pack.specs.private.RollBack.{StaysUndoable}
 use Rattle.rectangle_pack.proofs.pack.first_fit.place_group.Given as goal
 
 abbrev pub invariant-loop-i : goal.invariant-loop-i
@@ -12,7 +12,7 @@ invariant-loop-i g l = record {
   same : bins_of l.packing.bins.kept ≡ bins_of l.fn.packing.bins.kept;
   order : l.packing.bins.order ≡ l.order;
   passed : (counts : List ℕ)
-      × AllZip (DoesNotTake (rules_by g.Id.Ord.cmp g.B.Ord.cmp (g.R.Ask.may l.rules)) (are_in g.B.Ord.cmp l.excluded.keys) (bins_of l.fn.packing.bins.kept)
+      × AllZip (DoesNotTake (rules_by g.Id.Ord.cmp g.B.Ord.cmp (g.R.Policy.may l.policy)) (are_in g.B.Ord.cmp l.excluded.keys) (bins_of l.fn.packing.bins.kept)
       (record { ids = l.ids; sizes = l.sizes })) (map (λ o. o.1) (take l.i l.order)) counts
       × (l.packing.tests ≡ saturated (l.fn.packing.tests + sum counts));
   journal : l.packing.journal ≡ l.fn.packing.journal;

@@ -9,10 +9,10 @@ use Rattle.std.specs.Map.{lookup}
 use Rattle.std.specs.BTreeMap.{is_at}
 use Rattle.rectangle_pack.specs.declared.grouped_rects_to_place.Group.{Group}
 use Rattle.rectangle_pack.specs.Exclusions.{listed_at}
-use Rattle.rectangle_pack.specs.Packing.{Rules, rules_by, bins_of, bars_by, at_start, Members, AreGroups, IsRefused}
-use Rattle.rectangle_pack.specs.private.Barred.{are_in, went_to}
+use Rattle.rectangle_pack.specs.Packing.{Rules, rules_by, bins_of, excludes_by, at_start, Members, AreGroups, IsRefused}
+use Rattle.rectangle_pack.specs.private.Excluded.{are_in, went_to}
 use Rattle.rectangle_pack.specs.private.Orders.{keys_of_order}
-use Rattle.rectangle_pack.proofs.lemmas.packing.Excluded.{Knows, Knows-none, Knows-alone, Knows-kept, Named-more, Named-fresh, barred_by_partners, none-listed}
+use Rattle.rectangle_pack.proofs.lemmas.packing.Excluded.{Knows, Knows-none, Knows-alone, Knows-kept, Named-more, Named-fresh, excluded_by_partners, none-listed}
 use Rattle.rectangle_pack.proofs.lemmas.packing.FitTests.{OnErr-given, adds-placed, adds-more, placed-le}
 use Rattle.rectangle_pack.proofs.lemmas.packing.Checkout.{stays}
 use Rattle.rectangle_pack.proofs.lemmas.packing.Groups.{AreSizesOf, AreSizesOf-length, AreGroups-more, StopsAfter-at, AreAllPlaced-next}
@@ -27,10 +27,10 @@ abbrev Name : Over → Type 0
 Name g = Group g.row.GroupId.Denot g.row.Id.Denot
 
 abbrev by : (g : Over) → g.row.R.Denot → Rules g.row.Id.Denot g.row.B.Denot
-by g rules = rules_by g.Id.Ord.cmp g.B.Ord.cmp (g.R.Ask.may rules)
+by g rules = rules_by g.Id.Ord.cmp g.B.Ord.cmp (g.R.Policy.may rules)
 
-abbrev bars : (g : Over) → List (Name g × List (Name g)) → List (Name g × g.row.B.Denot) → Name g → g.row.B.Denot → Bool
-bars g partners = bars_by (group_cmp g) g.B.Ord.cmp partners
+abbrev excludes : (g : Over) → List (Name g × List (Name g)) → List (Name g × g.row.B.Denot) → Name g → g.row.B.Denot → Bool
+excludes g partners = excludes_by (group_cmp g) g.B.Ord.cmp partners
 
 -- the group that is placed next
 abbrev next : (g : Over) → After-place_group g → Members g.row.Id.Denot
@@ -49,12 +49,12 @@ named g c =
     rw (c.as_slice.ensures.value, c.loop-group-item.is) (c.requires.listed c.loop-group.group-index o c.loop-group-test.true) in
     let sized = (SizesStandAt-part g.Id.Ord.cmp all.sizes c.args.sizes.now o.2.now.items ids o.3 _ c.as_slice.ensures.value (c.len.ensures ∙ o.2.now.ok.0)
     (rw c.loop-group-item.is (c.requires.sized c.loop-group.group-index o c.loop-group-test.true))).1 in
-    AreGroups-more (by g c.args.rules.now) (group_cmp g) all.sizes all.groups c.args.groups.now c.loop-group.group-index o c.loop-group.invariant.done.0
+    AreGroups-more (by g c.args.policy.now) (group_cmp g) all.sizes all.groups c.args.groups.now c.loop-group.group-index o c.loop-group.invariant.done.0
     (next g c) c.loop-group-test.true c.loop-group-item.is found sized c.loop-group.invariant.done.3
 
 -- the bins that are excluded for it
 excluded-are : (g : Over) (c : After-place_group g)
-    → are_in g.B.Ord.cmp c.in_ok-excluded.excluded.keys ≡ bars g c.args.rects_to_place.now.partners c.loop-group.invariant.done.1 c.loop-group-item.result.1.now
+    → are_in g.B.Ord.cmp c.in_ok-excluded.excluded.keys ≡ excludes g c.args.rects_to_place.now.partners c.loop-group.invariant.done.1 c.loop-group-item.result.1.now
 excluded-are g c =
     let partners = c.args.rects_to_place.now.partners in
     let name = c.loop-group-item.result.1.now in
@@ -64,7 +64,7 @@ excluded-are g c =
     fun_ext (λ id.
     c.in_ok-excluded.ensures id
     ∙ ap (λ (ps : List (Name g)). list_any (λ p. went_to (group_cmp g) g.B.Ord.cmp c.loop-group.homes.entries p id) ps) listed
-    ∙ barred_by_partners (group_cmp g) g.B.Ord.cmp (group_total g) partners done.1 c.loop-group.homes.entries
+    ∙ excluded_by_partners (group_cmp g) g.B.Ord.cmp (group_total g) partners done.1 c.loop-group.homes.entries
     (rw (← c.exclusions-exclusions.ensures) c.partners-partners.ensures.mutual) done.6 name id)
 
 -- a journal that grew by one has room for one group less
@@ -112,9 +112,9 @@ returns-in-None-clause-packed g c =
     let names : List g.row.B.Denot = map (λ o. o.1) c.args.packing.now.bins.order in
     let refused = rw (c.in-None.is, c.loop-group.invariant.order) at c.in_ok-place_group.ensures.placed in
     let P : (g.row.B.Denot → Bool) → Type 0 =
-    λ (b : g.row.B.Denot → Bool). IsRefused (by g c.args.rules.now) b names (next g at) (bins_of c.loop-group.packing.bins.kept) refused.0 in (
+    λ (b : g.row.B.Denot → Bool). IsRefused (by g c.args.policy.now) b names (next g at) (bins_of c.loop-group.packing.bins.kept) refused.0 in (
       done.2 + refused.0,
-      StopsAfter-at (by g c.args.rules.now) (group_cmp g) (bars g all.partners) all.sizes all.groups c.args.groups.now names (c.loop-group.group-index + 1)
+      StopsAfter-at (by g c.args.policy.now) (group_cmp g) (excludes g all.partners) all.sizes all.groups c.args.groups.now names (c.loop-group.group-index + 1)
           done.0 (c.loop-group-item.result.1.now, next g at) _ _ (bins_of c.loop-group.packing.bins.kept) done.1
           c.loop-group.packing.placements.items done.2 refused.0 (named g at) done.4 refused.2 (subst P (excluded-are g at) refused.1),
       saturated-add c.args.packing.now.tests c.loop-group.packing.tests _ done.2 refused.0 done.5 refused.4,
@@ -150,7 +150,7 @@ loop-group-preserved g c =
         (name, here.now) ∷ done.1,
         done.2 + placed.1,
         named g at,
-        AreAllPlaced-next (by g c.args.rules.now) (bars g partners) _ _ _ done.0 (name, next g at) (at_start (bins_of c.args.packing.now.bins.kept))
+        AreAllPlaced-next (by g c.args.policy.now) (excludes g partners) _ _ _ done.0 (name, next g at) (at_start (bins_of c.args.packing.now.bins.kept))
             (bins_of c.loop-group.packing.bins.kept) done.1 (bins_of c.place_group.new.packing.bins.kept)
             c.loop-group.packing.placements.items placed.0 _ done.2 placed.1 here.now (excluded-are g at) (ap (map (λ o. o.1)) c.loop-group.invariant.order)
             done.4 placed.2 placed.3 placed.4,
@@ -175,7 +175,7 @@ returns-in_err-make_room-clause-stopped g c =
     let all = c.args.rects_to_place.now in
     let start = at_start (bins_of c.args.packing.now.bins.kept) in
     OnErr-given _
-    (adds-placed (by g c.args.rules.now) g.met.B.Ord.total (bars g all.partners) (group_cmp g) all.sizes all.groups c.args.groups.now 0
+    (adds-placed (by g c.args.policy.now) g.met.B.Ord.total (excludes g all.partners) (group_cmp g) all.sizes all.groups c.args.groups.now 0
     (map (λ o. o.1) c.args.packing.now.bins.order) [] start [] start 0
     c.args.packing.now.tests _ c.make_room.ensures.distinct (record { each = tt }) (refl, refl, refl) (omega arith))
 
@@ -184,7 +184,7 @@ returns-in_err-reserve-clause-stopped g c =
     let all = c.args.rects_to_place.now in
     let start = at_start (bins_of c.args.packing.now.bins.kept) in
     OnErr-given _
-    (adds-placed (by g c.args.rules.now) g.met.B.Ord.total (bars g all.partners) (group_cmp g) all.sizes all.groups c.args.groups.now 0
+    (adds-placed (by g c.args.policy.now) g.met.B.Ord.total (excludes g all.partners) (group_cmp g) all.sizes all.groups c.args.groups.now 0
     (map (λ o. o.1) c.args.packing.now.bins.order) [] start [] start 0
     c.args.packing.now.tests _ c.make_room.ensures.distinct (record { each = tt }) (refl, refl, refl) (omega arith))
 
@@ -193,7 +193,7 @@ returns-in_err-excluded-clause-stopped g c =
     let all = c.args.rects_to_place.now in
     let done = c.loop-group.invariant.done in
     OnErr-given _
-    (adds-placed (by g c.args.rules.now) g.met.B.Ord.total (bars g all.partners) (group_cmp g) all.sizes all.groups c.args.groups.now c.loop-group.group-index
+    (adds-placed (by g c.args.policy.now) g.met.B.Ord.total (excludes g all.partners) (group_cmp g) all.sizes all.groups c.args.groups.now c.loop-group.group-index
     (map (λ o. o.1) c.args.packing.now.bins.order) done.0
     (at_start (bins_of c.args.packing.now.bins.kept)) _ _ done.2 c.args.packing.now.tests c.loop-group.packing.tests c.make_room.ensures.distinct done.3 done.4
     done.5)
@@ -204,7 +204,7 @@ returns-in_err-place_group-clause-stopped g c =
     let all = c.args.rects_to_place.now in
     let done = c.loop-group.invariant.done in
     OnErr-given _
-    (adds-more (by g c.args.rules.now) g.met.B.Ord.total (bars g all.partners) (group_cmp g) all.sizes all.groups c.args.groups.now
+    (adds-more (by g c.args.policy.now) g.met.B.Ord.total (excludes g all.partners) (group_cmp g) all.sizes all.groups c.args.groups.now
     (c.loop-group.group-index + 1) (map (λ o. o.1) c.args.packing.now.bins.order) done.0
     (c.loop-group-item.result.1.now, next g at) (at_start (bins_of c.args.packing.now.bins.kept)) _
     (record { bins = bins_of c.loop-group.packing.bins.kept; homes = done.1 }) done.2 c.args.packing.now.tests c.loop-group.packing.tests _
@@ -215,12 +215,12 @@ returns-in_err-insert-in-Some-clause-stopped g c =
     let at = (goal.at.returns-in_err-insert-in-Some-clause-stopped g c).After-place_group in
     let all = c.args.rects_to_place.now in
     let done = c.loop-group.invariant.done in
-    let rules = by g c.args.rules.now in
+    let rules = by g c.args.policy.now in
     let names : List g.row.B.Denot = map (λ o. o.1) c.args.packing.now.bins.order in
     let old = bins_of c.loop-group.packing.bins.kept in
     let placed = rw (c.in-Some.is, c.loop-group.invariant.order) at c.in_ok-place_group.ensures.placed in
     OnErr-given _
-    (adds-more rules g.met.B.Ord.total (bars g all.partners) (group_cmp g) all.sizes all.groups c.args.groups.now (c.loop-group.group-index + 1) names done.0
+    (adds-more rules g.met.B.Ord.total (excludes g all.partners) (group_cmp g) all.sizes all.groups c.args.groups.now (c.loop-group.group-index + 1) names done.0
     (c.loop-group-item.result.1.now, next g at)
     (at_start (bins_of c.args.packing.now.bins.kept)) _ (record { bins = old; homes = done.1 }) done.2 c.args.packing.now.tests c.loop-group.packing.tests _
     c.make_room.ensures.distinct (named g at) done.4 done.5

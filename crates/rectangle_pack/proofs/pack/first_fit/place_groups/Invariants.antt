@@ -6,8 +6,8 @@ use Rattle.rectangle_pack.specs.declared.grouped_rects_to_place.Group.{Group}
 use Rattle.rectangle_pack.specs.contracts.grouped_rects_to_place.GroupOrd.TheImpl.{ghosts}
 use Rattle.rectangle_pack.specs.Numbers.{saturated}
 use Rattle.rectangle_pack.specs.private.Orders.{keys_of_order}
-use Rattle.rectangle_pack.specs.Packing.{rules_by, bins_of, bars_by, at_start, Members, AreGroups, AreAllPlaced}
-use Rattle.rectangle_pack.specs.private.TrialJournal.{StaysUndoable}
+use Rattle.rectangle_pack.specs.Packing.{rules_by, bins_of, excludes_by, at_start, Members, AreGroups, AreAllPlaced}
+use Rattle.rectangle_pack.specs.private.RollBack.{StaysUndoable}
 use Rattle.rectangle_pack.proofs.lemmas.packing.Excluded.{Knows, Named}
 use Rattle.rectangle_pack.proofs.lemmas.packing.GroupOrder.{groups_total}
 use Rattle.rectangle_pack.proofs.pack.first_fit.place_groups.Given as goal
@@ -27,7 +27,7 @@ invariant-loop-group g l = record {
   done : (gs : List (Group g.row.GroupId.Denot g.row.Id.Denot × Members g.row.Id.Denot))
       × (at : List (Group g.row.GroupId.Denot g.row.Id.Denot × g.row.B.Denot)) × (count : ℕ)
       × AreGroups g.Id.Ord.cmp (group_cmp g) l.rects_to_place.sizes l.rects_to_place.groups (keys_of_order (take l.group-index l.groups)) gs
-      × AreAllPlaced (rules_by g.Id.Ord.cmp g.B.Ord.cmp (g.R.Ask.may l.rules)) (bars_by (group_cmp g) g.B.Ord.cmp l.rects_to_place.partners)
+      × AreAllPlaced (rules_by g.Id.Ord.cmp g.B.Ord.cmp (g.R.Policy.may l.policy)) (excludes_by (group_cmp g) g.B.Ord.cmp l.rects_to_place.partners)
       (map (λ o. o.1) l.fn.packing.bins.order) gs (at_start (bins_of l.fn.packing.bins.kept)) l.packing.placements.items
       (record { bins = bins_of l.packing.bins.kept; homes = at }) count
       × (l.packing.tests ≡ saturated (l.fn.packing.tests + count))

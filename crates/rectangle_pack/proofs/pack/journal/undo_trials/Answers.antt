@@ -1,7 +1,7 @@
 use Rattle.std.proofs.Common.{◌≡◌, refl, sym}
 use Rattle.std.specs.BTreeMap.{is_at}
-use Rattle.rectangle_pack.specs.private.Journal.{before_notes, LeadsBack}
-use Rattle.rectangle_pack.specs.private.TrialJournal.{GoesBack, before_trial}
+use Rattle.rectangle_pack.specs.private.Notes.{before_notes, LeadsBack}
+use Rattle.rectangle_pack.specs.private.RollBack.{GoesBack, before_trial}
 use Rattle.rectangle_pack.proofs.lemmas.packing.RollBack.{GoesBack-popped, GoesBack-more, IsRoomier-set, IsRoomier-same, IsMore}
 use Rattle.rectangle_pack.proofs.pack.journal.undo_trials.Goals as goal
 

@@ -1,6 +1,6 @@
 use Rattle.std.proofs.Common.{List, vec_len}
 use Rattle.rectangle_pack.specs.Bins.{Bin}
-use Rattle.rectangle_pack.specs.private.TrialJournal.{GoesBack}
+use Rattle.rectangle_pack.specs.private.RollBack.{GoesBack}
 use Rattle.rectangle_pack.proofs.pack.journal.undo_trials.Given as goal
 
 abbrev pub invariant-loop-done : goal.invariant-loop-done

@@ -33,7 +33,7 @@ loop-id-preserved g c =
 pub returns : goal.returns
 returns g c =
     let cmp = g.B.Ord.cmp in
-    let may = g.R.Ask.may c.args.rules.now in
+    let may = g.R.Policy.may c.args.policy.now in
     let bins = c.args.bins.now.entries in
     let e : map deref_pair c.loop-id.yielded ≡ bins =
     (iter_end deref_pair _ _ _ _ _ _ c.into_iter-id-iterator.ensures.into_iter_gives.0 c.loop-id.yielded_by c.in-None.is c.next.ensures.steps).0 in

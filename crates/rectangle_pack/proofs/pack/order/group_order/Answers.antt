@@ -55,45 +55,45 @@ loop-group-preserved g c =
     let each : AllZip (λ id size. lookup (is_at (cmp id)) rects ≡ Some size) ids added = rw (← c.as_slice.ensures.value) c.in_ok-add_sizes.ensures.1 in
     let starts : start ≡ length old = c.len-start.ensures ∙ c.loop-group.sizes.ok.0 in
     let tail : slice_range c.deref.result.now start (length c.deref.result.now) ≡ added = take_rest c.deref.result.now start ∙ ap (drop start) (c.deref.ensures.value ∙ more) ∙ ap (λ n. drop n (old ++ added)) starts ∙ drop-append_seam old added in
-    let Turn : Type 0 = Reverse ℕ × Bor g.row.K.Denot × Bor (Vec g.row.Id.Denot g.row.A.Denot) × ℕ in
+    let OrderedGroup : Type 0 = Reverse ℕ × Bor g.row.K.Denot × Bor (Vec g.row.Id.Denot g.row.A.Denot) × ℕ in
     let new = c.add_sizes.new.sizes.items in
     let some = items-turn (λ ids. 0 < length ids) c.args.lists.now.entries _ _ _ _ _ _
     (All-weaker (λ ids. (0 < length ids) × HaveSizes cmp rects ids) (λ ids. 0 < length ids) (λ ids p. p.0) (values_of (lists_of c.args.lists.now.entries)) c.requires.sized)
     c.into_iter-group-iterator.ensures.into_iter_gives.0 c.loop-group.yielded_by c.in-Some.is c.next.ensures.steps in
     let grown : length old < length new = omega (arith, ap length more, length-append old added, length-zip _ ids added each, some) in
     let rated = c.group_key-key.ensures in
-    let rates : AllZip (g.R.Ask.may c.args.rules.now).rate added rated.0 = rw (← tail) rated.1 in
+    let rates : AllZip (g.R.Policy.may c.args.policy.now).rate added rated.0 = rw (← tail) rated.1 in
     record {
       keyed =
           rw (lists_of-turn c.loop-group.yielded (c.in-Some.group, c.in-Some.ids), c.in_ok-push.ensures.items)
-          (AllZip-more _ _ _ _ _ c.loop-group.invariant.keyed (refl, (rated.0, AllZip-rated (λ id. lookup (is_at (cmp id)) rects) (g.R.Ask.may c.args.rules.now).rate ids added rated.0 each rates, rated.2)));
+          (AllZip-more _ _ _ _ _ c.loop-group.invariant.keyed (refl, (rated.0, AllZip-rated (λ id. lookup (is_at (cmp id)) rects) (g.R.Policy.may c.args.policy.now).rate ids added rated.0 each rates, rated.2)));
       lent =
           rw (map_push deref_pair c.loop-group.yielded (c.in-Some.group, c.in-Some.ids), c.in_ok-push.ensures.items)
           (AllZip-more _ (map deref_pair c.loop-group.yielded) c.loop-group.order.items (deref_pair (c.in-Some.group, c.in-Some.ids)) (_, c.in-Some.group, c.in-Some.ids, _) c.loop-group.invariant.lent (refl, refl));
       sized =
-          let P : Turn → Type 0 = λ o. SizesStandAt cmp rects new o.2.now.items o.3 in
+          let P : OrderedGroup → Type 0 = λ o. SizesStandAt cmp rects new o.2.now.items o.3 in
           rw c.in_ok-push.ensures.items
           (All-push P c.loop-group.order.items _
-          (All-weaker (λ (o : Turn). SizesStandAt cmp rects old o.2.now.items o.3) P (λ o h. SizesStandAt-more cmp rects old added new o.2.now.items o.3 more h) c.loop-group.order.items c.loop-group.invariant.sized)
+          (All-weaker (λ (o : OrderedGroup). SizesStandAt cmp rects old o.2.now.items o.3) P (λ o h. SizesStandAt-more cmp rects old added new o.2.now.items o.3 more h) c.loop-group.order.items c.loop-group.invariant.sized)
           (SizesStandAt-last cmp rects old added new ids start more starts each));
       rising =
           rw c.in_ok-push.ensures.items
-          (all_pairs_push (λ (o p : Turn). o.3 < p.3) c.loop-group.order.items _ c.loop-group.invariant.rising (λ k d within. rw starts (c.loop-group.invariant.begun k d within)));
+          (all_pairs_push (λ (o p : OrderedGroup). o.3 < p.3) c.loop-group.order.items _ c.loop-group.invariant.rising (λ k d within. rw starts (c.loop-group.invariant.begun k d within)));
       begun =
-          let P : Turn → Type 0 = λ o. o.3 < length new in
+          let P : OrderedGroup → Type 0 = λ o. o.3 < length new in
           rw c.in_ok-push.ensures.items
           (All-push P c.loop-group.order.items _
-          (All-weaker (λ (o : Turn). o.3 < length old) P (λ o h. omega (arith, h, grown)) c.loop-group.order.items c.loop-group.invariant.begun)
+          (All-weaker (λ (o : OrderedGroup). o.3 < length old) P (λ o h. omega (arith, h, grown)) c.loop-group.order.items c.loop-group.invariant.begun)
           (omega (arith, starts, grown)));
     }
 
 pub sort_falling-requires : goal.sort_falling-requires
 sort_falling-requires g c =
-    let Turn : Type 0 = Reverse ℕ × Bor g.row.K.Denot × Bor (Vec g.row.Id.Denot g.row.A.Denot) × ℕ in
+    let OrderedGroup : Type 0 = Reverse ℕ × Bor g.row.K.Denot × Bor (Vec g.row.Id.Denot g.row.A.Denot) × ℕ in
     let entries = c.args.lists.now.entries in
     let order = c.loop-group.order.items in
     let e : map deref_pair c.loop-group.yielded ≡ entries = (iter_end deref_pair _ _ _ _ _ _ c.into_iter-group-iterator.ensures.into_iter_gives.0 c.loop-group.yielded_by c.in-None.is c.next.ensures.steps).0 in
-    let name : Turn → g.row.K.Denot = λ o. o.1.now in
+    let name : OrderedGroup → g.row.K.Denot = λ o. o.1.now in
     let names : map name order ≡ keys_of entries = names-zip name _ (lists_of entries) order (rw e at c.loop-group.invariant.keyed) ∙ keys-lists entries in
     record { rising = λ i j d less within. (rise-names g.K.Ord.cmp name order (keys_of entries) names c.len.ensures.ordered i j d less within, c.loop-group.invariant.rising i j d less within) }
 
@@ -105,7 +105,7 @@ returns g c =
     let order = c.loop-group.order.items in
     let unsorted = keys_of_order order in
     let e : map deref_pair c.loop-group.yielded ≡ entries = (iter_end deref_pair _ _ _ _ _ _ c.into_iter-group-iterator.ensures.into_iter_gives.0 c.loop-group.yielded_by c.in-None.is c.next.ensures.steps).0 in
-    let each : AllZip (λ e o. (o.1 ≡ e.0) × IsGroupKey (g.R.Ask.may c.args.rules.now).rate g.Id.Ord.cmp c.args.rects.now.entries e.1 o.0) lists unsorted = AllZip-map_right _ _ lists order (rw (← e) c.loop-group.invariant.keyed) in
+    let each : AllZip (λ e o. (o.1 ≡ e.0) × IsGroupKey (g.R.Policy.may c.args.policy.now).rate g.Id.Ord.cmp c.args.rects.now.entries e.1 o.0) lists unsorted = AllZip-map_right _ _ lists order (rw (← e) c.loop-group.invariant.keyed) in
     let lent = rw e at c.loop-group.invariant.lent in
     let name : Reverse ℕ × Bor g.row.K.Denot × Bor (Vec g.row.Id.Denot g.row.A.Denot) × ℕ → g.row.K.Denot = λ o. o.1.now in
     let names : map name order ≡ keys_of entries = names-zip name _ lists order (rw e at c.loop-group.invariant.keyed) ∙ keys-lists entries in

@@ -9,7 +9,7 @@ use Rattle.rectangle_pack.proofs.pack.order.group_order.Given as goal
 
 abbrev pub invariant-loop-group : goal.invariant-loop-group
 invariant-loop-group g l = record {
-  keyed : AllZip (λ e o. (o.1.now ≡ e.0) × IsGroupKey (g.R.Ask.may l.rules).rate g.Id.Ord.cmp l.rects.entries e.1 o.0.0) (lists_of (map deref_pair l.yielded)) l.order.items;
+  keyed : AllZip (λ e o. (o.1.now ≡ e.0) × IsGroupKey (g.R.Policy.may l.policy).rate g.Id.Ord.cmp l.rects.entries e.1 o.0.0) (lists_of (map deref_pair l.yielded)) l.order.items;
   lent : AllZip (λ e o. (o.1.now ≡ e.0) × (o.2.now ≡ e.1)) (map deref_pair l.yielded) l.order.items;
   sized : All (λ o. SizesStandAt g.Id.Ord.cmp l.rects.entries l.sizes.items o.2.now.items o.3) l.order.items;
   rising : AllPairs (λ o p. o.3 < p.3) l.order.items;

@@ -14,14 +14,14 @@ returns-clause-permutation g c = IsPermutation-map _ _ _ c.sort_unstable_by_key.
 
 pub returns-clause-falling : goal.returns-clause-falling
 returns-clause-falling g c =
-    let Turn : Type 0 = Reverse ℕ × Bor g.row.K.Denot × Bor (Vec g.row.Id.Denot g.row.A.Denot) × ℕ in
+    let OrderedGroup : Type 0 = Reverse ℕ × Bor g.row.K.Denot × Bor (Vec g.row.Id.Denot g.row.A.Denot) × ℕ in
     let cmp = g.K.Ord.cmp in
     let old = c.args.order.now.items in
     let new = c.sort_unstable_by_key.new.self.items in
-    let key : Turn → ℕ × g.row.K.Denot = λ o. (o.0.0, o.1.now) in
-    let sorted = c.sort_unstable_by_key.ensures.sorted (λ (o : Turn). (o.0, o.3)) (answers_always _ _ _ (λ f a r h k. search rules)) in
-    let alike = any_two-permutation (λ (o p : Turn). cmp o.1.now p.1.now ≡ Less → o.3 < p.3) old new c.sort_unstable_by_key.ensures.permutation
-    (rise-alike g.met.K.Ord.total (λ (o : Turn). o.1.now) (λ o. o.3) old c.requires.rising) in
+    let key : OrderedGroup → ℕ × g.row.K.Denot = λ o. (o.0.0, o.1.now) in
+    let sorted = c.sort_unstable_by_key.ensures.sorted (λ (o : OrderedGroup). (o.0, o.3)) (answers_always _ _ _ (λ f a r h k. search rules)) in
+    let alike = any_two-permutation (λ (o p : OrderedGroup). cmp o.1.now p.1.now ≡ Less → o.3 < p.3) old new c.sort_unstable_by_key.ensures.permutation
+    (rise-alike g.met.K.Ord.total (λ (o : OrderedGroup). o.1.now) (λ o. o.3) old c.requires.rising) in
     IsSorted-map (falling_then cmp) key new
     (λ k d low up.
     let one = get_or new (k + 1) d in

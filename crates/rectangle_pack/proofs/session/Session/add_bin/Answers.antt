@@ -23,7 +23,7 @@ returns-in-Ok-clause-added g c =
     (added-inserted g.met.BinId.Ord.total c.args.id (record { width = c.args.width; height = c.args.height; depth = c.args.depth }) _ _ c.in_ok-bin.bin _ _ (none_of _ (sym c.contains_key.ensures ∙ c.if-contains_key.false)) c.in-Ok.ensures.entries c.in_ok-bin.ensures c.self.invariant).0
 
 pub returns-clause-added : goal.returns-clause-added
-returns-clause-added g c = rw (← c.self.view_is) (None-bins_of (is_at (g.BinId.Ord.cmp c.args.id)) c.self.inside.bins.entries (none_of _ (sym c.contains_key.ensures ∙ c.if-contains_key.false)), ap (λ es. record { bins = bins_of es; records = c.self.inside.outstanding.items; next = c.self.inside.next }) c.in-Err.ensures.err)
+returns-clause-added g c = rw (← c.self.view_is) (None-bins_of (is_at (g.BinId.Ord.cmp c.args.id)) c.self.inside.bins.entries (none_of _ (sym c.contains_key.ensures ∙ c.if-contains_key.false)), ap (λ es. record { bins = bins_of es; outstanding = c.self.inside.outstanding.items; next = c.self.inside.next }) c.in-Err.ensures.err)
 
 pub returns-in-Ok-clause-always : goal.returns-in-Ok-clause-always
 returns-in-Ok-clause-always g c = invariant_of-self g c

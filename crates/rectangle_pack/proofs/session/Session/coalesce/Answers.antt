@@ -9,7 +9,7 @@ use Rattle.rectangle_pack.proofs.lemmas.session.Transitions.{IsRecut-joined, coa
 use Rattle.rectangle_pack.proofs.session.Session.coalesce.Goals as goal
 
 pub returns-in_default-clause-joined : goal.returns-in_default-clause-joined
-returns-in_default-clause-joined g c = rw (← c.self.view_is) (None-bins_of (is_at (g.BinId.Ord.cmp c.args.bin.now)) c.self.inside.bins.entries (search rules), ap (λ (m : BTreeMap g.row.BinId.Denot Held g.row.A.Denot). record { bins = bins_of m.entries; records = c.self.inside.outstanding.items; next = c.self.inside.next }) c.get_mut.follows.holds-at-none)
+returns-in_default-clause-joined g c = rw (← c.self.view_is) (None-bins_of (is_at (g.BinId.Ord.cmp c.args.bin.now)) c.self.inside.bins.entries (search rules), ap (λ (m : BTreeMap g.row.BinId.Denot Held g.row.A.Denot). record { bins = bins_of m.entries; outstanding = c.self.inside.outstanding.items; next = c.self.inside.next }) c.get_mut.follows.holds-at-none)
 
 pub invariant_of-self-2 : goal.invariant_of-self-2
 invariant_of-self-2 g c =

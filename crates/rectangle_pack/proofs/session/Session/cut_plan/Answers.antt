@@ -21,13 +21,13 @@ use Rattle.rectangle_pack.proofs.session.Session.cut_plan.Goals as goal
 
 -- a plan of the boxes with cells is a plan of the boxes
 planned : {Id B A : Type 0} (bin_cmp : B → B → Ordering) (state : State Id B) (id : B) (bin : Bin) (found : lookup (is_at (bin_cmp id)) state.bins ≡ Some bin) (plan : Option (Vec CutStep A))
-    → MatchOption plan (¬ IsFromCuts (filter has_cells (boxes_of bin_cmp state.records id bin)) (whole bin.size)) (λ p. IsCutPlan (filter has_cells (boxes_of bin_cmp state.records id bin)) (whole bin.size) p.items)
+    → MatchOption plan (¬ IsFromCuts (filter has_cells (boxes_of bin_cmp state.outstanding id bin)) (whole bin.size)) (λ p. IsCutPlan (filter has_cells (boxes_of bin_cmp state.outstanding id bin)) (whole bin.size) p.items)
     → IsPlanAnswer bin_cmp state id (Ok plan)
 planned bin_cmp state id bin found None h =
-    let boxes = boxes_of bin_cmp state.records id bin in
+    let boxes = boxes_of bin_cmp state.outstanding id bin in
     (bin, found, λ from. h (IsFromCuts-same boxes (filter has_cells boxes) (HaveSameBoxes-sym (filter has_cells boxes) boxes (HaveSameBoxes-filter boxes)) from))
 planned bin_cmp state id bin found (Some plan) h =
-    let boxes = boxes_of bin_cmp state.records id bin in
+    let boxes = boxes_of bin_cmp state.outstanding id bin in
     (bin, found, IsCutPlan-same (filter has_cells boxes) boxes (whole bin.size) plan.items (HaveSameBoxes-filter boxes) h)
 
 pub returns-in_default : goal.returns-in_default
@@ -58,6 +58,6 @@ returns g c =
     let id = c.args.bin.now in
     let entries = c.self.inside.bins.entries in
     let found = Some-bins_of (is_at (cmp id)) entries c.in-Some.place.now (sym c.in-Some.ensures.value) in
-    let state : State g.row.Id.Denot g.row.BinId.Denot = record { bins = bins_of entries; records = c.self.inside.outstanding.items; next = c.self.inside.next } in
+    let state : State g.row.Id.Denot g.row.BinId.Denot = record { bins = bins_of entries; outstanding = c.self.inside.outstanding.items; next = c.self.inside.next } in
     let plan = rw (c.whole.ensures.whole, c.as_mut_slice.ensures.value, c.in_ok-boxes.ensures {u = tt}, c.as_slice.ensures.value) at (c.in_ok-plan.ensures {u = tt}) in
     record { planned = subst (λ state. IsPlanAnswer cmp state id (Ok c.in_ok-plan.plan)) c.self.view_is (planned cmp state id c.in-Some.place.now.bin found c.in_ok-plan.plan plan) }

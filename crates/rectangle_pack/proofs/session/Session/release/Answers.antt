@@ -16,7 +16,7 @@ returns-in_err-give_back-clause-released g c =
     rw (memory_refused c.from_residual.result c.from_residual.ensures.1, ← c.self.view_is) (
       outstanding_at c.self.inside.outstanding.items c.args.number c.in-Some.index c.index-placement.result.now some c.index-placement.ensures,
       c.in_err-give_back.ensures.err.0,
-      ap (λ bs. record { bins = bs; records = c.self.inside.outstanding.items; next = c.self.inside.next }) c.in_err-give_back.ensures.err.1,
+      ap (λ bs. record { bins = bs; outstanding = c.self.inside.outstanding.items; next = c.self.inside.next }) c.in_err-give_back.ensures.err.1,
     )
 
 pub invariant_of-self-2 : goal.invariant_of-self-2

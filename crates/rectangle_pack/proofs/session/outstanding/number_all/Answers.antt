@@ -10,7 +10,7 @@ loop-placement-preserved g c =
     let inv = c.loop-placement.invariant in
     let more = length-append c.loop-placement.yielded (c.in-Some.placement ∷ []) in
     record {
-      records = numbered-more c.args.outstanding.now.items c.loop-placement.outstanding.items c.push_reserved.new.self.items c.args.first c.loop-placement.yielded c.in-Some.placement c.loop-placement.number inv.number inv.records c.push_reserved.ensures.items;
+      outstanding = numbered-more c.args.outstanding.now.items c.loop-placement.outstanding.items c.push_reserved.new.self.items c.args.first c.loop-placement.yielded c.in-Some.placement c.loop-placement.number inv.number inv.outstanding c.push_reserved.ensures.items;
       number = omega (arith, inv.number, more);
       len = omega (arith, inv.len, c.push_reserved.ensures.len, more);
       room = omega (arith, inv.room, c.push_reserved.ensures.capacity);
@@ -21,4 +21,4 @@ pub returns : goal.returns
 returns g c =
     let end = YieldsList-end (YieldsList-from_vec {s = c.into_iter-placement-iterator.result} c.args.placements.items (search rules) (search rules))
     c.loop-placement.yielded c.loop-placement.placement-iterator c.loop-placement.yielded_by c.next.result c.next.new.self c.in-None.is c.next.ensures.steps in
-    rw (← end.0, map-id) c.loop-placement.invariant.records
+    rw (← end.0, map-id) c.loop-placement.invariant.outstanding

@@ -5,7 +5,7 @@ use Rattle.rectangle_pack.proofs.session.outstanding.number_all.Given as goal
 
 abbrev pub invariant-loop-placement : goal.invariant-loop-placement
 invariant-loop-placement g l = record {
-  records : l.outstanding.items ≡ l.fn.outstanding.items ++ numbered l.fn.first l.yielded;
+  outstanding : l.outstanding.items ≡ l.fn.outstanding.items ++ numbered l.fn.first l.yielded;
   number : l.number ≡ l.fn.first + length l.yielded;
   len : vec_len l.outstanding ≡ vec_len l.fn.outstanding + length l.yielded;
   room : vec_capacity l.fn.outstanding ≤ vec_capacity l.outstanding;

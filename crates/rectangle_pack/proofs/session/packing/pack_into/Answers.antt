@@ -16,7 +16,7 @@ returns-in-Ok-false-clause-packed g c =
 pub returns-then-is_empty-clause-packed : goal.returns-then-is_empty-clause-packed
 returns-then-is_empty-clause-packed g c =
     let none = sym c.groups.ensures.entries ∙ lists-empty c.groups.result.now.entries c.is_empty.result c.is_empty.ensures c.if-is_empty.true in
-    let rules = rules_by g.Id.Ord.cmp g.BinId.Ord.cmp (g.R.Ask.may c.args.rules.now) in (
+    let rules = rules_by g.Id.Ord.cmp g.BinId.Ord.cmp (g.R.Policy.may c.args.policy.now) in (
       [],
       (PackingDone-none _ rules c.args.groups.now (bins_of c.args.bins.now.entries) [] none refl).0,
       sym

@@ -13,7 +13,7 @@ invariant_of-self-2 g c =
 
 pub returns-clause-answer : goal.returns-clause-answer
 returns-clause-answer g c =
-    let may = g.R.Ask.may c.args.rules.now in
+    let may = g.R.Policy.may c.args.policy.now in
     let last = c.run_trial.new.list.items in
     let now = c.run_trial.new.tests in
     let locations = c.run_trial.new.buffers.locations.items in

@@ -13,7 +13,7 @@ use Rattle.rectangle_pack.proofs.target_bin.slotted.place_in.Goals as goal
 
 pub returns-clause-answer : goal.returns-clause-answer
 returns-clause-answer g c =
-    let may = g.R.Ask.may c.args.rules.now in
+    let may = g.R.Policy.may c.args.policy.now in
     let ms = c.args.members.now in
     let before = c.args.tests.now in
     let after = c.run_trial.new.tests in

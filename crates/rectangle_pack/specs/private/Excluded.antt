@@ -1,4 +1,4 @@
--- The bins that are barred for a group, as a packing finds them.
+-- The bins that are excluded for a group, as a packing finds them.
 use Rattle.std.specs.Prelude.{Bool, false, List, unwrap_or}
 use Rattle.std.specs.declared.cmp.Ordering.{Ordering}
 use Rattle.std.specs.Borrow.{Bor}
@@ -9,7 +9,7 @@ use Rattle.std.specs.BTreeMap.{is_at}
 
 -- the id is among those that the references point to
 abbrev pub are_in : {B : Type 0} → (B → B → Ordering) → List (Bor B) → B → Bool
-are_in bin_cmp barred id = list_any (λ b. is_at (bin_cmp id) b.now) barred
+are_in bin_cmp excluded id = list_any (λ b. is_at (bin_cmp id) b.now) excluded
 
 -- the bin of this id is the one that is kept for the group
 abbrev pub went_to : {K B : Type 0} → (K → K → Ordering) → (B → B → Ordering) → List (Bor K × Bor B) → K → B → Bool

@@ -7,7 +7,7 @@ use Rattle.rectangle_pack.specs.declared.pack.journal.DoneTrial.{DoneTrial}
 use Rattle.rectangle_pack.specs.declared.pack.first_fit.Packing.{Packing}
 use Rattle.rectangle_pack.specs.Bins.{Bin, Held, IsSound}
 use Rattle.rectangle_pack.specs.Packing.{bins_of}
-use Rattle.rectangle_pack.specs.private.Journal.{before_notes, CanUndo}
+use Rattle.rectangle_pack.specs.private.Notes.{before_notes, CanUndo}
 
 -- the trial can be undone in this bin
 pub record CanUndoTrial {B A : Type 0} (done : DoneTrial B A) (held : Held) : Type 0 where

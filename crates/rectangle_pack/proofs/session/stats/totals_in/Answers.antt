@@ -1,21 +1,21 @@
 use Rattle.std.proofs.Common.{◌≡◌, refl, ap, sym, ◌∙◌, arith, length, take, true, false}
 use Rattle.std.proofs.Math.Seq.{take-length}
 use Rattle.rectangle_pack.specs.Counting.{total_volume}
-use Rattle.rectangle_pack.specs.Session.{standing_in}
-use Rattle.rectangle_pack.proofs.lemmas.session.Stats.{standing-before, added-more}
-use Rattle.rectangle_pack.proofs.session.stats.placed_in.Goals.{then-eq, else-eq}
-use Rattle.rectangle_pack.proofs.session.stats.placed_in.Goals as goal
+use Rattle.rectangle_pack.specs.Session.{outstanding_in}
+use Rattle.rectangle_pack.proofs.lemmas.session.Stats.{outstanding-before, added-more}
+use Rattle.rectangle_pack.proofs.session.stats.totals_in.Goals.{then-eq, else-eq}
+use Rattle.rectangle_pack.proofs.session.stats.totals_in.Goals as goal
 
 pub overflow_add-volume : goal.overflow_add-volume
 overflow_add-volume g c =
     let here = sym (g.met.B.Ord.matches_eq _ _) ∙ sym c.eq.ensures ∙ c.if-eq.true in
-    let room = standing-before g.B.Ord.cmp c.args.outstanding.now c.loop-placement.placement-index c.placement-item.result c.args.bin.now c.loop-placement-test.true c.placement-item.is here in
+    let room = outstanding-before g.B.Ord.cmp c.args.outstanding.now c.loop-placement.placement-index c.placement-item.result c.args.bin.now c.loop-placement-test.true c.placement-item.is here in
     rw (c.volume-volume.ensures, c.whd.ensures) (omega (arith, room.0, c.loop-placement.invariant.volume, c.requires))
 
 pub overflow_add-count : goal.overflow_add-count
 overflow_add-count g c =
     let here = sym (g.met.B.Ord.matches_eq _ _) ∙ sym c.eq.ensures ∙ c.if-eq.true in
-    let room = standing-before g.B.Ord.cmp c.args.outstanding.now c.loop-placement.placement-index c.placement-item.result c.args.bin.now c.loop-placement-test.true c.placement-item.is here in
+    let room = outstanding-before g.B.Ord.cmp c.args.outstanding.now c.loop-placement.placement-index c.placement-item.result c.args.bin.now c.loop-placement-test.true c.placement-item.is here in
     omega (arith, room.1, c.loop-placement.invariant.count)
 
 pub loop-placement-init : goal.loop-placement-init
@@ -57,9 +57,9 @@ loop-placement-preserved g c =
 
 pub returns : goal.returns
 returns g c =
-    let records = c.args.outstanding.now in
-    let all : take c.loop-placement.placement-index records ≡ records = ap (λ n. take n records) (omega (arith, c.loop-placement.auto.placement-index-end, c.loop-placement-test.false)) ∙ take-length records in
+    let outstanding = c.args.outstanding.now in
+    let all : take c.loop-placement.placement-index outstanding ≡ outstanding = ap (λ n. take n outstanding) (omega (arith, c.loop-placement.auto.placement-index-end, c.loop-placement-test.false)) ∙ take-length outstanding in
     record {
-      volume = c.loop-placement.invariant.volume ∙ ap (λ rs. total_volume (standing_in g.B.Ord.cmp rs c.args.bin.now)) all;
-      count = c.loop-placement.invariant.count ∙ ap (λ rs. length (standing_in g.B.Ord.cmp rs c.args.bin.now)) all;
+      volume = c.loop-placement.invariant.volume ∙ ap (λ rs. total_volume (outstanding_in g.B.Ord.cmp rs c.args.bin.now)) all;
+      count = c.loop-placement.invariant.count ∙ ap (λ rs. length (outstanding_in g.B.Ord.cmp rs c.args.bin.now)) all;
     }

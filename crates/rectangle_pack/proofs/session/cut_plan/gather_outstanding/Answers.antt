@@ -3,10 +3,10 @@ use Rattle.std.specs.Prelude.{filter}
 use Rattle.std.proofs.Math.Seq.{take-length}
 use Rattle.std.proofs.lemmas.Result.{IfOk-from_err}
 use Rattle.rectangle_pack.specs.Boxes.{has_cells}
-use Rattle.rectangle_pack.specs.Session.{standing_in}
+use Rattle.rectangle_pack.specs.Session.{outstanding_in}
 use Rattle.rectangle_pack.proofs.lemmas.session.Stats.{gathered-more}
-use Rattle.rectangle_pack.proofs.session.cut_plan.gather_standing.Goals.{then-eq+in_ok-gather, else-eq}
-use Rattle.rectangle_pack.proofs.session.cut_plan.gather_standing.Goals as goal
+use Rattle.rectangle_pack.proofs.session.cut_plan.gather_outstanding.Goals.{then-eq+in_ok-gather, else-eq}
+use Rattle.rectangle_pack.proofs.session.cut_plan.gather_outstanding.Goals as goal
 
 pub loop-placement-init : goal.loop-placement-init
 loop-placement-init g c = sym (append-nil c.args.boxes.now.items)
@@ -40,6 +40,6 @@ loop-placement-preserved g c =
 
 pub returns : goal.returns
 returns g c =
-    let records = c.args.outstanding.now in
-    let all : take c.loop-placement.placement-index records ≡ records = ap (λ n. take n records) (omega (arith, c.loop-placement.auto.placement-index-end, c.loop-placement-test.false)) ∙ take-length records in
-    c.loop-placement.invariant ∙ ap (λ rs. c.args.boxes.now.items ++ filter has_cells (standing_in g.B.Ord.cmp rs c.args.bin.now)) all
+    let outstanding = c.args.outstanding.now in
+    let all : take c.loop-placement.placement-index outstanding ≡ outstanding = ap (λ n. take n outstanding) (omega (arith, c.loop-placement.auto.placement-index-end, c.loop-placement-test.false)) ∙ take-length outstanding in
+    c.loop-placement.invariant ∙ ap (λ rs. c.args.boxes.now.items ++ filter has_cells (outstanding_in g.B.Ord.cmp rs c.args.bin.now)) all

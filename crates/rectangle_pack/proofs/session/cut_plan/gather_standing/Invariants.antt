@@ -1,7 +1,0 @@
-use Rattle.std.proofs.Common.{◌≡◌, ◌++◌, take, filter}
-use Rattle.rectangle_pack.specs.Boxes.{has_cells}
-use Rattle.rectangle_pack.specs.Session.{standing_in}
-use Rattle.rectangle_pack.proofs.session.cut_plan.gather_standing.Given as goal
-
-abbrev pub invariant-loop-placement : goal.invariant-loop-placement
-invariant-loop-placement g l = l.boxes.items ≡ l.fn.boxes.items ++ filter has_cells (standing_in g.B.Ord.cmp (take l.placement-index l.outstanding) l.bin)

@@ -1,0 +1,10 @@
+use Rattle.std.proofs.Common.{◌≡◌, length, take}
+use Rattle.rectangle_pack.specs.Counting.{total_volume}
+use Rattle.rectangle_pack.specs.Session.{outstanding_in}
+use Rattle.rectangle_pack.proofs.session.stats.totals_in.Given as goal
+
+abbrev pub invariant-loop-placement : goal.invariant-loop-placement
+invariant-loop-placement g l = record {
+  volume : l.volume ≡ total_volume (outstanding_in g.B.Ord.cmp (take l.placement-index l.outstanding) l.bin);
+  count : l.count ≡ length (outstanding_in g.B.Ord.cmp (take l.placement-index l.outstanding) l.bin);
+}
