@@ -1,6 +1,7 @@
 pub mod Boxes
 pub mod Numbers
 pub mod Cuts
+pub mod Clones
 pub mod Closures
 pub mod Choice
 pub mod SmallestBox

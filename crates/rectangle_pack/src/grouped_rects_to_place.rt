@@ -1,10 +1,11 @@
 //! Boxes in groups.
-ghost use Rattle.std.specs.Prelude.{◌≡◌, ◌<◌, List, [], true, false, length, map, All, IsTrue, OnOk, OnErr, IfOk, IsSome, IsOk, MatchOption, vec_len};
+ghost use Rattle.std.specs.Prelude.{◌≡◌, ◌<◌, List, [], true, false, length, map, All, OnOk, OnErr, IfOk, IsSome, IsOk, MatchOption, vec_len};
 ghost use Rattle.std.specs.declared.cmp.Ordering.TheVariants.{Equal};
 ghost use Rattle.std.specs.Option.{ForSome};
 ghost use Rattle.std.specs.List.Sorted.{IsStrictlySortedBy};
 ghost use Rattle.std.specs.Map.{lookup, keys_of};
 ghost use Rattle.std.specs.BTreeMap.{get, is_at, insert_entry};
+ghost use Rattle.rectangle_pack.specs.Clones.{ClonesEqual};
 ghost use Rattle.rectangle_pack.specs.Exclusions.{are_excluded};
 ghost use Rattle.rectangle_pack.specs.Groups.{Collection, PushesAlone, PushesInto, Excludes, MembersHaveSizes, lists_of};
 ghost use Rattle.rectangle_pack.specs.declared.grouped_rects_to_place.Group.TheVariants.{Grouped};
@@ -14,7 +15,7 @@ mod laws;
 pub(crate) mod multimap;
 
 use crate::grouped_rects_to_place::exclusions::Exclusions;
-use crate::grouped_rects_to_place::multimap::{add_each, forget_empty, take_back};
+use crate::grouped_rects_to_place::multimap::{add_each, ascending, forget_empty, take_back};
 use crate::rect_to_insert::RectToInsert;
 pub use laws::{equal_pushes_leave_equal_collections, groups_are_ordered};
 use std::alloc::{AllocError, Allocator, Global};
@@ -80,9 +81,7 @@ impl<Id: Ord + Clone + Drop, GroupId: Ord + Clone + Drop, A: Allocator + Copy> G
             (keys_of self.now.groups) }
         ensures members { MembersHaveSizes Id.cmp self.now.sizes self.now.groups }
     {
-        // For the proof: the length of a map is asked for that its keys ascend.
-        let _ascend = self.groups.len();
-        &self.groups
+        ascending(&self.groups)
     }
 
     /// The box of each id.
@@ -90,9 +89,7 @@ impl<Id: Ord + Clone + Drop, GroupId: Ord + Clone + Drop, A: Allocator + Copy> G
         ensures entries { result.now.entries ≡ self.now.sizes }
         ensures ascend { IsStrictlySortedBy Id.cmp (keys_of self.now.sizes) }
     {
-        // For the proof: the length of a map is asked for that its keys ascend.
-        let _ascend = self.rects.len();
-        &self.rects
+        ascending(&self.rects)
     }
 
     /// Says that the two groups are excluded: within one packing neither goes into a bin that the
@@ -107,8 +104,8 @@ impl<Id: Ord + Clone + Drop, GroupId: Ord + Clone + Drop, A: Allocator + Copy> G
         a: Group<GroupId, Id>,
         b: Group<GroupId, Id>,
     ) -> Result<(), AllocError>
-        requires ids { (a b : Id) → Id.is_clone a b → IsTrue (Id.eq a b) }
-        requires group_ids { (a b : GroupId) → GroupId.is_clone a b → IsTrue (GroupId.eq a b) }
+        requires ids { ClonesEqual Id.is_clone Id.eq }
+        requires group_ids { ClonesEqual GroupId.is_clone GroupId.eq }
         requires different { ⟦<Group<GroupId, Id> as PartialEq>⟧.eq a b ≡ false }
         ensures ok { OnOk result
             (Excludes ⟦<Group<GroupId, Id> as Ord>⟧.cmp self.old self.new a b) }
@@ -166,8 +163,8 @@ impl<Id: Ord + Clone + Drop, GroupId: Ord + Clone + Drop, A: Allocator + Copy> G
         group_ids: Option<Vec<GroupId, A>>,
         inbound: RectToInsert,
     ) -> Result<(), AllocError>
-        requires ids { (a b : Id) → Id.is_clone a b → IsTrue (Id.eq a b) }
-        requires group_ids { (a b : GroupId) → GroupId.is_clone a b → IsTrue (GroupId.eq a b) }
+        requires ids { ClonesEqual Id.is_clone Id.eq }
+        requires group_ids { ClonesEqual GroupId.is_clone GroupId.eq }
         requires given { ForSome group_ids (λ named. 0 < vec_len named) }
         ensures ok { OnOk result
             (let groups = ⟦<Group<GroupId, Id> as Ord>⟧.cmp in
@@ -185,7 +182,7 @@ impl<Id: Ord + Clone + Drop, GroupId: Ord + Clone + Drop, A: Allocator + Copy> G
     // A refused insert of the size hands the id back, which is then the key of the list to take
     // back.
     fn push_alone(&mut self, inbound_id: Id, inbound: RectToInsert) -> Result<(), AllocError>
-        requires ids { (a b : Id) → Id.is_clone a b → IsTrue (Id.eq a b) }
+        requires ids { ClonesEqual Id.is_clone Id.eq }
         ensures ok { OnOk result
             (PushesAlone Id.cmp ⟦<Group<GroupId, Id> as Ord>⟧.cmp self.old self.new inbound_id
             inbound) }
@@ -214,8 +211,8 @@ impl<Id: Ord + Clone + Drop, GroupId: Ord + Clone + Drop, A: Allocator + Copy> G
         group_ids: Vec<GroupId, A>,
         inbound: RectToInsert,
     ) -> Result<(), AllocError>
-        requires ids { (a b : Id) → Id.is_clone a b → IsTrue (Id.eq a b) }
-        requires group_ids { (a b : GroupId) → GroupId.is_clone a b → IsTrue (GroupId.eq a b) }
+        requires ids { ClonesEqual Id.is_clone Id.eq }
+        requires group_ids { ClonesEqual GroupId.is_clone GroupId.eq }
         requires given { 0 < vec_len group_ids }
         ensures ok { OnOk result
             (PushesInto Id.cmp ⟦<Group<GroupId, Id> as Ord>⟧.cmp self.old self.new inbound_id
@@ -284,7 +281,7 @@ fn clones<Id: Ord + Clone + Drop, A: Allocator + Copy>(
     id: &Id,
     count: usize,
 ) -> Result<Vec<Id, A>, AllocError>
-    requires ids { (a b : Id) → Id.is_clone a b → IsTrue (Id.eq a b) }
+    requires ids { ClonesEqual Id.is_clone Id.eq }
     ensures count { IfOk result (λ all. length all.items ≡ count) }
     ensures clones { IfOk result (λ all. All (λ x. Id.cmp id.now x ≡ Equal) all.items) }
 {

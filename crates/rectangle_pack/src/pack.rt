@@ -1,5 +1,6 @@
 //! Packing groups of boxes into bins.
-ghost use Rattle.std.specs.Prelude.{◌≡◌, [], IsTrue, IsOk};
+ghost use Rattle.std.specs.Prelude.{◌≡◌, [], IsOk};
+ghost use Rattle.rectangle_pack.specs.Clones.{ClonesEqual};
 ghost use Rattle.rectangle_pack.specs.Closures.{AreCallable, answers};
 ghost use Rattle.rectangle_pack.specs.Packing.{rules_by, bins_of};
 ghost use Rattle.rectangle_pack.specs.PackAnswers.{IsPackAnswer, IsCountedAnswer};
@@ -84,8 +85,8 @@ where
     H: Fn(WidthHeightDepth) -> u128,
     C: Fn([WidthHeightDepth; 3], [WidthHeightDepth; 3], &H) -> Ordering,
     A: Allocator + Copy,
-    requires ids { (a b : Id) → Id.is_clone a b → IsTrue (Id.eq a b) }
-    requires bin_ids { (a b : BinId) → BinId.is_clone a b → IsTrue (BinId.eq a b) }
+    requires ids { ClonesEqual Id.is_clone Id.eq }
+    requires bin_ids { ClonesEqual BinId.is_clone BinId.eq }
     requires callable { AreCallable H.Fn C.Fn box_size_heuristic.now
         more_suitable_containers_fn.now }
     ensures answer { let groups = ⟦<Group<GroupId, Id> as Ord>⟧.cmp in
@@ -127,8 +128,8 @@ where
     H: Fn(WidthHeightDepth) -> u128,
     C: Fn([WidthHeightDepth; 3], [WidthHeightDepth; 3], &H) -> Ordering,
     A: Allocator + Copy,
-    requires ids { (a b : Id) → Id.is_clone a b → IsTrue (Id.eq a b) }
-    requires bin_ids { (a b : BinId) → BinId.is_clone a b → IsTrue (BinId.eq a b) }
+    requires ids { ClonesEqual Id.is_clone Id.eq }
+    requires bin_ids { ClonesEqual BinId.is_clone BinId.eq }
     requires callable { AreCallable H.Fn C.Fn box_size_heuristic.now
         more_suitable_containers_fn.now }
     ensures answer { let groups = ⟦<Group<GroupId, Id> as Ord>⟧.cmp in
@@ -138,8 +139,7 @@ where
         tests.new }
     ensures no_groups { rects_to_place.now.groups ≡ [] → IsOk result }
 {
-    // For the proof alone: what is read is known to be of 128 bits.
-    let _counted = tests.count();
+    tests.bounded();
     let policy = Closures {
         heuristic: box_size_heuristic,
         comparison: more_suitable_containers_fn,

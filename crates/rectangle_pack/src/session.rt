@@ -1,9 +1,10 @@
 //! Bins with what is placed in them: boxes are packed, and given back by number.
-ghost use Rattle.std.specs.Prelude.{◌≡◌, [], IfSome, IsTrue, IsOk};
+ghost use Rattle.std.specs.Prelude.{◌≡◌, [], IfSome, IsOk};
 ghost use Rattle.std.specs.List.Sorted.{IsStrictlySortedBy};
 ghost use Rattle.std.specs.Map.{keys_of, lookup};
 ghost use Rattle.std.specs.BTreeMap.{is_at};
 ghost use Rattle.std.specs.Option.{option_map};
+ghost use Rattle.rectangle_pack.specs.Clones.{ClonesEqual};
 ghost use Rattle.rectangle_pack.specs.Bins.{Bin};
 ghost use Rattle.rectangle_pack.specs.Boxes.{Size};
 ghost use Rattle.rectangle_pack.specs.Closures.{AreCallable, answers};
@@ -21,7 +22,7 @@ mod run;
 mod stats;
 
 use crate::closures::{Closures, Policy};
-use crate::grouped_rects_to_place::multimap::number_after;
+use crate::grouped_rects_to_place::multimap::{ascending, number_after};
 use crate::grouped_rects_to_place::{Group, GroupedRectsToPlace};
 use crate::session::outstanding::{give_back, position_of};
 use crate::session::packing::pack_into;
@@ -108,9 +109,7 @@ where
         ensures ascend { IsStrictlySortedBy BinId.cmp (keys_of self.now.bins) }
         ensures always { IsSession BinId.cmp self.now }
     {
-        // For the proof: the length of a map is asked for that its keys ascend.
-        let _ascend = self.bins.len();
-        &self.bins
+        ascending(&self.bins)
     }
 
     /// The placements that were not released, in the order of their numbers.
@@ -177,8 +176,8 @@ where
         GroupId: Ord + Clone + Drop,
         H: Fn(WidthHeightDepth) -> u128,
         C: Fn([WidthHeightDepth; 3], [WidthHeightDepth; 3], &H) -> Ordering,
-        requires ids { (a b : Id) → Id.is_clone a b → IsTrue (Id.eq a b) }
-        requires bin_ids { (a b : BinId) → BinId.is_clone a b → IsTrue (BinId.eq a b) }
+        requires ids { ClonesEqual Id.is_clone Id.eq }
+        requires bin_ids { ClonesEqual BinId.is_clone BinId.eq }
         requires callable { AreCallable H.Fn C.Fn heuristic.now comparison.now }
         ensures packed { let order = ⟦<Group<GroupId, Id> as Ord>⟧.cmp in
             let may = answers H.Fn C.Fn heuristic.now comparison.now in
@@ -206,8 +205,8 @@ where
     where
         GroupId: Ord + Clone + Drop,
         R: Policy,
-        requires ids { (a b : Id) → Id.is_clone a b → IsTrue (Id.eq a b) }
-        requires bin_ids { (a b : BinId) → BinId.is_clone a b → IsTrue (BinId.eq a b) }
+        requires ids { ClonesEqual Id.is_clone Id.eq }
+        requires bin_ids { ClonesEqual BinId.is_clone BinId.eq }
         requires callable { R.is_callable policy.now }
         ensures packed { let order = ⟦<Group<GroupId, Id> as Ord>⟧.cmp in
             Packs order (rules_by Id.cmp BinId.cmp (R.may policy.now)) groups.now
@@ -256,11 +255,11 @@ where
 
     /// Whether a coalescing call that named the bin was accepted, also where it joined nothing;
     /// `None` where there is no such bin.
-    pub fn was_coalesced(&self, bin: &BinId) -> Option<bool>
+    pub fn was_coalesced(&self, id: &BinId) -> Option<bool>
         ensures { result ≡ option_map (λ (b : Bin). b.coalesced)
-            (lookup (is_at (BinId.cmp bin.now)) self.now.bins) }
+            (lookup (is_at (BinId.cmp id.now)) self.now.bins) }
     {
-        Some(self.bins.get(bin)?.was_coalesced())
+        Some(self.bins.get(id)?.was_coalesced())
     }
 
     /// Joins a free section of the bin with those of the range that share a whole face with it, as
@@ -268,34 +267,34 @@ where
     /// Takes no memory.
     pub fn coalesce(
         &mut self,
-        bin: &BinId,
+        id: &BinId,
         idx: usize,
         range: Range<usize>,
     ) -> Result<(), SessionError>
         ensures joined { let joins = IsJoined idx range.start range.end in
-            Coalesces BinId.cmp joins bin.now self.old (reply_of result) self.new }
+            Coalesces BinId.cmp joins id.now self.old (reply_of result) self.new }
         ensures always { IsSession BinId.cmp self.new }
     {
-        let Some(place) = self.bins.get_mut(bin) else {
+        let Some(bin) = self.bins.get_mut(id) else {
             return Err(SessionError::UnknownBin);
         };
-        place.coalesce_available_sections(idx, range);
+        bin.coalesce_available_sections(idx, range);
         Ok(())
     }
 
     /// Joins the free sections of the bin until no two share a whole face, as
     /// `TargetBin::coalesce_all` does. `UnknownBin` says that there is no such bin. Takes no
     /// memory.
-    pub fn coalesce_all(&mut self, bin: &BinId) -> Result<(), SessionError>
-        ensures swept { Coalesces BinId.cmp IsSwept bin.now self.old (reply_of result) self.new }
-        ensures no_face { IfSome (lookup (is_at (BinId.cmp bin.now)) self.new.bins)
+    pub fn coalesce_all(&mut self, id: &BinId) -> Result<(), SessionError>
+        ensures swept { Coalesces BinId.cmp IsSwept id.now self.old (reply_of result) self.new }
+        ensures no_face { IfSome (lookup (is_at (BinId.cmp id.now)) self.new.bins)
             (λ (b : Bin). ShareNoFace b.sections) }
         ensures always { IsSession BinId.cmp self.new }
     {
-        let Some(place) = self.bins.get_mut(bin) else {
+        let Some(bin) = self.bins.get_mut(id) else {
             return Err(SessionError::UnknownBin);
         };
-        place.coalesce_all();
+        bin.coalesce_all();
         Ok(())
     }
 }

@@ -1,8 +1,9 @@
 //! Pairs of groups that may not share a bin.
-ghost use Rattle.std.specs.Prelude.{◌≡◌, ◌||◌, List, [], true, false, IsTrue, IsOk, OnOk, OnErr};
+ghost use Rattle.std.specs.Prelude.{◌≡◌, ◌||◌, List, [], true, false, IsOk, OnOk, OnErr};
 ghost use Rattle.std.specs.Ordering.{is_eq};
 ghost use Rattle.std.specs.List.{list_any};
 ghost use Rattle.std.specs.BTreeMap.{is_at};
+ghost use Rattle.rectangle_pack.specs.Clones.{ClonesEqual};
 ghost use Rattle.rectangle_pack.specs.Groups.{lists_of};
 ghost use Rattle.rectangle_pack.specs.private.Multimaps.{filled};
 ghost use Rattle.rectangle_pack.specs.Exclusions.{listed_at, is_listed, are_excluded, are_these};
@@ -73,7 +74,7 @@ impl<K: Ord + Clone + Drop, A: Allocator + Copy> Exclusions<K, A> {
 
     // Pairs the two. A pair that is there stays as it is.
     pub(crate) fn add(&mut self, a: K, b: K) -> Result<(), AllocError>
-        requires clones_equal { (a b : K) → K.is_clone a b → IsTrue (K.eq a b) }
+        requires clones_equal { ClonesEqual K.is_clone K.eq }
         requires different { K.eq a b ≡ false }
         ensures ok { OnOk result
             ((x y : K) → are_excluded K.cmp self.new x y ≡
@@ -102,7 +103,7 @@ fn list_both<K: Ord + Clone + Drop, A: Allocator + Copy>(
     b: K,
     alloc: A,
 ) -> Result<(), AllocError>
-    requires clones_equal { (a b : K) → K.is_clone a b → IsTrue (K.eq a b) }
+    requires clones_equal { ClonesEqual K.is_clone K.eq }
     requires different { is_eq (K.cmp a b) ≡ false }
     requires some { AreNonempty (lists_of map.old.entries) }
     ensures added { OnOk result

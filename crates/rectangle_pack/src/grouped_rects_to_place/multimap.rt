@@ -1,9 +1,11 @@
 // Maps from keys to lists, where a key with no items is as good as none.
-ghost use Rattle.std.specs.Prelude.{◌≡◌, ◌<◌, ◌≤◌, ◌+◌, ◌^◌, ◌++◌, ◌∷◌, [], List, length, map, sum, reverse, IsTrue, OnOk, OnErr, IsSomeAnd, IsSome, is_some, MatchOption, Some, true, false};
+ghost use Rattle.std.specs.Prelude.{◌≡◌, ◌<◌, ◌≤◌, ◌+◌, ◌^◌, ◌++◌, ◌∷◌, [], List, length, map, sum, reverse, OnOk, OnErr, IsSomeAnd, IsSome, is_some, MatchOption, Some, true, false};
 ghost use Rattle.std.specs.BTreeMap.{get, is_at, IsOrdered};
-ghost use Rattle.std.specs.Map.{lookup, set_value, values_of};
+ghost use Rattle.std.specs.Map.{keys_of, lookup, set_value, values_of};
+ghost use Rattle.std.specs.List.Sorted.{IsStrictlySortedBy};
 ghost use Rattle.std.specs.Cmp.{IsTotalOrder};
 ghost use Rattle.std.specs.Ordering.{is_eq};
+ghost use Rattle.rectangle_pack.specs.Clones.{ClonesEqual};
 ghost use Rattle.rectangle_pack.specs.Groups.{lists_of};
 ghost use Rattle.rectangle_pack.specs.private.Multimaps.{filled, times, items_of, HasRoom, AreAppended, IsAdded, TakesBack, CanTakeBack};
 
@@ -16,7 +18,7 @@ fn ensure_key<K: Ord + Clone + Drop, T: Drop, A: Allocator + Copy>(
     key: &K,
     alloc: A,
 ) -> Result<(), AllocError>
-    requires clones_equal { (a b : K) → K.is_clone a b → IsTrue (K.eq a b) }
+    requires clones_equal { ClonesEqual K.is_clone K.eq }
     ensures kept { filled (lists_of map.new.entries) ≡ filled (lists_of map.old.entries) }
     ensures items { (q : K) → items_of (get K.cmp map.new q) ≡ items_of (get K.cmp map.old q) }
     ensures others { (q : K) → is_eq (K.cmp key.now q) ≡ false →
@@ -36,7 +38,7 @@ fn ensure_keys<K: Ord + Clone + Drop, T: Drop, A: Allocator + Copy>(
     keys: &[K],
     alloc: A,
 ) -> Result<(), AllocError>
-    requires clones_equal { (a b : K) → K.is_clone a b → IsTrue (K.eq a b) }
+    requires clones_equal { ClonesEqual K.is_clone K.eq }
     ensures kept { filled (lists_of map.new.entries) ≡ filled (lists_of map.old.entries) }
     ensures items { (q : K) → items_of (get K.cmp map.new q) ≡ items_of (get K.cmp map.old q) }
     ensures others { (q : K) → times K.cmp keys.now q ≡ 0 →
@@ -48,6 +50,15 @@ fn ensure_keys<K: Ord + Clone + Drop, T: Drop, A: Allocator + Copy>(
         ensure_key(map, key, alloc)?;
     }
     Ok(())
+}
+
+// The map. For the proof alone: its length is asked for, which says that its keys ascend.
+pub(crate) fn ascending<K: Ord, X, A: Allocator>(map: &BTreeMap<K, X, A>) -> &BTreeMap<K, X, A>
+    ensures same { result.now ≡ map.now }
+    ensures ascend { IsStrictlySortedBy K.cmp (keys_of map.now.entries) }
+{
+    let _len = map.len();
+    map
 }
 
 // The number after those of all items, if there is one.
@@ -99,7 +110,7 @@ pub(crate) fn make_room<K: Ord + Clone + Drop, T: Drop, A: Allocator + Copy>(
     key: &K,
     alloc: A,
 ) -> Result<(), AllocError>
-    requires clones_equal { (a b : K) → K.is_clone a b → IsTrue (K.eq a b) }
+    requires clones_equal { ClonesEqual K.is_clone K.eq }
     ensures kept { filled (lists_of map.new.entries) ≡ filled (lists_of map.old.entries) }
     ensures items { (q : K) → items_of (get K.cmp map.new q) ≡ items_of (get K.cmp map.old q) }
     ensures others { (q : K) → is_eq (K.cmp key.now q) ≡ false →
@@ -207,7 +218,7 @@ pub(crate) fn add_each<K: Ord + Clone + Drop, T: Drop, A: Allocator + Copy>(
     items: Vec<T, A>,
     alloc: A,
 ) -> Result<(), AllocError>
-    requires clones_equal { (a b : K) → K.is_clone a b → IsTrue (K.eq a b) }
+    requires clones_equal { ClonesEqual K.is_clone K.eq }
     requires enough { length items.items ≡ length keys.now }
     ensures named { OnOk result
         ((q : K) → 0 < times K.cmp keys.now q →

@@ -1,5 +1,6 @@
 //! What a packing answers.
-ghost use Rattle.std.specs.Prelude.{◌≡◌, ◌++◌, List, length, IsTrue, IfOk, OnOk};
+ghost use Rattle.std.specs.Prelude.{◌≡◌, ◌++◌, List, length, IfOk, OnOk};
+ghost use Rattle.rectangle_pack.specs.Clones.{ClonesEqual};
 ghost use Rattle.rectangle_pack.specs.declared.pack.answer.Placement.{Placement};
 ghost use Rattle.rectangle_pack.specs.Placed.{AreNamed, AreLastPlacements, placements_of, locations_of};
 
@@ -82,8 +83,8 @@ where
     Id: Ord + Clone + Drop,
     BinId: Ord + Clone + Drop,
     A: Allocator + Copy,
-    requires ids { (a b : Id) → Id.is_clone a b → IsTrue (Id.eq a b) }
-    requires bin_ids { (a b : BinId) → BinId.is_clone a b → IsTrue (BinId.eq a b) }
+    requires ids { ClonesEqual Id.is_clone Id.eq }
+    requires bin_ids { ClonesEqual BinId.is_clone BinId.eq }
     ensures { IfOk result (λ m. AreLastPlacements Id.cmp BinId.cmp placements.now m.entries) }
 {
     let mut last = BTreeMap::new(alloc);
@@ -107,8 +108,8 @@ where
     Id: Ord + Clone + Drop,
     B: Ord + Clone + Drop,
     A: Allocator,
-    requires ids { (a b : Id) → Id.is_clone a b → IsTrue (Id.eq a b) }
-    requires bin_ids { (a b : B) → B.is_clone a b → IsTrue (B.eq a b) }
+    requires ids { ClonesEqual Id.is_clone Id.eq }
+    requires bin_ids { ClonesEqual B.is_clone B.eq }
     requires lengths { length ids.now ≡ length locations.now }
     ensures { OnOk result
         ((added : List (Placement Id B)) ×

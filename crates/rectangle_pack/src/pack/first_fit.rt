@@ -1,10 +1,11 @@
 //! One packing: group after group into the first bin that takes it.
-ghost use Rattle.std.specs.Prelude.{ℕ, ◌≡◌, ◌<◌, ◌+◌, ◌≤◌, ◌++◌, [], length, vec_len, List, IsTrue, IfOk, OnErr, IsSome, All, MatchBool, MatchOption, Some, map};
+ghost use Rattle.std.specs.Prelude.{ℕ, ◌≡◌, ◌<◌, ◌+◌, ◌≤◌, ◌++◌, [], length, vec_len, List, IfOk, OnErr, IsSome, All, MatchBool, MatchOption, Some, map};
 ghost use Rattle.std.specs.BTreeMap.{get, is_at};
 ghost use Rattle.std.specs.Bool.{OnTrue};
 ghost use Rattle.std.specs.List.{list_any, sum_by, IsDistinct};
 ghost use Rattle.std.specs.Map.{lookup, keys_of};
 ghost use Rattle.std.specs.Vec.{vec_capacity};
+ghost use Rattle.rectangle_pack.specs.Clones.{ClonesEqual};
 ghost use Rattle.rectangle_pack.specs.declared.pack.answer.Placement.{Placement};
 ghost use Rattle.rectangle_pack.specs.Bins.{Bin};
 ghost use Rattle.std.specs.Ordering.{eq_by_cmp};
@@ -107,8 +108,8 @@ where
     B: Ord + Clone + Drop,
     R: Policy,
     A: Allocator + Copy,
-    requires ids { (a b : Id) → Id.is_clone a b → IsTrue (Id.eq a b) }
-    requires bin_ids { (a b : B) → B.is_clone a b → IsTrue (B.eq a b) }
+    requires ids { ClonesEqual Id.is_clone Id.eq }
+    requires bin_ids { ClonesEqual B.is_clone B.eq }
     requires callable { R.is_callable policy.now }
     requires lengths { length ids.now ≡ length sizes.now }
     requires journal_room { vec_len packing.old.journal < vec_capacity packing.old.journal }
@@ -142,8 +143,7 @@ where
     ensures journal_room_stays { vec_capacity packing.new.journal ≡
         vec_capacity packing.old.journal }
 {
-    // For the proof alone: what is read is known to be of 128 bits.
-    let _counted = packing.tests.count();
+    packing.tests.bounded();
     let order = packing.bins.order();
     for (i, (_, id)) in order.iter().enumerate() {
         packing.bins.check_out(i);
@@ -201,8 +201,8 @@ where
     GroupId: Ord + Clone + Drop,
     R: Policy,
     A: Allocator + Copy,
-    requires ids { (a b : Id) → Id.is_clone a b → IsTrue (Id.eq a b) }
-    requires bin_ids { (a b : B) → B.is_clone a b → IsTrue (B.eq a b) }
+    requires ids { ClonesEqual Id.is_clone Id.eq }
+    requires bin_ids { ClonesEqual B.is_clone B.eq }
     requires callable { R.is_callable policy.now }
     requires listed { All
         (λ o.
@@ -240,8 +240,7 @@ where
         packing.old.tests packing.new.tests) }
     ensures back { StaysUndoable B.cmp packing.old packing.new }
 {
-    // For the proof alone: what is read is known to be of 128 bits.
-    let _counted = packing.tests.count();
+    packing.tests.bounded();
     let alloc = *packing.journal.allocator();
     packing.bins.make_room(groups.len(), sizes.len())?;
     packing.journal.reserve(groups.len())?;
@@ -277,8 +276,8 @@ where
     GroupId: Ord + Clone + Drop,
     R: Policy,
     A: Allocator + Copy,
-    requires ids { (a b : Id) → Id.is_clone a b → IsTrue (Id.eq a b) }
-    requires bin_ids { (a b : BinId) → BinId.is_clone a b → IsTrue (BinId.eq a b) }
+    requires ids { ClonesEqual Id.is_clone Id.eq }
+    requires bin_ids { ClonesEqual BinId.is_clone BinId.eq }
     requires callable { R.is_callable policy.now }
     requires order { IsBinOrder (R.may policy.now).rate BinId.cmp (bins_of packing.old.bins.kept)
         packing.old.bins.order }
@@ -307,8 +306,7 @@ where
         OnTrue done
         (length packing.new.placements.items ≡ entries_of rects_to_place.now)) }
 {
-    // For the proof alone: what is read is known to be of 128 bits.
-    let _counted = packing.tests.count();
+    packing.tests.bounded();
     let rects = rects_to_place.rects();
     let lists = rects_to_place.groups();
     let alloc = *packing.journal.allocator();

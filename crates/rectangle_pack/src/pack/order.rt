@@ -1,11 +1,12 @@
 //! The orders in which a packing takes groups and bins.
-ghost use Rattle.std.specs.Prelude.{ℕ, List, ◌≡◌, ◌++◌, ◌<◌, IsTrue, IfOk, OnOk, IsSome, Some, All, sum, map, length};
+ghost use Rattle.std.specs.Prelude.{ℕ, List, ◌≡◌, ◌++◌, ◌<◌, IfOk, OnOk, IsSome, Some, All, sum, map, length};
 ghost use Rattle.std.specs.BTreeMap.{get, is_at};
 ghost use Rattle.std.specs.Ordering.{eq_by_cmp};
 ghost use Rattle.std.specs.declared.cmp.Ordering.TheVariants.{Less};
 ghost use Rattle.std.specs.List.{AllPairs, AllZip, sum_by, IsDistinct};
 ghost use Rattle.std.specs.Map.{keys_of, lookup, values_of};
 ghost use Rattle.std.specs.List.Sorted.{IsPermutation, IsSorted};
+ghost use Rattle.rectangle_pack.specs.Clones.{ClonesEqual};
 ghost use Rattle.rectangle_pack.specs.Orders.{IsBinOrder, IsGroupOrder, falling_then};
 ghost use Rattle.rectangle_pack.specs.private.Orders.{keys_of_order, entries_at, SizesStandAt};
 ghost use Rattle.rectangle_pack.specs.Packing.{bins_of};
@@ -66,7 +67,7 @@ where
     B: Ord + Clone + Drop,
     R: Policy,
     A: Allocator + Copy,
-    requires bin_ids { (a b : B) → B.is_clone a b → IsTrue (B.eq a b) }
+    requires bin_ids { ClonesEqual B.is_clone B.eq }
     requires callable { R.is_callable policy.now }
     ensures order { IfOk result
         (λ v. IsBinOrder (R.may policy.now).rate B.cmp (bins_of bins.now.entries) v.items) }

@@ -45,14 +45,14 @@ fn gather_free<A: Allocator>(
 fn gather_outstanding<Id, B: Ord, A: Allocator>(
     boxes: &mut Vec<BinSection, A>,
     outstanding: &[Outstanding<Id, B>],
-    bin: &B,
+    id: &B,
 ) -> Result<(), AllocError>
     ensures { OnOk result
         (boxes.new.items ≡
-        boxes.old.items ++ filter has_cells (outstanding_in B.cmp outstanding.now bin.now)) }
+        boxes.old.items ++ filter has_cells (outstanding_in B.cmp outstanding.now id.now)) }
 {
     for placement in outstanding {
-        if placement.bin == *bin {
+        if placement.bin == *id {
             gather(boxes, section_at(&placement.location))?;
         }
     }
@@ -115,15 +115,15 @@ where
     ///     [cut, CutStep::Leaf, CutStep::Leaf].as_slice()
     /// );
     /// ```
-    pub fn cut_plan(&self, bin: &BinId) -> Result<Option<Vec<CutStep, A>>, SessionError>
-        ensures planned { IsPlanAnswer BinId.cmp self.now bin.now result }
+    pub fn cut_plan(&self, id: &BinId) -> Result<Option<Vec<CutStep, A>>, SessionError>
+        ensures planned { IsPlanAnswer BinId.cmp self.now id.now result }
     {
-        let Some(place) = self.bins.get(bin) else {
+        let Some(bin) = self.bins.get(id) else {
             return Err(SessionError::UnknownBin);
         };
         let alloc = *self.outstanding.allocator();
-        let mut boxes = boxes_of(alloc, place, self.outstanding.as_slice(), bin)?;
-        let plan = plan_of(alloc, whole(place), boxes.as_mut_slice())?;
+        let mut boxes = boxes_of(alloc, bin, self.outstanding.as_slice(), id)?;
+        let plan = plan_of(alloc, whole(bin), boxes.as_mut_slice())?;
         Ok(plan)
     }
 }

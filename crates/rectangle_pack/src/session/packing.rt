@@ -1,5 +1,6 @@
 //! One packing of a session.
-ghost use Rattle.std.specs.Prelude.{◌≡◌, ◌+◌, ◌<◌, ◌^◌, ◌++◌, [], length, List, IsTrue, IfOk, OnErr, MatchBool, Ok, true};
+ghost use Rattle.std.specs.Prelude.{◌≡◌, ◌+◌, ◌<◌, ◌^◌, ◌++◌, [], length, List, IfOk, OnErr, MatchBool, Ok, true};
+ghost use Rattle.rectangle_pack.specs.Clones.{ClonesEqual};
 ghost use Rattle.rectangle_pack.specs.declared.pack.answer.Placement.{Placement};
 ghost use Rattle.rectangle_pack.specs.Bins.{Bin};
 ghost use Rattle.rectangle_pack.specs.Groups.{entries_of};
@@ -33,8 +34,8 @@ where
     GroupId: Ord + Clone + Drop,
     R: Policy,
     A: Allocator + Copy,
-    requires ids { (a b : Id) → Id.is_clone a b → IsTrue (Id.eq a b) }
-    requires bin_ids { (a b : BinId) → BinId.is_clone a b → IsTrue (BinId.eq a b) }
+    requires ids { ClonesEqual Id.is_clone Id.eq }
+    requires bin_ids { ClonesEqual BinId.is_clone BinId.eq }
     requires callable { R.is_callable policy.now }
     requires count { count ≡ entries_of groups.now }
     requires fits { first + count < 2 ^ 64 }

@@ -1,5 +1,6 @@
 //! Runs of commands over a session.
-ghost use Rattle.std.specs.Prelude.{◌≡◌, IsTrue};
+ghost use Rattle.std.specs.Prelude.{◌≡◌};
+ghost use Rattle.rectangle_pack.specs.Clones.{ClonesEqual};
 ghost use Rattle.rectangle_pack.specs.Boxes.{Size};
 ghost use Rattle.rectangle_pack.specs.Closures.{AreCallable, answers};
 ghost use Rattle.rectangle_pack.specs.Packing.{rules_by};
@@ -42,8 +43,8 @@ where
         GroupId: Ord + Clone + Drop,
         H: Fn(WidthHeightDepth) -> u128,
         C: Fn([WidthHeightDepth; 3], [WidthHeightDepth; 3], &H) -> Ordering,
-        requires ids { (a b : Id) → Id.is_clone a b → IsTrue (Id.eq a b) }
-        requires bin_ids { (a b : BinId) → BinId.is_clone a b → IsTrue (BinId.eq a b) }
+        requires ids { ClonesEqual Id.is_clone Id.eq }
+        requires bin_ids { ClonesEqual BinId.is_clone BinId.eq }
         requires callable { AreCallable H.Fn C.Fn heuristic.now comparison.now }
         ensures promise { let order = ⟦<Group<GroupId, Id> as Ord>⟧.cmp in
             let may = answers H.Fn C.Fn heuristic.now comparison.now in
@@ -66,8 +67,8 @@ where
     where
         GroupId: Ord + Clone + Drop,
         R: Policy,
-        requires ids { (a b : Id) → Id.is_clone a b → IsTrue (Id.eq a b) }
-        requires bin_ids { (a b : BinId) → BinId.is_clone a b → IsTrue (BinId.eq a b) }
+        requires ids { ClonesEqual Id.is_clone Id.eq }
+        requires bin_ids { ClonesEqual BinId.is_clone BinId.eq }
         requires callable { R.is_callable policy.now }
         ensures { let order = ⟦<Group<GroupId, Id> as Ord>⟧.cmp in
             IsTransition order (rules_by Id.cmp BinId.cmp (R.may policy.now)) command.now
@@ -98,7 +99,7 @@ where
         height: u32,
         depth: u32,
     ) -> Result<(), SessionError>
-        requires { (a b : BinId) → BinId.is_clone a b → IsTrue (BinId.eq a b) }
+        requires { ClonesEqual BinId.is_clone BinId.eq }
         ensures { let size : Size = record { width = width; height = height; depth = depth } in
             AddsBin BinId.cmp id.now size self.old (reply_of result) self.new }
     {

@@ -39,16 +39,16 @@ where
     ///
     /// This looks once at each free section of the bin, and once at each outstanding placement of
     /// the session.
-    pub fn stats(&self, bin: &BinId) -> Option<BinStats>
-        ensures stats { let boxes = outstanding_in BinId.cmp self.now.outstanding bin.now in
+    pub fn stats(&self, id: &BinId) -> Option<BinStats>
+        ensures stats { let boxes = outstanding_in BinId.cmp self.now.outstanding id.now in
             result ≡ option_map (λ (b : Bin). stats_of b boxes)
-            (lookup (is_at (BinId.cmp bin.now)) self.now.bins) }
+            (lookup (is_at (BinId.cmp id.now)) self.now.bins) }
         ensures whole { IfSome result (λ s. s.free_volume + s.placed_volume ≡ s.bin_volume) }
     {
-        let place = self.bins.get(bin)?;
-        let bin_volume = place.max_size().volume();
-        let sections = place.available_bin_sections().as_slice();
-        let (placed_volume, placements) = totals_in(self.outstanding.as_slice(), bin);
+        let bin = self.bins.get(id)?;
+        let bin_volume = bin.max_size().volume();
+        let sections = bin.available_bin_sections().as_slice();
+        let (placed_volume, placements) = totals_in(self.outstanding.as_slice(), id);
         Some(BinStats {
             bin_volume,
             free_volume: free_volume_of(sections),
@@ -68,15 +68,15 @@ fn free_volume_of(sections: &[BinSection]) -> u128
 }
 
 // The volumes of the boxes that stand in a bin, added up, and how many there are.
-fn totals_in<Id, B: Ord>(outstanding: &[Outstanding<Id, B>], bin: &B) -> (u128, usize)
-    requires { total_volume (outstanding_in B.cmp outstanding.now bin.now) < 2 ^ 128 }
-    ensures volume { result.0 ≡ total_volume (outstanding_in B.cmp outstanding.now bin.now) }
-    ensures count { result.1 ≡ length (outstanding_in B.cmp outstanding.now bin.now) }
+fn totals_in<Id, B: Ord>(outstanding: &[Outstanding<Id, B>], id: &B) -> (u128, usize)
+    requires { total_volume (outstanding_in B.cmp outstanding.now id.now) < 2 ^ 128 }
+    ensures volume { result.0 ≡ total_volume (outstanding_in B.cmp outstanding.now id.now) }
+    ensures count { result.1 ≡ length (outstanding_in B.cmp outstanding.now id.now) }
 {
     let mut volume = 0;
     let mut count = 0;
     for placement in outstanding {
-        if placement.bin == *bin {
+        if placement.bin == *id {
             volume += placement.location.whd().volume();
             count += 1;
         }

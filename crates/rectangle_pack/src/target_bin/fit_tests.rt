@@ -1,5 +1,5 @@
 //! Counts of fit tests.
-ghost use Rattle.std.specs.Prelude.{◌≡◌, ◌+◌};
+ghost use Rattle.std.specs.Prelude.{◌≡◌, ◌+◌, ◌<◌, ◌^◌};
 ghost use Rattle.rectangle_pack.specs.Numbers.{saturated};
 
 use std::marker::Model;
@@ -36,6 +36,13 @@ impl FitTests {
         ensures { result ≡ self.now }
     {
         self.count
+    }
+
+    // For the proof alone: the count is read, which says that it is of 128 bits.
+    pub(crate) fn bounded(&self)
+        ensures { self.now < 2 ^ 128 }
+    {
+        let _count = self.count;
     }
 
     pub(crate) fn add(&mut self, tests: usize)

@@ -220,8 +220,7 @@ where
         OnTrue done (L.LeadsBack list.new buffers.new.notes.items (L.sections list.old))) }
     ensures no_members { length members.now ≡ 0 → IsOk result }
 {
-    // For the proof alone: what is read is known to be of 128 bits.
-    let _counted = tests.count();
+    tests.bounded();
     buffers.notes.clear();
     buffers.locations.clear();
     for (i, member) in members.iter().enumerate() {

@@ -31,18 +31,18 @@ planned bin_cmp state id bin found (Some plan) h =
     (bin, found, IsCutPlan-same (filter has_cells boxes) boxes (whole bin.size) plan.items (HaveSameBoxes-filter boxes) h)
 
 pub returns-in_default : goal.returns-in_default
-returns-in_default g c = record { planned = rw (← c.self.view_is) (None-bins_of (is_at (g.BinId.Ord.cmp c.args.bin.now)) c.self.inside.bins.entries (search rules)) }
+returns-in_default g c = record { planned = rw (← c.self.view_is) (None-bins_of (is_at (g.BinId.Ord.cmp c.args.id.now)) c.self.inside.bins.entries (search rules)) }
 
 pub returns-in_err-boxes : goal.returns-in_err-boxes
 returns-in_err-boxes g c =
-    record { planned = rw (memory_refused c.from_residual.result c.from_residual.ensures.1, ← c.self.view_is, Some-bins_of (is_at (g.BinId.Ord.cmp c.args.bin.now)) c.self.inside.bins.entries c.in-Some.place.now (sym c.in-Some.ensures.value)) refl }
+    record { planned = rw (memory_refused c.from_residual.result c.from_residual.ensures.1, ← c.self.view_is, Some-bins_of (is_at (g.BinId.Ord.cmp c.args.id.now)) c.self.inside.bins.entries c.in-Some.bin.now (sym c.in-Some.ensures.value)) refl }
 
 pub plan_of-requires : goal.plan_of-requires
 plan_of-requires g c =
     let cmp = g.BinId.Ord.cmp in
-    let id = c.args.bin.now in
-    let bin = c.in-Some.place.now.bin in
-    let found = Some-bins_of (is_at (cmp id)) c.self.inside.bins.entries c.in-Some.place.now (sym c.in-Some.ensures.value) in
+    let id = c.args.id.now in
+    let bin = c.in-Some.bin.now.bin in
+    let found = Some-bins_of (is_at (cmp id)) c.self.inside.bins.entries c.in-Some.bin.now (sym c.in-Some.ensures.value) in
     record {
       filled = rw (c.whole.ensures.whole, c.as_mut_slice.ensures.value, c.in_ok-boxes.ensures {u = tt}, c.as_slice.ensures.value)
           (IsFilled-bin bin.size (boxes_of cmp c.self.inside.outstanding.items id bin) (rw c.whole.ensures.whole at c.whole.ensures.fits) (c.self.invariant.covered id bin found));
@@ -50,14 +50,14 @@ plan_of-requires g c =
 
 pub returns-in_err-plan : goal.returns-in_err-plan
 returns-in_err-plan g c =
-    record { planned = rw (memory_refused c.from_residual-in_err-plan.result c.from_residual-in_err-plan.ensures.1, ← c.self.view_is, Some-bins_of (is_at (g.BinId.Ord.cmp c.args.bin.now)) c.self.inside.bins.entries c.in-Some.place.now (sym c.in-Some.ensures.value)) refl }
+    record { planned = rw (memory_refused c.from_residual-in_err-plan.result c.from_residual-in_err-plan.ensures.1, ← c.self.view_is, Some-bins_of (is_at (g.BinId.Ord.cmp c.args.id.now)) c.self.inside.bins.entries c.in-Some.bin.now (sym c.in-Some.ensures.value)) refl }
 
 pub returns : goal.returns
 returns g c =
     let cmp = g.BinId.Ord.cmp in
-    let id = c.args.bin.now in
+    let id = c.args.id.now in
     let entries = c.self.inside.bins.entries in
-    let found = Some-bins_of (is_at (cmp id)) entries c.in-Some.place.now (sym c.in-Some.ensures.value) in
+    let found = Some-bins_of (is_at (cmp id)) entries c.in-Some.bin.now (sym c.in-Some.ensures.value) in
     let state : State g.row.Id.Denot g.row.BinId.Denot = record { bins = bins_of entries; outstanding = c.self.inside.outstanding.items; next = c.self.inside.next } in
     let plan = rw (c.whole.ensures.whole, c.as_mut_slice.ensures.value, c.in_ok-boxes.ensures {u = tt}, c.as_slice.ensures.value) at (c.in_ok-plan.ensures {u = tt}) in
-    record { planned = subst (λ state. IsPlanAnswer cmp state id (Ok c.in_ok-plan.plan)) c.self.view_is (planned cmp state id c.in-Some.place.now.bin found c.in_ok-plan.plan plan) }
+    record { planned = subst (λ state. IsPlanAnswer cmp state id (Ok c.in_ok-plan.plan)) c.self.view_is (planned cmp state id c.in-Some.bin.now.bin found c.in_ok-plan.plan plan) }

@@ -4,8 +4,8 @@ use Rattle.rectangle_pack.proofs.lemmas.session.Keeps.{Some-bins_of, None-bins_o
 use Rattle.rectangle_pack.proofs.session.Session.was_coalesced.Goals as goal
 
 pub returns-in_err-get : goal.returns-in_err-get
-returns-in_err-get g c = rw (c.from_residual.ensures, ← c.self.view_is, None-bins_of (is_at (g.BinId.Ord.cmp c.args.bin.now)) c.self.inside.bins.entries (search rules)) refl
+returns-in_err-get g c = rw (c.from_residual.ensures, ← c.self.view_is, None-bins_of (is_at (g.BinId.Ord.cmp c.args.id.now)) c.self.inside.bins.entries (search rules)) refl
 
 pub returns : goal.returns
 returns g c =
-    rw (c.was_coalesced.ensures, ← c.self.view_is, Some-bins_of (is_at (g.BinId.Ord.cmp c.args.bin.now)) c.self.inside.bins.entries c.in_ok-get.field-0.now (sym c.in_ok-get.ensures.value)) refl
+    rw (c.was_coalesced.ensures, ← c.self.view_is, Some-bins_of (is_at (g.BinId.Ord.cmp c.args.id.now)) c.self.inside.bins.entries c.in_ok-get.field-0.now (sym c.in_ok-get.ensures.value)) refl

@@ -33,13 +33,13 @@ loop-placement-preserved g c =
     let test = sym (g.met.B.Ord.matches_eq _ _) ∙ sym c.eq.ensures in
     elim c.if-eq.branch [
       | then-eq+in_ok-gather w ↦ rw (w.boxes-is, w.in_ok-gather.ensures, w.section_at.ensures)
-          (gathered-more g.B.Ord.cmp c.args.outstanding.now c.loop-placement.placement-index c.placement-item.result c.args.bin.now true c.loop-placement-test.true c.placement-item.is (test ∙ w.if-eq.true) start boxes _ c.loop-placement.invariant refl)
+          (gathered-more g.B.Ord.cmp c.args.outstanding.now c.loop-placement.placement-index c.placement-item.result c.args.id.now true c.loop-placement-test.true c.placement-item.is (test ∙ w.if-eq.true) start boxes _ c.loop-placement.invariant refl)
       | else-eq w ↦ rw w.boxes-is
-          (gathered-more g.B.Ord.cmp c.args.outstanding.now c.loop-placement.placement-index c.placement-item.result c.args.bin.now false c.loop-placement-test.true c.placement-item.is (test ∙ w.if-eq.false) start boxes boxes c.loop-placement.invariant (sym (append-nil boxes)))
+          (gathered-more g.B.Ord.cmp c.args.outstanding.now c.loop-placement.placement-index c.placement-item.result c.args.id.now false c.loop-placement-test.true c.placement-item.is (test ∙ w.if-eq.false) start boxes boxes c.loop-placement.invariant (sym (append-nil boxes)))
     ]
 
 pub returns : goal.returns
 returns g c =
     let outstanding = c.args.outstanding.now in
     let all : take c.loop-placement.placement-index outstanding ≡ outstanding = ap (λ n. take n outstanding) (omega (arith, c.loop-placement.auto.placement-index-end, c.loop-placement-test.false)) ∙ take-length outstanding in
-    c.loop-placement.invariant ∙ ap (λ rs. c.args.boxes.now.items ++ filter has_cells (outstanding_in g.B.Ord.cmp rs c.args.bin.now)) all
+    c.loop-placement.invariant ∙ ap (λ rs. c.args.boxes.now.items ++ filter has_cells (outstanding_in g.B.Ord.cmp rs c.args.id.now)) all

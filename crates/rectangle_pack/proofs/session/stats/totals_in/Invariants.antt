@@ -5,6 +5,6 @@ use Rattle.rectangle_pack.proofs.session.stats.totals_in.Given as goal
 
 abbrev pub invariant-loop-placement : goal.invariant-loop-placement
 invariant-loop-placement g l = record {
-  volume : l.volume ≡ total_volume (outstanding_in g.B.Ord.cmp (take l.placement-index l.outstanding) l.bin);
-  count : l.count ≡ length (outstanding_in g.B.Ord.cmp (take l.placement-index l.outstanding) l.bin);
+  volume : l.volume ≡ total_volume (outstanding_in g.B.Ord.cmp (take l.placement-index l.outstanding) l.id);
+  count : l.count ≡ length (outstanding_in g.B.Ord.cmp (take l.placement-index l.outstanding) l.id);
 }
