@@ -50,7 +50,7 @@ PARTS = [
     (
         "Refusals",
         "space is refused only where, for some group, each bin is excluded or its trial gets stuck there",
-        "The field `packs` again: of a packing that is refused for space, `NoBinTakes`. A bin is excluded (*barred*) for a "
+        "The field `packs` again: of a packing that is refused for space, `NoBinTakes`. A bin is excluded for a "
         "group where a group that is excluded with it went there earlier in the same packing.",
         ["NoBinTakes"],
     ),

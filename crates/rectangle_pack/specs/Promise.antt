@@ -19,7 +19,7 @@ use Rattle.rectangle_pack.specs.Placed.{ArePlacedWhole}
 use Rattle.rectangle_pack.specs.Session.{State, IsSession, numbered, IsTransition, IsRun}
 
 module _ {Id B G : Type 0} (group_cmp : Group G Id → Group G Id → Ordering) (rules : Rules Id B) where
-  -- the new outstanding place every entry of every group once, in its size, each group in one bin: each group has one home, and
+  -- the new placements place every entry of every group once, in its size, each group in one bin: each group has one home, and
   -- groups that are excluded have different ones
   pub record PlacesWhole (all : Collection Id G) (old new : State Id B) : Type 0 where
     pub placements : List (Placement Id B)

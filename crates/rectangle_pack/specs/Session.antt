@@ -22,7 +22,7 @@ use Rattle.rectangle_pack.specs.Joining.{IsJoined, IsSwept}
 use Rattle.rectangle_pack.specs.Groups.{Collection, entries_of}
 use Rattle.rectangle_pack.specs.Packing.{Rules, PackingDone, PackingRefused}
 
--- a session: its bins by id, a record of each placement that was not released, and the number of the next placement
+-- a session: its bins by id, the outstanding placements, and the number of the next placement
 pub record State (Id B : Type 0) : Type 0 where
   pub bins : List (B × Bin)
   pub outstanding : List (Outstanding Id B)
@@ -48,7 +48,7 @@ pub record IsSession {Id B : Type 0} (bin_cmp : B → B → Ordering) (state : S
   pub rising : AllPairs (λ a b. a.number < b.number) state.outstanding
   pub below : All (λ r. r.number < state.next) state.outstanding
 
--- placements as outstanding, numbered from n on
+-- placements, numbered from n on
 abbrev pub numbered : {Id B : Type 0} → ℕ → List (Placement Id B) → List (Outstanding Id B)
 numbered n [] = []
 numbered n (p ∷ ps) = record { number = n; id = p.id; bin = p.bin; location = p.location } ∷ numbered (n + 1) ps
@@ -69,7 +69,7 @@ GivesBack bin_cmp old id box new =
     × (new ≡ set_value (is_at (bin_cmp id)) old (record bin { sections = bin.sections ++ box ∷ [] })))
     (new ≡ old)
 
--- a packing that is done and kept: its lists are the bins', its placements follow the old outstanding under the next numbers, and
+-- a packing that is done and kept: its lists are the bins', its placements follow the outstanding ones under the next numbers, and
 -- the answer has the first of these and how many they are
 pub record IsKept {Id B G : Type 0} (group_cmp : Group G Id → Group G Id → Ordering) (rules : Rules Id B)
     (all : Collection Id G) (old : State Id B) (numbers : PackedNumbers) (new : State Id B) : Type 0 where
@@ -91,7 +91,7 @@ module _ {Id B : Type 0} (bin_cmp : B → B → Ordering) where
   AddsBin id size old (Refused OutOfMemory) new = (lookup (is_at (bin_cmp id)) old.bins ≡ None) × (new ≡ old)
   AddsBin id size old _ new = ⊥
 
-  -- a placement is released: its record goes, and its box is given back; or the number is not outstanding; or memory is
+  -- a placement is released: it is no longer outstanding, and its box is given back; or the number is not outstanding; or memory is
   -- refused for a box with cells
   abbrev pub Releases : ℕ → State Id B → Reply → State Id B → Type 0
   Releases number old Done new =

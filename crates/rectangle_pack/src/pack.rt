@@ -34,7 +34,7 @@ use std::collections::BTreeMap;
 use std::mem;
 
 /// Packs all groups into the bins: each group whole into the first bin that takes all of its boxes.
-/// A bin is passed over for a group where a group that is excluded with it went there in this call.
+/// A bin is excluded for a group where a group that is excluded with it went there in this call.
 ///
 /// Groups go in falling order of the sum of their boxes' rates, which stays at the greatest `u128`,
 /// and at equal sums in the order of groups. Bins are tried in rising order of the rate of their
@@ -46,7 +46,7 @@ use std::mem;
 /// The caller sees to it that clones of ids equal their originals, and that `box_size_heuristic`
 /// may be called on every size, and `more_suitable_containers_fn` on every two triples of sizes.
 ///
-/// `NotEnoughBinSpace` says that for some group each bin is passed over or does not take all of its
+/// `NotEnoughBinSpace` says that for some group each bin is excluded or does not take all of its
 /// boxes: the groups before it stay placed in the bins. `OutOfMemory` says that a growth or a clone
 /// was refused, which may come before it is known that there is no space: the bins are as they
 /// were.
@@ -108,7 +108,7 @@ where
 
 /// `pack_rects`, with its fit tests added to `tests`: for a group that is placed those of its
 /// trials in the bins up to its own, for a group that is refused those of its trials in all bins.
-/// In a bin that is passed over no trial is made. `OutOfMemory` adds the tests made until then.
+/// In a bin that is excluded no trial is made. `OutOfMemory` adds the tests made until then.
 ///
 /// With n entries in the groups these are at most n tests for each free section of before and
 /// n * (n - 1) for each bin. The counter stays at the greatest `u128`. Conditions and errors are

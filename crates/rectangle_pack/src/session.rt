@@ -162,7 +162,7 @@ where
     ///
     /// `NumbersUsedUp` says that the next number and the entries of the groups add up to more than
     /// the greatest `u64`; this is looked at first. `NotEnoughBinSpace` says that for some group
-    /// each bin is passed over or does not take all of its boxes, and `OutOfMemory` that a growth
+    /// each bin is excluded or does not take all of its boxes, and `OutOfMemory` that a growth
     /// or a clone was refused, which may come before it is known that there is no space. The
     /// session is then as it was: nothing of the packing stays, and the lists of free sections are
     /// in their old order.

@@ -49,7 +49,7 @@ impl<Id: Ord, BinId, A: Allocator + Copy> RectanglePackOk<Id, BinId, A> {
 /// Why a packing failed.
 #[derive(Debug, PartialEq, Drop)]
 pub enum RectanglePackError {
-    /// For some group each bin is passed over or does not take all of its boxes, as the groups
+    /// For some group each bin is excluded or does not take all of its boxes, as the groups
     /// before it left the bins. Those groups stay placed.
     NotEnoughBinSpace,
     /// A growth or a clone was refused. The bins are as they were before the call.

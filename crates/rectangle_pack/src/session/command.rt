@@ -37,7 +37,7 @@ pub enum SessionError {
     UnknownPlacement,
     /// The numbers of the placements would reach the greatest `u64`, which is never given.
     NumbersUsedUp,
-    /// For some group each bin is passed over or does not take all of its boxes.
+    /// For some group each bin is excluded or does not take all of its boxes.
     NotEnoughBinSpace,
     /// A growth or a clone was refused.
     OutOfMemory,

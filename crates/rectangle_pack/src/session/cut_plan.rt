@@ -41,7 +41,7 @@ fn gather_free<A: Allocator>(
     Ok(())
 }
 
-// Puts the boxes with cells that stand in the bin at the end of the list.
+// Puts the outstanding boxes with cells of the bin at the end of the list.
 fn gather_outstanding<Id, B: Ord, A: Allocator>(
     boxes: &mut Vec<BinSection, A>,
     outstanding: &[Outstanding<Id, B>],
@@ -67,7 +67,7 @@ fn whole<A: Allocator + Copy>(bin: &TargetBin<A>) -> BinSection
     BinSection::new(0, 0, 0, bin.max_size())
 }
 
-// The boxes with cells of a bin: its free sections, and the boxes that stand in it.
+// The boxes with cells of a bin: its free sections, and the outstanding ones.
 fn boxes_of<Id, B: Ord, A: Allocator + Copy>(
     alloc: A,
     bin: &TargetBin<A>,

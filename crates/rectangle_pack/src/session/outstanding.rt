@@ -60,7 +60,8 @@ pub(crate) fn give_back<B: Ord + Drop, A: Allocator + Copy>(
     }
 }
 
-// Puts placements at the end of the outstanding, with their numbers, in the room that is there.
+// Puts placements at the end of the outstanding ones, with their numbers, in the room that is
+// there.
 pub(crate) fn number_all<Id: Drop, B: Drop, A: Allocator>(
     outstanding: &mut Vec<Outstanding<Id, B>, A>,
     placements: Vec<Placement<Id, B>, A>,

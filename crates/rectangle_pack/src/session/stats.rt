@@ -67,7 +67,7 @@ fn free_volume_of(sections: &[BinSection]) -> u128
     sections.iter().map(|section| section.whd().volume()).sum()
 }
 
-// The volumes of the boxes that stand in a bin, added up, and how many there are.
+// The volumes of the outstanding boxes of a bin, added up, and how many there are.
 fn totals_in<Id, B: Ord>(outstanding: &[Outstanding<Id, B>], id: &B) -> (u128, usize)
     requires { total_volume (outstanding_in B.cmp outstanding.now id.now) < 2 ^ 128 }
     ensures volume { result.0 ≡ total_volume (outstanding_in B.cmp outstanding.now id.now) }

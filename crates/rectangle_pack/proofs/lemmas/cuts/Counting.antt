@@ -76,7 +76,7 @@ unfolding times_filled
 filled_none c b empty = count_no (is_cell_of c) b [] (false_from_ne_true _ (λ t. both_ways _ empty (has_cells-from c b t)))
 
 -- one box has a cell at most once
-filled_one : (c : Cell) (b : Cuboid) → times_filled c (b ∷ []) ≤ 1
+pub filled_one : (c : Cell) (b : Cuboid) → times_filled c (b ∷ []) ≤ 1
 unfolding times_filled
 filled_one c b = count_by-le-length (is_cell_of c) (b ∷ [])
 

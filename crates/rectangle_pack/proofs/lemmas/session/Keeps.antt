@@ -1,4 +1,4 @@
--- What a session's calls keep: the boxes of each bin, the bins of the outstanding, and the order of numbers.
+-- What a session's calls keep: the boxes of each bin, the bins of the outstanding placements, and the order of numbers.
 use Rattle.std.proofs.Common.{◌≡◌, ℕ, suc, ◌+◌, ◌-◌, ◌<◌, List, [], ◌∷◌, ◌++◌, refl, ap, sym, ◌∙◌, subst, cond, true, false, Bool, arith, length, append-nil, append_assoc, get_or, take, drop}
 use Rattle.std.specs.Prelude.{Option, Some, None, IsSome, MatchBool, map, filter, All, AllPairs, remove}
 use Rattle.std.specs.declared.cmp.Ordering.{Ordering}
@@ -62,7 +62,7 @@ IsFromCuts-kept : (size : Size) (old new : List Cuboid) → KeepsCuts old new �
 IsFromCuts-kept size old new keeps h =
     subst (λ bs. IsFromCuts bs (whole size)) (append-nil new) (keeps.kept [] (whole size) (subst (λ bs. IsFromCuts bs (whole size)) (sym (append-nil old)) h))
 
--- the boxes of lists of outstanding
+-- the boxes of lists of outstanding placements
 module _ {Id B : Type 0} (bin_cmp : B → B → Ordering) where
   outstanding_in-append : (before after : List (Outstanding Id B)) (q : B) → outstanding_in bin_cmp (before ++ after) q ≡ outstanding_in bin_cmp before q ++ outstanding_in bin_cmp after q
   outstanding_in-append before after q =
@@ -110,7 +110,7 @@ All-numbered {Id} {B} P n (p ∷ ps) h =
     All-cons (λ (r : Outstanding Id B). P r.bin) (record { number = n; id = p.id; bin = p.bin; location = p.location }) (numbered (n + 1) ps)
     (All-head (λ (x : Placement Id B). P x.bin) p ps h) (All-numbered P (n + 1) ps (All-tail (λ (x : Placement Id B). P x.bin) p ps h))
 
--- where no bin comes or goes, the bins of the outstanding stay there
+-- where no bin comes or goes, the bins of the outstanding placements stay there
 pub known-kept : {Id B : Type 0} (bin_cmp : B → B → Ordering) (old new : List (B × Bin)) → keys_of new ≡ keys_of old → (outstanding : List (Outstanding Id B))
     → All (λ r. IsSome (lookup (is_at (bin_cmp r.bin)) old)) outstanding → All (λ r. IsSome (lookup (is_at (bin_cmp r.bin)) new)) outstanding
 known-kept {Id} {B} bin_cmp old new same outstanding =
@@ -298,7 +298,7 @@ Some-bins_of test es v h = lookup-bins_of test es ∙ ap (option_map (λ (x : He
 pub None-bins_of : {B : Type 0} (test : B → Bool) (es : List (B × Held)) → lookup test es ≡ None → lookup test (bins_of es) ≡ None
 None-bins_of test es h = lookup-bins_of test es ∙ ap (option_map (λ (x : Held). x.bin)) h
 
--- the record at an index is outstanding
+-- the placement at an index is outstanding
 abbrev pub outstanding_at : {Id B : Type 0} (outstanding : List (Outstanding Id B)) (number i : ℕ) (r : Outstanding Id B) → (i < length outstanding) × ((d : Outstanding Id B) → (get_or outstanding i d).number ≡ number) → r ≡ get_or outstanding i r → IsOutstanding outstanding number
 outstanding_at {Id} {B} outstanding number i r at is = record {
   before = take i outstanding;
@@ -325,7 +325,7 @@ whole-covers size = record {
   once = λ c in_bin. omega (arith, filled_yes c (whole size) [] in_bin, filled-nil c);
 }
 
--- no record stands in a bin that is not there
+-- no placement is in a bin that is not there
 outstanding_in-absent : {Id B : Type 0} {bin_cmp : B → B → Ordering} → IsTotalOrder bin_cmp → (bins : List (B × Bin)) (outstanding : List (Outstanding Id B)) (q : B)
     → lookup (is_at (bin_cmp q)) bins ≡ None → All (λ r. IsSome (lookup (is_at (bin_cmp r.bin)) bins)) outstanding → outstanding_in bin_cmp outstanding q ≡ []
 outstanding_in-absent o bins [] q absent known = refl

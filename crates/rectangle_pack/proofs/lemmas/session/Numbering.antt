@@ -31,7 +31,7 @@ pub numbered-push : {Id B : Type 0} (n : ℕ) (ps : List (Placement Id B)) (p : 
 numbered-push {Id} {B} n [] p m h = let same : m ≡ n = omega (arith, h) in rw same refl
 numbered-push {Id} {B} n (q ∷ ps) p m h = ap (λ (l : List (Outstanding Id B)). record { number = n; id = q.id; bin = q.bin; location = q.location } ∷ l) (numbered-push (n + 1) ps p m (omega (arith, h)))
 
--- outstanding go on by one more placement
+-- one more placement
 pub numbered-more : {Id B : Type 0} (before outstanding new : List (Outstanding Id B)) (n : ℕ) (ps : List (Placement Id B)) (p : Placement Id B) (m : ℕ) → m ≡ n + length ps
     → outstanding ≡ before ++ numbered n ps → new ≡ outstanding ++ record { number = m; id = p.id; bin = p.bin; location = p.location } ∷ []
     → new ≡ before ++ numbered n (ps ++ p ∷ [])
@@ -39,7 +39,7 @@ numbered-more {Id} {B} before outstanding new n ps p m h are more =
     let r : Outstanding Id B = record { number = m; id = p.id; bin = p.bin; location = p.location } in
     more ∙ ap (λ (rs : List (Outstanding Id B)). rs ++ r ∷ []) are ∙ append_assoc before (numbered n ps) (r ∷ []) ∙ ap (λ (rs : List (Outstanding Id B)). before ++ rs) (sym (numbered-push n ps p m h))
 
--- where the numbers of outstanding rise, so does how they compare with a number
+-- where numbers rise, so does how they compare with a number
 comparisons_rise : {Id B : Type 0} (outstanding : List (Outstanding Id B)) (number : ℕ) → AllPairs (λ a b. a.number < b.number) outstanding → IsNonDecreasingBy (λ r. ordering_index (nat_cmp r.number number)) outstanding
 comparisons_rise outstanding number rising i j d le within = grind (arith, nat_tests, rising i j d, λ (same : i ≡ j). ap (λ k. (get_or outstanding k d).number) same)
 

@@ -1,4 +1,4 @@
--- What the boxes that stand in a bin become with one record more, and what they add up to with the free sections.
+-- What the outstanding boxes of a bin become with one more, and what they add up to with the free sections.
 use Rattle.std.proofs.Common.{◌≡◌, ℕ, suc, ◌+◌, ◌<◌, ◌≤◌, List, [], ◌∷◌, ◌++◌, Bool, true, cond, length, take, drop, ap, sym, subst, ◌∙◌, arith, get_or, append_assoc}
 use Rattle.std.specs.Prelude.{Some, filter}
 use Rattle.std.specs.declared.cmp.Ordering.{Ordering}
@@ -33,7 +33,7 @@ IsSession-volumes bin_cmp bins outstanding next id held h found =
       CoverBin-volume (held.bin.sections ++ boxes) held.bin.size (h.covered id held.bin (Some-bins_of (is_at (bin_cmp id)) bins held found)),
     )
 
--- what stands in the bin before a record that stands there leaves room for it, in volume and in number
+-- what is outstanding in the bin before a placement there leaves room for it, in volume and in number
 pub outstanding-before : {Id B : Type 0} (bin_cmp : B → B → Ordering) (outstanding : List (Outstanding Id B)) (i : ℕ) (r : Outstanding Id B) (q : B) → i < length outstanding → r ≡ get_or outstanding i r → is_eq (bin_cmp r.bin q) ≡ true
     → (total_volume (outstanding_in bin_cmp (take i outstanding) q) + volume_of r.location.whd ≤ total_volume (outstanding_in bin_cmp outstanding q)) × (length (outstanding_in bin_cmp (take i outstanding) q) < length outstanding)
 outstanding-before {Id} {B} bin_cmp outstanding i r q within is here =
@@ -48,7 +48,7 @@ outstanding-before {Id} {B} bin_cmp outstanding i r q within is here =
       omega (arith, length-map (filter Here first) (λ (x : Outstanding Id B). x.location), length-filter Here first, count_by-le-length Here first, length-take i outstanding),
     )
 
--- one record more, which stands in the bin or does not
+-- one placement more, which is in the bin or is not
 module _ {Id B : Type 0} (bin_cmp : B → B → Ordering) (outstanding : List (Outstanding Id B)) (i : ℕ) (r : Outstanding Id B) (q : B) (b : Bool) (within : i < length outstanding) (is : r ≡ get_or outstanding i r) (here : is_eq (bin_cmp r.bin q) ≡ b) where
   abbrev first : List Cuboid
   first = outstanding_in bin_cmp (take i outstanding) q

@@ -91,7 +91,7 @@ module _ {Id B : Type 0} {bin_cmp : B → B → Ordering} (o : IsTotalOrder bin_
   kept-released number old (Refused NotEnoughBinSpace) new r = absurd r
   kept-released number old (Refused OutOfMemory) new r = unchanged bin_cmp old new r.2
 
-  -- a record leaves the list, where its box was given back: the same
+  -- a placement leaves the list, where its box was given back: the same
   pub released-removed : (number : ℕ) (old new : List (B × Bin)) (outstanding : List (Outstanding Id B)) (next : ℕ) (at : IsOutstanding outstanding number) → GivesBack bin_cmp old at.found.bin at.found.location new
       → IsSession bin_cmp (record { bins = old; outstanding = outstanding; next = next })
       → Releases bin_cmp number (record { bins = old; outstanding = outstanding; next = next }) Done (record { bins = new; outstanding = at.before ++ at.after; next = next }) × IsSession bin_cmp (record { bins = new; outstanding = at.before ++ at.after; next = next })
