@@ -1,5 +1,6 @@
 -- How a word holds a name: its bytes can be read again, and are ordered as the names are.
-use Rattle.std.proofs.Common.{◌≡◌, ℕ, zero, suc, ◌+◌, ◌-◌, ◌*◌, ◌<◌, ◌≤◌, min, List, [], ◌∷◌, ◌++◌, length, take, drop, get_or, replicate, drop-cons, length-drop, length-take, take_all, refl, sym, ap, ◌∙◌, arith}
+use Rattle.std.proofs.Common.{◌≡◌, ℕ, zero, suc, ◌+◌, ◌-◌, ◌*◌, ◌<◌, ◌≤◌, min, List, [], ◌∷◌, ◌++◌, length, take, drop, get_or, replicate, drop-cons}
+use Rattle.std.proofs.Common.{length-drop, length-take, take_all, refl, sym, ap, ◌∙◌, arith}
 use Rattle.std.specs.declared.cmp.Ordering.{Ordering}
 use Rattle.std.specs.declared.cmp.Ordering.TheVariants.{Less, Equal, Greater}
 use Rattle.std.specs.Ordering.{nat_cmp, ordering_then, MatchOrdering}
@@ -71,7 +72,8 @@ same zero m = level m
 same (suc k) m = same k m
 
 -- padded names and then their lengths are ordered as the names are, where the lengths are counted from c on
-ordered : (k c m n : ℕ) (xs ys : List ℕ) → length xs ≤ k → length ys ≤ k → m ≡ c + length xs → n ≡ c + length ys → order_padded k xs ys m n ≡ slice_cmp nat_cmp xs ys
+ordered : (k c m n : ℕ) (xs ys : List ℕ) → length xs ≤ k → length ys ≤ k → m ≡ c + length xs → n ≡ c + length ys
+    → order_padded k xs ys m n ≡ slice_cmp nat_cmp xs ys
 ordered k c m n [] [] a b d e = let z : n ≡ m = omega arith in ap (λ i. order_padded k [] [] m i) z ∙ same k m
 ordered k c m n [] (y ∷ ys) a b d e = shorter k m n (y ∷ ys) (omega arith)
 ordered k c m n (x ∷ xs) [] a b d e = longer k m n (x ∷ xs) (omega arith)
@@ -130,7 +132,8 @@ nat_cmp-byte a b x y small less = sym (by (nat_cmp a b) refl (ranks a b))
         let t : a ≡ b = h in
         nat_cmp_is (a * 256 + x) (b * 256 + y) (nat_cmp x y) (last t (nat_cmp x y) (ranks x y))
       where
-        last : a ≡ b → (r : Ordering) → MatchOrdering r (x < y) (x ≡ y) (y < x) → MatchOrdering r (a * 256 + x < b * 256 + y) (a * 256 + x ≡ b * 256 + y) (b * 256 + y < a * 256 + x)
+        last : a ≡ b → (r : Ordering) → MatchOrdering r (x < y) (x ≡ y) (y < x)
+            → MatchOrdering r (a * 256 + x < b * 256 + y) (a * 256 + x ≡ b * 256 + y) (b * 256 + y < a * 256 + x)
         last t Less h = let l : x < y = h in let g : a * 256 + x < b * 256 + y = omega arith in g
         last t Equal h = let l : x ≡ y = h in let g : a * 256 + x ≡ b * 256 + y = omega arith in g
         last t Greater h = let l : y < x = h in let g : b * 256 + y < a * 256 + x = omega arith in g
@@ -205,7 +208,8 @@ module _ (xs ys : List ℕ) (b : (k : ℕ) → get_or xs k 0 < 256) (d : (k : �
   front : nat_cmp (eight_from 0 xs) (eight_from 0 ys) ≡ slice_cmp nat_cmp (take 8 xs) (take 8 ys)
   front =
       (λ i. nat_cmp (first_eight xs (omega arith) i) (first_eight ys (omega arith) i))
-      ∙ nat_cmp-spelt 0 0 (take 8 xs) (take 8 ys) (bytes-take 8 xs b) (bytes-take 8 ys d) (length-take 8 xs ∙ (λ i. min 8 ((e ∙ sym f) i)) ∙ sym (length-take 8 ys))
+      ∙ nat_cmp-spelt 0 0 (take 8 xs) (take 8 ys) (bytes-take 8 xs b) (bytes-take 8 ys d)
+      (length-take 8 xs ∙ (λ i. min 8 ((e ∙ sym f) i)) ∙ sym (length-take 8 ys))
 
   back : nat_cmp (eight_from 6 xs) (eight_from 6 ys) ≡ slice_cmp nat_cmp (drop 6 xs) (drop 6 ys)
   back =
@@ -215,10 +219,12 @@ module _ (xs ys : List ℕ) (b : (k : ℕ) → get_or xs k 0 < 256) (d : (k : �
   both : ordering_then (nat_cmp (eight_from 0 xs) (eight_from 0 ys)) (nat_cmp (eight_from 6 xs) (eight_from 6 ys)) ≡ slice_cmp nat_cmp xs ys
   both = (λ i. ordering_then (front i) (back i)) ∙ slice_cmp-overlap 6 8 xs ys (omega arith) (omega arith) (omega arith)
 
-  pub by_first : (eight_from 0 xs ≡ eight_from 0 ys → ⊥) → (o : Ordering) → nat_cmp (eight_from 0 xs) (eight_from 0 ys) ≡ ordering_then (slice_cmp nat_cmp xs ys) o
+  pub by_first : (eight_from 0 xs ≡ eight_from 0 ys → ⊥) → (o : Ordering)
+      → nat_cmp (eight_from 0 xs) (eight_from 0 ys) ≡ ordering_then (slice_cmp nat_cmp xs ys) o
   by_first h o =
       let alone = decided (eight_from 0 xs) (eight_from 0 ys) (nat_cmp (eight_from 6 xs) (eight_from 6 ys)) h in
       sym (decided (eight_from 0 xs) (eight_from 0 ys) o h) ∙ ap (λ r. ordering_then r o) (sym alone ∙ both)
 
   pub by_last : eight_from 0 xs ≡ eight_from 0 ys → nat_cmp (eight_from 6 xs) (eight_from 6 ys) ≡ slice_cmp nat_cmp xs ys
-  by_last h = sym ((λ i. ordering_then (nat_cmp (h i) (eight_from 0 ys)) (nat_cmp (eight_from 6 xs) (eight_from 6 ys))) ∙ then_level (eight_from 0 ys) (nat_cmp (eight_from 6 xs) (eight_from 6 ys))) ∙ both
+  by_last h = sym ((λ i. ordering_then (nat_cmp (h i) (eight_from 0 ys)) (nat_cmp (eight_from 6 xs) (eight_from 6 ys)))
+      ∙ then_level (eight_from 0 ys) (nat_cmp (eight_from 6 xs) (eight_from 6 ys))) ∙ both

@@ -104,7 +104,7 @@ pub record FitsU32 (b : Cuboid) : Type 0 where
   pub fits_y : b.y + b.whd.height < 2 ^ 32
   pub fits_z : b.z + b.whd.depth < 2 ^ 32
 
--- whether a place lies on the stretch that begins at first and is so long
+-- whether a place on an axis lies on the span that begins at first and is so long
 abbrev pub is_within : ℕ → ℕ → ℕ → Bool
 is_within first long place = nat_le first place && nat_lt place (first + long)
 

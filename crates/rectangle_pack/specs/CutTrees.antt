@@ -11,7 +11,7 @@ lower X place b = record b { whd = record b.whd { width = place - b.x } }
 lower Y place b = record b { whd = record b.whd { height = place - b.y } }
 lower Z place b = record b { whd = record b.whd { depth = place - b.z } }
 
--- the part of a box from a place on an axis on
+-- the part of a box at a place on an axis and beyond it
 unfoldable pub upper : Axis → ℕ → Cuboid → Cuboid
 upper X place b = record b { x = place; whd = record b.whd { width = (b.x + b.whd.width) - place } }
 upper Y place b = record b { y = place; whd = record b.whd { height = (b.y + b.whd.height) - place } }

@@ -57,7 +57,7 @@ pub record IsFirstNeighbour (sections : List Cuboid) (idx lo hi j : ℕ) : Type 
   pub is_one : IsNeighbour sections idx lo hi j
   pub least : (k : ℕ) → k < j → ¬ IsNeighbour sections idx lo hi k
 
--- the list with the join of the entries idx and j in the place of entry idx, and without entry j
+-- the list whose entry idx is the join of the entries idx and j, without entry j
 unfoldable pub joined_list : List Cuboid → ℕ → ℕ → List Cuboid
 joined_list sections idx j = remove (slice_set sections idx (join (entry sections idx) (entry sections j))) j
 
@@ -66,8 +66,8 @@ unfoldable pub joined_index : ℕ → ℕ → ℕ
 joined_index idx j = if nat_lt j idx then idx - 1 else idx
 
 -- the list once the entry at idx is joined with its neighbours from lo to before hi. Where idx is past the end, or there is
--- no neighbour, the list stays as it is. Else it is joined with the least neighbour, and the join goes on in the same way;
--- the range is then cut to the list and ends one earlier
+-- no neighbour, the list stays as it is. Else it is joined with the least neighbour, and the same is done with the join, in a
+-- range that is cut to the list and ends one earlier
 pub data IsJoined : ℕ → ℕ → ℕ → List Cuboid → List Cuboid → Type 0 where
   PastEnd : {old : List Cuboid} {idx lo hi : ℕ} → length old ≤ idx → IsJoined idx lo hi old old
   Alone : {old : List Cuboid} {idx lo hi : ℕ} → idx < length old → IsAlone old idx lo hi → IsJoined idx lo hi old old

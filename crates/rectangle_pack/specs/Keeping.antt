@@ -1,4 +1,4 @@
--- Boxes that make way for others and keep the cells.
+-- Boxes that are replaced by others with the same cells.
 use Rattle.std.specs.Prelude.{◌≡◌, ◌↔◌, List, ◌++◌, Any, Some, None, map, filter}
 use Rattle.std.specs.declared.cmp.Ordering.{Ordering}
 use Rattle.std.specs.Map.{lookup}

@@ -28,4 +28,5 @@ pub mod Promise
 pub mod PlanAnswers
 pub mod Results
 pub mod Texts
+pub mod SessionTexts
 pub mod private

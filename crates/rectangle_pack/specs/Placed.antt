@@ -20,7 +20,7 @@ abbrev pub locations_of : {Id B A : Type 0} → RectanglePackOk Id B A → List 
 locations_of ok = ok.packed_locations.entries
 
 module _ {Id B : Type 0} (cmp : Id → Id → Ordering) (bin_cmp : B → B → Ordering) where
-  -- one placement for each id, in order, at the location in the same place of the list, all in the bin `here`
+  -- one placement for each id, in order, at the location that the list has for it, all in the bin `here`
   pub record AreNamed (ids : List Id) (here : B) (locations : List Cuboid) (placements : List (Placement Id B)) : Type 0 where
     pub named : AllZip (λ id p. cmp id p.id ≡ Equal) ids placements
     pub together : All (λ p. bin_cmp here p.bin ≡ Equal) placements

@@ -48,7 +48,7 @@ pub record AreCollectionsAlike {Id G : Type 0} (group_cmp : Group G Id → Group
   pub groups : AreMapsAlike group_cmp (λ a b. AllZip (λ x y. cmp x y ≡ Equal) a b) one.groups other.groups
   pub excluded : (a b : Group G Id) → are_excluded group_cmp one.partners a b ≡ are_excluded group_cmp other.partners a b
 
--- the same locations, place by place, under ids and bins that are equal
+-- the same locations, one after another, under ids and bins that are equal
 abbrev pub ArePlacementsAlike : {Id B : Type 0} → (Id → Id → Ordering) → (B → B → Ordering) → List (Placement Id B) → List (Placement Id B) → Type 0
 ArePlacementsAlike cmp bin_cmp ps qs = AllZip (λ p q. (cmp p.id q.id ≡ Equal) × (bin_cmp p.bin q.bin ≡ Equal) × (p.location ≡ q.location)) ps qs
 

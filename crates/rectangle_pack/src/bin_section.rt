@@ -151,8 +151,8 @@ impl BinSection {
     /// right of the box, above it and behind it; empty pieces are given too.
     ///
     /// The comparison is shown the sizes of the pieces of two cuts, in this order, and the
-    /// heuristic; it answers `Greater` where the first cut is better. Of the six cuts in their
-    /// order, the first is taken up, and each later one in its place unless the one taken up is
+    /// heuristic; it answers `Greater` where the first cut is better. The first of the six cuts is
+    /// kept; each later one, in their order, replaces the one that is kept, unless that is
     /// `Greater`.
     ///
     /// The caller sees to it that corner and size of the section add up to at most `u32::MAX` on

@@ -131,8 +131,7 @@ impl<Id: Ord + Clone + Drop, GroupId: Ord + Clone + Drop, A: Allocator + Copy> G
         &self.exclusions
     }
 
-    /// Takes in the box `inbound` under the id `inbound_id`, in place of a box that it may have
-    /// had.
+    /// Takes in the box `inbound` under the id `inbound_id`. A box that the id had before goes.
     ///
     /// With `None` the id forms a group of its own. With a list it is appended to each group of the
     /// list, once for each time that the group is in the list. It also stays in the groups that it

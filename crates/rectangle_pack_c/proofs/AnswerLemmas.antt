@@ -1,18 +1,7 @@
 -- What a session's answer to a packing says of the lists of a C caller.
-use Rattle.std.proofs.Common.{◌≡◌, ◌≢◌, ℕ, ◌<◌, List, [], ◌∷◌, length, get_or, refl, ap, sym, ◌∙◌, subst, arith, suc}
-use Rattle.std.specs.Prelude.{All, AllPairs, Some, map, slice_get}
-use Rattle.std.specs.declared.cmp.Ordering.{Ordering}
-use Rattle.std.specs.declared.cmp.Ordering.TheVariants.{Equal}
-use Rattle.std.specs.Cmp.{nat_cmp_is}
-use Rattle.std.specs.List.{AllZip}
-use Rattle.std.specs.List.Sorted.{IsPermutation}
-use Rattle.std.specs.Ordering.{nat_cmp}
-use Rattle.std.specs.Map.{keys_of, values_of}
-use Rattle.std.proofs.lemmas.Cmp.{nat_cmp_total}
-use Rattle.std.proofs.lemmas.List.Sorted.{IsPermutation-map}
-use Rattle.std.proofs.lemmas.List.Elements.{All-nil, All-cons, All-head, All-tail, All-contains}
-use Rattle.std.proofs.lemmas.Map.Lookups.{exact_unsigned}
-use Rattle.std.proofs.lemmas.Option.{get_or_from_slice_get}
+use Rattle.rectangle_pack_c.proofs.Std.{◌≡◌, ◌≢◌, ℕ, ◌<◌, List, [], ◌∷◌, length, get_or, refl, ap, sym, ◌∙◌, subst, arith, suc, All, AllPairs, Some, map}
+use Rattle.rectangle_pack_c.proofs.Std.{slice_get, Ordering, Equal, nat_cmp_is, AllZip, IsPermutation, nat_cmp, keys_of, values_of, nat_cmp_total}
+use Rattle.rectangle_pack_c.proofs.Std.{IsPermutation-map, All-nil, All-cons, All-head, All-tail, All-contains, exact_unsigned, get_or_from_slice_get}
 use Rattle.rectangle_pack.specs.declared.grouped_rects_to_place.Group.{Group}
 use Rattle.rectangle_pack.specs.declared.pack.answer.Placement.{Placement}
 use Rattle.rectangle_pack.specs.declared.session.command.Packed.{Packed}
@@ -52,21 +41,26 @@ record HasHomes (all : Collection ℕ ℕ) (ps : List (Placement ℕ ℕ)) : Typ
   moved : IsPermutation (keys_of all.groups) (map (λ h. h.0) homes)
   are : ArePlacedWhole nat_cmp nat_cmp group_order all.sizes all.groups homes ps
 
-has_homes : (may : Answers) (all : Collection ℕ ℕ) (old left : List (ℕ × Bin)) (ps : List (Placement ℕ ℕ)) → PackingDone group_order (rules_by nat_cmp nat_cmp may) all old ps left → HasHomes all ps
+has_homes : (may : Answers) (all : Collection ℕ ℕ) (old left : List (ℕ × Bin)) (ps : List (Placement ℕ ℕ))
+    → PackingDone group_order (rules_by nat_cmp nat_cmp may) all old ps left → HasHomes all ps
 has_homes may all old left ps done =
-    let whole = all_whole (rules_by nat_cmp nat_cmp may) group_order all.sizes all.groups _ done.group_order _ done.groups (at_start old) ps _ done.tests done.listed done.placed in
+    let whole = all_whole (rules_by nat_cmp nat_cmp may) group_order all.sizes all.groups _ done.group_order _ done.groups (at_start old) ps _
+    done.tests done.listed done.placed in
     let names : map (λ h. h.0) whole.0.added ≡ map (λ e. e.1) done.group_order = whole.0.names ∙ whole.1 in
     let order = done.by_groups in
     record {
       homes = whole.0.added;
-      moved = rw (names, ← names-zip (λ (e : ℕ × Group ℕ ℕ). e.1) _ all.groups order.unsorted order.each) (IsPermutation-map (λ e. e.1) order.unsorted done.group_order order.permutation);
+      moved = rw (names, ← names-zip (λ (e : ℕ × Group ℕ ℕ). e.1) _ all.groups order.unsorted order.each)
+          (IsPermutation-map (λ e. e.1) order.unsorted done.group_order order.permutation);
       are = whole.0.whole;
     }
 
-module _ (R : Group ℕ ℕ → Group ℕ ℕ → Ordering) (may : Answers) (bins : List RpBin) (boxes : List RpBox) (all : Collection ℕ ℕ) (collected : IsCollected boxes all) (old new : State ℕ ℕ) where
+module _ (R : Group ℕ ℕ → Group ℕ ℕ → Ordering) (may : Answers) (bins : List RpBin) (boxes : List RpBox) (all : Collection ℕ ℕ)
+    (collected : IsCollected boxes all) (old new : State ℕ ℕ) where
   module _ (numbers : Packed) (kept : IsKept R (rules_by nat_cmp nat_cmp may) all old numbers new) (same : R ≡ group_order) (was : old ≡ start bins) where
     after : IsKept group_order (rules_by nat_cmp nat_cmp may) all (start bins) numbers new
-    after = subst (λ o. IsKept group_order (rules_by nat_cmp nat_cmp may) all o numbers new) was (subst (λ r. IsKept r (rules_by nat_cmp nat_cmp may) all old numbers new) same kept)
+    after = subst (λ o. IsKept group_order (rules_by nat_cmp nat_cmp may) all o numbers new) was
+        (subst (λ r. IsKept r (rules_by nat_cmp nat_cmp may) all old numbers new) same kept)
 
     found : HasHomes all after.placements
     found = has_homes may all (new_bins bins) new.bins after.placements after.done
@@ -84,7 +78,8 @@ module _ (R : Group ℕ ℕ → Group ℕ ℕ → Ordering) (may : Answers) (bin
 
     module _ (placements : List RpPlacement) (written : AreWritten as_placement new.outstanding placements) where
       stood : All (λ p. slice_get placements p.id ≡ Some (corner_of p.bin p.location)) after.placements
-      stood = placements_each (λ id q. slice_get placements id ≡ Some q) 0 after.placements (subst (λ rs. AreWritten as_placement rs placements) after.outstanding written)
+      stood = placements_each (λ id q. slice_get placements id ≡ Some q) 0 after.placements
+          (subst (λ rs. AreWritten as_placement rs placements) after.outstanding written)
 
       -- where they are written, the boxes are placed
       pub answer_placed : ArePlaced bins boxes placements
@@ -97,32 +92,43 @@ module _ (R : Group ℕ ℕ → Group ℕ ℕ → Ordering) (may : Answers) (bin
         collected = collected;
         made = after.placements;
         left = new.bins;
-        done = PackingDone-more nat_cmp nat_cmp may by_volume includes group_order (excludes_by group_order nat_cmp all.partners) all (new_bins bins) after.placements new.bins after.done;
+        done = PackingDone-more nat_cmp nat_cmp may by_volume includes group_order (excludes_by group_order nat_cmp all.partners) all (new_bins bins)
+            after.placements new.bins after.done;
         written = stood;
         as_many = as_many;
       }
 
   -- a packing that is refused
-  pub answer_refused : (left : List (ℕ × Bin)) → PackingRefused R (rules_by nat_cmp nat_cmp may) all old.bins left → R ≡ group_order → old ≡ start bins → Includes may by_volume → IsRefused bins boxes
+  pub answer_refused : (left : List (ℕ × Bin)) → PackingRefused R (rules_by nat_cmp nat_cmp may) all old.bins left → R ≡ group_order → old ≡ start bins
+      → Includes may by_volume → IsRefused bins boxes
   answer_refused left refused same was includes =
       let here : PackingRefused group_order (rules_by nat_cmp nat_cmp may) all (new_bins bins) left =
-      subst (λ (o : State ℕ ℕ). PackingRefused group_order (rules_by nat_cmp nat_cmp may) all o.bins left) was (subst (λ r. PackingRefused r (rules_by nat_cmp nat_cmp may) all old.bins left) same refused) in
-      let more = PackingRefused-more nat_cmp nat_cmp may by_volume includes group_order (excludes_by group_order nat_cmp all.partners) all (new_bins bins) left here in
+      subst (λ (o : State ℕ ℕ). PackingRefused group_order (rules_by nat_cmp nat_cmp may) all o.bins left) was
+      (subst (λ r. PackingRefused r (rules_by nat_cmp nat_cmp may) all old.bins left) same refused) in
+      let more = PackingRefused-more nat_cmp nat_cmp may by_volume includes group_order (excludes_by group_order nat_cmp all.partners)
+      all (new_bins bins) left here in
       record {
         all = all;
         collected = collected;
-        refused = record { left = left; refused = more; each = taken_nowhere group_order (rules_by nat_cmp nat_cmp by_volume) nat_cmp_total all (new_bins bins) left more };
+        refused = record {
+          left = left;
+          refused = more;
+          each = taken_nowhere group_order (rules_by nat_cmp nat_cmp by_volume) nat_cmp_total all (new_bins bins) left more;
+        };
       }
 
 -- sizes of 32 bits that are rated by their volumes
-volumes_rated : (MayRate : Size → ℕ → Type 0) → ((size : Size) (rate : ℕ) → MayRate size rate → rate ≡ volume_of size) → (sizes : List Size) (rates : List ℕ) → All IsU32 sizes → AllZip MayRate sizes rates → AllZip IsVolume sizes rates
+volumes_rated : (MayRate : Size → ℕ → Type 0) → ((size : Size) (rate : ℕ) → MayRate size rate → rate ≡ volume_of size) → (sizes : List Size) (rates : List ℕ)
+    → All IsU32 sizes → AllZip MayRate sizes rates → AllZip IsVolume sizes rates
 volumes_rated MayRate passes [] [] small rated = tt
 volumes_rated MayRate passes [] (r ∷ rates) small rated = absurd rated
 volumes_rated MayRate passes (s ∷ sizes) [] small rated = absurd rated
-volumes_rated MayRate passes (s ∷ sizes) (r ∷ rates) small rated = ((All-head IsU32 s sizes small, passes s r rated.0), volumes_rated MayRate passes sizes rates (All-tail IsU32 s sizes small) rated.1)
+volumes_rated MayRate passes (s ∷ sizes) (r ∷ rates) small rated =
+    ((All-head IsU32 s sizes small, passes s r rated.0), volumes_rated MayRate passes sizes rates (All-tail IsU32 s sizes small) rated.1)
 
 -- the order of smallest boxes by what is rated so is the one by volumes
-pub smallest_includes : (MayRate : Size → ℕ → Type 0) → ((size : Size) (rate : ℕ) → MayRate size rate → rate ≡ volume_of size) → (first second : List Size) (r : Ordering) → All IsU32 first → All IsU32 second
+pub smallest_includes : (MayRate : Size → ℕ → Type 0) → ((size : Size) (rate : ℕ) → MayRate size rate → rate ≡ volume_of size)
+    → (first second : List Size) (r : Ordering) → All IsU32 first → All IsU32 second
     → IsSmallestOrder MayRate first second r → IsSmallestOrder IsVolume first second r
 smallest_includes MayRate passes first second r small_first small_second h = record {
   rates_first = h.rates_first;
@@ -143,7 +149,8 @@ one_answer : (bins : List RpBin) (boxes : List RpBox) (all other : Collection �
 one_answer bins boxes all other h g =
     one_result group_order (rules_by nat_cmp nat_cmp by_volume) group_order_total nat_cmp_total nat_cmp_total all other (new_bins bins) (new_bins bins)
     (collected_alike boxes all other h g)
-    (zip_itself (λ x y. (nat_cmp x.0 y.0 ≡ Equal) × AreSameBins x.1 y.1) (λ x. (sym (nat_cmp_is x.0 x.0 Equal refl), record { size = refl; sections = refl })) (new_bins bins))
+    (zip_itself (λ x y. (nat_cmp x.0 y.0 ≡ Equal) × AreSameBins x.1 y.1)
+    (λ x. (sym (nat_cmp_is x.0 x.0 Equal refl), record { size = refl; sections = refl })) (new_bins bins))
     (total_decides (values_of all.sizes) (values_of (new_bins bins)) by_volume (record { rate = volume_of; only = λ size rate says. says.1 })
     (smallest_is_preorder IsVolume volume_of (λ size rate small says. says.1) by_volume.prefer
     (λ a b r says. (volumes_small a _ says.rated_first, volumes_small b _ says.rated_second)) (λ a b r says. says)))
@@ -170,11 +177,15 @@ one_packing bins boxes one other h g = same_lists other one (g.as_many ∙ sym h
     same : (i : ℕ) (d : RpPlacement) → i < length other → get_or other i d ≡ get_or one i d
     same i d low =
         let (p, inside, p_id) = placed_each boxes h.all h.collected h.made found.homes found.moved found.are i (omega (arith, low, g.as_many)) in
-        let (q, among, like) = zip_right (λ p q. (nat_cmp p.id q.id ≡ Equal) × (nat_cmp p.bin q.bin ≡ Equal) × (p.location ≡ q.location)) h.made g.made alike p inside in
+        let (q, among, like) = zip_right (λ p q. (nat_cmp p.id q.id ≡ Equal) × (nat_cmp p.bin q.bin ≡ Equal) × (p.location ≡ q.location))
+        h.made g.made alike p inside in
         let q_id : q.id ≡ i = sym (exact_unsigned p.id q.id like.0) ∙ p_id in
-        let here : slice_get one i ≡ Some (corner_of p.bin p.location) = rw p_id at (All-contains (λ (p : Placement ℕ ℕ). slice_get one p.id ≡ Some (corner_of p.bin p.location)) h.made p h.written inside) in
-        let there : slice_get other i ≡ Some (corner_of q.bin q.location) = rw q_id at (All-contains (λ (p : Placement ℕ ℕ). slice_get other p.id ≡ Some (corner_of p.bin p.location)) g.made q g.written among) in
-        let corners : corner_of q.bin q.location ≡ corner_of p.bin p.location = ap (λ b. corner_of b q.location) (sym (exact_unsigned p.bin q.bin like.1)) ∙ ap (corner_of p.bin) (sym like.2) in
+        let here : slice_get one i ≡ Some (corner_of p.bin p.location) = rw p_id at
+        (All-contains (λ (p : Placement ℕ ℕ). slice_get one p.id ≡ Some (corner_of p.bin p.location)) h.made p h.written inside) in
+        let there : slice_get other i ≡ Some (corner_of q.bin q.location) = rw q_id at
+        (All-contains (λ (p : Placement ℕ ℕ). slice_get other p.id ≡ Some (corner_of p.bin p.location)) g.made q g.written among) in
+        let corners : corner_of q.bin q.location ≡ corner_of p.bin p.location = ap (λ b. corner_of b q.location) (sym (exact_unsigned p.bin q.bin like.1))
+        ∙ ap (corner_of p.bin) (sym like.2) in
         get_or_from_slice_get other i (corner_of q.bin q.location) d there ∙ corners ∙ sym (get_or_from_slice_get one i (corner_of p.bin p.location) d here)
 
 -- and what is packed by one call is refused by none

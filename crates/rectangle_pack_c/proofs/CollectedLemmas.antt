@@ -1,20 +1,10 @@
 -- The collection of a list of boxes: one more push, what stands in it, and that two of them are alike.
-use Rattle.std.proofs.Common.{◌≡◌, ◌≢◌, ℕ, ◌+◌, ◌<◌, ◌≤◌, ◌==◌, Bool, true, false, cond, List, [], ◌∷◌, ◌++◌, length, get_or, refl, ap, sym, ◌∙◌, subst, arith, suc, zero, append-nil}
-use Rattle.std.specs.Prelude.{Option, Some, None, All, AllPairs, Contains, IsSomeAnd, unwrap_or, slice_get, map, filter, MatchBool}
-use Rattle.std.specs.List.{AllZip, enumerate_from}
-use Rattle.std.specs.List.Sorted.{IsStrictlySortedBy}
-use Rattle.std.specs.Option.{option_map}
-use Rattle.std.specs.declared.cmp.Ordering.TheVariants.{Equal}
-use Rattle.std.specs.Cmp.{nat_cmp_is}
-use Rattle.std.specs.Ordering.{nat_cmp, is_eq}
-use Rattle.std.specs.Map.{lookup, keys_of}
-use Rattle.std.specs.BTreeMap.{is_at, insert_entry}
-use Rattle.std.proofs.lemmas.Map.Lookups.{exact_unsigned}
-use Rattle.std.proofs.lemmas.List.{map-append, length-map, get_or_default}
-use Rattle.std.proofs.lemmas.List.FromFn.{length-enumerate_from, get_or-enumerate_from}
-use Rattle.std.proofs.lemmas.List.Kept.{AllPairs-cons}
-use Rattle.std.proofs.lemmas.List.Elements.{All-nil, All-cons, All-weaker, All-head, Contains-get_or, filter-append}
-use Rattle.std.proofs.lemmas.Option.{slice_get-map, slice_get-get_or}
+use Rattle.rectangle_pack_c.proofs.Std.{◌≡◌, ◌≢◌, ℕ, ◌+◌, ◌<◌, ◌≤◌, ◌==◌, Bool, true, false, cond, List, [], ◌∷◌, ◌++◌, length, get_or, refl, ap, sym, ◌∙◌}
+use Rattle.rectangle_pack_c.proofs.Std.{subst, arith, suc, zero, append-nil, Option, Some, None, All, AllPairs, Contains, IsSomeAnd, unwrap_or, slice_get}
+use Rattle.rectangle_pack_c.proofs.Std.{map, filter, MatchBool, AllZip, enumerate_from, IsStrictlySortedBy, option_map, Equal, nat_cmp_is, nat_cmp, is_eq}
+use Rattle.rectangle_pack_c.proofs.Std.{lookup, keys_of, is_at, insert_entry, exact_unsigned, map-append, length-map, get_or_default, length-enumerate_from}
+use Rattle.rectangle_pack_c.proofs.Std.{get_or-enumerate_from, AllPairs-cons, All-nil, All-cons, All-weaker, All-head, Contains-get_or, filter-append}
+use Rattle.rectangle_pack_c.proofs.Std.{slice_get-map, slice_get-get_or}
 use Rattle.rectangle_pack.specs.declared.grouped_rects_to_place.Group.{Group}
 use Rattle.rectangle_pack.specs.declared.grouped_rects_to_place.Group.TheVariants.{Ungrouped, Grouped}
 use Rattle.rectangle_pack.specs.Groups.{Collection, SetsSize, PushesAlone, PushesInto, Appends, times_named}
@@ -28,7 +18,8 @@ use Rattle.rectangle_pack_c.proofs.OrderLemmas.{nat_same, nat_greater, nat_other
 use Rattle.rectangle_pack_c.proofs.WholeLemmas.{none_in, in_kept, zip_itself}
 
 -- an entry under the next number is the last
-pub insert_last : {X : Type 0} (n : ℕ) (xs : List X) (x : X) (m : ℕ) → m ≡ n + length xs → insert_entry nat_cmp (enumerate_from n xs) m x ≡ enumerate_from n (xs ++ x ∷ [])
+pub insert_last : {X : Type 0} (n : ℕ) (xs : List X) (x : X) (m : ℕ) → m ≡ n + length xs
+    → insert_entry nat_cmp (enumerate_from n xs) m x ≡ enumerate_from n (xs ++ x ∷ [])
 insert_last n [] x m e = let same : m ≡ n = omega arith in ap (λ k. (k, x) ∷ []) same
 insert_last n (y ∷ ys) x m e =
     let later = insert_last (n + 1) ys x m (omega arith) in
@@ -54,7 +45,8 @@ kept_one : (t : Bool) (m : ℕ) (b : RpBox) → map index_of (cond t ((m, b) ∷
 kept_one true m b = refl
 kept_one false m b = refl
 
-members_more : (k : Group ℕ ℕ) (boxes : List RpBox) (b : RpBox) → members_of k (boxes ++ b ∷ []) ≡ with_last (is_in k (length boxes, b)) (members_of k boxes) (length boxes)
+members_more : (k : Group ℕ ℕ) (boxes : List RpBox) (b : RpBox)
+    → members_of k (boxes ++ b ∷ []) ≡ with_last (is_in k (length boxes, b)) (members_of k boxes) (length boxes)
 members_more k boxes b =
     let m = length boxes in
     ap (λ es. map index_of (filter (is_in k) es)) (enumerate_last 0 boxes b m (omega arith))
@@ -114,8 +106,14 @@ module _ (boxes : List RpBox) (b : RpBox) (old new : Collection ℕ ℕ) (h : Is
       members_more k boxes b ∙ ap (λ t. with_last t (members_of k boxes) (length boxes)) inn in
       not_empty (members_of k boxes) (length boxes) ∙ ap unless_empty (sym same)
 
-  collected_alone : b.group == 0 ≡ true → PushesAlone nat_cmp group_order old new (length boxes) (box_size b) → IsStrictlySortedBy group_order (keys_of new.groups) → IsCollected (boxes ++ b ∷ []) new
-  collected_alone alone p up = record { sizes = sizes_more p.sizes; groups = λ k. found k ∙ at k (is_eq (group_order (Ungrouped (length boxes)) k)) refl; ascend = up; partners = p.partners ∙ h.partners }
+  collected_alone : b.group == 0 ≡ true → PushesAlone nat_cmp group_order old new (length boxes) (box_size b)
+      → IsStrictlySortedBy group_order (keys_of new.groups) → IsCollected (boxes ++ b ∷ []) new
+  collected_alone alone p up = record {
+    sizes = sizes_more p.sizes;
+    groups = λ k. found k ∙ at k (is_eq (group_order (Ungrouped (length boxes)) k)) refl;
+    ascend = up;
+    partners = p.partners ∙ h.partners;
+  }
     where
       own : group_of (length boxes) b ≡ Ungrouped (length boxes)
       own = ap (λ t. cond t (Ungrouped (length boxes)) (Grouped b.group)) alone
@@ -123,25 +121,35 @@ module _ (boxes : List RpBox) (b : RpBox) (old new : Collection ℕ ℕ) (h : Is
       none_yet : members_of (Ungrouped (length boxes)) boxes ≡ []
       none_yet = fresh 0 (length boxes) boxes (omega arith)
 
-      found : (k : Group ℕ ℕ) → lookup (is_at (group_order k)) new.groups ≡ cond (is_eq (group_order (Ungrouped (length boxes)) k)) (Some (length boxes ∷ [])) (lookup (is_at (group_order k)) old.groups)
+      found : (k : Group ℕ ℕ) → lookup (is_at (group_order k)) new.groups
+          ≡ cond (is_eq (group_order (Ungrouped (length boxes)) k)) (Some (length boxes ∷ [])) (lookup (is_at (group_order k)) old.groups)
       found k =
           let (key, member, e, f, are) = p.groups in
           let here : key ≡ length boxes = sym (exact_unsigned (length boxes) key e) in
           let him : member ≡ length boxes = sym (exact_unsigned (length boxes) member f) in
-          rw (are, here, him) (lookup-inserted group_order_total old.groups (Ungrouped (length boxes)) (length boxes ∷ []) (h.groups (Ungrouped (length boxes)) ∙ ap unless_empty none_yet) k)
+          rw (are, here, him) (lookup-inserted group_order_total old.groups (Ungrouped (length boxes)) (length boxes ∷ [])
+          (h.groups (Ungrouped (length boxes)) ∙ ap unless_empty none_yet) k)
 
-      at : (k : Group ℕ ℕ) (t : Bool) → is_eq (group_order (Ungrouped (length boxes)) k) ≡ t → cond t (Some (length boxes ∷ [])) (lookup (is_at (group_order k)) old.groups) ≡ unless_empty (members_of k (boxes ++ b ∷ []))
+      at : (k : Group ℕ ℕ) (t : Bool) → is_eq (group_order (Ungrouped (length boxes)) k) ≡ t
+          → cond t (Some (length boxes ∷ [])) (lookup (is_at (group_order k)) old.groups) ≡ unless_empty (members_of k (boxes ++ b ∷ []))
       at k true e =
           let is : Ungrouped (length boxes) ≡ k = exact_group (Ungrouped (length boxes)) k e in
-          let inn : is_in (Ungrouped (length boxes)) (length boxes, b) ≡ true = ap (λ g. is_eq (group_order (Ungrouped (length boxes)) g)) own ∙ nat_same (length boxes) in
+          let inn : is_in (Ungrouped (length boxes)) (length boxes, b) ≡ true = ap
+          (λ g. is_eq (group_order (Ungrouped (length boxes)) g)) own ∙ nat_same (length boxes) in
           subst (λ g. Some (length boxes ∷ []) ≡ unless_empty (members_of g (boxes ++ b ∷ []))) is
           (ap (λ ids. Some (ids ++ length boxes ∷ [])) (sym none_yet) ∙ within (Ungrouped (length boxes)) inn)
       at k false e =
           let out : is_in k (length boxes, b) ≡ false = ap (λ g. is_eq (group_order k g)) own ∙ group_swap k (Ungrouped (length boxes)) ∙ e in
           h.groups k ∙ without k out
 
-  collected_into : b.group == 0 ≡ false → PushesInto nat_cmp group_order old new (length boxes) (b.group ∷ []) (box_size b) → IsStrictlySortedBy group_order (keys_of new.groups) → IsCollected (boxes ++ b ∷ []) new
-  collected_into not_alone p up = record { sizes = sizes_more p.sizes; groups = λ k. at k (is_eq (group_order k (Grouped b.group))) refl; ascend = up; partners = p.partners ∙ h.partners }
+  collected_into : b.group == 0 ≡ false → PushesInto nat_cmp group_order old new (length boxes) (b.group ∷ []) (box_size b)
+      → IsStrictlySortedBy group_order (keys_of new.groups) → IsCollected (boxes ++ b ∷ []) new
+  collected_into not_alone p up = record {
+    sizes = sizes_more p.sizes;
+    groups = λ k. at k (is_eq (group_order k (Grouped b.group))) refl;
+    ascend = up;
+    partners = p.partners ∙ h.partners;
+  }
     where
       own : group_of (length boxes) b ≡ Grouped b.group
       own = ap (λ t. cond t (Ungrouped (length boxes)) (Grouped b.group)) not_alone
@@ -154,17 +162,20 @@ module _ (boxes : List RpBox) (b : RpBox) (old new : Collection ℕ ℕ) (h : Is
 
       last_is : (tail : List ℕ) → length tail ≡ 1 → All (λ x. nat_cmp (length boxes) x ≡ Equal) tail → tail ≡ length boxes ∷ []
       last_is [] long all = absurd (omega arith)
-      last_is (x ∷ []) long all = let is : length boxes ≡ x = exact_unsigned (length boxes) x (All-head (λ x. nat_cmp (length boxes) x ≡ Equal) x [] all) in ap (λ y. y ∷ []) (sym is)
+      last_is (x ∷ []) long all = let is : length boxes ≡ x = exact_unsigned (length boxes) x
+          (All-head (λ x. nat_cmp (length boxes) x ≡ Equal) x [] all) in ap (λ y. y ∷ []) (sym is)
       last_is (x ∷ y ∷ tail) long all = absurd (omega arith)
 
       appended : (was : List ℕ) (o : Option (List ℕ)) → IsSomeAnd o (Appends nat_cmp was (length boxes) 1) → o ≡ Some (was ++ length boxes ∷ [])
       appended was None a = absurd a
       appended was (Some ids) (tail, joined, long, all) = ap (λ l. Some l) (joined ∙ ap (λ t. was ++ t) (last_is tail long all))
 
-      at : (k : Group ℕ ℕ) (t : Bool) → is_eq (group_order k (Grouped b.group)) ≡ t → lookup (is_at (group_order k)) new.groups ≡ unless_empty (members_of k (boxes ++ b ∷ []))
+      at : (k : Group ℕ ℕ) (t : Bool) → is_eq (group_order k (Grouped b.group)) ≡ t
+          → lookup (is_at (group_order k)) new.groups ≡ unless_empty (members_of k (boxes ++ b ∷ []))
       at k true e =
           let inn : is_in k (length boxes, b) ≡ true = ap (λ g. is_eq (group_order k g)) own ∙ e in
-          let was : unwrap_or (lookup (is_at (group_order k)) old.groups) [] ≡ members_of k boxes = ap (λ o. unwrap_or o []) (h.groups k) ∙ or_empty (members_of k boxes) in
+          let was : unwrap_or (lookup (is_at (group_order k)) old.groups) [] ≡ members_of k boxes = ap (λ o. unwrap_or o []) (h.groups k)
+          ∙ or_empty (members_of k boxes) in
           appended _ _ (rw (once k e) at (p.named_groups k (omega (arith, once k e)))) ∙ ap (λ ids. Some (ids ++ length boxes ∷ [])) was ∙ within k inn
       at k false e =
           let out : is_in k (length boxes, b) ≡ false = ap (λ g. is_eq (group_order k g)) own ∙ e in
@@ -189,7 +200,8 @@ module _ (k : Group ℕ ℕ) (box : ℕ → RpBox) where
   abbrev IsMember : ℕ → ℕ → ℕ → Type 0
   IsMember n end i = (n ≤ i) × (i < end) × (group_of i (box i) ≡ k)
 
-  members_each : (n end : ℕ) (bs : List RpBox) → n + length bs ≡ end → ((j : ℕ) (d : RpBox) → j < length bs → box (n + j) ≡ get_or bs j d) → All (IsMember n end) (map index_of (filter (is_in k) (enumerate_from n bs)))
+  members_each : (n end : ℕ) (bs : List RpBox) → n + length bs ≡ end → ((j : ℕ) (d : RpBox) → j < length bs → box (n + j) ≡ get_or bs j d)
+      → All (IsMember n end) (map index_of (filter (is_in k) (enumerate_from n bs)))
   members_each n end [] long are = All-nil _
   members_each n end (b ∷ bs) long are =
       by (is_in k (n, b)) refl (All-weaker (IsMember (n + 1) end) (IsMember n end) (λ i p. (omega (arith, p.0), p.1, p.2)) _
@@ -203,15 +215,19 @@ module _ (k : Group ℕ ℕ) (box : ℕ → RpBox) where
       by true e all = All-cons (IsMember n end) n _ (omega arith, omega arith, ap (group_of n) first ∙ sym (exact_group k (group_of n b) e)) all
       by false e all = all
 
-  members_once : (n end : ℕ) (bs : List RpBox) → n + length bs ≡ end → ((j : ℕ) (d : RpBox) → j < length bs → box (n + j) ≡ get_or bs j d) → AllPairs (λ i j. i ≢ j) (map index_of (filter (is_in k) (enumerate_from n bs)))
+  members_once : (n end : ℕ) (bs : List RpBox) → n + length bs ≡ end → ((j : ℕ) (d : RpBox) → j < length bs → box (n + j) ≡ get_or bs j d)
+      → AllPairs (λ i j. i ≢ j) (map index_of (filter (is_in k) (enumerate_from n bs)))
   members_once n end [] long are = λ i j d below inside. absurd (omega (arith, inside))
   members_once n end (b ∷ bs) long are =
       let later = λ (j : ℕ) (d : RpBox) (low : j < length bs). let next : n + suc j ≡ (n + 1) + j = omega arith in rw next at (are (suc j) d (omega arith)) in
       by (is_in k (n, b)) (members_each (n + 1) end bs (omega arith) later) (members_once (n + 1) end bs (omega arith) later)
     where
-      by : (t : Bool) → All (IsMember (n + 1) end) (map index_of (filter (is_in k) (enumerate_from (n + 1) bs))) → AllPairs (λ i j. i ≢ j) (map index_of (filter (is_in k) (enumerate_from (n + 1) bs)))
-          → AllPairs (λ i j. i ≢ j) (map index_of (cond t ((n, b) ∷ filter (is_in k) (enumerate_from (n + 1) bs)) (filter (is_in k) (enumerate_from (n + 1) bs))))
-      by true above pairs = AllPairs-cons (λ i j. i ≢ j) n _ (All-weaker (IsMember (n + 1) end) (λ j. n ≢ j) (λ j p. let ne : n ≢ j = omega (arith, p.0) in ne) _ above) pairs
+      by : (t : Bool) → All (IsMember (n + 1) end) (map index_of (filter (is_in k) (enumerate_from (n + 1) bs)))
+          → AllPairs (λ i j. i ≢ j) (map index_of (filter (is_in k) (enumerate_from (n + 1) bs)))
+          → AllPairs (λ i j. i ≢ j)
+          (map index_of (cond t ((n, b) ∷ filter (is_in k) (enumerate_from (n + 1) bs)) (filter (is_in k) (enumerate_from (n + 1) bs))))
+      by true above pairs = AllPairs-cons (λ i j. i ≢ j) n _
+          (All-weaker (IsMember (n + 1) end) (λ j. n ≢ j) (λ j p. let ne : n ≢ j = omega (arith, p.0) in ne) _ above) pairs
       by false above pairs = pairs
 
 -- what stands in the collection: each box in its size, and in its group alone
@@ -223,9 +239,11 @@ pub record AreHeld (box : ℕ → RpBox) (count : ℕ) (all : Collection ℕ ℕ
 
 pub collected_held : (boxes : List RpBox) (d : RpBox) (all : Collection ℕ ℕ) → IsCollected boxes all → AreHeld (λ i. get_or boxes i d) (length boxes) all
 collected_held boxes d all h = record {
-  sized = λ i low. ap (lookup (is_at (nat_cmp i))) h.sizes ∙ lookup_numbered 0 (map box_size boxes) i i (omega arith) ∙ slice_get-map box_size boxes i ∙ ap (option_map box_size) (slice_get-get_or boxes i d low);
+  sized = λ i low. ap (lookup (is_at (nat_cmp i))) h.sizes ∙ lookup_numbered 0 (map box_size boxes) i i (omega arith) ∙ slice_get-map box_size boxes i
+      ∙ ap (option_map box_size) (slice_get-get_or boxes i d low);
   members = λ k ids is.
-      rw (is_list (members_of k boxes) ids (sym (h.groups k) ∙ is)) (All-weaker (IsMember k box 0 (length boxes)) (λ i. (i < length boxes) × (group_of i (box i) ≡ k)) (λ i p. (p.1, p.2)) _ (members_each k box 0 (length boxes) boxes (omega arith) are));
+      rw (is_list (members_of k boxes) ids (sym (h.groups k) ∙ is)) (All-weaker (IsMember k box 0 (length boxes))
+      (λ i. (i < length boxes) × (group_of i (box i) ≡ k)) (λ i p. (p.1, p.2)) _ (members_each k box 0 (length boxes) boxes (omega arith) are));
   once = λ k ids is. rw (is_list (members_of k boxes) ids (sym (h.groups k) ∙ is)) (members_once k box 0 (length boxes) boxes (omega arith) are);
   there = λ i low. rw (h.groups (group_of i (box i))) (in_list (members_of (group_of i (box i)) boxes) i (among i low));
 }
@@ -245,7 +263,8 @@ collected_held boxes d all h = record {
         let at = get_or-enumerate_from 0 boxes i (i, d) low in
         let here : 0 + i ≡ i = omega arith in
         let entry : Contains (enumerate_from 0 boxes) (i, box i) =
-        subst (Contains (enumerate_from 0 boxes)) (at ∙ ap (λ j. (j, box i)) here) (Contains-get_or (enumerate_from 0 boxes) i (i, d) (omega (arith, length-enumerate_from 0 boxes))) in
+        subst (Contains (enumerate_from 0 boxes)) (at ∙ ap (λ j. (j, box i)) here)
+        (Contains-get_or (enumerate_from 0 boxes) i (i, d) (omega (arith, length-enumerate_from 0 boxes))) in
         in_kept index_of (is_in (group_of i (box i))) (enumerate_from 0 boxes) (i, box i) entry (group_same (group_of i (box i)))
 
 -- lists of equal ids
@@ -253,10 +272,13 @@ abbrev AreSame : List ℕ → List ℕ → Type 0
 AreSame xs ys = AllZip (λ x y. nat_cmp x y ≡ Equal) xs ys
 
 -- collections of the same boxes are alike
-pub collected_alike : (boxes : List RpBox) (all other : Collection ℕ ℕ) → IsCollected boxes all → IsCollected boxes other → AreCollectionsAlike group_order nat_cmp all other
+pub collected_alike : (boxes : List RpBox) (all other : Collection ℕ ℕ) → IsCollected boxes all → IsCollected boxes other
+    → AreCollectionsAlike group_order nat_cmp all other
 collected_alike boxes all other h g = record {
-  sizes = rw (h.sizes, g.sizes) (zip_itself (λ x y. (nat_cmp x.0 y.0 ≡ Equal) × (x.1 ≡ y.1)) (λ x. (same_number x.0, refl)) (enumerate_from 0 (map box_size boxes)));
-  groups = maps_alike group_order group_order_total AreSame all.groups other.groups h.ascend g.ascend (λ k. rw (h.groups k, g.groups k) (options_alike (unless_empty (members_of k boxes))));
+  sizes = rw (h.sizes, g.sizes) (zip_itself (λ x y. (nat_cmp x.0 y.0 ≡ Equal) × (x.1 ≡ y.1))
+      (λ x. (same_number x.0, refl)) (enumerate_from 0 (map box_size boxes)));
+  groups = maps_alike group_order group_order_total AreSame all.groups other.groups h.ascend g.ascend
+      (λ k. rw (h.groups k, g.groups k) (options_alike (unless_empty (members_of k boxes))));
   excluded = λ a b. rw (h.partners, g.partners) refl;
 }
   where

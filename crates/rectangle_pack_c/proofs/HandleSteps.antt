@@ -1,5 +1,6 @@
 -- Steps of the proofs about handles: what an unboxed value and a handle own, taken apart and put together. Assumes `Logic`.
-use Rattle.std.proofs.Common.{◌≡◌, ℕ, List, [], ◌∷◌, ◌++◌, refl, subst}
+use Rattle.rectangle_pack_c.proofs.Std.{◌≡◌, ℕ, List, [], ◌∷◌, ◌++◌, refl, subst, Ghosts, Al, handle_tells, box_owns, and_tt, Option, None, Some, IsSome}
+use Rattle.rectangle_pack_c.proofs.Std.{Global}
 use mathlib.Core.Bool.{◌&&◌, true}
 use lib.Dec.{T}
 use seplogic.Ra.Ura.{Ura}
@@ -19,12 +20,6 @@ use denote.Param.{layout}
 use denote.Param.Laws.{Laws}
 use denote.Struct.Struct.{within}
 use denote.Struct.Owning.{shape}
-use Rattle.std.specs.declared.alloc.Allocator.{Ghosts}
-use Rattle.std.proofs.alloc.Calls.{Al, handle_tells}
-use Rattle.std.specs.Box.Ownership.{box_owns}
-use Rattle.std.proofs.ResultValues.{and_tt}
-use Rattle.std.specs.Prelude.{Option, None, Some, IsSome}
-use Rattle.std.specs.declared.alloc.Global.{Global}
 use Rattle.std.specs.contracts.alloc.Global as global
 use Rattle.std.specs.contracts.impls.GlobalAllocator.TheImpl as heap
 use Rattle.std.proofs.alloc.Global.TheLaws as global_laws
@@ -59,7 +54,8 @@ module _ (R Z : RattleType) (laws : Laws Z) (g : Ghosts Z.Denot) where
     unboxed_out t u vs k =
         fsplit t $ fpick t (λ words. fsplit t $ feq_l t (λ vs_is. fsplit t $ feq_l t (λ at_is. fsplit t $
         handle_tells allocator t u.alloc words.1.0 (λ h h_is fits. move t (1 ∷ []) $ drop t $ move t (1 ∷ []) $
-        in_a_block t u.at (λ p. box_owns (g.dealloc_token u.alloc) R p u.value) (fst∗ 𝓤 (never 𝓤) (sem 𝓛 (g.dealloc_token u.alloc (bare (lone R.mir)) null_ptr))) (λ b o e.
+        in_a_block t u.at (λ p. box_owns (g.dealloc_token u.alloc) R p u.value)
+        (fst∗ 𝓤 (never 𝓤) (sem 𝓛 (g.dealloc_token u.alloc (bare (lone R.mir)) null_ptr))) (λ b o e.
         k b o h e
         (subst (λ (p : Ptr). vs ≡ vstruct (of_list (ptr_val p ∷ h ∷ [])) ∷ []) e
         (subst (λ (ws : List Val). vs ≡ vstruct (of_list (ptr_val u.at ∷ (ws ++ []))) ∷ []) h_is
@@ -73,7 +69,8 @@ module _ (R Z : RattleType) (laws : Laws Z) (g : Ghosts Z.Denot) where
         let v = two (vptr b o) h in
         nothing t $ move t (2 ∷ 0 ∷ []) $ fjoin t $ feq_i t (List Val) (vptr b o ∷ []) (vptr b o ∷ []) refl $ fjoin t $
         feq_i t (List Val) (v ∷ []) (v ∷ []) refl $ fjoin t $
-        fpack t (Valss (RawPtr ∷ Z ∷ [])) (within (shape (unboxed.the_type R Z g)) (block_ptr b o, (a, tt)) (v ∷ [])) (vptr b o ∷ [], (h ∷ [], tt)) $ fjoin t $ s)
+        fpack t (Valss (RawPtr ∷ Z ∷ [])) (within (shape (unboxed.the_type R Z g)) (block_ptr b o, (a, tt)) (v ∷ []))
+        (vptr b o ∷ [], (h ∷ [], tt)) $ fjoin t $ s)
 
 -- the value of an option that has one
 pub value_of : {X : Type 0} (o : Option X) → IsSome o → (x : X) × (o ≡ Some x)
@@ -99,7 +96,8 @@ module _ {M : Type 1} {𝓤 : Ura M} {𝓛 : Logic 𝓤} {K : Type 0} {Γ : List
       fsplit t $ fpick t (λ words. fsplit t $ feq_l t (λ vs_is. fsplit t $ feq_l t (λ at_is. fsplit t $
       handle_tells heap_al t d.alloc words.1.0 (λ h h_is fits. move t (1 ∷ []) $ drop t $ move t (1 ∷ []) $
       rewrite t 0 (λ (found : Option session_row.Denot). ‵ (holds d.alloc d.at found)) is refl $
-      in_a_block t d.at (λ p. box_owns (heap.ghosts.dealloc_token d.alloc) session_row p x) (fst∗ 𝓤 (never 𝓤) (sem 𝓛 (heap.ghosts.dealloc_token d.alloc (bare (lone session_row.mir)) null_ptr))) (λ b o e.
+      in_a_block t d.at (λ p. box_owns (heap.ghosts.dealloc_token d.alloc) session_row p x)
+      (fst∗ 𝓤 (never 𝓤) (sem 𝓛 (heap.ghosts.dealloc_token d.alloc (bare (lone session_row.mir)) null_ptr))) (λ b o e.
       k b o h e
       (subst (λ (p : Ptr). vs ≡ vstruct (of_list (ptr_val p ∷ h ∷ [])) ∷ []) e
       (subst (λ (ws : List Val). vs ≡ vstruct (of_list (ptr_val d.at ∷ (ws ++ []))) ∷ []) h_is
@@ -113,7 +111,8 @@ module _ {M : Type 1} {𝓤 : Ura M} {𝓛 : Logic 𝓤} {K : Type 0} {Γ : List
       let v = two (vptr b o) h in
       nothing t $ move t (2 ∷ 0 ∷ []) $ fjoin t $ feq_i t (List Val) (vptr b o ∷ []) (vptr b o ∷ []) refl $ fjoin t $
       feq_i t (List Val) (v ∷ []) (v ∷ []) refl $ fjoin t $
-      fpack t (Valss (RawPtr ∷ (global.the_field).row ∷ [])) (within (shape held.the_type) (block_ptr b o, ((global.the_type).to a, tt)) (v ∷ [])) (vptr b o ∷ [], (h ∷ [], tt)) $ fjoin t $ s)
+      fpack t (Valss (RawPtr ∷ (global.the_field).row ∷ [])) (within (shape held.the_type) (block_ptr b o, ((global.the_type).to a, tt)) (v ∷ []))
+      (vptr b o ∷ [], (h ∷ [], tt)) $ fjoin t $ s)
 
   -- a handle without a session is null, and the heap's handle
   pub none_in : K → (h : Val) (a : Global)
@@ -124,4 +123,5 @@ module _ {M : Type 1} {𝓤 : Ura M} {𝓛 : Logic 𝓤} {K : Type 0} {Γ : List
       feq_i t Ptr null_ptr null_ptr refl $ nothing t $ move t (2 ∷ 0 ∷ []) $ fjoin t $
       feq_i t (List Val) (vint w64 0 ∷ []) (ptr_val null_ptr ∷ []) refl $ fjoin t $
       feq_i t (List Val) (v ∷ []) (v ∷ []) refl $ fjoin t $
-      fpack t (Valss (RawPtr ∷ (global.the_field).row ∷ [])) (within (shape held.the_type) (null_ptr, ((global.the_type).to a, tt)) (v ∷ [])) (vint w64 0 ∷ [], (h ∷ [], tt)) $ move t (1 ∷ 0 ∷ []) $ move t (1 ∷ 0 ∷ []) $ fjoin t $ s)
+      fpack t (Valss (RawPtr ∷ (global.the_field).row ∷ [])) (within (shape held.the_type) (null_ptr, ((global.the_type).to a, tt)) (v ∷ []))
+      (vint w64 0 ∷ [], (h ∷ [], tt)) $ move t (1 ∷ 0 ∷ []) $ move t (1 ∷ 0 ∷ []) $ fjoin t $ s)

@@ -1,3 +1,4 @@
+pub mod Std
 pub mod HandleSteps
 pub mod OrderLemmas
 pub mod WholeLemmas

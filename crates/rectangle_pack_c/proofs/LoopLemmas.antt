@@ -1,18 +1,8 @@
 -- One step of each loop.
-use Rattle.std.proofs.Common.{◌≡◌, ◌≢◌, ℕ, ◌+◌, ◌<◌, List, [], ◌∷◌, ◌++◌, length, get_or, take, ap, sym, ◌∙◌, arith, below_more, subst, ◌==◌, false}
-use Rattle.std.specs.Prelude.{AllPairs, map, Some, slice_get}
-use Rattle.std.specs.List.{enumerate_from}
-use Rattle.std.specs.List.Sorted.{IsStrictlySortedBy}
-use Rattle.std.specs.declared.cmp.Ordering.{Ordering}
-use Rattle.std.specs.declared.cmp.Ordering.TheVariants.{Equal}
-use Rattle.std.specs.Map.{keys_of}
-use Rattle.std.specs.Ordering.{nat_cmp}
-use Rattle.std.specs.BTreeMap.{insert_entry}
-use Rattle.std.proofs.lemmas.Bool.Decides.{nat_tests}
-use Rattle.std.proofs.lemmas.List.{take_more, length-map, length-take, length-set, get_or_default, map-append, get_or-set_same, get_or-set_other}
-use Rattle.std.proofs.lemmas.Option.{slice_get-get_or, slice_get_within, get_or_from_slice_get}
-use Rattle.std.proofs.lemmas.Map.Lookups.{exact_unsigned}
-use Rattle.std.proofs.Math.ListN.{set}
+use Rattle.rectangle_pack_c.proofs.Std.{◌≡◌, ◌≢◌, ℕ, ◌+◌, ◌<◌, List, [], ◌∷◌, ◌++◌, length, get_or, take, ap, sym, ◌∙◌, arith, below_more, subst, ◌==◌, false}
+use Rattle.rectangle_pack_c.proofs.Std.{AllPairs, map, Some, slice_get, enumerate_from, IsStrictlySortedBy, Ordering, Equal, keys_of, nat_cmp, insert_entry}
+use Rattle.rectangle_pack_c.proofs.Std.{nat_tests, take_more, length-map, length-take, length-set, get_or_default, map-append, get_or-set_same}
+use Rattle.rectangle_pack_c.proofs.Std.{get_or-set_other, slice_get-get_or, slice_get_within, get_or_from_slice_get, exact_unsigned, set}
 use Rattle.rectangle_pack.specs.declared.session.command.Outstanding.{Outstanding}
 use Rattle.rectangle_pack.specs.declared.session.command.Reply.TheVariants.{Done}
 use Rattle.rectangle_pack.specs.declared.grouped_rects_to_place.Group.{Group}
@@ -36,14 +26,16 @@ bins_more bins i bin within is key same =
     ∙ ap (enumerate_from 0) (sym (ap (map f) (take_more bins i bin within ∙ ap (λ b. take i bins ++ b ∷ []) is) ∙ map-append f (take i bins) (bin ∷ [])))
 
 -- one more box
-pub boxes_more : (boxes : List RpBox) (i : ℕ) (b : RpBox) (old new : Collection ℕ ℕ) → i < length boxes → get_or boxes i b ≡ b → IsCollected (take i boxes) old → Pushes i b old new
+pub boxes_more : (boxes : List RpBox) (i : ℕ) (b : RpBox) (old new : Collection ℕ ℕ) → i < length boxes → get_or boxes i b ≡ b
+    → IsCollected (take i boxes) old → Pushes i b old new
     → IsStrictlySortedBy group_order (keys_of new.groups) → IsCollected (take (i + 1) boxes) new
 boxes_more boxes i b old new within is h p up =
     let long : i ≡ length (take i boxes) = omega (arith, length-take i boxes) in
     rw (take_more boxes i b within, is) (collected_more (take i boxes) b old new h (subst (λ n. Pushes n b old new) long p) up)
 
 -- one more record
-pub written_more : {X : Type 0} (entry : Outstanding ℕ ℕ → X) (records : List (Outstanding ℕ ℕ)) (placements : List X) (i : ℕ) (r : Outstanding ℕ ℕ) → i < length records → r ≡ get_or records i r → r.id < length placements
+pub written_more : {X : Type 0} (entry : Outstanding ℕ ℕ → X) (records : List (Outstanding ℕ ℕ)) (placements : List X) (i : ℕ) (r : Outstanding ℕ ℕ)
+    → i < length records → r ≡ get_or records i r → r.id < length placements
     → AllPairs (λ r s. r.id ≢ s.id) records
     → ((k : ℕ) → k < i → (d : Outstanding ℕ ℕ) → slice_get placements (get_or records k d).id ≡ Some (entry (get_or records k d)))
     → (k : ℕ) → k < i + 1 → (d : Outstanding ℕ ℕ) → slice_get (set placements r.id (entry r)) (get_or records k d).id ≡ Some (entry (get_or records k d))
@@ -63,7 +55,8 @@ written_more entry records placements i r within is fits once before = below_mor
     kept s ne at =
         let short : s.id < length placements = slice_get_within placements s.id (entry s) at in
         let long : s.id < length (set placements r.id (entry r)) = omega (arith, length-set placements r.id (entry r)) in
-        slice_get-get_or (set placements r.id (entry r)) s.id (entry s) long ∙ ap (λ q. Some q) (get_or-set_other placements r.id s.id (entry r) (entry s) ne ∙ get_or_from_slice_get placements s.id (entry s) (entry s) at)
+        slice_get-get_or (set placements r.id (entry r)) s.id (entry s) long
+        ∙ ap (λ q. Some q) (get_or-set_other placements r.id s.id (entry r) (entry s) ne ∙ get_or_from_slice_get placements s.id (entry s) (entry s) at)
 
     earlier : (k : ℕ) → k < i → (d : Outstanding ℕ ℕ) → slice_get (set placements r.id (entry r)) (get_or records k d).id ≡ Some (entry (get_or records k d))
     earlier k below d =
@@ -72,17 +65,20 @@ written_more entry records placements i r within is fits once before = below_mor
         kept (get_or records k d) (rw same at differ) (before k below d)
 
 -- the session with one more bin
-pub added_more : (bins : List RpBin) (i : ℕ) (bin : RpBin) → i < length bins → get_or bins i bin ≡ bin → (old new : State ℕ ℕ) → old ≡ record { bins = new_bins (take i bins); outstanding = []; next = 0 }
+pub added_more : (bins : List RpBin) (i : ℕ) (bin : RpBin) → i < length bins → get_or bins i bin ≡ bin → (old new : State ℕ ℕ)
+    → old ≡ record { bins = new_bins (take i bins); outstanding = []; next = 0 }
     → AddsBin nat_cmp i (bin_size bin) old Done new → new ≡ record { bins = new_bins (take (i + 1) bins); outstanding = []; next = 0 }
 added_more bins i bin within is old new was (absent, key, same, are) =
     let grown = bins_more bins i bin within is key same in
     are ∙ rw was (ap (λ (bs : List (ℕ × Bin)). record { bins = bs; outstanding = []; next = 0 }) grown)
 
 -- what a push says, by the order of groups that the call has
-pub pushes_alone : (R : Group ℕ ℕ → Group ℕ ℕ → Ordering) (i : ℕ) (b : RpBox) (old new : Collection ℕ ℕ) (size : Size) → PushesAlone nat_cmp R old new i size → size ≡ box_size b → b.group ≡ 0 → R ≡ group_order → Pushes i b old new
+pub pushes_alone : (R : Group ℕ ℕ → Group ℕ ℕ → Ordering) (i : ℕ) (b : RpBox) (old new : Collection ℕ ℕ) (size : Size) → PushesAlone nat_cmp R old new i size
+    → size ≡ box_size b → b.group ≡ 0 → R ≡ group_order → Pushes i b old new
 pushes_alone R i b old new size p is none same = rw none (subst (λ r. PushesAlone nat_cmp r old new i (box_size b)) same (rw is at p))
 
-pub pushes_into : (R : Group ℕ ℕ → Group ℕ ℕ → Ordering) (i : ℕ) (b : RpBox) (old new : Collection ℕ ℕ) (named : List ℕ) (size : Size) → PushesInto nat_cmp R old new i named size → size ≡ box_size b → named ≡ b.group ∷ [] → b.group ≢ 0 → R ≡ group_order → Pushes i b old new
+pub pushes_into : (R : Group ℕ ℕ → Group ℕ ℕ → Ordering) (i : ℕ) (b : RpBox) (old new : Collection ℕ ℕ) (named : List ℕ) (size : Size)
+    → PushesInto nat_cmp R old new i named size → size ≡ box_size b → named ≡ b.group ∷ [] → b.group ≢ 0 → R ≡ group_order → Pushes i b old new
 pushes_into R i b old new named size p is one some same =
     let test : (b.group == 0) ≡ false = grind (arith, nat_tests) in
     rw test (subst (λ r. PushesInto nat_cmp r old new i (b.group ∷ []) (box_size b)) same (rw (is, one) at p))

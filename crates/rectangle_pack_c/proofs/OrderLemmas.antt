@@ -1,11 +1,6 @@
 -- Orders of numbers and of groups, where equal is the same.
-use Rattle.std.proofs.Common.{◌≡◌, ◌≢◌, ℕ, ◌<◌, Bool, true, false, refl, ap, sym}
-use Rattle.std.specs.declared.cmp.Ordering.{Ordering}
-use Rattle.std.specs.declared.cmp.Ordering.TheVariants.{Less, Equal, Greater}
-use Rattle.std.specs.Cmp.{IsTotalOrder, Equal-is, nat_cmp_is}
-use Rattle.std.specs.Ordering.{nat_cmp, is_eq}
-use Rattle.std.proofs.lemmas.Cmp.{nat_cmp_total}
-use Rattle.std.proofs.lemmas.Map.Lookups.{exact_unsigned}
+use Rattle.rectangle_pack_c.proofs.Std.{◌≡◌, ◌≢◌, ℕ, ◌<◌, Bool, true, false, refl, ap, sym, Ordering, Less, Equal, Greater, IsTotalOrder, Equal-is}
+use Rattle.rectangle_pack_c.proofs.Std.{nat_cmp_is, nat_cmp, is_eq, nat_cmp_total, exact_unsigned}
 use mathlib.Core.Path.{fun_ext}
 use Rattle.rectangle_pack.specs.declared.grouped_rects_to_place.Group.{Group}
 use Rattle.rectangle_pack.specs.declared.grouped_rects_to_place.Group.TheVariants.{Ungrouped, Grouped}
@@ -50,7 +45,8 @@ group_swap a b = by (is_eq (group_order a b)) (is_eq (group_order b a)) refl ref
     by false false e f = refl
 
 -- an order that compares groups so is this one
-pub same_order : (R : Group ℕ ℕ → Group ℕ ℕ → Ordering) → ((a b : ℕ) → R (Ungrouped a) (Ungrouped b) ≡ nat_cmp a b) → ((a b : ℕ) → R (Ungrouped a) (Grouped b) ≡ Less)
+pub same_order : (R : Group ℕ ℕ → Group ℕ ℕ → Ordering) → ((a b : ℕ) → R (Ungrouped a) (Ungrouped b) ≡ nat_cmp a b)
+    → ((a b : ℕ) → R (Ungrouped a) (Grouped b) ≡ Less)
     → ((a b : ℕ) → R (Grouped a) (Ungrouped b) ≡ Greater) → ((a b : ℕ) → R (Grouped a) (Grouped b) ≡ nat_cmp a b) → R ≡ group_order
 same_order R alone before behind named = fun_ext (λ a. fun_ext (λ b. at a b))
   where

@@ -1,19 +1,9 @@
 -- What a packing that is done says of the placements that are written.
-use Rattle.std.proofs.Common.{◌≡◌, ◌≢◌, ◌⊎◌, inl, inr, ℕ, ◌+◌, ◌<◌, ◌==◌, Bool, true, false, cond, List, [], ◌∷◌, ◌++◌, length, get_or, refl, ap, sym, ◌∙◌, arith}
-use Rattle.std.specs.Prelude.{Option, Some, None, IsSome, IsSomeAnd, All, AllPairs, Contains, map, filter, slice_get}
-use Rattle.std.specs.Option.{option_map}
-use Rattle.std.specs.List.Sorted.{IsPermutation}
-use Rattle.std.specs.List.{IsDistinct}
-use Rattle.std.specs.Ordering.{nat_cmp, eq_by_cmp}
-use Rattle.std.specs.Map.{lookup, keys_of}
-use Rattle.std.specs.BTreeMap.{is_at}
-use Rattle.std.proofs.lemmas.Cmp.{nat_cmp_total}
-use Rattle.std.proofs.lemmas.List.Sorted.{Contains-permutation}
-use Rattle.std.proofs.lemmas.List.Elements.{All-nil, All-cons, All-head, All-tail, All-weaker, All-contains, Contains-get_or, Contains-append_right}
-use Rattle.std.proofs.lemmas.List.Kept.{AllPairs-cons}
-use Rattle.std.proofs.lemmas.Bool.Decides.{nat_tests}
-use Rattle.std.proofs.lemmas.Map.Keys.{IsDistinct-from_sorted, IsDistinct-IsPermutation}
-use Rattle.std.proofs.lemmas.Option.{slice_get-map, slice_get_within, get_or_from_slice_get}
+use Rattle.rectangle_pack_c.proofs.Std.{◌≡◌, ◌≢◌, ◌⊎◌, inl, inr, ℕ, ◌+◌, ◌<◌, ◌==◌, Bool, true, false, cond, List, [], ◌∷◌, ◌++◌, length, get_or, refl, ap}
+use Rattle.rectangle_pack_c.proofs.Std.{sym, ◌∙◌, arith, Option, Some, None, IsSome, IsSomeAnd, All, AllPairs, Contains, map, filter, slice_get, option_map}
+use Rattle.rectangle_pack_c.proofs.Std.{IsPermutation, IsDistinct, nat_cmp, eq_by_cmp, lookup, keys_of, is_at, nat_cmp_total, Contains-permutation, All-nil}
+use Rattle.rectangle_pack_c.proofs.Std.{All-cons, All-head, All-tail, All-weaker, All-contains, Contains-get_or, Contains-append_right, AllPairs-cons}
+use Rattle.rectangle_pack_c.proofs.Std.{nat_tests, IsDistinct-from_sorted, IsDistinct-IsPermutation, slice_get-map, slice_get_within, get_or_from_slice_get}
 use Rattle.rectangle_pack.specs.declared.grouped_rects_to_place.Group.{Group}
 use Rattle.rectangle_pack.specs.declared.grouped_rects_to_place.Group.TheVariants.{Grouped}
 use Rattle.rectangle_pack.specs.declared.pack.answer.Placement.{Placement}
@@ -52,18 +42,22 @@ found_map f None y h = absurd cc
 found_map f (Some x) y h = (x, refl, cc)
 
 -- what holds of each placement holds of each record, and the other way round
-pub records_each : (P : ℕ → RpPlacement → Type 0) (n : ℕ) (ps : List (Placement ℕ ℕ)) → All (λ p. P p.id (corner_of p.bin p.location)) ps → All (λ r. P r.id (as_placement r)) (numbered n ps)
+pub records_each : (P : ℕ → RpPlacement → Type 0) (n : ℕ) (ps : List (Placement ℕ ℕ)) → All (λ p. P p.id (corner_of p.bin p.location)) ps
+    → All (λ r. P r.id (as_placement r)) (numbered n ps)
 records_each P n [] h = All-nil _
 records_each P n (p ∷ ps) h =
     All-cons (λ (r : Outstanding ℕ ℕ). P r.id (as_placement r)) (record { number = n; id = p.id; bin = p.bin; location = p.location }) (numbered (n + 1) ps)
-    (All-head (λ (p : Placement ℕ ℕ). P p.id (corner_of p.bin p.location)) p ps h) (records_each P (n + 1) ps (All-tail (λ (p : Placement ℕ ℕ). P p.id (corner_of p.bin p.location)) p ps h))
+    (All-head (λ (p : Placement ℕ ℕ). P p.id (corner_of p.bin p.location)) p ps h)
+    (records_each P (n + 1) ps (All-tail (λ (p : Placement ℕ ℕ). P p.id (corner_of p.bin p.location)) p ps h))
 
-pub placements_each : (P : ℕ → RpPlacement → Type 0) (n : ℕ) (ps : List (Placement ℕ ℕ)) → All (λ r. P r.id (as_placement r)) (numbered n ps) → All (λ p. P p.id (corner_of p.bin p.location)) ps
+pub placements_each : (P : ℕ → RpPlacement → Type 0) (n : ℕ) (ps : List (Placement ℕ ℕ)) → All (λ r. P r.id (as_placement r)) (numbered n ps)
+    → All (λ p. P p.id (corner_of p.bin p.location)) ps
 placements_each P n [] h = All-nil _
 placements_each P n (p ∷ ps) h =
     let first : Outstanding ℕ ℕ = record { number = n; id = p.id; bin = p.bin; location = p.location } in
     All-cons (λ (p : Placement ℕ ℕ). P p.id (corner_of p.bin p.location)) p ps
-    (All-head (λ (r : Outstanding ℕ ℕ). P r.id (as_placement r)) first (numbered (n + 1) ps) h) (placements_each P (n + 1) ps (All-tail (λ (r : Outstanding ℕ ℕ). P r.id (as_placement r)) first (numbered (n + 1) ps) h))
+    (All-head (λ (r : Outstanding ℕ ℕ). P r.id (as_placement r)) first (numbered (n + 1) ps) h)
+    (placements_each P (n + 1) ps (All-tail (λ (r : Outstanding ℕ ℕ). P r.id (as_placement r)) first (numbered (n + 1) ps) h))
 
 pub records_once : (n : ℕ) (ps : List (Placement ℕ ℕ)) → AllPairs (λ p q. p.id ≢ q.id) ps → AllPairs (λ r s. r.id ≢ s.id) (numbered n ps)
 records_once n [] h = pairs_none (λ (r s : Outstanding ℕ ℕ). r.id ≢ s.id)
@@ -80,7 +74,8 @@ pairs_right R (x ∷ xs) ys h = pairs_right R xs ys (AllPairs-tail R x (xs ++ ys
 swapped : (a b : Cuboid) → AreApart a b → AreApart b a
 swapped a b h = record { none = λ c x y. h.none c y x }
 
-pairs_kept : (test : Placement ℕ ℕ → Bool) (ps : List (Placement ℕ ℕ)) (a b : Placement ℕ ℕ) → AreAllApart (map (λ p. p.location) (filter test ps)) → Contains ps a → Contains ps b → test a ≡ true → test b ≡ true → a.id ≢ b.id
+pairs_kept : (test : Placement ℕ ℕ → Bool) (ps : List (Placement ℕ ℕ)) (a b : Placement ℕ ℕ) → AreAllApart (map (λ p. p.location) (filter test ps))
+    → Contains ps a → Contains ps b → test a ≡ true → test b ≡ true → a.id ≢ b.id
     → AreApart a.location b.location
 pairs_kept test [] a b h ca cb ta tb ne = absurd (none_in a ca)
 pairs_kept test (p ∷ ps) a b h ca cb ta tb ne = by (test p) refl h (in_cases p ps a ca) (in_cases p ps b cb) (λ k x y. pairs_kept test ps a b k x y ta tb ne)
@@ -88,26 +83,32 @@ pairs_kept test (p ∷ ps) a b h ca cb ta tb ne = by (test p) refl h (in_cases p
     kept : List Cuboid
     kept = map (λ p. p.location) (filter test ps)
 
-    by : (t : Bool) → test p ≡ t → AreAllApart (map (λ p. p.location) (cond t (p ∷ filter test ps) (filter test ps))) → (p ≡ a) ⊎ Contains ps a → (p ≡ b) ⊎ Contains ps b
-        → (AreAllApart (map (λ p. p.location) (filter test ps)) → Contains ps a → Contains ps b → AreApart a.location b.location) → AreApart a.location b.location
+    by : (t : Bool) → test p ≡ t → AreAllApart (map (λ p. p.location) (cond t (p ∷ filter test ps) (filter test ps)))
+        → (p ≡ a) ⊎ Contains ps a → (p ≡ b) ⊎ Contains ps b
+        → (AreAllApart (map (λ p. p.location) (filter test ps)) → Contains ps a → Contains ps b → AreApart a.location b.location)
+        → AreApart a.location b.location
     by true t k (inl x) (inl y) ih = absurd (ne (ap (λ (q : Placement ℕ ℕ). q.id) (sym x ∙ y)))
     by true t k (inl x) (inr y) ih =
-        rw (← x) (All-contains (AreApart p.location) (map (λ p. p.location) (filter test ps)) b.location (AllPairs-head AreApart p.location (map (λ p. p.location) (filter test ps)) k) (in_kept (λ (q : Placement ℕ ℕ). q.location) test ps b y tb))
+        rw (← x) (All-contains (AreApart p.location) (map (λ p. p.location) (filter test ps)) b.location
+        (AllPairs-head AreApart p.location (map (λ p. p.location) (filter test ps)) k) (in_kept (λ (q : Placement ℕ ℕ). q.location) test ps b y tb))
     by true t k (inr x) (inl y) ih =
-        rw (← y) (swapped p.location a.location (All-contains (AreApart p.location) (map (λ p. p.location) (filter test ps)) a.location (AllPairs-head AreApart p.location (map (λ p. p.location) (filter test ps)) k) (in_kept (λ (q : Placement ℕ ℕ). q.location) test ps a x ta)))
+        rw (← y) (swapped p.location a.location (All-contains (AreApart p.location) (map (λ p. p.location) (filter test ps)) a.location
+        (AllPairs-head AreApart p.location (map (λ p. p.location) (filter test ps)) k) (in_kept (λ (q : Placement ℕ ℕ). q.location) test ps a x ta)))
     by true t k (inr x) (inr y) ih = ih (AllPairs-tail AreApart p.location (map (λ p. p.location) (filter test ps)) k) x y
     by false t k (inl x) y ih = absurd (let yes : test p ≡ true = rw x ta in cc)
     by false t k (inr x) (inl y) ih = absurd (let yes : test p ≡ true = rw y tb in cc)
     by false t k (inr x) (inr y) ih = ih k x y
 
 -- a look-up among new bins
-lookup_bin : (bins : List RpBin) (i : ℕ) (before : Bin) → lookup (is_at (nat_cmp i)) (new_bins bins) ≡ Some before → (bin : RpBin) × (slice_get bins i ≡ Some bin) × (before ≡ new_bin (bin_size bin))
+lookup_bin : (bins : List RpBin) (i : ℕ) (before : Bin) → lookup (is_at (nat_cmp i)) (new_bins bins) ≡ Some before
+    → (bin : RpBin) × (slice_get bins i ≡ Some bin) × (before ≡ new_bin (bin_size bin))
 lookup_bin bins i before is =
     let f : RpBin → Bin = λ b. new_bin (bin_size b) in
     found_map f (slice_get bins i) before (sym (slice_get-map f bins i) ∙ sym (lookup_numbered 0 (map f bins) i i (omega arith)) ∙ is)
 
 module _ (boxes : List RpBox) (all : Collection ℕ ℕ) (collected : IsCollected boxes all) (ps : List (Placement ℕ ℕ))
-    (homes : List (Group ℕ ℕ × ℕ)) (moved : IsPermutation (keys_of all.groups) (map (λ h. h.0) homes)) (are : ArePlacedWhole nat_cmp nat_cmp group_order all.sizes all.groups homes ps) where
+    (homes : List (Group ℕ ℕ × ℕ)) (moved : IsPermutation (keys_of all.groups) (map (λ h. h.0) homes))
+    (are : ArePlacedWhole nat_cmp nat_cmp group_order all.sizes all.groups homes ps) where
   no_box : RpBox
   no_box = record { width = 0; height = 0; depth = 0; group = 0 }
 
@@ -127,13 +128,15 @@ module _ (boxes : List RpBox) (all : Collection ℕ ℕ) (collected : IsCollecte
 
   -- each group has one home
   one_each : IsDistinct (eq_by_cmp group_order) (map (λ h. h.0) homes)
-  one_each = IsDistinct-IsPermutation (eq_by_cmp group_order) (λ x y. is_at-back group_order_total x y) (keys_of all.groups) (map (λ h. h.0) homes) moved (IsDistinct-from_sorted group_order (keys_of all.groups) collected.ascend)
+  one_each = IsDistinct-IsPermutation (eq_by_cmp group_order) (λ x y. is_at-back group_order_total x y) (keys_of all.groups) (map (λ h. h.0) homes) moved
+      (IsDistinct-from_sorted group_order (keys_of all.groups) collected.ascend)
 
   -- no box is placed twice
   pub placed_alone : AllPairs (λ p q. p.id ≢ q.id) ps
   placed_alone =
       placed_once all.sizes all.groups (λ i. group_of i (get_or boxes i no_box))
-      (λ k ids is. All-weaker (λ i. (i < length boxes) × (group_of i (get_or boxes i no_box) ≡ k)) (λ i. group_of i (get_or boxes i no_box) ≡ k) (λ i m. m.1) ids (held.members k ids is))
+      (λ k ids is. All-weaker (λ i. (i < length boxes) × (group_of i (get_or boxes i no_box) ≡ k)) (λ i. group_of i (get_or boxes i no_box) ≡ k)
+      (λ i m. m.1) ids (held.members k ids is))
       held.once homes ps are one_each
 
   -- and each box is placed
@@ -141,11 +144,13 @@ module _ (boxes : List RpBox) (all : Collection ℕ ℕ) (collected : IsCollecte
   placed_each i low =
       let (ids, is, member) = found_and (λ ids. Contains ids i) _ (held.there i low) in
       let key = group_of i (get_or boxes i no_box) in
-      let (home, inside, named) = home_of_key homes key (Contains-permutation (keys_of all.groups) (map (λ h. h.0) homes) key moved (key_listed all.groups key ids is)) in
+      let (home, inside, named) = home_of_key homes key
+      (Contains-permutation (keys_of all.groups) (map (λ h. h.0) homes) key moved (key_listed all.groups key ids is)) in
       placed_for all.sizes all.groups homes ps are home inside ids (rw named is) i member
 
   -- the home of a box in a named group
-  home_is : (i : ℕ) (b : RpBox) (q : Placement ℕ ℕ) → slice_get boxes i ≡ Some b → Contains ps q → q.id ≡ i → 0 < b.group → (home : Group ℕ ℕ × ℕ) × Contains homes home × (home.0 ≡ Grouped b.group) × (home.1 ≡ q.bin)
+  home_is : (i : ℕ) (b : RpBox) (q : Placement ℕ ℕ) → slice_get boxes i ≡ Some b → Contains ps q → q.id ≡ i → 0 < b.group
+      → (home : Group ℕ ℕ × ℕ) × Contains homes home × (home.0 ≡ Grouped b.group) × (home.1 ≡ q.bin)
   home_is i b q box inside id named =
       let (home, there, has) = homed all.sizes all.groups homes ps are q inside in
       let is_b : get_or boxes i no_box ≡ b = get_or_from_slice_get boxes i b no_box box in
@@ -170,7 +175,8 @@ module _ (boxes : List RpBox) (all : Collection ℕ ℕ) (collected : IsCollecte
         let low : i < length boxes = slice_get_within boxes i b s.box in
         let is_b : get_or boxes i no_box ≡ b = get_or_from_slice_get boxes i b no_box s.box in
         let (q, among, q_id) = placed_each i low in
-        let stood : slice_get placements q.id ≡ Some (corner_of q.bin q.location) = All-contains (λ (p : Placement ℕ ℕ). slice_get placements p.id ≡ Some (corner_of p.bin p.location)) ps q written among in
+        let stood : slice_get placements q.id ≡ Some (corner_of q.bin q.location) = All-contains
+        (λ (p : Placement ℕ ℕ). slice_get placements p.id ≡ Some (corner_of p.bin p.location)) ps q written among in
         let here : Some p ≡ Some (corner_of q.bin q.location) = sym s.at ∙ rw q_id at stood in
         let p_is : p ≡ corner_of q.bin q.location = cc in
         let (own, own_in, has) = homed all.sizes all.groups homes ps are q among in
@@ -186,7 +192,8 @@ module _ (boxes : List RpBox) (all : Collection ℕ ℕ) (collected : IsCollecte
         }
 
     -- two boxes of one group are in one bin
-    pub stand_together : (i j : ℕ) (a b : RpBox) (p q : RpPlacement) → Stands boxes placements i a p → Stands boxes placements j b q → 0 < a.group → a.group ≡ b.group → p.bin ≡ q.bin
+    pub stand_together : (i j : ℕ) (a b : RpBox) (p q : RpPlacement) → Stands boxes placements i a p → Stands boxes placements j b q → 0 < a.group
+        → a.group ≡ b.group → p.bin ≡ q.bin
     stand_together i j a b p q s t named same =
         let f = comes_from i a p s in
         let g = comes_from j b q t in
@@ -195,7 +202,8 @@ module _ (boxes : List RpBox) (all : Collection ℕ ℕ) (collected : IsCollecte
         let one = one_home homes one_each ha hb in_a in_b (key_a ∙ ap (λ n. Grouped n) same ∙ sym key_b) in
         f.bin ∙ sym bin_a ∙ one ∙ bin_b ∙ sym g.bin
 
-    module _ (bins : List RpBin) (may : Answers) (after : List (ℕ × Bin)) (done : PackingDone group_order (rules_by nat_cmp nat_cmp may) all (new_bins bins) ps after) where
+    module _ (bins : List RpBin) (may : Answers) (after : List (ℕ × Bin))
+        (done : PackingDone group_order (rules_by nat_cmp nat_cmp may) all (new_bins bins) ps after) where
       -- the bin of a placement, and what it has become
       record StandsIn (q : Placement ℕ ℕ) : Type 0 where
         bin : RpBin
@@ -209,28 +217,34 @@ module _ (boxes : List RpBox) (all : Collection ℕ ℕ) (collected : IsCollecte
           let order = map (λ (o : ℕ × ℕ). o.1) done.bin_order in
           let last : Stage (Group ℕ ℕ) ℕ = record { bins = after; homes = done.homes } in
           let keys = keys-placed rules excludes order done.groups (at_start (new_bins bins)) ps last done.tests done.placed in
-          let known = All-contains (λ (p : Placement ℕ ℕ). IsSome (lookup (is_at (nat_cmp p.bin)) after)) ps q (known-placed rules excludes nat_cmp_total order done.groups (at_start (new_bins bins)) ps last done.tests done.placed) inside in
-          let there = some_of (lookup (is_at (nat_cmp q.bin)) (new_bins bins)) (sym (is_some-keys (is_at (nat_cmp q.bin)) after (new_bins bins) keys) ∙ known) in
+          let known = All-contains (λ (p : Placement ℕ ℕ). IsSome (lookup (is_at (nat_cmp p.bin)) after)) ps q
+          (known-placed rules excludes nat_cmp_total order done.groups (at_start (new_bins bins)) ps last done.tests done.placed) inside in
+          let there = some_of (lookup (is_at (nat_cmp q.bin)) (new_bins bins))
+          (sym (is_some-keys (is_at (nat_cmp q.bin)) after (new_bins bins) keys) ∙ known) in
           let (bin, is, before) = lookup_bin bins q.bin there.0 there.1 in
           record {
             bin = bin;
             is = is;
-            changed = changed-all IsFrame-recut rules nat_cmp_total (KeptBySteps-recut may) excludes order done.groups (at_start (new_bins bins)) ps last done.tests done.placed q.bin (new_bin (bin_size bin)) (rw (← before) there.1);
+            changed = changed-all IsFrame-recut rules nat_cmp_total (KeptBySteps-recut may) excludes order done.groups (at_start (new_bins bins)) ps last
+                done.tests done.placed q.bin (new_bin (bin_size bin)) (rw (← before) there.1);
           }
 
       inside_bin : (q : Placement ℕ ℕ) (c : Contains ps q) (s : StandsIn q) → IsInside (bin_size s.bin) q.location
       inside_bin q c s =
           let size = bin_size s.bin in
-          let first : All (IsInside size) (whole size ∷ []) = All-cons (IsInside size) (whole size) [] (record { within_x = omega arith; within_y = omega arith; within_z = omega arith }) (All-nil (IsInside size)) in
+          let first : All (IsInside size) (whole size ∷ []) = All-cons (IsInside size) (whole size) []
+          (record { within_x = omega arith; within_y = omega arith; within_z = omega arith }) (All-nil (IsInside size)) in
           All-contains (IsInside size) (s.changed.after.sections ++ locations_in nat_cmp ps q.bin) q.location (s.changed.framed.inside size first)
-          (Contains-append_right s.changed.after.sections (locations_in nat_cmp ps q.bin) q.location (in_kept (λ (p : Placement ℕ ℕ). p.location) (λ p. is_at (nat_cmp p.bin) q.bin) ps q c (nat_same q.bin)))
+          (Contains-append_right s.changed.after.sections (locations_in nat_cmp ps q.bin) q.location
+          (in_kept (λ (p : Placement ℕ ℕ). p.location) (λ p. is_at (nat_cmp p.bin) q.bin) ps q c (nat_same q.bin)))
 
       apart_in : (a b : Placement ℕ ℕ) → Contains ps a → Contains ps b → a.id ≢ b.id → b.bin ≡ a.bin → AreApart a.location b.location
       apart_in a b ca cb ne same =
           let s = stands_in a ca in
           let boxes = s.changed.after.sections ++ locations_in nat_cmp ps a.bin in
           let pairs = apart_from_counts boxes (λ c. rw (s.changed.framed.cells c) (filled_one c (whole (bin_size s.bin)))) in
-          pairs_kept (λ p. is_at (nat_cmp p.bin) a.bin) ps a b (pairs_right AreApart s.changed.after.sections (locations_in nat_cmp ps a.bin) pairs) ca cb (nat_same a.bin) (rw same (nat_same a.bin)) ne
+          pairs_kept (λ p. is_at (nat_cmp p.bin) a.bin) ps a b (pairs_right AreApart s.changed.after.sections (locations_in nat_cmp ps a.bin) pairs) ca cb
+          (nat_same a.bin) (rw same (nat_same a.bin)) ne
 
       pub packed_placed : ArePlaced bins boxes placements
       packed_placed = record {

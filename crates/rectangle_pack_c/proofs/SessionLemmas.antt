@@ -1,25 +1,17 @@
 -- What a session's answer to a packing says of the boxes of a C caller: in its order of groups and by volume, and of the
 -- placements that are written.
-use Rattle.std.proofs.Common.{◌≡◌, ◌≢◌, ◌⊎◌, inl, inr, ℕ, ◌+◌, ◌-◌, ◌<◌, ◌≤◌, List, [], ◌∷◌, ◌++◌, length, take, drop, refl, ap, sym, ◌∙◌, subst, arith, length-append}
-use Rattle.std.specs.Prelude.{All, AllPairs, Contains, None, Some, map, slice_get}
-use Rattle.std.specs.Option.{option_map}
-use Rattle.std.specs.Ordering.{nat_cmp}
-use Rattle.std.specs.declared.cmp.Ordering.{Ordering}
-use Rattle.std.specs.Map.{lookup}
-use Rattle.std.specs.BTreeMap.{is_at}
+use Rattle.rectangle_pack_c.proofs.Std.{◌≡◌, ◌≢◌, ◌⊎◌, inl, inr, ℕ, ◌+◌, ◌-◌, ◌<◌, ◌≤◌, List, [], ◌∷◌, ◌++◌, length, take, drop, refl, ap, sym, ◌∙◌, subst}
+use Rattle.rectangle_pack_c.proofs.Std.{arith, length-append, All, AllPairs, Contains, None, Some, map, slice_get, option_map, nat_cmp, Ordering, lookup}
+use Rattle.rectangle_pack_c.proofs.Std.{is_at, drop-append_seam, nat_cmp_total, take_all, All-weaker, All-contains, Contains-append_right, slice_get-map}
 use Rattle.rectangle_pack_c.proofs.OrderLemmas.{group_same}
-use Rattle.std.proofs.Math.Seq.{drop-append_seam}
-use Rattle.std.proofs.lemmas.Cmp.{nat_cmp_total}
-use Rattle.std.proofs.lemmas.List.{take_all}
-use Rattle.std.proofs.lemmas.List.Elements.{All-weaker, All-contains, Contains-append_right}
-use Rattle.std.proofs.lemmas.Option.{slice_get-map}
 use Rattle.rectangle_pack.specs.declared.grouped_rects_to_place.Group.{Group}
 use Rattle.rectangle_pack.specs.declared.pack.answer.Placement.{Placement}
 use Rattle.rectangle_pack.specs.declared.session.command.Outstanding.{Outstanding}
 use Rattle.rectangle_pack.specs.declared.session.command.Packed.{Packed as Numbers}
 use Rattle.rectangle_pack.specs.declared.session.command.Reply.TheVariants.{Packed, Refused}
 use Rattle.rectangle_pack.specs.declared.session.command.SessionError.{SessionError}
-use Rattle.rectangle_pack.specs.declared.session.command.SessionError.TheVariants.{DuplicateBin, UnknownBin, UnknownPlacement, NumbersUsedUp, NotEnoughBinSpace, OutOfMemory}
+use Rattle.rectangle_pack.specs.declared.session.command.SessionError.TheVariants.{DuplicateBin, UnknownBin, UnknownPlacement, NumbersUsedUp, NotEnoughBinSpace}
+use Rattle.rectangle_pack.specs.declared.session.command.SessionError.TheVariants.{OutOfMemory}
 use Rattle.rectangle_pack.specs.Closures.{Answers}
 use Rattle.rectangle_pack.specs.Groups.{Collection}
 use Rattle.rectangle_pack.specs.Packing.{rules_by, excludes_by, PackingRefused}
@@ -52,30 +44,44 @@ found_number n (p ∷ ps) q h = by (in_cases p ps q h) (found_number (n + 1) ps 
     here = record { number = n; id = p.id; bin = p.bin; location = p.location }
 
     by : (p ≡ q) ⊎ Contains ps q
-        → (Contains ps q → (r : Outstanding ℕ ℕ) × Contains (numbered (n + 1) ps) r × (r.id ≡ q.id) × (r.bin ≡ q.bin) × (r.location ≡ q.location) × (n + 1 ≤ r.number))
+        → (Contains ps q → (r : Outstanding ℕ ℕ) × Contains (numbered (n + 1) ps) r × (r.id ≡ q.id) × (r.bin ≡ q.bin)
+        × (r.location ≡ q.location) × (n + 1 ≤ r.number))
         → (r : Outstanding ℕ ℕ) × Contains (here ∷ numbered (n + 1) ps) r × (r.id ≡ q.id) × (r.bin ≡ q.bin) × (r.location ≡ q.location) × (n ≤ r.number)
-    by (inl e) ih =
-        (here, in_first here (numbered (n + 1) ps) here refl, ap (λ (x : Placement ℕ ℕ). x.id) e, ap (λ (x : Placement ℕ ℕ). x.bin) e, ap (λ (x : Placement ℕ ℕ). x.location) e, omega arith)
-    by (inr more) ih = let (r, inside, id, bin, location, low) = ih more in (r, in_later here (numbered (n + 1) ps) r inside, id, bin, location, omega (arith, low))
+    by (inl e) ih = (
+      here,
+      in_first here (numbered (n + 1) ps) here refl,
+      ap (λ (x : Placement ℕ ℕ). x.id) e,
+      ap (λ (x : Placement ℕ ℕ). x.bin) e,
+      ap
+          (λ (x : Placement ℕ ℕ). x.location) e,
+      omega arith,
+    )
+    by (inr more) ih = let (r, inside, id, bin, location, low) = ih more in
+        (r, in_later here (numbered (n + 1) ps) r inside, id, bin, location, omega (arith, low))
 
 -- numbers rise from the first one on, so two records of one number are of one box
 numbers_from : (n : ℕ) (ps : List (Placement ℕ ℕ)) (r : Outstanding ℕ ℕ) → Contains (numbered n ps) r → n ≤ r.number
 numbers_from n [] r h = absurd (none_in r h)
-numbers_from n (p ∷ ps) r h = by (in_cases (record { number = n; id = p.id; bin = p.bin; location = p.location }) (numbered (n + 1) ps) r h) (numbers_from (n + 1) ps r)
+numbers_from n (p ∷ ps) r h = by (in_cases (record { number = n; id = p.id; bin = p.bin; location = p.location }) (numbered (n + 1) ps) r h)
+    (numbers_from (n + 1) ps r)
   where
-    by : (record { number = n; id = p.id; bin = p.bin; location = p.location } ≡ r) ⊎ Contains (numbered (n + 1) ps) r → (Contains (numbered (n + 1) ps) r → n + 1 ≤ r.number) → n ≤ r.number
+    by : (record { number = n; id = p.id; bin = p.bin; location = p.location } ≡ r) ⊎ Contains (numbered (n + 1) ps) r
+        → (Contains (numbered (n + 1) ps) r → n + 1 ≤ r.number) → n ≤ r.number
     by (inl e) ih = omega (arith, ap (λ (x : Outstanding ℕ ℕ). x.number) e)
     by (inr more) ih = omega (arith, ih more)
 
-same_number : (n : ℕ) (ps : List (Placement ℕ ℕ)) (r s : Outstanding ℕ ℕ) → Contains (numbered n ps) r → Contains (numbered n ps) s → r.number ≡ s.number → r ≡ s
+same_number : (n : ℕ) (ps : List (Placement ℕ ℕ)) (r s : Outstanding ℕ ℕ) → Contains (numbered n ps) r → Contains (numbered n ps) s
+    → r.number ≡ s.number → r ≡ s
 same_number n [] r s h g e = absurd (none_in r h)
 same_number n (p ∷ ps) r s h g e =
-    by (in_cases (record { number = n; id = p.id; bin = p.bin; location = p.location }) (numbered (n + 1) ps) r h) (in_cases (record { number = n; id = p.id; bin = p.bin; location = p.location }) (numbered (n + 1) ps) s g) (λ x y. same_number (n + 1) ps r s x y e)
+    by (in_cases (record { number = n; id = p.id; bin = p.bin; location = p.location }) (numbered (n + 1) ps) r h)
+    (in_cases (record { number = n; id = p.id; bin = p.bin; location = p.location }) (numbered (n + 1) ps) s g) (λ x y. same_number (n + 1) ps r s x y e)
   where
     is_n : (q : Outstanding ℕ ℕ) → record { number = n; id = p.id; bin = p.bin; location = p.location } ≡ q → n ≡ q.number
     is_n q x = ap (λ (o : Outstanding ℕ ℕ). o.number) x
 
-    by : (record { number = n; id = p.id; bin = p.bin; location = p.location } ≡ r) ⊎ Contains (numbered (n + 1) ps) r → (record { number = n; id = p.id; bin = p.bin; location = p.location } ≡ s) ⊎ Contains (numbered (n + 1) ps) s
+    by : (record { number = n; id = p.id; bin = p.bin; location = p.location } ≡ r) ⊎ Contains (numbered (n + 1) ps) r
+        → (record { number = n; id = p.id; bin = p.bin; location = p.location } ≡ s) ⊎ Contains (numbered (n + 1) ps) s
         → (Contains (numbered (n + 1) ps) r → Contains (numbered (n + 1) ps) s → r ≡ s) → r ≡ s
     by (inl x) (inl y) ih = sym x ∙ y
     by (inl x) (inr y) ih = absurd (omega (arith, is_n r x, numbers_from (n + 1) ps s y, e))
@@ -98,7 +104,8 @@ module _ (R : Group ℕ ℕ → Group ℕ ℕ → Ordering) (may : Answers) (sam
 
   module _ (includes : Includes may by_volume) (boxes : List RpBox) (collected : IsCollected boxes all) where
     -- a packing that is kept is one by volume
-    pub packed_by_volume : (numbers : Numbers) → Packs R (rules_by nat_cmp nat_cmp may) all old (Packed numbers) new → PlacesWhole R (rules_by nat_cmp nat_cmp may) all old new
+    pub packed_by_volume : (numbers : Numbers) → Packs R (rules_by nat_cmp nat_cmp may) all old (Packed numbers) new
+        → PlacesWhole R (rules_by nat_cmp nat_cmp may) all old new
         → PacksBoxes boxes old (Packed numbers) new
     packed_by_volume numbers (low, kept) whole =
         let k = subst (λ r. IsKept r (rules_by nat_cmp nat_cmp may) all old numbers new) same kept in
@@ -109,7 +116,8 @@ module _ (R : Group ℕ ℕ → Group ℕ ℕ → Ordering) (may : Answers) (sam
             low,
             record {
               placements = k.placements;
-              done = PackingDone-more nat_cmp nat_cmp may by_volume includes group_order (excludes_by group_order nat_cmp all.partners) all old.bins k.placements new.bins k.done;
+              done = PackingDone-more nat_cmp nat_cmp may by_volume includes group_order (excludes_by group_order nat_cmp all.partners) all old.bins
+                  k.placements new.bins k.done;
               counted = k.counted;
               first = k.first;
               count = k.count;
@@ -121,14 +129,16 @@ module _ (R : Group ℕ ℕ → Group ℕ ℕ → Ordering) (may : Answers) (sam
         )
 
     -- and so is one that is refused
-    pub refused_by_volume : (error : SessionError) → Packs R (rules_by nat_cmp nat_cmp may) all old (Refused error) new → PacksBoxes boxes old (Refused error) new
+    pub refused_by_volume : (error : SessionError) → Packs R (rules_by nat_cmp nat_cmp may) all old (Refused error) new
+        → PacksBoxes boxes old (Refused error) new
     refused_by_volume DuplicateBin h = absurd h
     refused_by_volume UnknownBin h = absurd h
     refused_by_volume UnknownPlacement h = absurd h
     refused_by_volume NumbersUsedUp h = (all, collected, h, tt)
     refused_by_volume NotEnoughBinSpace (low, left, refused, as_before) =
         let here = subst (λ r. PackingRefused r (rules_by nat_cmp nat_cmp may) all old.bins left) same refused in
-        let more = PackingRefused-more nat_cmp nat_cmp may by_volume includes group_order (excludes_by group_order nat_cmp all.partners) all old.bins left here in (
+        let more = PackingRefused-more nat_cmp nat_cmp may by_volume includes group_order
+        (excludes_by group_order nat_cmp all.partners) all old.bins left here in (
           all,
           collected,
           (low, left, more, as_before),
@@ -149,7 +159,8 @@ module _ (R : Group ℕ ℕ → Group ℕ ℕ → Ordering) (may : Answers) (sam
 
     -- the new records have indices of boxes as ids, each once
     pub new_ids : All (λ r. r.id < length boxes) new_records
-    new_ids = records_each (λ id p. id < length boxes) old.next made.placements (known_ids boxes all collected made.placements made.homes made.groups made.whole)
+    new_ids = records_each (λ id p. id < length boxes) old.next made.placements
+        (known_ids boxes all collected made.placements made.homes made.groups made.whole)
 
     pub new_once : AllPairs (λ r s. r.id ≢ s.id) new_records
     new_once = records_once old.next made.placements (placed_alone boxes all collected made.placements made.homes made.groups made.whole)
@@ -160,7 +171,8 @@ module _ (R : Group ℕ ℕ → Group ℕ ℕ → Ordering) (may : Answers) (sam
 
       stood : All (λ p. slice_get (map placement outs) p.id ≡ Some (corner_of p.bin p.location)) made.placements
       stood = placements_each (λ id q. slice_get (map placement outs) id ≡ Some q) old.next made.placements
-          (All-weaker (λ (r : Outstanding ℕ ℕ). slice_get outs r.id ≡ Some (as_outstanding r)) (λ r. slice_get (map placement outs) r.id ≡ Some (corner_of r.bin r.location))
+          (All-weaker (λ (r : Outstanding ℕ ℕ). slice_get outs r.id ≡ Some (as_outstanding r))
+          (λ r. slice_get (map placement outs) r.id ≡ Some (corner_of r.bin r.location))
           (λ r at. slice_get-map placement outs r.id ∙ ap (option_map placement) at) new_records written)
 
       standing : (i : ℕ) (b : RpBox) (p : RpOutstanding) → IsAt boxes outs i b p → Stands boxes (map placement outs) i b p.placement
@@ -169,10 +181,12 @@ module _ (R : Group ℕ ℕ → Group ℕ ℕ → Ordering) (may : Answers) (sam
       -- the record of a box
       found : (i : ℕ) (b : RpBox) (p : RpOutstanding) → IsAt boxes outs i b p → Contains new_records (record_of i b p) × (old.next ≤ p.number)
       found i b p a =
-          let f = comes_from boxes all collected made.placements made.homes made.groups made.whole (map placement outs) stood i b p.placement (standing i b p a) in
+          let f = comes_from boxes all collected made.placements made.homes made.groups made.whole (map placement outs) stood i b
+          p.placement (standing i b p a) in
           let (r, inside, id, bin, location, low) = found_number old.next made.placements f.from f.inside in
           let r_id : r.id ≡ i = id ∙ f.id in
-          let at : slice_get outs r.id ≡ Some (as_outstanding r) = All-contains (λ (r : Outstanding ℕ ℕ). slice_get outs r.id ≡ Some (as_outstanding r)) new_records r written inside in
+          let at : slice_get outs r.id ≡ Some (as_outstanding r) = All-contains
+          (λ (r : Outstanding ℕ ℕ). slice_get outs r.id ≡ Some (as_outstanding r)) new_records r written inside in
           let both : Some p ≡ Some (as_outstanding r) = sym a.at ∙ rw r_id at at in
           let p_is : p ≡ as_outstanding r = cc in
           let number : p.number ≡ r.number = ap (λ (o : RpOutstanding). o.number) p_is in
@@ -191,7 +205,9 @@ module _ (R : Group ℕ ℕ → Group ℕ ℕ → Ordering) (may : Answers) (sam
         outstanding = λ i b p a. rw records_are (Contains-append_right old.outstanding new_records (record_of i b p) (found i b p a).0);
         fresh = λ i b p a. (found i b p a).1;
         apart = λ i j a b p q s t differ same.
-            differ (ap (λ (r : Outstanding ℕ ℕ). r.id) (same_number old.next made.placements (record_of i a p) (record_of j b q) (found i a p s).0 (found j b q t).0 same));
+            differ (ap (λ (r : Outstanding ℕ ℕ). r.id)
+            (same_number old.next made.placements (record_of i a p) (record_of j b q) (found i a p s).0 (found j b q t).0 same));
         together = λ i j a b p q s t named same.
-            stand_together boxes all collected made.placements made.homes made.groups made.whole (map placement outs) stood i j a b p.placement q.placement (standing i a p s) (standing j b q t) named same;
+            stand_together boxes all collected made.placements made.homes made.groups made.whole (map placement outs) stood i j a b p.placement q.placement
+            (standing i a p s) (standing j b q t) named same;
       }

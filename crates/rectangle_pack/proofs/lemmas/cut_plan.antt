@@ -1,7 +1,7 @@
--- Cutting plans. Read Filling, Split and OpenPlanes first: an open plane splits what is from cuts, and there is one. The main lemmas are in FirstPlanes: a plan is a tree, and there is one. Gaps and Ends are for the search, Pending for the loop.
+-- Cutting plans. Read Filling, Split and OpenPlanes first: an open plane splits what is from cuts, and there is one. The main lemmas are in FirstPlanes: a plan
+-- is a tree, and there is one. Gaps and Ends are for the search, Pending for the loop.
 pub mod Split
 pub mod OpenPlanes
-pub mod PlaneSides
 pub mod Filling
 pub mod FirstPlanes
 pub mod Gaps

@@ -1,4 +1,5 @@
--- Boxes, cells and straight cuts. Read Boxes, Axes and Counting, then Pieces: the pieces of a cut tile their section. Then Parts, Times and Trees; the main lemma is in PiecesAreLeaves: a box and the pieces round it are from cuts.
+-- Boxes, cells and straight cuts. Read Boxes, Axes and Counting, then Pieces: the pieces of a cut tile their section. Then Parts, Times and Trees; the main
+-- lemma is in PiecesAreLeaves: a box and the pieces round it are from cuts.
 pub mod Boxes
 pub mod Axes
 pub mod Counting
@@ -6,7 +7,6 @@ pub mod TotalOrders
 pub mod FallingRates
 pub mod BestOfAPass
 pub mod SmallestBox
-pub mod Volumes
 pub mod CoverVolumes
 pub mod SoundBins
 pub mod Pieces

@@ -1,4 +1,5 @@
--- Equal input gives equal output. Read OneOrder and OneTrial first; the main lemma is in OnePacking. Either lets the closures of two packings differ where they answer alike.
+-- Equal input gives equal output. Read OneOrder and OneTrial first; the main lemma is in OnePacking. Either lets the closures of two packings differ where they
+-- answer alike.
 pub mod OneOrder
 pub mod OneTrial
 pub mod OnePacking

@@ -1,4 +1,5 @@
--- Packings. Read Orders, Groups and RollBack first; Frame carries whatever each step keeps through a packing, and is the main lemma. Whole and Refused say what is promised of groups, FitTests bounds the tests.
+-- Packings. Read Orders, Groups and RollBack first; Frame carries whatever each step keeps through a packing, and is the main lemma. Whole and Refused say what
+-- is promised of groups, FitTests bounds the tests.
 pub mod GroupOrder
 pub mod Orders
 pub mod Placed

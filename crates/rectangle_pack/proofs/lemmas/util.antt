@@ -1,3 +1,5 @@
--- What is about no subject of this crate. Maps: look-ups and writes at equal keys. Stretches: parts of lists, as far apart as blocks of slots.
+-- What is about no subject of this crate. Zips: lists that agree element by element.
+-- Maps: look-ups and writes at equal keys. Stretches: parts of lists, as far apart as blocks of slots.
+pub mod Zips
 pub mod Maps
 pub mod Stretches

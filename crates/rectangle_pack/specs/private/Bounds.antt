@@ -1,4 +1,4 @@
--- What bounds the fit tests of a packing that is on its way.
+-- What bounds the fit tests of a packing that has not ended.
 use Rattle.std.specs.Prelude.{◌≡◌, ℕ, ◌+◌, ◌*◌, ◌≤◌, List, length, unwrap_or}
 use Rattle.std.specs.declared.cmp.Ordering.{Ordering}
 use Rattle.std.specs.List.{sum_by}

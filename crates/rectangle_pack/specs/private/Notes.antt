@@ -1,4 +1,4 @@
--- Notes of steps, by which steps are undone in place.
+-- Notes of steps, by which the steps are undone.
 use Rattle.std.specs.Prelude.{ℕ, ◌≡◌, ◌<◌, ◌≤◌, List, [], ◌∷◌, length, take, insert, set, Option, Some}
 use Rattle.rectangle_pack.specs.declared.target_bin.trial.Note.{Note}
 use Rattle.rectangle_pack.specs.Boxes.{Cuboid}

@@ -1,4 +1,4 @@
--- Journals of done trials, by which a packing is undone in place.
+-- Journals of done trials, by which a packing is rolled back.
 use Rattle.std.specs.Prelude.{◌≡◌, List, [], ◌∷◌, Some, reverse, length, nat_eq, if◌then◌else◌}
 use Rattle.std.specs.declared.cmp.Ordering.{Ordering}
 use Rattle.std.specs.Map.{lookup, set_value}

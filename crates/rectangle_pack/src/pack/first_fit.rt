@@ -206,12 +206,13 @@ where
     requires callable { R.is_callable policy.now }
     requires listed { All
         (λ o.
-        lookup (is_at (⟦<Group<GroupId, Id> as Ord>⟧.cmp o.1.now)) rects_to_place.now.groups ≡
-        Some o.2.now.items) groups.now }
+        lookup (is_at (⟦<Group<GroupId, Id> as Ord>⟧.cmp o.name.now)) rects_to_place.now.groups ≡
+        Some o.ids.now.items) groups.now }
     requires sized { All
-        (λ o. SizesStandAt Id.cmp rects_to_place.now.sizes sizes.now o.2.now.items o.3) groups.now }
+        (λ o. SizesStandAt Id.cmp rects_to_place.now.sizes sizes.now o.ids.now.items o.start)
+        groups.now }
     requires distinct_groups { IsDistinct (eq_by_cmp ⟦<Group<GroupId, Id> as Ord>⟧.cmp)
-        (map (λ o. o.1.now) groups.now) }
+        (map (λ o. o.name.now) groups.now) }
     requires no_placements { packing.old.placements.items ≡ [] }
     ensures packed { IfOk result
         (λ done.
@@ -246,15 +247,15 @@ where
     packing.journal.reserve(groups.len())?;
     let exclusions = rects_to_place.exclusions();
     let mut homes = BTreeMap::new(alloc);
-    for (_, group, ids, start) in groups {
-        let members = &sizes[*start..*start + ids.len()];
-        let partners = exclusions.partners(*group);
+    for group in groups {
+        let members = &sizes[group.start..group.start + group.ids.len()];
+        let partners = exclusions.partners(group.name);
         let excluded = excluded_bins(alloc, partners, &homes)?;
-        match place_group(packing, ids.as_slice(), members, &excluded, policy)? {
+        match place_group(packing, group.ids.as_slice(), members, &excluded, policy)? {
             None => return Ok(false),
             Some(here) => {
                 if !partners.is_empty() {
-                    homes.insert(*group, here)?;
+                    homes.insert(group.name, here)?;
                 }
             }
         }

@@ -85,18 +85,25 @@ where
 }
 
 // A group in an order: its key, its name, its ids, and where their sizes begin among those of all.
-pub(crate) type OrderedGroup<'a, K, Id, A> = (Reverse<u128>, &'a K, &'a Vec<Id, A>, usize);
+#[derive(Drop)]
+pub(crate) struct OrderedGroup<'a, K, Id, A: Allocator> {
+    pub key: Reverse<u128>,
+    pub name: &'a K,
+    pub ids: &'a Vec<Id, A>,
+    pub start: usize,
+}
 
-// By falling key, and at equal keys as they come. Where the sizes of a group begin rises with its
-// name, and is compared in its place, so that no reference is followed.
+// By falling key, and at equal keys by name. Where the sizes of a group begin rises with its name,
+// so that number is compared instead, and no reference is followed.
 fn sort_falling<K: Ord, Id: Ord, A: Allocator>(order: &mut Vec<OrderedGroup<'_, K, Id, A>, A>)
-    requires rising { AllPairs (λ o p. (K.cmp o.1.now p.1.now ≡ Less) × (o.3 < p.3)) order.old.items }
+    requires rising { AllPairs (λ o p. (K.cmp o.name.now p.name.now ≡ Less) × (o.start < p.start))
+        order.old.items }
     ensures permutation { IsPermutation (keys_of_order order.old.items)
         (keys_of_order order.new.items) }
     ensures same { IsPermutation order.old.items order.new.items }
     ensures falling { IsSorted (falling_then K.cmp) (keys_of_order order.new.items) }
 {
-    order.sort_unstable_by_key(|turn| (turn.0, turn.3));
+    order.sort_unstable_by_key(|group| (group.key, group.start));
 }
 
 // All groups, by falling key and then by name, and the sizes of the ids of each.
@@ -119,12 +126,13 @@ where
         IsGroupOrder (R.may policy.now).rate K.cmp Id.cmp rects.now.entries
         (lists_of lists.now.entries) (keys_of_order v.items)) }
     ensures listed { IfOk result
-        (λ v. All (λ o. get K.cmp lists.now o.1.now ≡ Some o.2.now) v.items) }
+        (λ v. All (λ o. get K.cmp lists.now o.name.now ≡ Some o.ids.now) v.items) }
     ensures sizes { IfOk result
         (λ v.
-        All (λ o. SizesStandAt Id.cmp rects.now.entries sizes.new.items o.2.now.items o.3) v.items) }
+        All (λ o. SizesStandAt Id.cmp rects.now.entries sizes.new.items o.ids.now.items o.start)
+        v.items) }
     ensures distinct { IfOk result
-        (λ v. IsDistinct (eq_by_cmp K.cmp) (map (λ o. o.1.now) v.items)) }
+        (λ v. IsDistinct (eq_by_cmp K.cmp) (map (λ o. o.name.now) v.items)) }
     ensures counted { IfOk result
         (λ v.
         sum_by (entries_at K.cmp (lists_of lists.now.entries)) (keys_of_order v.items) ≡
@@ -135,7 +143,12 @@ where
         let start = sizes.len();
         add_sizes(sizes, ids.as_slice(), rects)?;
         let key = group_key(&sizes[start..], policy);
-        order.push((Reverse(key), group, ids, start))?;
+        order.push(OrderedGroup {
+            key: Reverse(key),
+            name: group,
+            ids,
+            start,
+        })?;
     }
     sort_falling(&mut order);
     Ok(order)

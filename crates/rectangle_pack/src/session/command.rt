@@ -1,7 +1,12 @@
 //! What a session is told, and what it answers.
+ghost use Rattle.std.specs.Prelude.{◌≡◌};
+ghost use Rattle.rectangle_pack.specs.SessionTexts.{session_text};
+
 use crate::grouped_rects_to_place::GroupedRectsToPlace;
 use crate::packed_location::PackedLocation;
-use std::alloc::{AllocError, Allocator, Global};
+use std::alloc::{AllocError, AllocFailed, Allocator, Global};
+use std::error::Error;
+use std::{fmt, io};
 
 /// A placement that was not released.
 #[derive(Debug, PartialEq, Drop)]
@@ -43,6 +48,35 @@ pub enum SessionError {
     OutOfMemory,
 }
 
+impl SessionError {
+    // The text that it prints.
+    fn text(&self) -> &'static str
+        ensures { result.now ≡ session_text self.now }
+    {
+        match self {
+            SessionError::DuplicateBin => "The bin is there already.",
+            SessionError::UnknownBin => "There is no such bin.",
+            SessionError::UnknownPlacement => "No placement of this number is outstanding.",
+            SessionError::NumbersUsedUp => "The numbers of placements are used up.",
+            SessionError::NotEnoughBinSpace => "Not enough space to place all of the rectangles.",
+            SessionError::OutOfMemory => "Out of memory.",
+        }
+    }
+}
+
+impl fmt::Display for SessionError {
+    ghost use Rattle.std.specs.Prelude.{Some};
+    ghost use Rattle.rectangle_pack.specs.SessionTexts.{session_text};
+
+    ghost output = { λ e. Some (session_text e) };
+
+    fn fmt<W: fmt::Write>(&self, f: &mut fmt::Formatter<W>) -> fmt::Result {
+        write!(f, "{}", self.text())
+    }
+}
+
+impl Error for SessionError {}
+
 impl From<AllocError> for SessionError {
     ghost use Rattle.std.specs.Prelude.{◌≡◌};
     ghost use Rattle.rectangle_pack.specs.declared.session.command.SessionError.TheVariants.{OutOfMemory};
@@ -51,6 +85,23 @@ impl From<AllocError> for SessionError {
 
     fn from(_: AllocError) -> Self {
         SessionError::OutOfMemory
+    }
+}
+
+impl<T: Drop> From<AllocFailed<T>> for SessionError {
+    ghost use Rattle.std.specs.Prelude.{◌≡◌};
+    ghost use Rattle.rectangle_pack.specs.declared.session.command.SessionError.TheVariants.{OutOfMemory};
+
+    ghost from_gives = { λ e error. error ≡ OutOfMemory };
+
+    fn from(_: AllocFailed<T>) -> Self {
+        SessionError::OutOfMemory
+    }
+}
+
+impl From<SessionError> for io::Error {
+    fn from(error: SessionError) -> io::Error {
+        io::Error::other(error.text())
     }
 }
 

@@ -51,7 +51,7 @@ impl FitTests {
         self.count = self.count.saturating_add(tests as u128);
     }
 
-    // Those of another count too.
+    // Adds those of another count.
     pub(crate) fn add_all(&mut self, other: &FitTests)
         ensures { self.new ≡ saturated (self.old + other.now) }
     {

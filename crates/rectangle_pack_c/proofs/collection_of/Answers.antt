@@ -1,7 +1,4 @@
-use Rattle.std.proofs.Common.{refl, get_or, subst}
-use Rattle.std.specs.List.Sorted.{IsStrictlySortedBy}
-use Rattle.std.specs.Map.{keys_of}
-use Rattle.std.proofs.lemmas.List.{get_or_default}
+use Rattle.rectangle_pack_c.proofs.Std.{refl, get_or, subst, IsStrictlySortedBy, keys_of, get_or_default}
 use Rattle.rectangle_pack_c.specs.declared.RpBox.{RpBox}
 use Rattle.rectangle_pack_c.proofs.LoopLemmas.{boxes_more, pushes_alone, pushes_into}
 use Rattle.rectangle_pack_c.proofs.OrderLemmas.{same_order}
@@ -20,7 +17,9 @@ loop-i-preserved c =
           pushes_alone _ i b c.loop-i.rects c.push_rect.new.self c.new-size.result (rw w.groups-is at h) c.new-size.ensures w.if-rect-eq0.true
           (same_order _ (λ a b. refl) (λ a b. refl) (λ a b. refl) (λ a b. refl))
       | else-rect-eq0+in_ok-vec w ↦
-          pushes_into _ i b c.loop-i.rects c.push_rect.new.self _ c.new-size.result (rw w.groups-is at h) c.new-size.ensures w.in_ok-vec.ensures.items w.if-rect-eq0.false
+          pushes_into _ i b c.loop-i.rects c.push_rect.new.self _ c.new-size.result (rw w.groups-is at h) c.new-size.ensures
+          w.in_ok-vec.ensures.items w.if-rect-eq0.false
           (same_order _ (λ a b. refl) (λ a b. refl) (λ a b. refl) (λ a b. refl))
     ])
-    (subst (λ cmp. IsStrictlySortedBy cmp (keys_of c.push_rect.new.self.groups)) (same_order _ (λ a b. refl) (λ a b. refl) (λ a b. refl) (λ a b. refl)) c.groups-ascend.ensures.ascend)
+    (subst (λ cmp. IsStrictlySortedBy cmp (keys_of c.push_rect.new.self.groups)) (same_order _ (λ a b. refl) (λ a b. refl) (λ a b. refl) (λ a b. refl))
+    c.groups-ascend.ensures.ascend)

@@ -1,4 +1,4 @@
-use Rattle.std.proofs.Common.{take}
+use Rattle.rectangle_pack_c.proofs.Std.{take}
 use Rattle.rectangle_pack_c.specs.Arguments.{IsCollected}
 use Rattle.rectangle_pack_c.proofs.collection_of.Given as goal
 

@@ -1,4 +1,4 @@
-use Rattle.std.proofs.lemmas.List.{get_or_default}
+use Rattle.rectangle_pack_c.proofs.Std.{get_or_default}
 use Rattle.rectangle_pack_c.proofs.LoopLemmas.{added_more}
 use Rattle.rectangle_pack_c.proofs.session_of.Goals as goal
 

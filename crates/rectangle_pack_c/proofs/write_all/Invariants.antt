@@ -1,7 +1,7 @@
-use Rattle.std.proofs.Common.{◌≡◌, ℕ, ◌<◌, get_or}
-use Rattle.std.specs.Prelude.{Some, slice_get}
+use Rattle.rectangle_pack_c.proofs.Std.{◌≡◌, ℕ, ◌<◌, get_or, Some, slice_get}
 use Rattle.rectangle_pack.specs.declared.session.command.Outstanding.{Outstanding}
 use Rattle.rectangle_pack_c.proofs.write_all.Given as goal
 
 abbrev pub invariant-loop-placement : goal.invariant-loop-placement
-invariant-loop-placement g l = (k : ℕ) → k < l.placement-index → (d : Outstanding ℕ ℕ) → slice_get l.placements (get_or l.outstanding k d).id ≡ Some (g.T.Written.written (get_or l.outstanding k d))
+invariant-loop-placement g l = (k : ℕ) → k < l.placement-index → (d : Outstanding ℕ ℕ)
+    → slice_get l.placements (get_or l.outstanding k d).id ≡ Some (g.T.Written.written (get_or l.outstanding k d))

@@ -8,7 +8,8 @@ use prog.Memory.{Memory}
 use prog.Routine.{Routine}
 use types.Logic.{Logic, sem}
 use contract.Monad.{Fun}
-use types.Kit.{Item, mean, ‵, ◌⊛◌, some, later, ◌$◌, ◌∵◌, !, qed, move, keep, split, join, pick, fjoin, feq_i, feq_l, check, show, await, updating, now as at_once, done}
+use types.Kit.{Item, mean, ‵, ◌⊛◌, some, later, ◌$◌, ◌∵◌, !, qed, move, keep, split, join, pick, fjoin, feq_i, feq_l, check, show, await, updating}
+use types.Kit.{now as at_once, done}
 use denote.RattleType.{RattleType}
 use denote.Memory.{hidden_shr}
 use denote.Steps.{nothing, only}
@@ -36,9 +37,11 @@ module _ {M : Type 1} {𝓤 : Ura M} (𝓛 : Logic 𝓤) (at_mem : Memory → SP
 module _ {M : Type 1} {𝓤 : Ura M} (𝓛 : Logic 𝓤) (at_mem : Memory → SProp 𝓤) (run : Routine → Fun 𝓤) (κ : Lft) (q : Share) (c : ℕ × ℕ) where
   open 𝓛 use {H, A}
 
-  pub hands_counts : ent 𝓤 (sep 𝓤 (sem 𝓛 (hidden_shr Calls κ (record { value = tt }) c.0 c.1)) (A.lft κ q)) ((Spends 𝓛 at_mem run).pre (at_counts 𝓛 at_mem run κ q c))
+  pub hands_counts : ent 𝓤 (sep 𝓤 (sem 𝓛 (hidden_shr Calls κ (record { value = tt }) c.0 c.1)) (A.lft κ q))
+      ((Spends 𝓛 at_mem run).pre (at_counts 𝓛 at_mem run κ q c))
   hands_counts =
-      qed 𝓛 (‵ (hidden_shr Calls κ (record { value = tt }) c.0 c.1) ∷ ‵ (flft κ q) ∷ []) ∵ feq_i ! (List Val) (vptr c.0 c.1 ∷ []) (vptr c.0 c.1 ∷ []) refl $ fjoin ! $
+      qed 𝓛 (‵ (hidden_shr Calls κ (record { value = tt }) c.0 c.1) ∷ ‵ (flft κ q) ∷ []) ∵ feq_i ! (List Val) (vptr c.0 c.1 ∷ [])
+      (vptr c.0 c.1 ∷ []) refl $ fjoin ! $
       nothing ! $ move ! (1 ∷ []) $ fjoin ! $ nothing ! $ move ! (2 ∷ []) $ join ! $ join ! $ nothing ! $ move ! (1 ∷ []) $ done !
 
 module _ {M : Type 1} {𝓤 : Ura M} (𝓛 : Logic 𝓤) (κ : Lft) (q : Share) {R : Type 0} (value : R → Val) (v : Val) where
@@ -46,7 +49,8 @@ module _ {M : Type 1} {𝓤 : Ura M} (𝓛 : Logic 𝓤) (κ : Lft) (q : Share) 
 
   -- a result of which nothing is promised
   abbrev Came : Item 𝓤
-  Came = later (some (λ (r : R). ((‵ (flft κ q) ⊛ ‵ ftrue) ⊛ ‵ (feq (List Val) (v ∷ []) (value r ∷ []))) ⊛ some (λ (ws : Unit {0} × Unit {0}). ‵ (fsep ftrue ftrue) ⊛ ‵ ftrue)))
+  Came = later (some (λ (r : R). ((‵ (flft κ q) ⊛ ‵ ftrue) ⊛ ‵ (feq (List Val) (v ∷ []) (value r ∷ []))) ⊛ some
+      (λ (ws : Unit {0} × Unit {0}). ‵ (fsep ftrue ftrue) ⊛ ‵ ftrue)))
 
   pub has_result : ent 𝓤 (mean 𝓛 Came) (H.⇛ (ex 𝓤 (λ (r : R). guard 𝓤 (v ≡ value r) (A.lft κ q))))
   has_result =

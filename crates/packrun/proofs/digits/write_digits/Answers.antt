@@ -1,4 +1,5 @@
-use Rattle.std.proofs.Common.{◌≡◌, ◌<◌, ◌≤◌, ◌+◌, ◌-◌, ◌/◌, ◌%◌, ◌^◌, ◌++◌, ◌∷◌, ℕ, List, [], length, length-append, length-set, drop, set, sym, ap, ◌∙◌, append_assoc, arith}
+use Rattle.std.proofs.Common.{◌≡◌, ◌<◌, ◌≤◌, ◌+◌, ◌-◌, ◌/◌, ◌%◌, ◌^◌, ◌++◌, ◌∷◌, ℕ, List, [], length, length-append, length-set, drop, set, sym, ap, ◌∙◌}
+use Rattle.std.proofs.Common.{append_assoc, arith}
 use Rattle.std.specs.Fmt.{decimal}
 use Rattle.std.proofs.lemmas.Fmt.{decimal_step, decimal_digit, decimal_nonempty}
 use Rattle.std.proofs.lemmas.List.{drop-set}
@@ -27,11 +28,13 @@ some_left : (number rest at end : ℕ) → rest < 2 ^ 64 → length (decimal num
 some_left number rest at end small room left = omega (arith, decimal_nonempty rest small)
 
 pub overflow_sub-at : goal.overflow_sub-at
-overflow_sub-at c = some_left c.args.number c.loop-rest.rest c.loop-rest.at c.args.end (omega (arith, c.loop-rest.invariant.no_more, c.ranges.number.fits)) c.requires.room c.loop-rest.invariant.left
+overflow_sub-at c = some_left c.args.number c.loop-rest.rest c.loop-rest.at c.args.end (omega (arith, c.loop-rest.invariant.no_more, c.ranges.number.fits))
+    c.requires.room c.loop-rest.invariant.left
 
 pub bounds-line-at : goal.bounds-line-at
 bounds-line-at c =
-    let some = some_left c.args.number c.loop-rest.rest c.loop-rest.at c.args.end (omega (arith, c.loop-rest.invariant.no_more, c.ranges.number.fits)) c.requires.room c.loop-rest.invariant.left in
+    let some = some_left c.args.number c.loop-rest.rest c.loop-rest.at c.args.end (omega (arith, c.loop-rest.invariant.no_more, c.ranges.number.fits))
+    c.requires.room c.loop-rest.invariant.left in
     omega (arith, some, c.loop-rest.invariant.within, c.loop-rest.invariant.long, c.requires.within)
 
 pub loop-rest-preserved : goal.loop-rest-preserved
@@ -50,25 +53,30 @@ loop-rest-preserved c =
     }
 
 pub overflow_sub-line : goal.overflow_sub-line
-overflow_sub-line c = some_left c.args.number c.loop-rest.rest c.loop-rest.at c.args.end (omega (arith, c.loop-rest.invariant.no_more, c.ranges.number.fits)) c.requires.room c.loop-rest.invariant.left
+overflow_sub-line c = some_left c.args.number c.loop-rest.rest c.loop-rest.at c.args.end (omega (arith, c.loop-rest.invariant.no_more, c.ranges.number.fits))
+    c.requires.room c.loop-rest.invariant.left
 
 pub bounds-line-at-2 : goal.bounds-line-at-2
 bounds-line-at-2 c =
-    let some = some_left c.args.number c.loop-rest.rest c.loop-rest.at c.args.end (omega (arith, c.loop-rest.invariant.no_more, c.ranges.number.fits)) c.requires.room c.loop-rest.invariant.left in
+    let some = some_left c.args.number c.loop-rest.rest c.loop-rest.at c.args.end (omega (arith, c.loop-rest.invariant.no_more, c.ranges.number.fits))
+    c.requires.room c.loop-rest.invariant.left in
     omega (arith, some, c.loop-rest.invariant.within, c.loop-rest.invariant.long, c.requires.within)
 
 pub overflow_sub-result : goal.overflow_sub-result
-overflow_sub-result c = some_left c.args.number c.loop-rest.rest c.loop-rest.at c.args.end (omega (arith, c.loop-rest.invariant.no_more, c.ranges.number.fits)) c.requires.room c.loop-rest.invariant.left
+overflow_sub-result c = some_left c.args.number c.loop-rest.rest c.loop-rest.at c.args.end (omega (arith, c.loop-rest.invariant.no_more, c.ranges.number.fits))
+    c.requires.room c.loop-rest.invariant.left
 
 pub returns-clause-start : goal.returns-clause-start
 returns-clause-start c =
-    let some = some_left c.args.number c.loop-rest.rest c.loop-rest.at c.args.end (omega (arith, c.loop-rest.invariant.no_more, c.ranges.number.fits)) c.requires.room c.loop-rest.invariant.left in
+    let some = some_left c.args.number c.loop-rest.rest c.loop-rest.at c.args.end (omega (arith, c.loop-rest.invariant.no_more, c.ranges.number.fits))
+    c.requires.room c.loop-rest.invariant.left in
     omega (arith, some, ap length (decimal_digit c.loop-rest.rest (omega (arith, c.loop-rest-test.false))), c.loop-rest.invariant.left)
 
 pub returns-clause-written : goal.returns-clause-written
 returns-clause-written c =
     let rest = c.loop-rest.rest in
-    let some = some_left c.args.number rest c.loop-rest.at c.args.end (omega (arith, c.loop-rest.invariant.no_more, c.ranges.number.fits)) c.requires.room c.loop-rest.invariant.left in
+    let some = some_left c.args.number rest c.loop-rest.at c.args.end (omega (arith, c.loop-rest.invariant.no_more, c.ranges.number.fits)) c.requires.room
+    c.loop-rest.invariant.left in
     written_before c.loop-rest.line c.loop-rest.at (48 + rest) some (omega (arith, c.loop-rest.invariant.within, c.loop-rest.invariant.long, c.requires.within))
     ∙ ap (λ t. t ++ drop c.loop-rest.at c.loop-rest.line) (sym (decimal_digit rest (omega (arith, c.loop-rest-test.false))))
     ∙ c.loop-rest.invariant.spelled

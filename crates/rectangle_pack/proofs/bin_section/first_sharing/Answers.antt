@@ -1,13 +1,12 @@
-use Rattle.std.proofs.Common.{refl, take}
-use Rattle.std.proofs.lemmas.List.{take_more}
-use Rattle.std.proofs.lemmas.List.Elements.{All-push}
+use Rattle.rectangle_pack.proofs.Std.{refl, take, take_more, All-push}
 use Rattle.rectangle_pack.specs.Boxes.{AreApart}
 use Rattle.rectangle_pack.proofs.lemmas.cuts.SoundBins.{first_at}
 use Rattle.rectangle_pack.proofs.bin_section.first_sharing.Goals as goal
 
 pub returns-then-overlaps-clause-first : goal.returns-then-overlaps-clause-first
 returns-then-overlaps-clause-first c =
-    first_at c.args.sections.now c.args.section.now c.loop-s.s-index c.s-item.result c.loop-s-test.true c.s-item.is c.loop-s.invariant (c.if-overlaps.ensures.shares.0 refl)
+    first_at c.args.sections.now c.args.section.now c.loop-s.s-index c.s-item.result c.loop-s-test.true c.s-item.is c.loop-s.invariant
+    (c.if-overlaps.ensures.shares.0 refl)
 
 pub loop-s-preserved : goal.loop-s-preserved
 loop-s-preserved c =

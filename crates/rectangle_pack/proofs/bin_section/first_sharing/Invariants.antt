@@ -1,5 +1,4 @@
-use Rattle.std.proofs.Common.{take}
-use Rattle.std.specs.Prelude.{All}
+use Rattle.rectangle_pack.proofs.Std.{take, All}
 use Rattle.rectangle_pack.specs.Boxes.{AreApart}
 use Rattle.rectangle_pack.proofs.bin_section.first_sharing.Given as goal
 

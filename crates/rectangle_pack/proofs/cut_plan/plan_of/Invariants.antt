@@ -1,4 +1,4 @@
-use Rattle.std.proofs.Common.{◌≤◌, length, drop, reverse, sum_by}
+use Rattle.rectangle_pack.proofs.Std.{◌≤◌, length, drop, reverse, sum_by}
 use Rattle.rectangle_pack.proofs.lemmas.cut_plan.Pending.{LeadOn, weight}
 use Rattle.rectangle_pack.proofs.cut_plan.plan_of.Given as goal
 

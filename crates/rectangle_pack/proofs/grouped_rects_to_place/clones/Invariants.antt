@@ -1,7 +1,4 @@
-use Rattle.std.proofs.Common.{◌≡◌, ◌≤◌, length}
-use Rattle.std.specs.Prelude.{All}
-use Rattle.std.specs.Vec.{vec_capacity}
-use Rattle.std.specs.declared.cmp.Ordering.TheVariants.{Equal}
+use Rattle.rectangle_pack.proofs.Std.{◌≡◌, ◌≤◌, length, All, vec_capacity, Equal}
 use Rattle.rectangle_pack.proofs.grouped_rects_to_place.clones.Given as goal
 
 abbrev pub invariant-loop : goal.invariant-loop

@@ -1,6 +1,4 @@
-use Rattle.std.proofs.Common.{sym, ◌∙◌, ap}
-use Rattle.std.specs.Map.{remove_entry, set_value}
-use Rattle.std.specs.BTreeMap.{is_at}
+use Rattle.rectangle_pack.proofs.Std.{sym, ◌∙◌, ap, remove_entry, set_value, is_at}
 use Rattle.rectangle_pack.proofs.lemmas.util.Maps.{lookup-equal}
 use Rattle.rectangle_pack.proofs.lemmas.multimap.Restore.{remove-insert, set-insert}
 use Rattle.rectangle_pack.proofs.grouped_rects_to_place.restore.Goals as goal
@@ -13,4 +11,5 @@ returns-in-None g c = λ was k v up same before inserted.
 pub returns-in-Some-get_mut : goal.returns-in-Some-get_mut
 returns-in-Some-get_mut g c = λ was k v up same before inserted.
     (c.get_mut.follows.holds c.in-Some.value).0 ∙ ap (λ es. set_value (is_at (g.K.Ord.cmp c.args.key.now)) es c.in-Some.value) inserted
-    ∙ set-insert g.met.K.Ord.total c.args.key.now k same was v c.in-Some.value up (lookup-equal g.met.K.Ord.total c.args.key.now k same was ∙ sym before ∙ c.in-Some.is)
+    ∙ set-insert g.met.K.Ord.total c.args.key.now k same was v c.in-Some.value up
+    (lookup-equal g.met.K.Ord.total c.args.key.now k same was ∙ sym before ∙ c.in-Some.is)

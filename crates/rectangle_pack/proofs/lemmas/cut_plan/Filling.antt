@@ -1,10 +1,6 @@
 -- Boxes that fill another: they stand inside it, and each of its cells is in one of them.
-use Rattle.std.proofs.Common.{ℕ, ◌≡◌, ◌+◌, ◌<◌, ◌≤◌, Bool, true, List, [], ◌∷◌, sym, ◌∙◌, arith, inl, inr}
-use Rattle.std.specs.Prelude.{All, filter, count_by}
-use Rattle.std.specs.List.Sorted.{IsPermutation}
-use Rattle.std.proofs.lemmas.Bool.{cases_lt, cases_Bool, both_ways}
-use Rattle.std.proofs.lemmas.List.Elements.{filter_passes}
-use Rattle.std.proofs.lemmas.List.Sorted.{All-permutation}
+use Rattle.rectangle_pack.proofs.Std.{ℕ, ◌≡◌, ◌<◌, ◌≤◌, true, List, [], ◌∷◌, sym, ◌∙◌, arith, inl, inr, All, filter, count_by, IsPermutation, cases_lt}
+use Rattle.rectangle_pack.proofs.Std.{cases_Bool, both_ways, cond, rules, filter_passes, All-permutation, sum_by-IsPermutation}
 use Rattle.rectangle_pack.specs.declared.axis.Axis.{Axis}
 use Rattle.rectangle_pack.specs.Boxes.{Size, Cuboid, Cell, IsInside, IsPartOf, FitsU32, is_cell_of, start, has_cells}
 use Rattle.rectangle_pack.specs.Bins.{whole as bin}
@@ -14,34 +10,21 @@ use Rattle.rectangle_pack.specs.CutTrees.{times_in, HaveSameBoxes}
 use Rattle.rectangle_pack.specs.private.CutPlans.{AreEntries, IsFilled}
 use Rattle.rectangle_pack.proofs.lemmas.cuts.Axes.{cell_at, IsAt, is_cell_at, lies_at, runs_on, is_part, stays_in, cell-part, cells-part}
 use Rattle.rectangle_pack.proofs.lemmas.cuts.Boxes.{is_cell_of-true, is_cell_of-from, has_cells-from}
-use Rattle.rectangle_pack.proofs.lemmas.cuts.Counting.{count-cons, count_yes, count_no, cell_from_filled}
+use Rattle.rectangle_pack.proofs.lemmas.cuts.Counting.{count_yes, count_no, cell_from_filled}
 use Rattle.rectangle_pack.proofs.lemmas.trial.Steps.{filled-filter, filled-permutation}
 use Rattle.rectangle_pack.proofs.lemmas.cuts.Trees.{times_in-empty}
 use Rattle.rectangle_pack.proofs.lemmas.cut_plan.OpenPlanes.{last_at, IsAt-last}
 use Rattle.rectangle_pack.proofs.lemmas.cuts.Parts.{box_alike}
-use Rattle.rectangle_pack.proofs.lemmas.cuts.SameBoxes.{in_front}
-use Rattle.rectangle_pack.proofs.lemmas.cuts.Times.{cases_box, times_in-nil, times_in-cons, times_in-same, times_in-other, which_passes, All-times_in}
-use Rattle.rectangle_pack.proofs.lemmas.cuts.Times.{All-from_times_in}
-
--- a box that passes a test is counted as often as it stands in the list
-times_in-counted : (q : Cuboid → Bool) (b : Cuboid) → q b ≡ true → (bs : List Cuboid) → times_in b bs ≤ count_by q bs
-times_in-counted q b passes [] = omega (arith, times_in-nil b)
-times_in-counted q b passes (e ∷ bs) = elim (cases_box b e) [
-  | inl p ↦
-      let yes : q e ≡ true = rw p at passes in
-      let same : times_in b (e ∷ bs) ≡ 1 + times_in b bs = rw p (times_in-same e bs) in
-      omega (arith, times_in-counted q b passes bs, count_yes q e bs yes)
-  | inr n ↦ omega (arith, times_in-counted q b passes bs, times_in-other b e bs n, count-cons q e bs)
-]
+use Rattle.rectangle_pack.proofs.lemmas.cuts.Times.{cases_box, times_in-nil, times_in-cons, times_in-other, times_in-permutation, which_passes, passes_counted}
+use Rattle.rectangle_pack.proofs.lemmas.cuts.Times.{in_front, All-times_in, All-from_times_in}
 
 module _ (whole : Cuboid) (entries : List Cuboid) (tiles : Tiles entries whole) where
   -- a cell of an entry is one of the box
   cell_of_whole : (e : Cuboid) → 0 < times_in e entries → (c : Cell) → is_cell_of c e ≡ true → is_cell_of c whole ≡ true
   unfolding times_filled
   cell_of_whole e some c h =
-      let most : times_in e entries ≤ count_by (is_cell_of c) entries = times_in-counted (is_cell_of c) e h entries in
       let same : count_by (is_cell_of c) entries ≡ count_by (is_cell_of c) (whole ∷ []) = tiles.same c in
-      is_cell_of-from c whole (cell_from_filled c whole (omega (arith, most, same)))
+      is_cell_of-from c whole (cell_from_filled c whole (omega (arith, same, passes_counted (is_cell_of c) e entries h some)))
 
   in_whole : (e : Cuboid) → 0 < times_in e entries → (f : Axis → ℕ) → IsAt e f → IsAt whole f
   in_whole e some f h = lies_at f whole (cell_of_whole e some (cell_at f) (is_cell_at f e h))
@@ -56,7 +39,6 @@ module _ (whole : Cuboid) (entries : List Cuboid) (tiles : Tiles entries whole) 
   pub entries_inside : All (λ e. has_cells e ≡ true → IsPartOf e whole) entries
   entries_inside = All-from_times_in (λ e. has_cells e ≡ true → IsPartOf e whole) entries entry_inside
 
-  -- an entry has each cell of the box
   holder : (f : Axis → ℕ) → IsAt whole f → (e : Cuboid) × (has_cells e ≡ true) × (0 < times_in e entries) × IsAt e f
   unfolding times_filled
   holder f at =
@@ -66,7 +48,7 @@ module _ (whole : Cuboid) (entries : List Cuboid) (tiles : Tiles entries whole) 
       let e = which_passes (is_cell_of c) entries some in
       (e.0, has_cells-from c e.0 e.1, e.2, lies_at f e.0 e.1)
 
-  -- so where the box has cells an entry starts where it does, on each axis, and one ends where it does
+  -- in a box with cells, an entry has the first cell, and one has the last
   pub entry_at_start : has_cells whole ≡ true → (e : Cuboid) × (has_cells e ≡ true) × (0 < times_in e entries) × IsAt e (λ a. start a whole)
   entry_at_start cells = holder (λ a. start a whole) (λ a. (omega arith, runs_on whole cells a))
 
@@ -83,11 +65,15 @@ module _ (whole : Cuboid) (entries : List Cuboid) (tiles : Tiles entries whole) 
     | inl full ↦
         let first = entry_at_start full in
         let last = entry_at_end full in
-        let r = in_front has_cells first.0 entries first.2 in
+        let r = in_front first.0 entries first.2 in
+        let counted = sum_by-IsPermutation (λ e. cond (has_cells e) 1 0) entries (first.0 ∷ r.0) r.1 in
         -- no other entry has cells
-        let none : count_by has_cells r.others ≡ 0 = omega (arith, few, r.counted, count_yes has_cells first.0 r.others first.1) in
+        let none : count_by has_cells r.0 ≡ 0 = omega (arith, few, counted, count_yes has_cells first.0 r.0 first.1) in
         let alone : (d : Cuboid) → has_cells d ≡ true → times_in d entries ≡ times_in d (first.0 ∷ []) = λ d full_d.
-        omega (arith, none, r.same d, times_in-cons d first.0 r.others, times_in-counted has_cells d full_d r.others) in
+        elim (cases_lt 0 (times_in d r.0)) [
+          | inl some ↦ absurd (omega (arith, none, passes_counted has_cells d r.0 full_d some))
+          | inr none_left ↦ omega (arith, times_in-permutation d entries (first.0 ∷ r.0) r.1, times_in-cons d first.0 r.0)
+        ] in
         let one : last.0 ≡ first.0 = elim (cases_box last.0 first.0) [
           | inl p ↦ p
           | inr n ↦ absurd (omega (arith, last.2, alone last.0 last.1, times_in-other last.0 first.0 [] n, times_in-nil last.0))
@@ -100,14 +86,13 @@ module _ (whole : Cuboid) (entries : List Cuboid) (tiles : Tiles entries whole) 
 
 -- a part of a box that ends within 32 bits does
 pub FitsU32-part : (b whole : Cuboid) → IsPartOf b whole → FitsU32 whole → FitsU32 b
-FitsU32-part b whole part fits = record { fits_x = omega arith; fits_y = omega arith; fits_z = omega arith }
+FitsU32-part b whole part fits = search rules
 
 pub AreEntries-filled : (whole : Cuboid) (entries : List Cuboid) → IsFilled whole entries → AreEntries entries
 AreEntries-filled whole entries filled = λ i d within.
     let cells = filled.cells i d within in
     (cells, FitsU32-part _ whole (entries_inside whole entries filled.tiles i d within cells) filled.fits)
 
--- entries in another order fill the box too
 pub IsFilled-permutation : (whole : Cuboid) (bs es : List Cuboid) → IsPermutation bs es → IsFilled whole bs → IsFilled whole es
 IsFilled-permutation whole bs es moved filled = record {
   fits = filled.fits;
@@ -128,8 +113,7 @@ IsFilled-bin size boxes fits cover = record {
         | inl some ↦
             let b = which_passes (is_cell_of c) boxes some in
             let inside = All-times_in (IsInside size) b.0 boxes cover.inside b.2 in
-            let part : IsPartOf b.0 (bin size) =
-            record { from_x = omega arith; to_x = omega arith; from_y = omega arith; to_y = omega arith; from_z = omega arith; to_z = omega arith } in
+            let part : IsPartOf b.0 (bin size) = search rules in
             absurd (both_ways _ f (cell-part c b.0 (bin size) part b.1))
       ]
     ];

@@ -1,8 +1,5 @@
 -- First open planes, and the trees that they plan.
-use Rattle.std.proofs.Common.{ℕ, ◌≡◌, ◌+◌, List, refl, ap, sym, ◌∙◌, subst, arith, inl, inr}
-use Rattle.std.specs.Prelude.{nat_le}
-use Rattle.std.specs.List.Sorted.{IsPermutation}
-use Rattle.std.proofs.lemmas.Bool.{cases_lt, cases_order}
+use Rattle.rectangle_pack.proofs.Std.{ℕ, ◌≡◌, ◌+◌, List, refl, ap, sym, ◌∙◌, subst, arith, inl, inr, nat_le, IsPermutation, cases_lt, cases_order}
 use Rattle.rectangle_pack.specs.declared.axis.Axis.{Axis}
 use Rattle.rectangle_pack.specs.declared.axis.Axis.TheVariants.{X, Y, Z}
 use Rattle.rectangle_pack.specs.declared.cut_plan.CutStep.{CutStep}
@@ -13,11 +10,10 @@ use Rattle.rectangle_pack.specs.CutPlans.{axis_rank, IsFirstPlane, lower_boxes, 
 use Rattle.rectangle_pack.specs.private.CutPlans.{IsClosedOn, AreClosed}
 use Rattle.rectangle_pack.proofs.lemmas.cut_plan.Filling.{one_entry_fills}
 use Rattle.rectangle_pack.proofs.lemmas.cut_plan.OpenPlanes.{IsOpenPlane-same}
-use Rattle.rectangle_pack.proofs.lemmas.cut_plan.PlaneSides.{IsPlaceOf-open, times_in-sides, lower_side, upper_side}
-use Rattle.rectangle_pack.proofs.lemmas.cuts.SameBoxes.{HaveSameBoxes-sym, HaveSameBoxes-trans, HaveSameBoxes-permutation, HaveSameBoxes-filtered, count-same}
+use Rattle.rectangle_pack.proofs.lemmas.cut_plan.Split.{IsPlaceOf-open, times_in-sides, lower_side, upper_side}
+use Rattle.rectangle_pack.proofs.lemmas.cuts.SameBoxes.{HaveSameBoxes-sym, HaveSameBoxes-permutation, HaveSameBoxes-filtered, count-same}
 use Rattle.rectangle_pack.proofs.lemmas.cuts.Times.{times_in-append}
 
--- axes of one rank are one
 axis_by_rank : (a e : Axis) → axis_rank a ≡ axis_rank e → a ≡ e
 unfolding axis_rank
 axis_by_rank X X same = refl
@@ -31,12 +27,12 @@ AreClosed-same n whole bs es same closed = λ a lt q h. closed a lt q (IsOpenPla
 pub AreClosed-permutation : (n : ℕ) (whole : Cuboid) (bs es : List Cuboid) → IsPermutation bs es → AreClosed n whole bs → AreClosed n whole es
 AreClosed-permutation n whole bs es moved closed = AreClosed-same n whole bs es (HaveSameBoxes-permutation bs es moved) closed
 
--- one axis more
-pub AreClosed-more : (a : Axis) (whole : Cuboid) (bs : List Cuboid) → AreClosed (axis_rank a) whole bs → IsClosedOn a whole bs
-    → AreClosed (axis_rank a + 1) whole bs
-AreClosed-more a whole bs closed here = λ e lt. elim (cases_lt (axis_rank e) (axis_rank a)) [
-  | inl less ↦ closed e less
-  | inr more ↦ subst (λ e. IsClosedOn e whole bs) (axis_by_rank a e (omega arith)) here
+-- one axis more, and the boxes in another order
+pub AreClosed-more : (a : Axis) (whole : Cuboid) (bs es : List Cuboid) → IsPermutation bs es → AreClosed (axis_rank a) whole bs → IsClosedOn a whole es
+    → AreClosed (axis_rank a + 1) whole es
+AreClosed-more a whole bs es moved closed here = λ e lt. elim (cases_lt (axis_rank e) (axis_rank a)) [
+  | inl less ↦ AreClosed-permutation (axis_rank a) whole bs es moved closed e less
+  | inr more ↦ subst (λ e. IsClosedOn e whole es) (axis_by_rank a e (omega arith)) here
 ]
 
 IsFirstPlane-same : (a : Axis) (place : ℕ) (whole : Cuboid) (bs es : List Cuboid) → HaveSameBoxes bs es → IsFirstPlane a place whole bs
@@ -79,7 +75,6 @@ planned_tree_has_leaves (Cut a p l u) whole boxes tiles h =
       ),
     )
 
--- there is one first open plane
 first_plane_is_one : (a e : Axis) (p q : ℕ) (whole : Cuboid) (boxes : List Cuboid) → IsFirstPlane a p whole boxes → IsFirstPlane e q whole boxes
     → (a ≡ e) × (p ≡ q)
 first_plane_is_one a e p q whole boxes h k = elim (cases_order (axis_rank a) (axis_rank e)) [
@@ -95,7 +90,6 @@ first_plane_is_one a e p q whole boxes h k = elim (cases_order (axis_rank a) (ax
       ]
 ]
 
--- so there is one planned tree
 planned_tree_is_one : (t u : CutTree) (whole : Cuboid) (boxes : List Cuboid) → IsPlannedTree t whole boxes → IsPlannedTree u whole boxes → t ≡ u
 planned_tree_is_one Leaf Leaf whole boxes h k = refl
 planned_tree_is_one Leaf (Cut e q l u) whole boxes h k = absurd (omega (arith, h, k.0))
@@ -112,13 +106,12 @@ IsCutPlan-same boxes others whole steps same h = record {
   from_cuts = record {
     tree = h.from_cuts.tree;
     is_tree = h.from_cuts.is_tree;
-    same = HaveSameBoxes-trans (leaves h.from_cuts.tree whole) boxes others h.from_cuts.same same;
+    same = λ b cells. h.from_cuts.same b cells ∙ same b cells;
   };
   planned = IsPlannedTree-same h.from_cuts.tree whole boxes others same h.planned;
   in_order = h.in_order;
 }
 
--- and one plan
 pub plans_are_unique : (boxes others : List Cuboid) (whole : Cuboid) (one other : List CutStep) → HaveSameBoxes boxes others → IsCutPlan boxes whole one
     → IsCutPlan others whole other → one ≡ other
 plans_are_unique boxes others whole one other same h k =

@@ -1,11 +1,8 @@
 -- How far boxes go on from one another along an axis, so that no plane is open between them.
-use Rattle.std.proofs.Common.{ℕ, ◌≡◌, ◌+◌, ◌<◌, ◌≤◌, max, Bool, true, false, List, ◌++◌, length, get_or, take, drop, refl, ap, sym, ◌∙◌, subst, arith, inl, inr}
-use Rattle.std.proofs.Common.{◌⊎◌}
-use Rattle.std.specs.Prelude.{All, Contains, filter, nat_le}
-use Rattle.std.specs.List.Sorted.{IsNonDecreasingBy}
-use Rattle.std.proofs.lemmas.Bool.{cases_lt, le-leb, lt-leb}
-use Rattle.std.proofs.lemmas.List.{length-drop, get_or_default, get_or-drop, take-append-drop, take_all, append-nil}
-use Rattle.std.proofs.lemmas.List.Elements.{All-contains, All-more, All-weaker, All-append, All-take, All-drop, filter-append}
+use Rattle.rectangle_pack.proofs.Std.{ℕ, ◌≡◌, ◌+◌, ◌<◌, ◌≤◌, max, Bool, true, false, List, ◌++◌, length, get_or, take, drop, refl, ap, sym, ◌∙◌, subst, arith}
+use Rattle.rectangle_pack.proofs.Std.{inl, inr, ◌⊎◌, All, Contains, filter, nat_le, IsNonDecreasingBy, cases_lt, le-leb, lt-leb, length-drop, get_or_default}
+use Rattle.rectangle_pack.proofs.Std.{get_or-drop, take-append-drop, take_all, append-nil, All-contains, All-more, All-weaker, All-append, All-take, All-drop}
+use Rattle.rectangle_pack.proofs.Std.{filter-append}
 use Rattle.rectangle_pack.specs.declared.axis.Axis.{Axis}
 use Rattle.rectangle_pack.specs.Boxes.{Cuboid, start, end, has_cells}
 use Rattle.rectangle_pack.specs.CutPlans.{IsUncut, lower_boxes, upper_boxes}

@@ -1,9 +1,6 @@
 -- Where two boxes of a list from cuts have cells, some plane cuts none of them.
-use Rattle.std.proofs.Common.{ℕ, ◌+◌, ◌-◌, ◌<◌, ◌≤◌, ◌≡◌, true, false, List, [], ◌∷◌, ◌++◌, ◌∙◌, subst, arith, inl, inr, le_antisymm}
-use Rattle.std.specs.Prelude.{Any, count_by}
-use Rattle.std.proofs.lemmas.Bool.{cases_lt}
-use Rattle.std.proofs.lemmas.List.Elements.{All-append, All-weaker}
-use Rattle.std.proofs.lemmas.List.Sums.{count_by-le-length}
+use Rattle.rectangle_pack.proofs.Std.{ℕ, ◌+◌, ◌-◌, ◌<◌, ◌≤◌, ◌≡◌, true, false, List, [], ◌∷◌, ◌++◌, refl, ◌∙◌, subst, arith, inl, inr, le_antisymm, Any}
+use Rattle.rectangle_pack.proofs.Std.{count_by, cases_lt, All-append, All-weaker, count_by-le-length}
 use Rattle.rectangle_pack.specs.declared.axis.Axis.{Axis}
 use Rattle.rectangle_pack.specs.Boxes.{Cuboid, IsPartOf, is_cell_of, start, end, has_cells}
 use Rattle.rectangle_pack.specs.Counting.{times_filled}
@@ -38,22 +35,18 @@ IsOpenPlane-same a place whole bs es same h = record {
 -- an open plane of a box, at the end of one of the boxes with cells
 record HasOpenPlane (b : Cuboid) (bs : List Cuboid) : Type 0 where
   pub axis : Axis
-  pub place : ℕ
-  pub is_open : IsOpenPlane axis place b bs
   pub ender : Cuboid
   pub stands : 0 < times_in ender bs
   pub cells : has_cells ender ≡ true
-  pub ends : end axis ender ≡ place
+  pub is_open : IsOpenPlane axis (end axis ender) b bs
 
 HasOpenPlane-same : (b : Cuboid) (bs es : List Cuboid) → HaveSameBoxes bs es → HasOpenPlane b bs → HasOpenPlane b es
 HasOpenPlane-same b bs es same r = record {
   axis = r.axis;
-  place = r.place;
-  is_open = IsOpenPlane-same r.axis r.place b bs es same r.is_open;
   ender = r.ender;
   stands = omega (arith, same r.ender r.cells, r.stands);
   cells = r.cells;
-  ends = r.ends;
+  is_open = IsOpenPlane-same r.axis (end r.axis r.ender) b bs es same r.is_open;
 }
 
 -- a box without cells has no leaf with cells to count
@@ -74,24 +67,22 @@ module _ (a : Axis) (p : ℕ) (l u : CutTree) (b : Cuboid) (is_l : IsTreeOf l (l
       let r = which_passes (is_cell_of c) low (omega arith) in
       let ended : end a part ≡ p = end-lower a p b (omega arith) in
       let Uncut : Cuboid → Type 0 = λ e. has_cells e ≡ true → IsUncut a p e in
+      let ends : end a r.0 ≡ p = omega (arith, lies_at (last_at part) r.0 r.1 a, stays_in r.0 part (leaf-part l part is_l r.0 r.2) a, ended) in
       record {
         axis = a;
-        place = p;
-        is_open = record {
+        ender = r.0;
+        stands = omega (arith, r.2, times_in-append r.0 low high);
+        cells = has_cells-from c r.0 r.1;
+        is_open = rw ends (record {
           after_start = lo;
           before_end = hi;
           uncut = All-append Uncut low high
               (All-weaker (λ e. IsPartOf e part) Uncut (λ e h k. inl (omega (arith, stays_in e part h a, ended))) low (leaves-part l part is_l))
               (All-weaker (λ e. IsPartOf e (upper a p b)) Uncut (λ e h k. inr (omega (arith, stays_in e (upper a p b) h a, start-upper a p b)))
               high (leaves-part u (upper a p b) is_u));
-        };
-        ender = r.0;
-        stands = omega (arith, r.2, times_in-append r.0 low high);
-        cells = has_cells-from c r.0 r.1;
-        ends = omega (arith, lies_at (last_at part) r.0 r.1 a, stays_in r.0 part (leaf-part l part is_l r.0 r.2) a, ended);
+        });
       }
 
--- by induction on the tree
 open_plane_of : (t : CutTree) (b : Cuboid) → IsTreeOf t b → 2 ≤ count_by has_cells (leaves t b) → HasOpenPlane b (leaves t b)
 unfolding leaves
 open_plane_of Leaf b is two = absurd (omega (arith, count_by-le-length has_cells (b ∷ [])))
@@ -105,13 +96,15 @@ open_plane_of (Cut a p l u) b is two =
           let empty = lower-empty a p b is.0 ge in
           let same : upper a p b ≡ b = rw (le_antisymm ge is.0.from) (upper-start a b) in
           let r = open_plane_of u (upper a p b) is.2 (omega (arith, sum, none_counted l (lower a p b) is.1 empty)) in
-          HasOpenPlane-same b high (low ++ high) (λ e k. omega (arith, both e, no_leaf l (lower a p b) is.1 empty e k)) (subst (λ z. HasOpenPlane z high) same r)
+          HasOpenPlane-same b high (low ++ high) (λ e k. omega (arith, both e, no_leaf l (lower a p b) is.1 empty e k))
+          (subst (λ z. HasOpenPlane z high) same r)
       | inl lo ↦ elim (cases_lt p (end a b)) [
         | inr ge ↦
             let empty = upper-empty a p b is.0 ge in
             let same : lower a p b ≡ b = rw (le_antisymm is.0.to ge) (lower-end a b) in
             let r = open_plane_of l (lower a p b) is.1 (omega (arith, sum, none_counted u (upper a p b) is.2 empty)) in
-            HasOpenPlane-same b low (low ++ high) (λ e k. omega (arith, both e, no_leaf u (upper a p b) is.2 empty e k)) (subst (λ z. HasOpenPlane z low) same r)
+            HasOpenPlane-same b low (low ++ high) (λ e k. omega (arith, both e, no_leaf u (upper a p b) is.2 empty e k))
+            (subst (λ z. HasOpenPlane z low) same r)
         | inl hi ↦
             let r = which_passes has_cells (low ++ high) (omega arith) in
             plane_at_cut a p l u b is.1 is.2 lo hi (cells-part r.0 b (leaf-part (Cut a p l u) b is r.0 r.2) r.1)
@@ -126,4 +119,4 @@ cuts_have_open_planes boxes whole from two =
     let many : 2 ≤ count_by has_cells all = omega (arith, count-same has_cells (λ b h. h) all boxes from.same) in
     let r = HasOpenPlane-same whole all boxes from.same (open_plane_of from.tree whole from.is_tree many) in
     let there = Contains-times_in r.ender boxes r.stands in
-    (r.axis, r.place, r.is_open, (there.0, r.ender, there.1, there.2, (r.cells, r.ends)))
+    (r.axis, end r.axis r.ender, r.is_open, (there.0, r.ender, there.1, there.2, (r.cells, refl)))

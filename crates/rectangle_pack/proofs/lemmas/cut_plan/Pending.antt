@@ -1,12 +1,8 @@
 -- The parts of a box that are still to be planned, the next one first, whose entries stand one part after another.
-use Rattle.std.proofs.Common.{ℕ, suc, ◌+◌, ◌-◌, ◌<◌, ◌≤◌, ◌≡◌, true, List, [], ◌∷◌, ◌++◌, length, take, drop, refl, ap, sym, ◌∙◌, subst, append_assoc, reverse}
-use Rattle.std.proofs.Common.{arith}
-use Rattle.std.specs.Prelude.{All, count_by, None}
-use Rattle.std.specs.List.Sorted.{IsPermutation}
-use Rattle.std.proofs.lemmas.List.{length-take-le, length-drop, reverse-append, take_at, drop_at, length-append, append-nil, take-append-drop}
-use Rattle.std.proofs.lemmas.List.Elements.{All-take, All-drop}
-use Rattle.std.proofs.lemmas.List.Sums.{count_by-le-length, length-filter}
-use Rattle.std.proofs.lemmas.List.Sorted.{length_permutation, IsNonDecreasingBy-take, IsNonDecreasingBy-drop}
+use Rattle.rectangle_pack.proofs.Std.{ℕ, suc, ◌+◌, ◌-◌, ◌<◌, ◌≤◌, ◌≡◌, true, List, [], ◌∷◌, ◌++◌, length, take, drop, refl, ap, sym, ◌∙◌, subst, append_assoc}
+use Rattle.rectangle_pack.proofs.Std.{reverse, arith, All, count_by, None, IsPermutation, length-take-le, length-drop, reverse-append, take_at, drop_at}
+use Rattle.rectangle_pack.proofs.Std.{length-append, append-nil, take-append-drop, All-take, All-drop, count_by-le-length, length-filter, length_permutation}
+use Rattle.rectangle_pack.proofs.Std.{IsNonDecreasingBy-take, IsNonDecreasingBy-drop}
 use borrow.Rule.Slice.PartMut.{put_mid}
 use Rattle.rectangle_pack.specs.declared.axis.Axis.{Axis}
 use Rattle.rectangle_pack.specs.declared.axis.Axis.TheVariants.{X}
@@ -23,10 +19,9 @@ use Rattle.rectangle_pack.proofs.lemmas.cuts.Counting.{filter_all}
 use Rattle.rectangle_pack.proofs.lemmas.cut_plan.FirstPlanes.{IsPlannedTree-same, planned_tree_has_leaves}
 use Rattle.rectangle_pack.proofs.lemmas.cut_plan.Filling.{FitsU32-part, IsFilled-permutation}
 use Rattle.rectangle_pack.proofs.lemmas.cut_plan.OpenPlanes.{cuts_have_open_planes}
-use Rattle.rectangle_pack.proofs.lemmas.cut_plan.PlaneSides.{IsPlaceOf-open, IsSide, lower_side, upper_side}
+use Rattle.rectangle_pack.proofs.lemmas.cut_plan.Split.{IsPlaceOf-open, IsSide, lower_side, upper_side}
 use Rattle.rectangle_pack.proofs.lemmas.cuts.SameBoxes.{HaveSameBoxes-sym, HaveSameBoxes-permutation, IsFromCuts-same}
 
--- the rank of each axis
 rank_below : (a : Axis) → axis_rank a < 3
 unfolding axis_rank
 rank_below X = omega arith
@@ -141,7 +136,6 @@ module _ (boxes : List Cuboid) (whole : Cuboid) where
           (λ t below. LeadOn-cons (upper_part p s) ps ys left (now ++ steps_of t) (omega (arith, length-drop s.below es, len)) upper_pending
           (λ u above. subst (LeadOn ps left) (simp append_assoc) (leads.2 (Cut s.axis s.place t u) (planned_cut t u below above)))))
 
--- one part, which is the whole
 pub LeadOn-start : (whole : Cuboid) (entries : List Cuboid) → IsFilled whole entries
     → LeadOn entries whole (record { whole = whole; count = length entries; ordered = None } ∷ []) entries []
 unfolding LeadOn
@@ -167,7 +161,7 @@ module _ (boxes : List Cuboid) (whole : Cuboid) where
       → ps ≡ qs → rest ≡ left → steps ≡ more → LeadOn boxes whole ps rest steps → LeadOn boxes whole qs left more
   LeadOn-same ps qs rest left steps more parts entries text h = rw (parts, entries, text) at h
 
-  -- what is known of the next part, which is the last of those that are kept
+  -- what is known of the next part; the parts are kept in reverse
   pub record IsNext (p : Part) (popped : List Part) (entries : List Cuboid) (done : ℕ) (steps : List CutStep) : Type 0 where
     pub leads : LeadOn boxes whole (p ∷ reverse popped) (drop done entries) steps
     pub within : done + p.count ≤ length entries

@@ -1,6 +1,5 @@
 -- Boxes and cells, axis by axis.
-use Rattle.std.proofs.Common.{ℕ, ◌≡◌, ◌≢◌, ◌+◌, ◌<◌, ◌≤◌, ◌⊎◌, inl, inr, true, refl, subst, arith}
-use Rattle.std.proofs.lemmas.Bool.Decides.{nat_tests}
+use Rattle.rectangle_pack.proofs.Std.{ℕ, zero, suc, ◌≡◌, ◌≢◌, ◌+◌, ◌<◌, ◌≤◌, ◌⊎◌, inl, inr, true, refl, subst, rules, arith, nat_tests}
 use Rattle.rectangle_pack.specs.declared.axis.Axis.{Axis}
 use Rattle.rectangle_pack.specs.declared.axis.Axis.TheVariants.{X, Y, Z}
 use Rattle.rectangle_pack.specs.Boxes.{Cuboid, Cell, IsPartOf, is_cell_of, extent, start, end, has_cells}
@@ -21,6 +20,13 @@ by_other P xy xz yx yz zx zy Y Z n = yz
 by_other P xy xz yx yz zx zy Z X n = zx
 by_other P xy xz yx yz zx zy Z Y n = zy
 by_other P xy xz yx yz zx zy _ _ n = absurd (n refl)
+
+-- what holds of 0, 1 and 2 holds below 3
+pub below_3 : (P : ℕ → Type 0) → P 0 → P 1 → P 2 → (n : ℕ) → n < 3 → P n
+below_3 P at_0 at_1 at_2 zero below = at_0
+below_3 P at_0 at_1 at_2 (suc zero) below = at_1
+below_3 P at_0 at_1 at_2 (suc (suc zero)) below = at_2
+below_3 P at_0 at_1 at_2 (suc (suc (suc n))) below = absurd (omega arith)
 
 -- what holds of one axis and of each other one holds of every axis
 pub by_axis : (P : Axis → Type 0) (a : Axis) → P a → ((e : Axis) → a ≢ e → P e) → (e : Axis) → P e
@@ -47,11 +53,8 @@ lies_in c b t Z = let h = is_cell_of-true c b t in (h.from_z, h.below_z)
 
 pub is_cell : (c : Cell) (b : Cuboid) → ((a : Axis) → LiesIn c b a) → is_cell_of c b ≡ true
 unfolding start extent end
-is_cell c b h =
-    let x = h X in let y = h Y in let z = h Z in
-    is_cell_of-from c b (record { from_x = x.0; below_x = x.1; from_y = y.0; below_y = y.1; from_z = z.0; below_z = z.1 })
+is_cell c b h = let x = h X in let y = h Y in let z = h Z in is_cell_of-from c b (search rules)
 
--- the cell at these places
 pub cell_at : (f : Axis → ℕ) → Cell
 cell_at f = record { i = f X; j = f Y; k = f Z }
 
@@ -92,9 +95,7 @@ stays_in b whole h Z = (h.from_z, h.to_z)
 
 pub is_part : (b whole : Cuboid) → ((a : Axis) → StaysIn b whole a) → IsPartOf b whole
 unfolding start extent end
-is_part b whole h =
-    let x = h X in let y = h Y in let z = h Z in
-    record { from_x = x.0; to_x = x.1; from_y = y.0; to_y = y.1; from_z = z.0; to_z = z.1 }
+is_part b whole h = let x = h X in let y = h Y in let z = h Z in search rules
 
 pub IsPartOf-refl : (b : Cuboid) → IsPartOf b b
 IsPartOf-refl b = is_part b b (λ a. (omega arith, omega arith))
@@ -102,7 +103,7 @@ IsPartOf-refl b = is_part b b (λ a. (omega arith, omega arith))
 pub IsPartOf-trans : (b mid whole : Cuboid) → IsPartOf b mid → IsPartOf mid whole → IsPartOf b whole
 IsPartOf-trans b mid whole h k = is_part b whole (λ a. let p = stays_in b mid h a in let q = stays_in mid whole k a in (omega arith, omega arith))
 
--- what a part of a box has, the box has
+-- a cell of a part is one of the box
 pub cell-part : (c : Cell) (b whole : Cuboid) → IsPartOf b whole → is_cell_of c b ≡ true → is_cell_of c whole ≡ true
 cell-part c b whole part t = is_cell c whole (λ a. let p = stays_in b whole part a in let l = lies_in c b t a in (omega arith, omega arith))
 

@@ -1,30 +1,17 @@
 -- One pass over a list that keeps a best.
-use Rattle.std.proofs.Common.{◌≡◌, ◌≢◌, List, [], ◌∷◌, ◌++◌, refl, append_assoc, inl, inr, length, length-append, arith, not, true, false, get_or}
-use Rattle.std.specs.List.{Contains, Any}
-use Rattle.std.specs.Ordering.{ordering_reverse, ordering_index}
-use Rattle.std.proofs.lemmas.List.Elements.{Contains-append_left, All-contains_itself, All-nil, All-push}
-use Rattle.std.specs.Bool.{◌==◌}
-use Rattle.std.proofs.Math.Seq.{get_or-append_seam}
-use Rattle.std.specs.declared.cmp.Ordering.{Ordering}
-use Rattle.std.specs.declared.cmp.Ordering.TheVariants.{Less, Equal, Greater}
+use Rattle.rectangle_pack.proofs.Std.{◌≡◌, ◌≢◌, List, [], ◌∷◌, ◌++◌, refl, append_assoc, inl, inr, length, length-append, arith, not, true, false, get_or}
+use Rattle.rectangle_pack.proofs.Std.{Contains, ordering_reverse, ordering_index, Contains-append_left, All-contains_itself, All-nil, All-push, ◌==◌}
+use Rattle.rectangle_pack.proofs.Std.{get_or-append_seam, Ordering, Less, Greater}
 use Rattle.rectangle_pack.specs.Choice.{MayChoose, IsTotalPreorderOn}
-
--- an element between two lists is one of the whole
-Any-middle : {X : Type 0} (P : X → Type 0) (xs : List X) (y : X) (ys : List X) → P y → Any P (xs ++ y ∷ ys)
-Any-middle P xs y ys h = (length xs, y, simp length-append (omega arith), get_or-append_seam xs y ys y, h)
 
 -- an answer that is not Greater, as the code tests it
 pub not_greater : (r : Ordering) → not (ordering_index r == 2) ≡ true → r ≢ Greater
-not_greater Less h = λ e. cc
-not_greater Equal h = λ e. cc
-not_greater Greater h = cc
+not_greater r h is = let no_more : false ≡ true = rw is at h in cc
 
 pub is_greater : (r : Ordering) → not (ordering_index r == 2) ≡ false → r ≡ Greater
-is_greater Less h = cc
-is_greater Equal h = cc
 is_greater Greater h = refl
+is_greater _ h = cc
 
--- an element in the middle is contained
 pub Contains-middle : {X : Type 0} (xs : List X) (y : X) (ys : List X) → Contains (xs ++ y ∷ ys) y
 Contains-middle xs y ys = (length xs, simp length-append (omega arith), get_or-append_seam xs y ys y)
 
@@ -37,9 +24,7 @@ module _ {A : Type 0} (R : A → A → Ordering → Type 0) where
   }
 
   not_over_itself : (r : Ordering) → r ≡ ordering_reverse r → r ≢ Greater
-  not_over_itself Less h = λ e. cc
-  not_over_itself Equal h = λ e. cc
-  not_over_itself Greater h = cc
+  not_over_itself r h is = let turned : Greater ≡ Less = rw is at h in cc
 
   -- a pass over one element ends there
   pub pass_start : (x : A) → MayChoose R (x ∷ []) x
@@ -70,14 +55,14 @@ module _ {A : Type 0} (R : A → A → Ordering → Type 0) where
         rw (b, ← a) (λ e. cc));
   }
 
-  -- the next takes its place where it may not
+  -- else the next becomes the best
   pub pass_moves : (xs : List A) (best next : A) (r : Ordering) → MayChoose R xs best → R best next r → r ≢ Greater → MayChoose R (xs ++ next ∷ []) next
   pass_moves xs best next r p answer is_not = record {
     before = xs;
     after = [];
     listed = refl;
     beats_later = All-nil _;
-    replaces = inr (rw p.listed (Any-middle _ p.before best p.after (r, answer, is_not)));
+    replaces = inr (let m : Contains xs best = rw p.listed (Contains-middle p.before best p.after) in (m.0, best, m.1, m.2, (r, answer, is_not)));
     greatest = λ compare o.
         (let here : Contains xs best = rw p.listed (Contains-middle p.before best p.after) in
         let i = Contains-append_left xs (next ∷ []) best here in

@@ -1,6 +1,5 @@
 -- Cells of boxes, as facts and as tests.
-use Rattle.std.proofs.Common.{arith, ◌≡◌, true, max}
-use Rattle.std.proofs.lemmas.Bool.Decides.{nat_tests}
+use Rattle.rectangle_pack.proofs.Std.{rules, arith, ◌≡◌, true, max, nat_tests}
 use Rattle.rectangle_pack.specs.declared.axis.Axis.TheVariants.{X, Y, Z}
 use Rattle.rectangle_pack.specs.Boxes.{Cuboid, Cell, IsCellOf, is_cell_of, SharesCell, AreApart, extent, start, has_cells}
 use Rattle.rectangle_pack.specs.private.Spans.{span_of, SpansOverlap}
@@ -8,14 +7,7 @@ use Rattle.rectangle_pack.specs.private.Spans.{span_of, SpansOverlap}
 -- the test says what the fact says
 pub is_cell_of-true : (c : Cell) (b : Cuboid) → is_cell_of c b ≡ true → IsCellOf c b
 unfolding is_cell_of
-is_cell_of-true c b h = record {
-  from_x = grind (arith, nat_tests);
-  below_x = grind (arith, nat_tests);
-  from_y = grind (arith, nat_tests);
-  below_y = grind (arith, nat_tests);
-  from_z = grind (arith, nat_tests);
-  below_z = grind (arith, nat_tests);
-}
+is_cell_of-true c b h = search (rules, nat_tests)
 
 pub is_cell_of-from : (c : Cell) (b : Cuboid) → IsCellOf c b → is_cell_of c b ≡ true
 unfolding is_cell_of

@@ -1,10 +1,7 @@
 -- Counts of an element's passes, and what counts of cells say of boxes.
-use Rattle.std.proofs.Common.{arith, ◌≡◌, ℕ, zero, suc, ◌+◌, ◌<◌, ◌≤◌, Bool, true, false, List, [], ◌∷◌, ◌++◌, cond, refl, ap, IsTrue, inl, inr}
-use Rattle.std.specs.List.{All, Any, AllPairs, count_by, filter}
-use Rattle.std.proofs.lemmas.Bool.{cases_lt, cases_Bool, false_from_ne_true, both_ways}
-use Rattle.std.proofs.lemmas.List.Elements.{All-nil, All-cons, All-head, All-tail}
-use Rattle.std.proofs.lemmas.List.Kept.{AllPairs-cons}
-use Rattle.std.proofs.lemmas.List.Sums.{sum_by-append, count_by-le-length}
+use Rattle.rectangle_pack.proofs.Std.{arith, ◌≡◌, ℕ, zero, suc, ◌+◌, ◌<◌, ◌≤◌, Bool, true, false, List, [], ◌∷◌, ◌++◌, cond, refl, ap, IsTrue, inl, inr, All}
+use Rattle.rectangle_pack.proofs.Std.{Any, AllPairs, count_by, filter, cases_lt, cases_Bool, false_from_ne_true, both_ways, All-head, All-tail, AllPairs-cons}
+use Rattle.rectangle_pack.proofs.Std.{sum_by-append, count_by-le-length, get_or, get_or_default, get_or-le-sum_by}
 use Rattle.rectangle_pack.specs.Boxes.{Cuboid, Cell, IsCellOf, AreApart, is_cell_of, has_cells}
 use Rattle.rectangle_pack.specs.Counting.{times_filled, Tiles, AreAllApart, Cover}
 use Rattle.rectangle_pack.specs.Keeping.{KeepCells}
@@ -23,29 +20,24 @@ module _ {X : Type 0} (p : X → Bool) where
   pub count_no : (x : X) (xs : List X) → p x ≡ false → count_by p (x ∷ xs) ≡ count_by p xs
   count_no x xs t = let k : cond {A = ℕ} (p x) 1 0 ≡ 0 = rw t refl in omega (arith, k, count-cons x xs)
 
-  -- none passes
-  count_none : (xs : List X) → count_by p xs ≤ 0 → All (λ x. ¬ (IsTrue (p x))) xs
-  count_none [] h = All-nil (λ x. ¬ (IsTrue (p x)))
-  count_none (x ∷ xs) h = All-cons (λ x. ¬ (IsTrue (p x))) x xs (λ t. absurd (omega (arith, count_yes x xs t))) (count_none xs (omega (arith, count-cons x xs)))
-
-  -- at most one passes
-  count_once : (xs : List X) → count_by p xs ≤ 1 → AllPairs (λ a b. ¬ (IsTrue (p a) × IsTrue (p b))) xs
-  count_once [] h = λ i j d lt below both. absurd (omega arith)
-  count_once (x ∷ xs) h = AllPairs-cons (λ a b. ¬ (IsTrue (p a) × IsTrue (p b))) x xs
-      (λ k d below both. count_none xs (omega (arith, count_yes x xs both.0)) k d below both.1)
-      (count_once xs (omega (arith, count-cons x xs)))
-
-  some_from_count : (xs : List X) → 0 < count_by p xs → Any (λ x. IsTrue (p x)) xs
+  pub some_from_count : (xs : List X) → 0 < count_by p xs → Any (λ x. IsTrue (p x)) xs
   some_from_count [] h = absurd (omega arith)
   some_from_count (x ∷ xs) h = elim (cases_Bool (p x)) [
     | inl t ↦ (zero, x, omega arith, refl, t)
     | inr f ↦ let r = some_from_count xs (omega (arith, count_no x xs f)) in (suc r.0, r.1, omega arith, r.3, r.4)
   ]
 
-  count_from_some : (xs : List X) → Any (λ x. IsTrue (p x)) xs → 0 < count_by p xs
-  count_from_some xs h = elim (cases_lt 0 (count_by p xs)) [ inl lt ↦ lt | inr ge ↦ absurd (count_none xs ge h.0 h.1 h.2 (rw h.3 h.4)) ]
+  pub count_from_some : (xs : List X) → Any (λ x. IsTrue (p x)) xs → 0 < count_by p xs
+  count_from_some xs h =
+      let one : cond {A = ℕ} (p (get_or xs h.0 h.1)) 1 0 ≡ 1 = rw (h.3, h.4) refl in
+      omega (arith, one, get_or-le-sum_by (λ x. cond (p x) 1 0) xs h.0 h.1 h.2)
 
-  -- a filter that all pass, and one that none passes
+  count_once : (xs : List X) → count_by p xs ≤ 1 → AllPairs (λ a b. ¬ (IsTrue (p a) × IsTrue (p b))) xs
+  count_once [] h = λ i j d lt below both. absurd (omega arith)
+  count_once (x ∷ xs) h = AllPairs-cons (λ a b. ¬ (IsTrue (p a) × IsTrue (p b))) x xs
+      (λ k d below both. omega (arith, count_yes x xs both.0, count_from_some xs (k, get_or xs k d, below, get_or_default xs k _ d below, both.1)))
+      (count_once xs (omega (arith, count-cons x xs)))
+
   pub filter_all : (xs : List X) → All (λ x. p x ≡ true) xs → filter p xs ≡ xs
   filter_all [] h = refl
   filter_all (x ∷ xs) h = rw (All-head (λ x. p x ≡ true) x xs h) (ap (λ l. x ∷ l) (filter_all xs (All-tail (λ x. p x ≡ true) x xs h)))
@@ -54,7 +46,6 @@ module _ {X : Type 0} (p : X → Bool) where
   filter_none [] h = refl
   filter_none (x ∷ xs) h = rw (All-head (λ x. p x ≡ false) x xs h) (filter_none xs (All-tail (λ x. p x ≡ false) x xs h))
 
--- the pieces of a count of cells
 pub filled-append : (c : Cell) (xs ys : List Cuboid) → times_filled c (xs ++ ys) ≡ times_filled c xs + times_filled c ys
 unfolding times_filled
 filled-append c xs ys = count-append (is_cell_of c) xs ys
@@ -70,7 +61,6 @@ pub filled_yes : (c : Cell) (b : Cuboid) (bs : List Cuboid) → IsCellOf c b →
 unfolding times_filled
 filled_yes c b bs h = count_yes (is_cell_of c) b bs (is_cell_of-from c b h)
 
--- a box without cells fills none
 pub filled_none : (c : Cell) (b : Cuboid) → has_cells b ≡ false → times_filled c (b ∷ []) ≡ 0
 unfolding times_filled
 filled_none c b empty = count_no (is_cell_of c) b [] (false_from_ne_true _ (λ t. both_ways _ empty (has_cells-from c b t)))

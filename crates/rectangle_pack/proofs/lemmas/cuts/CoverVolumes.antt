@@ -1,14 +1,11 @@
 -- Boxes that cover a bin, or fill a box, have its volume: the cells are counted box by box.
-use Rattle.std.proofs.Common.{arith, ◌≡◌, ℕ, zero, suc, ◌+◌, ◌*◌, ◌-◌, ◌<◌, ◌≤◌, Bool, true, false, ◌&&◌, List, [], ◌∷◌, cond, refl, sym, ◌∙◌, min}
-use Rattle.std.specs.Prelude.{All}
-use Rattle.std.proofs.lemmas.List.Elements.{All-head, All-tail, All-weaker}
-use Rattle.std.proofs.lemmas.List.Sums.{sum_by-cons}
-use Rattle.std.proofs.lemmas.Bool.Decides.{nat_tests}
+use Rattle.rectangle_pack.proofs.Std.{rules, arith, ◌≡◌, ℕ, zero, suc, ◌+◌, ◌*◌, ◌-◌, ◌<◌, ◌≤◌, Bool, true, false, ◌&&◌, List, [], ◌∷◌, cond, refl, sym, ◌∙◌}
+use Rattle.rectangle_pack.proofs.Std.{min, All, All-head, All-tail, All-weaker, sum_by-cons, nat_tests}
 use Rattle.rectangle_pack.specs.Boxes.{Size, Cuboid, Cell, IsCellOf, IsInside, IsPartOf, is_within, is_cell_of, volume_of}
 use Rattle.rectangle_pack.specs.Bins.{whole}
 use Rattle.rectangle_pack.specs.Counting.{times_filled, total_volume, Tiles, HaveVolumeOf}
 use Rattle.rectangle_pack.specs.Covering.{CoverBin}
-use Rattle.rectangle_pack.proofs.lemmas.cuts.Counting.{filled-cons, filled-nil}
+use Rattle.rectangle_pack.proofs.lemmas.cuts.Counting.{filled-cons, filled-nil, filled_yes}
 
 -- f 0 + f 1 + .. + f (n - 1)
 abbrev sum_to : ℕ → (ℕ → ℕ) → ℕ
@@ -30,10 +27,6 @@ sum_to-times (suc n) f m = omega (arith, sum_to-times n f m)
 times-sum_to : (n m : ℕ) (f : ℕ → ℕ) → sum_to n (λ i. m * f i) ≡ m * sum_to n f
 times-sum_to zero m f = omega arith
 times-sum_to (suc n) m f = omega (arith, times-sum_to n m f)
-
-sum_to-const : (n m : ℕ) → sum_to n (λ i. m) ≡ n * m
-sum_to-const zero m = omega arith
-sum_to-const (suc n) m = omega (arith, sum_to-const n m)
 
 -- 1 at the places of a span, 0 at all others
 abbrev pub mark : ℕ → ℕ → ℕ → ℕ
@@ -57,23 +50,18 @@ over-same s f g same =
     sum_to-same s.height _ _ (λ j in_y.
     sum_to-same s.depth _ _ (λ k in_z.
     same (record { i = i; j = j; k = k })
-    (record { from_x = omega arith; below_x = omega arith; from_y = omega arith; below_y = omega arith; from_z = omega arith; below_z = omega arith }))))
+    (search rules))))
 
 over-add : (s : Size) (f g : Cell → ℕ) → over_cells s (λ c. f c + g c) ≡ over_cells s f + over_cells s g
 over-add s f g = simp sum_to-add
 
--- a product of an axis each
+-- a product of a number for each axis
 over-product : (s : Size) (f g h : ℕ → ℕ) → over_cells s (λ c. f c.i * g c.j * h c.k) ≡ sum_to s.width f * sum_to s.height g * sum_to s.depth h
 over-product s f g h = simp (times-sum_to, sum_to-times)
 
-over-const : (s : Size) (m : ℕ) → over_cells s (λ c. m) ≡ volume_of s * m
-over-const s m = simp sum_to-const (omega arith)
-
 all_three : (p q r : Bool) → cond {A = ℕ} (p && q && r) 1 0 ≡ cond p 1 0 * cond q 1 0 * cond r 1 0
-all_three true true true = refl
-all_three true true false = refl
-all_three true false true = refl
-all_three true false false = refl
+all_three true true r = omega arith
+all_three true false r = omega arith
 all_three false q r = omega arith
 
 pub filled-marks : (c : Cell) (b : Cuboid)
@@ -89,7 +77,7 @@ filled-box s b inside =
     ∙ rw (marks s.width b.x b.whd.width inside.within_x, marks s.height b.y b.whd.height inside.within_y, marks s.depth b.z b.whd.depth inside.within_z) refl
 
 filled-boxes : (s : Size) (boxes : List Cuboid) → All (IsInside s) boxes → over_cells s (λ c. times_filled c boxes) ≡ total_volume boxes
-filled-boxes s [] inside = over-same s _ (λ c. 0) (λ c in_bin. filled-nil c) ∙ omega (arith, over-const s 0)
+filled-boxes s [] inside = over-same s _ (λ c. 0) (λ c in_bin. filled-nil c) ∙ omega (arith, over-add s (λ c. 0) (λ c. 0))
 filled-boxes s (b ∷ bs) inside =
     over-same s _ (λ c. times_filled c (b ∷ []) + times_filled c bs) (λ c in_bin. filled-cons c b bs)
     ∙ over-add s (λ c. times_filled c (b ∷ [])) (λ c. times_filled c bs)
@@ -102,12 +90,15 @@ filled-boxes s (b ∷ bs) inside =
 
 pub CoverBin-volume : (boxes : List Cuboid) (s : Size) → CoverBin boxes s → total_volume boxes ≡ volume_of s
 CoverBin-volume boxes s cover =
-    omega (arith, filled-boxes s boxes cover.inside, over-same s (λ c. times_filled c boxes) (λ c. 1) cover.once, over-const s 1)
+    let same : (c : Cell) → IsCellOf c (whole s) → times_filled c boxes ≡ times_filled c (whole s ∷ []) = λ c h.
+    omega (arith, cover.once c h, filled_yes c (whole s) [] h, filled-nil c) in
+    sym (filled-boxes s boxes cover.inside) ∙ over-same s (λ c. times_filled c boxes) (λ c. times_filled c (whole s ∷ [])) same
+    ∙ filled-box s (whole s) (search rules)
 
 pub Tiles-volume : (boxes : List Cuboid) (b : Cuboid) → All (λ e. IsPartOf e b) boxes → Tiles boxes b → HaveVolumeOf boxes b
 Tiles-volume boxes b parts tiles =
     let s : Size = record { width = b.x + b.whd.width; height = b.y + b.whd.height; depth = b.z + b.whd.depth } in
-    let inside : (e : Cuboid) → IsPartOf e b → IsInside s e = λ e part. record { within_x = part.to_x; within_y = part.to_y; within_z = part.to_z } in
+    let inside : (e : Cuboid) → IsPartOf e b → IsInside s e = λ e part. search rules in
     sym (filled-boxes s boxes (All-weaker (λ e. IsPartOf e b) (IsInside s) inside boxes parts))
     ∙ over-same s (λ c. times_filled c boxes) (λ c. times_filled c (b ∷ [])) (λ c in_bin. tiles.same c)
-    ∙ filled-box s b (record { within_x = omega arith; within_y = omega arith; within_z = omega arith })
+    ∙ filled-box s b (search rules)

@@ -1,11 +1,10 @@
 -- The two parts of a box at a place on an axis.
-use Rattle.std.proofs.Common.{ℕ, ◌-◌, ◌<◌, ◌≤◌, ◌≡◌, ◌≢◌, true, false, refl, ap, arith}
-use Rattle.std.proofs.lemmas.Bool.{false_from_ne_true}
+use Rattle.rectangle_pack.proofs.Std.{ℕ, ◌-◌, ◌<◌, ◌≤◌, ◌≡◌, ◌≢◌, true, false, refl, ap, arith, false_from_ne_true}
 use Rattle.rectangle_pack.specs.declared.axis.Axis.{Axis}
 use Rattle.rectangle_pack.specs.declared.axis.Axis.TheVariants.{X, Y, Z}
 use Rattle.rectangle_pack.specs.Boxes.{Cuboid, IsPartOf, extent, start, end, has_cells}
 use Rattle.rectangle_pack.specs.CutTrees.{lower, upper, IsPlaceOf}
-use Rattle.rectangle_pack.proofs.lemmas.cuts.Axes.{by_other, by_axis, runs_on, has_cells-by, StaysIn, is_part}
+use Rattle.rectangle_pack.proofs.lemmas.cuts.Axes.{by_other, by_axis, end-is, runs_on, has_cells-by, StaysIn, is_part}
 use Rattle.rectangle_pack.proofs.lemmas.cuts.Times.{box_ext}
 
 -- where the parts start and end on the axis of the cut
@@ -29,16 +28,18 @@ unfolding start extent end upper
 end-upper X p b h = omega arith
 end-upper _ p b h = omega arith
 
--- and on another axis: where the box does
+-- boxes that start and end alike on an axis
 abbrev pub RunAlike : Cuboid → Cuboid → Axis → Type 0
 RunAlike b d e = (start e b ≡ start e d) × (end e b ≡ end e d)
 
--- boxes that run alike on each axis are one
 pub box_alike : (b d : Cuboid) → ((a : Axis) → RunAlike b d a) → b ≡ d
 unfolding start extent end
 box_alike b d h =
     let x = h X in let y = h Y in let z = h Z in
     box_ext b d x.0 y.0 z.0 (omega arith) (omega arith) (omega arith)
+
+pub box_alike_on : (a : Axis) (b d : Cuboid) → RunAlike b d a → ((e : Axis) → a ≢ e → RunAlike b d e) → b ≡ d
+box_alike_on a b d here others = box_alike b d (by_axis (RunAlike b d) a here others)
 
 module _ (p : ℕ) (b : Cuboid) where
   pub lower_other : (a e : Axis) → a ≢ e → RunAlike (lower a p b) b e
@@ -70,16 +71,14 @@ upper-lower Z p q b h k = ap (λ n. record b { z = p; whd = record b.whd { depth
 
 -- a cut at the start or at the end of a box leaves it as one part
 pub upper-start : (a : Axis) (b : Cuboid) → upper a (start a b) b ≡ b
-unfolding start upper
-upper-start X b = ap (λ n. record b { whd = record b.whd { width = n } }) (omega arith)
-upper-start Y b = ap (λ n. record b { whd = record b.whd { height = n } }) (omega arith)
-upper-start Z b = ap (λ n. record b { whd = record b.whd { depth = n } }) (omega arith)
+upper-start a b =
+    let p = start a b in
+    box_alike_on a (upper a p b) b (start-upper a p b, end-upper a p b (omega (arith, end-is a b))) (upper_other p b a)
 
 pub lower-end : (a : Axis) (b : Cuboid) → lower a (end a b) b ≡ b
-unfolding start extent end lower
-lower-end X b = ap (λ n. record b { whd = record b.whd { width = n } }) (omega arith)
-lower-end Y b = ap (λ n. record b { whd = record b.whd { height = n } }) (omega arith)
-lower-end Z b = ap (λ n. record b { whd = record b.whd { depth = n } }) (omega arith)
+lower-end a b =
+    let p = end a b in
+    box_alike_on a (lower a p b) b (start-lower a p b, end-lower a p b (omega (arith, end-is a b))) (lower_other p b a)
 
 -- cuts on two axes, in either order
 module _ (p q : ℕ) (b : Cuboid) where
@@ -95,7 +94,7 @@ module _ (p q : ℕ) (b : Cuboid) where
   unfolding upper
   upper-upper_other = by_other (λ a e. upper a p (upper e q b) ≡ upper e q (upper a p b)) refl refl refl refl refl refl
 
--- a place on one axis is a place of both parts on another
+-- a place of the box is a place of both parts of a cut on another axis
 module _ (a e : Axis) (p q : ℕ) (b : Cuboid) (other : a ≢ e) (place : IsPlaceOf e q b) where
   place_alike : (d : Cuboid) → RunAlike d b e → IsPlaceOf e q d
   place_alike d like = record { from = omega arith; to = omega arith }
@@ -106,19 +105,17 @@ module _ (a e : Axis) (p q : ℕ) (b : Cuboid) (other : a ≢ e) (place : IsPlac
   pub IsPlaceOf-upper_other : IsPlaceOf e q (upper a p b)
   IsPlaceOf-upper_other = place_alike (upper a p b) (upper_other p b a e other)
 
--- what stays in a box on the axis of a cut, and runs where it does on the others, is a part of it
 part_alike : (d b : Cuboid) (a : Axis) → StaysIn d b a → ((e : Axis) → a ≢ e → RunAlike d b e) → IsPartOf d b
 part_alike d b a here others = is_part d b (by_axis (StaysIn d b) a here (λ e n. (omega (arith, others e n), omega (arith, others e n))))
 
 module _ (a : Axis) (p : ℕ) (b : Cuboid) (place : IsPlaceOf a p b) where
-  -- so both are
   pub lower-part : IsPartOf (lower a p b) b
   lower-part = part_alike (lower a p b) b a (omega (arith, start-lower a p b), omega (arith, end-lower a p b place.from)) (lower_other p b a)
 
   pub upper-part : IsPartOf (upper a p b) b
   upper-part = part_alike (upper a p b) b a (omega (arith, start-upper a p b), omega (arith, end-upper a p b place.to)) (upper_other p b a)
 
-  -- and one that does not run on has no cells
+  -- a part that ends where it starts has no cells
   pub lower-empty : p ≤ start a b → has_cells (lower a p b) ≡ false
   lower-empty ge = false_from_ne_true _ (λ t. absurd (omega (arith, runs_on (lower a p b) t a, start-lower a p b, end-lower a p b place.from)))
 

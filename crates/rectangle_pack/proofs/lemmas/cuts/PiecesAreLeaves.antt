@@ -1,8 +1,5 @@
 -- The placed box and the pieces of a cut are from cuts of the section.
-use Rattle.std.proofs.Common.{ℕ, ◌+◌, ◌-◌, ◌≡◌, ◌≢◌, ◌≤◌, List, [], ◌∷◌, ap, arith}
-use Rattle.std.specs.Prelude.{All}
-use Rattle.std.specs.declared.cmp.Ordering.{Ordering}
-use Rattle.std.proofs.lemmas.List.Elements.{All-from_recursion, All-map}
+use Rattle.rectangle_pack.proofs.Std.{ℕ, ◌+◌, ◌-◌, ◌≡◌, ◌≢◌, ◌≤◌, List, [], ◌∷◌, ap, arith, All, Ordering, All-from_recursion, All-map}
 use Rattle.rectangle_pack.specs.declared.axis.Axis.{Axis}
 use Rattle.rectangle_pack.specs.declared.axis.Axis.TheVariants.{X, Y, Z}
 use Rattle.rectangle_pack.specs.Boxes.{Size, Cuboid, Holds, extent, start}
@@ -77,7 +74,6 @@ module _ (s : Cuboid) (m : Size) (h : Holds s m) where
           times_in-four x (placed s m) (piece s m order X) (piece s m order Y) (piece s m order Z),
         )) first
 
-  -- in each of the six orders
   pub order_from_cuts : All (λ order. IsFromCuts (placed s m ∷ pieces s m order) s) orders
   unfolding start extent lower upper piece piece_start piece_extent
   order_from_cuts =

@@ -1,8 +1,5 @@
 -- The pinwheel covers its bin and is not from cuts.
-use Rattle.std.proofs.Common.{true, nat_le, ◌&&◌, ℕ, ◌+◌, ◌<◌, ◌≡◌, refl, arith, inl, inr}
-use Rattle.std.proofs.lemmas.Bool.{cases_eq}
-use Rattle.std.proofs.lemmas.Bool.Decides.{nat_tests}
-use Rattle.std.proofs.lemmas.List.Elements.{All-from_recursion}
+use Rattle.rectangle_pack.proofs.Std.{true, nat_le, ◌&&◌, ℕ, ◌+◌, ◌<◌, ◌≡◌, refl, arith, nat_tests, All-from_recursion}
 use Rattle.rectangle_pack.specs.declared.axis.Axis.{Axis}
 use Rattle.rectangle_pack.specs.declared.axis.Axis.TheVariants.{X, Y, Z}
 use Rattle.rectangle_pack.specs.Boxes.{IsInside, is_cell_of, extent, start, end}
@@ -11,16 +8,8 @@ use Rattle.rectangle_pack.specs.Counting.{times_filled}
 use Rattle.rectangle_pack.specs.Covering.{CoverBin}
 use Rattle.rectangle_pack.specs.CutTrees.{IsFromCuts, flat, pinwheel, pinwheel_size}
 use Rattle.rectangle_pack.specs.CutPlans.{IsUncut, IsOpenPlane}
+use Rattle.rectangle_pack.proofs.lemmas.cuts.Axes.{below_3}
 use Rattle.rectangle_pack.proofs.lemmas.cut_plan.OpenPlanes.{cuts_have_open_planes}
-
-below_3 : (P : ℕ → Type 0) → P 0 → P 1 → P 2 → (n : ℕ) → n < 3 → P n
-below_3 P at_0 at_1 at_2 n h = elim (cases_eq n 0) [
-  | inl e ↦ rw e at_0
-  | inr n0 ↦ elim (cases_eq n 1) [
-    | inl e ↦ rw e at_1
-    | inr n1 ↦ let e : n ≡ 2 = omega arith in rw e at_2
-  ]
-]
 
 -- the nine cells one by one
 once : (i j k : ℕ) → i < 3 → j < 3 → k < 1 → times_filled (record { i = i; j = j; k = k }) pinwheel ≡ 1

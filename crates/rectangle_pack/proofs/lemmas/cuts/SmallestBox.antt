@@ -1,11 +1,6 @@
 -- With one answer on each size, the smallest box gives a total preorder.
-use Rattle.std.proofs.Common.{arith, ◌≡◌, ◌≢◌, ℕ, refl, List, [], ◌∷◌, slice_index_or}
-use Rattle.std.specs.Ordering.{nat_cmp, ordering_reverse, ordering_then}
-use Rattle.std.specs.declared.cmp.Ordering.{Ordering}
-use Rattle.std.specs.declared.cmp.Ordering.TheVariants.{Greater}
-use Rattle.std.specs.Prelude.{All, Contains}
-use Rattle.std.proofs.lemmas.Bool.Decides.{nat_tests}
-use Rattle.std.proofs.lemmas.List.Elements.{recursion_from_All}
+use Rattle.rectangle_pack.proofs.Std.{arith, ◌≡◌, ◌≢◌, ℕ, refl, List, [], ◌∷◌, slice_index_or, nat_cmp, ordering_reverse, ordering_then, Ordering, Greater, All}
+use Rattle.rectangle_pack.proofs.Std.{Contains, nat_tests, recursion_from_All}
 use Rattle.rectangle_pack.specs.SmallestBox.{Rates, AreRates, smallest_order, smallest, second_smallest, IsSmallestOrder}
 use Rattle.rectangle_pack.specs.Boxes.{Size, Cuboid, IsU32}
 use Rattle.rectangle_pack.specs.Cuts.{sizes_of}

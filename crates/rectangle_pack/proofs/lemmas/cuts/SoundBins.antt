@@ -1,10 +1,7 @@
 -- What keeps the sections of a bin sound, and what a bin accepts.
-use Rattle.std.proofs.Common.{◌≡◌, ℕ, suc, ◌<◌, List, [], ◌∷◌, ◌++◌, length, get_or, take, drop, refl, subst, sym}
-use Rattle.std.specs.Prelude.{All, AllPairs, Option, Some, None, IfNone, IfSome, IsTrue, is_some, not, true, false, Bool, ◌↔◌}
-use Rattle.std.proofs.Math.Seq.{split_at}
-use Rattle.std.proofs.lemmas.List.Quantifiers.{all_pairs_push}
-use Rattle.std.proofs.lemmas.List.Elements.{All-push, All-append, All-head, All-tail, All-weaker}
-use Rattle.std.proofs.lemmas.List.Kept.{AllPairs-cons}
+use Rattle.rectangle_pack.proofs.Std.{◌≡◌, ℕ, suc, ◌<◌, List, [], ◌∷◌, ◌++◌, length, get_or, take, drop, refl, subst, sym, All, AllPairs, Option, Some, None}
+use Rattle.rectangle_pack.proofs.Std.{IfNone, IfSome, IsTrue, is_some, not, true, false, Bool, ◌↔◌, split_at, all_pairs_push, All-push, All-append, All-head}
+use Rattle.rectangle_pack.proofs.Std.{All-tail, AllPairs-cons}
 use Rattle.rectangle_pack.specs.Boxes.{Cuboid, IsInside, AreApart, SharesCell}
 use Rattle.rectangle_pack.specs.Bins.{IsSound, IsAccepted, Bin}
 use Rattle.rectangle_pack.specs.Pushes.{IsFirstSharing}
@@ -12,35 +9,38 @@ use Rattle.rectangle_pack.proofs.lemmas.cuts.Boxes.{not_from_AreApart}
 use Rattle.rectangle_pack.proofs.lemmas.cuts.Counting.{AllPairs-head, AllPairs-tail}
 use Rattle.rectangle_pack.proofs.lemmas.multimap.Append.{All-back}
 
--- a section that is accepted leaves a sound list sound
 pub IsSound-push : (bin : Bin) (s : Cuboid) → IsSound bin.size bin.sections → IsAccepted bin s → IsSound bin.size (bin.sections ++ s ∷ [])
 IsSound-push bin s sound accepted = record {
   inside = All-push (IsInside bin.size) bin.sections s sound.inside accepted.inside;
   apart = all_pairs_push AreApart bin.sections s sound.apart accepted.apart;
 }
 
-pub AllPairs-append : {X : Type 0} (R : X → X → Type 0) (xs ys : List X) → AllPairs R xs → AllPairs R ys → All (λ y. All (λ x. R x y) xs) ys → AllPairs R (xs ++ ys)
+pub AllPairs-append : {X : Type 0} (R : X → X → Type 0) (xs ys : List X) → AllPairs R xs → AllPairs R ys
+    → All (λ y. All (λ x. R x y) xs) ys → AllPairs R (xs ++ ys)
 AllPairs-append R [] ys p q across = q
 AllPairs-append R (x ∷ xs) ys p q across =
     AllPairs-cons R x (xs ++ ys)
-    (All-append (R x) xs ys (AllPairs-head R x xs p) (All-weaker (λ y. All (λ x. R x y) (x ∷ xs)) (R x) (λ y h. All-head (λ x. R x y) x xs h) ys across))
-    (AllPairs-append R xs ys (AllPairs-tail R x xs p) q (All-weaker (λ y. All (λ x. R x y) (x ∷ xs)) (λ y. All (λ x. R x y) xs) (λ y h. All-tail (λ x. R x y) x xs h) ys across))
+    (All-append (R x) xs ys (AllPairs-head R x xs p) (λ k d lt. All-head (λ x. R x (get_or ys k d)) x xs (across k d lt)))
+    (AllPairs-append R xs ys (AllPairs-tail R x xs p) q (λ k d lt. All-tail (λ x. R x (get_or ys k d)) x xs (across k d lt)))
 
--- so do sections that are each accepted, and share no cell two by two
-pub IsSound-append : (bin : Bin) (new : List Cuboid) → IsSound bin.size bin.sections → All (IsAccepted bin) new → AllPairs AreApart new → IsSound bin.size (bin.sections ++ new)
+-- sections that are each accepted, and are apart, leave a sound list sound
+pub IsSound-append : (bin : Bin) (new : List Cuboid) → IsSound bin.size bin.sections → All (IsAccepted bin) new → AllPairs AreApart new
+    → IsSound bin.size (bin.sections ++ new)
 IsSound-append bin new sound accepted apart = record {
-  inside = All-append (IsInside bin.size) bin.sections new sound.inside (All-weaker (IsAccepted bin) (IsInside bin.size) (λ s h. h.inside) new accepted);
-  apart = AllPairs-append AreApart bin.sections new sound.apart apart (All-weaker (IsAccepted bin) (λ s. All (λ t. AreApart t s) bin.sections) (λ s h. h.apart) new accepted);
+  inside = All-append (IsInside bin.size) bin.sections new sound.inside (λ k d lt. (accepted k d lt).inside);
+  apart = AllPairs-append AreApart bin.sections new sound.apart apart (λ k d lt. (accepted k d lt).apart);
 }
 
--- a section that shares a cell with the box stands in the way
+-- a box that shares a cell with a section is not accepted
 pub not_accepted : (bin : Bin) (box first : Cuboid) → IsFirstSharing bin.sections box first → ¬ IsAccepted bin box
 not_accepted bin box first found accepted =
     let apart : All (λ s. AreApart s box) (found.before ++ first ∷ found.after) = rw found.splits at accepted.apart in
-    not_from_AreApart first box (All-head (λ s. AreApart s box) first found.after (All-back (λ s. AreApart s box) found.before (first ∷ found.after) apart)) found.shares
+    not_from_AreApart first box (All-head (λ s. AreApart s box) first found.after (All-back (λ s. AreApart s box) found.before (first ∷ found.after) apart))
+    found.shares
 
 -- the first that shares a cell, where all before it do not
-pub first_at : (sections : List Cuboid) (box : Cuboid) (i : ℕ) (s : Cuboid) → i < length sections → s ≡ get_or sections i s → All (λ t. AreApart t box) (take i sections) → SharesCell s box → IsFirstSharing sections box s
+pub first_at : (sections : List Cuboid) (box : Cuboid) (i : ℕ) (s : Cuboid) → i < length sections → s ≡ get_or sections i s
+    → All (λ t. AreApart t box) (take i sections) → SharesCell s box → IsFirstSharing sections box s
 first_at sections box i s within read apart shares = record {
   before = take i sections;
   after = drop (suc i) sections;
@@ -49,16 +49,10 @@ first_at sections box i s within read apart shares = record {
   apart = apart;
 }
 
-not_true : (r : Bool) → not r ≡ false → r ≡ true
-not_true true h = refl
-not_true false h = cc
-
-not_false : (r : Bool) → not r ≡ true → r ≡ true → ⊥
-not_false true h t = cc
-not_false false h t = cc
-
--- a box inside a bin is accepted where no section stands in the way
+-- a box inside a bin is accepted where it shares a cell with no section
 pub accepts_by : (bin : Bin) (box : Cuboid) (found : Option Cuboid) (r : Bool) → is_some found ≡ not r → IsInside bin.size box
     → IfNone found (All (λ s. AreApart s box) bin.sections) → IfSome found (IsFirstSharing bin.sections box) → IsTrue r ↔ IsAccepted bin box
-accepts_by bin box None r e inside apart first = (λ t. record { inside = inside; apart = apart }, λ accepted. not_true r (sym e))
-accepts_by bin box (Some s) r e inside apart first = (λ t. absurd (not_false r (sym e) t), λ accepted. absurd (not_accepted bin box s first accepted))
+accepts_by bin box None true e inside apart first = (λ t. record { inside = inside; apart = apart }, λ accepted. refl)
+accepts_by bin box None false e inside apart first = absurd cc
+accepts_by bin box (Some s) true e inside apart first = absurd cc
+accepts_by bin box (Some s) false e inside apart first = (λ t. absurd cc, λ accepted. absurd (not_accepted bin box s first accepted))

@@ -1,13 +1,11 @@
 -- How often a box stands in a list.
-use Rattle.std.proofs.Common.{ℕ, ◌+◌, ◌<◌, ◌≤◌, ◌≡◌, ◌≢◌, Bool, true, false, cond, eqb, List, [], ◌∷◌, ◌++◌, refl, arith, inl, inr, ◌⊎◌}
-use Rattle.std.specs.Prelude.{All, Contains, filter, count_by}
-use Rattle.std.specs.List.Sorted.{IsPermutation}
-use Rattle.std.proofs.lemmas.Bool.{eqb-true, eq-eqb, and_parts, cases_Bool, false_from_ne_true, both_ways}
-use Rattle.std.proofs.lemmas.List.Elements.{All-nil, All-cons, All-head, All-tail, Contains-append_left, Contains-append_right, Contains-push}
-use Rattle.std.proofs.lemmas.List.Sorted.{sum_by-IsPermutation}
+use Rattle.rectangle_pack.proofs.Std.{ℕ, ◌+◌, ◌<◌, ◌≤◌, ◌≡◌, ◌≢◌, Bool, true, false, not, cond, eqb, List, [], ◌∷◌, ◌++◌, refl, sym, ap, subst, arith, inl, inr}
+use Rattle.rectangle_pack.proofs.Std.{◌⊎◌, All, Contains, filter, count_by, get_or, remove, IsPermutation, eqb-true, eq-eqb, and_parts, cases_Bool, cases_lt}
+use Rattle.rectangle_pack.proofs.Std.{both_ways, false_from_ne_true, filter_passes, All-weaker, All-contains, All-contains_itself, sum_by-filter_both}
+use Rattle.rectangle_pack.proofs.Std.{sum_by-IsPermutation, IsPermutation-remove}
 use Rattle.rectangle_pack.specs.Boxes.{Cuboid}
 use Rattle.rectangle_pack.specs.CutTrees.{is_same_box, times_in}
-use Rattle.rectangle_pack.proofs.lemmas.cuts.Counting.{count-append, count_yes, count_no}
+use Rattle.rectangle_pack.proofs.lemmas.cuts.Counting.{count-append, count_yes, count_no, some_from_count, count_from_some}
 
 is_same_box-refl : (b : Cuboid) → is_same_box b b ≡ true
 unfolding is_same_box
@@ -59,51 +57,47 @@ pub times_in-permutation : (b : Cuboid) (bs es : List Cuboid) → IsPermutation 
 unfolding times_in
 times_in-permutation b bs es h = sum_by-IsPermutation (λ e. cond (is_same_box b e) 1 0) bs es h
 
--- what holds of each entry holds of a box that stands in the list
-pub All-times_in : (P : Cuboid → Type 0) (b : Cuboid) (bs : List Cuboid) → All P bs → 0 < times_in b bs → P b
-All-times_in P b [] all some = absurd (omega (arith, times_in-nil b))
-All-times_in P b (e ∷ bs) all some = elim (cases_box b e) [
-  | inl p ↦ rw p (All-head P e bs all)
-  | inr n ↦ All-times_in P b bs (All-tail P e bs all) (omega (arith, times_in-other b e bs n))
-]
-
--- and what holds of each box that stands in it holds of each entry
-pub All-from_times_in : (P : Cuboid → Type 0) (bs : List Cuboid) → ((b : Cuboid) → 0 < times_in b bs → P b) → All P bs
-All-from_times_in P [] h = All-nil P
-All-from_times_in P (b ∷ bs) h =
-    All-cons P b bs (h b (omega (arith, times_in-same b bs))) (All-from_times_in P bs (λ e k. h e (omega (arith, times_in-cons e b bs))))
-
 pub Contains-times_in : (b : Cuboid) (bs : List Cuboid) → 0 < times_in b bs → Contains bs b
-Contains-times_in b [] some = absurd (omega (arith, times_in-nil b))
-Contains-times_in b (e ∷ bs) some = elim (cases_box b e) [
-  | inl p ↦ Contains-append_left (e ∷ []) bs b (rw p (Contains-push [] e))
-  | inr n ↦ Contains-append_right (e ∷ []) bs b (Contains-times_in b bs (omega (arith, times_in-other b e bs n)))
-]
+unfolding times_in
+Contains-times_in b bs some =
+    let r = some_from_count (is_same_box b) bs some in
+    (r.0, r.2, subst (λ e. get_or bs r.0 e ≡ e) (sym (is_same_box-true b r.1 r.4)) r.3)
 
--- a box that passes a filter stands there as often, and another does not
-pub times_in-kept : (t : Cuboid → Bool) (b : Cuboid) (bs : List Cuboid) → t b ≡ true → times_in b (filter t bs) ≡ times_in b bs
-times_in-kept t b [] passes = refl
-times_in-kept t b (e ∷ bs) passes = elim (cases_Bool (t e)) [
-  | inl y ↦ rw y (omega (arith, times_in-kept t b bs passes, times_in-cons b e bs, times_in-cons b e (filter t bs)))
-  | inr f ↦ rw f (omega (arith, times_in-kept t b bs passes, times_in-other b e bs (λ p. both_ways (t e) f (rw (← p) passes))))
-]
+times_in-contains : (b : Cuboid) (bs : List Cuboid) → Contains bs b → 0 < times_in b bs
+unfolding times_in
+times_in-contains b bs there = count_from_some (is_same_box b) bs (there.0, b, there.1, there.2, is_same_box-refl b)
 
+-- what holds of each entry holds of each box that stands in the list, and conversely
+pub All-times_in : (P : Cuboid → Type 0) (b : Cuboid) (bs : List Cuboid) → All P bs → 0 < times_in b bs → P b
+All-times_in P b bs all some = All-contains P bs b all (Contains-times_in b bs some)
+
+pub All-from_times_in : (P : Cuboid → Type 0) (bs : List Cuboid) → ((b : Cuboid) → 0 < times_in b bs → P b) → All P bs
+All-from_times_in P bs h = All-weaker (Contains bs) P (λ b there. h b (times_in-contains b bs there)) bs (All-contains_itself bs)
+
+-- a box that fails a filter is dropped, and one that passes stays as often
 pub times_in-dropped : (t : Cuboid → Bool) (b : Cuboid) (bs : List Cuboid) → t b ≡ false → times_in b (filter t bs) ≡ 0
-times_in-dropped t b [] fails = times_in-nil b
-times_in-dropped t b (e ∷ bs) fails = elim (cases_Bool (t e)) [
-  | inl y ↦ rw y (omega (arith, times_in-dropped t b bs fails, times_in-other b e (filter t bs) (λ p. both_ways (t e) (rw (← p) fails) y)))
-  | inr f ↦ rw f (times_in-dropped t b bs fails)
+times_in-dropped t b bs fails = elim (cases_lt 0 (times_in b (filter t bs))) [
+  | inl some ↦ absurd (both_ways (t b) fails (All-times_in (λ e. t e ≡ true) b (filter t bs) (filter_passes t bs) some))
+  | inr none ↦ omega arith
 ]
+
+times_in-both : (t : Cuboid → Bool) (b : Cuboid) (bs : List Cuboid) → times_in b (filter t bs) + times_in b (filter (λ e. not (t e)) bs) ≡ times_in b bs
+unfolding times_in
+times_in-both t b bs = sum_by-filter_both t (λ e. not (t e)) (λ e. refl) (λ e. cond (is_same_box b e) 1 0) bs
 
 pub times_in-filter : (t : Cuboid → Bool) (b : Cuboid) (bs : List Cuboid) → times_in b (filter t bs) ≤ times_in b bs
-times_in-filter t b bs = elim (cases_Bool (t b)) [ inl y ↦ omega (arith, times_in-kept t b bs y) | inr f ↦ omega (arith, times_in-dropped t b bs f) ]
+times_in-filter t b bs = omega (arith, times_in-both t b bs)
 
--- some entry passes a test that the list counts
+pub times_in-kept : (t : Cuboid → Bool) (b : Cuboid) (bs : List Cuboid) → t b ≡ true → times_in b (filter t bs) ≡ times_in b bs
+times_in-kept t b bs passes = omega (arith, times_in-both t b bs, times_in-dropped (λ e. not (t e)) b bs (ap not passes))
+
+-- some box that stands in the list passes a test that counts
 pub which_passes : (q : Cuboid → Bool) (bs : List Cuboid) → 0 < count_by q bs → (b : Cuboid) × (q b ≡ true) × (0 < times_in b bs)
-which_passes q [] some = absurd (omega arith)
-which_passes q (e ∷ bs) some = elim (cases_Bool (q e)) [
-  | inl y ↦ (e, y, omega (arith, times_in-same e bs))
-  | inr f ↦
-      let r = which_passes q bs (omega (arith, count_no q e bs f)) in
-      (r.0, r.1, omega (arith, r.2, times_in-cons r.0 e bs))
-]
+which_passes q bs some = let r = some_from_count q bs some in (r.1, r.4, times_in-contains r.1 bs (r.0, r.2, r.3))
+
+pub passes_counted : (q : Cuboid → Bool) (b : Cuboid) (bs : List Cuboid) → q b ≡ true → 0 < times_in b bs → 0 < count_by q bs
+passes_counted q b bs passes some = let there = Contains-times_in b bs some in count_from_some q bs (there.0, b, there.1, there.2, passes)
+
+-- a box that stands in a list can stand in front
+pub in_front : (b : Cuboid) (bs : List Cuboid) → 0 < times_in b bs → (others : List Cuboid) × IsPermutation bs (b ∷ others)
+in_front b bs some = let there = Contains-times_in b bs some in (remove bs there.0, IsPermutation-remove bs there.0 b there.1 (sym there.2))

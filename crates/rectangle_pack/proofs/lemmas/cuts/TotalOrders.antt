@@ -1,10 +1,10 @@
 -- Sizes and sections are in total orders.
-use Rattle.std.specs.Cmp.{IsTotalOrder, on_total}
-use Rattle.std.proofs.lemmas.Cmp.{nat_cmp_total, then_total}
+use Rattle.rectangle_pack.proofs.Std.{IsTotalOrder, on_total, nat_cmp_total, then_total}
 use Rattle.rectangle_pack.specs.Boxes.{Size, Cuboid, size_order, section_order}
 
 pub size_order_total : IsTotalOrder size_order
-size_order_total = then_total (on_total (λ (s : Size). s.width) nat_cmp_total) (then_total (on_total (λ (s : Size). s.height) nat_cmp_total) (on_total (λ (s : Size). s.depth) nat_cmp_total))
+size_order_total = then_total (on_total (λ (s : Size). s.width) nat_cmp_total)
+    (then_total (on_total (λ (s : Size). s.height) nat_cmp_total) (on_total (λ (s : Size). s.depth) nat_cmp_total))
 
 pub section_order_total : IsTotalOrder section_order
 section_order_total =

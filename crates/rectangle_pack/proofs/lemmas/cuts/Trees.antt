@@ -1,15 +1,14 @@
 -- Trees of cuts, and the lists of boxes that are from them.
-use Rattle.std.proofs.Common.{ℕ, ◌+◌, ◌<◌, ◌≡◌, true, false, List, [], ◌∷◌, ◌++◌, refl, ◌∙◌, arith, inl, inr, append-nil, append_assoc}
-use Rattle.std.specs.Prelude.{All}
-use Rattle.std.proofs.lemmas.Bool.{cases_lt, cases_Bool, both_ways}
-use Rattle.std.proofs.lemmas.List.Elements.{All-nil, All-cons, All-append, All-weaker}
+use Rattle.rectangle_pack.proofs.Std.{ℕ, ◌+◌, ◌<◌, ◌≡◌, true, false, List, [], ◌∷◌, ◌++◌, refl, ap, ◌∙◌, arith, inl, inr, All, cases_lt, cases_Bool, both_ways}
+use Rattle.rectangle_pack.proofs.Std.{All-nil, All-cons, All-append, All-weaker}
 use Rattle.rectangle_pack.specs.declared.axis.Axis.{Axis}
 use Rattle.rectangle_pack.specs.Boxes.{Cuboid, IsPartOf, has_cells}
 use Rattle.rectangle_pack.specs.CutTrees.{lower, upper, IsPlaceOf, CutTree, Leaf, Cut, IsTreeOf, leaves, times_in, IsFromCuts}
 use Rattle.rectangle_pack.proofs.lemmas.cuts.Axes.{IsPartOf-refl, IsPartOf-trans, cells-part}
 use Rattle.rectangle_pack.proofs.lemmas.cuts.Parts.{lower-part, upper-part}
 use Rattle.rectangle_pack.proofs.lemmas.cuts.SameBoxes.{IsFromCuts-same}
-use Rattle.rectangle_pack.proofs.lemmas.cuts.Times.{cases_box, times_in-nil, times_in-other, times_in-append, All-times_in}
+use Rattle.rectangle_pack.proofs.lemmas.cuts.Times.{cases_box, times_in-nil, times_in-cons, times_in-other, times_in-append, times_in-permutation, All-times_in}
+use Rattle.rectangle_pack.proofs.lemmas.cuts.Times.{in_front}
 
 pub IsFromCuts-tree : (t : CutTree) (b : Cuboid) → IsTreeOf t b → IsFromCuts (leaves t b) b
 IsFromCuts-tree t b is = record { tree = t; is_tree = is; same = λ e cells. refl }
@@ -18,15 +17,13 @@ pub IsFromCuts-leaf : (b : Cuboid) → IsFromCuts (b ∷ []) b
 unfolding leaves
 IsFromCuts-leaf b = record { tree = Leaf; is_tree = tt; same = λ e cells. refl }
 
--- a box without cells is no box with cells
+-- a box without cells does not count, and no boxes are from cuts of it
 pub times_in-empty : (e b : Cuboid) → has_cells e ≡ true → has_cells b ≡ false → times_in e (b ∷ []) ≡ 0
 times_in-empty e b cells empty = times_in-other e b [] (λ p. both_ways _ empty (rw (← p) cells)) ∙ times_in-nil e
 
--- so no boxes are from cuts of it
 pub IsFromCuts-none : (b : Cuboid) → has_cells b ≡ false → IsFromCuts [] b
 IsFromCuts-none b empty = IsFromCuts-same (b ∷ []) [] (λ e cells. omega (arith, times_in-empty e b cells empty, times_in-nil e)) (IsFromCuts-leaf b)
 
--- what is from cuts of the two parts of a box
 pub IsFromCuts-cut : (a : Axis) (p : ℕ) (b : Cuboid) (bs es : List Cuboid) → IsPlaceOf a p b
     → IsFromCuts bs (lower a p b) → IsFromCuts es (upper a p b) → IsFromCuts (bs ++ es) b
 unfolding leaves
@@ -42,13 +39,6 @@ IsFromCuts-cut a p b bs es place l u = record {
   );
 }
 
--- the leaves of a cut are those of its parts
-pub times_in-leaves : (e : Cuboid) (a : Axis) (p : ℕ) (l u : CutTree) (b : Cuboid)
-    → times_in e (leaves (Cut a p l u) b) ≡ times_in e (leaves l (lower a p b)) + times_in e (leaves u (upper a p b))
-unfolding leaves
-times_in-leaves e a p l u b = times_in-append e (leaves l (lower a p b)) (leaves u (upper a p b))
-
--- each leaf is a part of the box
 All-part : (d b : Cuboid) → IsPartOf d b → (es : List Cuboid) → All (λ e. IsPartOf e d) es → All (λ e. IsPartOf e b) es
 All-part d b part es = All-weaker (λ e. IsPartOf e d) (λ e. IsPartOf e b) (λ e h. IsPartOf-trans e d b h part) es
 
@@ -72,60 +62,45 @@ no_leaf t b is empty e cells = elim (cases_lt 0 (times_in e (leaves t b))) [
   | inr ge ↦ omega arith
 ]
 
--- where a leaf makes way for boxes that are from cuts of it
-record Grafted (b s : Cuboid) (old parts : List Cuboid) : Type 0 where
-  pub before : List Cuboid
-  pub after : List Cuboid
-  pub made : IsFromCuts (before ++ (parts ++ after)) b
-  pub balance : (e : Cuboid) → times_in e before + times_in e (s ∷ []) + times_in e after ≡ times_in e old
+-- a list in which one box is replaced by others
+replaced : (s : Cuboid) (parts old : List Cuboid) → 0 < times_in s old
+    → (new : List Cuboid) × ((e : Cuboid) → times_in e new + times_in e (s ∷ []) ≡ times_in e old + times_in e parts)
+replaced s parts old some =
+    let r = in_front s old some in
+    (parts ++ r.0, λ e. omega (arith, times_in-append e parts r.0, times_in-permutation e old (s ∷ r.0) r.1, times_in-cons e s r.0))
 
-grafted : (t : CutTree) (b : Cuboid) → IsTreeOf t b → (s : Cuboid) (parts : List Cuboid) → IsFromCuts parts s → 0 < times_in s (leaves t b)
-    → Grafted b s (leaves t b) parts
+-- a leaf may be replaced by boxes that are from cuts of it
+grafted : (t : CutTree) (b : Cuboid) → IsTreeOf t b → (s : Cuboid) (parts new : List Cuboid) → IsFromCuts parts s → 0 < times_in s (leaves t b)
+    → ((e : Cuboid) → has_cells e ≡ true → times_in e new + times_in e (s ∷ []) ≡ times_in e (leaves t b) + times_in e parts) → IsFromCuts new b
 unfolding leaves
-grafted Leaf b is s parts made some = elim (cases_box s b) [
-  | inl p ↦ record { before = []; after = []; made = rw (append-nil parts, ← p) made; balance = λ e. rw p (omega (arith, times_in-nil e)) }
+grafted Leaf b is s parts new made some same = elim (cases_box s b) [
+  | inl p ↦ IsFromCuts-same parts new (λ e k. omega (arith, same e k, ap (λ d. times_in e (d ∷ [])) p)) (rw (← p) made)
   | inr n ↦ absurd (omega (arith, times_in-other s b [] n, times_in-nil s))
 ]
-grafted (Cut a p l u) b is s parts made some =
+grafted (Cut a p l u) b is s parts new made some same =
     let low = leaves l (lower a p b) in
     let high = leaves u (upper a p b) in
-    let both : (e : Cuboid) → times_in e (leaves (Cut a p l u) b) ≡ times_in e low + times_in e high = λ e. times_in-leaves e a p l u b in
+    let both = λ (e : Cuboid). times_in-append e low high in
     elim (cases_lt 0 (times_in s low)) [
       | inl lt ↦
-          let r = grafted l (lower a p b) is.1 s parts made lt in
-          let all = IsFromCuts-cut a p b (r.before ++ (parts ++ r.after)) high is.0 r.made (IsFromCuts-tree u (upper a p b) is.2) in
-          record {
-            before = r.before;
-            after = r.after ++ high;
-            made = simp append_assoc at all;
-            balance = λ e. omega (arith, r.balance e, both e, times_in-append e r.after high);
-          }
+          let r = replaced s parts low lt in
+          let here = grafted l (lower a p b) is.1 s parts r.0 made lt (λ e k. r.1 e) in
+          IsFromCuts-same (r.0 ++ high) new (λ e k. omega (arith, same e k, both e, r.1 e, times_in-append e r.0 high))
+          (IsFromCuts-cut a p b r.0 high is.0 here (IsFromCuts-tree u (upper a p b) is.2))
       | inr ge ↦
-          let r = grafted u (upper a p b) is.2 s parts made (omega (arith, both s)) in
-          let all = IsFromCuts-cut a p b low (r.before ++ (parts ++ r.after)) is.0 (IsFromCuts-tree l (lower a p b) is.1) r.made in
-          record {
-            before = low ++ r.before;
-            after = r.after;
-            made = rw append_assoc all;
-            balance = λ e. omega (arith, r.balance e, both e, times_in-append e low r.before);
-          }
+          let gt : 0 < times_in s high = omega (arith, both s) in
+          let r = replaced s parts high gt in
+          let here = grafted u (upper a p b) is.2 s parts r.0 made gt (λ e k. r.1 e) in
+          IsFromCuts-same (low ++ r.0) new (λ e k. omega (arith, same e k, both e, r.1 e, times_in-append e low r.0))
+          (IsFromCuts-cut a p b low r.0 is.0 (IsFromCuts-tree l (lower a p b) is.1) here)
     ]
 
--- a box of the list makes way for boxes that are from cuts of it
+-- so may a box of a list that is from cuts
 pub box_makes_way : {whole s : Cuboid} (old parts new : List Cuboid) → IsFromCuts old whole → IsFromCuts parts s → (has_cells s ≡ true → 0 < times_in s old)
     → ((e : Cuboid) → has_cells e ≡ true → times_in e new + times_in e (s ∷ []) ≡ times_in e old + times_in e parts) → IsFromCuts new whole
 box_makes_way {whole} {s} old parts new from made stands same = elim (cases_Bool (has_cells s)) [
-  | inl full ↦
-      let r = grafted from.tree whole from.is_tree s parts made (omega (arith, from.same s full, stands full)) in
-      let rest = parts ++ r.after in
-      IsFromCuts-same (r.before ++ rest) new (λ e cells. omega (
-        arith,
-        times_in-append e r.before rest,
-        times_in-append e parts r.after,
-        r.balance e,
-        from.same e cells,
-        same e cells,
-      )) r.made
+  | inl full ↦ grafted from.tree whole from.is_tree s parts new made (omega (arith, from.same s full, stands full))
+      (λ e k. omega (arith, same e k, from.same e k))
   | inr empty ↦
       let none = no_leaf made.tree s made.is_tree empty in
       IsFromCuts-same old new (λ e cells. omega (arith, same e cells, made.same e cells, none e cells, times_in-empty e s cells empty)) from

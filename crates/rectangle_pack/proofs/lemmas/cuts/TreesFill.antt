@@ -1,8 +1,5 @@
 -- Boxes that are from cuts of a box fill it.
-use Rattle.std.proofs.Common.{ℕ, ◌+◌, ◌-◌, ◌≤◌, ◌≡◌, true, List, [], ◌∷◌, refl, sym, ◌∙◌, arith}
-use Rattle.std.specs.Prelude.{filter}
-use Rattle.std.proofs.lemmas.Bool.Decides.{nat_tests}
-use Rattle.std.proofs.lemmas.List.Elements.{filter_passes}
+use Rattle.rectangle_pack.proofs.Std.{ℕ, ◌+◌, ◌-◌, ◌≤◌, ◌≡◌, true, List, [], ◌∷◌, refl, sym, ◌∙◌, arith, rules, filter, nat_tests, filter_passes}
 use Rattle.rectangle_pack.specs.declared.axis.Axis.{Axis}
 use Rattle.rectangle_pack.specs.declared.axis.Axis.TheVariants.{X, Y, Z}
 use Rattle.rectangle_pack.specs.Boxes.{Size, Cuboid, Cell, IsInside, is_cell_of, extent, start, end, has_cells}
@@ -22,18 +19,14 @@ mark-parts : (first long p place : ℕ) → first ≤ p → p ≤ first + long
     → mark first (p - first) place + mark p (first + long - p) place ≡ mark first long place
 mark-parts first long p place from to = grind (arith, nat_tests)
 
--- the two parts fill the box
 pub filled-parts : (c : Cell) (a : Axis) (p : ℕ) (b : Cuboid) → IsPlaceOf a p b
     → times_filled c (lower a p b ∷ []) + times_filled c (upper a p b ∷ []) ≡ times_filled c (b ∷ [])
 unfolding start extent end lower upper
-filled-parts c X p b place =
-    rw (filled-marks c (lower X p b), filled-marks c (upper X p b), filled-marks c b, ← mark-parts b.x b.whd.width p c.i place.from place.to) (omega arith)
-filled-parts c Y p b place =
-    rw (filled-marks c (lower Y p b), filled-marks c (upper Y p b), filled-marks c b, ← mark-parts b.y b.whd.height p c.j place.from place.to) (omega arith)
-filled-parts c Z p b place =
-    rw (filled-marks c (lower Z p b), filled-marks c (upper Z p b), filled-marks c b, ← mark-parts b.z b.whd.depth p c.k place.from place.to) (omega arith)
+filled-parts c X p b place = rw (filled-marks c b, ← mark-parts b.x b.whd.width p c.i place.from place.to) (omega (arith, filled-marks))
+filled-parts c Y p b place = rw (filled-marks c b, ← mark-parts b.y b.whd.height p c.j place.from place.to) (omega (arith, filled-marks))
+filled-parts c Z p b place = rw (filled-marks c b, ← mark-parts b.z b.whd.depth p c.k place.from place.to) (omega (arith, filled-marks))
 
--- and so do the leaves of a tree of it
+-- the leaves of a tree of a box fill it
 pub filled-leaves : (c : Cell) (t : CutTree) (b : Cuboid) → IsTreeOf t b → times_filled c (leaves t b) ≡ times_filled c (b ∷ [])
 unfolding leaves
 filled-leaves c Leaf b is = refl
@@ -59,7 +52,6 @@ cuts_cover_bins boxes size from =
     record {
       inside = All-from_times_in (IsInside size) full (λ e some.
           let cells : has_cells e ≡ true = All-times_in (λ e. has_cells e ≡ true) e full (filter_passes has_cells boxes) some in
-          let part = leaf-part same.tree (whole size) same.is_tree e (omega (arith, same.same e cells)) in
-          record { within_x = omega arith; within_y = omega arith; within_z = omega arith });
+          let part = leaf-part same.tree (whole size) same.is_tree e (omega (arith, same.same e cells)) in search rules);
       once = λ c h. omega (arith, (IsFromCuts-tiles full (whole size) same).same c, filled_yes c (whole size) [] h, filled-nil c);
     }

@@ -1,12 +1,6 @@
 -- What is allowed by some answers is allowed by more; so two packings, each by closures of its own, are packings by what either may answer.
-use Rattle.std.proofs.Common.{◌≡◌, ◌≢◌, ℕ, Bool, true, false, List, [], ◌∷◌, inl, inr, ◌⊎◌}
-use Rattle.std.specs.Prelude.{All, Any, map, Option, Some, None, IsSomeAnd, MatchBool}
-use Rattle.std.specs.List.{AllZip}
-use Rattle.std.specs.declared.cmp.Ordering.{Ordering}
-use Rattle.std.specs.declared.cmp.Ordering.TheVariants.{Equal, Greater}
-use Rattle.std.specs.Map.{lookup}
-use Rattle.std.specs.BTreeMap.{is_at}
-use Rattle.std.proofs.lemmas.List.Elements.{All-weaker}
+use Rattle.rectangle_pack.proofs.Std.{◌≡◌, ◌≢◌, ℕ, Bool, true, false, List, [], ◌∷◌, inl, inr, ◌⊎◌, ⊎_elim, All, Any, map, Option, Some, None, IsSomeAnd}
+use Rattle.rectangle_pack.proofs.Std.{MatchBool, Ordering, Equal, Greater, lookup, is_at, All-weaker}
 use Rattle.rectangle_pack.specs.declared.grouped_rects_to_place.Group.{Group}
 use Rattle.rectangle_pack.specs.declared.pack.answer.Placement.{Placement}
 use Rattle.rectangle_pack.specs.Boxes.{Size, Cuboid, IsU32, volume_of}
@@ -17,9 +11,11 @@ use Rattle.rectangle_pack.specs.Cuts.{cuts, sizes_of}
 use Rattle.rectangle_pack.specs.Groups.{Collection}
 use Rattle.rectangle_pack.specs.Orders.{IsGroupKey, IsGroupOrder, IsBinOrder}
 use Rattle.rectangle_pack.specs.Steps.{AreLeft, IsStep, IsDone, IsStuck}
-use Rattle.rectangle_pack.specs.Packing.{Rules, rules_by, Members, Stage, at_start, excludes_by, IsStuckIn, DoesNotTake, IsPlaced, IsRefused, AreAllPlaced, StopsAfter, PackingDoneBy, PackingRefusedBy}
+use Rattle.rectangle_pack.specs.Packing.{Rules, rules_by, Members, Stage, at_start, excludes_by, IsStuckIn, DoesNotTake, IsPlaced, IsRefused, AreAllPlaced}
+use Rattle.rectangle_pack.specs.Packing.{StopsAfter, PackingDoneBy, PackingRefusedBy}
 use Rattle.rectangle_pack.specs.Results.{either_of, ClosuresDecide, HaveOneResult}
 use Rattle.rectangle_pack.specs.SmallestBox.{IsSmallestOrder}
+use Rattle.rectangle_pack.proofs.lemmas.util.Zips.{AllZip-weaker}
 use Rattle.rectangle_pack.proofs.lemmas.cuts.SmallestBox.{smallest_is_preorder, total_decides}
 
 -- what may be answered may be answered there too
@@ -27,19 +23,14 @@ pub record Includes (may more : Answers) : Type 0 where
   pub rate : (size : Size) (rate : ℕ) → may.rate size rate → more.rate size rate
   pub prefer : (first second : List Size) (r : Ordering) → may.prefer first second r → more.prefer first second r
 
-pub AllZip-weaker : {X Y : Type 0} (R S : X → Y → Type 0) → ((x : X) (y : Y) → R x y → S x y) → (xs : List X) (ys : List Y) → AllZip R xs ys → AllZip S xs ys
-AllZip-weaker R S passes [] [] h = tt
-AllZip-weaker R S passes [] (y ∷ ys) h = absurd h
-AllZip-weaker R S passes (x ∷ xs) [] h = absurd h
-AllZip-weaker R S passes (x ∷ xs) (y ∷ ys) h = (passes x y h.0, AllZip-weaker R S passes xs ys h.1)
-
 some_weaker : {X : Type 0} (P Q : X → Type 0) → ((x : X) → P x → Q x) → (found : Option X) → IsSomeAnd found P → IsSomeAnd found Q
 some_weaker P Q passes None h = h
 some_weaker P Q passes (Some x) h = passes x h
 
 -- a choice
 module _ {A : Type 0} (R S : A → A → Ordering → Type 0) (includes : (x y : A) (r : Ordering) → R x y r → S x y r) where
-  loses : (chosen : A) (before : List A) → (before ≡ []) ⊎ Any (λ earlier. (r : Ordering) × R earlier chosen r × (r ≢ Greater)) before → (before ≡ []) ⊎ Any (λ earlier. (r : Ordering) × S earlier chosen r × (r ≢ Greater)) before
+  loses : (chosen : A) (before : List A) → (before ≡ []) ⊎ Any (λ earlier. (r : Ordering) × R earlier chosen r × (r ≢ Greater)) before
+      → (before ≡ []) ⊎ Any (λ earlier. (r : Ordering) × S earlier chosen r × (r ≢ Greater)) before
   loses chosen before (inl none) = inl none
   loses chosen before (inr (i, x, within, at, lost)) = inr (i, x, within, at, (lost.0, includes x chosen lost.0 lost.1, lost.2))
 
@@ -50,18 +41,21 @@ module _ {A : Type 0} (R S : A → A → Ordering → Type 0) (includes : (x y :
     listed = h.listed;
     beats_later = All-weaker (λ later. R chosen later Greater) (λ later. S chosen later Greater) (λ later. includes chosen later Greater) h.after h.beats_later;
     replaces = loses chosen h.before h.replaces;
-    greatest = λ compare o. h.greatest compare (record { only = λ x y r i j says. o.only x y r i j (includes x y r says); swapped = o.swapped; transitive = o.transitive });
+    greatest = λ compare o. h.greatest compare
+        (record { only = λ x y r i j says. o.only x y r i j (includes x y r says); swapped = o.swapped; transitive = o.transitive });
   }
 
 module _ (may more : Answers) (includes : Includes may more) where
   allowed_more : (section : Cuboid) (size : Size) (cut : List Cuboid) → IsAllowedCut may.prefer section size cut → IsAllowedCut more.prefer section size cut
   allowed_more section size cut =
-      MayChoose-more (λ a b. may.prefer (sizes_of a) (sizes_of b)) (λ a b. more.prefer (sizes_of a) (sizes_of b)) (λ a b. includes.prefer (sizes_of a) (sizes_of b)) (cuts section size) cut
+      MayChoose-more (λ a b. may.prefer (sizes_of a) (sizes_of b)) (λ a b. more.prefer (sizes_of a) (sizes_of b))
+      (λ a b. includes.prefer (sizes_of a) (sizes_of b)) (cuts section size) cut
 
   left_more : (cut left : List Cuboid) → AreLeft may.rate cut left → AreLeft more.rate cut left
   left_more cut left h = record {
     rates = h.rates;
-    rated = AllZip-weaker (λ piece rate. may.rate piece.whd rate) (λ piece rate. more.rate piece.whd rate) (λ piece. includes.rate piece.whd) cut h.rates h.rated;
+    rated = AllZip-weaker (λ piece rate. may.rate piece.whd rate) (λ piece rate. more.rate piece.whd rate)
+        (λ piece. includes.rate piece.whd) cut h.rates h.rated;
     ranked = h.ranked;
     are_ranked = h.are_ranked;
     are = h.are;
@@ -96,28 +90,35 @@ module _ (may more : Answers) (includes : Includes may more) where
   stuck_more sections (m ∷ ms) n (inr (l, next, one, others, step, rest, count)) =
       inr (l, next, one, others, step_more sections m l next one step, stuck_more next ms others rest, count)
 
-  key_more : {Id : Type 0} (cmp : Id → Id → Ordering) (sizes : List (Id × Size)) (ids : List Id) (key : ℕ) → IsGroupKey may.rate cmp sizes ids key → IsGroupKey more.rate cmp sizes ids key
+  key_more : {Id : Type 0} (cmp : Id → Id → Ordering) (sizes : List (Id × Size)) (ids : List Id) (key : ℕ) → IsGroupKey may.rate cmp sizes ids key
+      → IsGroupKey more.rate cmp sizes ids key
   key_more cmp sizes ids key (rates, rated, is) = (
     rates,
-    AllZip-weaker (λ id rate. IsSomeAnd (lookup (is_at (cmp id)) sizes) (λ size. may.rate size rate)) (λ id rate. IsSomeAnd (lookup (is_at (cmp id)) sizes) (λ size. more.rate size rate))
-        (λ id rate. some_weaker (λ size. may.rate size rate) (λ size. more.rate size rate) (λ size. includes.rate size rate) (lookup (is_at (cmp id)) sizes)) ids rates rated,
+    AllZip-weaker (λ id rate. IsSomeAnd (lookup (is_at (cmp id)) sizes) (λ size. may.rate size rate))
+        (λ id rate. IsSomeAnd (lookup (is_at (cmp id)) sizes) (λ size. more.rate size rate))
+        (λ id rate. some_weaker (λ size. may.rate size rate) (λ size. more.rate size rate) (λ size. includes.rate size rate) (lookup (is_at (cmp id)) sizes))
+        ids rates rated,
     is,
   )
 
-  groups_more : {Id K : Type 0} (group_cmp : K → K → Ordering) (cmp : Id → Id → Ordering) (sizes : List (Id × Size)) (groups : List (K × List Id)) (order : List (ℕ × K))
+  groups_more : {Id K : Type 0} (group_cmp : K → K → Ordering) (cmp : Id → Id → Ordering) (sizes : List (Id × Size))
+      (groups : List (K × List Id)) (order : List (ℕ × K))
       → IsGroupOrder may.rate group_cmp cmp sizes groups order → IsGroupOrder more.rate group_cmp cmp sizes groups order
   groups_more group_cmp cmp sizes groups order h = record {
     unsorted = h.unsorted;
-    each = AllZip-weaker (λ group entry. (entry.1 ≡ group.0) × IsGroupKey may.rate cmp sizes group.1 entry.0) (λ group entry. (entry.1 ≡ group.0) × IsGroupKey more.rate cmp sizes group.1 entry.0)
+    each = AllZip-weaker (λ group entry. (entry.1 ≡ group.0) × IsGroupKey may.rate cmp sizes group.1 entry.0)
+        (λ group entry. (entry.1 ≡ group.0) × IsGroupKey more.rate cmp sizes group.1 entry.0)
         (λ group entry k. (k.0, key_more cmp sizes group.1 entry.0 k.1)) groups h.unsorted h.each;
     permutation = h.permutation;
     falling = h.falling;
   }
 
-  bins_more : {B : Type 0} (cmp : B → B → Ordering) (bins : List (B × Bin)) (order : List (ℕ × B)) → IsBinOrder may.rate cmp bins order → IsBinOrder more.rate cmp bins order
+  bins_more : {B : Type 0} (cmp : B → B → Ordering) (bins : List (B × Bin)) (order : List (ℕ × B)) → IsBinOrder may.rate cmp bins order
+      → IsBinOrder more.rate cmp bins order
   bins_more cmp bins order h = record {
     unsorted = h.unsorted;
-    each = AllZip-weaker (λ bin entry. (cmp bin.0 entry.1 ≡ Equal) × may.rate bin.1.size entry.0) (λ bin entry. (cmp bin.0 entry.1 ≡ Equal) × more.rate bin.1.size entry.0)
+    each = AllZip-weaker (λ bin entry. (cmp bin.0 entry.1 ≡ Equal) × may.rate bin.1.size entry.0)
+        (λ bin entry. (cmp bin.0 entry.1 ≡ Equal) × more.rate bin.1.size entry.0)
         (λ bin entry k. (k.0, includes.rate bin.1.size entry.0 k.1)) bins h.unsorted h.each;
     permutation = h.permutation;
     rising = h.rising;
@@ -135,14 +136,16 @@ module _ {Id B : Type 0} (cmp : Id → Id → Ordering) (bin_cmp : B → B → O
       some_weaker (λ (bin : Bin). IsStuck may bin.sections group.sizes n) (λ (bin : Bin). IsStuck more bin.sections group.sizes n)
       (λ bin. stuck_more may more includes bin.sections group.sizes n) (lookup (is_at (bin_cmp id)) bins)
 
-  passed_more : (excluded : B → Bool) (bins : List (B × Bin)) (group : Members Id) (id : B) (n : ℕ) → DoesNotTake Less excluded bins group id n → DoesNotTake More excluded bins group id n
+  passed_more : (excluded : B → Bool) (bins : List (B × Bin)) (group : Members Id) (id : B) (n : ℕ) → DoesNotTake Less excluded bins group id n
+      → DoesNotTake More excluded bins group id n
   passed_more excluded bins group id n = by (excluded id)
     where
       by : (b : Bool) → MatchBool b (n ≡ 0) (IsStuckIn Less bins group id n) → MatchBool b (n ≡ 0) (IsStuckIn More bins group id n)
       by true h = h
       by false h = stuck_in_more bins group id n h
 
-  abbrev placed_more : (excluded : B → Bool) (order : List B) (group : Members Id) (old : List (B × Bin)) (placements : List (Placement Id B)) (new : List (B × Bin)) (n : ℕ)
+  abbrev placed_more : (excluded : B → Bool) (order : List B) (group : Members Id) (old : List (B × Bin)) (placements : List (Placement Id B))
+      (new : List (B × Bin)) (n : ℕ)
       → IsPlaced Less excluded order group old placements new n → IsPlaced More excluded order group old placements new n
   placed_more excluded order group old placements new n h = record {
     before = h.before;
@@ -150,7 +153,8 @@ module _ {Id B : Type 0} (cmp : Id → Id → Ordering) (bin_cmp : B → B → O
     after = h.after;
     order_is = h.order_is;
     counts = h.counts;
-    passed = AllZip-weaker (DoesNotTake Less excluded old group) (DoesNotTake More excluded old group) (passed_more excluded old group) h.before h.counts h.passed;
+    passed = AllZip-weaker (DoesNotTake Less excluded old group) (DoesNotTake More excluded old group)
+        (passed_more excluded old group) h.before h.counts h.passed;
     allowed = h.allowed;
     bin = h.bin;
     found = h.found;
@@ -163,10 +167,12 @@ module _ {Id B : Type 0} (cmp : Id → Id → Ordering) (bin_cmp : B → B → O
     tests_are = h.tests_are;
   }
 
-  refused_more : (excluded : B → Bool) (order : List B) (group : Members Id) (bins : List (B × Bin)) (n : ℕ) → IsRefused Less excluded order group bins n → IsRefused More excluded order group bins n
+  refused_more : (excluded : B → Bool) (order : List B) (group : Members Id) (bins : List (B × Bin)) (n : ℕ) → IsRefused Less excluded order group bins n
+      → IsRefused More excluded order group bins n
   refused_more excluded order group bins n h = record {
     counts = h.counts;
-    passed = AllZip-weaker (DoesNotTake Less excluded bins group) (DoesNotTake More excluded bins group) (passed_more excluded bins group) order h.counts h.passed;
+    passed = AllZip-weaker (DoesNotTake Less excluded bins group) (DoesNotTake More excluded bins group)
+        (passed_more excluded bins group) order h.counts h.passed;
     tests_are = h.tests_are;
   }
 
@@ -186,8 +192,10 @@ module _ {Id B : Type 0} (cmp : Id → Id → Ordering) (bin_cmp : B → B → O
       count,
     )
 
-    stops_more : (group_cmp : K → K → Ordering) (sizes : List (Id × Size)) (lists : List (K × List Id)) (group_order : List (ℕ × K)) (order : List B) (old new : List (B × Bin)) (n : ℕ)
-        → StopsAfter Less excludes group_cmp sizes lists group_order order old new n → StopsAfter More excludes group_cmp sizes lists group_order order old new n
+    stops_more : (group_cmp : K → K → Ordering) (sizes : List (Id × Size)) (lists : List (K × List Id)) (group_order : List (ℕ × K)) (order : List B)
+        (old new : List (B × Bin)) (n : ℕ)
+        → StopsAfter Less excludes group_cmp sizes lists group_order order old new n
+        → StopsAfter More excludes group_cmp sizes lists group_order order old new n
     stops_more group_cmp sizes lists group_order order old new n h = record {
       taken = h.taken;
       later = h.later;
@@ -217,11 +225,13 @@ module _ {Id B : Type 0} (cmp : Id → Id → Ordering) (bin_cmp : B → B → O
       listed = h.listed;
       homes = h.homes;
       tests = h.tests;
-      placed = all_placed_more excludes (map (λ o. o.1) h.bin_order) h.groups (at_start old) placements (record { bins = new; homes = h.homes }) h.tests h.placed;
+      placed = all_placed_more excludes (map (λ o. o.1) h.bin_order) h.groups (at_start old) placements
+          (record { bins = new; homes = h.homes }) h.tests h.placed;
     }
 
     -- and one that is refused
-    pub PackingRefused-more : (all : Collection Id G) (old new : List (B × Bin)) → PackingRefusedBy group_cmp Less excludes all old new → PackingRefusedBy group_cmp More excludes all old new
+    pub PackingRefused-more : (all : Collection Id G) (old new : List (B × Bin)) → PackingRefusedBy group_cmp Less excludes all old new
+        → PackingRefusedBy group_cmp More excludes all old new
     PackingRefused-more all old new h = record {
       group_order = h.group_order;
       bin_order = h.bin_order;
@@ -239,7 +249,8 @@ either_other : (one other : Answers) → Includes other (either_of one other)
 either_other one other = record { rate = λ size rate says. inr says; prefer = λ first second r says. inr says }
 
 -- so what holds of two packings by what either may answer holds of two by closures of their own
-pub HaveOneResult-either : {Id B G : Type 0} (group_cmp : Group G Id → Group G Id → Ordering) (cmp : Id → Id → Ordering) (bin_cmp : B → B → Ordering) (one other : Answers)
+pub HaveOneResult-either : {Id B G : Type 0} (group_cmp : Group G Id → Group G Id → Ordering) (cmp : Id → Id → Ordering)
+    (bin_cmp : B → B → Ordering) (one other : Answers)
     (all others : Collection Id G) (bins other_bins : List (B × Bin))
     → HaveOneResult group_cmp (rules_by cmp bin_cmp (either_of one other)) (rules_by cmp bin_cmp (either_of one other)) all others bins other_bins
     → HaveOneResult group_cmp (rules_by cmp bin_cmp one) (rules_by cmp bin_cmp other) all others bins other_bins
@@ -250,14 +261,19 @@ HaveOneResult-either group_cmp cmp bin_cmp one other all others bins other_bins 
     let l = either_one one other in
     let r = either_other one other in
     record {
-      done = λ ps qs m n p q. h.done ps qs m n (PackingDone-more cmp bin_cmp one both l group_cmp excludes all bins ps m p) (PackingDone-more cmp bin_cmp other both r group_cmp other_bars others other_bins qs n q);
-      refused = λ m n p q. h.refused m n (PackingRefused-more cmp bin_cmp one both l group_cmp excludes all bins m p) (PackingRefused-more cmp bin_cmp other both r group_cmp other_bars others other_bins n q);
-      not_done_and_refused = λ ps m n p q. h.not_done_and_refused ps m n (PackingDone-more cmp bin_cmp one both l group_cmp excludes all bins ps m p) (PackingRefused-more cmp bin_cmp other both r group_cmp other_bars others other_bins n q);
-      not_refused_and_done = λ qs m n p q. h.not_refused_and_done qs m n (PackingRefused-more cmp bin_cmp one both l group_cmp excludes all bins m p) (PackingDone-more cmp bin_cmp other both r group_cmp other_bars others other_bins qs n q);
+      done = λ ps qs m n p q. h.done ps qs m n (PackingDone-more cmp bin_cmp one both l group_cmp excludes all bins ps m p)
+          (PackingDone-more cmp bin_cmp other both r group_cmp other_bars others other_bins qs n q);
+      refused = λ m n p q. h.refused m n (PackingRefused-more cmp bin_cmp one both l group_cmp excludes all bins m p)
+          (PackingRefused-more cmp bin_cmp other both r group_cmp other_bars others other_bins n q);
+      not_done_and_refused = λ ps m n p q. h.not_done_and_refused ps m n (PackingDone-more cmp bin_cmp one both l group_cmp excludes all bins ps m p)
+          (PackingRefused-more cmp bin_cmp other both r group_cmp other_bars others other_bins n q);
+      not_refused_and_done = λ qs m n p q. h.not_refused_and_done qs m n (PackingRefused-more cmp bin_cmp one both l group_cmp excludes all bins m p)
+          (PackingDone-more cmp bin_cmp other both r group_cmp other_bars others other_bins qs n q);
     }
 
 -- smallest boxes, by what either heuristic may answer
-smallest_more : (R S : Size → ℕ → Type 0) → ((size : Size) (rate : ℕ) → R size rate → S size rate) → (a b : List Size) (r : Ordering) → IsSmallestOrder R a b r → IsSmallestOrder S a b r
+smallest_more : (R S : Size → ℕ → Type 0) → ((size : Size) (rate : ℕ) → R size rate → S size rate) → (a b : List Size) (r : Ordering)
+    → IsSmallestOrder R a b r → IsSmallestOrder S a b r
 smallest_more R S passes a b r h = record {
   rates_first = h.rates_first;
   rates_second = h.rates_second;
@@ -269,26 +285,18 @@ smallest_more R S passes a b r h = record {
 -- volumes and smallest boxes decide, whichever of two pairs of closures answers
 pub volumes_decide : (one other : Answers) (R S : Size → ℕ → Type 0)
     → ((size : Size) (rate : ℕ) → one.rate size rate → rate ≡ volume_of size) → ((size : Size) (rate : ℕ) → other.rate size rate → rate ≡ volume_of size)
-    → ((size : Size) (rate : ℕ) → IsU32 size → R size rate → rate ≡ volume_of size) → ((size : Size) (rate : ℕ) → IsU32 size → S size rate → rate ≡ volume_of size)
-    → ((a b : List Size) (r : Ordering) → one.prefer a b r → All IsU32 a × All IsU32 b) → ((a b : List Size) (r : Ordering) → other.prefer a b r → All IsU32 a × All IsU32 b)
-    → ((a b : List Size) (r : Ordering) → one.prefer a b r → IsSmallestOrder R a b r) → ((a b : List Size) (r : Ordering) → other.prefer a b r → IsSmallestOrder S a b r)
+    → ((size : Size) (rate : ℕ) → IsU32 size → R size rate → rate ≡ volume_of size)
+    → ((size : Size) (rate : ℕ) → IsU32 size → S size rate → rate ≡ volume_of size)
+    → ((a b : List Size) (r : Ordering) → one.prefer a b r → All IsU32 a × All IsU32 b)
+    → ((a b : List Size) (r : Ordering) → other.prefer a b r → All IsU32 a × All IsU32 b)
+    → ((a b : List Size) (r : Ordering) → one.prefer a b r → IsSmallestOrder R a b r)
+    → ((a b : List Size) (r : Ordering) → other.prefer a b r → IsSmallestOrder S a b r)
     → (boxes : List Size) (bins : List Bin) → ClosuresDecide boxes bins (either_of one other)
 volumes_decide one other R S volume other_volume rated other_rated small other_small smallest other_smallest boxes bins =
-    total_decides boxes bins (either_of one other) (record { rate = volume_of; only = only })
-    (smallest_is_preorder (λ size rate. R size rate ⊎ S size rate) volume_of rates (λ a b r. one.prefer a b r ⊎ other.prefer a b r) smalls answers)
-  where
-    only : (size : Size) (rate : ℕ) → one.rate size rate ⊎ other.rate size rate → rate ≡ volume_of size
-    only size rate (inl says) = volume size rate says
-    only size rate (inr says) = other_volume size rate says
-
-    rates : (size : Size) (rate : ℕ) → IsU32 size → R size rate ⊎ S size rate → rate ≡ volume_of size
-    rates size rate u (inl says) = rated size rate u says
-    rates size rate u (inr says) = other_rated size rate u says
-
-    smalls : (a b : List Size) (r : Ordering) → one.prefer a b r ⊎ other.prefer a b r → All IsU32 a × All IsU32 b
-    smalls a b r (inl says) = small a b r says
-    smalls a b r (inr says) = other_small a b r says
-
-    answers : (a b : List Size) (r : Ordering) → one.prefer a b r ⊎ other.prefer a b r → IsSmallestOrder (λ size rate. R size rate ⊎ S size rate) a b r
-    answers a b r (inl says) = smallest_more R (λ size rate. R size rate ⊎ S size rate) (λ size rate h. inl h) a b r (smallest a b r says)
-    answers a b r (inr says) = smallest_more S (λ size rate. R size rate ⊎ S size rate) (λ size rate h. inr h) a b r (other_smallest a b r says)
+    let Both : Size → ℕ → Type 0 = λ size rate. R size rate ⊎ S size rate in
+    total_decides boxes bins (either_of one other)
+    (record { rate = volume_of; only = λ size rate. ⊎_elim (volume size rate) (other_volume size rate) })
+    (smallest_is_preorder Both volume_of (λ size rate u. ⊎_elim (rated size rate u) (other_rated size rate u))
+    (λ a b r. one.prefer a b r ⊎ other.prefer a b r) (λ a b r. ⊎_elim (small a b r) (other_small a b r))
+    (λ a b r. ⊎_elim (λ says. smallest_more R Both (λ size rate h. inl h) a b r (smallest a b r says))
+    (λ says. smallest_more S Both (λ size rate h. inr h) a b r (other_smallest a b r says))))

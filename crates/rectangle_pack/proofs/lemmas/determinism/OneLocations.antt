@@ -1,20 +1,7 @@
 -- Where placements are alike, the locations by id are.
-use Rattle.std.proofs.Common.{◌≡◌, Bool, true, false, List, [], ◌∷◌, refl, sym, ◌∙◌, ap, subst}
-use Rattle.std.specs.Prelude.{All, Option, Some, None, MatchOption}
-use Rattle.std.specs.List.{AllZip}
-use Rattle.std.specs.List.Sorted.{IsStrictlySortedBy}
-use Rattle.std.specs.declared.cmp.Ordering.{Ordering}
-use Rattle.std.specs.declared.cmp.Ordering.TheVariants.{Less, Equal, Greater}
-use Rattle.std.specs.Ordering.{is_eq, ordering_reverse}
-use Rattle.std.specs.Cmp.{IsTotalOrder, Equal-is}
-use Rattle.std.specs.Map.{lookup, keys_of}
-use Rattle.std.specs.BTreeMap.{is_at}
-use Rattle.std.proofs.lemmas.Cmp.{tied_itself}
-use Rattle.std.proofs.lemmas.Map.{lookup-none}
-use Rattle.std.proofs.lemmas.Map.Entries.{none_below_head}
-use Rattle.std.proofs.lemmas.Map.Keys.{sorted_tail}
-use Rattle.std.proofs.lemmas.Map.Views.{All-after_first}
-use Rattle.std.proofs.lemmas.List.Elements.{All-cons, All-head, All-tail, All-weaker}
+use Rattle.rectangle_pack.proofs.Std.{◌≡◌, Bool, true, false, List, [], ◌∷◌, refl, sym, ◌∙◌, ap, subst, All, Option, Some, None, MatchOption, AllZip}
+use Rattle.rectangle_pack.proofs.Std.{IsStrictlySortedBy, Ordering, Less, Equal, Greater, is_eq, ordering_reverse, IsTotalOrder, Equal-is, lookup, keys_of}
+use Rattle.rectangle_pack.proofs.Std.{is_at, tied_itself, lookup-none, none_below_head, sorted_tail, All-after_first, All-head, All-tail, All-weaker}
 use Rattle.rectangle_pack.specs.Boxes.{Cuboid}
 use Rattle.rectangle_pack.specs.declared.pack.answer.Placement.{Placement}
 use Rattle.rectangle_pack.specs.Placed.{IsLastOf, AreLastPlacements}
@@ -22,7 +9,7 @@ use Rattle.rectangle_pack.specs.Results.{AreMapsAlike, ArePlacementsAlike, AreLo
 use Rattle.rectangle_pack.proofs.lemmas.multimap.Append.{All-middle}
 use Rattle.rectangle_pack.proofs.lemmas.util.Maps.{congr_right, AreOptionsAlike}
 use Rattle.rectangle_pack.proofs.lemmas.determinism.OneTrial.{split_last}
-use Rattle.rectangle_pack.proofs.lemmas.determinism.OneOrder.{All-alike}
+use Rattle.rectangle_pack.proofs.lemmas.determinism.OneOrder.{All-alike, AllZip-back}
 use Rattle.rectangle_pack.proofs.lemmas.determinism.OnePacking.{split_alike}
 
 module _ {K X : Type 0} (cmp : K → K → Ordering) (o : IsTotalOrder cmp) (Alike : X → X → Type 0) where
@@ -32,7 +19,12 @@ module _ {K X : Type 0} (cmp : K → K → Ordering) (o : IsTotalOrder cmp) (Ali
     where
       none : (fs : List (K × X)) → All (λ k. cmp e.0 k ≡ Less) (keys_of fs) → lookup (is_at (cmp q)) fs ≡ None
       none [] h = refl
-      none (f ∷ fs) h = rw (o.congr q e.0 f.0 same, All-head (λ k. cmp e.0 k ≡ Less) f.0 (keys_of fs) h, none fs (All-tail (λ k. cmp e.0 k ≡ Less) f.0 (keys_of fs) h)) refl
+      none (f ∷ fs) h = rw (
+        o.congr q e.0 f.0 same,
+        All-head
+            (λ k. cmp e.0 k ≡ Less) f.0 (keys_of fs) h,
+        none fs (All-tail (λ k. cmp e.0 k ≡ Less) f.0 (keys_of fs) h),
+      ) refl
 
   absent : (q : K) (e : K × X) (es : List (K × X)) → IsStrictlySortedBy cmp (keys_of (e ∷ es)) → cmp q e.0 ≡ Less → lookup (is_at (cmp q)) (e ∷ es) ≡ None
   absent q e es up less = lookup-none (is_at (cmp q)) (e ∷ es) (none_below_head o q e es up less)
@@ -44,22 +36,19 @@ module _ {K X : Type 0} (cmp : K → K → Ordering) (o : IsTotalOrder cmp) (Ali
   pub maps_alike : (xs ys : List (K × X)) → IsStrictlySortedBy cmp (keys_of xs) → IsStrictlySortedBy cmp (keys_of ys)
       → ((q : K) → AreOptionsAlike Alike (lookup (is_at (cmp q)) xs) (lookup (is_at (cmp q)) ys)) → AreMapsAlike cmp Alike xs ys
   maps_alike [] [] up down each = tt
-  maps_alike [] (y ∷ ys) up down each = absurd (subst (λ (v : Option X). AreOptionsAlike Alike None v) (found_first y.0 y ys (tied_itself o y.0)) (each y.0))
-  maps_alike (x ∷ xs) [] up down each = absurd (subst (λ (v : Option X). AreOptionsAlike Alike v None) (found_first x.0 x xs (tied_itself o x.0)) (each x.0))
-  maps_alike (x ∷ xs) (y ∷ ys) up down each = by (cmp x.0 y.0) refl (λ h. maps_alike xs ys (sorted_tail cmp x.0 (keys_of xs) up) (sorted_tail cmp y.0 (keys_of ys) down) h)
+  maps_alike [] (y ∷ ys) up down each = absurd (rw (found_first y.0 y ys (tied_itself o y.0)) at (each y.0))
+  maps_alike (x ∷ xs) [] up down each = absurd (rw (found_first x.0 x xs (tied_itself o x.0)) at (each x.0))
+  maps_alike (x ∷ xs) (y ∷ ys) up down each = by (cmp x.0 y.0) refl
+      (λ h. maps_alike xs ys (sorted_tail cmp x.0 (keys_of xs) up) (sorted_tail cmp y.0 (keys_of ys) down) h)
     where
-      by : (r : Ordering) → cmp x.0 y.0 ≡ r → (((q : K) → AreOptionsAlike Alike (lookup (is_at (cmp q)) xs) (lookup (is_at (cmp q)) ys)) → AreMapsAlike cmp Alike xs ys) → AreMapsAlike cmp Alike (x ∷ xs) (y ∷ ys)
-      by Less e rest =
-          absurd (subst (λ (v : Option X). AreOptionsAlike Alike (Some x.1) v) (absent x.0 y ys down e)
-          (subst (λ (u : Option X). AreOptionsAlike Alike u (lookup (is_at (cmp x.0)) (y ∷ ys))) (found_first x.0 x xs (tied_itself o x.0)) (each x.0)))
+      by : (r : Ordering) → cmp x.0 y.0 ≡ r → (((q : K) → AreOptionsAlike Alike (lookup (is_at (cmp q)) xs) (lookup (is_at (cmp q)) ys))
+          → AreMapsAlike cmp Alike xs ys) → AreMapsAlike cmp Alike (x ∷ xs) (y ∷ ys)
+      by Less e rest = absurd (rw (found_first x.0 x xs (tied_itself o x.0), absent x.0 y ys down e) at (each x.0))
       by Greater e rest =
           let less : cmp y.0 x.0 ≡ Less = o.antisymm y.0 x.0 ∙ ap ordering_reverse e in
-          absurd (subst (λ (v : Option X). AreOptionsAlike Alike v (Some y.1)) (absent y.0 x xs up less)
-          (subst (λ (u : Option X). AreOptionsAlike Alike (lookup (is_at (cmp y.0)) (x ∷ xs)) u) (found_first y.0 y ys (tied_itself o y.0)) (each y.0)))
+          absurd (rw (absent y.0 x xs up less, found_first y.0 y ys (tied_itself o y.0)) at (each y.0))
       by Equal e rest =
-          let here : Alike x.1 y.1 =
-          subst (λ (v : Option X). AreOptionsAlike Alike (Some x.1) v) (found_first x.0 y ys e)
-          (subst (λ (u : Option X). AreOptionsAlike Alike u (lookup (is_at (cmp x.0)) (y ∷ ys))) (found_first x.0 x xs (tied_itself o x.0)) (each x.0)) in
+          let here : Alike x.1 y.1 = rw (found_first x.0 x xs (tied_itself o x.0), found_first x.0 y ys e) at (each x.0) in
           ((e, here), rest (λ q. later q (is_eq (cmp q x.0)) refl))
         where
           later : (q : K) (b : Bool) → is_eq (cmp q x.0) ≡ b → AreOptionsAlike Alike (lookup (is_at (cmp q)) xs) (lookup (is_at (cmp q)) ys)
@@ -68,11 +57,10 @@ module _ {K X : Type 0} (cmp : K → K → Ordering) (o : IsTotalOrder cmp) (Ali
               rw (not_later q x xs up same, not_later q y ys down (sym (congr_right o x.0 y.0 q e) ∙ same)) tt
           later q false miss =
               let other : is_eq (cmp q y.0) ≡ false = ap is_eq (sym (congr_right o x.0 y.0 q e)) ∙ miss in
-              let s : lookup (is_at (cmp q)) (x ∷ xs) ≡ lookup (is_at (cmp q)) xs = rw miss refl in
-              let t : lookup (is_at (cmp q)) (y ∷ ys) ≡ lookup (is_at (cmp q)) ys = rw other refl in
-              subst (λ (v : Option X). AreOptionsAlike Alike (lookup (is_at (cmp q)) xs) v) t (subst (λ (u : Option X). AreOptionsAlike Alike u (lookup (is_at (cmp q)) (y ∷ ys))) s (each q))
+              rw (miss, other) at (each q)
 
-module _ {Id B : Type 0} (cmp : Id → Id → Ordering) (bin_cmp : B → B → Ordering) (id_total : IsTotalOrder cmp) (bin_total : IsTotalOrder bin_cmp) (ps qs : List (Placement Id B)) (alike : ArePlacementsAlike cmp bin_cmp ps qs) where
+module _ {Id B : Type 0} (cmp : Id → Id → Ordering) (bin_cmp : B → B → Ordering) (id_total : IsTotalOrder cmp) (bin_total : IsTotalOrder bin_cmp)
+    (ps qs : List (Placement Id B)) (alike : ArePlacementsAlike cmp bin_cmp ps qs) where
   abbrev S : Placement Id B → Placement Id B → Type 0
   S p q = (cmp p.id q.id ≡ Equal) × (bin_cmp p.bin q.bin ≡ Equal) × (p.location ≡ q.location)
 
@@ -83,10 +71,8 @@ module _ {Id B : Type 0} (cmp : Id → Id → Ordering) (bin_cmp : B → B → O
   missed id xs ys h all = All-alike S (Misses id) (Misses id) (λ p q s m. ap is_eq (sym (congr_right id_total p.id q.id id s.0)) ∙ m) xs ys h all
 
   missed_back : (id : Id) (xs ys : List (Placement Id B)) → AllZip S xs ys → All (Misses id) ys → All (Misses id) xs
-  missed_back id [] [] h all = all
-  missed_back id [] (y ∷ ys) h all = absurd h
-  missed_back id (x ∷ xs) [] h all = absurd h
-  missed_back id (x ∷ xs) (y ∷ ys) h all = All-cons (Misses id) x xs (ap is_eq (congr_right id_total x.id y.id id h.0.0) ∙ All-head (Misses id) y ys all) (missed_back id xs ys h.1 (All-tail (Misses id) y ys all))
+  missed_back id xs ys h all = All-alike (λ q p. S p q) (Misses id) (Misses id) (λ q p s m. ap is_eq (congr_right id_total p.id q.id id s.0) ∙ m) ys xs
+      (AllZip-back S (λ q p. S p q) (λ p q s. s) xs ys h) all
 
   not_missed : (id : Id) (rs : List (Placement Id B)) (found : B × Cuboid) → IsLastOf cmp bin_cmp rs id found → All (Misses id) rs → ⊥
   not_missed id rs found l none =
@@ -99,18 +85,23 @@ module _ {Id B : Type 0} (cmp : Id → Id → Ordering) (bin_cmp : B → B → O
   last_alike id x y l k =
       let s = split_alike S l.before l.last l.after qs (subst (λ (rs : List (Placement Id B)). AllZip S rs qs) l.splits alike) in
       let Hits : Placement Id B → Type 0 = λ p. cmp id p.id ≡ Equal in
-      let not_hit : (rs : List (Placement Id B)) → All (Misses id) rs → All (λ p. ¬ Hits p) rs = λ rs h. All-weaker (Misses id) (λ p. ¬ Hits p) (λ p m e. absurd (let hit : is_eq (cmp id p.id) ≡ true = ap is_eq e in cc)) rs h in
-      let same = split_last Hits s.front s.at s.back k.before k.last k.after (sym s.splits ∙ k.splits) (sym (congr_right id_total l.last.id s.at.id id s.alike.0) ∙ l.same) k.same
+      let not_hit : (rs : List (Placement Id B)) → All (Misses id) rs → All (λ p. ¬ Hits p) rs = λ rs h. All-weaker (Misses id) (λ p. ¬ Hits p)
+      (λ p m e. absurd (let hit : is_eq (cmp id p.id) ≡ true = ap is_eq e in cc)) rs h in
+      let same = split_last Hits s.front s.at s.back k.before k.last k.after (sym s.splits ∙ k.splits)
+      (sym (congr_right id_total l.last.id s.at.id id s.alike.0) ∙ l.same) k.same
       (not_hit s.back (missed id l.after s.back s.after_alike l.later)) (not_hit k.after k.later) in
       let bins : bin_cmp l.last.bin k.last.bin ≡ Equal = subst (λ (p : Placement Id B). bin_cmp l.last.bin p.bin ≡ Equal) same.at s.alike.1 in (
         sym (bin_total.congr l.last.bin x.0 y.0 l.bin) ∙ bin_total.congr l.last.bin k.last.bin y.0 bins ∙ k.bin,
         l.location ∙ s.alike.2 ∙ ap (λ (p : Placement Id B). p.location) same.at ∙ sym k.location,
       )
 
-  pub locations_alike : (xs ys : List (Id × (B × Cuboid))) → AreLastPlacements cmp bin_cmp ps xs → AreLastPlacements cmp bin_cmp qs ys → AreLocationsAlike cmp bin_cmp xs ys
-  locations_alike xs ys h k = maps_alike cmp id_total (λ a b. (bin_cmp a.0 b.0 ≡ Equal) × (a.1 ≡ b.1)) xs ys h.ascend k.ascend (λ id. at id (lookup (is_at (cmp id)) xs) (lookup (is_at (cmp id)) ys) (h.each id) (k.each id))
+  pub locations_alike : (xs ys : List (Id × (B × Cuboid))) → AreLastPlacements cmp bin_cmp ps xs → AreLastPlacements cmp bin_cmp qs ys
+      → AreLocationsAlike cmp bin_cmp xs ys
+  locations_alike xs ys h k = maps_alike cmp id_total (λ a b. (bin_cmp a.0 b.0 ≡ Equal) × (a.1 ≡ b.1)) xs ys h.ascend k.ascend
+      (λ id. at id (lookup (is_at (cmp id)) xs) (lookup (is_at (cmp id)) ys) (h.each id) (k.each id))
     where
-      at : (id : Id) (u v : Option (B × Cuboid)) → MatchOption u (All (Misses id) ps) (IsLastOf cmp bin_cmp ps id) → MatchOption v (All (Misses id) qs) (IsLastOf cmp bin_cmp qs id)
+      at : (id : Id) (u v : Option (B × Cuboid)) → MatchOption u (All (Misses id) ps) (IsLastOf cmp bin_cmp ps id)
+          → MatchOption v (All (Misses id) qs) (IsLastOf cmp bin_cmp qs id)
           → AreOptionsAlike (λ a b. (bin_cmp a.0 b.0 ≡ Equal) × (a.1 ≡ b.1)) u v
       at id None None h k = tt
       at id None (Some y) h k = absurd (not_missed id qs y k (missed id ps qs alike h))

@@ -1,40 +1,42 @@
--- Where the heuristic is a function, two orders of the same groups or bins name equal ones, place by place.
-use Rattle.std.proofs.Common.{◌≡◌, ℕ, suc, ◌<◌, ◌≤◌, Bool, true, false, cond, List, [], ◌∷◌, ◌++◌, refl, sym, ◌∙◌, ap, subst, arith, length, get_or}
-use Rattle.std.specs.Prelude.{All, map, Option, Some, None, IfSome, IsSomeAnd, sum}
-use Rattle.std.specs.List.{AllZip, sum_by}
-use Rattle.std.specs.declared.cmp.Ordering.{Ordering}
-use Rattle.std.specs.declared.cmp.Ordering.TheVariants.{Less, Equal, Greater}
-use Rattle.std.specs.Ordering.{nat_cmp, ordering_then, ordering_reverse, is_lt, is_eq}
-use Rattle.std.specs.Cmp.{IsTotalOrder}
-use Rattle.std.specs.List.Sorted.{IsPermutation, IsSorted}
-use Rattle.std.specs.Map.{lookup, values_of}
-use Rattle.std.specs.BTreeMap.{is_at}
-use Rattle.std.proofs.lemmas.Cmp.{nat_cmp_total, then_total, on_total, back_total, tied_itself}
-use Rattle.std.proofs.lemmas.List.Elements.{All-nil, All-cons, All-head, All-tail, All-weaker}
-use Rattle.std.proofs.lemmas.List.Sorted.{ranks_by, sorted_far, sum_by-IsPermutation}
-use Rattle.std.proofs.lemmas.List.Sums.{sum_by-cons}
-use Rattle.std.proofs.lemmas.Map.Views.{IfSome-lookup_from_All}
+-- Where the heuristic is a function, two orders of the same groups or bins name equal ones, one by one. Before that, lemmas on lists that are paired.
+use Rattle.rectangle_pack.proofs.Std.{◌≡◌, ℕ, suc, ◌<◌, ◌≤◌, each_same, AllZip-long, sum_by-le, Bool, true, false, cond, List, [], ◌∷◌, ◌++◌, refl, sym, ◌∙◌}
+use Rattle.rectangle_pack.proofs.Std.{ap, subst, arith, length, get_or, All, map, Option, Some, None, IfSome, IsSomeAnd, sum, AllZip, sum_by, Ordering, Less}
+use Rattle.rectangle_pack.proofs.Std.{Equal, Greater, nat_cmp, ordering_then, ordering_reverse, is_lt, is_eq, IsTotalOrder, IsPermutation, IsSorted, lookup}
+use Rattle.rectangle_pack.proofs.Std.{values_of, is_at, nat_cmp_total, then_total, on_total, back_total, tied_itself, All-nil, All-cons, All-head, All-tail}
+use Rattle.rectangle_pack.proofs.Std.{All-weaker, ranks_by, sorted_far, sum_by-IsPermutation, sum_by-cons, IfSome-lookup_from_All}
 use Rattle.rectangle_pack.specs.Boxes.{Size}
 use Rattle.rectangle_pack.specs.Bins.{Bin}
 use Rattle.rectangle_pack.specs.Choice.{IsFunction}
 use Rattle.rectangle_pack.specs.Results.{AreMapsAlike, AreSameBins, AreBinsAlike}
 use Rattle.rectangle_pack.proofs.lemmas.util.Maps.{lookup-same}
+use Rattle.rectangle_pack.proofs.lemmas.util.Zips.{AllZip-mapped, AllZip-weaker}
 use Rattle.rectangle_pack.specs.Numbers.{saturated}
 use Rattle.rectangle_pack.specs.Orders.{falling_then, rising_then, IsGroupKey, IsGroupOrder, IsBinOrder}
 
--- what follows of each element that is paired holds of all
-pub All-from_zip : {X Y : Type 0} (R : X → Y → Type 0) (P : X → Type 0) → ((x : X) (y : Y) → R x y → P x) → (xs : List X) (ys : List Y) → AllZip R xs ys → All P xs
-All-from_zip R P f [] [] h = All-nil P
-All-from_zip R P f [] (y ∷ ys) h = absurd h
-All-from_zip R P f (x ∷ xs) [] h = absurd h
-All-from_zip R P f (x ∷ xs) (y ∷ ys) h = All-cons P x xs (f x y h.0) (All-from_zip R P f xs ys h.1)
-
 -- what passes between elements that are alike holds of all
-pub All-alike : {X Y : Type 0} (R : X → Y → Type 0) (P : X → Type 0) (Q : Y → Type 0) → ((x : X) (y : Y) → R x y → P x → Q y) → (xs : List X) (ys : List Y) → AllZip R xs ys → All P xs → All Q ys
+pub All-alike : {X Y : Type 0} (R : X → Y → Type 0) (P : X → Type 0) (Q : Y → Type 0) → ((x : X) (y : Y) → R x y → P x → Q y) → (xs : List X) (ys : List Y)
+    → AllZip R xs ys → All P xs → All Q ys
 All-alike R P Q passes [] [] h all = All-nil Q
-All-alike R P Q passes [] (y ∷ ys) h all = absurd h
-All-alike R P Q passes (x ∷ xs) [] h all = absurd h
 All-alike R P Q passes (x ∷ xs) (y ∷ ys) h all = All-cons Q y ys (passes x y h.0 (All-head P x xs all)) (All-alike R P Q passes xs ys h.1 (All-tail P x xs all))
+All-alike R P Q passes xs ys h all = absurd h
+
+-- a relation turned round
+pub AllZip-back : {X Y : Type 0} (R : X → Y → Type 0) (S : Y → X → Type 0) → ((x : X) (y : Y) → R x y → S y x) → (xs : List X) (ys : List Y)
+    → AllZip R xs ys → AllZip S ys xs
+AllZip-back R S turns [] [] h = tt
+AllZip-back R S turns (x ∷ xs) (y ∷ ys) h = (turns x y h.0, AllZip-back R S turns xs ys h.1)
+AllZip-back R S turns xs ys h = absurd h
+
+-- what follows of each element that is paired holds of all
+pub All-from_zip : {X Y : Type 0} (R : X → Y → Type 0) (P : X → Type 0) → ((x : X) (y : Y) → R x y → P x)
+    → (xs : List X) (ys : List Y) → AllZip R xs ys → All P xs
+All-from_zip R P f xs ys h =
+    All-alike (λ y x. R x y) (λ y. Unit {0}) P (λ y x r u. f x y r) ys xs (AllZip-back R (λ y x. R x y) (λ x y r. r) xs ys h) (λ k d lt. tt)
+
+-- the values of maps that agree are alike
+pub values_alike : {K X : Type 0} (cmp : K → K → Ordering) (Alike : X → X → Type 0) (xs ys : List (K × X)) → AreMapsAlike cmp Alike xs ys
+    → AllZip Alike (values_of xs) (values_of ys)
+values_alike cmp Alike xs ys h = AllZip-mapped (λ x y. (cmp x.0 y.0 ≡ Equal) × Alike x.1 y.1) Alike (λ x. x.1) (λ y. y.1) (λ x y e. e.1) xs ys h
 
 -- what passes between elements that are alike holds beside another list
 pub AllZip-along : {X Y Z : Type 0} (E : X → Y → Type 0) (R : X → Z → Type 0) (S : Y → Z → Type 0) → ((x : X) (y : Y) (z : Z) → E x y → R x z → S y z)
@@ -46,24 +48,40 @@ AllZip-along E R S passes (x ∷ xs) [] zs e h = absurd e
 AllZip-along E R S passes (x ∷ xs) (y ∷ ys) [] e h = absurd h
 AllZip-along E R S passes (x ∷ xs) (y ∷ ys) (z ∷ zs) e h = (passes x y z e.0 h.0, AllZip-along E R S passes xs ys zs e.1 h.1)
 
--- a relation turned round
-pub AllZip-back : {X Y : Type 0} (R : X → Y → Type 0) (S : Y → X → Type 0) → ((x : X) (y : Y) → R x y → S y x) → (xs : List X) (ys : List Y) → AllZip R xs ys → AllZip S ys xs
-AllZip-back R S turns [] [] h = tt
-AllZip-back R S turns [] (y ∷ ys) h = absurd h
-AllZip-back R S turns (x ∷ xs) [] h = absurd h
-AllZip-back R S turns (x ∷ xs) (y ∷ ys) h = (turns x y h.0, AllZip-back R S turns xs ys h.1)
+-- what two lists have in common that match lists that are alike
+pub AllZip-join : {A C X Y : Type 0} (E : A → C → Type 0) (P : A → X → Type 0) (Q : C → Y → Type 0) (S : X → Y → Type 0)
+    → ((a : A) (c : C) (x : X) (y : Y) → E a c → P a x → Q c y → S x y)
+    → (elems : List A) (others : List C) (xs : List X) (ys : List Y) → AllZip E elems others → AllZip P elems xs → AllZip Q others ys → AllZip S xs ys
+AllZip-join {A} {C} {X} E P Q S joins elems others xs ys e h k =
+    let Both : C → X → Type 0 = λ c x. (a : A) × E a c × P a x in
+    AllZip-along Both Q S (λ c x y (a, t, p) q. joins a c x y t p q) others xs ys (AllZip-along E P Both (λ a c x t p. (a, t, p)) elems others xs e h) k
 
-pub AllZip-append : {X Y : Type 0} (R : X → Y → Type 0) (xs : List X) (ys : List Y) (us : List X) (vs : List Y) → AllZip R xs ys → AllZip R us vs → AllZip R (xs ++ us) (ys ++ vs)
+pub AllZip-append : {X Y : Type 0} (R : X → Y → Type 0) (xs : List X) (ys : List Y) (us : List X) (vs : List Y) → AllZip R xs ys → AllZip R us vs
+    → AllZip R (xs ++ us) (ys ++ vs)
 AllZip-append R [] [] us vs h k = k
-AllZip-append R [] (y ∷ ys) us vs h k = absurd h
-AllZip-append R (x ∷ xs) [] us vs h k = absurd h
 AllZip-append R (x ∷ xs) (y ∷ ys) us vs h k = (h.0, AllZip-append R xs ys us vs h.1 k)
+AllZip-append R xs ys us vs h k = absurd h
+
+-- what holds of each element, beside what it has in common with another list's element
+pub AllZip-beside : {X Y : Type 0} (P : X → Type 0) (R : X → Y → Type 0) (xs : List X) (ys : List Y) → All P xs → AllZip R xs ys
+    → AllZip (λ x y. P x × R x y) xs ys
+AllZip-beside P R [] [] all h = tt
+AllZip-beside P R (x ∷ xs) (y ∷ ys) all h = ((All-head P x xs all, h.0), AllZip-beside P R xs ys (All-tail P x xs all) h.1)
+AllZip-beside P R xs ys all h = absurd h
 
 pub length-zip : {X Y : Type 0} (R : X → Y → Type 0) (xs : List X) (ys : List Y) → AllZip R xs ys → length xs ≡ length ys
-length-zip R [] [] h = refl
-length-zip R [] (y ∷ ys) h = absurd h
-length-zip R (x ∷ xs) [] h = absurd h
-length-zip R (x ∷ xs) (y ∷ ys) h = ap suc (length-zip R xs ys h.1)
+length-zip R xs ys h = sym (AllZip-long R xs ys h)
+
+-- what counts alike in elements that are alike adds up to the same
+pub sums_alike : {X : Type 0} (f : X → ℕ) (R : X → X → Type 0) → ((x y : X) → R x y → f x ≡ f y) → (xs ys : List X) → AllZip R xs ys
+    → sum_by f xs ≡ sum_by f ys
+sums_alike f R counts [] [] h = refl
+sums_alike f R counts (x ∷ xs) (y ∷ ys) h = omega (arith, counts x y h.0, sums_alike f R counts xs ys h.1, sum_by-cons f x xs, sum_by-cons f y ys)
+sums_alike f R counts xs ys h = absurd h
+
+-- what equals each of two equal keys is equal
+pub same_keys : {K : Type 0} {cmp : K → K → Ordering} → IsTotalOrder cmp → (a b x y : K) → cmp a b ≡ Equal → cmp a x ≡ Equal → cmp b y ≡ Equal → cmp x y ≡ Equal
+same_keys o a b x y h k l = sym (o.congr a x y k) ∙ o.congr a b y h ∙ l
 
 -- neither is less, so they are equal
 tied : (r s : Ordering) → r ≡ ordering_reverse s → is_lt r ≡ false → is_lt s ≡ false → r ≡ Equal
@@ -78,81 +96,63 @@ module _ {X : Type 0} (R : X → X → Ordering) (o : IsTotalOrder R) where
   abbrev one_at : X → X → ℕ
   one_at t x = cond (is_eq (R x t)) 1 0
 
-  times_alike : (t : X) (us vs : List X) → AllZip (λ u v. R u v ≡ Equal) us vs → sum_by (one_at t) us ≡ sum_by (one_at t) vs
-  times_alike t [] [] h = refl
-  times_alike t [] (v ∷ vs) h = absurd h
-  times_alike t (u ∷ us) [] h = absurd h
-  times_alike t (u ∷ us) (v ∷ vs) h =
-      let e : one_at t u ≡ one_at t v = ap (λ r. cond (is_eq r) 1 0) (o.congr u v t h.0) in
-      let i = times_alike t us vs h.1 in
-      omega (arith, sum_by-cons (one_at t) u us, sum_by-cons (one_at t) v vs)
+  counted : (x y t : X) → R x y ≡ Equal → one_at t x ≡ one_at t y
+  counted x y t e = ap (λ r. cond (is_eq r) 1 0) (o.congr x y t e)
 
-  no_times : (t : X) (xs : List X) → All (λ x. is_eq (R x t) ≡ false) xs → sum_by (one_at t) xs ≡ 0
-  no_times t [] h = refl
-  no_times t (x ∷ xs) h =
-      let e : one_at t x ≡ 0 = ap (λ b. cond b 1 0) (All-head (λ x. is_eq (R x t) ≡ false) x xs h) in
-      let i = no_times t xs (All-tail (λ x. is_eq (R x t) ≡ false) x xs h) in
-      omega (arith, sum_by-cons (one_at t) x xs)
+  counts_itself : (x : X) (xs : List X) → 0 < sum_by (one_at x) (x ∷ xs)
+  counts_itself x xs = let once : one_at x x ≡ 1 = ap (λ r. cond (is_eq r) 1 0) (tied_itself o x) in omega (arith, sum_by-cons (one_at x) x xs)
 
   -- what is below each element of a list does not equal one
-  apart_below : (x y z : X) → is_lt (R x y) ≡ true → is_lt (R z y) ≡ false → is_eq (R z x) ≡ false
+  apart_below : (x y z : X) → is_lt (R x y) ≡ true → is_lt (R z y) ≡ false → one_at x z ≤ 0
   apart_below x y z lt not_lt = by (R z x) refl
     where
-      by : (r : Ordering) → R z x ≡ r → is_eq r ≡ false
-      by Less e = refl
+      by : (r : Ordering) → R z x ≡ r → cond {A = ℕ} (is_eq r) 1 0 ≤ 0
+      by Less e = omega arith
       by Equal e = let c = ap is_lt (o.congr z x y e) in absurd cc
-      by Greater e = refl
+      by Greater e = omega arith
 
-  not_below : (x : X) (xs : List X) (y : X) (ys : List X) → sum_by (one_at x) (x ∷ xs) ≡ sum_by (one_at x) (y ∷ ys) → All (λ z. is_lt (R z y) ≡ false) (y ∷ ys) → is_lt (R x y) ≡ false
+  not_below : (x : X) (xs : List X) (y : X) (ys : List X) → sum_by (one_at x) (x ∷ xs) ≡ sum_by (one_at x) (y ∷ ys)
+      → All (λ z. is_lt (R z y) ≡ false) (y ∷ ys) → is_lt (R x y) ≡ false
   not_below x xs y ys same low = by (is_lt (R x y)) refl
     where
       by : (b : Bool) → is_lt (R x y) ≡ b → b ≡ false
       by false e = refl
-      by true e =
-          let none = no_times x (y ∷ ys) (All-weaker (λ z. is_lt (R z y) ≡ false) (λ z. is_eq (R z x) ≡ false) (λ z h. apart_below x y z e h) (y ∷ ys) low) in
-          let once : one_at x x ≡ 1 = ap (λ r. cond (is_eq r) 1 0) (tied_itself o x) in
-          absurd (omega (arith, sum_by-cons (one_at x) x xs))
+      by true e = absurd (omega (
+        arith,
+        counts_itself x xs,
+        sum_by-le (one_at x) 0 (y ∷ ys)
+            (All-weaker (λ z. is_lt (R z y) ≡ false) (λ z. one_at x z ≤ 0) (λ z h. apart_below x y z e h) (y ∷ ys) low),
+      ))
 
   -- no element is less than an earlier one
   abbrev Rises : List X → Type 0
   Rises xs = (i j : ℕ) (d : X) → i ≤ j → j < length xs → is_lt (R (get_or xs j d) (get_or xs i d)) ≡ false
 
-  -- two lists that rise, with the same elements up to the order, are alike place by place
+  -- two lists that rise, with the same elements up to the order, are alike one by one
   alike_from_counts : (xs ys : List X) → ((t : X) → sum_by (one_at t) xs ≡ sum_by (one_at t) ys) → Rises xs → Rises ys → AllZip (λ x y. R x y ≡ Equal) xs ys
   alike_from_counts [] [] same up down = tt
-  alike_from_counts [] (y ∷ ys) same up down =
-      let once : one_at y y ≡ 1 = ap (λ r. cond (is_eq r) 1 0) (tied_itself o y) in
-      let e = same y in
-      absurd (omega (arith, sum_by-cons (one_at y) y ys))
-  alike_from_counts (x ∷ xs) [] same up down =
-      let once : one_at x x ≡ 1 = ap (λ r. cond (is_eq r) 1 0) (tied_itself o x) in
-      let e = same x in
-      absurd (omega (arith, sum_by-cons (one_at x) x xs))
+  alike_from_counts [] (y ∷ ys) same up down = absurd (omega (arith, same y, counts_itself y ys))
+  alike_from_counts (x ∷ xs) [] same up down = absurd (omega (arith, same x, counts_itself x xs))
   alike_from_counts (x ∷ xs) (y ∷ ys) same up down =
       let a = not_below x xs y ys (same x) (λ k d lt. down 0 k d (omega arith) lt) in
       let b = not_below y ys x xs (sym (same y)) (λ k d lt. up 0 k d (omega arith) lt) in
       let here : R x y ≡ Equal = tied (R x y) (R y x) (o.antisymm x y) a b in (
         here,
         alike_from_counts xs ys
-            (λ t.
-            let e : one_at t x ≡ one_at t y = ap (λ r. cond (is_eq r) 1 0) (o.congr x y t here) in
-            let s = same t in
-            omega (arith, sum_by-cons (one_at t) x xs, sum_by-cons (one_at t) y ys))
+            (λ t. omega (arith, same t, counted x y t here, sum_by-cons (one_at t) x xs, sum_by-cons (one_at t) y ys))
             (λ i j d le lt. up (suc i) (suc j) d (omega arith) (omega arith))
             (λ i j d le lt. down (suc i) (suc j) d (omega arith) (omega arith)),
       )
 
   -- so two lists that are alike are alike when sorted
-  alike_sorted : (us vs xs ys : List X) → AllZip (λ u v. R u v ≡ Equal) us vs → IsPermutation us xs → IsPermutation vs ys → IsSorted R xs → IsSorted R ys → AllZip (λ x y. R x y ≡ Equal) xs ys
+  alike_sorted : (us vs xs ys : List X) → AllZip (λ u v. R u v ≡ Equal) us vs → IsPermutation us xs → IsPermutation vs ys → IsSorted R xs → IsSorted R ys
+      → AllZip (λ x y. R x y ≡ Equal) xs ys
   alike_sorted us vs xs ys alike p q up down =
       alike_from_counts xs ys
-      (λ t. sum_by-IsPermutation (one_at t) us xs p ∙ times_alike t us vs alike ∙ sym (sum_by-IsPermutation (one_at t) vs ys q))
+      (λ t. sum_by-IsPermutation (one_at t) us xs p ∙ sums_alike (one_at t) (λ u v. R u v ≡ Equal) (λ u v e. counted u v t e) us vs alike
+      ∙ sym (sum_by-IsPermutation (one_at t) vs ys q))
       (sorted_far (λ x y. is_lt (R x y)) (ranks_by o (λ x. x)) xs up)
       (sorted_far (λ x y. is_lt (R x y)) (ranks_by o (λ x. x)) ys down)
-
-  alike_itself : (xs : List X) → AllZip (λ x y. R x y ≡ Equal) xs xs
-  alike_itself [] = tt
-  alike_itself (x ∷ xs) = (tied_itself o x, alike_itself xs)
 
 falling_total : {K : Type 0} {cmp : K → K → Ordering} → IsTotalOrder cmp → IsTotalOrder (falling_then cmp)
 falling_total {K} o = then_total (on_total (λ (a : ℕ × K). a.0) (back_total nat_cmp_total)) (on_total (λ (a : ℕ × K). a.1) o)
@@ -166,64 +166,37 @@ second_tied Less s e = absurd cc
 second_tied Equal s e = e
 second_tied Greater s e = absurd cc
 
-AllZip-weaker : {X Y : Type 0} (R S : X → Y → Type 0) → ((x : X) (y : Y) → R x y → S x y) → (xs : List X) (ys : List Y) → AllZip R xs ys → AllZip S xs ys
-AllZip-weaker R S w [] [] h = tt
-AllZip-weaker R S w [] (y ∷ ys) h = absurd h
-AllZip-weaker R S w (x ∷ xs) [] h = absurd h
-AllZip-weaker R S w (x ∷ xs) (y ∷ ys) h = (w x y h.0, AllZip-weaker R S w xs ys h.1)
-
--- what two lists have in common that match lists that are alike
-pub AllZip-join : {A C X Y : Type 0} (E : A → C → Type 0) (P : A → X → Type 0) (Q : C → Y → Type 0) (S : X → Y → Type 0) → ((a : A) (c : C) (x : X) (y : Y) → E a c → P a x → Q c y → S x y)
-    → (elems : List A) (others : List C) (xs : List X) (ys : List Y) → AllZip E elems others → AllZip P elems xs → AllZip Q others ys → AllZip S xs ys
-AllZip-join E P Q S j [] [] [] [] e h k = tt
-AllZip-join E P Q S j [] [] [] (y ∷ ys) e h k = absurd k
-AllZip-join E P Q S j [] [] (x ∷ xs) ys e h k = absurd h
-AllZip-join E P Q S j [] (c ∷ others) xs ys e h k = absurd e
-AllZip-join E P Q S j (a ∷ elems) [] xs ys e h k = absurd e
-AllZip-join E P Q S j (a ∷ elems) (c ∷ others) [] ys e h k = absurd h
-AllZip-join E P Q S j (a ∷ elems) (c ∷ others) (x ∷ xs) [] e h k = absurd k
-AllZip-join E P Q S j (a ∷ elems) (c ∷ others) (x ∷ xs) (y ∷ ys) e h k = (j a c x y e.0 h.0 k.0, AllZip-join E P Q S j elems others xs ys e.1 h.1 k.1)
-
--- what holds of the value of each entry, beside what the entry has in common with another list's element
-AllZip-values : {K X Y : Type 0} (P : X → Type 0) (R : K × X → Y → Type 0) (es : List (K × X)) (ys : List Y) → All P (values_of es) → AllZip R es ys → AllZip (λ e y. P e.1 × R e y) es ys
-AllZip-values P R [] [] all h = tt
-AllZip-values P R [] (y ∷ ys) all h = absurd h
-AllZip-values P R (e ∷ es) [] all h = absurd h
-AllZip-values P R (e ∷ es) (y ∷ ys) all h = ((All-head P e.1 (values_of es) all, h.0), AllZip-values P R es ys (All-tail P e.1 (values_of es) all) h.1)
-
-pub same_from_zip : {X : Type 0} (xs ys : List X) → AllZip (λ x y. x ≡ y) xs ys → xs ≡ ys
-same_from_zip [] [] h = refl
-same_from_zip [] (y ∷ ys) h = absurd h
-same_from_zip (x ∷ xs) [] h = absurd h
-same_from_zip (x ∷ xs) (y ∷ ys) h = let e = h.0 in let i = same_from_zip xs ys h.1 in cc
-
 module _ (IsMet : Size → Type 0) (MayRate : Size → ℕ → Type 0) (f : IsFunction (λ size answer. IsMet size × MayRate size answer)) where
   one_rate : (size : Option Size) (a b : ℕ) → IfSome size IsMet → IsSomeAnd size (λ s. MayRate s a) → IsSomeAnd size (λ s. MayRate s b) → a ≡ b
   one_rate None a b u h k = absurd h
   one_rate (Some s) a b u h k = f.only s a (u, h) ∙ sym (f.only s b (u, k))
 
   -- equal ids with the same sizes have one key
-  one_group_key : {Id : Type 0} {cmp : Id → Id → Ordering} → IsTotalOrder cmp → (sizes1 sizes2 : List (Id × Size)) (ids1 ids2 : List Id) (a b : ℕ) → All IsMet (values_of sizes1)
-      → AreMapsAlike cmp (λ x y. x ≡ y) sizes1 sizes2 → AllZip (λ x y. cmp x y ≡ Equal) ids1 ids2 → IsGroupKey MayRate cmp sizes1 ids1 a → IsGroupKey MayRate cmp sizes2 ids2 b → a ≡ b
+  one_group_key : {Id : Type 0} {cmp : Id → Id → Ordering} → IsTotalOrder cmp → (sizes1 sizes2 : List (Id × Size)) (ids1 ids2 : List Id) (a b : ℕ)
+      → All IsMet (values_of sizes1)
+      → AreMapsAlike cmp (λ x y. x ≡ y) sizes1 sizes2 → AllZip (λ x y. cmp x y ≡ Equal) ids1 ids2 → IsGroupKey MayRate cmp sizes1 ids1 a
+      → IsGroupKey MayRate cmp sizes2 ids2 b → a ≡ b
   one_group_key {Id} {cmp} o sizes1 sizes2 ids1 ids2 a b u alike ids (r, h, e) (s, k, i) =
       let P : Id → ℕ → Type 0 = λ id rate. IsSomeAnd (lookup (is_at (cmp id)) sizes1) (λ size. MayRate size rate) in
       let Q : Id → ℕ → Type 0 = λ id rate. IsSomeAnd (lookup (is_at (cmp id)) sizes2) (λ size. MayRate size rate) in
-      let same : r ≡ s = same_from_zip r s (AllZip-join (λ x y. cmp x y ≡ Equal) P Q (λ x y. x ≡ y)
-      (λ id other x y t m n. one_rate (lookup (is_at (cmp id)) sizes1) x y (IfSome-lookup_from_All IsMet (is_at (cmp id)) sizes1 u) m
-      (subst (λ (found : Option Size). IsSomeAnd found (λ size. MayRate size y)) (sym (lookup-same o id other t sizes1 sizes2 alike)) n)) ids1 ids2 r s ids h k) in
+      let same : r ≡ s = sym (each_same r s (AllZip-join (λ x y. cmp x y ≡ Equal) P Q (λ x y. y ≡ x)
+      (λ id other x y t m n. sym (one_rate (lookup (is_at (cmp id)) sizes1) x y (IfSome-lookup_from_All IsMet (is_at (cmp id)) sizes1 u) m
+      (rw (lookup-same o id other t sizes1 sizes2 alike) n))) ids1 ids2 r s ids h k)) in
       e ∙ ap (λ (xs : List ℕ). saturated (sum xs)) same ∙ sym i
 
-  -- two orders of the same groups name equal groups, place by place
+  -- two orders of the same groups name equal groups, one by one
   pub one_group_order : {Id K : Type 0} (group_cmp : K → K → Ordering) (cmp : Id → Id → Ordering) → IsTotalOrder group_cmp → IsTotalOrder cmp
       → (sizes1 sizes2 : List (Id × Size)) (groups1 groups2 : List (K × List Id)) (o1 o2 : List (ℕ × K)) → All IsMet (values_of sizes1)
       → AreMapsAlike cmp (λ x y. x ≡ y) sizes1 sizes2 → AreMapsAlike group_cmp (λ x y. AllZip (λ i j. cmp i j ≡ Equal) x y) groups1 groups2
-      → IsGroupOrder MayRate group_cmp cmp sizes1 groups1 o1 → IsGroupOrder MayRate group_cmp cmp sizes2 groups2 o2 → AllZip (λ a b. group_cmp a.1 b.1 ≡ Equal) o1 o2
+      → IsGroupOrder MayRate group_cmp cmp sizes1 groups1 o1 → IsGroupOrder MayRate group_cmp cmp sizes2 groups2 o2
+      → AllZip (λ a b. group_cmp a.1 b.1 ≡ Equal) o1 o2
   one_group_order {Id} {K} group_cmp cmp total id_total sizes1 sizes2 groups1 groups2 o1 o2 u sizes groups p q =
       let R : ℕ × K → ℕ × K → Ordering = falling_then group_cmp in
       let E : K × List Id → K × List Id → Type 0 = λ g h. (group_cmp g.0 h.0 ≡ Equal) × AllZip (λ i j. cmp i j ≡ Equal) g.1 h.1 in
       let P : K × List Id → ℕ × K → Type 0 = λ group entry. (entry.1 ≡ group.0) × IsGroupKey MayRate cmp sizes1 group.1 entry.0 in
       let Q : K × List Id → ℕ × K → Type 0 = λ group entry. (entry.1 ≡ group.0) × IsGroupKey MayRate cmp sizes2 group.1 entry.0 in
-      let begin : AllZip (λ a b. R a b ≡ Equal) p.unsorted q.unsorted = AllZip-join E P Q (λ a b. R a b ≡ Equal) (λ g h a b t m n. alike_entries g h a b t m n) groups1 groups2 p.unsorted q.unsorted groups p.each q.each in
+      let begin : AllZip (λ a b. R a b ≡ Equal) p.unsorted q.unsorted = AllZip-join E P Q (λ a b. R a b ≡ Equal)
+      (λ g h a b t m n. alike_entries g h a b t m n) groups1 groups2 p.unsorted q.unsorted groups p.each q.each in
       AllZip-weaker (λ a b. R a b ≡ Equal) (λ a b. group_cmp a.1 b.1 ≡ Equal) (λ a b e. second_tied (nat_cmp b.0 a.0) (group_cmp a.1 b.1) e) o1 o2
       (alike_sorted R (falling_total total) p.unsorted q.unsorted o1 o2 begin p.permutation q.permutation p.falling q.falling)
     where
@@ -234,27 +207,24 @@ module _ (IsMet : Size → Type 0) (MayRate : Size → ℕ → Type 0) (f : IsFu
           rw (keys, m.0, n.0, tied_itself nat_cmp_total b.0, t.0) refl
 
   -- and two orders of the same bins name equal bins
-  pub one_bin_order : {B : Type 0} (cmp : B → B → Ordering) → IsTotalOrder cmp → (bins1 bins2 : List (B × Bin)) (o1 o2 : List (ℕ × B)) → All (λ (bin : Bin). IsMet bin.size) (values_of bins1)
-      → AreBinsAlike cmp bins1 bins2 → IsBinOrder MayRate cmp bins1 o1 → IsBinOrder MayRate cmp bins2 o2
+  pub one_bin_order : {B : Type 0} (cmp : B → B → Ordering) → IsTotalOrder cmp → (bins1 bins2 : List (B × Bin)) (o1 o2 : List (ℕ × B))
+      → All (λ (x : B × Bin). IsMet x.1.size) bins1 → AreBinsAlike cmp bins1 bins2 → IsBinOrder MayRate cmp bins1 o1 → IsBinOrder MayRate cmp bins2 o2
       → AllZip (λ a b. cmp a b ≡ Equal) (map (λ o. o.1) o1) (map (λ o. o.1) o2)
   one_bin_order {B} cmp total bins1 bins2 o1 o2 u alike p q =
       let R : ℕ × B → ℕ × B → Ordering = rising_then cmp in
       let E : B × Bin → B × Bin → Type 0 = λ x y. (cmp x.0 y.0 ≡ Equal) × AreSameBins x.1 y.1 in
       let P : B × Bin → ℕ × B → Type 0 = λ bin entry. (cmp bin.0 entry.1 ≡ Equal) × MayRate bin.1.size entry.0 in
       let S : B × Bin → ℕ × B → Type 0 = λ bin entry. IsMet bin.1.size × P bin entry in
-      let begin : AllZip (λ a b. R a b ≡ Equal) p.unsorted q.unsorted = AllZip-join E S P (λ a b. R a b ≡ Equal) (λ x y a b t h k. alike_entries x y a b h.0 t h.1 k) bins1 bins2 p.unsorted q.unsorted alike
-      (AllZip-values (λ (bin : Bin). IsMet bin.size) P bins1 p.unsorted u p.each) q.each in
-      names o1 o2 (alike_sorted R (rising_total total) p.unsorted q.unsorted o1 o2 begin p.permutation q.permutation p.rising q.rising)
+      let begin : AllZip (λ a b. R a b ≡ Equal) p.unsorted q.unsorted = AllZip-join E S P (λ a b. R a b ≡ Equal)
+      (λ x y a b t h k. alike_entries x y a b h.0 t h.1 k) bins1 bins2 p.unsorted q.unsorted alike
+      (AllZip-beside (λ (x : B × Bin). IsMet x.1.size) P bins1 p.unsorted u p.each) q.each in
+      AllZip-mapped (λ a b. R a b ≡ Equal) (λ a b. cmp a b ≡ Equal) (λ o. o.1) (λ o. o.1) (λ a b e. second_tied (nat_cmp a.0 b.0) (cmp a.1 b.1) e) o1 o2
+      (alike_sorted R (rising_total total) p.unsorted q.unsorted o1 o2 begin p.permutation q.permutation p.rising q.rising)
     where
-      alike_entries : (x y : B × Bin) (a b : ℕ × B) → IsMet x.1.size → (cmp x.0 y.0 ≡ Equal) × AreSameBins x.1 y.1 → (cmp x.0 a.1 ≡ Equal) × MayRate x.1.size a.0 → (cmp y.0 b.1 ≡ Equal) × MayRate y.1.size b.0 → rising_then cmp a b ≡ Equal
+      alike_entries : (x y : B × Bin) (a b : ℕ × B) → IsMet x.1.size → (cmp x.0 y.0 ≡ Equal) × AreSameBins x.1 y.1
+          → (cmp x.0 a.1 ≡ Equal) × MayRate x.1.size a.0 → (cmp y.0 b.1 ≡ Equal) × MayRate y.1.size b.0 → rising_then cmp a b ≡ Equal
       alike_entries x y a b met t h k =
           let other : MayRate x.1.size b.0 = subst (λ (size : Size). MayRate size b.0) (sym t.1.size) k.1 in
           let keys : a.0 ≡ b.0 = f.only x.1.size a.0 (met, h.1) ∙ sym (f.only x.1.size b.0 (met, other)) in
-          let names : cmp a.1 b.1 ≡ Equal = sym (total.congr x.0 a.1 b.1 h.0) ∙ total.congr x.0 y.0 b.1 t.0 ∙ k.0 in
+          let names : cmp a.1 b.1 ≡ Equal = same_keys total x.0 y.0 a.1 b.1 t.0 h.0 k.0 in
           rw (keys, tied_itself nat_cmp_total b.0, names) refl
-
-      names : (xs ys : List (ℕ × B)) → AllZip (λ a b. rising_then cmp a b ≡ Equal) xs ys → AllZip (λ a b. cmp a b ≡ Equal) (map (λ o. o.1) xs) (map (λ o. o.1) ys)
-      names [] [] h = tt
-      names [] (y ∷ ys) h = absurd h
-      names (x ∷ xs) [] h = absurd h
-      names (x ∷ xs) (y ∷ ys) h = (second_tied (nat_cmp x.0 y.0) (cmp x.1 y.1) h.0, names xs ys h.1)

@@ -1,72 +1,63 @@
 -- Equal pushes into collections that are alike leave collections that are alike.
-use Rattle.std.proofs.Common.{◌≡◌, ℕ, Bool, cond, List, [], ◌∷◌, ◌++◌, refl, sym, ◌∙◌, ap, subst, arith, length, zero, suc}
-use Rattle.std.specs.Prelude.{All, Option, Some, None, IsSomeAnd, unwrap_or}
-use Rattle.std.specs.List.{AllZip}
-use Rattle.std.specs.List.Sorted.{IsStrictlySortedBy}
-use Rattle.std.specs.declared.cmp.Ordering.{Ordering}
-use Rattle.std.specs.declared.cmp.Ordering.TheVariants.{Less, Equal, Greater}
-use Rattle.std.specs.Ordering.{is_eq, match_ordering}
-use Rattle.std.specs.Cmp.{IsTotalOrder}
-use Rattle.std.specs.Map.{lookup, keys_of}
-use Rattle.std.specs.BTreeMap.{is_at, insert_entry}
-use Rattle.std.proofs.lemmas.Cmp.{tied_itself}
-use Rattle.std.proofs.lemmas.List.Elements.{All-head, All-tail}
+use Rattle.rectangle_pack.proofs.Std.{◌≡◌, ℕ, cond, List, [], ◌∷◌, refl, sym, ◌∙◌, ap, arith, length, zero, suc, All, Option, Some, None, IsSomeAnd, unwrap_or}
+use Rattle.rectangle_pack.proofs.Std.{AllZip, IsStrictlySortedBy, Ordering, Less, Equal, Greater, is_eq, match_ordering, IsTotalOrder, lookup, keys_of, is_at}
+use Rattle.rectangle_pack.proofs.Std.{insert_entry, tied_itself, All-head, All-tail}
 use Rattle.rectangle_pack.specs.declared.grouped_rects_to_place.Group.{Group}
 use Rattle.rectangle_pack.specs.declared.grouped_rects_to_place.Group.TheVariants.{Ungrouped, Grouped}
 use Rattle.rectangle_pack.specs.Boxes.{Size}
 use Rattle.rectangle_pack.specs.Exclusions.{are_excluded}
 use Rattle.rectangle_pack.specs.Groups.{Collection, SetsSize, PushesAlone, PushesInto, Appends, times_named}
 use Rattle.rectangle_pack.specs.Results.{AreMapsAlike, AreCollectionsAlike}
-use Rattle.rectangle_pack.proofs.lemmas.cuts.Counting.{count-cons}
 use Rattle.rectangle_pack.proofs.lemmas.util.Maps.{congr_right, AreOptionsAlike, lookup-alike}
 use Rattle.rectangle_pack.proofs.lemmas.determinism.OneLocations.{maps_alike}
-use Rattle.rectangle_pack.proofs.lemmas.determinism.OneOrder.{AllZip-append}
+use Rattle.rectangle_pack.proofs.lemmas.determinism.OneOrder.{AllZip-append, same_keys, sums_alike}
 
 -- the same entry, put into maps that agree
-insert-alike : {K X : Type 0} {cmp : K → K → Ordering} → IsTotalOrder cmp → (R : X → X → Type 0) (x y : K) (v w : X) → cmp x y ≡ Equal → R v w → (es fs : List (K × X)) → AreMapsAlike cmp R es fs
+insert-alike : {K X : Type 0} {cmp : K → K → Ordering} → IsTotalOrder cmp → (R : X → X → Type 0) (x y : K) (v w : X) → cmp x y ≡ Equal → R v w
+    → (es fs : List (K × X)) → AreMapsAlike cmp R es fs
     → AreMapsAlike cmp R (insert_entry cmp es x v) (insert_entry cmp fs y w)
 insert-alike o R x y v w h r [] [] m = ((h, r), tt)
-insert-alike o R x y v w h r [] (f ∷ fs) m = absurd m
-insert-alike o R x y v w h r (e ∷ es) [] m = absurd m
-insert-alike {cmp = cmp} o R x y v w h r (e ∷ es) (f ∷ fs) m = rw (o.congr x y e.0 h ∙ congr_right o e.0 f.0 y m.0.0) (at (cmp y f.0) (insert-alike o R x y v w h r es fs m.1))
+insert-alike {cmp = cmp} o R x y v w h r (e ∷ es) (f ∷ fs) m = rw (o.congr x y e.0 h ∙ congr_right o e.0 f.0 y m.0.0)
+    (at (cmp y f.0) (insert-alike o R x y v w h r es fs m.1))
   where
     at : (c : Ordering) → AreMapsAlike cmp R (insert_entry cmp es x v) (insert_entry cmp fs y w)
-        → AreMapsAlike cmp R (match_ordering c ((x, v) ∷ e ∷ es) ((e.0, v) ∷ es) (e ∷ insert_entry cmp es x v)) (match_ordering c ((y, w) ∷ f ∷ fs) ((f.0, w) ∷ fs) (f ∷ insert_entry cmp fs y w))
+        → AreMapsAlike cmp R (match_ordering c ((x, v) ∷ e ∷ es) ((e.0, v) ∷ es) (e ∷ insert_entry cmp es x v))
+        (match_ordering c ((y, w) ∷ f ∷ fs) ((f.0, w) ∷ fs) (f ∷ insert_entry cmp fs y w))
     at Less i = ((h, r), m)
     at Equal i = ((m.0.0, r), m.1)
     at Greater i = (m.0, i)
+insert-alike o R x y v w h r es fs m = absurd m
 
 -- clones of ids that are equal are equal
-same_keys : {K : Type 0} {cmp : K → K → Ordering} → IsTotalOrder cmp → (a b x y : K) → cmp a b ≡ Equal → cmp a x ≡ Equal → cmp b y ≡ Equal → cmp x y ≡ Equal
-same_keys o a b x y h k l = sym (o.congr a x y k) ∙ o.congr a b y h ∙ l
-
-same_tails : {K : Type 0} {cmp : K → K → Ordering} → IsTotalOrder cmp → (a b : K) → cmp a b ≡ Equal → (xs ys : List K) → length xs ≡ length ys → All (λ x. cmp a x ≡ Equal) xs → All (λ y. cmp b y ≡ Equal) ys → AllZip (λ x y. cmp x y ≡ Equal) xs ys
+same_tails : {K : Type 0} {cmp : K → K → Ordering} → IsTotalOrder cmp → (a b : K) → cmp a b ≡ Equal → (xs ys : List K) → length xs ≡ length ys
+    → All (λ x. cmp a x ≡ Equal) xs → All (λ y. cmp b y ≡ Equal) ys → AllZip (λ x y. cmp x y ≡ Equal) xs ys
 same_tails o a b h [] [] e k l = tt
-same_tails o a b h [] (y ∷ ys) e k l = absurd (omega arith)
-same_tails o a b h (x ∷ xs) [] e k l = absurd (omega arith)
 same_tails {cmp = cmp} o a b h (x ∷ xs) (y ∷ ys) e k l = (
   same_keys o a b x y h (All-head (λ x. cmp a x ≡ Equal) x xs k) (All-head (λ y. cmp b y ≡ Equal) y ys l),
   same_tails o a b h xs ys (omega arith) (All-tail (λ x. cmp a x ≡ Equal) x xs k) (All-tail (λ y. cmp b y ≡ Equal) y ys l),
 )
+same_tails o a b h xs ys e k l = absurd (omega arith)
 
-module _ {Id G : Type 0} (group_cmp : Group G Id → Group G Id → Ordering) (cmp : Id → Id → Ordering) (name_cmp : G → G → Ordering) (group_total : IsTotalOrder group_cmp) (total : IsTotalOrder cmp)
+module _ {Id G : Type 0} (group_cmp : Group G Id → Group G Id → Ordering) (cmp : Id → Id → Ordering) (name_cmp : G → G → Ordering)
+    (group_total : IsTotalOrder group_cmp) (total : IsTotalOrder cmp)
     (alone : (a b : Id) → group_cmp (Ungrouped a) (Ungrouped b) ≡ cmp a b) (named : (a b : G) → group_cmp (Grouped a) (Grouped b) ≡ name_cmp a b) where
   abbrev Same : List Id → List Id → Type 0
   Same xs ys = AllZip (λ x y. cmp x y ≡ Equal) xs ys
 
-  sizes_alike : (old other new other_new : List (Id × Size)) (id other_id : Id) (size : Size) → cmp id other_id ≡ Equal → AreMapsAlike cmp (λ a b. a ≡ b) old other
+  sizes_alike : (old other new other_new : List (Id × Size)) (id other_id : Id) (size : Size) → cmp id other_id ≡ Equal
+      → AreMapsAlike cmp (λ a b. a ≡ b) old other
       → SetsSize cmp old new id size → SetsSize cmp other other_new other_id size → AreMapsAlike cmp (λ a b. a ≡ b) new other_new
   sizes_alike old other new other_new id other_id size h alike (key, k, e) (other_key, l, f) =
-      subst (λ (x : List (Id × Size)). AreMapsAlike cmp (λ a b. a ≡ b) x other_new) (sym e)
-      (subst (λ (y : List (Id × Size)). AreMapsAlike cmp (λ a b. a ≡ b) (insert_entry cmp old key size) y) (sym f)
-      (insert-alike total (λ a b. a ≡ b) key other_key size size (same_keys total id other_id key other_key h k l) refl old other alike))
+      rw (e, f) (insert-alike total (λ a b. a ≡ b) key other_key size size (same_keys total id other_id key other_key h k l) refl old other alike)
 
   -- pushes leave the pairs that are excluded
-  excluded_alike : (old new other other_new : Collection Id G) → AreCollectionsAlike group_cmp cmp old other → new.partners ≡ old.partners → other_new.partners ≡ other.partners
+  excluded_alike : (old new other other_new : Collection Id G) → AreCollectionsAlike group_cmp cmp old other → new.partners ≡ old.partners
+      → other_new.partners ≡ other.partners
       → (a b : Group G Id) → are_excluded group_cmp new.partners a b ≡ are_excluded group_cmp other_new.partners a b
   excluded_alike old new other other_new alike e f a b = rw (e, f) (alike.excluded a b)
 
-  pub alone_alike : (old new other other_new : Collection Id G) (id other_id : Id) (size : Size) → AreCollectionsAlike group_cmp cmp old other → cmp id other_id ≡ Equal
+  pub alone_alike : (old new other other_new : Collection Id G) (id other_id : Id) (size : Size)
+      → AreCollectionsAlike group_cmp cmp old other → cmp id other_id ≡ Equal
       → PushesAlone cmp group_cmp old new id size → PushesAlone cmp group_cmp other other_new other_id size → AreCollectionsAlike group_cmp cmp new other_new
   alone_alike old new other other_new id other_id size alike h p q = record {
     sizes = sizes_alike old.sizes other.sizes new.sizes other_new.sizes id other_id size h alike.sizes p.sizes q.sizes;
@@ -74,25 +65,20 @@ module _ {Id G : Type 0} (group_cmp : Group G Id → Group G Id → Ordering) (c
     excluded = excluded_alike old new other other_new alike p.partners q.partners;
   }
     where
-      put : (key : Id) × (member : Id) × (cmp id key ≡ Equal) × (cmp id member ≡ Equal) × (new.groups ≡ insert_entry group_cmp old.groups (Ungrouped key) (member ∷ []))
-          → (key : Id) × (member : Id) × (cmp other_id key ≡ Equal) × (cmp other_id member ≡ Equal) × (other_new.groups ≡ insert_entry group_cmp other.groups (Ungrouped key) (member ∷ []))
+      put : (key : Id) × (member : Id) × (cmp id key ≡ Equal) × (cmp id member ≡ Equal)
+          × (new.groups ≡ insert_entry group_cmp old.groups (Ungrouped key) (member ∷ []))
+          → (key : Id) × (member : Id) × (cmp other_id key ≡ Equal) × (cmp other_id member ≡ Equal)
+          × (other_new.groups ≡ insert_entry group_cmp other.groups (Ungrouped key) (member ∷ []))
           → AreMapsAlike group_cmp Same new.groups other_new.groups
       put (key, member, k, m, e) (other_key, other_member, l, n, f) =
-          subst (λ (x : List (Group G Id × List Id)). AreMapsAlike group_cmp Same x other_new.groups) (sym e)
-          (subst (λ (y : List (Group G Id × List Id)). AreMapsAlike group_cmp Same (insert_entry group_cmp old.groups (Ungrouped key) (member ∷ [])) y) (sym f)
-          (insert-alike group_total Same (Ungrouped key) (Ungrouped other_key) (member ∷ []) (other_member ∷ []) (alone key other_key ∙ same_keys total id other_id key other_key h k l)
-          (same_keys total id other_id member other_member h m n, tt) old.groups other.groups alike.groups))
+          rw (e, f) (insert-alike group_total Same (Ungrouped key) (Ungrouped other_key) (member ∷ []) (other_member ∷ [])
+          (alone key other_key ∙ same_keys total id other_id key other_key h k l) (same_keys total id other_id member other_member h m n, tt)
+          old.groups other.groups alike.groups)
 
   -- a group is named as often by names that are equal
   times_alike : (q : Group G Id) (ns ms : List G) → AllZip (λ a b. name_cmp a b ≡ Equal) ns ms → times_named group_cmp ns q ≡ times_named group_cmp ms q
-  times_alike q [] [] h = refl
-  times_alike q [] (m ∷ ms) h = absurd h
-  times_alike q (n ∷ ns) [] h = absurd h
-  times_alike q (n ∷ ns) (m ∷ ms) h =
-      let test : G → Bool = λ a. is_eq (group_cmp q (Grouped a)) in
-      let here : cond {A = ℕ} (test n) 1 0 ≡ cond (test m) 1 0 = ap (λ r. cond (is_eq r) 1 0) (congr_right group_total (Grouped n) (Grouped m) q (named n m ∙ h.0)) in
-      let i = times_alike q ns ms h.1 in
-      omega (arith, count-cons test n ns, count-cons test m ms)
+  times_alike q ns ms h = sums_alike (λ a. cond (is_eq (group_cmp q (Grouped a))) 1 0) (λ a b. name_cmp a b ≡ Equal)
+      (λ a b e. ap (λ r. cond (is_eq r) 1 0) (congr_right group_total (Grouped a) (Grouped b) q (named a b ∙ e))) ns ms h
 
   or_none : (u v : Option (List Id)) → AreOptionsAlike Same u v → Same (unwrap_or u []) (unwrap_or v [])
   or_none None None h = tt
@@ -105,12 +91,14 @@ module _ {Id G : Type 0} (group_cmp : Group G Id → Group G Id → Ordering) (c
   appended before other_before id other_id n m None v b h e p q = absurd p
   appended before other_before id other_id n m (Some x) None b h e p q = absurd q
   appended before other_before id other_id n m (Some x) (Some y) b h e (tail, is, long, all) (other_tail, other_is, other_long, other_all) =
-      subst (λ (xs : List Id). Same xs y) (sym is) (subst (λ (ys : List Id). Same (before ++ tail) ys) (sym other_is)
-      (AllZip-append (λ x y. cmp x y ≡ Equal) before other_before tail other_tail b (same_tails total id other_id h tail other_tail (long ∙ e ∙ sym other_long) all other_all)))
+      rw (is, other_is) (AllZip-append (λ x y. cmp x y ≡ Equal) before other_before tail other_tail b
+      (same_tails total id other_id h tail other_tail (long ∙ e ∙ sym other_long) all other_all))
 
-  pub into_alike : (old new other other_new : Collection Id G) (id other_id : Id) (ns ms : List G) (size : Size) → AreCollectionsAlike group_cmp cmp old other → cmp id other_id ≡ Equal
+  pub into_alike : (old new other other_new : Collection Id G) (id other_id : Id) (ns ms : List G) (size : Size)
+      → AreCollectionsAlike group_cmp cmp old other → cmp id other_id ≡ Equal
       → AllZip (λ a b. name_cmp a b ≡ Equal) ns ms → IsStrictlySortedBy group_cmp (keys_of new.groups) → IsStrictlySortedBy group_cmp (keys_of other_new.groups)
-      → PushesInto cmp group_cmp old new id ns size → PushesInto cmp group_cmp other other_new other_id ms size → AreCollectionsAlike group_cmp cmp new other_new
+      → PushesInto cmp group_cmp old new id ns size → PushesInto cmp group_cmp other other_new other_id ms size
+      → AreCollectionsAlike group_cmp cmp new other_new
   into_alike old new other other_new id other_id ns ms size alike h names up down p q = record {
     sizes = sizes_alike old.sizes other.sizes new.sizes other_new.sizes id other_id size h alike.sizes p.sizes q.sizes;
     groups = maps_alike group_cmp group_total Same new.groups other_new.groups up down (λ k. at k (times_named group_cmp ns k) refl);
@@ -120,9 +108,11 @@ module _ {Id G : Type 0} (group_cmp : Group G Id → Group G Id → Ordering) (c
       was : (k : Group G Id) → AreOptionsAlike Same (lookup (is_at (group_cmp k)) old.groups) (lookup (is_at (group_cmp k)) other.groups)
       was k = lookup-alike group_total Same k k (tied_itself group_total k) old.groups other.groups alike.groups
 
-      at : (k : Group G Id) (n : ℕ) → times_named group_cmp ns k ≡ n → AreOptionsAlike Same (lookup (is_at (group_cmp k)) new.groups) (lookup (is_at (group_cmp k)) other_new.groups)
+      at : (k : Group G Id) (n : ℕ) → times_named group_cmp ns k ≡ n
+          → AreOptionsAlike Same (lookup (is_at (group_cmp k)) new.groups) (lookup (is_at (group_cmp k)) other_new.groups)
       at k zero e = rw (p.other_groups k e, q.other_groups k (sym (times_alike k ns ms names) ∙ e)) (was k)
       at k (suc n) e =
           let same = times_alike k ns ms names in
-          appended (unwrap_or (lookup (is_at (group_cmp k)) old.groups) []) (unwrap_or (lookup (is_at (group_cmp k)) other.groups) []) id other_id _ _ (lookup (is_at (group_cmp k)) new.groups) (lookup (is_at (group_cmp k)) other_new.groups)
+          appended (unwrap_or (lookup (is_at (group_cmp k)) old.groups) []) (unwrap_or (lookup (is_at (group_cmp k)) other.groups) []) id other_id _ _
+          (lookup (is_at (group_cmp k)) new.groups) (lookup (is_at (group_cmp k)) other_new.groups)
           (or_none _ _ (was k)) h same (p.named_groups k (omega (arith, e))) (q.named_groups k (omega (arith, e, same)))

@@ -1,14 +1,8 @@
 -- Joins of two sections, and what joining keeps.
-use Rattle.std.proofs.Common.{arith, eqb, [], ◌∷◌, ℕ, zero, suc, ◌≡◌, ◌≢◌, ◌+◌, ◌-◌, ◌<◌, ◌≤◌, ◌⊎◌, inl, inr, ⊎_elim, min, max, Bool, cond, ◌&&◌, ◌||◌, Decides}
-use Rattle.std.proofs.Common.{List, length, get_or, set, take, drop, refl, ap, sym, ◌∙◌, length-set, lt-ltb, le-ltb}
-use Rattle.std.specs.Prelude.{All}
-use Rattle.std.specs.List.{remove}
-use Rattle.std.proofs.lemmas.Bool.{cases_lt}
-use Rattle.std.proofs.lemmas.Bool.Decides.{Decides-and, Decides-at, Decides-or, Decides-eqb, Decides-like}
-use Rattle.std.proofs.lemmas.List.{get_or-set_other, get_or_default}
-use Rattle.std.proofs.lemmas.List.Edits.{length-remove}
-use Rattle.std.proofs.lemmas.List.Elements.{All-set, All-append, All-take, All-drop}
-use Rattle.std.proofs.lemmas.List.Sums.{sum_by-set, sum_by-remove}
+use Rattle.rectangle_pack.proofs.Std.{arith, eqb, [], ◌∷◌, ℕ, zero, suc, ◌≡◌, ◌≢◌, ◌+◌, ◌-◌, ◌<◌, ◌≤◌, ◌⊎◌, inl, inr, ⊎_elim, min, max, Bool, cond, ◌&&◌, ◌||◌}
+use Rattle.rectangle_pack.proofs.Std.{Decides, List, length, get_or, set, take, drop, refl, ap, sym, ◌∙◌, length-set, lt-ltb, le-ltb, All, remove, cases_lt}
+use Rattle.rectangle_pack.proofs.Std.{Decides-and, Decides-at, Decides-or, Decides-eqb, Decides-like, get_or-set_other, get_or_default, length-remove, All-set}
+use Rattle.rectangle_pack.proofs.Std.{All-append, All-take, All-drop, sum_by-set, sum_by-remove}
 use Rattle.rectangle_pack.specs.declared.axis.Axis.{Axis}
 use Rattle.rectangle_pack.specs.declared.axis.Axis.TheVariants.{X, Y, Z}
 use Rattle.rectangle_pack.specs.declared.span.Span.{Span}
@@ -20,10 +14,10 @@ use Rattle.rectangle_pack.specs.Bins.{IsSound}
 use Rattle.rectangle_pack.specs.private.Spans.{span_of, spans_of, SpansTouch}
 use Rattle.rectangle_pack.specs.Joining.{SharesFace, join_start, join_extent, join, entry, IsFirstNeighbour, joined_list, joined_index, IsJoined, PastEnd}
 use Rattle.rectangle_pack.specs.Joining.{Alone, Joins, IsSweptBelow}
-use Rattle.rectangle_pack.proofs.lemmas.cuts.Axes.{by_axis, end-is}
+use Rattle.rectangle_pack.proofs.lemmas.cuts.Axes.{end-is}
 use Rattle.rectangle_pack.proofs.lemmas.cuts.Counting.{KeepCells-from_counts}
 use Rattle.rectangle_pack.proofs.lemmas.cuts.TreesFill.{filled-parts}
-use Rattle.rectangle_pack.proofs.lemmas.cuts.Parts.{start-lower, end-lower, start-upper, end-upper, RunAlike, box_alike, lower_other, upper_other}
+use Rattle.rectangle_pack.proofs.lemmas.cuts.Parts.{start-lower, end-lower, start-upper, end-upper, RunAlike, box_alike, box_alike_on, lower_other, upper_other}
 
 -- two that share a whole face do so in either order
 pub SharesFace-symmetric : (a b : Cuboid) → SharesFace a b → SharesFace b a
@@ -33,15 +27,13 @@ SharesFace-symmetric a b f = record {
   alike = λ o n. let k = f.alike o n in (sym k.0, sym k.1);
 }
 
-start-join : (a : Axis) (b e : Cuboid) → start a (join b e) ≡ min (start a b) (start a e)
-unfolding start join join_start
-start-join X b e = refl
-start-join _ b e = refl
-
-end-join : (a : Axis) (b e : Cuboid) → end a (join b e) ≡ max (end a b) (end a e)
+runs-join : (a : Axis) (b e : Cuboid) → (start a (join b e) ≡ min (start a b) (start a e)) × (end a (join b e) ≡ max (end a b) (end a e))
 unfolding start extent end join join_start join_extent
-end-join X b e = omega arith
-end-join _ b e = omega arith
+runs-join X b e = (refl, omega arith)
+runs-join _ b e = (refl, omega arith)
+
+join-symmetric : (b e : Cuboid) → join b e ≡ join e b
+join-symmetric b e = box_alike (join b e) (join e b) (λ a. let r = runs-join a b e in let s = runs-join a e b in (omega arith, omega arith))
 
 -- two that share a whole face on the axis a, where o and p are the others: the spans on a touch, and those on the others are the same
 abbrev FaceOn : Axis → Axis → Axis → Cuboid → Cuboid → Type 0
@@ -94,38 +86,30 @@ face-decides b e s t same_x same_y same_z meet_x meet_y meet_z is_s is_t is_x is
     three {p = p} {q = q} {r = r} x y z =
         Decides-like (p && q && r) (λ h. (h.0.0, h.0.1, h.1)) (λ h. ((h.0, h.1), h.2)) (Decides-and (p && q) r (Decides-and p q x y) z)
 
--- a box from the lower start to the higher end of two, of which the first ends where the other starts and which run alike on the
--- other axes: they are its two parts, and fill it
-filled-met : (c : Cell) (j b e : Cuboid) (a : Axis)
-    → ((o : Axis) → start o j ≡ min (start o b) (start o e)) → ((o : Axis) → end o j ≡ max (end o b) (end o e))
-    → end a b ≡ start a e → ((o : Axis) → o ≢ a → (start o b ≡ start o e) × (extent o b.whd ≡ extent o e.whd))
-    → times_filled c (j ∷ []) ≡ times_filled c (b ∷ []) + times_filled c (e ∷ [])
-filled-met c j b e a starts ends meet alike =
+-- where the first ends at the start of the other, the two are the parts of their join, and fill it
+filled-met : (c : Cell) (b e : Cuboid) (a : Axis) → end a b ≡ start a e
+    → ((o : Axis) → o ≢ a → (start o b ≡ start o e) × (extent o b.whd ≡ extent o e.whd))
+    → times_filled c (join b e ∷ []) ≡ times_filled c (b ∷ []) + times_filled c (e ∷ [])
+filled-met c b e a meet alike =
     let p = end a b in
-    let s = starts a in let t = ends a in
-    let at_b = end-is a b in let at_e = end-is a e in
+    let j = join b e in
+    let r = runs-join a b e in let at_b = end-is a b in let at_e = end-is a e in
     let place : IsPlaceOf a p j = record { from = omega arith; to = omega arith } in
     let same : (o : Axis) → a ≢ o → RunAlike j b o × RunAlike j e o = λ o n.
-    let k = alike o (λ q. n (sym q)) in
-    let s = starts o in let t = ends o in
-    let at_b = end-is o b in let at_e = end-is o e in
+    let r = runs-join o b e in let k = alike o (λ q. n (sym q)) in let at_b = end-is o b in let at_e = end-is o e in
     ((omega arith, omega arith), (omega arith, omega arith)) in
-    let low : lower a p j ≡ b = box_alike (lower a p j) b (by_axis (RunAlike (lower a p j) b) a
-    (omega (arith, start-lower a p j), omega (arith, end-lower a p j place.from))
-    (λ o n. (omega (arith, lower_other p j a o n, same o n), omega (arith, lower_other p j a o n, same o n)))) in
-    let high : upper a p j ≡ e = box_alike (upper a p j) e (by_axis (RunAlike (upper a p j) e) a
-    (omega (arith, start-upper a p j), omega (arith, end-upper a p j place.to))
-    (λ o n. (omega (arith, upper_other p j a o n, same o n), omega (arith, upper_other p j a o n, same o n)))) in
+    let low : lower a p j ≡ b = box_alike_on a (lower a p j) b (omega (arith, start-lower a p j), end-lower a p j place.from)
+    (λ o n. let l = lower_other p j a o n in let s = same o n in (omega arith, omega arith)) in
+    let high : upper a p j ≡ e = box_alike_on a (upper a p j) e (omega (arith, start-upper a p j), omega (arith, end-upper a p j place.to))
+    (λ o n. let u = upper_other p j a o n in let s = same o n in (omega arith, omega arith)) in
     sym (rw (low, high) at (filled-parts c a p j place))
 
 -- a cell of the join is a cell of exactly one of the two
 join-cells : (c : Cell) (b e : Cuboid) → SharesFace b e → times_filled c (join b e ∷ []) ≡ times_filled c (b ∷ []) + times_filled c (e ∷ [])
+unfolding SharesFace-symmetric
 join-cells c b e f = elim f.meet [
-  | inl q ↦ filled-met c (join b e) b e f.axis (λ o. start-join o b e) (λ o. end-join o b e) q f.alike
-  | inr q ↦
-      let alike : (o : Axis) → o ≢ f.axis → (start o e ≡ start o b) × (extent o e.whd ≡ extent o b.whd) = λ o n.
-      let k = f.alike o n in (sym k.0, sym k.1) in
-      omega (arith, filled-met c (join b e) e b f.axis (λ o. omega (arith, start-join o b e)) (λ o. omega (arith, end-join o b e)) q alike)
+  | inl q ↦ filled-met c b e f.axis q f.alike
+  | inr q ↦ rw (join-symmetric b e) (omega (arith, filled-met c e b f.axis q (SharesFace-symmetric b e f).alike))
 ]
 
 -- one join leaves each cell in as many entries
@@ -163,7 +147,6 @@ length-joined_list sections idx j within =
     let b = join (entry sections idx) (entry sections j) in
     length-remove (set sections idx b) j (omega (arith, length-set sections idx b)) ∙ length-set sections idx b
 
--- no list gets longer
 pub IsJoined-shorter : {old new : List Cuboid} {idx lo hi : ℕ} → IsJoined idx lo hi old new → length new ≤ length old
 IsJoined-shorter (PastEnd past) = omega arith
 IsJoined-shorter (Alone at none) = omega arith
@@ -175,7 +158,6 @@ pub IsSwept-shorter : (n : ℕ) (old new : List Cuboid) → IsSweptBelow n old n
 IsSwept-shorter zero old new swept = rw swept (omega arith)
 IsSwept-shorter (suc n) old new swept = let a = IsSwept-shorter n swept.0 new swept.2 in let b = IsJoined-shorter swept.1 in omega arith
 
--- a join of two inside a bin is inside it
 pub join-inside : (size : Size) (b e : Cuboid) → IsInside size b → IsInside size e → IsInside size (join b e)
 unfolding start extent end join join_start join_extent
 join-inside size b e h k = record { within_x = omega arith; within_y = omega arith; within_z = omega arith }

@@ -1,9 +1,6 @@
 -- A sweep leaves no two sections that share a whole face.
-use Rattle.std.proofs.Common.{arith, ℕ, zero, suc, ◌≡◌, ◌≢◌, ◌+◌, ◌-◌, ◌<◌, ◌≤◌, ◌⊎◌, inl, inr, List, length, get_or, refl, subst, sym, ◌∙◌, min, length-set}
-use Rattle.std.proofs.lemmas.Bool.{cases_lt, cases_eq}
-use Rattle.std.proofs.lemmas.List.{get_or-set_other, get_or_default}
-use Rattle.std.proofs.lemmas.List.Edits.{get_or-remove_below, get_or-remove_above}
-use Rattle.std.specs.Prelude.{set}
+use Rattle.rectangle_pack.proofs.Std.{arith, ℕ, zero, suc, ◌≡◌, ◌≢◌, ◌+◌, ◌-◌, ◌<◌, ◌≤◌, ◌⊎◌, inl, inr, List, length, get_or, refl, subst, sym, ◌∙◌, min}
+use Rattle.rectangle_pack.proofs.Std.{length-set, cases_lt, cases_eq, get_or-set_other, get_or_default, get_or-remove_below, get_or-remove_above, set}
 use Rattle.rectangle_pack.specs.Boxes.{Cuboid}
 use Rattle.rectangle_pack.specs.Joining.{SharesFace, ShareNoFace, join, entry, IsNeighbour, IsAlone, IsFirstNeighbour, joined_list, joined_index, IsJoined}
 use Rattle.rectangle_pack.specs.Joining.{PastEnd, Alone, Joins, IsSwept, IsSweptBelow}

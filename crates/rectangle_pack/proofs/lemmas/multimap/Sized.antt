@@ -1,21 +1,12 @@
 -- Groups whose members have sizes, as lists are set, extended and forgotten.
-use Rattle.std.proofs.Common.{◌≡◌, ℕ, ◌+◌, ◌<◌, List, [], ◌∷◌, ◌++◌, length, refl, ap, sym, subst, ◌∙◌, arith, cond, true, false, Bool, rules, zero, suc}
-use Rattle.std.specs.Prelude.{IsSome, All, Contains, nat_lt, Option, Some, None, IfSome, IsSomeAnd, unwrap_or, map, count_by, Result, Ok, Err, OnOk, OnErr}
-use Rattle.std.specs.declared.cmp.Ordering.{Ordering}
-use Rattle.std.specs.declared.vec.Vec.{Vec}
-use Rattle.std.specs.Cmp.{IsTotalOrder}
-use Rattle.std.specs.Ordering.{is_eq}
-use Rattle.std.specs.Result.{is_err}
-use Rattle.std.specs.Map.{lookup, values_of, keys_of}
-use Rattle.std.specs.BTreeMap.{is_at, insert_entry}
-use Rattle.std.proofs.lemmas.List.Elements.{All-weaker, All-contains, All-tail, All-head, All-cons, All-nil}
-use Rattle.std.proofs.lemmas.Map.Views.{All-values_from_lookup, IfSome-lookup_from_All, All-values-insert_entry}
+use Rattle.rectangle_pack.proofs.Std.{◌≡◌, ℕ, ◌+◌, ◌<◌, List, [], ◌∷◌, ◌++◌, length, refl, ap, sym, subst, ◌∙◌, arith, cond, true, false, Bool, rules, zero}
+use Rattle.rectangle_pack.proofs.Std.{suc, IsSome, All, Contains, nat_lt, Option, Some, None, IfSome, IsSomeAnd, unwrap_or, map, count_by, Result, Ok, Err}
+use Rattle.rectangle_pack.proofs.Std.{OnOk, OnErr, Ordering, Vec, IsTotalOrder, is_eq, is_err, lookup, values_of, keys_of, is_at, insert_entry, All-weaker}
+use Rattle.rectangle_pack.proofs.Std.{All-contains, All-tail, All-head, All-cons, All-nil, All-values_from_lookup, IfSome-lookup_from_All}
+use Rattle.rectangle_pack.proofs.Std.{All-values-insert_entry, IsStrictlySortedBy, IsDistinct-from_sorted, eq_by_cmp_equiv}
 use Rattle.rectangle_pack.proofs.lemmas.multimap.Vectors.{lists_of-insert_entry}
 use Rattle.rectangle_pack.specs.Groups.{lists_of}
 use Rattle.rectangle_pack.specs.private.Multimaps.{filled, times, IsAdded}
-use Rattle.std.specs.List.Sorted.{IsStrictlySortedBy}
-use Rattle.std.proofs.lemmas.Map.Keys.{IsDistinct-from_sorted}
-use Rattle.std.proofs.lemmas.Cmp.{eq_by_cmp_equiv}
 use Rattle.rectangle_pack.proofs.lemmas.multimap.Append.{added-each, sum_by-map}
 use Rattle.rectangle_pack.specs.Boxes.{Size}
 use Rattle.rectangle_pack.specs.Groups.{HaveSizes, MembersHaveSizes}
@@ -29,16 +20,14 @@ filled-all {X = X} (e ∷ es) h =
     rw (test, filled-all es (All-tail (λ (ids : List X). 0 < length ids) e.1 (values_of es) h)) refl
 
 -- the same where each member has a size
-pub filled-members : {Id G : Type 0} (cmp : Id → Id → Ordering) (sizes : List (Id × Size)) (groups : List (G × List Id)) → MembersHaveSizes cmp sizes groups → filled groups ≡ groups
-filled-members cmp sizes groups h = filled-all groups (All-weaker (λ ids. (0 < length ids) × HaveSizes cmp sizes ids) (λ ids. 0 < length ids) (λ ids p. p.0) (values_of groups) h)
-
--- two facts of what is found, as one
-pub IfSome-both : {X : Type 0} (P Q : X → Type 0) (found : Option X) → IfSome found P → IfSome found Q → IfSome found (λ x. P x × Q x)
-IfSome-both P Q None p q = tt
-IfSome-both P Q (Some x) p q = (p, q)
+pub filled-members : {Id G : Type 0} (cmp : Id → Id → Ordering) (sizes : List (Id × Size)) (groups : List (G × List Id))
+    → MembersHaveSizes cmp sizes groups → filled groups ≡ groups
+filled-members cmp sizes groups h = filled-all groups (All-weaker (λ ids. (0 < length ids) × HaveSizes cmp sizes ids) (λ ids. 0 < length ids)
+    (λ ids p. p.0) (values_of groups) h)
 
 -- members that have sizes have them among more sizes
-pub MembersHaveSizes-more : {Id G : Type 0} (cmp : Id → Id → Ordering) (old new : List (Id × Size)) (groups : List (G × List Id)) → ((q : Id) → IsSome (lookup (is_at (cmp q)) old) → IsSome (lookup (is_at (cmp q)) new)) → MembersHaveSizes cmp old groups → MembersHaveSizes cmp new groups
+pub MembersHaveSizes-more : {Id G : Type 0} (cmp : Id → Id → Ordering) (old new : List (Id × Size)) (groups : List (G × List Id)) →
+    ((q : Id) → IsSome (lookup (is_at (cmp q)) old) → IsSome (lookup (is_at (cmp q)) new)) → MembersHaveSizes cmp old groups → MembersHaveSizes cmp new groups
 MembersHaveSizes-more cmp old new groups grows h =
     All-weaker
     (λ ids. (0 < length ids) × HaveSizes cmp old ids)
@@ -52,8 +41,9 @@ pub IsSome-cond : {X : Type 0} (b : Bool) (v : X) (o : Option X) → IsSome o �
 IsSome-cond true v o h = refl
 IsSome-cond false v o h = h
 
--- where one list with one member is set, and it has a size, each group has a member, and each of its members has a size
-pub MembersHaveSizes-alone : {Id K A : Type 0} (cmp : Id → Id → Ordering) (kcmp : K → K → Ordering) (old_sizes new_sizes : List (Id × Size)) (old : List (K × Vec Id A)) (key : K) (list : Vec Id A) (member : Id) → list.items ≡ member ∷ []
+-- each group still has members, and each member a size, where a list of one member with a size is set
+pub MembersHaveSizes-alone : {Id K A : Type 0} (cmp : Id → Id → Ordering) (kcmp : K → K → Ordering) (old_sizes new_sizes : List (Id × Size))
+    (old : List (K × Vec Id A)) (key : K) (list : Vec Id A) (member : Id) → list.items ≡ member ∷ []
     → MembersHaveSizes cmp old_sizes (lists_of old)
     → ((q : Id) → IsSome (lookup (is_at (cmp q)) old_sizes) → IsSome (lookup (is_at (cmp q)) new_sizes))
     → IsSome (lookup (is_at (cmp member)) new_sizes)
@@ -65,12 +55,14 @@ MembersHaveSizes-alone {Id} cmp kcmp old_sizes new_sizes old key list member ite
     (omega arith, All-cons (λ id. IsSome (lookup (is_at (cmp id)) new_sizes)) member [] has (All-nil _)))
 
 -- what a look-up finds has members, where it finds something
-pub HaveSizes-found : {Id : Type 0} (P : Id → Type 0) (found : Option (List Id)) → IfSome found (λ ids. (0 < length ids) × All P ids) → All P (unwrap_or found [])
+pub HaveSizes-found : {Id : Type 0} (P : Id → Type 0) (found : Option (List Id))
+    → IfSome found (λ ids. (0 < length ids) × All P ids) → All P (unwrap_or found [])
 HaveSizes-found P None h = All-nil P
 HaveSizes-found P (Some ids) h = h.1
 
--- where items are added, and they have sizes, each group has a member, and each of its members has a size
-pub MembersHaveSizes-added : {Id K : Type 0} (cmp : Id → Id → Ordering) {kcmp : K → K → Ordering} → IsTotalOrder kcmp → (old_sizes new_sizes : List (Id × Size)) (keys : List K) (all : List Id) (old new : List (K × List Id))
+-- and where members with sizes are added
+pub MembersHaveSizes-added : {Id K : Type 0} (cmp : Id → Id → Ordering) {kcmp : K → K → Ordering} → IsTotalOrder kcmp
+    → (old_sizes new_sizes : List (Id × Size)) (keys : List K) (all : List Id) (old new : List (K × List Id))
     → MembersHaveSizes cmp old_sizes old
     → ((q : Id) → IsSome (lookup (is_at (cmp q)) old_sizes) → IsSome (lookup (is_at (cmp q)) new_sizes))
     → HaveSizes cmp new_sizes all
@@ -84,7 +76,8 @@ MembersHaveSizes-added {Id} cmp {kcmp} o old_sizes new_sizes keys all old new wa
     (λ q. by q (times kcmp keys q) refl)
   where
     before : (q : _) → IfSome (lookup (is_at (kcmp q)) old) (λ ids. (0 < length ids) × HaveSizes cmp new_sizes ids)
-    before q = IfSome-lookup_from_All (λ ids. (0 < length ids) × HaveSizes cmp new_sizes ids) (is_at (kcmp q)) old (MembersHaveSizes-more cmp old_sizes new_sizes old grows was)
+    before q = IfSome-lookup_from_All (λ ids. (0 < length ids) × HaveSizes cmp new_sizes ids) (is_at (kcmp q)) old
+        (MembersHaveSizes-more cmp old_sizes new_sizes old grows was)
 
     by : (q : _) (n : ℕ) → times kcmp keys q ≡ n → IfSome (lookup (is_at (kcmp q)) new) (λ ids. (0 < length ids) × HaveSizes cmp new_sizes ids)
     by q zero e = subst (λ f. IfSome f (λ ids. (0 < length ids) × HaveSizes cmp new_sizes ids)) (sym (others q e)) (before q)
@@ -95,20 +88,26 @@ MembersHaveSizes-added {Id} cmp {kcmp} o old_sizes new_sizes keys all old new wa
         (subst (λ n. IsAdded all n (lookup (is_at (kcmp q)) old) (lookup (is_at (kcmp q)) new)) more (named q (omega (arith, more))))
 
 -- how often a key occurs among those that a function gives
-pub times-map : {K N : Type 0} (kcmp : K → K → Ordering) (f : N → K) (named : List N) (keys : List K) (q : K) → keys ≡ map f named → times kcmp keys q ≡ count_by (λ n. is_eq (kcmp q (f n))) named
+pub times-map : {K N : Type 0} (kcmp : K → K → Ordering) (f : N → K) (named : List N) (keys : List K) (q : K) → keys ≡ map f named
+    → times kcmp keys q ≡ count_by (λ n. is_eq (kcmp q (f n))) named
 times-map kcmp f named keys q e = ap (λ l. times kcmp l q) e ∙ sum_by-map (λ k. cond (is_eq (kcmp q k)) 1 0) f named
 
 -- where items are added at the named keys, a list is the old one followed by them
-pub lists-added : {X K N : Type 0} (P : X → Type 0) (kcmp : K → K → Ordering) (f : N → K) (named : List N) (keys : List K) → keys ≡ map f named → (all : List X) → All P all
-    → (old new : List (K × List X)) → ((q : K) → 0 < times kcmp keys q → IsAdded all (times kcmp keys q) (lookup (is_at (kcmp q)) old) (lookup (is_at (kcmp q)) new))
+pub lists-added : {X K N : Type 0} (P : X → Type 0) (kcmp : K → K → Ordering) (f : N → K) (named : List N) (keys : List K)
+    → keys ≡ map f named → (all : List X) → All P all
+    → (old new : List (K × List X))
+    → ((q : K) → 0 < times kcmp keys q → IsAdded all (times kcmp keys q) (lookup (is_at (kcmp q)) old) (lookup (is_at (kcmp q)) new))
     → (q : K) → 0 < count_by (λ n. is_eq (kcmp q (f n))) named
-    → IsSomeAnd (lookup (is_at (kcmp q)) new) (λ list. (tail : List X) × (list ≡ unwrap_or (lookup (is_at (kcmp q)) old) [] ++ tail) × (length tail ≡ count_by (λ n. is_eq (kcmp q (f n))) named) × All P tail)
+    → IsSomeAnd (lookup (is_at (kcmp q)) new) (λ list. (tail : List X) × (list ≡ unwrap_or (lookup (is_at (kcmp q)) old) [] ++ tail)
+    × (length tail ≡ count_by (λ n. is_eq (kcmp q (f n))) named) × All P tail)
 lists-added {X} P kcmp f named keys is all each old new added q some =
     let e = times-map kcmp f named keys q is in
-    by (lookup (is_at (kcmp q)) new) (subst (λ n. IsAdded all n (lookup (is_at (kcmp q)) old) (lookup (is_at (kcmp q)) new)) e (added q (subst (λ n. 0 < n) (sym e) some)))
+    by (lookup (is_at (kcmp q)) new)
+    (subst (λ n. IsAdded all n (lookup (is_at (kcmp q)) old) (lookup (is_at (kcmp q)) new)) e (added q (subst (λ n. 0 < n) (sym e) some)))
   where
     by : (found : Option (List X)) → IsAdded all (count_by (λ n. is_eq (kcmp q (f n))) named) (lookup (is_at (kcmp q)) old) found
-        → IsSomeAnd found (λ list. (tail : List X) × (list ≡ unwrap_or (lookup (is_at (kcmp q)) old) [] ++ tail) × (length tail ≡ count_by (λ n. is_eq (kcmp q (f n))) named) × All P tail)
+        → IsSomeAnd found (λ list. (tail : List X) × (list ≡ unwrap_or (lookup (is_at (kcmp q)) old) [] ++ tail)
+        × (length tail ≡ count_by (λ n. is_eq (kcmp q (f n))) named) × All P tail)
     by None h = h
     by (Some list) (tail, joined, long, given) = (tail, joined, long, All-weaker (Contains all) P (λ x. All-contains P all x each) tail given)
 

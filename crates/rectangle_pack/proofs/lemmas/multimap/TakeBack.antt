@@ -1,17 +1,12 @@
 -- Appended items, taken back.
-use Rattle.std.proofs.Common.{◌≡◌, ℕ, ◌+◌, ◌-◌, ◌<◌, ◌≤◌, List, [], ◌∷◌, ◌++◌, length, take, get_or, refl, ◌∙◌, ap, subst, arith, length-append, add-one}
-use Rattle.std.proofs.Math.Seq.{take-suc, take-append_seam}
-use Rattle.std.specs.Prelude.{Some, IsSome, reverse}
-use Rattle.std.specs.declared.cmp.Ordering.{Ordering}
-use Rattle.std.specs.Map.{lookup, set_value}
-use Rattle.std.specs.BTreeMap.{is_at}
-use Rattle.std.proofs.lemmas.List.{reverse-append}
-use Rattle.std.proofs.lemmas.Map.Steps.{set_value_same}
+use Rattle.rectangle_pack.proofs.Std.{◌≡◌, ℕ, ◌+◌, ◌-◌, ◌<◌, ◌≤◌, List, [], ◌∷◌, ◌++◌, length, take, get_or, refl, ◌∙◌, ap, arith, length-append, add-one}
+use Rattle.rectangle_pack.proofs.Std.{take-suc, take-append_seam, Some, IsSome, reverse, Ordering, lookup, set_value, is_at, reverse-append, set_value_same}
 use Rattle.rectangle_pack.specs.private.Multimaps.{TakesBack}
 use Rattle.rectangle_pack.proofs.lemmas.util.Maps.{set_value-twice, lookup-set_here}
 
 -- one more item is appended
-pub TakesBack-appended : {K X : Type 0} (cmp : K → K → Ordering) (k : K) (ks : List K) (now start : List (K × List X)) (list : List X) (x : X) → lookup (is_at (cmp k)) now ≡ Some list
+pub TakesBack-appended : {K X : Type 0} (cmp : K → K → Ordering) (k : K) (ks : List K) (now start : List (K × List X)) (list : List X) (x : X)
+    → lookup (is_at (cmp k)) now ≡ Some list
     → TakesBack cmp ks now start → TakesBack cmp (k ∷ ks) (set_value (is_at (cmp k)) now (list ++ x ∷ [])) start
 TakesBack-appended cmp k ks now start list x found h = (
   list,
@@ -21,10 +16,12 @@ TakesBack-appended cmp k ks now start list x found h = (
 )
 
 -- the last of the first keys comes first when they are turned round
-pub reverse-take_more : {K : Type 0} (keys : List K) (i : ℕ) (k : K) → i < length keys → k ≡ get_or keys i k → reverse (take (i + 1) keys) ≡ k ∷ reverse (take i keys)
+pub reverse-take_more : {K : Type 0} (keys : List K) (i : ℕ) (k : K) → i < length keys → k ≡ get_or keys i k
+    → reverse (take (i + 1) keys) ≡ k ∷ reverse (take i keys)
 reverse-take_more keys i k within at = rw (add-one, take-suc keys i k within, reverse-append (take i keys), ← at) refl
 
-pub reverse-take_last : {K : Type 0} (keys : List K) (i : ℕ) (k : K) → 0 < i → i ≤ length keys → k ≡ get_or keys (i - 1) k → reverse (take i keys) ≡ k ∷ reverse (take (i - 1) keys)
+pub reverse-take_last : {K : Type 0} (keys : List K) (i : ℕ) (k : K) → 0 < i → i ≤ length keys → k ≡ get_or keys (i - 1) k
+    → reverse (take i keys) ≡ k ∷ reverse (take (i - 1) keys)
 reverse-take_last keys i k some within at =
     let e : i ≡ i - 1 + 1 = omega arith in
     ap (λ n. reverse (take n keys)) e ∙ reverse-take_more keys (i - 1) k (omega arith) at
@@ -35,16 +32,7 @@ take-all_but_last list last =
     let long : length (list ++ last ∷ []) - 1 ≡ length list = omega (arith, length-append list (last ∷ [])) in
     rw long (take-append_seam list (last ∷ []))
 
--- taking the last item at the last key leaves what the other keys take back
-pub TakesBack-last : {K X : Type 0} (cmp : K → K → Ordering) (k : K) (ks keys : List K) (now after start : List (K × List X)) → keys ≡ k ∷ ks
-    → ((list : List X) (last : X) → lookup (is_at (cmp k)) now ≡ Some (list ++ last ∷ []) → after ≡ set_value (is_at (cmp k)) now list)
-    → TakesBack cmp keys now start → TakesBack cmp ks after start
-TakesBack-last {K} cmp k ks keys now after start e takes h =
-    let (list, last, found, rest) = let all : TakesBack cmp (k ∷ ks) now start = subst (λ (l : List K). TakesBack cmp l now start) e h in all in
-    rw (takes list last found) rest
-
--- and the key is known
-pub TakesBack-known : {K X : Type 0} (cmp : K → K → Ordering) (k : K) (ks keys : List K) (now start : List (K × List X)) → keys ≡ k ∷ ks → TakesBack cmp keys now start → IsSome (lookup (is_at (cmp k)) now)
-TakesBack-known {K} cmp k ks keys now start e h =
-    let (list, last, found, rest) = let all : TakesBack cmp (k ∷ ks) now start = subst (λ (l : List K). TakesBack cmp l now start) e h in all in
-    rw found refl
+-- the last key is known
+pub TakesBack-known : {K X : Type 0} (cmp : K → K → Ordering) (k : K) (ks : List K) (now start : List (K × List X))
+    → TakesBack cmp (k ∷ ks) now start → IsSome (lookup (is_at (cmp k)) now)
+TakesBack-known cmp k ks now start (list, last, found, rest) = rw found refl

@@ -1,16 +1,7 @@
 -- Maps from keys to vectors, seen as maps from keys to lists.
-use Rattle.std.proofs.Common.{◌≡◌, List, [], ◌∷◌, length, refl, ap, sym, ◌∙◌, cond, true, false, Bool}
-use Rattle.std.specs.Prelude.{Option, Some, None, IsSome, is_some, filter, nat_lt}
-use Rattle.std.specs.Cmp.{IsTotalOrder, Equal-is}
-use Rattle.std.specs.declared.cmp.Ordering.{Ordering}
-use Rattle.std.specs.declared.cmp.Ordering.TheVariants.{Less, Equal, Greater}
-use Rattle.std.specs.declared.vec.Vec.{Vec}
-use Rattle.std.specs.Option.{option_map}
-use Rattle.std.specs.Map.{lookup, set_value, keys_of}
-use Rattle.std.specs.Ordering.{match_ordering, is_eq}
-use Rattle.std.specs.BTreeMap.{is_at, insert_entry}
-use Rattle.std.proofs.lemmas.Cmp.{tied_itself}
-use Rattle.std.proofs.lemmas.Map.Made.{lookup-map_values, keys_of-map_values}
+use Rattle.rectangle_pack.proofs.Std.{◌≡◌, List, [], ◌∷◌, length, refl, ap, sym, ◌∙◌, cond, true, false, Bool, Option, Some, None, is_some, filter, nat_lt}
+use Rattle.rectangle_pack.proofs.Std.{IsTotalOrder, Equal-is, Ordering, Less, Equal, Greater, Vec, option_map, lookup, set_value, keys_of, match_ordering}
+use Rattle.rectangle_pack.proofs.Std.{is_eq, is_at, insert_entry, lookup-map_values, keys_of-map_values}
 use Rattle.rectangle_pack.specs.Groups.{lists_of}
 use Rattle.rectangle_pack.specs.private.Multimaps.{filled, items_of}
 use Rattle.rectangle_pack.proofs.lemmas.util.Maps.{lookup-equal, set_value-map_values, insert_entry-map_values}
@@ -21,19 +12,23 @@ none_of None h = refl
 none_of (Some x) h = absurd cc
 
 -- an insert, seen as lists
-pub lists_of-insert_entry : {K X A : Type 0} (cmp : K → K → Ordering) (es : List (K × Vec X A)) (k : K) (v : Vec X A) → lists_of (insert_entry cmp es k v) ≡ insert_entry cmp (lists_of es) k v.items
+pub lists_of-insert_entry : {K X A : Type 0} (cmp : K → K → Ordering) (es : List (K × Vec X A)) (k : K) (v : Vec X A)
+    → lists_of (insert_entry cmp es k v) ≡ insert_entry cmp (lists_of es) k v.items
 lists_of-insert_entry cmp es k v = insert_entry-map_values (λ w. w.items) cmp es k v
 
 -- a value that is written, seen as a list
-pub lists_of-set_value : {K X A : Type 0} (test : K → Bool) (es : List (K × Vec X A)) (w : Vec X A) → lists_of (set_value test es w) ≡ set_value test (lists_of es) w.items
+pub lists_of-set_value : {K X A : Type 0} (test : K → Bool) (es : List (K × Vec X A)) (w : Vec X A)
+    → lists_of (set_value test es w) ≡ set_value test (lists_of es) w.items
 lists_of-set_value test es w = set_value-map_values (λ v. v.items) test es w
 
 -- a new key with an empty list
-pub filled-insert_entry : {K X : Type 0} (cmp : K → K → Ordering) (es : List (K × List X)) (k : K) → lookup (is_at (cmp k)) es ≡ None → filled (insert_entry cmp es k []) ≡ filled es
+pub filled-insert_entry : {K X : Type 0} (cmp : K → K → Ordering) (es : List (K × List X)) (k : K) → lookup (is_at (cmp k)) es ≡ None
+    → filled (insert_entry cmp es k []) ≡ filled es
 filled-insert_entry cmp [] k absent = refl
 filled-insert_entry {X = X} cmp (e ∷ es) k absent = at (cmp k e.0) absent (filled-insert_entry cmp es k)
   where
-    at : (o : Ordering) → cond (is_eq o) (Some e.1) (lookup (is_at (cmp k)) es) ≡ None → (lookup (is_at (cmp k)) es ≡ None → filled (insert_entry cmp es k []) ≡ filled es) → filled (match_ordering o ((k, []) ∷ e ∷ es) ((e.0, []) ∷ es) (e ∷ insert_entry cmp es k [])) ≡ filled (e ∷ es)
+    at : (o : Ordering) → cond (is_eq o) (Some e.1) (lookup (is_at (cmp k)) es) ≡ None → (lookup (is_at (cmp k)) es ≡ None → filled (insert_entry cmp es k [])
+        ≡ filled es) → filled (match_ordering o ((k, []) ∷ e ∷ es) ((e.0, []) ∷ es) (e ∷ insert_entry cmp es k [])) ≡ filled (e ∷ es)
     at Less h ih = refl
     at Equal h ih = absurd cc
     at Greater h ih = rw (ih h) refl
@@ -43,7 +38,9 @@ pub lists_of-filter : {K X A : Type 0} (es : List (K × Vec X A)) → lists_of (
 lists_of-filter [] = refl
 lists_of-filter (e ∷ es) = at (nat_lt 0 (length e.1.items)) (lists_of-filter es)
   where
-    at : (b : Bool) → lists_of (filter (λ e. nat_lt 0 (length e.1.items)) es) ≡ filled (lists_of es) → lists_of (cond b (e ∷ filter (λ e. nat_lt 0 (length e.1.items)) es) (filter (λ e. nat_lt 0 (length e.1.items)) es)) ≡ cond b ((e.0, e.1.items) ∷ filled (lists_of es)) (filled (lists_of es))
+    at : (b : Bool) → lists_of (filter (λ e. nat_lt 0 (length e.1.items)) es) ≡ filled (lists_of es)
+        → lists_of (cond b (e ∷ filter (λ e. nat_lt 0 (length e.1.items)) es) (filter (λ e. nat_lt 0 (length e.1.items)) es))
+        ≡ cond b ((e.0, e.1.items) ∷ filled (lists_of es)) (filled (lists_of es))
     at true ih = ap (λ l. (e.0, e.1.items) ∷ l) ih
     at false ih = ih
 
@@ -56,7 +53,8 @@ pub lookup-lists : {K X A : Type 0} (test : K → Bool) (es : List (K × Vec X A
 lookup-lists test es = lookup-map_values (λ v. v.items) test es
 
 -- a key is new, and gets a vector with no items
-module _ {K X A : Type 0} {cmp : K → K → Ordering} (o : IsTotalOrder cmp) (k n : K) (old new : List (K × Vec X A)) (v : Vec X A) (equal : cmp k n ≡ Equal) (absent : is_some (lookup (is_at (cmp k)) old) ≡ false) (empty : v.items ≡ []) where
+module _ {K X A : Type 0} {cmp : K → K → Ordering} (o : IsTotalOrder cmp) (k n : K) (old new : List (K × Vec X A)) (v : Vec X A) (equal : cmp k n ≡ Equal)
+    (absent : is_some (lookup (is_at (cmp k)) old) ≡ false) (empty : v.items ≡ []) where
   none_new : lookup (is_at (cmp n)) old ≡ None
   none_new = sym (lookup-equal o k n equal old) ∙ none_of (lookup (is_at (cmp k)) old) absent
 
@@ -76,11 +74,3 @@ module _ {K X A : Type 0} {cmp : K → K → Ordering} (o : IsTotalOrder cmp) (k
             ap items_of (seen q) ∙ ap (λ b. items_of (cond b (Some v) (lookup (is_at (cmp q)) old))) e
             ∙ empty ∙ ap items_of (sym (sym (lookup-equal o n q ((Equal-is _).0 e) old) ∙ none_new))
         by false e = ap items_of (seen q) ∙ ap (λ b. items_of (cond b (Some v) (lookup (is_at (cmp q)) old))) e
-
-    -- another key finds what it found
-    pub others-new_key : (q : K) → is_eq (cmp k q) ≡ false → lookup (is_at (cmp q)) new ≡ lookup (is_at (cmp q)) old
-    others-new_key q other = seen q ∙ ap (λ r. cond (is_eq r) (Some v) (lookup (is_at (cmp q)) old)) (sym (o.congr k n q equal)) ∙ ap (λ b. cond b (Some v) (lookup (is_at (cmp q)) old)) other
-
-    -- and the key is known
-    pub has-new_key : IsSome (lookup (is_at (cmp k)) new)
-    has-new_key = ap is_some (seen k ∙ ap (λ r. cond (is_eq r) (Some v) (lookup (is_at (cmp k)) old)) (sym (o.congr k n k equal) ∙ tied_itself o k))

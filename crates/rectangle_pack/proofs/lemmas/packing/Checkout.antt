@@ -1,39 +1,18 @@
 -- Bins that are checked out of their map, and checked in.
-use Rattle.std.proofs.Common.{◌≡◌, ◌≤◌, ℕ, suc, zero, ◌<◌, List, [], ◌∷◌, ◌++◌, length, refl, ap, sym, ◌∙◌, cond, true, false, Bool, arith, get_or, subst}
-use Rattle.std.specs.Prelude.{Option, Some, None, IsSome, IfSome, map, set}
-use Rattle.std.specs.declared.cmp.Ordering.{Ordering}
-use Rattle.std.specs.Ordering.{is_eq, eq_by_cmp}
-use Rattle.std.specs.Cmp.{IsTotalOrder, Equal-is}
-use Rattle.std.specs.List.{IsDistinct, AllByRecursion}
-use Rattle.std.specs.Map.{lookup, set_value, keys_of}
-use Rattle.std.specs.BTreeMap.{is_at}
-use Rattle.std.proofs.lemmas.Map.{keys-set_value}
-use Rattle.std.proofs.lemmas.Map.Keys.{IsDistinct-head, IsDistinct-tail}
-use Rattle.std.proofs.lemmas.Map.Steps.{set_value_same}
-use Rattle.rectangle_pack.specs.Bins.{Bin, Held, IsSound}
-use Rattle.rectangle_pack.specs.private.Checkout.{Open, with_slots, closed, checked_in, BinsInUse, in_use, left_of, CanCheckIn, IsTriedIn, IsTried}
-use Rattle.rectangle_pack.specs.private.Slots.{Slots, sections_of}
+use Rattle.rectangle_pack.proofs.Std.{◌≡◌, ◌≤◌, ℕ, suc, zero, ◌<◌, List, [], ◌∷◌, ◌++◌, length, refl, ap, sym, ◌∙◌, true, false, Bool, arith, get_or, Option}
+use Rattle.rectangle_pack.proofs.Std.{Some, None, IsSome, map, set, Ordering, is_eq, eq_by_cmp, IsTotalOrder, Equal-is, IsDistinct, AllByRecursion, lookup}
+use Rattle.rectangle_pack.proofs.Std.{set_value, keys_of, is_at, keys-set_value, IsDistinct-head, IsDistinct-tail, set_value_same, inl, inr, cases_Bool}
+use Rattle.rectangle_pack.proofs.Std.{set-get_or}
+use Rattle.rectangle_pack.specs.Bins.{Held, IsSound}
+use Rattle.rectangle_pack.specs.private.Checkout.{Open, closed, checked_in, BinsInUse, in_use, left_of, CanCheckIn, IsTriedIn, IsTried}
 use Rattle.rectangle_pack.proofs.lemmas.util.Maps.{is_at-back, is_some-keys, set_value-twice, lookup-set_here}
-
--- sections in slots are sound where the bin's own and those that stand in slots are
-pub IsSound-with_slots : (bin : Bin) (room : ℕ) (slots : Option Slots) → IsSound bin.size bin.sections
-    → IfSome slots (λ s. IsSound bin.size (sections_of s.all) × (length (sections_of s.all) ≤ room))
-    → IsSound bin.size (with_slots bin slots).sections
-IsSound-with_slots bin room None sound h = sound
-IsSound-with_slots bin room (Some slots) sound h = h.0
-
--- and so are those that stand there
-pub IsSound-some : (bin : Bin) (room : ℕ) (slots : Option Slots) (there : Slots) → slots ≡ Some there
-    → IfSome slots (λ s. IsSound bin.size (sections_of s.all) × (length (sections_of s.all) ≤ room)) → IsSound bin.size (sections_of there.all)
-IsSound-some bin room None there is h = absurd cc
-IsSound-some bin room (Some slots) there is h = let same : slots ≡ there = cc in subst (λ (s : Slots). IsSound bin.size (sections_of s.all)) same h.0
 
 -- a bin of which nothing stands in slots goes back as it is
 closed-new : (kept : Bool) (held : Held) → closed kept (record { own = held; now = held.bin }) ≡ held
 closed-new true held = refl
 closed-new false held = refl
 
--- either way with the room of its own list
+-- and any bin with the room of its own list
 closed-room : (kept : Bool) (open' : Open) → (closed kept open').room ≡ open'.own.room
 closed-room true open' = refl
 closed-room false open' = refl
@@ -78,37 +57,30 @@ module _ {B : Type 0} {cmp : B → B → Ordering} (total : IsTotalOrder cmp) wh
   abbrev pub Differ : List (ℕ × B) → Type 0
   Differ order = IsDistinct (eq_by_cmp cmp) (map (λ (x : ℕ × B). x.1) order)
 
+  -- a key that equals one of two keys that differ differs from the other
+  differs : (a b k : B) → is_at (cmp a) b ≡ false → is_at (cmp a) k ≡ true → is_at (cmp b) k ≡ false
+  differs a b k apart same = is_at-back total b k ∙ sym (ap is_eq (total.congr a k b ((Equal-is _).0 same))) ∙ apart
+
   -- writes at two keys, in either order
-  pub set_value-swap : {X : Type 0} (a b : B) → is_at (cmp a) b ≡ false → (es : List (B × X)) (v w : X)
+  set_value-swap : {X : Type 0} (a b : B) → is_at (cmp a) b ≡ false → (es : List (B × X)) (v w : X)
       → set_value (is_at (cmp a)) (set_value (is_at (cmp b)) es v) w ≡ set_value (is_at (cmp b)) (set_value (is_at (cmp a)) es w) v
   set_value-swap a b apart [] v w = refl
-  set_value-swap {X} a b apart (e ∷ es) v w = at (is_at (cmp a) e.0) (is_at (cmp b) e.0) refl refl (set_value-swap a b apart es v w)
-    where
-      at : (x y : Bool) → is_at (cmp a) e.0 ≡ x → is_at (cmp b) e.0 ≡ y
-          → set_value (is_at (cmp a)) (set_value (is_at (cmp b)) es v) w ≡ set_value (is_at (cmp b)) (set_value (is_at (cmp a)) es w) v
-          → set_value (is_at (cmp a)) (cond y ((e.0, v) ∷ es) (e ∷ set_value (is_at (cmp b)) es v)) w ≡ set_value (is_at (cmp b))
-          (cond x ((e.0, w) ∷ es) (e ∷ set_value (is_at (cmp a)) es w)) v
-      at true true l r ih =
-          let same : is_at (cmp a) b ≡ true = ap is_eq (total.congr a e.0 b ((Equal-is _).0 l)) ∙ is_at-back total e.0 b ∙ r in
-          absurd cc
-      at true false l r ih = rw (l, r) refl
-      at false true l r ih = rw (l, r) refl
-      at false false l r ih = rw (l, r, ih) refl
+  set_value-swap a b apart (e ∷ es) v w = elim (cases_Bool (is_at (cmp a) e.0)) [
+    | inl here ↦ simp (here, differs a b e.0 apart here)
+    | inr off ↦ elim (cases_Bool (is_at (cmp b) e.0)) [
+      | inl here ↦ simp (off, here)
+      | inr other ↦ simp (off, other, set_value-swap a b apart es v w)
+    ]
+  ]
 
   -- a look-up at another key than the one that was written
-  pub lookup-elsewhere : {X : Type 0} (a b : B) → is_at (cmp a) b ≡ false → (es : List (B × X)) (v : X)
+  lookup-elsewhere : {X : Type 0} (a b : B) → is_at (cmp a) b ≡ false → (es : List (B × X)) (v : X)
       → lookup (is_at (cmp b)) (set_value (is_at (cmp a)) es v) ≡ lookup (is_at (cmp b)) es
   lookup-elsewhere a b apart [] v = refl
-  lookup-elsewhere {X} a b apart (e ∷ es) v = at (is_at (cmp a) e.0) (is_at (cmp b) e.0) refl refl (lookup-elsewhere a b apart es v)
-    where
-      at : (x y : Bool) → is_at (cmp a) e.0 ≡ x → is_at (cmp b) e.0 ≡ y → lookup (is_at (cmp b)) (set_value (is_at (cmp a)) es v) ≡ lookup (is_at (cmp b)) es
-          → lookup (is_at (cmp b)) (cond x ((e.0, v) ∷ es) (e ∷ set_value (is_at (cmp a)) es v)) ≡ cond y (Some e.1) (lookup (is_at (cmp b)) es)
-      at true true l r ih =
-          let same : is_at (cmp a) b ≡ true = ap is_eq (total.congr a e.0 b ((Equal-is _).0 l)) ∙ is_at-back total e.0 b ∙ r in
-          absurd cc
-      at true false l r ih = rw r refl
-      at false true l r ih = rw r refl
-      at false false l r ih = rw (r, ih) refl
+  lookup-elsewhere a b apart (e ∷ es) v = elim (cases_Bool (is_at (cmp a) e.0)) [
+    | inl here ↦ simp (here, differs a b e.0 apart here)
+    | inr off ↦ simp (off, lookup-elsewhere a b apart es v)
+  ]
 
   -- no bin that is out has this id
   abbrev pub IsNotOut : B → List (ℕ × B) → List Open → Type 0
@@ -145,8 +117,8 @@ module _ {B : Type 0} {cmp : B → B → Ordering} (total : IsTotalOrder cmp) wh
   IsNotOut-later [] (a ∷ out) i o distinct le within is = tt
   IsNotOut-later (x ∷ order) (a ∷ out) zero o distinct le within is = absurd (omega arith)
   IsNotOut-later (x ∷ order) (a ∷ out) (suc i) o distinct le within is = (
-    apart-at x.1 order i o (IsDistinct-head (eq_by_cmp cmp) x.1 (map (λ (y : ℕ × B). y.1) order) distinct) (omega arith) is,
-    IsNotOut-later order out i o (IsDistinct-tail (eq_by_cmp cmp) x.1 (map (λ (y : ℕ × B). y.1) order) distinct) (omega arith) (omega arith) is,
+    apart-at x.1 order i o (IsDistinct-head _ _ _ distinct) (omega arith) is,
+    IsNotOut-later order out i o (IsDistinct-tail _ _ _ distinct) (omega arith) (omega arith) is,
   )
 
   -- nor is one whose id is not among those of the order
@@ -156,7 +128,7 @@ module _ {B : Type 0} {cmp : B → B → Ordering} (total : IsTotalOrder cmp) wh
   IsNotOut-apart id [] (a ∷ out) apart = tt
   IsNotOut-apart id (o ∷ order) (a ∷ out) apart = (is_at-back total o.1 id ∙ apart.0, IsNotOut-apart id order out apart.1)
 
-  -- the next bin is checked out: with another in its place, the map with all bins checked in stays
+  -- the next bin is checked out, and another is written under its id: with all bins checked in, the map stays
   pub checked_in-out : (kept : Bool) (order : List (ℕ × B)) (out : List Open) (es : List (B × Held)) (o : ℕ × B) (held other : Held)
       → Differ order → length out < length order → o ≡ get_or order (length out) o
       → lookup (is_at (cmp o.1)) es ≡ Some held
@@ -193,81 +165,75 @@ module _ {B : Type 0} {cmp : B → B → Ordering} (total : IsTotalOrder cmp) wh
       at None is some = absurd cc
       at (Some v) is some = lookup-set_here test es v w is
 
-  -- a bin that is out is at its id in the map with all bins checked in
-  pub checked_in-found : (kept : Bool) (order : List (ℕ × B)) (out : List Open) (es : List (B × Held)) (i : ℕ) (o : ℕ × B) (open' : Open)
-      → Differ order → i < length out → i < length order → o ≡ get_or order i o → open' ≡ get_or out i open'
-      → IsSome (lookup (is_at (cmp o.1)) es) → lookup (is_at (cmp o.1)) (checked_in cmp kept order out es) ≡ Some (closed kept open')
-  checked_in-found kept [] out es i o open' distinct within in_order is is_open there = absurd (omega arith)
-  checked_in-found kept (x ∷ order) [] es i o open' distinct within in_order is is_open there = absurd (omega arith)
-  checked_in-found kept (x ∷ order) (a ∷ out) es zero o open' distinct within in_order is is_open there =
-      let place = IsNotOut-apart x.1 order out (IsDistinct-head (eq_by_cmp cmp) x.1 (map (λ (y : ℕ × B). y.1) order) distinct) in
-      rw (is, is_open) (lookup-checked_in kept x.1 order out (set_value (is_at (cmp x.1)) es (closed kept a)) place
-      ∙ found-written (is_at (cmp x.1)) es (closed kept a) (rw is at there))
-  checked_in-found kept (x ∷ order) (a ∷ out) es (suc i) o open' distinct within in_order is is_open there =
-      let test = is_at (cmp o.1) in
-      let written = set_value (is_at (cmp x.1)) es (closed kept a) in
-      checked_in-found kept order out written i o open' (IsDistinct-tail (eq_by_cmp cmp) x.1 (map (λ (y : ℕ × B). y.1) order) distinct) (omega arith)
-      (omega arith) is is_open
-      (is_some-keys test written es (keys-set_value (is_at (cmp x.1)) es (closed kept a)) ∙ there)
-
-  -- and what is written in the list is written there
+  -- what is written in the list of bins that are out is written at the bin's id
   pub checked_in-set : (kept : Bool) (order : List (ℕ × B)) (out : List Open) (es : List (B × Held)) (i : ℕ) (o : ℕ × B) (w : Open)
       → Differ order → i < length out → i < length order → o ≡ get_or order i o
       → checked_in cmp kept order (set out i w) es ≡ set_value (is_at (cmp o.1)) (checked_in cmp kept order out es) (closed kept w)
   checked_in-set kept [] out es i o w distinct within in_order is = absurd (omega arith)
   checked_in-set kept (x ∷ order) [] es i o w distinct within in_order is = absurd (omega arith)
   checked_in-set kept (x ∷ order) (a ∷ out) es zero o w distinct within in_order is =
-      let place = IsNotOut-apart x.1 order out (IsDistinct-head (eq_by_cmp cmp) x.1 (map (λ (y : ℕ × B). y.1) order) distinct) in
+      let place = IsNotOut-apart x.1 order out (IsDistinct-head _ _ _ distinct) in
       rw is (ap (checked_in cmp kept order out) (sym (set_value-twice (is_at (cmp x.1)) es (closed kept a) (closed kept w)))
       ∙ checked_in-written kept x.1 order out (set_value (is_at (cmp x.1)) es (closed kept a)) (closed kept w) place)
   checked_in-set kept (x ∷ order) (a ∷ out) es (suc i) o w distinct within in_order is =
       checked_in-set kept order out (set_value (is_at (cmp x.1)) es (closed kept a)) i o w
-      (IsDistinct-tail (eq_by_cmp cmp) x.1 (map (λ (y : ℕ × B). y.1) order) distinct) (omega arith) (omega arith) is
+      (IsDistinct-tail _ _ _ distinct) (omega arith) (omega arith) is
 
-  -- a bin that is out is tried
-  IsTriedIn-out : (kept : Bool) (order : List (ℕ × B)) (out : List Open) (es : List (B × Held)) (i : ℕ) (o : ℕ × B) (v w : Open)
-      → Differ order → i < length out → i < length order → o ≡ get_or order i o → v ≡ get_or out i v
-      → IsSome (lookup (is_at (cmp o.1)) es) → IsSound (closed kept v).bin.size (closed kept v).bin.sections → v.own.room ≤ w.own.room
-      → IsTriedIn cmp o.1 (checked_in cmp kept order out es) (closed kept v) (closed kept w) (checked_in cmp kept order (set out i w) es)
-  IsTriedIn-out kept order out es i o v w distinct within in_order is is_open there sound room = record {
-    found = checked_in-found kept order out es i o v distinct within in_order is is_open there;
-    sound = sound;
-    room = subst (λ n. n ≤ (closed kept w).room) (sym (closed-room kept v)) (subst (λ n. v.own.room ≤ n) (sym (closed-room kept w)) room);
-    written = checked_in-set kept order out es i o w distinct within in_order is;
-  }
+  keys-checked_in : (kept : Bool) (order : List (ℕ × B)) (out : List Open) (es : List (B × Held)) → keys_of (checked_in cmp kept order out es) ≡ keys_of es
+  keys-checked_in kept order [] es = refl
+  keys-checked_in kept [] (a ∷ out) es = refl
+  keys-checked_in kept (x ∷ order) (a ∷ out) es = keys-checked_in kept order out _ ∙ keys-set_value (is_at (cmp x.1)) es (closed kept a)
 
-  -- and so is one that is still in the map
-  IsTriedIn-map : (kept : Bool) (order : List (ℕ × B)) (out : List Open) (es : List (B × Held)) (i : ℕ) (o : ℕ × B) (v w : Held)
-      → Differ order → length out ≤ i → i < length order → o ≡ get_or order i o
-      → lookup (is_at (cmp o.1)) es ≡ Some v → IsSound v.bin.size v.bin.sections → v.room ≤ w.room
-      → IsTriedIn cmp o.1 (checked_in cmp kept order out es) v w (checked_in cmp kept order out (set_value (is_at (cmp o.1)) es w))
-  IsTriedIn-map kept order out es i o v w distinct past in_order is found sound room =
-      let place = IsNotOut-later order out i o distinct past in_order is in
-      record {
-        found = lookup-checked_in kept o.1 order out es place ∙ found;
-        sound = sound;
-        room = room;
-        written = checked_in-written kept o.1 order out es w place;
-      }
+  module _ (order : List (ℕ × B)) (out : List Open) (es : List (B × Held)) (i : ℕ) (o : ℕ × B) (distinct : Differ order) (in_order : i < length order)
+      (is : o ≡ get_or order i o) where
+    -- a bin that is out is at its id in the map with all bins checked in
+    checked_in-found : (kept : Bool) (v : Open) → i < length out → v ≡ get_or out i v → IsSome (lookup (is_at (cmp o.1)) es)
+        → lookup (is_at (cmp o.1)) (checked_in cmp kept order out es) ≡ Some (closed kept v)
+    checked_in-found kept v within is_open there =
+        let test = is_at (cmp o.1) in
+        let all = checked_in cmp kept order out es in
+        let same : set out i v ≡ out = rw is_open (set-get_or out i v) in
+        ap (λ l. lookup test (checked_in cmp kept order l es)) (sym same)
+        ∙ ap (lookup test) (checked_in-set kept order out es i o v distinct within in_order is)
+        ∙ found-written test all (closed kept v) (is_some-keys test all es (keys-checked_in kept order out es) ∙ there)
 
-  -- so the bins in use are those of before, with one tried
-  pub IsTried-out : (order : List (ℕ × B)) (out : List Open) (es : List (B × Held)) (i : ℕ) (o : ℕ × B) (v w : Open)
-      → Differ order → i < length out → i < length order → o ≡ get_or order i o → v ≡ get_or out i v
-      → IsSome (lookup (is_at (cmp o.1)) es) → IsSound v.own.bin.size v.own.bin.sections → IsSound v.now.size v.now.sections → v.own.room ≤ w.own.room
-      → IsTried cmp o.1 (in_use cmp order out es) v w (in_use cmp order (set out i w) es)
-  IsTried-out order out es i o v w distinct within in_order is is_open there sound sound_now room = record {
-    kept = IsTriedIn-out true order out es i o v w distinct within in_order is is_open there sound_now room;
-    own = IsTriedIn-out false order out es i o v w distinct within in_order is is_open there sound room;
-    order = refl;
-  }
+    -- a bin that is out is tried
+    IsTriedIn-out : (kept : Bool) (v w : Open) → i < length out → v ≡ get_or out i v → IsSome (lookup (is_at (cmp o.1)) es)
+        → IsSound (closed kept v).bin.size (closed kept v).bin.sections → v.own.room ≤ w.own.room
+        → IsTriedIn cmp o.1 (checked_in cmp kept order out es) (closed kept v) (closed kept w) (checked_in cmp kept order (set out i w) es)
+    IsTriedIn-out kept v w within is_open there sound room = record {
+      found = checked_in-found kept v within is_open there;
+      sound = sound;
+      room = rw (closed-room kept v, closed-room kept w) room;
+      written = checked_in-set kept order out es i o w distinct within in_order is;
+    }
 
-  pub IsTried-map : (order : List (ℕ × B)) (out : List Open) (es : List (B × Held)) (i : ℕ) (o : ℕ × B) (v w : Held)
-      → Differ order → length out ≤ i → i < length order → o ≡ get_or order i o
-      → lookup (is_at (cmp o.1)) es ≡ Some v → IsSound v.bin.size v.bin.sections → v.room ≤ w.room
-      → IsTried cmp o.1 (in_use cmp order out es) (record { own = v; now = v.bin }) (record { own = w; now = w.bin })
-      (in_use cmp order out (set_value (is_at (cmp o.1)) es w))
-  IsTried-map order out es i o v w distinct past in_order is found sound room = record {
-    kept = IsTriedIn-map true order out es i o v w distinct past in_order is found sound room;
-    own = IsTriedIn-map false order out es i o v w distinct past in_order is found sound room;
-    order = refl;
-  }
+    -- and so is one that is still in the map
+    IsTriedIn-map : (kept : Bool) (v w : Held) → length out ≤ i → lookup (is_at (cmp o.1)) es ≡ Some v → IsSound v.bin.size v.bin.sections → v.room ≤ w.room
+        → IsTriedIn cmp o.1 (checked_in cmp kept order out es) v w (checked_in cmp kept order out (set_value (is_at (cmp o.1)) es w))
+    IsTriedIn-map kept v w past found sound room =
+        let apart = IsNotOut-later order out i o distinct past in_order is in record {
+          found = lookup-checked_in kept o.1 order out es apart ∙ found;
+          sound = sound;
+          room = room;
+          written = checked_in-written kept o.1 order out es w apart;
+        }
+
+    -- so the bins in use are those of before, with one tried
+    pub IsTried-out : (v w : Open) → i < length out → v ≡ get_or out i v → IsSome (lookup (is_at (cmp o.1)) es)
+        → IsSound v.own.bin.size v.own.bin.sections → IsSound v.now.size v.now.sections → v.own.room ≤ w.own.room
+        → IsTried cmp o.1 (in_use cmp order out es) v w (in_use cmp order (set out i w) es)
+    IsTried-out v w within is_open there sound sound_now room = record {
+      kept = IsTriedIn-out true v w within is_open there sound_now room;
+      own = IsTriedIn-out false v w within is_open there sound room;
+      order = refl;
+    }
+
+    pub IsTried-map : (v w : Held) → length out ≤ i → lookup (is_at (cmp o.1)) es ≡ Some v → IsSound v.bin.size v.bin.sections → v.room ≤ w.room
+        → IsTried cmp o.1 (in_use cmp order out es) (record { own = v; now = v.bin }) (record { own = w; now = w.bin })
+        (in_use cmp order out (set_value (is_at (cmp o.1)) es w))
+    IsTried-map v w past found sound room = record {
+      kept = IsTriedIn-map true v w past found sound room;
+      own = IsTriedIn-map false v w past found sound room;
+      order = refl;
+    }

@@ -1,16 +1,8 @@
 -- What each change of a bin's boxes keeps: a step, a trial, a group that is placed, a packing.
-use Rattle.std.proofs.Common.{◌≡◌, ℕ, List, [], ◌∷◌, ◌++◌, refl, ap, sym, ◌∙◌, cond, true, false, Bool, arith, append-nil, append_assoc}
-use Rattle.std.specs.Prelude.{Some, All}
-use Rattle.std.specs.List.Sorted.{IsPermutation}
-use Rattle.std.specs.declared.cmp.Ordering.{Ordering}
-use Rattle.std.specs.declared.cmp.Ordering.TheVariants.{Equal}
-use Rattle.std.specs.Cmp.{IsTotalOrder, Equal-is}
-use Rattle.std.specs.Ordering.{is_eq}
-use Rattle.std.specs.Map.{lookup}
-use Rattle.std.specs.BTreeMap.{is_at}
-use Rattle.std.proofs.lemmas.List.Elements.{All-tail, All-append, All-push, All-weaker}
-use Rattle.std.proofs.lemmas.List.Sorted.{IsPermutation-refl, IsPermutation-trans, IsPermutation-append_right, IsPermutation-append_comm, IsPermutation-middle}
-use Rattle.std.proofs.lemmas.List.Sorted.{All-permutation}
+use Rattle.rectangle_pack.proofs.Std.{◌≡◌, ℕ, List, [], ◌∷◌, ◌++◌, refl, ap, sym, ◌∙◌, cond, true, false, Bool, arith, append-nil, append_assoc, Some, All}
+use Rattle.rectangle_pack.proofs.Std.{IsPermutation, Ordering, Equal, IsTotalOrder, Equal-is, is_eq, lookup, is_at, All-tail, All-append, All-push, All-weaker}
+use Rattle.rectangle_pack.proofs.Std.{IsPermutation-refl, IsPermutation-trans, IsPermutation-append_right, IsPermutation-append_comm, IsPermutation-middle}
+use Rattle.rectangle_pack.proofs.Std.{All-permutation}
 use Rattle.rectangle_pack.specs.declared.pack.answer.Placement.{Placement}
 use Rattle.rectangle_pack.specs.Boxes.{Size, Cuboid, Cell, IsInside, IsPartOf, has_cells}
 use Rattle.rectangle_pack.specs.Bins.{Bin}

@@ -1,67 +1,48 @@
--- groups that are placed
+-- Groups that are placed, one after another.
 use lib.Dec.{eqb-suc-zero}
-use Rattle.std.proofs.Common.{◌≡◌, ℕ, suc, ◌+◌, ◌<◌, ◌≤◌, List, [], ◌∷◌, ◌++◌, length, take, drop, refl, ap, sym, ◌∙◌, subst, cond, true, false, Bool, arith, get_or, append_assoc, append-nil}
-use Rattle.std.specs.Prelude.{Option, Some, None, map, sum, All, IsTrue, ◌↔◌, nat_eq, if◌then◌else◌, Result, Ok, Err, IfOk, MatchBool, MatchOption}
-use Rattle.std.specs.declared.cmp.Ordering.{Ordering}
-use Rattle.std.specs.declared.cmp.Ordering.TheVariants.{Equal}
-use Rattle.std.specs.Ordering.{is_eq}
-use Rattle.std.specs.Cmp.{IsTotalOrder, Equal-is}
-use Rattle.std.specs.List.{AllZip, sum_by}
-use Rattle.std.specs.Bool.{OnTrue}
-use Rattle.std.proofs.lemmas.List.Sums.{sum_by-cons}
-use Rattle.std.proofs.lemmas.List.{length-append}
-use Rattle.std.specs.Map.{lookup, set_value, keys_of}
-use Rattle.std.specs.List.Sorted.{IsStrictlySortedBy}
-use Rattle.std.specs.Option.{option_map}
-use Rattle.std.specs.BTreeMap.{is_at}
-use Rattle.std.proofs.Math.Seq.{split_at}
-use Rattle.std.proofs.lemmas.List.{take_more, map-append, take-append-drop, length-map}
-use Rattle.std.specs.declared.vec.Vec.{Vec}
-use Rattle.std.specs.declared.cmp.Reverse.{Reverse}
-use Rattle.std.specs.Borrow.{Bor}
+use Rattle.rectangle_pack.proofs.Std.{◌≡◌, ℕ, suc, ◌+◌, ◌<◌, ◌≤◌, List, [], ◌∷◌, ◌++◌, length, take, drop, refl, ap, sym, ◌∙◌, subst, cond, true, false, Bool}
+use Rattle.rectangle_pack.proofs.Std.{arith, get_or, append_assoc, append-nil, Option, Some, None, map, sum, All, IsTrue, ◌↔◌, nat_eq, if◌then◌else◌, Result}
+use Rattle.rectangle_pack.proofs.Std.{Ok, Err, IfOk, MatchBool, MatchOption, Ordering, Equal, is_eq, IsTotalOrder, Equal-is, AllZip, sum_by, sum_by-cons}
+use Rattle.rectangle_pack.proofs.Std.{length-append, lookup, set_value, keys_of, IsStrictlySortedBy, option_map, is_at, split_at, take_more, map-append}
+use Rattle.rectangle_pack.proofs.Std.{length-map, Vec, All-push, All-nil, sum-map}
+use Rattle.rectangle_pack.specs.declared.pack.order.OrderedGroup.{OrderedGroup}
 use Rattle.rectangle_pack.specs.Closures.{Answers}
 use Rattle.rectangle_pack.specs.Groups.{Collection, lists_of}
 use Rattle.rectangle_pack.specs.private.Orders.{keys_of_order, entries_at}
-use Rattle.std.proofs.lemmas.List.Elements.{All-push, All-nil}
 use Rattle.rectangle_pack.specs.declared.pack.journal.DoneTrial.{DoneTrial}
 use Rattle.rectangle_pack.specs.declared.grouped_rects_to_place.Group.{Group}
 use Rattle.rectangle_pack.specs.declared.pack.answer.Placement.{Placement}
-use Rattle.rectangle_pack.specs.Bins.{Bin, Held, IsSound}
-use Rattle.rectangle_pack.specs.Packing.{Rules, bins_of, Members, Stage, at_start, IsPlaced, DoesNotTake, IsStuckIn, IsRefused, AreAllPlaced, AreGroups, StopsAfter, PackingDone}
+use Rattle.rectangle_pack.specs.Bins.{Bin, Held}
+use Rattle.rectangle_pack.specs.Packing.{Rules, bins_of, Members, Stage, at_start, IsPlaced, DoesNotTake, IsRefused, AreAllPlaced, AreGroups, StopsAfter}
+use Rattle.rectangle_pack.specs.Packing.{PackingDone}
 use Rattle.rectangle_pack.specs.Boxes.{Size, Cuboid}
 use Rattle.rectangle_pack.specs.declared.target_bin.trial.Note.{Note}
-use Rattle.rectangle_pack.specs.private.Notes.{before_notes, CanUndo, LeadsBack}
+use Rattle.rectangle_pack.specs.private.Notes.{before_notes, LeadsBack}
 use Rattle.rectangle_pack.specs.Steps.{IsDone}
 use Rattle.rectangle_pack.specs.Placed.{AreNamed, IsLastOf, AreLastPlacements}
 use Rattle.rectangle_pack.specs.private.Checkout.{IsTriedIn}
 use Rattle.rectangle_pack.specs.private.RollBack.{GoesBack, trials_noted}
-use Rattle.rectangle_pack.proofs.lemmas.packing.Orders.{AllZip-more}
-use Rattle.rectangle_pack.proofs.lemmas.util.Maps.{is_eq-back}
+use Rattle.rectangle_pack.proofs.lemmas.packing.Orders.{AllZip-more, map-split, AllZip-next, AllZip-equal}
 use Rattle.rectangle_pack.proofs.lemmas.packing.RollBack.{bins_of-written, lookup-bins_of, IsRoomier-grown, IsRoomier-bins, GoesBack-more, GoesBack-pushed}
+use Rattle.rectangle_pack.proofs.lemmas.determinism.OneOrder.{length-zip}
+use Rattle.rectangle_pack.proofs.lemmas.util.Maps.{is_at-back, congr_right}
 
 -- a trial that is stuck, or refused memory, may leave its bin more room
-pub GoesBack-grown : {B A : Type 0} (cmp : B → B → Ordering) (now : List (B × Held)) (journal : List (DoneTrial B A)) (id : B) (v w : Held) (start : List (B × Bin))
-    → lookup (is_at (cmp id)) now ≡ Some v → w.bin ≡ v.bin → v.room ≤ w.room → GoesBack cmp now journal start → GoesBack cmp (set_value (is_at (cmp id)) now w) journal start
+pub GoesBack-grown : {B A : Type 0} (cmp : B → B → Ordering) (now : List (B × Held)) (journal : List (DoneTrial B A)) (id : B)
+    (v w : Held) (start : List (B × Bin))
+    → lookup (is_at (cmp id)) now ≡ Some v → w.bin ≡ v.bin → v.room ≤ w.room → GoesBack cmp now journal start
+    → GoesBack cmp (set_value (is_at (cmp id)) now w) journal start
 GoesBack-grown cmp now journal id v w start found same more h =
     GoesBack-more cmp now _ journal start (IsRoomier-grown (is_at (cmp id)) now v w found (record { bin = same; room = more })) h
 
 -- and its sections stay
-pub bins_of-grown : {B : Type 0} (test : B → Bool) (now : List (B × Held)) (v w : Held) → lookup test now ≡ Some v → w.bin ≡ v.bin → v.room ≤ w.room → bins_of (set_value test now w) ≡ bins_of now
+pub bins_of-grown : {B : Type 0} (test : B → Bool) (now : List (B × Held)) (v w : Held) → lookup test now ≡ Some v → w.bin ≡ v.bin → v.room ≤ w.room
+    → bins_of (set_value test now w) ≡ bins_of now
 bins_of-grown test now v w found same more = IsRoomier-bins now (set_value test now w) (IsRoomier-grown test now v w found (record { bin = same; room = more }))
 
--- a trial that is done and noted
-pub GoesBack-done : {B A : Type 0} (cmp : B → B → Ordering) (now : List (B × Held)) (journal new : List (DoneTrial B A)) (e : DoneTrial B A) (v w : Held) (start : List (B × Bin))
-    → lookup (is_at (cmp e.id.now)) now ≡ Some v → new ≡ journal ++ e ∷ []
-    → w.bin ≡ record v.bin { sections = w.bin.sections } → before_notes e.notes.items w.bin.sections ≡ v.bin.sections → CanUndo w.room e.notes.items w.bin.sections → IsSound v.bin.size v.bin.sections → v.room ≤ w.room
-    → GoesBack cmp now journal start → GoesBack cmp (set_value (is_at (cmp e.id.now)) now w) new start
-GoesBack-done cmp now journal new e v w start found pushed rest before can sound more h =
-    GoesBack-pushed cmp now journal new e v w start pushed found
-    (record { can = can; sound = rw (ap (λ (b : Bin). b.size) rest, before) sound })
-    (record { bin = ap (λ (b : Bin). record b { sections = before_notes e.notes.items w.bin.sections }) rest ∙ ap (λ (s : List Cuboid). record v.bin { sections = s }) before; room = more })
-    h
-
--- and one in the bin of an id, where the bins are those of before, and where it leaves no notes, the bin's own list stays
-pub GoesBack-tried : {B A : Type 0} (cmp : B → B → Ordering) (first now next : List (B × Held)) (journal new : List (DoneTrial B A)) (e : DoneTrial B A) (v w : Held) (start : List (B × Bin))
+-- a done trial in the bin of an id is noted; where it leaves no notes, the bin keeps its list
+pub GoesBack-tried : {B A : Type 0} (cmp : B → B → Ordering) (first now next : List (B × Held)) (journal new : List (DoneTrial B A)) (e : DoneTrial B A)
+    (v w : Held) (start : List (B × Bin))
     → IsTriedIn cmp e.id.now now v w next → now ≡ first → new ≡ journal ++ trials_noted e
     → w.bin ≡ record v.bin { sections = w.bin.sections } → LeadsBack w.room w.bin.sections e.notes.items v.bin.sections
     → GoesBack cmp first journal start → GoesBack cmp next new start
@@ -70,35 +51,57 @@ GoesBack-tried {B} {A} cmp first now next journal new e v w start tried same pus
     start_now : GoesBack cmp now journal start
     start_now = rw same h
 
-    at : (notes : List Note) → e.notes.items ≡ notes → new ≡ journal ++ (if nat_eq (length notes) 0 then [] else e ∷ []) → before_notes notes w.bin.sections ≡ v.bin.sections → GoesBack cmp (set_value (is_at (cmp e.id.now)) now w) new start
+    at : (notes : List Note) → e.notes.items ≡ notes → new ≡ journal ++ (if nat_eq (length notes) 0 then [] else e ∷ [])
+        → before_notes notes w.bin.sections ≡ v.bin.sections → GoesBack cmp (set_value (is_at (cmp e.id.now)) now w) new start
     at [] none is before =
         let stays : w.bin ≡ v.bin = rest ∙ ap (λ (s : List Cuboid). record v.bin { sections = s }) before in
         subst (λ (js : List (DoneTrial B A)). GoesBack cmp (set_value (is_at (cmp e.id.now)) now w) js start) (sym (is ∙ append-nil journal))
         (GoesBack-grown cmp now journal e.id.now v w start tried.found stays tried.room start_now)
     at (note ∷ notes) some is before =
         let more : new ≡ journal ++ e ∷ [] = is ∙ ap (λ b. journal ++ (if b then [] else e ∷ [])) (eqb-suc-zero (length notes)) in
-        GoesBack-done cmp now journal new e v w start tried.found more rest back.before back.can tried.sound tried.room start_now
+        GoesBack-pushed cmp now journal new e v w start more tried.found
+        (record { can = back.can; sound = rw (ap (λ (b : Bin). b.size) rest, back.before) tried.sound })
+        (record {
+          bin = ap (λ (b : Bin). record b { sections = before_notes e.notes.items w.bin.sections }) rest
+              ∙ ap (λ (s : List Cuboid). record v.bin { sections = s }) back.before;
+          room = tried.room;
+        })
+        start_now
 
 -- what a look-up finds, without its room
-pub found-bins_of : {B : Type 0} (test : B → Bool) (now : List (B × Held)) (old : List (B × Bin)) (v : Held) → bins_of now ≡ old → lookup test now ≡ Some v → lookup test old ≡ Some v.bin
+pub found-bins_of : {B : Type 0} (test : B → Bool) (now : List (B × Held)) (old : List (B × Bin)) (v : Held) → bins_of now ≡ old → lookup test now ≡ Some v
+    → lookup test old ≡ Some v.bin
 found-bins_of test now old v same found = rw (← same) (lookup-bins_of test now ∙ ap (option_map (λ (h : Held). h.bin)) found)
 
 -- the names of an order, split at an index
-pub names-split : {B : Type 0} (order : List (ℕ × B)) (i : ℕ) (o : ℕ × B) → i < length order → o ≡ get_or order i o → map (λ (x : ℕ × B). x.1) order ≡ map (λ (x : ℕ × B). x.1) (take i order) ++ o.1 ∷ map (λ (x : ℕ × B). x.1) (drop (suc i) order)
+pub names-split : {B : Type 0} (order : List (ℕ × B)) (i : ℕ) (o : ℕ × B) → i < length order → o ≡ get_or order i o
+    → map (λ (x : ℕ × B). x.1) order ≡ map (λ (x : ℕ × B). x.1) (take i order) ++ o.1 ∷ map (λ (x : ℕ × B). x.1) (drop (suc i) order)
 names-split {B} order i o within is =
-    let split : order ≡ take i order ++ o ∷ drop (suc i) order = subst (λ z. order ≡ take i order ++ z ∷ drop (suc i) order) (sym is) (split_at order i o within) in
+    let split : order ≡ take i order ++ o ∷ drop (suc i) order = subst
+    (λ z. order ≡ take i order ++ z ∷ drop (suc i) order) (sym is) (split_at order i o within) in
     ap (map (λ (x : ℕ × B). x.1)) split ∙ map-append (λ (x : ℕ × B). x.1) (take i order) (o ∷ drop (suc i) order)
 
--- a done trial has one location for each member
-pub IsDone-length : (may : Answers) (sections : List Cuboid) (ms : List Size) (ls : List Cuboid) (last : List Cuboid) (n : ℕ) → IsDone may sections ms ls last n → length ms ≡ length ls
-IsDone-length may sections [] ls last n h = rw h.0 refl
-IsDone-length may sections (m ∷ ms) [] last n h = absurd h
-IsDone-length may sections (m ∷ ms) (l ∷ ls) last n (next, one, rest, step, done, count) = let e = IsDone-length may next ms ls last rest done in omega arith
+-- each location of a done trial has the size of its member
+pub IsDone-sizes : (may : Answers) (sections : List Cuboid) (ms : List Size) (ls last : List Cuboid) (n : ℕ) → IsDone may sections ms ls last n
+    → map (λ l. l.whd) ls ≡ ms
+IsDone-sizes may sections [] ls last n done = ap (map (λ l. l.whd)) done.0
+IsDone-sizes may sections (m ∷ ms) [] last n done = absurd done
+IsDone-sizes may sections (m ∷ ms) (l ∷ ls) last n (next, one, others, step, done, count) =
+    let here : l.whd ≡ m = ap (λ (b : Cuboid). b.whd) step.location_is in
+    let rest = IsDone-sizes may next ms ls last others done in
+    cc
+
+-- so there are as many
+pub IsDone-length : (may : Answers) (sections : List Cuboid) (ms : List Size) (ls last : List Cuboid) (n : ℕ) → IsDone may sections ms ls last n
+    → length ms ≡ length ls
+IsDone-length may sections ms ls last n done = ap length (sym (IsDone-sizes may sections ms ls last n done)) ∙ length-map ls (λ l. l.whd)
 
 -- one more name
-pub AreNamed-more : {Id B : Type 0} (cmp : Id → Id → Ordering) (bin_cmp : B → B → Ordering) (ids : List Id) (here : B) (locations : List Cuboid) (i : ℕ) (x id : Id) (bin : B) (e : Cuboid) (added : List (Placement Id B))
+pub AreNamed-more : {Id B : Type 0} (cmp : Id → Id → Ordering) (bin_cmp : B → B → Ordering) (ids : List Id) (here : B) (locations : List Cuboid) (i : ℕ)
+    (x id : Id) (bin : B) (e : Cuboid) (added : List (Placement Id B))
     → i < length ids → i < length locations → x ≡ get_or ids i x → e ≡ get_or locations i e → cmp x id ≡ Equal → bin_cmp here bin ≡ Equal
-    → AreNamed cmp bin_cmp (take i ids) here (take i locations) added → AreNamed cmp bin_cmp (take (i + 1) ids) here (take (i + 1) locations) (added ++ record { id = id; bin = bin; location = e } ∷ [])
+    → AreNamed cmp bin_cmp (take i ids) here (take i locations) added
+    → AreNamed cmp bin_cmp (take (i + 1) ids) here (take (i + 1) locations) (added ++ record { id = id; bin = bin; location = e } ∷ [])
 AreNamed-more {Id} {B} cmp bin_cmp ids here locations i x id bin e added in_ids in_locations is is_location same same_bin h =
     let p : Placement Id B = record { id = id; bin = bin; location = e } in record {
       named = rw (take_more ids i x in_ids) (AllZip-more _ (take i ids) added (get_or ids i x) p h.named (rw (← is) same));
@@ -109,13 +112,6 @@ AreNamed-more {Id} {B} cmp bin_cmp ids here locations i x id bin e added in_ids 
 -- the sizes of a list of ids
 abbrev pub AreSizesOf : {Id : Type 0} → (Id → Id → Ordering) → List (Id × Size) → List Id → List Size → Type 0
 AreSizesOf cmp sizes ids found = AllZip (λ id size. lookup (is_at (cmp id)) sizes ≡ Some size) ids found
-
--- of which there are as many
-pub AreSizesOf-length : {Id : Type 0} (cmp : Id → Id → Ordering) (sizes : List (Id × Size)) (ids : List Id) (found : List Size) → AreSizesOf cmp sizes ids found → length ids ≡ length found
-AreSizesOf-length cmp sizes [] [] h = refl
-AreSizesOf-length cmp sizes [] (m ∷ ms) h = absurd h
-AreSizesOf-length cmp sizes (x ∷ xs) [] h = absurd h
-AreSizesOf-length cmp sizes (x ∷ xs) (m ∷ ms) h = let e = AreSizesOf-length cmp sizes xs ms h.1 in omega arith
 
 module _ {Id B : Type 0} (rules : Rules Id B) where
   -- the group is placed in the bin that the loop is at
@@ -149,7 +145,7 @@ module _ {Id B : Type 0} (rules : Rules Id B) where
     refl,
   )
 
-  -- where the order and the excluded bins are given in another way, the group goes to the same bin
+  -- with an equal order and equal excluded bins, the group goes to the same bin
   IsPlaced-alike : (a b : B → Bool) (order names : List B) (group : Members Id) (old : List (B × Bin)) (added : List (Placement Id B)) (new : List (B × Bin))
       (count : ℕ) (here : B) → a ≡ b → order ≡ names → (p : IsPlaced rules a order group old added new count) → p.here ≡ here
       → (q : IsPlaced rules b names group old added new count) × (q.here ≡ here)
@@ -157,36 +153,30 @@ module _ {Id B : Type 0} (rules : Rules Id B) where
       let P : (B → Bool) → List B → Type 0 = λ (x : B → Bool) (ns : List B). (q : IsPlaced rules x ns group old added new count) × (q.here ≡ here) in
       subst (P b) same_order (subst (λ (x : B → Bool). P x order) same (p, is))
 
-  -- one more bin is passed over
-  pub DoesNotTake-more : (excluded : B → Bool) (old : List (B × Bin)) (group : Members Id) (order : List (ℕ × B)) (i : ℕ) (o : ℕ × B) (counts : List ℕ) (count : ℕ)
-      → i < length order → o ≡ get_or order i o → DoesNotTake rules excluded old group o.1 count
-      → AllZip (DoesNotTake rules excluded old group) (map (λ (x : ℕ × B). x.1) (take i order)) counts
-      → AllZip (DoesNotTake rules excluded old group) (map (λ (x : ℕ × B). x.1) (take (i + 1) order)) (counts ++ count ∷ [])
-  DoesNotTake-more excluded old group order i o counts count within is here before =
-      let same : map (λ (x : ℕ × B). x.1) (take (i + 1) order) ≡ map (λ (x : ℕ × B). x.1) (take i order) ++ o.1 ∷ [] = ap (map (λ (x : ℕ × B). x.1)) (take_more order i o within) ∙ map-append (λ (x : ℕ × B). x.1) (take i order) (get_or order i o ∷ []) ∙ ap (λ (z : ℕ × B). map (λ (x : ℕ × B). x.1) (take i order) ++ z.1 ∷ []) (sym is) in
-      let P : B → ℕ → Type 0 = DoesNotTake rules excluded old group in
-      subst (λ ns. AllZip P ns (counts ++ count ∷ [])) (sym same) (AllZip-more P (map (λ (x : ℕ × B). x.1) (take i order)) counts o.1 count before here)
-
-  -- a bin that is excluded is passed over
-  pub DoesNotTake-excluded : (excluded : B → Bool) (old : List (B × Bin)) (group : Members Id) (id : B) → excluded id ≡ true → DoesNotTake rules excluded old group id 0
-  DoesNotTake-excluded excluded old group id h = rw h refl
-
-  -- and so is one in which the trial is stuck
-  pub DoesNotTake-stuck : (excluded : B → Bool) (old : List (B × Bin)) (group : Members Id) (id : B) (count : ℕ) → excluded id ≡ false → IsStuckIn rules old group id count → DoesNotTake rules excluded old group id count
-  DoesNotTake-stuck excluded old group id count h stuck = rw h stuck
-
   module _ {K : Type 0} (excludes : List (K × B) → K → B → Bool) where
     -- one more group is placed
-    AreAllPlaced-push : (order : List B) (gs : List (K × Members Id)) (g : K × Members Id) (old : Stage K B) (mid : List (B × Bin)) (homes : List (K × B)) (next : List (B × Bin)) (placements added : List (Placement Id B)) (tests one : ℕ)
+    AreAllPlaced-push : (order : List B) (gs : List (K × Members Id)) (g : K × Members Id) (old : Stage K B) (mid : List (B × Bin)) (homes : List (K × B))
+        (next : List (B × Bin)) (placements added : List (Placement Id B)) (tests one : ℕ)
         → AreAllPlaced rules excludes order gs old placements (record { bins = mid; homes = homes }) tests
         → (p : IsPlaced rules (excludes homes g.0) order g.1 mid added next one)
         → AreAllPlaced rules excludes order (gs ++ g ∷ []) old (placements ++ added) (record { bins = next; homes = (g.0, p.here) ∷ homes }) (tests + one)
     AreAllPlaced-push order [] g old mid homes next placements added tests one done placed =
         let S : Stage K B = record { bins = mid; homes = homes } in
-        subst (λ (s : Stage K B). AreAllPlaced rules excludes order (g ∷ []) s (placements ++ added) (record { bins = next; homes = (g.0, placed.here) ∷ homes }) (tests + one)) done.1
+        subst (λ (s : Stage K B). AreAllPlaced rules excludes order (g ∷ []) s (placements ++ added)
+        (record { bins = next; homes = (g.0, placed.here) ∷ homes }) (tests + one)) done.1
         (added, next, one, [], 0, placed, (refl, refl, refl), ap (λ ps. ps ++ added) done.0 ∙ sym (append-nil added), (let z = done.2 in omega arith))
-    AreAllPlaced-push order (g' ∷ gs) g old mid homes next placements added tests one (first, mid', n, rest, m, here, later, joined, counted) placed =
-        (first, mid', n, rest ++ added, m + one, here, AreAllPlaced-push order gs g (record { bins = mid'; homes = (g'.0, here.here) ∷ old.homes }) mid homes next rest added m one later placed, rw joined (append_assoc first rest added), omega arith)
+    AreAllPlaced-push order (g' ∷ gs) g old mid homes next placements added tests one (first, mid', n, rest, m, here, later, joined, counted) placed = (
+      first,
+      mid',
+      n,
+      rest ++ added,
+      m + one,
+      here,
+      AreAllPlaced-push order gs g (record { bins = mid'; homes = (g'.0, here.here) ∷ old.homes }) mid homes
+          next rest added m one later placed,
+      rw joined (append_assoc first rest added),
+      omega arith,
+    )
 
     -- and it is known where it went
     pub AreAllPlaced-next : (excluded : B → Bool) (order names : List B) (gs : List (K × Members Id)) (g : K × Members Id) (old : Stage K B)
@@ -203,26 +193,30 @@ module _ {Id B : Type 0} (rules : Rules Id B) where
 
   module _ {K : Type 0} (group_cmp : K → K → Ordering) where
     -- one more group is named
-    pub AreGroups-more : {X Y : Type 0} (sizes : List (Id × Size)) (lists : List (K × List Id)) (order : List (Reverse ℕ × Bor K × X × Y)) (i : ℕ) (o : Reverse ℕ × Bor K × X × Y) (gs : List (K × Members Id)) (group : Members Id)
-        → i < length order → o ≡ get_or order i o → lookup (is_at (group_cmp o.1.now)) lists ≡ Some group.ids → AreSizesOf rules.id_cmp sizes group.ids group.sizes
-        → AreGroups rules.id_cmp group_cmp sizes lists (keys_of_order (take i order)) gs → AreGroups rules.id_cmp group_cmp sizes lists (keys_of_order (take (i + 1) order)) (gs ++ (o.1.now, group) ∷ [])
+    pub AreGroups-more : {X Y : Type 0} (sizes : List (Id × Size)) (lists : List (K × List Id)) (order : List (OrderedGroup K X Y)) (i : ℕ)
+        (o : OrderedGroup K X Y) (gs : List (K × Members Id)) (group : Members Id)
+        → i < length order → o ≡ get_or order i o → lookup (is_at (group_cmp o.name.now)) lists ≡ Some group.ids
+        → AreSizesOf rules.id_cmp sizes group.ids group.sizes
+        → AreGroups rules.id_cmp group_cmp sizes lists (keys_of_order (take i order)) gs
+        → AreGroups rules.id_cmp group_cmp sizes lists (keys_of_order (take (i + 1) order)) (gs ++ (o.name.now, group) ∷ [])
     AreGroups-more {X} {Y} sizes lists order i o gs group within is found sized h =
-        let f : Reverse ℕ × Bor K × X × Y → ℕ × K = λ x. (x.0.0, x.1.now) in
-        let more : keys_of_order (take (i + 1) order) ≡ keys_of_order (take i order) ++ f o ∷ [] = ap (map f) (take_more order i o within) ∙ map-append f (take i order) (get_or order i o ∷ []) ∙ ap (λ z. map f (take i order) ++ f z ∷ []) (sym is) in
-        record { each = rw more (AllZip-more (λ (x : ℕ × K) (g : K × Members Id). (g.0 ≡ x.1) × (lookup (is_at (group_cmp x.1)) lists ≡ Some g.1.ids) × AreSizesOf rules.id_cmp sizes g.1.ids g.1.sizes) (keys_of_order (take i order)) gs (f o) (o.1.now, group) h.each (refl, found, sized)) }
+        let key : OrderedGroup K X Y → ℕ × K = λ x. (x.key.0, x.name.now) in
+        record { each = AllZip-next _ key order gs i o (o.name.now, group) within is h.each (refl, found, sized) }
 
     -- the loop stops at a group that is refused
-    pub StopsAfter-at : {X Y : Type 0} (excludes : List (K × B) → K → B → Bool) (sizes : List (Id × Size)) (lists : List (K × List Id)) (order : List (Reverse ℕ × Bor K × X × Y)) (bin_order : List B) (i : ℕ)
-        (gs : List (K × Members Id)) (next : K × Members Id) (old new mid : List (B × Bin)) (homes : List (K × B)) (placements : List (Placement Id B)) (first count : ℕ)
+    pub StopsAfter-at : {X Y : Type 0} (excludes : List (K × B) → K → B → Bool) (sizes : List (Id × Size)) (lists : List (K × List Id))
+        (order : List (OrderedGroup K X Y)) (bin_order : List B) (i : ℕ)
+        (gs : List (K × Members Id)) (next : K × Members Id) (old new mid : List (B × Bin)) (homes : List (K × B))
+        (placements : List (Placement Id B)) (first count : ℕ)
         → AreGroups rules.id_cmp group_cmp sizes lists (keys_of_order (take i order)) (gs ++ next ∷ [])
         → AreAllPlaced rules excludes bin_order gs (at_start old) placements (record { bins = mid; homes = homes }) first → new ≡ mid
         → IsRefused rules (excludes homes next.0) bin_order next.1 mid count
         → StopsAfter rules excludes group_cmp sizes lists (keys_of_order order) bin_order old new (first + count)
     StopsAfter-at {X} {Y} excludes sizes lists order bin_order i gs next old new mid homes placements first count listed placed same refused =
-        let f : Reverse ℕ × Bor K × X × Y → ℕ × K = λ x. (x.0.0, x.1.now) in record {
+        record {
           taken = keys_of_order (take i order);
           later = keys_of_order (drop i order);
-          order_is = ap (map f) (sym (take-append-drop i order)) ∙ map-append f (take i order) (drop i order);
+          order_is = map-split (λ (x : OrderedGroup K X Y). (x.key.0, x.name.now)) order i;
           beginning = gs;
           next = next;
           listed = listed;
@@ -247,7 +241,8 @@ lists-some [] b is not_so h = let so = is.1 refl in absurd cc
 lists-some (e ∷ es) b is not_so h = absurd cc
 
 -- as many as it has entries
-pub lists-more : {K X A : Type 0} (es : List (K × Vec X A)) (lists : List (K × List X)) (b : Bool) → (IsTrue b ↔ (length es ≡ 0)) → b ≡ false → lists_of es ≡ lists → 0 < length lists
+pub lists-more : {K X A : Type 0} (es : List (K × Vec X A)) (lists : List (K × List X)) (b : Bool) → (IsTrue b ↔ (length es ≡ 0)) → b ≡ false
+    → lists_of es ≡ lists → 0 < length lists
 lists-more [] lists b is not_so same = let so = is.1 refl in absurd cc
 lists-more (e ∷ es) lists b is not_so same = rw (← same) (omega arith)
 
@@ -258,7 +253,8 @@ lists-empty (e ∷ es) b is so = absurd (omega (arith, is.0 so))
 
 -- without groups a packing is done, and makes no test
 pub PackingDone-none : {Id B G : Type 0} (group_cmp : Group G Id → Group G Id → Ordering) (rules : Rules Id B) (all : Collection Id G)
-    (old : List (B × Bin)) (placements : List (Placement Id B)) → all.groups ≡ [] → placements ≡ [] → (done : PackingDone group_cmp rules all old placements old) × (done.tests ≡ 0)
+    (old : List (B × Bin)) (placements : List (Placement Id B)) → all.groups ≡ [] → placements ≡ []
+    → (done : PackingDone group_cmp rules all old placements old) × (done.tests ≡ 0)
 PackingDone-none group_cmp rules all old placements none nothing = (
   record {
     group_order = [];
@@ -275,21 +271,33 @@ PackingDone-none group_cmp rules all old placements none nothing = (
   refl,
 )
 
--- the last placement of each id, after one more placement, which is written under an id and a bin that equal its own
-pub AreLastPlacements-more : {Id B : Type 0} {cmp : Id → Id → Ordering} (bin_cmp : B → B → Ordering) → IsTotalOrder cmp → (placements : List (Placement Id B)) (p : Placement Id B) (key : Id) (bin : B) (old new : List (Id × (B × Cuboid))) → IsStrictlySortedBy cmp (keys_of new)
+-- the last placement of each id, after one more placement, written under an id and a bin that equal its own
+pub AreLastPlacements-more : {Id B : Type 0} {cmp : Id → Id → Ordering} (bin_cmp : B → B → Ordering) → IsTotalOrder cmp → (placements : List (Placement Id B))
+    (p : Placement Id B) (key : Id) (bin : B) (old new : List (Id × (B × Cuboid))) → IsStrictlySortedBy cmp (keys_of new)
     → cmp p.id key ≡ Equal → bin_cmp p.bin bin ≡ Equal
     → ((id : Id) → lookup (is_at (cmp id)) new ≡ cond (is_at (cmp key) id) (Some (bin, p.location)) (lookup (is_at (cmp id)) old))
     → AreLastPlacements cmp bin_cmp placements old → AreLastPlacements cmp bin_cmp (placements ++ p ∷ []) new
 AreLastPlacements-more {Id} {B} {cmp} bin_cmp o placements p key bin old new ascend same same_bin updates h =
-    record { ascend = ascend; each = λ id. rw (updates id) (at id (is_eq (cmp key id)) (alike id) (lookup (is_at (cmp id)) old) (h.each id)) }
+    record {
+      ascend = ascend;
+      each = λ id. rw (updates id) (at id (is_eq (cmp key id)) (ap is_eq (congr_right o p.id key id same) ∙ is_at-back o id key)
+          (lookup (is_at (cmp id)) old) (h.each id));
+    }
   where
-    alike : (id : Id) → is_eq (cmp id p.id) ≡ is_eq (cmp key id)
-    alike id = ap is_eq (o.antisymm id p.id) ∙ is_eq-back (cmp p.id id) ∙ ap is_eq (o.congr p.id key id same)
-
     at : (id : Id) (b : Bool) → is_eq (cmp id p.id) ≡ b → (found : Option (B × Cuboid))
         → MatchOption found (All (λ q. is_eq (cmp id q.id) ≡ false) placements) (IsLastOf cmp bin_cmp placements id)
-        → MatchOption (cond b (Some (bin, p.location)) found) (All (λ q. is_eq (cmp id q.id) ≡ false) (placements ++ p ∷ [])) (IsLastOf cmp bin_cmp (placements ++ p ∷ []) id)
-    at id true hit found l = record { before = placements; last = p; after = []; splits = refl; same = (Equal-is _).0 hit; later = All-nil _; bin = same_bin; location = refl }
+        → MatchOption (cond b (Some (bin, p.location)) found) (All (λ q. is_eq (cmp id q.id) ≡ false) (placements ++ p ∷ []))
+        (IsLastOf cmp bin_cmp (placements ++ p ∷ []) id)
+    at id true hit found l = record {
+      before = placements;
+      last = p;
+      after = [];
+      splits = refl;
+      same = (Equal-is _).0 hit;
+      later = All-nil _;
+      bin = same_bin;
+      location = refl;
+    }
     at id false miss None l = All-push (λ (q : Placement Id B). is_eq (cmp id q.id) ≡ false) placements p l miss
     at id false miss (Some x) l = record {
       before = l.before;
@@ -307,31 +315,22 @@ abbrev pub members_in : {Id K : Type 0} → List (K × Members Id) → ℕ
 members_in {Id} {K} gs = sum_by (λ (g : K × Members Id). length g.1.sizes) gs
 
 -- one placement for each member
-pub AreAllPlaced-length : {Id B K : Type 0} (rules : Rules Id B) (excludes : List (K × B) → K → B → Bool) (order : List B) (gs : List (K × Members Id)) (old new : Stage K B) (placements : List (Placement Id B)) (tests : ℕ)
+pub AreAllPlaced-length : {Id B K : Type 0} (rules : Rules Id B) (excludes : List (K × B) → K → B → Bool) (order : List B) (gs : List (K × Members Id))
+    (old new : Stage K B) (placements : List (Placement Id B)) (tests : ℕ)
     → AreAllPlaced rules excludes order gs old placements new tests → length placements ≡ members_in gs
 AreAllPlaced-length rules excludes order [] old new placements tests h = rw h.0 refl
 AreAllPlaced-length {Id} {B} {K} rules excludes order (g ∷ gs) old new placements tests (first, next, one, rest, others, placed, later, joined, counted) =
-    let here : length first ≡ length g.1.sizes = sym (length-map first (λ (p : Placement Id B). p.location)) ∙ ap length placed.named.at ∙ sym (IsDone-length rules.may placed.bin.sections g.1.sizes placed.locations placed.last placed.count placed.done) in
+    let here : length first ≡ length g.1.sizes = sym (length-map first (λ (p : Placement Id B). p.location)) ∙ ap length placed.named.at
+    ∙ sym (IsDone-length rules.may placed.bin.sections g.1.sizes placed.locations placed.last placed.count placed.done) in
     let tail = AreAllPlaced-length rules excludes order gs (record { bins = next; homes = (g.0, placed.here) ∷ old.homes }) new rest others later in
     omega (arith, ap length joined, length-append first rest, here, tail, sum_by-cons (λ (m : K × Members Id). length m.1.sizes) g gs)
 
 -- the entries that an order names are those of its groups
-pub AreGroups-length : {Id K : Type 0} (cmp : Id → Id → Ordering) (group_cmp : K → K → Ordering) (sizes : List (Id × Size)) (lists : List (K × List Id)) (order : List (ℕ × K)) (gs : List (K × Members Id))
+pub AreGroups-length : {Id K : Type 0} (cmp : Id → Id → Ordering) (group_cmp : K → K → Ordering) (sizes : List (Id × Size)) (lists : List (K × List Id))
+    (order : List (ℕ × K)) (gs : List (K × Members Id))
     → AreGroups cmp group_cmp sizes lists order gs → sum_by (entries_at group_cmp lists) order ≡ members_in gs
-AreGroups-length {Id} {K} cmp group_cmp sizes lists order gs h = at order gs h.each
-  where
-    at : (order : List (ℕ × K)) (gs : List (K × Members Id)) → AllZip (λ entry group. (group.0 ≡ entry.1) × (lookup (is_at (group_cmp entry.1)) lists ≡ Some group.1.ids) × AreSizesOf cmp sizes group.1.ids group.1.sizes) order gs → sum_by (entries_at group_cmp lists) order ≡ members_in gs
-    at [] [] h = refl
-    at [] (g ∷ gs) h = absurd h
-    at (o ∷ order) [] h = absurd h
-    at (o ∷ order) (g ∷ gs) h =
-        let here : entries_at group_cmp lists o ≡ length g.1.ids = rw h.0.1 refl in
-        let sized = AreSizesOf-length cmp sizes g.1.ids g.1.sizes h.0.2 in
-        let later = at order gs h.1 in
-        omega (arith, here, sized, later, sum_by-cons (entries_at group_cmp lists) o order, sum_by-cons (λ (m : K × Members Id). length m.1.sizes) g gs)
-
--- another fact on the answer true
-pub done-weaker : {E P P' : Type 0} (Q : Type 0) (r : Result Bool E) → (P → P') → IfOk r (λ d. MatchBool d P Q) → IfOk r (λ d. OnTrue d P')
-done-weaker Q (Ok true) f h = f h
-done-weaker Q (Ok false) f h = tt
-done-weaker Q (Err e) f h = tt
+AreGroups-length {Id} {K} cmp group_cmp sizes lists order gs h =
+    let size : K × Members Id → ℕ = λ (g : K × Members Id). length g.1.sizes in
+    let same : map size gs ≡ map (entries_at group_cmp lists) order = AllZip-equal _ (entries_at group_cmp lists) size
+    (λ o g r. rw r.1 (sym (length-zip _ g.1.ids g.1.sizes r.2))) order gs h.each in
+    sym (sum-map (entries_at group_cmp lists) order) ∙ ap sum (sym same) ∙ sum-map size gs

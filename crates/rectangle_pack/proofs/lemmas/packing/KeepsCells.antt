@@ -1,8 +1,5 @@
 -- A packing keeps the cells of each bin.
-use Rattle.std.proofs.Common.{ℕ, List, ◌++◌, ap, ◌∙◌, Bool}
-use Rattle.std.specs.Option.{is_some}
-use Rattle.std.specs.Cmp.{IsTotalOrder}
-use Rattle.std.specs.BTreeMap.{is_at}
+use Rattle.rectangle_pack.proofs.Std.{ℕ, List, ◌++◌, ap, ◌∙◌, Bool, is_some, IsTotalOrder, is_at}
 use Rattle.rectangle_pack.specs.declared.pack.answer.Placement.{Placement}
 use Rattle.rectangle_pack.specs.Bins.{Bin}
 use Rattle.rectangle_pack.specs.Keeping.{KeepsEachBin, locations_in}

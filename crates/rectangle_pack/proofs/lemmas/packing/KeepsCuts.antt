@@ -1,7 +1,5 @@
 -- What is from cuts stays from cuts, while no sections are joined.
-use Rattle.std.proofs.Common.{◌≡◌, ◌+◌, Bool, false, List, [], ◌∷◌, ◌++◌, ap, arith, append_assoc}
-use Rattle.std.specs.List.Sorted.{IsPermutation}
-use Rattle.std.proofs.lemmas.List.Sorted.{IsPermutation-append_left}
+use Rattle.rectangle_pack.proofs.Std.{◌≡◌, ◌+◌, Bool, false, List, [], ◌∷◌, ◌++◌, ap, arith, append_assoc, IsPermutation, IsPermutation-append_left}
 use Rattle.rectangle_pack.specs.Boxes.{Cuboid}
 use Rattle.rectangle_pack.specs.Closures.{Answers}
 use Rattle.rectangle_pack.specs.Cuts.{placed}
@@ -13,7 +11,7 @@ use Rattle.rectangle_pack.proofs.lemmas.cuts.SameBoxes.{HaveSameBoxes-permutatio
 use Rattle.rectangle_pack.proofs.lemmas.trial.Steps.{HaveSameBoxes-left}
 use Rattle.rectangle_pack.proofs.lemmas.cuts.Times.{times_in-nil, times_in-cons, times_in-append, times_in-same}
 
--- whatever stands beside them: boxes that are from cuts with the old ones are so with the new ones in their place
+-- beside any boxes, what is from cuts with the old boxes is so with the new ones
 pub record KeepsCuts (old new : List Cuboid) : Type 0 where
   pub kept : (beside : List Cuboid) (whole : Cuboid) → IsFromCuts (old ++ beside) whole → IsFromCuts (new ++ beside) whole
 
@@ -44,7 +42,7 @@ times_in-middle : (b : Cuboid) (before : List Cuboid) (e : Cuboid) (after : List
 times_in-middle b before e after =
     omega (arith, times_in-append b before (e ∷ after), times_in-cons b e after, times_in-append b before after)
 
--- a step puts the placed box and the pieces of its section in the section's place
+-- a step replaces a section by the placed box and the section's pieces
 KeptBySteps-cuts : (may : Answers) → KeptBySteps may KeepsCuts
 KeptBySteps-cuts may = record {
   step = λ sections m l next n step. record {

@@ -1,65 +1,69 @@
--- orders of groups and bins
-use Rattle.std.proofs.Common.{◌≡◌, ℕ, ◌+◌, ◌-◌, ◌^◌, ◌<◌, ◌≤◌, List, [], ◌∷◌, ◌++◌, take, drop, length, length-append, append-nil, refl, ap, sym, ◌∙◌, arith, min}
-use Rattle.std.specs.Prelude.{map, All, IsSomeAnd}
-use Rattle.std.specs.declared.vec.Vec.{Vec}
-use Rattle.std.specs.Map.{values_of, keys_of}
-use Rattle.std.proofs.lemmas.List.{get_or-map, length-map, map_push, append_assoc}
-use Rattle.std.proofs.Math.Seq.{drop-append_seam, take-append_seam}
+-- Orders of groups and bins, and lists that are related element by element.
+use Rattle.rectangle_pack.proofs.Std.{◌≡◌, ℕ, ◌+◌, ◌-◌, ◌<◌, ◌≤◌, List, [], ◌∷◌, ◌++◌, take, drop, length, length-append, append-nil, refl, ap, sym, ◌∙◌, arith}
+use Rattle.rectangle_pack.proofs.Std.{map, All, IsSomeAnd, Vec, values_of, get_or-map, length-map, map_push, append_assoc, drop-append_seam, take-append_seam}
+use Rattle.rectangle_pack.proofs.Std.{Bor, Yields, TakesFirst, deref_pair, Option, Some, All-turn, All-nil, All-cons, All-head, All-tail, option_map, Ordering}
+use Rattle.rectangle_pack.proofs.Std.{IsSorted, IsPermutation, IsStrictlySortedBy, Less-from_sorted, All-permutation, cases_order, lt-ltb, tied_itself, nat_cmp}
+use Rattle.rectangle_pack.proofs.Std.{get_or_default, inl, inr, AllPairs, AllZip, sum_by, slice_range, BTreeMap, IsOrdered, btree_map_get_place, sum_by-cons}
+use Rattle.rectangle_pack.proofs.Std.{get_or, slice_get-get_or, sum, sum_by_push, false, Bool, IsSome, Less, Equal, Greater, is_lt, ordering_then, IsTotalOrder}
+use Rattle.rectangle_pack.proofs.Std.{lookup, is_at, All-weaker, take-append-drop, take_more, map-id, map-append, All-from_recursion, IsDistinct-head}
+use Rattle.rectangle_pack.proofs.Std.{IsDistinct, keys_of}
+use Rattle.rectangle_pack.proofs.lemmas.util.Zips.{AllZip-mapped}
 use Rattle.rectangle_pack.proofs.lemmas.determinism.OneOrder.{length-zip, All-alike, AllZip-along, AllZip-back}
-use Rattle.std.specs.Borrow.{Bor}
-use Rattle.std.specs.Iterator.{Yields}
-use Rattle.std.specs.Map.Iter.{TakesFirst, deref_pair}
-use Rattle.std.specs.Prelude.{Option, Some}
-use Rattle.std.proofs.lemmas.Map.Views.{All-turn}
-use Rattle.std.proofs.lemmas.List.Elements.{All-nil, All-cons, All-head, All-tail}
-use Rattle.std.specs.Option.{option_map}
 use Rattle.rectangle_pack.proofs.lemmas.multimap.Vectors.{lookup-lists}
+use Rattle.rectangle_pack.specs.declared.pack.order.OrderedGroup.{OrderedGroup}
 use Rattle.rectangle_pack.specs.Groups.{lists_of}
-use Rattle.std.specs.declared.cmp.Ordering.{Ordering}
-use Rattle.std.specs.List.Sorted.{IsSorted, IsPermutation, IsStrictlySortedBy}
-use Rattle.std.proofs.lemmas.Map.Keys.{Less-from_sorted}
-use Rattle.std.proofs.lemmas.List.Sorted.{All-permutation}
-use Rattle.std.proofs.lemmas.Bool.{cases_order, lt-ltb}
-use Rattle.std.proofs.lemmas.Cmp.{tied_itself}
-use Rattle.std.specs.Ordering.{nat_cmp}
-use Rattle.std.proofs.lemmas.List.{get_or_default}
-use Rattle.std.proofs.Common.{inl, inr}
-use Rattle.std.specs.Prelude.{AllPairs}
-use Rattle.std.specs.List.{AllZip, sum_by, slice_range}
-use Rattle.std.specs.BTreeMap.{BTreeMap, IsOrdered}
-use Rattle.std.proofs.lemmas.Map.Entries.{btree_map_get_place}
-use Rattle.std.proofs.lemmas.List.Sums.{sum_by-cons}
-use Rattle.std.proofs.Common.{get_or}
-use Rattle.std.proofs.lemmas.Option.{slice_get-get_or}
-use Rattle.std.specs.Prelude.{sum}
-use Rattle.std.proofs.lemmas.List.Sums.{sum_by_push}
 use Rattle.rectangle_pack.specs.Numbers.{saturated}
 use Rattle.rectangle_pack.specs.Boxes.{Size}
-use Rattle.rectangle_pack.specs.private.Orders.{entries_at, SizesStandAt}
-use Rattle.std.proofs.Common.{cond, true, false, Bool}
-use Rattle.std.specs.Prelude.{IsSome}
-use Rattle.std.specs.declared.cmp.Ordering.TheVariants.{Less, Equal, Greater}
-use Rattle.std.specs.Ordering.{is_lt, ordering_then, ordering_reverse}
-use Rattle.std.specs.Cmp.{IsTotalOrder}
-use Rattle.std.specs.Map.{lookup}
-use Rattle.std.specs.BTreeMap.{is_at}
-use Rattle.std.specs.declared.cmp.Reverse.{Reverse}
-use Rattle.std.proofs.lemmas.List.Elements.{All-weaker}
+use Rattle.rectangle_pack.specs.private.Orders.{keys_of_order, entries_at, SizesStandAt}
+use Rattle.rectangle_pack.proofs.lemmas.multimap.Sized.{IsSome-cond}
+
+-- the first of keys that differ differs from each later one
+pub IsDistinct-apart : {K : Type 0} (e : K → K → Bool) (x : K) (xs : List K) → IsDistinct e (x ∷ xs) → All (λ y. e x y ≡ false) xs
+IsDistinct-apart e x xs d = All-from_recursion (λ y. e x y ≡ false) xs (IsDistinct-head e x xs d)
 
 -- one more of each
-pub AllZip-more : {A B : Type 0} (R : A → B → Type 0) (xs : List A) (ys : List B) (x : A) (y : B) → AllZip R xs ys → R x y → AllZip R (xs ++ x ∷ []) (ys ++ y ∷ [])
+pub AllZip-more : {A B : Type 0} (R : A → B → Type 0) (xs : List A) (ys : List B) (x : A) (y : B) → AllZip R xs ys → R x y
+    → AllZip R (xs ++ x ∷ []) (ys ++ y ∷ [])
 AllZip-more R [] [] x y h r = (r, tt)
 AllZip-more R [] (b ∷ ys) x y h r = absurd h
 AllZip-more R (a ∷ xs) [] x y h r = absurd h
 AllZip-more R (a ∷ xs) (b ∷ ys) x y h r = (h.0, AllZip-more R xs ys x y h.1 r)
 
--- a sum that is cut at m at each step is the whole sum cut at m
-pub min-more : (n a m : ℕ) → min (min n m + a) m ≡ min (n + a) m
-min-more n a m = omega arith
+-- a list that is mapped, split at an index
+pub map-split : {X Y : Type 0} (f : X → Y) (xs : List X) (i : ℕ) → map f xs ≡ map f (take i xs) ++ map f (drop i xs)
+map-split f xs i = ap (map f) (sym (take-append-drop i xs)) ∙ map-append f (take i xs) (drop i xs)
+
+-- its beginning, with one more element
+pub map-take_more : {X Y : Type 0} (f : X → Y) (xs : List X) (i : ℕ) (x : X) → i < length xs → x ≡ get_or xs i x
+    → map f (take (i + 1) xs) ≡ map f (take i xs) ++ f x ∷ []
+map-take_more f xs i x within is =
+    ap (map f) (take_more xs i x within) ∙ map_push f (take i xs) (get_or xs i x) ∙ ap (λ z. map f (take i xs) ++ f z ∷ []) (sym is)
+
+-- and one more of each
+pub AllZip-next : {A B C : Type 0} (R : C → B → Type 0) (f : A → C) (xs : List A) (ys : List B) (i : ℕ) (x : A) (y : B) → i < length xs → x ≡ get_or xs i x
+    → AllZip R (map f (take i xs)) ys → R (f x) y → AllZip R (map f (take (i + 1) xs)) (ys ++ y ∷ [])
+AllZip-next R f xs ys i x y within is h r = rw (map-take_more f xs i x within is) (AllZip-more R (map f (take i xs)) ys (f x) y h r)
+
+pub AllZip-map_left : {A B C : Type 0} (R : C → B → Type 0) (f : A → C) (xs : List A) (ys : List B) → AllZip (λ x y. R (f x) y) xs ys → AllZip R (map f xs) ys
+AllZip-map_left R f xs ys h = simp map-id at (AllZip-mapped (λ x y. R (f x) y) R f (λ y. y) (λ x y r. r) xs ys h)
+
+-- what is equal of the elements of two lists
+pub AllZip-equal : {A B C : Type 0} (R : A → B → Type 0) (f : A → C) (g : B → C) → ((x : A) (y : B) → R x y → g y ≡ f x) → (xs : List A) (ys : List B)
+    → AllZip R xs ys → map g ys ≡ map f xs
+AllZip-equal R f g same [] [] h = refl
+AllZip-equal R f g same [] (y ∷ ys) h = absurd h
+AllZip-equal R f g same (x ∷ xs) [] h = absurd h
+AllZip-equal R f g same (x ∷ xs) (y ∷ ys) h = rw (same x y h.0, AllZip-equal R f g same xs ys h.1) refl
+
+-- what is named by the keys of a map, one after another, has these names
+pub names-zip : {K X Y : Type 0} (name : Y → K) (P : K × X → Y → Type 0) (es : List (K × X)) (ys : List Y)
+    → AllZip (λ e y. (name y ≡ e.0) × P e y) es ys → map name ys ≡ keys_of es
+names-zip name P es ys h = AllZip-equal (λ e y. (name y ≡ e.0) × P e y) (λ e. e.0) name (λ e y r. r.0) es ys h
 
 -- the saturated sum with one more rate
-pub saturated-more : (rates : List ℕ) (rate key next : ℕ) → key ≡ saturated (sum rates) → next ≡ saturated (key + rate) → next ≡ saturated (sum (rates ++ rate ∷ []))
-saturated-more rates rate key next is more = more ∙ ap (λ k. saturated (k + rate)) is ∙ min-more (sum rates) rate (2 ^ 128 - 1) ∙ ap saturated (sym (sum_by_push (λ x. x) rates rate))
+pub saturated-more : (rates : List ℕ) (rate key next : ℕ) → key ≡ saturated (sum rates) → next ≡ saturated (key + rate)
+    → next ≡ saturated (sum (rates ++ rate ∷ []))
+saturated-more rates rate key next is more = omega (arith, is, more, sum_by_push (λ x. x) rates rate)
 
 -- a list in order by what f reads, read by f
 pub IsSorted-map : {A B : Type 0} (R : B → B → Ordering) (f : A → B) (xs : List A) → IsSorted (λ x y. R (f x) (f y)) xs → IsSorted R (map f xs)
@@ -69,7 +73,7 @@ IsSorted-map {A} R f (x ∷ xs) h = λ k d low up.
     let here : k < length (x ∷ xs) = omega arith in
     rw (get_or-map f (x ∷ xs) (k + 1) x d long, get_or-map f (x ∷ xs) k x d here) (h k x low long)
 
--- what is not less by two tests, one after the other, is so too where a third that is less at no more takes the second's place
+-- what is not less by two tests is not less where a third, less at no more, replaces the second
 pub not_less-then : (a b c : Ordering) → is_lt (ordering_then a b) ≡ false → (c ≡ Less → b ≡ Less) → is_lt (ordering_then a c) ≡ false
 not_less-then Less b c h k = h
 not_less-then Equal b Less h k = rw (k refl) at h
@@ -82,20 +86,24 @@ pub less-nat_cmp : (m n : ℕ) → m < n → nat_cmp m n ≡ Less
 less-nat_cmp m n lt = rw (lt-ltb m n lt) refl
 
 -- names that are the keys of a map rise
-pub rise-names : {X K : Type 0} (cmp : K → K → Ordering) (name : X → K) (xs : List X) (keys : List K) → map name xs ≡ keys → IsStrictlySortedBy cmp keys → AllPairs (λ x y. cmp (name x) (name y) ≡ Less) xs
+pub rise-names : {X K : Type 0} (cmp : K → K → Ordering) (name : X → K) (xs : List X) (keys : List K) → map name xs ≡ keys → IsStrictlySortedBy cmp keys
+    → AllPairs (λ x y. cmp (name x) (name y) ≡ Less) xs
 rise-names cmp name xs keys same up = λ i j d less within.
     let here : i < length xs = omega arith in
     let long : j < length (map name xs) = simp length-map within in
-    rw (← get_or-map name xs i d (name d) here, ← get_or-map name xs j d (name d) within) (Less-from_sorted cmp (map name xs) i j (name d) (rw (← same) at up) less long)
+    rw (← get_or-map name xs i d (name d) here, ← get_or-map name xs j d (name d) within)
+    (Less-from_sorted cmp (map name xs) i j (name d) (rw (← same) at up) less long)
 
 -- where names and numbers rise along a list, the lesser of two names has the lesser number
 pub rise-alike : {X K : Type 0} {cmp : K → K → Ordering} → IsTotalOrder cmp → (name : X → K) (number : X → ℕ) (xs : List X)
-    → AllPairs (λ x y. (cmp (name x) (name y) ≡ Less) × (number x < number y)) xs → All (λ x. All (λ y. cmp (name x) (name y) ≡ Less → number x < number y) xs) xs
+    → AllPairs (λ x y. (cmp (name x) (name y) ≡ Less) × (number x < number y)) xs
+    → All (λ x. All (λ y. cmp (name x) (name y) ≡ Less → number x < number y) xs) xs
 rise-alike {cmp = cmp} o name number xs up = λ i d within j e below less.
     let there = get_or_default xs j e d below in
     let before : cmp (name (get_or xs i d)) (name (get_or xs j d)) ≡ Less = rw (← there) less in
     elim (cases_order i j) [
-      | inl same ↦ absurd (let itself = tied_itself o (name (get_or xs i d)) in let twice : cmp (name (get_or xs i d)) (name (get_or xs i d)) ≡ Less = rw (← same) at before in cc)
+      | inl same ↦ absurd (let itself = tied_itself o (name (get_or xs i d)) in let twice : cmp (name (get_or xs i d)) (name (get_or xs i d))
+          ≡ Less = rw (← same) at before in cc)
       | inr apart ↦ elim apart [
         | inl early ↦ rw there (up i j d early below).1
         | inr late ↦ absurd (let back = o.antisymm (name (get_or xs i d)) (name (get_or xs j d)) in let after = (up j i d late within).0 in cc)
@@ -110,104 +118,71 @@ any_two-permutation R xs ys moved h =
 -- what holds of each list holds of each vector's items
 pub All-lists_of : {K X A : Type 0} (P : List X → Type 0) (es : List (K × Vec X A)) → All P (values_of (lists_of es)) → All (λ e. P e.1.items) es
 All-lists_of P [] h = All-nil _
-All-lists_of {K} {X} {A} P (e ∷ es) h = All-cons (λ (e : K × Vec X A). P e.1.items) e es (All-head P e.1.items (values_of (lists_of es)) h) (All-lists_of P es (All-tail P e.1.items (values_of (lists_of es)) h))
+All-lists_of {K} {X} {A} P (e ∷ es) h = All-cons (λ (e : K × Vec X A). P e.1.items) e es (All-head P e.1.items (values_of (lists_of es)) h)
+    (All-lists_of P es (All-tail P e.1.items (values_of (lists_of es)) h))
 
 -- the list that a loop over a map is at
-pub items-turn : {K X A : Type 0} (P : List X → Type 0) (all : List (K × Vec X A)) (xs : List (Bor K × Bor (Vec X A))) (s t u : List (K × Vec X A)) (r : Option (Bor K × Bor (Vec X A))) (x : Bor K × Bor (Vec X A))
+pub items-turn : {K X A : Type 0} (P : List X → Type 0) (all : List (K × Vec X A)) (xs : List (Bor K × Bor (Vec X A))) (s t u : List (K × Vec X A))
+    (r : Option (Bor K × Bor (Vec X A))) (x : Bor K × Bor (Vec X A))
     → All P (values_of (lists_of all)) → s ≡ all → Yields (TakesFirst deref_pair) s xs t → r ≡ Some x → TakesFirst deref_pair t r u → P x.1.now.items
 items-turn {K} {X} {A} P all xs s t u r x h = All-turn deref_pair (λ (e : K × Vec X A). P e.1.items) all xs s t u r x (All-lists_of P all h)
 
--- the entries that a loop over a map has been at, with the next
-pub lists_of-turn : {K X A : Type 0} (xs : List (Bor K × Bor (Vec X A))) (x : Bor K × Bor (Vec X A)) → lists_of (map deref_pair (xs ++ x ∷ [])) ≡ lists_of (map deref_pair xs) ++ (x.0.now, x.1.now.items) ∷ []
-lists_of-turn xs x = ap lists_of (map_push deref_pair xs x) ∙ map_push (λ e. (e.0, e.1.items)) (map deref_pair xs) (deref_pair x)
-
--- a relation to what a function makes of the second list
-pub AllZip-map_right : {A B C : Type 0} (R : A → C → Type 0) (f : B → C) (xs : List A) (ys : List B) → AllZip (λ x y. R x (f y)) xs ys → AllZip R xs (map f ys)
-AllZip-map_right R f [] [] h = tt
-AllZip-map_right R f [] (y ∷ ys) h = absurd h
-AllZip-map_right R f (x ∷ xs) [] h = absurd h
-AllZip-map_right R f (x ∷ xs) (y ∷ ys) h = (h.0, AllZip-map_right R f xs ys h.1)
-
--- and of the first
-pub AllZip-map_left : {A B C : Type 0} (R : C → B → Type 0) (f : A → C) (xs : List A) (ys : List B) → AllZip (λ x y. R (f x) y) xs ys → AllZip R (map f xs) ys
-AllZip-map_left R f [] [] h = tt
-AllZip-map_left R f [] (y ∷ ys) h = absurd h
-AllZip-map_left R f (x ∷ xs) [] h = absurd h
-AllZip-map_left R f (x ∷ xs) (y ∷ ys) h = (h.0, AllZip-map_left R f xs ys h.1)
-
--- each value equals itself
-pub cmp-self : {B : Type 0} {cmp : B → B → Ordering} → IsTotalOrder cmp → (x : B) → cmp x x ≡ Equal
-cmp-self {cmp = cmp} o x = at (cmp x x) (o.antisymm x x)
-  where
-    at : (r : Ordering) → r ≡ ordering_reverse r → r ≡ Equal
-    at Less h = absurd cc
-    at Equal h = refl
-    at Greater h = absurd cc
-
--- what is found in a list is found in a longer one
-IsSome-cons : {X : Type 0} (b : Bool) (v : X) (o : Option X) → IsSome o → IsSome (cond b (Some v) o)
-IsSome-cons true v o h = refl
-IsSome-cons false v o h = h
-
 -- what is named by keys that equal a map's is in the map
-pub found-zip : {K X Y : Type 0} {cmp : K → K → Ordering} → IsTotalOrder cmp → (name : Y → K) (P : K × X → Y → Type 0) → ((e : K × X) (y : Y) → P e y → cmp e.0 (name y) ≡ Equal) → (es : List (K × X)) (ys : List Y) → AllZip P es ys → All (λ y. IsSome (lookup (is_at (cmp (name y))) es)) ys
+pub found-zip : {K X Y : Type 0} {cmp : K → K → Ordering} → IsTotalOrder cmp → (name : Y → K) (P : K × X → Y → Type 0) → ((e : K × X) (y : Y) → P e y
+    → cmp e.0 (name y) ≡ Equal) → (es : List (K × X)) (ys : List Y) → AllZip P es ys → All (λ y. IsSome (lookup (is_at (cmp (name y))) es)) ys
 found-zip o name P same [] [] h = All-nil _
 found-zip o name P same [] (y ∷ ys) h = absurd h
 found-zip o name P same (e ∷ es) [] h = All-nil _
 found-zip {K} {X} {Y} {cmp} o name P same (e ∷ es) (y ∷ ys) h =
     All-cons (λ (z : Y). IsSome (lookup (is_at (cmp (name z))) (e ∷ es))) y ys
     (rw (o.antisymm (name y) e.0, same e y h.0) refl)
-    (All-weaker (λ (z : Y). IsSome (lookup (is_at (cmp (name z))) es)) (λ (z : Y). IsSome (lookup (is_at (cmp (name z))) (e ∷ es))) (λ z there. IsSome-cons (is_at (cmp (name z)) e.0) e.1 (lookup (is_at (cmp (name z))) es) there) ys (found-zip o name P same es ys h.1))
+    (All-weaker (λ (z : Y). IsSome (lookup (is_at (cmp (name z))) es)) (λ (z : Y). IsSome (lookup (is_at (cmp (name z))) (e ∷ es)))
+    (λ z there. IsSome-cond (is_at (cmp (name z)) e.0) e.1 (lookup (is_at (cmp (name z))) es) there) ys (found-zip o name P same es ys h.1))
 
 -- each entry of the order has the list of its name
-pub listed-zip : {K X A : Type 0} {cmp : K → K → Ordering} → IsTotalOrder cmp → (m : BTreeMap K (Vec X A)) → IsOrdered cmp m → (ys : List (Reverse ℕ × Bor K × Bor (Vec X A) × ℕ))
-    → AllZip (λ e y. (y.1.now ≡ e.0) × (y.2.now ≡ e.1)) m.entries ys → All (λ y. lookup (is_at (cmp y.1.now)) m.entries ≡ Some y.2.now) ys
-listed-zip {K} {X} {A} {cmp} o m ordered ys h =
-    All-alike _ (λ (e : K × Vec X A). lookup (is_at (cmp e.0)) m.entries ≡ Some e.1) (λ (y : Reverse ℕ × Bor K × Bor (Vec X A) × ℕ). lookup (is_at (cmp y.1.now)) m.entries ≡ Some y.2.now)
-    (λ e y same found. rw (same.0, same.1) found) m.entries ys h
+pub listed-zip : {K X A : Type 0} {cmp : K → K → Ordering} → IsTotalOrder cmp → (m : BTreeMap K (Vec X A)) → IsOrdered cmp m
+    → (P : K × Vec X A → OrderedGroup K X A → Type 0) (ys : List (OrderedGroup K X A))
+    → AllZip (λ e y. (y.name.now ≡ e.0) × P e y × (y.ids.now ≡ e.1)) m.entries ys → All (λ y. lookup (is_at (cmp y.name.now)) m.entries ≡ Some y.ids.now) ys
+listed-zip {K} {X} {A} {cmp} o m ordered P ys h =
+    All-alike _ (λ (e : K × Vec X A). lookup (is_at (cmp e.0)) m.entries ≡ Some e.1)
+    (λ (y : OrderedGroup K X A). lookup (is_at (cmp y.name.now)) m.entries ≡ Some y.ids.now)
+    (λ e y same found. rw (same.0, same.2) found) m.entries ys h
     (λ i d within. let e = get_or m.entries i d in btree_map_get_place o m i e.0 e.1 ordered (slice_get-get_or m.entries i d within))
 
 -- a list that a key has, by the vector that it has
 pub list-found : {K X A : Type 0} (test : K → Bool) (es : List (K × Vec X A)) (v : Vec X A) → lookup test es ≡ Some v → lookup test (lists_of es) ≡ Some v.items
 list-found {X = X} {A = A} test es v found = lookup-lists test es ∙ ap (option_map (λ (w : Vec X A). w.items)) found
 
--- each list of a map is found under its name
-pub lookup-each : {K X A : Type 0} {cmp : K → K → Ordering} → IsTotalOrder cmp → (m : BTreeMap K (Vec X A)) → IsOrdered cmp m → All (λ e. lookup (is_at (cmp e.0)) (lists_of m.entries) ≡ Some e.1.items) m.entries
-lookup-each {K} {X} {A} {cmp} o m ordered i d within =
-    let e = get_or m.entries i d in
-    list-found (is_at (cmp e.0)) m.entries e.1 (btree_map_get_place o m i e.0 e.1 ordered (slice_get-get_or m.entries i d within))
-
 -- as many entries as the lists have, one after another
-pub counted-zip : {K X A : Type 0} (cmp : K → K → Ordering) (P : K × List X → ℕ × K → Type 0) (lists : List (K × List X)) (es : List (K × Vec X A)) (ys : List (ℕ × K))
-    → AllZip (λ e y. (y.1 ≡ e.0) × P e y) (lists_of es) ys → All (λ e. lookup (is_at (cmp e.0)) lists ≡ Some e.1.items) es
-    → sum_by (entries_at cmp lists) ys ≡ sum (map length (values_of (lists_of es)))
-counted-zip cmp P lists [] [] h found = refl
-counted-zip cmp P lists [] (y ∷ ys) h found = absurd h
-counted-zip cmp P lists (e ∷ es) [] h found = absurd h
-counted-zip {K} {X} {A} cmp P lists (e ∷ es) (y ∷ ys) h found =
-    let Found : K × Vec X A → Type 0 = λ x. lookup (is_at (cmp x.0)) lists ≡ Some x.1.items in
-    let here : entries_at cmp lists y ≡ length e.1.items = rw (h.0.0, All-head Found e es found) refl in
-    let later : sum_by (entries_at cmp lists) ys ≡ sum (map length (values_of (lists_of es))) = counted-zip cmp P lists es ys h.1 (All-tail Found e es found) in
-    omega (arith, here, later, sum_by-cons (entries_at cmp lists) y ys, sum_by-cons (λ n. n) (length e.1.items) (map length (values_of (lists_of es))))
-
--- what is named by the keys of a map, one after another, has these names
-pub names-zip : {K X Y : Type 0} (name : Y → K) (P : K × X → Y → Type 0) (es : List (K × X)) (ys : List Y) → AllZip (λ e y. (name y ≡ e.0) × P e y) es ys → map name ys ≡ keys_of es
-names-zip name P [] [] h = refl
-names-zip name P [] (y ∷ ys) h = absurd h
-names-zip name P (e ∷ es) [] h = absurd h
-names-zip name P (e ∷ es) (y ∷ ys) h =
-    let here : name y ≡ e.0 = h.0.0 in
-    let rest = names-zip name P es ys h.1 in
-    cc
+pub counted-zip : {K X A : Type 0} (cmp : K → K → Ordering) (lists : List (K × List X)) (P : K × Vec X A → OrderedGroup K X A → Type 0)
+    (es : List (K × Vec X A)) (ys : List (OrderedGroup K X A)) → AllZip (λ e y. (y.name.now ≡ e.0) × P e y × (y.ids.now ≡ e.1)) es ys
+    → All (λ y. lookup (is_at (cmp y.name.now)) lists ≡ Some y.ids.now.items) ys
+    → sum_by (entries_at cmp lists) (keys_of_order ys) ≡ sum (map length (values_of (lists_of es)))
+counted-zip cmp lists P [] [] h found = refl
+counted-zip cmp lists P [] (y ∷ ys) h found = absurd h
+counted-zip cmp lists P (e ∷ es) [] h found = absurd h
+counted-zip {K} {X} {A} cmp lists P (e ∷ es) (y ∷ ys) h found =
+    let Found : OrderedGroup K X A → Type 0 = λ y. lookup (is_at (cmp y.name.now)) lists ≡ Some y.ids.now.items in
+    let here : entries_at cmp lists (y.key.0, y.name.now) ≡ length e.1.items = rw (All-head Found y ys found, h.0.2) refl in
+    let later = counted-zip cmp lists P es ys h.1 (All-tail Found y ys found) in
+    omega (
+      arith,
+      here,
+      later,
+      sum_by-cons (entries_at cmp lists) (y.key.0, y.name.now) (keys_of_order ys),
+      sum_by-cons (λ n. n) (length e.1.items) (map length (values_of (lists_of es))),
+    )
 
 module _ {Id : Type 0} (cmp : Id → Id → Ordering) (sizes : List (Id × Size)) where
   -- sizes that stand among all still do where more are behind these
-  pub SizesStandAt-more : (all more new : List Size) (ids : List Id) (start : ℕ) → new ≡ all ++ more → SizesStandAt cmp sizes all ids start → SizesStandAt cmp sizes new ids start
+  pub SizesStandAt-more : (all more new : List Size) (ids : List Id) (start : ℕ) → new ≡ all ++ more → SizesStandAt cmp sizes all ids start
+      → SizesStandAt cmp sizes new ids start
   SizesStandAt-more all more new ids start same h = record {
     before = h.before;
     here = h.here;
     later = h.later ++ more;
-    all_are = same ∙ ap (λ l. l ++ more) h.all_are ∙ append_assoc h.before (h.here ++ h.later) more ∙ ap (λ l. h.before ++ l) (append_assoc h.here h.later more);
+    all_are = same ∙ ap (λ l. l ++ more) h.all_are ∙ append_assoc h.before (h.here ++ h.later) more
+        ∙ ap (λ l. h.before ++ l) (append_assoc h.here h.later more);
     start_is = h.start_is;
     each = h.each;
   }
@@ -232,13 +207,16 @@ module _ {Id : Type 0} (cmp : Id → Id → Ordering) (sizes : List (Id × Size)
       let whole = ap length h.all_are ∙ length-append h.before (h.here ++ h.later) ∙ ap (λ n. length h.before + n) (length-append h.here h.later) in
       let starts = h.start_is in
       let many : start + count - start ≡ length h.here = omega arith in
-      let rest : drop start all ≡ h.here ++ h.later = ap (λ n. drop n all) h.start_is ∙ ap (drop (length h.before)) h.all_are ∙ drop-append_seam h.before (h.here ++ h.later) in
-      let part : slice_range all start (start + count) ≡ h.here = ap (λ n. take n (drop start all)) many ∙ ap (take (length h.here)) rest ∙ take-append_seam h.here h.later in
+      let rest : drop start all ≡ h.here ++ h.later = ap (λ n. drop n all) h.start_is ∙ ap (drop (length h.before)) h.all_are
+      ∙ drop-append_seam h.before (h.here ++ h.later) in
+      let part : slice_range all start (start + count) ≡ h.here = ap (λ n. take n (drop start all)) many ∙ ap (take (length h.here)) rest
+      ∙ take-append_seam h.here h.later in
       (omega arith, rw (same, part) h.each)
 
 -- a rate of each id's size, by a rate of each size
 pub AllZip-rated : {Id : Type 0} (f : Id → Option Size) (MayRate : Size → ℕ → Type 0) (ids : List Id) (sizes : List Size) (rates : List ℕ)
     → AllZip (λ id size. f id ≡ Some size) ids sizes → AllZip MayRate sizes rates → AllZip (λ id rate. IsSomeAnd (f id) (λ size. MayRate size rate)) ids rates
 AllZip-rated f M ids sizes rates h k =
-    AllZip-along (λ size id. f id ≡ Some size) M (λ id rate. IsSomeAnd (f id) (λ size. M size rate)) (λ size id rate found rated. rw found rated) sizes ids rates
+    AllZip-along (λ size id. f id ≡ Some size) M (λ id rate. IsSomeAnd (f id) (λ size. M size rate))
+    (λ size id rate found rated. rw found rated) sizes ids rates
     (AllZip-back (λ id size. f id ≡ Some size) (λ size id. f id ≡ Some size) (λ id size found. found) ids sizes h) k

@@ -1,28 +1,12 @@
 -- A packing that is done places each group whole in one bin.
-use Rattle.std.proofs.Common.{◌≡◌, ℕ, List, [], ◌∷◌, ◌++◌, refl, sym, ◌∙◌, ap, append_assoc}
-use Rattle.std.specs.Prelude.{Some, map, reverse, Bool}
-use Rattle.std.specs.List.{AllZip}
-use Rattle.std.specs.declared.cmp.Ordering.{Ordering}
-use Rattle.std.specs.declared.cmp.Ordering.TheVariants.{Equal}
-use Rattle.std.specs.Map.{lookup}
-use Rattle.std.specs.BTreeMap.{is_at}
-use Rattle.std.proofs.lemmas.List.{reverse-append, append-nil}
+use Rattle.rectangle_pack.proofs.Std.{◌≡◌, ℕ, List, [], ◌∷◌, ◌++◌, refl, sym, ◌∙◌, ap, append_assoc, Some, map, reverse, Bool, AllZip, Ordering, Equal, lookup}
+use Rattle.rectangle_pack.proofs.Std.{is_at, reverse-append, append-nil}
 use Rattle.rectangle_pack.specs.declared.pack.answer.Placement.{Placement}
-use Rattle.rectangle_pack.specs.Boxes.{Size, Cuboid}
-use Rattle.rectangle_pack.specs.Closures.{Answers}
+use Rattle.rectangle_pack.specs.Boxes.{Size}
 use Rattle.rectangle_pack.specs.Placed.{ArePlacedWhole}
-use Rattle.rectangle_pack.specs.Steps.{IsDone}
 use Rattle.rectangle_pack.specs.Packing.{Rules, Members, Stage, AreGroups, AreAllPlaced}
-
--- each location of a trial has the size of its member
-IsDone-sizes : (may : Answers) (sections : List Cuboid) (ms : List Size) (ls last : List Cuboid) (n : ℕ) → IsDone may sections ms ls last n
-    → map (λ l. l.whd) ls ≡ ms
-IsDone-sizes may sections [] ls last n done = ap (map (λ l. l.whd)) done.0
-IsDone-sizes may sections (m ∷ ms) [] last n done = absurd done
-IsDone-sizes may sections (m ∷ ms) (l ∷ ls) last n (next, one, others, step, done, count) =
-    let here : l.whd ≡ m = ap (λ (b : Cuboid). b.whd) step.location_is in
-    let rest = IsDone-sizes may next ms ls last others done in
-    cc
+use Rattle.rectangle_pack.proofs.lemmas.packing.Groups.{IsDone-sizes}
+use Rattle.rectangle_pack.proofs.lemmas.packing.Orders.{AllZip-equal}
 
 entries : {Id B : Type 0} (cmp : Id → Id → Ordering) (sizes : List (Id × Size)) (ids : List Id) (ps : List (Placement Id B)) (ss : List Size)
     → AllZip (λ id p. cmp id p.id ≡ Equal) ids ps
@@ -47,15 +31,11 @@ module _ {Id B K : Type 0} (rules : Rules Id B) (group_cmp : K → K → Orderin
 
   known : (order : List (ℕ × K)) (gs : List (K × Members Id))
       → AllZip (λ o g. (g.0 ≡ o.1) × (lookup (is_at (group_cmp o.1)) lists ≡ Some g.1.ids) × HaveSizes g.1.ids g.1.sizes) order gs
-      → AreKnown gs × (map (λ g. g.0) gs ≡ map (λ o. o.1) order)
-  known [] [] h = (tt, refl)
+      → AreKnown gs
+  known [] [] h = tt
   known [] (g ∷ gs) h = absurd h
   known (o ∷ order) [] h = absurd h
-  known (o ∷ order) (g ∷ gs) h =
-      let rest = known order gs h.1 in
-      let name : g.0 ≡ o.1 = h.0.0 in
-      let names = rest.1 in
-      ((rw name h.0.1, h.0.2, rest.0), (cc))
+  known (o ∷ order) (g ∷ gs) h = (rw h.0.0 h.0.1, h.0.2, known order gs h.1)
 
   -- the homes that a part of a packing adds, in the order taken
   pub record AddsHomes (groups : List (K × Members Id)) (placements : List (Placement Id B)) (old new : List (K × B)) : Type 0 where
@@ -97,6 +77,7 @@ module _ {Id B K : Type 0} (rules : Rules Id B) (group_cmp : K → K → Orderin
       (placements : List (Placement Id B)) (new : Stage K B) (n : ℕ)
       → AreGroups rules.id_cmp group_cmp sizes lists names gs → AreAllPlaced rules excludes order gs old placements new n
       → AddsHomes gs placements old.homes new.homes × (map (λ g. g.0) gs ≡ map (λ o. o.1) names)
-  all_whole excludes names order gs old placements new n listed placed =
-      let k = known names gs listed.each in
-      (placed_whole excludes order gs old placements new n k.0 placed, k.1)
+  all_whole excludes names order gs old placements new n listed placed = (
+    placed_whole excludes order gs old placements new n (known names gs listed.each) placed,
+    AllZip-equal _ (λ o. o.1) (λ g. g.0) (λ o g r. r.0) names gs listed.each,
+  )

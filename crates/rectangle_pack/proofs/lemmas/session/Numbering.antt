@@ -1,14 +1,7 @@
 -- Placements that are numbered, and how many entries lists have.
-use Rattle.std.proofs.Common.{◌≡◌, ℕ, ◌+◌, ◌<◌, ◌≤◌, get_or, zero, suc, ◌⊎◌, inl, inr, List, [], ◌∷◌, ◌++◌, refl, ap, sym, ◌∙◌, arith, length, append_assoc}
-use Rattle.std.specs.Prelude.{map, sum, All, AllPairs, IfSome, IfNone, Result, Ok, Err, ◌≢◌}
-use Rattle.std.specs.List.Sorted.{IsSearchInRange, IsBinarySearchResult, IsNonDecreasingBy}
-use Rattle.std.specs.Ordering.{nat_cmp, ordering_index}
-use Rattle.std.specs.Result.{result_ok}
-use Rattle.std.proofs.lemmas.Cmp.{ranked}
-use Rattle.std.proofs.lemmas.Bool.Decides.{nat_tests}
-use Rattle.std.specs.declared.vec.Vec.{Vec}
-use Rattle.std.specs.Map.{values_of}
-use Rattle.std.proofs.lemmas.List.Sums.{sum_by-cons}
+use Rattle.rectangle_pack.proofs.Std.{◌≡◌, ℕ, ◌+◌, ◌<◌, ◌≤◌, get_or, inl, inr, cases_lt, List, [], ◌∷◌, ◌++◌, refl, ap, sym, ◌∙◌, arith, length, append_assoc}
+use Rattle.rectangle_pack.proofs.Std.{map, sum, All, AllPairs, IfSome, IfNone, Result, Ok, Err, ◌≢◌, IsSearchInRange, IsBinarySearchResult, IsNonDecreasingBy}
+use Rattle.rectangle_pack.proofs.Std.{nat_cmp, ordering_index, result_ok, ranked, nat_tests, Vec, values_of, sum_by-cons}
 use Rattle.rectangle_pack.specs.declared.pack.answer.Placement.{Placement}
 use Rattle.rectangle_pack.specs.declared.session.command.Outstanding.{Outstanding}
 use Rattle.rectangle_pack.specs.Groups.{lists_of}
@@ -29,32 +22,41 @@ entries_in-append {K} {X} {A} (x ∷ xs) ys = omega (arith, entries_in-append xs
 pub numbered-push : {Id B : Type 0} (n : ℕ) (ps : List (Placement Id B)) (p : Placement Id B) (m : ℕ) → m ≡ n + length ps
     → numbered n (ps ++ p ∷ []) ≡ numbered n ps ++ record { number = m; id = p.id; bin = p.bin; location = p.location } ∷ []
 numbered-push {Id} {B} n [] p m h = let same : m ≡ n = omega (arith, h) in rw same refl
-numbered-push {Id} {B} n (q ∷ ps) p m h = ap (λ (l : List (Outstanding Id B)). record { number = n; id = q.id; bin = q.bin; location = q.location } ∷ l) (numbered-push (n + 1) ps p m (omega (arith, h)))
+numbered-push {Id} {B} n (q ∷ ps) p m h = ap (λ (l : List (Outstanding Id B)). record { number = n; id = q.id; bin = q.bin; location = q.location } ∷ l)
+    (numbered-push (n + 1) ps p m (omega (arith, h)))
 
 -- one more placement
-pub numbered-more : {Id B : Type 0} (before outstanding new : List (Outstanding Id B)) (n : ℕ) (ps : List (Placement Id B)) (p : Placement Id B) (m : ℕ) → m ≡ n + length ps
+pub numbered-more : {Id B : Type 0} (before outstanding new : List (Outstanding Id B)) (n : ℕ) (ps : List (Placement Id B)) (p : Placement Id B) (m : ℕ)
+    → m ≡ n + length ps
     → outstanding ≡ before ++ numbered n ps → new ≡ outstanding ++ record { number = m; id = p.id; bin = p.bin; location = p.location } ∷ []
     → new ≡ before ++ numbered n (ps ++ p ∷ [])
 numbered-more {Id} {B} before outstanding new n ps p m h are more =
     let r : Outstanding Id B = record { number = m; id = p.id; bin = p.bin; location = p.location } in
-    more ∙ ap (λ (rs : List (Outstanding Id B)). rs ++ r ∷ []) are ∙ append_assoc before (numbered n ps) (r ∷ []) ∙ ap (λ (rs : List (Outstanding Id B)). before ++ rs) (sym (numbered-push n ps p m h))
+    more ∙ ap (λ (rs : List (Outstanding Id B)). rs ++ r ∷ []) are ∙ append_assoc before (numbered n ps) (r ∷ [])
+    ∙ ap (λ (rs : List (Outstanding Id B)). before ++ rs) (sym (numbered-push n ps p m h))
 
 -- where numbers rise, so does how they compare with a number
-comparisons_rise : {Id B : Type 0} (outstanding : List (Outstanding Id B)) (number : ℕ) → AllPairs (λ a b. a.number < b.number) outstanding → IsNonDecreasingBy (λ r. ordering_index (nat_cmp r.number number)) outstanding
-comparisons_rise outstanding number rising i j d le within = grind (arith, nat_tests, rising i j d, λ (same : i ≡ j). ap (λ k. (get_or outstanding k d).number) same)
-
--- a number is below another, or not
-below_or : (k n : ℕ) → (k < n) ⊎ (n ≤ k)
-below_or k zero = inr (omega arith)
-below_or zero (suc n) = inl (omega arith)
-below_or (suc k) (suc n) = elim (below_or k n) [ inl lt ↦ inl (omega arith) | inr le ↦ inr (omega arith) ]
+comparisons_rise : {Id B : Type 0} (outstanding : List (Outstanding Id B)) (number : ℕ) → AllPairs (λ a b. a.number < b.number) outstanding
+    → IsNonDecreasingBy (λ r. ordering_index (nat_cmp r.number number)) outstanding
+comparisons_rise outstanding number rising i j d le within = grind
+    (arith, nat_tests, rising i j d, λ (same : i ≡ j). ap (λ k. (get_or outstanding k d).number) same)
 
 -- so a search ends at the number, or finds that it is not there
-pub searched : {Id B : Type 0} (outstanding : List (Outstanding Id B)) (number : ℕ) (r : Result ℕ ℕ) → AllPairs (λ a b. a.number < b.number) outstanding → IsSearchInRange r (length outstanding) → IsBinarySearchResult (λ o. nat_cmp o.number number) outstanding r
-    → IfSome (result_ok r) (λ i. (i < length outstanding) × ((d : Outstanding Id B) → (get_or outstanding i d).number ≡ number)) × IfNone (result_ok r) (All (λ o. o.number ≢ number) outstanding)
+pub searched : {Id B : Type 0} (outstanding : List (Outstanding Id B)) (number : ℕ) (r : Result ℕ ℕ) → AllPairs (λ a b. a.number < b.number) outstanding
+    → IsSearchInRange r (length outstanding) → IsBinarySearchResult (λ o. nat_cmp o.number number) outstanding r
+    → IfSome (result_ok r) (λ i. (i < length outstanding) × ((d : Outstanding Id B) → (get_or outstanding i d).number ≡ number))
+    × IfNone (result_ok r) (All (λ o. o.number ≢ number) outstanding)
 searched {Id} {B} outstanding number (Ok at) rising within equal = ((within, λ d. ranked _ number _ (sym (equal d))), tt)
 searched {Id} {B} outstanding number (Err at) rising within parted =
     let halves = parted (comparisons_rise outstanding number rising) in
-    let less : (k : ℕ) (d : Outstanding Id B) → k < at → (get_or outstanding k d).number < number = λ k d lt. ranked _ number _ (sym (halves.0 k d (omega arith) lt)) in
-    let more : (k : ℕ) (d : Outstanding Id B) → at ≤ k → k < length outstanding → number < (get_or outstanding k d).number = λ k d le lt. ranked _ number _ (sym (halves.1 k d le lt)) in
-    (tt, λ k d below same. elim (below_or k at) [ inl lt ↦ absurd (omega (arith, less k d lt, same)) | inr le ↦ absurd (omega (arith, more k d le below, same)) ])
+    let less : (k : ℕ) (d : Outstanding Id B) → k < at → (get_or outstanding k d).number < number = λ k d lt. ranked _ number _
+    (sym (halves.0 k d (omega arith) lt)) in
+    let more : (k : ℕ) (d : Outstanding Id B) → at ≤ k → k < length outstanding
+    → number < (get_or outstanding k d).number = λ k d le lt. ranked _ number _ (sym (halves.1 k d le lt)) in (
+      tt,
+      λ k d below same. elim (cases_lt k at) [
+        | inl lt ↦ absurd (omega (arith, less k d lt, same))
+        | inr le
+            ↦ absurd (omega (arith, more k d le below, same))
+      ],
+    )

@@ -1,14 +1,7 @@
 -- What the outstanding boxes of a bin become with one more, and what they add up to with the free sections.
-use Rattle.std.proofs.Common.{◌≡◌, ℕ, suc, ◌+◌, ◌<◌, ◌≤◌, List, [], ◌∷◌, ◌++◌, Bool, true, cond, length, take, drop, ap, sym, subst, ◌∙◌, arith, get_or, append_assoc}
-use Rattle.std.specs.Prelude.{Some, filter}
-use Rattle.std.specs.declared.cmp.Ordering.{Ordering}
-use Rattle.std.specs.Ordering.{is_eq}
-use Rattle.std.specs.Map.{lookup}
-use Rattle.std.specs.BTreeMap.{is_at}
-use Rattle.std.proofs.Math.Seq.{split_at}
-use Rattle.std.proofs.lemmas.List.{length-append, length-take, length-map, take_more}
-use Rattle.std.proofs.lemmas.List.Elements.{filter-append}
-use Rattle.std.proofs.lemmas.List.Sums.{sum_by-cons, sum_by-append, length-filter, count_by-le-length}
+use Rattle.rectangle_pack.proofs.Std.{◌≡◌, ℕ, suc, ◌+◌, ◌<◌, ◌≤◌, List, [], ◌∷◌, ◌++◌, Bool, true, cond, length, take, drop, ap, sym, subst, ◌∙◌, arith, get_or}
+use Rattle.rectangle_pack.proofs.Std.{append_assoc, Some, filter, Ordering, is_eq, lookup, is_at, split_at, length-append, length-take, length-map, take_more}
+use Rattle.rectangle_pack.proofs.Std.{filter-append, sum_by-cons, sum_by-append, length-filter, count_by-le-length}
 use Rattle.rectangle_pack.specs.declared.session.command.Outstanding.{Outstanding}
 use Rattle.rectangle_pack.specs.Boxes.{Cuboid, has_cells, volume_of}
 use Rattle.rectangle_pack.specs.Bins.{Held}
@@ -22,7 +15,8 @@ total_volume-append : (xs ys : List Cuboid) → total_volume (xs ++ ys) ≡ tota
 total_volume-append xs ys = sum_by-append (λ (b : Cuboid). volume_of b.whd) xs ys
 
 -- the volumes of a bin's free sections and of what stands in it add up to the bin's
-pub IsSession-volumes : {Id B : Type 0} (bin_cmp : B → B → Ordering) (bins : List (B × Held)) (outstanding : List (Outstanding Id B)) (next : ℕ) (id : B) (held : Held)
+pub IsSession-volumes : {Id B : Type 0} (bin_cmp : B → B → Ordering) (bins : List (B × Held)) (outstanding : List (Outstanding Id B))
+    (next : ℕ) (id : B) (held : Held)
     → IsSession bin_cmp (record { bins = bins_of bins; outstanding = outstanding; next = next }) → lookup (is_at (bin_cmp id)) bins ≡ Some held
     → total_volume held.bin.sections + total_volume (outstanding_in bin_cmp outstanding id) ≡ volume_of held.bin.size
 IsSession-volumes bin_cmp bins outstanding next id held h found =
@@ -34,22 +28,33 @@ IsSession-volumes bin_cmp bins outstanding next id held h found =
     )
 
 -- what is outstanding in the bin before a placement there leaves room for it, in volume and in number
-pub outstanding-before : {Id B : Type 0} (bin_cmp : B → B → Ordering) (outstanding : List (Outstanding Id B)) (i : ℕ) (r : Outstanding Id B) (q : B) → i < length outstanding → r ≡ get_or outstanding i r → is_eq (bin_cmp r.bin q) ≡ true
-    → (total_volume (outstanding_in bin_cmp (take i outstanding) q) + volume_of r.location.whd ≤ total_volume (outstanding_in bin_cmp outstanding q)) × (length (outstanding_in bin_cmp (take i outstanding) q) < length outstanding)
+pub outstanding-before : {Id B : Type 0} (bin_cmp : B → B → Ordering) (outstanding : List (Outstanding Id B)) (i : ℕ) (r : Outstanding Id B) (q : B)
+    → i < length outstanding → r ≡ get_or outstanding i r → is_eq (bin_cmp r.bin q) ≡ true
+    → (total_volume (outstanding_in bin_cmp (take i outstanding) q) + volume_of r.location.whd ≤ total_volume (outstanding_in bin_cmp outstanding q))
+    × (length (outstanding_in bin_cmp (take i outstanding) q) < length outstanding)
 outstanding-before {Id} {B} bin_cmp outstanding i r q within is here =
     let first = take i outstanding in
     let later = drop (suc i) outstanding in
     let before = outstanding_in bin_cmp first q in
     let after = outstanding_in bin_cmp later q in
-    let split : outstanding ≡ first ++ r ∷ later = subst (λ (x : Outstanding Id B). outstanding ≡ first ++ x ∷ later) (sym is) (split_at outstanding i r within) in
+    let split : outstanding ≡ first ++ r ∷ later = subst (λ (x : Outstanding Id B). outstanding ≡ first ++ x ∷ later) (sym is)
+    (split_at outstanding i r within) in
     let parts = ap (λ rs. outstanding_in bin_cmp rs q) split ∙ outstanding_in-record bin_cmp first r later q true here in
     let Here : Outstanding Id B → Bool = λ x. is_at (bin_cmp x.bin) q in (
       omega (arith, ap total_volume parts, total_volume-append before (r.location ∷ after), sum_by-cons (λ (b : Cuboid). volume_of b.whd) r.location after),
-      omega (arith, length-map (filter Here first) (λ (x : Outstanding Id B). x.location), length-filter Here first, count_by-le-length Here first, length-take i outstanding),
+      omega (
+        arith,
+        length-map (filter Here first) (λ (x : Outstanding Id B). x.location),
+        length-filter Here first,
+        count_by-le-length Here
+            first,
+        length-take i outstanding,
+      ),
     )
 
 -- one placement more, which is in the bin or is not
-module _ {Id B : Type 0} (bin_cmp : B → B → Ordering) (outstanding : List (Outstanding Id B)) (i : ℕ) (r : Outstanding Id B) (q : B) (b : Bool) (within : i < length outstanding) (is : r ≡ get_or outstanding i r) (here : is_eq (bin_cmp r.bin q) ≡ b) where
+module _ {Id B : Type 0} (bin_cmp : B → B → Ordering) (outstanding : List (Outstanding Id B)) (i : ℕ) (r : Outstanding Id B) (q : B) (b : Bool)
+    (within : i < length outstanding) (is : r ≡ get_or outstanding i r) (here : is_eq (bin_cmp r.bin q) ≡ b) where
   abbrev first : List Cuboid
   first = outstanding_in bin_cmp (take i outstanding) q
 

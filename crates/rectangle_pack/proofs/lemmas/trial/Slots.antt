@@ -1,9 +1,7 @@
 -- The sections of lists of slots.
-use Rattle.std.proofs.Common.{◌≡◌, ◌≤◌, ◌<◌, ◌+◌, ◌-◌, ℕ, suc, List, [], ◌∷◌, ◌++◌, length, take, drop, get_or, refl, sym, ap, arith, length-append, length-drop, ◌∙◌}
-use Rattle.std.specs.Prelude.{Option, Some, None}
-use Rattle.std.proofs.Math.Seq.{drop-cons}
-use Rattle.std.proofs.lemmas.List.{take-append-drop, drop-drop, length-take-le, take_more}
-use Rattle.std.proofs.lemmas.List.Elements.{All-append, All-cons}
+use Rattle.rectangle_pack.proofs.Std.{◌≡◌, ◌≤◌, ◌<◌, ◌+◌, ◌-◌, ℕ, suc, List, [], ◌∷◌, ◌++◌, length, take, drop, get_or, refl, sym, ap, arith, length-append}
+use Rattle.rectangle_pack.proofs.Std.{length-drop, ◌∙◌, Option, Some, None, drop-cons, take-append-drop, drop-drop, length-take-le, take_more, All-append}
+use Rattle.rectangle_pack.proofs.Std.{All-cons}
 use Rattle.rectangle_pack.specs.Boxes.{Cuboid, Size, Holds}
 use Rattle.rectangle_pack.specs.private.Slots.{sections_of, IsLastHolding, NoneHolds}
 
@@ -28,72 +26,59 @@ NoneHolds-append a b size m n p q =
       tests_are = rw e (omega (arith, p.tests_are, q.tests_are, length-append (sections_of a) (sections_of b)));
     }
 
--- where no section from a place on holds a size, there are no more than slots from there on
+-- no more sections are tested than there are slots
 pub NoneHolds-most : (s : List (Option Cuboid)) (i : ℕ) (size : Size) (n : ℕ) → NoneHolds (drop i s) size n → n ≤ length s - i
 NoneHolds-most s i size n p = omega (arith, p.tests_are, length-sections_of (drop i s), length-drop i s)
 
 -- a stretch, and the slots from its end on
-pub NoneHolds-skip :
-    (s : List (Option Cuboid)) (begin end : ℕ) (size : Size) (m n : ℕ) → begin ≤ end →
-    NoneHolds (take (end - begin) (drop begin s)) size m → NoneHolds (drop end s) size n →
-    NoneHolds (drop begin s) size (n + m)
+pub NoneHolds-skip : (s : List (Option Cuboid)) (begin end : ℕ) (size : Size) (m n : ℕ)
+    → begin ≤ end → NoneHolds (take (end - begin) (drop begin s)) size m → NoneHolds (drop end s) size n → NoneHolds (drop begin s) size (n + m)
 NoneHolds-skip s begin end size m n h p q =
     let ends : begin + (end - begin) ≡ end = omega arith in
     let rest : drop (end - begin) (drop begin s) ≡ drop end s = rw (drop-drop (end - begin) begin s, ends) refl in
     let both = NoneHolds-append (take (end - begin) (drop begin s)) (drop (end - begin) (drop begin s)) size m n p (rw rest q) in
     rw (take-append-drop (end - begin) (drop begin s)) at both
 
--- the slot before a place, and the slots from there on
-pub drop-slot :
-    (s : List (Option Cuboid)) (end : ℕ) (x d : Option Cuboid) → 0 < end → end ≤ length s → x ≡ get_or s (end - 1) d →
-    drop (end - 1) s ≡ x ∷ drop end s
-drop-slot s end x d h l e =
-    let next : suc (end - 1) ≡ end = omega arith in
-    let here = drop-cons s (end - 1) d (omega arith) in
-    rw e (rw next at here)
+module _ (s : List (Option Cuboid)) (end : ℕ) (some : 0 < end) (within : end ≤ length s) (size : Size) (n : ℕ) (later : NoneHolds (drop end s) size n) where
+  drop-slot : (x d : Option Cuboid) → x ≡ get_or s (end - 1) d → drop (end - 1) s ≡ x ∷ drop end s
+  drop-slot x d read =
+      let next : suc (end - 1) ≡ end = omega arith in
+      rw read (rw next at (drop-cons s (end - 1) d (omega arith)))
 
--- a slot more, an empty one
-pub NoneHolds-empty : (s rest : List (Option Cuboid)) (size : Size) (n : ℕ) → s ≡ None ∷ rest → NoneHolds rest size n → NoneHolds s size n
-NoneHolds-empty s rest size n e p = rw e (record { none = p.none; tests_are = p.tests_are })
+  -- one more slot is empty
+  pub NoneHolds-empty : (d : Option Cuboid) → None ≡ get_or s (end - 1) d → NoneHolds (drop (end - 1) s) size n
+  NoneHolds-empty d read = rw (drop-slot None d read) (record { none = later.none; tests_are = later.tests_are })
 
--- a slot more, whose section does not hold the size
-pub NoneHolds-section :
-    (s rest : List (Option Cuboid)) (x : Cuboid) (size : Size) (n : ℕ) → s ≡ Some x ∷ rest → ¬ Holds x size →
-    NoneHolds rest size n → NoneHolds s size (n + 1)
-NoneHolds-section s rest x size n e apart p = rw e (record {
-  none = All-cons (λ y. ¬ Holds y size) x (sections_of rest) apart p.none;
-  tests_are = omega (arith, p.tests_are);
-})
+  -- the section in one more slot does not hold the size
+  pub NoneHolds-section : (x : Cuboid) (d : Option Cuboid) → Some x ≡ get_or s (end - 1) d → ¬ Holds x size → NoneHolds (drop (end - 1) s) size (n + 1)
+  NoneHolds-section x d read apart = rw (drop-slot (Some x) d read) (record {
+    none = All-cons (λ y. ¬ Holds y size) x _ apart later.none;
+    tests_are = omega (arith, later.tests_are);
+  })
 
--- the slot before a place has a section that holds the size, and from there on none does
-pub IsLastHolding-at :
-    (s : List (Option Cuboid)) (end : ℕ) (x : Cuboid) (size : Size) (n : ℕ) → end ≤ length s →
-    drop (end - 1) s ≡ Some x ∷ drop end s → Holds x size → NoneHolds (drop end s) size n →
-    IsLastHolding s size (end - 1) (n + 1)
-IsLastHolding-at s end x size n l e held p = record {
-  before = take (end - 1) s;
-  section = x;
-  after = drop end s;
-  splits = sym (take-append-drop (end - 1) s) ∙ ap (λ t. take (end - 1) s ++ t) e;
-  place = sym (length-take-le (end - 1) s (omega arith));
-  held = held;
-  newest = p.none;
-  tests_are = omega (arith, p.tests_are);
-}
+  -- the section in one more slot holds the size
+  pub IsLastHolding-at : (x : Cuboid) (d : Option Cuboid) → Some x ≡ get_or s (end - 1) d → Holds x size → IsLastHolding s size (end - 1) (n + 1)
+  IsLastHolding-at x d read held = record {
+    before = take (end - 1) s;
+    section = x;
+    after = drop end s;
+    splits = sym (take-append-drop (end - 1) s) ∙ ap (λ t. take (end - 1) s ++ t) (drop-slot (Some x) d read);
+    place = sym (length-take-le (end - 1) s (omega arith));
+    held = held;
+    newest = later.none;
+    tests_are = omega (arith, later.tests_are);
+  }
 
 -- before a slot with a section there are fewer sections than in all
-pub sections_of-fewer :
-    (s : List (Option Cuboid)) (i : ℕ) (x : Cuboid) (d : Option Cuboid) → i < length s → get_or s i d ≡ Some x →
-    length (sections_of (take i s)) < length (sections_of s)
+pub sections_of-fewer : (s : List (Option Cuboid)) (i : ℕ) (x : Cuboid) (d : Option Cuboid)
+    → i < length s → get_or s i d ≡ Some x → length (sections_of (take i s)) < length (sections_of s)
 sections_of-fewer s i x d l e =
     let rest : drop i s ≡ Some x ∷ drop (suc i) s = drop-cons s i d l ∙ ap (λ y. y ∷ drop (suc i) s) e in
     let all : sections_of s ≡ sections_of (take i s) ++ x ∷ sections_of (drop (suc i) s) =
-    ap sections_of (sym (take-append-drop i s) ∙ ap (λ t. take i s ++ t) rest) ∙ sections_of-append (take i s) (Some x ∷ drop (suc i) s)
-    in
+    ap sections_of (sym (take-append-drop i s) ∙ ap (λ t. take i s ++ t) rest) ∙ sections_of-append (take i s) (Some x ∷ drop (suc i) s) in
     omega (arith, ap length all, length-append (sections_of (take i s)) (x ∷ sections_of (drop (suc i) s)))
 
 -- the sections of a slot more
-pub sections_of-more :
-    (s : List (Option Cuboid)) (i : ℕ) (x d : Option Cuboid) → i < length s → get_or s i d ≡ x →
-    sections_of (take (i + 1) s) ≡ sections_of (take i s) ++ sections_of (x ∷ [])
+pub sections_of-more : (s : List (Option Cuboid)) (i : ℕ) (x d : Option Cuboid)
+    → i < length s → get_or s i d ≡ x → sections_of (take (i + 1) s) ≡ sections_of (take i s) ++ sections_of (x ∷ [])
 sections_of-more s i x d l e = rw (take_more s i d l, e) (sections_of-append (take i s) (x ∷ []))

@@ -1,11 +1,8 @@
 -- What a step and a trial keep.
-use Rattle.std.proofs.Common.{◌≡◌, ℕ, ◌+◌, ◌≤◌, Bool, true, false, cond, List, [], ◌∷◌, ◌++◌, length, arith, refl, ap, sym, subst, ◌∙◌, length-append}
-use Rattle.std.specs.Prelude.{All, map, filter, Result, Ok, Err}
-use Rattle.std.specs.List.{AllZip, zip, count_by}
-use Rattle.std.specs.List.Sorted.{IsPermutation}
-use Rattle.std.proofs.lemmas.List.Elements.{All-head, All-tail, All-append, All-filter, All-same, All-weaker}
-use Rattle.std.proofs.lemmas.List.Sums.{length-filter, count_by-le-length}
-use Rattle.std.proofs.lemmas.List.Sorted.{IsPermutation-map, All-permutation, length_permutation, sum_by-IsPermutation}
+use Rattle.rectangle_pack.proofs.Std.{◌≡◌, ℕ, ◌+◌, ◌≤◌, Bool, true, false, cond, List, [], ◌∷◌, ◌++◌, length, arith, refl, ap, sym, subst, ◌∙◌, length-append}
+use Rattle.rectangle_pack.proofs.Std.{All, map, filter, Result, Ok, Err, AllZip, zip, count_by, IsPermutation, All-head, All-tail, All-append, All-filter}
+use Rattle.rectangle_pack.proofs.Std.{All-same, All-weaker, length-filter, count_by-le-length, IsPermutation-map, All-permutation, length_permutation}
+use Rattle.rectangle_pack.proofs.Std.{sum_by-IsPermutation}
 use Rattle.rectangle_pack.specs.Closures.{Answers}
 use Rattle.rectangle_pack.specs.Boxes.{Size, Cuboid, Cell, FitsU32, IsInside, IsPartOf, is_cell_of, has_cells}
 use Rattle.rectangle_pack.specs.Bins.{IsSound}
@@ -17,7 +14,8 @@ use Rattle.rectangle_pack.specs.Steps.{AreLeft, IsStep, IsDone}
 use Rattle.rectangle_pack.specs.private.TrialNotes.{IsTried}
 use Rattle.rectangle_pack.proofs.lemmas.multimap.Append.{All-front, All-back}
 use Rattle.rectangle_pack.proofs.lemmas.cuts.Boxes.{has_cells-from}
-use Rattle.rectangle_pack.proofs.lemmas.cuts.Counting.{count-cons, count_no, filled-append, filled-cons, filled-nil, apart_from_counts, counts_from_apart, KeepCells-from_counts}
+use Rattle.rectangle_pack.proofs.lemmas.cuts.Counting.{count-cons, count_no, filled-append, filled-cons, filled-nil, apart_from_counts, counts_from_apart}
+use Rattle.rectangle_pack.proofs.lemmas.cuts.Counting.{KeepCells-from_counts}
 use Rattle.rectangle_pack.proofs.lemmas.cuts.Pieces.{chosen_part, chosen_tiles, length-chosen}
 use Rattle.rectangle_pack.proofs.lemmas.cuts.FallingRates.{IsPermutation-ranked}
 use Rattle.rectangle_pack.proofs.lemmas.cuts.SameBoxes.{HaveSameBoxes-filter}
@@ -29,29 +27,14 @@ map-zip R [] (r ∷ rates) h = absurd h
 map-zip R (b ∷ cut) [] h = absurd h
 map-zip R (b ∷ cut) (r ∷ rates) h = ap (λ bs. b ∷ bs) (map-zip R cut rates h.1)
 
--- the pieces in their order are those of the cut
-ordered : {MayRate : Size → ℕ → Type 0} (cut left : List Cuboid) (h : AreLeft MayRate cut left) → IsPermutation cut (map (λ p. p.1) h.ranked)
-ordered {MayRate} cut left h =
-    let moved : IsPermutation (map (λ p. p.1) (zip h.rates cut)) (map (λ p. p.1) h.ranked) =
-    IsPermutation-map (λ p. p.1) (zip h.rates cut) h.ranked (IsPermutation-ranked (zip h.rates cut) h.ranked h.are_ranked) in
-    rw (map-zip (λ piece rate. MayRate piece.whd rate) cut h.rates h.rated) at moved
-
-pub All-left : {MayRate : Size → ℕ → Type 0} (P : Cuboid → Type 0) (cut left : List Cuboid) → AreLeft MayRate cut left → All P cut → All P left
-All-left {MayRate} P cut left h all =
-    All-same P left _ h.are (All-filter has_cells P _ (All-permutation P cut _ (ordered {MayRate = MayRate} cut left h) all))
-
-pub length-left : {MayRate : Size → ℕ → Type 0} (cut left : List Cuboid) → AreLeft MayRate cut left → length left ≤ length cut
-length-left {MayRate} cut left h =
-    let bs : List Cuboid = map (λ p. p.1) h.ranked in
-    omega (arith, ap length h.are, length-filter has_cells bs, count_by-le-length has_cells bs, length_permutation cut bs (ordered {MayRate = MayRate} cut left h))
-
 -- boxes without cells do not count
 pub filled-filter : (c : Cell) (bs : List Cuboid) → times_filled c (filter has_cells bs) ≡ times_filled c bs
 unfolding times_filled
 filled-filter c [] = refl
 filled-filter c (b ∷ bs) = by (filled-filter c bs) (has_cells b) refl (is_cell_of c b) refl
   where
-    by : count_by (is_cell_of c) (filter has_cells bs) ≡ count_by (is_cell_of c) bs → (t : Bool) → has_cells b ≡ t → (i : Bool) → is_cell_of c b ≡ i → count_by (is_cell_of c) (cond t (b ∷ filter has_cells bs) (filter has_cells bs)) ≡ count_by (is_cell_of c) (b ∷ bs)
+    by : count_by (is_cell_of c) (filter has_cells bs) ≡ count_by (is_cell_of c) bs → (t : Bool) → has_cells b ≡ t → (i : Bool) → is_cell_of c b ≡ i
+        → count_by (is_cell_of c) (cond t (b ∷ filter has_cells bs) (filter has_cells bs)) ≡ count_by (is_cell_of c) (b ∷ bs)
     by ih true e i f = omega (arith, count-cons (is_cell_of c) b (filter has_cells bs), count-cons (is_cell_of c) b bs)
     by ih false e true f = let yes : has_cells b ≡ true = has_cells-from c b f in cc
     by ih false e false f = omega (arith, count_no (is_cell_of c) b bs f)
@@ -60,16 +43,28 @@ pub filled-permutation : (c : Cell) (bs es : List Cuboid) → IsPermutation bs e
 unfolding times_filled
 filled-permutation c bs es h = sum_by-IsPermutation (λ b. cond (is_cell_of c b) 1 0) bs es h
 
--- what is left of a cut fills the same cells
-pub filled-left : {MayRate : Size → ℕ → Type 0} (c : Cell) (cut left : List Cuboid) → AreLeft MayRate cut left → times_filled c left ≡ times_filled c cut
-filled-left {MayRate} c cut left h =
-    ap (times_filled c) h.are ∙ filled-filter c _ ∙ filled-permutation c cut _ (ordered {MayRate = MayRate} cut left h)
+module _ {MayRate : Size → ℕ → Type 0} (cut left : List Cuboid) (h : AreLeft MayRate cut left) where
+  abbrev bs : List Cuboid
+  bs = map (λ p. p.1) h.ranked
 
--- and it is the same boxes, those without cells aside
-pub HaveSameBoxes-left : {MayRate : Size → ℕ → Type 0} (cut left : List Cuboid) → AreLeft MayRate cut left → HaveSameBoxes left cut
-HaveSameBoxes-left {MayRate} cut left h = λ b cells.
-    let bs : List Cuboid = map (λ p. p.1) h.ranked in
-    ap (times_in b) h.are ∙ HaveSameBoxes-filter bs b cells ∙ times_in-permutation b cut bs (ordered {MayRate = MayRate} cut left h)
+  -- the pieces in their order are those of the cut
+  ordered : IsPermutation cut bs
+  ordered = rw (map-zip (λ piece rate. MayRate piece.whd rate) cut h.rates h.rated)
+      at (IsPermutation-map (λ p. p.1) (zip h.rates cut) h.ranked (IsPermutation-ranked (zip h.rates cut) h.ranked h.are_ranked))
+
+  pub All-left : (P : Cuboid → Type 0) → All P cut → All P left
+  All-left P all = All-same P left _ h.are (All-filter has_cells P bs (All-permutation P cut bs ordered all))
+
+  pub length-left : length left ≤ length cut
+  length-left = omega (arith, ap length h.are, length-filter has_cells bs, count_by-le-length has_cells bs, length_permutation cut bs ordered)
+
+  -- what is left of a cut fills the same cells
+  pub filled-left : (c : Cell) → times_filled c left ≡ times_filled c cut
+  filled-left c = ap (times_filled c) h.are ∙ filled-filter c bs ∙ filled-permutation c cut bs ordered
+
+  -- and it is the same boxes, those without cells aside
+  pub HaveSameBoxes-left : HaveSameBoxes left cut
+  HaveSameBoxes-left b cells = ap (times_in b) h.are ∙ HaveSameBoxes-filter bs b cells ∙ times_in-permutation b cut bs ordered
 
 module _ (may : Answers) where
   -- what passes from a section to each part of it holds after a step
@@ -80,18 +75,21 @@ module _ (may : Answers) where
       let all : All P (step.before ++ step.section ∷ step.after) = All-same P _ sections (sym step.splits) h in
       let back : All P (step.section ∷ step.after) = All-back P step.before (step.section ∷ step.after) all in
       let here : P step.section = All-head P step.section step.after back in
-      let pieces : All P step.cut = All-weaker (λ b. IsPartOf b step.section) P (λ b ends. passes b step.section ends here) step.cut (chosen_part step.section m step.cut step.held step.allowed) in
+      let pieces : All P step.cut = All-weaker (λ b. IsPartOf b step.section) P
+      (λ b ends. passes b step.section ends here) step.cut (chosen_part step.section m step.cut step.held step.allowed) in
       All-same P next _ step.next_is
       (All-append P (step.before ++ step.after) step.left
       (All-append P step.before step.after (All-front P step.before (step.section ∷ step.after) all) (All-tail P step.section step.after back))
-      (All-left {MayRate = may.rate} P step.cut step.left step.are_left pieces))
+      (All-left {MayRate = may.rate} step.cut step.left step.are_left P pieces))
 
-  pub IsStep-fits : (sections : List Cuboid) (m : Size) (l : Cuboid) (next : List Cuboid) (n : ℕ) → IsStep may sections m l next n → All FitsU32 sections → All FitsU32 next
+  pub IsStep-fits : (sections : List Cuboid) (m : Size) (l : Cuboid) (next : List Cuboid) (n : ℕ) → IsStep may sections m l next n
+      → All FitsU32 sections → All FitsU32 next
   IsStep-fits sections m l next n = IsStep-keeps FitsU32 sections m l next n
       (λ b s ends fits. record { fits_x = omega arith; fits_y = omega arith; fits_z = omega arith })
 
   -- a step makes a list longer by at most two
-  pub length-step : (sections : List Cuboid) (m : Size) (l : Cuboid) (next : List Cuboid) (n : ℕ) → IsStep may sections m l next n → length next ≤ length sections + 2
+  pub length-step : (sections : List Cuboid) (m : Size) (l : Cuboid) (next : List Cuboid) (n : ℕ) → IsStep may sections m l next n
+      → length next ≤ length sections + 2
   length-step sections m l next n step =
       omega (
         arith,
@@ -116,7 +114,7 @@ module _ (may : Answers) where
         filled-append c step.before step.after,
         filled-append c step.before (step.section ∷ step.after),
         filled-cons c step.section step.after,
-        filled-left {MayRate = may.rate} c step.cut step.left step.are_left,
+        filled-left {MayRate = may.rate} step.cut step.left step.are_left c,
         (chosen_tiles step.section m step.cut step.held step.allowed).same c,
         filled-cons c (placed step.section m) step.cut,
         ap (λ b. times_filled c (b ∷ [])) step.location_is,
@@ -138,19 +136,18 @@ module _ (may : Answers) where
   IsDone-keeps P sections (m ∷ ms) (l ∷ ls) last n passes (next, one, others, step, done, count) h =
       IsDone-keeps P next ms ls last others passes done (IsStep-keeps P sections m l next one passes step h)
 
-  IsDone-inside : (size : Size) (sections : List Cuboid) (ms : List Size) (ls last : List Cuboid) (n : ℕ) → IsDone may sections ms ls last n → All (IsInside size) sections → All (IsInside size) last
-  IsDone-inside size sections ms ls last n = IsDone-keeps (IsInside size) sections ms ls last n
-      (λ b s part inside. record { within_x = omega arith; within_y = omega arith; within_z = omega arith })
-
   -- a trial that is done leaves a sound list sound
-  pub IsSound-done : (size : Size) (sections : List Cuboid) (ms : List Size) (ls last : List Cuboid) (n : ℕ) → IsDone may sections ms ls last n → IsSound size sections → IsSound size last
+  pub IsSound-done : (size : Size) (sections : List Cuboid) (ms : List Size) (ls last : List Cuboid) (n : ℕ) → IsDone may sections ms ls last n
+      → IsSound size sections → IsSound size last
   IsSound-done size sections ms ls last n done sound = record {
-    inside = IsDone-inside size sections ms ls last n done sound.inside;
+    inside = IsDone-keeps (IsInside size) sections ms ls last n
+        (λ b s part inside. record { within_x = omega arith; within_y = omega arith; within_z = omega arith }) done sound.inside;
     apart = apart_from_counts last (λ c. omega (arith, filled-done c sections ms ls last n done, counts_from_apart c sections sound.apart));
   }
 
-  -- what a trial that is done passes on holds after each one: stuck, or out of memory, it leaves the list
-  pub trial_passes : {E : Type 0} (P : List Cuboid → Type 0) (sections : List Cuboid) (ms : List Size) (counted : ℕ) (r : Result Bool E) (ls last : List Cuboid) (counter : ℕ)
+  -- what a trial that is done keeps, every trial keeps: one that is stuck or out of memory leaves the list
+  pub trial_passes : {E : Type 0} (P : List Cuboid → Type 0) (sections : List Cuboid) (ms : List Size) (counted : ℕ) (r : Result Bool E)
+      (ls last : List Cuboid) (counter : ℕ)
       → IsTried may sections ms counted r ls last counter
       → ((n : ℕ) → IsDone may sections ms ls last n → P sections → P last) → P sections → P last
   trial_passes P sections ms counted (Ok true) ls last counter (n, done, is) passes h = passes n done h
@@ -158,11 +155,14 @@ module _ (may : Answers) where
   trial_passes P sections ms counted (Err error) ls last counter (same, is) passes h = subst P (sym same) h
 
   -- a trial leaves a sound list sound
-  pub IsSound-tried : {E : Type 0} (size : Size) (sections : List Cuboid) (ms : List Size) (counted : ℕ) (r : Result Bool E) (ls last : List Cuboid) (counter : ℕ)
+  pub IsSound-tried : {E : Type 0} (size : Size) (sections : List Cuboid) (ms : List Size) (counted : ℕ) (r : Result Bool E)
+      (ls last : List Cuboid) (counter : ℕ)
       → IsTried may sections ms counted r ls last counter → IsSound size sections → IsSound size last
   IsSound-tried size sections ms counted r ls last counter tried =
       trial_passes (IsSound size) sections ms counted r ls last counter tried (λ n. IsSound-done size sections ms ls last n)
 
   -- a trial that is done keeps the cells
-  pub KeepCells-done : (sections : List Cuboid) (ms : List Size) (ls last : List Cuboid) (n : ℕ) → AreAllApart sections → IsDone may sections ms ls last n → KeepCells sections (last ++ ls)
-  KeepCells-done sections ms ls last n apart done = KeepCells-from_counts sections (last ++ ls) apart (λ c. omega (arith, filled-append c last ls, filled-done c sections ms ls last n done))
+  pub KeepCells-done : (sections : List Cuboid) (ms : List Size) (ls last : List Cuboid) (n : ℕ) → AreAllApart sections → IsDone may sections ms ls last n
+      → KeepCells sections (last ++ ls)
+  KeepCells-done sections ms ls last n apart done = KeepCells-from_counts sections (last ++ ls) apart
+      (λ c. omega (arith, filled-append c last ls, filled-done c sections ms ls last n done))

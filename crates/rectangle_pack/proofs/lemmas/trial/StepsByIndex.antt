@@ -1,10 +1,7 @@
 -- Steps by index, and the undoing of noted steps.
-use Rattle.std.proofs.Common.{◌≡◌, ℕ, zero, suc, ◌+◌, ◌-◌, ◌<◌, ◌≤◌, List, [], ◌∷◌, ◌++◌, length, get_or, take, drop, arith, refl, ap, sym, ◌∙◌, subst, length-drop, add-one, inl, inr}
-use Rattle.std.specs.Prelude.{All, remove, map, filter, Bool, true, false, Result, Ok, Err, IfOk, IsErr}
-use Rattle.std.specs.Bool.{OnTrue}
-use Rattle.std.specs.List.{AllWithin, HoldsAt}
-use Rattle.std.proofs.Math.Seq.{split_at}
-use Rattle.std.proofs.lemmas.List.{get_or-drop, take_more}
+use Rattle.rectangle_pack.proofs.Std.{◌≡◌, ◌↔◌, ℕ, suc, ◌+◌, ◌-◌, ◌<◌, ◌≤◌, List, [], ◌∷◌, ◌++◌, length, get_or, take, drop, arith, refl, ap, sym, ◌∙◌, subst}
+use Rattle.rectangle_pack.proofs.Std.{length-drop, add-one, inl, inr, All, remove, map, filter, Bool, true, false, Result, Ok, Err, IfOk, OnTrue, AllWithin}
+use Rattle.rectangle_pack.proofs.Std.{HoldsAt, split_at, get_or-drop, take_more}
 use Rattle.rectangle_pack.specs.Closures.{Answers}
 use Rattle.rectangle_pack.specs.Numbers.{saturated}
 use Rattle.rectangle_pack.specs.declared.target_bin.trial.Note.{Note}
@@ -46,46 +43,26 @@ IsStep-at may sections member i s cut left next within read held newest allowed 
 }
 
 -- the last noted step is undone first
-pub before_notes-push : (notes : List Note) (note : Note) (sections : List Cuboid)
+before_notes-push : (notes : List Note) (note : Note) (sections : List Cuboid)
     → before_notes (notes ++ note ∷ []) sections ≡ before_notes notes (before_note note sections)
 before_notes-push [] note sections = refl
 before_notes-push (n ∷ notes) note sections = ap (before_note n) (before_notes-push notes note sections)
 
-pub CanUndo-pop : (room : ℕ) (notes : List Note) (note : Note) (sections : List Cuboid)
-    → CanUndo room (notes ++ note ∷ []) sections → CanUndoOne room note sections × CanUndo room notes (before_note note sections)
-CanUndo-pop room [] note sections h = (h.0, tt)
-CanUndo-pop room (n ∷ notes) note sections h =
-    let rest = CanUndo-pop room notes note sections h.1 in
-    (rest.0, (subst (CanUndoOne room n) (before_notes-push notes note sections) h.0, rest.1))
-
-pub CanUndo-push : (room : ℕ) (notes : List Note) (note : Note) (sections : List Cuboid)
-    → CanUndoOne room note sections → CanUndo room notes (before_note note sections) → CanUndo room (notes ++ note ∷ []) sections
-CanUndo-push room [] note sections one h = (one, tt)
-CanUndo-push room (n ∷ notes) note sections one h =
-    (subst (CanUndoOne room n) (sym (before_notes-push notes note sections)) h.0, CanUndo-push room notes note sections one h.1)
-
--- by the clause of `pop` on the items
-pub CanUndo-popped : (room : ℕ) (old notes : List Note) (note : Note) (sections : List Cuboid) → old ≡ notes ++ note ∷ []
-    → CanUndo room old sections → CanUndoOne room note sections × CanUndo room notes (before_note note sections)
-CanUndo-popped room old notes note sections same h =
-    CanUndo-pop room notes note sections (subst (λ (ns : List Note). CanUndo room ns sections) same h)
-
-pub before_notes-popped : (old notes : List Note) (note : Note) (sections : List Cuboid) → old ≡ notes ++ note ∷ []
-    → before_notes old sections ≡ before_notes notes (before_note note sections)
-before_notes-popped old notes note sections same =
-    ap (λ (ns : List Note). before_notes ns sections) same ∙ before_notes-push notes note sections
-
-pub CanUndoOne-more : (room more : ℕ) (note : Note) (sections : List Cuboid) → room ≤ more → CanUndoOne room note sections → CanUndoOne more note sections
-CanUndoOne-more room more note sections le one = record { kept = one.kept; index = one.index; fits = omega arith }
+CanUndo-push : (room : ℕ) (notes : List Note) (note : Note) (sections : List Cuboid)
+    → CanUndo room (notes ++ note ∷ []) sections ↔ (CanUndoOne room note sections × CanUndo room notes (before_note note sections))
+CanUndo-push room [] note sections = (λ h. (h.0, tt), λ h. (h.0, tt))
+CanUndo-push room (n ∷ notes) note sections =
+    let (pop, push) = CanUndo-push room notes note sections in
+    let e = before_notes-push notes note sections in
+    (λ h. ((pop h.1).0, (rw e at h.0, (pop h.1).1)), λ h. (rw e h.1.0, push (h.0, h.1.1)))
 
 pub CanUndo-more : (room more : ℕ) (notes : List Note) (sections : List Cuboid) → room ≤ more → CanUndo room notes sections → CanUndo more notes sections
 CanUndo-more room more [] sections le h = tt
 CanUndo-more room more (n ∷ notes) sections le h =
-    (CanUndoOne-more room more n (before_notes notes sections) le h.0, CanUndo-more room more notes sections le h.1)
+    (record { kept = h.0.kept; index = h.0.index; fits = omega arith }, CanUndo-more room more notes sections le h.1)
 
 -- one more member is placed
-pub IsDone-push : (may : Answers) (sections : List Cuboid) (ms : List Size) (ls : List Cuboid) (mid : List Cuboid) (n : ℕ)
-    (m : Size) (l : Cuboid) (next : List Cuboid) (one : ℕ)
+IsDone-push : (may : Answers) (sections : List Cuboid) (ms : List Size) (ls mid : List Cuboid) (n : ℕ) (m : Size) (l : Cuboid) (next : List Cuboid) (one : ℕ)
     → IsDone may sections ms ls mid n → IsStep may mid m l next one → IsDone may sections (ms ++ m ∷ []) (ls ++ l ∷ []) next (n + one)
 IsDone-push may sections [] [] mid n m l next one done step =
     (next, one, 0, subst (λ (s : List Cuboid). IsStep may s m l next one) done.1 step, (refl, refl, refl), (let e = done.2 in omega arith))
@@ -95,8 +72,7 @@ IsDone-push may sections (m' ∷ ms) (l' ∷ ls) mid n m l next one (s, first, r
     (s, first, rest + one, head, IsDone-push may s ms ls mid rest m l next one tail step, omega arith)
 
 -- the next member finds no section
-pub IsStuck-after : (may : Answers) (sections : List Cuboid) (ms : List Size) (ls : List Cuboid) (mid : List Cuboid) (n : ℕ)
-    (m : Size) (others : List Size)
+IsStuck-after : (may : Answers) (sections : List Cuboid) (ms : List Size) (ls mid : List Cuboid) (n : ℕ) (m : Size) (others : List Size)
     → IsDone may sections ms ls mid n → All (λ t. ¬ Holds t m) mid → IsStuck may sections (ms ++ m ∷ others) (n + length mid)
 IsStuck-after may sections [] ls mid n m others done none =
     inl (subst (λ (s : List Cuboid). All (λ t. ¬ Holds t m) s) done.1 none, (let e = ap length done.1 in let z = done.2 in omega arith))
@@ -105,21 +81,18 @@ IsStuck-after may sections (m' ∷ ms) (l' ∷ ls) mid n m others (s, first, res
     inr (l', s, first, rest + length mid, head, IsStuck-after may s ms ls mid rest m others tail none, omega arith)
 
 -- the step of the loop over the members
-pub IsDone-more : (may : Answers) (sections : List Cuboid) (ms : List Size) (i : ℕ) (m : Size) (ls : List Cuboid) (mid : List Cuboid) (n : ℕ)
-    (l : Cuboid) (ls' : List Cuboid) (next : List Cuboid) (one : ℕ) → i < length ms → m ≡ get_or ms i m
-    → IsDone may sections (take i ms) ls mid n → IsStep may mid m l next one → ls' ≡ ls ++ l ∷ []
+pub IsDone-more : (may : Answers) (sections : List Cuboid) (ms : List Size) (i : ℕ) (m : Size) (ls mid : List Cuboid) (n : ℕ)
+    (l : Cuboid) (ls' next : List Cuboid) (one : ℕ)
+    → i < length ms → m ≡ get_or ms i m → IsDone may sections (take i ms) ls mid n → IsStep may mid m l next one → ls' ≡ ls ++ l ∷ []
     → IsDone may sections (take (i + 1) ms) ls' next (n + one)
 IsDone-more may sections ms i m ls mid n l ls' next one within read done step same =
-    subst (λ (xs : List Cuboid). IsDone may sections (take (i + 1) ms) xs next (n + one)) (sym same)
-    (subst (λ (xs : List Size). IsDone may sections xs (ls ++ l ∷ []) next (n + one)) (sym (take_more ms i m within ∙ ap (λ x. take i ms ++ x ∷ []) (sym read)))
-    (IsDone-push may sections (take i ms) ls mid n m l next one done step))
+    rw (same, take_more ms i m within, ← read) (IsDone-push may sections (take i ms) ls mid n m l next one done step)
 
-pub IsStuck-at : (may : Answers) (sections : List Cuboid) (ms : List Size) (i : ℕ) (m : Size) (ls : List Cuboid) (mid : List Cuboid) (n : ℕ)
+pub IsStuck-at : (may : Answers) (sections : List Cuboid) (ms : List Size) (i : ℕ) (m : Size) (ls mid : List Cuboid) (n : ℕ)
     → i < length ms → m ≡ get_or ms i m → IsDone may sections (take i ms) ls mid n → All (λ t. ¬ Holds t m) mid
     → IsStuck may sections ms (n + length mid)
 IsStuck-at may sections ms i m ls mid n within read done none =
-    subst (λ (xs : List Size). IsStuck may sections xs (n + length mid)) (sym (split_at ms i m within ∙ ap (λ x. take i ms ++ x ∷ drop (suc i) ms) (sym read)))
-    (IsStuck-after may sections (take i ms) ls mid n m (drop (suc i) ms) done none)
+    rw (split_at ms i m within, ← read) (IsStuck-after may sections (take i ms) ls mid n m (drop (suc i) ms) done none)
 
 pub saturated-add : (t s u a b : ℕ) → s ≡ saturated (t + a) → u ≡ saturated (s + b) → u ≡ saturated (t + (a + b))
 saturated-add t s u a b first second = omega arith
@@ -129,15 +102,15 @@ pub LeadsBack-noted : (room more : ℕ) (notes : List Note) (note : Note) (mid n
     → before_note note next ≡ mid → room ≤ more → CanUndoOne more note next → LeadsBack room mid notes start → LeadsBack more next (notes ++ note ∷ []) start
 LeadsBack-noted room more notes note mid next start one le can back = record {
   before = before_notes-push notes note next ∙ ap (before_notes notes) one ∙ back.before;
-  can = CanUndo-push more notes note next can (subst (CanUndo more notes) (sym one) (CanUndo-more room more notes mid le back.can));
+  can = (CanUndo-push more notes note next).1 (can, subst (CanUndo more notes) (sym one) (CanUndo-more room more notes mid le back.can));
 }
 
 -- the last noted step is undone, and then the others
-pub LeadsBack-popped : (room more : ℕ) (sections : List Cuboid) (old notes : List Note) (note : Note) (start : List Cuboid) → room ≤ more
-    → old ≡ notes ++ note ∷ [] → LeadsBack room sections old start → CanUndoOne room note sections × LeadsBack more (before_note note sections) notes start
-LeadsBack-popped room more sections old notes note start le same back =
-    let (one, others) = CanUndo-popped room old notes note sections same back.can in
-    (one, record { before = sym (before_notes-popped old notes note sections same) ∙ back.before; can = CanUndo-more room more notes _ le others })
+pub LeadsBack-popped : (room more : ℕ) (sections : List Cuboid) (notes : List Note) (note : Note) (start : List Cuboid) → room ≤ more
+    → LeadsBack room sections (notes ++ note ∷ []) start → CanUndoOne room note sections × LeadsBack more (before_note note sections) notes start
+LeadsBack-popped room more sections notes note start le back =
+    let (one, others) = (CanUndo-push room notes note sections).0 back.can in
+    (one, record { before = sym (before_notes-push notes note sections) ∙ back.before; can = CanUndo-more room more notes _ le others })
 
 -- a list of three, by its elements
 pub three_of : {X : Type 0} (xs : List X) (a b c : X) → length xs ≡ 3 → a ≡ get_or xs 0 a → b ≡ get_or xs 1 b → c ≡ get_or xs 2 c → xs ≡ a ∷ b ∷ c ∷ []
@@ -148,53 +121,36 @@ three_of (p ∷ q ∷ r ∷ []) a b c n x y z = rw (x, y, z) refl
 three_of (p ∷ q ∷ r ∷ s ∷ xs) a b c n x y z = absurd (omega arith)
 
 -- what is left of a cut, for rates of its three pieces
-pub AreLeft-three : (MayRate : Size → ℕ → Type 0) (cut : List Cuboid) (a b c : Cuboid) (i j k : ℕ) → cut ≡ a ∷ b ∷ c ∷ [] → MayRate a.whd i → MayRate b.whd j → MayRate c.whd k
+pub AreLeft-three : (MayRate : Size → ℕ → Type 0) (cut : List Cuboid) (a b c : Cuboid) (i j k : ℕ)
+    → cut ≡ a ∷ b ∷ c ∷ [] → MayRate a.whd i → MayRate b.whd j → MayRate c.whd k
     → AreLeft MayRate cut (filter has_cells (map (λ p. p.1) (by_falling_rate ((i, a) ∷ (j, b) ∷ (k, c) ∷ []))))
-AreLeft-three MayRate cut a b c i j k same x y z =
-    let rated : List (ℕ × Cuboid) = (i, a) ∷ (j, b) ∷ (k, c) ∷ [] in
-    subst (λ bs. AreLeft MayRate bs (filter has_cells (map (λ p. p.1) (by_falling_rate rated)))) (sym same)
-    (record {
-      rates = i ∷ j ∷ k ∷ [];
-      rated = (x, (y, (z, tt)));
-      ranked = by_falling_rate rated;
-      are_ranked = AreRanked-by_falling_rate rated;
-      are = refl;
-    })
+AreLeft-three MayRate cut a b c i j k same x y z = rw same (record {
+  rates = i ∷ j ∷ k ∷ [];
+  rated = (x, (y, (z, tt)));
+  ranked = by_falling_rate ((i, a) ∷ (j, b) ∷ (k, c) ∷ []);
+  are_ranked = AreRanked-by_falling_rate ((i, a) ∷ (j, b) ∷ (k, c) ∷ []);
+  are = refl;
+})
 
 -- a count that began at none, added
 pub saturated-from : (t z s u n : ℕ) → z ≡ 0 → s ≡ saturated (z + n) → u ≡ saturated (t + s) → u ≡ saturated (t + n)
 saturated-from t z s u n none first second = omega arith
 
--- a trial that is refused memory before its first step leaves the list
-pub IsTried-refused : {E : Type 0} (may : Answers) (sections : List Cuboid) (ms : List Size) (i : ℕ) (ls last : List Cuboid) (n before after : ℕ) (r : Result Bool E) (locations now : List Cuboid)
-    → IsErr r → i ≡ 0 → IsDone may sections (take i ms) ls last n → now ≡ last → before ≡ saturated (before + 0) → after ≡ saturated (before + n) → IsTried may sections ms before r locations now after
-IsTried-refused may sections ms i ls last n before after (Ok done) locations now error first steps same small is = absurd cc
-IsTried-refused may sections ms i ls last n before after (Err e) locations now error first steps same small is =
-    let none : IsDone may sections [] ls last n = rw first at steps in
-    (same ∙ none.1, (let e = none.2 in omega arith))
-
--- what has no less than nothing before it is first
-pub is_first : (i : ℕ) → ((0 < i) → ⊥) → i ≡ 0
-is_first zero h = refl
-is_first (suc i) h = absurd (h (omega arith))
-
 -- what a trial in the list of a bin answers
 pub IsNotedAnswer-tried : {E : Type 0} (may : Answers) (old : Bin) (ms : List Size) (counted : ℕ) (r : Result Bool E) (ls last : List Cuboid) (counter : ℕ)
     → IsTried may old.sections ms counted r ls last counter → IsNotedAnswer may old ms counted r ls (record old { sections = last }) counter
 IsNotedAnswer-tried may old ms counted (Ok true) ls last counter (n, done, is) = (n, done, refl, is)
-IsNotedAnswer-tried may old ms counted (Ok false) ls last counter (n, stuck, same, is) = (n, stuck, ap (λ (s : List Cuboid). record old { sections = s }) same, is)
+IsNotedAnswer-tried may old ms counted (Ok false) ls last counter (n, stuck, same, is) =
+    (n, stuck, ap (λ (s : List Cuboid). record old { sections = s }) same, is)
 IsNotedAnswer-tried may old ms counted (Err error) ls last counter (same, is) = (ap (λ (s : List Cuboid). record old { sections = s }) same, is)
 
 -- and which notes it leaves
-pub LeavesNotes-tried : {E : Type 0} (may : Answers) (old : Held) (room : ℕ) (ms : List Size) (counted : ℕ) (r : Result Bool E) (notes : List Note) (ls last : List Cuboid) (counter : ℕ)
+pub LeavesNotes-tried : {E : Type 0} (may : Answers) (old : Held) (room : ℕ) (ms : List Size) (counted : ℕ) (r : Result Bool E) (notes : List Note)
+    (ls last : List Cuboid) (counter : ℕ)
     → IsTried may old.bin.sections ms counted r ls last counter → IfOk r (λ done. OnTrue done (LeadsBack room last notes old.bin.sections))
     → LeavesNotes r notes old (record { bin = record old.bin { sections = last }; room = room })
 LeavesNotes-tried may old room ms counted (Ok true) notes ls last counter tried back = (refl, back)
-LeavesNotes-tried may old room ms counted (Ok false) notes ls last counter (n, stuck, same, is) back = ap (λ (s : List Cuboid). record old.bin { sections = s }) same
-LeavesNotes-tried may old room ms counted (Err error) notes ls last counter (same, is) back = ap (λ (s : List Cuboid). record old.bin { sections = s }) same
-
--- a trial that leaves the bin leaves no notes
-pub LeavesNotes-none : {E : Type 0} (r : Result Bool E) (old new : Held) → new.bin ≡ old.bin → LeavesNotes r [] old new
-LeavesNotes-none (Ok true) old new same = (rw same refl, record { before = ap (λ (b : Bin). b.sections) same; can = tt })
-LeavesNotes-none (Ok false) old new same = same
-LeavesNotes-none (Err error) old new same = same
+LeavesNotes-tried may old room ms counted (Ok false) notes ls last counter (n, stuck, same, is) back =
+    ap (λ (s : List Cuboid). record old.bin { sections = s }) same
+LeavesNotes-tried may old room ms counted (Err error) notes ls last counter (same, is) back =
+    ap (λ (s : List Cuboid). record old.bin { sections = s }) same

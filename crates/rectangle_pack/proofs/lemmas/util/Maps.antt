@@ -1,25 +1,13 @@
 -- Look-ups and writes at keys that are equal, in maps that agree, and in maps whose values are mapped.
-use Rattle.std.proofs.Common.{◌≡◌, Bool, true, false, cond, List, [], ◌∷◌, refl, ◌∙◌, sym, ap}
-use Rattle.std.specs.Prelude.{Option, Some, None, map}
-use Rattle.std.specs.List.{list_any}
-use Rattle.std.specs.Ordering.{ordering_reverse, is_eq, match_ordering}
-use Rattle.std.specs.Option.{is_some, option_map}
-use Rattle.std.specs.declared.cmp.Ordering.{Ordering}
-use Rattle.std.specs.declared.cmp.Ordering.TheVariants.{Less, Equal, Greater}
-use Rattle.std.specs.Cmp.{IsTotalOrder, eq_by_cmp_equiv, Equal-is}
-use Rattle.std.specs.Map.{lookup, set_value, keys_of}
-use Rattle.std.specs.BTreeMap.{is_at, insert_entry}
-use Rattle.std.proofs.lemmas.Map.{lookup-set_value}
-use Rattle.std.proofs.lemmas.Map.Made.{is_some-lookup}
+use Rattle.rectangle_pack.proofs.Std.{◌≡◌, Bool, true, false, cond, List, [], ◌∷◌, refl, ◌∙◌, sym, ap, Option, Some, None, map, list_any, ordering_reverse}
+use Rattle.rectangle_pack.proofs.Std.{is_eq, match_ordering, is_some, option_map, Ordering, Less, Equal, Greater, IsTotalOrder, eq_by_cmp_equiv, Equal-is}
+use Rattle.rectangle_pack.proofs.Std.{lookup, set_value, keys_of, is_at, insert_entry, lookup-set_value, is_some-lookup}
 use Rattle.rectangle_pack.specs.Results.{AreMapsAlike}
 
-pub lookup-equal : {K X : Type 0} {cmp : K → K → Ordering} → IsTotalOrder cmp → (x y : K) → cmp x y ≡ Equal → (es : List (K × X)) → lookup (is_at (cmp x)) es ≡ lookup (is_at (cmp y)) es
+pub lookup-equal : {K X : Type 0} {cmp : K → K → Ordering} → IsTotalOrder cmp → (x y : K) → cmp x y ≡ Equal → (es : List (K × X))
+    → lookup (is_at (cmp x)) es ≡ lookup (is_at (cmp y)) es
 lookup-equal o x y h [] = refl
 lookup-equal o x y h (e ∷ es) = rw (o.congr x y e.0 h, lookup-equal o x y h es) refl
-
-pub set_value-equal : {K X : Type 0} {cmp : K → K → Ordering} → IsTotalOrder cmp → (x y : K) → cmp x y ≡ Equal → (es : List (K × X)) (w : X) → set_value (is_at (cmp x)) es w ≡ set_value (is_at (cmp y)) es w
-set_value-equal o x y h [] w = refl
-set_value-equal o x y h (e ∷ es) w = rw (o.congr x y e.0 h, set_value-equal o x y h es w) refl
 
 -- an equal key compares alike on the right too
 pub congr_right : {K : Type 0} {cmp : K → K → Ordering} → IsTotalOrder cmp → (x y z : K) → cmp x y ≡ Equal → cmp z x ≡ cmp z y
@@ -49,26 +37,31 @@ same_test o x y e f h k = ap is_eq (o.congr x y e h ∙ congr_right o e f y k)
 
 module _ {K X : Type 0} {cmp : K → K → Ordering} (o : IsTotalOrder cmp) where
   -- look-ups in maps that agree find values that are alike
-  pub lookup-alike : (Alike : X → X → Type 0) (x y : K) → cmp x y ≡ Equal → (es fs : List (K × X)) → AreMapsAlike cmp Alike es fs → AreOptionsAlike Alike (lookup (is_at (cmp x)) es) (lookup (is_at (cmp y)) fs)
+  pub lookup-alike : (Alike : X → X → Type 0) (x y : K) → cmp x y ≡ Equal → (es fs : List (K × X)) → AreMapsAlike cmp Alike es fs
+      → AreOptionsAlike Alike (lookup (is_at (cmp x)) es) (lookup (is_at (cmp y)) fs)
   lookup-alike Alike x y h [] [] m = tt
   lookup-alike Alike x y h [] (f ∷ fs) m = absurd m
   lookup-alike Alike x y h (e ∷ es) [] m = absurd m
   lookup-alike Alike x y h (e ∷ es) (f ∷ fs) m = rw (same_test o x y e.0 f.0 h m.0.0) (at (is_eq (cmp y f.0)) (lookup-alike Alike x y h es fs m.1))
     where
-      at : (b : Bool) → AreOptionsAlike Alike (lookup (is_at (cmp x)) es) (lookup (is_at (cmp y)) fs) → AreOptionsAlike Alike (cond b (Some e.1) (lookup (is_at (cmp x)) es)) (cond b (Some f.1) (lookup (is_at (cmp y)) fs))
+      at : (b : Bool) → AreOptionsAlike Alike (lookup (is_at (cmp x)) es) (lookup (is_at (cmp y)) fs)
+          → AreOptionsAlike Alike (cond b (Some e.1) (lookup (is_at (cmp x)) es)) (cond b (Some f.1) (lookup (is_at (cmp y)) fs))
       at true i = m.0.1
       at false i = i
 
   -- and the same values where they are the same
-  pub lookup-same : (x y : K) → cmp x y ≡ Equal → (es fs : List (K × X)) → AreMapsAlike cmp (λ a b. a ≡ b) es fs → lookup (is_at (cmp x)) es ≡ lookup (is_at (cmp y)) fs
+  pub lookup-same : (x y : K) → cmp x y ≡ Equal → (es fs : List (K × X)) → AreMapsAlike cmp (λ a b. a ≡ b) es fs
+      → lookup (is_at (cmp x)) es ≡ lookup (is_at (cmp y)) fs
   lookup-same x y h es fs m = same_from_options _ _ (lookup-alike (λ a b. a ≡ b) x y h es fs m)
 
   -- maps agree after writes that are alike
-  pub set_value-alike : (Alike : X → X → Type 0) (x y : K) (v w : X) → Alike v w → cmp x y ≡ Equal → (es fs : List (K × X)) → AreMapsAlike cmp Alike es fs → AreMapsAlike cmp Alike (set_value (is_at (cmp x)) es v) (set_value (is_at (cmp y)) fs w)
+  pub set_value-alike : (Alike : X → X → Type 0) (x y : K) (v w : X) → Alike v w → cmp x y ≡ Equal → (es fs : List (K × X)) → AreMapsAlike cmp Alike es fs
+      → AreMapsAlike cmp Alike (set_value (is_at (cmp x)) es v) (set_value (is_at (cmp y)) fs w)
   set_value-alike Alike x y v w a h [] [] m = tt
   set_value-alike Alike x y v w a h [] (f ∷ fs) m = absurd m
   set_value-alike Alike x y v w a h (e ∷ es) [] m = absurd m
-  set_value-alike Alike x y v w a h (e ∷ es) (f ∷ fs) m = rw (same_test o x y e.0 f.0 h m.0.0) (at (is_eq (cmp y f.0)) (set_value-alike Alike x y v w a h es fs m.1))
+  set_value-alike Alike x y v w a h (e ∷ es) (f ∷ fs) m = rw (same_test o x y e.0 f.0 h m.0.0)
+      (at (is_eq (cmp y f.0)) (set_value-alike Alike x y v w a h es fs m.1))
     where
       at : (b : Bool) → AreMapsAlike cmp Alike (set_value (is_at (cmp x)) es v) (set_value (is_at (cmp y)) fs w)
           → AreMapsAlike cmp Alike (cond b ((e.0, v) ∷ es) (e ∷ set_value (is_at (cmp x)) es v)) (cond b ((f.0, w) ∷ fs) (f ∷ set_value (is_at (cmp y)) fs w))
@@ -80,7 +73,7 @@ is_eq-back Less = refl
 is_eq-back Equal = refl
 is_eq-back Greater = refl
 
--- two keys are as equal in either order
+-- equality of keys is symmetric
 pub is_at-back : {K : Type 0} {cmp : K → K → Ordering} → IsTotalOrder cmp → (x y : K) → is_at (cmp x) y ≡ is_at (cmp y) x
 is_at-back {cmp = cmp} o x y = ap is_eq (o.antisymm x y) ∙ is_eq-back (cmp y x)
 
@@ -93,14 +86,19 @@ is_some-option_map f (Some x) = refl
 abbrev mapped : {K X Y : Type 0} → (X → Y) → List (K × X) → List (K × Y)
 mapped f es = map (λ e. (e.0, f e.1)) es
 
-pub set_value-map_values : {K X Y : Type 0} (f : X → Y) (test : K → Bool) (es : List (K × X)) (w : X) → mapped f (set_value test es w) ≡ set_value test (mapped f es) (f w)
+pub set_value-map_values : {K X Y : Type 0} (f : X → Y) (test : K → Bool) (es : List (K × X)) (w : X)
+    → mapped f (set_value test es w) ≡ set_value test (mapped f es) (f w)
 set_value-map_values f test [] w = refl
-set_value-map_values f test (e ∷ es) w = elim (test e.0) as (λ b. mapped f (cond b ((e.0, w) ∷ es) (e ∷ set_value test es w)) ≡ cond b ((e.0, f w) ∷ mapped f es) ((e.0, f e.1) ∷ set_value test (mapped f es) (f w)))
+set_value-map_values f test (e ∷ es) w = elim (test e.0) as
+    (λ b. mapped f (cond b ((e.0, w) ∷ es) (e ∷ set_value test es w)) ≡ cond b ((e.0, f w) ∷ mapped f es) ((e.0, f e.1) ∷ set_value test (mapped f es) (f w)))
     [ true ↦ refl | false ↦ ap (λ l. (e.0, f e.1) ∷ l) (set_value-map_values f test es w) ]
 
-pub insert_entry-map_values : {K X Y : Type 0} (f : X → Y) (cmp : K → K → Ordering) (es : List (K × X)) (k : K) (v : X) → mapped f (insert_entry cmp es k v) ≡ insert_entry cmp (mapped f es) k (f v)
+pub insert_entry-map_values : {K X Y : Type 0} (f : X → Y) (cmp : K → K → Ordering) (es : List (K × X)) (k : K) (v : X)
+    → mapped f (insert_entry cmp es k v) ≡ insert_entry cmp (mapped f es) k (f v)
 insert_entry-map_values f cmp [] k v = refl
-insert_entry-map_values f cmp (e ∷ es) k v = elim (cmp k e.0) as (λ o. mapped f (match_ordering o ((k, v) ∷ e ∷ es) ((e.0, v) ∷ es) (e ∷ insert_entry cmp es k v)) ≡ match_ordering o ((k, f v) ∷ (e.0, f e.1) ∷ mapped f es) ((e.0, f v) ∷ mapped f es) ((e.0, f e.1) ∷ insert_entry cmp (mapped f es) k (f v)))
+insert_entry-map_values f cmp (e ∷ es) k v = elim (cmp k e.0) as
+    (λ o. mapped f (match_ordering o ((k, v) ∷ e ∷ es) ((e.0, v) ∷ es) (e ∷ insert_entry cmp es k v))
+    ≡ match_ordering o ((k, f v) ∷ (e.0, f e.1) ∷ mapped f es) ((e.0, f v) ∷ mapped f es) ((e.0, f e.1) ∷ insert_entry cmp (mapped f es) k (f v)))
     [ Less ↦ refl | Equal ↦ refl | Greater ↦ ap (λ l. (e.0, f e.1) ∷ l) (insert_entry-map_values f cmp es k v) ]
 
 -- what is written twice is what was written last
@@ -108,17 +106,20 @@ pub set_value-twice : {K X : Type 0} (test : K → Bool) (es : List (K × X)) (v
 set_value-twice test [] v w = refl
 set_value-twice {K} {X} test (e ∷ es) v w = at (test e.0) (set_value-twice test es v w) refl
   where
-    at : (b : Bool) → set_value test (set_value test es v) w ≡ set_value test es w → test e.0 ≡ b → set_value test (cond b ((e.0, v) ∷ es) (e ∷ set_value test es v)) w ≡ cond b ((e.0, w) ∷ es) (e ∷ set_value test es w)
+    at : (b : Bool) → set_value test (set_value test es v) w ≡ set_value test es w → test e.0 ≡ b
+        → set_value test (cond b ((e.0, v) ∷ es) (e ∷ set_value test es v)) w ≡ cond b ((e.0, w) ∷ es) (e ∷ set_value test es w)
     at true ih t = rw t refl
     at false ih t = rw (t, ih) refl
 
 -- a look-up after a write
-pub lookup-written : {K X : Type 0} {cmp : K → K → Ordering} → IsTotalOrder cmp → (here : K) (es : List (K × X)) (v w : X) (q : K) → lookup (is_at (cmp here)) es ≡ Some v → lookup (is_at (cmp q)) (set_value (is_at (cmp here)) es w) ≡ cond (is_eq (cmp here q)) (Some w) (lookup (is_at (cmp q)) es)
+pub lookup-written : {K X : Type 0} {cmp : K → K → Ordering} → IsTotalOrder cmp → (here : K) (es : List (K × X)) (v w : X) (q : K) → lookup (is_at (cmp here))
+    es ≡ Some v → lookup (is_at (cmp q)) (set_value (is_at (cmp here)) es w) ≡ cond (is_eq (cmp here q)) (Some w) (lookup (is_at (cmp q)) es)
 lookup-written {cmp = cmp} o here es v w q found =
     lookup-set_value (eq_by_cmp_equiv o) (is_at (cmp here)) (λ x y t. ap is_eq (o.congr here x y ((Equal-is _).0 t))) q w es (rw found refl)
 
 -- in maps of the same keys the same look-ups find something
-pub is_some-keys : {K X Y : Type 0} (test : K → Bool) (es : List (K × X)) (fs : List (K × Y)) → keys_of es ≡ keys_of fs → is_some (lookup test es) ≡ is_some (lookup test fs)
+pub is_some-keys : {K X Y : Type 0} (test : K → Bool) (es : List (K × X)) (fs : List (K × Y)) → keys_of es ≡ keys_of fs
+    → is_some (lookup test es) ≡ is_some (lookup test fs)
 is_some-keys test es fs same = is_some-lookup test es ∙ ap (list_any test) same ∙ sym (is_some-lookup test fs)
 
 -- what was written is found
@@ -126,7 +127,8 @@ pub lookup-set_here : {K X : Type 0} (test : K → Bool) (es : List (K × X)) (v
 lookup-set_here test [] v w found = absurd cc
 lookup-set_here {K} {X} test (e ∷ es) v w found = at (test e.0) (lookup-set_here test es v w) refl found
   where
-    at : (b : Bool) → (lookup test es ≡ Some v → lookup test (set_value test es w) ≡ Some w) → test e.0 ≡ b → cond b (Some e.1) (lookup test es) ≡ Some v → lookup test (cond b ((e.0, w) ∷ es) (e ∷ set_value test es w)) ≡ Some w
+    at : (b : Bool) → (lookup test es ≡ Some v → lookup test (set_value test es w) ≡ Some w) → test e.0 ≡ b → cond b (Some e.1) (lookup test es) ≡ Some v
+        → lookup test (cond b ((e.0, w) ∷ es) (e ∷ set_value test es w)) ≡ Some w
     at true ih t g = rw t refl
     at false ih t g = rw t (ih g)
 
@@ -137,9 +139,11 @@ lookup-inserted o [] k v absent q = rw (is_at-back o q k) refl
 lookup-inserted {K} {X} {cmp} o (e ∷ es) k v absent q = by (cmp k e.0) refl absent (lookup-inserted o es k v) (is_eq (cmp q e.0)) refl (is_eq (cmp k q)) refl
   where
     by : (r : Ordering) → cmp k e.0 ≡ r → cond (is_eq r) (Some e.1) (lookup (is_at (cmp k)) es) ≡ None
-        → (lookup (is_at (cmp k)) es ≡ None → (q : K) → lookup (is_at (cmp q)) (insert_entry cmp es k v) ≡ cond (is_at (cmp k) q) (Some v) (lookup (is_at (cmp q)) es))
+        → (lookup (is_at (cmp k)) es ≡ None → (q : K) → lookup (is_at (cmp q)) (insert_entry cmp es k v)
+        ≡ cond (is_at (cmp k) q) (Some v) (lookup (is_at (cmp q)) es))
         → (here : Bool) → is_eq (cmp q e.0) ≡ here → (same : Bool) → is_eq (cmp k q) ≡ same
-        → lookup (is_at (cmp q)) (match_ordering r ((k, v) ∷ e ∷ es) ((e.0, v) ∷ es) (e ∷ insert_entry cmp es k v)) ≡ cond same (Some v) (cond here (Some e.1) (lookup (is_at (cmp q)) es))
+        → lookup (is_at (cmp q)) (match_ordering r ((k, v) ∷ e ∷ es) ((e.0, v) ∷ es) (e ∷ insert_entry cmp es k v))
+        ≡ cond same (Some v) (cond here (Some e.1) (lookup (is_at (cmp q)) es))
     by Less is none ih here h same s = rw (is_at-back o q k, s, h) refl
     by Equal is none ih here h same s = absurd cc
     by Greater is none ih true h true s =

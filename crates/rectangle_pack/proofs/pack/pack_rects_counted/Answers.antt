@@ -1,7 +1,4 @@
-use Rattle.std.proofs.Common.{ℕ, length, refl, ap, sym, ◌∙◌, arith}
-use Rattle.std.specs.Prelude.{map, sum}
-use Rattle.std.specs.Map.{values_of}
-use Rattle.std.proofs.lemmas.List.Elements.{All-nil}
+use Rattle.rectangle_pack.proofs.Std.{ℕ, length, refl, ap, sym, ◌∙◌, arith, map, sum, values_of, All-nil}
 use Rattle.rectangle_pack.specs.Closures.{answers}
 use Rattle.rectangle_pack.specs.Packing.{bins_of, rules_by}
 use Rattle.rectangle_pack.specs.PackAnswers.{AreCounted}
@@ -11,14 +8,13 @@ use Rattle.rectangle_pack.proofs.pack.pack_rects_counted.Goals as goal
 use Rattle.rectangle_pack.proofs.pack.pack_rects_counted.Goals.{in-Ok-true, in-Err}
 
 pub returns-in_default-clause-answer : goal.returns-in_default-clause-answer
-returns-in_default-clause-answer g c = (refl, counted-none c.args.rects_to_place.now (bins_of c.args.target_bins.now.entries) c.args.tests.now (omega arith))
+returns-in_default-clause-answer g c = (refl, counted-none _ _ c.args.tests.now (omega arith))
 
 pub returns-in-Ok-false-clause-answer : goal.returns-in-Ok-false-clause-answer
 returns-in-Ok-false-clause-answer g c =
     let p = rw (c.in-Ok-false.field-0-test, c.new-packing.ensures.bins, c.replace-bins.ensures.value) at c.in-Ok-false.ensures.packed in (
       rw c.keep-bins.ensures.bins p.0,
-      AreCounted-added c.args.rects_to_place.now (bins_of c.args.target_bins.now.entries) p.0.tests c.new-packing.result.tests
-          c.pack_noted-packed.new.packing.tests c.args.tests.now _ c.new-packing.ensures.tests p.1 c.add_all.ensures,
+      AreCounted-added _ _ _ _ _ _ _ c.new-packing.ensures.tests p.1 c.add_all.ensures,
     )
 
 pub returns-in-Ok-last-clause-answer : goal.returns-in-Ok-last-clause-answer
@@ -32,8 +28,7 @@ returns-in-Ok-last-clause-answer g c =
               last = rw (c.keep-bins-in-Ok-last.ensures.placements, ← w.as_slice-in-Ok-true.ensures.value)
                   (rw (sym w.last-is ∙ c.in-Ok-last.is) at w.last_placements-last.ensures);
             },
-            AreCounted-added c.args.rects_to_place.now (bins_of c.args.target_bins.now.entries) p.0.tests c.new-packing.result.tests
-                c.pack_noted-packed.new.packing.tests c.args.tests.now _ c.new-packing.ensures.tests p.1 c.add_all.ensures,
+            AreCounted-added _ _ _ _ _ _ _ c.new-packing.ensures.tests p.1 c.add_all.ensures,
           )
       | in-Err w ↦ absurd (let e = sym w.last-is ∙ c.in-Ok-last.is in cc)
     ]
@@ -44,17 +39,11 @@ returns-clause-answer g c =
     let old = bins_of c.args.target_bins.now.entries in
     let counted : (tests : ℕ) × AreCounted all old tests c.args.tests.now c.add_all.new.self = elim c.match-packed.branch [
       | in-Ok-true w ↦
-          let p = rw (w.in-Ok-true.field-0-test, c.new-packing.ensures.bins, c.replace-bins.ensures.value) at w.in-Ok-true.ensures.packed in (
-            p.0.tests,
-            AreCounted-added all old p.0.tests c.new-packing.result.tests c.pack_noted-packed.new.packing.tests c.args.tests.now _
-                c.new-packing.ensures.tests p.1 c.add_all.ensures,
-          )
+          let p = rw (w.in-Ok-true.field-0-test, c.new-packing.ensures.bins, c.replace-bins.ensures.value) at w.in-Ok-true.ensures.packed in
+          (p.0.tests, AreCounted-added _ _ _ _ _ _ _ c.new-packing.ensures.tests p.1 c.add_all.ensures)
       | in-Err w ↦
-          let p = rw (c.new-packing.ensures.bins, c.replace-bins.ensures.value) at w.in-Err.ensures.stopped in (
-            p.0,
-            AreCounted-added all old p.0 c.new-packing.result.tests c.pack_noted-packed.new.packing.tests c.args.tests.now _ c.new-packing.ensures.tests p.1
-                c.add_all.ensures,
-          )
+          let p = rw (c.new-packing.ensures.bins, c.replace-bins.ensures.value) at w.in-Err.ensures.stopped in
+          (p.0, AreCounted-added _ _ _ _ _ _ _ c.new-packing.ensures.tests p.1 c.add_all.ensures)
     ] in (
       c.roll_back.ensures old
           (c.pack_noted-packed.ensures.back old
@@ -86,18 +75,15 @@ returns-then-is_empty-clause-answer g c =
 
 pub returns-in_default-clause-no_groups : goal.returns-in_default-clause-no_groups
 returns-in_default-clause-no_groups g c =
-    λ none. absurd (lists-some c.groups-groups.result.now.entries c.is_empty.result c.is_empty.ensures c.if-is_empty.false
-    (c.groups-groups.ensures.entries ∙ none))
+    λ none. absurd (lists-some _ _ c.is_empty.ensures c.if-is_empty.false (c.groups-groups.ensures.entries ∙ none))
 
 pub returns-in-Ok-false-clause-no_groups : goal.returns-in-Ok-false-clause-no_groups
 returns-in-Ok-false-clause-no_groups g c =
-    λ none. absurd (lists-some c.groups-groups.result.now.entries c.is_empty.result c.is_empty.ensures c.if-is_empty.false
-    (c.groups-groups.ensures.entries ∙ none))
+    λ none. absurd (lists-some _ _ c.is_empty.ensures c.if-is_empty.false (c.groups-groups.ensures.entries ∙ none))
 
 pub returns-clause-no_groups : goal.returns-clause-no_groups
 returns-clause-no_groups g c =
-    λ none. absurd (lists-some c.groups-groups.result.now.entries c.is_empty.result c.is_empty.ensures c.if-is_empty.false
-    (c.groups-groups.ensures.entries ∙ none))
+    λ none. absurd (lists-some _ _ c.is_empty.ensures c.if-is_empty.false (c.groups-groups.ensures.entries ∙ none))
 
 pub new-packing-requires-clause-found : goal.new-packing-requires-clause-found
 new-packing-requires-clause-found g c = rw (c.replace-bins.ensures.value, c.as_slice.ensures.value) c.in-Ok.ensures.found

@@ -16,8 +16,8 @@ use crate::target_bin::section_slots::Search;
 use crate::target_bin::trial::{FreeList, Note, place_in};
 use std::alloc::{AllocError, Allocator};
 
-// The index of the last section that holds a member. Among its callers' values the loop would lack
-// registers.
+// The index of the last section that holds a member. Never inlined: among a caller's values the
+// loop would lack registers.
 #[inline(never)]
 fn newest(sections: &[BinSection], member: &RectToInsert) -> Option<usize>
     ensures none { IfNone result (All (λ s. ¬ Holds s member.now) sections.now) }

@@ -1,4 +1,4 @@
-use Rattle.std.proofs.Common.{take}
+use Rattle.rectangle_pack.proofs.Std.{take}
 use Rattle.rectangle_pack.specs.Cuts.{sizes_of}
 use Rattle.rectangle_pack.specs.Choice.{MayChoose}
 use Rattle.rectangle_pack.specs.Closures.{MayCompare}

@@ -1,5 +1,4 @@
-use Rattle.rectangle_pack.proofs.lemmas.cuts.Pieces.{chosen_tiles}
-use Rattle.rectangle_pack.proofs.lemmas.cuts.Volumes.{chosen_volumes}
+use Rattle.rectangle_pack.proofs.lemmas.cuts.Pieces.{chosen_tiles, chosen_volumes}
 use Rattle.rectangle_pack.proofs.lemmas.cuts.Counting.{tiles_apart, tiles_cover}
 use Rattle.rectangle_pack.proofs.bin_section.BinSection.try_place.Goals as goal
 

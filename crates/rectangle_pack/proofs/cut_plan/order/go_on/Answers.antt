@@ -1,5 +1,4 @@
-use Rattle.std.proofs.Common.{leb, ltb, ◌≡◌, ◌<◌, ◌≤◌, ◌⊎◌, inl, inr, ap, arith}
-use Rattle.std.proofs.lemmas.Bool.{or_cases, leb-true, ltb-true}
+use Rattle.rectangle_pack.proofs.Std.{◌≡◌, ◌<◌, ◌≤◌, ◌⊎◌, ap, arith, nat_tests}
 use Rattle.rectangle_pack.specs.declared.span.Span.{Span}
 use Rattle.rectangle_pack.specs.Boxes.{start}
 use Rattle.rectangle_pack.proofs.lemmas.cut_plan.Gaps.{IsClosedBelow-more}
@@ -13,9 +12,5 @@ returns-then-run-of c boxes there closed =
     let run = c.of-run.result in
     let begin : run.start ≡ start a e = ap (λ (s : Span). s.start) c.of-run.ensures.is in
     let first : c.of.result.start ≡ start a whole = ap (λ (s : Span). s.start) c.of.ensures.is in
-    let early : (start a e ≤ start a whole) ⊎ (start a e < c.args.place) =
-    elim (or_cases (leb run.start c.of.result.start) (ltb run.start c.args.place) c.if-run-of.true) [
-      | inl t ↦ inl (omega (arith, leb-true run.start c.of.result.start t))
-      | inr t ↦ inr (omega (arith, ltb-true run.start c.args.place t))
-    ] in
+    let early : (start a e ≤ start a whole) ⊎ (start a e < c.args.place) = grind (arith, nat_tests, begin, first, c.if-run-of.true) in
     rw (c.max.ensures, c.end.ensures, c.of-run.ensures.ends) (IsClosedBelow-more a whole boxes c.args.place e there c.requires.cells early closed)

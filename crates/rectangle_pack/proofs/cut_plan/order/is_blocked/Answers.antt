@@ -1,6 +1,4 @@
-use Rattle.std.proofs.Common.{◌≡◌, ◌++◌, true, leb, ◌∙◌, ap, subst, arith}
-use Rattle.std.proofs.lemmas.Bool.{OnTrue_from, leb-true}
-use Rattle.std.proofs.lemmas.List.Sorted.{All-permutation, IsPermutation-trans}
+use Rattle.rectangle_pack.proofs.Std.{◌≡◌, ◌++◌, true, leb, ◌∙◌, ap, subst, arith, OnTrue_from, leb-true, All-permutation, IsPermutation-trans}
 use Rattle.rectangle_pack.specs.Boxes.{Cuboid, FitsU32, has_cells}
 use Rattle.rectangle_pack.specs.private.CutPlans.{AreEntries, IsClosedOn}
 use Rattle.rectangle_pack.proofs.lemmas.cut_plan.Ends.{ends_moved, ends_ordered, ends_open}
@@ -13,7 +11,8 @@ reach-requires c =
     let front = c.split_at_mut-front.result in
     let back = c.split_at_mut-back.result in
     let IsEntry : Cuboid → Type 0 = λ b. (has_cells b ≡ true) × FitsU32 b in
-    let all : AreEntries (front.0.now ++ front.1.now) = subst AreEntries c.split_at_mut-front.ensures.value (AreEntries-filled c.args.whole.now c.args.entries.now c.requires.filled) in
+    let all : AreEntries (front.0.now ++ front.1.now) = subst AreEntries c.split_at_mut-front.ensures.value
+    (AreEntries-filled c.args.whole.now c.args.entries.now c.requires.filled) in
     let rest : AreEntries (back.0.now ++ back.1.now) = subst AreEntries c.split_at_mut-back.ensures.value (All-back IsEntry front.0.now front.1.now all) in
     record {
       first = All-permutation IsEntry _ _ c.order_on.ensures.permutation (All-front IsEntry front.0.now front.1.now all);
@@ -33,8 +32,10 @@ returns c =
     let back_moved = IsPermutation-trans _ _ _ c.order_on-2.ensures.permutation c.restore_order-2.ensures.permutation in
     record {
       permutation = rw parts (ends_moved front between back first last front_moved back_moved);
-      ordered = ends_ordered front between back first last front_moved back_moved c.args.ordered (rw parts at c.requires.ordered) c.restore_order.ensures.ordered c.restore_order-2.ensures.ordered;
+      ordered = ends_ordered front between back first last front_moved back_moved c.args.ordered (rw parts at c.requires.ordered)
+          c.restore_order.ensures.ordered c.restore_order-2.ensures.ordered;
       closed = OnTrue_from (leb c.end.result c.reach.result) (IsClosedOn c.args.axis whole (first ++ (between ++ last))) (λ t q is_open.
           c.reach.ensures q (omega (arith, leb-true c.end.result c.reach.result t, c.end.ensures ∙ c.of.ensures.ends, is_open.before_end))
-          (ends_open c.order_on.new.entries between c.order_on-2.new.entries first last c.restore_order.ensures.permutation c.restore_order-2.ensures.permutation c.args.axis q whole is_open));
+          (ends_open c.order_on.new.entries between c.order_on-2.new.entries first last c.restore_order.ensures.permutation
+          c.restore_order-2.ensures.permutation c.args.axis q whole is_open));
     }

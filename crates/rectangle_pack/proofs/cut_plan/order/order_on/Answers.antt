@@ -1,5 +1,4 @@
-use Rattle.std.proofs.Common.{rules}
-use Rattle.std.proofs.lemmas.List.Sorted.{IsNonDecreasingBy-from_sort_by_key}
+use Rattle.rectangle_pack.proofs.Std.{rules, IsNonDecreasingBy-from_sort_by_key}
 use Rattle.rectangle_pack.specs.Boxes.{start}
 use Rattle.rectangle_pack.proofs.cut_plan.order.order_on.Goals as goal
 

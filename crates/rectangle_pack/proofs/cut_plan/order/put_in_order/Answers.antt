@@ -1,10 +1,10 @@
-use Rattle.std.proofs.Common.{arith}
-use Rattle.std.proofs.lemmas.List.Sorted.{IsPermutation-trans}
+use Rattle.rectangle_pack.proofs.Std.{arith, IsPermutation-trans}
 use Rattle.rectangle_pack.proofs.lemmas.cut_plan.Filling.{IsFilled-permutation}
 use Rattle.rectangle_pack.proofs.cut_plan.order.put_in_order.Goals as goal
 
 pub is_blocked-requires-clause-filled : goal.is_blocked-requires-clause-filled
-is_blocked-requires-clause-filled c = IsFilled-permutation c.args.whole.now c.args.entries.now c.loop-count.entries c.loop-count.invariant.permutation c.requires.filled
+is_blocked-requires-clause-filled c = IsFilled-permutation c.args.whole.now c.args.entries.now c.loop-count.entries
+    c.loop-count.invariant.permutation c.requires.filled
 
 pub returns-then-is_blocked-clause-permutation : goal.returns-then-is_blocked-clause-permutation
 returns-then-is_blocked-clause-permutation c = IsPermutation-trans _ _ _ c.loop-count.invariant.permutation c.is_blocked.ensures.permutation

@@ -1,5 +1,4 @@
-use Rattle.std.proofs.Common.{◌<◌, ◌-◌, length}
-use Rattle.std.specs.List.Sorted.{IsPermutation}
+use Rattle.rectangle_pack.proofs.Std.{◌<◌, ◌-◌, length, IsPermutation}
 use Rattle.rectangle_pack.specs.private.CutPlans.{AreOrdered}
 use Rattle.rectangle_pack.proofs.cut_plan.order.put_in_order.Given as goal
 

@@ -1,4 +1,4 @@
-use Rattle.std.proofs.Common.{◌+◌, ◌-◌, ◌≤◌, ◌++◌, length}
+use Rattle.rectangle_pack.proofs.Std.{◌+◌, ◌-◌, ◌≤◌, ◌++◌, length}
 use Rattle.rectangle_pack.specs.private.CutPlans.{IsClosedBelow}
 use Rattle.rectangle_pack.proofs.cut_plan.order.reach.Given as goal
 

@@ -1,21 +1,19 @@
-use Rattle.std.proofs.Common.{ℕ, ◌≡◌, ◌<◌, ◌+◌, ap, [], ◌∷◌, get_or, subst, sym, suc, zero, refl, arith}
-use Rattle.std.proofs.lemmas.List.Sorted.{IsPermutation-trans}
+use Rattle.rectangle_pack.proofs.Std.{ℕ, ◌≡◌, ◌<◌, ◌+◌, ap, [], ◌∷◌, get_or, subst, sym, refl, arith, IsPermutation-trans}
 use Rattle.rectangle_pack.specs.declared.axis.Axis.TheVariants.{X, Y, Z}
 use Rattle.rectangle_pack.specs.CutPlans.{axis_rank}
 use Rattle.rectangle_pack.specs.private.CutPlans.{AreClosed}
+use Rattle.rectangle_pack.proofs.lemmas.cuts.Axes.{below_3}
 use Rattle.rectangle_pack.proofs.lemmas.cut_plan.Filling.{IsFilled-permutation}
 use Rattle.rectangle_pack.proofs.cut_plan.split.first_split.Goals as goal
 
 -- the axes stand in the order of their ranks
 rank_at : (i : ℕ) → i < 3 → axis_rank (get_or (X ∷ Y ∷ Z ∷ []) i X) ≡ i
 unfolding axis_rank
-rank_at zero within = refl
-rank_at (suc zero) within = refl
-rank_at (suc (suc zero)) within = refl
-rank_at (suc (suc (suc i))) within = absurd (omega arith)
+rank_at = below_3 (λ i. axis_rank (get_or (X ∷ Y ∷ Z ∷ []) i X) ≡ i) refl refl refl
 
 pub split_on-requires-clause-closed : goal.split_on-requires-clause-closed
-split_on-requires-clause-closed c = subst (λ n. AreClosed n c.args.whole.now c.loop-axis.entries) (sym (rank_at c.loop-axis.axis-index c.loop-axis-test.true)) c.loop-axis.invariant.closed
+split_on-requires-clause-closed c = subst (λ n. AreClosed n c.args.whole.now c.loop-axis.entries)
+    (sym (rank_at c.loop-axis.axis-index c.loop-axis-test.true)) c.loop-axis.invariant.closed
 
 pub returns-in-Some-clause-permutation : goal.returns-in-Some-clause-permutation
 returns-in-Some-clause-permutation c = IsPermutation-trans _ _ _ c.loop-axis.invariant.permutation c.split_on.ensures.permutation
@@ -23,9 +21,10 @@ returns-in-Some-clause-permutation c = IsPermutation-trans _ _ _ c.loop-axis.inv
 pub loop-axis-preserved : goal.loop-axis-preserved
 loop-axis-preserved c = record {
   permutation = IsPermutation-trans _ _ _ c.loop-axis.invariant.permutation c.split_on.ensures.permutation;
-  filled = IsFilled-permutation c.args.whole.now c.loop-axis.entries c.split_on.new.entries c.split_on.ensures.permutation c.loop-axis.invariant.filled;
+  filled = IsFilled-permutation _ _ _ c.split_on.ensures.permutation c.loop-axis.invariant.filled;
   ordered = c.split_on.ensures.ordered;
-  closed = subst (λ n. AreClosed n c.args.whole.now c.split_on.new.entries) (ap (λ n. n + 1) (rank_at c.loop-axis.axis-index c.loop-axis-test.true)) c.in_default.ensures.split;
+  closed = subst (λ n. AreClosed n c.args.whole.now c.split_on.new.entries)
+      (ap (λ n. n + 1) (rank_at c.loop-axis.axis-index c.loop-axis-test.true)) c.in_default.ensures.split;
 }
 
 pub returns-clause-split : goal.returns-clause-split

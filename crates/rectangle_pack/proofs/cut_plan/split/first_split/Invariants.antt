@@ -1,4 +1,4 @@
-use Rattle.std.specs.List.Sorted.{IsPermutation}
+use Rattle.rectangle_pack.proofs.Std.{IsPermutation}
 use Rattle.rectangle_pack.specs.private.CutPlans.{IsFilled, AreOrdered, AreClosed}
 use Rattle.rectangle_pack.proofs.cut_plan.split.first_split.Given as goal
 

@@ -1,6 +1,5 @@
-use Rattle.std.proofs.Common.{refl}
+use Rattle.rectangle_pack.proofs.Std.{refl, on_ok_weaker}
 use Rattle.rectangle_pack.specs.Groups.{lists_of, Collection}
-use Rattle.std.proofs.lemmas.Result.{on_ok_weaker}
 use Rattle.rectangle_pack.proofs.grouped_rects_to_place.GroupedRectsToPlace.exclude.Goals as goal
 
 pub returns-clause-ok : goal.returns-clause-ok
@@ -11,6 +10,10 @@ returns-clause-again g c =
     rw (← c.self.view_is) (λ there.
     let again = c.add.ensures.again there in (
       again.0,
-      let from : Collection g.row.Id.Denot g.row.GroupId.Denot = record { sizes = c.self.inside.rects.entries; groups = lists_of c.self.inside.groups.entries; partners = c.self.inside.exclusions } in
+      let from : Collection g.row.Id.Denot g.row.GroupId.Denot = record {
+        sizes = c.self.inside.rects.entries;
+        groups = lists_of c.self.inside.groups.entries;
+        partners = c.self.inside.exclusions;
+      } in
           rw again.1 refl,
     ))

@@ -1,4 +1,4 @@
-use Rattle.std.proofs.Common.{refl}
+use Rattle.rectangle_pack.proofs.Std.{refl}
 use Rattle.rectangle_pack.proofs.lemmas.packing.GroupOrder.{groups_total}
 use Rattle.rectangle_pack.proofs.lemmas.determinism.OnePush.{alone_alike, into_alike}
 use Rattle.rectangle_pack.proofs.grouped_rects_to_place.laws.equal_pushes_leave_equal_collections.Goals as goal

@@ -1,7 +1,4 @@
-use Rattle.std.proofs.Common.{◌∙◌, sym}
-use Rattle.std.specs.BTreeMap.{get, is_at}
-use Rattle.std.proofs.lemmas.Result.{on_ok_weaker}
-use Rattle.rectangle_pack.specs.Groups.{lists_of}
+use Rattle.rectangle_pack.proofs.Std.{◌∙◌, sym, get, is_at, on_ok_weaker}
 use Rattle.rectangle_pack.specs.private.Multimaps.{times}
 use Rattle.rectangle_pack.proofs.lemmas.multimap.Vectors.{lookup-lists}
 use Rattle.rectangle_pack.proofs.lemmas.multimap.Append.{appended-named, appended-other}
@@ -12,7 +9,8 @@ returns-clause-named g c = on_ok_weaker c.append_each.result
     (λ appended q some.
     let cmp = g.K.Ord.cmp in
     rw (lookup-lists (is_at (cmp q)) c.args.map.now.entries, lookup-lists (is_at (cmp q)) c.append_each.new.map.entries)
-    (appended-named c.args.items.items (times cmp c.args.keys.now q) (get cmp c.args.map.now q) (get cmp c.ensure_keys.new.map q) (get cmp c.append_each.new.map q)
+    (appended-named c.args.items.items (times cmp c.args.keys.now q) (get cmp c.args.map.now q) (get cmp c.ensure_keys.new.map q)
+    (get cmp c.append_each.new.map q)
     (c.in_ok-ensure_keys.ensures.items q) (c.in_ok-ensure_keys.ensures.has q some) (appended q)))
     c.append_each.ensures.appended
 
@@ -21,12 +19,8 @@ returns-clause-others g c = on_ok_weaker c.append_each.result
     (λ appended q none.
     let cmp = g.K.Ord.cmp in
     lookup-lists (is_at (cmp q)) c.append_each.new.map.entries
-    ∙ appended-other c.args.items.items (get cmp c.args.map.now q) (get cmp c.ensure_keys.new.map q) (get cmp c.append_each.new.map q) (c.in_ok-ensure_keys.ensures.others q none)
+    ∙ appended-other c.args.items.items (get cmp c.args.map.now q) (get cmp c.ensure_keys.new.map q) (get cmp c.append_each.new.map q)
+    (c.in_ok-ensure_keys.ensures.others q none)
     (rw none at (appended q))
     ∙ sym (lookup-lists (is_at (cmp q)) c.args.map.now.entries))
     c.append_each.ensures.appended
-
-pub returns-clause-back : goal.returns-clause-back
-returns-clause-back g c = on_ok_weaker c.append_each.result
-    (λ back. record { start = lists_of c.ensure_keys.new.map.entries; back = back; same = c.in_ok-ensure_keys.ensures.kept })
-    c.append_each.ensures.back

@@ -1,8 +1,4 @@
-use Rattle.std.proofs.Common.{rules, ◌≡◌, [], ◌∷◌, ◌++◌, sym, ◌∙◌, ap}
-use Rattle.std.specs.Prelude.{Some}
-use Rattle.std.specs.Option.{option_map}
-use Rattle.std.specs.Map.{lookup}
-use Rattle.std.specs.BTreeMap.{is_at}
+use Rattle.rectangle_pack.proofs.Std.{rules, ◌≡◌, [], ◌∷◌, ◌++◌, sym, ◌∙◌, ap, Some, option_map, lookup, is_at}
 use Rattle.rectangle_pack.specs.Groups.{lists_of}
 use Rattle.rectangle_pack.proofs.lemmas.multimap.Vectors.{lists_of-set_value, lookup-lists}
 use Rattle.rectangle_pack.proofs.lemmas.multimap.TakeBack.{TakesBack-appended}
@@ -17,4 +13,5 @@ returns-clause-back g c = λ keys start h.
     let w = c.push_reserved.new.self in
     let items : w.items ≡ list.items ++ c.args.item ∷ [] = search rules in
     let found : lookup test (lists_of old) ≡ Some list.items = lookup-lists test old ∙ ap (option_map (λ v. v.items)) (sym c.in-Some.ensures.value) in
-    rw ((c.get_mut.follows.holds w).0, lists_of-set_value test old w, items) (TakesBack-appended cmp c.args.key.now keys (lists_of old) start list.items c.args.item found h)
+    rw ((c.get_mut.follows.holds w).0, lists_of-set_value test old w, items)
+    (TakesBack-appended cmp c.args.key.now keys (lists_of old) start list.items c.args.item found h)

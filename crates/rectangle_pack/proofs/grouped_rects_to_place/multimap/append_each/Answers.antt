@@ -1,14 +1,9 @@
-use Rattle.std.proofs.Common.{rules, ◌≡◌, ◌+◌, ◌≤◌, [], ◌∷◌, ◌++◌, length, length-append, take, true, List, refl, ◌∙◌, ap, sym, subst, arith}
-use Rattle.std.specs.Prelude.{Contains, All, IsSome, reverse}
-use Rattle.std.specs.BTreeMap.{get}
-use Rattle.std.specs.Ordering.{is_eq}
-use Rattle.std.proofs.lemmas.Cmp.{tied_itself}
-use Rattle.std.proofs.Math.Seq.{take-length}
-use Rattle.std.proofs.lemmas.List.Elements.{All-contains_itself}
+use Rattle.rectangle_pack.proofs.Std.{rules, ◌≡◌, ◌+◌, [], ◌∷◌, ◌++◌, length, length-append, take, true, refl, ◌∙◌, ap, arith, Contains, All, reverse, get}
+use Rattle.rectangle_pack.proofs.Std.{is_eq, tied_itself, All-contains_itself}
 use Rattle.rectangle_pack.specs.Groups.{lists_of}
-use Rattle.rectangle_pack.specs.private.Multimaps.{times, AreAppended, TakesBack}
-use Rattle.rectangle_pack.proofs.lemmas.multimap.Sized.{on_ok}
-use Rattle.rectangle_pack.proofs.lemmas.multimap.Append.{AreAppended-none, AreAppended-step, AreAppended-known, AreAppended-roomier, times-more_same, times-more_le, All-front, All-middle}
+use Rattle.rectangle_pack.specs.private.Multimaps.{times, TakesBack}
+use Rattle.rectangle_pack.proofs.lemmas.multimap.Append.{AreAppended-none, AreAppended-step, AreAppended-known, AreAppended-roomier, times-more_same}
+use Rattle.rectangle_pack.proofs.lemmas.multimap.Append.{times-more_le, All-front, All-middle}
 use Rattle.rectangle_pack.proofs.lemmas.multimap.TakeBack.{reverse-take_more}
 use Rattle.rectangle_pack.proofs.grouped_rects_to_place.multimap.append_each.Goals as goal
 
@@ -28,59 +23,32 @@ reserve_at-requires g c =
     let keys = c.args.keys.now in
     let i = c.loop-i.i in
     let k = c.index-keys-i.result in
-    let same : is_eq (cmp k k) ≡ true = ap is_eq (tied_itself o k) in
-    let next : times cmp (take (i + 1) keys) k ≡ times cmp (take i keys) k + 1 = times-more_same o keys i k k c.loop-i-test.true c.index-keys-i.is same in
-    let within : times cmp (take (i + 1) keys) k ≤ times cmp keys k = times-more_le o keys i k k c.loop-i-test.true c.index-keys-i.is in
-    let known : IsSome (get cmp c.args.map.now k) = c.requires.known k (omega (arith, next, within)) in
-    record { has = AreAppended-known c.args.items.items (times cmp (take i keys) k) (get cmp c.args.map.now k) (get cmp c.loop-i.map k) (c.loop-i.invariant.added k) ∙ known }
-
-pub take_back-requires : goal.take_back-requires
-take_back-requires g c = (lists_of c.args.map.now.entries, rw c.reserve_at.ensures.kept c.loop-i.invariant.back)
-
-pub append_at-requires : goal.append_at-requires
-append_at-requires g c = record { room = on_ok _ c.reserve_at.result (sym c.is_err.ensures.value ∙ c.if-is_err.false) c.reserve_at.ensures.room }
+    let next = times-more_same o keys i k k c.loop-i-test.true c.index-keys-i.is (ap is_eq (tied_itself o k)) in
+    let known = c.requires.known k (omega (arith, next, times-more_le o keys i k k c.loop-i-test.true c.index-keys-i.is)) in
+    record { has = AreAppended-known _ _ (get cmp c.args.map.now k) (get cmp c.loop-i.map k) (c.loop-i.invariant.added k) ∙ known }
 
 pub loop-i-preserved : goal.loop-i-preserved
 loop-i-preserved g c =
     let cmp = g.K.Ord.cmp in
-    let o = g.met.K.Ord.total in
     let keys = c.args.keys.now in
     let all = c.args.items.items in
     let i = c.loop-i.i in
     let k = c.index-keys-i.result in
     let x = c.in-Some.item in
-    let popped : c.loop-i.items.items ≡ c.pop.new.self.items ++ x ∷ [] = search rules in
-    let given : All (Contains all) (c.pop.new.self.items ++ x ∷ []) = rw popped at c.loop-i.invariant.given in
-    let long : length c.loop-i.items.items ≡ length c.pop.new.self.items + 1 = ap length popped ∙ length-append c.pop.new.self.items (x ∷ []) in
-    let back : TakesBack cmp (reverse (take i keys)) (lists_of c.reserve_at.new.map.entries) (lists_of c.args.map.now.entries) = rw c.reserve_at.ensures.kept c.loop-i.invariant.back in
+    let left = c.pop.new.self.items in
+    let popped : c.loop-i.items.items ≡ left ++ x ∷ [] = search rules in
+    let given : All (Contains all) (left ++ x ∷ []) = rw popped at c.loop-i.invariant.given in
+    let back : TakesBack cmp (reverse (take i keys)) (lists_of c.reserve_at.new.map.entries) (lists_of c.args.map.now.entries) =
+    rw c.reserve_at.ensures.kept c.loop-i.invariant.back in
     record {
-      left = omega (arith, long, c.loop-i.invariant.left);
-      given = All-front (Contains all) c.pop.new.self.items (x ∷ []) given;
-      added = λ q. AreAppended-step o keys i k q c.loop-i-test.true c.index-keys-i.is all x (get cmp c.args.map.now q) (get cmp c.reserve_at.new.map q) (get cmp c.append_at.new.map q)
-          (All-middle (Contains all) (c.pop.new.self.items ++ x ∷ []) c.pop.new.self.items [] x refl given)
-          (AreAppended-roomier all (times cmp (take i keys) q) (get cmp c.args.map.now q) (get cmp c.loop-i.map q) (get cmp c.reserve_at.new.map q) (c.reserve_at.ensures.items q) (c.reserve_at.ensures.known q) (c.loop-i.invariant.added q))
+      left = omega (arith, ap length popped, length-append left (x ∷ []), c.loop-i.invariant.left);
+      given = All-front (Contains all) left (x ∷ []) given;
+      added = λ q. AreAppended-step g.met.K.Ord.total keys i k q c.loop-i-test.true c.index-keys-i.is all x (get cmp c.args.map.now q)
+          (get cmp c.reserve_at.new.map q) (get cmp c.append_at.new.map q) (All-middle (Contains all) (left ++ x ∷ []) left [] x refl given)
+          (AreAppended-roomier all (times cmp (take i keys) q) (get cmp c.args.map.now q) (get cmp c.loop-i.map q) (get cmp c.reserve_at.new.map q)
+          (c.reserve_at.ensures.items q) (c.reserve_at.ensures.known q) (c.loop-i.invariant.added q))
           (c.append_at.ensures.here q) (c.append_at.ensures.others q);
-      back = rw (reverse-take_more keys i k c.loop-i-test.true c.index-keys-i.is) (c.append_at.ensures.back (reverse (take i keys)) (lists_of c.args.map.now.entries) back);
+      back = rw (reverse-take_more keys i k c.loop-i-test.true c.index-keys-i.is)
+          (c.append_at.ensures.back (reverse (take i keys)) (lists_of c.args.map.now.entries) back);
       ordered = λ _. c.append_at.ensures.ordered;
-    }
-
-pub returns-then-is_err : goal.returns-then-is_err
-returns-then-is_err g c = record {
-  appended = tt;
-  back = tt;
-  kept = c.take_back.ensures (lists_of c.args.map.now.entries) (rw c.reserve_at.ensures.kept c.loop-i.invariant.back);
-  ordered = tt;
-}
-
-pub returns : goal.returns
-returns g c =
-    let cmp = g.K.Ord.cmp in
-    let keys = c.args.keys.now in
-    let end : c.loop-i.i ≡ length keys = omega arith in
-    let whole : take c.loop-i.i keys ≡ keys = ap (λ n. take n keys) end ∙ take-length keys in
-    record {
-      appended = λ q. subst (λ (ks : List _). AreAppended c.args.items.items (times cmp ks q) (get cmp c.args.map.now q) (get cmp c.loop-i.map q)) whole (c.loop-i.invariant.added q);
-      back = subst (λ (ks : List _). TakesBack cmp (reverse ks) (lists_of c.loop-i.map.entries) (lists_of c.args.map.now.entries)) whole c.loop-i.invariant.back;
-      kept = tt;
-      ordered = λ some. c.loop-i.invariant.ordered (omega arith);
     }

@@ -1,6 +1,4 @@
-use Rattle.std.proofs.Common.{◌≡◌, ◌+◌, ◌<◌, length, take}
-use Rattle.std.specs.Prelude.{All, Contains, reverse}
-use Rattle.std.specs.BTreeMap.{get, IsOrdered}
+use Rattle.rectangle_pack.proofs.Std.{◌≡◌, ◌+◌, ◌<◌, length, take, All, Contains, reverse, get, IsOrdered}
 use Rattle.rectangle_pack.specs.Groups.{lists_of}
 use Rattle.rectangle_pack.specs.private.Multimaps.{times, AreAppended, TakesBack}
 use Rattle.rectangle_pack.proofs.grouped_rects_to_place.multimap.append_each.Given as goal

@@ -1,6 +1,4 @@
-use Rattle.std.proofs.Common.{◌≡◌, ◌<◌, take}
-use Rattle.std.specs.Prelude.{IsSome}
-use Rattle.std.specs.BTreeMap.{get}
+use Rattle.rectangle_pack.proofs.Std.{◌≡◌, ◌<◌, take, IsSome, get}
 use Rattle.rectangle_pack.specs.Groups.{lists_of}
 use Rattle.rectangle_pack.specs.private.Multimaps.{filled, times, items_of}
 use Rattle.rectangle_pack.proofs.grouped_rects_to_place.multimap.ensure_keys.Given as goal

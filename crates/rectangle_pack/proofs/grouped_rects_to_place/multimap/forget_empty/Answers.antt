@@ -1,6 +1,4 @@
-use Rattle.std.proofs.Common.{rules}
-use Rattle.std.specs.Prelude.{nat_lt, length, ⊤}
-use Rattle.std.proofs.lemmas.Map.Entries.{filter_from_retain_pairs}
+use Rattle.rectangle_pack.proofs.Std.{rules, nat_lt, length, ⊤, filter_from_retain_pairs}
 use Rattle.rectangle_pack.proofs.lemmas.multimap.Vectors.{lists_of-filter}
 use Rattle.rectangle_pack.proofs.grouped_rects_to_place.multimap.forget_empty.Goals as goal
 

@@ -1,6 +1,4 @@
-use Rattle.std.proofs.Common.{◌≡◌, ◌+◌}
-use Rattle.std.specs.Prelude.{map}
-use Rattle.std.specs.Map.Iter.{deref_pair}
+use Rattle.rectangle_pack.proofs.Std.{◌≡◌, ◌+◌, map, deref_pair}
 use Rattle.rectangle_pack.proofs.lemmas.session.Numbering.{entries_in}
 use Rattle.rectangle_pack.proofs.grouped_rects_to_place.multimap.number_after.Given as goal
 

@@ -1,9 +1,4 @@
-use Rattle.std.proofs.Common.{◌≡◌, sym, ◌∙◌, ap}
-use Rattle.std.specs.Prelude.{Some}
-use Rattle.std.specs.Option.{option_map}
-use Rattle.std.specs.Map.{lookup}
-use Rattle.std.specs.BTreeMap.{is_at}
-use Rattle.std.proofs.lemmas.Map.Steps.{set_value_same}
+use Rattle.rectangle_pack.proofs.Std.{◌≡◌, sym, ◌∙◌, ap, Some, option_map, lookup, is_at, set_value_same}
 use Rattle.rectangle_pack.specs.Groups.{lists_of}
 use Rattle.rectangle_pack.proofs.lemmas.multimap.Vectors.{lists_of-set_value, lookup-lists}
 use Rattle.rectangle_pack.proofs.grouped_rects_to_place.multimap.reserve_at.Goals as goal
@@ -14,4 +9,5 @@ returns-clause-kept g c =
     let old = c.args.map.now.entries in
     let list = c.in-Some.list.now in
     let found : lookup test (lists_of old) ≡ Some list.items = lookup-lists test old ∙ ap (option_map (λ v. v.items)) (sym c.in-Some.ensures.value) in
-    rw ((c.get_mut.follows.holds c.reserve.new.self).0, lists_of-set_value test old c.reserve.new.self, c.reserve.ensures.items) (set_value_same test (lists_of old) list.items found)
+    rw ((c.get_mut.follows.holds c.reserve.new.self).0, lists_of-set_value test old c.reserve.new.self, c.reserve.ensures.items)
+    (set_value_same test (lists_of old) list.items found)

@@ -1,5 +1,4 @@
-use Rattle.std.proofs.Common.{List, take}
-use Rattle.std.specs.Prelude.{reverse}
+use Rattle.rectangle_pack.proofs.Std.{List, take, reverse}
 use Rattle.rectangle_pack.specs.Groups.{lists_of}
 use Rattle.rectangle_pack.specs.private.Multimaps.{TakesBack}
 use Rattle.rectangle_pack.proofs.grouped_rects_to_place.multimap.take_back.Given as goal

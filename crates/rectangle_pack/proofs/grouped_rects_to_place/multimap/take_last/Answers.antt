@@ -1,8 +1,4 @@
-use Rattle.std.proofs.Common.{◌≡◌, ◌-◌, [], ◌∷◌, ◌++◌, length, take, vec_len, refl, sym, ◌∙◌, ap}
-use Rattle.std.specs.Prelude.{Some}
-use Rattle.std.specs.Option.{option_map}
-use Rattle.std.specs.Map.{lookup}
-use Rattle.std.specs.BTreeMap.{is_at}
+use Rattle.rectangle_pack.proofs.Std.{◌≡◌, ◌-◌, [], ◌∷◌, ◌++◌, length, take, vec_len, refl, sym, ◌∙◌, ap, Some, option_map, lookup, is_at}
 use Rattle.rectangle_pack.specs.Groups.{lists_of}
 use Rattle.rectangle_pack.proofs.lemmas.multimap.Vectors.{lists_of-set_value, lookup-lists}
 use Rattle.rectangle_pack.proofs.lemmas.multimap.TakeBack.{take-all_but_last}
@@ -17,5 +13,6 @@ returns g c = λ list last is.
     let found : lookup test (lists_of old) ≡ Some was.items = lookup-lists test old ∙ ap (option_map (λ v. v.items)) (sym c.in-Some.ensures.value) in
     let same : was.items ≡ list ++ last ∷ [] = cc in
     let long : vec_len was ≡ length was.items = was.ok.0 in
-    let rest : w.items ≡ list = c.pop.ensures.rest ∙ ap (λ n. take (n - 1) was.items) (long ∙ ap length same) ∙ ap (take (length (list ++ last ∷ []) - 1)) same ∙ take-all_but_last list last in
+    let rest : w.items ≡ list = c.pop.ensures.rest ∙ ap (λ n. take (n - 1) was.items) (long ∙ ap length same) ∙ ap (take (length (list ++ last ∷ []) - 1)) same
+    ∙ take-all_but_last list last in
     rw ((c.get_mut.follows.holds w).0, lists_of-set_value test old w, rest) refl

@@ -1,4 +1,4 @@
-use Rattle.std.proofs.Common.{take}
+use Rattle.rectangle_pack.proofs.Std.{take}
 use Rattle.rectangle_pack.specs.Placed.{AreLastPlacements}
 use Rattle.rectangle_pack.proofs.pack.answer.last_placements.Given as goal
 

@@ -1,7 +1,4 @@
-use Rattle.std.proofs.Common.{◌≡◌, [], ◌++◌, ◌∷◌, refl, sym, ap, ◌∙◌, true, rules, append_assoc}
-use Rattle.std.specs.Cmp.{Equal-is}
-use Rattle.std.specs.declared.cmp.Ordering.TheVariants.{Equal}
-use Rattle.std.proofs.lemmas.List.Elements.{All-nil}
+use Rattle.rectangle_pack.proofs.Std.{◌≡◌, [], ◌++◌, ◌∷◌, refl, sym, ap, ◌∙◌, true, rules, append_assoc, Equal-is, Equal, All-nil}
 use Rattle.rectangle_pack.specs.declared.pack.answer.Placement.{Placement}
 use Rattle.rectangle_pack.proofs.lemmas.packing.Groups.{AreNamed-more}
 use Rattle.rectangle_pack.proofs.pack.answer.name_all.Goals as goal
@@ -18,9 +15,14 @@ loop-i-preserved g c =
     let equal_bin : g.B.Ord.cmp c.args.bin.now c.in_ok-clone-2.field-0 ≡ Equal = (Equal-is _).0 (sym (g.met.B.Ord.matches_eq _ _) ∙ same_bin) in
     let items = c.in_ok-push.ensures.items in
     let i = c.loop-i.i in
-    let p : Placement g.row.Id.Denot g.row.B.Denot = record { id = c.in_ok-clone.field-0; bin = c.in_ok-clone-2.field-0; location = c.index-locations-i.result } in (
+    let p : Placement g.row.Id.Denot g.row.B.Denot = record {
+      id = c.in_ok-clone.field-0;
+      bin = c.in_ok-clone-2.field-0;
+      location = c.index-locations-i.result;
+    } in (
       inv.0 ++ p ∷ [],
-      AreNamed-more g.Id.Ord.cmp g.B.Ord.cmp c.args.ids.now c.args.bin.now c.args.locations.now i c.index-ids-i.result c.in_ok-clone.field-0 c.in_ok-clone-2.field-0 c.index-locations-i.result inv.0
+      AreNamed-more g.Id.Ord.cmp g.B.Ord.cmp c.args.ids.now c.args.bin.now c.args.locations.now i c.index-ids-i.result c.in_ok-clone.field-0
+          c.in_ok-clone-2.field-0 c.index-locations-i.result inv.0
           c.loop-i-test.true (rw (← c.requires.lengths) c.loop-i-test.true) c.index-ids-i.is c.index-locations-i.is equal equal_bin inv.1,
       items ∙ ap (λ l. l ++ p ∷ []) inv.2 ∙ append_assoc c.args.placements.now.items inv.0 (p ∷ []),
     )

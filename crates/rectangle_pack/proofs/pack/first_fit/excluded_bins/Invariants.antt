@@ -1,5 +1,4 @@
-use Rattle.std.proofs.Common.{◌≡◌, take}
-use Rattle.std.specs.List.{list_any}
+use Rattle.rectangle_pack.proofs.Std.{◌≡◌, take, list_any}
 use Rattle.rectangle_pack.specs.private.Excluded.{are_in, went_to}
 use Rattle.rectangle_pack.proofs.pack.first_fit.excluded_bins.Given as goal
 

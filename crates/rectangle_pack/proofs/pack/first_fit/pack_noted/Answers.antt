@@ -1,20 +1,16 @@
 use Rattle.rectangle_pack.proofs.lemmas.packing.Orders.{list-found}
-use Rattle.std.proofs.Common.{sym, ap, ◌∙◌, arith}
-use Rattle.std.specs.List.{sum_by}
-use Rattle.std.proofs.lemmas.Result.{on_err_weaker}
+use Rattle.rectangle_pack.proofs.Std.{sym, ap, ◌∙◌, arith, sum_by, on_err_weaker}
 use Rattle.rectangle_pack.specs.Packing.{rules_by, bins_of}
 use Rattle.rectangle_pack.specs.private.Orders.{keys_of_order}
-use Rattle.rectangle_pack.proofs.lemmas.packing.FitTests.{OnErr-given, counted-none, counted-done, counted-refused, counted-stopped}
-use Rattle.rectangle_pack.proofs.lemmas.packing.Groups.{packed-weaker, done-weaker, AreAllPlaced-length, AreGroups-length}
+use Rattle.rectangle_pack.proofs.lemmas.packing.FitTests.{OnErr-given, counted-none, counted-done, counted-refused, counted-within}
+use Rattle.rectangle_pack.proofs.lemmas.packing.Groups.{packed-weaker, AreAllPlaced-length, AreGroups-length}
 use Rattle.rectangle_pack.proofs.pack.first_fit.pack_noted.Goals as goal
 
 pub returns-in_err-groups-clause-stopped : goal.returns-in_err-groups-clause-stopped
-returns-in_err-groups-clause-stopped g c =
-    OnErr-given _ (counted-none c.args.rects_to_place.now (bins_of c.args.packing.now.bins.kept) c.args.packing.now.tests (omega arith))
+returns-in_err-groups-clause-stopped g c = OnErr-given _ (counted-none _ _ c.args.packing.now.tests (omega arith))
 
 pub returns-in_err-reserve-clause-stopped : goal.returns-in_err-reserve-clause-stopped
-returns-in_err-reserve-clause-stopped g c =
-    OnErr-given _ (counted-none c.args.rects_to_place.now (bins_of c.args.packing.now.bins.kept) c.args.packing.now.tests (omega arith))
+returns-in_err-reserve-clause-stopped g c = OnErr-given _ (counted-none _ _ c.args.packing.now.tests (omega arith))
 
 pub place_groups-requires-clause-listed : goal.place_groups-requires-clause-listed
 place_groups-requires-clause-listed g c =
@@ -23,9 +19,6 @@ place_groups-requires-clause-listed g c =
 
 pub place_groups-requires-clause-sized : goal.place_groups-requires-clause-sized
 place_groups-requires-clause-sized g c = rw (c.as_slice.ensures.value, c.as_slice-2.ensures.value, ← c.rects-rects.ensures.entries) c.in_ok-groups.ensures.sizes
-
-pub place_groups-requires-clause-distinct_groups : goal.place_groups-requires-clause-distinct_groups
-place_groups-requires-clause-distinct_groups g c = rw c.as_slice.ensures.value c.in_ok-groups.ensures.distinct
 
 pub returns-clause-packed : goal.returns-clause-packed
 returns-clause-packed g c =
@@ -47,10 +40,9 @@ returns-clause-packed g c =
         tests = p.2;
         placed = p.4;
       },
-      counted-done _ by g.met.BinId.Ord.total all old c.requires.distinct order entries c.args.packing.now.bins.order c.requires.order p.0
-          c.place_groups.new.packing.placements.items (record { bins = bins_of c.place_groups.new.packing.bins.kept; homes = p.1 }) p.2 c.args.packing.now.tests
-          _
-          (rw (← c.as_slice.ensures.value) p.3) p.4 p.5,
+      counted-done _ by g.met.BinId.Ord.total all old c.requires.distinct order entries c.args.packing.now.bins.order c.requires.order p.2
+          c.args.packing.now.tests _ p.0 c.place_groups.new.packing.placements.items
+          (record { bins = bins_of c.place_groups.new.packing.bins.kept; homes = p.1 }) (rw (← c.as_slice.ensures.value) p.3) p.4 p.5,
     ))
     (λ q. (
       record {
@@ -61,9 +53,8 @@ returns-clause-packed g c =
         tests = q.0;
         stops = rw (← c.as_slice.ensures.value) q.1;
       },
-      counted-refused _ by g.met.BinId.Ord.total all old c.requires.distinct order entries c.args.packing.now.bins.order c.requires.order
-          (bins_of c.place_groups.new.packing.bins.kept) q.0 c.args.packing.now.tests _
-          (rw (← c.as_slice.ensures.value) q.1) q.2,
+      counted-refused _ by g.met.BinId.Ord.total all old c.requires.distinct order entries c.args.packing.now.bins.order c.requires.order q.0
+          c.args.packing.now.tests _ (bins_of c.place_groups.new.packing.bins.kept) (rw (← c.as_slice.ensures.value) q.1) q.2,
     ))
     c.place_groups.ensures.packed
 
@@ -75,29 +66,20 @@ returns-clause-stopped g c =
     let old = bins_of c.args.packing.now.bins.kept in
     let order = keys_of_order c.in_ok-groups.groups.items in
     on_err_weaker c.place_groups.result
-    (λ h.
-    counted-stopped _ by g.met.BinId.Ord.total all old c.requires.distinct order entries c.args.packing.now.bins.order c.requires.order c.args.packing.now.tests
-    _
-    (rw (← c.as_slice.ensures.value) h))
+    (λ h. (
+      h.tests,
+      counted-within _ by g.met.BinId.Ord.total all old c.requires.distinct order entries c.args.packing.now.bins.order c.requires.order h.tests
+          c.args.packing.now.tests _ (rw (← c.as_slice.ensures.value) h.within) h.added,
+    ))
     c.place_groups.ensures.stopped
 
 pub returns-clause-counted : goal.returns-clause-counted
 returns-clause-counted g c =
     let entries = rw c.groups-lists.ensures.entries at c.in_ok-groups.ensures.counted in
-    done-weaker _ c.place_groups.result
+    packed-weaker c.place_groups.result
     (λ p. AreAllPlaced-length _ _ _ p.0 _ _ _ _ p.4 ∙ sym (AreGroups-length _ _ _ _ _ p.0 p.3) ∙ ap (sum_by _) (ap keys_of_order c.as_slice.ensures.value)
     ∙ entries)
-    c.place_groups.ensures.packed
+    (λ q. tt) c.place_groups.ensures.packed
 
 pub returns-in_err-sizes-clause-stopped : goal.returns-in_err-sizes-clause-stopped
-returns-in_err-sizes-clause-stopped g c =
-    OnErr-given _ (counted-none c.args.rects_to_place.now (bins_of c.args.packing.now.bins.kept) c.args.packing.now.tests (omega arith))
-
-pub returns-clause-back : goal.returns-clause-back
-returns-clause-back g c = c.place_groups.ensures.back
-
-pub place_groups-requires-clause-no_placements : goal.place_groups-requires-clause-no_placements
-place_groups-requires-clause-no_placements g c = c.in_ok-reserve.ensures.items ∙ c.requires.no_placements
-
-pub group_order-requires-clause-sized : goal.group_order-requires-clause-sized
-group_order-requires-clause-sized g c = rw (c.groups-lists.ensures.entries, c.rects-rects.ensures.entries) c.groups-lists.ensures.members
+returns-in_err-sizes-clause-stopped g c = OnErr-given _ (counted-none _ _ c.args.packing.now.tests (omega arith))

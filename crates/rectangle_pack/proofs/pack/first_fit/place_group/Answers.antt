@@ -1,31 +1,101 @@
-use Rattle.std.proofs.Common.{◌≡◌, ◌++◌, ◌+◌, List, [], ◌∷◌, Bool, false, true, take, length, vec_len, vec_capacity, refl, sym, ap, ◌∙◌, subst, arith, rules}
-use Rattle.std.specs.Prelude.{map, sum}
-use Rattle.std.specs.BTreeMap.{is_at}
-use Rattle.std.proofs.lemmas.List.{take_all}
-use Rattle.std.proofs.lemmas.List.Sums.{sum_by_push}
+use Rattle.rectangle_pack.proofs.Std.{◌≡◌, ◌++◌, ◌+◌, [], ◌∷◌, false, true, take, length, vec_len, vec_capacity, refl, sym, ap, ◌∙◌, arith, rules, sum, is_at}
+use Rattle.rectangle_pack.proofs.Std.{take_all, sum_by_push, IfOk-from_err}
 use Rattle.rectangle_pack.specs.Numbers.{saturated}
-use Rattle.rectangle_pack.specs.Packing.{Rules, rules_by, bins_of, Members}
+use Rattle.rectangle_pack.specs.Packing.{Rules, rules_by, bins_of, Members, DoesNotTake}
 use Rattle.rectangle_pack.specs.private.Excluded.{are_in}
 use Rattle.rectangle_pack.specs.private.Checkout.{closed}
 use Rattle.rectangle_pack.proofs.lemmas.packing.Checkout.{stays}
-use Rattle.rectangle_pack.proofs.lemmas.packing.Groups.{GoesBack-grown, bins_of-grown, GoesBack-tried, found-bins_of, IsPlaced-at, DoesNotTake-more, DoesNotTake-stuck, DoesNotTake-excluded, IsDone-length}
+use Rattle.rectangle_pack.proofs.lemmas.packing.Groups.{GoesBack-grown, bins_of-grown, GoesBack-tried, found-bins_of, IsPlaced-at, IsDone-length}
 use Rattle.rectangle_pack.proofs.lemmas.packing.FitTests.{OnErr-given, adds-begun, adds-tried}
 use Rattle.rectangle_pack.proofs.lemmas.trial.StepsByIndex.{saturated-add}
 use Rattle.rectangle_pack.proofs.pack.first_fit.place_group.Given.{Over}
+use Rattle.rectangle_pack.proofs.lemmas.packing.Orders.{AllZip-next}
 use Rattle.rectangle_pack.proofs.pack.first_fit.place_group.Goals as goal
 
 abbrev by : (g : Over) → g.row.R.Denot → Rules g.row.Id.Denot g.row.B.Denot
 by g rules = rules_by g.Id.Ord.cmp g.B.Ord.cmp (g.R.Policy.may rules)
 
-pub returns-in_err-done-clause-back : goal.returns-in_err-done-clause-back
-returns-in_err-done-clause-back g c start b =
+pub returns-in_err-done : goal.returns-in_err-done
+returns-in_err-done g c =
+    let group : Members g.row.Id.Denot = record { ids = c.args.ids.now; sizes = c.args.sizes.now } in
+    let excluded = are_in g.B.Ord.cmp c.args.excluded.now.keys in
+    let passed = c.loop-i.invariant.passed in
     let o = c.index-order-i.result in
     let same_order = (stays c.check_out.ensures).2 ∙ c.loop-i.invariant.order in
     let tried = c.in_err-done.ensures.tried o (rw same_order c.index-order-i.is) in
-    rw tried.2.own.written
-    (GoesBack-grown g.B.Ord.cmp c.check_out.new.self.own c.loop-i.packing.journal.items o.1 tried.0.own tried.1.own start tried.2.own.found tried.4
-    tried.2.own.room
-    (rw (stays c.check_out.ensures).1 (c.loop-i.invariant.back start b)))
+    record {
+      placed = IfOk-from_err _ _ c.from_residual.ensures.0;
+      stopped = rw (← c.order-order.ensures) (OnErr-given _ (adds-begun (by g c.args.policy.now) g.met.B.Ord.total excluded c.order-order.result.now c.loop-i.i
+          group (bins_of c.args.packing.now.bins.kept) passed.0 c.args.packing.now.tests _ passed.1 (tried.3.1 ∙ passed.2)));
+      back = λ start b. rw tried.2.own.written
+          (GoesBack-grown g.B.Ord.cmp c.check_out.new.self.own c.loop-i.packing.journal.items o.1 tried.0.own tried.1.own start tried.2.own.found tried.4
+          tried.2.own.room (rw (stays c.check_out.ensures).1 (c.loop-i.invariant.back start b)));
+      order = tried.2.order ∙ same_order ∙ c.order-order.ensures;
+      journal_grows = omega (arith, ap vec_len c.loop-i.invariant.journal);
+      journal_room_stays = ap vec_capacity c.loop-i.invariant.journal;
+    }
+
+pub returns-in_err-name_all : goal.returns-in_err-name_all
+returns-in_err-name_all g c =
+    let group : Members g.row.Id.Denot = record { ids = c.args.ids.now; sizes = c.args.sizes.now } in
+    let old = bins_of c.args.packing.now.bins.kept in
+    let now = c.check_out.new.self.kept in
+    let same : bins_of now ≡ old = ap bins_of (stays c.check_out.ensures).0 ∙ c.loop-i.invariant.same in
+    let excluded = are_in g.B.Ord.cmp c.args.excluded.now.keys in
+    let passed = c.loop-i.invariant.passed in
+    let o = c.index-order-i.result in
+    let same_order = (stays c.check_out.ensures).2 ∙ c.loop-i.invariant.order in
+    let tried = c.in_ok-done.ensures.tried o (rw same_order c.index-order-i.is) in
+    let done = rw c.if-done.true at tried.3 in
+    let (rest, leads) = rw c.if-done.true at tried.4 in
+    let there = found-bins_of (is_at (g.B.Ord.cmp o.1)) now old (closed true tried.0) same tried.2.kept.found in
+    record {
+      placed = IfOk-from_err _ _ c.from_residual-in_err-name_all.ensures.0;
+      stopped = rw (← c.order-order.ensures) (OnErr-given _ (adds-tried (by g c.args.policy.now) g.met.B.Ord.total excluded c.order-order.result.now c.loop-i.i
+          o group old passed.0 tried.0.now c.try_bin.new.buffers.locations.items tried.1.now.sections done.0 c.args.packing.now.tests _ c.loop-i-test.true
+          c.index-order-i.is passed.1 there done.1
+          (saturated-add c.args.packing.now.tests c.loop-i.packing.tests _ (sum passed.0) done.0 passed.2 done.3)));
+      back = λ start b. GoesBack-tried g.B.Ord.cmp _ _ _ _ _ _ tried.0.own tried.1.own start tried.2.own (stays c.check_out.ensures).1
+          c.note_trial.ensures.journal rest leads (c.loop-i.invariant.back start b);
+      order = tried.2.order ∙ same_order ∙ c.order-order.ensures;
+      journal_grows = omega (arith, c.note_trial.ensures.grows, ap vec_len c.loop-i.invariant.journal);
+      journal_room_stays = c.note_trial.ensures.room_stays ∙ ap vec_capacity c.loop-i.invariant.journal;
+    }
+
+pub returns-then-done : goal.returns-then-done
+returns-then-done g c =
+    let group : Members g.row.Id.Denot = record { ids = c.args.ids.now; sizes = c.args.sizes.now } in
+    let old = bins_of c.args.packing.now.bins.kept in
+    let now = c.check_out.new.self.kept in
+    let same : bins_of now ≡ old = ap bins_of (stays c.check_out.ensures).0 ∙ c.loop-i.invariant.same in
+    let excluded = are_in g.B.Ord.cmp c.args.excluded.now.keys in
+    let passed = c.loop-i.invariant.passed in
+    let o = c.index-order-i.result in
+    let allowed : excluded o.1 ≡ false = sym c.contains.ensures ∙ c.if-contains.false in
+    let same_order = (stays c.check_out.ensures).2 ∙ c.loop-i.invariant.order in
+    let tried = c.in_ok-done.ensures.tried o (rw same_order c.index-order-i.is) in
+    let done = rw c.if-done.true at tried.3 in
+    let (rest, leads) = rw c.if-done.true at tried.4 in
+    let named = c.in_ok-name_all.ensures in
+    let at = IsPlaced-at (by g c.args.policy.now) excluded c.order-order.result.now c.loop-i.i o group now _ old (closed true tried.0) (closed true tried.1)
+    c.try_bin.new.buffers.locations.items passed.0 done.0 named.0 c.loop-i-test.true c.index-order-i.is same passed.1 allowed tried.2.kept done.2 done.1
+    (rw (← c.as_slice.ensures.value) named.1) in
+    record {
+      placed = rw (← c.order-order.ensures) (
+        named.0,
+        sum passed.0 + done.0,
+        at.0,
+        at.1,
+        named.2 ∙ ap (λ l. l ++ named.0) c.loop-i.invariant.placements,
+        saturated-add c.args.packing.now.tests c.loop-i.packing.tests _ (sum passed.0) done.0 passed.2 done.3,
+      );
+      stopped = tt;
+      back = λ start b. GoesBack-tried g.B.Ord.cmp _ _ _ _ _ _ tried.0.own tried.1.own start tried.2.own (stays c.check_out.ensures).1
+          c.note_trial.ensures.journal rest leads (c.loop-i.invariant.back start b);
+      order = tried.2.order ∙ same_order ∙ c.order-order.ensures;
+      journal_grows = omega (arith, c.note_trial.ensures.grows, ap vec_len c.loop-i.invariant.journal);
+      journal_room_stays = c.note_trial.ensures.room_stays ∙ ap vec_capacity c.loop-i.invariant.journal;
+    }
 
 pub name_all-requires-clause-lengths : goal.name_all-requires-clause-lengths
 name_all-requires-clause-lengths g c =
@@ -33,50 +103,6 @@ name_all-requires-clause-lengths g c =
     let tried = c.in_ok-done.ensures.tried c.index-order-i.result (rw same_order c.index-order-i.is) in
     let done = rw c.if-done.true at tried.3 in
     c.requires.lengths ∙ IsDone-length _ _ _ _ _ _ done.1 ∙ ap length (sym c.as_slice.ensures.value)
-
-pub returns-in_err-name_all-clause-back : goal.returns-in_err-name_all-clause-back
-returns-in_err-name_all-clause-back g c start b =
-    let same_order = (stays c.check_out.ensures).2 ∙ c.loop-i.invariant.order in
-    let tried = c.in_ok-done.ensures.tried c.index-order-i.result (rw same_order c.index-order-i.is) in
-    let (rest, leads) = rw c.if-done.true at tried.4 in
-    GoesBack-tried g.B.Ord.cmp _ _ _ _ _ _ tried.0.own tried.1.own start tried.2.own (stays c.check_out.ensures).1 c.note_trial.ensures.journal rest leads
-    (c.loop-i.invariant.back start b)
-
-pub returns-then-done-clause-back : goal.returns-then-done-clause-back
-returns-then-done-clause-back g c start b =
-    let same_order = (stays c.check_out.ensures).2 ∙ c.loop-i.invariant.order in
-    let tried = c.in_ok-done.ensures.tried c.index-order-i.result (rw same_order c.index-order-i.is) in
-    let (rest, leads) = rw c.if-done.true at tried.4 in
-    GoesBack-tried g.B.Ord.cmp _ _ _ _ _ _ tried.0.own tried.1.own start tried.2.own (stays c.check_out.ensures).1 c.note_trial.ensures.journal rest leads
-    (c.loop-i.invariant.back start b)
-
-pub returns-then-done-clause-placed : goal.returns-then-done-clause-placed
-returns-then-done-clause-placed g c =
-    let o = c.index-order-i.result in
-    let order = c.order-order.result.now in
-    let same_order = (stays c.check_out.ensures).2 ∙ c.loop-i.invariant.order in
-    let tried = c.in_ok-done.ensures.tried o (rw same_order c.index-order-i.is) in
-    let now = c.check_out.new.self.kept in
-    let first = bins_of c.args.packing.now.bins.kept in
-    let same : bins_of now ≡ first = ap bins_of (stays c.check_out.ensures).0 ∙ c.loop-i.invariant.same in
-    let done = rw c.if-done.true at tried.3 in
-    let named = c.in_ok-name_all.ensures in
-    let group : Members g.row.Id.Denot = record { ids = c.args.ids.now; sizes = c.args.sizes.now } in
-    let rules = by g c.args.policy.now in
-    let excluded = are_in g.B.Ord.cmp c.args.excluded.now.keys in
-    let passed = c.loop-i.invariant.passed in
-    let allowed : excluded o.1 ≡ false = sym c.contains.ensures ∙ c.if-contains.false in
-    let at = IsPlaced-at rules excluded order c.loop-i.i o group now _ first (closed true tried.0) (closed true tried.1) c.try_bin.new.buffers.locations.items
-    passed.0 done.0 named.0 c.loop-i-test.true c.index-order-i.is same passed.1 allowed tried.2.kept done.2 done.1
-    (rw (← c.as_slice.ensures.value) named.1) in
-    rw (← c.order-order.ensures) (
-      named.0,
-      sum passed.0 + done.0,
-      at.0,
-      at.1,
-      named.2 ∙ ap (λ l. l ++ named.0) c.loop-i.invariant.placements,
-      saturated-add c.args.packing.now.tests c.loop-i.packing.tests _ (sum passed.0) done.0 passed.2 done.3,
-    )
 
 pub loop-i-init : goal.loop-i-init
 loop-i-init g c = record {
@@ -102,8 +128,8 @@ loop-i-preserved-then-contains g c =
       order = (stays c.check_out.ensures).2 ∙ c.loop-i.invariant.order;
       passed = (
         passed.0 ++ 0 ∷ [],
-        DoesNotTake-more rules excluded old group c.order-order.result.now c.loop-i.i o passed.0 0 c.loop-i-test.true c.index-order-i.is
-            (DoesNotTake-excluded rules excluded old group o.1 here) passed.1,
+        AllZip-next (DoesNotTake rules excluded old group) (λ x. x.1) c.order-order.result.now passed.0 c.loop-i.i o 0 c.loop-i-test.true c.index-order-i.is
+            passed.1 (rw here refl),
         passed.2 ∙ ap (λ n. saturated (c.args.packing.now.tests + n)) (sym (sum_by_push (λ x. x) passed.0 0 ∙ omega arith)),
       );
       journal = c.loop-i.invariant.journal;
@@ -134,8 +160,8 @@ loop-i-preserved g c =
       order = tried.2.order ∙ same_order;
       passed = (
         passed.0 ++ stuck.0 ∷ [],
-        DoesNotTake-more rules excluded old group c.order-order.result.now c.loop-i.i o passed.0 stuck.0 c.loop-i-test.true c.index-order-i.is
-            (DoesNotTake-stuck rules excluded old group o.1 stuck.0 allowed (rw there stuck.1)) passed.1,
+        AllZip-next (DoesNotTake rules excluded old group) (λ x. x.1) c.order-order.result.now passed.0 c.loop-i.i o stuck.0 c.loop-i-test.true
+            c.index-order-i.is passed.1 (rw (allowed, there) stuck.1),
         saturated-add c.args.packing.now.tests c.loop-i.packing.tests _ (sum passed.0) stuck.0 passed.2 stuck.3
             ∙ ap (λ n. saturated (c.args.packing.now.tests + n)) (sym (sum_by_push (λ x. x) passed.0 stuck.0)),
       );
@@ -154,67 +180,8 @@ returns-clause-placed g c =
     rw (← c.order-order.ensures)
     (sum passed.0, record { counts = passed.0; passed = passed.1; tests_are = refl }, c.loop-i.invariant.same, c.loop-i.invariant.placements, passed.2)
 
-pub returns-in_err-done-clause-stopped : goal.returns-in_err-done-clause-stopped
-returns-in_err-done-clause-stopped g c =
-    let group : Members g.row.Id.Denot = record { ids = c.args.ids.now; sizes = c.args.sizes.now } in
-    let rules = by g c.args.policy.now in
-    let same_order = (stays c.check_out.ensures).2 ∙ c.loop-i.invariant.order in
-    let tried = c.in_err-done.ensures.tried c.index-order-i.result (rw same_order c.index-order-i.is) in
-    let passed = c.loop-i.invariant.passed in
-    rw (← c.order-order.ensures)
-    (OnErr-given _
-    (adds-begun rules g.met.B.Ord.total (are_in g.B.Ord.cmp c.args.excluded.now.keys) c.order-order.result.now c.loop-i.i group
-    (bins_of c.args.packing.now.bins.kept) passed.0 c.args.packing.now.tests _ passed.1 (tried.3.1 ∙ passed.2)))
-
-pub returns-in_err-name_all-clause-stopped : goal.returns-in_err-name_all-clause-stopped
-returns-in_err-name_all-clause-stopped g c =
-    let o = c.index-order-i.result in
-    let same_order = (stays c.check_out.ensures).2 ∙ c.loop-i.invariant.order in
-    let tried = c.in_ok-done.ensures.tried o (rw same_order c.index-order-i.is) in
-    let now = c.check_out.new.self.kept in
-    let old = bins_of c.args.packing.now.bins.kept in
-    let same : bins_of now ≡ old = ap bins_of (stays c.check_out.ensures).0 ∙ c.loop-i.invariant.same in
-    let done = rw c.if-done.true at tried.3 in
-    let group : Members g.row.Id.Denot = record { ids = c.args.ids.now; sizes = c.args.sizes.now } in
-    let rules = by g c.args.policy.now in
-    let passed = c.loop-i.invariant.passed in
-    let there = found-bins_of (is_at (g.B.Ord.cmp o.1)) now old (closed true tried.0) same tried.2.kept.found in
-    rw (← c.order-order.ensures)
-    (OnErr-given _
-    (adds-tried rules g.met.B.Ord.total (are_in g.B.Ord.cmp c.args.excluded.now.keys) c.order-order.result.now c.loop-i.i o group old passed.0 tried.0.now
-    c.try_bin.new.buffers.locations.items tried.1.now.sections done.0
-    c.args.packing.now.tests _ c.loop-i-test.true c.index-order-i.is passed.1 there done.1
-    (saturated-add c.args.packing.now.tests c.loop-i.packing.tests _ (sum passed.0) done.0 passed.2 done.3)))
-
-pub returns-in_err-done-clause-order : goal.returns-in_err-done-clause-order
-returns-in_err-done-clause-order g c =
-    let same_order = (stays c.check_out.ensures).2 ∙ c.loop-i.invariant.order in
-    (c.in_err-done.ensures.tried c.index-order-i.result (rw same_order c.index-order-i.is)).2.order ∙ same_order ∙ c.order-order.ensures
-
-pub returns-in_err-name_all-clause-order : goal.returns-in_err-name_all-clause-order
-returns-in_err-name_all-clause-order g c =
-    let same_order = (stays c.check_out.ensures).2 ∙ c.loop-i.invariant.order in
-    (c.in_ok-done.ensures.tried c.index-order-i.result (rw same_order c.index-order-i.is)).2.order ∙ same_order ∙ c.order-order.ensures
-
-pub returns-then-done-clause-order : goal.returns-then-done-clause-order
-returns-then-done-clause-order g c =
-    let same_order = (stays c.check_out.ensures).2 ∙ c.loop-i.invariant.order in
-    (c.in_ok-done.ensures.tried c.index-order-i.result (rw same_order c.index-order-i.is)).2.order ∙ same_order ∙ c.order-order.ensures
-
 pub returns-clause-order : goal.returns-clause-order
 returns-clause-order g c = c.loop-i.invariant.order ∙ c.order-order.ensures
-
-pub returns-in_err-name_all-clause-journal_grows : goal.returns-in_err-name_all-clause-journal_grows
-returns-in_err-name_all-clause-journal_grows g c = omega (arith, c.note_trial.ensures.grows, ap vec_len c.loop-i.invariant.journal)
-
-pub returns-in_err-name_all-clause-journal_room_stays : goal.returns-in_err-name_all-clause-journal_room_stays
-returns-in_err-name_all-clause-journal_room_stays g c = c.note_trial.ensures.room_stays ∙ ap vec_capacity c.loop-i.invariant.journal
-
-pub returns-then-done-clause-journal_grows : goal.returns-then-done-clause-journal_grows
-returns-then-done-clause-journal_grows g c = omega (arith, c.note_trial.ensures.grows, ap vec_len c.loop-i.invariant.journal)
-
-pub returns-then-done-clause-journal_room_stays : goal.returns-then-done-clause-journal_room_stays
-returns-then-done-clause-journal_room_stays g c = c.note_trial.ensures.room_stays ∙ ap vec_capacity c.loop-i.invariant.journal
 
 pub note_trial-requires : goal.note_trial-requires
 note_trial-requires g c = omega (arith, ap vec_len c.loop-i.invariant.journal, ap vec_capacity c.loop-i.invariant.journal, c.requires.journal_room)

@@ -1,6 +1,4 @@
-use Rattle.std.proofs.Common.{◌≡◌, ◌+◌, ℕ, List, take}
-use Rattle.std.specs.Prelude.{map, sum}
-use Rattle.std.specs.List.{AllZip}
+use Rattle.rectangle_pack.proofs.Std.{◌≡◌, ◌+◌, ℕ, List, take, map, sum, AllZip}
 use Rattle.rectangle_pack.specs.Numbers.{saturated}
 use Rattle.rectangle_pack.specs.Packing.{rules_by, DoesNotTake, bins_of}
 use Rattle.rectangle_pack.specs.private.Excluded.{are_in}

@@ -1,7 +1,4 @@
-use Rattle.std.proofs.Common.{◌≡◌, refl, ◌≤◌, ◌+◌, ℕ, List, take, length, vec_len, vec_capacity}
-use Rattle.std.specs.Prelude.{map}
-use Rattle.std.specs.Cmp.{IsTotalOrder}
-use Rattle.std.specs.declared.cmp.Ordering.{Ordering}
+use Rattle.rectangle_pack.proofs.Std.{◌≡◌, refl, ◌≤◌, ◌+◌, ℕ, List, take, length, vec_len, vec_capacity, map, IsTotalOrder, Ordering}
 use Rattle.rectangle_pack.specs.declared.grouped_rects_to_place.Group.{Group}
 use Rattle.rectangle_pack.specs.contracts.grouped_rects_to_place.GroupOrd.TheImpl.{ghosts}
 use Rattle.rectangle_pack.specs.Numbers.{saturated}
@@ -18,7 +15,7 @@ group_cmp g = (ghosts g.row.GroupId g.row.Id g.GroupId.Ord g.GroupId.Ord-dict g.
     g.GroupId.PartialOrd g.GroupId.PartialOrd-dict g.Id.Ord g.Id.Ord-dict g.Id.Eq g.Id.Eq-dict g.Id.PartialEq g.Id.PartialEq-dict g.Id.PartialOrd
     g.Id.PartialOrd-dict).cmp
 
--- which is total
+-- it is total
 pub group_total : (g : goal.Over) → IsTotalOrder (group_cmp g)
 group_total g = groups_total _ g.Id.Ord.cmp g.GroupId.Ord.cmp g.met.Id.Ord.total g.met.GroupId.Ord.total (λ a b. refl) (λ a b. refl) (λ a b. refl) (λ a b. refl)
 

@@ -1,5 +1,4 @@
-use Rattle.std.proofs.Common.{◌≡◌, refl, sym}
-use Rattle.std.specs.BTreeMap.{is_at}
+use Rattle.rectangle_pack.proofs.Std.{◌≡◌, refl, sym, is_at}
 use Rattle.rectangle_pack.specs.private.Notes.{before_notes, LeadsBack}
 use Rattle.rectangle_pack.specs.private.RollBack.{GoesBack, before_trial}
 use Rattle.rectangle_pack.proofs.lemmas.packing.RollBack.{GoesBack-popped, GoesBack-more, IsRoomier-set, IsRoomier-same, IsMore}

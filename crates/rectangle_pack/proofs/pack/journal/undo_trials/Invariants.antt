@@ -1,4 +1,4 @@
-use Rattle.std.proofs.Common.{List, vec_len}
+use Rattle.rectangle_pack.proofs.Std.{List, vec_len}
 use Rattle.rectangle_pack.specs.Bins.{Bin}
 use Rattle.rectangle_pack.specs.private.RollBack.{GoesBack}
 use Rattle.rectangle_pack.proofs.pack.journal.undo_trials.Given as goal

@@ -1,5 +1,4 @@
-use Rattle.std.proofs.Common.{◌∙◌, ap}
-use Rattle.std.specs.Prelude.{map}
+use Rattle.rectangle_pack.proofs.Std.{◌∙◌, ap, map}
 use Rattle.rectangle_pack.specs.Packing.{at_start}
 use Rattle.rectangle_pack.proofs.lemmas.packing.Whole.{all_whole}
 use Rattle.rectangle_pack.proofs.pack.laws.groups_are_placed_whole.Goals as goal

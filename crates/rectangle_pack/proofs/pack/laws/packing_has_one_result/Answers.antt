@@ -1,4 +1,4 @@
-use Rattle.std.proofs.Common.{refl}
+use Rattle.rectangle_pack.proofs.Std.{refl}
 use Rattle.rectangle_pack.specs.Packing.{rules_by}
 use Rattle.rectangle_pack.proofs.lemmas.determinism.Either.{HaveOneResult-either}
 use Rattle.rectangle_pack.proofs.lemmas.packing.GroupOrder.{groups_total}

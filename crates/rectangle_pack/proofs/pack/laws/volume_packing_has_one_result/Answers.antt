@@ -1,5 +1,4 @@
-use Rattle.std.proofs.Common.{refl}
-use Rattle.std.specs.Map.{values_of}
+use Rattle.rectangle_pack.proofs.Std.{refl, values_of}
 use Rattle.rectangle_pack.specs.Packing.{rules_by}
 use Rattle.rectangle_pack.proofs.lemmas.determinism.Either.{HaveOneResult-either, volumes_decide}
 use Rattle.rectangle_pack.proofs.lemmas.packing.GroupOrder.{groups_total}
@@ -13,6 +12,7 @@ returns g c = λ all others bins other_bins alike bins_alike.
     (groups_total _ g.Id.Ord.cmp g.GroupId.Ord.cmp g.met.Id.Ord.total g.met.GroupId.Ord.total (λ a b. refl) (λ a b. refl) (λ a b. refl) (λ a b. refl))
     g.met.Id.Ord.total g.met.BinId.Ord.total all others bins other_bins alike bins_alike
     (volumes_decide _ _ _ _ c.requires.volume c.requires.other_volume
-    (λ size rate u says. c.requires.volume size rate (record { small = u; says = says })) (λ size rate u says. c.requires.other_volume size rate (record { small = u; says = says }))
+    (λ size rate u says. c.requires.volume size rate (record { small = u; says = says }))
+    (λ size rate u says. c.requires.other_volume size rate (record { small = u; says = says }))
     (λ a b r says. (says.first_three.small, says.second_three.small)) (λ a b r says. (says.first_three.small, says.second_three.small))
     c.requires.smallest c.requires.other_smallest (values_of all.sizes) (values_of bins)))

@@ -1,6 +1,4 @@
-use Rattle.std.proofs.Common.{[], ◌∷◌, ◌++◌, ap, sym, ◌∙◌, take}
-use Rattle.std.specs.Option.{option_copied}
-use Rattle.std.proofs.lemmas.List.{take_more, append_assoc}
+use Rattle.rectangle_pack.proofs.Std.{[], ◌∷◌, ◌++◌, ap, sym, ◌∙◌, take, option_copied, take_more, append_assoc}
 use Rattle.rectangle_pack.proofs.lemmas.packing.Orders.{AllZip-more}
 use Rattle.rectangle_pack.proofs.pack.order.add_sizes.Goals as goal
 
@@ -11,6 +9,7 @@ loop-id-preserved g c =
     let size = c.unwrap.result.now in (
       added ++ size ∷ [],
       rw (take_more c.args.ids.now c.loop-id.id-index c.id-item.result c.loop-id-test.true, ← c.id-item.is)
-          (AllZip-more _ (take c.loop-id.id-index c.args.ids.now) added c.id-item.result size inv.1 (sym c.get.ensures.value ∙ ap option_copied c.unwrap.ensures)),
+          (AllZip-more _ (take c.loop-id.id-index c.args.ids.now) added c.id-item.result size inv.1
+          (sym c.get.ensures.value ∙ ap option_copied c.unwrap.ensures)),
       c.in_ok-push.ensures.items ∙ ap (λ l. l ++ size ∷ []) inv.2 ∙ append_assoc c.args.sizes.now.items added (size ∷ []),
     )

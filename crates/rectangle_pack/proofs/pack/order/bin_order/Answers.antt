@@ -1,23 +1,9 @@
-use Rattle.std.proofs.Common.{arith, length, ap}
-use Rattle.std.proofs.lemmas.Result.{IfOk-from_err}
-use Rattle.std.proofs.lemmas.Map.Iter.{rest_more}
-use Rattle.std.proofs.Common.{◌≡◌, ℕ, List, subst, sym, ◌∙◌, true}
-use Rattle.std.specs.Prelude.{map, IsSome}
-use Rattle.std.specs.Map.{lookup, keys_of}
-use Rattle.std.specs.List.{IsDistinct}
-use Rattle.std.specs.Ordering.{eq_by_cmp}
-use Rattle.std.proofs.lemmas.Map.Keys.{IsDistinct-from_sorted}
+use Rattle.rectangle_pack.proofs.Std.{◌≡◌, ℕ, List, subst, sym, ◌∙◌, true, map, IsSome, lookup, keys_of, IsDistinct, eq_by_cmp, IsDistinct-from_sorted, is_at}
+use Rattle.rectangle_pack.proofs.Std.{All-permutation, Equal-is, deref_pair, Equal, map_push, iter_end}
 use Rattle.rectangle_pack.specs.Orders.{IsBinOrder}
 use Rattle.rectangle_pack.specs.Packing.{bins_of, rules_by}
 use Rattle.rectangle_pack.proofs.lemmas.packing.FitTests.{order-differs}
 use Rattle.rectangle_pack.proofs.lemmas.packing.RollBack.{keys-bins}
-use Rattle.std.specs.BTreeMap.{is_at}
-use Rattle.std.proofs.lemmas.List.Sorted.{All-permutation}
-use Rattle.std.specs.Cmp.{Equal-is}
-use Rattle.std.specs.Map.Iter.{deref_pair}
-use Rattle.std.specs.declared.cmp.Ordering.TheVariants.{Equal}
-use Rattle.std.proofs.lemmas.List.{map_push}
-use Rattle.std.proofs.lemmas.Map.Iter.{iter_end}
 use Rattle.rectangle_pack.proofs.lemmas.packing.Orders.{AllZip-more, AllZip-map_left, found-zip}
 use Rattle.rectangle_pack.specs.Bins.{Held}
 use Rattle.rectangle_pack.proofs.pack.order.bin_order.Goals as goal
@@ -54,33 +40,3 @@ returns g c =
       ids = order-differs (rules_by cmp cmp may) g.met.B.Ord.total (bins_of bins) _ distinct order;
       distinct = distinct;
     }
-
-pub returns-in_err-order : goal.returns-in_err-order
-returns-in_err-order g c =
-    let r = c.from_residual.result in
-    let e = c.from_residual.ensures.0 in
-    record { order = IfOk-from_err r _ e; found = IfOk-from_err r _ e; ids = IfOk-from_err r _ e; distinct = IfOk-from_err r _ e }
-
-pub returns-in_err-clone : goal.returns-in_err-clone
-returns-in_err-clone g c =
-    let r = c.from_residual-in_err-clone.result in
-    let e = c.from_residual-in_err-clone.ensures.0 in
-    record { order = IfOk-from_err r _ e; found = IfOk-from_err r _ e; ids = IfOk-from_err r _ e; distinct = IfOk-from_err r _ e }
-
-pub returns-in_err-push : goal.returns-in_err-push
-returns-in_err-push g c =
-    let r = c.from_residual-in_err-push.result in
-    let e = c.from_residual-in_err-push.ensures.0 in
-    record { order = IfOk-from_err r _ e; found = IfOk-from_err r _ e; ids = IfOk-from_err r _ e; distinct = IfOk-from_err r _ e }
-
-pub loop-id-init : goal.loop-id-init
-loop-id-init g c = rw c.in_ok-order.ensures.items tt
-
-pub next-requires : goal.next-requires
-next-requires g c = tt
-
-pub rate-requires : goal.rate-requires
-rate-requires g c = c.requires.callable
-
-pub loop-id-smaller : goal.loop-id-smaller
-loop-id-smaller g c = omega (arith, ap length (rest_more deref_pair _ _ _ _ c.in-Some.is c.next.ensures.steps))

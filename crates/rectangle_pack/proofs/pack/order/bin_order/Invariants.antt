@@ -1,8 +1,4 @@
-use Rattle.std.proofs.Common.{◌≡◌}
-use Rattle.std.specs.Prelude.{map}
-use Rattle.std.specs.List.{AllZip}
-use Rattle.std.specs.Map.Iter.{deref_pair}
-use Rattle.std.specs.declared.cmp.Ordering.TheVariants.{Equal}
+use Rattle.rectangle_pack.proofs.Std.{◌≡◌, map, AllZip, deref_pair, Equal}
 use Rattle.rectangle_pack.proofs.pack.order.bin_order.Given as goal
 
 abbrev pub invariant-loop-id : goal.invariant-loop-id

@@ -1,5 +1,4 @@
-use Rattle.std.proofs.Common.{[], ◌∷◌, ◌++◌, take}
-use Rattle.std.proofs.lemmas.List.{take_more}
+use Rattle.rectangle_pack.proofs.Std.{[], ◌∷◌, ◌++◌, take, take_more}
 use Rattle.rectangle_pack.proofs.lemmas.packing.Orders.{AllZip-more, saturated-more}
 use Rattle.rectangle_pack.proofs.pack.order.group_key.Goals as goal
 

@@ -1,6 +1,4 @@
-use Rattle.std.proofs.Common.{◌≡◌, ℕ, List, take}
-use Rattle.std.specs.Prelude.{sum}
-use Rattle.std.specs.List.{AllZip}
+use Rattle.rectangle_pack.proofs.Std.{◌≡◌, ℕ, List, take, sum, AllZip}
 use Rattle.rectangle_pack.specs.Numbers.{saturated}
 use Rattle.rectangle_pack.proofs.pack.order.group_key.Given as goal
 

@@ -1,5 +1,4 @@
-use Rattle.std.proofs.Common.{refl, ap, sym, ◌∙◌}
-use Rattle.std.specs.BTreeMap.{is_at}
+use Rattle.rectangle_pack.proofs.Std.{refl, ap, sym, ◌∙◌, is_at}
 use Rattle.rectangle_pack.specs.Packing.{bins_of}
 use Rattle.rectangle_pack.proofs.lemmas.packing.RollBack.{is_some-bins_of}
 use Rattle.rectangle_pack.proofs.lemmas.multimap.Vectors.{none_of}
@@ -8,34 +7,36 @@ use Rattle.rectangle_pack.proofs.lemmas.session.Transitions.{added-inserted, mem
 use Rattle.rectangle_pack.proofs.session.Session.add_bin.Goals as goal
 
 pub returns-then-contains_key-clause-added : goal.returns-then-contains_key-clause-added
-returns-then-contains_key-clause-added g c = rw (← c.self.view_is) (is_some-bins_of (is_at (g.BinId.Ord.cmp c.args.id)) c.self.inside.bins.entries ∙ sym c.contains_key.ensures ∙ c.if-contains_key.true, refl)
+returns-then-contains_key-clause-added g c = rw (← c.self.view_is)
+    (is_some-bins_of (is_at (g.BinId.Ord.cmp c.args.id)) c.self.inside.bins.entries ∙ sym c.contains_key.ensures ∙ c.if-contains_key.true, refl)
 
 pub returns-in_err-bin-clause-added : goal.returns-in_err-bin-clause-added
-returns-in_err-bin-clause-added g c = rw (memory_refused c.from_residual.result c.from_residual.ensures.1, ← c.self.view_is) (None-bins_of (is_at (g.BinId.Ord.cmp c.args.id)) c.self.inside.bins.entries (none_of _ (sym c.contains_key.ensures ∙ c.if-contains_key.false)), refl)
+returns-in_err-bin-clause-added g c = rw (memory_refused c.from_residual.result c.from_residual.ensures.1, ← c.self.view_is)
+    (None-bins_of (is_at (g.BinId.Ord.cmp c.args.id)) c.self.inside.bins.entries (none_of _ (sym c.contains_key.ensures ∙ c.if-contains_key.false)), refl)
 
 pub invariant_of-self : goal.invariant_of-self
 invariant_of-self g c =
-    (added-inserted g.met.BinId.Ord.total c.args.id (record { width = c.args.width; height = c.args.height; depth = c.args.depth }) _ _ c.in_ok-bin.bin _ _ (none_of _ (sym c.contains_key.ensures ∙ c.if-contains_key.false)) c.in-Ok.ensures.entries c.in_ok-bin.ensures c.self.invariant).1
+    (added-inserted g.met.BinId.Ord.total c.args.id (record { width = c.args.width; height = c.args.height; depth = c.args.depth }) _ _ c.in_ok-bin.bin _ _
+    (none_of _ (sym c.contains_key.ensures ∙ c.if-contains_key.false)) c.in-Ok.ensures.entries c.in_ok-bin.ensures c.self.invariant).1
 
 pub returns-in-Ok-clause-added : goal.returns-in-Ok-clause-added
 returns-in-Ok-clause-added g c =
     rw (← c.self.view_is)
-    (added-inserted g.met.BinId.Ord.total c.args.id (record { width = c.args.width; height = c.args.height; depth = c.args.depth }) _ _ c.in_ok-bin.bin _ _ (none_of _ (sym c.contains_key.ensures ∙ c.if-contains_key.false)) c.in-Ok.ensures.entries c.in_ok-bin.ensures c.self.invariant).0
+    (added-inserted g.met.BinId.Ord.total c.args.id (record { width = c.args.width; height = c.args.height; depth = c.args.depth }) _ _ c.in_ok-bin.bin _ _
+    (none_of _ (sym c.contains_key.ensures ∙ c.if-contains_key.false)) c.in-Ok.ensures.entries c.in_ok-bin.ensures c.self.invariant).0
 
 pub returns-clause-added : goal.returns-clause-added
-returns-clause-added g c = rw (← c.self.view_is) (None-bins_of (is_at (g.BinId.Ord.cmp c.args.id)) c.self.inside.bins.entries (none_of _ (sym c.contains_key.ensures ∙ c.if-contains_key.false)), ap (λ es. record { bins = bins_of es; outstanding = c.self.inside.outstanding.items; next = c.self.inside.next }) c.in-Err.ensures.err)
+returns-clause-added g c = rw (← c.self.view_is) (
+  None-bins_of (is_at (g.BinId.Ord.cmp c.args.id)) c.self.inside.bins.entries (none_of _ (sym c.contains_key.ensures ∙ c.if-contains_key.false)),
+  ap
+      (λ es. record { bins = bins_of es; outstanding = c.self.inside.outstanding.items; next = c.self.inside.next }) c.in-Err.ensures.err,
+)
 
 pub returns-in-Ok-clause-always : goal.returns-in-Ok-clause-always
 returns-in-Ok-clause-always g c = invariant_of-self g c
 
 pub invariant_of-self-2 : goal.invariant_of-self-2
 invariant_of-self-2 g c = rw c.in-Err.ensures.err c.self.invariant
-
-pub returns-then-contains_key-clause-always : goal.returns-then-contains_key-clause-always
-returns-then-contains_key-clause-always g c = rw (← c.self.view_is) c.self.invariant
-
-pub returns-in_err-bin-clause-always : goal.returns-in_err-bin-clause-always
-returns-in_err-bin-clause-always g c = rw (← c.self.view_is) c.self.invariant
 
 pub returns-clause-always : goal.returns-clause-always
 returns-clause-always g c = invariant_of-self-2 g c

@@ -1,8 +1,8 @@
-use Rattle.std.proofs.Common.{List, sym, subst}
-use Rattle.std.specs.List.Sorted.{IsStrictlySortedBy}
+use Rattle.rectangle_pack.proofs.Std.{List, sym, subst, IsStrictlySortedBy}
 use Rattle.rectangle_pack.proofs.lemmas.packing.RollBack.{keys-bins}
 use Rattle.rectangle_pack.proofs.session.Session.bins.Goals as goal
 
 pub returns-clause-ascend : goal.returns-clause-ascend
 returns-clause-ascend g c =
-    rw (← c.self.view_is) (subst (λ (ks : List g.row.BinId.Denot). IsStrictlySortedBy g.BinId.Ord.cmp ks) (sym (keys-bins c.self.inside.bins.entries)) c.ascending.ensures.ascend)
+    rw (← c.self.view_is) (subst (λ (ks : List g.row.BinId.Denot). IsStrictlySortedBy g.BinId.Ord.cmp ks)
+    (sym (keys-bins c.self.inside.bins.entries)) c.ascending.ensures.ascend)

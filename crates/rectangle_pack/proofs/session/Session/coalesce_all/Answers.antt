@@ -1,9 +1,4 @@
-use Rattle.std.proofs.Common.{sym, ap, rules, ◌∙◌}
-use Rattle.std.specs.Map.{lookup}
-use Rattle.std.specs.BTreeMap.{is_at}
-use Rattle.std.specs.declared.collections.BTreeMap.{BTreeMap}
-use Rattle.rectangle_pack.specs.Bins.{Held}
-use Rattle.rectangle_pack.specs.Packing.{bins_of}
+use Rattle.rectangle_pack.proofs.Std.{sym, ap, refl, rules, ◌∙◌, lookup, is_at}
 use Rattle.rectangle_pack.specs.Joining.{IsSwept}
 use Rattle.rectangle_pack.proofs.lemmas.util.Maps.{lookup-set_here}
 use Rattle.rectangle_pack.proofs.lemmas.session.Keeps.{Some-bins_of, None-bins_of}
@@ -11,20 +6,21 @@ use Rattle.rectangle_pack.proofs.lemmas.session.Transitions.{IsRecut-swept, coal
 use Rattle.rectangle_pack.proofs.session.Session.coalesce_all.Goals as goal
 
 pub returns-in_default-clause-swept : goal.returns-in_default-clause-swept
-returns-in_default-clause-swept g c = rw (← c.self.view_is) (None-bins_of (is_at (g.BinId.Ord.cmp c.args.id.now)) c.self.inside.bins.entries (search rules), ap (λ (m : BTreeMap g.row.BinId.Denot Held g.row.A.Denot). record { bins = bins_of m.entries; outstanding = c.self.inside.outstanding.items; next = c.self.inside.next }) c.get_mut.follows.holds-at-none)
+returns-in_default-clause-swept g c = rw (← c.self.view_is)
+    (None-bins_of (is_at (g.BinId.Ord.cmp c.args.id.now)) c.self.inside.bins.entries (search rules), rw c.get_mut.follows.holds-at-none refl)
 
 pub invariant_of-self-2 : goal.invariant_of-self-2
 invariant_of-self-2 g c =
-    let w = c.coalesce_all.new.self in
     let done = c.coalesce_all.ensures in
-    (coalesced-written g.met.BinId.Ord.total IsSwept IsRecut-swept c.args.id.now _ _ c.in-Some.bin.now w _ _ (sym c.in-Some.ensures.value) (c.get_mut.follows.holds w).0 done.stays done.swept c.self.invariant).1
+    (coalesced-written g.met.BinId.Ord.total IsSwept IsRecut-swept c.args.id.now _ _ c.in-Some.bin.now _ _ _
+    (sym c.in-Some.ensures.value) (c.get_mut.follows.holds _).0 done.stays done.swept c.self.invariant).1
 
 pub returns-clause-swept : goal.returns-clause-swept
 returns-clause-swept g c =
-    let w = c.coalesce_all.new.self in
     let done = c.coalesce_all.ensures in
     rw (← c.self.view_is)
-    (coalesced-written g.met.BinId.Ord.total IsSwept IsRecut-swept c.args.id.now _ _ c.in-Some.bin.now w _ _ (sym c.in-Some.ensures.value) (c.get_mut.follows.holds w).0 done.stays done.swept c.self.invariant).0
+    (coalesced-written g.met.BinId.Ord.total IsSwept IsRecut-swept c.args.id.now _ _ c.in-Some.bin.now _ _ _
+    (sym c.in-Some.ensures.value) (c.get_mut.follows.holds _).0 done.stays done.swept c.self.invariant).0
 
 pub returns-clause-always : goal.returns-clause-always
 returns-clause-always g c = invariant_of-self-2 g c
@@ -37,5 +33,6 @@ pub returns-clause-no_face : goal.returns-clause-no_face
 returns-clause-no_face g c =
     let test = is_at (g.BinId.Ord.cmp c.args.id.now) in
     let w = c.coalesce_all.new.self in
-    let found = ap (lookup test) (c.get_mut.follows.holds w).0 ∙ lookup-set_here test c.self.inside.bins.entries c.in-Some.bin.now w (sym c.in-Some.ensures.value) in
+    let found = ap (lookup test) (c.get_mut.follows.holds w).0
+    ∙ lookup-set_here test c.self.inside.bins.entries c.in-Some.bin.now w (sym c.in-Some.ensures.value) in
     rw (Some-bins_of test (c.get_mut.follows.lender w).entries w found) c.coalesce_all.ensures.no_face

@@ -1,5 +1,4 @@
-use Rattle.std.proofs.Common.{arith}
-use Rattle.std.proofs.lemmas.List.{take_all}
+use Rattle.rectangle_pack.proofs.Std.{arith, take_all}
 use Rattle.rectangle_pack.specs.Closures.{answers}
 use Rattle.rectangle_pack.specs.Packing.{rules_by}
 use Rattle.rectangle_pack.proofs.lemmas.session.Promise.{KeepsPromise-transition}
@@ -9,9 +8,11 @@ use Rattle.rectangle_pack.proofs.session.Session.run.Goals as goal
 pub loop-command-preserved : goal.loop-command-preserved
 loop-command-preserved g c =
     let rules = rules_by g.Id.Ord.cmp g.BinId.Ord.cmp (answers g.H.Fn g.C.Fn c.args.heuristic.now c.args.comparison.now) in
-    let step = KeepsPromise-transition _ rules g.met.BinId.Ord.total c.command-item.result c.loop-command.self c.obey.result c.obey.new.self c.loop-command.invariant.always c.obey.ensures in
+    let step = KeepsPromise-transition _ rules g.met.BinId.Ord.total c.command-item.result c.loop-command.self c.obey.result c.obey.new.self
+    c.loop-command.invariant.always c.obey.ensures in
     record {
-      ran = rw c.push_reserved.ensures.items (IsRun-more _ c.args.commands.now c.loop-command.command-index c.command-item.result _ c.loop-command.self c.obey.new.self c.loop-command.replies.items c.obey.result c.loop-command-test.true c.command-item.is c.loop-command.invariant.ran step);
+      ran = rw c.push_reserved.ensures.items (IsRun-more _ c.args.commands.now c.loop-command.command-index c.command-item.result _ c.loop-command.self
+          c.obey.new.self c.loop-command.replies.items c.obey.result c.loop-command-test.true c.command-item.is c.loop-command.invariant.ran step);
       always = step.always;
       room = omega (arith, c.push_reserved.ensures.len, c.push_reserved.ensures.capacity, c.loop-command.invariant.room, c.loop-command-test.true);
     }

@@ -1,4 +1,4 @@
-use Rattle.std.proofs.Common.{◌≡◌, ◌++◌, take, filter}
+use Rattle.rectangle_pack.proofs.Std.{◌≡◌, ◌++◌, take, filter}
 use Rattle.rectangle_pack.specs.Boxes.{has_cells}
 use Rattle.rectangle_pack.proofs.session.cut_plan.gather_free.Given as goal
 

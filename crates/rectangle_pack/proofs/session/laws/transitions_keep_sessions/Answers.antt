@@ -4,7 +4,9 @@ use Rattle.rectangle_pack.proofs.lemmas.session.Transitions.{kept-transition, ke
 use Rattle.rectangle_pack.proofs.session.laws.transitions_keep_sessions.Goals as goal
 
 pub returns-clause-transition : goal.returns-clause-transition
-returns-clause-transition g c = λ command reply old new t h. kept-transition _ (rules_by g.Id.Ord.cmp g.BinId.Ord.cmp (answers g.H.Fn g.C.Fn c.args.heuristic.now c.args.comparison.now)) g.met.BinId.Ord.total command old reply new t h
+returns-clause-transition g c = λ command reply old new t h. kept-transition _
+    (rules_by g.Id.Ord.cmp g.BinId.Ord.cmp (answers g.H.Fn g.C.Fn c.args.heuristic.now c.args.comparison.now)) g.met.BinId.Ord.total command old reply new t h
 
 pub returns-clause-run : goal.returns-clause-run
-returns-clause-run g c = λ commands replies old new run h. kept-run _ (rules_by g.Id.Ord.cmp g.BinId.Ord.cmp (answers g.H.Fn g.C.Fn c.args.heuristic.now c.args.comparison.now)) g.met.BinId.Ord.total commands old replies new run h
+returns-clause-run g c = λ commands replies old new run h. kept-run _ (rules_by g.Id.Ord.cmp g.BinId.Ord.cmp
+    (answers g.H.Fn g.C.Fn c.args.heuristic.now c.args.comparison.now)) g.met.BinId.Ord.total commands old replies new run h

@@ -1,7 +1,4 @@
-use Rattle.std.proofs.Common.{◌≡◌, sym, ◌∙◌, rules, true, ◌++◌, ◌∷◌, []}
-use Rattle.std.specs.BTreeMap.{is_at}
-use Rattle.std.proofs.lemmas.Result.{on_ok_weaker, on_err_weaker}
-use Rattle.std.proofs.lemmas.Map.Steps.{set_value_same}
+use Rattle.rectangle_pack.proofs.Std.{◌≡◌, sym, ◌∙◌, rules, true, ◌++◌, ◌∷◌, [], is_at, on_ok_weaker, on_err_weaker, set_value_same}
 use Rattle.rectangle_pack.specs.Boxes.{has_cells}
 use Rattle.rectangle_pack.specs.Packing.{bins_of}
 use Rattle.rectangle_pack.specs.Session.{GivesBack}
@@ -22,7 +19,8 @@ returns g c =
     let full : has_cells c.args.location ≡ true = search rules in
     record {
       ok = on_ok_weaker {Q = GivesBack g.B.Ord.cmp (bins_of old) c.args.id.now c.args.location (bins_of (c.get_mut.follows.lender w).entries)} _
-          (λ (more : w.bin ≡ record v.bin { sections = v.bin.sections ++ c.args.location ∷ [] }). rw full (v.bin, found, bins_of-written test old _ w _ written more)) (rw section at pushed.ok);
+          (λ (more : w.bin ≡ record v.bin { sections = v.bin.sections ++ c.args.location ∷ [] }). rw full
+          (v.bin, found, bins_of-written test old _ w _ written more)) (rw section at pushed.ok);
       err = on_err_weaker {Q = (has_cells c.args.location ≡ true) × (bins_of (c.get_mut.follows.lender w).entries ≡ bins_of old)} _
           (λ same. (full, bins_of-written test old _ w _ written same ∙ set_value_same test (bins_of old) v.bin found)) pushed.err;
     }

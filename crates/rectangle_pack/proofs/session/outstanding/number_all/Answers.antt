@@ -1,7 +1,4 @@
-use Rattle.std.proofs.Common.{◌∷◌, [], arith, rules, map-id}
-use Rattle.std.proofs.lemmas.List.{length-append}
-use Rattle.std.proofs.lemmas.Iterator.Consumers.{YieldsList-end}
-use Rattle.std.proofs.lemmas.Iterator.Adapters.{YieldsList-from_vec}
+use Rattle.rectangle_pack.proofs.Std.{◌∷◌, [], arith, rules, map-id, length-append, YieldsList-end, YieldsList-from_vec}
 use Rattle.rectangle_pack.proofs.lemmas.session.Numbering.{numbered-more}
 use Rattle.rectangle_pack.proofs.session.outstanding.number_all.Goals as goal
 
@@ -10,7 +7,8 @@ loop-placement-preserved g c =
     let inv = c.loop-placement.invariant in
     let more = length-append c.loop-placement.yielded (c.in-Some.placement ∷ []) in
     record {
-      outstanding = numbered-more c.args.outstanding.now.items c.loop-placement.outstanding.items c.push_reserved.new.self.items c.args.first c.loop-placement.yielded c.in-Some.placement c.loop-placement.number inv.number inv.outstanding c.push_reserved.ensures.items;
+      outstanding = numbered-more c.args.outstanding.now.items c.loop-placement.outstanding.items c.push_reserved.new.self.items c.args.first
+          c.loop-placement.yielded c.in-Some.placement c.loop-placement.number inv.number inv.outstanding c.push_reserved.ensures.items;
       number = omega (arith, inv.number, more);
       len = omega (arith, inv.len, c.push_reserved.ensures.len, more);
       room = omega (arith, inv.room, c.push_reserved.ensures.capacity);

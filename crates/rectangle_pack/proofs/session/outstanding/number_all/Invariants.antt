@@ -1,5 +1,4 @@
-use Rattle.std.proofs.Common.{◌≡◌, ◌+◌, ◌++◌, ◌≤◌, length, vec_len, vec_capacity}
-use Rattle.std.specs.Vec.Iter.{into_iter_len}
+use Rattle.rectangle_pack.proofs.Std.{◌≡◌, ◌+◌, ◌++◌, ◌≤◌, length, vec_len, vec_capacity, into_iter_len}
 use Rattle.rectangle_pack.specs.Session.{numbered}
 use Rattle.rectangle_pack.proofs.session.outstanding.number_all.Given as goal
 

@@ -1,5 +1,4 @@
-use Rattle.std.proofs.Common.{rules}
-use Rattle.std.proofs.lemmas.List.Sorted.{answers_always}
+use Rattle.rectangle_pack.proofs.Std.{rules, answers_always}
 use Rattle.rectangle_pack.specs.declared.session.command.Outstanding.{Outstanding}
 use Rattle.rectangle_pack.proofs.lemmas.session.Numbering.{searched}
 use Rattle.rectangle_pack.proofs.session.outstanding.position_of.Goals as goal

@@ -1,7 +1,5 @@
 use Rattle.rectangle_pack.proofs.lemmas.packing.FitTests.{OnErr-given}
-use Rattle.std.proofs.Common.{refl, sym, ap, ◌∙◌, arith, length, vec_len, ◌≡◌, ◌<◌, [], append-nil}
-use Rattle.std.specs.Prelude.{map, sum}
-use Rattle.std.specs.Map.{values_of}
+use Rattle.rectangle_pack.proofs.Std.{refl, sym, ap, ◌∙◌, arith, length, vec_len, ◌≡◌, ◌<◌, [], append-nil, map, sum, values_of}
 use Rattle.rectangle_pack.proofs.lemmas.packing.Groups.{PackingDone-none, lists-some, lists-more, lists-empty}
 use Rattle.rectangle_pack.specs.Packing.{bins_of, rules_by}
 use Rattle.rectangle_pack.proofs.session.packing.pack_into.Goals as goal
@@ -15,42 +13,35 @@ returns-in-Ok-false-clause-packed g c =
 
 pub returns-then-is_empty-clause-packed : goal.returns-then-is_empty-clause-packed
 returns-then-is_empty-clause-packed g c =
-    let none = sym c.groups.ensures.entries ∙ lists-empty c.groups.result.now.entries c.is_empty.result c.is_empty.ensures c.if-is_empty.true in
+    let none = sym c.groups.ensures.entries ∙ lists-empty _ _ c.is_empty.ensures c.if-is_empty.true in
     let rules = rules_by g.Id.Ord.cmp g.BinId.Ord.cmp (g.R.Policy.may c.args.policy.now) in (
       [],
       (PackingDone-none _ rules c.args.groups.now (bins_of c.args.bins.now.entries) [] none refl).0,
-      sym
-          (c.requires.count ∙ ap (λ gs. sum (map length (values_of gs))) none),
+      sym (c.requires.count ∙ ap (λ gs. sum (map length (values_of gs))) none),
       sym (append-nil c.args.outstanding.now.items),
     )
 
 pub returns-in_err-reserve-clause-stopped : goal.returns-in_err-reserve-clause-stopped
 returns-in_err-reserve-clause-stopped g c =
     let kept : (0 < length c.args.groups.now.groups) × (bins_of c.args.bins.now.entries ≡ bins_of c.args.bins.now.entries)
-    × (c.reserve.new.self.items ≡ c.args.outstanding.now.items) = (
-      lists-more c.groups.result.now.entries c.args.groups.now.groups c.is_empty.result c.is_empty.ensures c.if-is_empty.false c.groups.ensures.entries,
-      refl,
-      c.in_err-reserve.ensures.items,
-    ) in
+    × (c.reserve.new.self.items ≡ c.args.outstanding.now.items) =
+    (lists-more _ _ _ c.is_empty.ensures c.if-is_empty.false c.groups.ensures.entries, refl, c.in_err-reserve.ensures.items) in
     OnErr-given _ kept
 
 pub returns-in_err-reserve-clause-no_groups : goal.returns-in_err-reserve-clause-no_groups
 returns-in_err-reserve-clause-no_groups g c =
-    λ none. absurd (lists-some c.groups.result.now.entries c.is_empty.result c.is_empty.ensures c.if-is_empty.false (c.groups.ensures.entries ∙ none))
+    λ none. absurd (lists-some _ _ c.is_empty.ensures c.if-is_empty.false (c.groups.ensures.entries ∙ none))
 
 pub returns-in_err-order-clause-stopped : goal.returns-in_err-order-clause-stopped
 returns-in_err-order-clause-stopped g c =
     let kept : (0 < length c.args.groups.now.groups) × (bins_of c.args.bins.now.entries ≡ bins_of c.args.bins.now.entries)
-    × (c.reserve.new.self.items ≡ c.args.outstanding.now.items) = (
-      lists-more c.groups.result.now.entries c.args.groups.now.groups c.is_empty.result c.is_empty.ensures c.if-is_empty.false c.groups.ensures.entries,
-      refl,
-      c.in_ok-reserve.ensures.items,
-    ) in
+    × (c.reserve.new.self.items ≡ c.args.outstanding.now.items) =
+    (lists-more _ _ _ c.is_empty.ensures c.if-is_empty.false c.groups.ensures.entries, refl, c.in_ok-reserve.ensures.items) in
     OnErr-given _ kept
 
 pub returns-in_err-order-clause-no_groups : goal.returns-in_err-order-clause-no_groups
 returns-in_err-order-clause-no_groups g c =
-    λ none. absurd (lists-some c.groups.result.now.entries c.is_empty.result c.is_empty.ensures c.if-is_empty.false (c.groups.ensures.entries ∙ none))
+    λ none. absurd (lists-some _ _ c.is_empty.ensures c.if-is_empty.false (c.groups.ensures.entries ∙ none))
 
 pub returns-in-Ok-true-clause-packed : goal.returns-in-Ok-true-clause-packed
 returns-in-Ok-true-clause-packed g c =
@@ -58,14 +49,13 @@ returns-in-Ok-true-clause-packed g c =
     let counted = rw c.in-Ok-true.field-0-test at c.in-Ok-true.ensures.counted in (
       c.pack_noted.new.packing.placements.items,
       rw c.keep-kept.ensures.bins done.0,
-      counted
-          ∙ sym c.requires.count,
+      counted ∙ sym c.requires.count,
       rw (c.in_ok-reserve.ensures.items, c.keep-kept.ensures.placements) at c.number_all.ensures,
     )
 
 pub returns-in-Ok-false-clause-no_groups : goal.returns-in-Ok-false-clause-no_groups
 returns-in-Ok-false-clause-no_groups g c =
-    λ none. absurd (lists-some c.groups.result.now.entries c.is_empty.result c.is_empty.ensures c.if-is_empty.false (c.groups.ensures.entries ∙ none))
+    λ none. absurd (lists-some _ _ c.is_empty.ensures c.if-is_empty.false (c.groups.ensures.entries ∙ none))
 
 pub new-packing-requires-clause-found : goal.new-packing-requires-clause-found
 new-packing-requires-clause-found g c = rw (c.replace-old.ensures.value, c.as_slice.ensures.value) c.in_ok-order.ensures.found
@@ -107,12 +97,10 @@ roll_back-requires-in-Err g c = (
 
 pub returns-clause-stopped : goal.returns-clause-stopped
 returns-clause-stopped g c =
-    let some = lists-more c.groups.result.now.entries c.args.groups.now.groups c.is_empty.result c.is_empty.ensures c.if-is_empty.false c.groups.ensures.entries
-    in
     let back = c.pack_noted.ensures.back _
     (rw (c.new-packing.ensures.bins, c.new-packing.ensures.journal, c.replace-old.ensures.value) (record { undoes = refl })) in
-    (some, c.roll_back-in-Err.ensures _ back, c.in_ok-reserve.ensures.items)
+    (lists-more _ _ _ c.is_empty.ensures c.if-is_empty.false c.groups.ensures.entries, c.roll_back-in-Err.ensures _ back, c.in_ok-reserve.ensures.items)
 
 pub returns-clause-no_groups : goal.returns-clause-no_groups
 returns-clause-no_groups g c =
-    λ none. absurd (lists-some c.groups.result.now.entries c.is_empty.result c.is_empty.ensures c.if-is_empty.false (c.groups.ensures.entries ∙ none))
+    λ none. absurd (lists-some _ _ c.is_empty.ensures c.if-is_empty.false (c.groups.ensures.entries ∙ none))

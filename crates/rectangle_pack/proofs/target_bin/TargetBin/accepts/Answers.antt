@@ -1,4 +1,4 @@
-use Rattle.std.proofs.Common.{ap, rules}
+use Rattle.rectangle_pack.proofs.Std.{ap, rules}
 use Rattle.rectangle_pack.proofs.lemmas.cuts.SoundBins.{accepts_by}
 use Rattle.rectangle_pack.proofs.target_bin.TargetBin.accepts.Goals as goal
 

@@ -1,5 +1,4 @@
-use Rattle.std.proofs.Common.{subst, sym}
-use Rattle.std.specs.Prelude.{All, filter}
+use Rattle.rectangle_pack.proofs.Std.{subst, sym, All, filter}
 use Rattle.rectangle_pack.specs.Boxes.{has_cells}
 use Rattle.rectangle_pack.specs.Bins.{IsAccepted}
 use Rattle.rectangle_pack.proofs.lemmas.cuts.SoundBins.{IsSound-append}

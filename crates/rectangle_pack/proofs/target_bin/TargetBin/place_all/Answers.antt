@@ -1,15 +1,13 @@
-use Rattle.std.specs.Prelude.{Ok, Some, None}
-use Rattle.std.specs.declared.alloc.AllocError.{AllocError}
-use Rattle.rectangle_pack.specs.Closures.{answers}
+use Rattle.rectangle_pack.proofs.Std.{Ok, Some, None, AllocError}
 use Rattle.rectangle_pack.proofs.lemmas.packing.FitTests.{counted-le}
 use Rattle.rectangle_pack.proofs.target_bin.TargetBin.place_all.Goals as goal
 
 pub returns-then-done-clause-most : goal.returns-then-done-clause-most
 returns-then-done-clause-most g c =
-    let may = answers g.H.Fn g.C.Fn c.args.heuristic.now c.args.comparison.now in
-    counted-le may {E = AllocError} _ c.args.members.now c.args.tests.now (Ok (Some c.place_members.new.buffers.locations)) _ c.place_members.new.tests (rw c.if-done.true at c.in_ok-done.ensures.answer)
+    counted-le _ {E = AllocError} _ c.args.members.now c.args.tests.now (Ok (Some c.place_members.new.buffers.locations)) _ c.place_members.new.tests
+    (rw c.if-done.true at c.in_ok-done.ensures.answer)
 
 pub returns-else-done-clause-most : goal.returns-else-done-clause-most
 returns-else-done-clause-most g c =
-    let may = answers g.H.Fn g.C.Fn c.args.heuristic.now c.args.comparison.now in
-    counted-le may {A = g.row.A.Denot} {E = AllocError} _ c.args.members.now c.args.tests.now (Ok None) _ c.place_members.new.tests (rw c.if-done.false at c.in_ok-done.ensures.answer)
+    counted-le _ {A = g.row.A.Denot} {E = AllocError} _ c.args.members.now c.args.tests.now (Ok None) _ c.place_members.new.tests
+    (rw c.if-done.false at c.in_ok-done.ensures.answer)

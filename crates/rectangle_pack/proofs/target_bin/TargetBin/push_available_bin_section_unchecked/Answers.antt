@@ -1,4 +1,4 @@
-use Rattle.std.proofs.Common.{subst, sym}
+use Rattle.rectangle_pack.proofs.Std.{subst, sym}
 use Rattle.rectangle_pack.specs.Bins.{IsAccepted}
 use Rattle.rectangle_pack.proofs.lemmas.cuts.SoundBins.{IsSound-push}
 use Rattle.rectangle_pack.proofs.target_bin.TargetBin.push_available_bin_section_unchecked.Goals as goal

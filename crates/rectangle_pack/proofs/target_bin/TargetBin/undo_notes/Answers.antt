@@ -1,4 +1,4 @@
-use Rattle.std.proofs.Common.{subst, sym}
+use Rattle.rectangle_pack.proofs.Std.{subst, sym}
 use Rattle.rectangle_pack.specs.Bins.{IsSound}
 use Rattle.rectangle_pack.proofs.target_bin.TargetBin.undo_notes.Goals as goal
 

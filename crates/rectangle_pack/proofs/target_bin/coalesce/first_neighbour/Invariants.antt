@@ -1,4 +1,4 @@
-use Rattle.std.proofs.Common.{ℕ, ◌<◌}
+use Rattle.rectangle_pack.proofs.Std.{ℕ, ◌<◌}
 use Rattle.rectangle_pack.specs.Joining.{IsNeighbour}
 use Rattle.rectangle_pack.proofs.target_bin.coalesce.first_neighbour.Given as goal
 

@@ -1,4 +1,4 @@
-use Rattle.std.proofs.Common.{List, length, suc, ◌-◌, ◌≡◌, ◌∙◌, arith, subst}
+use Rattle.rectangle_pack.proofs.Std.{List, length, suc, ◌-◌, ◌≡◌, ◌∙◌, arith, subst}
 use Rattle.rectangle_pack.specs.Boxes.{Cuboid}
 use Rattle.rectangle_pack.specs.Joining.{IsJoined, IsSweptBelow}
 use Rattle.rectangle_pack.proofs.target_bin.coalesce.join_all.Goals as goal

@@ -1,4 +1,4 @@
-use Rattle.std.proofs.Common.{All, List}
+use Rattle.rectangle_pack.proofs.Std.{All, List}
 use Rattle.rectangle_pack.specs.Boxes.{Cuboid, FitsU32}
 use Rattle.rectangle_pack.specs.Joining.{IsSwept, IsSweptBelow}
 use Rattle.rectangle_pack.proofs.target_bin.coalesce.join_all.Given as goal

@@ -1,4 +1,4 @@
-use Rattle.std.proofs.Common.{rules, arith, ◌-◌}
+use Rattle.rectangle_pack.proofs.Std.{rules, arith, ◌-◌}
 use Rattle.rectangle_pack.specs.Joining.{PastEnd, Alone}
 use Rattle.rectangle_pack.proofs.lemmas.joining.Joins.{one_join, joined_index-at}
 use Rattle.rectangle_pack.proofs.target_bin.coalesce.join_at.Goals as goal
@@ -9,18 +9,20 @@ returns-then-idx-len-clause-joined g c = PastEnd (omega arith)
 pub loop-j-preserved-then-j-idx : goal.loop-j-preserved-then-j-idx
 loop-j-preserved-then-j-idx g c =
     let now = c.loop-j in
-    let r = one_join now.sections.items c.remove.new.self.items now.idx c.args.range.start now.end c.in-Some.j (c.min-end.result - 1) (now.idx - 1) c.index.result.now c.index-in-Some.result.now c.join.result
-    now.invariant.fit now.invariant.inside (rw c.as_slice.ensures.value at c.in-Some.ensures.some)
-    (search rules) (search rules) c.join.ensures.joined c.join.ensures.fits (search rules) (search rules) (omega (arith, joined_index-at now.idx c.in-Some.j)) in
-    record { fit = r.0; inside = r.1; rest = λ new left. now.invariant.rest new (r.2 new left) }
+    let (fit, inside, rest) = one_join now.sections.items c.remove.new.self.items now.idx c.args.range.start now.end c.in-Some.j (c.min-end.result - 1)
+    (now.idx - 1) c.index.result.now c.index-in-Some.result.now c.join.result now.invariant.fit now.invariant.inside
+    (rw c.as_slice.ensures.value at c.in-Some.ensures.some) (search rules) (search rules) c.join.ensures.joined c.join.ensures.fits
+    (search rules) (search rules) (omega (arith, joined_index-at now.idx c.in-Some.j)) in
+    record { fit = fit; inside = inside; rest = λ new left. now.invariant.rest new (rest new left) }
 
 pub loop-j-preserved : goal.loop-j-preserved
 loop-j-preserved g c =
     let now = c.loop-j in
-    let r = one_join now.sections.items c.remove.new.self.items now.idx c.args.range.start now.end c.in-Some.j (c.min-end.result - 1) now.idx c.index.result.now c.index-in-Some.result.now c.join.result
-    now.invariant.fit now.invariant.inside (rw c.as_slice.ensures.value at c.in-Some.ensures.some)
-    (search rules) (search rules) c.join.ensures.joined c.join.ensures.fits (search rules) (search rules) (omega (arith, joined_index-at now.idx c.in-Some.j)) in
-    record { fit = r.0; inside = r.1; rest = λ new left. now.invariant.rest new (r.2 new left) }
+    let (fit, inside, rest) = one_join now.sections.items c.remove.new.self.items now.idx c.args.range.start now.end c.in-Some.j (c.min-end.result - 1)
+    now.idx c.index.result.now c.index-in-Some.result.now c.join.result now.invariant.fit now.invariant.inside
+    (rw c.as_slice.ensures.value at c.in-Some.ensures.some) (search rules) (search rules) c.join.ensures.joined c.join.ensures.fits
+    (search rules) (search rules) (omega (arith, joined_index-at now.idx c.in-Some.j)) in
+    record { fit = fit; inside = inside; rest = λ new left. now.invariant.rest new (rest new left) }
 
 pub returns-clause-joined : goal.returns-clause-joined
 returns-clause-joined g c =

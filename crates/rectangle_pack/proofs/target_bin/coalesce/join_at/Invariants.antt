@@ -1,4 +1,4 @@
-use Rattle.std.proofs.Common.{◌<◌, All, List, length}
+use Rattle.rectangle_pack.proofs.Std.{◌<◌, All, List, length}
 use Rattle.rectangle_pack.specs.Boxes.{Cuboid, FitsU32}
 use Rattle.rectangle_pack.specs.Joining.{IsJoined}
 use Rattle.rectangle_pack.proofs.target_bin.coalesce.join_at.Given as goal
@@ -8,7 +8,8 @@ abbrev pub invariant-loop-j : goal.invariant-loop-j
 invariant-loop-j g l = record {
   fit : All FitsU32 l.sections.items;
   inside : l.idx < length l.sections.items;
-  rest : (new : List Cuboid) → IsJoined l.idx l.range.start l.end l.sections.items new → IsJoined l.fn.idx l.fn.range.start l.fn.range.end l.fn.sections.items new;
+  rest : (new : List Cuboid) → IsJoined l.idx l.range.start l.end l.sections.items new
+      → IsJoined l.fn.idx l.fn.range.start l.fn.range.end l.fn.sections.items new;
 }
 
 abbrev pub decreases-loop-j : goal.decreases-loop-j

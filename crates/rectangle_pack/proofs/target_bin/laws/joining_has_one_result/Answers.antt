@@ -1,4 +1,4 @@
-use Rattle.std.proofs.Common.{length}
+use Rattle.rectangle_pack.proofs.Std.{length}
 use Rattle.rectangle_pack.proofs.lemmas.joining.Sweeps.{IsJoined-one, IsSwept-one}
 use Rattle.rectangle_pack.proofs.target_bin.laws.joining_has_one_result.Goals as goal
 

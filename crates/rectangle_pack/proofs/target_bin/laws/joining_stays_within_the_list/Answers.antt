@@ -1,4 +1,4 @@
-use Rattle.std.proofs.Common.{length, arith}
+use Rattle.rectangle_pack.proofs.Std.{length, arith}
 use Rattle.rectangle_pack.proofs.lemmas.joining.Sweeps.{IsJoined-past_end, IsJoined-empty, IsJoined-within}
 use Rattle.rectangle_pack.proofs.target_bin.laws.joining_stays_within_the_list.Goals as goal
 

@@ -1,4 +1,4 @@
-use Rattle.std.proofs.Common.{inl, inr}
+use Rattle.rectangle_pack.proofs.Std.{inl, inr}
 use Rattle.rectangle_pack.proofs.lemmas.packing.FitTests.{done-most, stuck-most}
 use Rattle.rectangle_pack.proofs.target_bin.laws.trial_tests_are_bounded.Goals as goal
 

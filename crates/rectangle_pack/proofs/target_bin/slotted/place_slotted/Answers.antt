@@ -1,6 +1,7 @@
 use Rattle.rectangle_pack.specs.private.Checkout.{CanWriteBack}
 use Rattle.rectangle_pack.proofs.target_bin.slotted.place_slotted.Goals as goal
-use Rattle.rectangle_pack.proofs.target_bin.slotted.place_slotted.Goals.{then-is_none+else-is_stuck_at_once+in_ok-in_slots+in-Some-1, then-is_none+else-is_stuck_at_once+in_ok-in_slots+in-None-1, else-is_none}
+use Rattle.rectangle_pack.proofs.target_bin.slotted.place_slotted.Goals.{then-is_none+else-is_stuck_at_once+in_ok-in_slots+in-Some-1}
+use Rattle.rectangle_pack.proofs.target_bin.slotted.place_slotted.Goals.{then-is_none+else-is_stuck_at_once+in_ok-in_slots+in-None-1, else-is_none}
 
 pub place_in-requires-clause-can_write_back : goal.place_in-requires-clause-can_write_back
 place_in-requires-clause-can_write_back g c =

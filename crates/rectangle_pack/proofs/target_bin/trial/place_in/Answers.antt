@@ -1,5 +1,4 @@
-use Rattle.std.proofs.Common.{rules, ◌≡◌, List, [], ◌∷◌, sym, subst}
-use Rattle.std.specs.Prelude.{filter, map}
+use Rattle.rectangle_pack.proofs.Std.{rules, ◌≡◌, List, [], ◌∷◌, sym, subst, filter, map}
 use Rattle.rectangle_pack.specs.Boxes.{Cuboid, has_cells}
 use Rattle.rectangle_pack.specs.Steps.{AreLeft}
 use Rattle.rectangle_pack.specs.private.FallingRates.{by_falling_rate}
@@ -14,8 +13,10 @@ returns-clause-pieces g c =
     let above = c.index-place-1.result in
     let behind = c.index-place-2.result in
     let allowed = c.place.ensures.pieces in
-    let three = three_of cut right above behind (length-chosen c.args.section.now c.args.member.now cut allowed) c.index-place-0.is c.index-place-1.is c.index-place-2.is in
+    let three = three_of cut right above behind (length-chosen c.args.section.now c.args.member.now cut allowed) c.index-place-0.is
+    c.index-place-1.is c.index-place-2.is in
     let rate = (g.R.Policy.may c.args.policy.now).rate in
     let left = AreLeft-three rate cut right above behind c.rate.result c.rate-2.result c.rate-3.result three (search rules) (search rules) (search rules) in
-    let same : c.by_falling_rate-pieces.result ≡ map (λ p. p.1) (by_falling_rate ((c.rate.result, right) ∷ (c.rate-2.result, above) ∷ (c.rate-3.result, behind) ∷ [])) = search rules in
+    let same : c.by_falling_rate-pieces.result ≡ map (λ p. p.1)
+    (by_falling_rate ((c.rate.result, right) ∷ (c.rate-2.result, above) ∷ (c.rate-3.result, behind) ∷ [])) = search rules in
     (cut, allowed, subst (λ (bs : List Cuboid). AreLeft rate cut (filter has_cells bs)) (sym same) left)

@@ -1,5 +1,4 @@
-use Rattle.std.proofs.Common.{◌≡◌, ◌≤◌, ◌<◌, ◌+◌, ℕ, take, length, vec_len, vec_capacity}
-use Rattle.std.specs.Prelude.{All}
+use Rattle.rectangle_pack.proofs.Std.{◌≡◌, ◌≤◌, ◌<◌, ◌+◌, ℕ, take, length, vec_len, vec_capacity, All}
 use Rattle.rectangle_pack.specs.Boxes.{FitsU32}
 use Rattle.rectangle_pack.specs.Numbers.{saturated}
 use Rattle.rectangle_pack.specs.Steps.{IsDone}
@@ -7,7 +6,8 @@ use Rattle.rectangle_pack.proofs.target_bin.trial.run_trial.Given as goal
 
 abbrev pub invariant-loop-i : goal.invariant-loop-i
 invariant-loop-i g l = record {
-  placed : (count : ℕ) × IsDone (g.R.Policy.may l.policy) (g.L.FreeList.sections l.fn.list) (take l.i l.members) l.buffers.locations.items (g.L.FreeList.sections l.list) count × (l.tests ≡ saturated (l.fn.tests + count));
+  placed : (count : ℕ) × IsDone (g.R.Policy.may l.policy) (g.L.FreeList.sections l.fn.list) (take l.i l.members) l.buffers.locations.items
+      (g.L.FreeList.sections l.list) count × (l.tests ≡ saturated (l.fn.tests + count));
   fits : All FitsU32 (g.L.FreeList.sections l.list);
   room_for : 0 < l.i → length l.members ≤ g.L.FreeList.room_for l.list + l.i;
   room : g.L.FreeList.room l.fn.list ≤ g.L.FreeList.room l.list;

@@ -1,4 +1,4 @@
-use Rattle.std.proofs.Common.{◌≤◌, List, vec_len}
+use Rattle.rectangle_pack.proofs.Std.{◌≤◌, List, vec_len}
 use Rattle.rectangle_pack.specs.Boxes.{Cuboid}
 use Rattle.rectangle_pack.proofs.target_bin.trial.undo.Given as goal
 

@@ -1,5 +1,5 @@
 -- The pointer is null.
-use Rattle.std.proofs.Common.{List, [], ◌∷◌, ◌++◌, refl, sym, subst, lit<}
+use Rattle.rectangle_pack_c.proofs.Std.{List, [], ◌∷◌, ◌++◌, refl, sym, subst, lit<, None, Goes-blank, handle_tells, and_tt, proved_at}
 use mir.Val.{Val, vint, has_ty}
 use mir.Syntax.{w64}
 use base.Logic.{SProp, ent, id⊢}
@@ -17,10 +17,6 @@ use denote.RawPtr.{null_ptr}
 use denote.Param.{layout}
 use denote.Steps.{nothing}
 use denote.Triple.Walked.{Stays, stay_dropped, walk_of, says, ends_at}
-use Rattle.std.specs.Prelude.{None}
-use Rattle.std.proofs.alloc.Calls.{Goes-blank, handle_tells}
-use Rattle.std.proofs.ResultValues.{and_tt}
-use Rattle.std.proofs.raw_atomic.Walks.{proved_at}
 use Rattle.rectangle_pack_c.proofs.HandleSteps.{two, Heap, heap_al, none_in}
 use Rattle.rectangle_pack_c.specs.contracts.handle.RpSession.none.{ended, clauses}
 use Rattle.rectangle_pack_c.specs.contracts.handle.RpSession.none.Key.{name as #self}
@@ -38,7 +34,8 @@ none_spec 𝓤 𝓛 𝓜 𝓡 wired =
     split ! $ move ! (1 ∷ []) $ fsplit ! $ handle_tells heap_al ! a z.0.4.0 (λ h ws fits.
     suffices ! (Run (h ∷ [])) (subst (λ (us : List Val). ent 𝓤 (Run (h ∷ [])) (Run us)) (sym (λ i. ws i ++ [])) (id⊢ 𝓤 (Run (h ∷ [])))) $
     enter ! 𝓣.C 𝓣.Λ fn (h ∷ []) Post $ alloc_all ! (λ l. pass_all ! refl (fits, tt) $
-    sets ! (agg ! (and_then ! (lit ! tt) (and_then ! (get ! refl) (no_more !)))) refl (and_tt (has_ty (layout Heap) h) fits.0, (record { fits = lit< tt }, (fits.1, tt))) $
+    sets ! (agg ! (and_then ! (lit ! tt) (and_then ! (get ! refl) (no_more !)))) refl
+    (and_tt (has_ty (layout Heap) h) fits.0, (record { fits = lit< tt }, (fits.1, tt))) $
     none_in ! h a $
     returns ! (look_at ! 0 refl) $ free_all ! refl $ keep ! (0 ∷ 1 ∷ []) $
     suffices ! _ (ends_at 𝓛 ended stays c z (two (vint w64 0) h) (record { at = null_ptr; alloc = a; state = None }) (tt, tt) (tt, tt)) $ says ! refl $

@@ -1,5 +1,5 @@
 -- The pointer is seen as that of bytes.
-use Rattle.std.proofs.Common.{List, [], ◌∷◌, ◌++◌, refl, sym, subst}
+use Rattle.rectangle_pack_c.proofs.Std.{List, [], ◌∷◌, ◌++◌, refl, sym, subst, Some, Goes-blank, proved_at}
 use mir.Val.{Val, vptr}
 use base.Logic.{SProp, ent, id⊢}
 use base.Fml.{ftrue}
@@ -15,11 +15,8 @@ use denote.Signature.{types_at, plain}
 use denote.RawPtr.{block_ptr}
 use denote.Steps.{nothing}
 use denote.Triple.Walked.{Stays, stay_dropped, walk_of, says, ends_at}
-use Rattle.std.specs.Prelude.{Some}
-use Rattle.std.proofs.alloc.Calls.{Goes-blank}
 use Rattle.std.specs.contracts.impls.GlobalAllocator.TheImpl as heap
 use Rattle.std.proofs.alloc.Global.TheLaws as global_laws
-use Rattle.std.proofs.raw_atomic.Walks.{proved_at}
 use Rattle.rectangle_pack_c.specs.Handle.{session_row}
 use Rattle.rectangle_pack_c.proofs.HandleSteps.{two, Unboxed, unboxed_fits, unboxed_out, Heap, held_in}
 use Rattle.rectangle_pack_c.specs.contracts.handle.RpSession.shut.{ended, clauses}

@@ -1,5 +1,7 @@
 -- The box is taken apart.
-use Rattle.std.proofs.Common.{◌≡◌, List, [], ◌∷◌, ◌++◌, refl, sym, ap, ◌∙◌, subst}
+use Rattle.rectangle_pack_c.proofs.Std.{◌≡◌, List, [], ◌∷◌, ◌++◌, refl, sym, ap, ◌∙◌, subst, Goes-blank, handle_tells, box_owns, box_out, box_in, proved_at}
+use Rattle.rectangle_pack_c.proofs.Std.{leaves}
+use Rattle.std.proofs.boxed.Box.into_raw_with_allocator.Met.{met}
 use mir.Syntax.{a_type, dcons, dnil}
 use mir.Raw.{raw as bare}
 use mir.Val.{Val, vptr, vstruct, of_list}
@@ -8,7 +10,8 @@ use base.Logic.{SProp, ent, emp, never, id⊢, fst∗}
 use base.Fml.{ftrue, fsep, flft}
 use prog.Wp.{WpFn}
 use types.Logic.{sem}
-use types.Kit.{‵, raw, ◌⊛◌, some, later, ◌$◌, ◌∵◌, !, qed, by, move, keep, drop, split, split3, join, fsplit, fjoin, fpick, pick, suffices, use0, use1, await, rewrite, feq_l}
+use types.Kit.{‵, raw, ◌⊛◌, some, later, ◌$◌, ◌∵◌, !, qed, by, move, keep, drop, split, split3, join, fsplit, fjoin, fpick, pick, suffices, use0, use1, await}
+use types.Kit.{rewrite, feq_l}
 use types.Run.{stop, fld, of_opd, no_more, and_then, returns, enter}
 use types.ByLocal.{alloc_all, pass_all, free_all, look_at, get, get_in, sets, lands_as}
 use types.Part.{agg, sub, whole}
@@ -27,14 +30,9 @@ use denote.Triple.Spec.{triple_of}
 use denote.Triple.Call.{calls_at}
 use denote.Triple.Table.{framed}
 use denote.Triple.Walked.{Stays, stay_dropped, walk_of}
-use Rattle.std.proofs.alloc.Calls.{Goes-blank, handle_tells}
-use Rattle.std.specs.Box.Ownership.{box_owns}
 use Rattle.std.proofs.BoxSteps.Form as box
-use Rattle.std.proofs.BoxSteps.Steps.{box_out, box_in}
-use Rattle.std.proofs.raw_atomic.Walks.{proved_at, leaves}
 use Rattle.rectangle_pack_c.proofs.HandleSteps.{two, unboxed_fits, unboxed_in}
 use Rattle.std.specs.contracts.boxed.Box.into_raw_with_allocator as callee
-use Rattle.std.proofs.boxed.Box.into_raw_with_allocator.Met.{met}
 use Rattle.rectangle_pack_c.specs.contracts.handle.Unboxed.of.{ended, clauses}
 use Rattle.rectangle_pack_c.specs.contracts.handle.Unboxed.of.Key.{name as #self}
 use Rattle.rectangle_pack_c.proofs.handle.Unboxed.of.Statement.{statement}
@@ -61,7 +59,8 @@ of_spec 𝓤 𝓛 𝓜 𝓡 wired T A L LA g d dx dd allocator glue glued =
     fjoin ! $ move ! (1 ∷ 0 ∷ []) $ join ! $ join ! $ use1 𝓛 (raw (k.pre y)) (id⊢ 𝓤 _) $
     suffices ! (Run (w ∷ [])) (subst (λ (us : List Val). ent 𝓤 (Run (w ∷ [])) (Run us)) (sym (λ i. ws i ++ [])) (id⊢ 𝓤 (Run (w ∷ [])))) $
     enter ! 𝓣.C 𝓣.Λ fn (w ∷ []) Post $ alloc_all ! (λ l. pass_all ! refl (typed, tt) $ sets ! (of_opd ! (get ! refl)) refl typed $
-    calls_at ! (framed 𝓤 H 𝓜 𝓣) k (met 𝓤 𝓛 𝓜 𝓡 (code.calls-std_alloc::boxed::Box::into_raw_with_allocator 𝓡.env wired) T A L LA g d dd dx allocator glued glue) y
+    calls_at ! (framed 𝓤 H 𝓜 𝓣) k
+    (met 𝓤 𝓛 𝓜 𝓡 (code.calls-std_alloc::boxed::Box::into_raw_with_allocator 𝓡.env wired) T A L LA g d dd dx allocator glued glue) y
     (and_then ! (get ! refl) (no_more !)) (λ v.
     use1 𝓛 (later (some (λ (r : Ptr × A.Denot). (tokens ⊛ ‵ (Pair.own_val r (v ∷ []))) ⊛ some (λ (_ : (Unit {0} × (Unit {0} × Unit {0})) × Unit {0}).
     ‵ (fsep (fsep ftrue (fsep ftrue ftrue)) ftrue) ⊛ (raw (fact 𝓤 (r.1 ≡ a)) ⊛ ‵ (box_owns (g.dealloc_token a) R r.0 owner.value)))))) (id⊢ 𝓤 _) $
@@ -78,4 +77,5 @@ of_spec 𝓤 𝓛 𝓜 𝓡 wired T A L LA g d dx dd allocator glue glued =
     move ! (3 ∷ 0 ∷ []) $ unboxed_in R Z LZ g ! b' o' h' a owner.value $
     use0 𝓛 (raw (fact 𝓤 (owner.value ≡ owner.value))) (fact_i 𝓤 (owner.value ≡ owner.value) (emp 𝓤) refl) $ nothing ! $ nothing ! $ fjoin ! $
     returns ! (look_at ! 0 refl) $ free_all ! refl $ keep ! (4 ∷ 0 ∷ 2 ∷ 1 ∷ []) $
-    by ! (leaves 𝓛 En stays c z (two (vptr b' o') h') (record { at = block_ptr b' o'; alloc = a; value = owner.value }) ((tt, (tt, tt)), tt) (tt, tt))))))))))))))
+    by ! (leaves 𝓛 En stays c z (two (vptr b' o') h') (record { at = block_ptr b' o'; alloc = a; value = owner.value })
+    ((tt, (tt, tt)), tt) (tt, tt))))))))))))))

@@ -1,29 +1,20 @@
-use Rattle.std.proofs.Common.{◌≡◌, sym, ◌∙◌}
+use Rattle.rectangle_pack.proofs.Std.{sym, ◌∙◌}
 use Rattle.rectangle_pack.specs.Groups.{lists_of}
 use Rattle.rectangle_pack.proofs.lemmas.multimap.Sized.{filled-all}
-use Rattle.rectangle_pack.proofs.lemmas.multimap.Mutual.{excluded-again, excluded-added, mutual-added}
+use Rattle.rectangle_pack.proofs.lemmas.multimap.Mutual.{excluded-again, excluded-added}
 use Rattle.rectangle_pack.proofs.grouped_rects_to_place.exclusions.Exclusions.add.Goals as goal
 
 pub returns-then-has-clause-ok : goal.returns-then-has-clause-ok
 returns-then-has-clause-ok g c = excluded-again g.met.K.Ord.total c.args.self.now c.args.a c.args.b (sym c.has.ensures ∙ c.if-has.true)
 
-pub invariant_of-self : goal.invariant_of-self
-invariant_of-self g c = (
-  mutual-added g.met.K.Ord.total (lists_of c.self.inside.partners.entries) (lists_of c.list_both.new.map.entries) c.args.a c.args.b c.in-Ok.ensures.added c.self.invariant.0,
-  c.in-Ok.ensures.some,
-)
-
 pub invariant_of-self-in-Err : goal.invariant_of-self-in-Err
 invariant_of-self-in-Err g c =
-    let e : lists_of c.forget_empty.new.map.entries ≡ lists_of c.self.inside.partners.entries =
-    c.forget_empty.ensures ∙ c.in-Err.ensures.kept ∙ filled-all (lists_of c.self.inside.partners.entries) c.self.invariant.1 in
-    rw e c.self.invariant
+    rw (c.forget_empty.ensures ∙ c.in-Err.ensures.kept ∙ filled-all (lists_of c.self.inside.partners.entries) c.self.invariant.1) c.self.invariant
 
 pub returns-in-Ok-clause-ok : goal.returns-in-Ok-clause-ok
-returns-in-Ok-clause-ok g c = rw (← c.self.view_is) (excluded-added g.met.K.Ord.total (lists_of c.self.inside.partners.entries) (lists_of c.list_both.new.map.entries) c.args.a c.args.b c.in-Ok.ensures.added)
+returns-in-Ok-clause-ok g c = rw (← c.self.view_is)
+    (excluded-added g.met.K.Ord.total (lists_of c.self.inside.partners.entries) (lists_of c.list_both.new.map.entries) c.args.a c.args.b c.in-Ok.ensures.added)
 
 pub returns-in-Err-clause-err : goal.returns-in-Err-clause-err
 returns-in-Err-clause-err g c =
-    let e : lists_of c.forget_empty.new.map.entries ≡ lists_of c.self.inside.partners.entries =
-    c.forget_empty.ensures ∙ c.in-Err.ensures.kept ∙ filled-all (lists_of c.self.inside.partners.entries) c.self.invariant.1 in
-    rw e c.self.view_is
+    rw (c.forget_empty.ensures ∙ c.in-Err.ensures.kept ∙ filled-all (lists_of c.self.inside.partners.entries) c.self.invariant.1) c.self.view_is

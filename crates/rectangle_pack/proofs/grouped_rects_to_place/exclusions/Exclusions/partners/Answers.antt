@@ -1,8 +1,4 @@
-use Rattle.std.proofs.Common.{◌≡◌, sym, ◌∙◌, ap, [], refl}
-use Rattle.std.specs.Prelude.{Some, None, unwrap_or}
-use Rattle.std.specs.Option.{option_map}
-use Rattle.std.specs.Map.{lookup}
-use Rattle.std.specs.BTreeMap.{is_at}
+use Rattle.rectangle_pack.proofs.Std.{◌≡◌, sym, ◌∙◌, ap, [], refl, Some, None, unwrap_or, option_map, lookup, is_at}
 use Rattle.rectangle_pack.proofs.lemmas.multimap.Vectors.{lookup-lists}
 use Rattle.rectangle_pack.proofs.lemmas.packing.Orders.{list-found}
 use Rattle.rectangle_pack.proofs.grouped_rects_to_place.exclusions.Exclusions.partners.Goals as goal

@@ -1,9 +1,5 @@
-use Rattle.std.proofs.Common.{◌≡◌, ◌<◌, ◌≤◌, ◌++◌, ◌∷◌, [], length, get_or, sym, ap, ◌∙◌, arith, length-append}
-use Rattle.std.specs.Prelude.{Some, IsSome}
-use Rattle.std.specs.Option.{is_some, option_copied_mut}
-use Rattle.std.specs.Map.{lookup}
-use Rattle.std.specs.BTreeMap.{is_at}
-use Rattle.std.proofs.lemmas.Map.{keys-set_value}
+use Rattle.rectangle_pack.proofs.Std.{◌≡◌, ◌<◌, ◌≤◌, ◌++◌, ◌∷◌, [], length, get_or, sym, ap, ◌∙◌, arith, length-append, Some, IsSome, is_some}
+use Rattle.rectangle_pack.proofs.Std.{option_copied_mut, lookup, is_at, keys-set_value}
 use Rattle.rectangle_pack.proofs.lemmas.util.Maps.{is_some-option_map}
 use Rattle.rectangle_pack.proofs.lemmas.packing.Checkout.{stays, CanCheckIn-written, in_use-out}
 use Rattle.rectangle_pack.proofs.pack.checkout.PackingBins.check_out.Goals as goal

@@ -1,10 +1,5 @@
-use Rattle.std.proofs.Common.{◌≡◌, ◌<◌, ◌∷◌, [], length, get_or, refl, sym, ap, ◌∙◌, arith}
-use Rattle.std.specs.Prelude.{IsSome}
-use Rattle.std.specs.Option.{is_some}
-use Rattle.std.specs.Map.{lookup}
-use Rattle.std.specs.BTreeMap.{is_at}
-use Rattle.std.proofs.lemmas.List.{length-append}
-use Rattle.std.proofs.lemmas.Map.{keys-set_value}
+use Rattle.rectangle_pack.proofs.Std.{◌≡◌, ◌<◌, ◌∷◌, [], length, get_or, refl, sym, ap, ◌∙◌, arith, IsSome, is_some, lookup, is_at, length-append}
+use Rattle.rectangle_pack.proofs.Std.{keys-set_value}
 use Rattle.rectangle_pack.proofs.lemmas.util.Maps.{is_some-option_map}
 use Rattle.rectangle_pack.proofs.lemmas.packing.Checkout.{CanCheckIn-written, checked_in-none, left_of-in_use, checked_in-last}
 use Rattle.rectangle_pack.proofs.pack.checkout.PackingBins.close.Goals as goal

@@ -1,4 +1,4 @@
-use Rattle.std.proofs.Common.{◌≡◌, vec_len}
+use Rattle.rectangle_pack.proofs.Std.{◌≡◌, vec_len}
 use Rattle.rectangle_pack.specs.private.Checkout.{checked_in, CanCheckIn}
 use Rattle.rectangle_pack.proofs.pack.checkout.PackingBins.close.Given as goal
 

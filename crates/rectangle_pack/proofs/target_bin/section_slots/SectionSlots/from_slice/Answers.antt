@@ -1,5 +1,4 @@
-use Rattle.std.proofs.Common.{arith, ap, ◌∙◌}
-use Rattle.std.proofs.lemmas.List.{take_all}
+use Rattle.rectangle_pack.proofs.Std.{arith, ap, ◌∙◌, take_all}
 use Rattle.rectangle_pack.specs.private.Slots.{sections_of}
 use Rattle.rectangle_pack.proofs.lemmas.trial.SlotSteps.{sections_of-full}
 use Rattle.rectangle_pack.proofs.target_bin.section_slots.SectionSlots.from_slice.Goals as goal

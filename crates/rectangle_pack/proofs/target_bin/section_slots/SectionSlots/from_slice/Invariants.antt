@@ -1,5 +1,4 @@
-use Rattle.std.proofs.Common.{◌≡◌, ◌≤◌, ◌+◌, length, take}
-use Rattle.std.specs.Prelude.{map, Some}
+use Rattle.rectangle_pack.proofs.Std.{◌≡◌, ◌≤◌, ◌+◌, length, take, map, Some}
 use Rattle.rectangle_pack.proofs.target_bin.section_slots.SectionSlots.from_slice.Given as goal
 
 abbrev pub invariant-loop-section : goal.invariant-loop-section

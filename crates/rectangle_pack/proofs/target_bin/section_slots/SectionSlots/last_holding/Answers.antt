@@ -1,7 +1,6 @@
-use Rattle.std.proofs.Common.{arith, rules, ap, sym, ◌∙◌}
-use Rattle.std.specs.Prelude.{Some, None}
+use Rattle.rectangle_pack.proofs.Std.{arith, rules, ap, sym, ◌∙◌}
 use Rattle.rectangle_pack.specs.private.Slots.{Slots}
-use Rattle.rectangle_pack.proofs.lemmas.trial.Slots.{NoneHolds-most, NoneHolds-skip, NoneHolds-empty, NoneHolds-section, IsLastHolding-at, drop-slot}
+use Rattle.rectangle_pack.proofs.lemmas.trial.Slots.{NoneHolds-most, NoneHolds-skip, NoneHolds-empty, NoneHolds-section, IsLastHolding-at}
 use Rattle.rectangle_pack.proofs.target_bin.section_slots.SectionSlots.last_holding.Goals as goal
 
 pub overflow_add-tests : goal.overflow_add-tests
@@ -28,30 +27,25 @@ overflow_add-tests-in-Some-index g c =
 
 pub returns-then-holds-clause-found : goal.returns-then-holds-clause-found
 returns-then-holds-clause-found g c =
-    let slots = c.self.inside.slots.items in
-    let last = c.loop-end.end in
-    let read = sym c.in-Some-index.is ∙ c.index.ensures in
-    let here = drop-slot slots last (Some c.in-Some-index.section) c.index.result.now c.loop-end-test.true c.loop-end.invariant.within read in
+    let now = c.loop-end.invariant in
     rw (← ap (λ (v : Slots). v.all) c.self.view_is)
-    (IsLastHolding-at slots last c.in-Some-index.section _ _ c.loop-end.invariant.within here (search rules) c.loop-end.invariant.none)
+    (IsLastHolding-at c.self.inside.slots.items c.loop-end.end c.loop-end-test.true now.within _ _ now.none c.in-Some-index.section _
+    (sym c.in-Some-index.is ∙ c.index.ensures) (search rules))
 
 pub loop-end-preserved-else-holds : goal.loop-end-preserved-else-holds
 loop-end-preserved-else-holds g c =
-    let slots = c.self.inside.slots.items in
-    let last = c.loop-end.end in
-    let read = sym c.in-Some-index.is ∙ c.index.ensures in
-    let here = drop-slot slots last (Some c.in-Some-index.section) c.index.result.now c.loop-end-test.true c.loop-end.invariant.within read in
+    let now = c.loop-end.invariant in
     record {
       within = omega arith;
-      none = NoneHolds-section _ _ c.in-Some-index.section _ _ here (search rules) c.loop-end.invariant.none;
+      none = NoneHolds-section c.self.inside.slots.items c.loop-end.end c.loop-end-test.true now.within _ _ now.none c.in-Some-index.section _
+          (sym c.in-Some-index.is ∙ c.index.ensures) (search rules);
     }
 
 pub loop-end-preserved : goal.loop-end-preserved
 loop-end-preserved g c =
-    let slots = c.self.inside.slots.items in
-    let read = sym c.in_default-index.is ∙ c.index.ensures in
-    let here = drop-slot slots c.loop-end.end None c.index.result.now c.loop-end-test.true c.loop-end.invariant.within read in
+    let now = c.loop-end.invariant in
     record {
       within = omega arith;
-      none = NoneHolds-empty _ _ _ _ here c.loop-end.invariant.none;
+      none = NoneHolds-empty c.self.inside.slots.items c.loop-end.end c.loop-end-test.true now.within _ _ now.none _
+          (sym c.in_default-index.is ∙ c.index.ensures);
     }

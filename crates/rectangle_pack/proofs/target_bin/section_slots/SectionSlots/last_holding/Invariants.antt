@@ -1,4 +1,4 @@
-use Rattle.std.proofs.Common.{◌≤◌, length, drop}
+use Rattle.rectangle_pack.proofs.Std.{◌≤◌, length, drop}
 use Rattle.rectangle_pack.specs.private.Slots.{NoneHolds}
 use Rattle.rectangle_pack.proofs.target_bin.section_slots.SectionSlots.last_holding.Given as goal
 

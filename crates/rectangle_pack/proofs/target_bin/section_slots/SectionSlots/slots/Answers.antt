@@ -1,4 +1,4 @@
-use Rattle.std.proofs.Common.{arith, rules, ◌≡◌, length, ap}
+use Rattle.rectangle_pack.proofs.Std.{arith, rules, ◌≡◌, length, ap}
 use Rattle.rectangle_pack.specs.private.Slots.{Slots}
 use Rattle.rectangle_pack.proofs.lemmas.trial.Slots.{length-sections_of}
 use Rattle.rectangle_pack.proofs.target_bin.section_slots.SectionSlots.slots.Goals as goal

@@ -1,4 +1,4 @@
-use Rattle.std.proofs.Common.{arith, ◌/◌, ◌≤◌, length, ap}
+use Rattle.rectangle_pack.proofs.Std.{arith, ◌/◌, ◌≤◌, length, ap}
 use Rattle.rectangle_pack.specs.private.Slots.{Slots}
 use Rattle.rectangle_pack.proofs.lemmas.trial.Summaries.{SumAll-take}
 use Rattle.rectangle_pack.proofs.target_bin.section_slots.SectionSlots.truncate.Goals as goal

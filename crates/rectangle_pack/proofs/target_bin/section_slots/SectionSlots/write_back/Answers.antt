@@ -1,5 +1,4 @@
-use Rattle.std.proofs.Common.{arith, rules, ◌≡◌, length, vec_len, ap, sym, ◌∙◌, append-nil}
-use Rattle.std.specs.Prelude.{Some, None}
+use Rattle.rectangle_pack.proofs.Std.{arith, rules, ◌≡◌, length, vec_len, ap, sym, ◌∙◌, append-nil, Some, None}
 use Rattle.rectangle_pack.proofs.lemmas.trial.Slots.{sections_of-fewer, sections_of-more}
 use Rattle.rectangle_pack.proofs.target_bin.section_slots.SectionSlots.write_back.Goals as goal
 use Rattle.rectangle_pack.proofs.target_bin.section_slots.SectionSlots.write_back.Goals.{in-Some, in_default}

@@ -1,5 +1,4 @@
-use Rattle.std.proofs.Common.{◌≡◌, take}
-use Rattle.std.specs.Vec.{vec_capacity}
+use Rattle.rectangle_pack.proofs.Std.{◌≡◌, take, vec_capacity}
 use Rattle.rectangle_pack.specs.private.Slots.{sections_of}
 use Rattle.rectangle_pack.proofs.target_bin.section_slots.SectionSlots.write_back.Given as goal
 

@@ -1,4 +1,4 @@
-use Rattle.std.proofs.Common.{arith, ◌≡◌, ◌+◌, ◌-◌, ◌*◌, ◌/◌}
+use Rattle.rectangle_pack.proofs.Std.{arith, ◌≡◌, ◌+◌, ◌-◌, ◌*◌, ◌/◌}
 use Rattle.rectangle_pack.proofs.lemmas.trial.Summaries.{SumAll-out, SumAll-in}
 use Rattle.rectangle_pack.proofs.target_bin.section_slots.summary.sum_block_anew.Goals as goal
 

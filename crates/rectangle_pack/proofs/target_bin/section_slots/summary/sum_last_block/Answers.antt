@@ -1,5 +1,4 @@
-use Rattle.std.proofs.Common.{arith, rules, ◌≡◌, ◌*◌, ap, length, length-append, ◌∷◌, []}
-use Rattle.std.proofs.lemmas.List.{take_rest}
+use Rattle.rectangle_pack.proofs.Std.{arith, rules, ◌≡◌, ◌*◌, ap, length, length-append, ◌∷◌, [], take_rest}
 use Rattle.rectangle_pack.proofs.lemmas.trial.Summaries.{SumAll-same, SumAll-more}
 use Rattle.rectangle_pack.proofs.target_bin.section_slots.summary.sum_last_block.Goals as goal
 

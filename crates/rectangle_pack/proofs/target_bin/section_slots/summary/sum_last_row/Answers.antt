@@ -1,5 +1,4 @@
-use Rattle.std.proofs.Common.{arith, rules, ◌≡◌, ◌*◌, ◌-◌, ◌++◌, ◌∷◌, [], length, drop, length-append, length-drop}
-use Rattle.std.proofs.lemmas.List.{take_all}
+use Rattle.rectangle_pack.proofs.Std.{arith, rules, ◌≡◌, ◌*◌, ◌-◌, ◌++◌, ◌∷◌, [], length, drop, length-append, length-drop, take_all}
 use Rattle.rectangle_pack.proofs.lemmas.trial.Summaries.{SumAll-same, SumAll-more, HaveSlots-stretch, Sums-row}
 use Rattle.rectangle_pack.proofs.target_bin.section_slots.summary.sum_last_row.Goals as goal
 

@@ -1,4 +1,4 @@
-use Rattle.std.proofs.Common.{arith, ◌≡◌, ◌+◌, ◌-◌, ◌*◌, ◌/◌, set}
+use Rattle.rectangle_pack.proofs.Std.{arith, ◌≡◌, ◌+◌, ◌-◌, ◌*◌, ◌/◌, set}
 use Rattle.rectangle_pack.proofs.lemmas.trial.Summaries.{SumAll-out, SumAll-in, HaveSlots-stretch, Sums-row}
 use Rattle.rectangle_pack.proofs.target_bin.section_slots.summary.sum_row_anew.Goals as goal
 

@@ -1,5 +1,4 @@
-use Rattle.std.proofs.Common.{length}
-use Rattle.std.specs.List.{AllWithin}
+use Rattle.rectangle_pack.proofs.Std.{length, AllWithin}
 use Rattle.rectangle_pack.specs.Boxes.{Holds}
 use Rattle.rectangle_pack.proofs.target_bin.trial.plain.newest.Given as goal
 

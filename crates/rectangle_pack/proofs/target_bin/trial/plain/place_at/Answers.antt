@@ -1,4 +1,4 @@
-use Rattle.std.proofs.Common.{rules}
+use Rattle.rectangle_pack.proofs.Std.{rules}
 use Rattle.rectangle_pack.proofs.lemmas.trial.StepsByIndex.{IsStep-at}
 use Rattle.rectangle_pack.proofs.target_bin.trial.plain.place_at.Goals as goal
 

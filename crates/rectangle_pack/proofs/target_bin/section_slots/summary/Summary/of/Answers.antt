@@ -1,5 +1,4 @@
-use Rattle.std.proofs.Common.{arith, take, ap}
-use Rattle.std.proofs.lemmas.List.{take_more, length-take-le}
+use Rattle.rectangle_pack.proofs.Std.{arith, take, ap, take_more, length-take-le}
 use Rattle.rectangle_pack.specs.declared.target_bin.section_slots.summary.Summary.{Summary}
 use Rattle.rectangle_pack.proofs.lemmas.trial.Slots.{length-sections_of}
 use Rattle.rectangle_pack.proofs.lemmas.trial.Summaries.{Sums-more, Sums-empty}

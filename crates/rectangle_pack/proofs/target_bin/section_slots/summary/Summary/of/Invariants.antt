@@ -1,4 +1,4 @@
-use Rattle.std.proofs.Common.{take}
+use Rattle.rectangle_pack.proofs.Std.{take}
 use Rattle.rectangle_pack.specs.private.Summaries.{Sums}
 use Rattle.rectangle_pack.proofs.target_bin.section_slots.summary.Summary.of.Given as goal
 

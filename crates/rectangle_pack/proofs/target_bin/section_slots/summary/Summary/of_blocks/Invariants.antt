@@ -1,5 +1,4 @@
-use Rattle.std.proofs.Common.{◌*◌, List, take}
-use Rattle.std.specs.Prelude.{Option}
+use Rattle.rectangle_pack.proofs.Std.{◌*◌, List, take, Option}
 use Rattle.rectangle_pack.specs.Boxes.{Cuboid}
 use Rattle.rectangle_pack.specs.private.Summaries.{Sums, SumAll}
 use Rattle.rectangle_pack.proofs.target_bin.section_slots.summary.Summary.of_blocks.Given as goal

@@ -1,4 +1,4 @@
-use Rattle.std.proofs.Common.{vec_capacity, refl, arith}
+use Rattle.rectangle_pack.proofs.Std.{vec_capacity, arith}
 use Rattle.rectangle_pack.proofs.lemmas.trial.StepsByIndex.{LeadsBack-popped}
 use Rattle.rectangle_pack.proofs.target_bin.trial.plain.VecBinSectionFreeList.undo.Goals as goal
 
@@ -6,8 +6,8 @@ pub undo_one-requires : goal.undo_one-requires
 undo_one-requires g c =
     let (notes, start, back) = c.requires in
     let room = vec_capacity c.args.self.now in
-    (LeadsBack-popped room room c.args.self.now.items _ notes c.args.note start (omega arith) refl back).0
+    (LeadsBack-popped room room c.args.self.now.items notes c.args.note start (omega arith) back).0
 
 pub returns-clause-back : goal.returns-clause-back
 returns-clause-back g c notes start back =
-    rw c.undo_one.ensures.items (LeadsBack-popped _ (vec_capacity c.undo_one.new.sections) c.args.self.now.items _ notes c.args.note start c.undo_one.ensures.capacity refl back).1
+    rw c.undo_one.ensures.items (LeadsBack-popped _ _ c.args.self.now.items notes c.args.note start c.undo_one.ensures.capacity back).1

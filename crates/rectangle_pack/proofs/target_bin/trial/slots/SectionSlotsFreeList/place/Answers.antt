@@ -1,4 +1,4 @@
-use Rattle.std.proofs.Common.{◌∙◌}
+use Rattle.rectangle_pack.proofs.Std.{◌∙◌}
 use Rattle.rectangle_pack.proofs.lemmas.trial.SlotSteps.{SlotsLeadBack-noted}
 use Rattle.rectangle_pack.proofs.target_bin.trial.slots.SectionSlotsFreeList.place.Goals as goal
 
@@ -7,4 +7,5 @@ returns-clause-step g c tests at = rw (← c.in_ok-reserve.ensures.all) (c.place
 
 pub returns-clause-noted : goal.returns-clause-noted
 returns-clause-noted g c = λ notes start back.
-    SlotsLeadBack-noted notes c.place_at.result.1 c.args.self.now.all c.place_at.new.slots.all start (c.place_at.ensures.before ∙ c.in_ok-reserve.ensures.all) c.place_at.ensures.can_undo back
+    SlotsLeadBack-noted notes c.place_at.result.1 c.args.self.now.all c.place_at.new.slots.all start (c.place_at.ensures.before ∙ c.in_ok-reserve.ensures.all)
+    c.place_at.ensures.can_undo back

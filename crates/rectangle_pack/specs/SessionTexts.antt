@@ -1,0 +1,13 @@
+-- The texts that the errors of a session print.
+use Rattle.std.specs.Prelude.{ℕ, List, codes}
+use Rattle.rectangle_pack.specs.declared.session.command.SessionError.{SessionError}
+use Rattle.rectangle_pack.specs.declared.session.command.SessionError.TheVariants.{DuplicateBin, UnknownBin, UnknownPlacement, NumbersUsedUp, NotEnoughBinSpace, OutOfMemory}
+
+-- why a session refused a call
+abbrev pub session_text : SessionError → List ℕ
+session_text DuplicateBin = codes "The bin is there already."
+session_text UnknownBin = codes "There is no such bin."
+session_text UnknownPlacement = codes "No placement of this number is outstanding."
+session_text NumbersUsedUp = codes "The numbers of placements are used up."
+session_text NotEnoughBinSpace = codes "Not enough space to place all of the rectangles."
+session_text OutOfMemory = codes "Out of memory."
