@@ -1,0 +1,131 @@
+//! A texture atlas. The sprites of a level go onto pages, those of one kind onto one page. Then the
+//! level is unloaded, and the sprites of the next one go where its sprites were.
+#![tactic(auto)]
+
+use rectangle_pack::{
+    GroupedRectsToPlace, RectToInsert, Session, SessionError, contains_smallest_box,
+    volume_heuristic,
+};
+use std::alloc::Global;
+use std::io;
+
+// The side of a page, in pixels, and how many pages there may be.
+const PAGE: u32 = 512;
+
+const MOST_PAGES: u32 = 8;
+
+// The sprites of one kind, which are drawn together and so go onto one page: the name, how many
+// there are, and how wide and high each is.
+type Kind = (&'static str, u32, u32, u32);
+
+const ALWAYS: [Kind; 3] = [
+    ("hero", 24, 48, 64),
+    ("icon", 40, 24, 24),
+    ("glyph", 52, 12, 20),
+];
+
+const FOREST: [Kind; 5] = [
+    ("tree", 7, 96, 128),
+    ("wolf", 16, 64, 40),
+    ("bush", 12, 40, 32),
+    ("bird", 20, 32, 24),
+    ("stone", 18, 32, 32),
+];
+
+const CAVE: [Kind; 4] = [
+    ("troll", 10, 72, 88),
+    ("crystal", 24, 32, 48),
+    ("spider", 16, 48, 36),
+    ("bat", 20, 36, 28),
+];
+
+// The name of a sprite: its kind, and its number among these.
+type Sprite = (&'static str, u32);
+
+type Atlas = Session<Sprite, u32>;
+
+// Packs the kinds, onto new pages where those that are there do not take them.
+fn load(atlas: &mut Atlas, kinds: &[Kind], alloc: Global) -> Result<(), SessionError> {
+    let mut sprites = GroupedRectsToPlace::new(alloc);
+    for (name, count, width, height) in kinds {
+        for number in 0..*count {
+            let group = vec![in alloc; *name]?;
+            sprites.push_rect(
+                (*name, number),
+                Some(group),
+                RectToInsert::new(*width, *height, 1),
+            )?;
+        }
+    }
+    for page in 1..=MOST_PAGES {
+        match atlas.pack(&sprites, &volume_heuristic, &contains_smallest_box) {
+            Err(SessionError::NotEnoughBinSpace) => {}
+            packed => {
+                packed?;
+                return Ok(());
+            }
+        }
+        match atlas.add_bin(page, PAGE, PAGE, 1) {
+            Ok(()) | Err(SessionError::DuplicateBin) => {}
+            Err(error) => return Err(error),
+        }
+    }
+    Err(SessionError::NotEnoughBinSpace)
+}
+
+// Releases the sprites of these kinds, and joins what is free.
+fn unload(atlas: &mut Atlas, kinds: &[Kind], alloc: Global) -> Result<(), SessionError> {
+    let mut numbers = Vec::new(alloc);
+    for placed in atlas.outstanding() {
+        if kinds.iter().any(|kind| kind.0 == placed.id.0) {
+            numbers.push(placed.number)?;
+        }
+    }
+    for number in &numbers {
+        atlas.release(*number)?;
+    }
+    for page in 1..=MOST_PAGES {
+        if atlas.bins().contains_key(&page) {
+            atlas.coalesce_all(&page)?;
+        }
+    }
+    Ok(())
+}
+
+// Prints how full each page is, and where each sprite is.
+fn print(rt: &HostRuntime, title: &str, atlas: &Atlas) -> io::Result<()> {
+    println!(rt; "== {title}")?;
+    for page in atlas.bins().keys() {
+        if let Some(stats) = atlas.stats(page) {
+            let part = stats.placed_volume.saturating_mul(100);
+            let filled = part.checked_div(stats.bin_volume).unwrap_or(0);
+            println!(rt; "bin page-{page} {PAGE} {PAGE} 1 ({filled}% filled)")?;
+        }
+    }
+    println!(rt; "")?;
+    println!(rt; "  no. sprite      page      x    y z    w    h d kind")?;
+    for placed in atlas.outstanding() {
+        let (number, (kind, nth), page, at) = (
+            placed.number,
+            placed.id,
+            placed.bin,
+            &placed.location,
+        );
+        let name = format!(in rt.alloc(); "{kind}-{nth}")?;
+        let (x, y, w, h) = (at.x(), at.y(), at.width(), at.height());
+        println!(rt; "{number:>5} {name:<11} page-{page} {x:>4} {y:>4} 0 {w:>4} {h:>4} 1 {kind}")?;
+    }
+    println!(rt; "")
+}
+
+fn main(rt: HostRuntime) -> io::Result<()> {
+    let alloc = rt.alloc();
+    let mut atlas = Session::new(alloc, 0);
+    load(&mut atlas, &ALWAYS, alloc)?;
+    load(&mut atlas, &FOREST, alloc)?;
+    print(&rt, "the forest", &atlas)?;
+    unload(&mut atlas, &FOREST, alloc)?;
+    load(&mut atlas, &CAVE, alloc)?;
+    print(&rt, "the cave", &atlas)?;
+    Ok(())
+}
