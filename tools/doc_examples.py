@@ -1,13 +1,14 @@
 #!/usr/bin/env python3
 """doc_examples.py: each example in a doc comment of the library, and each block of code of the README, has to stand word
-for word among the tests, those in other languages among the tests of the bindings, in one piece; white space at the start
-and the end of a line aside, and the slashes of a doc comment in Rust. Names those that do not, and fails."""
+for word among the tests or in an example program, those in other languages among the tests of the bindings, in one piece;
+white space at the start and the end of a line aside, and the slashes of a doc comment in Rust. Names those that do not, and
+fails."""
 import pathlib
 import sys
 
 TOP = pathlib.Path(__file__).resolve().parent.parent
-# The examples in Rattle, of the README and of the library, in the crates of its tests.
-TESTS = sorted(TOP.glob("crates/tests_of_*/src/examples.rt"))
+# The examples in Rattle: those of the library in the crates of its tests, that of the README in a program of its own.
+TESTS = [*sorted(TOP.glob("crates/tests_of_*/src/examples.rt")), TOP / "crates/first/src/main.rt"]
 # The README's blocks in other languages, by the fence that opens them, and the tests that have them.
 BINDINGS = {
     "```c": [TOP / "bindings/c/harness.c"],
