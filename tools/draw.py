@@ -5,6 +5,7 @@
     tools/draw.py COMMANDS ANSWERS    the same, with the answers that packrun gave
     tools/draw.py --table FILE        draws the output of an example program; - is standard input
     tools/draw.py --cut               draws one cut, with origin and axes
+    tools/draw.py --all               draws the pictures of docs/pictures anew
     tools/draw.py --check             whether each picture in docs/pictures is what this tool draws
 
 A table has packrun's lines as its rows: `bin NAME W H D`, `N ID NAME X Y Z W H D` with the group of the
@@ -63,7 +64,15 @@ def numbers(words):
 
 def read_answers(commands, answers):
     """The drawing that packrun's commands and answers leave."""
-    drawing, groups, lines = Drawing(), {}, iter(answers)
+    try:
+        return [obeyed(commands, iter(answers))]
+    except StopIteration:
+        sys.exit(f"draw.py: the run ended before its commands did: {answers[-1] if answers else 'no answer'}")
+
+
+def obeyed(commands, lines):
+    """The drawing that the commands leave, each with the next lines as its answer."""
+    drawing, groups = Drawing(), {}
     for command in commands:
         verb, *words = command.split() or [""]
         if verb == "bin" and next(lines) == "ok":
@@ -93,7 +102,7 @@ def read_answers(commands, answers):
             drawing.free.pop(words[0], None)
         elif verb in ("exclude", "stats"):
             next(lines)
-    return [drawing]
+    return drawing
 
 
 def is_numbers(words, count):
@@ -114,7 +123,9 @@ def read_table(lines):
         elif len(words) in (9, 10) and words[0].isdigit() and is_numbers(words[3:9], 6):
             group = words[9] if len(words) == 10 else None
             found = Placement(words[1], Box(*numbers(words[3:9])), group)
-            drawings[-1].placed[words[2]][int(words[0])] = found
+            if words[2] not in drawings[-1].bins:
+                sys.exit(f"draw.py: placement {words[0]} names bin {words[2]}, which has no row")
+            drawings[-1].place(int(words[0]), words[2], found)
     return [drawing for drawing in drawings if drawing.bins]
 
 
@@ -203,11 +214,12 @@ def volume(box):
 
 
 def fill_of(size, placements):
+    """How many percent of the bin are filled, whole ones."""
     whole = size[0] * size[1] * size[2]
-    return 100 * sum(volume(p.box) for p in placements) / whole if whole else 0
+    return 100 * sum(volume(p.box) for p in placements) // whole if whole else 0
 
 
-def layers_of(placements, free):
+def layers_of(placements):
     """Where layers of a bin with depth begin and end: at each front and back of a box."""
     ends = sorted({z for p in placements for z in (p.box.z, p.box.z + p.box.d)} | {0})
     return [(a, b) for a, b in zip(ends, ends[1:]) if any(p.box.z < b and a < p.box.z + p.box.d for p in placements)]
@@ -267,8 +279,8 @@ def draw_solid(svg, x, y, scale, size, placements, colours):
 def draw_flat_bins(svg, y, drawing, colours, limit):
     """The bins of depth 1, side by side; the next row begins where one is full."""
     x, row, right = MARGIN, 0, 0
-    widest = max(size[0] for size in drawing.bins.values())
-    tallest = max(size[1] for size in drawing.bins.values())
+    widest = max(1, *(size[0] for size in drawing.bins.values()))
+    tallest = max(1, *(size[1] for size in drawing.bins.values()))
     scale = min(BIN_WIDTH / widest, 1.4 * BIN_WIDTH / tallest)
     for name, size in drawing.bins.items():
         w, h = size[0] * scale, size[1] * scale
@@ -283,22 +295,22 @@ def draw_flat_bins(svg, y, drawing, colours, limit):
 
 
 def caption(svg, x, y, name, size, placements):
-    sides = "x".join(str(side) for side in size if size[2] != 1 or side is not size[2])
-    svg.text(x, y, f"{name}  {sides}  {fill_of(size, placements):.0f}% filled", 12)
+    sides = "x".join(str(side) for side in (size if size[2] != 1 else size[:2]))
+    svg.text(x, y, f"{name}  {sides}  {fill_of(size, placements)}% filled", 12)
 
 
 def draw_deep_bin(svg, y, drawing, name, colours):
     """A bin with depth: seen from the front, the right and above, and beside it layer by layer."""
     size, placements = drawing.bins[name], list(drawing.placed[name].values())
     w, h, d = size
-    scale = min(250 / ((w + d) * COS), 250 / ((w + d) * SIN + h))
+    scale = min(250 / max(1, (w + d) * COS), 250 / max(1, (w + d) * SIN + h))
     caption(svg, MARGIN, y + 12, name, size, placements)
     top = y + 24
     draw_solid(svg, MARGIN, top + d * SIN * scale + h * scale, scale, size, placements, colours)
     right, bottom = MARGIN + (w + d) * COS * scale, top + (w + d) * SIN * scale + h * scale
-    face = min(150 / w, 150 / h)
+    face = min(150 / max(1, w), 150 / max(1, h))
     x = right + GAP
-    for at, (front, back) in enumerate(layers_of(placements, [])):
+    for at, (front, back) in enumerate(layers_of(placements)):
         column, row = at % 4, at // 4
         left, up = x + column * (w * face + 18), top + 14 + row * (h * face + 30)
         inside = [p for p in placements if p.box.z < back and front < p.box.z + p.box.d]
@@ -324,6 +336,8 @@ def draw_key(svg, y, colours, alone, limit):
 
 def picture(drawings):
     """The SVG of these drawings, one below another, with one key."""
+    if not any(drawing.bins for drawing in drawings):
+        sys.exit("draw.py: there is no bin to draw")
     svg, y, right = Svg(), MARGIN, 0
     colours = groups_of(drawings)
     limit = MARGIN + 3 * (BIN_WIDTH + GAP)
@@ -425,7 +439,7 @@ def main():
         if len(given.files) == 2:
             answers = given.files[1].read_text()
         else:
-            answers = subprocess.run([ROOT / "packrun"], input=commands, capture_output=True, text=True, check=True).stdout
+            answers = subprocess.run([ROOT / "packrun"], input=commands, stdout=subprocess.PIPE, text=True).stdout
         sys.stdout.write(picture(read_answers(commands.splitlines(), answers.splitlines())))
     else:
         parser.error("give the commands, and the answers if there are some, or --table and a program's output")
