@@ -50,8 +50,9 @@ PARTS = [
     (
         "Refusals",
         "space is refused only where, for some group, each bin is excluded or its trial gets stuck there",
-        "The field `packs` again: of a packing that is refused for space, `NoBinTakes`. A bin is excluded for a "
-        "group where a group that is excluded with it went there earlier in the same packing.",
+        "The field `packs` again: of a packing that is refused for space, `NoBinTakes`. The bins are meant as the groups "
+        "before that one left them in this packing, which is then undone. A bin is excluded for a group where a group that "
+        "is excluded with it went there earlier in the same packing. Its trial: some trial that the closures may make there.",
         ["NoBinTakes"],
     ),
 ]
@@ -61,7 +62,8 @@ BESIDE = {
     "coalescing command, is said by the field `done` (`IsTransition`, below). No two bins have equal ids (`Session::bins`, clause "
     "`ascend`), nor two groups or two ids of a collection (`groups` and `rects` of `GroupedRectsToPlace`, the same clause), so a "
     "look-up reaches every one.",
-    "Refusals": "That memory is said to be refused only where it was is not promised: tests show it.",
+    "Refusals": "That memory is said to be refused only where it was is not promised: tests show it. So the sentence does not "
+    "promise that any packing is done.",
 }
 REST = (
     "What ties them to the call",
