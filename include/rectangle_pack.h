@@ -98,8 +98,9 @@ uint32_t rectangle_pack_boxes(const rp_bin *bins, size_t bin_count, const rp_box
    - A call that answers anything but RP_DONE leaves the session as it was and writes nothing. RP_BAD_LENGTHS,
      RP_DUPLICATE_BIN, RP_UNKNOWN_BIN and RP_UNKNOWN_PLACEMENT come exactly under their conditions, and RP_NUMBERS_USED_UP
      too, unless RP_OUT_OF_MEMORY is answered in its place.
-   - Placements are numbered 0, 1, 2 and so on, in the order of packing. No number is given twice in a session.
-   Only tested: that RP_OUT_OF_MEMORY comes only where malloc or realloc answered NULL, and that free gives all memory back.
+   - No number is given twice in a session.
+   Only tested: that placements are numbered 0, 1, 2 and so on, in the order of packing; that RP_OUT_OF_MEMORY comes only
+   where malloc or realloc answered NULL; and that free gives all memory back.
 
    The caller sees to it that:
    - rectangle_pack_session_new gets a handle that is as RP_NO_SESSION makes it, and every other call one that
@@ -155,8 +156,7 @@ uint32_t rectangle_pack_session_add_bin(rp_session *session, uint32_t bin, uint3
 
    Proved:
    - RP_DONE: each box is outstanding at its placement, in its size, under a number of its own that was not given before;
-     the boxes of one group above 0 are in one bin; and what was outstanding before stays where it is. Only tested: that the
-     numbers are the next box_count ones.
+     the boxes of one group above 0 are in one bin; and what was outstanding before stays where it is.
    - RP_OUT_OF_MEMORY does not come where there are no boxes.
    - Groups go in falling order of the sum of their volumes; at equal sums boxes of group 0 go by their indices, and before
      the other groups, which go by their numbers. Each goes into the first bin, by rising volume and at equal volumes by id,

@@ -51,7 +51,7 @@ pub use Rattle.std.proofs.lemmas.List.Sums.{sum_by-cons, count_by-le-length, len
 pub use Rattle.std.proofs.lemmas.List.Sums.{get_or-le-sum_by, sum-map, sum_by-le, sum_by-remove, sum_by-set, sum_by-take-le}
 pub use Rattle.std.proofs.lemmas.Map.{keys-set_value, lookup-none, lookup-set_value}
 pub use Rattle.std.proofs.lemmas.Map.Entries.{none_below_head, btree_map_get_place, filter_from_retain_pairs}
-pub use Rattle.std.proofs.lemmas.Map.Iter.{iter_end}
+pub use Rattle.std.proofs.lemmas.Map.Iter.{iter_end, rest_so_far, rest_more}
 pub use Rattle.std.proofs.lemmas.Map.Keys.{IsDistinct-from_sorted, IsDistinct-head, IsDistinct-tail, IsDistinct-IsPermutation, sorted_tail, IsDistinct-cons}
 pub use Rattle.std.proofs.lemmas.Map.Keys.{Less-from_sorted}
 pub use Rattle.std.proofs.lemmas.Map.Made.{keys_of-map_values, lookup-map_values, is_some-lookup}

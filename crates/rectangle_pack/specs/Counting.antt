@@ -16,8 +16,8 @@ abbrev pub AreAllApart : List Cuboid → Type 0
 AreAllApart boxes = AllPairs AreApart boxes
 
 -- a cell is in the whole exactly where it is in some of the boxes
-abbrev pub Cover : List Cuboid → Cuboid → Type 0
-Cover boxes whole = (c : Cell) → IsCellOf c whole ↔ Any (IsCellOf c) boxes
+abbrev pub MakeUp : List Cuboid → Cuboid → Type 0
+MakeUp boxes whole = (c : Cell) → IsCellOf c whole ↔ Any (IsCellOf c) boxes
 
 -- the volumes of the boxes, added up
 abbrev pub total_volume : List Cuboid → ℕ

@@ -29,14 +29,14 @@ module _ {Id B G : Type 0} (group_cmp : Group G Id → Group G Id → Ordering) 
     pub counted : length (placements_of ok) ≡ entries_of all
     pub last : AreLastPlacements rules.id_cmp rules.bin_cmp (placements_of ok) (locations_of ok)
 
-  -- done; or refused, where the groups before stay placed; or out of memory, where the bins are as they were
+  -- done; or refused, where the groups before stay placed; or want of memory, where the bins are as they were
   abbrev pub IsPackAnswer : {A : Type 0} → Collection Id G → List (B × Bin)
       → Result (RectanglePackOk Id B A) RectanglePackError → List (B × Bin) → Type 0
   IsPackAnswer all old (Ok ok) new = IsPacked all old ok new
   IsPackAnswer all old (Err NotEnoughBinSpace) new = PackingRefused group_cmp rules all old new
   IsPackAnswer all old (Err OutOfMemory) new = new ≡ old
 
-  -- the same, and exactly the fit tests of the packing are counted; out of memory, no more than the bound
+  -- the same, and exactly the fit tests of the packing are counted; for want of memory, no more than the bound
   abbrev pub IsCountedAnswer : {A : Type 0} → Collection Id G → List (B × Bin) → ℕ
       → Result (RectanglePackOk Id B A) RectanglePackError → List (B × Bin) → ℕ → Type 0
   IsCountedAnswer all old before (Ok ok) new after =

@@ -14,7 +14,7 @@ use Rattle.rectangle_pack.specs.Session.{State, boxes_of}
 
 module _ {Id B : Type 0} (bin_cmp : B → B → Ordering) (state : State Id B) (id : B) where
   -- a plan, which is that of the bin's boxes; or none, where no tree of cuts has them as its leaves; or the bin is not there; or
-  -- memory is refused, and the bin is there
+  -- the answer is want of memory, and the bin is there
   abbrev pub IsPlanAnswer : {A : Type 0} → Result (Option (Vec CutStep A)) SessionError → Type 0
   IsPlanAnswer (Ok (Some plan)) =
       (bin : Bin) × (lookup (is_at (bin_cmp id)) state.bins ≡ Some bin)

@@ -82,7 +82,8 @@ pub record IsKept {Id B G : Type 0} (group_cmp : Group G Id → Group G Id → O
   pub next : new.next ≡ old.next + entries_of all
 
 module _ {Id B : Type 0} (bin_cmp : B → B → Ordering) where
-  -- a bin is added: the id is new, and under a key that equals it stands a new bin; or the id is there; or memory is refused
+  -- a bin is added: the id is new, and under a key that equals it stands a new bin; or the id is there; or
+  -- the reply is want of memory
   abbrev pub AddsBin : B → Size → State Id B → Reply → State Id B → Type 0
   AddsBin id size old Done new =
       (lookup (is_at (bin_cmp id)) old.bins ≡ None)
@@ -91,8 +92,8 @@ module _ {Id B : Type 0} (bin_cmp : B → B → Ordering) where
   AddsBin id size old (Refused OutOfMemory) new = (lookup (is_at (bin_cmp id)) old.bins ≡ None) × (new ≡ old)
   AddsBin id size old _ new = ⊥
 
-  -- a placement is released: it is no longer outstanding, and its box is given back; or the number is not outstanding; or memory is
-  -- refused for a box with cells
+  -- a placement is released: it is no longer outstanding, and its box is given back; or the number is not outstanding; or the
+  -- reply is want of memory, and the box has cells
   abbrev pub Releases : ℕ → State Id B → Reply → State Id B → Type 0
   Releases number old Done new =
       (at : IsOutstanding old.outstanding number) × GivesBack bin_cmp old.bins at.found.bin at.found.location new.bins
@@ -113,8 +114,8 @@ module _ {Id B : Type 0} (bin_cmp : B → B → Ordering) where
 
 module _ {Id B G : Type 0} (group_cmp : Group G Id → Group G Id → Ordering) (rules : Rules Id B) where
   -- a collection is packed. Where the next number and the entries add up to 2^64 or more it is refused, so that the greatest
-  -- number is never given. Else the packing is done and kept; or it is refused for space; or, if there is a group, memory is
-  -- refused. What is refused changes nothing
+  -- number is never given. Else the packing is done and kept; or it is refused for space; or, if there is a group, the
+  -- reply is want of memory. What is refused changes nothing
   abbrev pub Packs : Collection Id G → State Id B → Reply → State Id B → Type 0
   Packs all old (Packed numbers) new = (old.next + entries_of all < 2 ^ 64) × IsKept group_cmp rules all old numbers new
   Packs all old (Refused NumbersUsedUp) new = (2 ^ 64 ≤ old.next + entries_of all) × (new ≡ old)

@@ -7,7 +7,7 @@ use Rattle.rectangle_pack.specs.Closures.{Answers}
 use Rattle.rectangle_pack.specs.Numbers.{saturated}
 use Rattle.rectangle_pack.specs.Steps.{IsDone, IsStuck}
 
--- done: the bin has the trial's list; stuck, or out of memory: the bin is as it was. The tests are counted, except out of memory
+-- done: the bin has the trial's list; stuck, or want of memory: the bin is as it was. The tests are counted but for want of memory
 abbrev pub IsTrialAnswer : {A E : Type 0} → Answers → Bin → List Size → ℕ → Result (Option (Vec Cuboid A)) E → Bin → ℕ → Type 0
 IsTrialAnswer may old members counted (Ok (Some locations)) new counter =
     (tests : ℕ) × IsDone may old.sections members locations.items new.sections tests

@@ -7,7 +7,7 @@ ghost use Rattle.rectangle_pack.specs.Cuts.{placed, cuts, sizes_of};
 ghost use Rattle.rectangle_pack.specs.Choice.{IsAllowedCut};
 ghost use Rattle.rectangle_pack.specs.SmallestBox.{Rates, AreRates, smallest, second_smallest, IsSmallestOrder};
 ghost use Rattle.rectangle_pack.specs.Fitting.{IsFitAnswer};
-ghost use Rattle.rectangle_pack.specs.Counting.{Tiles, AreAllApart, Cover, HaveVolumeOf};
+ghost use Rattle.rectangle_pack.specs.Counting.{Tiles, AreAllApart, MakeUp, HaveVolumeOf};
 ghost use Rattle.rectangle_pack.specs.Pushes.{IsFirstSharing};
 
 mod cutting;
@@ -194,7 +194,7 @@ impl BinSection {
         ensures tiles { IfOk result (λ p. Tiles (p.0 ∷ p.1) self.now) }
         ensures apart { IfOk result (λ p. AreAllApart (p.0 ∷ p.1)) }
         ensures volumes { IfOk result (λ p. HaveVolumeOf (p.0 ∷ p.1) self.now) }
-        ensures covers { IfOk result (λ p. Cover (p.0 ∷ p.1) self.now) }
+        ensures make_up { IfOk result (λ p. MakeUp (p.0 ∷ p.1) self.now) }
         ensures pieces { IfOk result
             (λ p.
             IsAllowedCut (MayCompare C.Fn container_comparison_fn.now heuristic_fn.now) self.now

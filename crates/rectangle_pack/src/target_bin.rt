@@ -262,9 +262,9 @@ impl<A: Allocator + Copy> TargetBin<A> {
     ///
     /// While some other index of the range has such a section, the one at the least such index is
     /// taken out, the list closes up, the section at `idx` becomes the box that the two make up,
-    /// and the range ends one earlier. An index past the end of the list and an empty range leave
-    /// the list; a range that goes past the end is cut to the list. The free cells stay the same.
-    /// Takes no memory.
+    /// and the range ends one earlier. Where the index is past the end of the list, or the range is
+    /// empty, the list stays as it is; a range that goes past the end is cut to the list. The free
+    /// cells stay the same. Takes no memory.
     pub fn coalesce_available_sections(&mut self, idx: usize, range: Range<usize>)
         ensures joined { IsJoined idx range.start range.end self.old.bin.sections
             self.new.bin.sections }

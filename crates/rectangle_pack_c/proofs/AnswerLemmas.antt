@@ -24,7 +24,7 @@ use Rattle.rectangle_pack_c.specs.declared.RpBin.{RpBin}
 use Rattle.rectangle_pack_c.specs.declared.RpBox.{RpBox}
 use Rattle.rectangle_pack_c.specs.declared.RpPlacement.{RpPlacement}
 use Rattle.rectangle_pack_c.specs.Arguments.{new_bins, group_order, IsCollected}
-use Rattle.rectangle_pack_c.specs.Answers.{ArePlaced, IsPacked, IsRefused, IsVolume, corner_of, by_volume}
+use Rattle.rectangle_pack_c.specs.Answers.{ArePlaced, IsDonePacking, IsRefusedPacking, IsVolume, corner_of, by_volume}
 use Rattle.rectangle_pack_c.specs.private.Written.{AreWritten, as_placement}
 use Rattle.rectangle_pack_c.proofs.OrderLemmas.{group_order_total}
 use Rattle.rectangle_pack_c.proofs.WholeLemmas.{zip_itself, zip_right}
@@ -86,7 +86,7 @@ module _ (R : Group ℕ ℕ → Group ℕ ℕ → Ordering) (may : Answers) (bin
       answer_placed = packed_placed boxes all collected after.placements found.homes found.moved found.are placements stood bins may new.bins after.done
 
       -- and the placements are those of the packing
-      pub answer_packed : length placements ≡ length boxes → Includes may by_volume → IsPacked bins boxes placements
+      pub answer_packed : length placements ≡ length boxes → Includes may by_volume → IsDonePacking bins boxes placements
       answer_packed as_many includes = record {
         all = all;
         collected = collected;
@@ -100,7 +100,7 @@ module _ (R : Group ℕ ℕ → Group ℕ ℕ → Ordering) (may : Answers) (bin
 
   -- a packing that is refused
   pub answer_refused : (left : List (ℕ × Bin)) → PackingRefused R (rules_by nat_cmp nat_cmp may) all old.bins left → R ≡ group_order → old ≡ start bins
-      → Includes may by_volume → IsRefused bins boxes
+      → Includes may by_volume → IsRefusedPacking bins boxes
   answer_refused left refused same was includes =
       let here : PackingRefused group_order (rules_by nat_cmp nat_cmp may) all (new_bins bins) left =
       subst (λ (o : State ℕ ℕ). PackingRefused group_order (rules_by nat_cmp nat_cmp may) all o.bins left) was
@@ -165,7 +165,8 @@ same_lists (x ∷ xs) (y ∷ ys) long each =
     ap (λ z. z ∷ xs) first ∙ ap (λ zs. y ∷ zs) (same_lists xs ys (omega arith) (λ i d low. each (suc i) d (omega arith)))
 
 -- so equal bins and boxes have equal placements
-pub one_packing : (bins : List RpBin) (boxes : List RpBox) (one other : List RpPlacement) → IsPacked bins boxes one → IsPacked bins boxes other → other ≡ one
+pub one_packing : (bins : List RpBin) (boxes : List RpBox) (one other : List RpPlacement)
+    → IsDonePacking bins boxes one → IsDonePacking bins boxes other → other ≡ one
 one_packing bins boxes one other h g = same_lists other one (g.as_many ∙ sym h.as_many) same
   where
     alike : ArePlacementsAlike nat_cmp nat_cmp h.made g.made
@@ -189,6 +190,7 @@ one_packing bins boxes one other h g = same_lists other one (g.as_many ∙ sym h
         get_or_from_slice_get other i (corner_of q.bin q.location) d there ∙ corners ∙ sym (get_or_from_slice_get one i (corner_of p.bin p.location) d here)
 
 -- and what is packed by one call is refused by none
-pub never_both : (bins : List RpBin) (boxes : List RpBox) (placements : List RpPlacement) → IsPacked bins boxes placements → IsRefused bins boxes → ⊥
+pub never_both : (bins : List RpBin) (boxes : List RpBox) (placements : List RpPlacement)
+    → IsDonePacking bins boxes placements → IsRefusedPacking bins boxes → ⊥
 never_both bins boxes placements h r =
     (one_answer bins boxes h.all r.all h.collected r.collected).not_done_and_refused h.made h.left r.refused.left h.done r.refused.refused

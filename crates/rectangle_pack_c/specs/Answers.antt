@@ -45,7 +45,7 @@ abbrev pub by_volume : Answers
 by_volume = record { rate = IsVolume; prefer = λ first second r. IsSmallestOrder IsVolume first second r }
 
 -- the placements are those of a done packing of the boxes into the bins, each at the index of its box
-pub record IsPacked (bins : List RpBin) (boxes : List RpBox) (placements : List RpPlacement) : Type 0 where
+pub record IsDonePacking (bins : List RpBin) (boxes : List RpBox) (placements : List RpPlacement) : Type 0 where
   pub all : Collection ℕ ℕ
   pub collected : IsCollected boxes all
   pub made : List (Placement ℕ ℕ)
@@ -55,7 +55,7 @@ pub record IsPacked (bins : List RpBin) (boxes : List RpBox) (placements : List 
   pub as_many : length placements ≡ length boxes
 
 -- for some group of the boxes no bin takes all of its boxes, as the groups before it left the bins
-pub record IsRefused (bins : List RpBin) (boxes : List RpBox) : Type 0 where
+pub record IsRefusedPacking (bins : List RpBin) (boxes : List RpBox) : Type 0 where
   pub all : Collection ℕ ℕ
   pub collected : IsCollected boxes all
   pub refused : NoBinTakes group_order (rules_by nat_cmp nat_cmp by_volume) all (new_bins bins)

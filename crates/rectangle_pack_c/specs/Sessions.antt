@@ -23,26 +23,26 @@ use Rattle.rectangle_pack_c.specs.Arguments.{group_order, IsCollected}
 use Rattle.rectangle_pack_c.specs.Answers.{box_at, by_volume}
 
 -- a reply as a status: the one of the header under its name
-abbrev pub status_of : Reply → ℕ
-status_of Done = 0
-status_of (Packed numbers) = 0
-status_of (Refused NotEnoughBinSpace) = 1
-status_of (Refused OutOfMemory) = 2
-status_of (Refused DuplicateBin) = 4
-status_of (Refused UnknownBin) = 5
-status_of (Refused UnknownPlacement) = 6
-status_of (Refused NumbersUsedUp) = 7
+abbrev pub reply_status : Reply → ℕ
+reply_status Done = 0
+reply_status (Packed numbers) = 0
+reply_status (Refused NotEnoughBinSpace) = 1
+reply_status (Refused OutOfMemory) = 2
+reply_status (Refused DuplicateBin) = 4
+reply_status (Refused UnknownBin) = 5
+reply_status (Refused UnknownPlacement) = 6
+reply_status (Refused NumbersUsedUp) = 7
 
 -- the handle has a session before the call and after it; the status is that of a reply with which the session may have been
 -- changed so; and of the session holds what always holds of one: each cell of each bin is in exactly one free section or
 -- outstanding placement
-pub record Answers (MayChange : State ℕ ℕ → Reply → State ℕ ℕ → Type 0) (old : Option (State ℕ ℕ)) (status : ℕ) (new : Option (State ℕ ℕ)) : Type 0 where
+pub record ChangesAs (MayChange : State ℕ ℕ → Reply → State ℕ ℕ → Type 0) (old : Option (State ℕ ℕ)) (status : ℕ) (new : Option (State ℕ ℕ)) : Type 0 where
   pub before : State ℕ ℕ
   pub after : State ℕ ℕ
   pub reply : Reply
   pub had : old ≡ Some before
   pub has : new ≡ Some after
-  pub status_is : status ≡ status_of reply
+  pub status_is : status ≡ reply_status reply
   pub changed : MayChange before reply after
   pub always : IsSession nat_cmp after
 
@@ -51,8 +51,8 @@ pub record AreAsMany (boxes : List RpBox) (placements : List RpOutstanding) : Ty
   pub same : length placements ≡ length boxes
   pub few_boxes : length boxes < 2 ^ 32
 
--- the boxes are packed as a session packs their collection, by volume; or, if there is a box, memory is refused, and the
--- session is as it was
+-- the boxes are packed as a session packs their collection, by volume; or, if there is a box, the reply is want of memory,
+-- and the session is as it was
 abbrev pub PacksBoxes : List RpBox → State ℕ ℕ → Reply → State ℕ ℕ → Type 0
 PacksBoxes boxes old (Refused OutOfMemory) new = (0 < length boxes) × (new ≡ old)
 PacksBoxes boxes old reply new =

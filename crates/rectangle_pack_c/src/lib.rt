@@ -3,7 +3,7 @@
 
 ghost use Rattle.std.specs.Prelude.{ℕ, ◌≡◌, ◌<◌, ◌≤◌, ◌↔◌, ◌≢◌, [], IfOk, IsOk, List, length, All, AllPairs};
 ghost use Rattle.rectangle_pack_c.specs.Arguments.{HaveLengths, IsCollected, new_bins};
-ghost use Rattle.rectangle_pack_c.specs.Answers.{ArePlaced, IsPacked, IsRefused};
+ghost use Rattle.rectangle_pack_c.specs.Answers.{ArePlaced, IsDonePacking, IsRefusedPacking};
 ghost use Rattle.rectangle_pack_c.specs.private.Written.{AreWritten};
 ghost use Rattle.rectangle_pack.specs.declared.session.command.Outstanding.{Outstanding};
 
@@ -95,13 +95,13 @@ pub extern "C" fn rectangle_pack_boxes(
         HaveLengths bins.now boxes.now placements.old }
     ensures unchanged { result ≢ RP_DONE → placements.new ≡ placements.old }
     ensures done { result ≡ RP_DONE → ArePlaced bins.now boxes.now placements.new }
-    ensures packed { result ≡ RP_DONE → IsPacked bins.now boxes.now placements.new }
+    ensures packed { result ≡ RP_DONE → IsDonePacking bins.now boxes.now placements.new }
     ensures one_packing { result ≡ RP_DONE → (others : List RpPlacement) →
-        IsPacked bins.now boxes.now others → others ≡ placements.new }
-    ensures never_refused { result ≡ RP_DONE → IsRefused bins.now boxes.now → ⊥ }
-    ensures refused { result ≡ RP_NOT_ENOUGH_SPACE → IsRefused bins.now boxes.now }
+        IsDonePacking bins.now boxes.now others → others ≡ placements.new }
+    ensures never_refused { result ≡ RP_DONE → IsRefusedPacking bins.now boxes.now → ⊥ }
+    ensures refused { result ≡ RP_NOT_ENOUGH_SPACE → IsRefusedPacking bins.now boxes.now }
     ensures never_packed { result ≡ RP_NOT_ENOUGH_SPACE → (others : List RpPlacement) →
-        IsPacked bins.now boxes.now others → ⊥ }
+        IsDonePacking bins.now boxes.now others → ⊥ }
 {
     if placements.len() != boxes.len() || boxes.len() >= LIMIT || bins.len() >= LIMIT {
         return RP_BAD_LENGTHS;

@@ -8,7 +8,7 @@ ghost use Rattle.rectangle_pack.specs.Boxes.{Size};
 ghost use Rattle.rectangle_pack.specs.Joining.{IsSwept, ShareNoFace};
 ghost use Rattle.rectangle_pack.specs.Session.{State, IsSession, AddsBin, Releases, Coalesces, reply_of, packed_reply};
 ghost use Rattle.rectangle_pack.specs.declared.session.command.Reply.TheVariants.{Refused};
-ghost use Rattle.rectangle_pack_c.specs.Sessions.{Answers, AreAsMany, PacksBoxes, AreOutstanding, ArePackedNow, TellsStats, status_of, volume};
+ghost use Rattle.rectangle_pack_c.specs.Sessions.{ChangesAs, AreAsMany, PacksBoxes, AreOutstanding, ArePackedNow, TellsStats, reply_status, volume};
 
 use super::handle::RpSession;
 use super::{
@@ -99,7 +99,7 @@ pub extern "C" fn rectangle_pack_session_add_bin(
 ) -> u32
     requires made { IsSome session.old.state }
     ensures added { let size : Size = record { width = width; height = height; depth = depth } in
-        Answers (AddsBin nat_cmp bin size) session.old.state result session.new.state }
+        ChangesAs (AddsBin nat_cmp bin size) session.old.state result session.new.state }
 {
     let mut held = session.take(alloc);
     let answer = held.add_bin(bin, width, height, depth);
@@ -117,7 +117,7 @@ pub extern "C" fn rectangle_pack_session_release(
     number: u64,
 ) -> u32
     requires made { IsSome session.old.state }
-    ensures released { Answers (Releases nat_cmp number)
+    ensures released { ChangesAs (Releases nat_cmp number)
         session.old.state result session.new.state }
 {
     let mut held = session.take(alloc);
@@ -135,7 +135,7 @@ pub extern "C" fn rectangle_pack_session_coalesce_all(
     bin: u32,
 ) -> u32
     requires made { IsSome session.old.state }
-    ensures swept { Answers (Coalesces nat_cmp IsSwept bin)
+    ensures swept { ChangesAs (Coalesces nat_cmp IsSwept bin)
         session.old.state result session.new.state }
     ensures no_face { IfSome session.new.state (λ (state : State ℕ ℕ).
         IfSome (lookup (is_at (nat_cmp bin)) state.bins) (λ (b : Bin). ShareNoFace b.sections)) }
@@ -162,7 +162,7 @@ pub extern "C" fn rectangle_pack_session_pack(
     ensures lengths { (result ≢ RP_BAD_LENGTHS) ↔ AreAsMany boxes.now placements.old }
     ensures bad_lengths { result ≡ RP_BAD_LENGTHS → session.new.state ≡ session.old.state }
     ensures packed { result ≢ RP_BAD_LENGTHS →
-        Answers (PacksBoxes boxes.now) session.old.state result session.new.state }
+        ChangesAs (PacksBoxes boxes.now) session.old.state result session.new.state }
     ensures done { result ≡ RP_DONE →
         ArePackedNow boxes.now placements.new session.old.state session.new.state }
     ensures unchanged { result ≢ RP_DONE → placements.new ≡ placements.old }
@@ -254,7 +254,7 @@ fn parted(cells: u128) -> RpVolume
 
 // The status of an answer.
 fn status(answer: &Result<(), SessionError>) -> u32
-    ensures { result ≡ status_of (reply_of answer.now) }
+    ensures { result ≡ reply_status (reply_of answer.now) }
 {
     match answer {
         Ok(()) => RP_DONE,
@@ -264,7 +264,7 @@ fn status(answer: &Result<(), SessionError>) -> u32
 
 // The status of a refusal.
 fn refusal(error: SessionError) -> u32
-    ensures { result ≡ status_of (Refused error) }
+    ensures { result ≡ reply_status (Refused error) }
 {
     match error {
         SessionError::NotEnoughBinSpace => RP_NOT_ENOUGH_SPACE,

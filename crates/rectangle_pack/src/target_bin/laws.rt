@@ -26,8 +26,8 @@ pub fn joining_keeps_cells()
         (c : Cell) → times_filled c new ≡ times_filled c old }
 {}
 
-/// A law: an index past the end of the list, and an empty range, leave the list; a range that goes
-/// past the end of the list is the range that is cut there.
+/// A law: where the index is past the end of the list, or the range is empty, the list stays as it
+/// is; a range that goes past the end of the list is the range that is cut there.
 pub fn joining_stays_within_the_list()
     ensures index { (old new : List Cuboid) (idx lo hi : ℕ) →
         length old ≤ idx → IsJoined idx lo hi old new → new ≡ old }

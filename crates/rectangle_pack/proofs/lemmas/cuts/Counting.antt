@@ -3,7 +3,7 @@ use Rattle.rectangle_pack.proofs.Std.{arith, ◌≡◌, ℕ, zero, suc, ◌+◌,
 use Rattle.rectangle_pack.proofs.Std.{Any, AllPairs, count_by, filter, cases_lt, cases_Bool, false_from_ne_true, both_ways, All-head, All-tail, AllPairs-cons}
 use Rattle.rectangle_pack.proofs.Std.{sum_by-append, count_by-le-length, get_or, get_or_default, get_or-le-sum_by}
 use Rattle.rectangle_pack.specs.Boxes.{Cuboid, Cell, IsCellOf, AreApart, is_cell_of, has_cells}
-use Rattle.rectangle_pack.specs.Counting.{times_filled, Tiles, AreAllApart, Cover}
+use Rattle.rectangle_pack.specs.Counting.{times_filled, Tiles, AreAllApart, MakeUp}
 use Rattle.rectangle_pack.specs.Keeping.{KeepCells}
 use Rattle.rectangle_pack.proofs.lemmas.cuts.Boxes.{is_cell_of-true, is_cell_of-from, has_cells-from}
 
@@ -98,8 +98,8 @@ pub filled_from_some : (c : Cell) (boxes : List Cuboid) → Any (IsCellOf c) box
 unfolding times_filled
 filled_from_some c boxes some = count_from_some (is_cell_of c) boxes (some.0, some.1, some.2, some.3, is_cell_of-from c _ some.4)
 
-pub tiles_cover : (boxes : List Cuboid) (whole : Cuboid) → Tiles boxes whole → Cover boxes whole
-tiles_cover boxes whole t = λ c. (
+pub tiles_make_up : (boxes : List Cuboid) (whole : Cuboid) → Tiles boxes whole → MakeUp boxes whole
+tiles_make_up boxes whole t = λ c. (
   (λ h. some_from_filled c boxes (omega (arith, filled_yes c whole [] h, filled-nil c, t.same c))),
   (λ a. cell_from_filled c whole (omega (arith, t.same c, filled_from_some c boxes a))),
 )

@@ -3,7 +3,9 @@ use Rattle.rectangle_pack.proofs.Std.{◌≡◌, ℕ, ◌+◌, ◌<◌, ◌≤�
 use Rattle.rectangle_pack.proofs.Std.{append_assoc, length-append, subst, Option, Some, None, All, Contains, IsSome, IsSomeAnd, IfSome, is_some, unwrap_or, map}
 use Rattle.rectangle_pack.proofs.Std.{option_map, sum_by, Ordering, Vec, IsTotalOrder, is_eq, eq_by_cmp_equiv, append-nil, count_by_more_yes, count_by_more_no}
 use Rattle.rectangle_pack.proofs.Std.{sum_by-take-le, sum_by-cons, All-append, All-cons, All-head, All-nil, All-tail, All-weaker, All-contains, nil_from_length}
+use Rattle.rectangle_pack.proofs.Std.{lookup, is_at, Equal-is}
 use Rattle.rectangle_pack.specs.private.Multimaps.{times, items_of, AreAppended, IsAdded}
+use Rattle.rectangle_pack.proofs.lemmas.util.Maps.{lookup-equal}
 use Rattle.rectangle_pack.proofs.lemmas.multimap.Vectors.{none_of}
 
 module _ {K : Type 0} {cmp : K → K → Ordering} (o : IsTotalOrder cmp) (keys : List K) (i : ℕ) (k q : K) (inside : i < length keys)
@@ -15,6 +17,24 @@ module _ {K : Type 0} {cmp : K → K → Ordering} (o : IsTotalOrder cmp) (keys 
   -- and does not where it is not
   pub times-more_other : is_eq (cmp k q) ≡ false → times cmp (take (i + 1) keys) q ≡ times cmp (take i keys) q
   times-more_other other = count_by_more_no (λ x. is_eq (cmp q x)) keys i k inside (ap (λ x. is_eq (cmp q x)) (sym at) ∙ (eq_by_cmp_equiv o).symm q k ∙ other)
+
+  -- where none counts up to the next key, it is not equal
+  pub times-more_none : times cmp (take (i + 1) keys) q ≡ 0 → (times cmp (take i keys) q ≡ 0) × (is_eq (cmp k q) ≡ false)
+  times-more_none none = by (is_eq (cmp k q)) refl
+    where
+      by : (b : Bool) → is_eq (cmp k q) ≡ b → (times cmp (take i keys) q ≡ 0) × (is_eq (cmp k q) ≡ false)
+      by true e = absurd (omega (arith, times-more_same e, none))
+      by false e = (sym (times-more_other e) ∙ none, e)
+
+  -- the next key is known now, and what was found at the others stays
+  pub known-more : {X : Type 0} (old new : List (K × X)) → IsSome (lookup (is_at (cmp k)) new)
+      → (is_eq (cmp k q) ≡ false → lookup (is_at (cmp q)) new ≡ lookup (is_at (cmp q)) old)
+      → (0 < times cmp (take i keys) q → IsSome (lookup (is_at (cmp q)) old)) → 0 < times cmp (take (i + 1) keys) q → IsSome (lookup (is_at (cmp q)) new)
+  known-more old new here others was some = by (is_eq (cmp k q)) refl
+    where
+      by : (b : Bool) → is_eq (cmp k q) ≡ b → IsSome (lookup (is_at (cmp q)) new)
+      by true e = ap is_some (sym (lookup-equal o k q ((Equal-is _).0 e) new)) ∙ here
+      by false e = ap is_some (others e) ∙ was (omega (arith, times-more_other e, some))
 
   -- what counts up to the next key counts in the whole
   pub times-more_le : times cmp (take (i + 1) keys) q ≤ times cmp keys q

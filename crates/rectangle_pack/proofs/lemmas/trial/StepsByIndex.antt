@@ -1,7 +1,8 @@
 -- Steps by index, and the undoing of noted steps.
 use Rattle.rectangle_pack.proofs.Std.{◌≡◌, ◌↔◌, ℕ, suc, ◌+◌, ◌-◌, ◌<◌, ◌≤◌, List, [], ◌∷◌, ◌++◌, length, get_or, take, drop, arith, refl, ap, sym, ◌∙◌, subst}
 use Rattle.rectangle_pack.proofs.Std.{length-drop, add-one, inl, inr, All, remove, map, filter, Bool, true, false, Result, Ok, Err, IfOk, OnTrue, AllWithin}
-use Rattle.rectangle_pack.proofs.Std.{HoldsAt, split_at, get_or-drop, take_more}
+use Rattle.rectangle_pack.proofs.Std.{HoldsAt, split_at, get_or-drop, take_more, zero}
+use Rattle.std.specs.Result.{IsErr}
 use Rattle.rectangle_pack.specs.Closures.{Answers}
 use Rattle.rectangle_pack.specs.Numbers.{saturated}
 use Rattle.rectangle_pack.specs.declared.target_bin.trial.Note.{Note}
@@ -135,6 +136,21 @@ AreLeft-three MayRate cut a b c i j k same x y z = rw same (record {
 -- a count that began at none, added
 pub saturated-from : (t z s u n : ℕ) → z ≡ 0 → s ≡ saturated (z + n) → u ≡ saturated (t + s) → u ≡ saturated (t + n)
 saturated-from t z s u n none first second = omega arith
+
+-- a trial that is refused memory before its first step leaves the list
+pub IsTried-refused : {E : Type 0} (may : Answers) (sections : List Cuboid) (ms : List Size) (i : ℕ) (ls last : List Cuboid) (n before after : ℕ)
+    (r : Result Bool E) (locations now : List Cuboid)
+    → IsErr r → i ≡ 0 → IsDone may sections (take i ms) ls last n → now ≡ last → before ≡ saturated (before + 0) → after ≡ saturated (before + n)
+    → IsTried may sections ms before r locations now after
+IsTried-refused may sections ms i ls last n before after (Ok done) locations now error first steps same small is = absurd cc
+IsTried-refused may sections ms i ls last n before after (Err e) locations now error first steps same small is =
+    let none : IsDone may sections [] ls last n = rw first at steps in
+    (same ∙ none.1, (let e = none.2 in omega arith))
+
+-- what has no less than nothing before it is first
+pub is_first : (i : ℕ) → ((0 < i) → ⊥) → i ≡ 0
+is_first zero h = refl
+is_first (suc i) h = absurd (h (omega arith))
 
 -- what a trial in the list of a bin answers
 pub IsNotedAnswer-tried : {E : Type 0} (may : Answers) (old : Bin) (ms : List Size) (counted : ℕ) (r : Result Bool E) (ls last : List Cuboid) (counter : ℕ)

@@ -1,5 +1,5 @@
 use Rattle.rectangle_pack.proofs.lemmas.cuts.Pieces.{chosen_tiles, chosen_volumes}
-use Rattle.rectangle_pack.proofs.lemmas.cuts.Counting.{tiles_apart, tiles_cover}
+use Rattle.rectangle_pack.proofs.lemmas.cuts.Counting.{tiles_apart, tiles_make_up}
 use Rattle.rectangle_pack.proofs.bin_section.BinSection.try_place.Goals as goal
 
 pub returns-clause-tiles : goal.returns-clause-tiles
@@ -10,8 +10,8 @@ returns-clause-tiles g c =
 pub returns-clause-apart : goal.returns-clause-apart
 returns-clause-apart g c = tiles_apart _ _ (returns-clause-tiles g c)
 
-pub returns-clause-covers : goal.returns-clause-covers
-returns-clause-covers g c = tiles_cover _ _ (returns-clause-tiles g c)
+pub returns-clause-make_up : goal.returns-clause-make_up
+returns-clause-make_up g c = tiles_make_up _ _ (returns-clause-tiles g c)
 
 pub returns-clause-volumes : goal.returns-clause-volumes
 returns-clause-volumes g c =

@@ -1,7 +1,8 @@
-use Rattle.rectangle_pack.proofs.Std.{rules, ◌≡◌, ◌+◌, [], ◌∷◌, ◌++◌, length, length-append, take, true, refl, ◌∙◌, ap, arith, Contains, All, reverse, get}
-use Rattle.rectangle_pack.proofs.Std.{is_eq, tied_itself, All-contains_itself}
+use Rattle.rectangle_pack.proofs.Std.{rules, ◌≡◌, [], ◌∷◌, ◌++◌, length, length-append, take, refl, ◌∙◌, ap, arith, Contains, All, reverse, get}
+use Rattle.rectangle_pack.proofs.Std.{is_eq, tied_itself, All-contains_itself, subst, List, sym, take-length}
 use Rattle.rectangle_pack.specs.Groups.{lists_of}
-use Rattle.rectangle_pack.specs.private.Multimaps.{times, TakesBack}
+use Rattle.rectangle_pack.specs.private.Multimaps.{times, AreAppended, TakesBack}
+use Rattle.rectangle_pack.proofs.lemmas.multimap.Sized.{on_ok}
 use Rattle.rectangle_pack.proofs.lemmas.multimap.Append.{AreAppended-none, AreAppended-step, AreAppended-known, AreAppended-roomier, times-more_same}
 use Rattle.rectangle_pack.proofs.lemmas.multimap.Append.{times-more_le, All-front, All-middle}
 use Rattle.rectangle_pack.proofs.lemmas.multimap.TakeBack.{reverse-take_more}
@@ -51,4 +52,28 @@ loop-i-preserved g c =
       back = rw (reverse-take_more keys i k c.loop-i-test.true c.index-keys-i.is)
           (c.append_at.ensures.back (reverse (take i keys)) (lists_of c.args.map.now.entries) back);
       ordered = λ _. c.append_at.ensures.ordered;
+    }
+
+pub take_back-requires : goal.take_back-requires
+take_back-requires g c = (lists_of c.args.map.now.entries, rw c.reserve_at.ensures.kept c.loop-i.invariant.back)
+
+pub append_at-requires : goal.append_at-requires
+append_at-requires g c = record { room = on_ok _ c.reserve_at.result (sym c.is_err.ensures.value ∙ c.if-is_err.false) c.reserve_at.ensures.room }
+
+pub returns-then-is_err-clause-kept : goal.returns-then-is_err-clause-kept
+returns-then-is_err-clause-kept g c = c.take_back.ensures (lists_of c.args.map.now.entries) (rw c.reserve_at.ensures.kept c.loop-i.invariant.back)
+
+pub returns : goal.returns
+returns g c =
+    let cmp = g.K.Ord.cmp in
+    let keys = c.args.keys.now in
+    let end : c.loop-i.i ≡ length keys = omega arith in
+    let whole : take c.loop-i.i keys ≡ keys = ap (λ n. take n keys) end ∙ take-length keys in
+    record {
+      appended = λ q. subst (λ (ks : List _). AreAppended c.args.items.items (times cmp ks q) (get cmp c.args.map.now q) (get cmp c.loop-i.map q)) whole
+          (c.loop-i.invariant.added q);
+      back = subst (λ (ks : List _). TakesBack cmp (reverse ks) (lists_of c.loop-i.map.entries) (lists_of c.args.map.now.entries)) whole
+          c.loop-i.invariant.back;
+      kept = tt;
+      ordered = λ some. c.loop-i.invariant.ordered (omega arith);
     }

@@ -1,17 +1,28 @@
-use Rattle.rectangle_pack.proofs.Std.{◌≡◌, sym, ◌∙◌, false, Equal-is, Equal}
+use Rattle.rectangle_pack.proofs.Std.{◌≡◌, refl, sym, ◌∙◌, Equal-is, Equal, IfOk-from_err, tied_itself}
 use Rattle.rectangle_pack.proofs.lemmas.multimap.Vectors.{filled-new_key, items-new_key}
 use Rattle.rectangle_pack.proofs.grouped_rects_to_place.multimap.ensure_key.Goals as goal
 
-pub returns-clause-kept : goal.returns-clause-kept
-returns-clause-kept g c =
-    let same : g.K.Ord.cmp c.args.key.now c.in_ok-clone.field-0 ≡ Equal =
-    (Equal-is _).0 (sym (g.met.K.Ord.matches_eq _ _) ∙ c.requires.clones_equal _ _ c.in_ok-clone.ensures.cases) in
-    rw c.in_ok-insert.ensures.entries (filled-new_key g.met.K.Ord.total c.args.key.now c.in_ok-clone.field-0 c.args.map.now.entries c.args.map.now.entries
-    c.new.result same (sym c.contains_key.ensures ∙ c.if-contains_key.false) c.new.ensures.items)
+pub returns-in_err-insert : goal.returns-in_err-insert
+returns-in_err-insert g c = record {
+  kept = rw c.in_err-insert.ensures.err refl;
+  items = λ q. rw c.in_err-insert.ensures.err refl;
+  others = λ q other. rw c.in_err-insert.ensures.err refl;
+  has = IfOk-from_err c.from_residual-in_err-insert.result _ c.from_residual-in_err-insert.ensures.0;
+}
 
-pub returns-clause-items : goal.returns-clause-items
-returns-clause-items g c =
-    let same : g.K.Ord.cmp c.args.key.now c.in_ok-clone.field-0 ≡ Equal =
-    (Equal-is _).0 (sym (g.met.K.Ord.matches_eq _ _) ∙ c.requires.clones_equal _ _ c.in_ok-clone.ensures.cases) in
-    items-new_key g.met.K.Ord.total c.args.key.now c.in_ok-clone.field-0 c.args.map.now.entries _ c.new.result same
-    (sym c.contains_key.ensures ∙ c.if-contains_key.false) c.new.ensures.items c.in_ok-insert.ensures.updates.0
+pub returns : goal.returns
+returns g c =
+    let o = g.met.K.Ord.total in
+    let k = c.args.key.now in
+    let n = c.in_ok-clone.field-0 in
+    let old = c.args.map.now.entries in
+    let v = c.new.result in
+    let same : g.K.Ord.cmp k n ≡ Equal = (Equal-is _).0 (sym (g.met.K.Ord.matches_eq k n) ∙ c.requires.clones_equal k n c.in_ok-clone.ensures.cases) in
+    let absent = sym c.contains_key.ensures ∙ c.if-contains_key.false in
+    let seen = c.in_ok-insert.ensures.updates.0 in
+    record {
+      kept = rw c.in_ok-insert.ensures.entries (filled-new_key o k n old old v same absent c.new.ensures.items);
+      items = items-new_key o k n old _ v same absent c.new.ensures.items seen;
+      others = λ q other. rw (seen q, ← o.congr k n q same, other) refl;
+      has = rw (seen k, ← o.congr k n k same, tied_itself o k) refl;
+    }

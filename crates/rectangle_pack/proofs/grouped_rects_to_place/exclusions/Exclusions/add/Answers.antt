@@ -1,11 +1,16 @@
 use Rattle.rectangle_pack.proofs.Std.{sym, ◌∙◌}
 use Rattle.rectangle_pack.specs.Groups.{lists_of}
 use Rattle.rectangle_pack.proofs.lemmas.multimap.Sized.{filled-all}
-use Rattle.rectangle_pack.proofs.lemmas.multimap.Mutual.{excluded-again, excluded-added}
+use Rattle.rectangle_pack.proofs.lemmas.multimap.Mutual.{excluded-again, excluded-added, these-back}
 use Rattle.rectangle_pack.proofs.grouped_rects_to_place.exclusions.Exclusions.add.Goals as goal
 
 pub returns-then-has-clause-ok : goal.returns-then-has-clause-ok
 returns-then-has-clause-ok g c = excluded-again g.met.K.Ord.total c.args.self.now c.args.a c.args.b (sym c.has.ensures ∙ c.if-has.true)
+
+pub invariant_of-self : goal.invariant_of-self
+invariant_of-self g c =
+    let added = c.in-Ok.ensures.added in
+    (λ x y. added x y ∙ rw (c.self.invariant.0 x y, these-back g.met.K.Ord.total c.args.a c.args.b x y) (sym (added y x)), c.in-Ok.ensures.some)
 
 pub invariant_of-self-in-Err : goal.invariant_of-self-in-Err
 invariant_of-self-in-Err g c =
