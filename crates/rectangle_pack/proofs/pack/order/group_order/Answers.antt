@@ -1,7 +1,7 @@
 use Rattle.rectangle_pack.proofs.Std.{arith, length-append, ◌≡◌, ◌<◌, ◌++◌, drop, length, refl, ap, ◌∙◌, drop-append_seam, map, Some, map_push, take_rest}
 use Rattle.rectangle_pack.proofs.Std.{deref_pair, All-weaker, All-push, iter_end, AllZip, slice_range, all_pairs_push, lookup, is_at, All-permutation}
 use Rattle.rectangle_pack.proofs.Std.{sum_by-IsPermutation, sym, subst, List, eq_by_cmp, IsDistinct, keys_of, IsPermutation-map, IsDistinct-from_sorted}
-use Rattle.rectangle_pack.proofs.Std.{IsDistinct-IsPermutation, All-nil, IfOk-from_err, rest_more, ◌≤◌}
+use Rattle.rectangle_pack.proofs.Std.{IsDistinct-IsPermutation, All-nil, rest_more, ◌≤◌}
 use Rattle.rectangle_pack.specs.Groups.{lists_of, HaveSizes}
 use Rattle.rectangle_pack.specs.declared.pack.order.OrderedGroup.{OrderedGroup}
 use Rattle.rectangle_pack.specs.private.Orders.{keys_of_order, entries_at, SizesStandAt}
@@ -145,39 +145,3 @@ pub loop-group-init : goal.loop-group-init
 loop-group-init g c =
     let none = c.in_ok-order.ensures.items in
     record { listed = rw none tt; sized = rw none (All-nil _); rising = rw none (λ i j d less within. absurd (omega arith)); begun = rw none (All-nil _) }
-
-pub returns-in_err-order : goal.returns-in_err-order
-returns-in_err-order g c =
-    let r = c.from_residual.result in
-    let e = c.from_residual.ensures.0 in
-    record {
-      order = IfOk-from_err r _ e;
-      listed = IfOk-from_err r _ e;
-      sizes = IfOk-from_err r _ e;
-      distinct = IfOk-from_err r _ e;
-      counted = IfOk-from_err r _ e;
-    }
-
-pub returns-in_err-add_sizes : goal.returns-in_err-add_sizes
-returns-in_err-add_sizes g c =
-    let r = c.from_residual-in_err-add_sizes.result in
-    let e = c.from_residual-in_err-add_sizes.ensures.0 in
-    record {
-      order = IfOk-from_err r _ e;
-      listed = IfOk-from_err r _ e;
-      sizes = IfOk-from_err r _ e;
-      distinct = IfOk-from_err r _ e;
-      counted = IfOk-from_err r _ e;
-    }
-
-pub returns-in_err-push : goal.returns-in_err-push
-returns-in_err-push g c =
-    let r = c.from_residual-in_err-push.result in
-    let e = c.from_residual-in_err-push.ensures.0 in
-    record {
-      order = IfOk-from_err r _ e;
-      listed = IfOk-from_err r _ e;
-      sizes = IfOk-from_err r _ e;
-      distinct = IfOk-from_err r _ e;
-      counted = IfOk-from_err r _ e;
-    }
