@@ -63,7 +63,7 @@ enum {
    - RP_NOT_ENOUGH_SPACE comes only where the packing rule gets stuck, and never where another call with equal bins and
      boxes was done. Groups go in falling order of the sum of their volumes, each into the first bin, by rising volume, in
      which all of its boxes find a place in turn. Another order might succeed.
-   - But for RP_DONE nothing is written to placements.
+   - Where the answer is not RP_DONE nothing is written to placements.
    Only tested: that RP_OUT_OF_MEMORY comes only where malloc or realloc answered NULL, and that all memory is given back.
 
    The caller sees to it that, until the call returns, each list has as many entries as its count says, is aligned and not
@@ -98,9 +98,9 @@ uint32_t rectangle_pack_boxes(const rp_bin *bins, size_t bin_count, const rp_box
    - A call that answers anything but RP_DONE leaves the session as it was and writes nothing. RP_BAD_LENGTHS,
      RP_DUPLICATE_BIN, RP_UNKNOWN_BIN and RP_UNKNOWN_PLACEMENT come exactly under their conditions, and RP_NUMBERS_USED_UP
      too, unless RP_OUT_OF_MEMORY is answered in its place.
-   - No number is given twice in a session.
-   Only tested: that placements are numbered 0, 1, 2 and so on, in the order of packing; that RP_OUT_OF_MEMORY comes only
-   where malloc or realloc answered NULL; and that free gives all memory back.
+   - No number is given twice in a session: placements are numbered 0, 1, 2 and so on, in the order of packing.
+   Only tested: that RP_OUT_OF_MEMORY comes only where malloc or realloc answered NULL, and that free gives all memory
+   back.
 
    The caller sees to it that:
    - rectangle_pack_session_new gets a handle that is as RP_NO_SESSION makes it, and every other call one that

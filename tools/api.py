@@ -16,6 +16,7 @@ from collections import namedtuple
 TOP = pathlib.Path(__file__).resolve().parent.parent
 LIBRARY = TOP / "crates/rectangle_pack/src"
 FOR_C = TOP / "crates/rectangle_pack_c/src"
+PROGRAM = TOP / "crates/packrun"
 PAGE = TOP / "docs/API.md"
 PROVED = TOP / "docs/PROVED.md"
 ROOT = "rectangle_pack"
@@ -320,7 +321,7 @@ class Proved:
     """The rows of docs/PROVED.md."""
 
     def __init__(self):
-        self.rows, given = [], {}
+        self.rows, self.private, given = [], [], {}
         section = anchor = ""
         call = columns = None
         for number, line in enumerate(PROVED.read_text().splitlines() if PROVED.exists() else [], 1):
@@ -339,6 +340,9 @@ class Proved:
                 call = " ".join(coded(row["Call"])) or call
                 clauses, edits = coded(row.get("Clause", "")), coded(row.get("Wrong body", ""))
                 self.rows.append(Row(number, section, anchor, call, row.get("Claim", ""), clauses, edits))
+            elif "Function" in columns and not set(line) <= set("|-: "):
+                row = dict(zip(columns, cells))
+                self.private.append((number, section, coded(row["Function"])[0], coded(row["Wrong body"])))
 
     def anchor_of(self, call, clause):
         """The anchor of the heading under which the clause's row stands."""
@@ -468,6 +472,10 @@ class Page:
             "a name is `requires` or `ensures`. The text of a clause stands in the source, and `tools/audit.py` shows what it "
             "rests on. A law is a function that does nothing: its contract states it.",
             "",
+            "In the examples `rt` is the `HostRuntime` that `main` is given, `alloc` is its allocator `rt.alloc()`, and names of "
+            "the library come from `rectangle_pack`. That a closure may be called on every size means: its contract asks nothing, "
+            "so it neither panics nor overflows on any size.",
+            "",
             *self.contents(),
             "",
         ]
@@ -544,6 +552,21 @@ def faults_of_rows(proved, calls):
                 yield f"{at}: no source has the word `{gone[0]}`"
 
 
+def faults_of_private(proved):
+    """Rows of the program's private functions that name what is not there, and wrong bodies of the program without a row."""
+    where, shown = PROVED.relative_to(TOP), set()
+    edits = {path.stem for path in PROGRAM.glob("must-fail/*.edit")}
+    text = "\n".join(path.read_text() for path in sorted((PROGRAM / "src").rglob("*.rt")))
+    for line, section, name, named in proved.private:
+        if section != PROGRAM.name or not re.search(rf"\bfn {name}\b", text):
+            yield f"{where}:{line}: `{section}` has no function `{name}`"
+        for edit in set(named) - edits:
+            yield f"{where}:{line}: there is no wrong body `{edit}` of the program"
+        shown.update(named)
+    for edit in sorted(edits - shown):
+        yield f"{where}: no row names the wrong body `{edit}` of the program"
+
+
 def faults_of_calls(proved, calls):
     """Calls and clauses that have no row."""
     told = {}
@@ -569,7 +592,7 @@ def main():
             PAGE.write_text(page)
         case ["--check"]:
             calls = [*library.calls(), *calls_for_c()]
-            faults = [*faults_of_rows(proved, calls), *faults_of_calls(proved, calls)]
+            faults = [*faults_of_rows(proved, calls), *faults_of_calls(proved, calls), *faults_of_private(proved)]
             for module, name in library.hidden_laws():
                 faults.append(f"{module.path.relative_to(TOP)}: no public module exports the law `{name}`")
             if not PAGE.exists() or PAGE.read_text() != page:

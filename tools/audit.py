@@ -52,7 +52,9 @@ PARTS = [
         "space is refused only where, for some group, each bin is excluded or its trial gets stuck there",
         "The field `packs` again: of a packing that is refused for space, `NoBinTakes`. The bins are meant as the groups "
         "before that one left them in this packing, which is then undone. A bin is excluded for a group where a group that "
-        "is excluded with it went there earlier in the same packing. Its trial: some trial that the closures may make there.",
+        "is excluded with it went there earlier in the same packing. Its trial gets stuck: with some answers that the closures may "
+        "give, of each bin by itself (`IsStuck`). Where the closures are functions and the comparison is a total preorder, there "
+        "is one such trial at most.",
         ["NoBinTakes"],
     ),
 ]
@@ -62,8 +64,8 @@ BESIDE = {
     "coalescing command, is said by the field `done` (`IsTransition`, below). No two bins have equal ids (`Session::bins`, clause "
     "`ascend`), nor two groups or two ids of a collection (`groups` and `rects` of `GroupedRectsToPlace`, the same clause), so a "
     "look-up reaches every one.",
-    "Refusals": "That memory is said to be refused only where it was is not promised: tests show it. So the sentence does not "
-    "promise that any packing is done.",
+    "Refusals": "It is not proved that want of memory is answered only where memory was refused; tests show it. So by this "
+    "sentence alone no packing need be done.",
 }
 REST = (
     "What ties them to the call",
@@ -71,8 +73,8 @@ REST = (
     "The clause `promise` of `Session::run` says `IsRunAnswer`: one reply for each command, and `KeepsPromise` of each command, "
     "its reply and the states before and after it. The field `done` of `KeepsPromise` says what each command does. Where no "
     "command was done, the clause `always` of `run` says the same of cells and cuts. The caller sees to it that clones of ids "
-    "equal their originals, and that the closures may be asked about every size; of their answers only `rate` and `prefer` are "
-    "used. The calls `add_bin`, `pack`, `release`, `coalesce` and `coalesce_all`, made one by one, each say the transition of "
+    "equal their originals (`ids`, `bin_ids`), and that the closures may be asked about every size (`callable`). What they may "
+    "answer is the record `Answers`: `rate` of the heuristic, `prefer` of the comparison. The calls `add_bin`, `pack`, `release`, `coalesce` and `coalesce_all`, made one by one, each say the transition of "
     "their command and `always`, and `pack` says `PacksAsPromised` as its clause `promise`. What is left of the definitions:",
 )
 
@@ -367,12 +369,21 @@ def print_headline(specs, library):
     print("# The headline\n\n`tools/audit.py --headline` makes this page; `.ci/run` fails where it is not what that prints.\n")
     print(f"**{HEADLINE}**\n")
     print(
-        f"The clause `promise` of `Session::run` says it. A reader who believes nothing reads {number} definitions, {lines} lines "
+        f"The clause `promise` of `Session::run` ({place(call.path, call.line)}) says it; signature and clauses stand in the last "
+        "section. Premises: clones of the ids of boxes and bins equal their originals, and the closures may be asked about every "
+        "size. [GLOSSARY.md](GLOSSARY.md) has the words of the sentence, [DEFINITIONS.md](DEFINITIONS.md) each definition in plain "
+        "words with an example.\n\n"
+        f"A reader who believes nothing reads {number} definitions, {lines} lines "
         f"in {len({d.path for d in found})} files. They stand here in {len(PARTS) + 1} sections, each once, and none names a later "
-        "one. Words of the standard library are listed, and told by its own pages. A line `module _` says what a definition is "
+        "one; what the text and the views name stands at the end at the latest. Words of the standard library are listed; they are "
+        "defined in the toolchain (`rt doc` prints where it begins). A line `module _` says what a definition is "
         "given first; definitions of one module leave that out where they name each other.\n\n"
         "Numbers are whole and do not wrap; `-` stops at 0. `(x : T) × P`: there is an x with P. `P ⊎ Q`: one of the two. `⊥`: "
-        "never; `⊤`: always. `e.0`, `e.1`: the parts of a pair. `MatchBool b P Q`: P where b is true, else Q.\n"
+        "never; `⊤`: always. `e.0`, `e.1`: the parts of a pair. `MatchBool b P Q`: P where b is true, else Q. "
+        "`∷` and `++` make lists. `.old`, `.new` and `.now` are values before a call, after it, and of a shared reference. "
+        "`⟦<T as Ord>⟧.cmp`, or `Id.cmp`, is the order of a type, of which its `impl` has proved that it is total; `Id.is_clone` says "
+        "what its `clone` may answer. `H.Fn` is the contract of a closure: `pre` says on which arguments it may be called, `post` "
+        "what it may answer then. `PackedNumbers` is the type `Packed` of the code, under another name.\n"
     )
     told = set()
     for title, quote, carried, wanted in PARTS:
@@ -389,7 +400,7 @@ def print_headline(specs, library):
     order = specs.tell(library.roots(specs, call), told)
     number, lines, _ = count(order)
     print(f"## {REST[0]}\n\n*{REST[1]}*\n\n{REST[2]} {number}, {lines} lines.\n")
-    print("```\n" + "\n".join(call.clauses) + "\n```\n")
+    print("```\n" + f"{call.signature.strip()}\n" + "\n".join(call.clauses) + "\n```\n")
     print("Clauses speak of values as they are seen, before the call (`old`) and after it (`new`):\n")
     print_views(library, call)
     print_told(library, order)
