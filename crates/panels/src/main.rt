@@ -10,12 +10,10 @@ use std::alloc::{AllocError, Global};
 use std::cmp::Ordering;
 use std::io;
 
-// A sheet, in millimetres, and how many there are.
+// A sheet, in millimetres.
 const WIDTH: u32 = 2800;
 
 const HEIGHT: u32 = 2070;
-
-const SHEETS: u32 = 5;
 
 // Panels of one size: the name, how many, and how wide and high each is.
 type Panels = (&'static str, u32, u32, u32);
@@ -44,9 +42,9 @@ fn longest_strip<H>(a: [WidthHeightDepth; 3], b: [WidthHeightDepth; 3], _: &H) -
     longest_side(a).cmp(&longest_side(b))
 }
 
-fn free_sheets(alloc: Global) -> Result<Cutting, SessionError> {
+fn five_sheets(alloc: Global) -> Result<Cutting, SessionError> {
     let mut cutting = Session::new(alloc, 1);
-    for sheet in 1..=SHEETS {
+    for sheet in 1..=5 {
         cutting.add_bin(sheet, WIDTH, HEIGHT, 1)?;
     }
     Ok(cutting)
@@ -60,19 +58,6 @@ fn panels(order: &[Panels], alloc: Global) -> Result<GroupedRectsToPlace<Panel, 
         }
     }
     Ok(panels)
-}
-
-// Gives two sides back, and joins what they leave.
-fn call_off(cutting: &mut Cutting) -> Result<(), SessionError> {
-    for panel in [("side", 1), ("side", 2)] {
-        let mut placed = cutting.outstanding().iter();
-        if let Some(off) = placed.find(|it| it.id == panel) {
-            let (number, sheet) = (off.number, off.bin);
-            cutting.release(number)?;
-            cutting.coalesce_all(&sheet)?;
-        }
-    }
-    Ok(())
 }
 
 // Prints the sheets with their waste, and where each panel is.
@@ -90,8 +75,7 @@ fn print(rt: &HostRuntime, title: &str, cutting: &Cutting) -> io::Result<()> {
         let (no, (size, nth), sheet, at) = (placed.number, placed.id, placed.bin, &placed.location);
         let name = format!(in rt.alloc(); "{size}-{nth}")?;
         let (x, y, w, h) = (at.x(), at.y(), at.width(), at.height());
-        print!(rt; "{no:>5} {name:<10} sheet-{sheet}")?;
-        println!(rt; " {x:>4} {y:>4} 0 {w:>4} {h:>4} 1 {size}")?;
+        println!(rt; "{no:>5} {name:<10} sheet-{sheet} {x:>4} {y:>4} 0 {w:>4} {h:>4} 1 {size}")?;
     }
     println!(rt; "")
 }
@@ -130,20 +114,36 @@ fn print_steps(rt: &HostRuntime, sheet: u32, cutting: &Cutting) -> io::Result<()
     Ok(())
 }
 
+// Gives two sides back, joins what they leave, and cuts a desk from it.
+fn exchange(rt: &HostRuntime, cutting: &mut Cutting) -> io::Result<()> {
+    for panel in [("side", 1), ("side", 2)] {
+        if let Some(off) = cutting.outstanding().iter().find(|it| it.id == panel) {
+            let (number, sheet) = (off.number, off.bin);
+            cutting.release(number)?;
+            cutting.coalesce_all(&sheet)?;
+        }
+    }
+    let desk = panels(&[("desk", 1, 1100, 700)], rt.alloc())?;
+    cutting.pack(&desk, &volume_heuristic, &longest_strip)?;
+    print(rt, "two sides are called off for a desk", cutting)
+}
+
+// Cuts the order by the library's rule.
+fn by_smallest(rt: &HostRuntime, order: &GroupedRectsToPlace<Panel, u32>) -> io::Result<()> {
+    let mut cutting = five_sheets(rt.alloc())?;
+    cutting.pack(order, &volume_heuristic, &contains_smallest_box)?;
+    print(rt, "the cut with the smallest piece", &cutting)
+}
+
 fn main(rt: HostRuntime) -> io::Result<()> {
     let order = panels(&ORDER, rt.alloc())?;
-    let mut cutting = free_sheets(rt.alloc())?;
-    cutting.pack(&order, &volume_heuristic, &contains_smallest_box)?;
-    print(&rt, "the cut with the smallest piece", &cutting)?;
-    let mut cutting = free_sheets(rt.alloc())?;
+    by_smallest(&rt, &order)?;
+    let mut cutting = five_sheets(rt.alloc())?;
     cutting.pack(&order, &volume_heuristic, &longest_strip)?;
     print(&rt, "the cut with the longest strip", &cutting)?;
-    call_off(&mut cutting)?;
-    let late = panels(&[("desk", 1, 1100, 700)], rt.alloc())?;
-    cutting.pack(&late, &volume_heuristic, &longest_strip)?;
-    print(&rt, "two sides are called off for a desk", &cutting)?;
-    for sheet in 1..=SHEETS {
-        print_steps(&rt, sheet, &cutting)?;
+    exchange(&rt, &mut cutting)?;
+    for sheet in cutting.bins().keys() {
+        print_steps(&rt, *sheet, &cutting)?;
     }
     Ok(())
 }
