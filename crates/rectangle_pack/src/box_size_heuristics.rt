@@ -1,4 +1,4 @@
-//! The heuristic that rates a size by its volume.
+//! Heuristics: what a size is worth.
 ghost use Rattle.std.specs.Prelude.{◌≡◌};
 ghost use Rattle.rectangle_pack.specs.Boxes.{volume_of};
 

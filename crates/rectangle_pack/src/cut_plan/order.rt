@@ -1,4 +1,4 @@
-//! Boxes of a part in order along an axis, and up to which place they leave no plane open.
+//! Entries of a part in order along an axis, and how far they leave no plane open.
 ghost use Rattle.std.specs.Prelude.{◌≡◌, ◌+◌, ◌<◌, ◌≤◌, ◌⊎◌, ◌++◌, true, length, List, Contains, MatchBool};
 ghost use Rattle.std.specs.Bool.{OnTrue, OnFalse};
 ghost use Rattle.std.specs.List.Sorted.{IsPermutation, IsNonDecreasingBy};

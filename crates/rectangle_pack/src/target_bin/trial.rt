@@ -58,8 +58,8 @@ pub(crate) trait FreeList {
         ensures some { IfSome result.slot
             (λ index. IsNewest self.now member.now index result.tests) };
 
-    // Places one member into the section at this index, and notes the step. First room is made
-    // for so many steps, which takes no memory where it is there. An error is want of memory.
+    // Places one member into the section at this index, and notes the step. Before it, room is made
+    // for so many steps; where it is there, that takes no memory. An error is want of memory.
     fn place<R: Policy>(
         &mut self,
         index: usize,
