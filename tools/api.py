@@ -5,7 +5,8 @@ api.py: writes docs/API.md: every public item of the library by public module, w
     names of its clauses, each a link into docs/PROVED.md.
 api.py --check: fails where docs/API.md is not what `api.py` writes; where docs/PROVED.md has no row of a public call, of a
     clause or of a law, of the library or of the library for C; where it names a call, a clause or a wrong body that is not
-    there. One line for each fault.
+    there; where its table of the program's private functions names one that is not there, or leaves out a wrong body of the
+    program. One line for each fault.
 
 Whether a claim of docs/PROVED.md says what its clause says, it cannot tell. This reads the sources, and starts nothing."""
 import pathlib
@@ -473,8 +474,8 @@ class Page:
             "rests on. A law is a function that does nothing: its contract states it.",
             "",
             "In the examples `rt` is the `HostRuntime` that `main` is given, `alloc` is its allocator `rt.alloc()`, and names of "
-            "the library come from `rectangle_pack`. That a closure may be called on every size means: its contract asks nothing, "
-            "so it neither panics nor overflows on any size.",
+            "the library come from `rectangle_pack`. That a closure may be called on every size means: its contract asks "
+            "for nothing more than a size in `u32`, and it is proved that the closure neither panics nor overflows there.",
             "",
             *self.contents(),
             "",

@@ -53,8 +53,8 @@ PARTS = [
         "The field `packs` again: of a packing that is refused for space, `NoBinTakes`. The bins are meant as the groups "
         "before that one left them in this packing, which is then undone. A bin is excluded for a group where a group that "
         "is excluded with it went there earlier in the same packing. Its trial gets stuck: with some answers that the closures may "
-        "give, of each bin by itself (`IsStuck`). Where the closures are functions and the comparison is a total preorder, there "
-        "is one such trial at most.",
+        "give, of each bin by itself (`IsStuck`). Where the closures are functions and the comparison is a total preorder, no "
+        "packing of equal boxes into equal bins is done where one is refused (the law `packing_has_one_result`).",
         ["NoBinTakes"],
     ),
 ]
@@ -74,8 +74,8 @@ REST = (
     "its reply and the states before and after it. The field `done` of `KeepsPromise` says what each command does. Where no "
     "command was done, the clause `always` of `run` says the same of cells and cuts. The caller sees to it that clones of ids "
     "equal their originals (`ids`, `bin_ids`), and that the closures may be asked about every size (`callable`). What they may "
-    "answer is the record `Answers`: `rate` of the heuristic, `prefer` of the comparison. The calls `add_bin`, `pack`, `release`, `coalesce` and `coalesce_all`, made one by one, each say the transition of "
-    "their command and `always`, and `pack` says `PacksAsPromised` as its clause `promise`. What is left of the definitions:",
+    "answer is the record `Answers`: `rate` of the heuristic, `prefer` of the comparison. The calls `add_bin`, `pack`, "
+    "`release`, `coalesce` and `coalesce_all`, made one by one, each say the transition of their command and `always`, and `pack` says `PacksAsPromised` as its clause `promise`. What is left of the definitions:",
 )
 
 
