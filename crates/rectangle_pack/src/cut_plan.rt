@@ -31,7 +31,7 @@ pub enum CutStep {
     Leaf,
 }
 
-// A part that is still to be planned: how many entries fill it, and on which axis they stand in
+// A part that is still to be planned: how many boxes fill it, and on which axis they stand in
 // order of their starts, if that is known.
 #[derive(Clone, Copy)]
 struct Part {
@@ -62,25 +62,25 @@ fn cut(part: &Part, split: &Split) -> (Part, Part)
     (below, above)
 }
 
-// The plan of a box that the entries fill: a cut at the first open plane of each part with two
-// entries or more; `None` where such a part has no open plane. Puts the entries in another order,
+// The plan of the whole, which the boxes fill: a cut at the first open plane of each part with two
+// boxes or more; `None` where such a part has no open plane. Puts the boxes in another order,
 // so that those of each part stand together, those of the next pending part from `done` on.
 pub(crate) fn plan_of<A: Allocator + Copy>(
     alloc: A,
     whole: BinSection,
-    entries: &mut [BinSection],
+    boxes: &mut [BinSection],
 ) -> Result<Option<Vec<CutStep, A>>, AllocError>
-    requires filled { IsFilled whole entries.old }
+    requires filled { IsFilled whole boxes.old }
     ensures { IfOk result
         (λ found.
-        MatchOption found (¬ IsFromCuts entries.old whole)
-        (λ plan. IsCutPlan entries.old whole plan.items)) }
+        MatchOption found (¬ IsFromCuts boxes.old whole)
+        (λ plan. IsCutPlan boxes.old whole plan.items)) }
 {
     let mut plan = Vec::new(alloc);
     let mut pending = Vec::new(alloc);
     pending.push(Part {
         whole,
-        count: entries.len(),
+        count: boxes.len(),
         ordered: None,
     })?;
     let mut done = 0;
@@ -91,7 +91,7 @@ pub(crate) fn plan_of<A: Allocator + Copy>(
             continue;
         }
         let end = done + part.count;
-        let found = first_split(&part.whole, part.ordered, &mut entries[done..end]);
+        let found = first_split(&part.whole, part.ordered, &mut boxes[done..end]);
         let Some(split) = found else {
             return Ok(None);
         };

@@ -10,45 +10,45 @@ use Rattle.rectangle_pack.specs.CutTrees.{lower, upper}
 use Rattle.rectangle_pack.specs.CutPlans.{IsOpenPlane, axis_rank, lower_boxes, upper_boxes}
 
 -- the boxes have cells, and end within 32 bits
-abbrev pub AreEntries : List Cuboid → Type 0
-AreEntries boxes = All (λ b. (has_cells b ≡ true) × FitsU32 b) boxes
+abbrev pub HaveCellsAndFit : List Cuboid → Type 0
+HaveCellsAndFit boxes = All (λ b. (has_cells b ≡ true) × FitsU32 b) boxes
 
--- the entries have cells and fill the box, which ends within 32 bits
-pub record IsFilled (whole : Cuboid) (entries : List Cuboid) : Type 0 where
+-- the boxes have cells and fill the whole, which ends within 32 bits
+pub record IsFilled (whole : Cuboid) (boxes : List Cuboid) : Type 0 where
   pub fits : FitsU32 whole
-  pub tiles : Tiles entries whole
-  pub cells : All (λ e. has_cells e ≡ true) entries
+  pub tiles : Tiles boxes whole
+  pub cells : All (λ e. has_cells e ≡ true) boxes
 
--- the entries stand in order of their starts, where an axis is named
+-- the boxes stand in order of their starts, where an axis is named
 abbrev pub AreOrdered : Option Axis → List Cuboid → Type 0
-AreOrdered ordered entries = IfSome ordered (λ a. IsNonDecreasingBy (start a) entries)
+AreOrdered ordered boxes = IfSome ordered (λ a. IsNonDecreasingBy (start a) boxes)
 
 -- no plane on the axis is open below a place
 abbrev pub IsClosedBelow : Axis → ℕ → Cuboid → List Cuboid → Type 0
-IsClosedBelow a place whole entries = (q : ℕ) → q < place → ¬ IsOpenPlane a q whole entries
+IsClosedBelow a place whole boxes = (q : ℕ) → q < place → ¬ IsOpenPlane a q whole boxes
 
 -- no plane on the axis is open
 abbrev pub IsClosedOn : Axis → Cuboid → List Cuboid → Type 0
-IsClosedOn a whole entries = (q : ℕ) → ¬ IsOpenPlane a q whole entries
+IsClosedOn a whole boxes = (q : ℕ) → ¬ IsOpenPlane a q whole boxes
 
 -- no plane is open on the first n axes
 abbrev pub AreClosed : ℕ → Cuboid → List Cuboid → Type 0
-AreClosed n whole entries = (a : Axis) → axis_rank a < n → IsClosedOn a whole entries
+AreClosed n whole boxes = (a : Axis) → axis_rank a < n → IsClosedOn a whole boxes
 
--- the first open plane on an axis, with the entries below it in front of those above it
-pub record IsGap (a : Axis) (whole : Cuboid) (entries : List Cuboid) (place below : ℕ) : Type 0 where
-  pub is_open : IsOpenPlane a place whole entries
-  pub least : IsClosedBelow a place whole entries
+-- the first open plane on an axis, with the boxes below it in front of those above it
+pub record IsFirstOpen (a : Axis) (whole : Cuboid) (boxes : List Cuboid) (place below : ℕ) : Type 0 where
+  pub is_open : IsOpenPlane a place whole boxes
+  pub least : IsClosedBelow a place whole boxes
   pub some_below : 0 < below
-  pub some_above : below < length entries
-  pub front : take below entries ≡ lower_boxes a place entries
-  pub back : drop below entries ≡ upper_boxes a place entries
+  pub some_above : below < length boxes
+  pub front : take below boxes ≡ lower_boxes a place boxes
+  pub back : drop below boxes ≡ upper_boxes a place boxes
 
--- the first open plane of the axes, likewise, where the entries stand in order on its axis
-pub record IsSplit (whole : Cuboid) (entries : List Cuboid) (split : Split) : Type 0 where
-  pub gap : IsGap split.axis whole entries split.place split.below
-  pub ordered : IsNonDecreasingBy (start split.axis) entries
-  pub first : AreClosed (axis_rank split.axis) whole entries
+-- the first open plane of the axes, likewise, where the boxes stand in order on its axis
+pub record IsSplit (whole : Cuboid) (boxes : List Cuboid) (split : Split) : Type 0 where
+  pub on_axis : IsFirstOpen split.axis whole boxes split.place split.below
+  pub ordered : IsNonDecreasingBy (start split.axis) boxes
+  pub first : AreClosed (axis_rank split.axis) whole boxes
 
 -- the lower and the upper part of a part that is split
 abbrev pub lower_part : Part → Split → Part

@@ -1,5 +1,5 @@
-//! Laws of trees of straight cuts, and of cutting plans: which lists of boxes come from cuts of a box,
-//! and where they can be cut.
+//! Laws of trees of straight cuts, and of cutting plans: which lists of boxes come from cuts of a
+//! box, and where they can be cut.
 ghost use Rattle.std.specs.Prelude.{ℕ, ◌≡◌, ◌≤◌, ◌++◌, List, All, Any, filter, count_by, true};
 ghost use Rattle.rectangle_pack.specs.Boxes.{Size, Cuboid, end, has_cells};
 ghost use Rattle.rectangle_pack.specs.Bins.{whole};

@@ -1,48 +1,48 @@
-//! Entries of a part in order along an axis, and how far they leave no plane open.
+//! Boxes of a part in order along an axis, and up to which place they leave no plane open.
 ghost use Rattle.std.specs.Prelude.{◌≡◌, ◌+◌, ◌<◌, ◌≤◌, ◌⊎◌, ◌++◌, true, length, List, Contains, MatchBool};
 ghost use Rattle.std.specs.Bool.{OnTrue, OnFalse};
 ghost use Rattle.std.specs.List.Sorted.{IsPermutation, IsNonDecreasingBy};
 ghost use Rattle.rectangle_pack.specs.Boxes.{Cuboid, FitsU32, has_cells, start};
-ghost use Rattle.rectangle_pack.specs.private.CutPlans.{AreEntries, IsFilled, AreOrdered, IsClosedBelow, IsClosedOn};
+ghost use Rattle.rectangle_pack.specs.private.CutPlans.{HaveCellsAndFit, IsFilled, AreOrdered, IsClosedBelow, IsClosedOn};
 
 use crate::axis::Axis;
 use crate::bin_section::BinSection;
 use crate::span::Span;
 
-// Puts entries in order of their starts on an axis. Takes no memory.
-fn order_on(axis: Axis, entries: &mut [BinSection])
-    ensures permutation { IsPermutation entries.old entries.new }
-    ensures ordered { IsNonDecreasingBy (start axis) entries.new }
+// Puts boxes in order of their starts on an axis. Takes no memory.
+fn order_on(axis: Axis, boxes: &mut [BinSection])
+    ensures permutation { IsPermutation boxes.old boxes.new }
+    ensures ordered { IsNonDecreasingBy (start axis) boxes.new }
 {
-    entries.sort_unstable_by_key(|entry| Span::of(entry, axis).start);
+    boxes.sort_unstable_by_key(|b| Span::of(b, axis).start);
 }
 
-// Puts entries back in order on an axis, if one is named. Takes no memory.
-fn restore_order(ordered: Option<Axis>, entries: &mut [BinSection])
-    ensures permutation { IsPermutation entries.old entries.new }
-    ensures ordered { AreOrdered ordered entries.new }
+// Puts boxes back in order on an axis, if one is named. Takes no memory.
+fn restore_order(ordered: Option<Axis>, boxes: &mut [BinSection])
+    ensures permutation { IsPermutation boxes.old boxes.new }
+    ensures ordered { AreOrdered ordered boxes.new }
 {
     if let Some(axis) = ordered {
-        order_on(axis, entries);
+        order_on(axis, boxes);
     }
 }
 
-// How far a place below which no plane is open goes on over an entry.
-fn go_on(whole: &BinSection, axis: Axis, place: u32, entry: &BinSection) -> u32
-    requires fits { FitsU32 entry.now }
-    requires cells { has_cells entry.now ≡ true }
-    ensures { (boxes : List Cuboid) → Contains boxes entry.now →
+// How far a place below which no plane is open goes on over the next box.
+fn go_on(whole: &BinSection, axis: Axis, place: u32, next: &BinSection) -> u32
+    requires fits { FitsU32 next.now }
+    requires cells { has_cells next.now ≡ true }
+    ensures { (boxes : List Cuboid) → Contains boxes next.now →
         IsClosedBelow axis place whole.now boxes → IsClosedBelow axis result whole.now boxes }
 {
-    let run = Span::of(entry, axis);
-    if (run.start <= Span::of(whole, axis).start) | (run.start < place) {
-        place.max(run.end())
+    let span = Span::of(next, axis);
+    if (span.start <= Span::of(whole, axis).start) | (span.start < place) {
+        place.max(span.end())
     } else {
         place
     }
 }
 
-// Whether the next entry of two lists, each in order on an axis, is that of the first.
+// Whether the next box of two lists, each in order on an axis, is that of the first.
 fn is_first_next(
     axis: Axis,
     first: &[BinSection],
@@ -60,11 +60,11 @@ fn is_first_next(
     }
 }
 
-// How far the entries of two lists, each in order on the axis, go on from one another, from the
+// How far the boxes of two lists, each in order on the axis, go on from one another, from the
 // start of the box: no plane below is open.
 fn reach(whole: &BinSection, axis: Axis, first: &[BinSection], second: &[BinSection]) -> u32
-    requires first { AreEntries first.now }
-    requires second { AreEntries second.now }
+    requires first { HaveCellsAndFit first.now }
+    requires second { HaveCellsAndFit second.now }
     ensures { IsClosedBelow axis result whole.now (first.now ++ second.now) }
 {
     let mut place = Span::of(whole, axis).start;
@@ -81,23 +81,23 @@ fn reach(whole: &BinSection, axis: Axis, first: &[BinSection], second: &[BinSect
     place
 }
 
-// Whether so many entries at either end already leave no plane on the axis open. Puts them in order
-// on it, and then back in order on the axis on which all entries are in order, if any.
+// Whether so many boxes at either end already leave no plane on the axis open. Puts them in order
+// on it, and then back in order on the axis on which all boxes are in order, if any.
 fn is_blocked(
     whole: &BinSection,
     axis: Axis,
     ordered: Option<Axis>,
-    entries: &mut [BinSection],
+    boxes: &mut [BinSection],
     count: usize,
 ) -> bool
-    requires filled { IsFilled whole.now entries.old }
-    requires ordered { AreOrdered ordered entries.old }
-    requires some { count + count ≤ length entries.old }
-    ensures permutation { IsPermutation entries.old entries.new }
-    ensures ordered { AreOrdered ordered entries.new }
-    ensures closed { OnTrue result (IsClosedOn axis whole.now entries.new) }
+    requires filled { IsFilled whole.now boxes.old }
+    requires ordered { AreOrdered ordered boxes.old }
+    requires some { count + count ≤ length boxes.old }
+    ensures permutation { IsPermutation boxes.old boxes.new }
+    ensures ordered { AreOrdered ordered boxes.new }
+    ensures closed { OnTrue result (IsClosedOn axis whole.now boxes.new) }
 {
-    let (front, rest) = entries.split_at_mut(count);
+    let (front, rest) = boxes.split_at_mut(count);
     let between = rest.len() - count;
     let (_, back) = rest.split_at_mut(between);
     order_on(axis, front);
@@ -108,35 +108,35 @@ fn is_blocked(
     blocked
 }
 
-// So many entries at either end are looked at first, and four times as many each time.
+// So many boxes at either end are looked at first, and four times as many each time.
 const FEW: usize = 16;
 
-// Puts the entries in order on an axis, unless those at both ends already leave no plane on it
+// Puts the boxes in order on an axis, unless those at both ends already leave no plane on it
 // open; whether they are in order. `ordered` says on which axis they are, before and after.
 pub(crate) fn put_in_order(
     whole: &BinSection,
     axis: Axis,
     ordered: &mut Option<Axis>,
-    entries: &mut [BinSection],
+    boxes: &mut [BinSection],
 ) -> bool
-    requires filled { IsFilled whole.now entries.old }
-    requires ordered { AreOrdered ordered.old entries.old }
-    ensures permutation { IsPermutation entries.old entries.new }
-    ensures ordered { AreOrdered ordered.new entries.new }
-    ensures ready { OnTrue result (IsNonDecreasingBy (start axis) entries.new) }
-    ensures blocked { OnFalse result (IsClosedOn axis whole.now entries.new) }
+    requires filled { IsFilled whole.now boxes.old }
+    requires ordered { AreOrdered ordered.old boxes.old }
+    ensures permutation { IsPermutation boxes.old boxes.new }
+    ensures ordered { AreOrdered ordered.new boxes.new }
+    ensures ready { OnTrue result (IsNonDecreasingBy (start axis) boxes.new) }
+    ensures blocked { OnFalse result (IsClosedOn axis whole.now boxes.new) }
 {
     if *ordered == Some(axis) {
         return true;
     }
     let mut count = FEW;
-    while count < entries.len() / 4 {
-        if is_blocked(whole, axis, *ordered, entries, count) {
+    while count < boxes.len() / 4 {
+        if is_blocked(whole, axis, *ordered, boxes, count) {
             return false;
         }
         count = count.saturating_mul(4);
     }
-    order_on(axis, entries);
+    order_on(axis, boxes);
     *ordered = Some(axis);
     true
 }

@@ -5,8 +5,8 @@ use Rattle.rectangle_pack.proofs.cut_plan.plan_of.Given as goal
 -- the steps so far, and what is planned for the pending parts, are the plan
 abbrev pub invariant-loop-part : goal.invariant-loop-part
 invariant-loop-part g l = record {
-  within : l.done ≤ length l.entries;
-  leads : LeadOn l.fn.entries l.fn.whole (reverse l.pending.items) (drop l.done l.entries) l.plan.items;
+  within : l.done ≤ length l.boxes;
+  leads : LeadOn l.fn.boxes l.fn.whole (reverse l.pending.items) (drop l.done l.boxes) l.plan.items;
 }
 
 abbrev pub decreases-loop-part : goal.decreases-loop-part

@@ -7,7 +7,7 @@ use Rattle.rectangle_pack.specs.Bins.{whole as bin}
 use Rattle.rectangle_pack.specs.Counting.{times_filled, Tiles}
 use Rattle.rectangle_pack.specs.Covering.{CoverBin}
 use Rattle.rectangle_pack.specs.CutTrees.{times_in, HaveSameBoxes}
-use Rattle.rectangle_pack.specs.private.CutPlans.{AreEntries, IsFilled}
+use Rattle.rectangle_pack.specs.private.CutPlans.{HaveCellsAndFit, IsFilled}
 use Rattle.rectangle_pack.proofs.lemmas.cuts.Axes.{cell_at, IsAt, is_cell_at, lies_at, runs_on, is_part, stays_in, cell-part, cells-part}
 use Rattle.rectangle_pack.proofs.lemmas.cuts.Boxes.{is_cell_of-true, is_cell_of-from, has_cells-from}
 use Rattle.rectangle_pack.proofs.lemmas.cuts.Counting.{count_yes, count_no, cell_from_filled}
@@ -18,67 +18,67 @@ use Rattle.rectangle_pack.proofs.lemmas.cuts.Parts.{box_alike}
 use Rattle.rectangle_pack.proofs.lemmas.cuts.Times.{cases_box, times_in-nil, times_in-cons, times_in-other, times_in-permutation, which_passes, passes_counted}
 use Rattle.rectangle_pack.proofs.lemmas.cuts.Times.{in_front, All-times_in, All-from_times_in}
 
-module _ (whole : Cuboid) (entries : List Cuboid) (tiles : Tiles entries whole) where
-  -- a cell of an entry is one of the box
-  cell_of_whole : (e : Cuboid) → 0 < times_in e entries → (c : Cell) → is_cell_of c e ≡ true → is_cell_of c whole ≡ true
+module _ (whole : Cuboid) (boxes : List Cuboid) (tiles : Tiles boxes whole) where
+  -- a cell of one of the boxes is one of the whole
+  cell_of_whole : (e : Cuboid) → 0 < times_in e boxes → (c : Cell) → is_cell_of c e ≡ true → is_cell_of c whole ≡ true
   unfolding times_filled
   cell_of_whole e some c h =
-      let same : count_by (is_cell_of c) entries ≡ count_by (is_cell_of c) (whole ∷ []) = tiles.same c in
-      is_cell_of-from c whole (cell_from_filled c whole (omega (arith, same, passes_counted (is_cell_of c) e entries h some)))
+      let same : count_by (is_cell_of c) boxes ≡ count_by (is_cell_of c) (whole ∷ []) = tiles.same c in
+      is_cell_of-from c whole (cell_from_filled c whole (omega (arith, same, passes_counted (is_cell_of c) e boxes h some)))
 
-  in_whole : (e : Cuboid) → 0 < times_in e entries → (f : Axis → ℕ) → IsAt e f → IsAt whole f
+  in_whole : (e : Cuboid) → 0 < times_in e boxes → (f : Axis → ℕ) → IsAt e f → IsAt whole f
   in_whole e some f h = lies_at f whole (cell_of_whole e some (cell_at f) (is_cell_at f e h))
 
-  -- an entry with cells is inside the box
-  entry_inside : (e : Cuboid) → 0 < times_in e entries → has_cells e ≡ true → IsPartOf e whole
-  entry_inside e some cells =
+  -- one of the boxes that has cells is inside the whole
+  box_inside : (e : Cuboid) → 0 < times_in e boxes → has_cells e ≡ true → IsPartOf e whole
+  box_inside e some cells =
       let first = in_whole e some (λ a. start a e) (λ a. (omega arith, runs_on e cells a)) in
       let last = in_whole e some (last_at e) (IsAt-last e cells) in
       is_part e whole (λ a. (omega (arith, first a), omega (arith, last a, runs_on e cells a)))
 
-  pub entries_inside : All (λ e. has_cells e ≡ true → IsPartOf e whole) entries
-  entries_inside = All-from_times_in (λ e. has_cells e ≡ true → IsPartOf e whole) entries entry_inside
+  pub boxes_inside : All (λ e. has_cells e ≡ true → IsPartOf e whole) boxes
+  boxes_inside = All-from_times_in (λ e. has_cells e ≡ true → IsPartOf e whole) boxes box_inside
 
-  holder : (f : Axis → ℕ) → IsAt whole f → (e : Cuboid) × (has_cells e ≡ true) × (0 < times_in e entries) × IsAt e f
+  holder : (f : Axis → ℕ) → IsAt whole f → (e : Cuboid) × (has_cells e ≡ true) × (0 < times_in e boxes) × IsAt e f
   unfolding times_filled
   holder f at =
       let c = cell_at f in
-      let same : count_by (is_cell_of c) entries ≡ count_by (is_cell_of c) (whole ∷ []) = tiles.same c in
-      let some : 0 < count_by (is_cell_of c) entries = omega (arith, same, count_yes (is_cell_of c) whole [] (is_cell_at f whole at)) in
-      let e = which_passes (is_cell_of c) entries some in
+      let same : count_by (is_cell_of c) boxes ≡ count_by (is_cell_of c) (whole ∷ []) = tiles.same c in
+      let some : 0 < count_by (is_cell_of c) boxes = omega (arith, same, count_yes (is_cell_of c) whole [] (is_cell_at f whole at)) in
+      let e = which_passes (is_cell_of c) boxes some in
       (e.0, has_cells-from c e.0 e.1, e.2, lies_at f e.0 e.1)
 
-  -- in a box with cells, an entry has the first cell, and one has the last
-  pub entry_at_start : has_cells whole ≡ true → (e : Cuboid) × (has_cells e ≡ true) × (0 < times_in e entries) × IsAt e (λ a. start a whole)
-  entry_at_start cells = holder (λ a. start a whole) (λ a. (omega arith, runs_on whole cells a))
+  -- where the whole has cells, one of the boxes has the first of them, and one has the last
+  pub box_at_start : has_cells whole ≡ true → (e : Cuboid) × (has_cells e ≡ true) × (0 < times_in e boxes) × IsAt e (λ a. start a whole)
+  box_at_start cells = holder (λ a. start a whole) (λ a. (omega arith, runs_on whole cells a))
 
-  pub entry_at_end : has_cells whole ≡ true → (e : Cuboid) × (has_cells e ≡ true) × (0 < times_in e entries) × IsAt e (last_at whole)
-  entry_at_end cells = holder (last_at whole) (IsAt-last whole cells)
+  pub box_at_end : has_cells whole ≡ true → (e : Cuboid) × (has_cells e ≡ true) × (0 < times_in e boxes) × IsAt e (last_at whole)
+  box_at_end cells = holder (last_at whole) (IsAt-last whole cells)
 
-  -- at most one entry with cells: it is the box, if that has cells
-  pub one_entry_fills : count_by has_cells entries ≤ 1 → HaveSameBoxes (whole ∷ []) entries
-  one_entry_fills few = λ e cells. elim (cases_Bool (has_cells whole)) [
-    | inr empty ↦ elim (cases_lt 0 (times_in e entries)) [
-      | inl some ↦ absurd (both_ways _ empty (cells-part e whole (entry_inside e some cells) cells))
+  -- at most one of the boxes has cells: it is the whole, if that has cells
+  pub one_box_fills : count_by has_cells boxes ≤ 1 → HaveSameBoxes (whole ∷ []) boxes
+  one_box_fills few = λ e cells. elim (cases_Bool (has_cells whole)) [
+    | inr empty ↦ elim (cases_lt 0 (times_in e boxes)) [
+      | inl some ↦ absurd (both_ways _ empty (cells-part e whole (box_inside e some cells) cells))
       | inr none ↦ omega (arith, times_in-empty e whole cells empty)
     ]
     | inl full ↦
-        let first = entry_at_start full in
-        let last = entry_at_end full in
-        let r = in_front first.0 entries first.2 in
-        let counted = sum_by-IsPermutation (λ e. cond (has_cells e) 1 0) entries (first.0 ∷ r.0) r.1 in
-        -- no other entry has cells
+        let first = box_at_start full in
+        let last = box_at_end full in
+        let r = in_front first.0 boxes first.2 in
+        let counted = sum_by-IsPermutation (λ e. cond (has_cells e) 1 0) boxes (first.0 ∷ r.0) r.1 in
+        -- no other box has cells
         let none : count_by has_cells r.0 ≡ 0 = omega (arith, few, counted, count_yes has_cells first.0 r.0 first.1) in
-        let alone : (d : Cuboid) → has_cells d ≡ true → times_in d entries ≡ times_in d (first.0 ∷ []) = λ d full_d.
+        let alone : (d : Cuboid) → has_cells d ≡ true → times_in d boxes ≡ times_in d (first.0 ∷ []) = λ d full_d.
         elim (cases_lt 0 (times_in d r.0)) [
           | inl some ↦ absurd (omega (arith, none, passes_counted has_cells d r.0 full_d some))
-          | inr none_left ↦ omega (arith, times_in-permutation d entries (first.0 ∷ r.0) r.1, times_in-cons d first.0 r.0)
+          | inr none_left ↦ omega (arith, times_in-permutation d boxes (first.0 ∷ r.0) r.1, times_in-cons d first.0 r.0)
         ] in
         let one : last.0 ≡ first.0 = elim (cases_box last.0 first.0) [
           | inl p ↦ p
           | inr n ↦ absurd (omega (arith, last.2, alone last.0 last.1, times_in-other last.0 first.0 [] n, times_in-nil last.0))
         ] in
-        let inside = stays_in first.0 whole (entry_inside first.0 first.2 first.1) in
+        let inside = stays_in first.0 whole (box_inside first.0 first.2 first.1) in
         let ends : IsAt first.0 (last_at whole) = rw one at last.3 in
         let is : first.0 ≡ whole = box_alike first.0 whole (λ a. (omega (arith, inside a, first.3 a), omega (arith, inside a, ends a))) in
         rw (← is) (sym (alone e cells))
@@ -88,10 +88,10 @@ module _ (whole : Cuboid) (entries : List Cuboid) (tiles : Tiles entries whole) 
 pub FitsU32-part : (b whole : Cuboid) → IsPartOf b whole → FitsU32 whole → FitsU32 b
 FitsU32-part b whole part fits = search rules
 
-pub AreEntries-filled : (whole : Cuboid) (entries : List Cuboid) → IsFilled whole entries → AreEntries entries
-AreEntries-filled whole entries filled = λ i d within.
+pub HaveCellsAndFit-filled : (whole : Cuboid) (boxes : List Cuboid) → IsFilled whole boxes → HaveCellsAndFit boxes
+HaveCellsAndFit-filled whole boxes filled = λ i d within.
     let cells = filled.cells i d within in
-    (cells, FitsU32-part _ whole (entries_inside whole entries filled.tiles i d within cells) filled.fits)
+    (cells, FitsU32-part _ whole (boxes_inside whole boxes filled.tiles i d within cells) filled.fits)
 
 pub IsFilled-permutation : (whole : Cuboid) (bs es : List Cuboid) → IsPermutation bs es → IsFilled whole bs → IsFilled whole es
 IsFilled-permutation whole bs es moved filled = record {

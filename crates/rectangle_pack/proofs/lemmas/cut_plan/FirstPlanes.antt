@@ -8,7 +8,7 @@ use Rattle.rectangle_pack.specs.Counting.{Tiles}
 use Rattle.rectangle_pack.specs.CutTrees.{lower, upper, CutTree, Leaf, Cut, IsTreeOf, leaves, HaveSameBoxes}
 use Rattle.rectangle_pack.specs.CutPlans.{axis_rank, IsFirstPlane, lower_boxes, upper_boxes, IsPlannedTree, steps_of, IsCutPlan}
 use Rattle.rectangle_pack.specs.private.CutPlans.{IsClosedOn, AreClosed}
-use Rattle.rectangle_pack.proofs.lemmas.cut_plan.Filling.{one_entry_fills}
+use Rattle.rectangle_pack.proofs.lemmas.cut_plan.Filling.{one_box_fills}
 use Rattle.rectangle_pack.proofs.lemmas.cut_plan.OpenPlanes.{IsOpenPlane-same}
 use Rattle.rectangle_pack.proofs.lemmas.cut_plan.Split.{IsPlaceOf-open, times_in-sides, lower_side, upper_side}
 use Rattle.rectangle_pack.proofs.lemmas.cuts.SameBoxes.{HaveSameBoxes-sym, HaveSameBoxes-permutation, HaveSameBoxes-filtered, count-same}
@@ -59,7 +59,7 @@ IsPlannedTree-same (Cut a p l u) whole bs es same h = (
 pub planned_tree_has_leaves : (t : CutTree) (whole : Cuboid) (boxes : List Cuboid) → Tiles boxes whole → IsPlannedTree t whole boxes
     → IsTreeOf t whole × HaveSameBoxes (leaves t whole) boxes
 unfolding leaves
-planned_tree_has_leaves Leaf whole boxes tiles few = (tt, one_entry_fills whole boxes tiles few)
+planned_tree_has_leaves Leaf whole boxes tiles few = (tt, one_box_fills whole boxes tiles few)
 planned_tree_has_leaves (Cut a p l u) whole boxes tiles h =
     let is_open = h.1.is_open in
     let place = IsPlaceOf-open is_open in

@@ -1,4 +1,4 @@
--- The parts of a box that are still to be planned, the next one first, whose entries stand one part after another.
+-- The parts of a box that are still to be planned, the next one first, whose boxes stand one part after another.
 use Rattle.rectangle_pack.proofs.Std.{ℕ, suc, ◌+◌, ◌-◌, ◌<◌, ◌≤◌, ◌≡◌, true, List, [], ◌∷◌, ◌++◌, length, take, drop, refl, ap, sym, ◌∙◌, subst, append_assoc}
 use Rattle.rectangle_pack.proofs.Std.{reverse, arith, All, count_by, None, IsPermutation, length-take-le, length-drop, reverse-append, take_at, drop_at}
 use Rattle.rectangle_pack.proofs.Std.{length-append, append-nil, take-append-drop, All-take, All-drop, count_by-le-length, length-filter, length_permutation}
@@ -28,11 +28,11 @@ rank_below X = omega arith
 rank_below _ = omega arith
 
 module _ (boxes : List Cuboid) (whole : Cuboid) where
-  -- a part: its entries fill it, in this order, and are from cuts of it where the boxes are from cuts of the whole
-  pub record IsPending (p : Part) (entries : List Cuboid) : Type 0 where
-    pub filled : IsFilled p.whole entries
-    pub ordered : AreOrdered p.ordered entries
-    pub from_cuts : IsFromCuts boxes whole → IsFromCuts entries p.whole
+  -- a part: its filling fill it, in this order, and are from cuts of it where the boxes are from cuts of the whole
+  pub record IsPending (p : Part) (filling : List Cuboid) : Type 0 where
+    pub filled : IsFilled p.whole filling
+    pub ordered : AreOrdered p.ordered filling
+    pub from_cuts : IsFromCuts boxes whole → IsFromCuts filling p.whole
 
   -- the steps so far, and whatever is planned for the pending parts, in order, are the plan of the whole
   unfoldable pub LeadOn : List Part → List Cuboid → List CutStep → Type 0
@@ -53,7 +53,7 @@ module _ (boxes : List Cuboid) (whole : Cuboid) where
         λ t is. subst (λ l. LeadOn ps l (steps ++ steps_of t)) back (goes_on t (subst (IsPlannedTree t p.whole) (sym front) is)),
       )
 
-  -- at most one entry
+  -- at most one box
   pub LeadOn-leaf : (p : Part) (ps : List Part) (rest : List Cuboid) (steps : List CutStep)
       → p.count ≤ 1 → LeadOn (p ∷ ps) rest steps → LeadOn ps (drop p.count rest) (steps ++ LeafHere ∷ [])
   unfolding LeadOn
@@ -90,12 +90,12 @@ module _ (boxes : List Cuboid) (whole : Cuboid) where
     -- a cut at the first open plane
     module _ (s : Split) (split : IsSplit p.whole es s) where
       is_open : IsOpenPlane s.axis s.place p.whole es
-      is_open = split.gap.is_open
+      is_open = split.on_axis.is_open
 
       place : IsPlaceOf s.axis s.place p.whole
       place = IsPlaceOf-open is_open
 
-      -- the part on a side of it, with the entries there
+      -- the part on a side of it, with the boxes there
       side_pending : (q : Part) (xs : List Cuboid) → IsSide p.whole es q.whole xs → All (λ e. has_cells e ≡ true) xs → AreOrdered q.ordered xs
           → IsPending q xs
       side_pending q xs side cells ordered = record {
@@ -106,20 +106,20 @@ module _ (boxes : List Cuboid) (whole : Cuboid) where
 
       lower_pending : IsPending (lower_part p s) (take s.below es)
       lower_pending = side_pending (lower_part p s) (take s.below es)
-          (rw split.gap.front (lower_side s.axis s.place p.whole es place is_open.uncut filled.tiles))
+          (rw split.on_axis.front (lower_side s.axis s.place p.whole es place is_open.uncut filled.tiles))
           (All-take (λ e. has_cells e ≡ true) s.below es filled.cells) (IsNonDecreasingBy-take (start s.axis) s.below es split.ordered)
 
       upper_pending : IsPending (upper_part p s) (drop s.below es)
       upper_pending = side_pending (upper_part p s) (drop s.below es)
-          (rw split.gap.back (upper_side s.axis s.place p.whole es place is_open.uncut filled.tiles))
+          (rw split.on_axis.back (upper_side s.axis s.place p.whole es place is_open.uncut filled.tiles))
           (All-drop (λ e. has_cells e ≡ true) s.below es filled.cells) (IsNonDecreasingBy-drop (start s.axis) s.below es split.ordered)
 
       planned_cut : (t u : CutTree) → IsPlannedTree t (lower s.axis s.place p.whole) (take s.below es)
           → IsPlannedTree u (upper s.axis s.place p.whole) (drop s.below es) → IsPlannedTree (Cut s.axis s.place t u) p.whole (take p.count rest)
       planned_cut t u below above =
           let first : IsFirstPlane s.axis s.place p.whole es =
-          record { is_open = is_open; least = split.gap.least; first = λ e q lt. split.first e lt q } in
-          let here : IsPlannedTree (Cut s.axis s.place t u) p.whole es = (two, first, rw split.gap.front at below, rw split.gap.back at above) in
+          record { is_open = is_open; least = split.on_axis.least; first = λ e q lt. split.first e lt q } in
+          let here : IsPlannedTree (Cut s.axis s.place t u) p.whole es = (two, first, rw split.on_axis.front at below, rw split.on_axis.back at above) in
           let same = HaveSameBoxes-permutation (take p.count rest) es moved in
           IsPlannedTree-same (Cut s.axis s.place t u) p.whole es (take p.count rest) (HaveSameBoxes-sym (take p.count rest) es same) here
 
@@ -130,19 +130,19 @@ module _ (boxes : List Cuboid) (whole : Cuboid) where
           let xs = take s.below es in
           let ys = drop s.below es in
           let now = steps ++ CutAt s.axis s.place ∷ [] in
-          let cut : length xs ≡ s.below = length-take-le s.below es (omega (arith, split.gap.some_above)) in
+          let cut : length xs ≡ s.below = length-take-le s.below es (omega (arith, split.on_axis.some_above)) in
           subst (λ l. LeadOn (lower_part p s ∷ upper_part p s ∷ ps) l now) (sym (append_assoc xs ys left) ∙ ap (λ l. l ++ left) (take-append-drop s.below es))
           (LeadOn-cons (lower_part p s) (upper_part p s ∷ ps) xs (ys ++ left) now cut lower_pending
           (λ t below. LeadOn-cons (upper_part p s) ps ys left (now ++ steps_of t) (omega (arith, length-drop s.below es, len)) upper_pending
           (λ u above. subst (LeadOn ps left) (simp append_assoc) (leads.2 (Cut s.axis s.place t u) (planned_cut t u below above)))))
 
-pub LeadOn-start : (whole : Cuboid) (entries : List Cuboid) → IsFilled whole entries
-    → LeadOn entries whole (record { whole = whole; count = length entries; ordered = None } ∷ []) entries []
+pub LeadOn-start : (whole : Cuboid) (filling : List Cuboid) → IsFilled whole filling
+    → LeadOn filling whole (record { whole = whole; count = length filling; ordered = None } ∷ []) filling []
 unfolding LeadOn
-LeadOn-start whole entries filled =
-    let p : Part = record { whole = whole; count = length entries; ordered = None } in
-    subst (λ l. LeadOn entries whole (p ∷ []) l []) (append-nil entries)
-    (LeadOn-cons entries whole p [] entries [] [] refl (record { filled = filled; ordered = tt; from_cuts = λ from. from }) (λ t is. (t, is, refl)))
+LeadOn-start whole filling filled =
+    let p : Part = record { whole = whole; count = length filling; ordered = None } in
+    subst (λ l. LeadOn filling whole (p ∷ []) l []) (append-nil filling)
+    (LeadOn-cons filling whole p [] filling [] [] refl (record { filled = filled; ordered = tt; from_cuts = λ from. from }) (λ t is. (t, is, refl)))
 
 -- no part is left
 pub LeadOn-end : (boxes : List Cuboid) (whole : Cuboid) (rest : List Cuboid) (steps : List CutStep)
@@ -159,22 +159,22 @@ weight p = suc (p.count + p.count - 2)
 module _ (boxes : List Cuboid) (whole : Cuboid) where
   pub LeadOn-same : (ps qs : List Part) (rest left : List Cuboid) (steps more : List CutStep)
       → ps ≡ qs → rest ≡ left → steps ≡ more → LeadOn boxes whole ps rest steps → LeadOn boxes whole qs left more
-  LeadOn-same ps qs rest left steps more parts entries text h = rw (parts, entries, text) at h
+  LeadOn-same ps qs rest left steps more parts filling text h = rw (parts, filling, text) at h
 
   -- what is known of the next part; the parts are kept in reverse
-  pub record IsNext (p : Part) (popped : List Part) (entries : List Cuboid) (done : ℕ) (steps : List CutStep) : Type 0 where
-    pub leads : LeadOn boxes whole (p ∷ reverse popped) (drop done entries) steps
-    pub within : done + p.count ≤ length entries
-    pub pending : IsPending boxes whole p (take p.count (drop done entries))
+  pub record IsNext (p : Part) (popped : List Part) (filling : List Cuboid) (done : ℕ) (steps : List CutStep) : Type 0 where
+    pub leads : LeadOn boxes whole (p ∷ reverse popped) (drop done filling) steps
+    pub within : done + p.count ≤ length filling
+    pub pending : IsPending boxes whole p (take p.count (drop done filling))
 
-  pub IsNext-popped : (items popped : List Part) (p : Part) (entries : List Cuboid) (done : ℕ) (steps : List CutStep)
-      → done ≤ length entries → items ≡ popped ++ p ∷ [] → LeadOn boxes whole (reverse items) (drop done entries) steps
-      → IsNext p popped entries done steps
+  pub IsNext-popped : (items popped : List Part) (p : Part) (filling : List Cuboid) (done : ℕ) (steps : List CutStep)
+      → done ≤ length filling → items ≡ popped ++ p ∷ [] → LeadOn boxes whole (reverse items) (drop done filling) steps
+      → IsNext p popped filling done steps
   unfolding LeadOn
-  IsNext-popped items popped p entries done steps within is h =
-      let rest = drop done entries in
+  IsNext-popped items popped p filling done steps within is h =
+      let rest = drop done filling in
       let next : LeadOn boxes whole (p ∷ reverse popped) rest steps = rw (is, reverse-append popped (p ∷ [])) at h in
-      record { leads = next; within = omega (arith, next.0, length-drop done entries); pending = next.1 }
+      record { leads = next; within = omega (arith, next.0, length-drop done filling); pending = next.1 }
 
 -- one part is kept
 pub only_is_next : (none items : List Part) (p : Part) → none ≡ [] → items ≡ none ++ p ∷ [] → p ∷ [] ≡ reverse items
@@ -185,12 +185,12 @@ pub lower_is_next : (popped pending last : List Part) (lo up : Part) → pending
     → lo ∷ up ∷ reverse popped ≡ reverse last
 lower_is_next popped pending last lo up one two = rw (two, one, reverse-append (popped ++ up ∷ []) (lo ∷ []), reverse-append popped (up ∷ [])) refl
 
--- the entries after those that are planned, once those of the next part are in another order
-module _ (done n : ℕ) (entries es : List Cuboid) (within : done ≤ length entries) where
-  pub rest_moved : es ++ drop n (drop done entries) ≡ drop done (put_mid done (done + n - done) entries es)
+-- the boxes after those that are planned, once those of the next part are in another order
+module _ (done n : ℕ) (filling es : List Cuboid) (within : done ≤ length filling) where
+  pub rest_moved : es ++ drop n (drop done filling) ≡ drop done (put_mid done (done + n - done) filling es)
   rest_moved =
       let same : done + n - done ≡ n = omega arith in
-      rw same (sym (drop_at (take done entries) (es ++ drop n (drop done entries)) done (length-take-le done entries within)))
+      rw same (sym (drop_at (take done filling) (es ++ drop n (drop done filling)) done (length-take-le done filling within)))
 
-  pub still_within : done ≤ length (put_mid done (done + n - done) entries es)
-  still_within = omega (arith, length-append (take done entries) (es ++ drop (done + n - done) (drop done entries)), length-take-le done entries within)
+  pub still_within : done ≤ length (put_mid done (done + n - done) filling es)
+  still_within = omega (arith, length-append (take done filling) (es ++ drop (done + n - done) (drop done filling)), length-take-le done filling within)

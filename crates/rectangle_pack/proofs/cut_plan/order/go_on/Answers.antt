@@ -1,16 +1,16 @@
 use Rattle.rectangle_pack.proofs.Std.{◌≡◌, ◌<◌, ◌≤◌, ◌⊎◌, ap, arith, nat_tests}
 use Rattle.rectangle_pack.specs.declared.span.Span.{Span}
 use Rattle.rectangle_pack.specs.Boxes.{start}
-use Rattle.rectangle_pack.proofs.lemmas.cut_plan.Gaps.{IsClosedBelow-more}
+use Rattle.rectangle_pack.proofs.lemmas.cut_plan.FirstOpen.{IsClosedBelow-more}
 use Rattle.rectangle_pack.proofs.cut_plan.order.go_on.Goals as goal
 
-pub returns-then-run-of : goal.returns-then-run-of
-returns-then-run-of c boxes there closed =
+pub returns-then-span-of : goal.returns-then-span-of
+returns-then-span-of c boxes there closed =
     let a = c.args.axis in
     let whole = c.args.whole.now in
-    let e = c.args.entry.now in
-    let run = c.of-run.result in
-    let begin : run.start ≡ start a e = ap (λ (s : Span). s.start) c.of-run.ensures.is in
+    let e = c.args.next.now in
+    let span = c.of-span.result in
+    let begin : span.start ≡ start a e = ap (λ (s : Span). s.start) c.of-span.ensures.is in
     let first : c.of.result.start ≡ start a whole = ap (λ (s : Span). s.start) c.of.ensures.is in
-    let early : (start a e ≤ start a whole) ⊎ (start a e < c.args.place) = grind (arith, nat_tests, begin, first, c.if-run-of.true) in
-    rw (c.max.ensures, c.end.ensures, c.of-run.ensures.ends) (IsClosedBelow-more a whole boxes c.args.place e there c.requires.cells early closed)
+    let early : (start a e ≤ start a whole) ⊎ (start a e < c.args.place) = grind (arith, nat_tests, begin, first, c.if-span-of.true) in
+    rw (c.max.ensures, c.end.ensures, c.of-span.ensures.ends) (IsClosedBelow-more a whole boxes c.args.place e there c.requires.cells early closed)

@@ -3,7 +3,7 @@ use Rattle.rectangle_pack.proofs.lemmas.cut_plan.Filling.{IsFilled-permutation}
 use Rattle.rectangle_pack.proofs.cut_plan.order.put_in_order.Goals as goal
 
 pub is_blocked-requires-clause-filled : goal.is_blocked-requires-clause-filled
-is_blocked-requires-clause-filled c = IsFilled-permutation c.args.whole.now c.args.entries.now c.loop-count.entries
+is_blocked-requires-clause-filled c = IsFilled-permutation c.args.whole.now c.args.boxes.now c.loop-count.boxes
     c.loop-count.invariant.permutation c.requires.filled
 
 pub returns-then-is_blocked-clause-permutation : goal.returns-then-is_blocked-clause-permutation

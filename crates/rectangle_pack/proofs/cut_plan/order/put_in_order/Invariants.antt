@@ -5,9 +5,9 @@ use Rattle.rectangle_pack.proofs.cut_plan.order.put_in_order.Given as goal
 abbrev pub invariant-loop-count : goal.invariant-loop-count
 invariant-loop-count l = record {
   some : 0 < l.count;
-  permutation : IsPermutation l.fn.entries l.entries;
-  ordered : AreOrdered l.ordered l.entries;
+  permutation : IsPermutation l.fn.boxes l.boxes;
+  ordered : AreOrdered l.ordered l.boxes;
 }
 
 abbrev pub decreases-loop-count : goal.decreases-loop-count
-decreases-loop-count l = length l.fn.entries - l.count
+decreases-loop-count l = length l.fn.boxes - l.count

@@ -4,8 +4,8 @@ use Rattle.rectangle_pack.proofs.cut_plan.split.first_split.Given as goal
 
 abbrev pub invariant-loop-axis : goal.invariant-loop-axis
 invariant-loop-axis l = record {
-  permutation : IsPermutation l.fn.entries l.entries;
-  filled : IsFilled l.whole l.entries;
-  ordered : AreOrdered l.ordered l.entries;
-  closed : AreClosed l.axis-index l.whole l.entries;
+  permutation : IsPermutation l.fn.boxes l.boxes;
+  filled : IsFilled l.whole l.boxes;
+  ordered : AreOrdered l.ordered l.boxes;
+  closed : AreClosed l.axis-index l.whole l.boxes;
 }

@@ -6,8 +6,8 @@ pub returns-then-not-put_in_order-clause-split : goal.returns-then-not-put_in_or
 returns-then-not-put_in_order-clause-split c =
     AreClosed-more _ _ _ _ c.put_in_order.ensures.permutation c.requires.closed (c.if-not-put_in_order.ensures {u = tt}).blocked
 
-pub first_gap-requires-clause-filled : goal.first_gap-requires-clause-filled
-first_gap-requires-clause-filled c = IsFilled-permutation _ _ _ c.put_in_order.ensures.permutation c.requires.filled
+pub first_open_plane-requires-clause-filled : goal.first_open_plane-requires-clause-filled
+first_open_plane-requires-clause-filled c = IsFilled-permutation _ _ _ c.put_in_order.ensures.permutation c.requires.filled
 
 pub returns-in_err-place-clause-split : goal.returns-in_err-place-clause-split
 returns-in_err-place-clause-split c =
@@ -15,7 +15,7 @@ returns-in_err-place-clause-split c =
 
 pub returns-clause-split : goal.returns-clause-split
 returns-clause-split c = record {
-  gap = c.in_ok-place.ensures {u = tt};
+  on_axis = c.in_ok-place.ensures {u = tt};
   ordered = (c.if-not-put_in_order.ensures {u = tt}).ready;
   first = AreClosed-permutation _ _ _ _ c.put_in_order.ensures.permutation c.requires.closed;
 }
