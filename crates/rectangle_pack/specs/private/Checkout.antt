@@ -62,7 +62,7 @@ pub record IsTriedIn {B : Type 0} (cmp : B → B → Ordering) (id : B) (old : L
   pub written : new ≡ set_value (is_at (cmp id)) old after
 
 -- the bin of this id was tried, wherever it is, and the order stays
-pub record IsTried {B : Type 0} (cmp : B → B → Ordering) (id : B) (old : BinsInUse B) (before after : Open) (new : BinsInUse B) : Type 0 where
+pub record IsBinTried {B : Type 0} (cmp : B → B → Ordering) (id : B) (old : BinsInUse B) (before after : Open) (new : BinsInUse B) : Type 0 where
   pub kept : IsTriedIn cmp id old.kept (closed true before) (closed true after) new.kept
   pub own : IsTriedIn cmp id old.own before.own after.own new.own
   pub order : new.order ≡ old.order

@@ -1,11 +1,11 @@
-//! The bins of a packing. In the order in which they are tried they are checked out of their map
-//! while it lasts: with many bins and groups, to look each up by its id for each group would take
-//! most of the time.
+//! The bins of a packing. While it lasts, a bin is out of its map from when a group first reaches
+//! it: with many bins and groups, looking each up by its id for each group would take most of the
+//! time.
 ghost use Rattle.std.specs.Prelude.{ℕ, ◌≡◌, ◌<◌, length, IsSome, All, map, slice_index_or};
 ghost use Rattle.std.specs.BTreeMap.{get};
 ghost use Rattle.std.specs.List.{IsDistinct};
 ghost use Rattle.std.specs.Ordering.{eq_by_cmp};
-ghost use Rattle.rectangle_pack.specs.private.Checkout.{Open, left_of, IsTried};
+ghost use Rattle.rectangle_pack.specs.private.Checkout.{Open, left_of, IsBinTried};
 ghost use Rattle.rectangle_pack.specs.private.TrialNotes.{IsNotedAnswer, LeavesNotes};
 
 use crate::closures::Policy;
@@ -58,7 +58,7 @@ impl<'b, B: Ord, A: Allocator + Copy> PackingBins<'b, B, A> {
         }
     }
 
-    // The ids of the bins in the order in which they are tried, each with its key.
+    // The ids of the bins in the order in which they are tried, each with its rate.
     pub(crate) fn order(&self) -> &'b [(u128, B)]
         ensures { result.now ≡ self.now.order }
     {
@@ -109,7 +109,7 @@ impl<'b, B: Ord, A: Allocator + Copy> PackingBins<'b, B, A> {
         requires in_order { index < length self.old.order }
         ensures tried { (o : ℕ × B) → o ≡ slice_index_or self.old.order index o →
             (before after : Open) ×
-            IsTried B.cmp o.1 self.old before after self.new ×
+            IsBinTried B.cmp o.1 self.old before after self.new ×
             IsNotedAnswer (R.may policy.now) before.now sizes.now tests.old result
             buffers.new.locations.items after.now tests.new ×
             LeavesNotes result buffers.new.notes.items before.own after.own }

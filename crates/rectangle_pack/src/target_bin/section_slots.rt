@@ -46,8 +46,8 @@ impl<A: Allocator + Copy> Model for SectionSlots<A> {
 // What a search found, and how many sections a look at each, from the last on, would have tested.
 #[derive(Clone, Copy)]
 pub(crate) struct Search {
-    // The slot of the last section that holds the box.
-    pub slot: Option<usize>,
+    // The index of the last section that holds the box; in a list in slots, that of its slot.
+    pub index: Option<usize>,
     // How many sections stand from there on; all, where no section holds the box.
     pub tests: usize,
 }
@@ -111,11 +111,11 @@ impl<A: Allocator + Copy> SectionSlots<A> {
 
     // Looks for the last section that holds the member.
     pub(crate) fn last_holding(&self, member: &RectToInsert) -> Search
-        ensures found { MatchOption result.slot
+        ensures found { MatchOption result.index
             (NoneHolds self.now.all member.now result.tests)
             (λ slot. IsLastHolding self.now.all member.now slot result.tests) }
-        ensures place { IfSome result.slot (λ slot. slot < length self.now.all) }
-        ensures full { IfSome result.slot
+        ensures place { IfSome result.index (λ slot. slot < length self.now.all) }
+        ensures full { IfSome result.index
             (λ slot. IsSome (slice_index_or self.now.all slot None)) }
     {
         let size = member.whd();
@@ -131,14 +131,14 @@ impl<A: Allocator + Copy> SectionSlots<A> {
                     tests += 1;
                     if section.holds(member) {
                         return Search {
-                            slot: Some(end),
+                            index: Some(end),
                             tests,
                         };
                     }
                 }
             }
         }
-        Search { slot: None, tests }
+        Search { index: None, tests }
     }
 
     // Where a row or a block ends here and no section in it holds the size: where it begins, and

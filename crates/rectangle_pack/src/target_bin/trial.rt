@@ -52,14 +52,14 @@ pub(crate) trait FreeList {
 
     // Looks for the newest section that holds a member.
     fn find(&self, member: &RectToInsert) -> Search
-        ensures none { IfNone result.slot
+        ensures none { IfNone result.index
             (All (λ s. ¬ Holds s member.now) (sections self.now) ×
             (result.tests ≡ length (sections self.now))) }
-        ensures some { IfSome result.slot
+        ensures some { IfSome result.index
             (λ index. IsNewest self.now member.now index result.tests) };
 
-    // Places one member into the section at this index, and notes the step. Before it, room is made
-    // for so many steps; where it is there, that takes no memory. An error is want of memory.
+    // Places one member into the section at this index, and notes the step. First room is made for
+    // so many steps, which takes no memory where it is there. An error is want of memory.
     fn place<R: Policy>(
         &mut self,
         index: usize,
@@ -197,8 +197,9 @@ impl<A: Allocator + Copy> Buffers<A> {
     }
 }
 
-// One trial; whether it is done. A stuck trial is undone, and leaves the room. Room for all steps is
-// made before the first, so a trial that is stuck at once takes no memory. An error is want of memory.
+// One trial; whether it is done. A stuck trial is undone, and leaves the room. Room for all steps
+// is made before the first, so a trial that is stuck at once takes no memory. An error is want of
+// memory.
 pub(crate) fn run_trial<L, R, A>(
     list: &mut L,
     members: &[RectToInsert],
@@ -225,7 +226,7 @@ where
     buffers.locations.clear();
     for (i, member) in members.iter().enumerate() {
         let found = list.find(member);
-        let Some(index) = found.slot else {
+        let Some(index) = found.index else {
             tests.add(found.tests);
             undo(list, &mut buffers.notes);
             return Ok(false);

@@ -4,7 +4,7 @@ use Rattle.rectangle_pack.proofs.Std.{Some, None, IsSome, map, set, Ordering, is
 use Rattle.rectangle_pack.proofs.Std.{set_value, keys_of, is_at, keys-set_value, IsDistinct-head, IsDistinct-tail, set_value_same, inl, inr, cases_Bool}
 use Rattle.rectangle_pack.proofs.Std.{set-get_or}
 use Rattle.rectangle_pack.specs.Bins.{Held, IsSound}
-use Rattle.rectangle_pack.specs.private.Checkout.{Open, closed, checked_in, BinsInUse, in_use, left_of, CanCheckIn, IsTriedIn, IsTried}
+use Rattle.rectangle_pack.specs.private.Checkout.{Open, closed, checked_in, BinsInUse, in_use, left_of, CanCheckIn, IsTriedIn, IsBinTried}
 use Rattle.rectangle_pack.proofs.lemmas.util.Maps.{is_at-back, is_some-keys, set_value-twice, lookup-set_here}
 
 -- a bin of which nothing stands in slots goes back as it is
@@ -220,19 +220,19 @@ module _ {B : Type 0} {cmp : B → B → Ordering} (total : IsTotalOrder cmp) wh
         }
 
     -- so the bins in use are those of before, with one tried
-    pub IsTried-out : (v w : Open) → i < length out → v ≡ get_or out i v → IsSome (lookup (is_at (cmp o.1)) es)
+    pub IsBinTried-out : (v w : Open) → i < length out → v ≡ get_or out i v → IsSome (lookup (is_at (cmp o.1)) es)
         → IsSound v.own.bin.size v.own.bin.sections → IsSound v.now.size v.now.sections → v.own.room ≤ w.own.room
-        → IsTried cmp o.1 (in_use cmp order out es) v w (in_use cmp order (set out i w) es)
-    IsTried-out v w within is_open there sound sound_now room = record {
+        → IsBinTried cmp o.1 (in_use cmp order out es) v w (in_use cmp order (set out i w) es)
+    IsBinTried-out v w within is_open there sound sound_now room = record {
       kept = IsTriedIn-out true v w within is_open there sound_now room;
       own = IsTriedIn-out false v w within is_open there sound room;
       order = refl;
     }
 
-    pub IsTried-map : (v w : Held) → length out ≤ i → lookup (is_at (cmp o.1)) es ≡ Some v → IsSound v.bin.size v.bin.sections → v.room ≤ w.room
-        → IsTried cmp o.1 (in_use cmp order out es) (record { own = v; now = v.bin }) (record { own = w; now = w.bin })
+    pub IsBinTried-map : (v w : Held) → length out ≤ i → lookup (is_at (cmp o.1)) es ≡ Some v → IsSound v.bin.size v.bin.sections → v.room ≤ w.room
+        → IsBinTried cmp o.1 (in_use cmp order out es) (record { own = v; now = v.bin }) (record { own = w; now = w.bin })
         (in_use cmp order out (set_value (is_at (cmp o.1)) es w))
-    IsTried-map v w past found sound room = record {
+    IsBinTried-map v w past found sound room = record {
       kept = IsTriedIn-map true v w past found sound room;
       own = IsTriedIn-map false v w past found sound room;
       order = refl;

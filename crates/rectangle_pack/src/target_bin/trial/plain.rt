@@ -141,11 +141,11 @@ impl<A: Allocator> FreeList for Vec<BinSection, A> {
     fn find(&self, member: &RectToInsert) -> Search {
         match newest(self.as_slice(), member) {
             Some(index) => Search {
-                slot: Some(index),
+                index: Some(index),
                 tests: self.len() - index,
             },
             None => Search {
-                slot: None,
+                index: None,
                 tests: self.len(),
             },
         }

@@ -1,5 +1,5 @@
-//! A list of free sections in slots, in which the newest that holds a member is found without a look
-//! at each.
+//! A list of free sections in slots, in which the newest that holds a member is found without a
+//! look at each.
 ghost use Rattle.std.specs.Prelude.{ℕ, ◌≡◌, ◌<◌, ◌≤◌, ◌+◌, ◌++◌, ◌∷◌, [], Some, length, map, filter, All};
 ghost use Rattle.rectangle_pack.specs.Boxes.{FitsU32, has_cells};
 ghost use Rattle.rectangle_pack.specs.Steps.{IsStep};

@@ -1,7 +1,7 @@
 use Rattle.rectangle_pack.proofs.Std.{◌≡◌, ◌<◌, ◌≤◌, length, get_or, sym, ap, ◌∙◌, arith, Some, IsSome, is_some, option_copied_mut, lookup, is_at}
 use Rattle.rectangle_pack.proofs.Std.{get_or_default, keys-set_value}
 use Rattle.rectangle_pack.proofs.lemmas.util.Maps.{is_some-option_map}
-use Rattle.rectangle_pack.proofs.lemmas.packing.Checkout.{stays, CanCheckIn-written, IsTried-out, IsTried-map}
+use Rattle.rectangle_pack.proofs.lemmas.packing.Checkout.{stays, CanCheckIn-written, IsBinTried-out, IsBinTried-map}
 use Rattle.rectangle_pack.proofs.pack.checkout.PackingBins.try_bin.Goals as goal
 
 pub returns-then-index-len : goal.returns-then-index-len
@@ -13,7 +13,7 @@ returns-then-index-len g c = record {
       let at : o ≡ get_or c.self.inside.order.now c.args.index o = rw same is in
       let in_order : c.args.index < length c.self.inside.order.now = rw same c.requires.in_order in
       let within : c.args.index < length c.self.inside.out.items = omega (arith, c.if-index-len.true, c.len.ensures, c.self.inside.out.ok.0) in
-      let tried = IsTried-out g.met.B.Ord.total _ _ c.self.inside.bins.entries c.args.index o c.self.invariant.distinct in_order at v w within
+      let tried = IsBinTried-out g.met.B.Ord.total _ _ c.self.inside.bins.entries c.args.index o c.self.invariant.distinct in_order at v w within
       c.index_mut.ensures.value (rw at (c.self.invariant.found c.args.index o in_order)) c.place_noted.ensures.sound c.place_noted.ensures.sound_now
       c.place_noted.ensures.room in
       rw (← c.self.view_is) (v, w, tried, c.place_noted.ensures.answer, c.place_noted.ensures.noted);
@@ -53,7 +53,7 @@ returns g c = record {
       let past : length c.self.inside.out.items ≤ c.args.index = omega (arith, c.if-index-len.false, c.len.ensures, c.self.inside.out.ok.0) in
       let found : lookup (is_at (g.B.Ord.cmp here.1)) c.self.inside.bins.entries ≡ Some v =
       sym c.get_mut.ensures.value ∙ ap option_copied_mut c.unwrap-bin.ensures in
-      let tried = IsTried-map g.met.B.Ord.total c.self.inside.order.now c.self.inside.out.items c.self.inside.bins.entries c.args.index here
+      let tried = IsBinTried-map g.met.B.Ord.total c.self.inside.order.now c.self.inside.out.items c.self.inside.bins.entries c.args.index here
       c.self.invariant.distinct in_order c.index-order-index.is v w past found c.place_noted-2.ensures.sound c.place_noted-2.ensures.room in
       rw (← one, ← c.self.view_is) (
         record { own = v; now = v.bin },
