@@ -1,4 +1,4 @@
-//! How a run ends.
+//! The ends of a run and their exit statuses.
 ghost use Rattle.std.specs.Prelude.{◌≡◌};
 ghost use Rattle.packrun.specs.Statuses.{status_of};
 

@@ -60,7 +60,8 @@ fn print_placement<A: Allocator, W: Write>(
 
 // Prints the number and the space behind it.
 fn print_number<W: Write>(number: u64, out: &mut W) -> Result<(), Stop>
-    ensures { OnOk result (Appends (W.contents out.old) (W.contents out.new) (decimal number ++ 32 ∷ [])) }
+    ensures { OnOk result
+        (Appends (W.contents out.old) (W.contents out.new) (decimal number ++ 32 ∷ [])) }
 {
     let mut line = [0; LONGEST_NUMBER];
     let start = put_number(number, b' ', &mut line, LONGEST_NUMBER);
@@ -69,7 +70,8 @@ fn print_number<W: Write>(number: u64, out: &mut W) -> Result<(), Stop>
 
 // Prints the word and the space behind it.
 fn print_word<A: Allocator, W: Write>(word: &Word<A>, out: &mut W) -> Result<(), Stop>
-    ensures { OnOk result (Appends (W.contents out.old) (W.contents out.new) (word.now ++ 32 ∷ [])) }
+    ensures { OnOk result
+        (Appends (W.contents out.old) (W.contents out.new) (word.now ++ 32 ∷ [])) }
 {
     printed(out.write_all(word.as_bytes()))?;
     printed(out.write_all(b" "))
@@ -98,7 +100,8 @@ fn print_section<W: Write>(section: &BinSection, out: &mut W) -> Result<(), Stop
 
 // Prints the least corner of a box and its sides, to the end of the line.
 fn print_box<W: Write>(corner: [u32; 3], sides: [u32; 3], out: &mut W) -> Result<(), Stop>
-    ensures { OnOk result (Appends (W.contents out.old) (W.contents out.new) (box_text corner sides)) }
+    ensures { OnOk result
+        (Appends (W.contents out.old) (W.contents out.new) (box_text corner sides)) }
 {
     let mut line = [0; 2 * LONGEST_THREE];
     let middle = put_three(sides, b'\n', &mut line, 2 * LONGEST_THREE);

@@ -1,4 +1,4 @@
-//! Why a run ends before its input does.
+//! What stops a run, and which errors of std stand for it.
 ghost use Rattle.std.specs.Prelude.{◌≡◌};
 ghost use Rattle.packrun.specs.declared.stop.Stop.TheVariants.{NoMemory, IoFailed};
 

@@ -1,7 +1,8 @@
 -- Whether a section holds a size, and else on which axis it does not.
 use Rattle.std.specs.Prelude.{◌<◌, ◌≤◌, Result, Ok, Err}
 use Rattle.rectangle_pack.specs.declared.bin_section.BinSectionError.{BinSectionError}
-use Rattle.rectangle_pack.specs.declared.bin_section.BinSectionError.TheVariants.{PlacementWiderThanBinSection, PlacementTallerThanBinSection, PlacementDeeperThanBinSection}
+use Rattle.rectangle_pack.specs.declared.bin_section.BinSectionError.TheVariants.{PlacementWiderThanBinSection, PlacementTallerThanBinSection}
+use Rattle.rectangle_pack.specs.declared.bin_section.BinSectionError.TheVariants.{PlacementDeeperThanBinSection}
 use Rattle.rectangle_pack.specs.Boxes.{Size, Cuboid, Holds}
 
 -- the first axis, of width, height and depth, on which the size is greater

@@ -1,7 +1,8 @@
 -- The texts that errors print.
 use Rattle.std.specs.Prelude.{ℕ, List, codes}
 use Rattle.rectangle_pack.specs.declared.bin_section.BinSectionError.{BinSectionError}
-use Rattle.rectangle_pack.specs.declared.bin_section.BinSectionError.TheVariants.{PlacementWiderThanBinSection, PlacementTallerThanBinSection, PlacementDeeperThanBinSection}
+use Rattle.rectangle_pack.specs.declared.bin_section.BinSectionError.TheVariants.{PlacementWiderThanBinSection, PlacementTallerThanBinSection}
+use Rattle.rectangle_pack.specs.declared.bin_section.BinSectionError.TheVariants.{PlacementDeeperThanBinSection}
 use Rattle.rectangle_pack.specs.declared.pack.answer.RectanglePackError.{RectanglePackError}
 use Rattle.rectangle_pack.specs.declared.pack.answer.RectanglePackError.TheVariants.{NotEnoughBinSpace, OutOfMemory}
 

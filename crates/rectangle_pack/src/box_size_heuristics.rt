@@ -1,4 +1,4 @@
-//! Heuristics: what a size is worth.
+//! The heuristic that rates a size by its volume.
 ghost use Rattle.std.specs.Prelude.{◌≡◌};
 ghost use Rattle.rectangle_pack.specs.Boxes.{volume_of};
 

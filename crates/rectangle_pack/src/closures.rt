@@ -1,4 +1,4 @@
-//! The closures that a caller gives, as one value.
+//! What packings ask of the closures that a caller gives.
 ghost use Rattle.std.specs.Prelude.{◌≡◌};
 ghost use Rattle.rectangle_pack.specs.Boxes.{FitsU32, Holds};
 ghost use Rattle.rectangle_pack.specs.Choice.{IsAllowedCut};
@@ -35,7 +35,6 @@ pub(crate) trait Policy {
         ensures pieces { IsAllowedCut (may self.now).prefer section.now member.now result.1 };
 }
 
-// The two closures of a caller.
 #[derive(Drop)]
 pub(crate) struct Closures<'a, H, C> {
     pub heuristic: &'a H,

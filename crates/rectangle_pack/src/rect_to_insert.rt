@@ -1,4 +1,4 @@
-//! Boxes that are to be placed.
+//! What a caller gives of a box: its size.
 ghost use Rattle.std.specs.Prelude.{◌≡◌};
 
 use crate::width_height_depth::WidthHeightDepth;

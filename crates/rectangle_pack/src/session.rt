@@ -138,7 +138,8 @@ where
         height: u32,
         depth: u32,
     ) -> Result<(), SessionError>
-        ensures added { let size : Size = record { width = width; height = height; depth = depth } in
+        ensures added { let size : Size = record { width = width; height = height; depth = depth }
+            in
             AddsBin BinId.cmp id size self.old (reply_of result) self.new }
         ensures always { IsSession BinId.cmp self.new }
     {

@@ -6,7 +6,7 @@ ghost use Rattle.rectangle_pack.specs.private.Spans.{span_of, spans_of, span_end
 use crate::axis::Axis;
 use crate::bin_section::BinSection;
 
-// A stretch of an axis.
+// The places from `start` on, so many as `length` says.
 #[derive(Clone, Copy, PartialEq)]
 pub(crate) struct Span {
     pub start: u32,

@@ -191,8 +191,8 @@ impl<A: Allocator + Copy> TargetBin<A> {
     }
 
     /// Gives a section back: puts it at the end of the list where the bin accepts it. An error
-    /// leaves the bin as it was, and is want of memory only where the list has no room for one more;
-    /// an empty section inside the bin is accepted.
+    /// leaves the bin as it was, and is want of memory only where the list has no room for one
+    /// more; an empty section inside the bin is accepted.
     ///
     /// ```
     /// let mut bin = TargetBin::new(alloc, 10, 10, 1)?;

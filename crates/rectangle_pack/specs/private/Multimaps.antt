@@ -1,5 +1,6 @@
 -- Lists under keys, to which items are appended, and from which they are taken back.
-use Rattle.std.specs.Prelude.{◌≡◌, ℕ, ◌+◌, ◌≤◌, List, [], ◌∷◌, ◌++◌, Option, Some, None, length, filter, reverse, nat_lt, count_by, unwrap_or, All, Contains, IsSomeAnd, MatchOption, vec_len}
+use Rattle.std.specs.Prelude.{◌≡◌, ℕ, ◌+◌, ◌≤◌, List, [], ◌∷◌, ◌++◌, Option, Some, None, length, filter, reverse}
+use Rattle.std.specs.Prelude.{nat_lt, count_by, unwrap_or, All, Contains, IsSomeAnd, MatchOption, vec_len}
 use Rattle.std.specs.Option.{option_map}
 use Rattle.std.specs.Vec.{vec_capacity}
 use Rattle.std.specs.declared.cmp.Ordering.{Ordering}

@@ -26,7 +26,8 @@ trials_noted done = if nat_eq (length done.notes.items) 0 then [] else done ∷ 
 abbrev pub Undoes : {B A : Type 0} → (B → B → Ordering) → List (DoneTrial B A) → List (B × Held) → List (B × Bin) → Type 0
 Undoes cmp [] now start = bins_of now ≡ start
 Undoes cmp (e ∷ es) now start =
-    (held : Held) × (lookup (is_at (cmp e.id.now)) now ≡ Some held) × CanUndoTrial e held × Undoes cmp es (set_value (is_at (cmp e.id.now)) now (before_trial e held)) start
+    (held : Held) × (lookup (is_at (cmp e.id.now)) now ≡ Some held) × CanUndoTrial e held
+    × Undoes cmp es (set_value (is_at (cmp e.id.now)) now (before_trial e held)) start
 
 -- undoing the trials, the last of the journal first, leads from now to start
 pub record GoesBack {B A : Type 0} (cmp : B → B → Ordering) (now : List (B × Held)) (journal : List (DoneTrial B A)) (start : List (B × Bin)) : Type 0 where

@@ -8,7 +8,7 @@ use crate::width_height_depth::WidthHeightDepth;
 // A number for each of the axes x, y and z.
 pub(crate) type PerAxis = (u32, u32, u32);
 
-// The extents of a piece on the two axes that it is not cut off on.
+// The extents of a piece on the two axes other than its own.
 pub(crate) type Face = (u32, u32);
 
 // The pieces right, above and behind. On its own axis each begins at the end of the box and has

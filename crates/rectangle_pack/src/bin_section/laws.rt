@@ -12,7 +12,7 @@ use crate::bin_section::BinSection;
 use crate::width_height_depth::WidthHeightDepth;
 use std::cmp::Ordering;
 
-/// A law: the test that counts are made of answers whether a cell is a cell of a box.
+/// A law: the test by which cells are counted is true exactly at the cells of a box.
 pub fn cell_test_is_membership()
     ensures { (c : Cell) (b : Cuboid) → IsTrue (is_cell_of c b) ↔ IsCellOf c b }
 {}

@@ -1,4 +1,4 @@
-// Maps from keys to lists, where a key with no items is as good as none.
+//! Maps from keys to lists, where a key with no items is as good as none.
 ghost use Rattle.std.specs.Prelude.{◌≡◌, ◌<◌, ◌≤◌, ◌+◌, ◌^◌, ◌++◌, ◌∷◌, [], List, length, map, sum, reverse, OnOk, OnErr, IsSomeAnd, IsSome, is_some, MatchOption, Some, true, false};
 ghost use Rattle.std.specs.BTreeMap.{get, is_at, IsOrdered};
 ghost use Rattle.std.specs.Map.{keys_of, lookup, set_value, values_of};

@@ -11,7 +11,7 @@ use std::alloc::Allocator;
 use std::collections::BTreeMap;
 use std::mem;
 
-// A trial that was done in the bin of this id, and how to undo it. The id is that in the order of
+// A trial that was done in the bin of this id, and how to undo it. `id` points into the order of
 // the bins.
 #[derive(Drop)]
 pub(crate) struct DoneTrial<'b, B, A: Allocator> {

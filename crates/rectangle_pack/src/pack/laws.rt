@@ -120,8 +120,8 @@ where
         KeepsEachBin BinId.cmp old placements new }
 {}
 
-/// A law: where no two groups are excluded, a packing is one that excludes no bin, done or refused, and
-/// makes as many fit tests.
+/// A law: where no two groups are excluded, a packing is one that excludes no bin, done or refused,
+/// and makes as many fit tests.
 pub fn packing_without_exclusions<Id: Ord, BinId: Ord, GroupId: Ord, H, C>(
     heuristic: &H,
     comparison: &C,

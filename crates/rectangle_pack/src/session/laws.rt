@@ -11,9 +11,9 @@ use crate::width_height_depth::WidthHeightDepth;
 use std::alloc::Allocator;
 use std::cmp::Ordering;
 
-/// A law: what holds of a session always holds after each transition of its machine, and after each
-/// run: each bin is covered, by boxes that are from straight cuts of it until it is coalesced. And
-/// the next number does not fall, so that no number is given twice.
+/// A law: what holds of a session always holds after each transition of it, and after each run:
+/// each bin is covered, by boxes that are from straight cuts of it until it is coalesced. And the
+/// next number does not fall, so that no number is given twice.
 pub fn transitions_keep_sessions<Id, BinId, GroupId, H, C, A>(heuristic: &H, comparison: &C)
 where
     Id: Ord,

@@ -11,7 +11,7 @@ ghost use Rattle.rectangle_pack.specs.Trials.{most_tests};
 use crate::width_height_depth::WidthHeightDepth;
 use std::cmp::Ordering;
 
-/// A law: joining leaves one list alone, and so does a sweep, for all lists.
+/// A law: joining can leave one list only, and so can a sweep, for all lists.
 pub fn joining_has_one_result()
     ensures joined { (old one other : List Cuboid) (idx lo hi : ℕ) →
         IsJoined idx lo hi old one → IsJoined idx lo hi old other → one ≡ other }

@@ -24,8 +24,8 @@ pub(crate) fn are_worth_it(sections: usize, members: usize, boxes: usize) -> boo
     sections.saturating_add(members) >= LONG && sections / SECTIONS_A_BOX <= boxes
 }
 
-// One trial in slots; whether it is done. Where there are none yet, they are made, unless no section
-// holds the first member. The bin's own list stays, and gets the room to write the sections back.
+// One trial in slots; whether it is done. Where there are none yet, they are made, unless no
+// section holds the first member. The bin's own list stays, and gets the room to write the sections back.
 #[inline(never)]
 pub(crate) fn place_slotted<R, A>(
     bin: &mut TargetBin<A>,

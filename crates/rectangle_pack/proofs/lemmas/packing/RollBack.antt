@@ -1,4 +1,5 @@
--- Journals of done trials, and what undoing them leads back to.
+-- Journals of done trials, and what undoing them leads back to. That a packing that is rolled back leaves the bins as they were is a clause of
+-- `Packing::roll_back`, which stands on these.
 use Rattle.rectangle_pack.proofs.Std.{◌≡◌, ◌≤◌, List, [], ◌∷◌, ◌++◌, refl, ap, sym, ◌∙◌, subst, cond, true, false, Bool, arith, Some, reverse, Ordering}
 use Rattle.rectangle_pack.proofs.Std.{reverse-append, AllZip, lookup, set_value, keys_of, is_some, option_map, is_at, lookup-map_values, keys_of-map_values}
 use Rattle.rectangle_pack.specs.declared.pack.journal.DoneTrial.{DoneTrial}

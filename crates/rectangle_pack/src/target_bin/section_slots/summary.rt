@@ -119,7 +119,7 @@ impl Summary {
     }
 }
 
-// Where a stretch of this width ends at the end, and no section in it holds the size: how many
+// Where a stretch of `width` slots ends at `end`, and no section in it holds the size: how many
 // sections stand in it.
 #[inline(always)]
 pub(crate) fn count_if_too_small(

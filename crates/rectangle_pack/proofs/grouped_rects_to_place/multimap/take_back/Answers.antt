@@ -1,4 +1,4 @@
-use Rattle.rectangle_pack.proofs.Std.{◌-◌, sym, ◌∙◌, ap, is_some, lookup, is_at}
+use Rattle.rectangle_pack.proofs.Std.{sym, ◌∙◌, ap, is_some, lookup, is_at}
 use Rattle.rectangle_pack.specs.Groups.{lists_of}
 use Rattle.rectangle_pack.proofs.lemmas.multimap.Vectors.{lookup-lists}
 use Rattle.rectangle_pack.proofs.lemmas.util.Maps.{is_some-option_map}
