@@ -1,4 +1,4 @@
-//! A sheet cutter's order. A rule of the shop's own needs fewer sheets than the library's, two panels
+//! A sheet cutter's order. The shop's own rule needs fewer sheets than the library's, two panels
 //! are called off for a larger one, and each sheet gets its cutting plan, as steps at the saw.
 #![tactic(auto)]
 
@@ -80,7 +80,7 @@ fn print(rt: &HostRuntime, title: &str, cutting: &Cutting) -> io::Result<()> {
     println!(rt; "")
 }
 
-// Prints the cutting plan of a sheet. Parts wait on a pile, by their left, lower, right, upper ends.
+// Prints the cutting plan of a sheet. Parts wait on a pile, by left, lower, right and upper ends.
 fn print_steps(rt: &HostRuntime, sheet: u32, cutting: &Cutting) -> io::Result<()> {
     println!(rt; "-- sheet {sheet}")?;
     let Some(plan) = cutting.cut_plan(&sheet)? else {

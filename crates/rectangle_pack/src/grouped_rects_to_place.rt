@@ -42,7 +42,7 @@ pub struct GroupedRectsToPlace<Id: Ord, GroupId: Ord, A: Allocator + Copy = Glob
     alloc: A,
 }
 
-// Each group has a member, and each member has a size.
+// Each group has an entry, and the id of each entry has a size.
 impl<Id: Ord, GroupId: Ord, A: Allocator + Copy> Model for GroupedRectsToPlace<Id, GroupId, A> {
     ghost use Rattle.rectangle_pack.specs.Groups.{Collection, MembersHaveSizes, lists_of};
 
@@ -203,7 +203,7 @@ impl<Id: Ord + Clone + Drop, GroupId: Ord + Clone + Drop, A: Allocator + Copy> G
         }
     }
 
-    // The size is set last; where that is refused, the members are taken back.
+    // The size is set last; where that is refused, the entries are taken back.
     fn push_grouped(
         &mut self,
         inbound_id: Id,

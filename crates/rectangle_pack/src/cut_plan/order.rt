@@ -27,7 +27,8 @@ fn restore_order(ordered: Option<Axis>, boxes: &mut [BinSection])
     }
 }
 
-// How far a place below which no plane is open goes on over the next box.
+// Where no plane is open below `place`, none is below what this answers: the end of the next box,
+// if that is farther and the box starts before `place`, or where the whole does.
 fn go_on(whole: &BinSection, axis: Axis, place: u32, next: &BinSection) -> u32
     requires fits { FitsU32 next.now }
     requires cells { has_cells next.now ≡ true }
@@ -60,8 +61,8 @@ fn is_first_next(
     }
 }
 
-// How far the boxes of two lists, each in order on the axis, go on from one another, from the
-// start of the box: no plane below is open.
+// Goes through the boxes of two lists, each in order on the axis, as through those of one. No plane
+// is open below the place that this answers.
 fn reach(whole: &BinSection, axis: Axis, first: &[BinSection], second: &[BinSection]) -> u32
     requires first { HaveCellsAndFit first.now }
     requires second { HaveCellsAndFit second.now }

@@ -97,7 +97,7 @@ where
     Ok(last)
 }
 
-// Names each location by the id of its turn and by the bin.
+// Makes each location a placement, of the id at the same index, in this bin.
 pub(crate) fn name_all<Id, B, A>(
     placements: &mut Vec<Placement<Id, B>, A>,
     ids: &[Id],

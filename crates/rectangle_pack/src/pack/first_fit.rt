@@ -167,7 +167,7 @@ where
     Ok(None)
 }
 
-// The bins that these groups went into, of those whose bin is kept.
+// The homes of these groups, of those that have one in `homes`.
 fn excluded_bins<'a, 'b, K: Ord, B: Ord, A: Allocator + Copy>(
     alloc: A,
     partners: &'a [K],

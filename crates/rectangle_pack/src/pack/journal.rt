@@ -1,4 +1,5 @@
-//! The journal of a packing: its trials that are done, by which it is rolled back.
+//! The journal of a packing: its trials that are done in bins' own lists, by which it is rolled
+//! back.
 ghost use Rattle.std.specs.Prelude.{◌≡◌, ◌<◌, ◌+◌, ◌≤◌, ◌++◌, vec_len, List};
 ghost use Rattle.std.specs.Vec.{vec_capacity};
 ghost use Rattle.rectangle_pack.specs.Bins.{Bin};

@@ -4,10 +4,11 @@ ghost use Rattle.rectangle_pack.specs.Numbers.{saturated};
 
 use std::marker::Model;
 
-/// How many fit tests the rule asks for: a member that is placed costs one for its section and one
-/// for each section after it, a member that is stuck costs one for each section of the list. In a
-/// long list the search makes fewer: it passes over sections together that are all too small, and
-/// counts each. The count stays at the greatest `u128`.
+/// How many fit tests a look at one section after another makes, from the newest on: a member that
+/// is placed costs one for its section and one for each newer one, and a member that finds no
+/// section costs one for each section of the list. In a long list the search makes fewer: it passes
+/// over sections together that are all too small, and counts each. The count stays at the greatest
+/// `u128`.
 #[derive(Debug, PartialEq, Drop)]
 pub struct FitTests {
     count: u128,

@@ -141,8 +141,8 @@ impl<A: Allocator + Copy> SectionSlots<A> {
         Search { index: None, tests }
     }
 
-    // Where a row or a block ends here and no section in it holds the size: where it begins, and
-    // how many sections stand in it.
+    // Where a row or a block ends here, and its summary shows that no section in it holds the size:
+    // where it begins, and how many sections stand in it.
     #[inline(always)]
     fn too_small_before(&self, end: usize, size: &WidthHeightDepth) -> Option<(usize, usize)>
         requires from { 0 < end }

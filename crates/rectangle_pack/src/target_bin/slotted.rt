@@ -25,7 +25,8 @@ pub(crate) fn are_worth_it(sections: usize, members: usize, boxes: usize) -> boo
 }
 
 // One trial in slots; whether it is done. Where there are none yet, they are made, unless no
-// section holds the first member. The bin's own list stays, and gets the room to write the sections back.
+// section holds the first member. The bin's own list stays, and gets the room to write the
+// sections back.
 #[inline(never)]
 pub(crate) fn place_slotted<R, A>(
     bin: &mut TargetBin<A>,
@@ -61,7 +62,7 @@ where
     }
 }
 
-// The same in slots that are there.
+// One trial in slots that are there. It leaves no notes, since the bin's own list stays.
 fn place_in<R, A>(
     bin: &mut TargetBin<A>,
     slots: &mut SectionSlots<A>,

@@ -197,9 +197,9 @@ impl<A: Allocator + Copy> Buffers<A> {
     }
 }
 
-// One trial; whether it is done. A stuck trial is undone, and leaves the room. Room for all steps
-// is made before the first, so a trial that is stuck at once takes no memory. An error is want of
-// memory.
+// One trial; whether it is done. A stuck trial is undone, and the room that was made stays. Room
+// for all steps is made once the first member has found a section, so a trial that is stuck at once
+// takes no memory. An error is want of memory.
 pub(crate) fn run_trial<L, R, A>(
     list: &mut L,
     members: &[RectToInsert],

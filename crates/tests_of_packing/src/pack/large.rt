@@ -20,8 +20,8 @@ fn add_cells(alloc: Global, bins: &mut Bins) -> Result<(), AllocError> {
     Ok(())
 }
 
-// Whether so many boxes are placed in the order of their numbers, each in the bin of its number, but
-// those of greater numbers in the last bin.
+// Whether so many boxes are placed in the order of their numbers, each in the bin of its number,
+// but those of greater numbers in the last bin.
 fn are_in_turn(placements: &[Placement<u32, u32>], count: u32, last: u32) -> bool {
     for (number, placed) in (0..count).zip(placements.iter()) {
         if placed.id != number || placed.bin != number.min(last) {

@@ -197,9 +197,9 @@ fn pack(seen: &mut Seen, lines: &[Row]) -> Result<bool, AllocError> {
     Ok(is_right)
 }
 
-// Takes over the reply to a command, with the lines of numbers before it. Whether it is right: a bin
-// is refused where its name is known, a release where nothing of its number is placed, a call of a
-// bin where its name is not known, and a packing never.
+// Takes over the reply to a command, with the lines of numbers before it. Whether it is right: a
+// bin is refused where its name is known, a release where nothing of its number is placed, a call
+// of a bin where its name is not known, and a packing never.
 fn take_over(
     alloc: Global,
     seen: &mut Seen,

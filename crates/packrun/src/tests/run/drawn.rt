@@ -7,14 +7,15 @@ use std::alloc::{AllocError, Global};
 use std::process::Abort;
 use std::str;
 
-// In a line `@` is a name from 1 to 3, `#` a digit, `!` the side of a bin, `%` that of a box, and `*`
-// the number of the round.
+// In a line `@` is a name from 1 to 3, `#` a digit, `!` the side of a bin, `%` that of a box, and
+// `*` the number of the round.
 //
 // Each round adds two bins 6x6x6 and packs at most three entries of sides up to 2, so no packing is
-// refused. A box of sides up to 2 leaves of the section that it is put into a piece that is as large
-// on two axes, and smaller by at most 2 on the third; so a new bin takes three such boxes in a row.
-// The pairs keep group 2 apart from the groups 1 and 3, and no other groups. These two go into the
-// first bin that takes them, so of the new bins they need one, and the other is left for group 2.
+// refused. A box of sides up to 2 leaves of the section that it is put into a piece that is as
+// large on two axes, and smaller by at most 2 on the third; so a new bin takes three such boxes in
+// a row. The pairs keep group 2 apart from the groups 1 and 3, and no other groups. These two go
+// into the first bin that takes them, so of the new bins they need one, and the other is left for
+// group 2.
 const CUBES: &str = "bin 1* 6 6 6\nbin 2* 6 6 6\n";
 
 // At most two entries.

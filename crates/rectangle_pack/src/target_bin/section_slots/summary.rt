@@ -119,8 +119,8 @@ impl Summary {
     }
 }
 
-// Where a stretch of `width` slots ends at `end`, and no section in it holds the size: how many
-// sections stand in it.
+// Where a stretch of `width` slots ends at `end`, and its summary shows that no section in it holds
+// the size: how many sections stand in it.
 #[inline(always)]
 pub(crate) fn count_if_too_small(
     summaries: &[Summary],

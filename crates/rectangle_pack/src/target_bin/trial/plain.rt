@@ -105,7 +105,7 @@ where
     (location, note)
 }
 
-// Undoes one step.
+// Takes the pieces of a step off, and puts its section back at its index.
 fn undo_one<A: Allocator>(sections: &mut Vec<BinSection, A>, note: Note)
     requires { CanUndoOne (vec_capacity sections.old) note sections.old.items }
     ensures items { sections.new.items ≡ before_note note sections.old.items }

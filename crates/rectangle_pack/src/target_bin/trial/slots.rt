@@ -73,7 +73,7 @@ where
     (location, note)
 }
 
-// Undoes one step.
+// Takes the pieces of a step off, and puts its section back into its slot.
 fn undo_one<A: Allocator + Copy>(slots: &mut SectionSlots<A>, note: Note)
     requires { CanUndoSlot note slots.old.all }
     ensures all { slots.new.all ≡ slots_before_note note slots.old.all }
