@@ -4,12 +4,12 @@ use Rattle.std.specs.declared.cmp.Ordering.{Ordering}
 use Rattle.std.specs.declared.vec.Vec.{Vec}
 use Rattle.std.specs.Map.{lookup}
 use Rattle.std.specs.BTreeMap.{is_at}
-use Rattle.rectangle_pack.specs.declared.cut_plan.CutStep.{CutStep}
+use Rattle.rectangle_pack_plans.specs.declared.cut_plan.CutStep.{CutStep}
 use Rattle.rectangle_pack.specs.declared.session.command.SessionError.{SessionError}
 use Rattle.rectangle_pack.specs.declared.session.command.SessionError.TheVariants.{UnknownBin, OutOfMemory}
-use Rattle.rectangle_pack.specs.Bins.{Bin, whole}
-use Rattle.rectangle_pack.specs.CutTrees.{IsFromCuts}
-use Rattle.rectangle_pack.specs.CutPlans.{IsCutPlan}
+use Rattle.rectangle_pack_sections.specs.Bins.{Bin, whole}
+use Rattle.rectangle_pack_sections.specs.CutTrees.{IsFromCuts}
+use Rattle.rectangle_pack_plans.specs.CutPlans.{IsCutPlan}
 use Rattle.rectangle_pack.specs.Session.{State, boxes_of}
 
 module _ {Id B : Type 0} (bin_cmp : B → B → Ordering) (state : State Id B) (id : B) where

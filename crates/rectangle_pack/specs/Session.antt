@@ -1,28 +1,28 @@
 -- Sessions: the state of one, what holds of it always, and what each command makes of it.
-use Rattle.std.specs.Prelude.{◌≡◌, ◌≢◌, ℕ, ◌+◌, ◌<◌, ◌≤◌, ◌^◌, List, [], ◌∷◌, ◌++◌, length, map, filter, All}
-use Rattle.std.specs.Prelude.{AllPairs, Some, None, IsSome, MatchBool, Result, Ok, Err, true, false}
+use Rattle.std.specs.Prelude.{◌≡◌, ◌≢◌, ℕ, ◌+◌, ◌<◌, ◌≤◌, ◌^◌, List, [], ◌∷◌, ◌++◌, length, map, filter, All, AllPairs, Some, None, IsSome, MatchBool, Result}
+use Rattle.std.specs.Prelude.{Ok, Err, true, false}
 use Rattle.std.specs.declared.cmp.Ordering.{Ordering}
 use Rattle.std.specs.declared.cmp.Ordering.TheVariants.{Equal}
 use Rattle.std.specs.Map.{lookup, set_value}
 use Rattle.std.specs.BTreeMap.{is_at, insert_entry}
-use Rattle.rectangle_pack.specs.declared.grouped_rects_to_place.Group.{Group}
-use Rattle.rectangle_pack.specs.declared.pack.answer.Placement.{Placement}
+use Rattle.rectangle_pack_groups.specs.declared.grouped_rects_to_place.Group.{Group}
+use Rattle.rectangle_pack_bins.specs.declared.pack.answer.Placement.{Placement}
 use Rattle.rectangle_pack.specs.declared.session.command.Outstanding.{Outstanding}
 use Rattle.rectangle_pack.specs.declared.session.command.Packed.{Packed as PackedNumbers}
 use Rattle.rectangle_pack.specs.declared.session.command.SessionError.{SessionError}
-use Rattle.rectangle_pack.specs.declared.session.command.SessionError.TheVariants.{DuplicateBin, UnknownBin, UnknownPlacement}
-use Rattle.rectangle_pack.specs.declared.session.command.SessionError.TheVariants.{NumbersUsedUp, NotEnoughBinSpace, OutOfMemory}
+use Rattle.rectangle_pack.specs.declared.session.command.SessionError.TheVariants.{DuplicateBin, UnknownBin, UnknownPlacement, NumbersUsedUp, NotEnoughBinSpace}
+use Rattle.rectangle_pack.specs.declared.session.command.SessionError.TheVariants.{OutOfMemory}
 use Rattle.rectangle_pack.specs.declared.session.command.Reply.{Reply}
 use Rattle.rectangle_pack.specs.declared.session.command.Reply.TheVariants.{Done, Packed, Refused}
 use Rattle.rectangle_pack.specs.declared.session.command.Command.{Command}
 use Rattle.rectangle_pack.specs.declared.session.command.Command.TheVariants.{AddBin, Pack, Release, Coalesce, CoalesceAll}
-use Rattle.rectangle_pack.specs.Boxes.{Size, Cuboid, has_cells}
-use Rattle.rectangle_pack.specs.Bins.{Bin, new_bin, whole}
-use Rattle.rectangle_pack.specs.Covering.{CoverBin}
-use Rattle.rectangle_pack.specs.CutTrees.{IsFromCuts}
-use Rattle.rectangle_pack.specs.Joining.{IsJoined, IsSwept}
-use Rattle.rectangle_pack.specs.Groups.{Collection, entries_of}
-use Rattle.rectangle_pack.specs.Packing.{Rules, PackingDone, PackingRefused}
+use Rattle.rectangle_pack_sections.specs.Boxes.{Size, Cuboid, has_cells}
+use Rattle.rectangle_pack_sections.specs.Bins.{Bin, new_bin, whole}
+use Rattle.rectangle_pack_sections.specs.Covering.{CoverBin}
+use Rattle.rectangle_pack_sections.specs.CutTrees.{IsFromCuts}
+use Rattle.rectangle_pack_lists.specs.Joining.{IsJoined, IsSwept}
+use Rattle.rectangle_pack_groups.specs.Groups.{Collection, entries_of}
+use Rattle.rectangle_pack_bins.specs.Packing.{Rules, PackingDone, PackingRefused}
 
 -- a session: its bins by id, the outstanding placements, and the number of the next placement
 pub record State (Id B : Type 0) : Type 0 where

@@ -1,8 +1,8 @@
 -- The texts that the errors of a session print.
 use Rattle.std.specs.Prelude.{ℕ, List, codes}
 use Rattle.rectangle_pack.specs.declared.session.command.SessionError.{SessionError}
-use Rattle.rectangle_pack.specs.declared.session.command.SessionError.TheVariants.{DuplicateBin, UnknownBin, UnknownPlacement}
-use Rattle.rectangle_pack.specs.declared.session.command.SessionError.TheVariants.{NumbersUsedUp, NotEnoughBinSpace, OutOfMemory}
+use Rattle.rectangle_pack.specs.declared.session.command.SessionError.TheVariants.{DuplicateBin, UnknownBin, UnknownPlacement, NumbersUsedUp, NotEnoughBinSpace}
+use Rattle.rectangle_pack.specs.declared.session.command.SessionError.TheVariants.{OutOfMemory}
 
 -- why a session refused a call
 abbrev pub session_text : SessionError → List ℕ

@@ -1,9 +1,9 @@
 -- Statistics of a bin: sums over its boxes as they are.
 use Rattle.std.specs.Prelude.{List, length}
 use Rattle.rectangle_pack.specs.declared.session.stats.BinStats.{BinStats}
-use Rattle.rectangle_pack.specs.Boxes.{Cuboid, volume_of}
-use Rattle.rectangle_pack.specs.Bins.{Bin}
-use Rattle.rectangle_pack.specs.Counting.{total_volume}
+use Rattle.rectangle_pack_sections.specs.Boxes.{Cuboid, volume_of}
+use Rattle.rectangle_pack_sections.specs.Bins.{Bin}
+use Rattle.rectangle_pack_sections.specs.Counting.{total_volume}
 
 -- the statistics of a bin in which these boxes stand: its volume; the volumes of its free sections, and of the boxes that stand
 -- in it, added up; and how many there are of each, those without cells counted too

@@ -1,31 +1,66 @@
 //! Packs boxes into bins, in two and three dimensions. Sizes and corners are counted in cells.
+//!
+//! Here are sessions; the layers below, each a crate, have the rest, and it is passed on from here.
 #![tactic(auto)]
 
-mod axis;
-pub mod bin_section;
-pub mod box_size_heuristics;
-mod closures;
-mod cut_plan;
-pub mod grouped_rects_to_place;
-pub mod pack;
-pub mod packed_location;
-pub mod rect_to_insert;
 pub mod session;
-mod span;
-pub mod target_bin;
-pub mod width_height_depth;
 
-pub use axis::Axis;
+/// Free sections of a bin, and how a box is placed into one.
+pub mod bin_section {
+    pub use rectangle_pack_sections::bin_section::{
+        BinSection, BinSectionError, cell_test_is_membership, contains_smallest_box,
+        pieces_are_from_cuts, sections_are_ordered, sharing_is_symmetric, smallest_box_is_preorder,
+    };
+}
+
+/// The heuristic that rates a size by its volume.
+pub mod box_size_heuristics {
+    pub use rectangle_pack_sections::box_size_heuristics::volume_heuristic;
+}
+
+/// Boxes in groups.
+pub mod grouped_rects_to_place {
+    pub use rectangle_pack_groups::grouped_rects_to_place::{
+        Group, GroupedRectsToPlace, equal_pushes_leave_equal_collections, groups_are_ordered,
+    };
+}
+
+/// Packing groups of boxes into bins.
+pub mod pack {
+    pub use rectangle_pack_bins::pack::{
+        Placement, RectanglePackError, RectanglePackOk, excluded_groups_are_apart,
+        groups_are_placed_whole, locations_follow_placements, pack_rects, pack_rects_counted,
+        packing_has_one_result, packing_keeps_cells, packing_without_exclusions, preorders_decide,
+        refused_box_is_held_nowhere, volume_packing_has_one_result,
+    };
+}
+
+/// Where a box was placed.
+pub mod packed_location {
+    pub use rectangle_pack_sections::packed_location::{PackedLocation, RotatedBy};
+}
+
+/// What a caller gives of a box: its size.
+pub mod rect_to_insert {
+    pub use rectangle_pack_sections::rect_to_insert::RectToInsert;
+}
+
+/// Bins and their free sections.
+pub mod target_bin {
+    pub use rectangle_pack_bins::target_bin::{PushBinSectionError, TargetBin};
+    pub use rectangle_pack_lists::fit_tests::FitTests;
+}
+
+/// Sizes.
+pub mod width_height_depth {
+    pub use rectangle_pack_sections::width_height_depth::{WidthHeightDepth, sizes_are_ordered};
+}
+
 pub use bin_section::{
     BinSection, BinSectionError, cell_test_is_membership, contains_smallest_box,
     pieces_are_from_cuts, sections_are_ordered, sharing_is_symmetric, smallest_box_is_preorder,
 };
 pub use box_size_heuristics::volume_heuristic;
-pub use cut_plan::CutStep;
-pub use cut_plan::laws::{
-    cuts_cover_bins, cuts_have_open_planes, open_planes_split_cuts, pinwheel_is_not_from_cuts,
-    plans_are_unique,
-};
 pub use grouped_rects_to_place::{
     Group, GroupedRectsToPlace, equal_pushes_leave_equal_collections, groups_are_ordered,
 };
@@ -37,12 +72,18 @@ pub use pack::{
 };
 pub use packed_location::{PackedLocation, RotatedBy};
 pub use rect_to_insert::RectToInsert;
-pub use session::{
-    BinStats, Command, Outstanding, Packed, Reply, Session, SessionError, transitions_keep_sessions,
-};
-pub use target_bin::laws::{
+pub use rectangle_pack_lists::laws::{
     joining_has_one_result, joining_keeps_cells, joining_stays_within_the_list,
     step_adds_at_most_two, sweep_leaves_no_face, trial_keeps_cells, trial_tests_are_bounded,
+};
+pub use rectangle_pack_plans::cut_plan::CutStep;
+pub use rectangle_pack_plans::cut_plan::laws::{
+    cuts_cover_bins, cuts_have_open_planes, open_planes_split_cuts, pinwheel_is_not_from_cuts,
+    plans_are_unique,
+};
+pub use rectangle_pack_sections::axis::Axis;
+pub use session::{
+    BinStats, Command, Outstanding, Packed, Reply, Session, SessionError, transitions_keep_sessions,
 };
 pub use target_bin::{FitTests, PushBinSectionError, TargetBin};
 pub use width_height_depth::{WidthHeightDepth, sizes_are_ordered};

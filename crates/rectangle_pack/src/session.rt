@@ -4,12 +4,12 @@ ghost use Rattle.std.specs.List.Sorted.{IsStrictlySortedBy};
 ghost use Rattle.std.specs.Map.{keys_of, lookup};
 ghost use Rattle.std.specs.BTreeMap.{is_at};
 ghost use Rattle.std.specs.Option.{option_map};
-ghost use Rattle.rectangle_pack.specs.Clones.{ClonesEqual};
-ghost use Rattle.rectangle_pack.specs.Bins.{Bin};
-ghost use Rattle.rectangle_pack.specs.Boxes.{Size};
-ghost use Rattle.rectangle_pack.specs.Closures.{AreCallable, answers};
-ghost use Rattle.rectangle_pack.specs.Joining.{IsJoined, IsSwept, ShareNoFace};
-ghost use Rattle.rectangle_pack.specs.Packing.{bins_of, rules_by};
+ghost use Rattle.rectangle_pack_groups.specs.Clones.{ClonesEqual};
+ghost use Rattle.rectangle_pack_sections.specs.Bins.{Bin};
+ghost use Rattle.rectangle_pack_sections.specs.Boxes.{Size};
+ghost use Rattle.rectangle_pack_sections.specs.Closures.{AreCallable, answers};
+ghost use Rattle.rectangle_pack_lists.specs.Joining.{IsJoined, IsSwept, ShareNoFace};
+ghost use Rattle.rectangle_pack_bins.specs.Packing.{bins_of, rules_by};
 ghost use Rattle.rectangle_pack.specs.Promise.{PacksAsPromised};
 ghost use Rattle.rectangle_pack.specs.Session.{State, IsSession, AddsBin, Packs, Releases, Coalesces, reply_of, packed_reply};
 
@@ -21,15 +21,15 @@ mod packing;
 mod run;
 mod stats;
 
-use crate::closures::{Closures, Policy};
-use crate::grouped_rects_to_place::multimap::{ascending, number_after};
-use crate::grouped_rects_to_place::{Group, GroupedRectsToPlace};
 use crate::session::outstanding::{give_back, position_of};
 use crate::session::packing::pack_into;
-use crate::target_bin::TargetBin;
-use crate::width_height_depth::WidthHeightDepth;
 pub use command::{Command, Outstanding, Packed, Reply, SessionError};
 pub use laws::transitions_keep_sessions;
+use rectangle_pack_bins::target_bin::{TargetBin, was_coalesced};
+use rectangle_pack_groups::grouped_rects_to_place::multimap::{ascending, number_after};
+use rectangle_pack_groups::grouped_rects_to_place::{Group, GroupedRectsToPlace};
+use rectangle_pack_sections::closures::{Closures, Policy};
+use rectangle_pack_sections::width_height_depth::WidthHeightDepth;
 pub use stats::BinStats;
 use std::alloc::{Allocator, Global};
 use std::cmp::Ordering;
@@ -67,7 +67,7 @@ pub struct Session<Id, BinId: Ord, A: Allocator + Copy = Global> {
 }
 
 impl<Id, BinId: Ord, A: Allocator + Copy> Model for Session<Id, BinId, A> {
-    ghost use Rattle.rectangle_pack.specs.Packing.{bins_of};
+    ghost use Rattle.rectangle_pack_bins.specs.Packing.{bins_of};
     ghost use Rattle.rectangle_pack.specs.Session.{State, IsSession};
 
     ghost Value = { State Id BinId };
@@ -260,7 +260,7 @@ where
         ensures { result ≡ option_map (λ (b : Bin). b.coalesced)
             (lookup (is_at (BinId.cmp id.now)) self.now.bins) }
     {
-        Some(self.bins.get(id)?.was_coalesced())
+        Some(was_coalesced(self.bins.get(id)?))
     }
 
     /// Joins a free section of the bin with those of the range that share a whole face with it, as

@@ -3,7 +3,7 @@ use Rattle.rectangle_pack_c.proofs.Std.{◌≡◌, ◌≢◌, ℕ, ◌<◌, List
 use Rattle.rectangle_pack_c.proofs.Std.{slice_get, Ordering, Equal, nat_cmp_is, AllZip, IsPermutation, nat_cmp, keys_of, values_of, nat_cmp_total}
 use Rattle.rectangle_pack_c.proofs.Std.{IsPermutation-map, All-nil, All-cons, All-head, All-tail, All-contains, exact_unsigned, get_or_from_slice_get}
 use Rattle.rectangle_pack.specs.declared.grouped_rects_to_place.Group.{Group}
-use Rattle.rectangle_pack.specs.declared.pack.answer.Placement.{Placement}
+use Rattle.rectangle_pack.specs.declared.pack.Placement.{Placement}
 use Rattle.rectangle_pack.specs.declared.session.command.Packed.{Packed}
 use Rattle.rectangle_pack.specs.Boxes.{Size, IsU32, volume_of}
 use Rattle.rectangle_pack.specs.SmallestBox.{IsSmallestOrder}
@@ -14,12 +14,13 @@ use Rattle.rectangle_pack.specs.Packing.{rules_by, at_start, excludes_by, Packin
 use Rattle.rectangle_pack.specs.Placed.{ArePlacedWhole}
 use Rattle.rectangle_pack.specs.Results.{HaveOneResult, AreSameBins, ArePlacementsAlike}
 use Rattle.rectangle_pack.specs.Session.{State, IsKept}
-use Rattle.rectangle_pack.proofs.lemmas.determinism.Either.{Includes, PackingDone-more, PackingRefused-more}
-use Rattle.rectangle_pack.proofs.lemmas.determinism.OnePacking.{one_result}
-use Rattle.rectangle_pack.proofs.lemmas.packing.Orders.{names-zip}
-use Rattle.rectangle_pack.proofs.lemmas.packing.Refused.{taken_nowhere}
-use Rattle.rectangle_pack.proofs.lemmas.cuts.SmallestBox.{smallest_is_preorder, total_decides}
-use Rattle.rectangle_pack.proofs.lemmas.packing.Whole.{all_whole}
+use Rattle.rectangle_pack_bins.proofs.lemmas.determinism.Either.{Includes, PackingDone-more, PackingRefused-more}
+use Rattle.rectangle_pack_bins.proofs.lemmas.determinism.OnePacking.{one_result}
+use Rattle.rectangle_pack_bins.proofs.lemmas.packing.Orders.{names-zip}
+use Rattle.rectangle_pack_bins.proofs.lemmas.packing.Refused.{taken_nowhere}
+use Rattle.rectangle_pack_sections.proofs.lemmas.cuts.SmallestBox.{smallest_is_preorder}
+use Rattle.rectangle_pack_bins.proofs.lemmas.determinism.Preorders.{total_decides}
+use Rattle.rectangle_pack_bins.proofs.lemmas.packing.Whole.{all_whole}
 use Rattle.rectangle_pack_c.specs.declared.RpBin.{RpBin}
 use Rattle.rectangle_pack_c.specs.declared.RpBox.{RpBox}
 use Rattle.rectangle_pack_c.specs.declared.RpPlacement.{RpPlacement}

@@ -1,17 +1,16 @@
 -- The collection of a list of boxes: one more push, what stands in it, and that two of them are alike.
 use Rattle.rectangle_pack_c.proofs.Std.{◌≡◌, ◌≢◌, ℕ, ◌+◌, ◌<◌, ◌≤◌, ◌==◌, Bool, true, false, cond, List, [], ◌∷◌, ◌++◌, length, get_or, refl, ap, sym, ◌∙◌}
-use Rattle.rectangle_pack_c.proofs.Std.{subst, arith, suc, zero, append-nil, Option, Some, None, All, AllPairs, Contains, IsSomeAnd, unwrap_or, slice_get}
-use Rattle.rectangle_pack_c.proofs.Std.{map, filter, MatchBool, AllZip, enumerate_from, IsStrictlySortedBy, option_map, Equal, nat_cmp_is, nat_cmp, is_eq}
-use Rattle.rectangle_pack_c.proofs.Std.{lookup, keys_of, is_at, insert_entry, exact_unsigned, map-append, length-map, get_or_default, length-enumerate_from}
+use Rattle.rectangle_pack_c.proofs.Std.{subst, arith, suc, zero, append-nil, Option, Some, None, All, AllPairs, Contains, IsSomeAnd, unwrap_or, slice_get, map}
+use Rattle.rectangle_pack_c.proofs.Std.{filter, MatchBool, AllZip, enumerate_from, IsStrictlySortedBy, option_map, Equal, nat_cmp_is, nat_cmp, is_eq, lookup}
+use Rattle.rectangle_pack_c.proofs.Std.{keys_of, is_at, insert_entry, exact_unsigned, map-append, length-map, get_or_default, length-enumerate_from}
 use Rattle.rectangle_pack_c.proofs.Std.{get_or-enumerate_from, AllPairs-cons, All-nil, All-cons, All-weaker, All-head, Contains-get_or, filter-append}
 use Rattle.rectangle_pack_c.proofs.Std.{slice_get-map, slice_get-get_or}
 use Rattle.rectangle_pack.specs.declared.grouped_rects_to_place.Group.{Group}
 use Rattle.rectangle_pack.specs.declared.grouped_rects_to_place.Group.TheVariants.{Ungrouped, Grouped}
 use Rattle.rectangle_pack.specs.Groups.{Collection, SetsSize, PushesAlone, PushesInto, Appends, times_named}
-use Rattle.rectangle_pack.specs.Results.{AreCollectionsAlike}
-use Rattle.rectangle_pack.proofs.lemmas.cuts.Counting.{count_yes, count_no}
-use Rattle.rectangle_pack.proofs.lemmas.util.Maps.{lookup-inserted, AreOptionsAlike}
-use Rattle.rectangle_pack.proofs.lemmas.determinism.OneLocations.{maps_alike}
+use Rattle.rectangle_pack.specs.Alike.{AreCollectionsAlike}
+use Rattle.rectangle_pack_sections.proofs.lemmas.cuts.Counting.{count_yes, count_no}
+use Rattle.rectangle_pack_groups.proofs.lemmas.util.Maps.{lookup-inserted, AreOptionsAlike, maps_alike}
 use Rattle.rectangle_pack_c.specs.declared.RpBox.{RpBox}
 use Rattle.rectangle_pack_c.specs.Arguments.{box_size, group_order, group_of, members_of, unless_empty, IsCollected}
 use Rattle.rectangle_pack_c.proofs.OrderLemmas.{nat_same, nat_greater, nat_other, group_order_total, exact_group, group_same, group_swap}

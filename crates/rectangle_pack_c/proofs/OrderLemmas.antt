@@ -1,10 +1,10 @@
 -- Orders of numbers and of groups, where equal is the same.
-use Rattle.rectangle_pack_c.proofs.Std.{◌≡◌, ◌≢◌, ℕ, ◌<◌, Bool, true, false, refl, ap, sym, Ordering, Less, Equal, Greater, IsTotalOrder, Equal-is}
-use Rattle.rectangle_pack_c.proofs.Std.{nat_cmp_is, nat_cmp, is_eq, nat_cmp_total, exact_unsigned}
+use Rattle.rectangle_pack_c.proofs.Std.{◌≡◌, ◌≢◌, ℕ, ◌<◌, Bool, true, false, refl, ap, sym, Ordering, Less, Equal, Greater, IsTotalOrder, Equal-is, nat_cmp_is}
+use Rattle.rectangle_pack_c.proofs.Std.{nat_cmp, is_eq, nat_cmp_total, exact_unsigned}
 use mathlib.Core.Path.{fun_ext}
 use Rattle.rectangle_pack.specs.declared.grouped_rects_to_place.Group.{Group}
 use Rattle.rectangle_pack.specs.declared.grouped_rects_to_place.Group.TheVariants.{Ungrouped, Grouped}
-use Rattle.rectangle_pack.proofs.lemmas.packing.GroupOrder.{groups_total}
+use Rattle.rectangle_pack_groups.proofs.lemmas.groups.GroupOrder.{groups_total}
 use Rattle.rectangle_pack_c.specs.Arguments.{group_order}
 
 pub nat_greater : (a b : ℕ) → b < a → nat_cmp a b ≡ Greater

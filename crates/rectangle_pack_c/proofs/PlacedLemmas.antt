@@ -1,26 +1,27 @@
 -- What a packing that is done says of the placements that are written.
-use Rattle.rectangle_pack_c.proofs.Std.{◌≡◌, ◌≢◌, ◌⊎◌, inl, inr, ℕ, ◌+◌, ◌<◌, ◌==◌, Bool, true, false, cond, List, [], ◌∷◌, ◌++◌, length, get_or, refl, ap}
-use Rattle.rectangle_pack_c.proofs.Std.{sym, ◌∙◌, arith, Option, Some, None, IsSome, IsSomeAnd, All, AllPairs, Contains, map, filter, slice_get, option_map}
+use Rattle.rectangle_pack_c.proofs.Std.{◌≡◌, ◌≢◌, ◌⊎◌, inl, inr, ℕ, ◌+◌, ◌<◌, ◌==◌, Bool, true, false, cond, List, [], ◌∷◌, ◌++◌, length, get_or, refl, ap, sym}
+use Rattle.rectangle_pack_c.proofs.Std.{◌∙◌, arith, Option, Some, None, IsSome, IsSomeAnd, All, AllPairs, Contains, map, filter, slice_get, option_map}
 use Rattle.rectangle_pack_c.proofs.Std.{IsPermutation, IsDistinct, nat_cmp, eq_by_cmp, lookup, keys_of, is_at, nat_cmp_total, Contains-permutation, All-nil}
 use Rattle.rectangle_pack_c.proofs.Std.{All-cons, All-head, All-tail, All-weaker, All-contains, Contains-get_or, Contains-append_right, AllPairs-cons}
 use Rattle.rectangle_pack_c.proofs.Std.{nat_tests, IsDistinct-from_sorted, IsDistinct-IsPermutation, slice_get-map, slice_get_within, get_or_from_slice_get}
 use Rattle.rectangle_pack.specs.declared.grouped_rects_to_place.Group.{Group}
 use Rattle.rectangle_pack.specs.declared.grouped_rects_to_place.Group.TheVariants.{Grouped}
-use Rattle.rectangle_pack.specs.declared.pack.answer.Placement.{Placement}
+use Rattle.rectangle_pack.specs.declared.pack.Placement.{Placement}
 use Rattle.rectangle_pack.specs.declared.session.command.Outstanding.{Outstanding}
 use Rattle.rectangle_pack.specs.Boxes.{Cuboid, AreApart, IsInside}
 use Rattle.rectangle_pack.specs.Bins.{Bin, new_bin, whole}
 use Rattle.rectangle_pack.specs.Counting.{AreAllApart}
 use Rattle.rectangle_pack.specs.Closures.{Answers}
 use Rattle.rectangle_pack.specs.Groups.{Collection}
-use Rattle.rectangle_pack.specs.Keeping.{locations_in}
+use Rattle.rectangle_pack.specs.KeptBins.{locations_in}
 use Rattle.rectangle_pack.specs.Packing.{Rules, rules_by, Stage, at_start, excludes_by, PackingDone}
 use Rattle.rectangle_pack.specs.Placed.{ArePlacedWhole}
 use Rattle.rectangle_pack.specs.Session.{numbered}
-use Rattle.rectangle_pack.proofs.lemmas.cuts.Counting.{apart_from_counts, filled_one, AllPairs-head, AllPairs-tail}
-use Rattle.rectangle_pack.proofs.lemmas.packing.Frame.{IsRecut, IsFrame-recut, KeptBySteps-recut, IsChanged, changed-all}
-use Rattle.rectangle_pack.proofs.lemmas.util.Maps.{is_some-keys, is_at-back}
-use Rattle.rectangle_pack.proofs.lemmas.packing.Placed.{keys-placed, known-placed}
+use Rattle.rectangle_pack_sections.proofs.lemmas.cuts.Counting.{apart_from_counts, filled_one}
+use Rattle.rectangle_pack_sections.proofs.lemmas.util.Lists.{AllPairs-head, AllPairs-tail}
+use Rattle.rectangle_pack_bins.proofs.lemmas.packing.Frame.{IsRecut, IsFrame-recut, KeptBySteps-recut, IsChanged, changed-all}
+use Rattle.rectangle_pack_groups.proofs.lemmas.util.Maps.{is_some-keys, is_at-back}
+use Rattle.rectangle_pack_bins.proofs.lemmas.packing.Placed.{keys-placed, known-placed}
 use Rattle.rectangle_pack.proofs.lemmas.session.Keeps.{some_of}
 use Rattle.rectangle_pack_c.specs.declared.RpBin.{RpBin}
 use Rattle.rectangle_pack_c.specs.declared.RpBox.{RpBox}

@@ -1,11 +1,11 @@
 -- What a session's answer to a packing says of the boxes of a C caller: in its order of groups and by volume, and of the
 -- placements that are written.
 use Rattle.rectangle_pack_c.proofs.Std.{◌≡◌, ◌≢◌, ◌⊎◌, inl, inr, ℕ, ◌+◌, ◌-◌, ◌<◌, ◌≤◌, List, [], ◌∷◌, ◌++◌, length, take, drop, refl, ap, sym, ◌∙◌, subst}
-use Rattle.rectangle_pack_c.proofs.Std.{arith, length-append, All, AllPairs, Contains, None, Some, map, slice_get, option_map, nat_cmp, Ordering, lookup}
-use Rattle.rectangle_pack_c.proofs.Std.{is_at, drop-append_seam, nat_cmp_total, take_all, All-weaker, All-contains, Contains-append_right, slice_get-map}
+use Rattle.rectangle_pack_c.proofs.Std.{arith, length-append, All, AllPairs, Contains, None, Some, map, slice_get, option_map, nat_cmp, Ordering, lookup, is_at}
+use Rattle.rectangle_pack_c.proofs.Std.{drop-append_seam, nat_cmp_total, take_all, All-weaker, All-contains, Contains-append_right, slice_get-map}
 use Rattle.rectangle_pack_c.proofs.OrderLemmas.{group_same}
 use Rattle.rectangle_pack.specs.declared.grouped_rects_to_place.Group.{Group}
-use Rattle.rectangle_pack.specs.declared.pack.answer.Placement.{Placement}
+use Rattle.rectangle_pack.specs.declared.pack.Placement.{Placement}
 use Rattle.rectangle_pack.specs.declared.session.command.Outstanding.{Outstanding}
 use Rattle.rectangle_pack.specs.declared.session.command.Packed.{Packed as Numbers}
 use Rattle.rectangle_pack.specs.declared.session.command.Reply.TheVariants.{Packed, Refused}
@@ -17,8 +17,8 @@ use Rattle.rectangle_pack.specs.Groups.{Collection}
 use Rattle.rectangle_pack.specs.Packing.{rules_by, excludes_by, PackingRefused}
 use Rattle.rectangle_pack.specs.Promise.{PlacesWhole}
 use Rattle.rectangle_pack.specs.Session.{State, IsKept, Packs, numbered}
-use Rattle.rectangle_pack.proofs.lemmas.determinism.Either.{Includes, PackingDone-more, PackingRefused-more}
-use Rattle.rectangle_pack.proofs.lemmas.packing.Refused.{taken_nowhere}
+use Rattle.rectangle_pack_bins.proofs.lemmas.determinism.Either.{Includes, PackingDone-more, PackingRefused-more}
+use Rattle.rectangle_pack_bins.proofs.lemmas.packing.Refused.{taken_nowhere}
 use Rattle.rectangle_pack_c.specs.declared.RpBox.{RpBox}
 use Rattle.rectangle_pack_c.specs.declared.RpPlacement.{RpPlacement}
 use Rattle.rectangle_pack_c.specs.declared.session.RpOutstanding.{RpOutstanding}

@@ -1,15 +1,14 @@
 -- Where groups that are placed whole have each box.
-use Rattle.rectangle_pack_c.proofs.Std.{◌≡◌, ◌⊎◌, inl, inr, ◌≢◌, ℕ, Bool, true, false, cond, List, [], ◌∷◌, get_or, refl, ap, sym, ◌∙◌, arith, suc, zero}
-use Rattle.rectangle_pack_c.proofs.Std.{Some, All, AllPairs, Contains, map, filter, AllZip, IsDistinct, Equal, nat_cmp, is_eq, eq_by_cmp, lookup, keys_of}
-use Rattle.rectangle_pack_c.proofs.Std.{is_at, IsDistinct-head, IsDistinct-tail, exact_unsigned, All-from_recursion, All-contains, Contains-get_or}
+use Rattle.rectangle_pack_c.proofs.Std.{◌≡◌, ◌⊎◌, inl, inr, ◌≢◌, ℕ, Bool, true, false, cond, List, [], ◌∷◌, get_or, refl, ap, sym, ◌∙◌, arith, suc, zero, Some}
+use Rattle.rectangle_pack_c.proofs.Std.{All, AllPairs, Contains, map, filter, AllZip, IsDistinct, Equal, nat_cmp, is_eq, eq_by_cmp, lookup, keys_of, is_at}
+use Rattle.rectangle_pack_c.proofs.Std.{IsDistinct-head, IsDistinct-tail, exact_unsigned, All-from_recursion, All-contains, Contains-get_or}
 use Rattle.rectangle_pack_c.proofs.Std.{Contains-append_left, Contains-append_right, Contains-append_cases, AllPairs-cons}
 use Rattle.rectangle_pack.specs.declared.grouped_rects_to_place.Group.{Group}
-use Rattle.rectangle_pack.specs.declared.pack.answer.Placement.{Placement}
+use Rattle.rectangle_pack.specs.declared.pack.Placement.{Placement}
 use Rattle.rectangle_pack.specs.Boxes.{Size}
 use Rattle.rectangle_pack.specs.Placed.{ArePlacedWhole}
-use Rattle.rectangle_pack.proofs.lemmas.cuts.SoundBins.{AllPairs-append}
-use Rattle.rectangle_pack.proofs.lemmas.cuts.Counting.{AllPairs-head, AllPairs-tail}
-use Rattle.rectangle_pack.proofs.lemmas.determinism.OneOrder.{AllZip-back}
+use Rattle.rectangle_pack_sections.proofs.lemmas.util.Lists.{AllPairs-append, AllPairs-head, AllPairs-tail}
+use Rattle.rectangle_pack_groups.proofs.lemmas.util.Zips.{AllZip-back}
 use Rattle.rectangle_pack_c.specs.Arguments.{group_order}
 use Rattle.rectangle_pack_c.proofs.OrderLemmas.{exact_group, group_same}
 

@@ -1,7 +1,7 @@
 -- What a packing answers.
 use Rattle.std.specs.Prelude.{◌≡◌, ◌≢◌, ℕ, ◌<◌, List, length, All, Some, IsSomeAnd, slice_get}
 use Rattle.std.specs.Ordering.{nat_cmp}
-use Rattle.rectangle_pack.specs.declared.pack.answer.Placement.{Placement}
+use Rattle.rectangle_pack.specs.declared.pack.Placement.{Placement}
 use Rattle.rectangle_pack.specs.Bins.{Bin}
 use Rattle.rectangle_pack.specs.Boxes.{Size, Cuboid, IsInside, AreApart, IsU32, volume_of}
 use Rattle.rectangle_pack.specs.Closures.{Answers}

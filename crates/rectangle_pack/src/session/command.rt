@@ -2,8 +2,8 @@
 ghost use Rattle.std.specs.Prelude.{◌≡◌};
 ghost use Rattle.rectangle_pack.specs.SessionTexts.{session_text};
 
-use crate::grouped_rects_to_place::GroupedRectsToPlace;
-use crate::packed_location::PackedLocation;
+use rectangle_pack_groups::grouped_rects_to_place::GroupedRectsToPlace;
+use rectangle_pack_sections::packed_location::PackedLocation;
 use std::alloc::{AllocError, AllocFailed, Allocator, Global};
 use std::error::Error;
 use std::{fmt, io};

@@ -1,16 +1,15 @@
 //! The cutting plan of a bin of a session.
 ghost use Rattle.std.specs.Prelude.{◌≡◌, ◌++◌, ◌∷◌, [], filter, IfOk, OnOk};
-ghost use Rattle.rectangle_pack.specs.Bins.{whole};
-ghost use Rattle.rectangle_pack.specs.Boxes.{FitsU32, has_cells};
+ghost use Rattle.rectangle_pack_sections.specs.Bins.{whole};
+ghost use Rattle.rectangle_pack_sections.specs.Boxes.{FitsU32, has_cells};
 ghost use Rattle.rectangle_pack.specs.Session.{outstanding_in, boxes_of};
 ghost use Rattle.rectangle_pack.specs.PlanAnswers.{IsPlanAnswer};
 
-use crate::bin_section::BinSection;
-use crate::cut_plan::{CutStep, plan_of};
 use crate::session::Session;
 use crate::session::command::{Outstanding, SessionError};
-use crate::session::outstanding::section_at;
-use crate::target_bin::TargetBin;
+use rectangle_pack_bins::target_bin::TargetBin;
+use rectangle_pack_plans::cut_plan::{CutStep, plan_of};
+use rectangle_pack_sections::bin_section::{BinSection, has_cells, section_at};
 use std::alloc::{AllocError, Allocator};
 
 // Puts a box at the end of the list, if it has cells.
@@ -21,7 +20,7 @@ fn gather<A: Allocator>(
     ensures { OnOk result
         (boxes.new.items ≡ boxes.old.items ++ filter has_cells (section ∷ [])) }
 {
-    if section.has_cells() {
+    if has_cells(&section) {
         boxes.push(section)?;
     }
     Ok(())

@@ -1,13 +1,13 @@
 //! The law of a session's transitions.
 ghost use Rattle.std.specs.Prelude.{◌≤◌, List};
-ghost use Rattle.rectangle_pack.specs.Closures.{answers};
-ghost use Rattle.rectangle_pack.specs.Packing.{rules_by};
+ghost use Rattle.rectangle_pack_sections.specs.Closures.{answers};
+ghost use Rattle.rectangle_pack_bins.specs.Packing.{rules_by};
 ghost use Rattle.rectangle_pack.specs.declared.session.command.Command.{Command};
 ghost use Rattle.rectangle_pack.specs.declared.session.command.Reply.{Reply};
 ghost use Rattle.rectangle_pack.specs.Session.{State, IsSession, IsTransition, IsRun};
 
-use crate::grouped_rects_to_place::Group;
-use crate::width_height_depth::WidthHeightDepth;
+use rectangle_pack_groups::grouped_rects_to_place::Group;
+use rectangle_pack_sections::width_height_depth::WidthHeightDepth;
 use std::alloc::Allocator;
 use std::cmp::Ordering;
 

@@ -3,16 +3,16 @@ ghost use Rattle.std.specs.Prelude.{◌≡◌, ◌≢◌, ◌+◌, ◌≤◌, �
 ghost use Rattle.std.specs.BTreeMap.{get};
 ghost use Rattle.std.specs.Vec.{vec_capacity};
 ghost use Rattle.rectangle_pack.specs.declared.session.command.Outstanding.{Outstanding};
-ghost use Rattle.rectangle_pack.specs.Bins.{IsAccepted};
-ghost use Rattle.rectangle_pack.specs.Boxes.{has_cells};
-ghost use Rattle.rectangle_pack.specs.Packing.{bins_of};
+ghost use Rattle.rectangle_pack_sections.specs.Bins.{IsAccepted};
+ghost use Rattle.rectangle_pack_sections.specs.Boxes.{has_cells};
+ghost use Rattle.rectangle_pack_bins.specs.Packing.{bins_of};
 ghost use Rattle.rectangle_pack.specs.Session.{GivesBack, numbered};
 
-use crate::bin_section::BinSection;
-use crate::pack::Placement;
-use crate::packed_location::PackedLocation;
 use crate::session::command::Outstanding;
-use crate::target_bin::TargetBin;
+use rectangle_pack_bins::pack::Placement;
+use rectangle_pack_bins::target_bin::TargetBin;
+use rectangle_pack_sections::bin_section::{has_cells, section_at};
+use rectangle_pack_sections::packed_location::PackedLocation;
 use std::alloc::{AllocError, Allocator};
 use std::collections::BTreeMap;
 
@@ -30,13 +30,6 @@ pub(crate) fn position_of<Id, B>(outstanding: &[Outstanding<Id, B>], number: u64
         .ok()
 }
 
-// The box that stands at a location.
-pub(crate) fn section_at(location: &PackedLocation) -> BinSection
-    ensures { result ≡ location.now }
-{
-    BinSection::new(location.x(), location.y(), location.z(), location.whd())
-}
-
 // Gives a box back to its bin, at the end of the list. A box without cells leaves no section.
 pub(crate) fn give_back<B: Ord + Drop, A: Allocator + Copy>(
     bins: &mut BTreeMap<B, TargetBin<A>, A>,
@@ -51,7 +44,7 @@ pub(crate) fn give_back<B: Ord + Drop, A: Allocator + Copy>(
         ((has_cells location ≡ true) × (bins_of bins.new.entries ≡ bins_of bins.old.entries)) }
 {
     let section = section_at(&location);
-    if !section.has_cells() {
+    if !has_cells(&section) {
         return Ok(());
     }
     match bins.get_mut(id) {

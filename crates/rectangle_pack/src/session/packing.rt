@@ -1,20 +1,20 @@
 //! One packing of a session.
 ghost use Rattle.std.specs.Prelude.{◌≡◌, ◌+◌, ◌<◌, ◌^◌, ◌++◌, [], length, List, IfOk, OnErr, MatchBool, Ok, true};
-ghost use Rattle.rectangle_pack.specs.Clones.{ClonesEqual};
-ghost use Rattle.rectangle_pack.specs.declared.pack.answer.Placement.{Placement};
-ghost use Rattle.rectangle_pack.specs.Bins.{Bin};
-ghost use Rattle.rectangle_pack.specs.Groups.{entries_of};
-ghost use Rattle.rectangle_pack.specs.Packing.{rules_by, bins_of, PackingDone, PackingRefused};
+ghost use Rattle.rectangle_pack_groups.specs.Clones.{ClonesEqual};
+ghost use Rattle.rectangle_pack_bins.specs.declared.pack.answer.Placement.{Placement};
+ghost use Rattle.rectangle_pack_sections.specs.Bins.{Bin};
+ghost use Rattle.rectangle_pack_groups.specs.Groups.{entries_of};
+ghost use Rattle.rectangle_pack_bins.specs.Packing.{rules_by, bins_of, PackingDone, PackingRefused};
 ghost use Rattle.rectangle_pack.specs.Session.{numbered};
 
-use crate::closures::Policy;
-use crate::grouped_rects_to_place::{Group, GroupedRectsToPlace};
-use crate::pack::Placement;
-use crate::pack::first_fit::{Packing, pack_noted};
-use crate::pack::order::bin_order;
 use crate::session::command::Outstanding;
 use crate::session::outstanding::number_all;
-use crate::target_bin::TargetBin;
+use rectangle_pack_bins::pack::Placement;
+use rectangle_pack_bins::pack::first_fit::{Packing, pack_noted};
+use rectangle_pack_bins::pack::order::bin_order;
+use rectangle_pack_bins::target_bin::TargetBin;
+use rectangle_pack_groups::grouped_rects_to_place::{Group, GroupedRectsToPlace};
+use rectangle_pack_sections::closures::Policy;
 use std::alloc::{AllocError, Allocator};
 use std::collections::BTreeMap;
 use std::mem;

@@ -1,17 +1,17 @@
 //! Runs of commands over a session.
 ghost use Rattle.std.specs.Prelude.{◌≡◌};
-ghost use Rattle.rectangle_pack.specs.Clones.{ClonesEqual};
-ghost use Rattle.rectangle_pack.specs.Boxes.{Size};
-ghost use Rattle.rectangle_pack.specs.Closures.{AreCallable, answers};
-ghost use Rattle.rectangle_pack.specs.Packing.{rules_by};
+ghost use Rattle.rectangle_pack_groups.specs.Clones.{ClonesEqual};
+ghost use Rattle.rectangle_pack_sections.specs.Boxes.{Size};
+ghost use Rattle.rectangle_pack_sections.specs.Closures.{AreCallable, answers};
+ghost use Rattle.rectangle_pack_bins.specs.Packing.{rules_by};
 ghost use Rattle.rectangle_pack.specs.Promise.{IsRunAnswer};
 ghost use Rattle.rectangle_pack.specs.Session.{IsSession, AddsBin, IsTransition, reply_of};
 
-use crate::closures::{Closures, Policy};
-use crate::grouped_rects_to_place::Group;
 use crate::session::Session;
 use crate::session::command::{Command, Reply, SessionError};
-use crate::width_height_depth::WidthHeightDepth;
+use rectangle_pack_groups::grouped_rects_to_place::Group;
+use rectangle_pack_sections::closures::{Closures, Policy};
+use rectangle_pack_sections::width_height_depth::WidthHeightDepth;
 use std::alloc::{AllocError, Allocator};
 use std::cmp::Ordering;
 

@@ -3,14 +3,14 @@ ghost use Rattle.std.specs.Prelude.{◌≡◌, ◌+◌, ◌<◌, ◌^◌, length
 ghost use Rattle.std.specs.Map.{lookup};
 ghost use Rattle.std.specs.BTreeMap.{is_at};
 ghost use Rattle.std.specs.Option.{option_map};
-ghost use Rattle.rectangle_pack.specs.Bins.{Bin};
-ghost use Rattle.rectangle_pack.specs.Counting.{total_volume};
+ghost use Rattle.rectangle_pack_sections.specs.Bins.{Bin};
+ghost use Rattle.rectangle_pack_sections.specs.Counting.{total_volume};
 ghost use Rattle.rectangle_pack.specs.Session.{outstanding_in};
 ghost use Rattle.rectangle_pack.specs.Stats.{stats_of};
 
-use crate::bin_section::BinSection;
 use crate::session::Session;
 use crate::session::command::Outstanding;
+use rectangle_pack_sections::bin_section::{BinSection, section_at};
 use std::alloc::Allocator;
 
 /// The statistics of a bin as it is: volumes, in cells, and counts. Each cell of the bin is free or
@@ -77,7 +77,7 @@ fn totals_in<Id, B: Ord>(outstanding: &[Outstanding<Id, B>], id: &B) -> (u128, u
     let mut count = 0;
     for placement in outstanding {
         if placement.bin == *id {
-            volume += placement.location.whd().volume();
+            volume += section_at(&placement.location).whd().volume();
             count += 1;
         }
     }

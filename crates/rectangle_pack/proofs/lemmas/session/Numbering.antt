@@ -1,22 +1,11 @@
--- Placements that are numbered, and how many entries lists have.
-use Rattle.rectangle_pack.proofs.Std.{◌≡◌, ℕ, ◌+◌, ◌<◌, ◌≤◌, get_or, inl, inr, cases_lt, List, [], ◌∷◌, ◌++◌, refl, ap, sym, ◌∙◌, arith, length, append_assoc}
-use Rattle.rectangle_pack.proofs.Std.{map, sum, All, AllPairs, IfSome, IfNone, Result, Ok, Err, ◌≢◌, IsSearchInRange, IsBinarySearchResult, IsNonDecreasingBy}
-use Rattle.rectangle_pack.proofs.Std.{nat_cmp, ordering_index, result_ok, ranked, nat_tests, Vec, values_of, sum_by-cons}
-use Rattle.rectangle_pack.specs.declared.pack.answer.Placement.{Placement}
+-- Placements that are numbered.
+use Rattle.rectangle_pack_sections.proofs.Std.{◌≡◌, ℕ, ◌+◌, ◌<◌, ◌≤◌, get_or, inl, inr, cases_lt, List, [], ◌∷◌, ◌++◌, refl, ap, sym, ◌∙◌, arith, length}
+use Rattle.rectangle_pack_sections.proofs.Std.{append_assoc, map, sum, All, AllPairs, IfSome, IfNone, Result, Ok, Err, ◌≢◌, IsSearchInRange}
+use Rattle.rectangle_pack_sections.proofs.Std.{IsBinarySearchResult, IsNonDecreasingBy, nat_cmp, ordering_index, result_ok, ranked, nat_tests, Vec, values_of}
+use Rattle.rectangle_pack_sections.proofs.Std.{sum_by-cons}
+use Rattle.rectangle_pack_bins.specs.declared.pack.answer.Placement.{Placement}
 use Rattle.rectangle_pack.specs.declared.session.command.Outstanding.{Outstanding}
-use Rattle.rectangle_pack.specs.Groups.{lists_of}
 use Rattle.rectangle_pack.specs.Session.{numbered}
-
--- how many entries the lists have in all
-abbrev pub entries_in : {K X A : Type 0} → List (K × Vec X A) → ℕ
-entries_in es = sum (map length (values_of (lists_of es)))
-
-pub entries_in-cons : {K X A : Type 0} (x : K × Vec X A) (xs : List (K × Vec X A)) → entries_in (x ∷ xs) ≡ length x.1.items + entries_in xs
-entries_in-cons x xs = sum_by-cons (λ n. n) (length x.1.items) (map length (values_of (lists_of xs)))
-
-pub entries_in-append : {K X A : Type 0} (xs ys : List (K × Vec X A)) → entries_in (xs ++ ys) ≡ entries_in xs + entries_in ys
-entries_in-append [] ys = omega arith
-entries_in-append {K} {X} {A} (x ∷ xs) ys = omega (arith, entries_in-append xs ys, entries_in-cons x (xs ++ ys), entries_in-cons x xs)
 
 -- one more placement has the next number
 pub numbered-push : {Id B : Type 0} (n : ℕ) (ps : List (Placement Id B)) (p : Placement Id B) (m : ℕ) → m ≡ n + length ps

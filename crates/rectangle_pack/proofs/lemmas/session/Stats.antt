@@ -1,14 +1,14 @@
 -- What the outstanding boxes of a bin become with one more, and what they add up to with the free sections.
-use Rattle.rectangle_pack.proofs.Std.{◌≡◌, ℕ, suc, ◌+◌, ◌<◌, ◌≤◌, List, [], ◌∷◌, ◌++◌, Bool, true, cond, length, take, drop, ap, sym, subst, ◌∙◌, arith, get_or}
-use Rattle.rectangle_pack.proofs.Std.{append_assoc, Some, filter, Ordering, is_eq, lookup, is_at, split_at, length-append, length-take, length-map, take_more}
-use Rattle.rectangle_pack.proofs.Std.{filter-append, sum_by-cons, sum_by-append, length-filter, count_by-le-length}
+use Rattle.rectangle_pack_sections.proofs.Std.{◌≡◌, ℕ, suc, ◌+◌, ◌<◌, ◌≤◌, List, [], ◌∷◌, ◌++◌, Bool, true, cond, length, take, drop, ap, sym, subst, ◌∙◌}
+use Rattle.rectangle_pack_sections.proofs.Std.{arith, get_or, append_assoc, Some, filter, Ordering, is_eq, lookup, is_at, split_at, length-append, length-take}
+use Rattle.rectangle_pack_sections.proofs.Std.{length-map, take_more, filter-append, sum_by-cons, sum_by-append, length-filter, count_by-le-length}
 use Rattle.rectangle_pack.specs.declared.session.command.Outstanding.{Outstanding}
-use Rattle.rectangle_pack.specs.Boxes.{Cuboid, has_cells, volume_of}
-use Rattle.rectangle_pack.specs.Bins.{Held}
-use Rattle.rectangle_pack.specs.Counting.{total_volume}
-use Rattle.rectangle_pack.specs.Packing.{bins_of}
+use Rattle.rectangle_pack_sections.specs.Boxes.{Cuboid, has_cells, volume_of}
+use Rattle.rectangle_pack_sections.specs.Bins.{Held}
+use Rattle.rectangle_pack_sections.specs.Counting.{total_volume}
+use Rattle.rectangle_pack_bins.specs.Packing.{bins_of}
 use Rattle.rectangle_pack.specs.Session.{IsSession, outstanding_in}
-use Rattle.rectangle_pack.proofs.lemmas.cuts.CoverVolumes.{CoverBin-volume}
+use Rattle.rectangle_pack_sections.proofs.lemmas.cuts.CoverVolumes.{CoverBin-volume}
 use Rattle.rectangle_pack.proofs.lemmas.session.Keeps.{Some-bins_of, outstanding_in-record}
 
 total_volume-append : (xs ys : List Cuboid) → total_volume (xs ++ ys) ≡ total_volume xs + total_volume ys

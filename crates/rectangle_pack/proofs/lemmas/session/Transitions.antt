@@ -1,9 +1,9 @@
 -- What each transition of a session keeps, and how a run goes on.
-use Rattle.rectangle_pack.proofs.Std.{◌≡◌, ℕ, ◌+◌, ◌<◌, ◌≤◌, List, [], ◌∷◌, ◌++◌, refl, ap, sym, ◌∙◌, subst, true, arith, length, append-nil, get_or, take}
-use Rattle.rectangle_pack.proofs.Std.{Some, None, Result, Ok, Err, Ordering, Equal, IsTotalOrder, IsErrAnd, lookup, set_value, is_at, insert_entry, take_more}
-use Rattle.rectangle_pack.proofs.Std.{keys-set_value, tied_itself}
+use Rattle.rectangle_pack_sections.proofs.Std.{◌≡◌, ℕ, ◌+◌, ◌<◌, ◌≤◌, List, [], ◌∷◌, ◌++◌, refl, ap, sym, ◌∙◌, subst, true, arith, length, append-nil, get_or}
+use Rattle.rectangle_pack_sections.proofs.Std.{take, Some, None, Result, Ok, Err, Ordering, Equal, IsTotalOrder, IsErrAnd, lookup, set_value, is_at}
+use Rattle.rectangle_pack_sections.proofs.Std.{insert_entry, take_more, keys-set_value, tied_itself}
 use Rattle.rectangle_pack.specs.declared.session.command.Outstanding.{Outstanding}
-use Rattle.rectangle_pack.specs.declared.grouped_rects_to_place.Group.{Group}
+use Rattle.rectangle_pack_groups.specs.declared.grouped_rects_to_place.Group.{Group}
 use Rattle.rectangle_pack.specs.declared.session.command.Command.{Command}
 use Rattle.rectangle_pack.specs.declared.session.command.Command.TheVariants.{AddBin, Pack, Release, Coalesce, CoalesceAll}
 use Rattle.rectangle_pack.specs.declared.session.command.SessionError.{SessionError}
@@ -11,16 +11,16 @@ use Rattle.rectangle_pack.specs.declared.session.command.Reply.{Reply}
 use Rattle.rectangle_pack.specs.declared.session.command.Reply.TheVariants.{Done, Packed, Refused}
 use Rattle.rectangle_pack.specs.declared.session.command.SessionError.TheVariants.{DuplicateBin, UnknownBin, UnknownPlacement, NumbersUsedUp, NotEnoughBinSpace}
 use Rattle.rectangle_pack.specs.declared.session.command.SessionError.TheVariants.{OutOfMemory}
-use Rattle.rectangle_pack.specs.Boxes.{Size, Cuboid, IsInside}
-use Rattle.rectangle_pack.specs.Bins.{Bin, Held, new_bin}
-use Rattle.rectangle_pack.specs.Groups.{Collection}
-use Rattle.rectangle_pack.specs.Joining.{IsJoined, IsSwept}
-use Rattle.rectangle_pack.specs.Packing.{Rules, bins_of}
+use Rattle.rectangle_pack_sections.specs.Boxes.{Size, Cuboid, IsInside}
+use Rattle.rectangle_pack_sections.specs.Bins.{Bin, Held, new_bin}
+use Rattle.rectangle_pack_groups.specs.Groups.{Collection}
+use Rattle.rectangle_pack_lists.specs.Joining.{IsJoined, IsSwept}
+use Rattle.rectangle_pack_bins.specs.Packing.{Rules, bins_of}
 use Rattle.rectangle_pack.specs.Session.{State, outstanding_in, IsSession, IsOutstanding, GivesBack, AddsBin, Releases, Packs, Coalesces, IsTransition, IsRun}
-use Rattle.rectangle_pack.proofs.lemmas.packing.Frame.{IsRecut, IsFrame-recut}
-use Rattle.rectangle_pack.proofs.lemmas.joining.Joins.{IsJoined-cells, IsSwept-cells, IsJoined-keeps, IsSwept-keeps, join-inside}
-use Rattle.rectangle_pack.proofs.lemmas.packing.RollBack.{bins_of-written}
-use Rattle.rectangle_pack.proofs.lemmas.util.Maps.{lookup-equal, lookup-inserted}
+use Rattle.rectangle_pack_bins.proofs.lemmas.packing.Frame.{IsRecut, IsFrame-recut}
+use Rattle.rectangle_pack_lists.proofs.lemmas.joining.Joins.{IsJoined-cells, IsSwept-cells, IsJoined-keeps, IsSwept-keeps, join-inside}
+use Rattle.rectangle_pack_bins.proofs.lemmas.packing.RollBack.{bins_of-written}
+use Rattle.rectangle_pack_groups.proofs.lemmas.util.Maps.{lookup-equal, lookup-inserted}
 use Rattle.rectangle_pack.proofs.lemmas.session.Keeps.{Some-bins_of, None-bins_of, bins_of-insert_entry, IsSession-carried, AreCarried-written, known-kept}
 use Rattle.rectangle_pack.proofs.lemmas.session.Keeps.{IsSession-added, IsSession-released, IsSession-done}
 

@@ -1,7 +1,7 @@
-use Rattle.rectangle_pack.proofs.Std.{refl, ap, sym, ◌∙◌, is_at}
-use Rattle.rectangle_pack.specs.Packing.{bins_of}
-use Rattle.rectangle_pack.proofs.lemmas.packing.RollBack.{is_some-bins_of}
-use Rattle.rectangle_pack.proofs.lemmas.multimap.Vectors.{none_of}
+use Rattle.rectangle_pack_sections.proofs.Std.{refl, ap, sym, ◌∙◌, is_at}
+use Rattle.rectangle_pack_bins.specs.Packing.{bins_of}
+use Rattle.rectangle_pack_bins.proofs.lemmas.packing.RollBack.{is_some-bins_of}
+use Rattle.rectangle_pack_groups.proofs.lemmas.multimap.Vectors.{none_of}
 use Rattle.rectangle_pack.proofs.lemmas.session.Keeps.{None-bins_of}
 use Rattle.rectangle_pack.proofs.lemmas.session.Transitions.{added-inserted, memory_refused}
 use Rattle.rectangle_pack.proofs.session.Session.add_bin.Goals as goal

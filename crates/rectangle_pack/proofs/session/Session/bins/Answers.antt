@@ -1,5 +1,5 @@
-use Rattle.rectangle_pack.proofs.Std.{List, sym, subst, IsStrictlySortedBy}
-use Rattle.rectangle_pack.proofs.lemmas.packing.RollBack.{keys-bins}
+use Rattle.rectangle_pack_sections.proofs.Std.{List, sym, subst, IsStrictlySortedBy}
+use Rattle.rectangle_pack_bins.proofs.lemmas.packing.RollBack.{keys-bins}
 use Rattle.rectangle_pack.proofs.session.Session.bins.Goals as goal
 
 pub returns-clause-ascend : goal.returns-clause-ascend

@@ -1,5 +1,5 @@
-use Rattle.rectangle_pack.proofs.Std.{sym, refl, rules, is_at}
-use Rattle.rectangle_pack.specs.Joining.{IsJoined}
+use Rattle.rectangle_pack_sections.proofs.Std.{sym, refl, rules, is_at}
+use Rattle.rectangle_pack_lists.specs.Joining.{IsJoined}
 use Rattle.rectangle_pack.proofs.lemmas.session.Keeps.{None-bins_of}
 use Rattle.rectangle_pack.proofs.lemmas.session.Transitions.{IsRecut-joined, coalesced-written}
 use Rattle.rectangle_pack.proofs.session.Session.coalesce.Goals as goal

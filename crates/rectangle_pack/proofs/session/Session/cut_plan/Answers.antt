@@ -1,15 +1,15 @@
-use Rattle.rectangle_pack.proofs.Std.{◌≡◌, refl, sym, subst, rules, Option, Some, None, Ok, filter, MatchOption, Ordering, Vec, lookup, is_at}
-use Rattle.rectangle_pack.specs.declared.cut_plan.CutStep.{CutStep}
-use Rattle.rectangle_pack.specs.Bins.{Bin, whole}
-use Rattle.rectangle_pack.specs.Boxes.{has_cells}
-use Rattle.rectangle_pack.specs.CutTrees.{IsFromCuts}
-use Rattle.rectangle_pack.specs.CutPlans.{IsCutPlan}
-use Rattle.rectangle_pack.specs.Packing.{bins_of}
+use Rattle.rectangle_pack_sections.proofs.Std.{◌≡◌, refl, sym, subst, rules, Option, Some, None, Ok, filter, MatchOption, Ordering, Vec, lookup, is_at}
+use Rattle.rectangle_pack_plans.specs.declared.cut_plan.CutStep.{CutStep}
+use Rattle.rectangle_pack_sections.specs.Bins.{Bin, whole}
+use Rattle.rectangle_pack_sections.specs.Boxes.{has_cells}
+use Rattle.rectangle_pack_sections.specs.CutTrees.{IsFromCuts}
+use Rattle.rectangle_pack_plans.specs.CutPlans.{IsCutPlan}
+use Rattle.rectangle_pack_bins.specs.Packing.{bins_of}
 use Rattle.rectangle_pack.specs.Session.{State, boxes_of}
 use Rattle.rectangle_pack.specs.PlanAnswers.{IsPlanAnswer}
-use Rattle.rectangle_pack.proofs.lemmas.cut_plan.FirstPlanes.{IsCutPlan-same}
-use Rattle.rectangle_pack.proofs.lemmas.cut_plan.Filling.{IsFilled-bin}
-use Rattle.rectangle_pack.proofs.lemmas.cuts.SameBoxes.{HaveSameBoxes-sym, HaveSameBoxes-filter, IsFromCuts-same}
+use Rattle.rectangle_pack_plans.proofs.lemmas.cut_plan.FirstPlanes.{IsCutPlan-same}
+use Rattle.rectangle_pack_plans.proofs.lemmas.cut_plan.Filling.{IsFilled-bin}
+use Rattle.rectangle_pack_sections.proofs.lemmas.cuts.SameBoxes.{HaveSameBoxes-sym, HaveSameBoxes-filter, IsFromCuts-same}
 use Rattle.rectangle_pack.proofs.lemmas.session.Keeps.{Some-bins_of, None-bins_of}
 use Rattle.rectangle_pack.proofs.lemmas.session.Transitions.{memory_refused}
 use Rattle.rectangle_pack.proofs.session.Session.cut_plan.Goals as goal

@@ -1,7 +1,7 @@
 use Rattle.rectangle_pack.proofs.lemmas.session.Transitions.{memory_refused}
 use Rattle.rectangle_pack.specs.Session.{IsSession}
-use Rattle.rectangle_pack.proofs.Std.{refl, ap, subst, length, arith}
-use Rattle.rectangle_pack.specs.Packing.{rules_by}
+use Rattle.rectangle_pack_sections.proofs.Std.{refl, ap, subst, length, arith}
+use Rattle.rectangle_pack_bins.specs.Packing.{rules_by}
 use Rattle.rectangle_pack.proofs.lemmas.session.Keeps.{IsSession-done}
 use Rattle.rectangle_pack.proofs.session.Session.pack_by.Goals as goal
 

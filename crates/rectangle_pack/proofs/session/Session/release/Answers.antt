@@ -1,4 +1,4 @@
-use Rattle.rectangle_pack.proofs.Std.{refl, ap}
+use Rattle.rectangle_pack_sections.proofs.Std.{refl, ap}
 use Rattle.rectangle_pack.proofs.lemmas.session.Keeps.{IsSession-found, outstanding_at}
 use Rattle.rectangle_pack.proofs.lemmas.session.Transitions.{released-removed, memory_refused}
 use Rattle.rectangle_pack.proofs.session.Session.release.Goals as goal

@@ -1,6 +1,6 @@
-use Rattle.rectangle_pack.proofs.Std.{arith, take_all}
-use Rattle.rectangle_pack.specs.Closures.{answers}
-use Rattle.rectangle_pack.specs.Packing.{rules_by}
+use Rattle.rectangle_pack_sections.proofs.Std.{arith, take_all}
+use Rattle.rectangle_pack_sections.specs.Closures.{answers}
+use Rattle.rectangle_pack_bins.specs.Packing.{rules_by}
 use Rattle.rectangle_pack.proofs.lemmas.session.Promise.{KeepsPromise-transition}
 use Rattle.rectangle_pack.proofs.lemmas.session.Transitions.{IsRun-more}
 use Rattle.rectangle_pack.proofs.session.Session.run.Goals as goal

@@ -1,5 +1,5 @@
-use Rattle.rectangle_pack.proofs.Std.{refl, sym, ap, rules, arith, is_at}
-use Rattle.rectangle_pack.specs.Boxes.{volume_of}
+use Rattle.rectangle_pack_sections.proofs.Std.{refl, sym, ap, rules, arith, is_at}
+use Rattle.rectangle_pack_sections.specs.Boxes.{volume_of}
 use Rattle.rectangle_pack.proofs.lemmas.session.Keeps.{Some-bins_of, None-bins_of}
 use Rattle.rectangle_pack.proofs.lemmas.session.Stats.{IsSession-volumes}
 use Rattle.rectangle_pack.proofs.session.Session.stats.Goals as goal

@@ -1,4 +1,4 @@
-use Rattle.rectangle_pack.proofs.Std.{refl, sym, rules, is_at}
+use Rattle.rectangle_pack_sections.proofs.Std.{refl, sym, rules, is_at}
 use Rattle.rectangle_pack.proofs.lemmas.session.Keeps.{Some-bins_of, None-bins_of}
 use Rattle.rectangle_pack.proofs.session.Session.was_coalesced.Goals as goal
 

@@ -1,5 +1,5 @@
-use Rattle.rectangle_pack.proofs.Std.{◌≡◌, arith, append-nil, refl, sym, ap, ◌∙◌, ◌++◌, take, true, false, filter, take-length}
-use Rattle.rectangle_pack.specs.Boxes.{has_cells}
+use Rattle.rectangle_pack_sections.proofs.Std.{◌≡◌, arith, append-nil, refl, sym, ap, ◌∙◌, ◌++◌, take, true, false, filter, take-length}
+use Rattle.rectangle_pack_sections.specs.Boxes.{has_cells}
 use Rattle.rectangle_pack.specs.Session.{outstanding_in}
 use Rattle.rectangle_pack.proofs.lemmas.session.Stats.{gathered-more}
 use Rattle.rectangle_pack.proofs.session.cut_plan.gather_outstanding.Goals.{then-eq+in_ok-gather, else-eq}

@@ -1,5 +1,5 @@
-use Rattle.rectangle_pack.proofs.Std.{◌≡◌, ◌++◌, take, filter}
-use Rattle.rectangle_pack.specs.Boxes.{has_cells}
+use Rattle.rectangle_pack_sections.proofs.Std.{◌≡◌, ◌++◌, take, filter}
+use Rattle.rectangle_pack_sections.specs.Boxes.{has_cells}
 use Rattle.rectangle_pack.specs.Session.{outstanding_in}
 use Rattle.rectangle_pack.proofs.session.cut_plan.gather_outstanding.Given as goal
 

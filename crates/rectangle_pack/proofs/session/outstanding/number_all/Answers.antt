@@ -1,4 +1,4 @@
-use Rattle.rectangle_pack.proofs.Std.{◌∷◌, [], arith, rules, map-id, length-append, YieldsList-end, YieldsList-from_vec}
+use Rattle.rectangle_pack_sections.proofs.Std.{◌∷◌, [], arith, rules, map-id, length-append, YieldsList-end, YieldsList-from_vec}
 use Rattle.rectangle_pack.proofs.lemmas.session.Numbering.{numbered-more}
 use Rattle.rectangle_pack.proofs.session.outstanding.number_all.Goals as goal
 

@@ -1,4 +1,4 @@
-use Rattle.rectangle_pack.proofs.Std.{◌≡◌, ◌+◌, ◌++◌, ◌≤◌, length, vec_len, vec_capacity, into_iter_len}
+use Rattle.rectangle_pack_sections.proofs.Std.{◌≡◌, ◌+◌, ◌++◌, ◌≤◌, length, vec_len, vec_capacity, into_iter_len}
 use Rattle.rectangle_pack.specs.Session.{numbered}
 use Rattle.rectangle_pack.proofs.session.outstanding.number_all.Given as goal
 

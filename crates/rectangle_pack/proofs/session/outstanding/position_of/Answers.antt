@@ -1,4 +1,4 @@
-use Rattle.rectangle_pack.proofs.Std.{rules, answers_always}
+use Rattle.rectangle_pack_sections.proofs.Std.{rules, answers_always}
 use Rattle.rectangle_pack.specs.declared.session.command.Outstanding.{Outstanding}
 use Rattle.rectangle_pack.proofs.lemmas.session.Numbering.{searched}
 use Rattle.rectangle_pack.proofs.session.outstanding.position_of.Goals as goal

@@ -1,7 +1,7 @@
-use Rattle.rectangle_pack.proofs.lemmas.packing.FitTests.{OnErr-given}
-use Rattle.rectangle_pack.proofs.Std.{refl, sym, ap, ◌∙◌, arith, length, vec_len, ◌≡◌, ◌<◌, [], append-nil, map, sum, values_of}
-use Rattle.rectangle_pack.proofs.lemmas.packing.Groups.{PackingDone-none, lists-some, lists-more, lists-empty}
-use Rattle.rectangle_pack.specs.Packing.{bins_of, rules_by}
+use Rattle.rectangle_pack_bins.proofs.lemmas.packing.FitTests.{OnErr-given}
+use Rattle.rectangle_pack_sections.proofs.Std.{refl, sym, ap, ◌∙◌, arith, length, vec_len, ◌≡◌, ◌<◌, [], append-nil, map, sum, values_of}
+use Rattle.rectangle_pack_bins.proofs.lemmas.packing.Groups.{PackingDone-none, lists-some, lists-more, lists-empty}
+use Rattle.rectangle_pack_bins.specs.Packing.{bins_of, rules_by}
 use Rattle.rectangle_pack.proofs.session.packing.pack_into.Goals as goal
 
 pub returns-in-Ok-false-clause-packed : goal.returns-in-Ok-false-clause-packed

@@ -1,5 +1,5 @@
-use Rattle.rectangle_pack.proofs.Std.{◌≡◌, ap, sym, ◌∙◌, arith, length, take, true, false, take-length}
-use Rattle.rectangle_pack.specs.Counting.{total_volume}
+use Rattle.rectangle_pack_sections.proofs.Std.{◌≡◌, ap, sym, ◌∙◌, arith, length, take, true, false, take-length}
+use Rattle.rectangle_pack_sections.specs.Counting.{total_volume}
 use Rattle.rectangle_pack.specs.Session.{outstanding_in}
 use Rattle.rectangle_pack.proofs.lemmas.session.Stats.{outstanding-before, added-more}
 use Rattle.rectangle_pack.proofs.session.stats.totals_in.Goals.{then-eq, else-eq}
@@ -10,7 +10,7 @@ overflow_add-volume g c =
     let here = sym (g.met.B.Ord.matches_eq _ _) ∙ sym c.eq.ensures ∙ c.if-eq.true in
     let room = outstanding-before g.B.Ord.cmp c.args.outstanding.now c.loop-placement.placement-index c.placement-item.result c.args.id.now
     c.loop-placement-test.true c.placement-item.is here in
-    rw (c.volume-volume.ensures, c.whd.ensures) (omega (arith, room.0, c.loop-placement.invariant.volume, c.requires))
+    rw (c.volume-volume.ensures, c.whd.ensures, c.section_at.ensures) (omega (arith, room.0, c.loop-placement.invariant.volume, c.requires))
 
 pub overflow_add-count : goal.overflow_add-count
 overflow_add-count g c =
@@ -28,7 +28,7 @@ loop-placement-preserved g c =
           let more = added-more g.B.Ord.cmp c.args.outstanding.now c.loop-placement.placement-index c.placement-item.result c.args.id.now true
           c.loop-placement-test.true c.placement-item.is (test ∙ w.if-eq.true) in
           record {
-            volume = rw (w.volume-is, w.volume-volume.ensures, w.whd.ensures) (omega (arith, more.0, before.volume));
+            volume = rw (w.volume-is, w.volume-volume.ensures, w.whd.ensures, w.section_at.ensures) (omega (arith, more.0, before.volume));
             count = rw w.count-is (omega (arith, more.1, before.count));
           }
       | else-eq w ↦

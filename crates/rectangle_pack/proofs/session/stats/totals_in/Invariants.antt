@@ -1,5 +1,5 @@
-use Rattle.rectangle_pack.proofs.Std.{◌≡◌, length, take}
-use Rattle.rectangle_pack.specs.Counting.{total_volume}
+use Rattle.rectangle_pack_sections.proofs.Std.{◌≡◌, length, take}
+use Rattle.rectangle_pack_sections.specs.Counting.{total_volume}
 use Rattle.rectangle_pack.specs.Session.{outstanding_in}
 use Rattle.rectangle_pack.proofs.session.stats.totals_in.Given as goal
 

@@ -1,9 +1,0 @@
-use Rattle.rectangle_pack.proofs.Std.{take}
-use Rattle.rectangle_pack.specs.Cuts.{sizes_of}
-use Rattle.rectangle_pack.specs.Choice.{MayChoose}
-use Rattle.rectangle_pack.specs.Closures.{MayCompare}
-use Rattle.rectangle_pack.proofs.bin_section.BinSection.place_held.Given as goal
-
-abbrev pub invariant-loop-next : goal.invariant-loop-next
-invariant-loop-next g l =
-    MayChoose (λ a b. MayCompare g.C.Fn l.comparison l.heuristic (sizes_of a) (sizes_of b)) (take l.next l.cuts) l.best

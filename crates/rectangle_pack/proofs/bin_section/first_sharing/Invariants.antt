@@ -1,6 +1,0 @@
-use Rattle.rectangle_pack.proofs.Std.{take, All}
-use Rattle.rectangle_pack.specs.Boxes.{AreApart}
-use Rattle.rectangle_pack.proofs.bin_section.first_sharing.Given as goal
-
-abbrev pub invariant-loop-s : goal.invariant-loop-s
-invariant-loop-s l = All (λ s. AreApart s l.section) (take l.s-index l.sections)

@@ -1,5 +1,0 @@
-use Rattle.rectangle_pack.proofs.lemmas.cuts.TreesFill.{cuts_cover_bins}
-use Rattle.rectangle_pack.proofs.cut_plan.laws.cuts_cover_bins.Goals as goal
-
-pub returns : goal.returns
-returns c = cuts_cover_bins

@@ -1,5 +1,0 @@
-use Rattle.rectangle_pack.proofs.lemmas.cut_plan.OpenPlanes.{cuts_have_open_planes}
-use Rattle.rectangle_pack.proofs.cut_plan.laws.cuts_have_open_planes.Goals as goal
-
-pub returns : goal.returns
-returns c = cuts_have_open_planes

@@ -1,8 +1,0 @@
-use Rattle.rectangle_pack.proofs.lemmas.cuts.Pinwheel.{pinwheel_covers, pinwheel_not_from_cuts}
-use Rattle.rectangle_pack.proofs.cut_plan.laws.pinwheel_is_not_from_cuts.Goals as goal
-
-pub returns-clause-covers : goal.returns-clause-covers
-returns-clause-covers c = pinwheel_covers
-
-pub returns-clause-uncut : goal.returns-clause-uncut
-returns-clause-uncut c = pinwheel_not_from_cuts

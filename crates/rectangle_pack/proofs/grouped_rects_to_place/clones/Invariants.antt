@@ -1,9 +1,0 @@
-use Rattle.rectangle_pack.proofs.Std.{◌≡◌, ◌≤◌, length, All, vec_capacity, Equal}
-use Rattle.rectangle_pack.proofs.grouped_rects_to_place.clones.Given as goal
-
-abbrev pub invariant-loop : goal.invariant-loop
-invariant-loop g l = record {
-  count : length l.all.items ≡ l.counter;
-  room : l.count ≤ vec_capacity l.all;
-  clones : All (λ x. g.Id.Ord.cmp l.id x ≡ Equal) l.all.items;
-}

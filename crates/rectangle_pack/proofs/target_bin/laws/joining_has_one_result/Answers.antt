@@ -1,9 +1,0 @@
-use Rattle.rectangle_pack.proofs.Std.{length}
-use Rattle.rectangle_pack.proofs.lemmas.joining.Sweeps.{IsJoined-one, IsSwept-one}
-use Rattle.rectangle_pack.proofs.target_bin.laws.joining_has_one_result.Goals as goal
-
-pub returns-clause-joined : goal.returns-clause-joined
-returns-clause-joined c = λ old one other idx lo hi p q. IsJoined-one p q
-
-pub returns-clause-swept : goal.returns-clause-swept
-returns-clause-swept c = λ old one other p q. IsSwept-one (length old) old one other p q

@@ -1,5 +1,0 @@
-use Rattle.rectangle_pack.proofs.lemmas.trial.Steps.{length-step}
-use Rattle.rectangle_pack.proofs.target_bin.laws.step_adds_at_most_two.Goals as goal
-
-pub returns : goal.returns
-returns g c = λ sections next member location tests step. length-step _ sections member location next tests step

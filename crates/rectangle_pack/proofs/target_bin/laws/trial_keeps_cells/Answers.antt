@@ -1,5 +1,0 @@
-use Rattle.rectangle_pack.proofs.lemmas.trial.Steps.{KeepCells-done}
-use Rattle.rectangle_pack.proofs.target_bin.laws.trial_keeps_cells.Goals as goal
-
-pub returns : goal.returns
-returns g c = λ sections last locations members tests apart done. KeepCells-done _ sections members locations last tests apart done

@@ -1,0 +1,336 @@
+-- Groups that are placed, one after another.
+use lib.Dec.{eqb-suc-zero}
+use Rattle.rectangle_pack_sections.proofs.Std.{◌≡◌, ℕ, suc, ◌+◌, ◌<◌, ◌≤◌, List, [], ◌∷◌, ◌++◌, length, take, drop, refl, ap, sym, ◌∙◌, subst, cond, true}
+use Rattle.rectangle_pack_sections.proofs.Std.{false, Bool, arith, get_or, append_assoc, append-nil, Option, Some, None, map, sum, All, IsTrue, ◌↔◌, nat_eq}
+use Rattle.rectangle_pack_sections.proofs.Std.{if◌then◌else◌, Result, Ok, Err, IfOk, MatchBool, MatchOption, Ordering, Equal, is_eq, IsTotalOrder, Equal-is}
+use Rattle.rectangle_pack_sections.proofs.Std.{AllZip, sum_by, sum_by-cons, length-append, lookup, set_value, keys_of, IsStrictlySortedBy, option_map, is_at}
+use Rattle.rectangle_pack_sections.proofs.Std.{split_at, take_more, map-append, length-map, Vec, All-push, All-nil, sum-map}
+use Rattle.rectangle_pack_bins.specs.declared.pack.order.OrderedGroup.{OrderedGroup}
+use Rattle.rectangle_pack_sections.specs.Closures.{Answers}
+use Rattle.rectangle_pack_groups.specs.Groups.{Collection, lists_of}
+use Rattle.rectangle_pack_bins.specs.private.Orders.{keys_of_order, entries_at}
+use Rattle.rectangle_pack_bins.specs.declared.pack.journal.DoneTrial.{DoneTrial}
+use Rattle.rectangle_pack_groups.specs.declared.grouped_rects_to_place.Group.{Group}
+use Rattle.rectangle_pack_bins.specs.declared.pack.answer.Placement.{Placement}
+use Rattle.rectangle_pack_sections.specs.Bins.{Bin, Held}
+use Rattle.rectangle_pack_bins.specs.Packing.{Rules, bins_of, Members, Stage, at_start, IsPlaced, DoesNotTake, IsRefused, AreAllPlaced, AreGroups, StopsAfter}
+use Rattle.rectangle_pack_bins.specs.Packing.{PackingDone}
+use Rattle.rectangle_pack_sections.specs.Boxes.{Size, Cuboid}
+use Rattle.rectangle_pack_lists.specs.declared.trial.Note.{Note}
+use Rattle.rectangle_pack_lists.specs.private.Notes.{before_notes, LeadsBack}
+use Rattle.rectangle_pack_lists.specs.Steps.{IsDone}
+use Rattle.rectangle_pack_bins.specs.Placed.{AreNamed, IsLastOf, AreLastPlacements}
+use Rattle.rectangle_pack_bins.specs.private.Checkout.{IsTriedIn}
+use Rattle.rectangle_pack_bins.specs.private.RollBack.{GoesBack, trials_noted}
+use Rattle.rectangle_pack_bins.proofs.lemmas.packing.Orders.{AllZip-more, map-split, AllZip-next, AllZip-equal}
+use Rattle.rectangle_pack_bins.proofs.lemmas.packing.RollBack.{bins_of-written, lookup-bins_of, IsRoomier-grown, IsRoomier-bins, GoesBack-more, GoesBack-pushed}
+use Rattle.rectangle_pack_groups.proofs.lemmas.util.Zips.{length-zip}
+use Rattle.rectangle_pack_groups.proofs.lemmas.util.Maps.{is_at-back, congr_right}
+
+-- a trial that is stuck, or refused memory, may leave its bin more room
+pub GoesBack-grown : {B A : Type 0} (cmp : B → B → Ordering) (now : List (B × Held)) (journal : List (DoneTrial B A)) (id : B)
+    (v w : Held) (start : List (B × Bin))
+    → lookup (is_at (cmp id)) now ≡ Some v → w.bin ≡ v.bin → v.room ≤ w.room → GoesBack cmp now journal start
+    → GoesBack cmp (set_value (is_at (cmp id)) now w) journal start
+GoesBack-grown cmp now journal id v w start found same more h =
+    GoesBack-more cmp now _ journal start (IsRoomier-grown (is_at (cmp id)) now v w found (record { bin = same; room = more })) h
+
+-- and its sections stay
+pub bins_of-grown : {B : Type 0} (test : B → Bool) (now : List (B × Held)) (v w : Held) → lookup test now ≡ Some v → w.bin ≡ v.bin → v.room ≤ w.room
+    → bins_of (set_value test now w) ≡ bins_of now
+bins_of-grown test now v w found same more = IsRoomier-bins now (set_value test now w) (IsRoomier-grown test now v w found (record { bin = same; room = more }))
+
+-- a done trial in the bin of an id is noted; where it leaves no notes, the bin keeps its list
+pub GoesBack-tried : {B A : Type 0} (cmp : B → B → Ordering) (first now next : List (B × Held)) (journal new : List (DoneTrial B A)) (e : DoneTrial B A)
+    (v w : Held) (start : List (B × Bin))
+    → IsTriedIn cmp e.id.now now v w next → now ≡ first → new ≡ journal ++ trials_noted e
+    → w.bin ≡ record v.bin { sections = w.bin.sections } → LeadsBack w.room w.bin.sections e.notes.items v.bin.sections
+    → GoesBack cmp first journal start → GoesBack cmp next new start
+GoesBack-tried {B} {A} cmp first now next journal new e v w start tried same pushed rest back h = rw tried.written (at e.notes.items refl pushed back.before)
+  where
+    start_now : GoesBack cmp now journal start
+    start_now = rw same h
+
+    at : (notes : List Note) → e.notes.items ≡ notes → new ≡ journal ++ (if nat_eq (length notes) 0 then [] else e ∷ [])
+        → before_notes notes w.bin.sections ≡ v.bin.sections → GoesBack cmp (set_value (is_at (cmp e.id.now)) now w) new start
+    at [] none is before =
+        let stays : w.bin ≡ v.bin = rest ∙ ap (λ (s : List Cuboid). record v.bin { sections = s }) before in
+        subst (λ (js : List (DoneTrial B A)). GoesBack cmp (set_value (is_at (cmp e.id.now)) now w) js start) (sym (is ∙ append-nil journal))
+        (GoesBack-grown cmp now journal e.id.now v w start tried.found stays tried.room start_now)
+    at (note ∷ notes) some is before =
+        let more : new ≡ journal ++ e ∷ [] = is ∙ ap (λ b. journal ++ (if b then [] else e ∷ [])) (eqb-suc-zero (length notes)) in
+        GoesBack-pushed cmp now journal new e v w start more tried.found
+        (record { can = back.can; sound = rw (ap (λ (b : Bin). b.size) rest, back.before) tried.sound })
+        (record {
+          bin = ap (λ (b : Bin). record b { sections = before_notes e.notes.items w.bin.sections }) rest
+              ∙ ap (λ (s : List Cuboid). record v.bin { sections = s }) back.before;
+          room = tried.room;
+        })
+        start_now
+
+-- what a look-up finds, without its room
+pub found-bins_of : {B : Type 0} (test : B → Bool) (now : List (B × Held)) (old : List (B × Bin)) (v : Held) → bins_of now ≡ old → lookup test now ≡ Some v
+    → lookup test old ≡ Some v.bin
+found-bins_of test now old v same found = rw (← same) (lookup-bins_of test now ∙ ap (option_map (λ (h : Held). h.bin)) found)
+
+-- the names of an order, split at an index
+pub names-split : {B : Type 0} (order : List (ℕ × B)) (i : ℕ) (o : ℕ × B) → i < length order → o ≡ get_or order i o
+    → map (λ (x : ℕ × B). x.1) order ≡ map (λ (x : ℕ × B). x.1) (take i order) ++ o.1 ∷ map (λ (x : ℕ × B). x.1) (drop (suc i) order)
+names-split {B} order i o within is =
+    let split : order ≡ take i order ++ o ∷ drop (suc i) order = subst
+    (λ z. order ≡ take i order ++ z ∷ drop (suc i) order) (sym is) (split_at order i o within) in
+    ap (map (λ (x : ℕ × B). x.1)) split ∙ map-append (λ (x : ℕ × B). x.1) (take i order) (o ∷ drop (suc i) order)
+
+-- each location of a done trial has the size of its member
+pub IsDone-sizes : (may : Answers) (sections : List Cuboid) (ms : List Size) (ls last : List Cuboid) (n : ℕ) → IsDone may sections ms ls last n
+    → map (λ l. l.whd) ls ≡ ms
+IsDone-sizes may sections [] ls last n done = ap (map (λ l. l.whd)) done.0
+IsDone-sizes may sections (m ∷ ms) [] last n done = absurd done
+IsDone-sizes may sections (m ∷ ms) (l ∷ ls) last n (next, one, others, step, done, count) =
+    let here : l.whd ≡ m = ap (λ (b : Cuboid). b.whd) step.location_is in
+    let rest = IsDone-sizes may next ms ls last others done in
+    cc
+
+-- so there are as many
+pub IsDone-length : (may : Answers) (sections : List Cuboid) (ms : List Size) (ls last : List Cuboid) (n : ℕ) → IsDone may sections ms ls last n
+    → length ms ≡ length ls
+IsDone-length may sections ms ls last n done = ap length (sym (IsDone-sizes may sections ms ls last n done)) ∙ length-map ls (λ l. l.whd)
+
+-- one more name
+pub AreNamed-more : {Id B : Type 0} (cmp : Id → Id → Ordering) (bin_cmp : B → B → Ordering) (ids : List Id) (here : B) (locations : List Cuboid) (i : ℕ)
+    (x id : Id) (bin : B) (e : Cuboid) (added : List (Placement Id B))
+    → i < length ids → i < length locations → x ≡ get_or ids i x → e ≡ get_or locations i e → cmp x id ≡ Equal → bin_cmp here bin ≡ Equal
+    → AreNamed cmp bin_cmp (take i ids) here (take i locations) added
+    → AreNamed cmp bin_cmp (take (i + 1) ids) here (take (i + 1) locations) (added ++ record { id = id; bin = bin; location = e } ∷ [])
+AreNamed-more {Id} {B} cmp bin_cmp ids here locations i x id bin e added in_ids in_locations is is_location same same_bin h =
+    let p : Placement Id B = record { id = id; bin = bin; location = e } in record {
+      named = rw (take_more ids i x in_ids) (AllZip-more _ (take i ids) added (get_or ids i x) p h.named (rw (← is) same));
+      together = All-push (λ (y : Placement Id B). bin_cmp here y.bin ≡ Equal) added p h.together same_bin;
+      at = map-append (λ (y : Placement Id B). y.location) added (p ∷ []) ∙ rw (take_more locations i e in_locations, h.at, ← is_location) refl;
+    }
+
+-- the sizes of a list of ids
+abbrev pub AreSizesOf : {Id : Type 0} → (Id → Id → Ordering) → List (Id × Size) → List Id → List Size → Type 0
+AreSizesOf cmp sizes ids found = AllZip (λ id size. lookup (is_at (cmp id)) sizes ≡ Some size) ids found
+
+module _ {Id B : Type 0} (rules : Rules Id B) where
+  -- the group is placed in the bin that the loop is at
+  pub IsPlaced-at : (excluded : B → Bool) (order : List (ℕ × B)) (i : ℕ) (o : ℕ × B) (group : Members Id) (now new : List (B × Held)) (old : List (B × Bin))
+      (v w : Held) (locations : List Cuboid) (counts : List ℕ) (count : ℕ) (added : List (Placement Id B))
+      → i < length order → o ≡ get_or order i o → bins_of now ≡ old
+      → AllZip (DoesNotTake rules excluded old group) (map (λ (x : ℕ × B). x.1) (take i order)) counts → excluded o.1 ≡ false
+      → IsTriedIn rules.bin_cmp o.1 now v w new → w.bin ≡ record v.bin { sections = w.bin.sections }
+      → IsDone rules.may v.bin.sections group.sizes locations w.bin.sections count → AreNamed rules.id_cmp rules.bin_cmp group.ids o.1 locations added
+      → (p : IsPlaced rules excluded (map (λ (x : ℕ × B). x.1) order) group old added (bins_of new) (sum counts + count)) × (p.here ≡ o.1)
+  IsPlaced-at excluded order i o group now new old v w locations counts count added within is same passed allowed tried rest done named = (
+    record {
+      before = map (λ (x : ℕ × B). x.1) (take i order);
+      here = o.1;
+      after = map (λ (x : ℕ × B). x.1) (drop (suc i) order);
+      order_is = names-split order i o within is;
+      counts = counts;
+      passed = passed;
+      allowed = allowed;
+      bin = v.bin;
+      found = found-bins_of (is_at (rules.bin_cmp o.1)) now old v same tried.found;
+      last = w.bin.sections;
+      locations = locations;
+      count = count;
+      done = done;
+      named = named;
+      new_is = bins_of-written (is_at (rules.bin_cmp o.1)) now new w _ tried.written rest
+          ∙ ap (λ es. set_value (is_at (rules.bin_cmp o.1)) es (record v.bin { sections = w.bin.sections })) same;
+      tests_are = refl;
+    },
+    refl,
+  )
+
+  -- with an equal order and equal excluded bins, the group goes to the same bin
+  IsPlaced-alike : (a b : B → Bool) (order names : List B) (group : Members Id) (old : List (B × Bin)) (added : List (Placement Id B)) (new : List (B × Bin))
+      (count : ℕ) (here : B) → a ≡ b → order ≡ names → (p : IsPlaced rules a order group old added new count) → p.here ≡ here
+      → (q : IsPlaced rules b names group old added new count) × (q.here ≡ here)
+  IsPlaced-alike a b order names group old added new count here same same_order p is =
+      let P : (B → Bool) → List B → Type 0 = λ (x : B → Bool) (ns : List B). (q : IsPlaced rules x ns group old added new count) × (q.here ≡ here) in
+      subst (P b) same_order (subst (λ (x : B → Bool). P x order) same (p, is))
+
+  module _ {K : Type 0} (excludes : List (K × B) → K → B → Bool) where
+    -- one more group is placed
+    AreAllPlaced-push : (order : List B) (gs : List (K × Members Id)) (g : K × Members Id) (old : Stage K B) (mid : List (B × Bin)) (homes : List (K × B))
+        (next : List (B × Bin)) (placements added : List (Placement Id B)) (tests one : ℕ)
+        → AreAllPlaced rules excludes order gs old placements (record { bins = mid; homes = homes }) tests
+        → (p : IsPlaced rules (excludes homes g.0) order g.1 mid added next one)
+        → AreAllPlaced rules excludes order (gs ++ g ∷ []) old (placements ++ added) (record { bins = next; homes = (g.0, p.here) ∷ homes }) (tests + one)
+    AreAllPlaced-push order [] g old mid homes next placements added tests one done placed =
+        let S : Stage K B = record { bins = mid; homes = homes } in
+        subst (λ (s : Stage K B). AreAllPlaced rules excludes order (g ∷ []) s (placements ++ added)
+        (record { bins = next; homes = (g.0, placed.here) ∷ homes }) (tests + one)) done.1
+        (added, next, one, [], 0, placed, (refl, refl, refl), ap (λ ps. ps ++ added) done.0 ∙ sym (append-nil added), (let z = done.2 in omega arith))
+    AreAllPlaced-push order (g' ∷ gs) g old mid homes next placements added tests one (first, mid', n, rest, m, here, later, joined, counted) placed = (
+      first,
+      mid',
+      n,
+      rest ++ added,
+      m + one,
+      here,
+      AreAllPlaced-push order gs g (record { bins = mid'; homes = (g'.0, here.here) ∷ old.homes }) mid homes
+          next rest added m one later placed,
+      rw joined (append_assoc first rest added),
+      omega arith,
+    )
+
+    -- and it is known where it went
+    pub AreAllPlaced-next : (excluded : B → Bool) (order names : List B) (gs : List (K × Members Id)) (g : K × Members Id) (old : Stage K B)
+        (mid : List (B × Bin)) (homes : List (K × B)) (next : List (B × Bin)) (before added after : List (Placement Id B)) (tests one : ℕ) (here : B)
+        → excluded ≡ excludes homes g.0 → order ≡ names → AreAllPlaced rules excludes names gs old before (record { bins = mid; homes = homes }) tests
+        → (p : IsPlaced rules excluded order g.1 mid added next one) → p.here ≡ here → after ≡ before ++ added
+        → AreAllPlaced rules excludes names (gs ++ g ∷ []) old after (record { bins = next; homes = (g.0, here) ∷ homes }) (tests + one)
+    AreAllPlaced-next excluded order names gs g old mid homes next before added after tests one here same same_order done p is joined =
+        let q = IsPlaced-alike excluded (excludes homes g.0) order names g.1 mid added next one here same same_order p is in
+        let P : List (Placement Id B) → B → Type 0 = λ (ps : List (Placement Id B)) (b : B).
+        AreAllPlaced rules excludes names (gs ++ g ∷ []) old ps (record { bins = next; homes = (g.0, b) ∷ homes }) (tests + one) in
+        subst (λ (ps : List (Placement Id B)). P ps here) (sym joined)
+        (subst (P (before ++ added)) q.1 (AreAllPlaced-push names gs g old mid homes next before added tests one done q.0))
+
+  module _ {K : Type 0} (group_cmp : K → K → Ordering) where
+    -- one more group is named
+    pub AreGroups-more : {X Y : Type 0} (sizes : List (Id × Size)) (lists : List (K × List Id)) (order : List (OrderedGroup K X Y)) (i : ℕ)
+        (o : OrderedGroup K X Y) (gs : List (K × Members Id)) (group : Members Id)
+        → i < length order → o ≡ get_or order i o → lookup (is_at (group_cmp o.name.now)) lists ≡ Some group.ids
+        → AreSizesOf rules.id_cmp sizes group.ids group.sizes
+        → AreGroups rules.id_cmp group_cmp sizes lists (keys_of_order (take i order)) gs
+        → AreGroups rules.id_cmp group_cmp sizes lists (keys_of_order (take (i + 1) order)) (gs ++ (o.name.now, group) ∷ [])
+    AreGroups-more {X} {Y} sizes lists order i o gs group within is found sized h =
+        let key : OrderedGroup K X Y → ℕ × K = λ x. (x.key.0, x.name.now) in
+        record { each = AllZip-next _ key order gs i o (o.name.now, group) within is h.each (refl, found, sized) }
+
+    -- the loop stops at a group that is refused
+    pub StopsAfter-at : {X Y : Type 0} (excludes : List (K × B) → K → B → Bool) (sizes : List (Id × Size)) (lists : List (K × List Id))
+        (order : List (OrderedGroup K X Y)) (bin_order : List B) (i : ℕ)
+        (gs : List (K × Members Id)) (next : K × Members Id) (old new mid : List (B × Bin)) (homes : List (K × B))
+        (placements : List (Placement Id B)) (first count : ℕ)
+        → AreGroups rules.id_cmp group_cmp sizes lists (keys_of_order (take i order)) (gs ++ next ∷ [])
+        → AreAllPlaced rules excludes bin_order gs (at_start old) placements (record { bins = mid; homes = homes }) first → new ≡ mid
+        → IsRefused rules (excludes homes next.0) bin_order next.1 mid count
+        → StopsAfter rules excludes group_cmp sizes lists (keys_of_order order) bin_order old new (first + count)
+    StopsAfter-at {X} {Y} excludes sizes lists order bin_order i gs next old new mid homes placements first count listed placed same refused =
+        record {
+          taken = keys_of_order (take i order);
+          later = keys_of_order (drop i order);
+          order_is = map-split (λ (x : OrderedGroup K X Y). (x.key.0, x.name.now)) order i;
+          beginning = gs;
+          next = next;
+          listed = listed;
+          placements = placements;
+          homes = homes;
+          first = first;
+          placed = rw same placed;
+          count = count;
+          refused = rw same refused;
+          tests_are = refl;
+        }
+
+-- other facts on the two answers
+pub packed-weaker : {E P Q P' Q' : Type 0} (r : Result Bool E) → (P → P') → (Q → Q') → IfOk r (λ d. MatchBool d P Q) → IfOk r (λ d. MatchBool d P' Q')
+packed-weaker (Ok true) f g h = f h
+packed-weaker (Ok false) f g h = g h
+packed-weaker (Err e) f g h = tt
+
+-- a map that is not empty has lists
+pub lists-some : {K X A : Type 0} (es : List (K × Vec X A)) (b : Bool) → (IsTrue b ↔ (length es ≡ 0)) → b ≡ false → lists_of es ≡ [] → ⊥
+lists-some [] b is not_so h = let so = is.1 refl in absurd cc
+lists-some (e ∷ es) b is not_so h = absurd cc
+
+-- as many as it has entries
+pub lists-more : {K X A : Type 0} (es : List (K × Vec X A)) (lists : List (K × List X)) (b : Bool) → (IsTrue b ↔ (length es ≡ 0)) → b ≡ false
+    → lists_of es ≡ lists → 0 < length lists
+lists-more [] lists b is not_so same = let so = is.1 refl in absurd cc
+lists-more (e ∷ es) lists b is not_so same = rw (← same) (omega arith)
+
+-- and one that is has none
+pub lists-empty : {K X A : Type 0} (es : List (K × Vec X A)) (b : Bool) → (IsTrue b ↔ (length es ≡ 0)) → b ≡ true → lists_of es ≡ []
+lists-empty [] b is so = refl
+lists-empty (e ∷ es) b is so = absurd (omega (arith, is.0 so))
+
+-- without groups a packing is done, and makes no test
+pub PackingDone-none : {Id B G : Type 0} (group_cmp : Group G Id → Group G Id → Ordering) (rules : Rules Id B) (all : Collection Id G)
+    (old : List (B × Bin)) (placements : List (Placement Id B)) → all.groups ≡ [] → placements ≡ []
+    → (done : PackingDone group_cmp rules all old placements old) × (done.tests ≡ 0)
+PackingDone-none group_cmp rules all old placements none nothing = (
+  record {
+    group_order = [];
+    bin_order = [];
+    groups = [];
+    by_groups = rw none
+        (record { unsorted = []; each = tt; permutation = record { moves = []; below = tt; is = refl }; falling = λ k d low up. absurd (omega arith) });
+    by_bins = λ some. absurd (omega arith);
+    listed = record { each = tt };
+    homes = [];
+    tests = 0;
+    placed = (nothing, refl, refl);
+  },
+  refl,
+)
+
+-- the last placement of each id, after one more placement, written under an id and a bin that equal its own
+pub AreLastPlacements-more : {Id B : Type 0} {cmp : Id → Id → Ordering} (bin_cmp : B → B → Ordering) → IsTotalOrder cmp → (placements : List (Placement Id B))
+    (p : Placement Id B) (key : Id) (bin : B) (old new : List (Id × (B × Cuboid))) → IsStrictlySortedBy cmp (keys_of new)
+    → cmp p.id key ≡ Equal → bin_cmp p.bin bin ≡ Equal
+    → ((id : Id) → lookup (is_at (cmp id)) new ≡ cond (is_at (cmp key) id) (Some (bin, p.location)) (lookup (is_at (cmp id)) old))
+    → AreLastPlacements cmp bin_cmp placements old → AreLastPlacements cmp bin_cmp (placements ++ p ∷ []) new
+AreLastPlacements-more {Id} {B} {cmp} bin_cmp o placements p key bin old new ascend same same_bin updates h =
+    record {
+      ascend = ascend;
+      each = λ id. rw (updates id) (at id (is_eq (cmp key id)) (ap is_eq (congr_right o p.id key id same) ∙ is_at-back o id key)
+          (lookup (is_at (cmp id)) old) (h.each id));
+    }
+  where
+    at : (id : Id) (b : Bool) → is_eq (cmp id p.id) ≡ b → (found : Option (B × Cuboid))
+        → MatchOption found (All (λ q. is_eq (cmp id q.id) ≡ false) placements) (IsLastOf cmp bin_cmp placements id)
+        → MatchOption (cond b (Some (bin, p.location)) found) (All (λ q. is_eq (cmp id q.id) ≡ false) (placements ++ p ∷ []))
+        (IsLastOf cmp bin_cmp (placements ++ p ∷ []) id)
+    at id true hit found l = record {
+      before = placements;
+      last = p;
+      after = [];
+      splits = refl;
+      same = (Equal-is _).0 hit;
+      later = All-nil _;
+      bin = same_bin;
+      location = refl;
+    }
+    at id false miss None l = All-push (λ (q : Placement Id B). is_eq (cmp id q.id) ≡ false) placements p l miss
+    at id false miss (Some x) l = record {
+      before = l.before;
+      last = l.last;
+      after = l.after ++ p ∷ [];
+      splits = ap (λ ps. ps ++ p ∷ []) l.splits ∙ append_assoc l.before (l.last ∷ l.after) (p ∷ []);
+      same = l.same;
+      later = All-push (λ (q : Placement Id B). is_eq (cmp id q.id) ≡ false) l.after p l.later miss;
+      bin = l.bin;
+      location = l.location;
+    }
+
+-- how many members the groups have
+abbrev pub members_in : {Id K : Type 0} → List (K × Members Id) → ℕ
+members_in {Id} {K} gs = sum_by (λ (g : K × Members Id). length g.1.sizes) gs
+
+-- one placement for each member
+pub AreAllPlaced-length : {Id B K : Type 0} (rules : Rules Id B) (excludes : List (K × B) → K → B → Bool) (order : List B) (gs : List (K × Members Id))
+    (old new : Stage K B) (placements : List (Placement Id B)) (tests : ℕ)
+    → AreAllPlaced rules excludes order gs old placements new tests → length placements ≡ members_in gs
+AreAllPlaced-length rules excludes order [] old new placements tests h = rw h.0 refl
+AreAllPlaced-length {Id} {B} {K} rules excludes order (g ∷ gs) old new placements tests (first, next, one, rest, others, placed, later, joined, counted) =
+    let here : length first ≡ length g.1.sizes = sym (length-map first (λ (p : Placement Id B). p.location)) ∙ ap length placed.named.at
+    ∙ sym (IsDone-length rules.may placed.bin.sections g.1.sizes placed.locations placed.last placed.count placed.done) in
+    let tail = AreAllPlaced-length rules excludes order gs (record { bins = next; homes = (g.0, placed.here) ∷ old.homes }) new rest others later in
+    omega (arith, ap length joined, length-append first rest, here, tail, sum_by-cons (λ (m : K × Members Id). length m.1.sizes) g gs)
+
+-- the entries that an order names are those of its groups
+pub AreGroups-length : {Id K : Type 0} (cmp : Id → Id → Ordering) (group_cmp : K → K → Ordering) (sizes : List (Id × Size)) (lists : List (K × List Id))
+    (order : List (ℕ × K)) (gs : List (K × Members Id))
+    → AreGroups cmp group_cmp sizes lists order gs → sum_by (entries_at group_cmp lists) order ≡ members_in gs
+AreGroups-length {Id} {K} cmp group_cmp sizes lists order gs h =
+    let size : K × Members Id → ℕ = λ (g : K × Members Id). length g.1.sizes in
+    let same : map size gs ≡ map (entries_at group_cmp lists) order = AllZip-equal _ (entries_at group_cmp lists) size
+    (λ o g r. rw r.1 (sym (length-zip _ g.1.ids g.1.sizes r.2))) order gs h.each in
+    sym (sum-map (entries_at group_cmp lists) order) ∙ ap sum (sym same) ∙ sum-map size gs

@@ -1,0 +1,16 @@
+use Rattle.rectangle_pack_sections.proofs.Std.{◌≡◌, sym, ◌∙◌, take, Equal-is, Equal, take_more}
+use Rattle.rectangle_pack_bins.proofs.lemmas.packing.Groups.{AreLastPlacements-more}
+use Rattle.rectangle_pack_bins.proofs.pack.answer.last_placements.Goals as goal
+
+pub loop-placement-preserved : goal.loop-placement-preserved
+loop-placement-preserved g c =
+    let p = c.placement-item.result in
+    let i = c.loop-placement.placement-index in
+    let same : g.Id.Ord.cmp p.id c.in_ok-clone.field-0 ≡ Equal = (Equal-is _).0
+    (sym (g.met.Id.Ord.matches_eq _ _) ∙ c.requires.ids _ _ c.in_ok-clone.ensures.cases) in
+    let same_bin : g.BinId.Ord.cmp p.bin c.in_ok-clone-2.field-0
+    ≡ Equal = (Equal-is _).0 (sym (g.met.BinId.Ord.matches_eq _ _) ∙ c.requires.bin_ids _ _ c.in_ok-clone-2.ensures.cases) in
+    rw (take_more c.args.placements.now i p c.loop-placement-test.true, ← c.placement-item.is)
+    (AreLastPlacements-more g.BinId.Ord.cmp g.met.Id.Ord.total (take i c.args.placements.now) p c.in_ok-clone.field-0 c.in_ok-clone-2.field-0
+    c.loop-placement.last.entries c.insert.new.self.entries c.in_ok-insert.ensures.ordered
+    same same_bin c.in_ok-insert.ensures.updates.0 c.loop-placement.invariant)

@@ -1,0 +1,27 @@
+use Rattle.rectangle_pack_sections.proofs.Std.{Ok, AllocError, subst}
+use Rattle.rectangle_pack_sections.specs.Bins.{Held}
+use Rattle.rectangle_pack_lists.specs.private.TrialNotes.{IsNotedAnswer}
+use Rattle.rectangle_pack_lists.proofs.lemmas.trial.Steps.{IsSound-tried}
+use Rattle.rectangle_pack_lists.proofs.lemmas.trial.StepsByIndex.{IsNotedAnswer-tried, LeavesNotes-tried}
+use Rattle.rectangle_pack_bins.proofs.target_bin.TargetBin.place_noted.Goals as goal
+
+pub invariant_of-self-2 : goal.invariant_of-self-2
+invariant_of-self-2 g c =
+    IsSound-tried _ {E = AllocError} c.self.inside.max_size _ _ _ (Ok c.in_ok-done.done) _ _ _ c.in_ok-done.ensures.tried c.self.invariant
+
+pub returns-clause-answer : goal.returns-clause-answer
+returns-clause-answer g c =
+    let may = g.R.Policy.may c.args.policy.now in
+    let ms = c.args.members.now in
+    let done = Ok c.in_ok-done.done in
+    let locations = c.run_trial.new.buffers.locations.items in
+    let last = c.run_trial.new.list.items in
+    let now = c.run_trial.new.tests in
+    subst (λ (h : Held). IsNotedAnswer {E = AllocError} may h.bin ms c.args.tests.now done locations
+    (record { size = c.self.inside.max_size; sections = last; coalesced = c.self.inside.was_coalesced }) now) c.self.view_is
+    (IsNotedAnswer-tried {E = AllocError} may _ ms c.args.tests.now done locations last now c.in_ok-done.ensures.tried)
+
+pub returns-clause-noted : goal.returns-clause-noted
+returns-clause-noted g c =
+    rw (← c.self.view_is)
+    (LeavesNotes-tried {E = AllocError} _ _ _ c.args.members.now _ (Ok c.in_ok-done.done) _ _ _ _ c.in_ok-done.ensures.tried c.in_ok-done.ensures.noted)

@@ -1,0 +1,22 @@
+-- What a checked push answers, and what it leaves.
+use Rattle.std.specs.Prelude.{◌≡◌, List, [], ◌∷◌, ◌++◌, All, Result, Ok, Err}
+use Rattle.rectangle_pack_bins.specs.declared.target_bin.PushBinSectionError.{PushBinSectionError}
+use Rattle.rectangle_pack_bins.specs.declared.target_bin.PushBinSectionError.TheVariants.{OutOfBounds, Overlaps, OutOfMemory}
+use Rattle.rectangle_pack_sections.specs.Boxes.{Cuboid, SharesCell, AreApart, IsInside}
+use Rattle.rectangle_pack_sections.specs.Bins.{Bin, IsAccepted}
+
+-- the first of the sections that shares a cell with the box
+pub record IsFirstSharing (sections : List Cuboid) (box first : Cuboid) : Type 0 where
+  pub before : List Cuboid
+  pub after : List Cuboid
+  pub splits : sections ≡ before ++ first ∷ after
+  pub shares : SharesCell first box
+  pub apart : All (λ s. AreApart s box) before
+
+-- accepted: the box stands last in the list; else the first refusal that fits, and the bin as it was
+abbrev pub IsPushAnswer : Bin → Cuboid → Result (Unit {0}) PushBinSectionError → Bin → Type 0
+IsPushAnswer old box (Ok u) new = IsAccepted old box × (new ≡ record old { sections = old.sections ++ box ∷ [] })
+IsPushAnswer old box (Err (OutOfBounds refused)) new = (¬ IsInside old.size box) × (refused ≡ box) × (new ≡ old)
+IsPushAnswer old box (Err (Overlaps remaining refused)) new =
+    IsInside old.size box × IsFirstSharing old.sections box remaining × (refused ≡ box) × (new ≡ old)
+IsPushAnswer old box (Err (OutOfMemory refused)) new = IsAccepted old box × (refused ≡ box) × (new ≡ old)

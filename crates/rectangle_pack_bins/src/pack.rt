@@ -1,0 +1,185 @@
+//! Packing groups of boxes into bins.
+ghost use Rattle.std.specs.Prelude.{◌≡◌, [], IsOk};
+ghost use Rattle.rectangle_pack_groups.specs.Clones.{ClonesEqual};
+ghost use Rattle.rectangle_pack_sections.specs.Closures.{AreCallable, answers};
+ghost use Rattle.rectangle_pack_bins.specs.Packing.{rules_by, bins_of};
+ghost use Rattle.rectangle_pack_bins.specs.PackAnswers.{IsPackAnswer, IsCountedAnswer};
+
+pub mod answer;
+pub mod checkout;
+pub mod first_fit;
+pub mod journal;
+mod laws;
+mod open_bin;
+pub mod order;
+
+use crate::pack::answer::last_placements;
+use crate::pack::first_fit::{Packing, pack_noted};
+use crate::pack::order::bin_order;
+use crate::target_bin::TargetBin;
+pub use answer::{Placement, RectanglePackError, RectanglePackOk};
+pub use laws::{
+    excluded_groups_are_apart, groups_are_placed_whole, locations_follow_placements,
+    packing_has_one_result, packing_keeps_cells, packing_without_exclusions, preorders_decide,
+    refused_box_is_held_nowhere, volume_packing_has_one_result,
+};
+use rectangle_pack_groups::grouped_rects_to_place::multimap::number_after;
+use rectangle_pack_groups::grouped_rects_to_place::{Group, GroupedRectsToPlace};
+use rectangle_pack_lists::fit_tests::{FitTests, add_all, bounded};
+use rectangle_pack_sections::closures::Closures;
+use rectangle_pack_sections::width_height_depth::WidthHeightDepth;
+use std::alloc::Allocator;
+use std::cmp::Ordering;
+use std::collections::BTreeMap;
+use std::mem;
+
+/// Packs all groups into the bins: each group whole into the first bin that takes all of its boxes.
+/// A bin is excluded for a group where a group that is excluded with it went there in this call.
+///
+/// Groups go in falling order of the sum of their boxes' rates, which stays at the greatest `u128`,
+/// and at equal sums in the order of groups. Bins are tried in rising order of the rate of their
+/// whole size, and at equal rates by id. Each of these rates is asked once a call. A box goes to
+/// the corner of the newest free section that holds it; of the six ways to cut up the rest of the
+/// section, `more_suitable_containers_fn` chooses one. Sizes and corners are counted in cells, and
+/// boxes are never turned. Without groups no memory is taken.
+///
+/// The caller sees to it that clones of ids equal their originals, and that `box_size_heuristic`
+/// may be called on every size, and `more_suitable_containers_fn` on every two triples of sizes.
+///
+/// `NotEnoughBinSpace` says that for some group each bin is excluded or does not take all of its
+/// boxes: the groups before it stay placed in the bins. `OutOfMemory` says that a growth or a clone
+/// was refused, which may come before it is known that there is no space: the bins are as they
+/// were.
+///
+/// ```
+/// let mut rects: GroupedRectsToPlace<u32, u32> = GroupedRectsToPlace::new(alloc);
+/// rects.push_rect(7, None, RectToInsert::new(2, 3, 1))?;
+/// rects.push_rect(8, None, RectToInsert::new(4, 4, 1))?;
+/// let mut bins = BTreeMap::new(alloc);
+/// bins.insert(1u32, TargetBin::new(alloc, 10, 10, 1)?)?;
+/// let packed = pack_rects(
+///     alloc,
+///     &rects,
+///     &mut bins,
+///     &volume_heuristic,
+///     &contains_smallest_box,
+/// )?;
+/// // The larger box goes first, and the other one beside it.
+/// let ids = packed.placements().iter().map(|placed| placed.id);
+/// assert!(rt; ids.eq([8, 7]));
+/// let (bin, location) = packed.packed_locations().get(&7).ok_or("not placed")?;
+/// assert_eq!(rt; *bin, 1);
+/// assert_eq!(rt; (location.x(), location.y(), location.z()), (4, 0, 0));
+/// ```
+pub fn pack_rects<Id, BinId, GroupId, H, C, A>(
+    alloc: A,
+    rects_to_place: &GroupedRectsToPlace<Id, GroupId, A>,
+    target_bins: &mut BTreeMap<BinId, TargetBin<A>, A>,
+    box_size_heuristic: &H,
+    more_suitable_containers_fn: &C,
+) -> Result<RectanglePackOk<Id, BinId, A>, RectanglePackError>
+where
+    Id: Ord + Clone + Drop,
+    BinId: Ord + Clone + Drop,
+    GroupId: Ord + Clone + Drop,
+    H: Fn(WidthHeightDepth) -> u128,
+    C: Fn([WidthHeightDepth; 3], [WidthHeightDepth; 3], &H) -> Ordering,
+    A: Allocator + Copy,
+    requires ids { ClonesEqual Id.is_clone Id.eq }
+    requires bin_ids { ClonesEqual BinId.is_clone BinId.eq }
+    requires callable { AreCallable H.Fn C.Fn box_size_heuristic.now
+        more_suitable_containers_fn.now }
+    ensures answer { let groups = ⟦<Group<GroupId, Id> as Ord>⟧.cmp in
+        let may = answers H.Fn C.Fn box_size_heuristic.now more_suitable_containers_fn.now in
+        IsPackAnswer groups (rules_by Id.cmp BinId.cmp may) rects_to_place.now
+        (bins_of target_bins.old.entries) result (bins_of target_bins.new.entries) }
+    ensures no_groups { rects_to_place.now.groups ≡ [] → IsOk result }
+{
+    let mut tests = FitTests::new();
+    pack_rects_counted(
+        alloc,
+        rects_to_place,
+        target_bins,
+        box_size_heuristic,
+        more_suitable_containers_fn,
+        &mut tests,
+    )
+}
+
+/// `pack_rects`, with its fit tests added to `tests`: for a group that is placed those of its
+/// trials in the bins up to its own, for a group that is refused those of its trials in all bins.
+/// In a bin that is excluded no trial is made. `OutOfMemory` adds the tests counted until then.
+///
+/// With n entries in the groups these are at most n tests for each free section of before and
+/// n * (n - 1) for each bin. The counter stays at the greatest `u128`. Conditions and errors are
+/// those of `pack_rects`.
+pub fn pack_rects_counted<Id, BinId, GroupId, H, C, A>(
+    alloc: A,
+    rects_to_place: &GroupedRectsToPlace<Id, GroupId, A>,
+    target_bins: &mut BTreeMap<BinId, TargetBin<A>, A>,
+    box_size_heuristic: &H,
+    more_suitable_containers_fn: &C,
+    tests: &mut FitTests,
+) -> Result<RectanglePackOk<Id, BinId, A>, RectanglePackError>
+where
+    Id: Ord + Clone + Drop,
+    BinId: Ord + Clone + Drop,
+    GroupId: Ord + Clone + Drop,
+    H: Fn(WidthHeightDepth) -> u128,
+    C: Fn([WidthHeightDepth; 3], [WidthHeightDepth; 3], &H) -> Ordering,
+    A: Allocator + Copy,
+    requires ids { ClonesEqual Id.is_clone Id.eq }
+    requires bin_ids { ClonesEqual BinId.is_clone BinId.eq }
+    requires callable { AreCallable H.Fn C.Fn box_size_heuristic.now
+        more_suitable_containers_fn.now }
+    ensures answer { let groups = ⟦<Group<GroupId, Id> as Ord>⟧.cmp in
+        let may = answers H.Fn C.Fn box_size_heuristic.now more_suitable_containers_fn.now in
+        IsCountedAnswer groups (rules_by Id.cmp BinId.cmp may) rects_to_place.now
+        (bins_of target_bins.old.entries) tests.old result (bins_of target_bins.new.entries)
+        tests.new }
+    ensures no_groups { rects_to_place.now.groups ≡ [] → IsOk result }
+{
+    bounded(tests);
+    let policy = Closures {
+        heuristic: box_size_heuristic,
+        comparison: more_suitable_containers_fn,
+    };
+    let groups = rects_to_place.groups();
+    if groups.is_empty() {
+        return Ok(RectanglePackOk {
+            packed_locations: BTreeMap::new(alloc),
+            placements: Vec::new(alloc),
+        });
+    }
+    let entries = number_after(0, groups).unwrap_or(u64::MAX) as usize;
+    let Ok(order) = bin_order(alloc, target_bins, &policy) else {
+        return Err(RectanglePackError::OutOfMemory);
+    };
+    let bins = mem::replace(target_bins, BTreeMap::new(alloc));
+    let mut packing = Packing::new(bins, order.as_slice(), alloc);
+    let packed = pack_noted(&mut packing, rects_to_place, entries, &policy);
+    add_all(tests, &packing.tests);
+    let last = match packed {
+        Ok(true) => last_placements(alloc, packing.placements.as_slice()),
+        Ok(false) => {
+            let (bins, _) = packing.keep();
+            *target_bins = bins;
+            return Err(RectanglePackError::NotEnoughBinSpace);
+        }
+        Err(error) => Err(error),
+    };
+    match last {
+        Ok(packed_locations) => {
+            let (bins, placements) = packing.keep();
+            *target_bins = bins;
+            Ok(RectanglePackOk {
+                packed_locations,
+                placements,
+            })
+        }
+        Err(_) => {
+            *target_bins = packing.roll_back();
+            Err(RectanglePackError::OutOfMemory)
+        }
+    }
+}

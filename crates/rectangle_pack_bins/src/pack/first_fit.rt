@@ -1,0 +1,324 @@
+//! One packing: group after group into the first bin that takes it.
+ghost use Rattle.std.specs.Prelude.{ℕ, ◌≡◌, ◌<◌, ◌+◌, ◌≤◌, ◌++◌, [], length, vec_len, List, IfOk, OnErr, IsSome, All, MatchBool, MatchOption, Some, map};
+ghost use Rattle.std.specs.BTreeMap.{get, is_at};
+ghost use Rattle.std.specs.Bool.{OnTrue};
+ghost use Rattle.std.specs.List.{list_any, sum_by, IsDistinct};
+ghost use Rattle.std.specs.Map.{lookup, keys_of};
+ghost use Rattle.std.specs.Vec.{vec_capacity};
+ghost use Rattle.rectangle_pack_groups.specs.Clones.{ClonesEqual};
+ghost use Rattle.rectangle_pack_bins.specs.declared.pack.answer.Placement.{Placement};
+ghost use Rattle.rectangle_pack_sections.specs.Bins.{Bin};
+ghost use Rattle.std.specs.Ordering.{eq_by_cmp};
+ghost use Rattle.rectangle_pack_lists.specs.Numbers.{saturated};
+ghost use Rattle.rectangle_pack_bins.specs.Orders.{IsBinOrder};
+ghost use Rattle.rectangle_pack_bins.specs.Packing.{rules_by, bins_of, excludes_by, at_start, Members, IsPlaced, IsRefused, AreAllPlaced, AreGroups, StopsAfter, PackingDone, PackingRefused};
+ghost use Rattle.rectangle_pack_groups.specs.Groups.{entries_of};
+ghost use Rattle.rectangle_pack_bins.specs.PackAnswers.{AreCounted};
+ghost use Rattle.rectangle_pack_bins.specs.private.Excluded.{are_in, went_to};
+ghost use Rattle.rectangle_pack_bins.specs.private.Bounds.{AddsWithin};
+ghost use Rattle.rectangle_pack_bins.specs.private.Orders.{keys_of_order, entries_at, SizesStandAt};
+ghost use Rattle.rectangle_pack_bins.specs.private.RollBack.{RollsBackTo, StaysUndoable};
+
+use crate::pack::answer::{Placement, name_all};
+use crate::pack::checkout::PackingBins;
+use crate::pack::journal::{DoneTrial, note_trial, undo_trials};
+use crate::pack::order::{OrderedGroup, group_order};
+use crate::target_bin::TargetBin;
+use rectangle_pack_groups::grouped_rects_to_place::{Group, GroupedRectsToPlace, exclusions_of};
+use rectangle_pack_lists::fit_tests::{FitTests, bounded};
+use rectangle_pack_lists::trial::Buffers;
+use rectangle_pack_sections::closures::Policy;
+use rectangle_pack_sections::rect_to_insert::RectToInsert;
+use std::alloc::{AllocError, Allocator};
+use std::collections::{BTreeMap, BTreeSet};
+
+// A packing: its bins, what it placed so far, how to undo it, and how many fit tests it made; and
+// what one trial writes.
+#[derive(Drop)]
+pub struct Packing<'b, Id, B: Ord, A: Allocator + Copy> {
+    pub bins: PackingBins<'b, B, A>,
+    pub placements: Vec<Placement<Id, B>, A>,
+    pub journal: Vec<DoneTrial<'b, B, A>, A>,
+    pub tests: FitTests,
+    buffers: Buffers<A>,
+}
+
+impl<'b, Id: Drop, B: Ord + Drop, A: Allocator + Copy> Packing<'b, Id, B, A> {
+    // A packing of these bins, before its first group. Takes no memory.
+    pub fn new(bins: BTreeMap<B, TargetBin<A>, A>, order: &'b [(u128, B)], alloc: A) -> Self
+        requires found { All (λ o. IsSome (get B.cmp bins o.1)) order.now }
+        requires distinct { IsDistinct (eq_by_cmp B.cmp) (map (λ o. o.1) order.now) }
+        ensures bins { result.bins ≡
+            record { kept = bins.entries; own = bins.entries; order = order.now } }
+        ensures placements { result.placements.items ≡ [] }
+        ensures journal { result.journal.items ≡ [] }
+        ensures tests { result.tests ≡ 0 }
+    {
+        Packing {
+            bins: PackingBins::new(bins, order, alloc),
+            placements: Vec::new(alloc),
+            journal: Vec::new(alloc),
+            tests: FitTests::new(),
+            buffers: Buffers::new(alloc),
+        }
+    }
+
+    // The bins as the packing has them, and what it placed. Takes no memory.
+    pub fn keep(self) -> (BTreeMap<B, TargetBin<A>, A>, Vec<Placement<Id, B>, A>)
+        ensures bins { result.0.entries ≡ self.entry.bins.kept }
+        ensures placements { result.1 ≡ self.entry.placements }
+    {
+        let Packing {
+            bins,
+            placements,
+            ..
+        } = self;
+        (bins.close(true), placements)
+    }
+
+    // Rolls the packing back: drops what stands in slots, and undoes the trials in the bins' own
+    // lists. Takes no memory.
+    pub fn roll_back(self) -> BTreeMap<B, TargetBin<A>, A>
+        requires { (start : List (B × Bin)) × RollsBackTo B.cmp self start }
+        ensures { (start : List (B × Bin)) → RollsBackTo B.cmp self.entry start →
+            bins_of result.entries ≡ start }
+    {
+        let Packing {
+            bins,
+            mut journal,
+            ..
+        } = self;
+        let mut bins = bins.close(false);
+        undo_trials(&mut bins, &mut journal);
+        bins
+    }
+}
+
+// Puts a group into the first bin of the order that is not excluded and whose trial is done; the
+// id of that bin. The bins up to there, excluded ones too, are checked out, where there is room.
+fn place_group<'b, Id, B, R, A>(
+    packing: &mut Packing<'b, Id, B, A>,
+    ids: &[Id],
+    sizes: &[RectToInsert],
+    excluded: &BTreeSet<&'b B, A>,
+    policy: &R,
+) -> Result<Option<&'b B>, AllocError>
+where
+    Id: Ord + Clone + Drop,
+    B: Ord + Clone + Drop,
+    R: Policy,
+    A: Allocator + Copy,
+    requires ids { ClonesEqual Id.is_clone Id.eq }
+    requires bin_ids { ClonesEqual B.is_clone B.eq }
+    requires callable { R.is_callable policy.now }
+    requires lengths { length ids.now ≡ length sizes.now }
+    requires journal_room { vec_len packing.old.journal < vec_capacity packing.old.journal }
+    ensures placed { IfOk result
+        (λ placed.
+        let by = rules_by Id.cmp B.cmp (R.may policy.now) in
+        let excludes = are_in B.cmp excluded.now.keys in
+        let names = map (λ o. o.1) packing.old.bins.order in
+        let group : Members Id = record { ids = ids.now; sizes = sizes.now } in
+        let old = bins_of packing.old.bins.kept in
+        let new = bins_of packing.new.bins.kept in
+        MatchOption placed
+        ((count : ℕ) ×
+        IsRefused by excludes names group old count ×
+        (new ≡ old) ×
+        (packing.new.placements.items ≡ packing.old.placements.items) ×
+        (packing.new.tests ≡ saturated (packing.old.tests + count)))
+        (λ here.
+        (added : List (Placement Id B)) × (count : ℕ) ×
+        (at : IsPlaced by excludes names group old added new count) ×
+        (at.here ≡ here.now) ×
+        (packing.new.placements.items ≡ packing.old.placements.items ++ added) ×
+        (packing.new.tests ≡ saturated (packing.old.tests + count)))) }
+    ensures stopped { OnErr result
+        (AddsWithin B.cmp (bins_of packing.old.bins.kept)
+        (map (λ o. o.1) packing.old.bins.order) (length sizes.now)
+        packing.old.tests packing.new.tests) }
+    ensures back { StaysUndoable B.cmp packing.old packing.new }
+    ensures order { packing.new.bins.order ≡ packing.old.bins.order }
+    ensures journal_grows { vec_len packing.new.journal ≤ vec_len packing.old.journal + 1 }
+    ensures journal_room_stays { vec_capacity packing.new.journal ≡
+        vec_capacity packing.old.journal }
+{
+    bounded(&packing.tests);
+    let order = packing.bins.order();
+    for (i, (_, id)) in order.iter().enumerate() {
+        packing.bins.check_out(i);
+        if excluded.contains(&id) {
+            continue;
+        }
+        let done = packing
+            .bins
+            .try_bin(i, sizes, policy, &mut packing.tests, &mut packing.buffers)?;
+        if done {
+            note_trial(&mut packing.journal, id, &mut packing.buffers.notes);
+            name_all(
+                &mut packing.placements,
+                ids,
+                id,
+                packing.buffers.locations.as_slice(),
+            )?;
+            return Ok(Some(id));
+        }
+    }
+    Ok(None)
+}
+
+// The homes of these groups, of those that have one in `homes`.
+fn excluded_bins<'a, 'b, K: Ord, B: Ord, A: Allocator + Copy>(
+    alloc: A,
+    partners: &'a [K],
+    homes: &BTreeMap<&'a K, &'b B, A>,
+) -> Result<BTreeSet<&'b B, A>, AllocError>
+    ensures { IfOk result
+        (λ s.
+        (id : B) → are_in B.cmp s.keys id ≡
+        list_any (λ p. went_to K.cmp B.cmp homes.now.entries p id) partners.now) }
+{
+    let mut excluded = BTreeSet::new(alloc);
+    for partner in partners {
+        if let Some(id) = homes.get(&partner) {
+            excluded.insert(*id)?;
+        }
+    }
+    Ok(excluded)
+}
+
+// Places each group of an order, up to the first that is refused.
+fn place_groups<'a, 'b, Id, B, GroupId, R, A>(
+    packing: &mut Packing<'b, Id, B, A>,
+    rects_to_place: &'a GroupedRectsToPlace<Id, GroupId, A>,
+    groups: &[OrderedGroup<'a, Group<GroupId, Id>, Id, A>],
+    sizes: &[RectToInsert],
+    policy: &R,
+) -> Result<bool, AllocError>
+where
+    Id: Ord + Clone + Drop,
+    B: Ord + Clone + Drop,
+    GroupId: Ord + Clone + Drop,
+    R: Policy,
+    A: Allocator + Copy,
+    requires ids { ClonesEqual Id.is_clone Id.eq }
+    requires bin_ids { ClonesEqual B.is_clone B.eq }
+    requires callable { R.is_callable policy.now }
+    requires listed { All
+        (λ o.
+        lookup (is_at (⟦<Group<GroupId, Id> as Ord>⟧.cmp o.name.now)) rects_to_place.now.groups ≡
+        Some o.ids.now.items) groups.now }
+    requires sized { All
+        (λ o. SizesStandAt Id.cmp rects_to_place.now.sizes sizes.now o.ids.now.items o.start)
+        groups.now }
+    requires distinct_groups { IsDistinct (eq_by_cmp ⟦<Group<GroupId, Id> as Ord>⟧.cmp)
+        (map (λ o. o.name.now) groups.now) }
+    requires no_placements { packing.old.placements.items ≡ [] }
+    ensures packed { IfOk result
+        (λ done.
+        let group_cmp = ⟦<Group<GroupId, Id> as Ord>⟧.cmp in
+        let by = rules_by Id.cmp B.cmp (R.may policy.now) in
+        let all = rects_to_place.now in
+        let excludes = excludes_by group_cmp B.cmp all.partners in
+        let names = map (λ o. o.1) packing.old.bins.order in
+        let groups = keys_of_order groups.now in
+        let old = bins_of packing.old.bins.kept in
+        let new = bins_of packing.new.bins.kept in
+        MatchBool done
+        ((gs : List (Group GroupId Id × Members Id)) × (homes : List (Group GroupId Id × B)) ×
+        (count : ℕ) ×
+        AreGroups Id.cmp group_cmp all.sizes all.groups groups gs ×
+        AreAllPlaced by excludes names gs (at_start old) packing.new.placements.items
+        (record { bins = new; homes = homes }) count ×
+        (packing.new.tests ≡ saturated (packing.old.tests + count)))
+        ((count : ℕ) ×
+        StopsAfter by excludes group_cmp all.sizes all.groups groups names old new count ×
+        (packing.new.tests ≡ saturated (packing.old.tests + count)))) }
+    ensures stopped { OnErr result
+        (AddsWithin B.cmp (bins_of packing.old.bins.kept) (map (λ o. o.1) packing.old.bins.order)
+        (sum_by (entries_at ⟦<Group<GroupId, Id> as Ord>⟧.cmp rects_to_place.now.groups)
+        (keys_of_order groups.now))
+        packing.old.tests packing.new.tests) }
+    ensures back { StaysUndoable B.cmp packing.old packing.new }
+{
+    bounded(&packing.tests);
+    let alloc = *packing.journal.allocator();
+    packing.bins.make_room(groups.len(), sizes.len())?;
+    packing.journal.reserve(groups.len())?;
+    let exclusions = exclusions_of(rects_to_place);
+    let mut homes = BTreeMap::new(alloc);
+    for group in groups {
+        let members = &sizes[group.start..group.start + group.ids.len()];
+        let partners = exclusions.partners(group.name);
+        let excluded = excluded_bins(alloc, partners, &homes)?;
+        match place_group(packing, group.ids.as_slice(), members, &excluded, policy)? {
+            None => return Ok(false),
+            Some(here) => {
+                if !partners.is_empty() {
+                    homes.insert(group.name, here)?;
+                }
+            }
+        }
+    }
+    Ok(true)
+}
+
+// Packs all groups, in which there are so many entries; whether each was placed. However it ends,
+// the packing can be kept, or rolled back to what it could be rolled back to before.
+pub fn pack_noted<Id, BinId, GroupId, R, A>(
+    packing: &mut Packing<'_, Id, BinId, A>,
+    rects_to_place: &GroupedRectsToPlace<Id, GroupId, A>,
+    entries: usize,
+    policy: &R,
+) -> Result<bool, AllocError>
+where
+    Id: Ord + Clone + Drop,
+    BinId: Ord + Clone + Drop,
+    GroupId: Ord + Clone + Drop,
+    R: Policy,
+    A: Allocator + Copy,
+    requires ids { ClonesEqual Id.is_clone Id.eq }
+    requires bin_ids { ClonesEqual BinId.is_clone BinId.eq }
+    requires callable { R.is_callable policy.now }
+    requires order { IsBinOrder (R.may policy.now).rate BinId.cmp (bins_of packing.old.bins.kept)
+        packing.old.bins.order }
+    requires distinct { IsDistinct (eq_by_cmp BinId.cmp)
+        (keys_of (bins_of packing.old.bins.kept)) }
+    requires no_placements { packing.old.placements.items ≡ [] }
+    ensures packed { IfOk result
+        (λ done.
+        let groups = ⟦<Group<GroupId, Id> as Ord>⟧.cmp in
+        let by = rules_by Id.cmp BinId.cmp (R.may policy.now) in
+        let old = bins_of packing.old.bins.kept in
+        let new = bins_of packing.new.bins.kept in
+        MatchBool done
+        ((packed : PackingDone groups by rects_to_place.now old
+        packing.new.placements.items new) ×
+        AreCounted rects_to_place.now old packed.tests packing.old.tests packing.new.tests)
+        ((refused : PackingRefused groups by rects_to_place.now old new) ×
+        AreCounted rects_to_place.now old refused.tests packing.old.tests packing.new.tests)) }
+    ensures stopped { OnErr result
+        ((tests : ℕ) ×
+        AreCounted rects_to_place.now (bins_of packing.old.bins.kept) tests packing.old.tests
+        packing.new.tests) }
+    ensures back { StaysUndoable BinId.cmp packing.old packing.new }
+    ensures counted { IfOk result
+        (λ done.
+        OnTrue done
+        (length packing.new.placements.items ≡ entries_of rects_to_place.now)) }
+{
+    bounded(&packing.tests);
+    let rects = rects_to_place.rects();
+    let lists = rects_to_place.groups();
+    let alloc = *packing.journal.allocator();
+    let mut sizes = Vec::with_capacity(alloc, entries)?;
+    let groups = group_order(alloc, rects, lists, policy, &mut sizes)?;
+    packing.placements.reserve(entries)?;
+    place_groups(
+        packing,
+        rects_to_place,
+        groups.as_slice(),
+        sizes.as_slice(),
+        policy,
+    )
+}

@@ -1,0 +1,318 @@
+//! Bins and their free sections.
+ghost use Rattle.std.specs.Prelude.{◌≡◌, ◌+◌, ◌≤◌, ◌<◌, ◌++◌, ◌∷◌, [], Err, IfOk, IfNone, IfSome, OnOk, OnErr, IsTrue, true, ◌↔◌, length, remove, filter, All};
+ghost use Rattle.rectangle_pack_sections.specs.Boxes.{AreApart, Cell, Cuboid, has_cells};
+ghost use Rattle.rectangle_pack_bins.specs.declared.target_bin.PushBinSectionError.TheVariants.{OutOfMemory};
+ghost use Rattle.rectangle_pack_bins.specs.Pushes.{IsFirstSharing, IsPushAnswer};
+ghost use Rattle.rectangle_pack_sections.specs.Bins.{new_bin, IsSound, IsAccepted};
+ghost use Rattle.rectangle_pack_sections.specs.Counting.{AreAllApart, times_filled};
+ghost use Rattle.rectangle_pack_lists.specs.Joining.{IsJoined, IsSwept, ShareNoFace};
+ghost use Rattle.rectangle_pack_sections.specs.Keeping.{KeepCells};
+
+mod placing;
+pub(crate) mod slotted;
+
+use rectangle_pack_lists::coalesce::{join_all, join_at};
+pub use rectangle_pack_lists::fit_tests::FitTests;
+use rectangle_pack_lists::trial::plain::push_pieces;
+use rectangle_pack_sections::bin_section::{BinSection, is_inside};
+use rectangle_pack_sections::width_height_depth::{WidthHeightDepth, any_size};
+use std::alloc::{AllocError, Allocator, Global};
+use std::fmt;
+use std::marker::Model;
+use std::ops::Range;
+
+/// Why a section was not given back to a bin. The section that was pushed comes with each.
+#[derive(Debug, Drop)]
+pub enum PushBinSectionError {
+    /// It is not inside the bin.
+    OutOfBounds(BinSection),
+    /// It is inside the bin and shares a cell with a free section.
+    Overlaps {
+        /// The first free section that shares a cell with it.
+        remaining_section: BinSection,
+        /// The section that was pushed.
+        new_section: BinSection,
+    },
+    /// The bin accepts it, and memory for the list was refused.
+    OutOfMemory(BinSection),
+}
+
+impl fmt::Display for PushBinSectionError {
+    fn fmt<W: fmt::Write>(&self, f: &mut fmt::Formatter<W>) -> fmt::Result {
+        match self {
+            PushBinSectionError::OutOfBounds(section) => f
+                .debug_tuple("BinSection")
+                .field(section)
+                .finish(),
+            PushBinSectionError::Overlaps {
+                remaining_section,
+                new_section,
+            } => f
+                .debug_struct("Overlaps")
+                .field("remaining_section", remaining_section)
+                .field("new_section", new_section)
+                .finish(),
+            PushBinSectionError::OutOfMemory(_) => write!(f, "Out of memory."),
+        }
+    }
+}
+
+/// A bin: its size, and the list of its free sections, in cells. Each free section is inside the
+/// bin, and no two share a cell.
+#[derive(Drop)]
+#[derive_where(Debug)]
+pub struct TargetBin<A: Allocator + Copy = Global> {
+    max_size: WidthHeightDepth,
+    available_bin_sections: Vec<BinSection, A>,
+    // Whether a coalescing call was made on the bin.
+    was_coalesced: bool,
+}
+
+impl<A: Allocator + Copy> Model for TargetBin<A> {
+    ghost use Rattle.std.specs.Vec.{vec_capacity};
+    ghost use Rattle.rectangle_pack_sections.specs.Bins.{Held, IsSound};
+
+    ghost Value = { Held };
+
+    ghost view = { λ b.
+        record {
+          bin = record {
+            size = b.max_size;
+            sections = b.available_bin_sections.items;
+            coalesced = b.was_coalesced;
+          };
+          room = vec_capacity b.available_bin_sections;
+        } };
+
+    ghost invariant = { λ b. IsSound b.max_size b.available_bin_sections.items };
+}
+
+impl<A: Allocator + Copy> TargetBin<A> {
+    /// A bin of this size, in cells, with one free section, which is all of it; any size will do.
+    /// An error is want of memory.
+    pub fn new(alloc: A, width: u32, height: u32, depth: u32) -> Result<Self, AllocError>
+        ensures { IfOk result
+            (λ b. b.bin ≡ new_bin (record { width = width; height = height; depth = depth })) }
+    {
+        let size = any_size(width, height, depth);
+        let mut bin = TargetBin::without_sections(alloc, size);
+        bin.available_bin_sections
+            .push(BinSection::new(0, 0, 0, size))?;
+        Ok(bin)
+    }
+
+    // A bin of this size that has no free section. Takes no memory.
+    pub(crate) fn without_sections(alloc: A, max_size: WidthHeightDepth) -> Self
+        ensures { result.bin ≡ record (new_bin max_size) { sections = [] } }
+    {
+        TargetBin {
+            max_size,
+            available_bin_sections: Vec::new(alloc),
+            was_coalesced: false,
+        }
+    }
+
+    /// The size of the bin, in cells.
+    pub fn max_size(&self) -> WidthHeightDepth
+        ensures { result ≡ self.now.bin.size }
+    {
+        self.max_size
+    }
+
+    /// The free sections, the newest last.
+    pub fn available_bin_sections(&self) -> &Vec<BinSection, A>
+        ensures items { result.now.items ≡ self.now.bin.sections }
+        ensures sound { IsSound self.now.bin.size self.now.bin.sections }
+    {
+        &self.available_bin_sections
+    }
+
+    /// An equal bin, with a list of its own. An error is want of memory.
+    pub fn clone(&self) -> Result<Self, AllocError>
+        ensures { IfOk result (λ b. b.bin ≡ self.now.bin) }
+    {
+        let mut available_bin_sections = Vec::new(*self.available_bin_sections.allocator());
+        available_bin_sections.extend_from_slice(self.available_bin_sections.as_slice())?;
+        Ok(TargetBin {
+            max_size: self.max_size,
+            available_bin_sections,
+            was_coalesced: self.was_coalesced,
+        })
+    }
+
+    /// Whether the section is inside the bin and shares no cell with a free section.
+    pub fn accepts(&self, section: &BinSection) -> bool
+        ensures { IsTrue result ↔ IsAccepted self.now.bin section.now }
+    {
+        is_inside(section, &self.max_size)
+            && first_sharing(self.available_bin_sections.as_slice(), section).is_none()
+    }
+
+    /// Takes the section at the index out of the list, which closes up. The caller sees to it that
+    /// the index is below the length of the list.
+    pub fn remove_filled_section(&mut self, idx: usize)
+        requires { idx < length self.old.bin.sections }
+        ensures { self.new.bin ≡
+            record self.old.bin { sections = remove self.old.bin.sections idx } }
+    {
+        self.available_bin_sections.remove(idx);
+    }
+
+    /// Puts those of the three sections that are not empty at the end of the list, in this order.
+    /// An error is want of memory, where the list has no room for three more, and leaves the bin as
+    /// it was.
+    ///
+    /// The caller sees to it that the bin accepts each of those and that no two of them share a
+    /// cell.
+    pub fn add_new_sections(&mut self, sections: [BinSection; 3]) -> Result<(), AllocError>
+        requires accepted { All (IsAccepted self.old.bin) (filter has_cells sections) }
+        requires apart { AreAllApart (filter has_cells sections) }
+        ensures ok { OnOk result
+            (self.new.bin ≡
+            record self.old.bin { sections = self.old.bin.sections ++ filter has_cells sections }) }
+        ensures err { OnErr result (self.new.bin ≡ self.old.bin) }
+        ensures full { OnErr result (self.old.room < length self.old.bin.sections + 3) }
+    {
+        self.available_bin_sections.reserve(3)?;
+        push_pieces(&mut self.available_bin_sections, sections);
+        Ok(())
+    }
+
+    /// Gives a section back: puts it at the end of the list where the bin accepts it. An error
+    /// leaves the bin as it was, and is want of memory only where the list has no room for one
+    /// more; an empty section inside the bin is accepted.
+    ///
+    /// ```
+    /// let mut bin = TargetBin::new(alloc, 10, 10, 1)?;
+    /// let members = [RectToInsert::new(4, 10, 1)];
+    /// let mut tests = FitTests::new();
+    /// let placed = bin.place_all(
+    ///     &members,
+    ///     &volume_heuristic,
+    ///     &contains_smallest_box,
+    ///     &mut tests,
+    /// )?;
+    /// assert!(rt; placed.is_some());
+    /// // The box stands at (0, 0, 0). Its cells are free again once they are given back.
+    /// let given = BinSection::new(0, 0, 0, WidthHeightDepth::new(4, 10, 1));
+    /// bin.push_available_bin_section(given)?;
+    /// let rest = BinSection::new(4, 0, 0, WidthHeightDepth::new(6, 10, 1));
+    /// assert_eq!(rt;
+    ///     bin.available_bin_sections().as_slice(),
+    ///     [rest, given].as_slice()
+    /// );
+    /// ```
+    pub fn push_available_bin_section(
+        &mut self,
+        bin_section: BinSection,
+    ) -> Result<(), PushBinSectionError>
+        ensures answer { IsPushAnswer self.old.bin bin_section result self.new.bin }
+        ensures full { (refused : Cuboid) → result ≡ Err (OutOfMemory refused) →
+            self.old.room ≤ length self.old.bin.sections }
+    {
+        if !is_inside(&bin_section, &self.max_size) {
+            return Err(PushBinSectionError::OutOfBounds(bin_section));
+        }
+        let sections = self.available_bin_sections.as_slice();
+        if let Some(remaining_section) = first_sharing(sections, &bin_section) {
+            return Err(PushBinSectionError::Overlaps {
+                remaining_section,
+                new_section: bin_section,
+            });
+        }
+        match self.push_available_bin_section_unchecked(bin_section) {
+            Ok(()) => Ok(()),
+            Err(_) => Err(PushBinSectionError::OutOfMemory(bin_section)),
+        }
+    }
+
+    /// Puts a section at the end of the list. The caller sees to it that the bin accepts it. An
+    /// error is want of memory, where the list has no room for one more, and leaves the bin as it
+    /// was.
+    pub fn push_available_bin_section_unchecked(
+        &mut self,
+        bin_section: BinSection,
+    ) -> Result<(), AllocError>
+        requires { IsAccepted self.old.bin bin_section }
+        ensures ok { OnOk result
+            (self.new.bin ≡
+            record self.old.bin { sections = self.old.bin.sections ++ bin_section ∷ [] }) }
+        ensures err { OnErr result (self.new.bin ≡ self.old.bin) }
+        ensures full { OnErr result (self.old.room ≤ length self.old.bin.sections) }
+    {
+        self.available_bin_sections.push(bin_section)?;
+        Ok(())
+    }
+
+    /// Joins the free section at `idx` with those of the range that share a whole face with it: on
+    /// two axes their corners and sizes are equal, and on the third the end of one is the start of
+    /// the other.
+    ///
+    /// While some other index of the range has such a section, the one at the least such index is
+    /// taken out, the list closes up, the section at `idx` becomes the box that the two make up,
+    /// and the range ends one earlier. Where the index is past the end of the list, or the range is
+    /// empty, the list stays as it is; a range that goes past the end is cut to the list. The free
+    /// cells stay the same. Takes no memory.
+    pub fn coalesce_available_sections(&mut self, idx: usize, range: Range<usize>)
+        ensures joined { IsJoined idx range.start range.end self.old.bin.sections
+            self.new.bin.sections }
+        ensures stays { self.new.bin ≡
+            record self.old.bin { sections = self.new.bin.sections; coalesced = true } }
+        ensures filled { (c : Cell) →
+            times_filled c self.new.bin.sections ≡ times_filled c self.old.bin.sections }
+        ensures cells { KeepCells self.old.bin.sections self.new.bin.sections }
+        ensures no_longer { length self.new.bin.sections ≤ length self.old.bin.sections }
+    {
+        join_at(&mut self.available_bin_sections, idx, range);
+        self.was_coalesced = true;
+    }
+
+    /// Joins free sections until no two share a whole face: coalesces at each index, from the last
+    /// of the list down to 0, each time over the whole list. The free cells stay the same. Takes no
+    /// memory.
+    ///
+    /// ```
+    /// let mut bin = TargetBin::new(alloc, 10, 10, 1)?;
+    /// bin.remove_filled_section(0);
+    /// let left = BinSection::new(0, 0, 0, WidthHeightDepth::new(4, 10, 1));
+    /// let right = BinSection::new(4, 0, 0, WidthHeightDepth::new(6, 10, 1));
+    /// bin.push_available_bin_section(left)?;
+    /// bin.push_available_bin_section(right)?;
+    /// bin.coalesce_all();
+    /// let whole = BinSection::new(0, 0, 0, WidthHeightDepth::new(10, 10, 1));
+    /// assert_eq!(rt; bin.available_bin_sections().as_slice(), [whole].as_slice());
+    /// ```
+    pub fn coalesce_all(&mut self)
+        ensures swept { IsSwept self.old.bin.sections self.new.bin.sections }
+        ensures stays { self.new.bin ≡
+            record self.old.bin { sections = self.new.bin.sections; coalesced = true } }
+        ensures no_face { ShareNoFace self.new.bin.sections }
+        ensures filled { (c : Cell) →
+            times_filled c self.new.bin.sections ≡ times_filled c self.old.bin.sections }
+        ensures cells { KeepCells self.old.bin.sections self.new.bin.sections }
+        ensures no_longer { length self.new.bin.sections ≤ length self.old.bin.sections }
+    {
+        join_all(&mut self.available_bin_sections);
+        self.was_coalesced = true;
+    }
+}
+
+// Whether a coalescing call was made on the bin.
+pub fn was_coalesced<A: Allocator + Copy>(bin: &TargetBin<A>) -> bool
+    ensures { result ≡ bin.now.bin.coalesced }
+{
+    bin.was_coalesced
+}
+
+// The first section that shares a cell with the given one.
+fn first_sharing(sections: &[BinSection], section: &BinSection) -> Option<BinSection>
+    ensures none { IfNone result (All (λ s. AreApart s section.now) sections.now) }
+    ensures first { IfSome result (IsFirstSharing sections.now section.now) }
+{
+    for s in sections {
+        if s.overlaps(section) {
+            return Some(*s);
+        }
+    }
+    None
+}

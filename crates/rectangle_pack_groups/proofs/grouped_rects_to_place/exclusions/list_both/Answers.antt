@@ -1,0 +1,17 @@
+use Rattle.rectangle_pack_sections.proofs.Std.{◌≡◌, sym, ◌∙◌, Equal-is, Equal}
+use Rattle.rectangle_pack_groups.proofs.lemmas.multimap.Mutual.{listed-both, some-appended}
+use Rattle.rectangle_pack_groups.proofs.grouped_rects_to_place.exclusions.list_both.Goals as goal
+
+pub returns-clause-added : goal.returns-clause-added
+returns-clause-added g c =
+    let same : g.K.Ord.cmp c.args.b c.in_ok-partner.partner ≡ Equal =
+    (Equal-is _).0 (sym (g.met.K.Ord.matches_eq _ _) ∙ c.requires.clones_equal _ _ c.in_ok-partner.ensures.cases) in
+    listed-both g.met.K.Ord.total c.args.a c.args.b c.in_ok-partner.partner c.args.map.now.entries c.make_room-2.new.map.entries c.append_at.new.map.entries
+    c.append_at-2.new.map.entries same (λ q. c.make_room-2.ensures.items q ∙ c.make_room.ensures.items q)
+    c.append_at.ensures.here c.append_at.ensures.others c.append_at-2.ensures.here c.append_at-2.ensures.others
+
+pub returns-clause-some : goal.returns-clause-some
+returns-clause-some g c =
+    some-appended g.met.K.Ord.total c.args.a c.args.b c.in_ok-partner.partner c.args.map.now.entries c.make_room.new.map.entries c.make_room-2.new.map.entries
+    c.append_at.new.map.entries c.append_at-2.new.map.entries c.make_room.ensures.others c.make_room-2.ensures.others c.append_at.ensures.here
+    c.append_at.ensures.others c.append_at-2.ensures.here c.append_at-2.ensures.others c.append_at-2.ensures.ordered c.requires.some

@@ -1,0 +1,17 @@
+use Rattle.rectangle_pack_sections.proofs.Std.{rules, ◌≡◌, [], ◌∷◌, ◌++◌, sym, ◌∙◌, ap, Some, option_map, lookup, is_at}
+use Rattle.rectangle_pack_groups.specs.Groups.{lists_of}
+use Rattle.rectangle_pack_groups.proofs.lemmas.multimap.Vectors.{lists_of-set_value, lookup-lists}
+use Rattle.rectangle_pack_groups.proofs.lemmas.multimap.TakeBack.{TakesBack-appended}
+use Rattle.rectangle_pack_groups.proofs.grouped_rects_to_place.multimap.append_at.Goals as goal
+
+pub returns-clause-back : goal.returns-clause-back
+returns-clause-back g c = λ keys start h.
+    let cmp = g.K.Ord.cmp in
+    let test = is_at (cmp c.args.key.now) in
+    let old = c.args.map.now.entries in
+    let list = c.in-Some.list.now in
+    let w = c.push_reserved.new.self in
+    let items : w.items ≡ list.items ++ c.args.item ∷ [] = search rules in
+    let found : lookup test (lists_of old) ≡ Some list.items = lookup-lists test old ∙ ap (option_map (λ v. v.items)) (sym c.in-Some.ensures.value) in
+    rw ((c.get_mut.follows.holds w).0, lists_of-set_value test old w, items)
+    (TakesBack-appended cmp c.args.key.now keys (lists_of old) start list.items c.args.item found h)

@@ -1,0 +1,17 @@
+use Rattle.rectangle_pack_sections.proofs.Std.{sym, ◌∙◌, ap, is_some, lookup, is_at}
+use Rattle.rectangle_pack_groups.specs.Groups.{lists_of}
+use Rattle.rectangle_pack_groups.proofs.lemmas.multimap.Vectors.{lookup-lists}
+use Rattle.rectangle_pack_groups.proofs.lemmas.util.Maps.{is_some-option_map}
+use Rattle.rectangle_pack_groups.proofs.lemmas.multimap.TakeBack.{reverse-take_last, TakesBack-known}
+use Rattle.rectangle_pack_groups.proofs.grouped_rects_to_place.multimap.take_back.Goals as goal
+
+pub take_last-requires : goal.take_last-requires
+take_last-requires g c =
+    let keys = c.args.keys.now in
+    let k = c.index-keys-i.result in
+    let test = is_at (g.K.Ord.cmp k) in
+    let es = c.loop-i.map.entries in
+    let (start, back) = c.loop-i.invariant.some in
+    sym (ap is_some (lookup-lists test es) ∙ is_some-option_map (λ v. v.items) (lookup test es))
+    ∙ TakesBack-known g.K.Ord.cmp k _ (lists_of es) start
+    (rw (reverse-take_last keys c.loop-i.i k c.loop-i-test.true c.loop-i.auto.i c.index-keys-i.is) at back)

@@ -1,0 +1,100 @@
+-- Maps from keys to vectors, seen as maps from keys to lists.
+use Rattle.rectangle_pack_sections.proofs.Std.{◌≡◌, List, [], ◌∷◌, length, refl, ap, sym, ◌∙◌, cond, true, false, Bool, Option, Some, None, is_some, filter}
+use Rattle.rectangle_pack_sections.proofs.Std.{nat_lt, IsTotalOrder, Equal-is, Ordering, Less, Equal, Greater, Vec, option_map, lookup, set_value, keys_of}
+use Rattle.rectangle_pack_sections.proofs.Std.{match_ordering, is_eq, is_at, insert_entry, lookup-map_values, keys_of-map_values}
+use Rattle.rectangle_pack_groups.specs.Groups.{lists_of}
+use Rattle.rectangle_pack_groups.specs.private.Multimaps.{filled, items_of}
+use Rattle.rectangle_pack_groups.proofs.lemmas.util.Maps.{lookup-equal, set_value-map_values, insert_entry-map_values}
+use Rattle.rectangle_pack_sections.proofs.Std.{ℕ, ◌+◌, ◌<◌, ◌≤◌, get_or, inl, inr, cases_lt, ◌++◌, arith, append_assoc, map, sum, All, AllPairs, IfSome, IfNone}
+use Rattle.rectangle_pack_sections.proofs.Std.{Result, Ok, Err, ◌≢◌, IsSearchInRange, IsBinarySearchResult, IsNonDecreasingBy, nat_cmp, ordering_index}
+use Rattle.rectangle_pack_sections.proofs.Std.{result_ok, ranked, nat_tests, values_of, sum_by-cons}
+use Rattle.rectangle_pack_sections.proofs.Std.{◌-◌, take, drop, length-append, append-nil, IsSomeAnd, get_or-map, length-map, map_push, drop-append_seam}
+use Rattle.rectangle_pack_sections.proofs.Std.{take-append_seam, Bor, Yields, TakesFirst, deref_pair, All-turn, All-nil, All-cons, All-head, All-tail, IsSorted}
+use Rattle.rectangle_pack_sections.proofs.Std.{IsPermutation, IsStrictlySortedBy, Less-from_sorted, All-permutation, cases_order, lt-ltb, tied_itself}
+use Rattle.rectangle_pack_sections.proofs.Std.{get_or_default, AllZip, sum_by, slice_range, BTreeMap, IsOrdered, btree_map_get_place, slice_get-get_or}
+use Rattle.rectangle_pack_sections.proofs.Std.{sum_by_push, IsSome, is_lt, ordering_then, All-weaker, take-append-drop, take_more, map-id, map-append}
+use Rattle.rectangle_pack_sections.proofs.Std.{All-from_recursion, IsDistinct-head, IsDistinct}
+
+-- what is not there is `None`
+pub none_of : {X : Type 0} (found : Option X) → is_some found ≡ false → found ≡ None
+none_of None h = refl
+none_of (Some x) h = absurd cc
+
+-- an insert, seen as lists
+pub lists_of-insert_entry : {K X A : Type 0} (cmp : K → K → Ordering) (es : List (K × Vec X A)) (k : K) (v : Vec X A)
+    → lists_of (insert_entry cmp es k v) ≡ insert_entry cmp (lists_of es) k v.items
+lists_of-insert_entry cmp es k v = insert_entry-map_values (λ w. w.items) cmp es k v
+
+-- a value that is written, seen as a list
+pub lists_of-set_value : {K X A : Type 0} (test : K → Bool) (es : List (K × Vec X A)) (w : Vec X A)
+    → lists_of (set_value test es w) ≡ set_value test (lists_of es) w.items
+lists_of-set_value test es w = set_value-map_values (λ v. v.items) test es w
+
+-- a new key with an empty list
+pub filled-insert_entry : {K X : Type 0} (cmp : K → K → Ordering) (es : List (K × List X)) (k : K) → lookup (is_at (cmp k)) es ≡ None
+    → filled (insert_entry cmp es k []) ≡ filled es
+filled-insert_entry cmp [] k absent = refl
+filled-insert_entry {X = X} cmp (e ∷ es) k absent = at (cmp k e.0) absent (filled-insert_entry cmp es k)
+  where
+    at : (o : Ordering) → cond (is_eq o) (Some e.1) (lookup (is_at (cmp k)) es) ≡ None → (lookup (is_at (cmp k)) es ≡ None → filled (insert_entry cmp es k [])
+        ≡ filled es) → filled (match_ordering o ((k, []) ∷ e ∷ es) ((e.0, []) ∷ es) (e ∷ insert_entry cmp es k [])) ≡ filled (e ∷ es)
+    at Less h ih = refl
+    at Equal h ih = absurd cc
+    at Greater h ih = rw (ih h) refl
+
+-- the entries with an item, seen as lists
+pub lists_of-filter : {K X A : Type 0} (es : List (K × Vec X A)) → lists_of (filter (λ e. nat_lt 0 (length e.1.items)) es) ≡ filled (lists_of es)
+lists_of-filter [] = refl
+lists_of-filter (e ∷ es) = at (nat_lt 0 (length e.1.items)) (lists_of-filter es)
+  where
+    at : (b : Bool) → lists_of (filter (λ e. nat_lt 0 (length e.1.items)) es) ≡ filled (lists_of es)
+        → lists_of (cond b (e ∷ filter (λ e. nat_lt 0 (length e.1.items)) es) (filter (λ e. nat_lt 0 (length e.1.items)) es))
+        ≡ cond b ((e.0, e.1.items) ∷ filled (lists_of es)) (filled (lists_of es))
+    at true ih = ap (λ l. (e.0, e.1.items) ∷ l) ih
+    at false ih = ih
+
+-- the keys are those of the map
+pub keys-lists : {K X A : Type 0} (es : List (K × Vec X A)) → keys_of (lists_of es) ≡ keys_of es
+keys-lists es = keys_of-map_values (λ v. v.items) es
+
+-- a list that a key has, by the vector that it has
+pub lookup-lists : {K X A : Type 0} (test : K → Bool) (es : List (K × Vec X A)) → lookup test (lists_of es) ≡ option_map (λ v. v.items) (lookup test es)
+lookup-lists test es = lookup-map_values (λ v. v.items) test es
+
+-- a key is new, and gets a vector with no items
+module _ {K X A : Type 0} {cmp : K → K → Ordering} (o : IsTotalOrder cmp) (k n : K) (old new : List (K × Vec X A)) (v : Vec X A) (equal : cmp k n ≡ Equal)
+    (absent : is_some (lookup (is_at (cmp k)) old) ≡ false) (empty : v.items ≡ []) where
+  none_new : lookup (is_at (cmp n)) old ≡ None
+  none_new = sym (lookup-equal o k n equal old) ∙ none_of (lookup (is_at (cmp k)) old) absent
+
+  -- no list changes
+  pub filled-new_key : filled (lists_of (insert_entry cmp old n v)) ≡ filled (lists_of old)
+  filled-new_key =
+      ap filled (lists_of-insert_entry cmp old n v) ∙ ap (λ list. filled (insert_entry cmp (lists_of old) n list)) empty
+      ∙ filled-insert_entry cmp (lists_of old) n (lookup-lists (is_at (cmp n)) old ∙ ap (option_map (λ w. w.items)) none_new)
+
+  module _ (seen : (q : K) → lookup (is_at (cmp q)) new ≡ cond (is_at (cmp n) q) (Some v) (lookup (is_at (cmp q)) old)) where
+    -- no items are added
+    pub items-new_key : (q : K) → items_of (lookup (is_at (cmp q)) new) ≡ items_of (lookup (is_at (cmp q)) old)
+    items-new_key q = by (is_eq (cmp n q)) refl
+      where
+        by : (b : Bool) → is_eq (cmp n q) ≡ b → items_of (lookup (is_at (cmp q)) new) ≡ items_of (lookup (is_at (cmp q)) old)
+        by true e =
+            ap items_of (seen q) ∙ ap (λ b. items_of (cond b (Some v) (lookup (is_at (cmp q)) old))) e
+            ∙ empty ∙ ap items_of (sym (sym (lookup-equal o n q ((Equal-is _).0 e) old) ∙ none_new))
+        by false e = ap items_of (seen q) ∙ ap (λ b. items_of (cond b (Some v) (lookup (is_at (cmp q)) old))) e
+
+-- how many entries the lists have in all
+abbrev pub entries_in : {K X A : Type 0} → List (K × Vec X A) → ℕ
+entries_in es = sum (map length (values_of (lists_of es)))
+
+pub entries_in-cons : {K X A : Type 0} (x : K × Vec X A) (xs : List (K × Vec X A)) → entries_in (x ∷ xs) ≡ length x.1.items + entries_in xs
+entries_in-cons x xs = sum_by-cons (λ n. n) (length x.1.items) (map length (values_of (lists_of xs)))
+
+pub entries_in-append : {K X A : Type 0} (xs ys : List (K × Vec X A)) → entries_in (xs ++ ys) ≡ entries_in xs + entries_in ys
+entries_in-append [] ys = omega arith
+entries_in-append {K} {X} {A} (x ∷ xs) ys = omega (arith, entries_in-append xs ys, entries_in-cons x (xs ++ ys), entries_in-cons x xs)
+
+-- a list that a key has, by the vector that it has
+pub list-found : {K X A : Type 0} (test : K → Bool) (es : List (K × Vec X A)) (v : Vec X A) → lookup test es ≡ Some v → lookup test (lists_of es) ≡ Some v.items
+list-found {X = X} {A = A} test es v found = lookup-lists test es ∙ ap (option_map (λ (w : Vec X A). w.items)) found

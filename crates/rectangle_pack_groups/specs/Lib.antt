@@ -1,0 +1,5 @@
+pub mod Clones
+pub mod Exclusions
+pub mod Groups
+pub mod Alike
+pub mod private

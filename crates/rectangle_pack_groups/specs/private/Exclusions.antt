@@ -1,0 +1,13 @@
+-- How pairs of keys are kept: each of the two is listed at the other.
+use Rattle.std.specs.Prelude.{◌≡◌, ◌<◌, All, length, List}
+use Rattle.std.specs.declared.cmp.Ordering.{Ordering}
+use Rattle.std.specs.Map.{values_of}
+use Rattle.rectangle_pack_groups.specs.Exclusions.{is_listed}
+
+-- where one is listed at another, the other is listed at it
+abbrev pub AreMutual : {K : Type 0} → (K → K → Ordering) → List (K × List K) → Type 0
+AreMutual {K} cmp partners = (a b : K) → is_listed cmp partners a b ≡ is_listed cmp partners b a
+
+-- something is listed at each key
+abbrev pub AreNonempty : {K : Type 0} → List (K × List K) → Type 0
+AreNonempty partners = All (λ keys. 0 < length keys) (values_of partners)

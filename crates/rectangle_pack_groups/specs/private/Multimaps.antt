@@ -1,0 +1,54 @@
+-- Lists under keys, to which items are appended, and from which they are taken back.
+use Rattle.std.specs.Prelude.{◌≡◌, ℕ, ◌+◌, ◌≤◌, List, [], ◌∷◌, ◌++◌, Option, Some, None, length, filter, reverse, nat_lt, count_by, unwrap_or, All, Contains}
+use Rattle.std.specs.Prelude.{IsSomeAnd, MatchOption, vec_len}
+use Rattle.std.specs.Option.{option_map}
+use Rattle.std.specs.Vec.{vec_capacity}
+use Rattle.std.specs.declared.cmp.Ordering.{Ordering}
+use Rattle.std.specs.declared.vec.Vec.{Vec}
+use Rattle.std.specs.Ordering.{is_eq}
+use Rattle.std.specs.Map.{lookup, set_value}
+use Rattle.std.specs.BTreeMap.{is_at}
+
+-- the entries of which the list has an item
+abbrev pub filled : {K X : Type 0} → List (K × List X) → List (K × List X)
+filled es = filter (λ e. nat_lt 0 (length e.1)) es
+
+-- how often a key occurs among the keys
+abbrev pub times : {K : Type 0} → (K → K → Ordering) → List K → K → ℕ
+times cmp keys key = count_by (λ k. is_eq (cmp key k)) keys
+
+-- the items found at a key, which are none where nothing is found
+abbrev pub items_of : {X A : Type 0} → Option (Vec X A) → List X
+items_of found = unwrap_or (option_map (λ v. v.items) found) []
+
+-- a vector is found, with room for so many more items
+abbrev pub HasRoom : {X A : Type 0} → Option (Vec X A) → ℕ → Type 0
+HasRoom found more = IsSomeAnd found (λ v. vec_len v + more ≤ vec_capacity v)
+
+-- a vector is the one of before, followed by so many of the items
+pub record IsAppended {X A : Type 0} (items : List X) (count : ℕ) (before after : Vec X A) : Type 0 where
+  pub tail : List X
+  pub joined : after.items ≡ before.items ++ tail
+  pub long : length tail ≡ count
+  pub given : All (Contains items) tail
+
+-- the same of what is found at a key, where nothing stays nothing
+abbrev pub AreAppended : {X A : Type 0} → List X → ℕ → Option (Vec X A) → Option (Vec X A) → Type 0
+AreAppended items count before after = MatchOption before (after ≡ None) (λ v. IsSomeAnd after (IsAppended items count v))
+
+-- a list is found, which is that of before, or the empty one, followed by so many of the items
+abbrev pub IsAdded : {X : Type 0} → List X → ℕ → Option (List X) → Option (List X) → Type 0
+IsAdded {X} items count before after =
+    IsSomeAnd after (λ list. (tail : List X) × (list ≡ unwrap_or before [] ++ tail) × (length tail ≡ count) × All (Contains items) tail)
+
+-- taking the last item at each of the keys, in their order, leads from now to start
+abbrev pub TakesBack : {K X : Type 0} → (K → K → Ordering) → List K → List (K × List X) → List (K × List X) → Type 0
+TakesBack cmp [] now start = now ≡ start
+TakesBack {X = X} cmp (k ∷ ks) now start =
+    (list : List X) × (last : X) × (lookup (is_at (cmp k)) now ≡ Some (list ++ last ∷ [])) × TakesBack cmp ks (set_value (is_at (cmp k)) now list) start
+
+-- taking the last item at each of the keys, from the last key, leads to lists that were there before, but for empty ones
+pub record CanTakeBack {K X : Type 0} (cmp : K → K → Ordering) (keys : List K) (now before : List (K × List X)) : Type 0 where
+  pub start : List (K × List X)
+  pub back : TakesBack cmp (reverse keys) now start
+  pub same : filled start ≡ before

@@ -1,0 +1,294 @@
+//! Boxes in groups.
+ghost use Rattle.std.specs.Prelude.{◌≡◌, ◌<◌, List, [], true, false, length, map, All, OnOk, OnErr, IfOk, IsSome, IsOk, MatchOption, vec_len};
+ghost use Rattle.std.specs.declared.cmp.Ordering.TheVariants.{Equal};
+ghost use Rattle.std.specs.Option.{ForSome};
+ghost use Rattle.std.specs.List.Sorted.{IsStrictlySortedBy};
+ghost use Rattle.std.specs.Map.{lookup, keys_of};
+ghost use Rattle.std.specs.BTreeMap.{get, is_at, insert_entry};
+ghost use Rattle.rectangle_pack_groups.specs.Clones.{ClonesEqual};
+ghost use Rattle.rectangle_pack_groups.specs.Exclusions.{are_excluded};
+ghost use Rattle.rectangle_pack_groups.specs.Groups.{Collection, PushesAlone, PushesInto, Excludes, MembersHaveSizes, lists_of};
+ghost use Rattle.rectangle_pack_groups.specs.declared.grouped_rects_to_place.Group.TheVariants.{Grouped};
+
+pub mod exclusions;
+mod laws;
+pub mod multimap;
+
+use crate::grouped_rects_to_place::exclusions::Exclusions;
+use crate::grouped_rects_to_place::multimap::{add_each, ascending, forget_empty, take_back};
+pub use laws::{equal_pushes_leave_equal_collections, groups_are_ordered};
+use rectangle_pack_sections::rect_to_insert::RectToInsert;
+use std::alloc::{AllocError, Allocator, Global};
+use std::collections::BTreeMap;
+use std::marker::Model;
+
+/// A group of boxes that go into one bin together: a box of its own, or the boxes of a named group.
+#[derive(Debug, Clone, PartialEq, Eq, PartialOrd, Ord, Drop)]
+pub enum Group<GroupId, Id> {
+    /// The box of this id, alone.
+    Ungrouped(Id),
+    /// The boxes that were pushed into the group of this name.
+    Grouped(GroupId),
+}
+
+/// Boxes that are to be placed, each under its id and in one or more groups.
+#[derive(Drop)]
+#[derive_where(Debug; Id, GroupId)]
+pub struct GroupedRectsToPlace<Id: Ord, GroupId: Ord, A: Allocator + Copy = Global> {
+    rects: BTreeMap<Id, RectToInsert, A>,
+    groups: BTreeMap<Group<GroupId, Id>, Vec<Id, A>, A>,
+    exclusions: Exclusions<Group<GroupId, Id>, A>,
+    #[derive_where(skip)]
+    alloc: A,
+}
+
+// Each group has an entry, and the id of each entry has a size.
+impl<Id: Ord, GroupId: Ord, A: Allocator + Copy> Model for GroupedRectsToPlace<Id, GroupId, A> {
+    ghost use Rattle.rectangle_pack_groups.specs.Groups.{Collection, MembersHaveSizes, lists_of};
+
+    ghost Value = { Collection Id GroupId };
+
+    ghost view = { λ s. record {
+      sizes = s.rects.entries;
+      groups = lists_of s.groups.entries;
+      partners = s.exclusions;
+    } };
+
+    ghost invariant = { λ s. MembersHaveSizes Id.cmp s.rects.entries (lists_of s.groups.entries) };
+}
+
+impl<Id: Ord + Clone + Drop, GroupId: Ord + Clone + Drop, A: Allocator + Copy> GroupedRectsToPlace<
+    Id,
+    GroupId,
+    A,
+> {
+    /// An empty collection, whose memory is to come from `alloc`. This takes no memory.
+    pub fn new(alloc: A) -> Self
+        ensures { result ≡ record { sizes = []; groups = []; partners = [] } }
+    {
+        GroupedRectsToPlace {
+            rects: BTreeMap::new(alloc),
+            groups: BTreeMap::new(alloc),
+            exclusions: Exclusions::new(alloc),
+            alloc,
+        }
+    }
+
+    /// The ids of each group, in the order in which they were pushed.
+    pub fn groups(&self) -> &BTreeMap<Group<GroupId, Id>, Vec<Id, A>, A>
+        ensures entries { lists_of result.now.entries ≡ self.now.groups }
+        ensures ascend { IsStrictlySortedBy ⟦<Group<GroupId, Id> as Ord>⟧.cmp
+            (keys_of self.now.groups) }
+        ensures members { MembersHaveSizes Id.cmp self.now.sizes self.now.groups }
+    {
+        ascending(&self.groups)
+    }
+
+    /// The box of each id.
+    pub fn rects(&self) -> &BTreeMap<Id, RectToInsert, A>
+        ensures entries { result.now.entries ≡ self.now.sizes }
+        ensures ascend { IsStrictlySortedBy Id.cmp (keys_of self.now.sizes) }
+    {
+        ascending(&self.rects)
+    }
+
+    /// Says that the two groups are excluded: within one packing neither goes into a bin that the
+    /// other went into. The groups need not be there yet. To name a pair again, in either order,
+    /// changes nothing.
+    ///
+    /// The caller sees to it that the two groups differ, and that clones of ids equal their
+    /// originals. `AllocError` says that a growth or a clone was refused. The collection is then as
+    /// it was.
+    pub fn exclude(
+        &mut self,
+        a: Group<GroupId, Id>,
+        b: Group<GroupId, Id>,
+    ) -> Result<(), AllocError>
+        requires ids { ClonesEqual Id.is_clone Id.eq }
+        requires group_ids { ClonesEqual GroupId.is_clone GroupId.eq }
+        requires different { ⟦<Group<GroupId, Id> as PartialEq>⟧.eq a b ≡ false }
+        ensures ok { OnOk result
+            (Excludes ⟦<Group<GroupId, Id> as Ord>⟧.cmp self.old self.new a b) }
+        ensures again { are_excluded ⟦<Group<GroupId, Id> as Ord>⟧.cmp self.old.partners a b ≡
+            true → IsOk result × (self.new ≡ self.old) }
+        ensures err { OnErr result (self.new ≡ self.old) }
+    {
+        self.exclusions.add(a, b)
+    }
+
+    /// Whether the two groups are excluded, in either order. This takes no memory.
+    pub fn excluded(&self, a: &Group<GroupId, Id>, b: &Group<GroupId, Id>) -> bool
+        ensures { result ≡
+            are_excluded ⟦<Group<GroupId, Id> as Ord>⟧.cmp self.now.partners a.now b.now }
+    {
+        self.exclusions.has(a, b)
+    }
+
+    /// Takes in the box `inbound` under the id `inbound_id`. A box that the id had before goes.
+    ///
+    /// With `None` the id forms a group of its own. With a list it is appended to each group of the
+    /// list, once for each time that the group is in the list. It also stays in the groups that it
+    /// was in before.
+    ///
+    /// The caller sees to it that a given list is not empty, and that clones of ids equal their
+    /// originals. `AllocError` says that a growth or a clone was refused. The collection is then as
+    /// it was.
+    ///
+    /// ```
+    /// let mut rects: GroupedRectsToPlace<u32, &'static str> = GroupedRectsToPlace::new(alloc);
+    /// let groups = vec![in alloc; "menu", "game"]?;
+    /// rects.push_rect(7, Some(groups), RectToInsert::new(10, 20, 1))?;
+    /// let groups = vec![in alloc; "game"]?;
+    /// rects.push_rect(8, Some(groups), RectToInsert::new(5, 50, 1))?;
+    /// rects.push_rect(9, None, RectToInsert::new(30, 30, 1))?;
+    /// // Box 9 alone, and the boxes of the two groups.
+    /// assert_eq!(rt; rects.groups().len(), 3);
+    /// let game = rects
+    ///     .groups()
+    ///     .get(&Group::Grouped("game"))
+    ///     .ok_or("no such group")?;
+    /// assert_eq!(rt; game.as_slice(), [7, 8].as_slice());
+    /// ```
+    pub fn push_rect(
+        &mut self,
+        inbound_id: Id,
+        group_ids: Option<Vec<GroupId, A>>,
+        inbound: RectToInsert,
+    ) -> Result<(), AllocError>
+        requires ids { ClonesEqual Id.is_clone Id.eq }
+        requires group_ids { ClonesEqual GroupId.is_clone GroupId.eq }
+        requires given { ForSome group_ids (λ named. 0 < vec_len named) }
+        ensures ok { OnOk result
+            (let groups = ⟦<Group<GroupId, Id> as Ord>⟧.cmp in
+            MatchOption group_ids
+            (PushesAlone Id.cmp groups self.old self.new inbound_id inbound)
+            (λ named. PushesInto Id.cmp groups self.old self.new inbound_id named.items inbound)) }
+        ensures err { OnErr result (self.new ≡ self.old) }
+    {
+        match group_ids {
+            None => self.push_alone(inbound_id, inbound),
+            Some(group_ids) => self.push_grouped(inbound_id, group_ids, inbound),
+        }
+    }
+
+    // A refused insert of the size hands the id back, which is then the key of the list to take
+    // back.
+    fn push_alone(&mut self, inbound_id: Id, inbound: RectToInsert) -> Result<(), AllocError>
+        requires ids { ClonesEqual Id.is_clone Id.eq }
+        ensures ok { OnOk result
+            (PushesAlone Id.cmp ⟦<Group<GroupId, Id> as Ord>⟧.cmp self.old self.new inbound_id
+            inbound) }
+        ensures err { OnErr result (self.new ≡ self.old) }
+    {
+        let key = Group::Ungrouped(inbound_id.clone()?);
+        let mut list = Vec::with_capacity(self.alloc, 1)?;
+        list.push_reserved(inbound_id.clone()?);
+        let before = self.groups.insert(key, list)?;
+        match self.rects.insert(inbound_id, inbound) {
+            Ok(_) => {
+                drop(before);
+                Ok(())
+            }
+            Err(failed) => {
+                restore(&mut self.groups, &Group::Ungrouped(failed.value.0), before);
+                Err(AllocError)
+            }
+        }
+    }
+
+    // The size is set last; where that is refused, the entries are taken back.
+    fn push_grouped(
+        &mut self,
+        inbound_id: Id,
+        group_ids: Vec<GroupId, A>,
+        inbound: RectToInsert,
+    ) -> Result<(), AllocError>
+        requires ids { ClonesEqual Id.is_clone Id.eq }
+        requires group_ids { ClonesEqual GroupId.is_clone GroupId.eq }
+        requires given { 0 < vec_len group_ids }
+        ensures ok { OnOk result
+            (PushesInto Id.cmp ⟦<Group<GroupId, Id> as Ord>⟧.cmp self.old self.new inbound_id
+            group_ids.items inbound) }
+        ensures err { OnErr result (self.new ≡ self.old) }
+    {
+        let keys = named_groups(self.alloc, group_ids)?;
+        let members = clones(self.alloc, &inbound_id, keys.len())?;
+        if add_each(&mut self.groups, keys.as_slice(), members, self.alloc).is_err() {
+            forget_empty(&mut self.groups);
+            return Err(AllocError);
+        }
+        match self.rects.insert(inbound_id, inbound) {
+            Ok(_) => Ok(()),
+            Err(_) => {
+                take_back(&mut self.groups, keys.as_slice());
+                forget_empty(&mut self.groups);
+                Err(AllocError)
+            }
+        }
+    }
+}
+
+// The pairs of groups that are excluded.
+pub fn exclusions_of<Id: Ord, GroupId: Ord, A: Allocator + Copy>(
+    collection: &GroupedRectsToPlace<Id, GroupId, A>,
+) -> &Exclusions<Group<GroupId, Id>, A>
+    ensures { result.now ≡ collection.now.partners }
+{
+    &collection.exclusions
+}
+
+// Takes back an insert at an equal key, where `before` is what it answered.
+fn restore<K: Ord + Drop, V: Drop, A: Allocator + Copy>(
+    map: &mut BTreeMap<K, V, A>,
+    key: &K,
+    before: Option<V>,
+)
+    requires has { IsSome (get K.cmp map.old key.now) }
+    ensures { (was : List (K × V)) (k : K) (v : V) → IsStrictlySortedBy K.cmp (keys_of was) →
+        K.cmp key.now k ≡ Equal →
+        before ≡ lookup (is_at (K.cmp k)) was →
+        map.old.entries ≡ insert_entry K.cmp was k v →
+        map.new.entries ≡ was }
+{
+    match before {
+        None => {
+            map.remove(key);
+        }
+        Some(value) => {
+            match map.get_mut(key) {
+                Some(place) => *place = value,
+                None => unreachable!(),
+            }
+        }
+    }
+}
+
+// The groups of these names.
+fn named_groups<Id: Drop, GroupId: Drop, A: Allocator + Copy>(
+    alloc: A,
+    group_ids: Vec<GroupId, A>,
+) -> Result<Vec<Group<GroupId, Id>, A>, AllocError>
+    ensures { IfOk result (λ groups. groups.items ≡ map Grouped group_ids.items) }
+{
+    group_ids
+        .into_iter()
+        .map(|id| Group::Grouped(id))
+        .collect(alloc)
+}
+
+// So many clones of the id.
+fn clones<Id: Ord + Clone + Drop, A: Allocator + Copy>(
+    alloc: A,
+    id: &Id,
+    count: usize,
+) -> Result<Vec<Id, A>, AllocError>
+    requires ids { ClonesEqual Id.is_clone Id.eq }
+    ensures count { IfOk result (λ all. length all.items ≡ count) }
+    ensures clones { IfOk result (λ all. All (λ x. Id.cmp id.now x ≡ Equal) all.items) }
+{
+    let mut all = Vec::with_capacity(alloc, count)?;
+    for _ in 0..count {
+        all.push_reserved(id.clone()?);
+    }
+    Ok(all)
+}

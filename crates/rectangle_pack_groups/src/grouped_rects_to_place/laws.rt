@@ -1,0 +1,51 @@
+//! Laws of groups and of pushes.
+ghost use Rattle.std.specs.Prelude.{◌≡◌, ◌<◌, ◌↔◌, List, true};
+ghost use Rattle.std.specs.declared.cmp.Ordering.TheVariants.{Less, Equal, Greater};
+ghost use Rattle.std.specs.List.Sorted.{IsStrictlySortedBy};
+ghost use Rattle.std.specs.Map.{keys_of};
+ghost use Rattle.rectangle_pack_groups.specs.Groups.{Collection, PushesAlone, PushesInto};
+ghost use Rattle.rectangle_pack_sections.specs.Boxes.{Size};
+ghost use Rattle.rectangle_pack_groups.specs.Alike.{AreCollectionsAlike};
+ghost use Rattle.std.specs.List.{AllZip};
+ghost use Rattle.rectangle_pack_groups.specs.declared.grouped_rects_to_place.Group.TheVariants.{Ungrouped, Grouped};
+
+use crate::grouped_rects_to_place::Group;
+
+/// A law: equal pushes into equal collections leave equal collections, where ids and groups are
+/// equal as their orders say.
+pub fn equal_pushes_leave_equal_collections<Id: Ord, GroupId: Ord>()
+    ensures alone { let groups = ⟦<Group<GroupId, Id> as Ord>⟧.cmp in
+        (old new other_old other_new : Collection Id GroupId) (id other_id : Id) (size : Size) →
+        AreCollectionsAlike groups Id.cmp old other_old →
+        Id.cmp id other_id ≡ Equal →
+        PushesAlone Id.cmp groups old new id size →
+        PushesAlone Id.cmp groups other_old other_new other_id size →
+        AreCollectionsAlike groups Id.cmp new other_new }
+    ensures grouped { let groups = ⟦<Group<GroupId, Id> as Ord>⟧.cmp in
+        (old new other_old other_new : Collection Id GroupId) (id other_id : Id)
+        (named other_named : List GroupId) (size : Size) →
+        AreCollectionsAlike groups Id.cmp old other_old →
+        Id.cmp id other_id ≡ Equal →
+        AllZip (λ a b. GroupId.cmp a b ≡ Equal) named other_named →
+        IsStrictlySortedBy groups (keys_of new.groups) →
+        IsStrictlySortedBy groups (keys_of other_new.groups) →
+        PushesInto Id.cmp groups old new id named size →
+        PushesInto Id.cmp groups other_old other_new other_id other_named size →
+        AreCollectionsAlike groups Id.cmp new other_new }
+{}
+
+/// A law: every `Ungrouped` group stands before every `Grouped` one, and within each they go by id.
+/// Two groups are equal where their order says so.
+pub fn groups_are_ordered<GroupId: Ord, Id: Ord>()
+    ensures ungrouped_first { (a : Id) → (b : GroupId) →
+        ⟦<Group<GroupId, Id> as Ord>⟧.cmp (Ungrouped a) (Grouped b) ≡ Less }
+    ensures grouped_last { (a : GroupId) → (b : Id) →
+        ⟦<Group<GroupId, Id> as Ord>⟧.cmp (Grouped a) (Ungrouped b) ≡ Greater }
+    ensures ungrouped_by_id { (a b : Id) →
+        ⟦<Group<GroupId, Id> as Ord>⟧.cmp (Ungrouped a) (Ungrouped b) ≡ Id.cmp a b }
+    ensures grouped_by_id { (a b : GroupId) →
+        ⟦<Group<GroupId, Id> as Ord>⟧.cmp (Grouped a) (Grouped b) ≡ GroupId.cmp a b }
+    ensures same_where_equal { (a b : Group GroupId Id) →
+        (⟦<Group<GroupId, Id> as Ord>⟧.cmp a b ≡ Equal) ↔
+        (⟦<Group<GroupId, Id> as PartialEq>⟧.eq a b ≡ true) }
+{}

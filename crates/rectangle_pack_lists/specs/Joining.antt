@@ -1,0 +1,86 @@
+-- Joining sections that share a whole face.
+use Rattle.std.specs.Prelude.{ℕ, zero, suc, ◌≡◌, ◌≢◌, ◌-◌, ◌<◌, ◌≤◌, ◌⊎◌, min, max, nat_lt, if◌then◌else◌, List, AllPairs, length, slice_index_or, slice_set}
+use Rattle.std.specs.List.{remove}
+use Rattle.rectangle_pack_sections.specs.declared.axis.Axis.{Axis}
+use Rattle.rectangle_pack_sections.specs.declared.axis.Axis.TheVariants.{X, Y, Z}
+use Rattle.rectangle_pack_sections.specs.Boxes.{Cuboid, extent, start, end}
+
+-- two boxes share a whole face: on one axis the end of one is the start of the other, and on the others they start and run alike
+pub record SharesFace (b other : Cuboid) : Type 0 where
+  pub axis : Axis
+  pub meet : (end axis b ≡ start axis other) ⊎ (end axis other ≡ start axis b)
+  pub alike : (a : Axis) → a ≢ axis → (start a b ≡ start a other) × (extent a b.whd ≡ extent a other.whd)
+
+-- no two of the sections share a whole face
+abbrev pub ShareNoFace : List Cuboid → Type 0
+ShareNoFace sections = AllPairs (λ b other. ¬ SharesFace b other) sections
+
+-- where the join of two boxes starts on an axis: at the lower start
+unfoldable pub join_start : Axis → Cuboid → Cuboid → ℕ
+join_start a b other = min (start a b) (start a other)
+
+-- how far the join of two boxes runs on an axis: to the higher end
+unfoldable pub join_extent : Axis → Cuboid → Cuboid → ℕ
+join_extent a b other = max (end a b) (end a other) - join_start a b other
+
+-- the join of two boxes
+unfoldable pub join : Cuboid → Cuboid → Cuboid
+join b other = record {
+  x = join_start X b other;
+  y = join_start Y b other;
+  z = join_start Z b other;
+  whd = record {
+    width = join_extent X b other;
+    height = join_extent Y b other;
+    depth = join_extent Z b other;
+  };
+}
+
+-- the entry at an index of the list; past the end an empty box
+abbrev pub entry : List Cuboid → ℕ → Cuboid
+entry sections i = slice_index_or sections i (record { x = 0; y = 0; z = 0; whd = record { width = 0; height = 0; depth = 0 } })
+
+-- j is an index of the list from lo to before hi, other than idx, and the entries at j and idx share a whole face
+pub record IsNeighbour (sections : List Cuboid) (idx lo hi j : ℕ) : Type 0 where
+  pub from : lo ≤ j
+  pub below : j < hi
+  pub within : j < length sections
+  pub other : j ≢ idx
+  pub shares : SharesFace (entry sections idx) (entry sections j)
+
+-- no entry from lo to before hi, other than the one at idx, shares a whole face with it
+abbrev pub IsAlone : List Cuboid → ℕ → ℕ → ℕ → Type 0
+IsAlone sections idx lo hi = (j : ℕ) → ¬ IsNeighbour sections idx lo hi j
+
+-- j is the least index from lo to before hi, other than idx, whose entry shares a whole face with the one at idx
+pub record IsFirstNeighbour (sections : List Cuboid) (idx lo hi j : ℕ) : Type 0 where
+  pub is_one : IsNeighbour sections idx lo hi j
+  pub least : (k : ℕ) → k < j → ¬ IsNeighbour sections idx lo hi k
+
+-- the list whose entry idx is the join of the entries idx and j, without entry j
+unfoldable pub joined_list : List Cuboid → ℕ → ℕ → List Cuboid
+joined_list sections idx j = remove (slice_set sections idx (join (entry sections idx) (entry sections j))) j
+
+-- the index of a join that stood at idx, once the entry at j is taken out: one lower where j is below idx
+unfoldable pub joined_index : ℕ → ℕ → ℕ
+joined_index idx j = if nat_lt j idx then idx - 1 else idx
+
+-- the list once the entry at idx is joined with its neighbours from lo to before hi. Where idx is past the end, or there is
+-- no neighbour, the list stays as it is. Else it is joined with the least neighbour, and the same is done with the join, in a
+-- range that is cut to the list and ends one earlier
+pub data IsJoined : ℕ → ℕ → ℕ → List Cuboid → List Cuboid → Type 0 where
+  PastEnd : {old : List Cuboid} {idx lo hi : ℕ} → length old ≤ idx → IsJoined idx lo hi old old
+  Alone : {old : List Cuboid} {idx lo hi : ℕ} → idx < length old → IsAlone old idx lo hi → IsJoined idx lo hi old old
+  Joins : {old new : List Cuboid} {idx lo hi : ℕ} → idx < length old → (j : ℕ) → IsFirstNeighbour old idx lo hi j
+      → IsJoined (joined_index idx j) lo (min hi (length old) - 1) (joined_list old idx j) new → IsJoined idx lo hi old new
+
+-- the list once the entries at n - 1 down to 0 are joined with their neighbours, one after another, each in the whole list as
+-- it is then
+abbrev pub IsSweptBelow : ℕ → List Cuboid → List Cuboid → Type 0
+IsSweptBelow zero old new = new ≡ old
+IsSweptBelow (suc n) old new = (next : List Cuboid) × IsJoined n 0 (length old) old next × IsSweptBelow n next new
+
+-- the list after a sweep: each entry, from the last to the first, is joined with its neighbours in the whole list as it is
+-- then
+abbrev pub IsSwept : List Cuboid → List Cuboid → Type 0
+IsSwept old new = IsSweptBelow (length old) old new

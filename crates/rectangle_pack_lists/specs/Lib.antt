@@ -1,0 +1,5 @@
+pub mod Numbers
+pub mod Steps
+pub mod Trials
+pub mod Joining
+pub mod private

@@ -1,0 +1,57 @@
+-- One step of a list of sections, and one trial.
+use Rattle.std.specs.Prelude.{◌≡◌, ℕ, ◌+◌, ◌≤◌, ◌==◌, List, [], ◌∷◌, ◌++◌, length, All, AllPairs, ◌⊎◌, map, filter}
+use Rattle.std.specs.List.{AllZip, zip}
+use Rattle.rectangle_pack_sections.specs.Closures.{Answers}
+use Rattle.rectangle_pack_sections.specs.Boxes.{Size, Cuboid, Holds, has_cells}
+use Rattle.rectangle_pack_sections.specs.Cuts.{placed}
+use Rattle.rectangle_pack_sections.specs.Choice.{IsAllowedCut}
+
+-- rated pieces in their order: of any two the one with the greater rate first, and those of one rate as they are listed
+pub record AreRanked (listed ranked : List (ℕ × Cuboid)) : Type 0 where
+  pub falling : AllPairs (λ p q. q.0 ≤ p.0) ranked
+  pub as_listed : (rate : ℕ) → filter (λ p. p.0 == rate) ranked ≡ filter (λ p. p.0 == rate) listed
+
+-- the pieces that a cut leaves, for one rate of each: by falling rate, and at one rate as listed, without those that have no
+-- cells
+pub record AreLeft (MayRate : Size → ℕ → Type 0) (cut left : List Cuboid) : Type 0 where
+  pub rates : List ℕ
+  pub rated : AllZip (λ piece rate. MayRate piece.whd rate) cut rates
+  pub ranked : List (ℕ × Cuboid)
+  pub are_ranked : AreRanked (zip rates cut) ranked
+  pub are : left ≡ filter has_cells (map (λ p. p.1) ranked)
+
+module _ (may : Answers) where
+  -- one step: a box of this size (the member) goes to the corner of the last section that holds it; that section is taken
+  -- out, and the pieces that an allowed cut leaves stand at the end of the list; `tests` counts that section and those after
+  -- it
+  pub record IsStep (sections : List Cuboid) (member : Size) (location : Cuboid) (next : List Cuboid) (tests : ℕ) : Type 0 where
+    pub before : List Cuboid
+    pub section : Cuboid
+    pub after : List Cuboid
+    pub splits : sections ≡ before ++ section ∷ after
+    pub held : Holds section member
+    pub newest : All (λ s. ¬ Holds s member) after
+    pub location_is : location ≡ placed section member
+    pub cut : List Cuboid
+    pub allowed : IsAllowedCut may.prefer section member cut
+    pub left : List Cuboid
+    pub are_left : AreLeft may.rate cut left
+    pub next_is : next ≡ before ++ after ++ left
+    pub tests_are : tests ≡ 1 + length after
+
+  -- a trial of a list of sizes that is done: each size has its step, in order, in the list that the step before left; `tests`
+  -- is the sum of the steps'
+  abbrev pub IsDone : List Cuboid → List Size → List Cuboid → List Cuboid → ℕ → Type 0
+  IsDone sections [] locations last tests = (locations ≡ []) × (last ≡ sections) × (tests ≡ 0)
+  IsDone sections (m ∷ ms) [] last tests = ⊥
+  IsDone sections (m ∷ ms) (l ∷ ls) last tests =
+      (next : List Cuboid) × (one : ℕ) × (others : ℕ) × IsStep sections m l next one × IsDone next ms ls last others × (tests ≡ one + others)
+
+  -- a trial of a list of sizes that is stuck: after steps for the sizes before it, some size is held by no section of the
+  -- list that is left; `tests` is the sum of the steps' and the length of that list
+  abbrev pub IsStuck : List Cuboid → List Size → ℕ → Type 0
+  IsStuck sections [] tests = ⊥
+  IsStuck sections (m ∷ ms) tests =
+      (All (λ s. ¬ Holds s m) sections × (tests ≡ length sections))
+      ⊎ ((l : Cuboid) × (next : List Cuboid) × (one : ℕ) × (others : ℕ)
+      × IsStep sections m l next one × IsStuck next ms others × (tests ≡ one + others))

@@ -1,0 +1,21 @@
+-- What a trial in a bin answers, and what it leaves.
+use Rattle.std.specs.Prelude.{◌≡◌, ℕ, ◌+◌, ◌-◌, ◌*◌, List, Option, Some, None, Result, Ok, Err}
+use Rattle.std.specs.declared.vec.Vec.{Vec}
+use Rattle.rectangle_pack_sections.specs.Boxes.{Size, Cuboid}
+use Rattle.rectangle_pack_sections.specs.Bins.{Bin}
+use Rattle.rectangle_pack_sections.specs.Closures.{Answers}
+use Rattle.rectangle_pack_lists.specs.Numbers.{saturated}
+use Rattle.rectangle_pack_lists.specs.Steps.{IsDone, IsStuck}
+
+-- done: the bin has the trial's list; stuck, or want of memory: the bin is as it was. The tests are counted but for want of memory
+abbrev pub IsTrialAnswer : {A E : Type 0} → Answers → Bin → List Size → ℕ → Result (Option (Vec Cuboid A)) E → Bin → ℕ → Type 0
+IsTrialAnswer may old members counted (Ok (Some locations)) new counter =
+    (tests : ℕ) × IsDone may old.sections members locations.items new.sections tests
+    × (new ≡ record old { sections = new.sections }) × (counter ≡ saturated (counted + tests))
+IsTrialAnswer may old members counted (Ok None) new counter =
+    (tests : ℕ) × IsStuck may old.sections members tests × (new ≡ old) × (counter ≡ saturated (counted + tests))
+IsTrialAnswer may old members counted (Err error) new counter = (new ≡ old) × (counter ≡ counted)
+
+-- the most fit tests that a trial of so many members makes in a list of so many sections
+abbrev pub most_tests : ℕ → ℕ → ℕ
+most_tests members sections = members * sections + members * (members - 1)

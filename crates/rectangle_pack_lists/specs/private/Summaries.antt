@@ -1,0 +1,65 @@
+-- What a summary says of a stretch of slots, and a list of summaries of the whole stretches of a width.
+use Rattle.std.specs.Prelude.{◌≡◌, ℕ, ◌+◌, ◌*◌, ◌-◌, ◌^◌, ◌<◌, ◌≤◌, List, length, min, max, All, Option, take, drop, slice_index_or}
+use Rattle.rectangle_pack_sections.specs.Boxes.{Size, Cuboid, volume_of}
+use Rattle.rectangle_pack_lists.specs.private.Slots.{sections_of}
+use Rattle.rectangle_pack_lists.specs.declared.section_slots.summary.Summary.{Summary}
+
+-- the one of the three numbers that is neither the greatest nor the least
+abbrev pub middle_of : Size → ℕ
+middle_of s = max (min s.width s.height) (min (max s.width s.height) s.depth)
+
+-- how many cells a size has, up to the greatest number of 64 bits
+abbrev pub bounded_volume_of : Size → ℕ
+bounded_volume_of s = min (volume_of s) (2 ^ 64 - 1)
+
+-- the section is not greater than the summary says
+pub record IsWithin (summary : Summary) (section : Cuboid) : Type 0 where
+  pub wide : section.whd.width ≤ summary.width
+  pub high : section.whd.height ≤ summary.height
+  pub deep : section.whd.depth ≤ summary.depth
+  pub middle : middle_of section.whd ≤ summary.middle
+  pub volume : bounded_volume_of section.whd ≤ summary.volume
+
+-- how many sections stand in the slots, and what none of them goes beyond
+pub record Sums (summary : Summary) (slots : List (Option Cuboid)) : Type 0 where
+  pub count : summary.count ≡ length (sections_of slots)
+  pub within : All (IsWithin summary) (sections_of slots)
+
+-- each whole stretch of the width, from the first slot on, has its summary
+pub record SumAll (width : ℕ) (slots : List (Option Cuboid)) (summaries : List Summary) : Type 0 where
+  pub whole : length summaries * width ≤ length slots
+  pub rest : length slots < length summaries * width + width
+  pub each : (k : ℕ) (d : Summary) → k < length summaries → Sums (slice_index_or summaries k d) (take width (drop (k * width) slots))
+
+-- the whole blocks and the whole rows of slots have their summaries
+pub record AreSummed (block row : ℕ) (slots : List (Option Cuboid)) (blocks rows : List Summary) : Type 0 where
+  pub in_blocks : SumAll block slots blocks
+  pub in_rows : SumAll row slots rows
+
+-- the summaries are those of the blocks of some slots
+abbrev pub HaveSlots : List Summary → Type 0
+HaveSlots blocks = (slots : List (Option Cuboid)) × (length slots < 2 ^ 64) × SumAll 8 slots blocks
+
+-- the summary of one section, of this size
+abbrev pub of_section : Size → Summary
+of_section z =
+    record {
+      width = z.width;
+      height = z.height;
+      depth = z.depth;
+      middle = middle_of z;
+      volume = bounded_volume_of z;
+      count = 1;
+    }
+
+-- the summary of the slots of both
+abbrev pub joined : Summary → Summary → Summary
+joined s t =
+    record {
+      width = max s.width t.width;
+      height = max s.height t.height;
+      depth = max s.depth t.depth;
+      middle = max s.middle t.middle;
+      volume = max s.volume t.volume;
+      count = s.count + t.count;
+    }

@@ -1,0 +1,62 @@
+//! Counts of fit tests.
+ghost use Rattle.std.specs.Prelude.{◌≡◌, ◌+◌, ◌<◌, ◌^◌};
+ghost use Rattle.rectangle_pack_lists.specs.Numbers.{saturated};
+
+use std::marker::Model;
+
+/// How many fit tests a look at one section after another makes, from the newest on: a member that
+/// is placed costs one for its section and one for each newer one, and a member that finds no
+/// section costs one for each section of the list. In a long list the search makes fewer: it passes
+/// over sections together that are all too small, and counts each. The count stays at the greatest
+/// `u128`.
+#[derive(Debug, PartialEq, Drop)]
+pub struct FitTests {
+    count: u128,
+}
+
+impl Model for FitTests {
+    ghost use Rattle.std.specs.Prelude.{ℕ};
+
+    ghost Value = { ℕ };
+
+    ghost view = { λ t. t.count };
+
+    ghost inverse = { λ n. record { count = n } };
+}
+
+impl FitTests {
+    /// No test was made.
+    pub fn new() -> Self
+        ensures { result ≡ 0 }
+    {
+        FitTests { count: 0 }
+    }
+
+    /// The number of tests.
+    pub fn count(&self) -> u128
+        ensures { result ≡ self.now }
+    {
+        self.count
+    }
+}
+
+// For the proof alone: the count is read, which says that it is of 128 bits.
+pub fn bounded(tests: &FitTests)
+    ensures { tests.now < 2 ^ 128 }
+{
+    let _count = tests.count;
+}
+
+// Counts so many tests more.
+pub fn add(tests: &mut FitTests, more: usize)
+    ensures { tests.new ≡ saturated (tests.old + more) }
+{
+    tests.count = tests.count.saturating_add(more as u128);
+}
+
+// Adds those of another count.
+pub fn add_all(tests: &mut FitTests, other: &FitTests)
+    ensures { tests.new ≡ saturated (tests.old + other.now) }
+{
+    tests.count = tests.count.saturating_add(other.count);
+}

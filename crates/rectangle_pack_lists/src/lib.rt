@@ -1,0 +1,9 @@
+//! Lists of free sections: trials in them, and joins. A layer of `rectangle_pack`, which passes on what
+//! is for its users.
+#![tactic(auto)]
+
+pub mod coalesce;
+pub mod fit_tests;
+pub mod laws;
+pub mod section_slots;
+pub mod trial;

@@ -1,0 +1,244 @@
+//! Summaries of stretches of slots: how many sections stand there, and bounds that none exceeds.
+ghost use Rattle.std.specs.Prelude.{◌≡◌, ◌+◌, ◌*◌, ◌-◌, ◌<◌, ◌≤◌, ◌++◌, ◌^◌, ◌∷◌, [], List, Option, length, take, drop, IfSome, set};
+ghost use Rattle.std.specs.Vec.{vec_capacity};
+ghost use Rattle.std.specs.Bool.{OnFalse};
+ghost use Rattle.rectangle_pack_sections.specs.Boxes.{Cuboid, Holds};
+ghost use Rattle.rectangle_pack_lists.specs.private.Slots.{NoneHolds};
+ghost use Rattle.rectangle_pack_lists.specs.private.Summaries.{IsWithin, Sums, SumAll, HaveSlots, of_section, joined, bounded_volume_of, middle_of};
+
+use rectangle_pack_sections::bin_section::BinSection;
+use rectangle_pack_sections::width_height_depth::WidthHeightDepth;
+use std::alloc::Allocator;
+
+// The number of cells, up to the greatest number of 64 bits.
+fn bounded_volume(size: &WidthHeightDepth) -> u64
+    ensures { result ≡ bounded_volume_of size.now }
+{
+    u64::try_from(size.volume()).unwrap_or(u64::MAX)
+}
+
+// The one of the three numbers that is neither the greatest nor the least.
+fn middle(size: &WidthHeightDepth) -> u32
+    ensures { result ≡ middle_of size.now }
+{
+    let (w, h) = (size.width(), size.height());
+    w.min(h).max(w.max(h).min(size.depth()))
+}
+
+// How many slots a block has, and how many a row.
+pub(crate) const BLOCK: usize = 8;
+
+pub(crate) const ROW: usize = 64;
+
+// How many blocks a row has.
+const ROW_BLOCKS: usize = 8;
+
+// Of the sections in a stretch of slots: the greatest width, height, depth, middle side and volume,
+// and how many there are.
+#[derive(Clone, Copy)]
+pub(crate) struct Summary {
+    width: u32,
+    height: u32,
+    depth: u32,
+    middle: u32,
+    volume: u64,
+    count: usize,
+}
+
+impl Summary {
+    // The summary of no section.
+    fn empty() -> Self
+        ensures { Sums result [] }
+    {
+        Summary {
+            width: 0,
+            height: 0,
+            depth: 0,
+            middle: 0,
+            volume: 0,
+            count: 0,
+        }
+    }
+
+    // The summary of one section, of this size.
+    fn of_section(size: &WidthHeightDepth) -> Self
+        ensures { result ≡ of_section size.now }
+    {
+        Summary {
+            width: size.width(),
+            height: size.height(),
+            depth: size.depth(),
+            middle: middle(size),
+            volume: bounded_volume(size),
+            count: 1,
+        }
+    }
+
+    // The summary of these slots.
+    fn of(slots: &[Option<BinSection>]) -> Self
+        ensures { Sums result slots.now }
+    {
+        let mut summary = Summary::empty();
+        for slot in slots {
+            if let Some(section) = slot {
+                summary = summary.join(&Summary::of_section(&section.whd()));
+            }
+        }
+        summary
+    }
+
+    // The summary of all slots of these blocks, of the summaries of the blocks.
+    fn of_blocks(blocks: &[Summary]) -> Self
+        requires { HaveSlots blocks.now }
+        ensures { (slots : List (Option Cuboid)) →
+            length slots ≡ length blocks.now * 8 →
+            SumAll 8 slots blocks.now →
+            Sums result slots }
+    {
+        let mut summary = Summary::empty();
+        for block in blocks {
+            summary = summary.join(block);
+        }
+        summary
+    }
+
+    // The summary of the slots of both.
+    fn join(self, other: &Self) -> Self
+        requires { self.count + other.now.count < 2 ^ 64 }
+        ensures { result ≡ joined self other.now }
+    {
+        Summary {
+            width: self.width.max(other.width),
+            height: self.height.max(other.height),
+            depth: self.depth.max(other.depth),
+            middle: self.middle.max(other.middle),
+            volume: self.volume.max(other.volume),
+            count: self.count + other.count,
+        }
+    }
+
+    // Whether a section within the summary may hold this size.
+    #[inline(always)]
+    fn may_hold(&self, size: &WidthHeightDepth) -> bool
+        ensures { OnFalse result
+            ((section : Cuboid) → IsWithin self.now section → ¬ Holds section size.now) }
+    {
+        // What the size has beyond the summary. One branch for all of it, as any one alone often
+        // decides.
+        let sides = size.width().saturating_sub(self.width)
+            | size.height().saturating_sub(self.height)
+            | size.depth().saturating_sub(self.depth)
+            | middle(size).saturating_sub(self.middle);
+        let volume = bounded_volume(size).saturating_sub(self.volume);
+        u64::from(sides) | volume == 0
+    }
+}
+
+// Where a stretch of `width` slots ends at `end`, and its summary shows that no section in it holds
+// the size: how many sections stand in it.
+#[inline(always)]
+pub(crate) fn count_if_too_small(
+    summaries: &[Summary],
+    width: usize,
+    end: usize,
+    size: &WidthHeightDepth,
+) -> Option<usize>
+    requires wide { 0 < width }
+    requires slots { 0 < end }
+    requires summed { end < length summaries.now * width + width }
+    ensures within { IfSome result (λ _. width ≤ end) }
+    ensures none { (slots : List (Option Cuboid)) →
+        SumAll width slots summaries.now →
+        IfSome result
+        (λ count. NoneHolds (take width (drop (end - width) slots)) size.now count) }
+{
+    let stretches = end / width;
+    if stretches * width != end {
+        return None;
+    }
+    let summary = &summaries[stretches - 1];
+    if summary.may_hold(size) {
+        None
+    } else {
+        Some(summary.count)
+    }
+}
+
+// Sums the block that the last slot completes, if it does.
+pub(crate) fn sum_last_block<A: Allocator>(
+    blocks: &mut Vec<Summary, A>,
+    slots: &[Option<BinSection>],
+)
+    requires whole { length blocks.old.items * 8 < length slots.now }
+    requires rest { length slots.now ≤ length blocks.old.items * 8 + 8 }
+    requires room { length slots.now < vec_capacity blocks.old * 8 + 8 }
+    ensures sums { (before : List (Option Cuboid)) (slot : Option Cuboid) →
+        slots.now ≡ before ++ slot ∷ [] →
+        SumAll 8 before blocks.old.items →
+        SumAll 8 slots.now blocks.new.items }
+    ensures capacity { vec_capacity blocks.new ≡ vec_capacity blocks.old }
+{
+    let summed = blocks.len() * BLOCK;
+    if slots.len() - summed == BLOCK {
+        blocks.push_reserved(Summary::of(&slots[summed..]));
+    }
+}
+
+// Sums the row that the last block completes, if it does.
+pub(crate) fn sum_last_row<A: Allocator>(rows: &mut Vec<Summary, A>, blocks: &[Summary])
+    requires whole { length rows.old.items * 8 ≤ length blocks.now }
+    requires rest { length blocks.now ≤ length rows.old.items * 8 + 8 }
+    requires room { length blocks.now < vec_capacity rows.old * 8 + 8 }
+    requires summed { HaveSlots blocks.now }
+    ensures sums { (before : List (Option Cuboid)) (slot : Option Cuboid) →
+        SumAll 8 (before ++ slot ∷ []) blocks.now →
+        SumAll 64 before rows.old.items →
+        SumAll 64 (before ++ slot ∷ []) rows.new.items }
+    ensures capacity { vec_capacity rows.new ≡ vec_capacity rows.old }
+{
+    let summed = rows.len() * ROW_BLOCKS;
+    if blocks.len() - summed == ROW_BLOCKS {
+        rows.push_reserved(Summary::of_blocks(&blocks[summed..]));
+    }
+}
+
+// Sums the block of this slot anew, if it is whole.
+pub(crate) fn sum_block_anew<A: Allocator>(
+    blocks: &mut Vec<Summary, A>,
+    slots: &[Option<BinSection>],
+    slot: usize,
+)
+    requires whole { length blocks.old.items * 8 ≤ length slots.now }
+    ensures sums { (before : List (Option Cuboid)) (content : Option Cuboid) →
+        slots.now ≡ set before slot content →
+        SumAll 8 before blocks.old.items →
+        SumAll 8 slots.now blocks.new.items }
+    ensures capacity { vec_capacity blocks.new ≡ vec_capacity blocks.old }
+{
+    let block = slot / BLOCK;
+    if block < blocks.len() {
+        let first = block * BLOCK;
+        blocks[block] = Summary::of(&slots[first..first + BLOCK]);
+    }
+}
+
+// Sums the row of this slot anew, if it is whole.
+pub(crate) fn sum_row_anew<A: Allocator>(
+    rows: &mut Vec<Summary, A>,
+    blocks: &[Summary],
+    slot: usize,
+)
+    requires whole { length rows.old.items * 8 ≤ length blocks.now }
+    requires summed { HaveSlots blocks.now }
+    ensures sums { (before : List (Option Cuboid)) (content : Option Cuboid) →
+        SumAll 8 (set before slot content) blocks.now →
+        SumAll 64 before rows.old.items →
+        SumAll 64 (set before slot content) rows.new.items }
+    ensures capacity { vec_capacity rows.new ≡ vec_capacity rows.old }
+{
+    let row = slot / ROW;
+    if row < rows.len() {
+        let first = row * ROW_BLOCKS;
+        rows[row] = Summary::of_blocks(&blocks[first..first + ROW_BLOCKS]);
+    }
+}

@@ -1,0 +1,2 @@
+-- Lemmas by subject, each subject after those that it stands on.
+pub mod cut_plan

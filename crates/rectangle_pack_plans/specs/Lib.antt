@@ -1,0 +1,2 @@
+pub mod CutPlans
+pub mod private

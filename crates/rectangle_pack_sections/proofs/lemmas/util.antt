@@ -1,0 +1,2 @@
+-- What is about no subject of this project: parts of lists, and pairs of their elements.
+pub mod Lists

@@ -1,0 +1,40 @@
+-- Parts of lists, and pairs of their elements.
+use Rattle.rectangle_pack_sections.proofs.Std.{◌≡◌, ℕ, ◌+◌, ◌<◌, ◌≤◌, List, [], ◌∷◌, ◌++◌, length, take, get_or, refl, ap, sym, ◌∙◌, arith, cond, true, false}
+use Rattle.rectangle_pack_sections.proofs.Std.{Bool, append_assoc, length-append, subst, Option, Some, None, All, Contains, IsSome, IsSomeAnd, IfSome, is_some}
+use Rattle.rectangle_pack_sections.proofs.Std.{unwrap_or, map, option_map, sum_by, Ordering, Vec, IsTotalOrder, is_eq, eq_by_cmp_equiv, append-nil}
+use Rattle.rectangle_pack_sections.proofs.Std.{count_by_more_yes, count_by_more_no, sum_by-take-le, sum_by-cons, All-append, All-cons, All-head, All-nil}
+use Rattle.rectangle_pack_sections.proofs.Std.{All-tail, All-weaker, All-contains, nil_from_length, lookup, is_at, Equal-is}
+use Rattle.rectangle_pack_sections.proofs.Std.{suc, drop, AllPairs, IfNone, IsTrue, not, ◌↔◌, split_at, all_pairs_push, All-push, AllPairs-cons}
+use Rattle.rectangle_pack_sections.proofs.Std.{zero, inl, inr, Any, count_by, filter, cases_lt, cases_Bool, false_from_ne_true, both_ways, sum_by-append}
+use Rattle.rectangle_pack_sections.proofs.Std.{count_by-le-length, get_or_default, get_or-le-sum_by}
+
+-- the parts of two joined lists
+pub All-front : {X : Type 0} (P : X → Type 0) (xs ys : List X) → All P (xs ++ ys) → All P xs
+All-front P [] ys h = All-nil P
+All-front P (x ∷ xs) ys h = All-cons P x xs (All-head P x (xs ++ ys) h) (All-front P xs ys (All-tail P x (xs ++ ys) h))
+
+pub All-back : {X : Type 0} (P : X → Type 0) (xs ys : List X) → All P (xs ++ ys) → All P ys
+All-back P [] ys h = h
+All-back P (x ∷ xs) ys h = All-back P xs ys (All-tail P x (xs ++ ys) h)
+
+-- and an element in the middle
+pub All-middle : {X : Type 0} (P : X → Type 0) (xs before after : List X) (x : X) → xs ≡ before ++ x ∷ after → All P xs → P x
+All-middle P xs before after x e h = All-head P x after (All-back P before (x ∷ after) (subst (All P) e h))
+
+-- and the elements beside it
+pub All-without : {X : Type 0} (P : X → Type 0) (before : List X) (x : X) (after : List X) → All P (before ++ x ∷ after) → All P (before ++ after)
+All-without P before x after h = All-append P before after (All-front P before (x ∷ after) h) (All-tail P x after (All-back P before (x ∷ after) h))
+
+pub AllPairs-head : {X : Type 0} (R : X → X → Type 0) (x : X) (xs : List X) → AllPairs R (x ∷ xs) → All (R x) xs
+AllPairs-head R x xs h k d within = h zero (suc k) d (omega arith) (omega arith)
+
+pub AllPairs-tail : {X : Type 0} (R : X → X → Type 0) (x : X) (xs : List X) → AllPairs R (x ∷ xs) → AllPairs R xs
+AllPairs-tail R x xs h i j d below within = h (suc i) (suc j) d (omega arith) (omega arith)
+
+pub AllPairs-append : {X : Type 0} (R : X → X → Type 0) (xs ys : List X) → AllPairs R xs → AllPairs R ys
+    → All (λ y. All (λ x. R x y) xs) ys → AllPairs R (xs ++ ys)
+AllPairs-append R [] ys p q across = q
+AllPairs-append R (x ∷ xs) ys p q across =
+    AllPairs-cons R x (xs ++ ys)
+    (All-append (R x) xs ys (AllPairs-head R x xs p) (λ k d lt. All-head (λ x. R x (get_or ys k d)) x xs (across k d lt)))
+    (AllPairs-append R xs ys (AllPairs-tail R x xs p) q (λ k d lt. All-tail (λ x. R x (get_or ys k d)) x xs (across k d lt)))

@@ -1,0 +1,32 @@
+-- Bins: a size, a list of free sections, and whether a coalescing call was made.
+use Rattle.std.specs.Prelude.{ℕ, Bool, false, List, [], ◌∷◌, All, AllPairs}
+use Rattle.rectangle_pack_sections.specs.Boxes.{Size, Cuboid, IsInside, AreApart}
+
+-- a bin: its size, its free sections, and whether a coalescing of it was done
+pub record Bin : Type 0 where
+  pub size : Size
+  pub sections : List Cuboid
+  pub coalesced : Bool
+
+-- a bin, and how many sections its list has room for
+pub record Held : Type 0 where
+  pub bin : Bin
+  pub room : ℕ
+
+-- each free section is inside the bin, and no two share a cell
+pub record IsSound (size : Size) (sections : List Cuboid) : Type 0 where
+  pub inside : All (IsInside size) sections
+  pub apart : AllPairs AreApart sections
+
+-- the box is inside the bin and shares no cell with a free section
+pub record IsAccepted (bin : Bin) (box : Cuboid) : Type 0 where
+  pub inside : IsInside bin.size box
+  pub apart : All (λ s. AreApart s box) bin.sections
+
+-- the box that is all of a bin of this size
+abbrev pub whole : Size → Cuboid
+whole size = record { x = 0; y = 0; z = 0; whd = size }
+
+-- a new bin of this size: its one free section is all of it
+abbrev pub new_bin : Size → Bin
+new_bin size = record { size = size; sections = whole size ∷ []; coalesced = false }

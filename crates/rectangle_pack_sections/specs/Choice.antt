@@ -1,0 +1,48 @@
+-- The choice among the six cuts, by a comparison of the sizes of their pieces.
+use Rattle.std.specs.Prelude.{◌≡◌, ◌≢◌, ℕ, List, [], ◌∷◌, ◌++◌, All, Any, ◌⊎◌, Contains}
+use Rattle.std.specs.Ordering.{ordering_reverse}
+use Rattle.std.specs.declared.cmp.Ordering.{Ordering}
+use Rattle.std.specs.declared.cmp.Ordering.TheVariants.{Greater}
+use Rattle.rectangle_pack_sections.specs.Boxes.{Size, Cuboid, Holds}
+use Rattle.rectangle_pack_sections.specs.Cuts.{cuts, sizes_of}
+
+-- a heuristic that has at most one answer on each size
+pub record IsFunction (MayRate : Size → ℕ → Type 0) : Type 0 where
+  pub rate : Size → ℕ
+  pub only : (size : Size) (answer : ℕ) → MayRate size answer → answer ≡ rate size
+
+module _ {A : Type 0} (MayAnswer : A → A → Ordering → Type 0) where
+  -- on any two elements there is at most one answer, swapped arguments give the reversed one, and "not Greater" is transitive
+  pub record IsTotalPreorder : Type 0 where
+    pub compare : A → A → Ordering
+    pub only : (x y : A) (r : Ordering) → MayAnswer x y r → r ≡ compare x y
+    pub swapped : (x y : A) → compare y x ≡ ordering_reverse (compare x y)
+    pub transitive : (x y z : A) → compare x y ≢ Greater → compare y z ≢ Greater → compare x z ≢ Greater
+
+  -- on these elements no answer but that of `compare` may come, swapped elements have the reversed one, and "not Greater" is
+  -- transitive
+  pub record IsTotalPreorderOn (xs : List A) (compare : A → A → Ordering) : Type 0 where
+    pub only : (x y : A) (r : Ordering) → Contains xs x → Contains xs y → MayAnswer x y r → r ≡ compare x y
+    pub swapped : (x y : A) → Contains xs x → Contains xs y → compare y x ≡ ordering_reverse (compare x y)
+    pub transitive : (x y z : A) → Contains xs x → Contains xs y → Contains xs z
+        → compare x y ≢ Greater → compare y z ≢ Greater → compare x z ≢ Greater
+
+  -- the comparison may answer `Greater` on the chosen one and each later one and, if it is not the first, something else than
+  -- `Greater` on some earlier one and it; where the answers are those of a total preorder, none is greater
+  pub record MayChoose (xs : List A) (chosen : A) : Type 0 where
+    pub before : List A
+    pub after : List A
+    pub listed : xs ≡ before ++ chosen ∷ after
+    pub beats_later : All (λ later. MayAnswer chosen later Greater) after
+    pub replaces : (before ≡ []) ⊎ Any (λ earlier. (r : Ordering) × MayAnswer earlier chosen r × (r ≢ Greater)) before
+    pub greatest : (compare : A → A → Ordering) → IsTotalPreorderOn xs compare → All (λ other. compare other chosen ≢ Greater) xs
+
+-- the pieces are those of a cut that the comparison allows
+abbrev pub IsAllowedCut : (List Size → List Size → Ordering → Type 0) → Cuboid → Size → List Cuboid → Type 0
+IsAllowedCut MayPrefer section size pieces = MayChoose (λ a b. MayPrefer (sizes_of a) (sizes_of b)) (cuts section size) pieces
+
+-- the comparison is a total preorder on the six cuts of each section round each size that it holds, of those that are met
+pub record IsPreorderOnCuts (IsMet : Cuboid → Size → Type 0) (MayPrefer : List Size → List Size → Ordering → Type 0) : Type 0 where
+  pub compare : Cuboid → Size → List Cuboid → List Cuboid → Ordering
+  pub preorder : (section : Cuboid) (member : Size) → IsMet section member → Holds section member
+      → IsTotalPreorderOn (λ a b. MayPrefer (sizes_of a) (sizes_of b)) (cuts section member) (compare section member)

@@ -1,0 +1,63 @@
+-- The straight cuts of a section round a box that is placed at its corner.
+use Rattle.std.specs.Prelude.{ℕ, ◌+◌, ◌-◌, Bool, true, false, List, [], ◌∷◌, map, if◌then◌else◌}
+use Rattle.rectangle_pack_sections.specs.declared.axis.Axis.{Axis}
+use Rattle.rectangle_pack_sections.specs.declared.axis.Axis.TheVariants.{X, Y, Z}
+use Rattle.rectangle_pack_sections.specs.Boxes.{Size, Cuboid, extent, start}
+
+-- whether two axes are one
+abbrev pub is_same : Axis → Axis → Bool
+is_same X X = true
+is_same Y Y = true
+is_same Z Z = true
+is_same _ _ = false
+
+-- whether the axis a stands before the axis b in the order
+abbrev pub is_before : List Axis → Axis → Axis → Bool
+is_before [] a b = false
+is_before (c ∷ order) a b = if is_same c b then false else if is_same c a then true else is_before order a b
+
+-- the box of this size at the section's corner
+abbrev pub placed : Cuboid → Size → Cuboid
+placed section size = record section { whd = size }
+
+-- where the piece of the axis a starts on the axis b: beyond the box on its own axis, else at the section's corner
+unfoldable pub piece_start : Cuboid → Size → Axis → Axis → ℕ
+piece_start section size a b = if is_same a b then start b section + extent b size else start b section
+
+-- how far the piece of the axis a runs on the axis b: on its own axis over what is left beyond the box, on an axis that
+-- stands before a in the order over the box, else over the section
+unfoldable pub piece_extent : Cuboid → Size → List Axis → Axis → Axis → ℕ
+piece_extent section size order a b =
+    if is_same a b then extent b section.whd - extent b size else if is_before order b a then extent b size else extent b section.whd
+
+-- the piece that a cut in this order of the axes cuts off on the axis a
+unfoldable pub piece : Cuboid → Size → List Axis → Axis → Cuboid
+piece section size order a = record {
+  x = piece_start section size a X;
+  y = piece_start section size a Y;
+  z = piece_start section size a Z;
+  whd = record {
+    width = piece_extent section size order a X;
+    height = piece_extent section size order a Y;
+    depth = piece_extent section size order a Z;
+  };
+}
+
+-- right, above and behind: the pieces on the axes x, y and z
+unfoldable pub pieces : Cuboid → Size → List Axis → List Cuboid
+pieces section size order = piece section size order X ∷ piece section size order Y ∷ piece section size order Z ∷ []
+
+-- the six orders of the axes, as they are listed
+abbrev pub orders : List (List Axis)
+orders =
+    (X ∷ Y ∷ Z ∷ []) ∷ (Y ∷ X ∷ Z ∷ [])
+    ∷ (X ∷ Z ∷ Y ∷ []) ∷ (Z ∷ X ∷ Y ∷ [])
+    ∷ (Y ∷ Z ∷ X ∷ []) ∷ (Z ∷ Y ∷ X ∷ []) ∷ []
+
+-- the pieces of each of the six cuts
+unfoldable pub cuts : Cuboid → Size → List (List Cuboid)
+cuts section size = map (pieces section size) orders
+
+-- the sizes of boxes
+abbrev pub sizes_of : List Cuboid → List Size
+sizes_of boxes = map (λ b. b.whd) boxes

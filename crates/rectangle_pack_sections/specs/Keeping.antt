@@ -1,0 +1,12 @@
+-- Boxes that are replaced by others with the same cells.
+use Rattle.std.specs.Prelude.{◌≡◌, ◌↔◌, List, ◌++◌, Any, Some, None, map, filter}
+use Rattle.std.specs.declared.cmp.Ordering.{Ordering}
+use Rattle.std.specs.Map.{lookup}
+use Rattle.std.specs.BTreeMap.{is_at}
+use Rattle.rectangle_pack_sections.specs.Boxes.{Cuboid, Cell, IsCellOf}
+use Rattle.rectangle_pack_sections.specs.Counting.{AreAllApart}
+
+-- no two of the new boxes share a cell, and a cell is in some of them exactly where it is in some of the old ones
+pub record KeepCells (old new : List Cuboid) : Type 0 where
+  pub apart : AreAllApart new
+  pub cells : (c : Cell) → Any (IsCellOf c) old ↔ Any (IsCellOf c) new

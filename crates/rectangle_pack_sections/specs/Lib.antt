@@ -1,0 +1,13 @@
+pub mod Boxes
+pub mod Cuts
+pub mod Closures
+pub mod Choice
+pub mod SmallestBox
+pub mod Fitting
+pub mod Counting
+pub mod Keeping
+pub mod Bins
+pub mod Covering
+pub mod CutTrees
+pub mod Texts
+pub mod private

@@ -1,0 +1,17 @@
+//! The law of the order of sizes.
+ghost use Rattle.std.specs.Prelude.{◌≡◌, ◌<◌, ◌↔◌, true};
+ghost use Rattle.std.specs.Cmp.{IsTotalOrder};
+ghost use Rattle.rectangle_pack_sections.specs.Boxes.{Size, size_order};
+
+use crate::width_height_depth::WidthHeightDepth;
+use std::cmp::Ordering;
+
+/// A law: sizes are in a total order, by width, then by height, then by depth, in which two are
+/// equal where they are the same.
+pub fn sizes_are_ordered()
+    ensures total { IsTotalOrder ⟦<WidthHeightDepth as Ord>⟧.cmp }
+    ensures by_field { (a b : Size) → ⟦<WidthHeightDepth as Ord>⟧.cmp a b ≡ size_order a b }
+    ensures equal { (a b : Size) →
+        (⟦<WidthHeightDepth as Ord>⟧.cmp a b ≡ Ordering.Equal) ↔ (a ≡ b) }
+    ensures equality { (a b : Size) → (⟦<WidthHeightDepth as PartialEq>⟧.eq a b ≡ true) ↔ (a ≡ b) }
+{}
