@@ -2,18 +2,7 @@
 //! output.
 #![tactic(auto)]
 
-mod command;
-mod digits;
-mod outcome;
-mod print;
-mod run;
-mod stop;
-mod store;
-#[cfg(test)]
-mod tests;
-mod word;
-
-use run::run_lines;
+use packrun_lines::run::run_lines;
 use std::process::ExitCode;
 
 fn main(rt: HostRuntime) -> ExitCode {

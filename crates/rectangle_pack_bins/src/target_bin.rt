@@ -297,7 +297,7 @@ impl<A: Allocator + Copy> TargetBin<A> {
     }
 }
 
-// Whether a coalescing call was made on the bin.
+/// Whether a coalescing call was made on the bin.
 pub fn was_coalesced<A: Allocator + Copy>(bin: &TargetBin<A>) -> bool
     ensures { result ≡ bin.now.bin.coalesced }
 {

@@ -228,7 +228,7 @@ impl<Id: Ord + Clone + Drop, GroupId: Ord + Clone + Drop, A: Allocator + Copy> G
     }
 }
 
-// The pairs of groups that are excluded.
+/// The pairs of groups that are excluded.
 pub fn exclusions_of<Id: Ord, GroupId: Ord, A: Allocator + Copy>(
     collection: &GroupedRectsToPlace<Id, GroupId, A>,
 ) -> &Exclusions<Group<GroupId, Id>, A>

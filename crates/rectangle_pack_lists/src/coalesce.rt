@@ -53,8 +53,8 @@ fn first_neighbour(sections: &[BinSection], idx: usize, range: Range<usize>) -> 
     None
 }
 
-// Joins the section at `idx` with those of the range that share a whole face with it, the least
-// index first, until none does. Takes no memory.
+/// Joins the section at `idx` with those of the range that share a whole face with it, the least
+/// index first, until none does. Takes no memory.
 pub fn join_at<A: Allocator>(sections: &mut Vec<BinSection, A>, idx: usize, range: Range<usize>)
     requires { All FitsU32 sections.old.items }
     ensures joined { IsJoined idx range.start range.end sections.old.items sections.new.items }
@@ -74,7 +74,7 @@ pub fn join_at<A: Allocator>(sections: &mut Vec<BinSection, A>, idx: usize, rang
     }
 }
 
-// Joins at each index from the last down to 0, each time over the whole list. Takes no memory.
+/// Joins at each index from the last down to 0, each time over the whole list. Takes no memory.
 pub fn join_all<A: Allocator>(sections: &mut Vec<BinSection, A>)
     requires { All FitsU32 sections.old.items }
     ensures swept { IsSwept sections.old.items sections.new.items }

@@ -40,21 +40,21 @@ impl FitTests {
     }
 }
 
-// For the proof alone: the count is read, which says that it is of 128 bits.
+/// For the proof alone: the count is read, which says that it is of 128 bits.
 pub fn bounded(tests: &FitTests)
     ensures { tests.now < 2 ^ 128 }
 {
     let _count = tests.count;
 }
 
-// Counts so many tests more.
+/// Counts so many tests more.
 pub fn add(tests: &mut FitTests, more: usize)
     ensures { tests.new ≡ saturated (tests.old + more) }
 {
     tests.count = tests.count.saturating_add(more as u128);
 }
 
-// Adds those of another count.
+/// Adds those of another count.
 pub fn add_all(tests: &mut FitTests, other: &FitTests)
     ensures { tests.new ≡ saturated (tests.old + other.now) }
 {

@@ -15,8 +15,8 @@ use rectangle_pack_sections::width_height_depth::WidthHeightDepth;
 use std::alloc::{AllocError, Allocator};
 use std::marker::Model;
 
-// An ordered list of sections in which the last one that holds a box is found without a look at
-// each. A section that is taken out leaves its slot empty, so no section is moved.
+/// An ordered list of sections in which the last one that holds a box is found without a look at
+/// each. A section that is taken out leaves its slot empty, so no section is moved.
 #[derive(Drop)]
 pub struct SectionSlots<A: Allocator + Copy> {
     slots: Vec<Option<BinSection>, A>,
@@ -43,17 +43,17 @@ impl<A: Allocator + Copy> Model for SectionSlots<A> {
     ghost invariant = { λ l. AreSummed 8 64 l.slots.items l.blocks.items l.rows.items };
 }
 
-// What a search found, and how many sections a look at each, from the last on, would have tested.
+/// What a search found, and how many sections a look at each, from the last on, would have tested.
 #[derive(Clone, Copy)]
 pub struct Search {
-    // The index of the last section that holds the box; in a list in slots, that of its slot.
+    /// The index of the last section that holds the box; in a list in slots, that of its slot.
     pub index: Option<usize>,
-    // How many sections stand from there on; all, where no section holds the box.
+    /// How many sections stand from there on; all, where no section holds the box.
     pub tests: usize,
 }
 
 impl<A: Allocator + Copy> SectionSlots<A> {
-    // The list of these sections, with room for so many slots more. An error is want of memory.
+    /// The list of these sections, with room for so many slots more. An error is want of memory.
     pub fn from_slice(alloc: A, sections: &[BinSection], extra: usize) -> Result<Self, AllocError>
         ensures { IfOk result (λ l. sections_of l.all ≡ sections.now) }
     {
@@ -70,7 +70,7 @@ impl<A: Allocator + Copy> SectionSlots<A> {
         Ok(list)
     }
 
-    // Makes room for so many slots more. An error is want of memory, and leaves the list.
+    /// Makes room for so many slots more. An error is want of memory, and leaves the list.
     pub fn reserve(&mut self, extra: usize) -> Result<(), AllocError>
         ensures ok { OnOk result (length self.old.all + extra ≤ self.new.room) }
         ensures all { self.new.all ≡ self.old.all }
@@ -85,7 +85,7 @@ impl<A: Allocator + Copy> SectionSlots<A> {
         Ok(())
     }
 
-    // How many slots there are, empty ones too.
+    /// How many slots there are, empty ones too.
     pub fn slots(&self) -> usize
         ensures all { result ≡ length self.now.all }
         ensures no_fewer { length (sections_of self.now.all) ≤ result }
@@ -203,8 +203,8 @@ impl<A: Allocator + Copy> SectionSlots<A> {
         self.rows.truncate(slots / ROW);
     }
 
-    // Writes the sections, in order, over the list given. The caller sees to it that there is
-    // room. Takes no memory.
+    /// Writes the sections, in order, over the list given. The caller sees to it that there is
+    /// room. Takes no memory.
     pub fn write_back(&self, sections: &mut Vec<BinSection, A>)
         requires { length (sections_of self.now.all) ≤ vec_capacity sections.old }
         ensures items { sections.new.items ≡ sections_of self.now.all }

@@ -22,8 +22,8 @@ use rectangle_pack_sections::width_height_depth::WidthHeightDepth;
 use std::alloc::{AllocError, Allocator};
 use std::cmp::Ordering;
 
-// What a step did to a list: which section it took out, where that stood, and how long the list was
-// before the pieces were pushed.
+/// What a step did to a list: which section it took out, where that stood, and how long the list was
+/// before the pieces were pushed.
 #[derive(Clone, Copy)]
 pub struct Note {
     pub index: usize,
@@ -31,7 +31,7 @@ pub struct Note {
     pub kept: usize,
 }
 
-// A list of free sections in which trials are made.
+/// A list of free sections in which trials are made.
 pub trait FreeList {
     ghost use Rattle.rectangle_pack_lists.specs.declared.trial.Note.{Note};
 
@@ -50,7 +50,7 @@ pub trait FreeList {
     // The newest section that holds this size stands at this index, and so many from there on.
     ghost IsNewest: { Self → Size → ℕ → ℕ → Type 0 };
 
-    // Looks for the newest section that holds a member.
+    /// Looks for the newest section that holds a member.
     fn find(&self, member: &RectToInsert) -> Search
         ensures none { IfNone result.index
             (All (λ s. ¬ Holds s member.now) (sections self.now) ×
@@ -58,8 +58,8 @@ pub trait FreeList {
         ensures some { IfSome result.index
             (λ index. IsNewest self.now member.now index result.tests) };
 
-    // Places one member into the section at this index, and notes the step. First room is made for
-    // so many steps, which takes no memory where it is there. An error is want of memory.
+    /// Places one member into the section at this index, and notes the step. First room is made for
+    /// so many steps, which takes no memory where it is there. An error is want of memory.
     fn place<R: Policy>(
         &mut self,
         index: usize,
@@ -86,7 +86,7 @@ pub trait FreeList {
             (notes : List Note) (start : List Cuboid) → LeadsBack self.old notes start →
             LeadsBack self.new (notes ++ r.1 ∷ []) start) };
 
-    // Undoes a noted step, the last one. Takes no memory.
+    /// Undoes a noted step, the last one. Takes no memory.
     fn undo(&mut self, note: Note)
         requires { (notes : List Note) × (start : List Cuboid) ×
             LeadsBack self.old (notes ++ note ∷ []) start }
@@ -100,7 +100,7 @@ pub trait FreeList {
     ghost leads: { (l : Self) (start : List Cuboid) → LeadsBack l [] start → sections l ≡ start };
 }
 
-// Undoes all noted steps, from the last. Takes no memory.
+/// Undoes all noted steps, from the last. Takes no memory.
 pub fn undo<L: FreeList, A: Allocator>(list: &mut L, notes: &mut Vec<Note, A>)
     requires { (start : List Cuboid) × L.LeadsBack list.old notes.old.items start }
     ensures sections { (start : List Cuboid) → L.LeadsBack list.old notes.old.items start →
@@ -163,8 +163,8 @@ fn place_in<R: Policy>(
     (location, pieces)
 }
 
-// What a trial writes: its notes, and the locations of its members. Used for one trial after
-// another, so that room is made once.
+/// What a trial writes: its notes, and the locations of its members. Used for one trial after
+/// another, so that room is made once.
 #[derive(Drop)]
 pub struct Buffers<A: Allocator + Copy> {
     pub notes: Vec<Note, A>,
@@ -172,7 +172,7 @@ pub struct Buffers<A: Allocator + Copy> {
 }
 
 impl<A: Allocator + Copy> Buffers<A> {
-    // Takes no memory.
+    /// Takes no memory.
     pub fn new(alloc: A) -> Self {
         Buffers {
             notes: Vec::new(alloc),
@@ -197,9 +197,9 @@ impl<A: Allocator + Copy> Buffers<A> {
     }
 }
 
-// One trial; whether it is done. A stuck trial is undone, and the room that was made stays. Room
-// for all steps is made once the first member has found a section, so a trial that is stuck at once
-// takes no memory. An error is want of memory.
+/// One trial; whether it is done. A stuck trial is undone, and the room that was made stays. Room
+/// for all steps is made once the first member has found a section, so a trial that is stuck at once
+/// takes no memory. An error is want of memory.
 pub fn run_trial<L, R, A>(
     list: &mut L,
     members: &[RectToInsert],

@@ -62,9 +62,9 @@ fn cut(part: &Part, split: &Split) -> (Part, Part)
     (below, above)
 }
 
-// The plan of the whole, which the boxes fill: a cut at the first open plane of each part with two
-// boxes or more; `None` where such a part has no open plane. Puts the boxes in another order,
-// so that those of each part stand together, those of the next pending part from `done` on.
+/// The plan of the whole, which the boxes fill: a cut at the first open plane of each part with two
+/// boxes or more; `None` where such a part has no open plane. Puts the boxes in another order,
+/// so that those of each part stand together, those of the next pending part from `done` on.
 pub fn plan_of<A: Allocator + Copy>(
     alloc: A,
     whole: BinSection,

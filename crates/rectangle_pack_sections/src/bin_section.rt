@@ -252,7 +252,7 @@ impl BinSection {
     }
 }
 
-// Places a box into a section that holds it: its location, and the three pieces of the best cut.
+/// Places a box into a section that holds it: its location, and the three pieces of the best cut.
 #[inline(always)]
 pub fn place_held<H, C>(
     section: &BinSection,
@@ -286,7 +286,7 @@ where
     )
 }
 
-// Whether the section ends inside a bin of this size.
+/// Whether the section ends inside a bin of this size.
 pub fn is_inside(section: &BinSection, size: &WidthHeightDepth) -> bool
     ensures { IsTrue result ↔ IsInside size.now section.now }
 {
@@ -296,7 +296,7 @@ pub fn is_inside(section: &BinSection, size: &WidthHeightDepth) -> bool
         && u64::from(section.z) + u64::from(whd.depth()) <= u64::from(size.depth())
 }
 
-// Whether the section holds the box.
+/// Whether the section holds the box.
 pub fn holds(section: &BinSection, incoming: &RectToInsert) -> bool
     ensures { IsTrue result ↔ Holds section.now incoming.now }
 {
@@ -307,7 +307,7 @@ pub fn holds(section: &BinSection, incoming: &RectToInsert) -> bool
     u64::from(wider) + u64::from(taller) == 0 && incoming.depth() <= whd.depth()
 }
 
-// Whether none of the section's sizes is 0.
+/// Whether none of the section's sizes is 0.
 pub fn has_cells(section: &BinSection) -> bool
     ensures { result ≡ has_cells section.now }
 {
@@ -315,7 +315,7 @@ pub fn has_cells(section: &BinSection) -> bool
     whd.width() > 0 && whd.height() > 0 && whd.depth() > 0
 }
 
-// The box that stands at a location.
+/// The box that stands at a location.
 pub fn section_at(location: &PackedLocation) -> BinSection
     ensures { result ≡ location.now }
 {

@@ -11,18 +11,18 @@ use crate::rect_to_insert::RectToInsert;
 use crate::width_height_depth::WidthHeightDepth;
 use std::cmp::Ordering;
 
-// What a packing asks of the closures: whether it may ask, and what they may answer.
+/// What a packing asks of the closures: whether it may ask, and what they may answer.
 pub trait Policy {
     ghost is_callable: { Self → Type 0 };
 
     ghost may: { Self → Answers };
 
-    // What the heuristic answers on a size.
+    /// What the heuristic answers on a size.
     fn rate(&self, size: WidthHeightDepth) -> u128
         requires { is_callable self.now }
         ensures { (may self.now).rate size result };
 
-    // Places a box into a section that holds it, by the comparison's choice of a cut.
+    /// Places a box into a section that holds it, by the comparison's choice of a cut.
     fn place(
         &self,
         section: &BinSection,

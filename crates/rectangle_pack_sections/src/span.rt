@@ -6,7 +6,7 @@ ghost use Rattle.rectangle_pack_sections.specs.private.Spans.{span_of, spans_of,
 use crate::axis::Axis;
 use crate::bin_section::BinSection;
 
-// The places from `start` on, so many as `length` says.
+/// The places from `start` on, so many as `length` says.
 #[derive(Clone, Copy, PartialEq)]
 pub struct Span {
     pub start: u32,
@@ -14,7 +14,7 @@ pub struct Span {
 }
 
 impl Span {
-    // The span of a section on an axis.
+    /// The span of a section on an axis.
     #[tactic(auto, unfolding(crate::specs::Boxes::start, crate::specs::Boxes::extent, crate::specs::Boxes::end))]
     pub fn of(section: &BinSection, axis: Axis) -> Span
         ensures is { result ≡ span_of axis section.now }
@@ -30,7 +30,7 @@ impl Span {
         Span { start, length }
     }
 
-    // Where it ends: the first place beyond it.
+    /// Where it ends: the first place beyond it.
     pub fn end(self) -> u32
         requires { SpanFits self }
         ensures { result ≡ span_end self }
@@ -38,7 +38,7 @@ impl Span {
         self.start + self.length
     }
 
-    // Whether some place is in both, for all numbers.
+    /// Whether some place is in both, for all numbers.
     pub fn overlaps(self, other: Span) -> bool
         ensures { IsTrue result ↔ SpansOverlap self other }
     {
@@ -46,7 +46,7 @@ impl Span {
         first - self.start < self.length && first - other.start < other.length
     }
 
-    // Whether one ends where the other starts.
+    /// Whether one ends where the other starts.
     pub fn touches(self, other: Span) -> bool
         requires first { SpanFits self }
         requires second { SpanFits other }
@@ -55,7 +55,7 @@ impl Span {
         (self.end() == other.start) | (other.end() == self.start)
     }
 
-    // From the lower start to the higher end.
+    /// From the lower start to the higher end.
     pub fn hull(self, other: Span) -> Span
         requires first { SpanFits self }
         requires second { SpanFits other }
@@ -67,7 +67,7 @@ impl Span {
     }
 }
 
-// The spans of a section on x, y and z.
+/// The spans of a section on x, y and z.
 pub fn spans(section: &BinSection) -> (Span, Span, Span)
     ensures { result ≡ spans_of section.now }
 {

@@ -67,7 +67,7 @@ impl WidthHeightDepth {
     }
 }
 
-// A size that may be empty.
+/// A size that may be empty.
 pub fn any_size(width: u32, height: u32, depth: u32) -> WidthHeightDepth
     ensures { result ≡ record { width = width; height = height; depth = depth } }
 {

@@ -2,7 +2,7 @@
 ghost use Rattle.rectangle_pack.specs.Closures.{AreCallable};
 
 mod answers;
-pub mod asked;
+mod asked;
 mod clones;
 mod closures;
 mod exclusions;

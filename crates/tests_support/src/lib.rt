@@ -1,8 +1,10 @@
 //! What the tests of packing, of sessions and of the program share: an allocator and names that
-//! refuse, and boxes, bins and sections by their numbers.
+//! refuse, boxes, bins and sections by their numbers, and counts of what closures are asked.
 #![tactic(auto)]
 
 pub mod boxes;
+pub mod combs;
+pub mod counts;
 pub mod each_request;
 pub mod names;
 pub mod refusing;

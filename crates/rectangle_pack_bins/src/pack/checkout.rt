@@ -21,8 +21,8 @@ use std::collections::BTreeMap;
 use std::marker::Model;
 use std::mem;
 
-// The bins of a packing. Those at the beginning of the order may be out of the map; there a bin
-// without sections stands for each meanwhile.
+/// The bins of a packing. Those at the beginning of the order may be out of the map; there a bin
+/// without sections stands for each meanwhile.
 #[derive(Drop)]
 pub struct PackingBins<'b, B: Ord, A: Allocator + Copy> {
     bins: BTreeMap<B, TargetBin<A>, A>,

@@ -32,8 +32,8 @@ use rectangle_pack_sections::rect_to_insert::RectToInsert;
 use std::alloc::{AllocError, Allocator};
 use std::collections::{BTreeMap, BTreeSet};
 
-// A packing: its bins, what it placed so far, how to undo it, and how many fit tests it made; and
-// what one trial writes.
+/// A packing: its bins, what it placed so far, how to undo it, and how many fit tests it made; and
+/// what one trial writes.
 #[derive(Drop)]
 pub struct Packing<'b, Id, B: Ord, A: Allocator + Copy> {
     pub bins: PackingBins<'b, B, A>,
@@ -44,7 +44,7 @@ pub struct Packing<'b, Id, B: Ord, A: Allocator + Copy> {
 }
 
 impl<'b, Id: Drop, B: Ord + Drop, A: Allocator + Copy> Packing<'b, Id, B, A> {
-    // A packing of these bins, before its first group. Takes no memory.
+    /// A packing of these bins, before its first group. Takes no memory.
     pub fn new(bins: BTreeMap<B, TargetBin<A>, A>, order: &'b [(u128, B)], alloc: A) -> Self
         requires found { All (λ o. IsSome (get B.cmp bins o.1)) order.now }
         requires distinct { IsDistinct (eq_by_cmp B.cmp) (map (λ o. o.1) order.now) }
@@ -63,7 +63,7 @@ impl<'b, Id: Drop, B: Ord + Drop, A: Allocator + Copy> Packing<'b, Id, B, A> {
         }
     }
 
-    // The bins as the packing has them, and what it placed. Takes no memory.
+    /// The bins as the packing has them, and what it placed. Takes no memory.
     pub fn keep(self) -> (BTreeMap<B, TargetBin<A>, A>, Vec<Placement<Id, B>, A>)
         ensures bins { result.0.entries ≡ self.entry.bins.kept }
         ensures placements { result.1 ≡ self.entry.placements }
@@ -76,8 +76,8 @@ impl<'b, Id: Drop, B: Ord + Drop, A: Allocator + Copy> Packing<'b, Id, B, A> {
         (bins.close(true), placements)
     }
 
-    // Rolls the packing back: drops what stands in slots, and undoes the trials in the bins' own
-    // lists. Takes no memory.
+    /// Rolls the packing back: drops what stands in slots, and undoes the trials in the bins' own
+    /// lists. Takes no memory.
     pub fn roll_back(self) -> BTreeMap<B, TargetBin<A>, A>
         requires { (start : List (B × Bin)) × RollsBackTo B.cmp self start }
         ensures { (start : List (B × Bin)) → RollsBackTo B.cmp self.entry start →
@@ -263,8 +263,8 @@ where
     Ok(true)
 }
 
-// Packs all groups, in which there are so many entries; whether each was placed. However it ends,
-// the packing can be kept, or rolled back to what it could be rolled back to before.
+/// Packs all groups, in which there are so many entries; whether each was placed. However it ends,
+/// the packing can be kept, or rolled back to what it could be rolled back to before.
 pub fn pack_noted<Id, BinId, GroupId, R, A>(
     packing: &mut Packing<'_, Id, BinId, A>,
     rects_to_place: &GroupedRectsToPlace<Id, GroupId, A>,

@@ -12,8 +12,8 @@ use std::alloc::Allocator;
 use std::collections::BTreeMap;
 use std::mem;
 
-// A trial that was done in the bin of this id, and how to undo it. `id` points into the order of
-// the bins.
+/// A trial that was done in the bin of this id, and how to undo it. `id` points into the order of
+/// the bins.
 #[derive(Drop)]
 pub struct DoneTrial<'b, B, A: Allocator> {
     pub id: &'b B,

@@ -57,7 +57,7 @@ where
     Ok(())
 }
 
-// All bins, by rising rate of their whole sizes and then by id.
+/// All bins, by rising rate of their whole sizes and then by id.
 pub fn bin_order<B, R, A>(
     alloc: A,
     bins: &BTreeMap<B, TargetBin<A>, A>,

@@ -14,7 +14,7 @@ use std::alloc::{AllocError, Allocator};
 use std::collections::BTreeMap;
 use std::marker::Model;
 
-// A set of unordered pairs: at each key those are listed that it is paired with.
+/// A set of unordered pairs: at each key those are listed that it is paired with.
 #[derive(Drop)]
 #[derive_where(Debug; K)]
 pub struct Exclusions<K: Ord, A: Allocator + Copy> {
@@ -38,7 +38,7 @@ impl<K: Ord, A: Allocator + Copy> Model for Exclusions<K, A> {
 }
 
 impl<K: Ord, A: Allocator + Copy> Exclusions<K, A> {
-    // The keys that are paired with this one.
+    /// The keys that are paired with this one.
     pub fn partners(&self, key: &K) -> &[K]
         ensures listed { result.now ≡ listed_at K.cmp self.now key.now }
         ensures mutual { AreMutual K.cmp self.now }

@@ -52,7 +52,7 @@ fn ensure_keys<K: Ord + Clone + Drop, T: Drop, A: Allocator + Copy>(
     Ok(())
 }
 
-// The map. For the proof alone: its length is asked for, which says that its keys ascend.
+/// The map. For the proof alone: its length is asked for, which says that its keys ascend.
 pub fn ascending<K: Ord, X, A: Allocator>(map: &BTreeMap<K, X, A>) -> &BTreeMap<K, X, A>
     ensures same { result.now ≡ map.now }
     ensures ascend { IsStrictlySortedBy K.cmp (keys_of map.now.entries) }
@@ -61,7 +61,7 @@ pub fn ascending<K: Ord, X, A: Allocator>(map: &BTreeMap<K, X, A>) -> &BTreeMap<
     map
 }
 
-// The number after those of all items, if there is one.
+/// The number after those of all items, if there is one.
 pub fn number_after<K: Ord, X, A: Allocator>(
     first: u64,
     lists: &BTreeMap<K, Vec<X, A>, A>,

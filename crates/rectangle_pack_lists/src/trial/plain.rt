@@ -37,7 +37,7 @@ fn newest(sections: &[BinSection], member: &RectToInsert) -> Option<usize>
     None
 }
 
-// Whether no section holds the first member, so that no step comes.
+/// Whether no section holds the first member, so that no step comes.
 pub fn is_stuck_at_once(sections: &[BinSection], members: &[RectToInsert]) -> bool
     ensures { OnTrue result (IsStuckAtOnce sections.now members.now) }
 {
@@ -58,7 +58,7 @@ fn push_piece<A: Allocator>(sections: &mut Vec<BinSection, A>, piece: BinSection
     }
 }
 
-// Pushes the pieces that have cells, in order, where there is room for all.
+/// Pushes the pieces that have cells, in order, where there is room for all.
 pub fn push_pieces<A: Allocator>(sections: &mut Vec<BinSection, A>, pieces: [BinSection; 3])
     requires { vec_len sections.old + 3 ≤ vec_capacity sections.old }
     ensures items { sections.new.items ≡ sections.old.items ++ filter has_cells pieces }

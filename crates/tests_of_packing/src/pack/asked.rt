@@ -8,16 +8,9 @@ use std::alloc::Global;
 use std::cell::Cell;
 use std::cmp::Ordering;
 use std::process::Abort;
+use tests_support::counts::{Counts, add};
 use tests_support::each_request::End;
 use tests_support::refusing::Refusing;
-
-/// How often the heuristic and the comparison were asked.
-pub type Counts = (u64, u64);
-
-/// Adds to a count of what was asked.
-pub fn add(count: &Cell<u64>, more: u64) {
-    count.set(count.get().wrapping_add(more));
-}
 
 // Group 0 goes first, and its first box fits into neither bin.
 const TOO_LARGE: Case = Case {

@@ -1,8 +1,5 @@
 //! Packings into lists of more than a thousand free sections, which stand in slots.
 
-use crate::target_bin::long_lists::{
-    BOXES, TESTS, WIDE_BOXES, box_of, comb, free_at, has_left, index_of,
-};
 use rectangle_pack::{
     FitTests, RectToInsert, RectanglePackError, contains_smallest_box, pack_rects_counted,
     volume_heuristic,
@@ -11,6 +8,7 @@ use std::alloc::{AllocError, Global};
 use std::process::Abort;
 use std::test::Fail;
 use tests_support::boxes::{Bins, Rects};
+use tests_support::combs::{BOXES, TESTS, WIDE_BOXES, box_of, comb, free_at, has_left, index_of};
 use tests_support::each_request::{End, is_refused};
 use tests_support::refusing::Refusing;
 

@@ -1,0 +1,10 @@
+--- The exit status of each end.
+use Rattle.std.specs.Prelude.{ℕ}
+use Rattle.packrun_lines.specs.declared.outcome.Outcome.{Outcome}
+use Rattle.packrun_lines.specs.declared.outcome.Outcome.TheVariants.{Done, BadLine, NoMemory, IoFailed}
+
+abbrev pub status_of : Outcome → ℕ
+status_of Done = 0
+status_of (BadLine _) = 2
+status_of NoMemory = 3
+status_of IoFailed = 1

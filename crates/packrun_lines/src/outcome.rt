@@ -1,0 +1,31 @@
+//! The ends of a run and their exit statuses.
+ghost use Rattle.std.specs.Prelude.{◌≡◌};
+ghost use Rattle.packrun_lines.specs.Statuses.{status_of};
+
+/// How a run ends.
+#[derive(Clone, Copy, Debug, PartialEq, Eq, Drop)]
+pub enum Outcome {
+    /// The input was read to its end.
+    Done,
+    /// The line with this number, counted from 1, is bad. It was not done, and neither was any line
+    /// after it.
+    BadLine(u64),
+    /// Memory was refused. What earlier lines printed stands.
+    NoMemory,
+    /// A read or a write failed, or the input is longer than 2^64 - 1 bytes.
+    IoFailed,
+}
+
+impl Outcome {
+    /// The exit status.
+    pub fn status(&self) -> u8
+        ensures { result ≡ status_of self.now }
+    {
+        match self {
+            Outcome::Done => 0,
+            Outcome::BadLine(_) => 2,
+            Outcome::NoMemory => 3,
+            Outcome::IoFailed => 1,
+        }
+    }
+}

@@ -1,0 +1,157 @@
+//! What a run prints.
+ghost use Rattle.std.specs.Prelude.{[], ◌∷◌, ◌++◌, IsOk, OnOk};
+ghost use Rattle.std.specs.Fmt.{decimal};
+ghost use Rattle.std.specs.Io.KnownBytes.{Appends};
+ghost use Rattle.packrun_lines.specs.Lines.{box_text, cuboid_text, placement_text};
+
+use crate::digits::{LONGEST_NUMBER, LONGEST_THREE, put_number, put_three};
+use crate::stop::Stop;
+use crate::word::Word;
+use rectangle_pack::{BinSection, BinStats, Outstanding, Packed, RectanglePackError, SessionError};
+use std::alloc::Allocator;
+use std::fmt::Display;
+use std::io;
+use std::io::Write;
+
+// What a write answers, as a run ends by it.
+fn printed(answer: io::Result<()>) -> Result<(), Stop>
+    ensures { OnOk result (IsOk answer) }
+{
+    Ok(answer?)
+}
+
+// Prints the placements of the last packing, which are the last ones, and how many they are.
+pub fn print_packed<A: Allocator, W: Write>(
+    placements: &[Outstanding<Word<A>, Word<A>>],
+    packed: Packed,
+    out: &mut W,
+) -> Result<(), Stop> {
+    let Packed { first, count } = packed;
+    let start = placements.partition_point(|placement| placement.number < first);
+    for placement in &placements[start..] {
+        print_placement(placement, out)?;
+    }
+    printed(writeln!(out, "packed {count}"))
+}
+
+// Prints number, names and box of the placement.
+fn print_placement<A: Allocator, W: Write>(
+    placement: &Outstanding<Word<A>, Word<A>>,
+    out: &mut W,
+) -> Result<(), Stop>
+    ensures { OnOk result (Appends (W.contents out.old) (W.contents out.new)
+        (placement_text placement.now)) }
+{
+    let Outstanding {
+        number,
+        id,
+        bin,
+        location,
+    } = placement;
+    print_number(*number, out)?;
+    print_word(id, out)?;
+    print_word(bin, out)?;
+    print_box(
+        [location.x(), location.y(), location.z()],
+        [location.width(), location.height(), location.depth()],
+        out,
+    )
+}
+
+// Prints the number and the space behind it.
+fn print_number<W: Write>(number: u64, out: &mut W) -> Result<(), Stop>
+    ensures { OnOk result
+        (Appends (W.contents out.old) (W.contents out.new) (decimal number ++ 32 ∷ [])) }
+{
+    let mut line = [0; LONGEST_NUMBER];
+    let start = put_number(number, b' ', &mut line, LONGEST_NUMBER);
+    printed(out.write_all(&line[start..]))
+}
+
+// Prints the word and the space behind it.
+fn print_word<A: Allocator, W: Write>(word: &Word<A>, out: &mut W) -> Result<(), Stop>
+    ensures { OnOk result
+        (Appends (W.contents out.old) (W.contents out.new) (word.now ++ 32 ∷ [])) }
+{
+    printed(out.write_all(word.as_bytes()))?;
+    printed(out.write_all(b" "))
+}
+
+// Prints the free sections, a line each, and how many there are.
+pub fn print_list<W: Write>(sections: &[BinSection], out: &mut W) -> Result<(), Stop> {
+    for section in sections {
+        print_section(section, out)?;
+    }
+    let count = sections.len();
+    printed(writeln!(out, "sections {count}"))
+}
+
+fn print_section<W: Write>(section: &BinSection, out: &mut W) -> Result<(), Stop>
+    ensures { OnOk result (Appends (W.contents out.old) (W.contents out.new)
+        (cuboid_text section.now)) }
+{
+    let whd = section.whd();
+    print_box(
+        [section.x(), section.y(), section.z()],
+        [whd.width(), whd.height(), whd.depth()],
+        out,
+    )
+}
+
+// Prints the least corner of a box and its sides, to the end of the line.
+fn print_box<W: Write>(corner: [u32; 3], sides: [u32; 3], out: &mut W) -> Result<(), Stop>
+    ensures { OnOk result
+        (Appends (W.contents out.old) (W.contents out.new) (box_text corner sides)) }
+{
+    let mut line = [0; 2 * LONGEST_THREE];
+    let middle = put_three(sides, b'\n', &mut line, 2 * LONGEST_THREE);
+    let start = put_three(corner, b' ', &mut line, middle);
+    printed(out.write_all(&line[start..]))
+}
+
+pub fn print_sums<W: Write>(stats: BinStats, out: &mut W) -> Result<(), Stop> {
+    let BinStats {
+        bin_volume,
+        free_volume,
+        placed_volume,
+        free_sections,
+        placements,
+    } = stats;
+    printed(writeln!(
+        out,
+        "free {free_volume} in {free_sections}, placed {placed_volume} in {placements}, \
+         bin {bin_volume}"
+    ))
+}
+
+// Prints `ok`, or why the session refused.
+pub fn report<W: Write, T: Display + Drop>(
+    answer: Result<(), SessionError>,
+    named: T,
+    out: &mut W,
+) -> Result<(), Stop> {
+    match answer {
+        Ok(()) => printed(out.write_all(b"ok\n")),
+        Err(error) => refuse(error, named, out),
+    }
+}
+
+// Prints why the session refused; `named` is the bin, or the number, of which the line speaks.
+// Refused memory ends the run.
+pub fn refuse<W: Write, T: Display + Drop>(
+    error: SessionError,
+    named: T,
+    out: &mut W,
+) -> Result<(), Stop> {
+    printed(match error {
+        SessionError::DuplicateBin => writeln!(out, "refused: bin {named} exists"),
+        SessionError::UnknownBin => writeln!(out, "refused: bin {named} is unknown"),
+        SessionError::UnknownPlacement => writeln!(out, "refused: placement {named} is unknown"),
+        SessionError::NumbersUsedUp => writeln!(out, "refused: numbers are used up"),
+        SessionError::NotEnoughBinSpace => {
+            let text = RectanglePackError::NotEnoughBinSpace;
+            writeln!(out, "refused: {text}")
+        }
+        SessionError::OutOfMemory => return Err(Stop::NoMemory),
+    })
+}

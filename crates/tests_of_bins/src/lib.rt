@@ -1,0 +1,16 @@
+//! The tests of the library's calls on sizes, sections and bins: a test stands in the module that is
+//! named as that of its call.
+#![tactic(auto)]
+
+#[cfg(test)]
+mod bin_section;
+#[cfg(test)]
+mod box_size_heuristics;
+#[cfg(test)]
+mod packed_location;
+#[cfg(test)]
+mod rect_to_insert;
+#[cfg(test)]
+mod target_bin;
+#[cfg(test)]
+mod width_height_depth;

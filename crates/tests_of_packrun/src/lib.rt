@@ -1,0 +1,15 @@
+//! Whole runs over memory, by the module that each shows: how lines are read (`command`), what the
+//! commands do (`store`), statuses (`outcome`), and runs in which reads, writes and requests for
+//! memory fail, or whose lines are drawn by chance (`run`).
+#![tactic(auto)]
+
+#[cfg(test)]
+mod command;
+#[cfg(test)]
+mod outcome;
+#[cfg(test)]
+mod run;
+#[cfg(test)]
+mod store;
+#[cfg(test)]
+mod support;

@@ -1,0 +1,197 @@
+//! Runs of lines that are drawn by chance, from a fixed seed, and what they print, counted.
+
+use super::counting::is_right;
+use packrun_lines::outcome::Outcome;
+use packrun_lines::run::run_lines;
+use std::alloc::{AllocError, Global};
+use std::process::Abort;
+use std::str;
+
+// In a line `@` is a name from 1 to 3, `#` a digit, `!` the side of a bin, `%` that of a box, and
+// `*` the number of the round.
+//
+// Each round adds two bins 6x6x6 and packs at most three entries of sides up to 2, so no packing is
+// refused. A box of sides up to 2 leaves of the section that it is put into a piece that is as
+// large on two axes, and smaller by at most 2 on the third; so a new bin takes three such boxes in
+// a row. The pairs keep group 2 apart from the groups 1 and 3, and no other groups. These two go
+// into the first bin that takes them, so of the new bins they need one, and the other is left for
+// group 2.
+const CUBES: &str = "bin 1* 6 6 6\nbin 2* 6 6 6\n";
+
+// At most two entries.
+const TWO: [&str; 8] = [
+    "rect # % % %",
+    "rect # % % 1",
+    "rect # % 1 1",
+    "rect # 0 % 1",
+    "rect # % % % @",
+    "rect # % % 1 @ @",
+    "rect # 1 % % @ @",
+    "rect # % % % @ @",
+];
+
+// At most one.
+const ONE: [&str; 6] = [
+    "rect # % % %",
+    "rect # 1 % %",
+    "rect # % % % @",
+    "rect # % % 1 @",
+    "rect # % 1 1 @",
+    "",
+];
+
+const PAIRS: [&str; 5] = ["exclude 1 2", "exclude 2 3", "exclude 3 2", "", ""];
+
+const LINES: [&str; 21] = [
+    "bin @ ! ! !",
+    "bin @ ! ! 1",
+    "pack",
+    "release #",
+    "release #",
+    "release #",
+    "release 1#",
+    "release 1#",
+    "release 2#",
+    "coalesce @ 0 0 9",
+    "coalesce 1@ 0 0 9",
+    "coalesce 2@ # # #",
+    "coalesce @ # # #",
+    "sweep @",
+    "sweep 1@",
+    "sections @",
+    "sections @",
+    "sections 1@",
+    "sections 2@",
+    "",
+    " \t\r",
+];
+
+// Nothing after a bad line is done.
+const ENDS: [&str; 8] = [
+    "",
+    "bin @ ! !\nsections 1",
+    "bin 1 4294967296 1 1\npack",
+    "rect # % % -1 @\npack",
+    "exclude @",
+    "release +#\nrelease #",
+    "coalesce @ # #\nsweep @",
+    "\u{7f}\nsections @",
+];
+
+const FIRST: &str = "bin 1 ! ! !\nbin 2 ! ! 1\n";
+
+const LAST: &str = "\nbin 3 ! ! !\nsections 1\nsections 2\nsections 3\nsections 10\nsections 26\n";
+
+const ROUNDS: u8 = 7;
+
+// How many lines a round has.
+const ROUND: usize = 2 + 2 + 2 + 1 + 5;
+
+// The line after `LAST`.
+const END: usize = 2 + ROUNDS as usize * ROUND + 7 + 1;
+
+// A number by chance.
+fn draw(state: &mut u64) -> u8 {
+    *state = state
+        .wrapping_mul(6364136223846793005)
+        .wrapping_add(1442695040888963407);
+    (*state >> 56) as u8
+}
+
+fn byte_for(at: u8, drawn: u8) -> u8 {
+    match at {
+        b'@' => b'1' + drawn % 3,
+        b'#' => b'0' + drawn % 10,
+        b'!' => b'3' + drawn % 4,
+        b'%' => b'1' + drawn % 2,
+        other => other,
+    }
+}
+
+fn write_text(input: &mut Vec<u8>, state: &mut u64, text: &str) -> Result<(), AllocError> {
+    for at in text.bytes() {
+        input.push(byte_for(at, draw(state)))?;
+    }
+    Ok(())
+}
+
+// The two new bins of a round.
+fn write_cubes(input: &mut Vec<u8>, round: u8) -> Result<(), AllocError> {
+    for at in CUBES.bytes() {
+        input.push(if at == b'*' { b'0' + round % 10 } else { at })?;
+    }
+    Ok(())
+}
+
+fn write_one(input: &mut Vec<u8>, state: &mut u64, texts: &[&str]) -> Result<(), AllocError> {
+    let at = usize::from(draw(state)) % texts.len().max(1);
+    write_text(input, state, texts.get(at).copied().unwrap_or(""))?;
+    write_text(input, state, "\n")
+}
+
+// New bins, what is packed, and five lines after it.
+fn write_round(input: &mut Vec<u8>, state: &mut u64, round: u8) -> Result<(), AllocError> {
+    write_cubes(input, round)?;
+    write_one(input, state, &TWO)?;
+    write_one(input, state, &ONE)?;
+    write_one(input, state, &PAIRS)?;
+    write_one(input, state, &PAIRS)?;
+    write_text(input, state, "pack\n")?;
+    for _ in 0..5 {
+        write_one(input, state, &LINES)?;
+    }
+    Ok(())
+}
+
+fn write_rounds(input: &mut Vec<u8>, state: &mut u64) -> Result<(), AllocError> {
+    for round in 0..ROUNDS {
+        write_round(input, state, round)?;
+    }
+    Ok(())
+}
+
+fn write_lines(input: &mut Vec<u8>, state: &mut u64) -> Result<(), AllocError> {
+    write_text(input, state, FIRST)?;
+    write_rounds(input, state)?;
+    write_text(input, state, LAST)?;
+    write_one(input, state, &ENDS)
+}
+
+// How lines end that end so.
+fn end_of(input: &[u8]) -> Outcome {
+    if input.ends_with(b"\n\n") {
+        Outcome::Done
+    } else {
+        Outcome::BadLine(END as u64)
+    }
+}
+
+// Whether these lines end as they should, and print what may be.
+fn runs_right(alloc: Global, input: &[u8]) -> Result<bool, AllocError> {
+    let mut output = Vec::new(alloc);
+    let outcome = run_lines(alloc, &mut &*input, &mut output);
+    let text = str::from_utf8(input).unwrap_or("");
+    let printed = str::from_utf8(output.as_slice()).unwrap_or("");
+    Ok(outcome == end_of(input) && is_right(alloc, text, END, printed)?)
+}
+
+// The next lines run right.
+fn run_drawn(rt: &impl Abort, alloc: Global, state: &mut u64, input: &mut Vec<u8>) {
+    input.clear();
+    write_lines(input, state).expect(rt, "no memory");
+    let is_right = runs_right(alloc, input.as_slice()).expect(rt, "no memory");
+    assert!(rt;
+        is_right,
+        "{}",
+        str::from_utf8(input.as_slice()).unwrap_or("")
+    );
+}
+
+#[test]
+fn drawn_runs(rt: HostRuntime) {
+    let mut state = 20240607u64;
+    let mut input = Vec::new(rt.alloc());
+    for _ in 0..300 {
+        run_drawn(&rt, rt.alloc(), &mut state, &mut input);
+    }
+}

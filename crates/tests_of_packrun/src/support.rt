@@ -1,0 +1,111 @@
+//! Readers and writers that fail, and runs over memory.
+
+use packrun_lines::outcome::Outcome;
+use packrun_lines::run::run_lines;
+use std::alloc::Global;
+use std::io;
+use std::io::{Cursor, Read, Write};
+use std::process::Abort;
+
+// Gives its bytes in pieces, and fails once so many reads were good.
+#[derive(Drop)]
+pub(crate) struct Pieces<'a> {
+    pub bytes: &'a [u8],
+    pub piece: usize,
+    pub good_reads: u64,
+}
+
+impl Read for Pieces<'_> {
+    fn read(&mut self, buf: &mut [u8]) -> io::Result<usize> {
+        if self.good_reads == 0 {
+            return Err(io::Error::from(io::ErrorKind::Other));
+        }
+        self.good_reads -= 1;
+        let most = self.piece.min(buf.len());
+        self.bytes.read(&mut buf[..most])
+    }
+}
+
+// Keeps what is written, in pieces, and fails once so many writes were good.
+#[derive(Drop)]
+pub(crate) struct Kept {
+    bytes: Cursor<[u8; 512]>,
+    piece: usize,
+    good_writes: u64,
+}
+
+impl Kept {
+    pub(crate) fn new(piece: usize, good_writes: u64) -> Kept {
+        Kept {
+            bytes: Cursor::new([0; 512]),
+            piece,
+            good_writes,
+        }
+    }
+
+    pub(crate) fn written(&self) -> &[u8] {
+        let all = self.bytes.get_ref();
+        let count = (self.bytes.position() as usize).min(all.len());
+        &all[..count]
+    }
+}
+
+impl Write for Kept {
+    fn write(&mut self, buf: &[u8]) -> io::Result<usize> {
+        if self.good_writes == 0 {
+            return Err(io::Error::from(io::ErrorKind::Other));
+        }
+        self.good_writes -= 1;
+        let most = self.piece.min(buf.len());
+        self.bytes.write(&buf[..most])
+    }
+
+    fn flush(&mut self) -> io::Result<()> {
+        Ok(())
+    }
+}
+
+// What a run reads, what it prints, and how it ends.
+pub(crate) type Text = (&'static str, &'static str, Outcome);
+
+// A run ended so, and this is what it wrote.
+pub(crate) fn ended_so(
+    rt: &impl Abort,
+    ended: Outcome,
+    written: &[u8],
+    (output, outcome): (&str, Outcome),
+) {
+    assert_eq!(rt; ended, outcome, "{output}");
+    assert_eq!(rt; written, output.as_bytes(), "{output}");
+}
+
+// The input, read in pieces of so many bytes, prints this and ends so.
+pub(crate) fn prints(
+    rt: &impl Abort,
+    alloc: Global,
+    (bytes, piece): (&[u8], usize),
+    output: &str,
+    outcome: Outcome,
+) {
+    let mut reader = Pieces {
+        bytes,
+        piece,
+        good_reads: u64::MAX,
+    };
+    let mut written = Vec::new(alloc);
+    let ended = run_lines(alloc, &mut reader, &mut written);
+    ended_so(rt, ended, written.as_slice(), (output, outcome));
+}
+
+// The input, whole and in pieces, prints this and ends so.
+pub(crate) fn says(rt: &impl Abort, alloc: Global, input: &[u8], output: &str, outcome: Outcome) {
+    for piece in [usize::MAX, 1, 2, 3, 7] {
+        prints(rt, alloc, (input, piece), output, outcome);
+    }
+}
+
+pub(crate) fn all_say(rt: &impl Abort, alloc: Global, texts: &[Text]) {
+    for (input, output, outcome) in texts {
+        says(rt, alloc, input.as_bytes(), output, *outcome);
+    }
+}
