@@ -1,11 +1,12 @@
 #!/usr/bin/env python3
-"""The pages of the library's calls: docs/API.md, which this writes, and docs/PROVED.md, which it checks.
+"""The pages of the library's calls: docs/API.md, which this writes, and docs/PROVED.md, which it checks. The library is the
+crate rectangle_pack, and the layers that it stands on, whose items it passes on.
 
 api.py: writes docs/API.md: every public item of the library by public module, with its signature, its doc comment, and the
     names of its clauses, each a link into docs/PROVED.md.
 api.py --check: fails where docs/API.md is not what `api.py` writes; where docs/PROVED.md has no row of a public call, of a
     clause or of a law, of the library or of the library for C; where it names a call, a clause or a wrong body that is not
-    there; where its table of the program's private functions names one that is not there, or leaves out a wrong body of the
+    there; where its table of the program's functions names one that is not there, or leaves out a wrong body of the
     program. One line for each fault.
 
 Whether a claim of docs/PROVED.md says what its clause says, it cannot tell. This reads the sources, and starts nothing."""
@@ -15,13 +16,14 @@ import sys
 from collections import namedtuple
 
 TOP = pathlib.Path(__file__).resolve().parent.parent
-LIBRARY = TOP / "crates/rectangle_pack/src"
-FOR_C = TOP / "crates/rectangle_pack_c/src"
-PROGRAM = TOP / "crates/packrun"
+CRATES = TOP / "crates"
+FOR_C = CRATES / "rectangle_pack_c/src"
+PROGRAM = CRATES / "packrun_lines"
 PAGE = TOP / "docs/API.md"
 PROVED = TOP / "docs/PROVED.md"
 ROOT = "rectangle_pack"
 C_HEADING = "rectangle_pack_c"
+PROGRAM_HEADING = "packrun"
 
 # What a scan passes over at once: a comment, a text, a character.
 PASSED = re.compile(r"""//[^\n]*|/\*.*?\*/|"(?:\\.|[^"\\])*"|'(?:\\[^']+|[^'\\])'""", re.S)
@@ -146,19 +148,30 @@ def paths_of(tree):
     return found
 
 
-class Module:
-    """A module: its file's items, and the modules inside it."""
+def layers():
+    """The library's crates, by crates.txt: the root, and those that it stands on."""
+    found = re.search(rf"(?m)^{ROOT}:(.*)$", (TOP / "crates.txt").read_text())
+    return [ROOT, *found[1].split()]
 
-    def __init__(self, name, path, folder, public, parent):
+
+class Module:
+    """A module: its items, which stand in a file of its own or in the file of the module around it, and the modules inside it."""
+
+    # The roots of the library's crates.
+    roots = {}
+
+    def __init__(self, name, path, folder, public, parent, item=None):
         self.name, self.path, self.public, self.parent = name, path, public, parent
-        text = path.read_text()
-        self.docs = [line[3:].removeprefix(" ") for line in text.splitlines() if line.startswith("//!")]
+        text = path.read_text() if item is None else item.body
+        inner = [line[3:].removeprefix(" ") for line in text.splitlines() if line.startswith("//!")]
+        self.docs = inner if item is None else item.docs
         self.items = list(items_of(text))
         self.inside = {}
-        for item in self.items:
-            if item.kind == "mod" and item.body is None:
-                file = folder / f"{item.name}.rt"
-                self.inside[item.name] = Module(item.name, file, folder / item.name, item.public and public, self)
+        for it in self.items:
+            if it.kind == "mod":
+                file = folder / f"{it.name}.rt" if it.body is None else path
+                here = None if it.body is None else it
+                self.inside[it.name] = Module(it.name, file, folder / it.name, it.public and public, self, here)
 
     def all(self):
         """This module and all inside it, in their order."""
@@ -174,6 +187,8 @@ class Module:
             while first == "crate" and module.parent:
                 module = module.parent
             return module.resolve(rest) if rest else (module, None)
+        if rest and first in self.roots:
+            return self.roots[first].resolve(rest)
         if rest:
             return self.inside[first].resolve(rest) if first in self.inside else None
         for item in self.items:
@@ -198,7 +213,7 @@ class Module:
             there = self.resolve(path)
             if there and there[1]:
                 found.append(there)
-            elif not there and (path[0] in self.inside or path[0] in ("crate", "self", "super")):
+            elif not there and (path[0] in self.inside or path[0] in self.roots or path[0] in ("crate", "self", "super")):
                 sys.exit(f"api.py: {self.path.relative_to(TOP)}: cannot follow `pub use {'::'.join(path)}`")
         return found
 
@@ -235,8 +250,13 @@ class Library:
     """The public items, each under the public module where it stands, and the impls of their types."""
 
     def __init__(self):
-        self.root = Module(ROOT, LIBRARY / "lib.rt", LIBRARY, True, None)
-        self.modules = [module for module in self.root.all() if module.public]
+        for name in layers():
+            folder = CRATES / name / "src"
+            Module.roots[name] = Module(name, folder / "lib.rt", folder, True, None)
+        self.root = Module.roots[ROOT]
+        self.of_layers = [module for root in Module.roots.values() for module in root.all()]
+        public = [module for module in self.root.all() if module.public]
+        self.modules = [self.root, *sorted((it for it in public if it is not self.root), key=lambda it: it.name)]
         self.stands, self.homes = {module.name: [] for module in self.modules}, {}
         by_name = {}
         # The root comes last, since it exports what stands elsewhere too.
@@ -247,10 +267,14 @@ class Library:
                 if item.name not in self.homes:
                     self.homes[item.name] = module.name
                     self.stands[module.name].append((origin, item))
+        # What stands lower comes first.
+        order = re.findall(r"(?m)^(\w+)(?: staticlib)?:", (TOP / "crates.txt").read_text())
+        for found in self.stands.values():
+            found.sort(key=lambda it: (order.index(it[0].path.relative_to(CRATES).parts[0]), str(it[0].path)))
         self.again = [item.name for _, item in self.root.offers() if self.homes[item.name] != ROOT]
         self.methods, self.impls = {}, {}
-        own = {item.name for m in self.root.all() for item in m.items if item.kind == "trait" and item.name not in self.homes}
-        for module in self.root.all():
+        own = {item.name for m in self.of_layers for item in m.items if item.kind == "trait" and item.name not in self.homes}
+        for module in self.of_layers:
             for item in module.items:
                 if item.kind == "impl":
                     self.read_impl(item, own)
@@ -273,8 +297,8 @@ class Library:
         return origin.path.name == "laws.rt"
 
     def hidden_laws(self):
-        """The functions of `laws.rt` files that no public module exports."""
-        laws = [(module, item) for module in self.root.all() if self.is_law(module) for item in module.items]
+        """The functions of `laws.rt` files that no public module of the root exports."""
+        laws = [(module, item) for module in self.of_layers if self.is_law(module) for item in module.items]
         return [(module, item.name) for module, item in laws if item.kind == "fn" and item.name not in self.homes]
 
     def calls(self):
@@ -467,8 +491,8 @@ class Page:
             "",
             "`tools/api.py` makes this page; `.ci/run` fails where it is not what that writes.",
             "",
-            "Each item stands under the public module that has it, or under the root, `rectangle_pack`, where a private module "
-            "has it. A signature is shown without its clauses. `Requires` names the clauses that the caller sees to, `Ensures` "
+            "Each item stands under the public module that has it, or under the root, `rectangle_pack`, where no other module of "
+            "it does. A signature is shown without its clauses. `Requires` names the clauses that the caller sees to, `Ensures` "
             "those that the call keeps; each is a link to its claim in plain words, in [PROVED.md](PROVED.md). A clause without "
             "a name is `requires` or `ensures`. The text of a clause stands in the source, and `tools/audit.py` shows what it "
             "rests on. A law is a function that does nothing: its contract states it.",
@@ -514,7 +538,7 @@ def listed(part):
 def known_words():
     """Every word of the sources and of the definitions."""
     found = set()
-    for crate in (LIBRARY.parent, FOR_C.parent):
+    for crate in (*(CRATES / name for name in layers()), FOR_C.parent):
         for path in [*(crate / "src").rglob("*.rt"), *(crate / "specs").rglob("*.antt")]:
             found.update(re.findall(r"\w+", path.read_text()))
     return found
@@ -559,7 +583,7 @@ def faults_of_private(proved):
     edits = {path.stem for path in PROGRAM.glob("must-fail/*.edit")}
     text = "\n".join(path.read_text() for path in sorted((PROGRAM / "src").rglob("*.rt")))
     for line, section, name, named in proved.private:
-        if section != PROGRAM.name or not re.search(rf"\bfn {name}\b", text):
+        if section != PROGRAM_HEADING or not re.search(rf"\bfn {name}\b", text):
             yield f"{where}:{line}: `{section}` has no function `{name}`"
         for edit in set(named) - edits:
             yield f"{where}:{line}: there is no wrong body `{edit}` of the program"

@@ -16,9 +16,9 @@ import re
 import sys
 
 TOP = pathlib.Path(__file__).resolve().parent.parent
-CRATE = TOP / "crates/rectangle_pack"
+CRATES = TOP / "crates"
+ROOT = "rectangle_pack"
 PAGE = TOP / "docs/HEADLINE.md"
-LIBRARY = "Rattle.rectangle_pack.specs."
 
 HEADLINE = (
     "After any commands, whatever closures answer and wherever memory is refused, each bin cell lies in exactly one free "
@@ -79,6 +79,9 @@ REST = (
 )
 
 
+# The library's crates, by crates.txt: the root, and those that it stands on.
+LAYERS = [ROOT, *re.search(rf"(?m)^{ROOT}:(.*)$", (TOP / "crates.txt").read_text())[1].split()]
+
 # How a type is seen: what its values are, and what each is shown as.
 SEEN = re.compile(r"(?ms)^    ghost (?:Value|view) = .*?(?=\n\n|\n\})")
 
@@ -115,9 +118,19 @@ def imports(text):
     return found
 
 
+def module_of(path):
+    """The module that a file of a crate's specs/ is, as `rectangle_pack.specs.Session`."""
+    return ".".join(path.relative_to(CRATES).with_suffix("").parts)
+
+
+def files_of(folder, ending):
+    """The library's files below this folder of each of its crates."""
+    return [path for crate in LAYERS for path in sorted((CRATES / crate / folder).rglob(f"*{ending}"))]
+
+
 def definitions_of(path):
     """The definitions of one file of specs/."""
-    module = ".".join(path.relative_to(CRATE / "specs").with_suffix("").parts)
+    module = module_of(path)
     heads, comment, found, last = [], [], [], None
     for number, line in enumerate(path.read_text().splitlines(), 1):
         indent = len(line) - len(line.lstrip())
@@ -143,14 +156,13 @@ def definitions_of(path):
 def read_specs():
     """Every definition by its module and name, and what each module brings in."""
     known, brought = {}, {}
-    for path in sorted((CRATE / "specs").rglob("*.antt")):
+    for path in files_of("specs", ".antt"):
         for definition in definitions_of(path):
             known[definition.path, definition.name] = definition
             for case in re.findall(r"(?m)^\s+(\w+) : ", "\n".join(definition.lines[1:])):
                 if re.match(r"\s*pub data ", definition.lines[0]):
                     known[definition.path, case] = definition
-        module = ".".join(path.relative_to(CRATE / "specs").with_suffix("").parts)
-        brought[module] = imports(path.read_text())
+        brought[module_of(path)] = imports(path.read_text())
     return known, brought
 
 
@@ -173,11 +185,12 @@ class Specs:
                 found.append(self.known[module, word])
             elif word in names:
                 path, there = names[word]
-                inside = path.removeprefix(LIBRARY)
-                if path.startswith(LIBRARY) and (inside, there) in self.known:
+                inside = path.removeprefix("Rattle.")
+                crate, _, rest = inside.partition(".specs.")
+                if (inside, there) in self.known:
                     found.append(self.known[inside, there])
-                elif path.startswith(LIBRARY + "declared."):
-                    found.append(("type", inside.split(".TheVariants")[0].split(".")[-1]))
+                elif crate in LAYERS and rest.startswith("declared."):
+                    found.append(("type", rest.split(".TheVariants")[0].split(".")[-1]))
                 else:
                     found.append(("std", there))
         return found
@@ -260,9 +273,9 @@ def calls_of(path):
 class Library:
     def __init__(self):
         self.calls, self.models, self.types, self.names = {}, {}, {}, {}
-        files = sorted((CRATE / "src").rglob("*.rt"))
-        exported = set(re.findall(r"\w+", " ".join(re.findall(r"pub use [^;]*;", (CRATE / "src/lib.rt").read_text()))))
-        for path in files:
+        root = (CRATES / ROOT / "src/lib.rt").read_text()
+        exported = set(re.findall(r"\w+", " ".join(re.findall(r"pub use [^;]*;", root))))
+        for path in files_of("src", ".rt"):
             text = path.read_text()
             self.names[path] = imports(text)
             for found in re.finditer(r"(?ms)^pub(?:\([^)]*\))? (?:struct|enum) (\w+).*?(?:^\}|;$)", text):
@@ -307,7 +320,7 @@ def place(path, line):
 
 
 def print_definition(definition):
-    path = CRATE / "specs" / (definition.path.replace(".", "/") + ".antt")
+    path = CRATES / (definition.path.replace(".", "/") + ".antt")
     print(f"`{definition.name}`, {place(path, definition.line)}: {' '.join(definition.comment)}\n")
     print("```\n" + "\n".join(definition.code()) + "\n```\n")
 

@@ -1,7 +1,7 @@
 #!/usr/bin/env python3
 """definitions.py --check: whether docs/DEFINITIONS.md has the definitions that there are.
 
-Fails where a definition of crates/rectangle_pack/specs/*.antt is not named on the page, and where the page names one that
+Fails where a definition of the library, in specs/ of a layer, is not named on the page, and where the page names one that
 does not exist. A name is what a span in backticks begins with: `IsStep` of `IsStep sections member`. In the first column
 of a table of definitions each name has to be a definition of some crate, or a type of the code of which definitions speak.
 Elsewhere each name with a capital or a `_` has to be such a one, or something else that has a name in the specs or in the
@@ -12,7 +12,8 @@ import sys
 
 TOP = pathlib.Path(__file__).resolve().parent.parent
 PAGE = TOP / "docs/DEFINITIONS.md"
-SPECS = TOP / "crates/rectangle_pack/specs"
+# The library's crates, by crates.txt: its root, and those that it stands on.
+LAYERS = ["rectangle_pack", *re.search(r"(?m)^rectangle_pack:(.*)$", (TOP / "crates.txt").read_text())[1].split()]
 # What a table of definitions has above its first column.
 HEADS = ("Name", "Definition", "Word")
 # Names of the standard library that the page says.
@@ -72,7 +73,7 @@ def faults():
         named.add(name)
         if name not in defined and (is_first or (name not in known and re.search("[A-Z_]", name))):
             yield f"docs/DEFINITIONS.md:{number}: there is no `{name}`"
-    for path in sorted(SPECS.glob("*.antt")):
+    for path in sorted(path for crate in LAYERS for path in TOP.glob(f"crates/{crate}/specs/*.antt")):
         for name in sorted(definitions_of([path]) - named):
             yield f"{path.relative_to(TOP)}: `{name}` is not in docs/DEFINITIONS.md"
 

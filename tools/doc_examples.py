@@ -58,7 +58,7 @@ def lines_of(path):
 def main():
     readme = TOP / "README.md"
     found = [(readme, TESTS, at, b) for at, b in blocks(enumerate(readme.read_text().splitlines(), 1), ["```rust"])]
-    for path in sorted((TOP / "crates/rectangle_pack/src").rglob("*.rt")):
+    for path in sorted(TOP.glob("crates/rectangle_pack*/src/**/*.rt")):
         found += [(path, TESTS, at, b) for at, b in blocks(doc_lines(path), ["```", "```rust"])]
     for fence, tests in BINDINGS.items():
         found += [(readme, tests, at, b) for at, b in blocks(enumerate(readme.read_text().splitlines(), 1), [fence])]

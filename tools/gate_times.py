@@ -1,9 +1,12 @@
 #!/usr/bin/env python3
 """What the gate's processor time goes into.
 
-gate_times.py [COMMAND..]: runs the command, .ci/run if none is given, and prints afterwards the seconds of the
-    processor that each check took, by crate: its proof, its tests, each of its edits; and, for a crate with
-    edits, those of each function in the first of these checks, which proves the crate from nothing.
+gate_times.py [COMMAND..]: runs the command, .ci/run if none is given. While it runs it prints a line each minute: how many
+    processors its checks kept busy, and what ran. Afterwards it prints the minutes in which processors were idle, with
+    the checks that could have begun but for memory; and the seconds of the processor that each check took, by crate:
+    its proof, its tests, each of its edits; and, for a crate with edits, those of each function in the first of these
+    checks, which proves the crate from nothing.
+gate_times.py --needs: the lines of each crate, and how much memory the toolchain reckons that a check of it may need.
 gate_times.py --kept CRATE: the seconds of each function of crates/CRATE, with its tests where they were checked, from the
     work that one check from nothing at `--jobs 1` kept in its out/.
 
@@ -22,6 +25,10 @@ TICKS = os.sysconf("SC_CLK_TCK")
 MODULE = re.compile(r"Rattle-(\w+)-(specs|proofs)\.?(.*?)(?:\.decls)?\.oantt$")
 LONGEST_PAUSE = 120
 DEAREST = 25
+# From how many processors on one counts as idle.
+IDLE = 0.75
+# What `rt ci` reckons for a check from nothing, in GB: for any, for each line of .rt, each of .antt, each line of .rt below.
+NEED, NEED_RT, NEED_ANTT, NEED_BELOW = 1, 0.001, 0.0002, 0.00008
 
 
 def function_of(name):
@@ -91,11 +98,100 @@ def edit_in(folder):
     return None
 
 
+class Crate:
+    """A crate of the workspace: what it stands on, its lines, and whether it has tests and edits."""
+
+    def __init__(self, name, deps):
+        self.name, self.deps = name, deps
+        folder = TOP / "crates" / name
+        texts = [path.read_text() for path in folder.glob("src/**/*.rt")]
+        self.rt = sum(text.count("\n") for text in texts)
+        self.antt = sum(path.read_text().count("\n") for at in ("specs", "proofs") for path in folder.glob(f"{at}/**/*.antt"))
+        self.functions = sum(len(re.findall(r"^\s*(?:pub(?:\([^)]*\))? )?(?:extern \"C\" )?fn ", text, re.M)) for text in texts)
+        self.edits = len(list(folder.glob("must-fail/*.edit")))
+        self.tests = any("#[test]" in text for text in texts)
+
+    def below(self, crates):
+        found = set(self.deps)
+        for name in self.deps:
+            found |= crates[name].below(crates)
+        return found
+
+    def need(self, crates):
+        """How much memory `rt ci` reckons for a check of the crate from nothing, in GB."""
+        below = sum(crates[name].rt for name in self.below(crates))
+        return NEED + NEED_RT * self.rt + NEED_ANTT * self.antt + NEED_BELOW * below
+
+    def tasks(self):
+        """What the gate does with the crate, and what each waits for."""
+        proved = [(name, "proof") for name in self.deps]
+        yield (self.name, "proof"), proved
+        if self.tests:
+            yield (self.name, "tests"), proved
+        if self.edits:
+            yield (self.name, "edits"), [(self.name, "proof")] + [(self.name, "tests")] * self.tests
+
+
+def crates_of():
+    rows = re.findall(r"(?m)^(\w+)(?: staticlib)?:(.*)$", (TOP / "crates.txt").read_text())
+    return {name: Crate(name, deps.split()) for name, deps in rows}
+
+
+def print_needs():
+    crates = crates_of()
+    print("| Crate | Lines of .rt | Functions | Lines of .antt | Wrong bodies | Reckoned memory |\n|---|---:|---:|---:|---:|---:|")
+    for it in crates.values():
+        print(f"| `{it.name}` | {it.rt:,} | {it.functions:,} | {it.antt:,} | {it.edits} | {it.need(crates):.1f} GB |")
+
+
+class Minutes:
+    """What ran in each minute."""
+
+    def __init__(self, checks):
+        self.checks, self.processors = checks, len(os.sched_getaffinity(0))
+        self.tasks = dict(task for crate in crates_of().values() for task in crate.tasks())
+        self.began = self.last = time.time()
+        self.seconds, self.idle = 0.0, []
+
+    def task_of(self, check):
+        words = check["words"]
+        crate = words[words.index("--crate-name") + 1] if "--crate-name" in words else "?"
+        return crate, "edits" if "rt-edit-" in check["folder"] else "tests" if "--test" in words else "proof"
+
+    def look(self, now):
+        if now - self.last < 60:
+            return
+        passed, self.last = now - self.last, now
+        seconds = sum(check["seconds"] for check in self.checks.values())
+        busy, self.seconds = (seconds - self.seconds) / passed, seconds
+        begun, ran, running = {}, [], set()
+        for check in self.checks.values():
+            task = self.task_of(check)
+            begun[task] = max(begun.get(task, 0.0), check["seen"])
+            if check["seen"] >= now - passed:
+                ran.append(task)
+            if check["seen"] >= now - 2:
+                running.add(task)
+        ended = {task for task in begun if task not in running}
+        ready = [task for task, waits in self.tasks.items() if task not in begun and all(it in ended for it in waits)]
+        minute = round((now - self.began) / 60)
+        names = [f"{crate}: {what}" for crate, what in dict.fromkeys(ran)]
+        print(f"gate_times.py: minute {minute}: {busy:.1f} of {self.processors} processors; {', '.join(names)}", file=sys.stderr, flush=True)
+        if self.processors - busy >= IDLE:
+            self.idle.append((minute, busy, [f"{crate}: {what}" for crate, what in ready]))
+
+    def report(self):
+        print(f"minutes in which one of {self.processors} processors or more was idle, and what then waited for memory")
+        for minute, busy, waited in self.idle:
+            print(f"  {minute:4}  {busy:.1f} busy; {', '.join(waited) or 'nothing waited'}")
+
+
 class Watch:
     """The checks that run below a process, as they are seen once a second."""
 
     def __init__(self, root):
         self.root, self.checks, self.functions = root, {}, {}
+        self.minutes = Minutes(self.checks)
 
     def look(self):
         seen = {}
@@ -112,6 +208,7 @@ class Watch:
             # (a copy that a check forked counts as a part of it)
             if (parent, seen.get(parent, (0, 0, 0))[2]) not in self.checks:
                 self.note(pid, (pid, began), seconds)
+        self.minutes.look(time.time())
 
     def note(self, pid, key, seconds):
         if key not in self.checks:
@@ -126,6 +223,7 @@ class Watch:
             self.checks[key] = {"words": words, "folder": folder, "seconds": 0.0, "began": time.time(), "edit": edit_in(folder)}
             self.read_kept(words)
         self.checks[key]["seconds"] = max(self.checks[key]["seconds"], seconds)
+        self.checks[key]["seen"] = time.time()
 
     def read_kept(self, words):
         """At the second check over one folder of kept work: what each function took in the first."""
@@ -138,6 +236,7 @@ class Watch:
                     self.functions[crate] = times
 
     def report(self):
+        self.minutes.report()
         edits = {}
         rows = []
         for check in sorted(self.checks.values(), key=lambda it: it["began"]):
@@ -179,7 +278,10 @@ def main():
     if words[:1] == ["--kept"] and len(words) == 2:
         print_functions(times_of(TOP / "crates" / words[1] / "out" / "incremental"), words[1])
         return 0
-    if words[:1] in (["-h"], ["--help"], ["--kept"]):
+    if words == ["--needs"]:
+        print_needs()
+        return 0
+    if words[:1] in (["-h"], ["--help"], ["--kept"], ["--needs"]):
         print(__doc__)
         return 2
     return run(words or [".ci/run"])

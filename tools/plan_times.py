@@ -6,20 +6,25 @@ and runs the program there. With `try` nothing is proved; the build then has che
 slower.
 """
 import os
+import re
 import shutil
 import subprocess
 import sys
 import tempfile
 
 tools = os.path.dirname(os.path.realpath(__file__))
-library = f"{os.path.dirname(tools)}/crates/rectangle_pack"
+top = os.path.dirname(tools)
+with open(f"{top}/crates.txt", encoding="utf-8") as file:
+    rows = [row.split(":") for row in file.read().splitlines() if re.match(r"rectangle_pack\w*:", row)]
 command = ["rt", "try", "--seconds", "3600"] if sys.argv[1:] == ["try"] else ["rt", "run"]
 with tempfile.TemporaryDirectory(prefix="plan-times-") as room:
-    # What was proved of the library, in its folder out, is not proved again.
-    shutil.copytree(library, f"{room}/crates/rectangle_pack", symlinks=True)
+    # What was proved of the library's crates, in their folders out, is not proved again.
+    for name, _ in rows:
+        shutil.copytree(f"{top}/crates/{name}", f"{room}/crates/{name}", symlinks=True)
     os.makedirs(f"{room}/crates/plan_times/src")
     shutil.copy(f"{tools}/plan_times.rt.in", f"{room}/crates/plan_times/src/main.rt")
     with open(f"{room}/crates.txt", "w", encoding="utf-8") as crates:
-        crates.write("rectangle_pack:\nplan_times: rectangle_pack\n")
+        crates.writelines(f"{name}:{below}\n" for name, below in rows)
+        crates.write("plan_times: rectangle_pack\n")
     ran = subprocess.run(command, cwd=f"{room}/crates/plan_times", check=False)
 sys.exit(ran.returncode)

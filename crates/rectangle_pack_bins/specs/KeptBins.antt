@@ -1,5 +1,5 @@
 -- Bins whose cells a packing keeps.
-use Rattle.std.specs.Prelude.{◌≡◌, ◌↔◌, List, ◌++◌, Any, Some, None, map, filter}
+use Rattle.std.specs.Prelude.{◌≡◌, List, ◌++◌, Some, None, map, filter}
 use Rattle.std.specs.declared.cmp.Ordering.{Ordering}
 use Rattle.std.specs.Map.{lookup}
 use Rattle.std.specs.BTreeMap.{is_at}

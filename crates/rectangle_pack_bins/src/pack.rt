@@ -108,11 +108,11 @@ where
 
 /// `pack_rects`, with its fit tests added to `tests`: for a group that is placed those of its
 /// trials in the bins up to its own, for a group that is refused those of its trials in all bins.
-/// In a bin that is excluded no trial is made. `OutOfMemory` adds the tests counted until then.
+/// In a bin that is excluded no trial is made. `OutOfMemory` adds some number of tests.
 ///
-/// With n entries in the groups these are at most n tests for each free section of before and
-/// n * (n - 1) for each bin. The counter stays at the greatest `u128`. Conditions and errors are
-/// those of `pack_rects`.
+/// With n entries in the groups it is never more than n tests for each free section of before and
+/// n * (n - 1) for each bin, also where memory is refused. The counter stays at the greatest
+/// `u128`. Conditions and errors are those of `pack_rects`.
 pub fn pack_rects_counted<Id, BinId, GroupId, H, C, A>(
     alloc: A,
     rects_to_place: &GroupedRectsToPlace<Id, GroupId, A>,

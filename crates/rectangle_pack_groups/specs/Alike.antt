@@ -1,5 +1,5 @@
 -- Maps and collections that agree, where equal is what the order of the keys says.
-use Rattle.std.specs.Prelude.{◌≡◌, List, ◌⊎◌, Any, Contains}
+use Rattle.std.specs.Prelude.{◌≡◌, List}
 use Rattle.std.specs.List.{AllZip}
 use Rattle.std.specs.declared.cmp.Ordering.{Ordering}
 use Rattle.std.specs.declared.cmp.Ordering.TheVariants.{Equal}

@@ -1,8 +1,5 @@
 -- Boxes that are replaced by others with the same cells.
-use Rattle.std.specs.Prelude.{◌≡◌, ◌↔◌, List, ◌++◌, Any, Some, None, map, filter}
-use Rattle.std.specs.declared.cmp.Ordering.{Ordering}
-use Rattle.std.specs.Map.{lookup}
-use Rattle.std.specs.BTreeMap.{is_at}
+use Rattle.std.specs.Prelude.{◌↔◌, List, Any}
 use Rattle.rectangle_pack_sections.specs.Boxes.{Cuboid, Cell, IsCellOf}
 use Rattle.rectangle_pack_sections.specs.Counting.{AreAllApart}
 

@@ -1,4 +1,4 @@
-//! What the tests of packing, of sessions and of the program share: an allocator and names that
+//! What the tests of the library and of the program share: an allocator and names that
 //! refuse, boxes, bins and sections by their numbers, and counts of what closures are asked.
 #![tactic(auto)]
 

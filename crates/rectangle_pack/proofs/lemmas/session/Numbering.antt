@@ -1,8 +1,7 @@
 -- Placements that are numbered.
 use Rattle.rectangle_pack_sections.proofs.Std.{◌≡◌, ℕ, ◌+◌, ◌<◌, ◌≤◌, get_or, inl, inr, cases_lt, List, [], ◌∷◌, ◌++◌, refl, ap, sym, ◌∙◌, arith, length}
-use Rattle.rectangle_pack_sections.proofs.Std.{append_assoc, map, sum, All, AllPairs, IfSome, IfNone, Result, Ok, Err, ◌≢◌, IsSearchInRange}
-use Rattle.rectangle_pack_sections.proofs.Std.{IsBinarySearchResult, IsNonDecreasingBy, nat_cmp, ordering_index, result_ok, ranked, nat_tests, Vec, values_of}
-use Rattle.rectangle_pack_sections.proofs.Std.{sum_by-cons}
+use Rattle.rectangle_pack_sections.proofs.Std.{append_assoc, All, AllPairs, IfSome, IfNone, Result, Ok, Err, ◌≢◌, IsSearchInRange, IsBinarySearchResult}
+use Rattle.rectangle_pack_sections.proofs.Std.{IsNonDecreasingBy, nat_cmp, ordering_index, result_ok, ranked, nat_tests}
 use Rattle.rectangle_pack_bins.specs.declared.pack.answer.Placement.{Placement}
 use Rattle.rectangle_pack.specs.declared.session.command.Outstanding.{Outstanding}
 use Rattle.rectangle_pack.specs.Session.{numbered}

@@ -1,8 +1,6 @@
 -- Where placements are alike, the locations by id are.
-use Rattle.rectangle_pack_sections.proofs.Std.{◌≡◌, Bool, true, false, List, [], ◌∷◌, refl, sym, ◌∙◌, ap, subst, All, Option, Some, None, MatchOption, AllZip}
-use Rattle.rectangle_pack_sections.proofs.Std.{IsStrictlySortedBy, Ordering, Less, Equal, Greater, is_eq, ordering_reverse, IsTotalOrder, Equal-is, lookup}
-use Rattle.rectangle_pack_sections.proofs.Std.{keys_of, is_at, tied_itself, lookup-none, none_below_head, sorted_tail, All-after_first, All-head, All-tail}
-use Rattle.rectangle_pack_sections.proofs.Std.{All-weaker}
+use Rattle.rectangle_pack_sections.proofs.Std.{◌≡◌, true, false, List, sym, ◌∙◌, ap, subst, All, Option, Some, None, MatchOption, AllZip, Ordering, Equal}
+use Rattle.rectangle_pack_sections.proofs.Std.{is_eq, IsTotalOrder, lookup, is_at, All-weaker}
 use Rattle.rectangle_pack_sections.specs.Boxes.{Cuboid}
 use Rattle.rectangle_pack_bins.specs.declared.pack.answer.Placement.{Placement}
 use Rattle.rectangle_pack_bins.specs.Placed.{IsLastOf, AreLastPlacements}

@@ -1,10 +1,9 @@
 -- Where the heuristic is a function, two orders of the same groups or bins name equal ones, one by one.
-use Rattle.rectangle_pack_sections.proofs.Std.{◌≡◌, ℕ, suc, ◌<◌, ◌≤◌, each_same, AllZip-long, sum_by-le, Bool, true, false, cond, List, [], ◌∷◌, ◌++◌, refl}
-use Rattle.rectangle_pack_sections.proofs.Std.{sym, ◌∙◌, ap, subst, arith, length, get_or, All, map, Option, Some, None, IfSome, IsSomeAnd, sum, AllZip, sum_by}
-use Rattle.rectangle_pack_sections.proofs.Std.{Ordering, Less, Equal, Greater, nat_cmp, ordering_then, ordering_reverse, is_lt, is_eq, IsTotalOrder}
-use Rattle.rectangle_pack_sections.proofs.Std.{IsPermutation, IsSorted, lookup, values_of, is_at, nat_cmp_total, then_total, on_total, back_total, tied_itself}
-use Rattle.rectangle_pack_sections.proofs.Std.{All-nil, All-cons, All-head, All-tail, All-weaker, ranks_by, sorted_far, sum_by-IsPermutation, sum_by-cons}
-use Rattle.rectangle_pack_sections.proofs.Std.{IfSome-lookup_from_All}
+use Rattle.rectangle_pack_sections.proofs.Std.{◌≡◌, ℕ, suc, ◌<◌, ◌≤◌, each_same, sum_by-le, Bool, true, false, cond, List, [], ◌∷◌, refl, sym, ◌∙◌, ap, subst}
+use Rattle.rectangle_pack_sections.proofs.Std.{arith, length, get_or, All, map, Option, Some, None, IfSome, IsSomeAnd, sum, AllZip, sum_by, Ordering, Less}
+use Rattle.rectangle_pack_sections.proofs.Std.{Equal, Greater, nat_cmp, ordering_then, ordering_reverse, is_lt, is_eq, IsTotalOrder, IsPermutation, IsSorted}
+use Rattle.rectangle_pack_sections.proofs.Std.{lookup, values_of, is_at, nat_cmp_total, then_total, on_total, back_total, tied_itself, All-weaker, ranks_by}
+use Rattle.rectangle_pack_sections.proofs.Std.{sorted_far, sum_by-IsPermutation, sum_by-cons, IfSome-lookup_from_All}
 use Rattle.rectangle_pack_sections.specs.Boxes.{Size}
 use Rattle.rectangle_pack_sections.specs.Bins.{Bin}
 use Rattle.rectangle_pack_sections.specs.Choice.{IsFunction}
@@ -14,8 +13,7 @@ use Rattle.rectangle_pack_groups.proofs.lemmas.util.Maps.{lookup-same}
 use Rattle.rectangle_pack_groups.proofs.lemmas.util.Zips.{AllZip-mapped, AllZip-weaker}
 use Rattle.rectangle_pack_lists.specs.Numbers.{saturated}
 use Rattle.rectangle_pack_bins.specs.Orders.{falling_then, rising_then, IsGroupKey, IsGroupOrder, IsBinOrder}
-use Rattle.rectangle_pack_groups.proofs.lemmas.util.Zips.{AllZip-join}
-use Rattle.rectangle_pack_groups.proofs.lemmas.util.Zips.{AllZip-beside, sums_alike}
+use Rattle.rectangle_pack_groups.proofs.lemmas.util.Zips.{AllZip-join, AllZip-beside, sums_alike}
 use Rattle.rectangle_pack_groups.proofs.lemmas.util.Maps.{same_keys}
 
 -- neither is less, so they are equal

@@ -1,6 +1,5 @@
 -- A heuristic that is a function and a comparison that is a total preorder decide each packing.
-use Rattle.rectangle_pack_sections.proofs.Std.{arith, ◌≡◌, ◌≢◌, ℕ, refl, List, [], ◌∷◌, slice_index_or, nat_cmp, ordering_reverse, ordering_then, Ordering}
-use Rattle.rectangle_pack_sections.proofs.Std.{Greater, All, Contains, nat_tests, recursion_from_All}
+use Rattle.rectangle_pack_sections.proofs.Std.{List, Contains}
 use Rattle.rectangle_pack_sections.specs.Boxes.{Size}
 use Rattle.rectangle_pack_sections.specs.Bins.{Bin}
 use Rattle.rectangle_pack_sections.specs.Closures.{Answers}

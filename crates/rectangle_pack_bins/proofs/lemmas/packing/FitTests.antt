@@ -1,11 +1,11 @@
 -- How many fit tests a packing makes at most.
 use Rattle.rectangle_pack_sections.proofs.Std.{◌≡◌, ℕ, zero, suc, ◌+◌, ◌-◌, ◌*◌, ◌<◌, ◌≤◌, Bool, true, false, cond, List, [], ◌∷◌, ◌++◌, take, drop, get_or}
-use Rattle.rectangle_pack_sections.proofs.Std.{append-nil, length, refl, sym, ◌∙◌, ap, arith, inl, inr, length-append, Result, Ok, Err, OnErr, Option, Some}
-use Rattle.rectangle_pack_sections.proofs.Std.{None, IsSomeAnd, MatchBool, map, sum, unwrap_or, Ordering, Equal, length-map, IsTotalOrder, Equal-is, is_eq}
-use Rattle.rectangle_pack_sections.proofs.Std.{eq_by_cmp, option_map, AllZip, sum_by, IsDistinct, AllByRecursion, lookup, keys_of, is_at, mul-le-mul_left}
-use Rattle.rectangle_pack_sections.proofs.Std.{sum_by-cons, sum_by-append, IsDistinct-head, IsDistinct-tail, sum_by-IsPermutation, IsPermutation-map}
-use Rattle.rectangle_pack_sections.proofs.Std.{length_permutation, IsDistinct-cons, IsDistinct-IsPermutation, Vec, append_assoc, tied_itself, All-weaker}
-use Rattle.rectangle_pack_sections.proofs.Std.{sum_by_push, All, All-head, All-tail}
+use Rattle.rectangle_pack_sections.proofs.Std.{append-nil, length, refl, sym, ◌∙◌, ap, arith, length-append, Result, Ok, Err, OnErr, Option, Some, None}
+use Rattle.rectangle_pack_sections.proofs.Std.{IsSomeAnd, MatchBool, map, sum, unwrap_or, Ordering, Equal, length-map, IsTotalOrder, Equal-is, is_eq, eq_by_cmp}
+use Rattle.rectangle_pack_sections.proofs.Std.{option_map, AllZip, sum_by, IsDistinct, AllByRecursion, lookup, keys_of, is_at, mul-le-mul_left, sum_by-cons}
+use Rattle.rectangle_pack_sections.proofs.Std.{sum_by-append, IsDistinct-head, IsDistinct-tail, sum_by-IsPermutation, IsPermutation-map, length_permutation}
+use Rattle.rectangle_pack_sections.proofs.Std.{IsDistinct-cons, IsDistinct-IsPermutation, append_assoc, tied_itself, All-weaker, sum_by_push, All, All-head}
+use Rattle.rectangle_pack_sections.proofs.Std.{All-tail}
 use Rattle.rectangle_pack_bins.proofs.lemmas.packing.Groups.{members_in, AreGroups-length, names-split}
 use Rattle.rectangle_pack_bins.specs.declared.pack.order.OrderedGroup.{OrderedGroup}
 use Rattle.rectangle_pack_bins.specs.declared.pack.answer.Placement.{Placement}

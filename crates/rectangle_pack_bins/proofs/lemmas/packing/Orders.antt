@@ -2,12 +2,11 @@
 use Rattle.rectangle_pack_sections.proofs.Std.{◌≡◌, ℕ, ◌+◌, ◌-◌, ◌<◌, ◌≤◌, List, [], ◌∷◌, ◌++◌, take, drop, length, length-append, append-nil, refl, ap, sym}
 use Rattle.rectangle_pack_sections.proofs.Std.{◌∙◌, arith, map, All, IsSomeAnd, Vec, values_of, get_or-map, length-map, map_push, append_assoc}
 use Rattle.rectangle_pack_sections.proofs.Std.{drop-append_seam, take-append_seam, Bor, Yields, TakesFirst, deref_pair, Option, Some, All-turn, All-nil}
-use Rattle.rectangle_pack_sections.proofs.Std.{All-cons, All-head, All-tail, option_map, Ordering, IsSorted, IsPermutation, IsStrictlySortedBy}
-use Rattle.rectangle_pack_sections.proofs.Std.{Less-from_sorted, All-permutation, cases_order, lt-ltb, tied_itself, nat_cmp, get_or_default, inl, inr, AllPairs}
-use Rattle.rectangle_pack_sections.proofs.Std.{AllZip, sum_by, slice_range, BTreeMap, IsOrdered, btree_map_get_place, sum_by-cons, get_or, slice_get-get_or}
-use Rattle.rectangle_pack_sections.proofs.Std.{sum, sum_by_push, false, Bool, IsSome, Less, Equal, Greater, is_lt, ordering_then, IsTotalOrder, lookup, is_at}
-use Rattle.rectangle_pack_sections.proofs.Std.{All-weaker, take-append-drop, take_more, map-id, map-append, All-from_recursion, IsDistinct-head, IsDistinct}
-use Rattle.rectangle_pack_sections.proofs.Std.{keys_of}
+use Rattle.rectangle_pack_sections.proofs.Std.{All-cons, All-head, All-tail, Ordering, IsSorted, IsPermutation, IsStrictlySortedBy, Less-from_sorted}
+use Rattle.rectangle_pack_sections.proofs.Std.{All-permutation, cases_order, lt-ltb, tied_itself, nat_cmp, get_or_default, inl, inr, AllPairs, AllZip, sum_by}
+use Rattle.rectangle_pack_sections.proofs.Std.{slice_range, BTreeMap, IsOrdered, btree_map_get_place, sum_by-cons, get_or, slice_get-get_or, sum, sum_by_push}
+use Rattle.rectangle_pack_sections.proofs.Std.{false, Bool, IsSome, Less, Equal, Greater, is_lt, ordering_then, IsTotalOrder, lookup, is_at, All-weaker}
+use Rattle.rectangle_pack_sections.proofs.Std.{take-append-drop, take_more, map-id, map-append, All-from_recursion, IsDistinct-head, IsDistinct, keys_of}
 use Rattle.rectangle_pack_groups.proofs.lemmas.util.Zips.{AllZip-mapped, length-zip, All-alike, AllZip-along, AllZip-back}
 use Rattle.rectangle_pack_bins.specs.declared.pack.order.OrderedGroup.{OrderedGroup}
 use Rattle.rectangle_pack_groups.specs.Groups.{lists_of}

@@ -1,7 +1,7 @@
 -- What keeps the sections of a bin sound, and what a bin accepts.
 use Rattle.rectangle_pack_sections.proofs.Std.{◌≡◌, ℕ, suc, ◌<◌, List, [], ◌∷◌, ◌++◌, length, get_or, take, drop, refl, subst, sym, All, AllPairs, Option, Some}
 use Rattle.rectangle_pack_sections.proofs.Std.{None, IfNone, IfSome, IsTrue, is_some, not, true, false, Bool, ◌↔◌, split_at, all_pairs_push, All-push}
-use Rattle.rectangle_pack_sections.proofs.Std.{All-append, All-head, All-tail, AllPairs-cons}
+use Rattle.rectangle_pack_sections.proofs.Std.{All-append, All-head}
 use Rattle.rectangle_pack_sections.specs.Boxes.{Cuboid, IsInside, AreApart, SharesCell}
 use Rattle.rectangle_pack_sections.specs.Bins.{IsSound, IsAccepted, Bin}
 use Rattle.rectangle_pack_bins.specs.Pushes.{IsFirstSharing}

@@ -5,15 +5,7 @@ use Rattle.rectangle_pack_sections.proofs.Std.{match_ordering, is_eq, is_at, ins
 use Rattle.rectangle_pack_groups.specs.Groups.{lists_of}
 use Rattle.rectangle_pack_groups.specs.private.Multimaps.{filled, items_of}
 use Rattle.rectangle_pack_groups.proofs.lemmas.util.Maps.{lookup-equal, set_value-map_values, insert_entry-map_values}
-use Rattle.rectangle_pack_sections.proofs.Std.{ℕ, ◌+◌, ◌<◌, ◌≤◌, get_or, inl, inr, cases_lt, ◌++◌, arith, append_assoc, map, sum, All, AllPairs, IfSome, IfNone}
-use Rattle.rectangle_pack_sections.proofs.Std.{Result, Ok, Err, ◌≢◌, IsSearchInRange, IsBinarySearchResult, IsNonDecreasingBy, nat_cmp, ordering_index}
-use Rattle.rectangle_pack_sections.proofs.Std.{result_ok, ranked, nat_tests, values_of, sum_by-cons}
-use Rattle.rectangle_pack_sections.proofs.Std.{◌-◌, take, drop, length-append, append-nil, IsSomeAnd, get_or-map, length-map, map_push, drop-append_seam}
-use Rattle.rectangle_pack_sections.proofs.Std.{take-append_seam, Bor, Yields, TakesFirst, deref_pair, All-turn, All-nil, All-cons, All-head, All-tail, IsSorted}
-use Rattle.rectangle_pack_sections.proofs.Std.{IsPermutation, IsStrictlySortedBy, Less-from_sorted, All-permutation, cases_order, lt-ltb, tied_itself}
-use Rattle.rectangle_pack_sections.proofs.Std.{get_or_default, AllZip, sum_by, slice_range, BTreeMap, IsOrdered, btree_map_get_place, slice_get-get_or}
-use Rattle.rectangle_pack_sections.proofs.Std.{sum_by_push, IsSome, is_lt, ordering_then, All-weaker, take-append-drop, take_more, map-id, map-append}
-use Rattle.rectangle_pack_sections.proofs.Std.{All-from_recursion, IsDistinct-head, IsDistinct}
+use Rattle.rectangle_pack_sections.proofs.Std.{ℕ, ◌+◌, ◌++◌, arith, map, sum, values_of, sum_by-cons, ◌-◌}
 
 -- what is not there is `None`
 pub none_of : {X : Type 0} (found : Option X) → is_some found ≡ false → found ≡ None

@@ -3,8 +3,8 @@ use Rattle.rectangle_pack_sections.proofs.Std.{◌≡◌, Bool, true, false, con
 use Rattle.rectangle_pack_sections.proofs.Std.{ordering_reverse, is_eq, match_ordering, is_some, option_map, Ordering, Less, Equal, Greater, IsTotalOrder}
 use Rattle.rectangle_pack_sections.proofs.Std.{eq_by_cmp_equiv, Equal-is, lookup, set_value, keys_of, is_at, insert_entry, lookup-set_value, is_some-lookup}
 use Rattle.rectangle_pack_groups.specs.Alike.{AreMapsAlike}
-use Rattle.rectangle_pack_sections.proofs.Std.{subst, All, MatchOption, AllZip, IsStrictlySortedBy, tied_itself, lookup-none, none_below_head, sorted_tail}
-use Rattle.rectangle_pack_sections.proofs.Std.{All-after_first, All-head, All-tail, All-weaker}
+use Rattle.rectangle_pack_sections.proofs.Std.{All, IsStrictlySortedBy, tied_itself, lookup-none, none_below_head, sorted_tail, All-after_first, All-head}
+use Rattle.rectangle_pack_sections.proofs.Std.{All-tail}
 
 pub lookup-equal : {K X : Type 0} {cmp : K → K → Ordering} → IsTotalOrder cmp → (x y : K) → cmp x y ≡ Equal → (es : List (K × X))
     → lookup (is_at (cmp x)) es ≡ lookup (is_at (cmp y)) es

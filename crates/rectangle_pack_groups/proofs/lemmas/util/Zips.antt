@@ -1,10 +1,6 @@
 -- Lists that agree element by element.
-use Rattle.rectangle_pack_sections.proofs.Std.{List, [], ◌∷◌, map, map-id, AllZip, ◌≡◌, ℕ, suc, ◌<◌, ◌≤◌, each_same, AllZip-long, sum_by-le, Bool, true, false}
-use Rattle.rectangle_pack_sections.proofs.Std.{cond, ◌++◌, refl, sym, ◌∙◌, ap, subst, arith, length, get_or, All, Option, Some, None, IfSome, IsSomeAnd, sum}
-use Rattle.rectangle_pack_sections.proofs.Std.{sum_by, Ordering, Less, Equal, Greater, nat_cmp, ordering_then, ordering_reverse, is_lt, is_eq, IsTotalOrder}
-use Rattle.rectangle_pack_sections.proofs.Std.{IsPermutation, IsSorted, lookup, values_of, is_at, nat_cmp_total, then_total, on_total, back_total, tied_itself}
-use Rattle.rectangle_pack_sections.proofs.Std.{All-nil, All-cons, All-head, All-tail, All-weaker, ranks_by, sorted_far, sum_by-IsPermutation, sum_by-cons}
-use Rattle.rectangle_pack_sections.proofs.Std.{IfSome-lookup_from_All}
+use Rattle.rectangle_pack_sections.proofs.Std.{List, [], ◌∷◌, map, map-id, AllZip, ◌≡◌, ℕ, AllZip-long, ◌++◌, refl, sym, arith, length, All, sum_by, Ordering}
+use Rattle.rectangle_pack_sections.proofs.Std.{Equal, values_of, All-nil, All-cons, All-head, All-tail, sum_by-cons}
 use Rattle.rectangle_pack_groups.specs.Alike.{AreMapsAlike}
 
 -- a relation that follows, between what two functions make of the elements

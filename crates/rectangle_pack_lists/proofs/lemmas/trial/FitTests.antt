@@ -1,11 +1,6 @@
 -- How many fit tests a trial makes at most.
-use Rattle.rectangle_pack_sections.proofs.Std.{◌≡◌, ℕ, zero, suc, ◌+◌, ◌-◌, ◌*◌, ◌<◌, ◌≤◌, Bool, true, false, cond, List, [], ◌∷◌, ◌++◌, take, drop, get_or}
-use Rattle.rectangle_pack_sections.proofs.Std.{append-nil, length, refl, sym, ◌∙◌, ap, arith, inl, inr, length-append, Result, Ok, Err, OnErr, Option, Some}
-use Rattle.rectangle_pack_sections.proofs.Std.{None, IsSomeAnd, MatchBool, map, sum, unwrap_or, Ordering, Equal, length-map, IsTotalOrder, Equal-is, is_eq}
-use Rattle.rectangle_pack_sections.proofs.Std.{eq_by_cmp, option_map, AllZip, sum_by, IsDistinct, AllByRecursion, lookup, keys_of, is_at, mul-le-mul_left}
-use Rattle.rectangle_pack_sections.proofs.Std.{sum_by-cons, sum_by-append, IsDistinct-head, IsDistinct-tail, sum_by-IsPermutation, IsPermutation-map}
-use Rattle.rectangle_pack_sections.proofs.Std.{length_permutation, IsDistinct-cons, IsDistinct-IsPermutation, Vec, append_assoc, tied_itself, All-weaker}
-use Rattle.rectangle_pack_sections.proofs.Std.{sum_by_push, All, All-head, All-tail}
+use Rattle.rectangle_pack_sections.proofs.Std.{◌≡◌, ℕ, zero, suc, ◌+◌, ◌-◌, ◌*◌, ◌≤◌, Bool, List, [], ◌∷◌, length, ap, arith, inl, inr, length-append, Result}
+use Rattle.rectangle_pack_sections.proofs.Std.{Ok, Err, Option, Some, None, mul-le-mul_left, Vec}
 use Rattle.rectangle_pack_sections.specs.Boxes.{Size, Cuboid}
 use Rattle.rectangle_pack_sections.specs.Bins.{Bin}
 use Rattle.rectangle_pack_lists.specs.Steps.{IsStep, IsDone, IsStuck}

@@ -1,8 +1,7 @@
 -- What a step and a trial keep.
-use Rattle.rectangle_pack_sections.proofs.Std.{◌≡◌, ℕ, ◌+◌, ◌≤◌, Bool, true, false, cond, List, [], ◌∷◌, ◌++◌, length, arith, refl, ap, sym, subst, ◌∙◌}
-use Rattle.rectangle_pack_sections.proofs.Std.{length-append, All, map, filter, Result, Ok, Err, AllZip, zip, count_by, IsPermutation, All-head, All-tail}
-use Rattle.rectangle_pack_sections.proofs.Std.{All-append, All-filter, All-same, All-weaker, length-filter, count_by-le-length, IsPermutation-map}
-use Rattle.rectangle_pack_sections.proofs.Std.{All-permutation, length_permutation, sum_by-IsPermutation}
+use Rattle.rectangle_pack_sections.proofs.Std.{◌≡◌, ℕ, ◌+◌, ◌≤◌, Bool, true, false, List, [], ◌∷◌, ◌++◌, length, arith, refl, ap, sym, subst, ◌∙◌}
+use Rattle.rectangle_pack_sections.proofs.Std.{length-append, All, map, Result, Ok, Err, AllZip, zip, IsPermutation, All-head, All-tail, All-append, All-filter}
+use Rattle.rectangle_pack_sections.proofs.Std.{All-same, All-weaker, length-filter, count_by-le-length, IsPermutation-map, All-permutation, length_permutation}
 use Rattle.rectangle_pack_sections.specs.Closures.{Answers}
 use Rattle.rectangle_pack_sections.specs.Boxes.{Size, Cuboid, Cell, FitsU32, IsInside, IsPartOf, has_cells}
 use Rattle.rectangle_pack_sections.specs.Bins.{IsSound}
@@ -13,8 +12,8 @@ use Rattle.rectangle_pack_sections.specs.Keeping.{KeepCells}
 use Rattle.rectangle_pack_lists.specs.Steps.{AreLeft, IsStep, IsDone}
 use Rattle.rectangle_pack_lists.specs.private.TrialNotes.{IsTried}
 use Rattle.rectangle_pack_sections.proofs.lemmas.util.Lists.{All-front, All-back}
-use Rattle.rectangle_pack_sections.proofs.lemmas.cuts.Counting.{filled-append, filled-cons, filled-nil, apart_from_counts}
-use Rattle.rectangle_pack_sections.proofs.lemmas.cuts.Counting.{counts_from_apart, KeepCells-from_counts}
+use Rattle.rectangle_pack_sections.proofs.lemmas.cuts.Counting.{filled-append, filled-cons, filled-nil, apart_from_counts, counts_from_apart}
+use Rattle.rectangle_pack_sections.proofs.lemmas.cuts.Counting.{KeepCells-from_counts}
 use Rattle.rectangle_pack_sections.proofs.lemmas.cuts.Pieces.{chosen_part, chosen_tiles, length-chosen}
 use Rattle.rectangle_pack_lists.proofs.lemmas.trial.FallingRates.{IsPermutation-ranked}
 use Rattle.rectangle_pack_sections.proofs.lemmas.cuts.SameBoxes.{HaveSameBoxes-filter}

@@ -7,9 +7,7 @@ use Rattle.rectangle_pack_sections.specs.Counting.{times_filled, Tiles, AreAllAp
 use Rattle.rectangle_pack_sections.specs.Keeping.{KeepCells}
 use Rattle.rectangle_pack_sections.proofs.lemmas.cuts.Boxes.{is_cell_of-true, is_cell_of-from, has_cells-from}
 use Rattle.rectangle_pack_sections.proofs.lemmas.util.Lists.{AllPairs-head, AllPairs-tail}
-use Rattle.rectangle_pack_sections.proofs.Std.{length, sym, subst, ◌∙◌, length-append, map, Result, Ok, Err, AllZip, zip, IsPermutation, All-append, All-filter}
-use Rattle.rectangle_pack_sections.proofs.Std.{All-same, All-weaker, length-filter, IsPermutation-map, All-permutation, length_permutation}
-use Rattle.rectangle_pack_sections.proofs.Std.{sum_by-IsPermutation}
+use Rattle.rectangle_pack_sections.proofs.Std.{IsPermutation, sum_by-IsPermutation}
 
 module _ {X : Type 0} (p : X → Bool) where
   pub count-cons : (x : X) (xs : List X) → count_by p (x ∷ xs) ≡ cond (p x) 1 0 + count_by p xs

@@ -1,6 +1,6 @@
 -- With one answer on each size, the smallest box gives a total preorder.
 use Rattle.rectangle_pack_sections.proofs.Std.{arith, ◌≡◌, ◌≢◌, ℕ, refl, List, [], ◌∷◌, slice_index_or, nat_cmp, ordering_reverse, ordering_then, Ordering}
-use Rattle.rectangle_pack_sections.proofs.Std.{Greater, All, Contains, nat_tests, recursion_from_All}
+use Rattle.rectangle_pack_sections.proofs.Std.{Greater, All, nat_tests, recursion_from_All}
 use Rattle.rectangle_pack_sections.specs.SmallestBox.{Rates, AreRates, smallest_order, smallest, second_smallest, IsSmallestOrder}
 use Rattle.rectangle_pack_sections.specs.Boxes.{Size, Cuboid, IsU32}
 use Rattle.rectangle_pack_sections.specs.Cuts.{sizes_of}

@@ -1,12 +1,6 @@
 -- Parts of lists, and pairs of their elements.
-use Rattle.rectangle_pack_sections.proofs.Std.{◌≡◌, ℕ, ◌+◌, ◌<◌, ◌≤◌, List, [], ◌∷◌, ◌++◌, length, take, get_or, refl, ap, sym, ◌∙◌, arith, cond, true, false}
-use Rattle.rectangle_pack_sections.proofs.Std.{Bool, append_assoc, length-append, subst, Option, Some, None, All, Contains, IsSome, IsSomeAnd, IfSome, is_some}
-use Rattle.rectangle_pack_sections.proofs.Std.{unwrap_or, map, option_map, sum_by, Ordering, Vec, IsTotalOrder, is_eq, eq_by_cmp_equiv, append-nil}
-use Rattle.rectangle_pack_sections.proofs.Std.{count_by_more_yes, count_by_more_no, sum_by-take-le, sum_by-cons, All-append, All-cons, All-head, All-nil}
-use Rattle.rectangle_pack_sections.proofs.Std.{All-tail, All-weaker, All-contains, nil_from_length, lookup, is_at, Equal-is}
-use Rattle.rectangle_pack_sections.proofs.Std.{suc, drop, AllPairs, IfNone, IsTrue, not, ◌↔◌, split_at, all_pairs_push, All-push, AllPairs-cons}
-use Rattle.rectangle_pack_sections.proofs.Std.{zero, inl, inr, Any, count_by, filter, cases_lt, cases_Bool, false_from_ne_true, both_ways, sum_by-append}
-use Rattle.rectangle_pack_sections.proofs.Std.{count_by-le-length, get_or_default, get_or-le-sum_by}
+use Rattle.rectangle_pack_sections.proofs.Std.{◌≡◌, ◌+◌, List, [], ◌∷◌, ◌++◌, get_or, arith, subst, All, All-append, All-cons, All-head, All-nil, All-tail, suc}
+use Rattle.rectangle_pack_sections.proofs.Std.{AllPairs, AllPairs-cons, zero}
 
 -- the parts of two joined lists
 pub All-front : {X : Type 0} (P : X → Type 0) (xs ys : List X) → All P (xs ++ ys) → All P xs
