@@ -25,8 +25,8 @@ TICKS = os.sysconf("SC_CLK_TCK")
 MODULE = re.compile(r"Rattle-(\w+)-(specs|proofs)\.?(.*?)(?:\.decls)?\.oantt$")
 LONGEST_PAUSE = 120
 DEAREST = 25
-# From how many processors on one counts as idle.
-IDLE = 0.75
+# From how many processors on one counts as idle, and from how many seconds of a minute on a wait is told.
+IDLE, LONG_WAIT = 0.75, 10
 # What `rt ci` reckons for a check from nothing, in GB: for any, for each line of .rt, each of .antt, each line of .rt below.
 NEED, NEED_RT, NEED_ANTT, NEED_BELOW = 1, 0.001, 0.0002, 0.00008
 
@@ -144,6 +144,11 @@ def print_needs():
         print(f"| `{it.name}` | {it.rt:,} | {it.functions:,} | {it.antt:,} | {it.edits} | {it.need(crates):.1f} GB |")
 
 
+def jobs_of(words):
+    """On how many processors a check may run."""
+    return int(words[words.index("--jobs") + 1]) if "--jobs" in words else 1
+
+
 class Minutes:
     """What ran in each minute."""
 
@@ -151,7 +156,7 @@ class Minutes:
         self.checks, self.processors = checks, len(os.sched_getaffinity(0))
         self.tasks = dict(task for crate in crates_of().values() for task in crate.tasks())
         self.began = self.last = time.time()
-        self.seconds, self.idle = 0.0, []
+        self.seconds, self.idle, self.waited = 0.0, [], {}
 
     def task_of(self, check):
         words = check["words"]
@@ -159,26 +164,29 @@ class Minutes:
         return crate, "edits" if "rt-edit-" in check["folder"] else "tests" if "--test" in words else "proof"
 
     def look(self, now):
+        self.count_waiting(now)
         if now - self.last < 60:
             return
         passed, self.last = now - self.last, now
         seconds = sum(check["seconds"] for check in self.checks.values())
         busy, self.seconds = (seconds - self.seconds) / passed, seconds
-        begun, ran, running = {}, [], set()
-        for check in self.checks.values():
-            task = self.task_of(check)
-            begun[task] = max(begun.get(task, 0.0), check["seen"])
-            if check["seen"] >= now - passed:
-                ran.append(task)
-            if check["seen"] >= now - 2:
-                running.add(task)
-        ended = {task for task in begun if task not in running}
-        ready = [task for task, waits in self.tasks.items() if task not in begun and all(it in ended for it in waits)]
-        minute = round((now - self.began) / 60)
-        names = [f"{crate}: {what}" for crate, what in dict.fromkeys(ran)]
-        print(f"gate_times.py: minute {minute}: {busy:.1f} of {self.processors} processors; {', '.join(names)}", file=sys.stderr, flush=True)
+        ran = dict.fromkeys(self.task_of(check) for check in self.checks.values() if check["seen"] >= now - passed)
+        waited = [f"{crate}: {what}" for (crate, what), times in self.waited.items() if times >= LONG_WAIT]
+        minute, self.waited = round((now - self.began) / 60), {}
+        names = ", ".join(f"{crate}: {what}" for crate, what in ran)
+        print(f"gate_times.py: minute {minute}: {busy:.1f} of {self.processors} processors; {names}", file=sys.stderr, flush=True)
         if self.processors - busy >= IDLE:
-            self.idle.append((minute, busy, [f"{crate}: {what}" for crate, what in ready]))
+            self.idle.append((minute, busy, waited))
+
+    def count_waiting(self, now):
+        """Where a processor has no check, what stands ready waits for memory."""
+        running = [check for check in self.checks.values() if check["seen"] >= now - 2]
+        if sum(jobs_of(check["words"]) for check in running) >= self.processors:
+            return
+        begun, going = {self.task_of(it) for it in self.checks.values()}, {self.task_of(it) for it in running}
+        for task, waits in self.tasks.items():
+            if task not in begun and all(it in begun and it not in going for it in waits):
+                self.waited[task] = self.waited.get(task, 0) + 1
 
     def report(self):
         print(f"minutes in which one of {self.processors} processors or more was idle, and what then waited for memory")
