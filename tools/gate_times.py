@@ -25,6 +25,8 @@ TICKS = os.sysconf("SC_CLK_TCK")
 MODULE = re.compile(r"Rattle-(\w+)-(specs|proofs)\.?(.*?)(?:\.decls)?\.oantt$")
 LONGEST_PAUSE = 120
 DEAREST = 25
+# What edits begin with, where there are several: what a proof of the crate from nothing keeps, in a folder of this name.
+SECOND, SEED = "second proof", "seed"
 # From how many processors on one counts as idle, and from how many seconds of a minute on a wait is told.
 IDLE, LONG_WAIT = 0.75, 10
 # What `rt ci` reckons for a check from nothing, in GB: for any, for each line of .rt, each of .antt, each line of .rt below.
@@ -129,7 +131,11 @@ class Crate:
         if self.tests:
             yield (self.name, "tests"), proved
         if self.edits:
-            yield (self.name, "edits"), [(self.name, "proof")] + [(self.name, "tests")] * self.tests
+            begun = [(self.name, "proof")] + [(self.name, "tests")] * self.tests
+            if self.edits > 1:
+                yield (self.name, SECOND), proved
+                begun.append((self.name, SECOND))
+            yield (self.name, "edits"), begun
 
 
 def crates_of():
@@ -161,7 +167,10 @@ class Minutes:
     def task_of(self, check):
         words = check["words"]
         crate = words[words.index("--crate-name") + 1] if "--crate-name" in words else "?"
-        return crate, "edits" if "rt-edit-" in check["folder"] else "tests" if "--test" in words else "proof"
+        if "rt-edit-" in check["folder"]:
+            kept = words[words.index("--incremental") + 1] if "--incremental" in words else ""
+            return crate, SECOND if os.path.basename(kept) == SEED else "edits"
+        return crate, "tests" if "--test" in words else "proof"
 
     def look(self, now):
         self.count_waiting(now)
