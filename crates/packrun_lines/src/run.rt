@@ -1,6 +1,8 @@
 //! Commands, a line each, from a reader to a writer.
+ghost use Rattle.std.specs.Prelude.{IfSome};
+ghost use Rattle.packrun_lines.specs.Commands.{NamesTwo};
 
-use crate::command::parse;
+use crate::command::{Command, parse};
 use crate::outcome::Outcome;
 use crate::stop::Stop;
 use crate::store::Store;
@@ -63,32 +65,40 @@ fn obey_each<R: Read, W: Write, A: Allocator + Copy>(
 ) -> Result<(), Stop> {
     let mut total = 0u64;
     for number in 1..=u64::MAX {
-        let count = next_line(input, line, out)?;
-        if count == 0 {
+        if !next_line(input, line, &mut total, out)? {
             return Ok(());
         }
-        let Some(sum) = total.checked_add(count as u64) else {
-            return Err(Stop::IoFailed);
-        };
-        total = sum;
         obey_line(store, number, line.as_slice(), out)?;
     }
     Err(Stop::IoFailed)
 }
 
-// Reads the next line, or so much of it that it is too long. How many bytes were read, none at the
-// end of the input. What is printed is flushed before each read.
+// Reads the next line, and adds its bytes to those that were read. Whether there was one.
 fn next_line<R: Read, W: Write, A: Allocator>(
     input: &mut BufReader<R, A>,
     line: &mut Vec<u8, A>,
+    total: &mut u64,
     out: &mut W,
-) -> Result<usize, Stop> {
-    if !input.buffer().contains(&b'\n') {
-        out.flush()?;
-    }
-    Ok(read_line(input, line)?)
+) -> Result<bool, Stop> {
+    flush_before_read(input, out)?;
+    let count = read_line(input, line)? as u64;
+    *total = total.checked_add(count).ok_or(Stop::IoFailed)?;
+    Ok(count > 0)
 }
 
+// Flushes what is printed, where the next line is not buffered to its end.
+fn flush_before_read<R: Read, W: Write, A: Allocator>(
+    input: &BufReader<R, A>,
+    out: &mut W,
+) -> io::Result<()> {
+    if input.buffer().contains(&b'\n') {
+        return Ok(());
+    }
+    out.flush()
+}
+
+// Reads the next line, or so much of it that it is too long. How many bytes were read, none at the
+// end of the input.
 fn read_line<R: Read, A: Allocator>(
     input: &mut BufReader<R, A>,
     line: &mut Vec<u8, A>,
@@ -106,31 +116,47 @@ fn obey_line<W: Write, A: Allocator + Copy>(
     line: &[u8],
     out: &mut W,
 ) -> Result<(), Stop> {
-    let line = line.strip_suffix(b"\n").unwrap_or(line);
-    if line.len() > LONGEST_LINE {
-        return Err(Stop::BadLine(number));
-    }
-    match parse(line) {
+    match command_of(line) {
         Some(command) => store.obey(command, out),
         None => Err(Stop::BadLine(number)),
     }
 }
 
-// Prints the last line, where the end has one.
-fn end<W: Write>(ended: Result<(), Stop>, out: &mut W) -> Outcome {
-    let (outcome, printed) = match ended {
-        Ok(()) => (Outcome::Done, Ok(())),
-        Err(Stop::BadLine(number)) => {
-            (
-                Outcome::BadLine(number),
-                writeln!(out, "line {number} is bad"),
-            )
-        }
-        Err(Stop::NoMemory) => (Outcome::NoMemory, writeln!(out, "Out of memory.")),
-        Err(Stop::IoFailed) => return Outcome::IoFailed,
-    };
-    if printed.is_err() || out.flush().is_err() {
-        return Outcome::IoFailed;
+// What the line says, which may end with its LF, or `None` where it is bad or too long.
+fn command_of(line: &[u8]) -> Option<Command<'_>>
+    ensures { IfSome result NamesTwo }
+{
+    let line = line.strip_suffix(b"\n").unwrap_or(line);
+    if line.len() > LONGEST_LINE {
+        return None;
     }
-    outcome
+    parse(line)
+}
+
+// Prints the last line, where the end has one. How the run ends.
+fn end<W: Write>(ended: Result<(), Stop>, out: &mut W) -> Outcome {
+    let outcome = outcome_of(ended);
+    match print_end(outcome, out) {
+        Ok(()) => outcome,
+        Err(_) => Outcome::IoFailed,
+    }
+}
+
+fn outcome_of(ended: Result<(), Stop>) -> Outcome {
+    match ended {
+        Ok(()) => Outcome::Done,
+        Err(Stop::BadLine(number)) => Outcome::BadLine(number),
+        Err(Stop::NoMemory) => Outcome::NoMemory,
+        Err(Stop::IoFailed) => Outcome::IoFailed,
+    }
+}
+
+fn print_end<W: Write>(outcome: Outcome, out: &mut W) -> io::Result<()> {
+    match outcome {
+        Outcome::Done => {}
+        Outcome::BadLine(number) => writeln!(out, "line {number} is bad")?,
+        Outcome::NoMemory => writeln!(out, "Out of memory.")?,
+        Outcome::IoFailed => return Ok(()),
+    }
+    out.flush()
 }

@@ -103,8 +103,12 @@ impl<A: Allocator + Copy> Store<A> {
         let packed = self
             .session
             .pack(&self.rects, &volume_heuristic, &contains_smallest_box)?;
-        self.rects = GroupedRectsToPlace::new(self.alloc);
+        self.forget_rects();
         Ok(packed)
+    }
+
+    fn forget_rects(&mut self) {
+        self.rects = GroupedRectsToPlace::new(self.alloc);
     }
 
     fn pack<W: Write>(&mut self, out: &mut W) -> Result<(), Stop> {
