@@ -197,9 +197,56 @@ fn pack(seen: &mut Seen, lines: &[Row]) -> Result<bool, AllocError> {
     Ok(is_right)
 }
 
-// Takes over the reply to a command, with the lines of numbers before it. Whether it is right: a
-// bin is refused where its name is known, a release where nothing of its number is placed, a call
-// of a bin where its name is not known, and a packing never.
+// Whether a call may be refused: a bin where its name is known, a release where nothing of its
+// number is placed, a call of a bin where its name is not known, and a packing never.
+fn may_be_refused(seen: &mut Seen, verb: &str, name: u32) -> bool {
+    match verb {
+        "bin" => is_known(seen.bins.as_slice(), name),
+        "release" => !release(&mut seen.placed, name),
+        "pack" => false,
+        _ => !is_known(seen.bins.as_slice(), name),
+    }
+}
+
+fn push_bin(seen: &mut Seen, row: Row) -> Result<bool, AllocError> {
+    let is_known = is_known(seen.bins.as_slice(), row[1]);
+    seen.bins.push(row)?;
+    Ok(!is_known)
+}
+
+fn push_box(seen: &mut Seen, row: Row) -> Result<bool, AllocError> {
+    seen.boxes.push(row)?;
+    Ok(true)
+}
+
+// Takes over what was done. Whether it may be done.
+fn take_done(seen: &mut Seen, verb: &str, row: Row) -> Result<bool, AllocError> {
+    match verb {
+        "bin" => push_bin(seen, row),
+        "rect" => push_box(seen, row),
+        "exclude" => Ok(true),
+        "release" => Ok(release(&mut seen.placed, row[1])),
+        "coalesce" | "sweep" => Ok(is_known(seen.bins.as_slice(), row[1])),
+        _ => Ok(false),
+    }
+}
+
+// Takes over an answer that has no lines of numbers. Whether it is right.
+fn take_answer(
+    seen: &mut Seen,
+    row: Row,
+    (verb, answer): (&str, &str),
+) -> Result<bool, AllocError> {
+    match answer {
+        "ok" => take_done(seen, verb, row),
+        "refused:" => Ok(may_be_refused(seen, verb, row[1])),
+        // The line at which the run ends.
+        "line" => Ok(true),
+        _ => Ok(false),
+    }
+}
+
+// Takes over the reply to a command, with the lines of numbers before it. Whether it is right.
 fn take_over(
     alloc: Global,
     seen: &mut Seen,
@@ -208,32 +255,19 @@ fn take_over(
     lines: &[Row],
 ) -> Result<bool, AllocError> {
     let row = row(command);
-    let is_known = is_known(seen.bins.as_slice(), row[1]);
-    let is_right = match (first_word(command), first_word(reply)) {
-        ("bin", "ok") => {
-            seen.bins.push(row)?;
-            !is_known
-        }
-        ("bin", "refused:") => is_known,
-        ("rect", "ok") => {
-            seen.boxes.push(row)?;
-            true
-        }
-        ("exclude", "ok") => true,
-        ("pack", "packed") => return pack(seen, lines),
-        ("release", "ok") => release(&mut seen.placed, row[1]),
-        ("release", "refused:") => !release(&mut seen.placed, row[1]),
-        ("coalesce", "ok") => is_known,
-        ("sweep", "ok") => is_known,
-        ("sections", "sections") => {
-            return Ok(is_known && is_full(alloc, seen, row[1], lines)?);
-        }
-        (word, "refused:") => word != "pack" && !is_known,
-        // The line at which the run ends.
-        (_, "line") => true,
-        _ => false,
-    };
-    Ok(is_right && lines.is_empty())
+    match (first_word(command), first_word(reply)) {
+        ("pack", "packed") => pack(seen, lines),
+        ("sections", "sections") => has_sections(alloc, seen, row[1], lines),
+        words => Ok(lines.is_empty() && take_answer(seen, row, words)?),
+    }
+}
+
+// Whether these are the free sections of a bin that is there.
+fn has_sections(alloc: Global, seen: &Seen, bin: u32, lines: &[Row]) -> Result<bool, AllocError> {
+    if !is_known(seen.bins.as_slice(), bin) {
+        return Ok(false);
+    }
+    is_full(alloc, seen, bin, lines)
 }
 
 // Takes over a line that was printed, where the command of a reply is the next one. Whether it is

@@ -129,18 +129,27 @@ fn write_one(input: &mut Vec<u8>, state: &mut u64, texts: &[&str]) -> Result<(),
     write_text(input, state, "\n")
 }
 
-// New bins, what is packed, and five lines after it.
-fn write_round(input: &mut Vec<u8>, state: &mut u64, round: u8) -> Result<(), AllocError> {
-    write_cubes(input, round)?;
+// At most three entries, and pairs.
+fn write_boxes(input: &mut Vec<u8>, state: &mut u64) -> Result<(), AllocError> {
     write_one(input, state, &TWO)?;
     write_one(input, state, &ONE)?;
     write_one(input, state, &PAIRS)?;
-    write_one(input, state, &PAIRS)?;
-    write_text(input, state, "pack\n")?;
+    write_one(input, state, &PAIRS)
+}
+
+fn write_five(input: &mut Vec<u8>, state: &mut u64) -> Result<(), AllocError> {
     for _ in 0..5 {
         write_one(input, state, &LINES)?;
     }
     Ok(())
+}
+
+// New bins, what is packed, and five lines after it.
+fn write_round(input: &mut Vec<u8>, state: &mut u64, round: u8) -> Result<(), AllocError> {
+    write_cubes(input, round)?;
+    write_boxes(input, state)?;
+    write_text(input, state, "pack\n")?;
+    write_five(input, state)
 }
 
 fn write_rounds(input: &mut Vec<u8>, state: &mut u64) -> Result<(), AllocError> {
@@ -170,9 +179,14 @@ fn end_of(input: &[u8]) -> Outcome {
 fn runs_right(alloc: Global, input: &[u8]) -> Result<bool, AllocError> {
     let mut output = Vec::new(alloc);
     let outcome = run_lines(alloc, &mut &*input, &mut output);
-    let text = str::from_utf8(input).unwrap_or("");
-    let printed = str::from_utf8(output.as_slice()).unwrap_or("");
-    Ok(outcome == end_of(input) && is_right(alloc, text, END, printed)?)
+    if outcome != end_of(input) {
+        return Ok(false);
+    }
+    is_right(alloc, text_of(input), END, text_of(output.as_slice()))
+}
+
+fn text_of(bytes: &[u8]) -> &str {
+    str::from_utf8(bytes).unwrap_or("")
 }
 
 // The next lines run right.
@@ -180,11 +194,7 @@ fn run_drawn(rt: &impl Abort, alloc: Global, state: &mut u64, input: &mut Vec<u8
     input.clear();
     write_lines(input, state).expect(rt, "no memory");
     let is_right = runs_right(alloc, input.as_slice()).expect(rt, "no memory");
-    assert!(rt;
-        is_right,
-        "{}",
-        str::from_utf8(input.as_slice()).unwrap_or("")
-    );
+    assert!(rt; is_right, "{}", text_of(input.as_slice()));
 }
 
 #[test]

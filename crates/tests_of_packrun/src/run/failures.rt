@@ -76,9 +76,13 @@ fn run_with(rt: &impl Abort, alloc: Global, lines: &str, given: Given) -> (Outco
     let (piece, good_writes) = given.writes;
     let mut writer = Kept::new(piece, good_writes);
     let outcome = run_lines(&refusing, &mut reader, &mut writer);
+    gave_back(rt, &refusing, outcome);
+    (outcome, writer)
+}
+
+fn gave_back(rt: &impl Abort, refusing: &Refusing<Global>, outcome: Outcome) {
     assert_eq!(rt; refusing.taken(), 0);
     assert!(rt; is_said(outcome, refusing.refused()));
-    (outcome, writer)
 }
 
 // Whether a run may end so where so many requests were refused.
