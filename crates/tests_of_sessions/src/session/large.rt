@@ -6,6 +6,7 @@ use rectangle_pack::{
     volume_heuristic,
 };
 use std::alloc::{AllocError, Global};
+use std::process::Abort;
 use std::test::Fail;
 use tests_support::boxes::push_units;
 
@@ -91,24 +92,43 @@ fn are_placed(session: &Numbered) -> bool {
     }) && session.outstanding().len() == AGAIN as usize
 }
 
-// A packing whose last box is too tall is rolled back, and the same without it is kept.
+fn is_empty(session: &Numbered) -> bool {
+    are_free(session, COUNT) && session.outstanding().is_empty()
+}
+
+// A packing whose last box is too tall is rolled back.
+fn check_rolled_back(
+    rt: &impl Abort,
+    alloc: Global,
+    session: &mut Numbered,
+) -> Result<(), AllocError> {
+    let mut rects = boxes(alloc, AGAIN)?;
+    rects.push_rect(AGAIN, None, RectToInsert::new(1, 2, 1))?;
+    assert!(rt; pack(session, &rects) == Err(SessionError::NotEnoughBinSpace));
+    assert!(rt; is_empty(session));
+    Ok(())
+}
+
+// The same without that box is kept.
+fn check_kept(rt: &impl Abort, alloc: Global, session: &mut Numbered) -> Result<(), AllocError> {
+    let rects = boxes(alloc, AGAIN)?;
+    let packed = Packed {
+        first: u64::from(COUNT),
+        count: u64::from(AGAIN),
+    };
+    assert!(rt; pack(session, &rects) == Ok(packed));
+    assert!(rt; are_free(session, COUNT - AGAIN) && are_placed(session));
+    Ok(())
+}
+
 #[test]
 fn long_list(rt: HostRuntime) -> Result<(), Fail> {
     let Ok(mut session) = emptied(rt.alloc()) else {
         assert!(rt; false);
         return Ok(());
     };
-    assert!(rt; are_free(&session, COUNT) && session.outstanding().is_empty());
-    let mut rects = boxes(rt.alloc(), AGAIN)?;
-    rects.push_rect(AGAIN, None, RectToInsert::new(1, 2, 1))?;
-    assert!(rt; pack(&mut session, &rects) == Err(SessionError::NotEnoughBinSpace));
-    assert!(rt; are_free(&session, COUNT) && session.outstanding().is_empty());
-    let rects = boxes(rt.alloc(), AGAIN)?;
-    let packed = Packed {
-        first: u64::from(COUNT),
-        count: u64::from(AGAIN),
-    };
-    assert!(rt; pack(&mut session, &rects) == Ok(packed));
-    assert!(rt; are_free(&session, COUNT - AGAIN) && are_placed(&session));
+    assert!(rt; is_empty(&session));
+    check_rolled_back(&rt, rt.alloc(), &mut session)?;
+    check_kept(&rt, rt.alloc(), &mut session)?;
     Ok(())
 }
