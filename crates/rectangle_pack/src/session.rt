@@ -49,8 +49,12 @@ use std::ops::Range;
 /// rects.push_rect(7, None, RectToInsert::new(4, 10, 1))?;
 /// let packed = session.pack(&rects, &volume_heuristic, &contains_smallest_box)?;
 /// assert_eq!(rt; packed.first, 0);
-/// // The box stands at (0, 0, 0). It is given back by its number, and all of the bin is one again.
-/// session.release(packed.first)?;
+/// ```
+///
+/// The box stands at (0, 0, 0). It is given back by its number, and all of the bin is one again.
+///
+/// ```
+/// session.release(0)?;
 /// session.coalesce_all(&"sheet")?;
 /// let sheet = session.bins().get(&"sheet").ok_or("no such bin")?;
 /// let whole = BinSection::new(0, 0, 0, WidthHeightDepth::new(10, 10, 1));

@@ -97,13 +97,10 @@ where
     /// `UnknownBin` says that there is no such bin; this is looked at first. `OutOfMemory` says
     /// that a growth was refused.
     ///
+    /// Once the box of the first example of `Session` is packed, it stands at (0, 0, 0), and what is
+    /// right of it is free.
+    ///
     /// ```
-    /// let mut session: Session<u32, &'static str> = Session::new(alloc, 0);
-    /// session.add_bin("sheet", 10, 10, 1)?;
-    /// let mut rects: GroupedRectsToPlace<u32, u32> = GroupedRectsToPlace::new(alloc);
-    /// rects.push_rect(7, None, RectToInsert::new(4, 10, 1))?;
-    /// session.pack(&rects, &volume_heuristic, &contains_smallest_box)?;
-    /// // The box stands at (0, 0, 0), and what is right of it is free.
     /// let plan = session.cut_plan(&"sheet")?.ok_or("no such cuts")?;
     /// let cut = CutStep::Cut {
     ///     axis: Axis::X,
