@@ -64,7 +64,11 @@ use std::mem;
 ///     &volume_heuristic,
 ///     &contains_smallest_box,
 /// )?;
-/// // The larger box goes first, and the other one beside it.
+/// ```
+///
+/// The larger box goes first, and the other one beside it:
+///
+/// ```
 /// let ids = packed.placements().iter().map(|placed| placed.id);
 /// assert!(rt; ids.eq([8, 7]));
 /// let (bin, location) = packed.packed_locations().get(&7).ok_or("not placed")?;

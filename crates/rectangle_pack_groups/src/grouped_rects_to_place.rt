@@ -141,7 +141,11 @@ impl<Id: Ord + Clone + Drop, GroupId: Ord + Clone + Drop, A: Allocator + Copy> G
     /// let groups = vec![in alloc; "game"]?;
     /// rects.push_rect(8, Some(groups), RectToInsert::new(5, 50, 1))?;
     /// rects.push_rect(9, None, RectToInsert::new(30, 30, 1))?;
-    /// // Box 9 alone, and the boxes of the two groups.
+    /// ```
+    ///
+    /// There are three groups now: box 9 alone, and the two that are named.
+    ///
+    /// ```
     /// assert_eq!(rt; rects.groups().len(), 3);
     /// let game = rects
     ///     .groups()

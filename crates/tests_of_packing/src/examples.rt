@@ -1,36 +1,31 @@
 //! The examples of the README and of the library's documentation, but those of sessions.
 
+use crate::pack::{add_bin, pack};
 use rectangle_pack::{
-    BinSection, FitTests, Group, GroupedRectsToPlace, Placement, RectToInsert, TargetBin,
-    WidthHeightDepth, contains_smallest_box, pack_rects, volume_heuristic,
+    BinSection, FitTests, Group, GroupedRectsToPlace, Placement, RectToInsert, RectanglePackOk,
+    TargetBin, WidthHeightDepth, contains_smallest_box, pack_rects, volume_heuristic,
     volume_packing_has_one_result,
 };
+use std::alloc::{AllocError, Global};
 use std::collections::BTreeMap;
 use std::test::Fail;
 
-#[test]
-fn readme(rt: HostRuntime) -> Result<(), Fail> {
-    let alloc = rt.alloc();
+// The hat and the shoe go together, the tree alone.
+fn sprites(alloc: Global) -> Result<GroupedRectsToPlace<&'static str, &'static str>, AllocError> {
     let mut rects: GroupedRectsToPlace<&'static str, &'static str> = GroupedRectsToPlace::new(
         alloc,
     );
-    let sprites = vec![in alloc; "sprites"]?;
-    rects.push_rect("hat", Some(sprites), RectToInsert::new(10, 20, 255))?;
-    let sprites = vec![in alloc; "sprites"]?;
-    rects.push_rect("shoe", Some(sprites), RectToInsert::new(5, 50, 255))?;
+    for (id, width, height) in [("hat", 10, 20), ("shoe", 5, 50)] {
+        let sprites = vec![in alloc; "sprites"]?;
+        rects.push_rect(id, Some(sprites), RectToInsert::new(width, height, 255))?;
+    }
     rects.push_rect("tree", None, RectToInsert::new(30, 30, 255))?;
+    Ok(rects)
+}
 
-    let mut bins = BTreeMap::new(alloc);
-    bins.insert("atlas", TargetBin::new(alloc, 2048, 2048, 255)?)?;
-
-    let packed = pack_rects(
-        alloc,
-        &rects,
-        &mut bins,
-        &volume_heuristic,
-        &contains_smallest_box,
-    );
-    for Placement { id, bin, location } in packed.ok().ok_or("refused")?.placements() {
+// Prints the placements.
+fn print(rt: &HostRuntime, packed: &RectanglePackOk<&str, &str>) -> Result<(), Fail> {
+    for Placement { id, bin, location } in packed.placements() {
         let (x, y, z) = (location.x(), location.y(), location.z());
         println!(rt; "{id} in {bin} at {x} {y} {z}")?;
     }
@@ -38,8 +33,17 @@ fn readme(rt: HostRuntime) -> Result<(), Fail> {
 }
 
 #[test]
-fn pack_rects_places_boxes(rt: HostRuntime) -> Result<(), Fail> {
-    let alloc = rt.alloc();
+fn readme(rt: HostRuntime) -> Result<(), Fail> {
+    let rects = sprites(rt.alloc())?;
+    let mut bins = BTreeMap::new(rt.alloc());
+    add_bin(rt.alloc(), &mut bins, "atlas", [2048, 2048, 255])?;
+    let packed = pack(rt.alloc(), &rects, &mut bins)?;
+    print(&rt, &packed)
+}
+
+// The example of `pack_rects` has two blocks, and so it stands in two functions, as does that of
+// `push_rect`.
+fn pack_two_boxes(alloc: Global) -> Result<RectanglePackOk<u32, u32>, Fail> {
     let mut rects: GroupedRectsToPlace<u32, u32> = GroupedRectsToPlace::new(alloc);
     rects.push_rect(7, None, RectToInsert::new(2, 3, 1))?;
     rects.push_rect(8, None, RectToInsert::new(4, 4, 1))?;
@@ -52,7 +56,12 @@ fn pack_rects_places_boxes(rt: HostRuntime) -> Result<(), Fail> {
         &volume_heuristic,
         &contains_smallest_box,
     )?;
-    // The larger box goes first, and the other one beside it.
+    Ok(packed)
+}
+
+#[test]
+fn pack_rects_places_boxes(rt: HostRuntime) -> Result<(), Fail> {
+    let packed = pack_two_boxes(rt.alloc())?;
     let ids = packed.placements().iter().map(|placed| placed.id);
     assert!(rt; ids.eq([8, 7]));
     let (bin, location) = packed.packed_locations().get(&7).ok_or("not placed")?;
@@ -61,16 +70,19 @@ fn pack_rects_places_boxes(rt: HostRuntime) -> Result<(), Fail> {
     Ok(())
 }
 
-#[test]
-fn push_rect_puts_a_box_into_groups(rt: HostRuntime) -> Result<(), Fail> {
-    let alloc = rt.alloc();
+fn push_three_boxes(alloc: Global) -> Result<GroupedRectsToPlace<u32, &'static str>, AllocError> {
     let mut rects: GroupedRectsToPlace<u32, &'static str> = GroupedRectsToPlace::new(alloc);
     let groups = vec![in alloc; "menu", "game"]?;
     rects.push_rect(7, Some(groups), RectToInsert::new(10, 20, 1))?;
     let groups = vec![in alloc; "game"]?;
     rects.push_rect(8, Some(groups), RectToInsert::new(5, 50, 1))?;
     rects.push_rect(9, None, RectToInsert::new(30, 30, 1))?;
-    // Box 9 alone, and the boxes of the two groups.
+    Ok(rects)
+}
+
+#[test]
+fn push_rect_puts_a_box_into_groups(rt: HostRuntime) -> Result<(), Fail> {
+    let rects = push_three_boxes(rt.alloc())?;
     assert_eq!(rt; rects.groups().len(), 3);
     let game = rects
         .groups()

@@ -1,5 +1,6 @@
 //! `pack_rects` and `pack_rects_counted`: packings as data, and what comes of them.
 ghost use Rattle.rectangle_pack.specs.Closures.{AreCallable};
+ghost use Rattle.rectangle_pack.specs.Clones.{ClonesEqual};
 
 mod answers;
 mod asked;
@@ -14,20 +15,29 @@ mod placements;
 mod texts;
 
 use rectangle_pack::{
-    RectanglePackError, RectanglePackOk, TargetBin, WidthHeightDepth, contains_smallest_box,
-    pack_rects, volume_heuristic,
+    FitTests, GroupedRectsToPlace, Placement, RectanglePackError, RectanglePackOk, TargetBin,
+    WidthHeightDepth, contains_smallest_box, pack_rects, pack_rects_counted, volume_heuristic,
 };
-use std::alloc::{AllocError, Global};
+use std::alloc::{AllocError, Allocator, Global};
 use std::cmp::Ordering;
 use std::collections::BTreeMap;
 use std::process::Abort;
-use tests_support::boxes::{Bins, GroupName, SizedBin, SizedBox, collect};
+use tests_support::boxes::{GroupName, SizedBin, SizedBox, collect};
 use tests_support::each_request::End;
 use tests_support::refusing::Refusing;
 use tests_support::shapes::{has_list, is_new, place};
 
+/// Boxes to place, by numbers.
+pub type Rects<A> = GroupedRectsToPlace<u32, u32, A>;
+
+/// Bins by numbers.
+pub type Bins<A> = BTreeMap<u32, TargetBin<A>, A>;
+
 /// What a packing placed.
-pub type Packed<'a> = RectanglePackOk<u32, u32, &'a Refusing<Global>>;
+pub type Packed<A> = RectanglePackOk<u32, u32, A>;
+
+/// A packing that is done or refused.
+pub type Answer<A> = Result<Packed<A>, RectanglePackError>;
 
 /// A placement: box, bin and place.
 pub type Placed = (u32, u32, [u32; 6]);
@@ -80,34 +90,52 @@ pub const FULL_BIN: Case = Case {
     placements: None,
 };
 
+/// Puts in a new bin of this size.
+pub fn add_bin<BinId: Ord + Drop, A: Allocator + Copy>(
+    alloc: A,
+    bins: &mut BTreeMap<BinId, TargetBin<A>, A>,
+    id: BinId,
+    size: [u32; 3],
+) -> Result<(), AllocError> {
+    let [width, height, depth] = size;
+    bins.insert(id, TargetBin::new(alloc, width, height, depth)?)?;
+    Ok(())
+}
+
 /// Puts in the bins of the case, each new.
-pub fn add_bins<'a>(
-    alloc: &'a Refusing<Global>,
+pub fn add_bins<A: Allocator + Copy>(
+    alloc: A,
     case: &Case,
-    bins: &mut Bins<'a>,
+    bins: &mut Bins<A>,
 ) -> Result<(), AllocError> {
     let rows = case.bins;
     for (id, size, _) in rows {
-        let [width, height, depth] = *size;
-        bins.insert(*id, TargetBin::new(alloc, width, height, depth)?)?;
+        add_bin(alloc, bins, *id, *size)?;
     }
     Ok(())
 }
 
+// Whether the bin of this id is there and has this list.
+fn has_bin<A: Allocator + Copy>(bins: &Bins<A>, id: u32, list: &[[u32; 6]]) -> bool {
+    match bins.get(&id) {
+        Some(bin) => has_list(bin, list),
+        None => false,
+    }
+}
+
 // Whether the bins have the lists of the case.
-fn have_lists(bins: &Bins, case: &Case) -> bool {
+fn have_lists<A: Allocator + Copy>(bins: &Bins<A>, case: &Case) -> bool {
     let rows = case.bins;
     for (id, _, list) in rows {
-        match bins.get(id) {
-            Some(bin) if has_list(bin, list) => {}
-            _ => return false,
+        if !has_bin(bins, *id, list) {
+            return false;
         }
     }
     bins.len() == rows.len()
 }
 
-// Whether each bin is as it was when it was new.
-fn are_new(bins: &Bins) -> bool {
+/// Whether each bin is as it was when it was new.
+pub fn are_new<BinId: Ord, A: Allocator + Copy>(bins: &BTreeMap<BinId, TargetBin<A>, A>) -> bool {
     for bin in bins.values() {
         if !is_new(bin) {
             return false;
@@ -127,11 +155,20 @@ fn last_of(placed: &[Placed], id: u32) -> Option<(u32, [u32; 6])> {
     last
 }
 
+// Whether the box of the placement is found, and the placement is this one.
+fn is_placed<A: Allocator + Copy>(
+    packed: &Packed<A>,
+    placed: &Placement<u32, u32>,
+    wanted: &Placed,
+) -> bool {
+    packed.packed_locations().contains_key(&placed.id)
+        && (placed.id, placed.bin, place(&placed.location)) == *wanted
+}
+
 // Whether the placements are these, in order, and the box of each is found.
-fn has_placements(packed: &Packed, wanted: &[Placed]) -> bool {
+fn has_placements<A: Allocator + Copy>(packed: &Packed<A>, wanted: &[Placed]) -> bool {
     for (placed, row) in packed.placements().iter().zip(wanted.iter()) {
-        let is_found = packed.packed_locations().contains_key(&placed.id);
-        if !is_found || (placed.id, placed.bin, place(&placed.location)) != *row {
+        if !is_placed(packed, placed, row) {
             return false;
         }
     }
@@ -139,7 +176,7 @@ fn has_placements(packed: &Packed, wanted: &[Placed]) -> bool {
 }
 
 // Whether each box that is found is found at the last of these placements of it.
-fn finds_last(packed: &Packed, wanted: &[Placed]) -> bool {
+fn finds_last<A: Allocator + Copy>(packed: &Packed<A>, wanted: &[Placed]) -> bool {
     for (id, (bin, location)) in packed.packed_locations() {
         if last_of(wanted, *id) != Some((*bin, place(location))) {
             return false;
@@ -148,27 +185,69 @@ fn finds_last(packed: &Packed, wanted: &[Placed]) -> bool {
     true
 }
 
+// Whether the answer is that of the case.
+fn is_answer<A: Allocator + Copy>(answer: &Answer<A>, case: &Case) -> bool {
+    match (answer, case.placements) {
+        (Ok(packed), Some(wanted)) => {
+            has_placements(packed, wanted) && finds_last(packed, wanted)
+        }
+        (Err(_), None) => true,
+        _ => false,
+    }
+}
+
 /// Where a request was refused the bins are as they were new, and else the case came out.
-pub fn ends(
+pub fn ends<A: Allocator + Copy>(
     rt: &impl Abort,
-    answer: &Result<Packed, RectanglePackError>,
-    bins: &Bins,
+    answer: &Answer<A>,
+    bins: &Bins<A>,
     case: &Case,
 ) -> End {
     if let Err(RectanglePackError::OutOfMemory) = answer {
         assert!(rt; are_new(bins), "{bins:?}");
         return End::Refused;
     }
-    let is_so = match (answer, case.placements) {
-        (Ok(packed), Some(wanted)) => {
-            has_placements(packed, wanted) && finds_last(packed, wanted)
-        }
-        (Err(_), None) => true,
-        _ => false,
-    };
-    assert!(rt; is_so, "{answer:?}");
+    assert!(rt; is_answer(answer, case), "{answer:?}");
     assert!(rt; have_lists(bins, case), "{bins:?}");
     End::Done
+}
+
+/// Packs the boxes by volumes and smallest boxes.
+pub fn pack<Id, GroupId, A>(
+    alloc: A,
+    rects: &GroupedRectsToPlace<Id, GroupId, A>,
+    bins: &mut BTreeMap<Id, TargetBin<A>, A>,
+) -> Result<RectanglePackOk<Id, Id, A>, RectanglePackError>
+where
+    Id: Ord + Clone + Drop,
+    GroupId: Ord + Clone + Drop,
+    A: Allocator + Copy,
+    requires { ClonesEqual Id.is_clone Id.eq }
+{
+    pack_rects(
+        alloc,
+        rects,
+        bins,
+        &volume_heuristic,
+        &contains_smallest_box,
+    )
+}
+
+/// The same, and adds the fit tests to a counter.
+pub fn pack_counted<A: Allocator + Copy>(
+    alloc: A,
+    rects: &Rects<A>,
+    bins: &mut Bins<A>,
+    tests: &mut FitTests,
+) -> Answer<A> {
+    pack_rects_counted(
+        alloc,
+        rects,
+        bins,
+        &volume_heuristic,
+        &contains_smallest_box,
+        tests,
+    )
 }
 
 /// Packs the boxes of the case into these bins, by closures that are handed on.
@@ -176,7 +255,7 @@ pub fn packs_into<'a, H, C>(
     rt: &impl Abort,
     alloc: &'a Refusing<Global>,
     case: &Case,
-    bins: &mut Bins<'a>,
+    bins: &mut Bins<&'a Refusing<Global>>,
     heuristic: &H,
     comparison: &C,
 ) -> End
@@ -212,17 +291,15 @@ where
     packs_into(rt, alloc, case, &mut bins, heuristic, comparison)
 }
 
+/// The same, by volumes and smallest boxes.
+pub fn packs_by_volume(rt: &impl Abort, alloc: &Refusing<Global>, case: &Case) -> End {
+    packs(rt, alloc, case, &volume_heuristic, &contains_smallest_box)
+}
+
 /// Each case comes out, by volume.
 pub fn pack_by_volume(rt: &impl Abort, alloc: Global, cases: &[Case]) {
     for case in cases {
         let refusing = Refusing::new(alloc, u64::MAX);
-        let end = packs(
-            rt,
-            &refusing,
-            case,
-            &volume_heuristic,
-            &contains_smallest_box,
-        );
-        assert_eq!(rt; end, End::Done);
+        assert_eq!(rt; packs_by_volume(rt, &refusing, case), End::Done);
     }
 }

@@ -1,17 +1,17 @@
 //! Packings whose ids refuse to be cloned, each clone in turn until none is refused.
 
-use super::{Placed, TWO_IN_A_GROUP};
-use rectangle_pack::{
-    GroupedRectsToPlace, Placement, RectanglePackError, TargetBin, contains_smallest_box,
-    pack_rects, volume_heuristic,
-};
+use super::{Placed, TWO_IN_A_GROUP, add_bin, are_new, pack};
+use rectangle_pack::{GroupedRectsToPlace, Placement, RectanglePackError, RectanglePackOk};
 use std::alloc::{AllocError, Global};
 use std::cell::Cell;
 use std::collections::BTreeMap;
 use std::process::Abort;
 use tests_support::names::{Bins, Name, Rects, have_lists, push_all};
 use tests_support::refusing::Refusing;
-use tests_support::shapes::{is_new, place};
+use tests_support::shapes::place;
+
+// What a packing placed.
+type Packed<'a> = RectanglePackOk<Name<'a>, Name<'a>, &'a Refusing<Global>>;
 
 // Adds the bins of the case.
 fn add_bins<'a>(
@@ -21,35 +21,34 @@ fn add_bins<'a>(
 ) -> Result<(), AllocError> {
     let rows = TWO_IN_A_GROUP.bins;
     for row in rows {
-        let (number, [width, height, depth], _) = *row;
-        let bin = TargetBin::new(alloc, width, height, depth)?;
-        bins.insert(Name { number, left }, bin)?;
+        let (number, size, _) = *row;
+        add_bin(alloc, bins, Name { number, left }, size)?;
     }
     Ok(())
 }
 
-fn are_new(bins: &Bins<'_>) -> bool {
-    for bin in bins.values() {
-        if !is_new(bin) {
-            return false;
-        }
-    }
-    true
+// Whether the placement is this one.
+fn is_placed(placement: &Placement<Name<'_>, Name<'_>>, wanted: &Placed) -> bool {
+    let Placement { id, bin, location } = placement;
+    (id.number, bin.number, place(location)) == *wanted
 }
 
 // Whether these are the placements.
 fn are_placed(placements: &[Placement<Name<'_>, Name<'_>>], all: &[Placed]) -> bool {
-    for (placement, (id, bin, at)) in placements.iter().zip(all.iter()) {
-        let Placement {
-            id: name,
-            bin: bin_name,
-            location,
-        } = placement;
-        if name.number != *id || bin_name.number != *bin || place(location) != *at {
+    for (placement, wanted) in placements.iter().zip(all.iter()) {
+        if !is_placed(placement, wanted) {
             return false;
         }
     }
     placements.len() == all.len()
+}
+
+// Whether the case came out.
+fn has_come_out(packed: &Packed<'_>, bins: &Bins<'_>) -> bool {
+    let wanted = TWO_IN_A_GROUP.placements.unwrap_or(&[]);
+    are_placed(packed.placements(), wanted)
+        && packed.packed_locations().len() == 3
+        && have_lists(bins, TWO_IN_A_GROUP.bins)
 }
 
 // Whether no clone was refused. If one was, the bins are as they were.
@@ -59,31 +58,37 @@ fn packs<'a>(
     rects: &Rects<'a>,
     bins: &mut Bins<'a>,
 ) -> bool {
-    let heuristic = &volume_heuristic;
-    match pack_rects(alloc, rects, bins, heuristic, &contains_smallest_box) {
+    match pack(alloc, rects, bins) {
         Err(error) => {
-            assert_eq!(rt; error, RectanglePackError::OutOfMemory);
-            assert!(rt; are_new(bins));
+            assert!(rt; error == RectanglePackError::OutOfMemory && are_new(bins));
             false
         }
         Ok(packed) => {
-            let wanted = TWO_IN_A_GROUP.placements.unwrap_or(&[]);
-            assert!(rt; are_placed(packed.placements(), wanted));
-            assert_eq!(rt; packed.packed_locations().len(), 3);
-            assert!(rt; have_lists(bins, TWO_IN_A_GROUP.bins));
+            assert!(rt; has_come_out(&packed, bins));
             true
         }
     }
 }
 
-// Whether so many clones were enough for a packing.
-fn is_packed(rt: &impl Abort, alloc: &Refusing<Global>, left: &Cell<u64>, clones: u64) -> bool {
+// Packs the case into these bins. Whether so many clones were enough.
+fn packs_with<'a>(
+    rt: &impl Abort,
+    alloc: &'a Refusing<Global>,
+    left: &'a Cell<u64>,
+    clones: u64,
+    bins: &mut Bins<'a>,
+) -> bool {
     let mut rects = GroupedRectsToPlace::new(alloc);
     assert!(rt; push_all(&mut rects, alloc, left, TWO_IN_A_GROUP.boxes).is_ok());
+    left.set(clones);
+    packs(rt, alloc, &rects, bins)
+}
+
+// Whether so many clones were enough for a packing.
+fn is_packed(rt: &impl Abort, alloc: &Refusing<Global>, left: &Cell<u64>, clones: u64) -> bool {
     let mut bins = BTreeMap::new(alloc);
     assert!(rt; add_bins(&mut bins, alloc, left).is_ok());
-    left.set(clones);
-    packs(rt, alloc, &rects, &mut bins)
+    packs_with(rt, alloc, left, clones, &mut bins)
 }
 
 // How many clones are enough for a packing. All memory is given back.

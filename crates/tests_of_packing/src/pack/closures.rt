@@ -121,8 +121,7 @@ fn longest_side(size: WidthHeightDepth) -> u128 {
 #[test]
 fn heuristic_written_by_hand(rt: HostRuntime) {
     let refusing = Refusing::new(rt.alloc(), u64::MAX);
-    let case = &LONG_BEFORE_SQUARE;
-    let end = packs(&rt, &refusing, case, &longest_side, &contains_smallest_box);
+    let end = packs_by(&rt, &refusing, &LONG_BEFORE_SQUARE, &longest_side);
     assert!(rt; end == End::Done);
 }
 
@@ -152,13 +151,7 @@ fn comparison_written_by_hand(rt: HostRuntime) {
 fn closure_that_rates_by_volume(rt: HostRuntime) {
     let refusing = Refusing::new(rt.alloc(), u64::MAX);
     let volume = |size: WidthHeightDepth| size.volume();
-    let end = packs(
-        &rt,
-        &refusing,
-        &TWO_IN_A_GROUP,
-        &volume,
-        &contains_smallest_box,
-    );
+    let end = packs_by(&rt, &refusing, &TWO_IN_A_GROUP, &volume);
     assert!(rt; end == End::Done);
     volume_packing_has_one_result::<u32, u32, u32, _, _, _, _>(
         &volume,

@@ -1,12 +1,9 @@
 //! Groups that are excluded, and the fit tests of whole packings.
 
 use super::placements::{FULL_AND_EMPTY, THREE_BOXES};
-use super::{Case, add_bins, ends, pack_by_volume, packs};
-use rectangle_pack::{
-    FitTests, Group, contains_smallest_box, pack_rects_counted, volume_heuristic,
-};
+use super::{Bins, Case, add_bins, ends, pack_by_volume, pack_counted, packs_by_volume};
+use rectangle_pack::{FitTests, Group};
 use std::alloc::Global;
-use std::collections::BTreeMap;
 use std::process::Abort;
 use tests_support::boxes::{GroupName, collect};
 use tests_support::each_request::End;
@@ -109,24 +106,40 @@ const COUNTED: &[(Case, u128)] = &[
     (ONE_GROUP, 15 + 1),
 ];
 
-/// Packs the case by volume, and adds its fit tests to a counter.
-pub fn counts(rt: &impl Abort, alloc: &Refusing<Global>, case: &Case, tests: &mut FitTests) -> End {
+// Packs the case into these bins.
+fn counts_into<'a>(
+    rt: &impl Abort,
+    alloc: &'a Refusing<Global>,
+    case: &Case,
+    bins: &mut Bins<&'a Refusing<Global>>,
+    tests: &mut FitTests,
+) -> End {
     let Ok(rects) = collect(alloc, case.boxes, case.excluded) else {
         return End::Before;
     };
-    let mut bins = BTreeMap::new(alloc);
+    let answer = pack_counted(alloc, &rects, bins, tests);
+    ends(rt, &answer, bins, case)
+}
+
+/// Packs the case by volume, and adds its fit tests to a counter.
+pub fn counts(rt: &impl Abort, alloc: &Refusing<Global>, case: &Case, tests: &mut FitTests) -> End {
+    let mut bins = Bins::new(alloc);
     if add_bins(alloc, case, &mut bins).is_err() {
         return End::Before;
     }
-    let answer = pack_rects_counted(
-        alloc,
-        &rects,
-        &mut bins,
-        &volume_heuristic,
-        &contains_smallest_box,
-        tests,
-    );
-    ends(rt, &answer, &bins, case)
+    counts_into(rt, alloc, case, &mut bins, tests)
+}
+
+// The packing of the case is done, and leaves the counter at this count.
+fn counts_up_to(
+    rt: &impl Abort,
+    alloc: &Refusing<Global>,
+    case: &Case,
+    count: u128,
+    tests: &mut FitTests,
+) {
+    let end = counts(rt, alloc, case, tests);
+    assert!(rt; end == End::Done && tests.count() == count, "{count}");
 }
 
 // Each packing adds its tests to those of the ones before; without groups none is added.
@@ -135,8 +148,7 @@ fn counted_packings(rt: HostRuntime) {
     let refusing = Refusing::new(rt.alloc(), u64::MAX);
     let mut tests = FitTests::new();
     for (case, count) in COUNTED {
-        let end = counts(&rt, &refusing, case, &mut tests);
-        assert!(rt; end == End::Done && tests.count() == *count, "{count}");
+        counts_up_to(&rt, &refusing, case, *count, &mut tests);
     }
 }
 
@@ -145,14 +157,7 @@ fn counted_packings(rt: HostRuntime) {
 fn packings(rt: HostRuntime) {
     let refusing = Refusing::new(rt.alloc(), u64::MAX);
     for (case, _) in COUNTED {
-        let end = packs(
-            &rt,
-            &refusing,
-            case,
-            &volume_heuristic,
-            &contains_smallest_box,
-        );
-        assert!(rt; end == End::Done);
+        assert!(rt; packs_by_volume(&rt, &refusing, case) == End::Done);
     }
 }
 

@@ -1,21 +1,19 @@
 //! Packings past small sizes: fifty bins, fifty pairs of groups, and five hundred boxes.
 
-use super::answers::{Bins, Rects, pack};
-use rectangle_pack::{
-    Group, Placement, RectToInsert, TargetBin, contains_smallest_box, pack_rects, volume_heuristic,
-};
-use std::alloc::{AllocError, Global};
+use super::{Answer, Bins, Rects, add_bin, pack};
+use rectangle_pack::{Group, Placement, RectToInsert, RectanglePackError};
+use std::alloc::{AllocError, Allocator, Global};
 use std::process::Abort;
 use std::test::Fail;
-use tests_support::boxes::{self, push_units};
+use tests_support::boxes::push_units;
 use tests_support::refusing::Refusing;
 use tests_support::shapes::named;
 
 const COUNT: u32 = 50;
 
-fn add_cells(alloc: Global, bins: &mut Bins) -> Result<(), AllocError> {
+fn add_cells(alloc: Global, bins: &mut Bins<Global>) -> Result<(), AllocError> {
     for id in 0..COUNT {
-        bins.insert(id, TargetBin::new(alloc, 1, 1, 1)?)?;
+        add_bin(alloc, bins, id, [1, 1, 1])?;
     }
     Ok(())
 }
@@ -31,20 +29,27 @@ fn are_in_turn(placements: &[Placement<u32, u32>], count: u32, last: u32) -> boo
     placements.len() == count as usize
 }
 
+// Packs so many boxes of one cell.
+fn pack_units<A: Allocator + Copy>(alloc: A, count: u32, bins: &mut Bins<A>) -> Answer<A> {
+    let mut rects = Rects::new(alloc);
+    match push_units(&mut rects, count) {
+        Ok(()) => pack(alloc, &rects, bins),
+        Err(_) => Err(RectanglePackError::OutOfMemory),
+    }
+}
+
 // Each bin holds one cell, and there are as many boxes of one cell.
 #[test]
 fn fifty_bins(rt: HostRuntime) -> Result<(), Fail> {
-    let mut rects = Rects::new(rt.alloc());
     let mut bins = Bins::new(rt.alloc());
-    push_units(&mut rects, COUNT)?;
     add_cells(rt.alloc(), &mut bins)?;
-    let packed = pack(rt.alloc(), &rects, &mut bins)?;
+    let packed = pack_units(rt.alloc(), COUNT, &mut bins)?;
     assert!(rt; are_in_turn(packed.placements(), COUNT, COUNT));
     Ok(())
 }
 
 // Excludes group 0 and another one.
-fn exclude(rects: &mut Rects, other: u32) -> Result<(), AllocError> {
+fn exclude(rects: &mut Rects<Global>, other: u32) -> Result<(), AllocError> {
     let (zero, other) = (Group::Grouped(0), Group::Grouped(other));
     if zero == other {
         return Ok(());
@@ -53,7 +58,7 @@ fn exclude(rects: &mut Rects, other: u32) -> Result<(), AllocError> {
 }
 
 // Group 0 goes first, since its box is the largest. Each of fifty others is excluded with it.
-fn push_apart(alloc: Global, rects: &mut Rects) -> Result<(), AllocError> {
+fn push_apart(alloc: Global, rects: &mut Rects<Global>) -> Result<(), AllocError> {
     rects.push_rect(0, named(alloc, &[0])?, RectToInsert::new(2, 1, 1))?;
     for id in 1..=COUNT {
         rects.push_rect(id, named(alloc, &[id])?, RectToInsert::new(1, 1, 1))?;
@@ -62,8 +67,16 @@ fn push_apart(alloc: Global, rects: &mut Rects) -> Result<(), AllocError> {
     Ok(())
 }
 
-fn are_excluded(rects: &Rects) -> bool {
+fn are_excluded(rects: &Rects<Global>) -> bool {
     (1..=COUNT).all(|id| rects.excluded(&Group::Grouped(id), &Group::Grouped(0)))
+}
+
+// Whether box 0 alone is in the first bin.
+fn are_apart(alloc: Global, rects: &Rects<Global>, bins: &mut Bins<Global>) -> bool {
+    match pack(alloc, rects, bins) {
+        Ok(packed) => are_in_turn(packed.placements(), COUNT + 1, 1),
+        Err(_) => false,
+    }
 }
 
 // Either bin has room for all, and box 0 alone is in the first.
@@ -72,37 +85,34 @@ fn fifty_pairs(rt: HostRuntime) -> Result<(), Fail> {
     let mut rects = Rects::new(rt.alloc());
     let mut bins = Bins::new(rt.alloc());
     push_apart(rt.alloc(), &mut rects)?;
+    add_bin(rt.alloc(), &mut bins, 0, [52, 1, 1])?;
+    add_bin(rt.alloc(), &mut bins, 1, [53, 1, 1])?;
     assert!(rt; are_excluded(&rects));
-    bins.insert(0, TargetBin::new(rt.alloc(), 52, 1, 1)?)?;
-    bins.insert(1, TargetBin::new(rt.alloc(), 53, 1, 1)?)?;
-    let packed = pack(rt.alloc(), &rects, &mut bins)?;
-    assert!(rt; are_in_turn(packed.placements(), COUNT + 1, 1));
+    assert!(rt; are_apart(rt.alloc(), &rects, &mut bins));
     Ok(())
 }
 
-fn packs<'a>(
-    rt: &impl Abort,
-    alloc: &'a Refusing<Global>,
-    bins: &mut boxes::Bins<'a>,
-) -> Result<(), Fail> {
-    bins.insert(0u32, TargetBin::new(alloc, 25, 20, 1)?)?;
-    let mut rects = boxes::Rects::new(alloc);
-    push_units(&mut rects, 500)?;
-    let packed = pack_rects(
-        alloc,
-        &rects,
-        bins,
-        &volume_heuristic,
-        &contains_smallest_box,
-    )?;
-    assert_eq!(rt; packed.placements().len(), 500);
-    assert!(rt; matches!(bins.get(&0), Some(bin) if bin.available_bin_sections().is_empty()));
-    Ok(())
+// Whether no cell of the bin 0 is free.
+fn is_full<A: Allocator + Copy>(bins: &Bins<A>) -> bool {
+    match bins.get(&0) {
+        Some(bin) => bin.available_bin_sections().is_empty(),
+        None => false,
+    }
 }
 
-fn one_packing(rt: &impl Abort, alloc: &Refusing<Global>) -> Result<(), Fail> {
-    let mut bins = boxes::Bins::new(alloc);
-    packs(rt, alloc, &mut bins)
+// Whether five hundred boxes of one cell are placed and fill the bin.
+fn fill<A: Allocator + Copy>(alloc: A, bins: &mut Bins<A>) -> bool {
+    match pack_units(alloc, 500, bins) {
+        Ok(packed) => packed.placements().len() == 500 && is_full(bins),
+        Err(_) => false,
+    }
+}
+
+fn one_packing(rt: &impl Abort, alloc: &Refusing<Global>) -> Result<(), AllocError> {
+    let mut bins = Bins::new(alloc);
+    add_bin(alloc, &mut bins, 0, [25, 20, 1])?;
+    assert!(rt; fill(alloc, &mut bins));
+    Ok(())
 }
 
 // Boxes of one cell fill a bin. All memory is given back.

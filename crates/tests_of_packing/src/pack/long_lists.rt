@@ -1,24 +1,27 @@
 //! Packings into lists of more than a thousand free sections, which stand in slots.
 
-use rectangle_pack::{
-    FitTests, RectToInsert, RectanglePackError, contains_smallest_box, pack_rects_counted,
-    volume_heuristic,
-};
-use std::alloc::{AllocError, Global};
+use super::{Answer, Bins, Rects, pack_counted};
+use rectangle_pack::{FitTests, Placement, RectToInsert, RectanglePackError};
+use std::alloc::{AllocError, Allocator, Global};
 use std::process::Abort;
 use std::test::Fail;
-use tests_support::boxes::{Bins, Rects};
 use tests_support::combs::{BOXES, TESTS, WIDE_BOXES, box_of, comb, free_at, has_left, index_of};
 use tests_support::each_request::{End, is_refused};
 use tests_support::refusing::Refusing;
 
-// Each box alone under its number. One that is too tall has as many cells as a wide one, and so
-// comes after the wide ones.
-fn rects<'a>(alloc: &'a Refusing<Global>, too_tall: bool) -> Result<Rects<'a>, AllocError> {
-    let mut rects = Rects::new(alloc);
+// Pushes each box alone under its number.
+fn push_all<A: Allocator + Copy>(rects: &mut Rects<A>) -> Result<(), AllocError> {
     for number in 0..BOXES {
         rects.push_rect(number, None, box_of(number))?;
     }
+    Ok(())
+}
+
+// All boxes. One that is too tall has as many cells as a wide one, and so comes after the wide
+// ones.
+fn rects<A: Allocator + Copy>(alloc: A, too_tall: bool) -> Result<Rects<A>, AllocError> {
+    let mut rects = Rects::new(alloc);
+    push_all(&mut rects)?;
     if too_tall {
         rects.push_rect(BOXES, None, RectToInsert::new(1, 2, 1))?;
     }
@@ -28,48 +31,80 @@ fn rects<'a>(alloc: &'a Refusing<Global>, too_tall: bool) -> Result<Rects<'a>, A
 // The wide boxes' tests, and those of the box that is too tall in the sections that are left.
 const REFUSED_TESTS: u128 = 4955 + 1190;
 
-fn bins<'a>(alloc: &'a Refusing<Global>) -> Result<Bins<'a>, AllocError> {
+fn bins<A: Allocator + Copy>(alloc: A) -> Result<Bins<A>, AllocError> {
     let mut bins = Bins::new(alloc);
     bins.insert(0, comb(alloc)?)?;
     Ok(bins)
 }
 
-// Packs these boxes: where one finds no space, those before it stay; where memory is refused, all
-// sections do.
-fn packs(rt: &impl Abort, alloc: &Refusing<Global>, too_tall: bool) -> Result<End, Fail> {
-    let (Ok(rects), Ok(mut bins)) = (rects(alloc, too_tall), bins(alloc)) else {
-        return Ok(End::Before);
-    };
-    let mut tests = FitTests::new();
-    let packed = pack_rects_counted(
-        alloc,
-        &rects,
-        &mut bins,
-        &volume_heuristic,
-        &contains_smallest_box,
-        &mut tests,
-    );
-    let bin = bins.get(&0).ok_or("no bin")?;
-    match packed {
+// Whether each box stands at the section that it went into.
+fn are_in_place(placements: &[Placement<u32, u32>]) -> bool {
+    for (number, placed) in (0..BOXES).zip(placements.iter()) {
+        if placed.id != number || placed.location.x() != free_at(index_of(number)).x() {
+            return false;
+        }
+    }
+    placements.len() == BOXES as usize
+}
+
+// Whether the bin has the sections that so many boxes left.
+fn has_left_in<A: Allocator + Copy>(bins: &Bins<A>, placed: u32) -> bool {
+    match bins.get(&0) {
+        Some(bin) => has_left(bin, placed),
+        None => false,
+    }
+}
+
+// Whether the answer is as it has to be, after so many tests: where a box finds no space, those
+// before it stay; where memory is refused, all sections do.
+fn is_right<A: Allocator + Copy>(
+    answer: &Answer<A>,
+    bins: &Bins<A>,
+    too_tall: bool,
+    tests: u128,
+) -> bool {
+    match answer {
         Ok(packed) => {
-            let placements = packed.placements().iter();
-            let stand = (0..BOXES).zip(placements).all(|(number, placed)| {
-                placed.id == number && placed.location.x() == free_at(index_of(number)).x()
-            });
-            assert!(rt; stand && packed.placements().len() == BOXES as usize);
-            assert!(rt; !too_tall && has_left(bin, BOXES));
-            assert_eq!(rt; tests.count(), TESTS);
-            Ok(End::Done)
+            !too_tall
+                && tests == TESTS
+                && are_in_place(packed.placements())
+                && has_left_in(bins, BOXES)
         }
         Err(RectanglePackError::NotEnoughBinSpace) => {
-            assert!(rt; too_tall && has_left(bin, WIDE_BOXES));
-            assert_eq!(rt; tests.count(), REFUSED_TESTS);
-            Ok(End::Done)
+            too_tall && tests == REFUSED_TESTS && has_left_in(bins, WIDE_BOXES)
         }
-        Err(RectanglePackError::OutOfMemory) => {
-            assert!(rt; has_left(bin, 0));
-            Ok(End::Refused)
-        }
+        Err(RectanglePackError::OutOfMemory) => has_left_in(bins, 0),
+    }
+}
+
+fn end_of<A: Allocator + Copy>(answer: &Answer<A>) -> End {
+    match answer {
+        Err(RectanglePackError::OutOfMemory) => End::Refused,
+        _ => End::Done,
+    }
+}
+
+fn packs_into<A: Allocator + Copy>(
+    rt: &impl Abort,
+    alloc: A,
+    rects: &Rects<A>,
+    bins: &mut Bins<A>,
+    too_tall: bool,
+) -> End {
+    let mut tests = FitTests::new();
+    let answer = pack_counted(alloc, rects, bins, &mut tests);
+    assert!(rt; is_right(&answer, bins, too_tall, tests.count()));
+    end_of(&answer)
+}
+
+// Packs these boxes.
+fn packs(rt: &impl Abort, alloc: &Refusing<Global>, too_tall: bool) -> End {
+    let Ok(rects) = rects(alloc, too_tall) else {
+        return End::Before;
+    };
+    match bins(alloc) {
+        Ok(mut bins) => packs_into(rt, alloc, &rects, &mut bins, too_tall),
+        Err(_) => End::Before,
     }
 }
 
@@ -77,7 +112,7 @@ fn packs(rt: &impl Abort, alloc: &Refusing<Global>, too_tall: bool) -> Result<En
 #[test]
 fn packings_in_long_lists(rt: HostRuntime) -> Result<(), Fail> {
     for too_tall in [false, true] {
-        let refused = is_refused(rt.alloc(), |refusing| packs(&rt, refusing, too_tall))?;
+        let refused = is_refused(rt.alloc(), |refusing| Ok(packs(&rt, refusing, too_tall)))?;
         assert!(rt; refused);
     }
     Ok(())

@@ -2,14 +2,11 @@
 
 use super::closures::{EQUAL_KEYS, packs_between};
 use super::exclusions::{ONE_BIN, TWO_BINS, counts};
-use super::{Case, FULL_BIN, TWO_IN_A_GROUP};
-use rectangle_pack::{
-    FitTests, TargetBin, contains_smallest_box, pack_rects, pack_rects_counted, volume_heuristic,
-};
-use std::alloc::{AllocError, Global};
+use super::{Bins, Case, FULL_BIN, Rects, TWO_IN_A_GROUP, add_bin, pack, pack_counted};
+use rectangle_pack::FitTests;
+use std::alloc::{Allocator, Global};
 use std::process::Abort;
 use std::test::Fail;
-use tests_support::boxes::{Bins, Rects};
 use tests_support::each_request::{End, is_refused};
 use tests_support::refusing::Refusing;
 
@@ -37,7 +34,16 @@ fn packings(rt: HostRuntime) -> Result<(), Fail> {
 // n tests for each free section and n * (n - 1) for each bin.
 const COUNTED: &[(Case, u128, u128)] = &[(TWO_BINS, 2, 8), (ONE_BIN, 1, 4)];
 
-// The counter grows by no more than the bound where a request is refused, and else by the count.
+// Whether the counter grew by no more than the bound where a request was refused, and else by the
+// count.
+fn is_counted(end: End, grown: u128, count: u128, bound: u128) -> bool {
+    match end {
+        End::Before => grown == 0,
+        End::Refused => grown <= bound,
+        End::Done => grown == count,
+    }
+}
+
 fn counts_or_stays(
     rt: &impl Abort,
     refusing: &Refusing<Global>,
@@ -47,11 +53,7 @@ fn counts_or_stays(
 ) -> End {
     let mut tests = FitTests::new();
     let end = counts(rt, refusing, case, &mut tests);
-    match end {
-        End::Before => assert_eq!(rt; tests.count(), 0),
-        End::Refused => assert!(rt; tests.count() <= bound),
-        End::Done => assert_eq!(rt; tests.count(), count),
-    }
+    assert!(rt; is_counted(end, tests.count(), count, bound), "{count}");
     end
 }
 
@@ -68,61 +70,44 @@ fn counted_packings(rt: HostRuntime) -> Result<(), Fail> {
 }
 
 // Whether a packing of nothing into these bins is done.
-fn packs_nothing<'a>(alloc: &'a Refusing<Global>, bins: &mut Bins<'a>) -> bool {
+fn packs_nothing<A: Allocator + Copy>(alloc: A, bins: &mut Bins<A>) -> bool {
     let rects = Rects::new(alloc);
-    match pack_rects(
-        alloc,
-        &rects,
-        bins,
-        &volume_heuristic,
-        &contains_smallest_box,
-    ) {
+    match pack(alloc, &rects, bins) {
         Ok(packed) => packed.placements().is_empty() && packed.packed_locations().is_empty(),
         Err(_) => false,
     }
 }
 
 // The same with a counter, which stays at 0.
-fn counts_nothing<'a>(alloc: &'a Refusing<Global>, bins: &mut Bins<'a>) -> bool {
+fn counts_nothing<A: Allocator + Copy>(alloc: A, bins: &mut Bins<A>) -> bool {
     let rects = Rects::new(alloc);
     let mut tests = FitTests::new();
-    match pack_rects_counted(
-        alloc,
-        &rects,
-        bins,
-        &volume_heuristic,
-        &contains_smallest_box,
-        &mut tests,
-    ) {
+    match pack_counted(alloc, &rects, bins, &mut tests) {
         Ok(packed) => packed.placements().is_empty() && tests.count() == 0,
         Err(_) => false,
     }
 }
 
-fn add_bin<'a>(alloc: &'a Refusing<Global>, bins: &mut Bins<'a>) -> Result<(), AllocError> {
-    let bin = TargetBin::new(alloc, 4, 4, 1)?;
-    bins.insert(7, bin)?;
-    Ok(())
-}
-
 // The bin is made before, and all that was granted is used up.
 fn packs_into_a_bin(rt: &impl Abort, alloc: &Refusing<Global>) -> End {
     let mut bins = Bins::new(alloc);
-    if add_bin(alloc, &mut bins).is_err() {
+    if add_bin(alloc, &mut bins, 7, [4, 4, 1]).is_err() {
         return End::Before;
     }
     assert_eq!(rt; alloc.left(), 0);
-    assert!(rt; packs_nothing(alloc, &mut bins));
-    assert!(rt; counts_nothing(alloc, &mut bins));
+    assert!(rt; packs_nothing(alloc, &mut bins) && counts_nothing(alloc, &mut bins));
     End::Done
+}
+
+// Packs into no bins.
+fn packs_into_none(alloc: &Refusing<Global>) -> bool {
+    let mut bins = Bins::new(alloc);
+    packs_nothing(alloc, &mut bins) && counts_nothing(alloc, &mut bins)
 }
 
 #[test]
 fn packings_of_nothing(rt: HostRuntime) -> Result<(), Fail> {
-    let refusing = Refusing::new(rt.alloc(), 0);
-    let mut bins = Bins::new(&refusing);
-    assert!(rt; packs_nothing(&refusing, &mut bins));
-    assert!(rt; counts_nothing(&refusing, &mut bins));
+    assert!(rt; packs_into_none(&Refusing::new(rt.alloc(), 0)));
     let refused = is_refused(rt.alloc(), |refusing| Ok(packs_into_a_bin(&rt, refusing)))?;
     assert!(rt; !refused);
     Ok(())

@@ -1,8 +1,9 @@
 //! Packings of single boxes: where each is placed, and what is free afterwards.
 
-use super::{Case, FULL_BIN, add_bins, pack_by_volume, packs_into};
+use super::{Bins, Case, FULL_BIN, add_bins, pack_by_volume, packs_into};
 use rectangle_pack::{RectanglePackError, contains_smallest_box, volume_heuristic};
-use std::collections::BTreeMap;
+use std::alloc::Global;
+use std::process::Abort;
 use std::test::Fail;
 use tests_support::each_request::End;
 use tests_support::refusing::Refusing;
@@ -241,23 +242,31 @@ const BEHIND_CELL: Case = Case {
     placements: Some(&[(2, 0, [0, 0, 1, MAX, MAX, MAX - 1])]),
 };
 
+// Packs into the bins that are there.
+fn packs_rest<'a>(
+    rt: &impl Abort,
+    alloc: &'a Refusing<Global>,
+    case: &Case,
+    bins: &mut Bins<&'a Refusing<Global>>,
+) -> End {
+    packs_into(
+        rt,
+        alloc,
+        case,
+        bins,
+        &volume_heuristic,
+        &contains_smallest_box,
+    )
+}
+
 // One cell of the largest bin, and then all that is behind it.
 #[test]
 fn rest_of_the_largest_bin(rt: HostRuntime) {
     let refusing = Refusing::new(rt.alloc(), u64::MAX);
-    let mut bins = BTreeMap::new(&refusing);
+    let mut bins = Bins::new(&refusing);
     assert!(rt; add_bins(&refusing, &CELL, &mut bins).is_ok());
-    for case in [&CELL, &BEHIND_CELL] {
-        let end = packs_into(
-            &rt,
-            &refusing,
-            case,
-            &mut bins,
-            &volume_heuristic,
-            &contains_smallest_box,
-        );
-        assert!(rt; end == End::Done);
-    }
+    assert!(rt; packs_rest(&rt, &refusing, &CELL, &mut bins) == End::Done);
+    assert!(rt; packs_rest(&rt, &refusing, &BEHIND_CELL, &mut bins) == End::Done);
 }
 
 const TEXTS: &[(RectanglePackError, &str)] = &[

@@ -1,8 +1,9 @@
 //! Packings of equal texts that lie elsewhere.
 
+use super::{add_bin, pack};
 use rectangle_pack::{
-    GroupedRectsToPlace, RectToInsert, RectanglePackError, RectanglePackOk, TargetBin,
-    contains_smallest_box, pack_rects, volume_heuristic, volume_packing_has_one_result,
+    GroupedRectsToPlace, Placement, RectToInsert, RectanglePackError, RectanglePackOk, TargetBin,
+    contains_smallest_box, volume_heuristic, volume_packing_has_one_result,
 };
 use std::alloc::{AllocError, Global};
 use std::collections::BTreeMap;
@@ -15,11 +16,17 @@ type TextBins = BTreeMap<String, TargetBin>;
 
 type TextPacked = RectanglePackOk<String, String>;
 
+// A box: name, size and groups.
+type TextBox = (&'static str, [u32; 3], &'static [&'static str]);
+
+// A placement: box, bin and place.
+type TextPlaced = (&'static str, &'static str, [u32; 6]);
+
 // A packing under names, and what it places.
 struct TextCase {
     bins: &'static [(&'static str, [u32; 3])],
-    boxes: &'static [(&'static str, [u32; 3], &'static [&'static str])],
-    placements: &'static [(&'static str, &'static str, [u32; 6])],
+    boxes: &'static [TextBox],
+    placements: &'static [TextPlaced],
 }
 
 const TEXT_CASES: &[TextCase] = &[
@@ -65,22 +72,28 @@ fn texts(alloc: Global, from: &[&str], room: usize) -> Result<Vec<String>, Alloc
     Ok(texts)
 }
 
-// The boxes of a case, under strings of their own with so much room.
-fn push_texts(
+// A box under a string of its own with so much room, as are its groups.
+fn push_text(
     alloc: Global,
-    case: &TextCase,
+    of: &TextBox,
     room: usize,
     rects: &mut TextRects,
 ) -> Result<(), AllocError> {
+    let (id, [width, height, depth], groups) = *of;
+    let named = texts(alloc, groups, room)?;
+    let named = if named.is_empty() { None } else { Some(named) };
+    let id = text(alloc, id, room)?;
+    rects.push_rect(id, named, RectToInsert::new(width, height, depth))
+}
+
+// The boxes of a case.
+fn collect(alloc: Global, case: &TextCase, room: usize) -> Result<TextRects, AllocError> {
+    let mut rects = GroupedRectsToPlace::new(alloc);
     let boxes = case.boxes;
-    for (id, size, groups) in boxes {
-        let [width, height, depth] = *size;
-        let named = texts(alloc, groups, room)?;
-        let named = if named.is_empty() { None } else { Some(named) };
-        let id = text(alloc, id, room)?;
-        rects.push_rect(id, named, RectToInsert::new(width, height, depth))?;
+    for of in boxes {
+        push_text(alloc, of, room, &mut rects)?;
     }
-    Ok(())
+    Ok(rects)
 }
 
 // The bins of a case, under strings of their own with so much room.
@@ -92,9 +105,7 @@ fn add_text_bins(
 ) -> Result<(), AllocError> {
     let named = case.bins;
     for (name, size) in named {
-        let [width, height, depth] = *size;
-        let name = text(alloc, name, room)?;
-        bins.insert(name, TargetBin::new(alloc, width, height, depth)?)?;
+        add_bin(alloc, bins, text(alloc, name, room)?, *size)?;
     }
     Ok(())
 }
@@ -106,38 +117,42 @@ fn pack_text(
     room: usize,
     bins: &mut TextBins,
 ) -> Result<TextPacked, RectanglePackError> {
-    let mut rects = GroupedRectsToPlace::new(alloc);
-    if push_texts(alloc, case, room, &mut rects).is_err()
-        || add_text_bins(alloc, case, room, bins).is_err()
-    {
+    if add_text_bins(alloc, case, room, bins).is_err() {
         return Err(RectanglePackError::OutOfMemory);
     }
-    pack_rects(
-        alloc,
-        &rects,
-        bins,
-        &volume_heuristic,
-        &contains_smallest_box,
-    )
+    match collect(alloc, case, room) {
+        Ok(rects) => pack(alloc, &rects, bins),
+        Err(_) => Err(RectanglePackError::OutOfMemory),
+    }
+}
+
+// Whether a bin and another one have equal names and the same list.
+fn is_bin_alike(one: (&String, &TargetBin), other: (&String, &TargetBin)) -> bool {
+    let ((id, bin), (other_id, other)) = (one, other);
+    id == other_id && bin.available_bin_sections() == other.available_bin_sections()
 }
 
 // Whether equal strings stand in the same places of both maps, and the bins have the same lists.
 fn are_bins_alike(bins: &TextBins, others: &TextBins) -> bool {
-    for ((id, bin), (other_id, other)) in bins.iter().zip(others.iter()) {
-        let has_same_list = bin.available_bin_sections() == other.available_bin_sections();
-        if id != other_id || !has_same_list {
+    for (one, other) in bins.iter().zip(others.iter()) {
+        if !is_bin_alike(one, other) {
             return false;
         }
     }
     bins.len() == others.len()
 }
 
+// Whether the placement is this one.
+fn is_shown(placed: &Placement<String, String>, wanted: &TextPlaced) -> bool {
+    let (id, bin, numbers) = *wanted;
+    placed.id.as_str() == id && placed.bin.as_str() == bin && place(&placed.location) == numbers
+}
+
 // Whether the placements are those of the case, in order.
 fn shows_text(packed: &TextPacked, case: &TextCase) -> bool {
     let wanted = case.placements;
-    for (placed, (id, bin, numbers)) in packed.placements().iter().zip(wanted.iter()) {
-        let is_named = placed.id.as_str() == *id && placed.bin.as_str() == *bin;
-        if !is_named || place(&placed.location) != *numbers {
+    for (placed, row) in packed.placements().iter().zip(wanted.iter()) {
+        if !is_shown(placed, row) {
             return false;
         }
     }
@@ -163,14 +178,19 @@ fn come_out_alike(
     }
 }
 
+// Packs into both bins, and answers whether it came out alike.
+fn packs_alike(alloc: Global, case: &TextCase, bins: &mut TextBins, others: &mut TextBins) -> bool {
+    let one = pack_text(alloc, case, 0, bins);
+    let other = pack_text(alloc, case, 64, others);
+    come_out_alike(&one, &other, case)
+}
+
 // Two collections, pushed alike from strings of their own, into bins under strings of their own.
 fn pack_text_twice(rt: &impl Abort, alloc: Global, case: &TextCase) {
     let mut bins = BTreeMap::new(alloc);
-    let mut other_bins = BTreeMap::new(alloc);
-    let one = pack_text(alloc, case, 0, &mut bins);
-    let other = pack_text(alloc, case, 64, &mut other_bins);
-    assert!(rt; come_out_alike(&one, &other, case));
-    assert!(rt; are_bins_alike(&bins, &other_bins));
+    let mut others = BTreeMap::new(alloc);
+    assert!(rt; packs_alike(alloc, case, &mut bins, &mut others));
+    assert!(rt; are_bins_alike(&bins, &others));
 }
 
 #[test]
@@ -178,6 +198,10 @@ fn equal_strings_pack_alike(rt: HostRuntime) {
     for case in TEXT_CASES {
         pack_text_twice(&rt, rt.alloc(), case);
     }
+    strings_have_one_result();
+}
+
+fn strings_have_one_result() {
     volume_packing_has_one_result::<String, String, String, _, _, _, _>(
         &volume_heuristic,
         &contains_smallest_box,
