@@ -1,5 +1,5 @@
 //! One packing of a session.
-ghost use Rattle.std.specs.Prelude.{◌≡◌, ◌+◌, ◌<◌, ◌^◌, ◌++◌, [], length, List, IfOk, OnErr, MatchBool, Ok, true};
+ghost use Rattle.std.specs.Prelude.{◌≡◌, ◌+◌, ◌<◌, ◌^◌, ◌++◌, [], length, List, IfOk, OnErr, MatchBool, MatchOption, Ok, true};
 ghost use Rattle.rectangle_pack_groups.specs.Clones.{ClonesEqual};
 ghost use Rattle.rectangle_pack_bins.specs.declared.pack.answer.Placement.{Placement};
 ghost use Rattle.rectangle_pack_sections.specs.Bins.{Bin};
@@ -63,21 +63,62 @@ where
     if groups.groups().is_empty() {
         return Ok(true);
     }
-    outstanding.reserve(count as usize)?;
+    let entries = count as usize;
+    outstanding.reserve(entries)?;
     let alloc = *outstanding.allocator();
-    let order = bin_order(alloc, bins, policy)?;
-    let old = mem::replace(bins, BTreeMap::new(alloc));
-    let mut packing = Packing::new(old, order.as_slice(), alloc);
-    match pack_noted(&mut packing, groups, count as usize, policy) {
-        Ok(true) => {
-            let (kept, placements) = packing.keep();
-            *bins = kept;
+    match try_packing(groups, bins, alloc, entries, policy)? {
+        Some(placements) => {
             number_all(outstanding, placements, first);
             Ok(true)
         }
+        None => Ok(false),
+    }
+}
+
+// Tries a packing of so many entries on these bins: its placements, or `None` where it is refused for
+// space. The bins are as they were unless it is done.
+fn try_packing<Id, BinId, GroupId, R, A>(
+    groups: &GroupedRectsToPlace<Id, GroupId, A>,
+    bins: &mut BTreeMap<BinId, TargetBin<A>, A>,
+    alloc: A,
+    entries: usize,
+    policy: &R,
+) -> Result<Option<Vec<Placement<Id, BinId>, A>>, AllocError>
+where
+    Id: Ord + Clone + Drop,
+    BinId: Ord + Clone + Drop,
+    GroupId: Ord + Clone + Drop,
+    R: Policy,
+    A: Allocator + Copy,
+    requires ids { ClonesEqual Id.is_clone Id.eq }
+    requires bin_ids { ClonesEqual BinId.is_clone BinId.eq }
+    requires callable { R.is_callable policy.now }
+    ensures packed { IfOk result
+        (λ placed.
+        let order = ⟦<Group<GroupId, Id> as Ord>⟧.cmp in
+        let by = rules_by Id.cmp BinId.cmp (R.may policy.now) in
+        let old = bins_of bins.old.entries in
+        let new = bins_of bins.new.entries in
+        MatchOption placed
+        ((left : List (BinId × Bin)) ×
+        PackingRefused order by groups.now old left × (new ≡ old))
+        (λ placements.
+        PackingDone order by groups.now old placements.items new ×
+        (length placements.items ≡ entries_of groups.now))) }
+    ensures stopped { OnErr result (bins_of bins.new.entries ≡ bins_of bins.old.entries) }
+{
+    let order = bin_order(alloc, bins, policy)?;
+    let old = mem::replace(bins, BTreeMap::new(alloc));
+    let mut packing = Packing::new(old, order.as_slice(), alloc);
+    match pack_noted(&mut packing, groups, entries, policy) {
+        Ok(true) => {
+            let (kept, placements) = packing.keep();
+            *bins = kept;
+            Ok(Some(placements))
+        }
         Ok(false) => {
             *bins = packing.roll_back();
-            Ok(false)
+            Ok(None)
         }
         Err(error) => {
             *bins = packing.roll_back();

@@ -1,9 +1,10 @@
-use Rattle.rectangle_pack_sections.proofs.Std.{refl, ap, sym, ◌∙◌, is_at}
+use Rattle.rectangle_pack_sections.proofs.Std.{subst, refl, ap, sym, ◌∙◌, is_at}
 use Rattle.rectangle_pack_bins.specs.Packing.{bins_of}
 use Rattle.rectangle_pack_bins.proofs.lemmas.packing.RollBack.{is_some-bins_of}
 use Rattle.rectangle_pack_groups.proofs.lemmas.multimap.Vectors.{none_of}
 use Rattle.rectangle_pack.proofs.lemmas.session.Keeps.{None-bins_of}
 use Rattle.rectangle_pack.proofs.lemmas.session.Transitions.{added-inserted, memory_refused}
+use Rattle.rectangle_pack.specs.Session.{IsSession}
 use Rattle.rectangle_pack.proofs.session.Session.add_bin.Goals as goal
 
 pub returns-then-contains_key-clause-added : goal.returns-then-contains_key-clause-added
@@ -40,3 +41,9 @@ invariant_of-self-2 g c = rw c.in-Err.ensures.err c.self.invariant
 
 pub returns-clause-always : goal.returns-clause-always
 returns-clause-always g c = invariant_of-self-2 g c
+
+pub returns-then-contains_key-clause-always : goal.returns-then-contains_key-clause-always
+returns-then-contains_key-clause-always g c = subst (λ s. IsSession g.BinId.Ord.cmp s) c.self.view_is c.self.invariant
+
+pub returns-in_err-bin-clause-always : goal.returns-in_err-bin-clause-always
+returns-in_err-bin-clause-always g c = subst (λ s. IsSession g.BinId.Ord.cmp s) c.self.view_is c.self.invariant

@@ -1,6 +1,7 @@
 use Rattle.rectangle_pack.proofs.lemmas.session.Transitions.{memory_refused}
 use Rattle.rectangle_pack.specs.Session.{IsSession}
-use Rattle.rectangle_pack_sections.proofs.Std.{refl, ap, subst, length, arith}
+use Rattle.rectangle_pack_sections.proofs.Std.{◌≡◌, ◌-◌, ◌∙◌, refl, ap, subst, length, arith}
+use Rattle.rectangle_pack_groups.specs.Groups.{entries_of}
 use Rattle.rectangle_pack_bins.specs.Packing.{rules_by}
 use Rattle.rectangle_pack.proofs.lemmas.session.Keeps.{IsSession-done}
 use Rattle.rectangle_pack.proofs.session.Session.pack_by.Goals as goal
@@ -58,3 +59,27 @@ pack_into-requires-clause-fits g c = let entries = rw c.groups.ensures.entries a
 
 pub overflow_sub-count : goal.overflow_sub-count
 overflow_sub-count g c = let entries = rw c.groups.ensures.entries at c.in-Some.ensures in omega arith
+
+pub invariant_of-self : goal.invariant_of-self
+invariant_of-self g c = rw (c.in_err-kept.ensures.stopped.1, c.in_err-kept.ensures.stopped.2) c.self.invariant
+
+pub invariant_of-self-then-not-kept : goal.invariant_of-self-then-not-kept
+invariant_of-self-then-not-kept g c =
+    let p = rw c.if-not-kept.true at c.in_ok-kept.ensures.packed in
+    rw (p.2, p.3) c.self.invariant
+
+pub returns-in_err-kept-clause-always : goal.returns-in_err-kept-clause-always
+returns-in_err-kept-clause-always g c = invariant_of-self g c
+
+pub returns-then-not-kept-clause-always : goal.returns-then-not-kept-clause-always
+returns-then-not-kept-clause-always g c = invariant_of-self-then-not-kept g c
+
+pub returns-clause-packed : goal.returns-clause-packed
+returns-clause-packed g c =
+    let next = rw c.groups.ensures.entries at c.in-Some.ensures in
+    let p = rw c.if-not-kept.false at c.in_ok-kept.ensures.packed in
+    let count : c.in-Some.next - c.self.inside.next ≡ entries_of c.args.groups.now = omega (arith, next) in
+    rw (← c.self.view_is) (
+      omega (arith, next),
+      record { placements = p.0; done = p.1; counted = p.2 ∙ count; first = refl; count = count; outstanding = p.3; next = next },
+    )

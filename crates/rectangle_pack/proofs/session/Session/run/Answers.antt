@@ -1,9 +1,19 @@
-use Rattle.rectangle_pack_sections.proofs.Std.{arith, take_all}
+use Rattle.std.proofs.lemmas.Result.{err_from_is_err_and}
+use Rattle.rectangle_pack_sections.proofs.Std.{◌≡◌, ℕ, ◌+◌, ◌-◌, ◌<◌, ◌≤◌, arith, refl, subst, take_all}
 use Rattle.rectangle_pack_sections.specs.Closures.{answers}
 use Rattle.rectangle_pack_bins.specs.Packing.{rules_by}
 use Rattle.rectangle_pack.proofs.lemmas.session.Promise.{KeepsPromise-transition}
 use Rattle.rectangle_pack.proofs.lemmas.session.Transitions.{IsRun-more}
+use Rattle.rectangle_pack.specs.Session.{IsSession}
 use Rattle.rectangle_pack.proofs.session.Session.run.Goals as goal
+
+-- all replies have room where none is there yet
+has_all : (len capacity count : ℕ) → len ≡ 0 → count ≤ capacity → len + (count - 0) ≤ capacity
+has_all len capacity count none room = omega arith
+
+-- a reply has room where more commands wait
+has_room : (len capacity count index : ℕ) → len + (count - index) ≤ capacity → index < count → len < capacity
+has_room len capacity count index room more = omega arith
 
 pub loop-command-preserved : goal.loop-command-preserved
 loop-command-preserved g c =
@@ -21,3 +31,22 @@ pub returns-clause-promise : goal.returns-clause-promise
 returns-clause-promise g c =
     let all = take_all c.loop-command.command-index c.args.commands.now (omega (arith, c.loop-command-test.false)) in
     rw all at c.loop-command.invariant.ran
+
+pub obey-requires : goal.obey-requires
+obey-requires g c = record { ids = c.requires.ids; bin_ids = c.requires.bin_ids; callable = c.requires.callable }
+
+pub push_reserved-requires : goal.push_reserved-requires
+push_reserved-requires g c = has_room _ _ _ _ c.loop-command.invariant.room c.loop-command-test.true
+
+pub loop-command-init : goal.loop-command-init
+loop-command-init g c =
+    let replies = c.in_ok-replies.ensures in
+    record { ran = rw replies.items refl; always = subst (λ s. IsSession g.BinId.Ord.cmp s) c.self.view_is c.self.invariant; room = has_all _ _ _ replies.len replies.capacity }
+
+pub returns-clause-always : goal.returns-clause-always
+returns-clause-always g c = c.loop-command.invariant.always
+
+pub returns-in_err-replies : goal.returns-in_err-replies
+returns-in_err-replies g c =
+    let failed = err_from_is_err_and c.from_residual.result c.from_residual.ensures.1 in
+    record { promise = rw failed.1 refl; always = subst (λ s. IsSession g.BinId.Ord.cmp s) c.self.view_is c.self.invariant }

@@ -1,0 +1,25 @@
+use Rattle.rectangle_pack.proofs.session.Session.obey.Goals as goal
+
+pub add_clone-requires : goal.add_clone-requires
+add_clone-requires g c = c.requires.bin_ids
+
+pub pack_by-requires : goal.pack_by-requires
+pack_by-requires g c = record { ids = c.requires.ids; bin_ids = c.requires.bin_ids; callable = c.requires.callable }
+
+pub returns-in-AddBin : goal.returns-in-AddBin
+returns-in-AddBin g c = rw (c.in-AddBin.is, c.reply.ensures) c.add_clone.ensures
+
+pub returns-in-Ok : goal.returns-in-Ok
+returns-in-Ok g c = rw c.in-Pack.is c.in-Ok.ensures.packed
+
+pub returns-in-Err : goal.returns-in-Err
+returns-in-Err g c = rw c.in-Pack.is c.in-Err.ensures.packed
+
+pub returns-in-Release : goal.returns-in-Release
+returns-in-Release g c = rw (c.in-Release.is, c.reply-in-Release.ensures) c.release.ensures.released
+
+pub returns-in-Coalesce : goal.returns-in-Coalesce
+returns-in-Coalesce g c = rw (c.in-Coalesce.is, c.reply-in-Coalesce.ensures) c.coalesce.ensures.joined
+
+pub returns-in-CoalesceAll : goal.returns-in-CoalesceAll
+returns-in-CoalesceAll g c = rw (c.in-CoalesceAll.is, c.reply-in-CoalesceAll.ensures) c.coalesce_all.ensures.swept
