@@ -5,10 +5,10 @@ ghost use Rattle.rectangle_pack_sections.specs.Boxes.{Size};
 ghost use Rattle.rectangle_pack_sections.specs.Closures.{AreCallable, answers};
 ghost use Rattle.rectangle_pack_bins.specs.Packing.{rules_by};
 ghost use Rattle.rectangle_pack.specs.Promise.{IsRunAnswer};
-ghost use Rattle.rectangle_pack.specs.Session.{IsSession, AddsBin, IsTransition, reply_of};
+ghost use Rattle.rectangle_pack.specs.Session.{IsSession, AddsBin, IsTransition, packed_reply, reply_of};
 
 use crate::session::Session;
-use crate::session::command::{Command, Reply, SessionError};
+use crate::session::command::{Command, Packed, Reply, SessionError};
 use rectangle_pack_groups::grouped_rects_to_place::Group;
 use rectangle_pack_sections::closures::{Closures, Policy};
 use rectangle_pack_sections::width_height_depth::WidthHeightDepth;
@@ -81,10 +81,7 @@ where
                 height,
                 depth,
             } => reply(self.add_clone(id, *width, *height, *depth)),
-            Command::Pack(groups) => match self.pack_by(groups, policy) {
-                Ok(packed) => Reply::Packed(packed),
-                Err(error) => Reply::Refused(error),
-            },
+            Command::Pack(groups) => packed_reply(self.pack_by(groups, policy)),
             Command::Release(number) => reply(self.release(*number)),
             Command::Coalesce { bin, idx, lo, hi } => reply(self.coalesce(bin, *idx, *lo..*hi)),
             Command::CoalesceAll(bin) => reply(self.coalesce_all(bin)),
@@ -116,6 +113,16 @@ fn reply(answer: Result<(), SessionError>) -> Reply
 {
     match answer {
         Ok(()) => Reply::Done,
+        Err(error) => Reply::Refused(error),
+    }
+}
+
+// The reply to a packing.
+fn packed_reply(answer: Result<Packed, SessionError>) -> Reply
+    ensures { result ≡ packed_reply answer }
+{
+    match answer {
+        Ok(packed) => Reply::Packed(packed),
         Err(error) => Reply::Refused(error),
     }
 }

@@ -9,11 +9,8 @@ pack_by-requires g c = record { ids = c.requires.ids; bin_ids = c.requires.bin_i
 pub returns-in-AddBin : goal.returns-in-AddBin
 returns-in-AddBin g c = rw (c.in-AddBin.is, c.reply.ensures) c.add_clone.ensures
 
-pub returns-in-Ok : goal.returns-in-Ok
-returns-in-Ok g c = rw c.in-Pack.is c.in-Ok.ensures.packed
-
-pub returns-in-Err : goal.returns-in-Err
-returns-in-Err g c = rw c.in-Pack.is c.in-Err.ensures.packed
+pub returns-in-Pack : goal.returns-in-Pack
+returns-in-Pack g c = rw (c.in-Pack.is, c.packed_reply.ensures) c.pack_by.ensures.packed
 
 pub returns-in-Release : goal.returns-in-Release
 returns-in-Release g c = rw (c.in-Release.is, c.reply-in-Release.ensures) c.release.ensures.released

@@ -1,4 +1,4 @@
-use Rattle.rectangle_pack_sections.proofs.Std.{◌≡◌, sym, ◌∙◌, rules, true, ◌++◌, ◌∷◌, [], is_at, on_ok_weaker, on_err_weaker, set_value_same}
+use Rattle.rectangle_pack_sections.proofs.Std.{◌≡◌, sym, ◌∙◌, rules, refl, true, ◌++◌, ◌∷◌, [], is_at, on_ok_weaker, on_err_weaker, set_value_same}
 use Rattle.rectangle_pack_sections.specs.Boxes.{has_cells}
 use Rattle.rectangle_pack_bins.specs.Packing.{bins_of}
 use Rattle.rectangle_pack.specs.Session.{GivesBack}
@@ -24,3 +24,11 @@ returns g c =
       err = on_err_weaker {Q = (has_cells c.args.location ≡ true) × (bins_of (c.get_mut.follows.lender w).entries ≡ bins_of old)} _
           (λ same. (full, bins_of-written test old _ w _ written same ∙ set_value_same test (bins_of old) v.bin found)) pushed.err;
     }
+
+pub returns-then-not-has_cells : goal.returns-then-not-has_cells
+returns-then-not-has_cells g c =
+    let empty = rw c.section_at-section.ensures at (sym c.has_cells.ensures ∙ c.if-not-has_cells.true) in
+    record { ok = rw empty refl; err = tt }
+
+pub push_available_bin_section_unchecked-requires : goal.push_available_bin_section_unchecked-requires
+push_available_bin_section_unchecked-requires g c = rw c.section_at-section.ensures (rw (← c.in-Some.ensures.value) at c.requires.accepted.1)

@@ -1,0 +1,18 @@
+use Rattle.rectangle_pack_sections.proofs.Std.{◌≡◌, sym, ap, ◌∙◌, ◌++◌, filter, filter-append, IfOk-from_err}
+use Rattle.rectangle_pack_sections.specs.Boxes.{has_cells}
+use Rattle.rectangle_pack.specs.Session.{outstanding_in}
+use Rattle.rectangle_pack.proofs.session.cut_plan.boxes_of.Goals as goal
+
+pub returns-in_err-gather_free : goal.returns-in_err-gather_free
+returns-in_err-gather_free g c = IfOk-from_err _ _ c.from_residual.ensures.0
+
+pub returns-in_err-gather_outstanding : goal.returns-in_err-gather_outstanding
+returns-in_err-gather_outstanding g c = IfOk-from_err _ _ c.from_residual-in_err-gather_outstanding.ensures.0
+
+pub returns : goal.returns
+returns g c =
+    let sections = c.args.bin.now.bin.sections in
+    let placed = outstanding_in g.B.Ord.cmp c.args.outstanding.now c.args.id.now in
+    let free : c.gather_free.new.boxes.items ≡ filter has_cells sections = rw
+    (c.as_slice.ensures.value, c.available_bin_sections.ensures.items, c.new-boxes.ensures.items) at c.in_ok-gather_free.ensures in
+    c.in_ok-gather_outstanding.ensures ∙ ap (λ l. l ++ filter has_cells placed) free ∙ sym (filter-append has_cells sections placed)
