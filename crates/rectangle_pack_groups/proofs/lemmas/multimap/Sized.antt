@@ -126,3 +126,8 @@ on_ok P (Err e) fine h = absurd cc
 pub on_err : {X E : Type 0} (P : Type 0) (r : Result X E) → is_err r ≡ true → OnErr r P → P
 on_err P (Ok x) failed h = absurd cc
 on_err P (Err e) failed h = h
+
+-- what holds anyway holds of a refusal
+pub OnErr-given : {X E P : Type 0} (r : Result X E) → P → OnErr r P
+OnErr-given (Ok x) h = tt
+OnErr-given (Err e) h = h

@@ -1,9 +1,9 @@
 use Rattle.rectangle_pack_sections.proofs.Std.{◌≡◌, ◌<◌, refl, sym, ◌∙◌, ap, arith, IsSome, length, vec_len, lookup, Equal, length-map, tied_itself, All-weaker}
-use Rattle.rectangle_pack_sections.proofs.Std.{is_at}
+use Rattle.rectangle_pack_sections.proofs.Std.{is_at, IfOk-from_err}
 use Rattle.rectangle_pack_groups.specs.Groups.{lists_of, HaveSizes}
 use Rattle.rectangle_pack_groups.specs.private.Multimaps.{filled}
 use Rattle.rectangle_pack_groups.proofs.lemmas.multimap.Vectors.{keys-lists}
-use Rattle.rectangle_pack_groups.proofs.lemmas.multimap.Sized.{filled-members, IsSome-cond, MembersHaveSizes-added, lists-added, lists-other, on_ok, on_err}
+use Rattle.rectangle_pack_groups.proofs.lemmas.multimap.Sized.{filled-members, IsSome-cond, MembersHaveSizes-added, lists-added, lists-other, on_ok, on_err, OnErr-given}
 use Rattle.rectangle_pack_groups.specs.declared.grouped_rects_to_place.Group.TheVariants.{Grouped}
 use Rattle.rectangle_pack_groups.proofs.grouped_rects_to_place.GroupedRectsToPlace.push_grouped.Goals as goal
 
@@ -68,3 +68,29 @@ returns-in-Ok-clause-ok g c =
           (on_ok _ c.add_each.result fine c.add_each.ensures.named);
       other_groups = lists-other _ Grouped named keys is old new (on_ok _ c.add_each.result fine c.add_each.ensures.others);
     })
+
+pub returns-in_err-keys : goal.returns-in_err-keys
+returns-in_err-keys g c = record { ok = IfOk-from_err _ _ c.from_residual.ensures.0; err = OnErr-given _ refl }
+
+pub clones-requires : goal.clones-requires
+clones-requires g c = record { ids = c.requires.ids }
+
+pub returns-in_err-members : goal.returns-in_err-members
+returns-in_err-members g c = record { ok = IfOk-from_err _ _ c.from_residual-in_err-members.ensures.0; err = OnErr-given _ refl }
+
+pub add_each-requires-clause-enough : goal.add_each-requires-clause-enough
+add_each-requires-clause-enough g c = c.in_ok-members.ensures.count ∙ c.len.ensures ∙ sym c.as_slice.ensures.len
+
+pub returns-then-is_err-clause-ok : goal.returns-then-is_err-clause-ok
+returns-then-is_err-clause-ok g c = tt
+
+pub returns-in-Ok-clause-err : goal.returns-in-Ok-clause-err
+returns-in-Ok-clause-err g c = tt
+
+pub take_back-requires : goal.take_back-requires
+take_back-requires g c =
+    let can = on_ok _ c.add_each.result (sym c.is_err.ensures.value ∙ c.if-is_err.false) c.add_each.ensures.back in
+    (can.start, rw (c.as_slice-in-Err.ensures.value, ← c.as_slice.ensures.value) can.back)
+
+pub returns-clause-ok : goal.returns-clause-ok
+returns-clause-ok g c = tt

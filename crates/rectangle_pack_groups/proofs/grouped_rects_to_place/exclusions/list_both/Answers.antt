@@ -1,4 +1,5 @@
-use Rattle.rectangle_pack_sections.proofs.Std.{◌≡◌, sym, ◌∙◌, Equal-is, Equal}
+use Rattle.rectangle_pack_sections.proofs.Std.{refl, IfOk-from_err, ◌≡◌, sym, ◌∙◌, Equal-is, Equal}
+use Rattle.rectangle_pack_groups.proofs.lemmas.multimap.Sized.{OnErr-given}
 use Rattle.rectangle_pack_groups.proofs.lemmas.multimap.Mutual.{listed-both, some-appended}
 use Rattle.rectangle_pack_groups.proofs.grouped_rects_to_place.exclusions.list_both.Goals as goal
 
@@ -15,3 +16,25 @@ returns-clause-some g c =
     some-appended g.met.K.Ord.total c.args.a c.args.b c.in_ok-partner.partner c.args.map.now.entries c.make_room.new.map.entries c.make_room-2.new.map.entries
     c.append_at.new.map.entries c.append_at-2.new.map.entries c.make_room.ensures.others c.make_room-2.ensures.others c.append_at.ensures.here
     c.append_at.ensures.others c.append_at-2.ensures.here c.append_at-2.ensures.others c.append_at-2.ensures.ordered c.requires.some
+
+pub returns-in_err-partner : goal.returns-in_err-partner
+returns-in_err-partner g c =
+    let failed = c.from_residual.ensures.0 in
+    record { added = IfOk-from_err _ _ failed; some = IfOk-from_err _ _ failed; kept = OnErr-given _ refl }
+
+pub returns-in_err-make_room : goal.returns-in_err-make_room
+returns-in_err-make_room g c =
+    let failed = c.from_residual-in_err-make_room.ensures.0 in
+    record { added = IfOk-from_err _ _ failed; some = IfOk-from_err _ _ failed; kept = OnErr-given _ c.make_room.ensures.kept }
+
+pub returns-in_err-make_room-2 : goal.returns-in_err-make_room-2
+returns-in_err-make_room-2 g c =
+    let failed = c.from_residual-in_err-make_room-2.ensures.0 in
+    let kept = c.make_room-2.ensures.kept ∙ c.make_room.ensures.kept in
+    record { added = IfOk-from_err _ _ failed; some = IfOk-from_err _ _ failed; kept = OnErr-given _ kept }
+
+pub make_room-requires : goal.make_room-requires
+make_room-requires g c = record { clones_equal = c.requires.clones_equal }
+
+pub make_room-requires-2 : goal.make_room-requires-2
+make_room-requires-2 g c = record { clones_equal = c.requires.clones_equal }
