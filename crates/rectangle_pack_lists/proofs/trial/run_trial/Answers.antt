@@ -1,7 +1,18 @@
-use Rattle.rectangle_pack_sections.proofs.Std.{rules, arith, refl, ◌≡◌, ◌+◌, length, take, take_all}
+use Rattle.rectangle_pack_sections.proofs.Std.{ℕ, ◌<◌, ◌≤◌, ◌-◌, IfOk-from_err, rules, arith, refl, ◌≡◌, ◌+◌, length, take, take_all}
 use Rattle.rectangle_pack_lists.proofs.lemmas.trial.StepsByIndex.{IsDone-more, IsStuck-at, IsTried-refused, is_first, saturated-add}
 use Rattle.rectangle_pack_lists.proofs.lemmas.trial.Steps.{IsStep-fits}
 use Rattle.rectangle_pack_lists.proofs.trial.run_trial.Goals as goal
+
+le_through : (a b c : ℕ) → a ≤ b → b ≤ c → a ≤ c
+le_through a b c first second = omega arith
+
+-- before the last member some are left
+some_left : (i count : ℕ) → i < count → 0 < count - i
+some_left i count within = omega arith
+
+-- a list with a member is not empty
+has_none : (i count : ℕ) → i < count → count ≡ 0 → ⊥
+has_none i count within none = omega arith
 
 pub returns-in_default-clause-tried : goal.returns-in_default-clause-tried
 returns-in_default-clause-tried g c =
@@ -71,3 +82,51 @@ pub returns-clause-tried : goal.returns-clause-tried
 returns-clause-tried g c =
     let e : take c.loop-i.i c.args.members.now ≡ c.args.members.now = take_all c.loop-i.i c.args.members.now (omega arith) in
     rw e at c.loop-i.invariant.placed
+
+pub returns-in_default-clause-room : goal.returns-in_default-clause-room
+returns-in_default-clause-room g c = le_through _ _ _ c.loop-i.invariant.room c.undo.ensures.room
+
+pub returns-in_default-clause-noted : goal.returns-in_default-clause-noted
+returns-in_default-clause-noted g c = tt
+
+pub returns-in_default-clause-no_members : goal.returns-in_default-clause-no_members
+returns-in_default-clause-no_members g c = λ none. refl
+
+pub returns-in_err-reserve-clause-room : goal.returns-in_err-reserve-clause-room
+returns-in_err-reserve-clause-room g c = c.loop-i.invariant.room
+
+pub returns-in_err-reserve-clause-noted : goal.returns-in_err-reserve-clause-noted
+returns-in_err-reserve-clause-noted g c = IfOk-from_err _ _ c.from_residual.ensures.0
+
+pub returns-in_err-reserve-clause-no_members : goal.returns-in_err-reserve-clause-no_members
+returns-in_err-reserve-clause-no_members g c = λ none. absurd (has_none c.loop-i.i _ c.loop-i-test.true none)
+
+pub place-requires-clause-callable : goal.place-requires-clause-callable
+place-requires-clause-callable g c = c.requires.callable
+
+pub place-requires-clause-fits : goal.place-requires-clause-fits
+place-requires-clause-fits g c = c.loop-i.invariant.fits
+
+pub place-requires-clause-newest : goal.place-requires-clause-newest
+place-requires-clause-newest g c = (c.find-found.result.tests, rw c.in-Some.is at c.find-found.ensures.some)
+
+pub place-requires-clause-some : goal.place-requires-clause-some
+place-requires-clause-some g c = some_left c.loop-i.i _ c.loop-i-test.true
+
+pub returns-in_err-location-clause-room : goal.returns-in_err-location-clause-room
+returns-in_err-location-clause-room g c = le_through _ _ _ c.loop-i.invariant.room c.in_err-location.ensures.room
+
+pub returns-in_err-location-clause-noted : goal.returns-in_err-location-clause-noted
+returns-in_err-location-clause-noted g c = IfOk-from_err _ _ c.from_residual-in_err-location.ensures.0
+
+pub returns-in_err-location-clause-no_members : goal.returns-in_err-location-clause-no_members
+returns-in_err-location-clause-no_members g c = λ none. absurd (has_none c.loop-i.i _ c.loop-i-test.true none)
+
+pub returns-clause-room : goal.returns-clause-room
+returns-clause-room g c = c.loop-i.invariant.room
+
+pub returns-clause-noted : goal.returns-clause-noted
+returns-clause-noted g c = c.loop-i.invariant.back
+
+pub returns-clause-no_members : goal.returns-clause-no_members
+returns-clause-no_members g c = λ none. refl

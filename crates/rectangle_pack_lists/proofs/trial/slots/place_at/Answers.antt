@@ -1,3 +1,4 @@
+use Rattle.rectangle_pack_sections.proofs.Std.{◌∙◌, length-set}
 use Rattle.rectangle_pack_lists.proofs.lemmas.trial.SlotSteps.{before-taken, last-fits, IsStep-in_slots}
 use Rattle.rectangle_pack_lists.proofs.trial.slots.place_at.Goals as goal
 
@@ -16,3 +17,15 @@ pub returns-clause-before : goal.returns-clause-before
 returns-clause-before g c =
     rw (c.push_pieces.ensures.all, c.take-section.ensures.all, c.slots-kept.ensures.all)
     (before-taken c.args.slots.now.all _ c.args.index c.take-section.result c.take-section.ensures.section)
+
+pub place_in-location-requires-clause-callable : goal.place_in-location-requires-clause-callable
+place_in-location-requires-clause-callable g c = c.requires.callable
+
+pub push_pieces-requires : goal.push_pieces-requires
+push_pieces-requires g c = rw (c.take-section.ensures.all, c.take-section.ensures.room, length-set) c.requires.room
+
+pub returns-clause-room : goal.returns-clause-room
+returns-clause-room g c = c.push_pieces.ensures.room ∙ c.take-section.ensures.room
+
+pub returns-clause-no_longer : goal.returns-clause-no_longer
+returns-clause-no_longer g c = rw (c.take-section.ensures.all, length-set) at c.push_pieces.ensures.no_longer
