@@ -1,23 +1,24 @@
 -- What a session's answer to a packing says of the lists of a C caller.
-use Rattle.rectangle_pack_c.proofs.Std.{◌≡◌, ◌≢◌, ℕ, ◌<◌, List, [], ◌∷◌, length, get_or, refl, ap, sym, ◌∙◌, subst, arith, suc, All, AllPairs, Some, map}
+use Rattle.rectangle_pack_c.proofs.Std.{◌≡◌, ℕ, ◌<◌, List, [], ◌∷◌, length, get_or, refl, ap, sym, ◌∙◌, subst, arith, suc, All, Some, map}
 use Rattle.rectangle_pack_c.proofs.Std.{slice_get, Ordering, Equal, nat_cmp_is, AllZip, IsPermutation, nat_cmp, keys_of, values_of, nat_cmp_total}
 use Rattle.rectangle_pack_c.proofs.Std.{IsPermutation-map, All-nil, All-cons, All-head, All-tail, All-contains, exact_unsigned, get_or_from_slice_get}
 use Rattle.rectangle_pack.specs.declared.grouped_rects_to_place.Group.{Group}
 use Rattle.rectangle_pack.specs.declared.pack.Placement.{Placement}
 use Rattle.rectangle_pack.specs.declared.session.command.Packed.{Packed}
+use Rattle.rectangle_pack.specs.declared.session.command.Reply.TheVariants.{Packed as Kept, Refused}
+use Rattle.rectangle_pack.specs.declared.session.command.SessionError.TheVariants.{NotEnoughBinSpace}
 use Rattle.rectangle_pack.specs.Boxes.{Size, IsU32, volume_of}
 use Rattle.rectangle_pack.specs.SmallestBox.{IsSmallestOrder}
 use Rattle.rectangle_pack.specs.Bins.{Bin}
 use Rattle.rectangle_pack.specs.Closures.{Answers}
 use Rattle.rectangle_pack.specs.Groups.{Collection}
-use Rattle.rectangle_pack.specs.Packing.{rules_by, at_start, excludes_by, PackingDone, PackingRefused}
+use Rattle.rectangle_pack.specs.Packing.{rules_by, at_start, PackingDone}
 use Rattle.rectangle_pack.specs.Placed.{ArePlacedWhole}
 use Rattle.rectangle_pack.specs.Results.{HaveOneResult, AreSameBins, ArePlacementsAlike}
+use Rattle.rectangle_pack.specs.Promise.{NoBinTakes}
 use Rattle.rectangle_pack.specs.Session.{State, IsKept}
-use Rattle.rectangle_pack_bins.proofs.lemmas.determinism.Either.{Includes, PackingDone-more, PackingRefused-more}
 use Rattle.rectangle_pack_bins.proofs.lemmas.determinism.OnePacking.{one_result}
 use Rattle.rectangle_pack_bins.proofs.lemmas.packing.Orders.{names-zip}
-use Rattle.rectangle_pack_bins.proofs.lemmas.packing.Refused.{taken_nowhere}
 use Rattle.rectangle_pack_sections.proofs.lemmas.cuts.SmallestBox.{smallest_is_preorder}
 use Rattle.rectangle_pack_bins.proofs.lemmas.determinism.Preorders.{total_decides}
 use Rattle.rectangle_pack_bins.proofs.lemmas.packing.Whole.{all_whole}
@@ -26,11 +27,12 @@ use Rattle.rectangle_pack_c.specs.declared.RpBox.{RpBox}
 use Rattle.rectangle_pack_c.specs.declared.RpPlacement.{RpPlacement}
 use Rattle.rectangle_pack_c.specs.Arguments.{new_bins, group_order, IsCollected}
 use Rattle.rectangle_pack_c.specs.Answers.{ArePlaced, IsDonePacking, IsRefusedPacking, IsVolume, corner_of, by_volume}
-use Rattle.rectangle_pack_c.specs.private.Written.{AreWritten, as_placement}
+use Rattle.rectangle_pack_c.specs.Sessions.{PacksBoxes}
+use Rattle.rectangle_pack_c.specs.private.Written.{AreWritten, NewAreWritten, as_placement}
 use Rattle.rectangle_pack_c.proofs.OrderLemmas.{group_order_total}
 use Rattle.rectangle_pack_c.proofs.WholeLemmas.{zip_itself, zip_right}
 use Rattle.rectangle_pack_c.proofs.CollectedLemmas.{collected_alike}
-use Rattle.rectangle_pack_c.proofs.PlacedLemmas.{records_each, placements_each, records_once, known_ids, placed_alone, placed_each, packed_placed}
+use Rattle.rectangle_pack_c.proofs.PlacedLemmas.{placements_each, placed_each, packed_placed}
 
 -- a session that has these bins, and nothing in them
 abbrev pub start : List RpBin → State ℕ ℕ
@@ -56,67 +58,49 @@ has_homes may all old left ps done =
       are = whole.0.whole;
     }
 
-module _ (R : Group ℕ ℕ → Group ℕ ℕ → Ordering) (may : Answers) (bins : List RpBin) (boxes : List RpBox) (all : Collection ℕ ℕ)
-    (collected : IsCollected boxes all) (old new : State ℕ ℕ) where
-  module _ (numbers : Packed) (kept : IsKept R (rules_by nat_cmp nat_cmp may) all old numbers new) (same : R ≡ group_order) (was : old ≡ start bins) where
-    after : IsKept group_order (rules_by nat_cmp nat_cmp may) all (start bins) numbers new
-    after = subst (λ o. IsKept group_order (rules_by nat_cmp nat_cmp may) all o numbers new) was
-        (subst (λ r. IsKept r (rules_by nat_cmp nat_cmp may) all old numbers new) same kept)
+module _ (bins : List RpBin) (boxes : List RpBox) (old new : State ℕ ℕ) (was : old ≡ start bins) where
+  module _ (numbers : Packed) (packs : PacksBoxes boxes old (Kept numbers) new) (placements : List RpPlacement)
+      (written : NewAreWritten as_placement old new placements) where
+    abbrev all : Collection ℕ ℕ
+    all = packs.0
+
+    collected : IsCollected boxes all
+    collected = packs.1
+
+    after : IsKept group_order (rules_by nat_cmp nat_cmp by_volume) all (start bins) numbers new
+    after = subst (λ o. IsKept group_order (rules_by nat_cmp nat_cmp by_volume) all o numbers new) was packs.2.1
 
     found : HasHomes all after.placements
-    found = has_homes may all (new_bins bins) new.bins after.placements after.done
+    found = has_homes by_volume all (new_bins bins) new.bins after.placements after.done
 
-    -- the ids of the records are indices of boxes, each once
-    pub answer_ids : All (λ r. r.id < length boxes) new.outstanding
-    answer_ids =
-        rw after.outstanding (records_each (λ id p. id < length boxes) 0 after.placements
-        (known_ids boxes all collected after.placements found.homes found.moved found.are))
+    stood : All (λ p. slice_get placements p.id ≡ Some (corner_of p.bin p.location)) after.placements
+    stood = placements_each (λ id q. slice_get placements id ≡ Some q) 0 after.placements
+        (subst (λ rs. AreWritten as_placement rs placements) after.outstanding
+        (subst (λ (o : State ℕ ℕ). NewAreWritten as_placement o new placements) was written))
 
-    pub answer_once : AllPairs (λ r s. r.id ≢ s.id) new.outstanding
-    answer_once =
-        rw after.outstanding (records_once 0 after.placements
-        (placed_alone boxes all collected after.placements found.homes found.moved found.are))
+    -- where they are written, the boxes are placed
+    pub answer_placed : ArePlaced bins boxes placements
+    answer_placed = packed_placed boxes all collected after.placements found.homes found.moved found.are placements stood bins by_volume new.bins after.done
 
-    module _ (placements : List RpPlacement) (written : AreWritten as_placement new.outstanding placements) where
-      stood : All (λ p. slice_get placements p.id ≡ Some (corner_of p.bin p.location)) after.placements
-      stood = placements_each (λ id q. slice_get placements id ≡ Some q) 0 after.placements
-          (subst (λ rs. AreWritten as_placement rs placements) after.outstanding written)
-
-      -- where they are written, the boxes are placed
-      pub answer_placed : ArePlaced bins boxes placements
-      answer_placed = packed_placed boxes all collected after.placements found.homes found.moved found.are placements stood bins may new.bins after.done
-
-      -- and the placements are those of the packing
-      pub answer_packed : length placements ≡ length boxes → Includes may by_volume → IsDonePacking bins boxes placements
-      answer_packed as_many includes = record {
-        all = all;
-        collected = collected;
-        made = after.placements;
-        left = new.bins;
-        done = PackingDone-more nat_cmp nat_cmp may by_volume includes group_order (excludes_by group_order nat_cmp all.partners) all (new_bins bins)
-            after.placements new.bins after.done;
-        written = stood;
-        as_many = as_many;
-      }
+    -- and the placements are those of the packing
+    pub answer_packed : length placements ≡ length boxes → IsDonePacking bins boxes placements
+    answer_packed as_many = record {
+      all = all;
+      collected = collected;
+      made = after.placements;
+      left = new.bins;
+      done = after.done;
+      written = stood;
+      as_many = as_many;
+    }
 
   -- a packing that is refused
-  pub answer_refused : (left : List (ℕ × Bin)) → PackingRefused R (rules_by nat_cmp nat_cmp may) all old.bins left → R ≡ group_order → old ≡ start bins
-      → Includes may by_volume → IsRefusedPacking bins boxes
-  answer_refused left refused same was includes =
-      let here : PackingRefused group_order (rules_by nat_cmp nat_cmp may) all (new_bins bins) left =
-      subst (λ (o : State ℕ ℕ). PackingRefused group_order (rules_by nat_cmp nat_cmp may) all o.bins left) was
-      (subst (λ r. PackingRefused r (rules_by nat_cmp nat_cmp may) all old.bins left) same refused) in
-      let more = PackingRefused-more nat_cmp nat_cmp may by_volume includes group_order (excludes_by group_order nat_cmp all.partners)
-      all (new_bins bins) left here in
-      record {
-        all = all;
-        collected = collected;
-        refused = record {
-          left = left;
-          refused = more;
-          each = taken_nowhere group_order (rules_by nat_cmp nat_cmp by_volume) nat_cmp_total all (new_bins bins) left more;
-        };
-      }
+  pub answer_refused : PacksBoxes boxes old (Refused NotEnoughBinSpace) new → IsRefusedPacking bins boxes
+  answer_refused packs = record {
+    all = packs.0;
+    collected = packs.1;
+    refused = subst (λ (o : State ℕ ℕ). NoBinTakes group_order (rules_by nat_cmp nat_cmp by_volume) packs.0 o.bins) was packs.3;
+  }
 
 -- sizes of 32 bits that are rated by their volumes
 volumes_rated : (MayRate : Size → ℕ → Type 0) → ((size : Size) (rate : ℕ) → MayRate size rate → rate ≡ volume_of size) → (sizes : List Size) (rates : List ℕ)

@@ -13,6 +13,7 @@ use Rattle.rectangle_pack_sections.proofs.lemmas.cuts.Counting.{count_yes, count
 use Rattle.rectangle_pack_groups.proofs.lemmas.util.Maps.{lookup-inserted, AreOptionsAlike, maps_alike}
 use Rattle.rectangle_pack_c.specs.declared.RpBox.{RpBox}
 use Rattle.rectangle_pack_c.specs.Arguments.{box_size, group_order, group_of, members_of, unless_empty, IsCollected}
+use Rattle.rectangle_pack_c.specs.private.Pushed.{Pushes}
 use Rattle.rectangle_pack_c.proofs.OrderLemmas.{nat_same, nat_greater, nat_other, group_order_total, exact_group, group_same, group_swap}
 use Rattle.rectangle_pack_c.proofs.WholeLemmas.{none_in, in_kept, zip_itself}
 
@@ -76,12 +77,6 @@ not_empty (j ∷ ids) i = refl
 is_list : (ids found : List ℕ) → unless_empty ids ≡ Some found → found ≡ ids
 is_list [] found e = absurd cc
 is_list (i ∷ ids) found e = cc
-
--- a box is pushed under this id: alone where its group is 0, else into its group
-abbrev pub Pushes : ℕ → RpBox → Collection ℕ ℕ → Collection ℕ ℕ → Type 0
-Pushes id b old new =
-    MatchBool (b.group == 0) (PushesAlone nat_cmp group_order old new id (box_size b))
-    (PushesInto nat_cmp group_order old new id (b.group ∷ []) (box_size b))
 
 module _ (boxes : List RpBox) (b : RpBox) (old new : Collection ℕ ℕ) (h : IsCollected boxes old) where
   sizes_more : SetsSize nat_cmp old.sizes new.sizes (length boxes) (box_size b) → new.sizes ≡ enumerate_from 0 (map box_size (boxes ++ b ∷ []))

@@ -3,6 +3,7 @@ use Rattle.rectangle_pack_c.proofs.Std.{◌≡◌, ◌≢◌, ℕ, ◌+◌, ◌<
 use Rattle.rectangle_pack_c.proofs.Std.{AllPairs, map, Some, slice_get, enumerate_from, IsStrictlySortedBy, Ordering, Equal, keys_of, nat_cmp, insert_entry}
 use Rattle.rectangle_pack_c.proofs.Std.{nat_tests, take_more, length-map, length-take, length-set, get_or_default, map-append, get_or-set_same}
 use Rattle.rectangle_pack_c.proofs.Std.{get_or-set_other, slice_get-get_or, slice_get_within, get_or_from_slice_get, exact_unsigned, set}
+use Rattle.rectangle_pack_c.proofs.Std.{Option, None, MatchOption, Vec}
 use Rattle.rectangle_pack.specs.declared.session.command.Outstanding.{Outstanding}
 use Rattle.rectangle_pack.specs.declared.session.command.Reply.TheVariants.{Done}
 use Rattle.rectangle_pack.specs.declared.grouped_rects_to_place.Group.{Group}
@@ -13,7 +14,8 @@ use Rattle.rectangle_pack.specs.Session.{State, AddsBin}
 use Rattle.rectangle_pack_c.specs.declared.RpBin.{RpBin}
 use Rattle.rectangle_pack_c.specs.declared.RpBox.{RpBox}
 use Rattle.rectangle_pack_c.specs.Arguments.{bin_size, box_size, new_bins, group_order, IsCollected}
-use Rattle.rectangle_pack_c.proofs.CollectedLemmas.{insert_last, Pushes, collected_more}
+use Rattle.rectangle_pack_c.specs.private.Pushed.{Pushes}
+use Rattle.rectangle_pack_c.proofs.CollectedLemmas.{insert_last, collected_more}
 
 -- one more bin
 pub bins_more : (bins : List RpBin) (i : ℕ) (bin : RpBin) → i < length bins → get_or bins i bin ≡ bin → (key : ℕ) → nat_cmp i key ≡ Equal
@@ -73,12 +75,19 @@ added_more bins i bin within is old new was (absent, key, same, are) =
     are ∙ rw was (ap (λ (bs : List (ℕ × Bin)). record { bins = bs; outstanding = []; next = 0 }) grown)
 
 -- what a push says, by the order of groups that the call has
-pub pushes_alone : (R : Group ℕ ℕ → Group ℕ ℕ → Ordering) (i : ℕ) (b : RpBox) (old new : Collection ℕ ℕ) (size : Size) → PushesAlone nat_cmp R old new i size
+pushes_alone : (R : Group ℕ ℕ → Group ℕ ℕ → Ordering) (i : ℕ) (b : RpBox) (old new : Collection ℕ ℕ) (size : Size) → PushesAlone nat_cmp R old new i size
     → size ≡ box_size b → b.group ≡ 0 → R ≡ group_order → Pushes i b old new
 pushes_alone R i b old new size p is none same = rw none (subst (λ r. PushesAlone nat_cmp r old new i (box_size b)) same (rw is at p))
 
-pub pushes_into : (R : Group ℕ ℕ → Group ℕ ℕ → Ordering) (i : ℕ) (b : RpBox) (old new : Collection ℕ ℕ) (named : List ℕ) (size : Size)
+pushes_into : (R : Group ℕ ℕ → Group ℕ ℕ → Ordering) (i : ℕ) (b : RpBox) (old new : Collection ℕ ℕ) (named : List ℕ) (size : Size)
     → PushesInto nat_cmp R old new i named size → size ≡ box_size b → named ≡ b.group ∷ [] → b.group ≢ 0 → R ≡ group_order → Pushes i b old new
 pushes_into R i b old new named size p is one some same =
     let test : (b.group == 0) ≡ false = grind (arith, nat_tests) in
     rw test (subst (λ r. PushesInto nat_cmp r old new i (b.group ∷ []) (box_size b)) same (rw (is, one) at p))
+
+pub pushed : {A : Type 0} (R : Group ℕ ℕ → Group ℕ ℕ → Ordering) (i : ℕ) (b : RpBox) (old new : Collection ℕ ℕ) (groups : Option (Vec ℕ A)) (size : Size)
+    → MatchOption groups (b.group ≡ 0) (λ named. (b.group ≢ 0) × (named.items ≡ b.group ∷ []))
+    → MatchOption groups (PushesAlone nat_cmp R old new i size) (λ named. PushesInto nat_cmp R old new i named.items size)
+    → size ≡ box_size b → R ≡ group_order → Pushes i b old new
+pushed R i b old new None size of_group p is same = pushes_alone R i b old new size p is of_group same
+pushed R i b old new (Some named) size of_group p is same = pushes_into R i b old new named.items size p is of_group.1 of_group.0 same

@@ -25,7 +25,7 @@ use Rattle.rectangle_pack_c.specs.declared.session.RpOutstanding.{RpOutstanding}
 use Rattle.rectangle_pack_c.specs.Arguments.{group_order, IsCollected}
 use Rattle.rectangle_pack_c.specs.Answers.{Stands, corner_of, box_at, by_volume}
 use Rattle.rectangle_pack_c.specs.Sessions.{PacksBoxes, IsAt, record_of, AreOutstanding}
-use Rattle.rectangle_pack_c.specs.private.Written.{as_outstanding, AreWritten}
+use Rattle.rectangle_pack_c.specs.private.Written.{as_outstanding, AreWritten, NewAreWritten}
 use Rattle.rectangle_pack_c.proofs.WholeLemmas.{none_in, in_cases, in_first, in_later}
 use Rattle.rectangle_pack_c.proofs.PlacedLemmas.{records_each, placements_each, records_once, known_ids, placed_alone, comes_from, stand_together}
 
@@ -33,6 +33,10 @@ use Rattle.rectangle_pack_c.proofs.PlacedLemmas.{records_each, placements_each, 
 pub new_part : {X : Type 0} (old more all : List X) → all ≡ old ++ more → take (length all - length old) (drop (length old) all) ≡ more
 new_part old more all is =
     rw (is, drop-append_seam old more) (take_all (length (old ++ more) - length old) more (omega (arith, length-append old more)))
+
+-- the entries behind those of before
+pub new_entries : {X : Type 0} (old more all : List X) → all ≡ old ++ more → drop (length old) all ≡ more
+new_entries old more all is = rw is (drop-append_seam old more)
 
 -- a placement under its number
 pub found_number : (n : ℕ) (ps : List (Placement ℕ ℕ)) (q : Placement ℕ ℕ) → Contains ps q
@@ -97,6 +101,15 @@ some_boxes [] all collected some = absurd (none all.groups collected.groups some
     none [] absent some = omega (arith, some)
     none (g ∷ gs) absent some = let found : lookup (is_at (group_order g.0)) (g ∷ gs) ≡ Some g.1 = rw (group_same g.0) refl in
         let missing : lookup (is_at (group_order g.0)) (g ∷ gs) ≡ None = absent g.0 in absurd (let both : Some g.1 ≡ None = sym found ∙ missing in cc)
+
+-- what is written of a box is its record
+is_record : (i : ℕ) (b : RpBox) (p : RpOutstanding) (r : Outstanding ℕ ℕ) → p.number ≡ r.number → r.id ≡ i → p.placement.bin ≡ r.bin
+    → box_at b p.placement ≡ r.location → record_of i b p ≡ r
+is_record i b p r number id bin place =
+    ap (λ n. record { number = n; id = i; bin = p.placement.bin; location = box_at b p.placement }) number
+    ∙ ap (λ n. record { number = r.number; id = n; bin = p.placement.bin; location = box_at b p.placement }) (sym id)
+    ∙ ap (λ n. record { number = r.number; id = r.id; bin = n; location = box_at b p.placement }) bin
+    ∙ ap (λ n. record { number = r.number; id = r.id; bin = r.bin; location = n }) place
 
 module _ (R : Group ℕ ℕ → Group ℕ ℕ → Ordering) (may : Answers) (same : R ≡ group_order) (all : Collection ℕ ℕ) (old new : State ℕ ℕ) where
   abbrev whole_by_order : PlacesWhole R (rules_by nat_cmp nat_cmp may) all old new → PlacesWhole group_order (rules_by nat_cmp nat_cmp may) all old new
@@ -192,11 +205,7 @@ module _ (R : Group ℕ ℕ → Group ℕ ℕ → Ordering) (may : Answers) (sam
           let number : p.number ≡ r.number = ap (λ (o : RpOutstanding). o.number) p_is in
           let place : box_at b p.placement ≡ r.location = f.location ∙ sym location in
           let in_bin : p.placement.bin ≡ r.bin = f.bin ∙ sym bin in
-          let same_record : record_of i b p ≡ r =
-          ap (λ n. record { number = n; id = i; bin = p.placement.bin; location = box_at b p.placement }) number
-          ∙ ap (λ n. record { number = r.number; id = n; bin = p.placement.bin; location = box_at b p.placement }) (sym r_id)
-          ∙ ap (λ n. record { number = r.number; id = r.id; bin = n; location = box_at b p.placement }) in_bin
-          ∙ ap (λ n. record { number = r.number; id = r.id; bin = r.bin; location = n }) place in
+          let same_record : record_of i b p ≡ r = is_record i b p r number r_id in_bin place in
           (rw same_record inside, rw number low)
 
       pub are_outstanding : length outs ≡ length boxes → AreOutstanding boxes outs old new
@@ -211,3 +220,12 @@ module _ (R : Group ℕ ℕ → Group ℕ ℕ → Ordering) (may : Answers) (sam
             stand_together boxes all collected made.placements made.homes made.groups made.whole (map placement outs) stood i j a b p.placement q.placement
             (standing i a p s) (standing j b q t) named same;
       }
+
+-- the same of a packing by volume
+pub written_outstanding : (boxes : List RpBox) (old new : State ℕ ℕ) (numbers : Numbers) → PacksBoxes boxes old (Packed numbers) new
+    → (outs : List RpOutstanding) → NewAreWritten as_outstanding old new outs → length outs ≡ length boxes → AreOutstanding boxes outs old new
+written_outstanding boxes old new numbers (all, collected, kept, promised) outs written as_many =
+    let more = new_records group_order by_volume refl all old new boxes collected promised in
+    let are = records_are group_order by_volume refl all old new boxes collected promised in
+    are_outstanding group_order by_volume refl all old new boxes collected promised outs
+    (subst (λ rs. AreWritten as_outstanding rs outs) (new_entries old.outstanding more new.outstanding are) written) as_many

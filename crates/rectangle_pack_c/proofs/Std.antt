@@ -3,7 +3,7 @@ pub use Rattle.std.proofs.Common.{refl, ◌≡◌, [], List, sym, ◌∷◌, sub
 pub use Rattle.std.proofs.Common.{slice_get, All, Equal, None, false, Bool, Contains, Ordering, take, true, ◌+◌, IsSome, Option, cond, filter, inl, inr}
 pub use Rattle.std.proofs.Common.{is_eq, option_map, suc, ◌==◌, ◌⊎◌, IsPermutation, IsSomeAnd, zero, ◌≤◌, Global, Greater, Less, MatchBool, append-nil}
 pub use Rattle.std.proofs.Common.{below_more, drop, get_or-set_other, get_or-set_same, length-append, length-set, length-take, lit<, set, take_all, unwrap_or}
-pub use Rattle.std.proofs.Common.{◌-◌}
+pub use Rattle.std.proofs.Common.{◌-◌, MatchOption, rules}
 pub use Rattle.std.proofs.BoxSteps.Steps.{box_in, box_out}
 pub use Rattle.std.proofs.ResultValues.{and_tt}
 pub use Rattle.std.proofs.VecSteps.Shapes.{after}
@@ -17,6 +17,7 @@ pub use Rattle.std.specs.List.Sorted.{IsStrictlySortedBy}
 pub use Rattle.std.specs.Map.{keys_of, lookup, values_of}
 pub use Rattle.std.specs.Ordering.{eq_by_cmp}
 pub use Rattle.std.specs.declared.alloc.Allocator.{Ghosts}
+pub use Rattle.std.specs.declared.vec.Vec.{Vec}
 pub use Rattle.std.proofs.Math.Seq.{drop-append_seam}
 pub use Rattle.std.proofs.lemmas.Bool.Decides.{nat_tests}
 pub use Rattle.std.proofs.lemmas.Cmp.{nat_cmp_total}

@@ -1,10 +1,16 @@
 //! The packer for C: lists of bins and of boxes in, a list of placements out.
 #![tactic(auto)]
 
-ghost use Rattle.std.specs.Prelude.{ℕ, ◌≡◌, ◌<◌, ◌≤◌, ◌↔◌, ◌≢◌, [], IfOk, IsOk, List, length, All, AllPairs};
-ghost use Rattle.rectangle_pack_c.specs.Arguments.{HaveLengths, IsCollected, new_bins};
+ghost use Rattle.std.specs.Prelude.{ℕ, ◌≡◌, ◌<◌, ◌≤◌, ◌↔◌, ◌≢◌, [], ◌∷◌, IfOk, IfErr, IsOk, MatchOption, List, length, All, AllPairs};
+ghost use Rattle.std.specs.Ordering.{nat_cmp};
+ghost use Rattle.std.specs.List.Sorted.{IsStrictlySortedBy};
+ghost use Rattle.std.specs.Map.{keys_of};
+ghost use Rattle.rectangle_pack_c.specs.Arguments.{HaveLengths, IsCollected, group_order, new_bins};
 ghost use Rattle.rectangle_pack_c.specs.Answers.{ArePlaced, IsDonePacking, IsRefusedPacking};
-ghost use Rattle.rectangle_pack_c.specs.private.Written.{AreWritten};
+ghost use Rattle.rectangle_pack_c.specs.Sessions.{PacksBoxes};
+ghost use Rattle.rectangle_pack_c.specs.private.Pushed.{Pushes};
+ghost use Rattle.rectangle_pack_c.specs.private.Written.{AreWritten, NewAreWritten};
+ghost use Rattle.rectangle_pack.specs.Session.{IsSession, packed_reply};
 ghost use Rattle.rectangle_pack.specs.declared.session.command.Outstanding.{Outstanding};
 
 mod handle;
@@ -13,8 +19,8 @@ mod session;
 mod tests;
 
 use rectangle_pack::{
-    GroupedRectsToPlace, Outstanding, RectToInsert, Session, SessionError, contains_smallest_box,
-    volume_heuristic,
+    GroupedRectsToPlace, Outstanding, Packed, RectToInsert, Session, SessionError,
+    contains_smallest_box, volume_heuristic,
 };
 use std::alloc::{AllocError, Global};
 
@@ -109,14 +115,8 @@ pub extern "C" fn rectangle_pack_boxes(
     let Ok(mut session) = session_of(alloc, bins) else {
         return RP_OUT_OF_MEMORY;
     };
-    let Ok(rects) = collection_of(alloc, boxes) else {
-        return RP_OUT_OF_MEMORY;
-    };
-    match session.pack(&rects, &volume_heuristic, &contains_smallest_box) {
-        Ok(_) => {
-            write_all(session.outstanding(), placements);
-            RP_DONE
-        }
+    match pack_into(alloc, &mut session, boxes, placements) {
+        Ok(_) => RP_DONE,
         Err(SessionError::NotEnoughBinSpace) => RP_NOT_ENOUGH_SPACE,
         Err(_) => RP_OUT_OF_MEMORY,
     }
@@ -135,6 +135,28 @@ fn session_of(alloc: Global, bins: &[RpBin]) -> Result<Session<u32, u32>, Sessio
     Ok(session)
 }
 
+// Packs the boxes into the session, and writes the placements.
+fn pack_into<T: Written>(
+    alloc: Global,
+    session: &mut Session<u32, u32>,
+    boxes: &[RpBox],
+    placements: &mut [T],
+) -> Result<Packed, SessionError>
+    requires as_many { length placements.old ≡ length boxes.now }
+    requires few { length boxes.now < LIMIT }
+    ensures packed { PacksBoxes boxes.now session.old (packed_reply result) session.new }
+    ensures always { IsSession nat_cmp session.new }
+    ensures written { IfOk result
+        (λ _. NewAreWritten T.written session.old session.new placements.new) }
+    ensures unchanged { IfErr result (λ _. placements.new ≡ placements.old) }
+{
+    let known = session.outstanding().len();
+    let rects = collection_of(alloc, boxes)?;
+    let packed = session.pack(&rects, &volume_heuristic, &contains_smallest_box)?;
+    write_all(&session.outstanding()[known..], placements);
+    Ok(packed)
+}
+
 // The boxes, each under its index.
 fn collection_of(
     alloc: Global,
@@ -146,17 +168,38 @@ fn collection_of(
 {
     let mut rects = GroupedRectsToPlace::new(alloc);
     for (i, rect) in boxes.iter().enumerate() {
-        let size = RectToInsert::new(rect.width, rect.height, rect.depth);
-        let groups = if rect.group == 0 {
-            None
-        } else {
-            Some(vec![in alloc; rect.group]?)
-        };
-        rects.push_rect(i as u32, groups, size)?;
-        // For the proof: the groups are asked for that they ascend.
-        let _ascend = rects.groups();
+        push_box(alloc, &mut rects, i as u32, rect)?;
     }
     Ok(rects)
+}
+
+// Pushes a box under its index, alone or into its group.
+fn push_box(
+    alloc: Global,
+    rects: &mut GroupedRectsToPlace<u32, u32>,
+    index: u32,
+    rect: &RpBox,
+) -> Result<(), AllocError>
+    ensures pushed { IfOk result (λ _. Pushes index rect.now rects.old rects.new) }
+    ensures ascend { IfOk result
+        (λ _. IsStrictlySortedBy group_order (keys_of rects.new.groups)) }
+{
+    let size = RectToInsert::new(rect.width, rect.height, rect.depth);
+    rects.push_rect(index, groups_of(alloc, rect.group)?, size)?;
+    // For the proof: the groups are asked for that they ascend.
+    let _ascend = rects.groups();
+    Ok(())
+}
+
+// The groups of a box of this number: none where it is 0.
+fn groups_of(alloc: Global, group: u32) -> Result<Option<Vec<u32>>, AllocError>
+    ensures { IfOk result (λ groups. MatchOption groups (group ≡ 0)
+        (λ named. (group ≢ 0) × (named.items ≡ group ∷ []))) }
+{
+    if group == 0 {
+        return Ok(None);
+    }
+    Ok(Some(vec![in alloc; group]?))
 }
 
 // What is written of an outstanding placement.

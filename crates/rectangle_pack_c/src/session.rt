@@ -1,24 +1,21 @@
 //! A session for C: bins that stay, and boxes that are packed into them and released by number.
-ghost use Rattle.std.specs.Prelude.{◌≡◌, ◌≢◌, ◌↔◌, ◌⊎◌, [], None, Some, IsSome, IfSome, IfOk, IfErr, ℕ};
+ghost use Rattle.std.specs.Prelude.{◌≡◌, ◌≢◌, ◌↔◌, ◌⊎◌, [], None, Some, IsSome, IfSome, ℕ};
 ghost use Rattle.std.specs.Ordering.{nat_cmp};
 ghost use Rattle.std.specs.Map.{lookup};
 ghost use Rattle.std.specs.BTreeMap.{is_at};
 ghost use Rattle.rectangle_pack.specs.Bins.{Bin};
 ghost use Rattle.rectangle_pack.specs.Boxes.{Size};
 ghost use Rattle.rectangle_pack.specs.Joining.{IsSwept, ShareNoFace};
-ghost use Rattle.rectangle_pack.specs.Session.{State, IsSession, AddsBin, Releases, Coalesces, reply_of, packed_reply};
+ghost use Rattle.rectangle_pack.specs.Session.{State, AddsBin, Releases, Coalesces, reply_of};
 ghost use Rattle.rectangle_pack.specs.declared.session.command.Reply.TheVariants.{Refused};
-ghost use Rattle.rectangle_pack_c.specs.Sessions.{ChangesAs, AreAsMany, PacksBoxes, AreOutstanding, ArePackedNow, TellsStats, reply_status, volume};
+ghost use Rattle.rectangle_pack_c.specs.Sessions.{ChangesAs, AreAsMany, PacksBoxes, ArePackedNow, TellsStats, reply_status, volume};
 
 use super::handle::RpSession;
 use super::{
     LIMIT, RP_BAD_LENGTHS, RP_DONE, RP_DUPLICATE_BIN, RP_NOT_ENOUGH_SPACE, RP_NUMBERS_USED_UP,
-    RP_OUT_OF_MEMORY, RP_UNKNOWN_BIN, RP_UNKNOWN_PLACEMENT, RpBox, RpPlacement, Written,
-    collection_of, write_all,
+    RP_OUT_OF_MEMORY, RP_UNKNOWN_BIN, RP_UNKNOWN_PLACEMENT, RpBox, RpPlacement, Written, pack_into,
 };
-use rectangle_pack::{
-    Outstanding, Packed, Session, SessionError, contains_smallest_box, volume_heuristic,
-};
+use rectangle_pack::{Outstanding, Session, SessionError};
 use std::alloc::Global;
 
 // What a number of 64 bits does not hold.
@@ -177,27 +174,6 @@ pub extern "C" fn rectangle_pack_session_pack(
         Ok(_) => RP_DONE,
         Err(error) => refusal(error),
     }
-}
-
-// Packs the boxes into the session, and writes the placements.
-fn pack_into(
-    alloc: Global,
-    session: &mut Session<u32, u32>,
-    boxes: &[RpBox],
-    placements: &mut [RpOutstanding],
-) -> Result<Packed, SessionError>
-    requires lengths { AreAsMany boxes.now placements.old }
-    ensures packed { PacksBoxes boxes.now session.old (packed_reply result) session.new }
-    ensures always { IsSession nat_cmp session.new }
-    ensures done { IfOk result
-        (λ _. AreOutstanding boxes.now placements.new session.old session.new) }
-    ensures unchanged { IfErr result (λ _. placements.new ≡ placements.old) }
-{
-    let known = session.outstanding().len();
-    let rects = collection_of(alloc, boxes)?;
-    let packed = session.pack(&rects, &volume_heuristic, &contains_smallest_box)?;
-    write_all(&session.outstanding()[known..], placements);
-    Ok(packed)
 }
 
 impl Written for RpOutstanding {

@@ -3,6 +3,7 @@
 use super::{
     RP_BAD_LENGTHS, RP_DONE, RP_NOT_ENOUGH_SPACE, RpBin, RpBox, RpPlacement, rectangle_pack_boxes,
 };
+use std::alloc::Global;
 use std::test::Fail;
 
 mod session;
@@ -27,70 +28,73 @@ const STRIP: RpBox = RpBox {
     group: 0,
 };
 
+// Where a box is: its bin and its corner.
+fn place(placement: &RpPlacement) -> [u32; 4] {
+    [placement.bin, placement.x, placement.y, placement.z]
+}
+
+// What is answered to a strip: the status, and where the strip is.
+fn strip_in(alloc: Global, bins: &[RpBin]) -> (u32, [u32; 4]) {
+    let mut placements = [NOWHERE];
+    let status = rectangle_pack_boxes(alloc, bins, [STRIP].as_slice(), placements.as_mut_slice());
+    (status, place(&placements[0]))
+}
+
 #[test]
 fn a_box_stands_in_the_corner_of_the_smaller_bin(rt: HostRuntime) -> Result<(), Fail> {
     let bins = [RpBin { width: 20, ..SHEET }, SHEET];
-    let mut placements = [NOWHERE];
+    let answer = strip_in(rt.alloc(), bins.as_slice());
+    assert_eq!(rt; answer, (RP_DONE, [1, 0, 0, 0]));
+    Ok(())
+}
+
+// What is answered to a sheet, a bin that is wider, and two boxes of group 7 that are so wide: the
+// status, and the bins of the boxes.
+fn bins_of_group(alloc: Global, widths: [u32; 2]) -> (u32, [u32; 2]) {
+    let bins = [SHEET, RpBin { width: 20, ..SHEET }];
+    let boxes = widths.map(|width| RpBox {
+        width,
+        group: 7,
+        ..STRIP
+    });
+    let mut placements = [NOWHERE, NOWHERE];
     let status = rectangle_pack_boxes(
-        rt.alloc(),
+        alloc,
         bins.as_slice(),
-        [STRIP].as_slice(),
+        boxes.as_slice(),
         placements.as_mut_slice(),
     );
-    assert_eq!(rt; status, RP_DONE);
-    let RpPlacement { bin, x, y, z } = placements[0];
-    assert_eq!(rt; (bin, x), (1, 0));
-    assert_eq!(rt; (y, z), (0, 0));
-    Ok(())
+    (status, [placements[0].bin, placements[1].bin])
 }
 
 #[test]
 fn a_group_stays_together(rt: HostRuntime) -> Result<(), Fail> {
-    let bins = [SHEET, RpBin { width: 20, ..SHEET }];
-    let boxes = [
-        RpBox {
-            width: 10,
-            group: 7,
-            ..STRIP
-        },
-        RpBox {
-            width: 1,
-            group: 7,
-            ..STRIP
-        },
-    ];
-    let mut placements = [NOWHERE, NOWHERE];
-    let status = rectangle_pack_boxes(
-        rt.alloc(),
-        bins.as_slice(),
-        boxes.as_slice(),
-        placements.as_mut_slice(),
-    );
-    assert_eq!(rt; status, RP_DONE);
-    assert_eq!(rt; (placements[0].bin, placements[1].bin), (1, 1));
+    let answer = bins_of_group(rt.alloc(), [10, 1]);
+    assert_eq!(rt; answer, (RP_DONE, [1, 1]));
     Ok(())
+}
+
+// The status of a packing into one sheet.
+fn status_in_sheet(alloc: Global, boxes: &[RpBox], placements: &mut [RpPlacement]) -> u32 {
+    rectangle_pack_boxes(alloc, [SHEET].as_slice(), boxes, placements)
+}
+
+// What is answered to three strips and three placements, and to one strip and three placements.
+fn refusals(alloc: Global, placements: &mut [RpPlacement]) -> [u32; 2] {
+    let boxes = [STRIP, STRIP, STRIP];
+    [
+        status_in_sheet(alloc, boxes.as_slice(), placements),
+        status_in_sheet(alloc, [STRIP].as_slice(), placements),
+    ]
 }
 
 #[test]
 fn refusals_write_nothing(rt: HostRuntime) -> Result<(), Fail> {
-    let boxes = [STRIP, STRIP, STRIP];
     let mut placements = [NOWHERE, NOWHERE, NOWHERE];
-    let full = rectangle_pack_boxes(
-        rt.alloc(),
-        [SHEET].as_slice(),
-        boxes.as_slice(),
-        placements.as_mut_slice(),
-    );
-    assert_eq!(rt; full, RP_NOT_ENOUGH_SPACE);
-    let short = rectangle_pack_boxes(
-        rt.alloc(),
-        [SHEET].as_slice(),
-        [STRIP].as_slice(),
-        placements.as_mut_slice(),
-    );
-    assert_eq!(rt; short, RP_BAD_LENGTHS);
+    let answers = refusals(rt.alloc(), placements.as_mut_slice());
+    assert_eq!(rt; answers, [RP_NOT_ENOUGH_SPACE, RP_BAD_LENGTHS]);
     for placement in placements.as_slice() {
-        assert_eq!(rt; (placement.bin, placement.x), (NOWHERE.bin, NOWHERE.x));
+        assert_eq!(rt; place(placement), place(&NOWHERE));
     }
     Ok(())
 }

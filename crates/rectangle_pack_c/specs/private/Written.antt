@@ -1,6 +1,7 @@
 -- What is written of the placements of a packing.
-use Rattle.std.specs.Prelude.{◌≡◌, ℕ, List, All, Some, slice_get}
+use Rattle.std.specs.Prelude.{◌≡◌, ℕ, List, All, Some, length, slice_get, drop}
 use Rattle.rectangle_pack.specs.declared.session.command.Outstanding.{Outstanding}
+use Rattle.rectangle_pack.specs.Session.{State}
 use Rattle.rectangle_pack_c.specs.declared.RpPlacement.{RpPlacement}
 use Rattle.rectangle_pack_c.specs.declared.session.RpOutstanding.{RpOutstanding}
 use Rattle.rectangle_pack_c.specs.Answers.{corner_of}
@@ -16,3 +17,7 @@ as_outstanding o = record { number = o.number; placement = as_placement o }
 -- each outstanding placement is written at the index of its box
 abbrev pub AreWritten : {X : Type 0} → (Outstanding ℕ ℕ → X) → List (Outstanding ℕ ℕ) → List X → Type 0
 AreWritten written outstanding entries = All (λ o. slice_get entries o.id ≡ Some (written o)) outstanding
+
+-- each placement that a session has beyond those of before is written so
+abbrev pub NewAreWritten : {X : Type 0} → (Outstanding ℕ ℕ → X) → State ℕ ℕ → State ℕ ℕ → List X → Type 0
+NewAreWritten written old new entries = AreWritten written (drop (length old.outstanding) new.outstanding) entries

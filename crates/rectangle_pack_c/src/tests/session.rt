@@ -1,6 +1,8 @@
 //! A session for C, from its first bin to its end, and each of its refusals. What the calls say of
 //! all sessions is proved; that they say `RP_DONE` where there is room is seen here.
-use super::{NOWHERE, SHEET, STRIP};
+ghost use Rattle.std.specs.Prelude.{◌≡◌, None, IsSome, true};
+
+use super::{NOWHERE, SHEET, STRIP, place};
 use crate::handle::RpSession;
 use crate::session::{
     RpOutstanding, RpStats, RpVolume, rectangle_pack_session_add_bin,
@@ -11,6 +13,7 @@ use crate::{
     RP_BAD_LENGTHS, RP_DONE, RP_DUPLICATE_BIN, RP_NOT_ENOUGH_SPACE, RP_UNKNOWN_BIN,
     RP_UNKNOWN_PLACEMENT, RpBox,
 };
+use std::alloc::Global;
 use std::test::Fail;
 
 const UNSET: RpOutstanding = RpOutstanding {
@@ -28,43 +31,95 @@ const NO_STATS: RpStats = RpStats {
     placements: 99,
 };
 
+// Makes the session, and adds the bin 7, a sheet: whether both are done.
+fn opens(alloc: Global, session: &mut RpSession) -> bool
+    requires { session.old.state ≡ None }
+    ensures { result ≡ true → IsSome session.new.state }
+{
+    let (w, h, d) = (SHEET.width, SHEET.height, SHEET.depth);
+    rectangle_pack_session_new(alloc, session) == RP_DONE
+        && rectangle_pack_session_add_bin(alloc, session, 7, w, h, d) == RP_DONE
+}
+
+// What is answered to a box that is so wide: the status, the number and where the box is.
+fn pack(alloc: Global, session: &mut RpSession, width: u32) -> (u32, u64, [u32; 4])
+    requires { IsSome session.old.state }
+    ensures { IsSome session.new.state }
+{
+    let boxes = [RpBox { width, ..STRIP }];
+    let mut placements = [UNSET];
+    let status = rectangle_pack_session_pack(
+        alloc,
+        session,
+        boxes.as_slice(),
+        placements.as_mut_slice(),
+    );
+    let RpOutstanding { number, placement } = placements[0];
+    (status, number, place(&placement))
+}
+
+// What is answered about a bin: the status; the volumes of the bin, of what is free and of what is
+// placed, and the high bits of the first; how many free sections and placements there are.
+fn stats(alloc: Global, session: &mut RpSession, bin: u32) -> (u32, [u64; 4], [usize; 2])
+    requires { IsSome session.old.state }
+    ensures { IsSome session.new.state }
+{
+    let mut told = NO_STATS;
+    let status = rectangle_pack_session_stats(alloc, session, bin, &mut told);
+    let volumes = [
+        told.bin_volume.low,
+        told.free_volume.low,
+        told.placed_volume.low,
+        told.bin_volume.high,
+    ];
+    (status, volumes, [told.free_sections, told.placements])
+}
+
+// What is answered where the placement 0 is released and the sections of a bin are joined.
+fn release_and_join(alloc: Global, session: &mut RpSession, bin: u32) -> [u32; 2]
+    requires { IsSome session.old.state }
+    ensures { IsSome session.new.state }
+{
+    [
+        rectangle_pack_session_release(alloc, session, 0),
+        rectangle_pack_session_coalesce_all(alloc, session, bin),
+    ]
+}
+
 // The bin 7 of 10x10x1 takes a box 4x10x1 at its corner, as number 0. It is released, the sections
 // are joined, and all of the bin is free in one section.
 #[test]
 fn a_box_is_packed_and_released(rt: HostRuntime) -> Result<(), Fail> {
     let alloc = rt.alloc();
     let mut session = RpSession::none(alloc);
-    let made = rectangle_pack_session_new(alloc, &mut session);
-    assert_eq!(rt; made, RP_DONE);
-    let added = rectangle_pack_session_add_bin(alloc, &mut session, 7, 10, 10, 1);
-    assert_eq!(rt; added, RP_DONE);
-    let mut placements = [UNSET];
-    let packed = rectangle_pack_session_pack(
-        alloc,
-        &mut session,
-        [STRIP].as_slice(),
-        placements.as_mut_slice(),
-    );
-    assert_eq!(rt; packed, RP_DONE);
-    let RpOutstanding { number, placement } = placements[0];
-    assert_eq!(rt; (number, placement.bin), (0, 7));
-    assert_eq!(rt; (placement.x, placement.y), (0, 0));
-    let mut stats = NO_STATS;
-    let told = rectangle_pack_session_stats(alloc, &mut session, 7, &mut stats);
-    assert_eq!(rt; told, RP_DONE);
-    assert_eq!(rt; (stats.free_volume.low, stats.placed_volume.low), (60, 40));
-    assert_eq!(rt; (stats.bin_volume.low, stats.bin_volume.high), (100, 0));
-    assert_eq!(rt; stats.placements, 1);
-    let released = rectangle_pack_session_release(alloc, &mut session, 0);
-    assert_eq!(rt; released, RP_DONE);
-    let joined = rectangle_pack_session_coalesce_all(alloc, &mut session, 7);
-    assert_eq!(rt; joined, RP_DONE);
-    let told = rectangle_pack_session_stats(alloc, &mut session, 7, &mut stats);
-    assert_eq!(rt; told, RP_DONE);
-    assert_eq!(rt; (stats.free_volume.low, stats.free_sections), (100, 1));
-    assert_eq!(rt; stats.placements, 0);
+    assert!(rt; opens(alloc, &mut session));
+    let packed = pack(alloc, &mut session, 4);
+    assert_eq!(rt; packed, (RP_DONE, 0, [7, 0, 0, 0]));
+    let full = stats(alloc, &mut session, 7);
+    assert_eq!(rt; full, (RP_DONE, [100, 60, 40, 0], [1, 1]));
+    let released = release_and_join(alloc, &mut session, 7);
+    assert_eq!(rt; released, [RP_DONE, RP_DONE]);
+    let free = stats(alloc, &mut session, 7);
+    assert_eq!(rt; free, (RP_DONE, [100, 100, 0, 0], [1, 0]));
     rectangle_pack_session_free(alloc, &mut session);
     Ok(())
+}
+
+// What is answered to a second bin 7, and to two boxes and one placement, which stays as it is.
+fn add_again_and_pack_short(alloc: Global, session: &mut RpSession) -> ([u32; 2], u64, [u32; 4])
+    requires { IsSome session.old.state }
+    ensures { IsSome session.new.state }
+{
+    let again = rectangle_pack_session_add_bin(alloc, session, 7, 1, 1, 1);
+    let mut placements = [UNSET];
+    let short = rectangle_pack_session_pack(
+        alloc,
+        session,
+        [STRIP, STRIP].as_slice(),
+        placements.as_mut_slice(),
+    );
+    let RpOutstanding { number, placement } = placements[0];
+    ([again, short], number, place(&placement))
 }
 
 // What is refused writes nothing, and the session goes on.
@@ -72,41 +127,18 @@ fn a_box_is_packed_and_released(rt: HostRuntime) -> Result<(), Fail> {
 fn refusals_are_named(rt: HostRuntime) -> Result<(), Fail> {
     let alloc = rt.alloc();
     let mut session = RpSession::none(alloc);
-    let made = rectangle_pack_session_new(alloc, &mut session);
-    assert_eq!(rt; made, RP_DONE);
-    let (w, h, d) = (SHEET.width, SHEET.height, SHEET.depth);
-    let added = rectangle_pack_session_add_bin(alloc, &mut session, 7, w, h, d);
-    assert_eq!(rt; added, RP_DONE);
-    let again = rectangle_pack_session_add_bin(alloc, &mut session, 7, 1, 1, 1);
-    assert_eq!(rt; again, RP_DUPLICATE_BIN);
-    let mut placements = [UNSET];
-    let wide = RpBox { width: 11, ..STRIP };
-    let full = rectangle_pack_session_pack(
-        alloc,
-        &mut session,
-        [wide].as_slice(),
-        placements.as_mut_slice(),
-    );
-    assert_eq!(rt; full, RP_NOT_ENOUGH_SPACE);
-    let short = rectangle_pack_session_pack(
-        alloc,
-        &mut session,
-        [STRIP, STRIP].as_slice(),
-        placements.as_mut_slice(),
-    );
-    assert_eq!(rt; short, RP_BAD_LENGTHS);
+    assert!(rt; opens(alloc, &mut session));
+    let full = pack(alloc, &mut session, 11);
+    assert_eq!(rt; full, (RP_NOT_ENOUGH_SPACE, 99, [9, 9, 9, 9]));
+    let refused = add_again_and_pack_short(alloc, &mut session);
     assert_eq!(rt;
-        (placements[0].number, placements[0].placement.bin),
-        (99, NOWHERE.bin)
+        refused,
+        ([RP_DUPLICATE_BIN, RP_BAD_LENGTHS], 99, [9, 9, 9, 9])
     );
-    let released = rectangle_pack_session_release(alloc, &mut session, 0);
-    assert_eq!(rt; released, RP_UNKNOWN_PLACEMENT);
-    let joined = rectangle_pack_session_coalesce_all(alloc, &mut session, 8);
-    assert_eq!(rt; joined, RP_UNKNOWN_BIN);
-    let mut stats = NO_STATS;
-    let told = rectangle_pack_session_stats(alloc, &mut session, 8, &mut stats);
-    assert_eq!(rt; told, RP_UNKNOWN_BIN);
-    assert_eq!(rt; (stats.placements, stats.free_volume.low), (99, 9));
+    let unknown = release_and_join(alloc, &mut session, 8);
+    assert_eq!(rt; unknown, [RP_UNKNOWN_PLACEMENT, RP_UNKNOWN_BIN]);
+    let untold = stats(alloc, &mut session, 8);
+    assert_eq!(rt; untold, (RP_UNKNOWN_BIN, [9, 9, 9, 9], [99, 99]));
     rectangle_pack_session_free(alloc, &mut session);
     Ok(())
 }
