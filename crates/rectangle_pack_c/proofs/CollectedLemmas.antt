@@ -1,7 +1,7 @@
 -- The collection of a list of boxes: one more push, what stands in it, and that two of them are alike.
 use Rattle.rectangle_pack_c.proofs.Std.{◌≡◌, ◌≢◌, ℕ, ◌+◌, ◌<◌, ◌≤◌, ◌==◌, Bool, true, false, cond, List, [], ◌∷◌, ◌++◌, length, get_or, refl, ap, sym, ◌∙◌}
 use Rattle.rectangle_pack_c.proofs.Std.{subst, arith, suc, zero, append-nil, Option, Some, None, All, AllPairs, Contains, IsSomeAnd, unwrap_or, slice_get, map}
-use Rattle.rectangle_pack_c.proofs.Std.{filter, MatchBool, AllZip, enumerate_from, IsStrictlySortedBy, option_map, Equal, nat_cmp_is, nat_cmp, is_eq, lookup}
+use Rattle.rectangle_pack_c.proofs.Std.{filter, AllZip, enumerate_from, IsStrictlySortedBy, option_map, Equal, nat_cmp_is, nat_cmp, is_eq, lookup}
 use Rattle.rectangle_pack_c.proofs.Std.{keys_of, is_at, insert_entry, exact_unsigned, map-append, length-map, get_or_default, length-enumerate_from}
 use Rattle.rectangle_pack_c.proofs.Std.{get_or-enumerate_from, AllPairs-cons, All-nil, All-cons, All-weaker, All-head, Contains-get_or, filter-append}
 use Rattle.rectangle_pack_c.proofs.Std.{slice_get-map, slice_get-get_or}

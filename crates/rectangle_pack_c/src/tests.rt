@@ -48,15 +48,19 @@ fn a_box_stands_in_the_corner_of_the_smaller_bin(rt: HostRuntime) -> Result<(), 
     Ok(())
 }
 
-// What is answered to a sheet, a bin that is wider, and two boxes of group 7 that are so wide: the
-// status, and the bins of the boxes.
-fn bins_of_group(alloc: Global, widths: [u32; 2]) -> (u32, [u32; 2]) {
-    let bins = [SHEET, RpBin { width: 20, ..SHEET }];
-    let boxes = widths.map(|width| RpBox {
+// A box of group 7 that is so wide.
+fn grouped(width: u32) -> RpBox {
+    RpBox {
         width,
         group: 7,
         ..STRIP
-    });
+    }
+}
+
+// What is answered to two boxes and two bins, a sheet and one that is wider: the status, and the
+// bins of the boxes.
+fn bins_of(alloc: Global, boxes: [RpBox; 2]) -> (u32, [u32; 2]) {
+    let bins = [SHEET, RpBin { width: 20, ..SHEET }];
     let mut placements = [NOWHERE, NOWHERE];
     let status = rectangle_pack_boxes(
         alloc,
@@ -69,7 +73,7 @@ fn bins_of_group(alloc: Global, widths: [u32; 2]) -> (u32, [u32; 2]) {
 
 #[test]
 fn a_group_stays_together(rt: HostRuntime) -> Result<(), Fail> {
-    let answer = bins_of_group(rt.alloc(), [10, 1]);
+    let answer = bins_of(rt.alloc(), [grouped(10), grouped(1)]);
     assert_eq!(rt; answer, (RP_DONE, [1, 1]));
     Ok(())
 }
