@@ -75,8 +75,8 @@ where
     }
 }
 
-// Tries a packing of so many entries on these bins: its placements, or `None` where it is refused for
-// space. The bins are as they were unless it is done.
+// Tries a packing of so many entries on these bins: its placements, or `None` where it is refused
+// for space. The bins are as they were unless it is done.
 fn try_packing<Id, BinId, GroupId, R, A>(
     groups: &GroupedRectsToPlace<Id, GroupId, A>,
     bins: &mut BTreeMap<BinId, TargetBin<A>, A>,
