@@ -1,5 +1,5 @@
 -- Packings. Read Orders, Groups and RollBack first; Frame carries whatever each step keeps through a packing, and is the main lemma. Whole and Refused say what
--- is promised of groups, FitTests bounds the tests. SoundBins is for pushes.
+-- is promised of groups, FitTests bounds the tests, Ends joins these. SoundBins is for pushes.
 pub mod SoundBins
 pub mod Orders
 pub mod Placed
@@ -8,6 +8,7 @@ pub mod RollBack
 pub mod Excluded
 pub mod Groups
 pub mod FitTests
+pub mod Ends
 pub mod Frame
 pub mod KeepsCells
 pub mod KeepsCuts

@@ -1,9 +1,9 @@
 //! One packing: group after group into the first bin that takes it.
-ghost use Rattle.std.specs.Prelude.{ℕ, ◌≡◌, ◌<◌, ◌+◌, ◌≤◌, ◌++◌, [], length, vec_len, List, IfOk, OnErr, IsSome, All, MatchBool, MatchOption, Some, map};
+ghost use Rattle.std.specs.Prelude.{ℕ, ◌≡◌, ◌<◌, ◌+◌, ◌≤◌, ◌∷◌, ◌++◌, [], length, vec_len, List, false, IfOk, OnOk, OnErr, IsSome, All, MatchBool, MatchOption, map, slice_index_or};
 ghost use Rattle.std.specs.BTreeMap.{get, is_at};
 ghost use Rattle.std.specs.Bool.{OnTrue};
-ghost use Rattle.std.specs.List.{list_any, sum_by, IsDistinct};
-ghost use Rattle.std.specs.Map.{lookup, keys_of};
+ghost use Rattle.std.specs.List.{list_any, IsDistinct};
+ghost use Rattle.std.specs.Map.{keys_of};
 ghost use Rattle.std.specs.Vec.{vec_capacity};
 ghost use Rattle.rectangle_pack_groups.specs.Clones.{ClonesEqual};
 ghost use Rattle.rectangle_pack_bins.specs.declared.pack.answer.Placement.{Placement};
@@ -11,12 +11,13 @@ ghost use Rattle.rectangle_pack_sections.specs.Bins.{Bin};
 ghost use Rattle.std.specs.Ordering.{eq_by_cmp};
 ghost use Rattle.rectangle_pack_lists.specs.Numbers.{saturated};
 ghost use Rattle.rectangle_pack_bins.specs.Orders.{IsBinOrder};
-ghost use Rattle.rectangle_pack_bins.specs.Packing.{rules_by, bins_of, excludes_by, at_start, Members, IsPlaced, IsRefused, AreAllPlaced, AreGroups, StopsAfter, PackingDone, PackingRefused};
+ghost use Rattle.rectangle_pack_bins.specs.Packing.{rules_by, bins_of, excludes_by, at_start, Members, IsStuckIn, IsPlaced, IsRefused, AreAllPlaced, PackingDone, PackingRefused};
 ghost use Rattle.rectangle_pack_groups.specs.Groups.{entries_of};
 ghost use Rattle.rectangle_pack_bins.specs.PackAnswers.{AreCounted};
-ghost use Rattle.rectangle_pack_bins.specs.private.Excluded.{are_in, went_to};
+ghost use Rattle.rectangle_pack_bins.specs.private.Excluded.{are_in, went_to, AreHomesKept};
+ghost use Rattle.rectangle_pack_groups.specs.Exclusions.{listed_at};
 ghost use Rattle.rectangle_pack_bins.specs.private.Bounds.{AddsWithin};
-ghost use Rattle.rectangle_pack_bins.specs.private.Orders.{keys_of_order, entries_at, SizesStandAt};
+ghost use Rattle.rectangle_pack_bins.specs.private.Orders.{members_of, members_in, HasSizes, StopsAmong};
 ghost use Rattle.rectangle_pack_bins.specs.private.RollBack.{RollsBackTo, StaysUndoable};
 
 use crate::pack::answer::{Placement, name_all};
@@ -24,6 +25,7 @@ use crate::pack::checkout::PackingBins;
 use crate::pack::journal::{DoneTrial, note_trial, undo_trials};
 use crate::pack::order::{OrderedGroup, group_order};
 use crate::target_bin::TargetBin;
+use rectangle_pack_groups::grouped_rects_to_place::exclusions::Exclusions;
 use rectangle_pack_groups::grouped_rects_to_place::{Group, GroupedRectsToPlace, exclusions_of};
 use rectangle_pack_lists::fit_tests::{FitTests, bounded};
 use rectangle_pack_lists::trial::Buffers;
@@ -94,6 +96,76 @@ impl<'b, Id: Drop, B: Ord + Drop, A: Allocator + Copy> Packing<'b, Id, B, A> {
     }
 }
 
+// Tries a group in the bin of this id, at this index of the order, and places it there where its
+// trial is done; whether it is.
+fn place_in<'b, Id, B, R, A>(
+    packing: &mut Packing<'b, Id, B, A>,
+    index: usize,
+    id: &'b B,
+    ids: &[Id],
+    sizes: &[RectToInsert],
+    policy: &R,
+) -> Result<bool, AllocError>
+where
+    Id: Ord + Clone + Drop,
+    B: Ord + Clone + Drop,
+    R: Policy,
+    A: Allocator + Copy,
+    requires ids { ClonesEqual Id.is_clone Id.eq }
+    requires bin_ids { ClonesEqual B.is_clone B.eq }
+    requires callable { R.is_callable policy.now }
+    requires lengths { length ids.now ≡ length sizes.now }
+    requires in_order { index < length packing.old.bins.order }
+    requires at_index { (rate : ℕ) ×
+        ((rate, id.now) ≡ slice_index_or packing.old.bins.order index (rate, id.now)) }
+    requires journal_room { vec_len packing.old.journal < vec_capacity packing.old.journal }
+    ensures placed { IfOk result
+        (λ done.
+        let by = rules_by Id.cmp B.cmp (R.may policy.now) in
+        let group : Members Id = record { ids = ids.now; sizes = sizes.now } in
+        let old = bins_of packing.old.bins.kept in
+        let new = bins_of packing.new.bins.kept in
+        MatchBool done
+        ((added : List (Placement Id B)) × (count : ℕ) ×
+        IsPlaced by (λ other. false) (id.now ∷ []) group old added new count ×
+        (packing.new.placements.items ≡ packing.old.placements.items ++ added) ×
+        (packing.new.tests ≡ saturated (packing.old.tests + count)))
+        ((count : ℕ) ×
+        IsStuckIn by old group id.now count ×
+        (new ≡ old) ×
+        (packing.new.placements.items ≡ packing.old.placements.items) ×
+        (packing.new.journal ≡ packing.old.journal) ×
+        (packing.new.tests ≡ saturated (packing.old.tests + count)))) }
+    ensures stopped { OnErr result
+        (AddsWithin B.cmp (bins_of packing.old.bins.kept) (id.now ∷ []) (length sizes.now)
+        packing.old.tests packing.new.tests) }
+    ensures back { StaysUndoable B.cmp packing.old packing.new }
+    ensures order { packing.new.bins.order ≡ packing.old.bins.order }
+    ensures journal_grows { vec_len packing.new.journal ≤ vec_len packing.old.journal + 1 }
+    ensures journal_room_stays { vec_capacity packing.new.journal ≡
+        vec_capacity packing.old.journal }
+{
+    bounded(&packing.tests);
+    let done = packing.bins.try_bin(
+        index,
+        sizes,
+        policy,
+        &mut packing.tests,
+        &mut packing.buffers,
+    )?;
+    if !done {
+        return Ok(false);
+    }
+    note_trial(&mut packing.journal, id, &mut packing.buffers.notes);
+    name_all(
+        &mut packing.placements,
+        ids,
+        id,
+        packing.buffers.locations.as_slice(),
+    )?;
+    Ok(true)
+}
+
 // Puts a group into the first bin of the order that is not excluded and whose trial is done; the
 // id of that bin. The bins up to there, excluded ones too, are checked out, where there is room.
 fn place_group<'b, Id, B, R, A>(
@@ -150,17 +222,7 @@ where
         if excluded.contains(&id) {
             continue;
         }
-        let done = packing
-            .bins
-            .try_bin(i, sizes, policy, &mut packing.tests, &mut packing.buffers)?;
-        if done {
-            note_trial(&mut packing.journal, id, &mut packing.buffers.notes);
-            name_all(
-                &mut packing.placements,
-                ids,
-                id,
-                packing.buffers.locations.as_slice(),
-            )?;
+        if place_in(packing, i, id, ids, sizes, policy)? {
             return Ok(Some(id));
         }
     }
@@ -187,77 +249,141 @@ fn excluded_bins<'a, 'b, K: Ord, B: Ord, A: Allocator + Copy>(
     Ok(excluded)
 }
 
-// Places each group of an order, up to the first that is refused.
-fn place_groups<'a, 'b, Id, B, GroupId, R, A>(
+// Keeps the bin of a group for those that are excluded with it, where there are any.
+fn keep_home<'a, 'b, K: Ord, B: Ord, A: Allocator + Copy>(
+    homes: &mut BTreeMap<&'a K, &'b B, A>,
+    name: &'a K,
+    here: &'b B,
+    partners: &[K],
+) -> Result<(), AllocError>
+    ensures { OnOk result
+        ((all : List (K × List K)) (placed : List (K × B)) →
+        partners.now ≡ listed_at K.cmp all name.now →
+        All (λ home. is_at (K.cmp name.now) home.0 ≡ false) placed →
+        AreHomesKept K.cmp B.cmp all placed homes.old.entries →
+        AreHomesKept K.cmp B.cmp all ((name.now, here.now) ∷ placed) homes.new.entries) }
+{
+    if !partners.is_empty() {
+        homes.insert(name, here)?;
+    }
+    Ok(())
+}
+
+// Puts the next group into the first bin that takes it, and keeps that bin for the groups that are
+// excluded with it; whether there is one.
+fn place_next<'a, 'b, Id, B, K, R, A>(
     packing: &mut Packing<'b, Id, B, A>,
-    rects_to_place: &'a GroupedRectsToPlace<Id, GroupId, A>,
-    groups: &[OrderedGroup<'a, Group<GroupId, Id>, Id, A>],
+    group: &OrderedGroup<'a, K, Id, A>,
     sizes: &[RectToInsert],
+    exclusions: &'a Exclusions<K, A>,
+    homes: &mut BTreeMap<&'a K, &'b B, A>,
     policy: &R,
 ) -> Result<bool, AllocError>
 where
     Id: Ord + Clone + Drop,
     B: Ord + Clone + Drop,
-    GroupId: Ord + Clone + Drop,
+    K: Ord,
     R: Policy,
     A: Allocator + Copy,
     requires ids { ClonesEqual Id.is_clone Id.eq }
     requires bin_ids { ClonesEqual B.is_clone B.eq }
     requires callable { R.is_callable policy.now }
-    requires listed { All
-        (λ o.
-        lookup (is_at (⟦<Group<GroupId, Id> as Ord>⟧.cmp o.name.now)) rects_to_place.now.groups ≡
-        Some o.ids.now.items) groups.now }
-    requires sized { All
-        (λ o. SizesStandAt Id.cmp rects_to_place.now.sizes sizes.now o.ids.now.items o.start)
-        groups.now }
-    requires distinct_groups { IsDistinct (eq_by_cmp ⟦<Group<GroupId, Id> as Ord>⟧.cmp)
-        (map (λ o. o.name.now) groups.now) }
-    requires no_placements { packing.old.placements.items ≡ [] }
-    ensures packed { IfOk result
+    requires in_range { HasSizes sizes.now group.now }
+    requires journal_room { vec_len packing.old.journal < vec_capacity packing.old.journal }
+    ensures placed { IfOk result
         (λ done.
-        let group_cmp = ⟦<Group<GroupId, Id> as Ord>⟧.cmp in
+        (placed : List (K × B)) →
+        All (λ home. is_at (K.cmp group.now.name.now) home.0 ≡ false) placed →
+        AreHomesKept K.cmp B.cmp exclusions.now placed homes.old.entries →
         let by = rules_by Id.cmp B.cmp (R.may policy.now) in
-        let all = rects_to_place.now in
-        let excludes = excludes_by group_cmp B.cmp all.partners in
+        let excludes = excludes_by K.cmp B.cmp exclusions.now placed group.now.name.now in
         let names = map (λ o. o.1) packing.old.bins.order in
-        let groups = keys_of_order groups.now in
+        let (name, members) = members_of sizes.now group.now in
         let old = bins_of packing.old.bins.kept in
         let new = bins_of packing.new.bins.kept in
         MatchBool done
-        ((gs : List (Group GroupId Id × Members Id)) × (homes : List (Group GroupId Id × B)) ×
-        (count : ℕ) ×
-        AreGroups Id.cmp group_cmp all.sizes all.groups groups gs ×
-        AreAllPlaced by excludes names gs (at_start old) packing.new.placements.items
-        (record { bins = new; homes = homes }) count ×
+        ((added : List (Placement Id B)) × (count : ℕ) ×
+        (at : IsPlaced by excludes names members old added new count) ×
+        AreHomesKept K.cmp B.cmp exclusions.now ((name, at.here) ∷ placed) homes.new.entries ×
+        (packing.new.placements.items ≡ packing.old.placements.items ++ added) ×
         (packing.new.tests ≡ saturated (packing.old.tests + count)))
         ((count : ℕ) ×
-        StopsAfter by excludes group_cmp all.sizes all.groups groups names old new count ×
+        IsRefused by excludes names members old count ×
+        (new ≡ old) ×
         (packing.new.tests ≡ saturated (packing.old.tests + count)))) }
     ensures stopped { OnErr result
-        (AddsWithin B.cmp (bins_of packing.old.bins.kept) (map (λ o. o.1) packing.old.bins.order)
-        (sum_by (entries_at ⟦<Group<GroupId, Id> as Ord>⟧.cmp rects_to_place.now.groups)
-        (keys_of_order groups.now))
+        (AddsWithin B.cmp (bins_of packing.old.bins.kept)
+        (map (λ o. o.1) packing.old.bins.order)
+        (length (members_of sizes.now group.now).1.sizes)
         packing.old.tests packing.new.tests) }
     ensures back { StaysUndoable B.cmp packing.old packing.new }
+    ensures order { packing.new.bins.order ≡ packing.old.bins.order }
+    ensures journal_grows { vec_len packing.new.journal ≤ vec_len packing.old.journal + 1 }
+    ensures journal_room_stays { vec_capacity packing.new.journal ≡
+        vec_capacity packing.old.journal }
 {
     bounded(&packing.tests);
     let alloc = *packing.journal.allocator();
+    let members = &sizes[group.start..group.start + group.ids.len()];
+    let partners = exclusions.partners(group.name);
+    let excluded = excluded_bins(alloc, partners, homes)?;
+    match place_group(packing, group.ids.as_slice(), members, &excluded, policy)? {
+        None => Ok(false),
+        Some(here) => {
+            keep_home(homes, group.name, here, partners)?;
+            Ok(true)
+        }
+    }
+}
+
+// Places each group of an order, up to the first that is refused.
+fn place_groups<'a, 'b, Id, B, K, R, A>(
+    packing: &mut Packing<'b, Id, B, A>,
+    groups: &[OrderedGroup<'a, K, Id, A>],
+    sizes: &[RectToInsert],
+    exclusions: &'a Exclusions<K, A>,
+    policy: &R,
+) -> Result<bool, AllocError>
+where
+    Id: Ord + Clone + Drop,
+    B: Ord + Clone + Drop,
+    K: Ord,
+    R: Policy,
+    A: Allocator + Copy,
+    requires ids { ClonesEqual Id.is_clone Id.eq }
+    requires bin_ids { ClonesEqual B.is_clone B.eq }
+    requires callable { R.is_callable policy.now }
+    requires in_range { All (HasSizes sizes.now) groups.now }
+    requires distinct_groups { IsDistinct (eq_by_cmp K.cmp) (map (λ o. o.name.now) groups.now) }
+    requires no_placements { packing.old.placements.items ≡ [] }
+    ensures packed { IfOk result
+        (λ done.
+        let by = rules_by Id.cmp B.cmp (R.may policy.now) in
+        let excludes = excludes_by K.cmp B.cmp exclusions.now in
+        let names = map (λ o. o.1) packing.old.bins.order in
+        let members = map (members_of sizes.now) groups.now in
+        let old = bins_of packing.old.bins.kept in
+        let new = bins_of packing.new.bins.kept in
+        MatchBool done
+        ((homes : List (K × B)) × (count : ℕ) ×
+        AreAllPlaced by excludes names members (at_start old) packing.new.placements.items
+        (record { bins = new; homes = homes }) count ×
+        (packing.new.tests ≡ saturated (packing.old.tests + count)))
+        ((count : ℕ) ×
+        StopsAmong by excludes names members old new count ×
+        (packing.new.tests ≡ saturated (packing.old.tests + count)))) }
+    ensures stopped { OnErr result
+        (AddsWithin B.cmp (bins_of packing.old.bins.kept) (map (λ o. o.1) packing.old.bins.order)
+        (members_in (map (members_of sizes.now) groups.now)) packing.old.tests packing.new.tests) }
+    ensures back { StaysUndoable B.cmp packing.old packing.new }
+{
+    bounded(&packing.tests);
     packing.bins.make_room(groups.len(), sizes.len())?;
     packing.journal.reserve(groups.len())?;
-    let exclusions = exclusions_of(rects_to_place);
-    let mut homes = BTreeMap::new(alloc);
+    let mut homes = BTreeMap::new(*packing.journal.allocator());
     for group in groups {
-        let members = &sizes[group.start..group.start + group.ids.len()];
-        let partners = exclusions.partners(group.name);
-        let excluded = excluded_bins(alloc, partners, &homes)?;
-        match place_group(packing, group.ids.as_slice(), members, &excluded, policy)? {
-            None => return Ok(false),
-            Some(here) => {
-                if !partners.is_empty() {
-                    homes.insert(group.name, here)?;
-                }
-            }
+        if !place_next(packing, group, sizes, exclusions, &mut homes, policy)? {
+            return Ok(false);
         }
     }
     Ok(true)
@@ -316,9 +442,9 @@ where
     packing.placements.reserve(entries)?;
     place_groups(
         packing,
-        rects_to_place,
         groups.as_slice(),
         sizes.as_slice(),
+        exclusions_of(rects_to_place),
         policy,
     )
 }

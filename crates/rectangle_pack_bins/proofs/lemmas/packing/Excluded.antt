@@ -9,7 +9,7 @@ use Rattle.rectangle_pack_bins.specs.declared.pack.answer.Placement.{Placement}
 use Rattle.rectangle_pack_groups.specs.Groups.{Collection}
 use Rattle.rectangle_pack_groups.specs.Exclusions.{listed_at, is_listed, are_excluded}
 use Rattle.rectangle_pack_groups.specs.private.Exclusions.{AreMutual}
-use Rattle.rectangle_pack_bins.specs.private.Excluded.{are_in, went_to}
+use Rattle.rectangle_pack_bins.specs.private.Excluded.{are_in, went_to, AreHomesKept}
 use Rattle.rectangle_pack_bins.specs.Packing.{Rules, AreKeptApart, excludes_by, excludes_none, Members, Stage, AreAllPlaced, PackingDone, PackingDoneBy}
 use Rattle.rectangle_pack_bins.specs.Packing.{PackingRefused, PackingRefusedBy}
 use Rattle.rectangle_pack_sections.specs.Bins.{Bin}
@@ -70,12 +70,6 @@ excluded-more {B} {bin_cmp} o old new bin found now id updates was is =
     by false = sym (or-false found)
 
 module _ {K B : Type 0} (cmp : K → K → Ordering) (bin_cmp : B → B → Ordering) (o : IsTotalOrder cmp) where
-  -- of a group that has partners it is known where it went
-  abbrev pub Knows : List (K × List K) → List (K × B) → List (Bor K × Bor B) → Type 0
-  Knows partners homes kept =
-      (group : K) → 0 < length (listed_at cmp partners group) → (id : B)
-      → list_any (λ h. is_at (cmp group) h.0 && is_at (bin_cmp id) h.1) homes ≡ went_to cmp bin_cmp kept group id
-
   -- who is listed has a list
   listed_has_list : (partners : List (K × List K)) → AreMutual cmp partners → (q : K)
       → All (λ p. 0 < length (listed_at cmp partners p)) (listed_at cmp partners q)
@@ -86,14 +80,14 @@ module _ {K B : Type 0} (cmp : K → K → Ordering) (bin_cmp : B → B → Orde
       some-found (is_at (cmp q)) (listed_at cmp partners p) (sym (m q p) ∙ there)
 
   -- so the bins of a group's partners are those that are excluded for it
-  pub excluded_by_partners : (partners : List (K × List K)) (homes : List (K × B)) (kept : List (Bor K × Bor B)) → AreMutual cmp partners
-      → Knows partners homes kept → (q : K) (id : B)
+  excluded_by_partners : (partners : List (K × List K)) (homes : List (K × B)) (kept : List (Bor K × Bor B)) → AreMutual cmp partners
+      → AreHomesKept cmp bin_cmp partners homes kept → (q : K) (id : B)
       → list_any (λ p. went_to cmp bin_cmp kept p id) (listed_at cmp partners q) ≡ excludes_by cmp bin_cmp partners homes q id
   excluded_by_partners partners homes kept m known q id =
       let xs = listed_at cmp partners q in
       let f : K → K × B → Bool = λ p h. is_at (cmp p) h.0 && is_at (bin_cmp id) h.1 in
       let has = listed_has_list partners m q in
-      let each : All (λ p. went_to cmp bin_cmp kept p id ≡ list_any (f p) homes) xs = λ k d within. sym (known (get_or xs k d) (has k d within) id) in
+      let each : All (λ p. went_to cmp bin_cmp kept p id ≡ list_any (f p) homes) xs = λ k d within. sym (known.each (get_or xs k d) (has k d within) id) in
       list_any-on (λ p. went_to cmp bin_cmp kept p id) (λ p. list_any (f p) homes) xs each
       ∙ list_any-swap f xs homes
       ∙ list_any-alike (λ h. list_any (λ p. f p h) xs) (λ h. are_excluded cmp partners q h.0 && is_at (bin_cmp id) h.1)
@@ -103,37 +97,48 @@ module _ {K B : Type 0} (cmp : K → K → Ordering) (bin_cmp : B → B → Orde
       ∙ sym (excluded-listed o partners m q h.0)))
       homes
 
+  -- whatever list of them was read
+  pub excluded_as_found : (partners : List (K × List K)) (placed : List (K × B)) (homes : List (Bor K × Bor B)) (excluded : List (Bor B)) (own : List K) (q : K)
+      → own ≡ listed_at cmp partners q → AreMutual cmp partners → AreHomesKept cmp bin_cmp partners placed homes
+      → ((id : B) → are_in bin_cmp excluded id ≡ list_any (λ p. went_to cmp bin_cmp homes p id) own)
+      → are_in bin_cmp excluded ≡ excludes_by cmp bin_cmp partners placed q
+  excluded_as_found partners placed homes excluded own q listed m known found =
+      fun_ext (λ id.
+      found id ∙ ap (λ (ps : List K). list_any (λ p. went_to cmp bin_cmp homes p id) ps) listed
+      ∙ excluded_by_partners partners placed homes m known q id)
+
   -- a group without partners need not be kept
-  pub Knows-alone : (partners : List (K × List K)) (homes : List (K × B)) (kept : List (Bor K × Bor B)) (name : K) (here : B)
-      → length (listed_at cmp partners name) ≡ 0 → Knows partners homes kept → Knows partners ((name, here) ∷ homes) kept
-  Knows-alone partners homes kept name here none known group some id = by (is_at (cmp group) name) refl
+  pub AreHomesKept-alone : (partners : List (K × List K)) (homes : List (K × B)) (kept : List (Bor K × Bor B)) (name : K) (here : B)
+      → length (listed_at cmp partners name) ≡ 0 → AreHomesKept cmp bin_cmp partners homes kept → AreHomesKept cmp bin_cmp partners ((name, here) ∷ homes) kept
+  AreHomesKept-alone partners homes kept name here none known = record { each = λ group some id. by group some id (is_at (cmp group) name) refl }
     where
-      by : (b : Bool) → is_at (cmp group) name ≡ b → ((b && is_at (bin_cmp id) here) || list_any
+      by : (group : K) → 0 < length (listed_at cmp partners group) → (id : B) → (b : Bool) → is_at (cmp group) name ≡ b → ((b && is_at (bin_cmp id) here) || list_any
           (λ h. is_at (cmp group) h.0 && is_at (bin_cmp id) h.1) homes) ≡ went_to cmp bin_cmp kept group id
-      by true e =
+      by group some id true e =
           let same : listed_at cmp partners group ≡ listed_at cmp partners name = rw (lookup-equal o group name ((Equal-is _).0 e) partners) refl in
           absurd (omega (arith, ap length same))
-      by false e = known group some id
+      by group some id false e = known.each group some id
 
   -- one that has some is kept with its bin
-  pub Knows-kept : (partners : List (K × List K)) (homes : List (K × B)) (old new : List (Bor K × Bor B)) (name : K) (here : Bor B)
+  pub AreHomesKept-kept : (partners : List (K × List K)) (homes : List (K × B)) (old new : List (Bor K × Bor B)) (name : K) (here : Bor B)
       → ((group : K) → lookup (λ k. is_at (cmp group) k.now) new ≡ cond (is_at (cmp name) group) (Some here) (lookup (λ k. is_at (cmp group) k.now) old))
-      → All (λ h. is_at (cmp name) h.0 ≡ false) homes → Knows partners homes old → Knows partners ((name, here.now) ∷ homes) new
-  Knows-kept partners homes old new name here updates fresh known group some id = by (is_at (cmp group) name) refl
+      → All (λ h. is_at (cmp name) h.0 ≡ false) homes → AreHomesKept cmp bin_cmp partners homes old → AreHomesKept cmp bin_cmp partners ((name, here.now) ∷ homes) new
+  AreHomesKept-kept partners homes old new name here updates fresh known = record { each = λ group some id. by group some id (is_at (cmp group) name) refl }
     where
-      f : K × B → Bool
-      f h = is_at (cmp group) h.0 && is_at (bin_cmp id) h.1
+      f : K → B → K × B → Bool
+      f group id h = is_at (cmp group) h.0 && is_at (bin_cmp id) h.1
 
-      by : (b : Bool) → is_at (cmp group) name ≡ b → ((b && is_at (bin_cmp id) here.now) || list_any f homes) ≡ went_to cmp bin_cmp new group id
-      by true e =
-          let none : list_any f homes ≡ false = list_any_none f homes (All-weaker (λ h. is_at (cmp name) h.0 ≡ false) (λ h. f h ≡ false)
+      by : (group : K) → 0 < length (listed_at cmp partners group) → (id : B) → (b : Bool)
+          → is_at (cmp group) name ≡ b → ((b && is_at (bin_cmp id) here.now) || list_any (f group id) homes) ≡ went_to cmp bin_cmp new group id
+      by group some id true e =
+          let none : list_any (f group id) homes ≡ false = list_any_none (f group id) homes (All-weaker (λ h. is_at (cmp name) h.0 ≡ false) (λ h. f group id h ≡ false)
           (λ h apart. rw (is_at-equal o group name h.0 ((Equal-is _).0 e), apart) refl) homes fresh) in
           rw (updates group, is_at-back o name group, e, none) (or-false (is_at (bin_cmp id) here.now))
-      by false e = rw (updates group, is_at-back o name group, e) (known group some id)
+      by group some id false e = rw (updates group, is_at-back o name group, e) (known.each group some id)
 
   -- at first no group is kept
-  pub Knows-none : (partners : List (K × List K)) (kept : List (Bor K × Bor B)) → kept ≡ [] → Knows partners [] kept
-  Knows-none partners kept none group some id = ap (λ (es : List (Bor K × Bor B)). went_to cmp bin_cmp es group id) (sym none)
+  pub AreHomesKept-none : (partners : List (K × List K)) (kept : List (Bor K × Bor B)) → kept ≡ [] → AreHomesKept cmp bin_cmp partners [] kept
+  AreHomesKept-none partners kept none = record { each = λ group some id. ap (λ (es : List (Bor K × Bor B)). went_to cmp bin_cmp es group id) (sym none) }
 
   -- the groups that were placed are those that an order named before
   abbrev pub Named : {X Y : Type 0} → List (OrderedGroup K X Y) → List (K × B) → Type 0

@@ -6,8 +6,7 @@ use Rattle.rectangle_pack_sections.proofs.Std.{option_map, AllZip, sum_by, IsDis
 use Rattle.rectangle_pack_sections.proofs.Std.{sum_by-append, IsDistinct-head, IsDistinct-tail, sum_by-IsPermutation, IsPermutation-map, length_permutation}
 use Rattle.rectangle_pack_sections.proofs.Std.{IsDistinct-cons, IsDistinct-IsPermutation, append_assoc, tied_itself, All-weaker, sum_by_push, All, All-head}
 use Rattle.rectangle_pack_sections.proofs.Std.{All-tail}
-use Rattle.rectangle_pack_bins.proofs.lemmas.packing.Groups.{members_in, AreGroups-length, names-split}
-use Rattle.rectangle_pack_bins.specs.declared.pack.order.OrderedGroup.{OrderedGroup}
+use Rattle.rectangle_pack_bins.proofs.lemmas.packing.Groups.{AreGroups-length, names-split}
 use Rattle.rectangle_pack_bins.specs.declared.pack.answer.Placement.{Placement}
 use Rattle.rectangle_pack_sections.specs.Boxes.{Size, Cuboid}
 use Rattle.rectangle_pack_sections.specs.Bins.{Bin}
@@ -19,7 +18,7 @@ use Rattle.rectangle_pack_bins.specs.Orders.{IsBinOrder}
 use Rattle.rectangle_pack_lists.specs.Numbers.{saturated}
 use Rattle.rectangle_pack_bins.specs.PackAnswers.{sections_in, AreCounted}
 use Rattle.rectangle_pack_bins.specs.private.Bounds.{free_sections_at, free_sections_of, AreWithin, AddsWithin}
-use Rattle.rectangle_pack_bins.specs.private.Orders.{keys_of_order, entries_at}
+use Rattle.rectangle_pack_bins.specs.private.Orders.{entries_at, members_in}
 use Rattle.rectangle_pack_groups.specs.declared.grouped_rects_to_place.Group.{Group}
 use Rattle.rectangle_pack_groups.proofs.lemmas.multimap.Mutual.{is_at-equal}
 use Rattle.rectangle_pack_groups.proofs.lemmas.util.Maps.{lookup-equal, is_at-back, congr_right}
@@ -36,9 +35,9 @@ OnErr-given (Ok x) h = tt
 OnErr-given (Err e) h = h
 
 -- no test is within every bound
-pub adds-none : {B : Type 0} (bin_cmp : B → B → Ordering) (bins : List (B × Bin)) (order : List B) (entries before : ℕ) → before ≡ saturated (before + 0)
-    → AddsWithin bin_cmp bins order entries before before
-adds-none bin_cmp bins order entries before small =
+pub adds-none : {B : Type 0} (bin_cmp : B → B → Ordering) (bins : List (B × Bin)) (order : List B) (entries before after : ℕ)
+    → after ≡ saturated (before + 0) → AddsWithin bin_cmp bins order entries before after
+adds-none bin_cmp bins order entries before after small =
     record { tests = 0; within = record { most = omega (arith, mul-le-mul_left (length order) (square entries)) }; added = small }
 
 -- functions that agree on the elements have the same sum
@@ -103,29 +102,45 @@ module _ {Id B : Type 0} (rules : Rules Id B) (o : IsTotalOrder rules.bin_cmp) w
         rw (splits, ← append_assoc before (here ∷ []) after, ← sum_by_push (λ k. k) counts count)
         (shares-le m bins (before ++ here ∷ []) after (counts ++ count ∷ []) (AllZip-more (IsShare m bins) before counts here count shares share))
 
-  -- the same of an order with keys, at an index, with the tests counted
-  pub adds-begun : (excluded : B → Bool) (order : List (ℕ × B)) (i : ℕ) (g : Members Id) (bins : List (B × Bin)) (counts : List ℕ) (before after : ℕ)
-      → AllZip (DoesNotTake rules excluded bins g) (map (λ (x : ℕ × B). x.1) (take i order)) counts
-      → after ≡ saturated (before + sum counts) → AddsWithin rules.bin_cmp bins (map (λ (x : ℕ × B). x.1) order) (length g.sizes) before after
-  adds-begun excluded order i g bins counts before after passed added =
-      record { tests = sum counts; within = begun-le excluded g bins _ counts passed _ _ (map-split (λ (x : ℕ × B). x.1) order i); added = added }
+  -- the same of one bin, with the tests counted
+  pub adds-alone : (g : Members Id) (bins : List (B × Bin)) (here : B) (bin : Bin) (ls last : List Cuboid) (count before after : ℕ)
+      → lookup (is_at (rules.bin_cmp here)) bins ≡ Some bin → IsDone rules.may bin.sections g.sizes ls last count → after ≡ saturated (before + count)
+      → AddsWithin rules.bin_cmp bins (here ∷ []) (length g.sizes) before after
+  adds-alone g bins here bin ls last count before after found done added =
+      let le = tried-le (λ id. false) g bins [] [] tt (here ∷ []) here [] bin ls last count refl found done in
+      record { tests = count; within = record { most = omega (arith, le.most) }; added = added }
 
-  pub adds-tried : (excluded : B → Bool) (order : List (ℕ × B)) (i : ℕ) (x : ℕ × B) (g : Members Id) (bins : List (B × Bin)) (counts : List ℕ) (bin : Bin)
-      (ls last : List Cuboid) (count before after : ℕ) → i < length order → x ≡ get_or order i x
-      → AllZip (DoesNotTake rules excluded bins g) (map (λ (x : ℕ × B). x.1) (take i order)) counts → lookup (is_at (rules.bin_cmp x.1)) bins ≡ Some bin
-      → IsDone rules.may bin.sections g.sizes ls last count
-      → after ≡ saturated (before + (sum counts + count)) → AddsWithin rules.bin_cmp bins (map (λ (x : ℕ × B). x.1) order) (length g.sizes) before after
-  adds-tried excluded order i x g bins counts bin ls last count before after within is passed found done added = record {
-    tests = sum counts + count;
-    within = tried-le excluded g bins _ counts passed _ x.1 _ bin ls last count (names-split order i x within is) found done;
-    added = added;
-  }
+  -- and of an order with keys, at an index
+  pub adds-begun : (excluded : B → Bool) (order : List (ℕ × B)) (i : ℕ) (x : ℕ × B) (g : Members Id) (bins mid_bins : List (B × Bin)) (counts : List ℕ)
+      (before mid after : ℕ) → i < length order → x ≡ get_or order i x → mid_bins ≡ bins
+      → AllZip (DoesNotTake rules excluded bins g) (map (λ (x : ℕ × B). x.1) (take i order)) counts → mid ≡ saturated (before + sum counts)
+      → AddsWithin rules.bin_cmp mid_bins (x.1 ∷ []) (length g.sizes) mid after
+      → AddsWithin rules.bin_cmp bins (map (λ (x : ℕ × B). x.1) order) (length g.sizes) before after
+  adds-begun excluded order i x g bins mid_bins counts before mid after within is same passed added last =
+      let m = length g.sizes in
+      let names : List B = map (λ (x : ℕ × B). x.1) (take i order) in
+      let rest : List B = map (λ (x : ℕ × B). x.1) (drop (suc i) order) in
+      let one = rw same at last.within in
+      let share : IsShare m bins x.1 last.tests = omega (arith, one.most, ap (λ n. m * n) (sum_by-cons (free_sections_at rules.bin_cmp bins) x.1 [])) in
+      let all = AllZip-more (IsShare m bins) names counts x.1 last.tests (shares excluded g bins names counts passed) share in
+      record {
+        tests = sum counts + last.tests;
+        within = rw (names-split order i x within is, ← append_assoc names (x.1 ∷ []) rest, ← sum_by_push (λ k. k) counts last.tests)
+            (shares-le m bins (names ++ x.1 ∷ []) rest (counts ++ last.tests ∷ []) all);
+        added = saturated-add before mid after (sum counts) last.tests added last.added;
+      }
 
   -- so a group that is placed
-  pub placed-le : (excluded : B → Bool) (order : List B) (g : Members Id) (old : List (B × Bin)) (ps : List (Placement Id B)) (new : List (B × Bin)) (n : ℕ)
+  placed-le : (excluded : B → Bool) (order : List B) (g : Members Id) (old : List (B × Bin)) (ps : List (Placement Id B)) (new : List (B × Bin)) (n : ℕ)
       → IsPlaced rules excluded order g old ps new n → AreWithin rules.bin_cmp old order (length g.sizes) n
   placed-le excluded order g old ps new n p = rw p.tests_are
       (tried-le excluded g old p.before p.counts p.passed order p.here p.after p.bin p.locations p.last p.count p.order_is p.found p.done)
+
+  -- with the tests counted
+  pub adds-one : (excluded : B → Bool) (order : List B) (g : Members Id) (old : List (B × Bin)) (ps : List (Placement Id B)) (new : List (B × Bin))
+      (n before after : ℕ) → IsPlaced rules excluded order g old ps new n → after ≡ saturated (before + n)
+      → AddsWithin rules.bin_cmp old order (length g.sizes) before after
+  adds-one excluded order g old ps new n before after p added = record { tests = n; within = placed-le excluded order g old ps new n p; added = added }
 
   -- and one that is refused
   refused-le : (excluded : B → Bool) (order : List B) (g : Members Id) (bins : List (B × Bin)) (n : ℕ) → IsRefused rules excluded order g bins n
@@ -211,6 +226,13 @@ module _ {Id B : Type 0} (rules : Rules Id B) (o : IsTotalOrder rules.bin_cmp) w
           some = omega (arith, head.some, tail.some);
         })
 
+    -- a beginning of groups has no more members than all
+    begins-within : (bins : List (B × Bin)) (names : List B) (all gs later : List (K × Members Id)) (n : ℕ) → all ≡ gs ++ later
+        → AreWithin rules.bin_cmp bins names (members_in gs) n → AreWithin rules.bin_cmp bins names (members_in all) n
+    begins-within bins names all gs later n splits h =
+        AreWithin-more rules.bin_cmp bins names (members_in gs) (members_in all) n
+        (omega (arith, ap members_in splits, sum_by-append (λ (g : K × Members Id). length g.1.sizes) gs later)) h
+
     module _ (order : List B) (gs : List (K × Members Id)) (old : Stage K B) (ps : List (Placement Id B)) (new : Stage K B) (n : ℕ)
         (d : IsDistinct (eq_by_cmp rules.bin_cmp) order) (placed : AreAllPlaced rules excludes order gs old ps new n) where
       -- groups that are placed
@@ -223,6 +245,22 @@ module _ {Id B : Type 0} (rules : Rules Id B) (o : IsTotalOrder rules.bin_cmp) w
       more-within g one last = rw (sum_by_push (λ (m : K × Members Id). length m.1.sizes) gs g)
           (record { most = joined-le (length order) _ _ (members_in gs) (length g.1.sizes) n one (all-le order gs old ps new n d placed) last.most })
 
+      -- the same of a beginning of groups, with the tests counted
+      pub adds-placed : (all later : List (K × Members Id)) (before mid : ℕ) → all ≡ gs ++ later → mid ≡ saturated (before + n)
+          → AddsWithin rules.bin_cmp old.bins order (members_in all) before mid
+      adds-placed all later before mid splits first =
+          record { tests = n; within = begins-within old.bins order all gs later n splits all-within; added = first }
+
+      pub adds-more : (all : List (K × Members Id)) (g : K × Members Id) (later : List (K × Members Id)) (before mid after : ℕ)
+          → all ≡ gs ++ g ∷ later → mid ≡ saturated (before + n) → AddsWithin rules.bin_cmp new.bins order (length g.1.sizes) mid after
+          → AddsWithin rules.bin_cmp old.bins order (members_in all) before after
+      adds-more all g later before mid after splits first last = record {
+        tests = n + last.tests;
+        within = begins-within old.bins order all (gs ++ g ∷ []) later _ (splits ∙ sym (append_assoc gs (g ∷ []) later))
+            (more-within g last.tests last.within);
+        added = saturated-add before mid after n last.tests first last.added;
+      }
+
     module _ (group_cmp : K → K → Ordering) (sizes : List (Id × Size)) (lists : List (K × List Id)) where
       -- the groups of a beginning of an order have no more members than the order's lists
       listed-within : (bins : List (B × Bin)) (names : List B) (order taken later : List (ℕ × K)) (gs : List (K × Members Id)) (n : ℕ) → order ≡ taken ++ later
@@ -232,30 +270,6 @@ module _ {Id B : Type 0} (rules : Rules Id B) (o : IsTotalOrder rules.bin_cmp) w
           let own = AreGroups-length rules.id_cmp group_cmp sizes lists taken gs listed in
           let all = sum_by-append (entries_at group_cmp lists) taken later in
           AreWithin-more rules.bin_cmp bins names (members_in gs) _ n (omega (arith, own, all, ap (sum_by (entries_at group_cmp lists)) splits)) h
-
-      module _ {X Y : Type 0} (order : List (OrderedGroup K X Y)) (i : ℕ) (names : List B) (gs : List (K × Members Id)) (old : Stage K B)
-          (ps : List (Placement Id B)) (new : Stage K B) (n before mid : ℕ) (d : IsDistinct (eq_by_cmp rules.bin_cmp) names)
-          (placed : AreAllPlaced rules excludes names gs old ps new n) (first : mid ≡ saturated (before + n)) where
-        split : keys_of_order order ≡ keys_of_order (take i order) ++ keys_of_order (drop i order)
-        split = map-split (λ (x : OrderedGroup K X Y). (x.key.0, x.name.now)) order i
-
-        -- the same of a beginning of an order of groups, with the tests counted
-        pub adds-placed : AreGroups rules.id_cmp group_cmp sizes lists (keys_of_order (take i order)) gs
-            → AddsWithin rules.bin_cmp old.bins names (sum_by (entries_at group_cmp lists) (keys_of_order order)) before mid
-        adds-placed listed = record {
-          tests = n;
-          within = listed-within old.bins names _ _ _ gs n split listed (all-within names gs old ps new n d placed);
-          added = first;
-        }
-
-        pub adds-more : (g : K × Members Id) (after : ℕ) → AreGroups rules.id_cmp group_cmp sizes lists (keys_of_order (take i order)) (gs ++ g ∷ [])
-            → AddsWithin rules.bin_cmp new.bins names (length g.1.sizes) mid after
-            → AddsWithin rules.bin_cmp old.bins names (sum_by (entries_at group_cmp lists) (keys_of_order order)) before after
-        adds-more g after listed last = record {
-          tests = n + last.tests;
-          within = listed-within old.bins names _ _ _ (gs ++ g ∷ []) _ split listed (more-within names gs old ps new n d placed g last.tests last.within);
-          added = saturated-add before mid after n last.tests first last.added;
-        }
 
   -- these names equal the keys of a map, one after another
   abbrev AreNames : List (B × Bin) → List (ℕ × B) → Type 0

@@ -4,11 +4,12 @@ use Rattle.rectangle_pack_sections.proofs.Std.{◌≡◌, ℕ, suc, ◌+◌, ◌
 use Rattle.rectangle_pack_sections.proofs.Std.{false, Bool, arith, get_or, append_assoc, append-nil, Option, Some, None, map, sum, All, IsTrue, ◌↔◌, nat_eq}
 use Rattle.rectangle_pack_sections.proofs.Std.{if◌then◌else◌, Result, Ok, Err, IfOk, MatchBool, MatchOption, Ordering, Equal, is_eq, IsTotalOrder, Equal-is}
 use Rattle.rectangle_pack_sections.proofs.Std.{AllZip, sum_by, sum_by-cons, length-append, lookup, set_value, keys_of, IsStrictlySortedBy, option_map, is_at}
-use Rattle.rectangle_pack_sections.proofs.Std.{split_at, take_more, map-append, length-map, Vec, All-push, All-nil, sum-map}
+use Rattle.rectangle_pack_sections.proofs.Std.{split_at, take_more, take-append-drop, map-append, length-map, Vec, All-push, All-nil, All-head}
+use Rattle.rectangle_pack_sections.proofs.Std.{All-tail, All-weaker, sum-map, slice_range}
 use Rattle.rectangle_pack_bins.specs.declared.pack.order.OrderedGroup.{OrderedGroup}
 use Rattle.rectangle_pack_sections.specs.Closures.{Answers}
 use Rattle.rectangle_pack_groups.specs.Groups.{Collection, lists_of}
-use Rattle.rectangle_pack_bins.specs.private.Orders.{keys_of_order, entries_at}
+use Rattle.rectangle_pack_bins.specs.private.Orders.{keys_of_order, entries_at, SizesStandAt, members_of, members_in, HasSizes, StopsAmong}
 use Rattle.rectangle_pack_bins.specs.declared.pack.journal.DoneTrial.{DoneTrial}
 use Rattle.rectangle_pack_groups.specs.declared.grouped_rects_to_place.Group.{Group}
 use Rattle.rectangle_pack_bins.specs.declared.pack.answer.Placement.{Placement}
@@ -22,7 +23,7 @@ use Rattle.rectangle_pack_lists.specs.Steps.{IsDone}
 use Rattle.rectangle_pack_bins.specs.Placed.{AreNamed, IsLastOf, AreLastPlacements}
 use Rattle.rectangle_pack_bins.specs.private.Checkout.{IsTriedIn}
 use Rattle.rectangle_pack_bins.specs.private.RollBack.{GoesBack, trials_noted}
-use Rattle.rectangle_pack_bins.proofs.lemmas.packing.Orders.{AllZip-more, map-split, AllZip-next, AllZip-equal}
+use Rattle.rectangle_pack_bins.proofs.lemmas.packing.Orders.{AllZip-more, AllZip-begins, AllZip-equal, SizesStandAt-part}
 use Rattle.rectangle_pack_bins.proofs.lemmas.packing.RollBack.{bins_of-written, lookup-bins_of, IsRoomier-grown, IsRoomier-bins, GoesBack-more, GoesBack-pushed}
 use Rattle.rectangle_pack_groups.proofs.lemmas.util.Zips.{length-zip}
 use Rattle.rectangle_pack_groups.proofs.lemmas.util.Maps.{is_at-back, congr_right}
@@ -114,44 +115,81 @@ abbrev pub AreSizesOf : {Id : Type 0} → (Id → Id → Ordering) → List (Id 
 AreSizesOf cmp sizes ids found = AllZip (λ id size. lookup (is_at (cmp id)) sizes ≡ Some size) ids found
 
 module _ {Id B : Type 0} (rules : Rules Id B) where
-  -- the group is placed in the bin that the loop is at
-  pub IsPlaced-at : (excluded : B → Bool) (order : List (ℕ × B)) (i : ℕ) (o : ℕ × B) (group : Members Id) (now new : List (B × Held)) (old : List (B × Bin))
-      (v w : Held) (locations : List Cuboid) (counts : List ℕ) (count : ℕ) (added : List (Placement Id B))
-      → i < length order → o ≡ get_or order i o → bins_of now ≡ old
-      → AllZip (DoesNotTake rules excluded old group) (map (λ (x : ℕ × B). x.1) (take i order)) counts → excluded o.1 ≡ false
-      → IsTriedIn rules.bin_cmp o.1 now v w new → w.bin ≡ record v.bin { sections = w.bin.sections }
-      → IsDone rules.may v.bin.sections group.sizes locations w.bin.sections count → AreNamed rules.id_cmp rules.bin_cmp group.ids o.1 locations added
-      → (p : IsPlaced rules excluded (map (λ (x : ℕ × B). x.1) order) group old added (bins_of new) (sum counts + count)) × (p.here ≡ o.1)
-  IsPlaced-at excluded order i o group now new old v w locations counts count added within is same passed allowed tried rest done named = (
-    record {
-      before = map (λ (x : ℕ × B). x.1) (take i order);
-      here = o.1;
-      after = map (λ (x : ℕ × B). x.1) (drop (suc i) order);
-      order_is = names-split order i o within is;
-      counts = counts;
-      passed = passed;
-      allowed = allowed;
-      bin = v.bin;
-      found = found-bins_of (is_at (rules.bin_cmp o.1)) now old v same tried.found;
-      last = w.bin.sections;
-      locations = locations;
-      count = count;
-      done = done;
-      named = named;
-      new_is = bins_of-written (is_at (rules.bin_cmp o.1)) now new w _ tried.written rest
-          ∙ ap (λ es. set_value (is_at (rules.bin_cmp o.1)) es (record v.bin { sections = w.bin.sections })) same;
-      tests_are = refl;
-    },
-    refl,
-  )
+  -- a group whose trial is done in a bin is placed, where that bin is the only one
+  pub IsPlaced-alone : (group : Members Id) (now new : List (B × Held)) (here : B) (v w : Held) (locations : List Cuboid) (count : ℕ)
+      (added : List (Placement Id B)) → IsTriedIn rules.bin_cmp here now v w new → w.bin ≡ record v.bin { sections = w.bin.sections }
+      → IsDone rules.may v.bin.sections group.sizes locations w.bin.sections count → AreNamed rules.id_cmp rules.bin_cmp group.ids here locations added
+      → IsPlaced rules (λ id. false) (here ∷ []) group (bins_of now) added (bins_of new) count
+  IsPlaced-alone group now new here v w locations count added tried rest done named = record {
+    before = [];
+    here = here;
+    after = [];
+    order_is = refl;
+    counts = [];
+    passed = tt;
+    allowed = refl;
+    bin = v.bin;
+    found = found-bins_of (is_at (rules.bin_cmp here)) now (bins_of now) v refl tried.found;
+    last = w.bin.sections;
+    locations = locations;
+    count = count;
+    done = done;
+    named = named;
+    new_is = bins_of-written (is_at (rules.bin_cmp here)) now new w _ tried.written rest;
+    tests_are = omega arith;
+  }
 
-  -- with an equal order and equal excluded bins, the group goes to the same bin
-  IsPlaced-alike : (a b : B → Bool) (order names : List B) (group : Members Id) (old : List (B × Bin)) (added : List (Placement Id B)) (new : List (B × Bin))
-      (count : ℕ) (here : B) → a ≡ b → order ≡ names → (p : IsPlaced rules a order group old added new count) → p.here ≡ here
-      → (q : IsPlaced rules b names group old added new count) × (q.here ≡ here)
-  IsPlaced-alike a b order names group old added new count here same same_order p is =
-      let P : (B → Bool) → List B → Type 0 = λ (x : B → Bool) (ns : List B). (q : IsPlaced rules x ns group old added new count) × (q.here ≡ here) in
-      subst (P b) same_order (subst (λ (x : B → Bool). P x order) same (p, is))
+  -- what is split of one element
+  only : (here x : B) (before after : List B) (counts : List ℕ) (R : B → ℕ → Type 0) → here ∷ [] ≡ before ++ x ∷ after → AllZip R before counts
+      → (x ≡ here) × (sum counts ≡ 0)
+  only here x [] after [] R e h = (cc, refl)
+  only here x [] after (n ∷ counts) R e h = absurd h
+  only here x (b ∷ []) after counts R e h = absurd cc
+  only here x (b ∷ (b' ∷ before)) after counts R e h = absurd cc
+
+  -- so it is placed in that bin of an order, where no bin before it takes the group
+  pub IsPlaced-at : (excluded : B → Bool) (order : List (ℕ × B)) (i : ℕ) (o : ℕ × B) (group : Members Id) (old mid new : List (B × Bin))
+      (counts : List ℕ) (count : ℕ) (added : List (Placement Id B))
+      → i < length order → o ≡ get_or order i o → mid ≡ old
+      → AllZip (DoesNotTake rules excluded old group) (map (λ (x : ℕ × B). x.1) (take i order)) counts → excluded o.1 ≡ false
+      → IsPlaced rules (λ id. false) (o.1 ∷ []) group mid added new count
+      → (p : IsPlaced rules excluded (map (λ (x : ℕ × B). x.1) order) group old added new (sum counts + count)) × (p.here ≡ o.1)
+  IsPlaced-at excluded order i o group old mid new counts count added within is same passed allowed q =
+      let (here, none) = only o.1 q.here q.before q.after q.counts _ q.order_is q.passed in (
+        record {
+          before = map (λ (x : ℕ × B). x.1) (take i order);
+          here = q.here;
+          after = map (λ (x : ℕ × B). x.1) (drop (suc i) order);
+          order_is = rw here (names-split order i o within is);
+          counts = counts;
+          passed = passed;
+          allowed = rw here allowed;
+          bin = q.bin;
+          found = rw (← same) q.found;
+          last = q.last;
+          locations = q.locations;
+          count = q.count;
+          done = q.done;
+          named = q.named;
+          new_is = rw (← same) q.new_is;
+          tests_are = omega (arith, none, q.tests_are);
+        },
+        here,
+      )
+
+  -- with equal excluded bins and members, the group goes to the same bin
+  pub IsPlaced-alike : (a b : B → Bool) (order : List B) (group same_group : Members Id) (old : List (B × Bin)) (added : List (Placement Id B))
+      (new : List (B × Bin)) (count : ℕ) (here : B) → a ≡ b → group ≡ same_group → (p : IsPlaced rules a order group old added new count) → p.here ≡ here
+      → (q : IsPlaced rules b order same_group old added new count) × (q.here ≡ here)
+  IsPlaced-alike a b order group same_group old added new count here same alike p is =
+      let P : (B → Bool) → Members Id → Type 0 = λ (x : B → Bool) (m : Members Id). (q : IsPlaced rules x order m old added new count) × (q.here ≡ here) in
+      subst (P b) alike (subst (λ (x : B → Bool). P x group) same (p, is))
+
+  -- or nowhere
+  pub IsRefused-alike : (a b : B → Bool) (order : List B) (group same_group : Members Id) (bins : List (B × Bin)) (count : ℕ) → a ≡ b → group ≡ same_group
+      → IsRefused rules a order group bins count → IsRefused rules b order same_group bins count
+  IsRefused-alike a b order group same_group bins count same alike r =
+      subst (λ (m : Members Id). IsRefused rules b order m bins count) alike (subst (λ (x : B → Bool). IsRefused rules x order group bins count) same r)
 
   module _ {K : Type 0} (excludes : List (K × B) → K → B → Bool) where
     -- one more group is placed
@@ -178,56 +216,96 @@ module _ {Id B : Type 0} (rules : Rules Id B) where
       omega arith,
     )
 
-    -- and it is known where it went
-    pub AreAllPlaced-next : (excluded : B → Bool) (order names : List B) (gs : List (K × Members Id)) (g : K × Members Id) (old : Stage K B)
-        (mid : List (B × Bin)) (homes : List (K × B)) (next : List (B × Bin)) (before added after : List (Placement Id B)) (tests one : ℕ) (here : B)
-        → excluded ≡ excludes homes g.0 → order ≡ names → AreAllPlaced rules excludes names gs old before (record { bins = mid; homes = homes }) tests
-        → (p : IsPlaced rules excluded order g.1 mid added next one) → p.here ≡ here → after ≡ before ++ added
-        → AreAllPlaced rules excludes names (gs ++ g ∷ []) old after (record { bins = next; homes = (g.0, here) ∷ homes }) (tests + one)
-    AreAllPlaced-next excluded order names gs g old mid homes next before added after tests one here same same_order done p is joined =
-        let q = IsPlaced-alike excluded (excludes homes g.0) order names g.1 mid added next one here same same_order p is in
-        let P : List (Placement Id B) → B → Type 0 = λ (ps : List (Placement Id B)) (b : B).
-        AreAllPlaced rules excludes names (gs ++ g ∷ []) old ps (record { bins = next; homes = (g.0, b) ∷ homes }) (tests + one) in
-        subst (λ (ps : List (Placement Id B)). P ps here) (sym joined)
-        (subst (P (before ++ added)) q.1 (AreAllPlaced-push names gs g old mid homes next before added tests one done q.0))
+    -- with all placements, where the order is equal
+    pub AreAllPlaced-next : (order names : List B) (gs : List (K × Members Id)) (g : K × Members Id) (old : Stage K B) (mid : List (B × Bin))
+        (homes : List (K × B)) (next : List (B × Bin)) (before added after : List (Placement Id B)) (tests one : ℕ)
+        → order ≡ names → AreAllPlaced rules excludes names gs old before (record { bins = mid; homes = homes }) tests
+        → (p : IsPlaced rules (excludes homes g.0) order g.1 mid added next one) → after ≡ before ++ added
+        → AreAllPlaced rules excludes names (gs ++ g ∷ []) old after (record { bins = next; homes = (g.0, p.here) ∷ homes }) (tests + one)
+    AreAllPlaced-next order names gs g old mid homes next before added after tests one same done p joined =
+        let P : List B → List (Placement Id B) → Type 0 = λ (ns : List B) (ps : List (Placement Id B)).
+        AreAllPlaced rules excludes ns (gs ++ g ∷ []) old ps (record { bins = next; homes = (g.0, p.here) ∷ homes }) (tests + one) in
+        let before_it = subst (λ (ns : List B). AreAllPlaced rules excludes ns gs old before (record { bins = mid; homes = homes }) tests) (sym same) done in
+        subst (λ (ns : List B). P ns after) same
+        (subst (P order) (sym joined) (AreAllPlaced-push order gs g old mid homes next before added tests one before_it p))
 
-  module _ {K : Type 0} (group_cmp : K → K → Ordering) where
-    -- one more group is named
-    pub AreGroups-more : {X Y : Type 0} (sizes : List (Id × Size)) (lists : List (K × List Id)) (order : List (OrderedGroup K X Y)) (i : ℕ)
-        (o : OrderedGroup K X Y) (gs : List (K × Members Id)) (group : Members Id)
-        → i < length order → o ≡ get_or order i o → lookup (is_at (group_cmp o.name.now)) lists ≡ Some group.ids
-        → AreSizesOf rules.id_cmp sizes group.ids group.sizes
-        → AreGroups rules.id_cmp group_cmp sizes lists (keys_of_order (take i order)) gs
-        → AreGroups rules.id_cmp group_cmp sizes lists (keys_of_order (take (i + 1) order)) (gs ++ (o.name.now, group) ∷ [])
-    AreGroups-more {X} {Y} sizes lists order i o gs group within is found sized h =
-        let key : OrderedGroup K X Y → ℕ × K = λ x. (x.key.0, x.name.now) in
-        record { each = AllZip-next _ key order gs i o (o.name.now, group) within is h.each (refl, found, sized) }
+  -- a packing stops at a group that is refused
+  pub StopsAmong-at : {K : Type 0} (excludes : List (K × B) → K → B → Bool) (order : List B) (groups gs : List (K × Members Id)) (next : K × Members Id)
+      (later : List (K × Members Id)) (names : List B) (old new mid : List (B × Bin)) (homes : List (K × B)) (placements : List (Placement Id B))
+      (first count : ℕ) → groups ≡ gs ++ next ∷ later
+      → AreAllPlaced rules excludes order gs (at_start old) placements (record { bins = mid; homes = homes }) first
+      → names ≡ order → new ≡ mid → IsRefused rules (excludes homes next.0) names next.1 mid count
+      → StopsAmong rules excludes order groups old new (first + count)
+  StopsAmong-at excludes order groups gs next later names old new mid homes placements first count splits placed same_order same refused =
+      record {
+        beginning = gs;
+        next = next;
+        later = later;
+        groups_are = splits;
+        placements = placements;
+        homes = homes;
+        first = first;
+        placed = rw same placed;
+        count = count;
+        refused = rw (← same_order, same) refused;
+        tests_are = refl;
+      }
 
-    -- the loop stops at a group that is refused
-    pub StopsAfter-at : {X Y : Type 0} (excludes : List (K × B) → K → B → Bool) (sizes : List (Id × Size)) (lists : List (K × List Id))
-        (order : List (OrderedGroup K X Y)) (bin_order : List B) (i : ℕ)
-        (gs : List (K × Members Id)) (next : K × Members Id) (old new mid : List (B × Bin)) (homes : List (K × B))
-        (placements : List (Placement Id B)) (first count : ℕ)
-        → AreGroups rules.id_cmp group_cmp sizes lists (keys_of_order (take i order)) (gs ++ next ∷ [])
-        → AreAllPlaced rules excludes bin_order gs (at_start old) placements (record { bins = mid; homes = homes }) first → new ≡ mid
-        → IsRefused rules (excludes homes next.0) bin_order next.1 mid count
-        → StopsAfter rules excludes group_cmp sizes lists (keys_of_order order) bin_order old new (first + count)
-    StopsAfter-at {X} {Y} excludes sizes lists order bin_order i gs next old new mid homes placements first count listed placed same refused =
-        record {
-          taken = keys_of_order (take i order);
-          later = keys_of_order (drop i order);
-          order_is = map-split (λ (x : OrderedGroup K X Y). (x.key.0, x.name.now)) order i;
-          beginning = gs;
-          next = next;
-          listed = listed;
-          placements = placements;
-          homes = homes;
-          first = first;
-          placed = rw same placed;
-          count = count;
-          refused = rw same refused;
-          tests_are = refl;
-        }
+  -- so it stops after this group, where the order names these groups
+  pub StopsAfter-among : {K : Type 0} (excludes : List (K × B) → K → B → Bool) (group_cmp : K → K → Ordering) (sizes : List (Id × Size))
+      (lists : List (K × List Id)) (order : List (ℕ × K)) (groups : List (K × Members Id)) (bin_order : List B) (old new : List (B × Bin)) (tests : ℕ)
+      → AreGroups rules.id_cmp group_cmp sizes lists order groups → StopsAmong rules excludes bin_order groups old new tests
+      → StopsAfter rules excludes group_cmp sizes lists order bin_order old new tests
+  StopsAfter-among excludes group_cmp sizes lists order groups bin_order old new tests h s =
+      let taken = s.beginning ++ s.next ∷ [] in
+      let splits : groups ≡ taken ++ s.later = s.groups_are ∙ sym (append_assoc s.beginning (s.next ∷ []) s.later) in
+      record {
+        taken = take (length taken) order;
+        later = drop (length taken) order;
+        order_is = sym (take-append-drop (length taken) order);
+        beginning = s.beginning;
+        next = s.next;
+        listed = record { each = AllZip-begins _ order taken s.later (rw splits at h.each) };
+        placements = s.placements;
+        homes = s.homes;
+        first = s.first;
+        placed = s.placed;
+        count = s.count;
+        refused = s.refused;
+        tests_are = s.tests_are;
+      }
+
+module _ {Id K A : Type 0} (cmp : Id → Id → Ordering) (sizes : List (Id × Size)) (all : List Size) where
+  -- sizes that stand among all are among all
+  pub HasSizes-order : (order : List (OrderedGroup K Id A)) → All (λ o. SizesStandAt cmp sizes all o.ids.now.items o.start) order → All (HasSizes all) order
+  HasSizes-order order h = All-weaker _ (HasSizes all) (λ o stand. (SizesStandAt-part cmp sizes all o.ids.now.items _ o.start _ refl refl stand).0) order h
+
+  -- the groups of an order are those that it names
+  pub AreGroups-order : (group_cmp : K → K → Ordering) (lists : List (K × List Id)) (order : List (OrderedGroup K Id A))
+      → All (λ o. lookup (is_at (group_cmp o.name.now)) lists ≡ Some o.ids.now.items) order
+      → All (λ o. SizesStandAt cmp sizes all o.ids.now.items o.start) order
+      → AreGroups cmp group_cmp sizes lists (keys_of_order order) (map (members_of all) order)
+  AreGroups-order group_cmp lists [] listed stand = record { each = tt }
+  AreGroups-order group_cmp lists (o ∷ order) listed stand =
+      let L : OrderedGroup K Id A → Type 0 = λ o. lookup (is_at (group_cmp o.name.now)) lists ≡ Some o.ids.now.items in
+      let S : OrderedGroup K Id A → Type 0 = λ o. SizesStandAt cmp sizes all o.ids.now.items o.start in
+      let here = SizesStandAt-part cmp sizes all o.ids.now.items _ o.start _ refl refl (All-head S o order stand) in
+      let later = AreGroups-order group_cmp lists order (All-tail L o order listed) (All-tail S o order stand) in
+      record { each = ((refl, All-head L o order listed, here.1), later.each) }
+
+-- the members of a group, by its parts
+pub members-are : {Id K A : Type 0} (all : List Size) (o : OrderedGroup K Id A) (ids : List Id) (long : ℕ) → ids ≡ o.ids.now.items
+    → long ≡ length o.ids.now.items → record { ids = ids; sizes = slice_range all o.start (o.start + long) } ≡ (members_of all o).1
+members-are all o ids long same counted = rw (same, counted) refl
+
+-- the one or the other
+pub on-true : (P Q : Type 0) (b : Bool) → b ≡ true → MatchBool b P Q → P
+on-true P Q true e h = h
+on-true P Q false e h = absurd cc
+
+pub on-false : (P Q : Type 0) (b : Bool) → b ≡ false → MatchBool b P Q → Q
+on-false P Q false e h = h
+on-false P Q true e h = absurd cc
 
 -- other facts on the two answers
 pub packed-weaker : {E P Q P' Q' : Type 0} (r : Result Bool E) → (P → P') → (Q → Q') → IfOk r (λ d. MatchBool d P Q) → IfOk r (λ d. MatchBool d P' Q')
@@ -309,10 +387,6 @@ AreLastPlacements-more {Id} {B} {cmp} bin_cmp o placements p key bin old new asc
       bin = l.bin;
       location = l.location;
     }
-
--- how many members the groups have
-abbrev pub members_in : {Id K : Type 0} → List (K × Members Id) → ℕ
-members_in {Id} {K} gs = sum_by (λ (g : K × Members Id). length g.1.sizes) gs
 
 -- one placement for each member
 pub AreAllPlaced-length : {Id B K : Type 0} (rules : Rules Id B) (excludes : List (K × B) → K → B → Bool) (order : List B) (gs : List (K × Members Id))

@@ -37,6 +37,19 @@ pub map-take_more : {X Y : Type 0} (f : X → Y) (xs : List X) (i : ℕ) (x : X)
 map-take_more f xs i x within is =
     ap (map f) (take_more xs i x within) ∙ map_push f (take i xs) (get_or xs i x) ∙ ap (λ z. map f (take i xs) ++ f z ∷ []) (sym is)
 
+-- split at an element
+pub map-split_at : {X Y : Type 0} (f : X → Y) (xs : List X) (i : ℕ) (x : X) → i < length xs → x ≡ get_or xs i x
+    → map f xs ≡ map f (take i xs) ++ f x ∷ map f (drop (i + 1) xs)
+map-split_at f xs i x within is =
+    map-split f xs (i + 1) ∙ ap (λ l. l ++ map f (drop (i + 1) xs)) (map-take_more f xs i x within is)
+    ∙ append_assoc (map f (take i xs)) (f x ∷ []) (map f (drop (i + 1) xs))
+
+-- the beginning that goes with a beginning of the other list
+pub AllZip-begins : {A B : Type 0} (R : A → B → Type 0) (xs : List A) (ys zs : List B) → AllZip R xs (ys ++ zs) → AllZip R (take (length ys) xs) ys
+AllZip-begins R xs [] zs h = tt
+AllZip-begins R [] (y ∷ ys) zs h = absurd h
+AllZip-begins R (x ∷ xs) (y ∷ ys) zs h = (h.0, AllZip-begins R xs ys zs h.1)
+
 -- and one more of each
 pub AllZip-next : {A B C : Type 0} (R : C → B → Type 0) (f : A → C) (xs : List A) (ys : List B) (i : ℕ) (x : A) (y : B) → i < length xs → x ≡ get_or xs i x
     → AllZip R (map f (take i xs)) ys → R (f x) y → AllZip R (map f (take (i + 1) xs)) (ys ++ y ∷ [])

@@ -1,12 +1,10 @@
-use Rattle.rectangle_pack_sections.proofs.Std.{◌≡◌, ◌++◌, ◌+◌, [], ◌∷◌, false, true, take, length, vec_len, vec_capacity, refl, sym, ap, ◌∙◌, arith, rules, sum}
-use Rattle.rectangle_pack_sections.proofs.Std.{is_at, take_all, sum_by_push, IfOk-from_err}
+use Rattle.rectangle_pack_sections.proofs.Std.{◌≡◌, ◌++◌, ◌+◌, [], ◌∷◌, false, true, take, refl, sym, ap, ◌∙◌, arith, sum, take_all, sum_by_push}
 use Rattle.rectangle_pack_lists.specs.Numbers.{saturated}
 use Rattle.rectangle_pack_bins.specs.Packing.{Rules, rules_by, bins_of, Members, DoesNotTake}
 use Rattle.rectangle_pack_bins.specs.private.Excluded.{are_in}
-use Rattle.rectangle_pack_bins.specs.private.Checkout.{closed}
 use Rattle.rectangle_pack_bins.proofs.lemmas.packing.Checkout.{stays}
-use Rattle.rectangle_pack_bins.proofs.lemmas.packing.Groups.{GoesBack-grown, bins_of-grown, GoesBack-tried, found-bins_of, IsPlaced-at, IsDone-length}
-use Rattle.rectangle_pack_bins.proofs.lemmas.packing.FitTests.{OnErr-given, adds-begun, adds-tried}
+use Rattle.rectangle_pack_bins.proofs.lemmas.packing.Groups.{IsPlaced-at, on-true, on-false}
+use Rattle.rectangle_pack_bins.proofs.lemmas.packing.FitTests.{OnErr-given, adds-begun}
 use Rattle.rectangle_pack_lists.proofs.lemmas.trial.StepsByIndex.{saturated-add}
 use Rattle.rectangle_pack_bins.proofs.pack.first_fit.place_group.Given.{Over}
 use Rattle.rectangle_pack_bins.proofs.lemmas.packing.Orders.{AllZip-next}
@@ -15,94 +13,35 @@ use Rattle.rectangle_pack_bins.proofs.pack.first_fit.place_group.Goals as goal
 abbrev by : (g : Over) → g.row.R.Denot → Rules g.row.Id.Denot g.row.B.Denot
 by g rules = rules_by g.Id.Ord.cmp g.B.Ord.cmp (g.R.Policy.may rules)
 
-pub returns-in_err-done : goal.returns-in_err-done
-returns-in_err-done g c =
-    let group : Members g.row.Id.Denot = record { ids = c.args.ids.now; sizes = c.args.sizes.now } in
-    let excluded = are_in g.B.Ord.cmp c.args.excluded.now.keys in
+pub returns-in_err-place_in-clause-stopped : goal.returns-in_err-place_in-clause-stopped
+returns-in_err-place_in-clause-stopped g c =
+    let old = bins_of c.args.packing.now.bins.kept in
+    let mid : bins_of c.check_out.new.self.kept ≡ old = ap bins_of (stays c.check_out.ensures).0 ∙ c.loop-i.invariant.same in
     let passed = c.loop-i.invariant.passed in
-    let o = c.index-order-i.result in
-    let same_order = (stays c.check_out.ensures).2 ∙ c.loop-i.invariant.order in
-    let tried = c.in_err-done.ensures.tried o (rw same_order c.index-order-i.is) in
-    record {
-      placed = IfOk-from_err _ _ c.from_residual.ensures.0;
-      stopped = rw (← c.order-order.ensures) (OnErr-given _ (adds-begun (by g c.args.policy.now) g.met.B.Ord.total excluded c.order-order.result.now c.loop-i.i
-          group (bins_of c.args.packing.now.bins.kept) passed.0 c.args.packing.now.tests _ passed.1 (tried.3.1 ∙ passed.2)));
-      back = λ start b. rw tried.2.own.written
-          (GoesBack-grown g.B.Ord.cmp c.check_out.new.self.own c.loop-i.packing.journal.items o.1 tried.0.own tried.1.own start tried.2.own.found tried.4
-          tried.2.own.room (rw (stays c.check_out.ensures).1 (c.loop-i.invariant.back start b)));
-      order = tried.2.order ∙ same_order ∙ c.order-order.ensures;
-      journal_grows = omega (arith, ap vec_len c.loop-i.invariant.journal);
-      journal_room_stays = ap vec_capacity c.loop-i.invariant.journal;
-    }
+    rw (← c.order-order.ensures)
+    (OnErr-given _
+    (adds-begun (by g c.args.policy.now) g.met.B.Ord.total (are_in g.B.Ord.cmp c.args.excluded.now.keys) c.order-order.result.now c.loop-i.i
+    c.index-order-i.result (record { ids = c.args.ids.now; sizes = c.args.sizes.now }) old _ passed.0 c.args.packing.now.tests c.loop-i.packing.tests _
+    c.loop-i-test.true c.index-order-i.is mid passed.1 passed.2 c.in_err-place_in.ensures.stopped))
 
-pub returns-in_err-name_all : goal.returns-in_err-name_all
-returns-in_err-name_all g c =
+pub returns-then-branch-clause-placed : goal.returns-then-branch-clause-placed
+returns-then-branch-clause-placed g c =
     let group : Members g.row.Id.Denot = record { ids = c.args.ids.now; sizes = c.args.sizes.now } in
     let old = bins_of c.args.packing.now.bins.kept in
-    let now = c.check_out.new.self.kept in
-    let same : bins_of now ≡ old = ap bins_of (stays c.check_out.ensures).0 ∙ c.loop-i.invariant.same in
-    let excluded = are_in g.B.Ord.cmp c.args.excluded.now.keys in
+    let mid : bins_of c.check_out.new.self.kept ≡ old = ap bins_of (stays c.check_out.ensures).0 ∙ c.loop-i.invariant.same in
     let passed = c.loop-i.invariant.passed in
-    let o = c.index-order-i.result in
-    let same_order = (stays c.check_out.ensures).2 ∙ c.loop-i.invariant.order in
-    let tried = c.in_ok-done.ensures.tried o (rw same_order c.index-order-i.is) in
-    let done = rw c.if-done.true at tried.3 in
-    let (rest, leads) = rw c.if-done.true at tried.4 in
-    let there = found-bins_of (is_at (g.B.Ord.cmp o.1)) now old (closed true tried.0) same tried.2.kept.found in
-    record {
-      placed = IfOk-from_err _ _ c.from_residual-in_err-name_all.ensures.0;
-      stopped = rw (← c.order-order.ensures) (OnErr-given _ (adds-tried (by g c.args.policy.now) g.met.B.Ord.total excluded c.order-order.result.now c.loop-i.i
-          o group old passed.0 tried.0.now c.try_bin.new.buffers.locations.items tried.1.now.sections done.0 c.args.packing.now.tests _ c.loop-i-test.true
-          c.index-order-i.is passed.1 there done.1
-          (saturated-add c.args.packing.now.tests c.loop-i.packing.tests _ (sum passed.0) done.0 passed.2 done.3)));
-      back = λ start b. GoesBack-tried g.B.Ord.cmp _ _ _ _ _ _ tried.0.own tried.1.own start tried.2.own (stays c.check_out.ensures).1
-          c.note_trial.ensures.journal rest leads (c.loop-i.invariant.back start b);
-      order = tried.2.order ∙ same_order ∙ c.order-order.ensures;
-      journal_grows = omega (arith, c.note_trial.ensures.grows, ap vec_len c.loop-i.invariant.journal);
-      journal_room_stays = c.note_trial.ensures.room_stays ∙ ap vec_capacity c.loop-i.invariant.journal;
-    }
-
-pub returns-then-done : goal.returns-then-done
-returns-then-done g c =
-    let group : Members g.row.Id.Denot = record { ids = c.args.ids.now; sizes = c.args.sizes.now } in
-    let old = bins_of c.args.packing.now.bins.kept in
-    let now = c.check_out.new.self.kept in
-    let same : bins_of now ≡ old = ap bins_of (stays c.check_out.ensures).0 ∙ c.loop-i.invariant.same in
     let excluded = are_in g.B.Ord.cmp c.args.excluded.now.keys in
-    let passed = c.loop-i.invariant.passed in
-    let o = c.index-order-i.result in
-    let allowed : excluded o.1 ≡ false = sym c.contains.ensures ∙ c.if-contains.false in
-    let same_order = (stays c.check_out.ensures).2 ∙ c.loop-i.invariant.order in
-    let tried = c.in_ok-done.ensures.tried o (rw same_order c.index-order-i.is) in
-    let done = rw c.if-done.true at tried.3 in
-    let (rest, leads) = rw c.if-done.true at tried.4 in
-    let named = c.in_ok-name_all.ensures in
-    let at = IsPlaced-at (by g c.args.policy.now) excluded c.order-order.result.now c.loop-i.i o group now _ old (closed true tried.0) (closed true tried.1)
-    c.try_bin.new.buffers.locations.items passed.0 done.0 named.0 c.loop-i-test.true c.index-order-i.is same passed.1 allowed tried.2.kept done.2 done.1
-    (rw (← c.as_slice.ensures.value) named.1) in
-    record {
-      placed = rw (← c.order-order.ensures) (
-        named.0,
-        sum passed.0 + done.0,
-        at.0,
-        at.1,
-        named.2 ∙ ap (λ l. l ++ named.0) c.loop-i.invariant.placements,
-        saturated-add c.args.packing.now.tests c.loop-i.packing.tests _ (sum passed.0) done.0 passed.2 done.3,
-      );
-      stopped = tt;
-      back = λ start b. GoesBack-tried g.B.Ord.cmp _ _ _ _ _ _ tried.0.own tried.1.own start tried.2.own (stays c.check_out.ensures).1
-          c.note_trial.ensures.journal rest leads (c.loop-i.invariant.back start b);
-      order = tried.2.order ∙ same_order ∙ c.order-order.ensures;
-      journal_grows = omega (arith, c.note_trial.ensures.grows, ap vec_len c.loop-i.invariant.journal);
-      journal_room_stays = c.note_trial.ensures.room_stays ∙ ap vec_capacity c.loop-i.invariant.journal;
-    }
-
-pub name_all-requires-clause-lengths : goal.name_all-requires-clause-lengths
-name_all-requires-clause-lengths g c =
-    let same_order = (stays c.check_out.ensures).2 ∙ c.loop-i.invariant.order in
-    let tried = c.in_ok-done.ensures.tried c.index-order-i.result (rw same_order c.index-order-i.is) in
-    let done = rw c.if-done.true at tried.3 in
-    c.requires.lengths ∙ IsDone-length _ _ _ _ _ _ done.1 ∙ ap length (sym c.as_slice.ensures.value)
+    let here = on-true _ _ _ c.if-branch.true c.in_ok-place_in.ensures.placed in
+    let at = IsPlaced-at (by g c.args.policy.now) excluded c.order-order.result.now c.loop-i.i c.index-order-i.result group old _ _ passed.0 here.1 here.0
+    c.loop-i-test.true c.index-order-i.is mid passed.1 (sym c.contains.ensures ∙ c.if-contains.false) here.2 in
+    rw (← c.order-order.ensures) (
+      here.0,
+      sum passed.0 + here.1,
+      at.0,
+      at.1,
+      here.3 ∙ ap (λ l. l ++ here.0) c.loop-i.invariant.placements,
+      saturated-add c.args.packing.now.tests c.loop-i.packing.tests _ (sum passed.0) here.1 passed.2 here.4,
+    )
 
 pub loop-i-init : goal.loop-i-init
 loop-i-init g c = record {
@@ -139,38 +78,27 @@ loop-i-preserved-then-contains g c =
 
 pub loop-i-preserved : goal.loop-i-preserved
 loop-i-preserved g c =
-    let cmp = g.B.Ord.cmp in
     let o = c.index-order-i.result in
-    let same_order = (stays c.check_out.ensures).2 ∙ c.loop-i.invariant.order in
-    let tried = c.in_ok-done.ensures.tried o (rw same_order c.index-order-i.is) in
-    let now = c.check_out.new.self.kept in
-    let old = bins_of c.args.packing.now.bins.kept in
-    let same : bins_of now ≡ old = ap bins_of (stays c.check_out.ensures).0 ∙ c.loop-i.invariant.same in
     let group : Members g.row.Id.Denot = record { ids = c.args.ids.now; sizes = c.args.sizes.now } in
-    let rules = by g c.args.policy.now in
-    let stuck = rw c.if-done.false at tried.3 in
-    let left = rw c.if-done.false at tried.4 in
-    let there = found-bins_of (is_at (cmp o.1)) now old (closed true tried.0) same tried.2.kept.found in
-    let excluded = are_in cmp c.args.excluded.now.keys in
+    let old = bins_of c.args.packing.now.bins.kept in
+    let mid : bins_of c.check_out.new.self.kept ≡ old = ap bins_of (stays c.check_out.ensures).0 ∙ c.loop-i.invariant.same in
     let passed = c.loop-i.invariant.passed in
+    let excluded = are_in g.B.Ord.cmp c.args.excluded.now.keys in
     let allowed : excluded o.1 ≡ false = sym c.contains.ensures ∙ c.if-contains.false in
+    let stuck = on-false _ _ _ c.if-branch.false c.in_ok-place_in.ensures.placed in
     record {
-      same = ap bins_of tried.2.kept.written ∙ bins_of-grown _ now (closed true tried.0) (closed true tried.1) tried.2.kept.found stuck.2 tried.2.kept.room
-          ∙ same;
-      order = tried.2.order ∙ same_order;
+      same = stuck.2 ∙ mid;
+      order = c.in_ok-place_in.ensures.order ∙ (stays c.check_out.ensures).2 ∙ c.loop-i.invariant.order;
       passed = (
         passed.0 ++ stuck.0 ∷ [],
-        AllZip-next (DoesNotTake rules excluded old group) (λ x. x.1) c.order-order.result.now passed.0 c.loop-i.i o stuck.0 c.loop-i-test.true
-            c.index-order-i.is passed.1 (rw (allowed, there) stuck.1),
-        saturated-add c.args.packing.now.tests c.loop-i.packing.tests _ (sum passed.0) stuck.0 passed.2 stuck.3
+        AllZip-next (DoesNotTake (by g c.args.policy.now) excluded old group) (λ x. x.1) c.order-order.result.now passed.0 c.loop-i.i o stuck.0
+            c.loop-i-test.true c.index-order-i.is passed.1 (rw (allowed, ← mid) stuck.1),
+        saturated-add c.args.packing.now.tests c.loop-i.packing.tests _ (sum passed.0) stuck.0 passed.2 stuck.5
             ∙ ap (λ n. saturated (c.args.packing.now.tests + n)) (sym (sum_by_push (λ x. x) passed.0 stuck.0)),
       );
-      journal = c.loop-i.invariant.journal;
-      placements = c.loop-i.invariant.placements;
-      back = λ start b.
-          rw tried.2.own.written
-          (GoesBack-grown cmp c.check_out.new.self.own c.loop-i.packing.journal.items o.1 tried.0.own tried.1.own start tried.2.own.found left tried.2.own.room
-          (rw (stays c.check_out.ensures).1 (c.loop-i.invariant.back start b)));
+      journal = stuck.4 ∙ c.loop-i.invariant.journal;
+      placements = stuck.3 ∙ c.loop-i.invariant.placements;
+      back = λ start b. c.in_ok-place_in.ensures.back start (rw (stays c.check_out.ensures).1 (c.loop-i.invariant.back start b));
     }
 
 pub returns-clause-placed : goal.returns-clause-placed
@@ -183,11 +111,12 @@ returns-clause-placed g c =
 pub returns-clause-order : goal.returns-clause-order
 returns-clause-order g c = c.loop-i.invariant.order ∙ c.order-order.ensures
 
-pub note_trial-requires : goal.note_trial-requires
-note_trial-requires g c = omega (arith, ap vec_len c.loop-i.invariant.journal, ap vec_capacity c.loop-i.invariant.journal, c.requires.journal_room)
-
 pub check_out-requires : goal.check_out-requires
 check_out-requires g c = rw c.loop-i.invariant.order c.loop-i-test.true
 
-pub try_bin-requires-clause-in_order : goal.try_bin-requires-clause-in_order
-try_bin-requires-clause-in_order g c = rw ((stays c.check_out.ensures).2 ∙ c.loop-i.invariant.order) c.loop-i-test.true
+pub place_in-requires-clause-in_order : goal.place_in-requires-clause-in_order
+place_in-requires-clause-in_order g c = rw ((stays c.check_out.ensures).2 ∙ c.loop-i.invariant.order) c.loop-i-test.true
+
+pub place_in-requires-clause-at_index : goal.place_in-requires-clause-at_index
+place_in-requires-clause-at_index g c =
+    (c.index-order-i.result.0, rw ((stays c.check_out.ensures).2 ∙ c.loop-i.invariant.order) c.index-order-i.is)

@@ -1,0 +1,63 @@
+use Rattle.rectangle_pack_sections.proofs.Std.{◌≡◌, List, sym, ◌∙◌, ap, subst, arith, map, ◌∷◌, ◌+◌, length, slice_range}
+use Rattle.rectangle_pack_bins.specs.Packing.{Rules, Members, rules_by, bins_of}
+use Rattle.rectangle_pack_bins.specs.private.Excluded.{are_in, AreHomesKept}
+use Rattle.rectangle_pack_bins.specs.private.Orders.{members_of}
+use Rattle.rectangle_pack_bins.proofs.lemmas.packing.Excluded.{excluded_as_found}
+use Rattle.rectangle_pack_bins.proofs.lemmas.packing.Groups.{IsPlaced-alike, IsRefused-alike, members-are}
+use Rattle.rectangle_pack_bins.proofs.lemmas.packing.FitTests.{OnErr-given, adds-none, adds-one}
+use Rattle.rectangle_pack_bins.proofs.pack.first_fit.place_next.Given.{Over}
+use Rattle.rectangle_pack_bins.proofs.pack.first_fit.place_next.Goals.{After-place_group}
+use Rattle.rectangle_pack_bins.proofs.pack.first_fit.place_next.Goals as goal
+
+abbrev by : (g : Over) → g.row.R.Denot → Rules g.row.Id.Denot g.row.B.Denot
+by g rules = rules_by g.Id.Ord.cmp g.B.Ord.cmp (g.R.Policy.may rules)
+
+-- the members that are handed on, and those of the group
+abbrev given : (g : Over) → After-place_group g → Members g.row.Id.Denot
+given g c = record { ids = c.as_slice.result.now; sizes = slice_range c.args.sizes.now c.args.group.now.start (c.args.group.now.start + c.len.result) }
+
+abbrev own : (g : Over) → After-place_group g → Members g.row.Id.Denot
+own g c = (members_of c.args.sizes.now c.args.group.now).1
+
+alike : (g : Over) (c : After-place_group g) → given g c ≡ own g c
+alike g c = members-are c.args.sizes.now c.args.group.now _ _ c.as_slice.ensures.value (c.len.ensures ∙ c.args.group.now.ids.now.ok.0)
+
+pub returns-in_err-excluded-clause-stopped : goal.returns-in_err-excluded-clause-stopped
+returns-in_err-excluded-clause-stopped g c = OnErr-given _ (adds-none _ _ _ _ c.args.packing.now.tests _ (omega arith))
+
+pub returns-in-None-clause-placed : goal.returns-in-None-clause-placed
+returns-in-None-clause-placed g c = λ placed fresh kept.
+    let at = (goal.at.returns-in-None-clause-placed g c).After-place_group in
+    let refused = rw c.in-None.is at c.in_ok-place_group.ensures.placed in
+    let same = excluded_as_found g.K.Ord.cmp g.B.Ord.cmp g.met.K.Ord.total c.args.exclusions.now placed c.args.homes.now.entries
+    c.in_ok-excluded.excluded.keys _ c.args.group.now.name.now c.partners-partners.ensures.listed c.partners-partners.ensures.mutual kept
+    c.in_ok-excluded.ensures in
+    (refused.0, IsRefused-alike (by g c.args.policy.now) _ _ _ (given g at) (own g at) _ _ same (alike g at) refused.1, refused.2, refused.4)
+
+pub returns-clause-placed : goal.returns-clause-placed
+returns-clause-placed g c = λ placed fresh kept.
+    let at = (goal.at.returns-clause-placed g c).After-place_group in
+    let here = rw c.in-Some.is at c.in_ok-place_group.ensures.placed in
+    let name = c.args.group.now.name.now in
+    let all = c.args.exclusions.now in
+    let same = excluded_as_found g.K.Ord.cmp g.B.Ord.cmp g.met.K.Ord.total all placed c.args.homes.now.entries c.in_ok-excluded.excluded.keys _ name
+    c.partners-partners.ensures.listed c.partners-partners.ensures.mutual kept c.in_ok-excluded.ensures in
+    let goes = IsPlaced-alike (by g c.args.policy.now) _ _ _ (given g at) (own g at) _ here.0 _ here.1 _ same (alike g at) here.2 here.3 in
+    let home = c.in_ok-keep_home-in-Some.ensures all placed c.partners-partners.ensures.listed fresh kept in (
+      here.0,
+      here.1,
+      goes.0,
+      subst (λ (b : g.row.B.Denot). AreHomesKept g.K.Ord.cmp g.B.Ord.cmp all ((name, b) ∷ placed) c.keep_home.new.homes.entries) (sym goes.1) home,
+      here.4,
+      here.5,
+    )
+
+pub returns-in_err-keep_home-in-Some-clause-stopped : goal.returns-in_err-keep_home-in-Some-clause-stopped
+returns-in_err-keep_home-in-Some-clause-stopped g c =
+    let at = (goal.at.returns-in_err-keep_home-in-Some-clause-stopped g c).After-place_group in
+    let here = rw c.in-Some.is at c.in_ok-place_group.ensures.placed in
+    let old = bins_of c.args.packing.now.bins.kept in
+    let names : List g.row.B.Denot = map (λ o. o.1) c.args.packing.now.bins.order in
+    let one = adds-one (by g c.args.policy.now) g.met.B.Ord.total _ names (given g at) old here.0 _ here.1 c.args.packing.now.tests
+    c.place_group.new.packing.tests here.2 here.5 in
+    OnErr-given _ (rw (ap (λ (m : Members g.row.Id.Denot). length m.sizes) (alike g at)) at one)
