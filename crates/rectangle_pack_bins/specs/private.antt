@@ -1,6 +1,7 @@
 -- Definitions that only the clauses of functions below `rectangle_pack` use, or of its private ones.
 pub mod Bounds
 pub mod Checkout
+pub mod Ends
 pub mod Excluded
 pub mod Orders
 pub mod RollBack

@@ -1,9 +1,17 @@
 //! Packing groups of boxes into bins.
-ghost use Rattle.std.specs.Prelude.{◌≡◌, [], IsOk};
+ghost use Rattle.std.specs.Prelude.{◌≡◌, [], List, All, map, IsOk, IsSome};
+ghost use Rattle.std.specs.BTreeMap.{get};
+ghost use Rattle.std.specs.List.{IsDistinct};
+ghost use Rattle.std.specs.Map.{keys_of};
+ghost use Rattle.std.specs.Ordering.{eq_by_cmp};
 ghost use Rattle.rectangle_pack_groups.specs.Clones.{ClonesEqual};
+ghost use Rattle.rectangle_pack_sections.specs.Bins.{Bin};
 ghost use Rattle.rectangle_pack_sections.specs.Closures.{AreCallable, answers};
+ghost use Rattle.rectangle_pack_bins.specs.Orders.{IsBinOrder};
 ghost use Rattle.rectangle_pack_bins.specs.Packing.{rules_by, bins_of};
 ghost use Rattle.rectangle_pack_bins.specs.PackAnswers.{IsPackAnswer, IsCountedAnswer};
+ghost use Rattle.rectangle_pack_bins.specs.private.Ends.{IsEnd};
+ghost use Rattle.rectangle_pack_bins.specs.private.RollBack.{RollsBackTo};
 
 pub mod answer;
 pub mod checkout;
@@ -26,9 +34,9 @@ pub use laws::{
 use rectangle_pack_groups::grouped_rects_to_place::multimap::number_after;
 use rectangle_pack_groups::grouped_rects_to_place::{Group, GroupedRectsToPlace};
 use rectangle_pack_lists::fit_tests::{FitTests, add_all, bounded};
-use rectangle_pack_sections::closures::Closures;
+use rectangle_pack_sections::closures::{Closures, Policy};
 use rectangle_pack_sections::width_height_depth::WidthHeightDepth;
-use std::alloc::Allocator;
+use std::alloc::{AllocError, Allocator};
 use std::cmp::Ordering;
 use std::collections::BTreeMap;
 use std::mem;
@@ -144,46 +152,104 @@ where
     ensures no_groups { rects_to_place.now.groups ≡ [] → IsOk result }
 {
     bounded(tests);
-    let policy = Closures {
-        heuristic: box_size_heuristic,
-        comparison: more_suitable_containers_fn,
-    };
-    let groups = rects_to_place.groups();
-    if groups.is_empty() {
+    if rects_to_place.groups().is_empty() {
         return Ok(RectanglePackOk {
             packed_locations: BTreeMap::new(alloc),
             placements: Vec::new(alloc),
         });
     }
-    let entries = number_after(0, groups).unwrap_or(u64::MAX) as usize;
+    let policy = Closures {
+        heuristic: box_size_heuristic,
+        comparison: more_suitable_containers_fn,
+    };
     let Ok(order) = bin_order(alloc, target_bins, &policy) else {
         return Err(RectanglePackError::OutOfMemory);
     };
+    pack_in_order(
+        alloc,
+        rects_to_place,
+        target_bins,
+        order.as_slice(),
+        &policy,
+        tests,
+    )
+}
+
+// Packs all groups into the bins, which are tried in this order.
+fn pack_in_order<Id, BinId, GroupId, R, A>(
+    alloc: A,
+    rects_to_place: &GroupedRectsToPlace<Id, GroupId, A>,
+    target_bins: &mut BTreeMap<BinId, TargetBin<A>, A>,
+    order: &[(u128, BinId)],
+    policy: &R,
+    tests: &mut FitTests,
+) -> Result<RectanglePackOk<Id, BinId, A>, RectanglePackError>
+where
+    Id: Ord + Clone + Drop,
+    BinId: Ord + Clone + Drop,
+    GroupId: Ord + Clone + Drop,
+    R: Policy,
+    A: Allocator + Copy,
+    requires ids { ClonesEqual Id.is_clone Id.eq }
+    requires bin_ids { ClonesEqual BinId.is_clone BinId.eq }
+    requires callable { R.is_callable policy.now }
+    requires order { IsBinOrder (R.may policy.now).rate BinId.cmp
+        (bins_of target_bins.old.entries) order.now }
+    requires found { All (λ o. IsSome (get BinId.cmp target_bins.old o.1)) order.now }
+    requires distinct { IsDistinct (eq_by_cmp BinId.cmp) (map (λ o. o.1) order.now) }
+    requires distinct_bins { IsDistinct (eq_by_cmp BinId.cmp)
+        (keys_of (bins_of target_bins.old.entries)) }
+    ensures answer { IsCountedAnswer ⟦<Group<GroupId, Id> as Ord>⟧.cmp
+        (rules_by Id.cmp BinId.cmp (R.may policy.now)) rects_to_place.now
+        (bins_of target_bins.old.entries) tests.old result (bins_of target_bins.new.entries)
+        tests.new }
+{
+    let entries = number_after(0, rects_to_place.groups()).unwrap_or(u64::MAX) as usize;
     let bins = mem::replace(target_bins, BTreeMap::new(alloc));
-    let mut packing = Packing::new(bins, order.as_slice(), alloc);
-    let packed = pack_noted(&mut packing, rects_to_place, entries, &policy);
+    let mut packing = Packing::new(bins, order, alloc);
+    let packed = pack_noted(&mut packing, rects_to_place, entries, policy);
     add_all(tests, &packing.tests);
+    let (bins, answer) = end_packing(alloc, packing, packed);
+    *target_bins = bins;
+    answer
+}
+
+// The bins of a packing that ends so, and its answer: done or refused it is kept, and for want of
+// memory rolled back.
+fn end_packing<Id, BinId, A>(
+    alloc: A,
+    packing: Packing<'_, Id, BinId, A>,
+    packed: Result<bool, AllocError>,
+) -> (
+    BTreeMap<BinId, TargetBin<A>, A>,
+    Result<RectanglePackOk<Id, BinId, A>, RectanglePackError>,
+)
+where
+    Id: Ord + Clone + Drop,
+    BinId: Ord + Clone + Drop,
+    A: Allocator + Copy,
+    requires ids { ClonesEqual Id.is_clone Id.eq }
+    requires bin_ids { ClonesEqual BinId.is_clone BinId.eq }
+    requires back { (start : List (BinId × Bin)) × RollsBackTo BinId.cmp packing start }
+    ensures { IsEnd Id.cmp BinId.cmp packing.entry packed result.0.entries result.1 }
+{
     let last = match packed {
         Ok(true) => last_placements(alloc, packing.placements.as_slice()),
         Ok(false) => {
             let (bins, _) = packing.keep();
-            *target_bins = bins;
-            return Err(RectanglePackError::NotEnoughBinSpace);
+            return (bins, Err(RectanglePackError::NotEnoughBinSpace));
         }
         Err(error) => Err(error),
     };
     match last {
         Ok(packed_locations) => {
             let (bins, placements) = packing.keep();
-            *target_bins = bins;
-            Ok(RectanglePackOk {
+            let done = RectanglePackOk {
                 packed_locations,
                 placements,
-            })
+            };
+            (bins, Ok(done))
         }
-        Err(_) => {
-            *target_bins = packing.roll_back();
-            Err(RectanglePackError::OutOfMemory)
-        }
+        Err(_) => (packing.roll_back(), Err(RectanglePackError::OutOfMemory)),
     }
 }

@@ -1,20 +1,26 @@
 -- How a packing ends: what is said of the groups of an order, said of the collection.
 use Rattle.rectangle_pack_sections.proofs.Std.{◌≡◌, ℕ, ◌+◌, List, length, map, subst, sym, ◌∙◌, Some, All, Ordering, IsTotalOrder, IsDistinct, eq_by_cmp, keys_of}
-use Rattle.rectangle_pack_sections.proofs.Std.{sum_by, lookup, is_at, Vec}
+use Rattle.rectangle_pack_sections.proofs.Std.{sum_by, lookup, is_at, Vec, Bool, true, false, Result, Ok, Err, IfOk, OnErr, OnTrue, MatchBool}
 use Rattle.rectangle_pack_groups.specs.declared.grouped_rects_to_place.Group.{Group}
 use Rattle.rectangle_pack_groups.specs.Groups.{Collection, entries_of, lists_of}
 use Rattle.rectangle_pack_bins.specs.declared.pack.answer.Placement.{Placement}
 use Rattle.rectangle_pack_bins.specs.declared.pack.order.OrderedGroup.{OrderedGroup}
-use Rattle.rectangle_pack_sections.specs.Bins.{Bin}
+use Rattle.rectangle_pack_sections.specs.Bins.{Bin, Held}
 use Rattle.rectangle_pack_sections.specs.Boxes.{Size}
 use Rattle.rectangle_pack_lists.specs.Numbers.{saturated}
 use Rattle.rectangle_pack_bins.specs.Orders.{IsBinOrder, IsGroupOrder}
-use Rattle.rectangle_pack_bins.specs.Packing.{Rules, Members, excludes_by, at_start, AreAllPlaced, AreGroups, PackingDone, PackingRefused}
-use Rattle.rectangle_pack_bins.specs.PackAnswers.{AreCounted}
+use Rattle.rectangle_pack_bins.specs.Packing.{Rules, bins_of, excludes_by, at_start, AreAllPlaced, AreGroups, PackingDone, PackingRefused}
+use Rattle.rectangle_pack_bins.specs.PackAnswers.{AreCounted, IsCountedAnswer}
 use Rattle.rectangle_pack_bins.specs.private.Bounds.{AddsWithin}
+use Rattle.rectangle_pack_bins.specs.private.Ends.{IsEnd}
+use Rattle.rectangle_pack_bins.specs.private.RollBack.{RollsBackTo}
+use Rattle.rectangle_pack_bins.specs.declared.pack.first_fit.Packing.{Packing}
+use Rattle.rectangle_pack_bins.specs.declared.pack.answer.RectanglePackOk.{RectanglePackOk}
+use Rattle.rectangle_pack_bins.specs.declared.pack.answer.RectanglePackError.{RectanglePackError}
+use Rattle.rectangle_pack_bins.specs.declared.pack.answer.RectanglePackError.TheVariants.{NotEnoughBinSpace, OutOfMemory}
 use Rattle.rectangle_pack_bins.specs.private.Orders.{keys_of_order, entries_at, members_of, members_in, SizesStandAt, StopsAmong}
 use Rattle.rectangle_pack_bins.proofs.lemmas.packing.Groups.{AreGroups-order, AreGroups-length, AreAllPlaced-length, StopsAfter-among}
-use Rattle.rectangle_pack_bins.proofs.lemmas.packing.FitTests.{counted-done, counted-refused, counted-within}
+use Rattle.rectangle_pack_bins.proofs.lemmas.packing.FitTests.{counted-done, counted-refused, counted-within, AreCounted-added}
 use Rattle.rectangle_pack_groups.proofs.lemmas.multimap.Vectors.{list-found}
 
 module _ {Id B G A : Type 0} (group_cmp : Group G Id → Group G Id → Ordering) (rules : Rules Id B) (all : Collection Id G) (old : List (B × Bin))
@@ -109,3 +115,29 @@ module _ {Id B G A : Type 0} (group_cmp : Group G Id → Group G Id → Ordering
   placements-ended h placements new homes n placed =
       AreAllPlaced-length rules (excludes_by group_cmp rules.bin_cmp partners) _ (map (members_of sizes) order) _ _ placements n placed
       ∙ sym (AreGroups-length rules.id_cmp group_cmp all.sizes all.groups (keys_of_order order) (map (members_of sizes) order) h.listed) ∙ h.entries
+
+-- whatever the end of a packing, it is answered
+pub counted-end : {Id B G A E : Type 0} (group_cmp : Group G Id → Group G Id → Ordering) (rules : Rules Id B) (all : Collection Id G) (old : List (B × Bin))
+    (packing : Packing Id B A) (packed : Result Bool E) (bins : List (B × Held)) (answer : Result (RectanglePackOk Id B A) RectanglePackError)
+    (none made before after : ℕ)
+    → IfOk packed (λ done.
+    MatchBool done
+    ((p : PackingDone group_cmp rules all old packing.placements.items (bins_of packing.bins.kept)) × AreCounted all old p.tests none made)
+    ((p : PackingRefused group_cmp rules all old (bins_of packing.bins.kept)) × AreCounted all old p.tests none made))
+    → OnErr packed ((tests : ℕ) × AreCounted all old tests none made)
+    → IfOk packed (λ done. OnTrue done (length packing.placements.items ≡ entries_of all)) → RollsBackTo rules.bin_cmp packing old
+    → none ≡ 0 → after ≡ saturated (before + made) → IsEnd rules.id_cmp rules.bin_cmp packing packed bins answer
+    → IsCountedAnswer group_cmp rules all old before answer (bins_of bins) after
+counted-end group_cmp rules all old packing packed bins (Ok ok) none made before after ended stopped counted back zero added (is, kept, placed, last) =
+    let p = rw is at ended in (
+      record { done = rw (placed, kept) p.0; counted = rw placed (rw is at counted); last = last },
+      AreCounted-added all old _ none made before after zero p.1 added,
+    )
+counted-end group_cmp rules all old packing packed bins (Err NotEnoughBinSpace) none made before after ended stopped counted back zero added (is, kept) =
+    let p = rw is at ended in (rw kept p.0, AreCounted-added all old _ none made before after zero p.1 added)
+counted-end group_cmp rules all old packing (Ok true) bins (Err OutOfMemory) none made before after ended stopped counted back zero added end =
+    (end old back, (ended.0.tests, AreCounted-added all old _ none made before after zero ended.1 added))
+counted-end group_cmp rules all old packing (Ok false) bins (Err OutOfMemory) none made before after ended stopped counted back zero added end =
+    (end old back, (ended.0.tests, AreCounted-added all old _ none made before after zero ended.1 added))
+counted-end group_cmp rules all old packing (Err error) bins (Err OutOfMemory) none made before after ended stopped counted back zero added end =
+    (end old back, (stopped.0, AreCounted-added all old _ none made before after zero stopped.1 added))

@@ -5,7 +5,7 @@ use Rattle.rectangle_pack_sections.proofs.Std.{false, Bool, arith, get_or, appen
 use Rattle.rectangle_pack_sections.proofs.Std.{if◌then◌else◌, Result, Ok, Err, IfOk, MatchBool, MatchOption, Ordering, Equal, is_eq, IsTotalOrder, Equal-is}
 use Rattle.rectangle_pack_sections.proofs.Std.{AllZip, sum_by, sum_by-cons, length-append, lookup, set_value, keys_of, IsStrictlySortedBy, option_map, is_at}
 use Rattle.rectangle_pack_sections.proofs.Std.{split_at, take_more, take-append-drop, map-append, length-map, Vec, All-push, All-nil, All-head}
-use Rattle.rectangle_pack_sections.proofs.Std.{All-tail, All-weaker, sum-map, slice_range}
+use Rattle.rectangle_pack_sections.proofs.Std.{All-tail, All-weaker, sum-map, slice_range, ◌-◌, length-drop, length-take-le}
 use Rattle.rectangle_pack_bins.specs.declared.pack.order.OrderedGroup.{OrderedGroup}
 use Rattle.rectangle_pack_sections.specs.Closures.{Answers}
 use Rattle.rectangle_pack_groups.specs.Groups.{Collection, lists_of}
@@ -297,6 +297,14 @@ module _ {Id K A : Type 0} (cmp : Id → Id → Ordering) (sizes : List (Id × S
 pub members-are : {Id K A : Type 0} (all : List Size) (o : OrderedGroup K Id A) (ids : List Id) (long : ℕ) → ids ≡ o.ids.now.items
     → long ≡ length o.ids.now.items → record { ids = ids; sizes = slice_range all o.start (o.start + long) } ≡ (members_of all o).1
 members-are all o ids long same counted = rw (same, counted) refl
+
+-- and there are as many sizes
+pub HasSizes-length : {Id K A : Type 0} (all : List Size) (o : OrderedGroup K Id A) (ids : List Id) (long : ℕ) → ids ≡ o.ids.now.items
+    → long ≡ length o.ids.now.items → HasSizes all o → length ids ≡ length (slice_range all o.start (o.start + long))
+HasSizes-length all o ids long same counted within =
+    let cut : o.start + long - o.start ≡ long = omega arith in
+    let end : long ≤ length (drop o.start all) = omega (arith, length-drop o.start all) in
+    ap length same ∙ sym counted ∙ sym (ap (λ n. length (take n (drop o.start all))) cut ∙ length-take-le long (drop o.start all) end)
 
 -- the one or the other
 pub on-true : (P Q : Type 0) (b : Bool) → b ≡ true → MatchBool b P Q → P

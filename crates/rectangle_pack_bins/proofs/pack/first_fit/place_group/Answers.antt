@@ -1,4 +1,5 @@
-use Rattle.rectangle_pack_sections.proofs.Std.{◌≡◌, ◌++◌, ◌+◌, [], ◌∷◌, false, true, take, refl, sym, ap, ◌∙◌, arith, sum, take_all, sum_by_push}
+use Rattle.rectangle_pack_sections.proofs.Std.{◌≡◌, ◌++◌, ◌+◌, [], ◌∷◌, false, true, take, refl, sym, ap, ◌∙◌, arith, sum, take_all, sum_by_push, vec_capacity}
+use Rattle.rectangle_pack_sections.proofs.Std.{IfOk-from_err}
 use Rattle.rectangle_pack_lists.specs.Numbers.{saturated}
 use Rattle.rectangle_pack_bins.specs.Packing.{Rules, rules_by, bins_of, Members, DoesNotTake}
 use Rattle.rectangle_pack_bins.specs.private.Excluded.{are_in}
@@ -120,3 +121,40 @@ place_in-requires-clause-in_order g c = rw ((stays c.check_out.ensures).2 ∙ c.
 pub place_in-requires-clause-at_index : goal.place_in-requires-clause-at_index
 place_in-requires-clause-at_index g c =
     (c.index-order-i.result.0, rw ((stays c.check_out.ensures).2 ∙ c.loop-i.invariant.order) c.index-order-i.is)
+
+pub returns-in_err-place_in-clause-placed : goal.returns-in_err-place_in-clause-placed
+returns-in_err-place_in-clause-placed g c = IfOk-from_err _ _ c.from_residual.ensures.0
+
+pub returns-in_err-place_in-clause-back : goal.returns-in_err-place_in-clause-back
+returns-in_err-place_in-clause-back g c =
+    λ start b. c.in_err-place_in.ensures.back start (rw (stays c.check_out.ensures).1 (c.loop-i.invariant.back start b))
+
+pub returns-in_err-place_in-clause-order : goal.returns-in_err-place_in-clause-order
+returns-in_err-place_in-clause-order g c =
+    c.in_err-place_in.ensures.order ∙ (stays c.check_out.ensures).2 ∙ c.loop-i.invariant.order ∙ c.order-order.ensures
+
+pub returns-in_err-place_in-clause-journal_grows : goal.returns-in_err-place_in-clause-journal_grows
+returns-in_err-place_in-clause-journal_grows g c = rw (← c.loop-i.invariant.journal) c.in_err-place_in.ensures.journal_grows
+
+pub returns-in_err-place_in-clause-journal_room_stays : goal.returns-in_err-place_in-clause-journal_room_stays
+returns-in_err-place_in-clause-journal_room_stays g c = c.in_err-place_in.ensures.journal_room_stays ∙ ap vec_capacity c.loop-i.invariant.journal
+
+pub returns-then-branch-clause-back : goal.returns-then-branch-clause-back
+returns-then-branch-clause-back g c =
+    λ start b. c.in_ok-place_in.ensures.back start (rw (stays c.check_out.ensures).1 (c.loop-i.invariant.back start b))
+
+pub returns-then-branch-clause-order : goal.returns-then-branch-clause-order
+returns-then-branch-clause-order g c =
+    c.in_ok-place_in.ensures.order ∙ (stays c.check_out.ensures).2 ∙ c.loop-i.invariant.order ∙ c.order-order.ensures
+
+pub returns-then-branch-clause-journal_grows : goal.returns-then-branch-clause-journal_grows
+returns-then-branch-clause-journal_grows g c = rw (← c.loop-i.invariant.journal) c.in_ok-place_in.ensures.journal_grows
+
+pub returns-then-branch-clause-journal_room_stays : goal.returns-then-branch-clause-journal_room_stays
+returns-then-branch-clause-journal_room_stays g c = c.in_ok-place_in.ensures.journal_room_stays ∙ ap vec_capacity c.loop-i.invariant.journal
+
+pub returns-clause-back : goal.returns-clause-back
+returns-clause-back g c = c.loop-i.invariant.back
+
+pub place_in-requires-clause-journal_room : goal.place_in-requires-clause-journal_room
+place_in-requires-clause-journal_room g c = rw c.loop-i.invariant.journal c.requires.journal_room

@@ -1,5 +1,5 @@
 use Rattle.rectangle_pack_sections.proofs.Std.{◌≡◌, ℕ, ◌++◌, ◌∷◌, [], List, ◌+◌, ◌≤◌, Bool, true, take, drop, length, refl, ap, ◌∙◌, arith, take_all, All, All-nil}
-use Rattle.rectangle_pack_sections.proofs.Std.{map, false, is_at}
+use Rattle.rectangle_pack_sections.proofs.Std.{map, false, is_at, ◌<◌, IfOk-from_err}
 use Rattle.rectangle_pack_bins.specs.Packing.{Rules, rules_by, bins_of, excludes_by, at_start, Members}
 use Rattle.rectangle_pack_bins.specs.declared.pack.order.OrderedGroup.{OrderedGroup}
 use Rattle.rectangle_pack_bins.specs.private.Orders.{members_of}
@@ -31,6 +31,10 @@ fresh g c = Named-fresh g.K.Ord.cmp g.B.Ord.cmp g.met.K.Ord.total c.args.groups.
 -- a journal that grew by one has room for one group less
 room-left : (old new room new_room groups i : ℕ) → old + groups ≤ room + i → new ≤ old + 1 → new_room ≡ room → new + groups ≤ new_room + (i + 1)
 room-left old new room new_room groups i h grows stays = omega arith
+
+-- and there is room for the next
+room-is_there : (long room groups i : ℕ) → long + groups ≤ room + i → i < groups → long < room
+room-is_there long room groups i h less = omega arith
 
 pub loop-group-init : goal.loop-group-init
 loop-group-init g c = record {
@@ -105,3 +109,42 @@ returns-in_err-place_next-clause-stopped g c =
     (map (group g at) c.args.groups.now) (group g at o) (map (group g at) (drop (i + 1) c.args.groups.now)) c.args.packing.now.tests
     c.loop-group.packing.tests _ (map-split_at (group g at) c.args.groups.now i o c.loop-group-test.true c.group-item.is) done.3
     (rw c.loop-group.invariant.order at c.in_err-place_next.ensures.stopped))
+
+pub returns-in_err-make_room-clause-packed : goal.returns-in_err-make_room-clause-packed
+returns-in_err-make_room-clause-packed g c = IfOk-from_err _ _ c.from_residual.ensures.0
+
+pub returns-in_err-make_room-clause-stopped : goal.returns-in_err-make_room-clause-stopped
+returns-in_err-make_room-clause-stopped g c = OnErr-given _ (adds-none _ _ _ _ c.args.packing.now.tests _ (omega arith))
+
+pub returns-in_err-make_room-clause-back : goal.returns-in_err-make_room-clause-back
+returns-in_err-make_room-clause-back g c = λ start b. rw c.make_room.ensures.same b
+
+pub returns-in_err-reserve-clause-packed : goal.returns-in_err-reserve-clause-packed
+returns-in_err-reserve-clause-packed g c = IfOk-from_err _ _ c.from_residual-in_err-reserve.ensures.0
+
+pub returns-in_err-reserve-clause-back : goal.returns-in_err-reserve-clause-back
+returns-in_err-reserve-clause-back g c = λ start b. rw (c.make_room.ensures.same, c.in_err-reserve.ensures.items) b
+
+pub place_next-requires-clause-in_range : goal.place_next-requires-clause-in_range
+place_next-requires-clause-in_range g c = rw c.group-item.is (c.requires.in_range c.loop-group.group-index c.group-item.result c.loop-group-test.true)
+
+pub place_next-requires-clause-journal_room : goal.place_next-requires-clause-journal_room
+place_next-requires-clause-journal_room g c = room-is_there _ _ _ _ c.loop-group.invariant.room c.loop-group-test.true
+
+pub returns-in_err-place_next-clause-packed : goal.returns-in_err-place_next-clause-packed
+returns-in_err-place_next-clause-packed g c = IfOk-from_err _ _ c.from_residual-in_err-place_next.ensures.0
+
+pub returns-in_err-place_next-clause-back : goal.returns-in_err-place_next-clause-back
+returns-in_err-place_next-clause-back g c = λ start b. c.in_err-place_next.ensures.back start (c.loop-group.invariant.back start b)
+
+pub returns-then-not-branch-clause-back : goal.returns-then-not-branch-clause-back
+returns-then-not-branch-clause-back g c = λ start b. c.in_ok-place_next.ensures.back start (c.loop-group.invariant.back start b)
+
+pub returns-clause-packed : goal.returns-clause-packed
+returns-clause-packed g c =
+    let e : take c.loop-group.group-index c.args.groups.now ≡ c.args.groups.now = take_all c.loop-group.group-index c.args.groups.now (omega arith) in
+    let done = rw e at c.loop-group.invariant.done in
+    (done.0, done.1, done.2, done.3)
+
+pub returns-clause-back : goal.returns-clause-back
+returns-clause-back g c = c.loop-group.invariant.back

@@ -1,9 +1,9 @@
-use Rattle.rectangle_pack_sections.proofs.Std.{◌≡◌, List, sym, ◌∙◌, ap, subst, arith, map, ◌∷◌, ◌+◌, length, slice_range}
+use Rattle.rectangle_pack_sections.proofs.Std.{◌≡◌, List, sym, ◌∙◌, ap, subst, arith, map, ◌∷◌, ◌+◌, length, slice_range, IfOk-from_err}
 use Rattle.rectangle_pack_bins.specs.Packing.{Rules, Members, rules_by, bins_of}
 use Rattle.rectangle_pack_bins.specs.private.Excluded.{are_in, AreHomesKept}
 use Rattle.rectangle_pack_bins.specs.private.Orders.{members_of}
 use Rattle.rectangle_pack_bins.proofs.lemmas.packing.Excluded.{excluded_as_found}
-use Rattle.rectangle_pack_bins.proofs.lemmas.packing.Groups.{IsPlaced-alike, IsRefused-alike, members-are}
+use Rattle.rectangle_pack_bins.proofs.lemmas.packing.Groups.{IsPlaced-alike, IsRefused-alike, members-are, HasSizes-length}
 use Rattle.rectangle_pack_bins.proofs.lemmas.packing.FitTests.{OnErr-given, adds-none, adds-one}
 use Rattle.rectangle_pack_bins.proofs.pack.first_fit.place_next.Given.{Over}
 use Rattle.rectangle_pack_bins.proofs.pack.first_fit.place_next.Goals.{After-place_group}
@@ -61,3 +61,21 @@ returns-in_err-keep_home-in-Some-clause-stopped g c =
     let one = adds-one (by g c.args.policy.now) g.met.B.Ord.total _ names (given g at) old here.0 _ here.1 c.args.packing.now.tests
     c.place_group.new.packing.tests here.2 here.5 in
     OnErr-given _ (rw (ap (λ (m : Members g.row.Id.Denot). length m.sizes) (alike g at)) at one)
+
+pub returns-in_err-excluded-clause-placed : goal.returns-in_err-excluded-clause-placed
+returns-in_err-excluded-clause-placed g c = IfOk-from_err _ _ c.from_residual.ensures.0
+
+pub returns-in_err-place_group-clause-placed : goal.returns-in_err-place_group-clause-placed
+returns-in_err-place_group-clause-placed g c = IfOk-from_err _ _ c.from_residual-in_err-place_group.ensures.0
+
+pub returns-in_err-keep_home-in-Some-clause-placed : goal.returns-in_err-keep_home-in-Some-clause-placed
+returns-in_err-keep_home-in-Some-clause-placed g c = IfOk-from_err _ _ c.from_residual-in_err-keep_home-in-Some.ensures.0
+
+pub returns-in_err-place_group-clause-stopped : goal.returns-in_err-place_group-clause-stopped
+returns-in_err-place_group-clause-stopped g c =
+    let at = (goal.at.returns-in_err-place_group-clause-stopped g c).After-place_group in
+    OnErr-given _ (rw (ap (λ (m : Members g.row.Id.Denot). length m.sizes) (alike g at)) at c.in_err-place_group.ensures.stopped)
+
+pub place_group-requires-clause-lengths : goal.place_group-requires-clause-lengths
+place_group-requires-clause-lengths g c =
+    HasSizes-length c.args.sizes.now c.args.group.now _ _ c.as_slice.ensures.value (c.len.ensures ∙ c.args.group.now.ids.now.ok.0) c.requires.in_range

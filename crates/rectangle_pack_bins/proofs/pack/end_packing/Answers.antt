@@ -1,0 +1,15 @@
+use Rattle.rectangle_pack_sections.proofs.Std.{◌≡◌, Bool, Ok, Result, AllocError, sym, ap, ◌∙◌}
+use Rattle.rectangle_pack_bins.proofs.pack.end_packing.Goals as goal
+use Rattle.rectangle_pack_bins.proofs.pack.end_packing.Goals.{in-Ok-true, in-Err}
+
+pub returns-in-Ok : goal.returns-in-Ok
+returns-in-Ok g c = elim c.match-packed.branch [
+  | in-Ok-true w ↦ (
+    w.in-Ok-true.is ∙ ap (λ (b : Bool). Ok b) w.in-Ok-true.field-0-test,
+    c.keep-bins-in-Ok.ensures.bins,
+    ap (λ v. v.items) c.keep-bins-in-Ok.ensures.placements,
+    rw (c.keep-bins-in-Ok.ensures.placements, ← w.as_slice.ensures.value)
+        (rw (sym w.last-is ∙ c.in-Ok.is) at w.last_placements-last.ensures),
+  )
+  | in-Err w ↦ absurd (let e = sym w.last-is ∙ c.in-Ok.is in cc)
+]
