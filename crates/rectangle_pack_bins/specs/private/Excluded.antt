@@ -1,5 +1,5 @@
 -- The bins that are excluded for a group, as a packing finds them.
-use Rattle.std.specs.Prelude.{◌≡◌, ◌<◌, ℕ, Bool, false, ◌&&◌, List, length, unwrap_or}
+use Rattle.std.specs.Prelude.{◌≡◌, ◌<◌, Bool, false, ◌&&◌, List, length, unwrap_or}
 use Rattle.std.specs.declared.cmp.Ordering.{Ordering}
 use Rattle.std.specs.Borrow.{Bor}
 use Rattle.std.specs.Option.{option_map}

@@ -25,7 +25,7 @@ use Rattle.rectangle_pack_groups.proofs.lemmas.util.Maps.{lookup-equal, is_at-ba
 use Rattle.rectangle_pack_groups.proofs.lemmas.util.Zips.{length-zip}
 use Rattle.rectangle_pack_bins.proofs.lemmas.packing.Placed.{lookup-placed}
 use Rattle.rectangle_pack_lists.proofs.lemmas.trial.StepsByIndex.{saturated-add, saturated-from}
-use Rattle.rectangle_pack_bins.proofs.lemmas.packing.Orders.{AllZip-more, map-split, IsDistinct-apart}
+use Rattle.rectangle_pack_bins.proofs.lemmas.packing.Orders.{AllZip-more, IsDistinct-apart}
 use Rattle.rectangle_pack_groups.proofs.lemmas.util.Zips.{AllZip-weaker}
 use Rattle.rectangle_pack_lists.proofs.lemmas.trial.FitTests.{square, done-le, stuck-le, grown-le}
 

@@ -1,4 +1,4 @@
-use Rattle.rectangle_pack_sections.proofs.Std.{◌≡◌, Bool, Ok, Result, AllocError, sym, ap, ◌∙◌}
+use Rattle.rectangle_pack_sections.proofs.Std.{Bool, Ok, sym, ap, ◌∙◌}
 use Rattle.rectangle_pack_bins.proofs.pack.end_packing.Goals as goal
 use Rattle.rectangle_pack_bins.proofs.pack.end_packing.Goals.{in-Ok-true, in-Err}
 

@@ -1,4 +1,4 @@
-use Rattle.rectangle_pack_sections.proofs.Std.{◌≡◌, ℕ, ◌++◌, ◌∷◌, [], List, ◌+◌, ◌≤◌, Bool, true, take, drop, length, refl, ap, ◌∙◌, arith, take_all, All, All-nil}
+use Rattle.rectangle_pack_sections.proofs.Std.{◌≡◌, ℕ, ◌∷◌, [], List, ◌+◌, ◌≤◌, Bool, take, drop, refl, ap, ◌∙◌, arith, take_all, All, All-nil}
 use Rattle.rectangle_pack_sections.proofs.Std.{map, false, is_at, ◌<◌, IfOk-from_err}
 use Rattle.rectangle_pack_bins.specs.Packing.{Rules, rules_by, bins_of, excludes_by, at_start, Members}
 use Rattle.rectangle_pack_bins.specs.declared.pack.order.OrderedGroup.{OrderedGroup}

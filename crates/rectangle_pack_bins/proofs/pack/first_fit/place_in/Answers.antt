@@ -1,4 +1,4 @@
-use Rattle.rectangle_pack_sections.proofs.Std.{◌≡◌, ◌++◌, ◌+◌, false, true, length, vec_len, vec_capacity, refl, sym, ap, ◌∙◌, arith}
+use Rattle.rectangle_pack_sections.proofs.Std.{true, length, refl, sym, ap, ◌∙◌, arith}
 use Rattle.rectangle_pack_sections.proofs.Std.{is_at, IfOk-from_err}
 use Rattle.rectangle_pack_bins.specs.Packing.{Rules, rules_by, bins_of, Members}
 use Rattle.rectangle_pack_bins.specs.private.Checkout.{closed}

@@ -1,6 +1,6 @@
 use Rattle.rectangle_pack_sections.proofs.Std.{◌≡◌, List, sym, ◌∙◌, ap, subst, arith, map, ◌∷◌, ◌+◌, length, slice_range, IfOk-from_err}
 use Rattle.rectangle_pack_bins.specs.Packing.{Rules, Members, rules_by, bins_of}
-use Rattle.rectangle_pack_bins.specs.private.Excluded.{are_in, AreHomesKept}
+use Rattle.rectangle_pack_bins.specs.private.Excluded.{AreHomesKept}
 use Rattle.rectangle_pack_bins.specs.private.Orders.{members_of}
 use Rattle.rectangle_pack_bins.proofs.lemmas.packing.Excluded.{excluded_as_found}
 use Rattle.rectangle_pack_bins.proofs.lemmas.packing.Groups.{IsPlaced-alike, IsRefused-alike, members-are, HasSizes-length}
