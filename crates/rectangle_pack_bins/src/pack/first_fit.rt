@@ -98,7 +98,7 @@ impl<'b, Id: Drop, B: Ord + Drop, A: Allocator + Copy> Packing<'b, Id, B, A> {
 
 // Tries a group in the bin of this id, at this index of the order, and places it there where its
 // trial is done; whether it is.
-fn place_in<'b, Id, B, R, A>(
+fn place_in_bin<'b, Id, B, R, A>(
     packing: &mut Packing<'b, Id, B, A>,
     index: usize,
     id: &'b B,
@@ -222,7 +222,7 @@ where
         if excluded.contains(&id) {
             continue;
         }
-        if place_in(packing, i, id, ids, sizes, policy)? {
+        if place_in_bin(packing, i, id, ids, sizes, policy)? {
             return Ok(Some(id));
         }
     }

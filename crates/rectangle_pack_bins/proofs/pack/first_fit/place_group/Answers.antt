@@ -14,8 +14,8 @@ use Rattle.rectangle_pack_bins.proofs.pack.first_fit.place_group.Goals as goal
 abbrev by : (g : Over) → g.row.R.Denot → Rules g.row.Id.Denot g.row.B.Denot
 by g rules = rules_by g.Id.Ord.cmp g.B.Ord.cmp (g.R.Policy.may rules)
 
-pub returns-in_err-place_in-clause-stopped : goal.returns-in_err-place_in-clause-stopped
-returns-in_err-place_in-clause-stopped g c =
+pub returns-in_err-place_in_bin-clause-stopped : goal.returns-in_err-place_in_bin-clause-stopped
+returns-in_err-place_in_bin-clause-stopped g c =
     let old = bins_of c.args.packing.now.bins.kept in
     let mid : bins_of c.check_out.new.self.kept ≡ old = ap bins_of (stays c.check_out.ensures).0 ∙ c.loop-i.invariant.same in
     let passed = c.loop-i.invariant.passed in
@@ -23,7 +23,7 @@ returns-in_err-place_in-clause-stopped g c =
     (OnErr-given _
     (adds-begun (by g c.args.policy.now) g.met.B.Ord.total (are_in g.B.Ord.cmp c.args.excluded.now.keys) c.order-order.result.now c.loop-i.i
     c.index-order-i.result (record { ids = c.args.ids.now; sizes = c.args.sizes.now }) old _ passed.0 c.args.packing.now.tests c.loop-i.packing.tests _
-    c.loop-i-test.true c.index-order-i.is mid passed.1 passed.2 c.in_err-place_in.ensures.stopped))
+    c.loop-i-test.true c.index-order-i.is mid passed.1 passed.2 c.in_err-place_in_bin.ensures.stopped))
 
 pub returns-then-branch-clause-placed : goal.returns-then-branch-clause-placed
 returns-then-branch-clause-placed g c =
@@ -32,7 +32,7 @@ returns-then-branch-clause-placed g c =
     let mid : bins_of c.check_out.new.self.kept ≡ old = ap bins_of (stays c.check_out.ensures).0 ∙ c.loop-i.invariant.same in
     let passed = c.loop-i.invariant.passed in
     let excluded = are_in g.B.Ord.cmp c.args.excluded.now.keys in
-    let here = on-true _ _ _ c.if-branch.true c.in_ok-place_in.ensures.placed in
+    let here = on-true _ _ _ c.if-branch.true c.in_ok-place_in_bin.ensures.placed in
     let at = IsPlaced-at (by g c.args.policy.now) excluded c.order-order.result.now c.loop-i.i c.index-order-i.result group old _ _ passed.0 here.1 here.0
     c.loop-i-test.true c.index-order-i.is mid passed.1 (sym c.contains.ensures ∙ c.if-contains.false) here.2 in
     rw (← c.order-order.ensures) (
@@ -86,10 +86,10 @@ loop-i-preserved g c =
     let passed = c.loop-i.invariant.passed in
     let excluded = are_in g.B.Ord.cmp c.args.excluded.now.keys in
     let allowed : excluded o.1 ≡ false = sym c.contains.ensures ∙ c.if-contains.false in
-    let stuck = on-false _ _ _ c.if-branch.false c.in_ok-place_in.ensures.placed in
+    let stuck = on-false _ _ _ c.if-branch.false c.in_ok-place_in_bin.ensures.placed in
     record {
       same = stuck.2 ∙ mid;
-      order = c.in_ok-place_in.ensures.order ∙ (stays c.check_out.ensures).2 ∙ c.loop-i.invariant.order;
+      order = c.in_ok-place_in_bin.ensures.order ∙ (stays c.check_out.ensures).2 ∙ c.loop-i.invariant.order;
       passed = (
         passed.0 ++ stuck.0 ∷ [],
         AllZip-next (DoesNotTake (by g c.args.policy.now) excluded old group) (λ x. x.1) c.order-order.result.now passed.0 c.loop-i.i o stuck.0
@@ -99,7 +99,7 @@ loop-i-preserved g c =
       );
       journal = stuck.4 ∙ c.loop-i.invariant.journal;
       placements = stuck.3 ∙ c.loop-i.invariant.placements;
-      back = λ start b. c.in_ok-place_in.ensures.back start (rw (stays c.check_out.ensures).1 (c.loop-i.invariant.back start b));
+      back = λ start b. c.in_ok-place_in_bin.ensures.back start (rw (stays c.check_out.ensures).1 (c.loop-i.invariant.back start b));
     }
 
 pub returns-clause-placed : goal.returns-clause-placed
@@ -115,46 +115,46 @@ returns-clause-order g c = c.loop-i.invariant.order ∙ c.order-order.ensures
 pub check_out-requires : goal.check_out-requires
 check_out-requires g c = rw c.loop-i.invariant.order c.loop-i-test.true
 
-pub place_in-requires-clause-in_order : goal.place_in-requires-clause-in_order
-place_in-requires-clause-in_order g c = rw ((stays c.check_out.ensures).2 ∙ c.loop-i.invariant.order) c.loop-i-test.true
+pub place_in_bin-requires-clause-in_order : goal.place_in_bin-requires-clause-in_order
+place_in_bin-requires-clause-in_order g c = rw ((stays c.check_out.ensures).2 ∙ c.loop-i.invariant.order) c.loop-i-test.true
 
-pub place_in-requires-clause-at_index : goal.place_in-requires-clause-at_index
-place_in-requires-clause-at_index g c =
+pub place_in_bin-requires-clause-at_index : goal.place_in_bin-requires-clause-at_index
+place_in_bin-requires-clause-at_index g c =
     (c.index-order-i.result.0, rw ((stays c.check_out.ensures).2 ∙ c.loop-i.invariant.order) c.index-order-i.is)
 
-pub returns-in_err-place_in-clause-placed : goal.returns-in_err-place_in-clause-placed
-returns-in_err-place_in-clause-placed g c = IfOk-from_err _ _ c.from_residual.ensures.0
+pub returns-in_err-place_in_bin-clause-placed : goal.returns-in_err-place_in_bin-clause-placed
+returns-in_err-place_in_bin-clause-placed g c = IfOk-from_err _ _ c.from_residual.ensures.0
 
-pub returns-in_err-place_in-clause-back : goal.returns-in_err-place_in-clause-back
-returns-in_err-place_in-clause-back g c =
-    λ start b. c.in_err-place_in.ensures.back start (rw (stays c.check_out.ensures).1 (c.loop-i.invariant.back start b))
+pub returns-in_err-place_in_bin-clause-back : goal.returns-in_err-place_in_bin-clause-back
+returns-in_err-place_in_bin-clause-back g c =
+    λ start b. c.in_err-place_in_bin.ensures.back start (rw (stays c.check_out.ensures).1 (c.loop-i.invariant.back start b))
 
-pub returns-in_err-place_in-clause-order : goal.returns-in_err-place_in-clause-order
-returns-in_err-place_in-clause-order g c =
-    c.in_err-place_in.ensures.order ∙ (stays c.check_out.ensures).2 ∙ c.loop-i.invariant.order ∙ c.order-order.ensures
+pub returns-in_err-place_in_bin-clause-order : goal.returns-in_err-place_in_bin-clause-order
+returns-in_err-place_in_bin-clause-order g c =
+    c.in_err-place_in_bin.ensures.order ∙ (stays c.check_out.ensures).2 ∙ c.loop-i.invariant.order ∙ c.order-order.ensures
 
-pub returns-in_err-place_in-clause-journal_grows : goal.returns-in_err-place_in-clause-journal_grows
-returns-in_err-place_in-clause-journal_grows g c = rw (← c.loop-i.invariant.journal) c.in_err-place_in.ensures.journal_grows
+pub returns-in_err-place_in_bin-clause-journal_grows : goal.returns-in_err-place_in_bin-clause-journal_grows
+returns-in_err-place_in_bin-clause-journal_grows g c = rw (← c.loop-i.invariant.journal) c.in_err-place_in_bin.ensures.journal_grows
 
-pub returns-in_err-place_in-clause-journal_room_stays : goal.returns-in_err-place_in-clause-journal_room_stays
-returns-in_err-place_in-clause-journal_room_stays g c = c.in_err-place_in.ensures.journal_room_stays ∙ ap vec_capacity c.loop-i.invariant.journal
+pub returns-in_err-place_in_bin-clause-journal_room_stays : goal.returns-in_err-place_in_bin-clause-journal_room_stays
+returns-in_err-place_in_bin-clause-journal_room_stays g c = c.in_err-place_in_bin.ensures.journal_room_stays ∙ ap vec_capacity c.loop-i.invariant.journal
 
 pub returns-then-branch-clause-back : goal.returns-then-branch-clause-back
 returns-then-branch-clause-back g c =
-    λ start b. c.in_ok-place_in.ensures.back start (rw (stays c.check_out.ensures).1 (c.loop-i.invariant.back start b))
+    λ start b. c.in_ok-place_in_bin.ensures.back start (rw (stays c.check_out.ensures).1 (c.loop-i.invariant.back start b))
 
 pub returns-then-branch-clause-order : goal.returns-then-branch-clause-order
 returns-then-branch-clause-order g c =
-    c.in_ok-place_in.ensures.order ∙ (stays c.check_out.ensures).2 ∙ c.loop-i.invariant.order ∙ c.order-order.ensures
+    c.in_ok-place_in_bin.ensures.order ∙ (stays c.check_out.ensures).2 ∙ c.loop-i.invariant.order ∙ c.order-order.ensures
 
 pub returns-then-branch-clause-journal_grows : goal.returns-then-branch-clause-journal_grows
-returns-then-branch-clause-journal_grows g c = rw (← c.loop-i.invariant.journal) c.in_ok-place_in.ensures.journal_grows
+returns-then-branch-clause-journal_grows g c = rw (← c.loop-i.invariant.journal) c.in_ok-place_in_bin.ensures.journal_grows
 
 pub returns-then-branch-clause-journal_room_stays : goal.returns-then-branch-clause-journal_room_stays
-returns-then-branch-clause-journal_room_stays g c = c.in_ok-place_in.ensures.journal_room_stays ∙ ap vec_capacity c.loop-i.invariant.journal
+returns-then-branch-clause-journal_room_stays g c = c.in_ok-place_in_bin.ensures.journal_room_stays ∙ ap vec_capacity c.loop-i.invariant.journal
 
 pub returns-clause-back : goal.returns-clause-back
 returns-clause-back g c = c.loop-i.invariant.back
 
-pub place_in-requires-clause-journal_room : goal.place_in-requires-clause-journal_room
-place_in-requires-clause-journal_room g c = rw c.loop-i.invariant.journal c.requires.journal_room
+pub place_in_bin-requires-clause-journal_room : goal.place_in_bin-requires-clause-journal_room
+place_in_bin-requires-clause-journal_room g c = rw c.loop-i.invariant.journal c.requires.journal_room

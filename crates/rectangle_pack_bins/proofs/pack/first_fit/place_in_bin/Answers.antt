@@ -4,8 +4,8 @@ use Rattle.rectangle_pack_bins.specs.Packing.{Rules, rules_by, bins_of, Members}
 use Rattle.rectangle_pack_bins.specs.private.Checkout.{closed}
 use Rattle.rectangle_pack_bins.proofs.lemmas.packing.Groups.{GoesBack-grown, bins_of-grown, GoesBack-tried, found-bins_of, IsPlaced-alone, IsDone-length}
 use Rattle.rectangle_pack_bins.proofs.lemmas.packing.FitTests.{OnErr-given, adds-none, adds-alone}
-use Rattle.rectangle_pack_bins.proofs.pack.first_fit.place_in.Given.{Over}
-use Rattle.rectangle_pack_bins.proofs.pack.first_fit.place_in.Goals as goal
+use Rattle.rectangle_pack_bins.proofs.pack.first_fit.place_in_bin.Given.{Over}
+use Rattle.rectangle_pack_bins.proofs.pack.first_fit.place_in_bin.Goals as goal
 
 abbrev by : (g : Over) → g.row.R.Denot → Rules g.row.Id.Denot g.row.B.Denot
 by g rules = rules_by g.Id.Ord.cmp g.B.Ord.cmp (g.R.Policy.may rules)
