@@ -1,11 +1,5 @@
 use Rattle.rectangle_pack.proofs.session.Session.obey.Goals as goal
 
-pub add_clone-requires : goal.add_clone-requires
-add_clone-requires g c = c.requires.bin_ids
-
-pub pack_by-requires : goal.pack_by-requires
-pack_by-requires g c = record { ids = c.requires.ids; bin_ids = c.requires.bin_ids; callable = c.requires.callable }
-
 pub returns-in-AddBin : goal.returns-in-AddBin
 returns-in-AddBin g c = rw (c.in-AddBin.is, c.reply.ensures) c.add_clone.ensures
 

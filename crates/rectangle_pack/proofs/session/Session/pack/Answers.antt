@@ -9,9 +9,6 @@ returns-clause-promise g c =
     packs-promised _ (rules_by g.Id.Ord.cmp g.BinId.Ord.cmp (answers g.H.Fn g.C.Fn c.args.heuristic.now c.args.comparison.now)) g.met.BinId.Ord.total
     c.args.groups.now _ (packed_reply c.pack_by.result) _ c.pack_by.ensures.packed
 
-pub pack_by-requires : goal.pack_by-requires
-pack_by-requires g c = record { ids = c.requires.ids; bin_ids = c.requires.bin_ids; callable = c.requires.callable }
-
 pub returns-clause-packed : goal.returns-clause-packed
 returns-clause-packed g c = c.pack_by.ensures.packed
 

@@ -32,9 +32,6 @@ returns-clause-promise g c =
     let all = take_all c.loop-command.command-index c.args.commands.now (omega (arith, c.loop-command-test.false)) in
     rw all at c.loop-command.invariant.ran
 
-pub obey-requires : goal.obey-requires
-obey-requires g c = record { ids = c.requires.ids; bin_ids = c.requires.bin_ids; callable = c.requires.callable }
-
 pub push_reserved-requires : goal.push_reserved-requires
 push_reserved-requires g c = has_room _ _ _ _ c.loop-command.invariant.room c.loop-command-test.true
 

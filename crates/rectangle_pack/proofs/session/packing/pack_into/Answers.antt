@@ -30,9 +30,6 @@ returns-in_err-reserve g c =
       no_groups = λ none. absurd (lists-some _ _ c.is_empty.ensures c.if-is_empty.false (c.groups.ensures.entries ∙ none));
     }
 
-pub try_packing-requires : goal.try_packing-requires
-try_packing-requires g c = record { ids = c.requires.ids; bin_ids = c.requires.bin_ids; callable = c.requires.callable }
-
 pub returns-in_err-placements : goal.returns-in_err-placements
 returns-in_err-placements g c =
     let kept : (0 < length c.args.groups.now.groups) × (bins_of c.try_packing.new.bins.entries ≡ bins_of c.args.bins.now.entries)

@@ -3,9 +3,6 @@ use Rattle.rectangle_pack_bins.proofs.lemmas.packing.FitTests.{OnErr-given}
 use Rattle.rectangle_pack_bins.specs.Packing.{bins_of}
 use Rattle.rectangle_pack.proofs.session.packing.try_packing.Goals as goal
 
-pub bin_order-requires : goal.bin_order-requires
-bin_order-requires g c = record { bin_ids = c.requires.bin_ids; callable = c.requires.callable }
-
 pub returns-in_err-order : goal.returns-in_err-order
 returns-in_err-order g c = record { packed = IfOk-from_err _ _ c.from_residual.ensures.0; stopped = OnErr-given _ refl }
 
@@ -15,15 +12,11 @@ new-packing-requires g c = record {
   distinct = rw c.as_slice.ensures.value c.in_ok-order.ensures.ids;
 }
 
-pub pack_noted-requires : goal.pack_noted-requires
-pack_noted-requires g c = record {
-  ids = c.requires.ids;
-  bin_ids = c.requires.bin_ids;
-  callable = c.requires.callable;
-  order = rw (c.new-packing.ensures.bins, c.replace-old.ensures.value, c.as_slice.ensures.value) c.in_ok-order.ensures.order;
-  distinct = rw (c.new-packing.ensures.bins, c.replace-old.ensures.value) c.in_ok-order.ensures.distinct;
-  no_placements = c.new-packing.ensures.placements;
-}
+pub pack_noted-requires-clause-order : goal.pack_noted-requires-clause-order
+pack_noted-requires-clause-order g c = rw (c.new-packing.ensures.bins, c.replace-old.ensures.value, c.as_slice.ensures.value) c.in_ok-order.ensures.order
+
+pub pack_noted-requires-clause-distinct : goal.pack_noted-requires-clause-distinct
+pack_noted-requires-clause-distinct g c = rw (c.new-packing.ensures.bins, c.replace-old.ensures.value) c.in_ok-order.ensures.distinct
 
 pub returns-in-Ok-true : goal.returns-in-Ok-true
 returns-in-Ok-true g c =
