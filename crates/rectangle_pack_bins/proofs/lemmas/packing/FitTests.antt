@@ -1,6 +1,6 @@
 -- How many fit tests a packing makes at most.
 use Rattle.rectangle_pack_sections.proofs.Std.{◌≡◌, ℕ, zero, suc, ◌+◌, ◌-◌, ◌*◌, ◌<◌, ◌≤◌, Bool, true, false, cond, List, [], ◌∷◌, ◌++◌, take, drop, get_or}
-use Rattle.rectangle_pack_sections.proofs.Std.{append-nil, length, refl, sym, ◌∙◌, ap, arith, length-append, Result, Ok, Err, OnErr, Option, Some, None}
+use Rattle.rectangle_pack_sections.proofs.Std.{append-nil, length, refl, sym, ◌∙◌, ap, arith, length-append, Option, Some, None}
 use Rattle.rectangle_pack_sections.proofs.Std.{IsSomeAnd, MatchBool, map, sum, unwrap_or, Ordering, Equal, length-map, IsTotalOrder, Equal-is, is_eq, eq_by_cmp}
 use Rattle.rectangle_pack_sections.proofs.Std.{option_map, AllZip, sum_by, IsDistinct, AllByRecursion, lookup, keys_of, is_at, mul-le-mul_left, sum_by-cons}
 use Rattle.rectangle_pack_sections.proofs.Std.{sum_by-append, IsDistinct-head, IsDistinct-tail, sum_by-IsPermutation, IsPermutation-map, length_permutation}
@@ -28,11 +28,6 @@ use Rattle.rectangle_pack_lists.proofs.lemmas.trial.StepsByIndex.{saturated-add,
 use Rattle.rectangle_pack_bins.proofs.lemmas.packing.Orders.{AllZip-more, IsDistinct-apart}
 use Rattle.rectangle_pack_groups.proofs.lemmas.util.Zips.{AllZip-weaker}
 use Rattle.rectangle_pack_lists.proofs.lemmas.trial.FitTests.{square, done-le, stuck-le, grown-le}
-
--- what holds anyway holds on an error
-pub OnErr-given : {X E P : Type 0} (r : Result X E) → P → OnErr r P
-OnErr-given (Ok x) h = tt
-OnErr-given (Err e) h = h
 
 -- no test is within every bound
 pub adds-none : {B : Type 0} (bin_cmp : B → B → Ordering) (bins : List (B × Bin)) (order : List B) (entries before after : ℕ)

@@ -1,5 +1,5 @@
 use Rattle.rectangle_pack_sections.proofs.Std.{refl, IfOk-from_err}
-use Rattle.rectangle_pack_bins.proofs.lemmas.packing.FitTests.{OnErr-given}
+use Rattle.rectangle_pack_groups.proofs.lemmas.multimap.Sized.{OnErr-given}
 use Rattle.rectangle_pack_bins.specs.Packing.{bins_of}
 use Rattle.rectangle_pack.proofs.session.packing.try_packing.Goals as goal
 

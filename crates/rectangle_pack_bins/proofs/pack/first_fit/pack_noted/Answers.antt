@@ -2,7 +2,8 @@ use Rattle.rectangle_pack_sections.proofs.Std.{arith, on_err_weaker, Ordering}
 use Rattle.rectangle_pack_groups.specs.declared.grouped_rects_to_place.Group.{Group}
 use Rattle.rectangle_pack_groups.specs.contracts.grouped_rects_to_place.GroupOrd.TheImpl.{ghosts}
 use Rattle.rectangle_pack_bins.specs.Packing.{Rules, rules_by, bins_of}
-use Rattle.rectangle_pack_bins.proofs.lemmas.packing.FitTests.{OnErr-given, counted-none}
+use Rattle.rectangle_pack_groups.proofs.lemmas.multimap.Sized.{OnErr-given}
+use Rattle.rectangle_pack_bins.proofs.lemmas.packing.FitTests.{counted-none}
 use Rattle.rectangle_pack_bins.proofs.lemmas.packing.Groups.{packed-weaker, HasSizes-order}
 use Rattle.rectangle_pack_bins.proofs.lemmas.packing.Ends.{AreInOrder, AreInOrder-from, done-ended, refused-ended, stopped-ended, placements-ended}
 use Rattle.rectangle_pack_bins.proofs.pack.first_fit.pack_noted.Given.{Over}

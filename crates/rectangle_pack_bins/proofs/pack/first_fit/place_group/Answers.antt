@@ -5,7 +5,8 @@ use Rattle.rectangle_pack_bins.specs.Packing.{Rules, rules_by, bins_of, Members,
 use Rattle.rectangle_pack_bins.specs.private.Excluded.{are_in}
 use Rattle.rectangle_pack_bins.proofs.lemmas.packing.Checkout.{stays}
 use Rattle.rectangle_pack_bins.proofs.lemmas.packing.Groups.{IsPlaced-at, on-true, on-false}
-use Rattle.rectangle_pack_bins.proofs.lemmas.packing.FitTests.{OnErr-given, adds-begun}
+use Rattle.rectangle_pack_groups.proofs.lemmas.multimap.Sized.{OnErr-given}
+use Rattle.rectangle_pack_bins.proofs.lemmas.packing.FitTests.{adds-begun}
 use Rattle.rectangle_pack_lists.proofs.lemmas.trial.StepsByIndex.{saturated-add}
 use Rattle.rectangle_pack_bins.proofs.pack.first_fit.place_group.Given.{Over}
 use Rattle.rectangle_pack_bins.proofs.lemmas.packing.Orders.{AllZip-next}

@@ -4,7 +4,8 @@ use Rattle.rectangle_pack_bins.specs.Packing.{Rules, rules_by, bins_of, excludes
 use Rattle.rectangle_pack_bins.specs.declared.pack.order.OrderedGroup.{OrderedGroup}
 use Rattle.rectangle_pack_bins.specs.private.Orders.{members_of}
 use Rattle.rectangle_pack_bins.proofs.lemmas.packing.Excluded.{AreHomesKept-none, Named-more, Named-fresh}
-use Rattle.rectangle_pack_bins.proofs.lemmas.packing.FitTests.{OnErr-given, adds-more, adds-none}
+use Rattle.rectangle_pack_groups.proofs.lemmas.multimap.Sized.{OnErr-given}
+use Rattle.rectangle_pack_bins.proofs.lemmas.packing.FitTests.{adds-more, adds-none}
 use Rattle.rectangle_pack_bins.proofs.lemmas.packing.Checkout.{stays}
 use Rattle.rectangle_pack_bins.proofs.lemmas.packing.Groups.{StopsAmong-at, AreAllPlaced-next, on-true, on-false}
 use Rattle.rectangle_pack_bins.proofs.lemmas.packing.Orders.{map-split_at, map-take_more}

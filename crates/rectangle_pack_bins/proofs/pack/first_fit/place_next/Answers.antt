@@ -4,7 +4,8 @@ use Rattle.rectangle_pack_bins.specs.private.Excluded.{AreHomesKept}
 use Rattle.rectangle_pack_bins.specs.private.Orders.{members_of}
 use Rattle.rectangle_pack_bins.proofs.lemmas.packing.Excluded.{excluded_as_found}
 use Rattle.rectangle_pack_bins.proofs.lemmas.packing.Groups.{IsPlaced-alike, IsRefused-alike, members-are, HasSizes-length}
-use Rattle.rectangle_pack_bins.proofs.lemmas.packing.FitTests.{OnErr-given, adds-none, adds-one}
+use Rattle.rectangle_pack_groups.proofs.lemmas.multimap.Sized.{OnErr-given}
+use Rattle.rectangle_pack_bins.proofs.lemmas.packing.FitTests.{adds-none, adds-one}
 use Rattle.rectangle_pack_bins.proofs.pack.first_fit.place_next.Given.{Over}
 use Rattle.rectangle_pack_bins.proofs.pack.first_fit.place_next.Goals.{After-place_group}
 use Rattle.rectangle_pack_bins.proofs.pack.first_fit.place_next.Goals as goal
