@@ -10,4 +10,5 @@ pub mod Bins
 pub mod Covering
 pub mod CutTrees
 pub mod Texts
+pub mod Heuristics
 pub mod private

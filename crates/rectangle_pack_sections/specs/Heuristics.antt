@@ -1,0 +1,45 @@
+-- What the heuristics with a name rate a size by.
+use Rattle.std.specs.Prelude.{◌≡◌, ℕ, ◌+◌, ◌*◌, ◌^◌, ◌↔◌, List, Result, Ok, min, max, codes}
+use Rattle.rectangle_pack_sections.specs.Boxes.{Size, volume_of}
+use Rattle.rectangle_pack_sections.specs.declared.box_size_heuristics.named.Heuristic.{Heuristic}
+use Rattle.rectangle_pack_sections.specs.declared.box_size_heuristics.named.Heuristic.TheVariants.{Volume, Height, Width, Depth, SideSum, LongestSide, ShortestSide}
+
+-- three numbers as one: of numbers of 32 bits the first counts most, then the second, then the third
+abbrev pub in_turn : ℕ → ℕ → ℕ → ℕ
+in_turn first second third = first * 2 ^ 64 + second * 2 ^ 32 + third
+
+-- the longest of the three sides
+abbrev pub longest_side : Size → ℕ
+longest_side s = max (max s.width s.height) s.depth
+
+-- the side that is neither the longest nor the shortest, when the three are put in order
+abbrev pub middle_side : Size → ℕ
+middle_side s = max (min s.width s.height) (min (max s.width s.height) s.depth)
+
+-- the shortest of the three sides
+abbrev pub shortest_side : Size → ℕ
+shortest_side s = min (min s.width s.height) s.depth
+
+-- what the heuristic of each name rates a size by
+abbrev pub rate_of : Heuristic → Size → ℕ
+rate_of Volume s = volume_of s
+rate_of Height s = in_turn s.height s.width s.depth
+rate_of Width s = in_turn s.width s.height s.depth
+rate_of Depth s = in_turn s.depth s.width s.height
+rate_of SideSum s = s.width + s.height + s.depth
+rate_of LongestSide s = in_turn (longest_side s) (middle_side s) (shortest_side s)
+rate_of ShortestSide s = in_turn (shortest_side s) (middle_side s) (longest_side s)
+
+-- the text of each name
+abbrev pub heuristic_text : Heuristic → List ℕ
+heuristic_text Volume = codes "volume"
+heuristic_text Height = codes "height"
+heuristic_text Width = codes "width"
+heuristic_text Depth = codes "depth"
+heuristic_text SideSum = codes "side-sum"
+heuristic_text LongestSide = codes "longest-side"
+heuristic_text ShortestSide = codes "shortest-side"
+
+-- a text names a heuristic exactly where it is that heuristic's text
+abbrev pub IsNamed : {E : Type 0} → List ℕ → Result Heuristic E → Type 0
+IsNamed text answer = (h : Heuristic) → (answer ≡ Ok h) ↔ (text ≡ heuristic_text h)
