@@ -5,6 +5,7 @@ ghost use Rattle.std.specs.Map.{lookup, values_of};
 ghost use Rattle.rectangle_pack_bins.specs.declared.pack.answer.Placement.{Placement};
 ghost use Rattle.rectangle_pack_sections.specs.Boxes.{Size, Cuboid, Holds, volume_of};
 ghost use Rattle.rectangle_pack_sections.specs.Bins.{Bin};
+ghost use Rattle.rectangle_pack_sections.specs.Heuristics.{rate_of};
 ghost use Rattle.rectangle_pack_sections.specs.Closures.{MayRateBy, MayCompare, answers};
 ghost use Rattle.rectangle_pack_sections.specs.Choice.{IsFunction, IsTotalPreorder};
 ghost use Rattle.rectangle_pack_groups.specs.Groups.{Collection};
@@ -17,6 +18,7 @@ ghost use Rattle.rectangle_pack_bins.specs.Results.{ClosuresDecide, either_of, A
 ghost use Rattle.rectangle_pack_groups.specs.Alike.{AreCollectionsAlike};
 
 use rectangle_pack_groups::grouped_rects_to_place::Group;
+use rectangle_pack_sections::box_size_heuristics::Heuristic;
 use rectangle_pack_sections::width_height_depth::WidthHeightDepth;
 use std::cmp::Ordering;
 
@@ -74,6 +76,44 @@ pub fn locations_follow_placements<Id: Ord, BinId: Ord>()
         AreLastPlacements Id.cmp BinId.cmp placements found →
         AreLastPlacements Id.cmp BinId.cmp others other_found →
         AreLocationsAlike Id.cmp BinId.cmp found other_found }
+{}
+
+/// A law: with a heuristic that has a name and `contains_smallest_box`, or closures that answer as
+/// they do, two packings have one result.
+pub fn named_packing_has_one_result<Id, BinId, GroupId, H, C, I, D>(
+    named: Heuristic,
+    heuristic: &H,
+    comparison: &C,
+    other_heuristic: &I,
+    other_comparison: &D,
+)
+where
+    Id: Ord,
+    BinId: Ord,
+    GroupId: Ord,
+    H: Fn(WidthHeightDepth) -> u128,
+    C: Fn([WidthHeightDepth; 3], [WidthHeightDepth; 3], &H) -> Ordering,
+    I: Fn(WidthHeightDepth) -> u128,
+    D: Fn([WidthHeightDepth; 3], [WidthHeightDepth; 3], &I) -> Ordering,
+    requires rates { (size : Size) (rate : ℕ) → MayRateBy H.Fn heuristic.now size rate →
+        rate ≡ rate_of named size }
+    requires smallest { (a b : List Size) (r : Ordering) →
+        MayCompare C.Fn comparison.now heuristic.now a b r →
+        IsSmallestOrder (H.post heuristic.now) a b r }
+    requires other_rates { (size : Size) (rate : ℕ) →
+        MayRateBy I.Fn other_heuristic.now size rate →
+        rate ≡ rate_of named size }
+    requires other_smallest { (a b : List Size) (r : Ordering) →
+        MayCompare D.Fn other_comparison.now other_heuristic.now a b r →
+        IsSmallestOrder (I.post other_heuristic.now) a b r }
+    ensures { let groups = ⟦<Group<GroupId, Id> as Ord>⟧.cmp in
+        let rules = rules_by Id.cmp BinId.cmp in
+        let may = answers H.Fn C.Fn heuristic.now comparison.now in
+        let other_may = answers I.Fn D.Fn other_heuristic.now other_comparison.now in
+        (all others : Collection Id GroupId) (bins other_bins : List (BinId × Bin)) →
+        AreCollectionsAlike groups Id.cmp all others →
+        AreBinsAlike BinId.cmp bins other_bins →
+        HaveOneResult groups (rules may) (rules other_may) all others bins other_bins }
 {}
 
 /// A law: where the heuristics of two packings have one answer on each size that may be rated, and

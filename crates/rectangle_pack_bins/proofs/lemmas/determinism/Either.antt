@@ -3,7 +3,7 @@ use Rattle.rectangle_pack_sections.proofs.Std.{◌≡◌, ◌≢◌, ℕ, Bool, 
 use Rattle.rectangle_pack_sections.proofs.Std.{IsSomeAnd, MatchBool, Ordering, Equal, Greater, lookup, is_at, All-weaker}
 use Rattle.rectangle_pack_groups.specs.declared.grouped_rects_to_place.Group.{Group}
 use Rattle.rectangle_pack_bins.specs.declared.pack.answer.Placement.{Placement}
-use Rattle.rectangle_pack_sections.specs.Boxes.{Size, Cuboid, IsU32, volume_of}
+use Rattle.rectangle_pack_sections.specs.Boxes.{Size, Cuboid, IsU32}
 use Rattle.rectangle_pack_sections.specs.Bins.{Bin}
 use Rattle.rectangle_pack_sections.specs.Closures.{Answers}
 use Rattle.rectangle_pack_sections.specs.Choice.{MayChoose, IsAllowedCut}
@@ -283,21 +283,21 @@ smallest_more R S passes a b r h = record {
   answer_is = h.answer_is;
 }
 
--- volumes and smallest boxes decide, whichever of two pairs of closures answers
-pub volumes_decide : (one other : Answers) (R S : Size → ℕ → Type 0)
-    → ((size : Size) (rate : ℕ) → one.rate size rate → rate ≡ volume_of size) → ((size : Size) (rate : ℕ) → other.rate size rate → rate ≡ volume_of size)
-    → ((size : Size) (rate : ℕ) → IsU32 size → R size rate → rate ≡ volume_of size)
-    → ((size : Size) (rate : ℕ) → IsU32 size → S size rate → rate ≡ volume_of size)
+-- a function as heuristic and smallest boxes decide, whichever of two pairs of closures answers
+pub rates_decide : (rate_of : Size → ℕ) (one other : Answers) (R S : Size → ℕ → Type 0)
+    → ((size : Size) (rate : ℕ) → one.rate size rate → rate ≡ rate_of size) → ((size : Size) (rate : ℕ) → other.rate size rate → rate ≡ rate_of size)
+    → ((size : Size) (rate : ℕ) → IsU32 size → R size rate → rate ≡ rate_of size)
+    → ((size : Size) (rate : ℕ) → IsU32 size → S size rate → rate ≡ rate_of size)
     → ((a b : List Size) (r : Ordering) → one.prefer a b r → All IsU32 a × All IsU32 b)
     → ((a b : List Size) (r : Ordering) → other.prefer a b r → All IsU32 a × All IsU32 b)
     → ((a b : List Size) (r : Ordering) → one.prefer a b r → IsSmallestOrder R a b r)
     → ((a b : List Size) (r : Ordering) → other.prefer a b r → IsSmallestOrder S a b r)
     → (boxes : List Size) (bins : List Bin) → ClosuresDecide boxes bins (either_of one other)
-volumes_decide one other R S volume other_volume rated other_rated small other_small smallest other_smallest boxes bins =
+rates_decide rate_of one other R S rates other_rates rated other_rated small other_small smallest other_smallest boxes bins =
     let Both : Size → ℕ → Type 0 = λ size rate. R size rate ⊎ S size rate in
     total_decides boxes bins (either_of one other)
-    (record { rate = volume_of; only = λ size rate. ⊎_elim (volume size rate) (other_volume size rate) })
-    (smallest_is_preorder Both volume_of (λ size rate u. ⊎_elim (rated size rate u) (other_rated size rate u))
+    (record { rate = rate_of; only = λ size rate. ⊎_elim (rates size rate) (other_rates size rate) })
+    (smallest_is_preorder Both rate_of (λ size rate u. ⊎_elim (rated size rate u) (other_rated size rate u))
     (λ a b r. one.prefer a b r ⊎ other.prefer a b r) (λ a b r. ⊎_elim (small a b r) (other_small a b r))
     (λ a b r. ⊎_elim (λ says. smallest_more R Both (λ size rate h. inl h) a b r (smallest a b r says))
     (λ says. smallest_more S Both (λ size rate h. inr h) a b r (other_smallest a b r says))))
