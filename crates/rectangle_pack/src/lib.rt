@@ -13,9 +13,12 @@ pub mod bin_section {
     };
 }
 
-/// The heuristic that rates a size by its volume.
+/// Heuristics, which rate a size.
 pub mod box_size_heuristics {
-    pub use rectangle_pack_sections::box_size_heuristics::volume_heuristic;
+    pub use rectangle_pack_sections::box_size_heuristics::{
+        Heuristic, UnknownHeuristic, depth_heuristic, height_heuristic, longest_side_heuristic,
+        shortest_side_heuristic, side_sum_heuristic, volume_heuristic, width_heuristic,
+    };
 }
 
 /// Boxes in groups.
@@ -29,8 +32,8 @@ pub mod grouped_rects_to_place {
 pub mod pack {
     pub use rectangle_pack_bins::pack::{
         Placement, RectanglePackError, RectanglePackOk, excluded_groups_are_apart,
-        groups_are_placed_whole, locations_follow_placements, pack_rects, pack_rects_counted,
-        packing_has_one_result, packing_keeps_cells, packing_without_exclusions, preorders_decide,
+        groups_are_placed_whole, locations_follow_placements, named_packing_has_one_result,
+        pack_rects, pack_rects_counted, packing_has_one_result, packing_keeps_cells, packing_without_exclusions, preorders_decide,
         refused_box_is_held_nowhere, volume_packing_has_one_result,
     };
 }
@@ -60,14 +63,17 @@ pub use bin_section::{
     BinSection, BinSectionError, cell_test_is_membership, contains_smallest_box,
     pieces_are_from_cuts, sections_are_ordered, sharing_is_symmetric, smallest_box_is_preorder,
 };
-pub use box_size_heuristics::volume_heuristic;
+pub use box_size_heuristics::{
+    Heuristic, UnknownHeuristic, depth_heuristic, height_heuristic, longest_side_heuristic,
+    shortest_side_heuristic, side_sum_heuristic, volume_heuristic, width_heuristic,
+};
 pub use grouped_rects_to_place::{
     Group, GroupedRectsToPlace, equal_pushes_leave_equal_collections, groups_are_ordered,
 };
 pub use pack::{
     Placement, RectanglePackError, RectanglePackOk, excluded_groups_are_apart,
-    groups_are_placed_whole, locations_follow_placements, pack_rects, pack_rects_counted,
-    packing_has_one_result, packing_keeps_cells, packing_without_exclusions, preorders_decide,
+    groups_are_placed_whole, locations_follow_placements, named_packing_has_one_result, pack_rects,
+    pack_rects_counted, packing_has_one_result, packing_keeps_cells, packing_without_exclusions, preorders_decide,
     refused_box_is_held_nowhere, volume_packing_has_one_result,
 };
 pub use packed_location::{PackedLocation, RotatedBy};

@@ -3,7 +3,8 @@ ghost use Rattle.rectangle_pack.specs.Closures.{CanRate};
 
 use super::{Case, TWO_IN_A_GROUP, packs};
 use rectangle_pack::{
-    WidthHeightDepth, contains_smallest_box, volume_heuristic, volume_packing_has_one_result,
+    Heuristic, WidthHeightDepth, contains_smallest_box, longest_side_heuristic,
+    named_packing_has_one_result, volume_heuristic, volume_packing_has_one_result,
 };
 use std::alloc::Global;
 use std::cmp::Ordering;
@@ -144,6 +145,23 @@ fn comparison_written_by_hand(rt: HostRuntime) {
         &always_greater,
     );
     assert!(rt; end == End::Done);
+}
+
+// The law takes a closure over a name beside the heuristic of that name.
+#[test]
+fn heuristic_with_a_name(rt: HostRuntime) {
+    let refusing = Refusing::new(rt.alloc(), u64::MAX);
+    let named = Heuristic::LongestSide;
+    let heuristic = move |size: WidthHeightDepth| named.rate(size);
+    let end = packs_by(&rt, &refusing, &LONG_BEFORE_SQUARE, &heuristic);
+    assert!(rt; end == End::Done);
+    named_packing_has_one_result::<u32, u32, u32, _, _, _, _>(
+        named,
+        &heuristic,
+        &contains_smallest_box,
+        &longest_side_heuristic,
+        &contains_smallest_box,
+    );
 }
 
 // The law takes a closure that answers as `volume_heuristic` does beside that one.
