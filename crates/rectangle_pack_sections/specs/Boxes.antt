@@ -1,7 +1,7 @@
 -- Sizes, boxes and their cells. All numbers are whole numbers without a bound: nothing wraps.
 use Rattle.std.specs.declared.cmp.Ordering.{Ordering}
 use Rattle.std.specs.Ordering.{nat_cmp, ordering_then}
-use Rattle.std.specs.Prelude.{ℕ, ◌+◌, ◌*◌, ◌^◌, ◌<◌, ◌≤◌, ◌&&◌, Bool, nat_le, nat_lt}
+use Rattle.std.specs.Prelude.{ℕ, ◌+◌, ◌*◌, ◌^◌, ◌<◌, ◌≤◌, ◌&&◌, Bool, nat_le, nat_lt, min, max}
 use Rattle.rectangle_pack_sections.specs.declared.axis.Axis.{Axis}
 use Rattle.rectangle_pack_sections.specs.declared.axis.Axis.TheVariants.{X, Y, Z}
 
@@ -45,6 +45,18 @@ section_order a b = ordering_then (nat_cmp a.x b.x) (ordering_then (nat_cmp a.y 
 -- how many cells a size has
 abbrev pub volume_of : Size → ℕ
 volume_of s = s.width * s.height * s.depth
+
+-- the longest of the three sides
+abbrev pub longest_side : Size → ℕ
+longest_side s = max (max s.width s.height) s.depth
+
+-- the side that is neither the longest nor the shortest, when the three are put in order
+abbrev pub middle_side : Size → ℕ
+middle_side s = max (min s.width s.height) (min (max s.width s.height) s.depth)
+
+-- the shortest of the three sides
+abbrev pub shortest_side : Size → ℕ
+shortest_side s = min (min s.width s.height) s.depth
 
 -- a cell, by its place on each axis
 pub record Cell : Type 0 where

@@ -1,24 +1,12 @@
 -- What the heuristics with a name rate a size by.
-use Rattle.std.specs.Prelude.{◌≡◌, ℕ, ◌+◌, ◌*◌, ◌^◌, ◌↔◌, List, Result, Ok, min, max, codes}
-use Rattle.rectangle_pack_sections.specs.Boxes.{Size, volume_of}
+use Rattle.std.specs.Prelude.{◌≡◌, ℕ, ◌+◌, ◌*◌, ◌^◌, ◌↔◌, List, Result, Ok, codes}
+use Rattle.rectangle_pack_sections.specs.Boxes.{Size, volume_of, longest_side, middle_side, shortest_side}
 use Rattle.rectangle_pack_sections.specs.declared.box_size_heuristics.named.Heuristic.{Heuristic}
 use Rattle.rectangle_pack_sections.specs.declared.box_size_heuristics.named.Heuristic.TheVariants.{Volume, Height, Width, Depth, SideSum, LongestSide, ShortestSide}
 
 -- three numbers as one: of numbers of 32 bits the first counts most, then the second, then the third
 abbrev pub in_turn : ℕ → ℕ → ℕ → ℕ
 in_turn first second third = first * 2 ^ 64 + second * 2 ^ 32 + third
-
--- the longest of the three sides
-abbrev pub longest_side : Size → ℕ
-longest_side s = max (max s.width s.height) s.depth
-
--- the side that is neither the longest nor the shortest, when the three are put in order
-abbrev pub middle_side : Size → ℕ
-middle_side s = max (min s.width s.height) (min (max s.width s.height) s.depth)
-
--- the shortest of the three sides
-abbrev pub shortest_side : Size → ℕ
-shortest_side s = min (min s.width s.height) s.depth
 
 -- what the heuristic of each name rates a size by
 abbrev pub rate_of : Heuristic → Size → ℕ

@@ -1,7 +1,7 @@
 //! Heuristics that rate a size: functions, and their names.
 ghost use Rattle.std.specs.Prelude.{◌≡◌, ◌+◌, ◌*◌, ◌^◌};
-ghost use Rattle.rectangle_pack_sections.specs.Boxes.{volume_of};
-ghost use Rattle.rectangle_pack_sections.specs.Heuristics.{in_turn, longest_side, middle_side, shortest_side};
+ghost use Rattle.rectangle_pack_sections.specs.Boxes.{volume_of, longest_side, middle_side, shortest_side};
+ghost use Rattle.rectangle_pack_sections.specs.Heuristics.{in_turn};
 
 pub mod named;
 
@@ -75,9 +75,13 @@ fn rising_sides(whd: &WidthHeightDepth) -> (u32, u32, u32)
     ensures longest { result.2 ≡ longest_side whd.now }
 {
     let (w, h, d) = (whd.width(), whd.height(), whd.depth());
-    (
-        w.min(h).min(d),
-        w.min(h).max(w.max(h).min(d)),
-        w.max(h).max(d),
-    )
+    (w.min(h).min(d), middle_side(whd), w.max(h).max(d))
+}
+
+/// The side that is neither the longest nor the shortest, when the three are put in order.
+pub fn middle_side(whd: &WidthHeightDepth) -> u32
+    ensures { result ≡ middle_side whd.now }
+{
+    let (w, h) = (whd.width(), whd.height());
+    w.min(h).max(w.max(h).min(whd.depth()))
 }

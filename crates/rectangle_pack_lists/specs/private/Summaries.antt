@@ -1,12 +1,8 @@
 -- What a summary says of a stretch of slots, and a list of summaries of the whole stretches of a width.
 use Rattle.std.specs.Prelude.{◌≡◌, ℕ, ◌+◌, ◌*◌, ◌-◌, ◌^◌, ◌<◌, ◌≤◌, List, length, min, max, All, Option, take, drop, slice_index_or}
-use Rattle.rectangle_pack_sections.specs.Boxes.{Size, Cuboid, volume_of}
+use Rattle.rectangle_pack_sections.specs.Boxes.{Size, Cuboid, volume_of, middle_side}
 use Rattle.rectangle_pack_lists.specs.private.Slots.{sections_of}
 use Rattle.rectangle_pack_lists.specs.declared.section_slots.summary.Summary.{Summary}
-
--- the one of the three numbers that is neither the greatest nor the least
-abbrev pub middle_of : Size → ℕ
-middle_of s = max (min s.width s.height) (min (max s.width s.height) s.depth)
 
 -- how many cells a size has, up to the greatest number of 64 bits
 abbrev pub bounded_volume_of : Size → ℕ
@@ -17,7 +13,7 @@ pub record IsWithin (summary : Summary) (section : Cuboid) : Type 0 where
   pub wide : section.whd.width ≤ summary.width
   pub high : section.whd.height ≤ summary.height
   pub deep : section.whd.depth ≤ summary.depth
-  pub middle : middle_of section.whd ≤ summary.middle
+  pub middle : middle_side section.whd ≤ summary.middle
   pub volume : bounded_volume_of section.whd ≤ summary.volume
 
 -- how many sections stand in the slots, and what none of them goes beyond
@@ -47,7 +43,7 @@ of_section z =
       width = z.width;
       height = z.height;
       depth = z.depth;
-      middle = middle_of z;
+      middle = middle_side z;
       volume = bounded_volume_of z;
       count = 1;
     }

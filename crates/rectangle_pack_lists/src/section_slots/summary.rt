@@ -4,9 +4,10 @@ ghost use Rattle.std.specs.Vec.{vec_capacity};
 ghost use Rattle.std.specs.Bool.{OnFalse};
 ghost use Rattle.rectangle_pack_sections.specs.Boxes.{Cuboid, Holds};
 ghost use Rattle.rectangle_pack_lists.specs.private.Slots.{NoneHolds};
-ghost use Rattle.rectangle_pack_lists.specs.private.Summaries.{IsWithin, Sums, SumAll, HaveSlots, of_section, joined, bounded_volume_of, middle_of};
+ghost use Rattle.rectangle_pack_lists.specs.private.Summaries.{IsWithin, Sums, SumAll, HaveSlots, of_section, joined, bounded_volume_of};
 
 use rectangle_pack_sections::bin_section::BinSection;
+use rectangle_pack_sections::box_size_heuristics::middle_side;
 use rectangle_pack_sections::width_height_depth::WidthHeightDepth;
 use std::alloc::Allocator;
 
@@ -15,14 +16,6 @@ fn bounded_volume(size: &WidthHeightDepth) -> u64
     ensures { result ≡ bounded_volume_of size.now }
 {
     u64::try_from(size.volume()).unwrap_or(u64::MAX)
-}
-
-// The one of the three numbers that is neither the greatest nor the least.
-fn middle(size: &WidthHeightDepth) -> u32
-    ensures { result ≡ middle_of size.now }
-{
-    let (w, h) = (size.width(), size.height());
-    w.min(h).max(w.max(h).min(size.depth()))
 }
 
 // How many slots a block has, and how many a row.
@@ -68,7 +61,7 @@ impl Summary {
             width: size.width(),
             height: size.height(),
             depth: size.depth(),
-            middle: middle(size),
+            middle: middle_side(size),
             volume: bounded_volume(size),
             count: 1,
         }
@@ -128,7 +121,7 @@ impl Summary {
         let sides = size.width().saturating_sub(self.width)
             | size.height().saturating_sub(self.height)
             | size.depth().saturating_sub(self.depth)
-            | middle(size).saturating_sub(self.middle);
+            | middle_side(size).saturating_sub(self.middle);
         let volume = bounded_volume(size).saturating_sub(self.volume);
         u64::from(sides) | volume == 0
     }
