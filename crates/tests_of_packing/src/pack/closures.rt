@@ -147,7 +147,7 @@ fn comparison_written_by_hand(rt: HostRuntime) {
     assert!(rt; end == End::Done);
 }
 
-// The law takes a closure over a name beside the heuristic of that name.
+// A closure over a name is a heuristic. The law takes one beside the function of that name.
 #[test]
 fn heuristic_with_a_name(rt: HostRuntime) {
     let refusing = Refusing::new(rt.alloc(), u64::MAX);
@@ -155,9 +155,10 @@ fn heuristic_with_a_name(rt: HostRuntime) {
     let heuristic = move |size: WidthHeightDepth| named.rate(size);
     let end = packs_by(&rt, &refusing, &LONG_BEFORE_SQUARE, &heuristic);
     assert!(rt; end == End::Done);
+    let longest = |size: WidthHeightDepth| Heuristic::LongestSide.rate(size);
     named_packing_has_one_result::<u32, u32, u32, _, _, _, _>(
-        named,
-        &heuristic,
+        Heuristic::LongestSide,
+        &longest,
         &contains_smallest_box,
         &longest_side_heuristic,
         &contains_smallest_box,
