@@ -28,8 +28,9 @@ use crate::target_bin::TargetBin;
 pub use answer::{Placement, RectanglePackError, RectanglePackOk};
 pub use laws::{
     excluded_groups_are_apart, groups_are_placed_whole, locations_follow_placements,
-    named_packing_has_one_result, packing_has_one_result, packing_keeps_cells, packing_without_exclusions, preorders_decide,
-    refused_box_is_held_nowhere, volume_packing_has_one_result,
+    named_packing_has_one_result, packing_has_one_result, packing_keeps_cells,
+    packing_without_exclusions, preorders_decide, refused_box_is_held_nowhere,
+    volume_packing_has_one_result,
 };
 use rectangle_pack_groups::grouped_rects_to_place::multimap::number_after;
 use rectangle_pack_groups::grouped_rects_to_place::{Group, GroupedRectsToPlace};
