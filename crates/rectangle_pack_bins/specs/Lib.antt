@@ -4,6 +4,7 @@ pub mod Placed
 pub mod KeptBins
 pub mod Packing
 pub mod PackAnswers
+pub mod Best
 pub mod Results
 pub mod PackingTexts
 pub mod private

@@ -7,6 +7,7 @@ ghost use Rattle.std.specs.Ordering.{eq_by_cmp};
 ghost use Rattle.rectangle_pack_groups.specs.Clones.{ClonesEqual};
 ghost use Rattle.rectangle_pack_sections.specs.Bins.{Bin};
 ghost use Rattle.rectangle_pack_sections.specs.Closures.{AreCallable, answers};
+ghost use Rattle.rectangle_pack_bins.specs.Best.{IsBestAnswer};
 ghost use Rattle.rectangle_pack_bins.specs.Orders.{IsBinOrder};
 ghost use Rattle.rectangle_pack_bins.specs.Packing.{rules_by, bins_of};
 ghost use Rattle.rectangle_pack_bins.specs.PackAnswers.{IsPackAnswer, IsCountedAnswer};
@@ -14,6 +15,7 @@ ghost use Rattle.rectangle_pack_bins.specs.private.Ends.{IsEnd};
 ghost use Rattle.rectangle_pack_bins.specs.private.RollBack.{RollsBackTo};
 
 pub mod answer;
+pub mod best;
 pub mod checkout;
 pub mod first_fit;
 pub mod journal;
@@ -22,6 +24,7 @@ mod open_bin;
 pub mod order;
 
 use crate::pack::answer::last_placements;
+use crate::pack::best::best_of;
 use crate::pack::first_fit::{Packing, pack_noted};
 use crate::pack::order::bin_order;
 use crate::target_bin::TargetBin;
@@ -35,7 +38,8 @@ pub use laws::{
 use rectangle_pack_groups::grouped_rects_to_place::multimap::number_after;
 use rectangle_pack_groups::grouped_rects_to_place::{Group, GroupedRectsToPlace};
 use rectangle_pack_lists::fit_tests::{FitTests, add_all, bounded};
-use rectangle_pack_sections::closures::{Closures, Policy};
+use rectangle_pack_sections::box_size_heuristics::Heuristic;
+use rectangle_pack_sections::closures::{Closures, Named, Policy};
 use rectangle_pack_sections::width_height_depth::WidthHeightDepth;
 use std::alloc::{AllocError, Allocator};
 use std::cmp::Ordering;
@@ -163,7 +167,94 @@ where
         heuristic: box_size_heuristic,
         comparison: more_suitable_containers_fn,
     };
-    let Ok(order) = bin_order(alloc, target_bins, &policy) else {
+    pack_by(alloc, rects_to_place, target_bins, &policy, tests)
+}
+
+/// Packs all groups into the bins as `pack_rects` does, by each heuristic of a list in turn, and
+/// keeps the packing that uses the fewest bins: those in which it places cells. Of several that use
+/// as few it keeps the one that places the fewest cells in the last of these bins, in the order of
+/// ids, and of several such the one whose heuristic comes first in the list. Answers this heuristic
+/// and what the packing placed. `contains_smallest_box` chooses the cuts.
+///
+/// Each packing is rolled back before the next begins, and the best is made once more, so that this
+/// takes the time of one packing more than there are heuristics, and no copy of a bin. Cells are
+/// counted up to the greatest `u128`. The caller sees to it that clones of ids equal their
+/// originals.
+///
+/// `NotEnoughBinSpace` says that by each heuristic of the list the packing is refused for space, and
+/// so by each of an empty list. `OutOfMemory` says that a growth or a clone was refused, which may
+/// come before it is known that there is no space. The bins are then as they were.
+///
+/// ```
+/// let mut rects: GroupedRectsToPlace<u32, u32> = GroupedRectsToPlace::new(alloc);
+/// rects.push_rect(1, None, RectToInsert::new(6, 2, 1))?;
+/// rects.push_rect(2, None, RectToInsert::new(3, 3, 1))?;
+/// rects.push_rect(3, None, RectToInsert::new(2, 5, 1))?;
+/// rects.push_rect(4, None, RectToInsert::new(1, 5, 1))?;
+/// let mut bins = BTreeMap::new(alloc);
+/// bins.insert(0u32, TargetBin::new(alloc, 6, 7, 1)?)?;
+/// let (best, packed) = pack_rects_best(alloc, &rects, &mut bins, &Heuristic::ALL)?;
+/// assert_eq!(rt; packed.placements().len(), 4);
+/// ```
+pub fn pack_rects_best<Id, BinId, GroupId, A>(
+    alloc: A,
+    rects_to_place: &GroupedRectsToPlace<Id, GroupId, A>,
+    target_bins: &mut BTreeMap<BinId, TargetBin<A>, A>,
+    heuristics: &[Heuristic],
+) -> Result<(Heuristic, RectanglePackOk<Id, BinId, A>), RectanglePackError>
+where
+    Id: Ord + Clone + Drop,
+    BinId: Ord + Clone + Drop,
+    GroupId: Ord + Clone + Drop,
+    A: Allocator + Copy,
+    requires ids { ClonesEqual Id.is_clone Id.eq }
+    requires bin_ids { ClonesEqual BinId.is_clone BinId.eq }
+    ensures answer { let groups = ⟦<Group<GroupId, Id> as Ord>⟧.cmp in
+        IsBestAnswer groups Id.cmp BinId.cmp rects_to_place.now
+        (bins_of target_bins.old.entries) heuristics.now result
+        (bins_of target_bins.new.entries) }
+{
+    let entries = number_after(0, rects_to_place.groups()).unwrap_or(u64::MAX) as usize;
+    match best_of(alloc, rects_to_place, target_bins, entries, heuristics) {
+        Ok(Some((heuristic, _))) => {
+            let packed = pack_by(
+                alloc,
+                rects_to_place,
+                target_bins,
+                &Named(heuristic),
+                &mut FitTests::new(),
+            )?;
+            Ok((heuristic, packed))
+        }
+        Ok(None) => Err(RectanglePackError::NotEnoughBinSpace),
+        Err(_) => Err(RectanglePackError::OutOfMemory),
+    }
+}
+
+// Packs all groups into the bins by a policy.
+fn pack_by<Id, BinId, GroupId, R, A>(
+    alloc: A,
+    rects_to_place: &GroupedRectsToPlace<Id, GroupId, A>,
+    target_bins: &mut BTreeMap<BinId, TargetBin<A>, A>,
+    policy: &R,
+    tests: &mut FitTests,
+) -> Result<RectanglePackOk<Id, BinId, A>, RectanglePackError>
+where
+    Id: Ord + Clone + Drop,
+    BinId: Ord + Clone + Drop,
+    GroupId: Ord + Clone + Drop,
+    R: Policy,
+    A: Allocator + Copy,
+    requires ids { ClonesEqual Id.is_clone Id.eq }
+    requires bin_ids { ClonesEqual BinId.is_clone BinId.eq }
+    requires callable { R.is_callable policy.now }
+    ensures answer { IsCountedAnswer ⟦<Group<GroupId, Id> as Ord>⟧.cmp
+        (rules_by Id.cmp BinId.cmp (R.may policy.now)) rects_to_place.now
+        (bins_of target_bins.old.entries) tests.old result (bins_of target_bins.new.entries)
+        tests.new }
+{
+    bounded(tests);
+    let Ok(order) = bin_order(alloc, target_bins, policy) else {
         return Err(RectanglePackError::OutOfMemory);
     };
     pack_in_order(
@@ -171,7 +262,7 @@ where
         rects_to_place,
         target_bins,
         order.as_slice(),
-        &policy,
+        policy,
         tests,
     )
 }
@@ -251,6 +342,9 @@ where
             };
             (bins, Ok(done))
         }
-        Err(_) => (packing.roll_back(), Err(RectanglePackError::OutOfMemory)),
+        Err(_) => {
+            let (bins, _) = packing.roll_back();
+            (bins, Err(RectanglePackError::OutOfMemory))
+        }
     }
 }

@@ -30,7 +30,8 @@ use Rattle.rectangle_pack_c.specs.Answers.{ArePlaced, IsDonePacking, IsRefusedPa
 use Rattle.rectangle_pack_c.specs.Sessions.{PacksBoxes}
 use Rattle.rectangle_pack_c.specs.private.Written.{AreWritten, NewAreWritten, as_placement}
 use Rattle.rectangle_pack_c.proofs.OrderLemmas.{group_order_total}
-use Rattle.rectangle_pack_c.proofs.WholeLemmas.{zip_itself, zip_right}
+use Rattle.rectangle_pack_sections.proofs.lemmas.util.Zips.{AllZip-itself}
+use Rattle.rectangle_pack_c.proofs.WholeLemmas.{zip_right}
 use Rattle.rectangle_pack_c.proofs.CollectedLemmas.{collected_alike}
 use Rattle.rectangle_pack_c.proofs.PlacedLemmas.{placements_each, placed_each, packed_placed}
 
@@ -134,7 +135,7 @@ one_answer : (bins : List RpBin) (boxes : List RpBox) (all other : Collection �
 one_answer bins boxes all other h g =
     one_result group_order (rules_by nat_cmp nat_cmp by_volume) group_order_total nat_cmp_total nat_cmp_total all other (new_bins bins) (new_bins bins)
     (collected_alike boxes all other h g)
-    (zip_itself (λ x y. (nat_cmp x.0 y.0 ≡ Equal) × AreSameBins x.1 y.1)
+    (AllZip-itself (λ x y. (nat_cmp x.0 y.0 ≡ Equal) × AreSameBins x.1 y.1)
     (λ x. (sym (nat_cmp_is x.0 x.0 Equal refl), record { size = refl; sections = refl })) (new_bins bins))
     (total_decides (values_of all.sizes) (values_of (new_bins bins)) by_volume (record { rate = volume_of; only = λ size rate says. says.1 })
     (smallest_is_preorder IsVolume volume_of (λ size rate small says. says.1) by_volume.prefer

@@ -15,7 +15,8 @@ use Rattle.rectangle_pack_c.specs.declared.RpBox.{RpBox}
 use Rattle.rectangle_pack_c.specs.Arguments.{box_size, group_order, group_of, members_of, unless_empty, IsCollected}
 use Rattle.rectangle_pack_c.specs.private.Pushed.{Pushes}
 use Rattle.rectangle_pack_c.proofs.OrderLemmas.{nat_same, nat_greater, nat_other, group_order_total, exact_group, group_same, group_swap}
-use Rattle.rectangle_pack_c.proofs.WholeLemmas.{none_in, in_kept, zip_itself}
+use Rattle.rectangle_pack_sections.proofs.lemmas.util.Zips.{AllZip-itself}
+use Rattle.rectangle_pack_c.proofs.WholeLemmas.{none_in, in_kept}
 
 -- an entry under the next number is the last
 pub insert_last : {X : Type 0} (n : ℕ) (xs : List X) (x : X) (m : ℕ) → m ≡ n + length xs
@@ -269,7 +270,7 @@ AreSame xs ys = AllZip (λ x y. nat_cmp x y ≡ Equal) xs ys
 pub collected_alike : (boxes : List RpBox) (all other : Collection ℕ ℕ) → IsCollected boxes all → IsCollected boxes other
     → AreCollectionsAlike group_order nat_cmp all other
 collected_alike boxes all other h g = record {
-  sizes = rw (h.sizes, g.sizes) (zip_itself (λ x y. (nat_cmp x.0 y.0 ≡ Equal) × (x.1 ≡ y.1))
+  sizes = rw (h.sizes, g.sizes) (AllZip-itself (λ x y. (nat_cmp x.0 y.0 ≡ Equal) × (x.1 ≡ y.1))
       (λ x. (same_number x.0, refl)) (enumerate_from 0 (map box_size boxes)));
   groups = maps_alike group_order group_order_total AreSame all.groups other.groups h.ascend g.ascend
       (λ k. rw (h.groups k, g.groups k) (options_alike (unless_empty (members_of k boxes))));
@@ -281,4 +282,4 @@ collected_alike boxes all other h g = record {
 
     options_alike : (o : Option (List ℕ)) → AreOptionsAlike AreSame o o
     options_alike None = tt
-    options_alike (Some ids) = zip_itself (λ x y. nat_cmp x y ≡ Equal) same_number ids
+    options_alike (Some ids) = AllZip-itself (λ x y. nat_cmp x y ≡ Equal) same_number ids

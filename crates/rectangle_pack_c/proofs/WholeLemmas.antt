@@ -63,10 +63,6 @@ zip_left {X} R (x ∷ xs) (z ∷ ys) h y c = by (in_cases z ys y c) (zip_left R 
 pub zip_right : {X Y : Type 0} (R : X → Y → Type 0) (xs : List X) (ys : List Y) → AllZip R xs ys → (x : X) → Contains xs x → (y : Y) × Contains ys y × R x y
 zip_right R xs ys h x c = zip_left (λ y x. R x y) ys xs (AllZip-back R (λ y x. R x y) (λ x y r. r) xs ys h) x c
 
-pub zip_itself : {X : Type 0} (R : X → X → Type 0) → ((x : X) → R x x) → (xs : List X) → AllZip R xs xs
-zip_itself R same [] = tt
-zip_itself R same (x ∷ xs) = (same x, zip_itself R same xs)
-
 -- no pairs of nothing
 pub pairs_none : {X : Type 0} (R : X → X → Type 0) → AllPairs R []
 pairs_none R i j d below inside = absurd (omega (arith, inside))

@@ -1,6 +1,8 @@
--- What the heuristics with a name rate a size by.
+-- What the heuristics with a name rate a size by, and what a packing by one of them may be answered.
 use Rattle.std.specs.Prelude.{◌≡◌, ℕ, ◌+◌, ◌*◌, ◌^◌, ◌↔◌, List, Result, Ok, codes}
 use Rattle.rectangle_pack_sections.specs.Boxes.{Size, volume_of, longest_side, middle_side, shortest_side}
+use Rattle.rectangle_pack_sections.specs.Closures.{Answers, AreThreeSizes}
+use Rattle.rectangle_pack_sections.specs.SmallestBox.{IsSmallestOrder}
 use Rattle.rectangle_pack_sections.specs.declared.box_size_heuristics.named.Heuristic.{Heuristic}
 use Rattle.rectangle_pack_sections.specs.declared.box_size_heuristics.named.Heuristic.TheVariants.{Volume, Height, Width, Depth, SideSum, LongestSide, ShortestSide}
 
@@ -31,3 +33,9 @@ heuristic_text ShortestSide = codes "shortest-side"
 -- a text names a heuristic exactly where it is that heuristic's text
 abbrev pub IsNamed : {E : Type 0} → List ℕ → Result Heuristic E → Type 0
 IsNamed text answer = (h : Heuristic) → (answer ≡ Ok h) ↔ (text ≡ heuristic_text h)
+
+-- the heuristic of this name, and of two triples of sizes of 32 bits the order of smallest boxes by it
+abbrev pub by_name : Heuristic → Answers
+by_name heuristic =
+    let rates_by : Size → ℕ → Type 0 = λ size rate. rate ≡ rate_of heuristic size in
+    record { rate = rates_by; prefer = λ first second r. AreThreeSizes first × AreThreeSizes second × IsSmallestOrder rates_by first second r }

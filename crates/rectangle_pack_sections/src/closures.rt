@@ -1,11 +1,13 @@
-//! What packings ask of the closures that a caller gives.
+//! What packings ask of the closures that a caller gives, or of a heuristic that has a name.
 ghost use Rattle.std.specs.Prelude.{◌≡◌};
 ghost use Rattle.rectangle_pack_sections.specs.Boxes.{FitsU32, Holds};
 ghost use Rattle.rectangle_pack_sections.specs.Choice.{IsAllowedCut};
 ghost use Rattle.rectangle_pack_sections.specs.Closures.{AreCallable, Answers, answers};
 ghost use Rattle.rectangle_pack_sections.specs.Cuts.{placed};
+ghost use Rattle.rectangle_pack_sections.specs.Heuristics.{by_name, rate_of};
 
-use crate::bin_section::{BinSection, place_held};
+use crate::bin_section::{BinSection, contains_smallest_box, place_held};
+use crate::box_size_heuristics::Heuristic;
 use crate::packed_location::PackedLocation;
 use crate::rect_to_insert::RectToInsert;
 use crate::width_height_depth::WidthHeightDepth;
@@ -62,5 +64,33 @@ where
         member: &RectToInsert,
     ) -> (PackedLocation, [BinSection; 3]) {
         place_held(section, member, self.comparison, self.heuristic)
+    }
+}
+
+/// A heuristic that has a name, and `contains_smallest_box` beside it.
+#[derive(Drop)]
+pub struct Named(pub Heuristic);
+
+impl Policy for Named {
+    ghost is_callable = { λ _. Unit {0} };
+
+    ghost may = { λ s. by_name s.0 };
+
+    fn rate(&self, size: WidthHeightDepth) -> u128 {
+        self.0.rate(size)
+    }
+
+    fn place(
+        &self,
+        section: &BinSection,
+        member: &RectToInsert,
+    ) -> (PackedLocation, [BinSection; 3]) {
+        let heuristic = self.0;
+        let rate = |size: WidthHeightDepth| -> u128
+            ensures { result ≡ rate_of heuristic size }
+        {
+            heuristic.rate(size)
+        };
+        place_held(section, member, &contains_smallest_box, &rate)
     }
 }

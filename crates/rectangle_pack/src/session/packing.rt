@@ -117,11 +117,13 @@ where
             Ok(Some(placements))
         }
         Ok(false) => {
-            *bins = packing.roll_back();
+            let (start, _) = packing.roll_back();
+            *bins = start;
             Ok(None)
         }
         Err(error) => {
-            *bins = packing.roll_back();
+            let (start, _) = packing.roll_back();
+            *bins = start;
             Err(error)
         }
     }

@@ -78,21 +78,23 @@ impl<'b, Id: Drop, B: Ord + Drop, A: Allocator + Copy> Packing<'b, Id, B, A> {
         (bins.close(true), placements)
     }
 
-    /// Rolls the packing back: drops what stands in slots, and undoes the trials in the bins' own
-    /// lists. Takes no memory.
-    pub fn roll_back(self) -> BTreeMap<B, TargetBin<A>, A>
+    /// The bins of before, and what the packing placed: what stands in slots is dropped, and the
+    /// trials in the bins' own lists are undone. Takes no memory.
+    pub fn roll_back(self) -> (BTreeMap<B, TargetBin<A>, A>, Vec<Placement<Id, B>, A>)
         requires { (start : List (B × Bin)) × RollsBackTo B.cmp self start }
-        ensures { (start : List (B × Bin)) → RollsBackTo B.cmp self.entry start →
-            bins_of result.entries ≡ start }
+        ensures bins { (start : List (B × Bin)) → RollsBackTo B.cmp self.entry start →
+            bins_of result.0.entries ≡ start }
+        ensures placements { result.1 ≡ self.entry.placements }
     {
         let Packing {
             bins,
+            placements,
             mut journal,
             ..
         } = self;
         let mut bins = bins.close(false);
         undo_trials(&mut bins, &mut journal);
-        bins
+        (bins, placements)
     }
 }
 

@@ -6,6 +6,7 @@ pub mod Counting
 pub mod TotalOrders
 pub mod BestOfAPass
 pub mod SmallestBox
+pub mod Choices
 pub mod CoverVolumes
 pub mod Pieces
 pub mod Parts

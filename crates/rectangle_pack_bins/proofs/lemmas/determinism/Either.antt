@@ -17,6 +17,7 @@ use Rattle.rectangle_pack_bins.specs.Results.{either_of, ClosuresDecide, HaveOne
 use Rattle.rectangle_pack_sections.specs.SmallestBox.{IsSmallestOrder}
 use Rattle.rectangle_pack_groups.proofs.lemmas.util.Zips.{AllZip-weaker}
 use Rattle.rectangle_pack_sections.proofs.lemmas.cuts.SmallestBox.{smallest_is_preorder}
+use Rattle.rectangle_pack_sections.proofs.lemmas.cuts.Choices.{MayChoose-more, smallest_more}
 use Rattle.rectangle_pack_bins.proofs.lemmas.determinism.Preorders.{total_decides}
 
 -- what may be answered may be answered there too
@@ -27,24 +28,6 @@ pub record Includes (may more : Answers) : Type 0 where
 some_weaker : {X : Type 0} (P Q : X → Type 0) → ((x : X) → P x → Q x) → (found : Option X) → IsSomeAnd found P → IsSomeAnd found Q
 some_weaker P Q passes None h = h
 some_weaker P Q passes (Some x) h = passes x h
-
--- a choice
-module _ {A : Type 0} (R S : A → A → Ordering → Type 0) (includes : (x y : A) (r : Ordering) → R x y r → S x y r) where
-  loses : (chosen : A) (before : List A) → (before ≡ []) ⊎ Any (λ earlier. (r : Ordering) × R earlier chosen r × (r ≢ Greater)) before
-      → (before ≡ []) ⊎ Any (λ earlier. (r : Ordering) × S earlier chosen r × (r ≢ Greater)) before
-  loses chosen before (inl none) = inl none
-  loses chosen before (inr (i, x, within, at, lost)) = inr (i, x, within, at, (lost.0, includes x chosen lost.0 lost.1, lost.2))
-
-  MayChoose-more : (xs : List A) (chosen : A) → MayChoose R xs chosen → MayChoose S xs chosen
-  MayChoose-more xs chosen h = record {
-    before = h.before;
-    after = h.after;
-    listed = h.listed;
-    beats_later = All-weaker (λ later. R chosen later Greater) (λ later. S chosen later Greater) (λ later. includes chosen later Greater) h.after h.beats_later;
-    replaces = loses chosen h.before h.replaces;
-    greatest = λ compare o. h.greatest compare
-        (record { only = λ x y r i j says. o.only x y r i j (includes x y r says); swapped = o.swapped; transitive = o.transitive });
-  }
 
 module _ (may more : Answers) (includes : Includes may more) where
   allowed_more : (section : Cuboid) (size : Size) (cut : List Cuboid) → IsAllowedCut may.prefer section size cut → IsAllowedCut more.prefer section size cut
@@ -271,17 +254,6 @@ HaveOneResult-either group_cmp cmp bin_cmp one other all others bins other_bins 
       not_refused_and_done = λ qs m n p q. h.not_refused_and_done qs m n (PackingRefused-more cmp bin_cmp one both l group_cmp excludes all bins m p)
           (PackingDone-more cmp bin_cmp other both r group_cmp other_bars others other_bins qs n q);
     }
-
--- smallest boxes, by what either heuristic may answer
-smallest_more : (R S : Size → ℕ → Type 0) → ((size : Size) (rate : ℕ) → R size rate → S size rate) → (a b : List Size) (r : Ordering)
-    → IsSmallestOrder R a b r → IsSmallestOrder S a b r
-smallest_more R S passes a b r h = record {
-  rates_first = h.rates_first;
-  rates_second = h.rates_second;
-  rated_first = AllZip-weaker R S passes a (h.rates_first.right ∷ h.rates_first.above ∷ h.rates_first.behind ∷ []) h.rated_first;
-  rated_second = AllZip-weaker R S passes b (h.rates_second.right ∷ h.rates_second.above ∷ h.rates_second.behind ∷ []) h.rated_second;
-  answer_is = h.answer_is;
-}
 
 -- a function as heuristic and smallest boxes decide, whichever of two pairs of closures answers
 pub rates_decide : (rate_of : Size → ℕ) (one other : Answers) (R S : Size → ℕ → Type 0)

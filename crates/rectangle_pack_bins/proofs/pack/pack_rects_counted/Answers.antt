@@ -19,20 +19,5 @@ returns-then-is_empty-clause-answer g c =
       record { most = omega (arith, done.1); added = rw done.1 (omega arith) },
     )
 
-pub returns-in_default-clause-answer : goal.returns-in_default-clause-answer
-returns-in_default-clause-answer g c = (refl, counted-none _ _ c.args.tests.now (omega arith))
-
-pub returns-in_default-clause-no_groups : goal.returns-in_default-clause-no_groups
-returns-in_default-clause-no_groups g c = λ none. absurd (lists-some _ _ c.is_empty.ensures c.if-is_empty.false (c.groups.ensures.entries ∙ none))
-
 pub returns-clause-no_groups : goal.returns-clause-no_groups
 returns-clause-no_groups g c = λ none. absurd (lists-some _ _ c.is_empty.ensures c.if-is_empty.false (c.groups.ensures.entries ∙ none))
-
-pub pack_in_order-requires-clause-found : goal.pack_in_order-requires-clause-found
-pack_in_order-requires-clause-found g c = rw c.as_slice.ensures.value c.in-Ok.ensures.found
-
-pub pack_in_order-requires-clause-distinct : goal.pack_in_order-requires-clause-distinct
-pack_in_order-requires-clause-distinct g c = rw c.as_slice.ensures.value c.in-Ok.ensures.ids
-
-pub pack_in_order-requires-clause-order : goal.pack_in_order-requires-clause-order
-pack_in_order-requires-clause-order g c = rw c.as_slice.ensures.value c.in-Ok.ensures.order

@@ -2,18 +2,7 @@
 use Rattle.rectangle_pack_sections.proofs.Std.{List, [], ◌∷◌, map, map-id, AllZip, ◌≡◌, ℕ, AllZip-long, ◌++◌, refl, sym, arith, length, All, sum_by, Ordering}
 use Rattle.rectangle_pack_sections.proofs.Std.{Equal, values_of, All-nil, All-cons, All-head, All-tail, sum_by-cons}
 use Rattle.rectangle_pack_groups.specs.Alike.{AreMapsAlike}
-
--- a relation that follows, between what two functions make of the elements
-pub AllZip-mapped : {A B C D : Type 0} (R : A → B → Type 0) (S : C → D → Type 0) (f : A → C) (g : B → D) → ((x : A) (y : B) → R x y → S (f x) (g y))
-    → (xs : List A) (ys : List B) → AllZip R xs ys → AllZip S (map f xs) (map g ys)
-AllZip-mapped R S f g passes [] [] h = tt
-AllZip-mapped R S f g passes [] (y ∷ ys) h = absurd h
-AllZip-mapped R S f g passes (x ∷ xs) [] h = absurd h
-AllZip-mapped R S f g passes (x ∷ xs) (y ∷ ys) h = (passes x y h.0, AllZip-mapped R S f g passes xs ys h.1)
-
--- or between the elements themselves
-pub AllZip-weaker : {A B : Type 0} (R S : A → B → Type 0) → ((x : A) (y : B) → R x y → S x y) → (xs : List A) (ys : List B) → AllZip R xs ys → AllZip S xs ys
-AllZip-weaker R S passes xs ys h = simp map-id at (AllZip-mapped R S (λ x. x) (λ y. y) passes xs ys h)
+pub use Rattle.rectangle_pack_sections.proofs.lemmas.util.Zips.{AllZip-mapped, AllZip-weaker}
 
 -- what passes between elements that are alike holds of all
 pub All-alike : {X Y : Type 0} (R : X → Y → Type 0) (P : X → Type 0) (Q : Y → Type 0) → ((x : X) (y : Y) → R x y → P x → Q y) → (xs : List X) (ys : List Y)

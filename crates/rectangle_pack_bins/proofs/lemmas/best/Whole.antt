@@ -1,0 +1,84 @@
+-- A packing by the best heuristic ends as the one did that was rolled back, and makes the same use of the bins.
+use Rattle.rectangle_pack_sections.proofs.Std.{◌≡◌, ℕ, Bool, true, false, cond, List, [], ◌∷◌, refl, sym, ap, ◌∙◌, filter, map, nat_lt, All, Ordering, Equal}
+use Rattle.rectangle_pack_sections.proofs.Std.{IsTotalOrder, tied_itself, is_at, keys_of, values_of, fun_ext, Result, Ok, Err}
+use Rattle.rectangle_pack_sections.specs.declared.box_size_heuristics.named.Heuristic.{Heuristic}
+use Rattle.rectangle_pack_sections.specs.Bins.{Bin}
+use Rattle.rectangle_pack_sections.specs.Boxes.{Cuboid}
+use Rattle.rectangle_pack_sections.specs.Counting.{total_volume}
+use Rattle.rectangle_pack_sections.specs.Heuristics.{rate_of, by_name}
+use Rattle.rectangle_pack_lists.specs.Numbers.{saturated}
+use Rattle.rectangle_pack_groups.specs.declared.grouped_rects_to_place.Group.{Group}
+use Rattle.rectangle_pack_groups.specs.Groups.{Collection}
+use Rattle.rectangle_pack_bins.specs.declared.pack.answer.Placement.{Placement}
+use Rattle.rectangle_pack_bins.specs.declared.pack.answer.RectanglePackOk.{RectanglePackOk}
+use Rattle.rectangle_pack_bins.specs.declared.pack.answer.RectanglePackError.{RectanglePackError}
+use Rattle.rectangle_pack_bins.specs.declared.pack.answer.RectanglePackError.TheVariants.{NotEnoughBinSpace, OutOfMemory}
+use Rattle.rectangle_pack_bins.specs.declared.pack.best.Use.{Use}
+use Rattle.rectangle_pack_bins.specs.Best.{use_by, filled_in, use_of, named_rules, IsDoneBy, IsBestOf, IsBestAnswer}
+use Rattle.rectangle_pack_bins.specs.KeptBins.{locations_in}
+use Rattle.rectangle_pack_bins.specs.Packing.{PackingDone, PackingRefused}
+use Rattle.rectangle_pack_bins.specs.PackAnswers.{IsPacked, IsCountedAnswer}
+use Rattle.rectangle_pack_bins.specs.Placed.{placements_of}
+use Rattle.rectangle_pack_bins.specs.Results.{ArePlacementsAlike, HaveOneResult}
+use Rattle.rectangle_pack_sections.proofs.lemmas.cuts.SmallestBox.{smallest_is_preorder}
+use Rattle.rectangle_pack_sections.proofs.lemmas.util.Zips.{AllZip-itself}
+use Rattle.rectangle_pack_bins.proofs.lemmas.determinism.OnePacking.{one_result}
+use Rattle.rectangle_pack_bins.proofs.lemmas.determinism.Preorders.{total_decides}
+
+-- placements that are alike make the same use of the bins
+module _ {Id B : Type 0} (cmp : Id → Id → Ordering) {bin_cmp : B → B → Ordering} (o : IsTotalOrder bin_cmp) where
+  locations_in-alike : (ps qs : List (Placement Id B)) → ArePlacementsAlike cmp bin_cmp ps qs → (id : B) → locations_in bin_cmp ps id ≡ locations_in bin_cmp qs id
+  locations_in-alike [] [] h id = refl
+  locations_in-alike [] (q ∷ qs) h id = absurd h
+  locations_in-alike (p ∷ ps) [] h id = absurd h
+  locations_in-alike (p ∷ ps) (q ∷ qs) h id = rw (o.congr p.bin q.bin id h.0.1) (by (locations_in-alike ps qs h.1 id) (is_at (bin_cmp q.bin) id))
+    where
+      here : List (Placement Id B) → List (Placement Id B)
+      here = filter (λ p. is_at (bin_cmp p.bin) id)
+
+      at : List (Placement Id B) → List Cuboid
+      at = map (λ p. p.location)
+
+      by : at (here ps) ≡ at (here qs) → (b : Bool) → at (cond b (p ∷ here ps) (here ps)) ≡ at (cond b (q ∷ here qs) (here qs))
+      by later true = rw (h.0.2, later) refl
+      by later false = later
+
+  use_of-alike : (ps qs : List (Placement Id B)) (bins : List (B × Bin)) → ArePlacementsAlike cmp bin_cmp ps qs → use_of bin_cmp ps bins ≡ use_of bin_cmp qs bins
+  use_of-alike ps qs bins h =
+      ap (λ count. use_by (filter (nat_lt 0) (map count (keys_of bins))))
+      (fun_ext (λ id. ap (λ here. saturated (total_volume here)) (locations_in-alike ps qs h id)))
+
+module _ {Id B G : Type 0} {group_cmp : Group G Id → Group G Id → Ordering} {cmp : Id → Id → Ordering} {bin_cmp : B → B → Ordering}
+    (group_total : IsTotalOrder group_cmp) (total : IsTotalOrder cmp) (bin_total : IsTotalOrder bin_cmp)
+    (all : Collection Id G) (old : List (B × Bin)) where
+  -- by a heuristic of a name there is one result
+  one_by_name : (h : Heuristic) → HaveOneResult group_cmp (named_rules group_cmp cmp bin_cmp all old h) (named_rules group_cmp cmp bin_cmp all old h) all all old old
+  one_by_name h =
+      one_result group_cmp (named_rules group_cmp cmp bin_cmp all old h) group_total total bin_total all all old old
+      (record {
+        sizes = AllZip-itself _ (λ e. (tied_itself total e.0, refl)) all.sizes;
+        groups = AllZip-itself _ (λ e. (tied_itself group_total e.0, AllZip-itself _ (tied_itself total) e.1)) all.groups;
+        excluded = λ a b. refl;
+      })
+      (AllZip-itself _ (λ e. (tied_itself bin_total e.0, record { size = refl; sections = refl })) old)
+      (total_decides (values_of all.sizes) (values_of old) (by_name h) (record { rate = rate_of h; only = λ size rate says. says })
+      (smallest_is_preorder (λ size rate. rate ≡ rate_of h size) (rate_of h) (λ size rate small says. says) (by_name h).prefer
+      (λ a b r says. (says.0.small, says.1.small)) (λ a b r says. says.2)))
+
+  -- so the packing by the best heuristic makes the best use
+  pub best-packed : {A : Type 0} (heuristics : List Heuristic) (best : Heuristic) (made : Use) → IsDoneBy group_cmp cmp bin_cmp all old best made
+      → IsBestOf group_cmp cmp bin_cmp all old heuristics best made → (ok : RectanglePackOk Id B A) (new : List (B × Bin))
+      → IsPacked group_cmp (named_rules group_cmp cmp bin_cmp all old best) all old ok new
+      → IsBestAnswer group_cmp cmp bin_cmp all old heuristics (Ok (best, ok)) new
+  best-packed heuristics best made done b ok new packed =
+      let alike = (one_by_name best).done done.placements (placements_of ok) done.new new done.done packed.done in
+      (packed, rw (← use_of-alike cmp bin_total done.placements (placements_of ok) old alike.1, ← done.use_is) b)
+
+  -- and it is not refused for space
+  pub best-failed : (A : Type 0) (heuristics : List Heuristic) (best : Heuristic) (made : Use) → IsDoneBy group_cmp cmp bin_cmp all old best made
+      → (error : RectanglePackError) (now new : List (B × Bin)) (before after : ℕ) → now ≡ old
+      → IsCountedAnswer group_cmp (named_rules group_cmp cmp bin_cmp all old best) {A = A} all now before (Err error) new after
+      → IsBestAnswer group_cmp cmp bin_cmp all old {A = A} heuristics (Err error) new
+  best-failed A heuristics best made done NotEnoughBinSpace now new before after same h =
+      absurd ((one_by_name best).not_done_and_refused done.placements done.new new done.done (rw same at h.0))
+  best-failed A heuristics best made done OutOfMemory now new before after same h = h.0 ∙ same

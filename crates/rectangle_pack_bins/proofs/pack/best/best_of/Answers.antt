@@ -1,0 +1,32 @@
+use Rattle.rectangle_pack_sections.proofs.Std.{◌≡◌, ◌<◌, ◌≤◌, length, refl, ap, sym, ◌∙◌, arith, take, take_all, take_more, slice_index_or}
+use Rattle.rectangle_pack_sections.specs.declared.box_size_heuristics.named.Heuristic.TheVariants.{Volume}
+use Rattle.rectangle_pack_bins.specs.Packing.{bins_of}
+use Rattle.rectangle_pack_bins.proofs.lemmas.best.Steps.{best-after_refused, best-after_done}
+use Rattle.rectangle_pack_bins.proofs.pack.best.best_of.Goals.{in-Some, in_default}
+use Rattle.rectangle_pack_bins.proofs.pack.best.best_of.Goals as goal
+
+pub loop-heuristic-preserved : goal.loop-heuristic-preserved
+loop-heuristic-preserved g c =
+    let inv = c.loop-heuristic.invariant in
+    let i = c.loop-heuristic.heuristic-index in
+    let hs = c.args.heuristics.now in
+    let next = slice_index_or hs i Volume in
+    let found = c.loop-heuristic.best in
+    let same = c.try_by.ensures.same ∙ inv.0 in
+    elim c.match-made.branch [
+      | in-Some w ↦ (
+        same,
+        rw (w.best-is, take_more hs i Volume c.loop-heuristic-test.true)
+            (best-after_done _ g.Id.Ord.cmp g.BinId.Ord.cmp c.args.rects_to_place.now (bins_of c.args.target_bins.now.entries) (take i hs)
+            (next, w.in-Some.made) found w.better_of.result inv.1 (rw (w.in-Some.is, inv.0) at c.in_ok-made.ensures.tried) w.better_of.ensures),
+      )
+      | in_default w ↦ (
+        same,
+        rw (w.best-is, take_more hs i Volume c.loop-heuristic-test.true)
+            (best-after_refused _ g.Id.Ord.cmp g.BinId.Ord.cmp c.args.rects_to_place.now (bins_of c.args.target_bins.now.entries) (take i hs)
+            next found inv.1 (rw (w.in_default.is, inv.0) at c.in_ok-made.ensures.tried)),
+      )
+    ]
+
+pub returns-clause-best : goal.returns-clause-best
+returns-clause-best g c = rw (take_all c.loop-heuristic.heuristic-index c.args.heuristics.now c.loop-heuristic-test.false) at c.loop-heuristic.invariant.1

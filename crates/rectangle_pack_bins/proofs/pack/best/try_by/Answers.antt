@@ -1,0 +1,12 @@
+use Rattle.rectangle_pack_sections.proofs.Std.{refl, ◌∙◌}
+use Rattle.rectangle_pack_bins.proofs.pack.best.try_by.Goals as goal
+
+pub returns-in_ok-use_made-in-Some-clause-tried : goal.returns-in_ok-use_made-in-Some-clause-tried
+returns-in_ok-use_made-in-Some-clause-tried g c =
+    let done = rw c.in-Some.is at c.in_ok-placements.ensures.rehearsed in
+    record {
+      placements = c.in-Some.placements.items;
+      new = done.0;
+      done = done.1;
+      use_is = c.in_ok-use_made-in-Some.ensures ∙ rw (c.as_slice.ensures.value, c.in_ok-placements.ensures.same) refl;
+    }

@@ -1,0 +1,222 @@
+//! The best of several packings: by which of some heuristics it uses the bins best.
+ghost use Rattle.std.specs.Prelude.{◌≡◌, List, ◌⊎◌, ◌↔◌, All, IfOk, IfSome, MatchOption, Some, filter, map, nat_lt, true};
+ghost use Rattle.std.specs.Map.{keys_of};
+ghost use Rattle.rectangle_pack_groups.specs.Clones.{ClonesEqual};
+ghost use Rattle.rectangle_pack_bins.specs.Best.{IsBestOf, IsBetterUse, IsDoneBy, IsRefusedBy, filled_in, use_by, use_of};
+ghost use Rattle.rectangle_pack_bins.specs.private.Cells.{cells_in};
+ghost use Rattle.rectangle_pack_bins.specs.Packing.{PackingDone, PackingRefused, bins_of, rules_by};
+ghost use Rattle.rectangle_pack_sections.specs.Bins.{Bin};
+
+use crate::pack::answer::Placement;
+use crate::pack::first_fit::{Packing, pack_noted};
+use crate::pack::order::bin_order;
+use crate::target_bin::TargetBin;
+use rectangle_pack_groups::grouped_rects_to_place::{Group, GroupedRectsToPlace};
+use rectangle_pack_sections::bin_section::section_at;
+use rectangle_pack_sections::box_size_heuristics::Heuristic;
+use rectangle_pack_sections::closures::{Named, Policy};
+use std::alloc::{AllocError, Allocator};
+use std::collections::BTreeMap;
+use std::mem;
+
+/// How much of the bins a packing uses.
+#[derive(Clone, Copy)]
+pub struct Use {
+    /// In how many bins it places cells.
+    pub bins: usize,
+    /// How many cells it places in the last of them, in the order of ids.
+    pub last: u128,
+}
+
+impl Use {
+    // The use that places so many cells in the bins that get some.
+    fn by(filled: &[u128]) -> Self
+        ensures { result ≡ use_by filled.now }
+    {
+        Use {
+            bins: filled.len(),
+            last: filled.last().copied().unwrap_or(0),
+        }
+    }
+
+    fn is_better(&self, other: &Use) -> bool
+        ensures { (result ≡ true) ↔ IsBetterUse self.now other.now }
+    {
+        self.bins < other.bins || self.bins == other.bins && self.last < other.last
+    }
+}
+
+// How many cells are placed in each bin in which a box is placed.
+fn fill<'a, Id, B: Ord, A: Allocator + Copy>(
+    alloc: A,
+    placements: &'a [Placement<Id, B>],
+) -> Result<BTreeMap<&'a B, u128, A>, AllocError>
+    ensures { IfOk result
+        (λ cells.
+        (id : B) →
+        cells_in B.cmp cells.entries id ≡ filled_in B.cmp placements.now id) }
+{
+    let mut cells = BTreeMap::new(alloc);
+    for placement in placements {
+        let bin = &placement.bin;
+        let volume = section_at(&placement.location).whd().volume();
+        let filled = cells.get(&bin).copied().unwrap_or(0u128).saturating_add(volume);
+        cells.insert(bin, filled)?;
+    }
+    Ok(cells)
+}
+
+// The counts of the bins that get cells, in the order of ids.
+fn filled<'a, B: Ord, A: Allocator + Copy>(
+    alloc: A,
+    bins: &'a BTreeMap<B, TargetBin<A>, A>,
+    cells: &BTreeMap<&'a B, u128, A>,
+) -> Result<Vec<u128, A>, AllocError>
+    ensures { IfOk result
+        (λ v.
+        v.items ≡
+        filter (nat_lt 0) (map (cells_in B.cmp cells.now.entries) (keys_of bins.now.entries))) }
+{
+    let mut filled = Vec::new(alloc);
+    for (id, _) in bins {
+        let count = cells.get(&id).copied().unwrap_or(0);
+        if count > 0 {
+            filled.push(count)?;
+        }
+    }
+    Ok(filled)
+}
+
+// What use these placements make of the bins.
+fn use_made<'a, Id, B: Ord, A: Allocator + Copy>(
+    alloc: A,
+    bins: &'a BTreeMap<B, TargetBin<A>, A>,
+    placements: &'a [Placement<Id, B>],
+) -> Result<Use, AllocError>
+    ensures { IfOk result
+        (λ made. made ≡ use_of B.cmp placements.now (bins_of bins.now.entries)) }
+{
+    let cells = fill(alloc, placements)?;
+    let filled = filled(alloc, bins, &cells)?;
+    Ok(Use::by(filled.as_slice()))
+}
+
+// Packs all groups, in which there are so many entries, and rolls the packing back: what it placed,
+// or `None` where it is refused.
+fn rehearse<Id, BinId, GroupId, R, A>(
+    alloc: A,
+    rects_to_place: &GroupedRectsToPlace<Id, GroupId, A>,
+    target_bins: &mut BTreeMap<BinId, TargetBin<A>, A>,
+    entries: usize,
+    policy: &R,
+) -> Result<Option<Vec<Placement<Id, BinId>, A>>, AllocError>
+where
+    Id: Ord + Clone + Drop,
+    BinId: Ord + Clone + Drop,
+    GroupId: Ord + Clone + Drop,
+    R: Policy,
+    A: Allocator + Copy,
+    requires ids { ClonesEqual Id.is_clone Id.eq }
+    requires bin_ids { ClonesEqual BinId.is_clone BinId.eq }
+    requires callable { R.is_callable policy.now }
+    ensures rehearsed { IfOk result
+        (λ placed.
+        let order = ⟦<Group<GroupId, Id> as Ord>⟧.cmp in
+        let by = rules_by Id.cmp BinId.cmp (R.may policy.now) in
+        let all = rects_to_place.now in
+        let old = bins_of target_bins.old.entries in
+        MatchOption placed
+        ((left : List (BinId × Bin)) × PackingRefused order by all old left)
+        (λ placements.
+        (new : List (BinId × Bin)) × PackingDone order by all old placements.items new)) }
+    ensures same { bins_of target_bins.new.entries ≡ bins_of target_bins.old.entries }
+{
+    let order = bin_order(alloc, target_bins, policy)?;
+    let bins = mem::replace(target_bins, BTreeMap::new(alloc));
+    let mut packing = Packing::new(bins, order.as_slice(), alloc);
+    let packed = pack_noted(&mut packing, rects_to_place, entries, policy);
+    let (bins, placements) = packing.roll_back();
+    *target_bins = bins;
+    Ok(if packed? { Some(placements) } else { None })
+}
+
+// By this heuristic: what use the packing makes of the bins, or `None` where it is refused. The
+// bins stay as they are.
+fn try_by<Id, BinId, GroupId, A>(
+    alloc: A,
+    rects_to_place: &GroupedRectsToPlace<Id, GroupId, A>,
+    target_bins: &mut BTreeMap<BinId, TargetBin<A>, A>,
+    entries: usize,
+    heuristic: Heuristic,
+) -> Result<Option<Use>, AllocError>
+where
+    Id: Ord + Clone + Drop,
+    BinId: Ord + Clone + Drop,
+    GroupId: Ord + Clone + Drop,
+    A: Allocator + Copy,
+    requires ids { ClonesEqual Id.is_clone Id.eq }
+    requires bin_ids { ClonesEqual BinId.is_clone BinId.eq }
+    ensures tried { IfOk result
+        (λ found.
+        let order = ⟦<Group<GroupId, Id> as Ord>⟧.cmp in
+        let old = bins_of target_bins.old.entries in
+        MatchOption found
+        (IsRefusedBy order Id.cmp BinId.cmp rects_to_place.now old heuristic)
+        (IsDoneBy order Id.cmp BinId.cmp rects_to_place.now old heuristic)) }
+    ensures same { bins_of target_bins.new.entries ≡ bins_of target_bins.old.entries }
+{
+    match rehearse(alloc, rects_to_place, target_bins, entries, &Named(heuristic))? {
+        Some(placements) => Ok(Some(use_made(alloc, target_bins, placements.as_slice())?)),
+        None => Ok(None),
+    }
+}
+
+// The better of the best so far and the next one; the former where both are as good.
+fn better_of(best: Option<(Heuristic, Use)>, next: (Heuristic, Use)) -> (Heuristic, Use)
+    ensures { ((result ≡ next) × IfSome best (λ b. IsBetterUse next.1 b.1)) ⊎
+        ((best ≡ Some result) × ¬ IsBetterUse next.1 result.1) }
+{
+    match best {
+        Some(best) if !next.1.is_better(&best.1) => best,
+        _ => next,
+    }
+}
+
+/// By which heuristic of the list the packing of these groups, in which there are so many entries,
+/// makes the best use of the bins, the first of those by which it is as good, and this use; `None`
+/// where by each the packing is refused. The bins stay as they are.
+pub fn best_of<Id, BinId, GroupId, A>(
+    alloc: A,
+    rects_to_place: &GroupedRectsToPlace<Id, GroupId, A>,
+    target_bins: &mut BTreeMap<BinId, TargetBin<A>, A>,
+    entries: usize,
+    heuristics: &[Heuristic],
+) -> Result<Option<(Heuristic, Use)>, AllocError>
+where
+    Id: Ord + Clone + Drop,
+    BinId: Ord + Clone + Drop,
+    GroupId: Ord + Clone + Drop,
+    A: Allocator + Copy,
+    requires ids { ClonesEqual Id.is_clone Id.eq }
+    requires bin_ids { ClonesEqual BinId.is_clone BinId.eq }
+    ensures best { IfOk result
+        (λ found.
+        let order = ⟦<Group<GroupId, Id> as Ord>⟧.cmp in
+        let all = rects_to_place.now in
+        let old = bins_of target_bins.old.entries in
+        MatchOption found
+        (All (IsRefusedBy order Id.cmp BinId.cmp all old) heuristics.now)
+        (λ best.
+        IsDoneBy order Id.cmp BinId.cmp all old best.0 best.1 ×
+        IsBestOf order Id.cmp BinId.cmp all old heuristics.now best.0 best.1)) }
+    ensures same { bins_of target_bins.new.entries ≡ bins_of target_bins.old.entries }
+{
+    let mut best = None;
+    for heuristic in heuristics {
+        let made = try_by(alloc, rects_to_place, target_bins, entries, *heuristic)?;
+        if let Some(made) = made {
+            best = Some(better_of(best, (*heuristic, made)));
+        }
+    }
+    Ok(best)
+}
