@@ -11,6 +11,7 @@ pub use Rattle.rectangle_pack_sections.specs.Bins
 pub use Rattle.rectangle_pack_sections.specs.Covering
 pub use Rattle.rectangle_pack_sections.specs.CutTrees
 pub use Rattle.rectangle_pack_sections.specs.Texts
+pub use Rattle.rectangle_pack_sections.specs.Heuristics
 pub use Rattle.rectangle_pack_groups.specs.Clones
 pub use Rattle.rectangle_pack_groups.specs.Exclusions
 pub use Rattle.rectangle_pack_groups.specs.Groups
@@ -25,11 +26,13 @@ pub use Rattle.rectangle_pack_bins.specs.Placed
 pub use Rattle.rectangle_pack_bins.specs.KeptBins
 pub use Rattle.rectangle_pack_bins.specs.Packing
 pub use Rattle.rectangle_pack_bins.specs.PackAnswers
+pub use Rattle.rectangle_pack_bins.specs.Best
 pub use Rattle.rectangle_pack_bins.specs.Results
 pub use Rattle.rectangle_pack_bins.specs.PackingTexts
 pub use Rattle.rectangle_pack_plans.specs.CutPlans
 pub mod Session
 pub mod Stats
 pub mod Promise
+pub mod SessionBest
 pub mod PlanAnswers
 pub mod SessionTexts

@@ -33,9 +33,9 @@ pub mod pack {
     pub use rectangle_pack_bins::pack::{
         Placement, RectanglePackError, RectanglePackOk, excluded_groups_are_apart,
         groups_are_placed_whole, locations_follow_placements, named_packing_has_one_result,
-        pack_rects, pack_rects_counted, packing_has_one_result, packing_keeps_cells,
-        packing_without_exclusions, preorders_decide, refused_box_is_held_nowhere,
-        volume_packing_has_one_result,
+        pack_rects, pack_rects_best, pack_rects_counted, packing_has_one_result,
+        packing_keeps_cells, packing_without_exclusions, preorders_decide,
+        refused_box_is_held_nowhere, volume_packing_has_one_result,
     };
 }
 
@@ -74,8 +74,9 @@ pub use grouped_rects_to_place::{
 pub use pack::{
     Placement, RectanglePackError, RectanglePackOk, excluded_groups_are_apart,
     groups_are_placed_whole, locations_follow_placements, named_packing_has_one_result, pack_rects,
-    pack_rects_counted, packing_has_one_result, packing_keeps_cells, packing_without_exclusions,
-    preorders_decide, refused_box_is_held_nowhere, volume_packing_has_one_result,
+    pack_rects_best, pack_rects_counted, packing_has_one_result, packing_keeps_cells,
+    packing_without_exclusions, preorders_decide, refused_box_is_held_nowhere,
+    volume_packing_has_one_result,
 };
 pub use packed_location::{PackedLocation, RotatedBy};
 pub use rect_to_insert::RectToInsert;

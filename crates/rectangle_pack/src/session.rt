@@ -13,6 +13,7 @@ ghost use Rattle.rectangle_pack_bins.specs.Packing.{bins_of, rules_by};
 ghost use Rattle.rectangle_pack.specs.Promise.{PacksAsPromised};
 ghost use Rattle.rectangle_pack.specs.Session.{State, IsSession, AddsBin, Packs, Releases, Coalesces, reply_of, packed_reply};
 
+mod best;
 mod command;
 mod cut_plan;
 mod laws;
@@ -202,7 +203,7 @@ where
         self.pack_by(groups, &policy)
     }
 
-    fn pack_by<GroupId, R>(
+    pub(crate) fn pack_by<GroupId, R>(
         &mut self,
         groups: &GroupedRectsToPlace<Id, GroupId, A>,
         policy: &R,

@@ -15,7 +15,7 @@ use Rattle.rectangle_pack_bins.specs.declared.pack.answer.RectanglePackError.{Re
 use Rattle.rectangle_pack_bins.specs.declared.pack.answer.RectanglePackError.TheVariants.{NotEnoughBinSpace, OutOfMemory}
 use Rattle.rectangle_pack_bins.specs.declared.pack.best.Use.{Use}
 use Rattle.rectangle_pack_bins.specs.KeptBins.{locations_in}
-use Rattle.rectangle_pack_bins.specs.Packing.{Rules, rules_by, PackingDone, PackingRefused}
+use Rattle.rectangle_pack_bins.specs.Packing.{rules_by, PackingDone, PackingRefused}
 use Rattle.rectangle_pack_bins.specs.PackAnswers.{IsPacked}
 use Rattle.rectangle_pack_bins.specs.Placed.{placements_of}
 
@@ -38,21 +38,17 @@ module _ {Id B : Type 0} (bin_cmp : B → B → Ordering) where
 
 module _ {Id B G : Type 0} (group_cmp : Group G Id → Group G Id → Ordering) (cmp : Id → Id → Ordering) (bin_cmp : B → B → Ordering)
     (all : Collection Id G) (old : List (B × Bin)) where
-  -- what a packing goes by that rates by this heuristic and prefers smallest boxes
-  abbrev pub named_rules : Heuristic → Rules Id B
-  named_rules heuristic = rules_by cmp bin_cmp (by_name heuristic)
-
   -- by this heuristic the packing is done, and makes this use of the bins
   pub record IsDoneBy (heuristic : Heuristic) (made : Use) : Type 0 where
     pub placements : List (Placement Id B)
     pub new : List (B × Bin)
-    pub done : PackingDone group_cmp (named_rules heuristic) all old placements new
+    pub done : PackingDone group_cmp (rules_by cmp bin_cmp (by_name heuristic)) all old placements new
     pub use_is : made ≡ use_of bin_cmp placements old
 
   -- by this heuristic the packing is refused
   pub record IsRefusedBy (heuristic : Heuristic) : Type 0 where
     pub left : List (B × Bin)
-    pub refused : PackingRefused group_cmp (named_rules heuristic) all old left
+    pub refused : PackingRefused group_cmp (rules_by cmp bin_cmp (by_name heuristic)) all old left
 
   -- of the list this use, by this heuristic, is the best, and the first of those as good: by each other heuristic the packing is
   -- refused or makes another use, which is worse where the heuristic stands before this one, and not better where it stands after
@@ -67,6 +63,6 @@ module _ {Id B G : Type 0} (group_cmp : Group G Id → Group G Id → Ordering) 
   -- the bins are as they were
   abbrev pub IsBestAnswer : {A : Type 0} → List Heuristic → Result (Heuristic × RectanglePackOk Id B A) RectanglePackError → List (B × Bin) → Type 0
   IsBestAnswer heuristics (Ok (best, ok)) new =
-      IsPacked group_cmp (named_rules best) all old ok new × IsBestOf heuristics best (use_of bin_cmp (placements_of ok) old)
+      IsPacked group_cmp (rules_by cmp bin_cmp (by_name best)) all old ok new × IsBestOf heuristics best (use_of bin_cmp (placements_of ok) old)
   IsBestAnswer heuristics (Err NotEnoughBinSpace) new = All IsRefusedBy heuristics × (new ≡ old)
   IsBestAnswer heuristics (Err OutOfMemory) new = new ≡ old

@@ -88,9 +88,7 @@ impl Policy for Named {
         let heuristic = self.0;
         let rate = |size: WidthHeightDepth| -> u128
             ensures { result ≡ rate_of heuristic size }
-        {
-            heuristic.rate(size)
-        };
+        { heuristic.rate(size) };
         place_held(section, member, &contains_smallest_box, &rate)
     }
 }

@@ -5,3 +5,4 @@ pub mod Numbering
 pub mod Transitions
 pub mod Stats
 pub mod Promise
+pub mod Best

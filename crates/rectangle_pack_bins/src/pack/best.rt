@@ -60,7 +60,11 @@ fn fill<'a, Id, B: Ord, A: Allocator + Copy>(
     for placement in placements {
         let bin = &placement.bin;
         let volume = section_at(&placement.location).whd().volume();
-        let filled = cells.get(&bin).copied().unwrap_or(0u128).saturating_add(volume);
+        let filled = cells
+            .get(&bin)
+            .copied()
+            .unwrap_or(0u128)
+            .saturating_add(volume);
         cells.insert(bin, filled)?;
     }
     Ok(cells)
@@ -165,7 +169,13 @@ where
         (IsDoneBy order Id.cmp BinId.cmp rects_to_place.now old heuristic)) }
     ensures same { bins_of target_bins.new.entries ≡ bins_of target_bins.old.entries }
 {
-    match rehearse(alloc, rects_to_place, target_bins, entries, &Named(heuristic))? {
+    match rehearse(
+        alloc,
+        rects_to_place,
+        target_bins,
+        entries,
+        &Named(heuristic),
+    )? {
         Some(placements) => Ok(Some(use_made(alloc, target_bins, placements.as_slice())?)),
         None => Ok(None),
     }

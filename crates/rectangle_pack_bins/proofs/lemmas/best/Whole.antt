@@ -14,9 +14,9 @@ use Rattle.rectangle_pack_bins.specs.declared.pack.answer.RectanglePackOk.{Recta
 use Rattle.rectangle_pack_bins.specs.declared.pack.answer.RectanglePackError.{RectanglePackError}
 use Rattle.rectangle_pack_bins.specs.declared.pack.answer.RectanglePackError.TheVariants.{NotEnoughBinSpace, OutOfMemory}
 use Rattle.rectangle_pack_bins.specs.declared.pack.best.Use.{Use}
-use Rattle.rectangle_pack_bins.specs.Best.{use_by, filled_in, use_of, named_rules, IsDoneBy, IsBestOf, IsBestAnswer}
+use Rattle.rectangle_pack_bins.specs.Best.{use_by, filled_in, use_of, IsDoneBy, IsBestOf, IsBestAnswer}
 use Rattle.rectangle_pack_bins.specs.KeptBins.{locations_in}
-use Rattle.rectangle_pack_bins.specs.Packing.{PackingDone, PackingRefused}
+use Rattle.rectangle_pack_bins.specs.Packing.{rules_by, PackingDone, PackingRefused}
 use Rattle.rectangle_pack_bins.specs.PackAnswers.{IsPacked, IsCountedAnswer}
 use Rattle.rectangle_pack_bins.specs.Placed.{placements_of}
 use Rattle.rectangle_pack_bins.specs.Results.{ArePlacementsAlike, HaveOneResult}
@@ -52,9 +52,9 @@ module _ {Id B G : Type 0} {group_cmp : Group G Id → Group G Id → Ordering} 
     (group_total : IsTotalOrder group_cmp) (total : IsTotalOrder cmp) (bin_total : IsTotalOrder bin_cmp)
     (all : Collection Id G) (old : List (B × Bin)) where
   -- by a heuristic of a name there is one result
-  one_by_name : (h : Heuristic) → HaveOneResult group_cmp (named_rules group_cmp cmp bin_cmp all old h) (named_rules group_cmp cmp bin_cmp all old h) all all old old
+  one_by_name : (h : Heuristic) → HaveOneResult group_cmp (rules_by cmp bin_cmp (by_name h)) (rules_by cmp bin_cmp (by_name h)) all all old old
   one_by_name h =
-      one_result group_cmp (named_rules group_cmp cmp bin_cmp all old h) group_total total bin_total all all old old
+      one_result group_cmp (rules_by cmp bin_cmp (by_name h)) group_total total bin_total all all old old
       (record {
         sizes = AllZip-itself _ (λ e. (tied_itself total e.0, refl)) all.sizes;
         groups = AllZip-itself _ (λ e. (tied_itself group_total e.0, AllZip-itself _ (tied_itself total) e.1)) all.groups;
@@ -65,20 +65,28 @@ module _ {Id B G : Type 0} {group_cmp : Group G Id → Group G Id → Ordering} 
       (smallest_is_preorder (λ size rate. rate ≡ rate_of h size) (rate_of h) (λ size rate small says. says) (by_name h).prefer
       (λ a b r says. (says.0.small, says.1.small)) (λ a b r says. says.2)))
 
+  -- so what is done by it makes one use of the bins
+  pub use-same : (h : Heuristic) (made : Use) → IsDoneBy group_cmp cmp bin_cmp all old h made → (placements : List (Placement Id B)) (new : List (B × Bin))
+      → PackingDone group_cmp (rules_by cmp bin_cmp (by_name h)) all old placements new → made ≡ use_of bin_cmp placements old
+  use-same h made done placements new again =
+      done.use_is ∙ use_of-alike cmp bin_total done.placements placements old ((one_by_name h).done done.placements placements done.new new done.done again).1
+
+  -- and is not refused for space
+  pub not-refused : (h : Heuristic) (made : Use) → IsDoneBy group_cmp cmp bin_cmp all old h made → (left : List (B × Bin))
+      → PackingRefused group_cmp (rules_by cmp bin_cmp (by_name h)) all old left → ⊥
+  not-refused h made done left refused = (one_by_name h).not_done_and_refused done.placements done.new left done.done refused
+
   -- so the packing by the best heuristic makes the best use
   pub best-packed : {A : Type 0} (heuristics : List Heuristic) (best : Heuristic) (made : Use) → IsDoneBy group_cmp cmp bin_cmp all old best made
       → IsBestOf group_cmp cmp bin_cmp all old heuristics best made → (ok : RectanglePackOk Id B A) (new : List (B × Bin))
-      → IsPacked group_cmp (named_rules group_cmp cmp bin_cmp all old best) all old ok new
+      → IsPacked group_cmp (rules_by cmp bin_cmp (by_name best)) all old ok new
       → IsBestAnswer group_cmp cmp bin_cmp all old heuristics (Ok (best, ok)) new
-  best-packed heuristics best made done b ok new packed =
-      let alike = (one_by_name best).done done.placements (placements_of ok) done.new new done.done packed.done in
-      (packed, rw (← use_of-alike cmp bin_total done.placements (placements_of ok) old alike.1, ← done.use_is) b)
+  best-packed heuristics best made done b ok new packed = (packed, rw (← use-same best made done (placements_of ok) new packed.done) b)
 
-  -- and it is not refused for space
+  -- or ends for want of memory
   pub best-failed : (A : Type 0) (heuristics : List Heuristic) (best : Heuristic) (made : Use) → IsDoneBy group_cmp cmp bin_cmp all old best made
       → (error : RectanglePackError) (now new : List (B × Bin)) (before after : ℕ) → now ≡ old
-      → IsCountedAnswer group_cmp (named_rules group_cmp cmp bin_cmp all old best) {A = A} all now before (Err error) new after
+      → IsCountedAnswer group_cmp (rules_by cmp bin_cmp (by_name best)) {A = A} all now before (Err error) new after
       → IsBestAnswer group_cmp cmp bin_cmp all old {A = A} heuristics (Err error) new
-  best-failed A heuristics best made done NotEnoughBinSpace now new before after same h =
-      absurd ((one_by_name best).not_done_and_refused done.placements done.new new done.done (rw same at h.0))
+  best-failed A heuristics best made done NotEnoughBinSpace now new before after same h = absurd (not-refused best made done new (rw same at h.0))
   best-failed A heuristics best made done OutOfMemory now new before after same h = h.0 ∙ same

@@ -24,8 +24,8 @@ returns-in-Ok-true g c =
     let counted = rw c.in-Ok-true.field-0-test at c.in-Ok-true.ensures.counted in
     record { packed = rw (c.keep-kept.ensures.placements, c.keep-kept.ensures.bins) (done.0, counted); stopped = tt }
 
-pub roll_back-requires : goal.roll_back-requires
-roll_back-requires g c = (
+pub roll_back-start-requires : goal.roll_back-start-requires
+roll_back-start-requires g c = (
   _,
   c.pack_noted.ensures.back (bins_of c.args.bins.now.entries)
       (rw (c.new-packing.ensures.bins, c.new-packing.ensures.journal, c.replace-old.ensures.value) (record { undoes = refl })),
@@ -36,10 +36,10 @@ returns-in-Ok-false g c =
     let refused = rw (c.in-Ok-false.field-0-test, c.new-packing.ensures.bins, c.replace-old.ensures.value) at c.in-Ok-false.ensures.packed in
     let back = c.pack_noted.ensures.back _
     (rw (c.new-packing.ensures.bins, c.new-packing.ensures.journal, c.replace-old.ensures.value) (record { undoes = refl })) in
-    record { packed = (_, refused.0, c.roll_back.ensures _ back); stopped = tt }
+    record { packed = (_, refused.0, c.roll_back-start.ensures.bins _ back); stopped = tt }
 
-pub roll_back-requires-in-Err : goal.roll_back-requires-in-Err
-roll_back-requires-in-Err g c = (
+pub roll_back-start-requires-in-Err : goal.roll_back-start-requires-in-Err
+roll_back-start-requires-in-Err g c = (
   _,
   c.pack_noted.ensures.back (bins_of c.args.bins.now.entries)
       (rw (c.new-packing.ensures.bins, c.new-packing.ensures.journal, c.replace-old.ensures.value) (record { undoes = refl })),
@@ -49,4 +49,4 @@ pub returns : goal.returns
 returns g c =
     let back = c.pack_noted.ensures.back _
     (rw (c.new-packing.ensures.bins, c.new-packing.ensures.journal, c.replace-old.ensures.value) (record { undoes = refl })) in
-    record { packed = tt; stopped = c.roll_back-in-Err.ensures _ back }
+    record { packed = tt; stopped = c.roll_back-start-in-Err.ensures.bins _ back }

@@ -7,5 +7,9 @@ use Rattle.rectangle_pack_sections.proofs.closures.NamedPolicy.place.Goals as go
 pub returns-clause-pieces : goal.returns-clause-pieces
 returns-clause-pieces c =
     MayChoose-more _ (λ a b. (by_name c.args.self.now.0).prefer (sizes_of a) (sizes_of b))
-    (λ a b r says. (says.first_three, says.second_three, smallest_more _ _ (λ size rate rates. rates.1 ∙ ap (λ f. rate_of f.0.now size) says.shows) _ _ r
-    says.says.2)) _ _ c.place_held.ensures.pieces
+    (λ a b r says. (
+      says.first_three,
+      says.second_three,
+      smallest_more _ _ (λ size rate rates. rates.1 ∙ ap (λ f. rate_of f.0.now size) says.shows) _ _ r
+          says.says.2,
+    )) _ _ c.place_held.ensures.pieces
