@@ -170,20 +170,20 @@ where
     pack_by(alloc, rects_to_place, target_bins, &policy, tests)
 }
 
-/// Packs all groups into the bins as `pack_rects` does, by each heuristic of a list in turn, and
-/// keeps the packing that uses the fewest bins: those in which it places cells. Of several that use
-/// as few it keeps the one that places the fewest cells in the last of these bins, in the order of
-/// ids, and of several such the one whose heuristic comes first in the list. Answers this heuristic
-/// and what the packing placed. `contains_smallest_box` chooses the cuts.
+/// Packs all groups into the bins, with each heuristic of a list in turn, and keeps the packing that
+/// uses the fewest bins: those in which it places cells. Of several that use as few it keeps the one
+/// that places the fewest cells in the last of these bins, in the order of ids, and of several such
+/// the one whose heuristic comes first in the list. Answers this heuristic and what the packing
+/// placed: what `pack_rects` would place with it and `contains_smallest_box`.
 ///
-/// Each packing is rolled back before the next begins, and the best is made once more, so that this
-/// takes the time of one packing more than there are heuristics, and no copy of a bin. Cells are
-/// counted up to the greatest `u128`. The caller sees to it that clones of ids equal their
-/// originals.
+/// Each packing is rolled back before the next begins, and the best is made once more. So this takes
+/// at most the time of one packing more than there are entries in the list, and a count of cells
+/// after each. The caller sees to it that clones of ids equal their originals.
 ///
-/// `NotEnoughBinSpace` says that by each heuristic of the list the packing is refused for space, and
-/// so by each of an empty list. `OutOfMemory` says that a growth or a clone was refused, which may
-/// come before it is known that there is no space. The bins are then as they were.
+/// `NotEnoughBinSpace` says that the packing is refused for space with each heuristic of the list;
+/// so an empty list is always refused. `OutOfMemory` says that a growth or a clone was refused in
+/// some packing, also where one with another heuristic was done before. On either error the bins are
+/// as they were: other than with `pack_rects`, no group stays placed.
 ///
 /// ```
 /// let mut rects: GroupedRectsToPlace<u32, u32> = GroupedRectsToPlace::new(alloc);
@@ -194,6 +194,12 @@ where
 /// let mut bins = BTreeMap::new(alloc);
 /// bins.insert(0u32, TargetBin::new(alloc, 6, 7, 1)?)?;
 /// let (best, packed) = pack_rects_best(alloc, &rects, &mut bins, &Heuristic::ALL)?;
+/// ```
+///
+/// By volume there would be no space for all four. By width there is:
+///
+/// ```
+/// assert_eq!(rt; best, Heuristic::Width);
 /// assert_eq!(rt; packed.placements().len(), 4);
 /// ```
 pub fn pack_rects_best<Id, BinId, GroupId, A>(

@@ -1,4 +1,4 @@
--- What the heuristics with a name rate a size by, and what a packing by one of them may be answered.
+-- What the heuristics with a name rate a size by, and what a packing with one of them is answered.
 use Rattle.std.specs.Prelude.{◌≡◌, ℕ, ◌+◌, ◌*◌, ◌^◌, ◌↔◌, List, Result, Ok, codes}
 use Rattle.rectangle_pack_sections.specs.Boxes.{Size, volume_of, longest_side, middle_side, shortest_side}
 use Rattle.rectangle_pack_sections.specs.Closures.{Answers, AreThreeSizes}
@@ -34,8 +34,9 @@ heuristic_text ShortestSide = codes "shortest-side"
 abbrev pub IsNamed : {E : Type 0} → List ℕ → Result Heuristic E → Type 0
 IsNamed text answer = (h : Heuristic) → (answer ≡ Ok h) ↔ (text ≡ heuristic_text h)
 
--- the heuristic of this name, and of two triples of sizes of 32 bits the order of smallest boxes by it
-abbrev pub by_name : Heuristic → Answers
-by_name heuristic =
+-- what a packing with the heuristic of this name is answered: its rate of a size, and on two triples of sizes of 32 bits the order
+-- of `contains_smallest_box` by these rates
+abbrev pub named_answers : Heuristic → Answers
+named_answers heuristic =
     let rates_by : Size → ℕ → Type 0 = λ size rate. rate ≡ rate_of heuristic size in
     record { rate = rates_by; prefer = λ first second r. AreThreeSizes first × AreThreeSizes second × IsSmallestOrder rates_by first second r }

@@ -4,7 +4,7 @@ ghost use Rattle.rectangle_pack_sections.specs.Boxes.{FitsU32, Holds};
 ghost use Rattle.rectangle_pack_sections.specs.Choice.{IsAllowedCut};
 ghost use Rattle.rectangle_pack_sections.specs.Closures.{AreCallable, Answers, answers};
 ghost use Rattle.rectangle_pack_sections.specs.Cuts.{placed};
-ghost use Rattle.rectangle_pack_sections.specs.Heuristics.{by_name, rate_of};
+ghost use Rattle.rectangle_pack_sections.specs.Heuristics.{named_answers, rate_of};
 
 use crate::bin_section::{BinSection, contains_smallest_box, place_held};
 use crate::box_size_heuristics::Heuristic;
@@ -74,7 +74,7 @@ pub struct Named(pub Heuristic);
 impl Policy for Named {
     ghost is_callable = { λ _. Unit {0} };
 
-    ghost may = { λ s. by_name s.0 };
+    ghost may = { λ s. named_answers s.0 };
 
     fn rate(&self, size: WidthHeightDepth) -> u128 {
         self.0.rate(size)

@@ -1,11 +1,7 @@
-//! Packing a session by the best of several heuristics.
-ghost use Rattle.std.specs.Prelude.{IfOk, Ok};
+//! Packing a session with the best of several heuristics.
 ghost use Rattle.rectangle_pack_groups.specs.Clones.{ClonesEqual};
-ghost use Rattle.rectangle_pack_sections.specs.Heuristics.{by_name};
-ghost use Rattle.rectangle_pack_bins.specs.Packing.{rules_by};
-ghost use Rattle.rectangle_pack.specs.Promise.{PacksAsPromised};
-ghost use Rattle.rectangle_pack.specs.Session.{IsSession, packed_reply};
-ghost use Rattle.rectangle_pack.specs.SessionBest.{PacksBest};
+ghost use Rattle.rectangle_pack.specs.Session.{IsSession};
+ghost use Rattle.rectangle_pack.specs.SessionBest.{PacksBest, PacksBestAsPromised};
 
 use crate::session::Session;
 use crate::session::command::{Packed, SessionError};
@@ -22,18 +18,30 @@ where
     BinId: Ord + Clone + Drop,
     A: Allocator + Copy,
 {
-    /// Packs all groups into the bins as `pack` does, by the heuristic of the list whose use of the
-    /// bins is best, as `pack_rects_best` finds it; `contains_smallest_box` chooses the cuts.
-    /// Answers this heuristic, and the numbers of the placements. Each packing that is tried is
-    /// rolled back.
+    /// Packs all groups into the bins as `pack` does, with the heuristic of the list that uses the
+    /// bins best, by the rule of `pack_rects_best`: what stood in the bins before does not count.
+    /// `contains_smallest_box` chooses the cuts. Answers this heuristic, and the numbers of the
+    /// placements. Each packing that is tried is rolled back.
     ///
     /// The caller sees to it that clones of ids equal their originals.
     ///
     /// `NumbersUsedUp` says that the next number and the entries of the groups add up to more than
-    /// the greatest `u64`; this is looked at first. `NotEnoughBinSpace` says that by each heuristic
-    /// of the list the packing is refused for space, and so by each of an empty list. `OutOfMemory`
-    /// says that a growth or a clone was refused, which may come before it is known that there is no
-    /// space. The session is then as it was.
+    /// the greatest `u64`; this is looked at first. `NotEnoughBinSpace` says that the packing is
+    /// refused for space with each heuristic of the list; so an empty list is always refused.
+    /// `OutOfMemory` says that a growth or a clone was refused in some packing, also where one with
+    /// another heuristic was done before. On each error the session is as it was.
+    ///
+    /// ```
+    /// let mut session: Session<u32, &'static str> = Session::new(alloc, 0);
+    /// session.add_bin("sheet", 4, 4, 1)?;
+    /// let mut rects: GroupedRectsToPlace<u32, u32> = GroupedRectsToPlace::new(alloc);
+    /// rects.push_rect(1, None, RectToInsert::new(1, 3, 1))?;
+    /// rects.push_rect(2, None, RectToInsert::new(3, 2, 1))?;
+    /// rects.push_rect(3, None, RectToInsert::new(3, 1, 1))?;
+    /// let (best, packed) = session.pack_best(&rects, &Heuristic::ALL)?;
+    /// assert_eq!(rt; best, Heuristic::Height);
+    /// assert_eq!(rt; packed.count, 3);
+    /// ```
     pub fn pack_best<GroupId>(
         &mut self,
         groups: &GroupedRectsToPlace<Id, GroupId, A>,
@@ -45,11 +53,8 @@ where
         requires bin_ids { ClonesEqual BinId.is_clone BinId.eq }
         ensures packed { PacksBest ⟦<Group<GroupId, Id> as Ord>⟧.cmp Id.cmp BinId.cmp
             heuristics.now groups.now self.old result self.new }
-        ensures promise { IfOk result
-            (λ r.
-            PacksAsPromised ⟦<Group<GroupId, Id> as Ord>⟧.cmp
-            (rules_by Id.cmp BinId.cmp (by_name r.0)) groups.now
-            self.old (packed_reply (Ok r.1)) self.new) }
+        ensures promise { PacksBestAsPromised ⟦<Group<GroupId, Id> as Ord>⟧.cmp Id.cmp BinId.cmp
+            heuristics.now groups.now self.old result self.new }
         ensures always { IsSession BinId.cmp self.new }
     {
         let first = self.next;

@@ -42,7 +42,8 @@ pub enum SessionError {
     UnknownPlacement,
     /// The numbers of the placements would reach the greatest `u64`, which is never given.
     NumbersUsedUp,
-    /// For some group each bin is excluded or does not take all of its boxes.
+    /// For some group each bin is excluded or does not take all of its boxes; of `pack_best`, with
+    /// each heuristic of the list.
     NotEnoughBinSpace,
     /// A growth or a clone was refused.
     OutOfMemory,

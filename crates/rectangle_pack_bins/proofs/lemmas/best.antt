@@ -1,5 +1,5 @@
--- The best of several packings. Fillings is on how many cells placements fill, Steps on the best of a list of heuristics, one more
--- at a time; Whole shows that the packing by the best heuristic ends as the one did that was rolled back.
+-- The best of several packings. Fillings is on how many cells placements fill; Whole on packings with a heuristic that has a name,
+-- which have one result; Steps on the best of a list of heuristics, one more at a time.
 pub mod Fillings
-pub mod Steps
 pub mod Whole
+pub mod Steps

@@ -50,7 +50,8 @@ impl<Id: Ord, BinId, A: Allocator + Copy> RectanglePackOk<Id, BinId, A> {
 #[derive(Debug, PartialEq, Drop)]
 pub enum RectanglePackError {
     /// For some group each bin is excluded or does not take all of its boxes, as the groups
-    /// before it left the bins. Those groups stay placed.
+    /// before it left the bins. With `pack_rects` those groups stay placed. With `pack_rects_best`
+    /// this is so with each heuristic of the list, and nothing stays placed.
     NotEnoughBinSpace,
     /// A growth or a clone was refused. The bins are as they were before the call.
     OutOfMemory,

@@ -2,7 +2,7 @@
 ghost use Rattle.std.specs.Prelude.{◌≡◌, List, ◌⊎◌, ◌↔◌, All, IfOk, IfSome, MatchOption, Some, filter, map, nat_lt, true};
 ghost use Rattle.std.specs.Map.{keys_of};
 ghost use Rattle.rectangle_pack_groups.specs.Clones.{ClonesEqual};
-ghost use Rattle.rectangle_pack_bins.specs.Best.{IsBestOf, IsBetterUse, IsDoneBy, IsRefusedBy, filled_in, use_by, use_of};
+ghost use Rattle.rectangle_pack_bins.specs.Best.{IsBestOf, IsBetterUse, PacksWith, IsRefusedWith, cells_placed_in, use_by, use_of};
 ghost use Rattle.rectangle_pack_bins.specs.private.Cells.{cells_in};
 ghost use Rattle.rectangle_pack_bins.specs.Packing.{PackingDone, PackingRefused, bins_of, rules_by};
 ghost use Rattle.rectangle_pack_sections.specs.Bins.{Bin};
@@ -19,23 +19,23 @@ use std::alloc::{AllocError, Allocator};
 use std::collections::BTreeMap;
 use std::mem;
 
-/// How much of the bins a packing uses.
+/// What packings are compared by.
 #[derive(Clone, Copy)]
 pub struct Use {
-    /// In how many bins it places cells.
+    /// How many bins get cells.
     pub bins: usize,
-    /// How many cells it places in the last of them, in the order of ids.
+    /// How many cells the last of them gets, in the order of ids.
     pub last: u128,
 }
 
 impl Use {
-    // The use that places so many cells in the bins that get some.
-    fn by(filled: &[u128]) -> Self
-        ensures { result ≡ use_by filled.now }
+    // The use of so many cells in each bin that gets some, in the order of ids.
+    fn by(counts: &[u128]) -> Self
+        ensures { result ≡ use_by counts.now }
     {
         Use {
-            bins: filled.len(),
-            last: filled.last().copied().unwrap_or(0),
+            bins: counts.len(),
+            last: counts.last().copied().unwrap_or(0),
         }
     }
 
@@ -47,14 +47,14 @@ impl Use {
 }
 
 // How many cells are placed in each bin in which a box is placed.
-fn fill<'a, Id, B: Ord, A: Allocator + Copy>(
+fn count_cells<'a, Id, B: Ord, A: Allocator + Copy>(
     alloc: A,
     placements: &'a [Placement<Id, B>],
 ) -> Result<BTreeMap<&'a B, u128, A>, AllocError>
     ensures { IfOk result
         (λ cells.
         (id : B) →
-        cells_in B.cmp cells.entries id ≡ filled_in B.cmp placements.now id) }
+        cells_in B.cmp cells.entries id ≡ cells_placed_in B.cmp placements.now id) }
 {
     let mut cells = BTreeMap::new(alloc);
     for placement in placements {
@@ -71,7 +71,7 @@ fn fill<'a, Id, B: Ord, A: Allocator + Copy>(
 }
 
 // The counts of the bins that get cells, in the order of ids.
-fn filled<'a, B: Ord, A: Allocator + Copy>(
+fn counts_by_id<'a, B: Ord, A: Allocator + Copy>(
     alloc: A,
     bins: &'a BTreeMap<B, TargetBin<A>, A>,
     cells: &BTreeMap<&'a B, u128, A>,
@@ -81,14 +81,14 @@ fn filled<'a, B: Ord, A: Allocator + Copy>(
         v.items ≡
         filter (nat_lt 0) (map (cells_in B.cmp cells.now.entries) (keys_of bins.now.entries))) }
 {
-    let mut filled = Vec::new(alloc);
+    let mut counts = Vec::new(alloc);
     for (id, _) in bins {
         let count = cells.get(&id).copied().unwrap_or(0);
         if count > 0 {
-            filled.push(count)?;
+            counts.push(count)?;
         }
     }
-    Ok(filled)
+    Ok(counts)
 }
 
 // What use these placements make of the bins.
@@ -100,9 +100,9 @@ fn use_made<'a, Id, B: Ord, A: Allocator + Copy>(
     ensures { IfOk result
         (λ made. made ≡ use_of B.cmp placements.now (bins_of bins.now.entries)) }
 {
-    let cells = fill(alloc, placements)?;
-    let filled = filled(alloc, bins, &cells)?;
-    Ok(Use::by(filled.as_slice()))
+    let cells = count_cells(alloc, placements)?;
+    let counts = counts_by_id(alloc, bins, &cells)?;
+    Ok(Use::by(counts.as_slice()))
 }
 
 // Packs all groups, in which there are so many entries, and rolls the packing back: what it placed,
@@ -144,9 +144,9 @@ where
     Ok(if packed? { Some(placements) } else { None })
 }
 
-// By this heuristic: what use the packing makes of the bins, or `None` where it is refused. The
-// bins stay as they are.
-fn try_by<Id, BinId, GroupId, A>(
+// What use a packing with this heuristic makes of the bins, or `None` where it is refused. The bins
+// stay as they are.
+fn try_with<Id, BinId, GroupId, A>(
     alloc: A,
     rects_to_place: &GroupedRectsToPlace<Id, GroupId, A>,
     target_bins: &mut BTreeMap<BinId, TargetBin<A>, A>,
@@ -165,8 +165,8 @@ where
         let order = ⟦<Group<GroupId, Id> as Ord>⟧.cmp in
         let old = bins_of target_bins.old.entries in
         MatchOption found
-        (IsRefusedBy order Id.cmp BinId.cmp rects_to_place.now old heuristic)
-        (IsDoneBy order Id.cmp BinId.cmp rects_to_place.now old heuristic)) }
+        (IsRefusedWith order Id.cmp BinId.cmp rects_to_place.now old heuristic)
+        (PacksWith order Id.cmp BinId.cmp rects_to_place.now old heuristic)) }
     ensures same { bins_of target_bins.new.entries ≡ bins_of target_bins.old.entries }
 {
     match rehearse(
@@ -192,9 +192,9 @@ fn better_of(best: Option<(Heuristic, Use)>, next: (Heuristic, Use)) -> (Heurist
     }
 }
 
-/// By which heuristic of the list the packing of these groups, in which there are so many entries,
-/// makes the best use of the bins, the first of those by which it is as good, and this use; `None`
-/// where by each the packing is refused. The bins stay as they are.
+/// The heuristic of the list with which a packing of these groups makes the best use of the bins,
+/// the first of those with which it is as good, and this use; `None` where with each the packing is
+/// refused for space. The bins stay as they are. Room is made for so many entries of the groups.
 pub fn best_of<Id, BinId, GroupId, A>(
     alloc: A,
     rects_to_place: &GroupedRectsToPlace<Id, GroupId, A>,
@@ -215,15 +215,13 @@ where
         let all = rects_to_place.now in
         let old = bins_of target_bins.old.entries in
         MatchOption found
-        (All (IsRefusedBy order Id.cmp BinId.cmp all old) heuristics.now)
-        (λ best.
-        IsDoneBy order Id.cmp BinId.cmp all old best.0 best.1 ×
-        IsBestOf order Id.cmp BinId.cmp all old heuristics.now best.0 best.1)) }
+        (All (IsRefusedWith order Id.cmp BinId.cmp all old) heuristics.now)
+        (λ best. IsBestOf order Id.cmp BinId.cmp all old heuristics.now best.0 best.1)) }
     ensures same { bins_of target_bins.new.entries ≡ bins_of target_bins.old.entries }
 {
     let mut best = None;
     for heuristic in heuristics {
-        let made = try_by(alloc, rects_to_place, target_bins, entries, *heuristic)?;
+        let made = try_with(alloc, rects_to_place, target_bins, entries, *heuristic)?;
         if let Some(made) = made {
             best = Some(better_of(best, (*heuristic, made)));
         }

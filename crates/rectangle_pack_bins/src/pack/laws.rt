@@ -10,6 +10,7 @@ ghost use Rattle.rectangle_pack_sections.specs.Closures.{MayRateBy, MayCompare, 
 ghost use Rattle.rectangle_pack_sections.specs.Choice.{IsFunction, IsTotalPreorder};
 ghost use Rattle.rectangle_pack_groups.specs.Groups.{Collection};
 ghost use Rattle.rectangle_pack_groups.specs.Exclusions.{are_excluded};
+ghost use Rattle.rectangle_pack_bins.specs.Best.{named_rules};
 ghost use Rattle.rectangle_pack_bins.specs.Packing.{rules_by, excludes_by, excludes_none, AreKeptApart, PackingDone, PackingDoneBy, PackingRefused, PackingRefusedBy};
 ghost use Rattle.rectangle_pack_bins.specs.Placed.{AreLastPlacements, ArePlacedWhole};
 ghost use Rattle.rectangle_pack_bins.specs.KeptBins.{KeepsEachBin};
@@ -79,7 +80,8 @@ pub fn locations_follow_placements<Id: Ord, BinId: Ord>()
 {}
 
 /// A law: with a heuristic that has a name and `contains_smallest_box`, or closures that answer as
-/// they do, two packings have one result.
+/// they do, two packings have one result; and this is the one of a packing with this heuristic, as
+/// `pack_rects_best` makes it.
 pub fn named_packing_has_one_result<Id, BinId, GroupId, H, C, I, D>(
     named: Heuristic,
     heuristic: &H,
@@ -106,7 +108,7 @@ where
     requires other_smallest { (a b : List Size) (r : Ordering) →
         MayCompare D.Fn other_comparison.now other_heuristic.now a b r →
         IsSmallestOrder (I.post other_heuristic.now) a b r }
-    ensures { let groups = ⟦<Group<GroupId, Id> as Ord>⟧.cmp in
+    ensures closures { let groups = ⟦<Group<GroupId, Id> as Ord>⟧.cmp in
         let rules = rules_by Id.cmp BinId.cmp in
         let may = answers H.Fn C.Fn heuristic.now comparison.now in
         let other_may = answers I.Fn D.Fn other_heuristic.now other_comparison.now in
@@ -114,6 +116,13 @@ where
         AreCollectionsAlike groups Id.cmp all others →
         AreBinsAlike BinId.cmp bins other_bins →
         HaveOneResult groups (rules may) (rules other_may) all others bins other_bins }
+    ensures by_name { let groups = ⟦<Group<GroupId, Id> as Ord>⟧.cmp in
+        let rules = rules_by Id.cmp BinId.cmp (answers H.Fn C.Fn heuristic.now comparison.now) in
+        (all others : Collection Id GroupId) (bins other_bins : List (BinId × Bin)) →
+        AreCollectionsAlike groups Id.cmp all others →
+        AreBinsAlike BinId.cmp bins other_bins →
+        HaveOneResult groups rules (named_rules Id.cmp BinId.cmp named) all others bins
+        other_bins }
 {}
 
 /// A law: where the heuristics of two packings have one answer on each size that may be rated, and

@@ -7,7 +7,7 @@ use Rattle.rectangle_pack_sections.specs.Counting.{total_volume}
 use Rattle.rectangle_pack_lists.specs.Numbers.{saturated}
 use Rattle.rectangle_pack_groups.proofs.lemmas.util.Maps.{congr_right}
 use Rattle.rectangle_pack_bins.specs.declared.pack.answer.Placement.{Placement}
-use Rattle.rectangle_pack_bins.specs.Best.{filled_in}
+use Rattle.rectangle_pack_bins.specs.Best.{cells_placed_in}
 use Rattle.rectangle_pack_bins.specs.KeptBins.{locations_in}
 use Rattle.rectangle_pack_bins.specs.private.Cells.{cells_in}
 use Rattle.rectangle_pack_bins.proofs.lemmas.packing.Placed.{locations_in-append}
@@ -19,29 +19,29 @@ module _ {Id B : Type 0} {cmp : B → B → Ordering} (o : IsTotalOrder cmp) whe
   placed_in-same id q same [] = refl
   placed_in-same id q same (p ∷ ps) = rw (congr_right o id q p.bin same, placed_in-same id q same ps) refl
 
-  pub filled_in-same : (id q : B) → cmp id q ≡ Equal → (ps : List (Placement Id B)) → filled_in cmp ps id ≡ filled_in cmp ps q
-  filled_in-same id q same ps = ap (λ (here : List (Placement Id B)). saturated (total_volume (map (λ p. p.location) here))) (placed_in-same id q same ps)
+  pub cells_placed_in-same : (id q : B) → cmp id q ≡ Equal → (ps : List (Placement Id B)) → cells_placed_in cmp ps id ≡ cells_placed_in cmp ps q
+  cells_placed_in-same id q same ps = ap (λ (here : List (Placement Id B)). saturated (total_volume (map (λ p. p.location) here))) (placed_in-same id q same ps)
 
   -- one placement more, in this bin or in another one
-  filled_in-more : (ps : List (Placement Id B)) (p : Placement Id B) (id : B) (b : Bool) → is_at (cmp p.bin) id ≡ b
-      → filled_in cmp (ps ++ p ∷ []) id ≡ cond b (saturated (filled_in cmp ps id + volume_of p.location.whd)) (filled_in cmp ps id)
-  filled_in-more ps p id true here = rw (locations_in-append cmp ps (p ∷ []) id, here)
+  cells_placed_in-more : (ps : List (Placement Id B)) (p : Placement Id B) (id : B) (b : Bool) → is_at (cmp p.bin) id ≡ b
+      → cells_placed_in cmp (ps ++ p ∷ []) id ≡ cond b (saturated (cells_placed_in cmp ps id + volume_of p.location.whd)) (cells_placed_in cmp ps id)
+  cells_placed_in-more ps p id true here = rw (locations_in-append cmp ps (p ∷ []) id, here)
       (rw (sum_by_push (λ (l : Cuboid). volume_of l.whd) (locations_in cmp ps id) p.location) (omega arith))
-  filled_in-more ps p id false elsewhere = rw (locations_in-append cmp ps (p ∷ []) id, elsewhere, append-nil (locations_in cmp ps id)) refl
+  cells_placed_in-more ps p id false elsewhere = rw (locations_in-append cmp ps (p ∷ []) id, elsewhere, append-nil (locations_in cmp ps id)) refl
 
   -- so the counts of all bins are right after it is counted
   pub cells_in-more : (ps : List (Placement Id B)) (p : Placement Id B) (old new : List (Bor B × ℕ)) (count : ℕ)
-      → ((q : B) → cells_in cmp old q ≡ filled_in cmp ps q) → count ≡ saturated (cells_in cmp old p.bin + volume_of p.location.whd)
+      → ((q : B) → cells_in cmp old q ≡ cells_placed_in cmp ps q) → count ≡ saturated (cells_in cmp old p.bin + volume_of p.location.whd)
       → ((q : B) → lookup (λ bin. is_at (cmp q) bin.now) new ≡ cond (is_at (cmp p.bin) q) (Some count) (lookup (λ bin. is_at (cmp q) bin.now) old))
-      → (id : B) → cells_in cmp new id ≡ filled_in cmp (ps ++ p ∷ []) id
+      → (id : B) → cells_in cmp new id ≡ cells_placed_in cmp (ps ++ p ∷ []) id
   cells_in-more ps p old new count right counted updates id = by (is_at (cmp p.bin) id) refl
     where
-      by : (b : Bool) → is_at (cmp p.bin) id ≡ b → cells_in cmp new id ≡ filled_in cmp (ps ++ p ∷ []) id
+      by : (b : Bool) → is_at (cmp p.bin) id ≡ b → cells_in cmp new id ≡ cells_placed_in cmp (ps ++ p ∷ []) id
       by true here =
-          let same : filled_in cmp ps p.bin ≡ filled_in cmp ps id = filled_in-same p.bin id ((Equal-is _).0 here) ps in
-          ap (λ found. unwrap_or found 0) (updates id) ∙ rw (here, counted, right p.bin, same) refl ∙ sym (filled_in-more ps p id true here)
+          let same : cells_placed_in cmp ps p.bin ≡ cells_placed_in cmp ps id = cells_placed_in-same p.bin id ((Equal-is _).0 here) ps in
+          ap (λ found. unwrap_or found 0) (updates id) ∙ rw (here, counted, right p.bin, same) refl ∙ sym (cells_placed_in-more ps p id true here)
       by false elsewhere =
-          ap (λ found. unwrap_or found 0) (updates id) ∙ rw elsewhere (right id) ∙ sym (filled_in-more ps p id false elsewhere)
+          ap (λ found. unwrap_or found 0) (updates id) ∙ rw elsewhere (right id) ∙ sym (cells_placed_in-more ps p id false elsewhere)
 
 -- a bin more, which gets no cell
 pub filled-none : {K X : Type 0} (count : K → ℕ) (es : List (K × X)) (e : K × X) → count e.0 ≤ 0

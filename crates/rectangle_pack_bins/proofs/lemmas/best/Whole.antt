@@ -1,11 +1,11 @@
--- A packing by the best heuristic ends as the one did that was rolled back, and makes the same use of the bins.
+-- A packing with a heuristic that has a name has one result, and so it makes one use of the bins.
 use Rattle.rectangle_pack_sections.proofs.Std.{◌≡◌, ℕ, Bool, true, false, cond, List, [], ◌∷◌, refl, sym, ap, ◌∙◌, filter, map, nat_lt, All, Ordering, Equal}
 use Rattle.rectangle_pack_sections.proofs.Std.{IsTotalOrder, tied_itself, is_at, keys_of, values_of, fun_ext, Result, Ok, Err}
 use Rattle.rectangle_pack_sections.specs.declared.box_size_heuristics.named.Heuristic.{Heuristic}
 use Rattle.rectangle_pack_sections.specs.Bins.{Bin}
 use Rattle.rectangle_pack_sections.specs.Boxes.{Cuboid}
 use Rattle.rectangle_pack_sections.specs.Counting.{total_volume}
-use Rattle.rectangle_pack_sections.specs.Heuristics.{rate_of, by_name}
+use Rattle.rectangle_pack_sections.specs.Heuristics.{rate_of, named_answers}
 use Rattle.rectangle_pack_lists.specs.Numbers.{saturated}
 use Rattle.rectangle_pack_groups.specs.declared.grouped_rects_to_place.Group.{Group}
 use Rattle.rectangle_pack_groups.specs.Groups.{Collection}
@@ -14,9 +14,9 @@ use Rattle.rectangle_pack_bins.specs.declared.pack.answer.RectanglePackOk.{Recta
 use Rattle.rectangle_pack_bins.specs.declared.pack.answer.RectanglePackError.{RectanglePackError}
 use Rattle.rectangle_pack_bins.specs.declared.pack.answer.RectanglePackError.TheVariants.{NotEnoughBinSpace, OutOfMemory}
 use Rattle.rectangle_pack_bins.specs.declared.pack.best.Use.{Use}
-use Rattle.rectangle_pack_bins.specs.Best.{use_by, filled_in, use_of, IsDoneBy, IsBestOf, IsBestAnswer}
+use Rattle.rectangle_pack_bins.specs.Best.{use_by, cells_placed_in, use_of, named_rules, PacksWith, IsRefusedWith, IsBestOf, IsBestAnswer}
 use Rattle.rectangle_pack_bins.specs.KeptBins.{locations_in}
-use Rattle.rectangle_pack_bins.specs.Packing.{rules_by, PackingDone, PackingRefused}
+use Rattle.rectangle_pack_bins.specs.Packing.{PackingDone, PackingRefused}
 use Rattle.rectangle_pack_bins.specs.PackAnswers.{IsPacked, IsCountedAnswer}
 use Rattle.rectangle_pack_bins.specs.Placed.{placements_of}
 use Rattle.rectangle_pack_bins.specs.Results.{ArePlacementsAlike, HaveOneResult}
@@ -52,41 +52,45 @@ module _ {Id B G : Type 0} {group_cmp : Group G Id → Group G Id → Ordering} 
     (group_total : IsTotalOrder group_cmp) (total : IsTotalOrder cmp) (bin_total : IsTotalOrder bin_cmp)
     (all : Collection Id G) (old : List (B × Bin)) where
   -- by a heuristic of a name there is one result
-  one_by_name : (h : Heuristic) → HaveOneResult group_cmp (rules_by cmp bin_cmp (by_name h)) (rules_by cmp bin_cmp (by_name h)) all all old old
+  one_by_name : (h : Heuristic) → HaveOneResult group_cmp (named_rules cmp bin_cmp h) (named_rules cmp bin_cmp h) all all old old
   one_by_name h =
-      one_result group_cmp (rules_by cmp bin_cmp (by_name h)) group_total total bin_total all all old old
+      one_result group_cmp (named_rules cmp bin_cmp h) group_total total bin_total all all old old
       (record {
         sizes = AllZip-itself _ (λ e. (tied_itself total e.0, refl)) all.sizes;
         groups = AllZip-itself _ (λ e. (tied_itself group_total e.0, AllZip-itself _ (tied_itself total) e.1)) all.groups;
         excluded = λ a b. refl;
       })
       (AllZip-itself _ (λ e. (tied_itself bin_total e.0, record { size = refl; sections = refl })) old)
-      (total_decides (values_of all.sizes) (values_of old) (by_name h) (record { rate = rate_of h; only = λ size rate says. says })
-      (smallest_is_preorder (λ size rate. rate ≡ rate_of h size) (rate_of h) (λ size rate small says. says) (by_name h).prefer
+      (total_decides (values_of all.sizes) (values_of old) (named_answers h) (record { rate = rate_of h; only = λ size rate says. says })
+      (smallest_is_preorder (λ size rate. rate ≡ rate_of h size) (rate_of h) (λ size rate small says. says) (named_answers h).prefer
       (λ a b r says. (says.0.small, says.1.small)) (λ a b r says. says.2)))
 
-  -- so what is done by it makes one use of the bins
-  pub use-same : (h : Heuristic) (made : Use) → IsDoneBy group_cmp cmp bin_cmp all old h made → (placements : List (Placement Id B)) (new : List (B × Bin))
-      → PackingDone group_cmp (rules_by cmp bin_cmp (by_name h)) all old placements new → made ≡ use_of bin_cmp placements old
+  -- so what is done with it makes one use of the bins
+  pub use-same : (h : Heuristic) (made : Use) → PacksWith group_cmp cmp bin_cmp all old h made → (placements : List (Placement Id B)) (new : List (B × Bin))
+      → PackingDone group_cmp (named_rules cmp bin_cmp h) all old placements new → made ≡ use_of bin_cmp placements old
   use-same h made done placements new again =
       done.use_is ∙ use_of-alike cmp bin_total done.placements placements old ((one_by_name h).done done.placements placements done.new new done.done again).1
 
-  -- and is not refused for space
-  pub not-refused : (h : Heuristic) (made : Use) → IsDoneBy group_cmp cmp bin_cmp all old h made → (left : List (B × Bin))
-      → PackingRefused group_cmp (rules_by cmp bin_cmp (by_name h)) all old left → ⊥
-  not-refused h made done left refused = (one_by_name h).not_done_and_refused done.placements done.new left done.done refused
+  pub one-use : (h : Heuristic) (made other : Use) → PacksWith group_cmp cmp bin_cmp all old h made → PacksWith group_cmp cmp bin_cmp all old h other
+      → made ≡ other
+  one-use h made other done again = use-same h made done again.placements again.new again.done ∙ sym again.use_is
 
-  -- so the packing by the best heuristic makes the best use
-  pub best-packed : {A : Type 0} (heuristics : List Heuristic) (best : Heuristic) (made : Use) → IsDoneBy group_cmp cmp bin_cmp all old best made
-      → IsBestOf group_cmp cmp bin_cmp all old heuristics best made → (ok : RectanglePackOk Id B A) (new : List (B × Bin))
-      → IsPacked group_cmp (rules_by cmp bin_cmp (by_name best)) all old ok new
+  -- and is not refused for space
+  pub not-refused : (h : Heuristic) (made : Use) → PacksWith group_cmp cmp bin_cmp all old h made → IsRefusedWith group_cmp cmp bin_cmp all old h → ⊥
+  not-refused h made done refused =
+      (one_by_name h).not_done_and_refused done.placements done.new refused.left done.done refused.refused
+
+  -- so the packing with the best heuristic makes the best use
+  pub best-packed : {A : Type 0} (heuristics : List Heuristic) (best : Heuristic) (made : Use) → IsBestOf group_cmp cmp bin_cmp all old heuristics best made
+      → (ok : RectanglePackOk Id B A) (new : List (B × Bin)) → IsPacked group_cmp (named_rules cmp bin_cmp best) all old ok new
       → IsBestAnswer group_cmp cmp bin_cmp all old heuristics (Ok (best, ok)) new
-  best-packed heuristics best made done b ok new packed = (packed, rw (← use-same best made done (placements_of ok) new packed.done) b)
+  best-packed heuristics best made b ok new packed = (packed, rw (← use-same best made b.done (placements_of ok) new packed.done) b)
 
   -- or ends for want of memory
-  pub best-failed : (A : Type 0) (heuristics : List Heuristic) (best : Heuristic) (made : Use) → IsDoneBy group_cmp cmp bin_cmp all old best made
+  pub best-failed : (A : Type 0) (heuristics : List Heuristic) (best : Heuristic) (made : Use) → IsBestOf group_cmp cmp bin_cmp all old heuristics best made
       → (error : RectanglePackError) (now new : List (B × Bin)) (before after : ℕ) → now ≡ old
-      → IsCountedAnswer group_cmp (rules_by cmp bin_cmp (by_name best)) {A = A} all now before (Err error) new after
+      → IsCountedAnswer group_cmp (named_rules cmp bin_cmp best) {A = A} all now before (Err error) new after
       → IsBestAnswer group_cmp cmp bin_cmp all old {A = A} heuristics (Err error) new
-  best-failed A heuristics best made done NotEnoughBinSpace now new before after same h = absurd (not-refused best made done new (rw same at h.0))
-  best-failed A heuristics best made done OutOfMemory now new before after same h = h.0 ∙ same
+  best-failed A heuristics best made b NotEnoughBinSpace now new before after same h =
+      absurd (not-refused best made b.done (record { left = new; refused = rw same at h.0 }))
+  best-failed A heuristics best made b OutOfMemory now new before after same h = h.0 ∙ same

@@ -14,7 +14,7 @@ returns-in_err-packed-in-Ok-Some g c =
           (best-failed (groups_total _ g.Id.Ord.cmp g.GroupId.Ord.cmp g.met.Id.Ord.total g.met.GroupId.Ord.total (λ a b. refl) (λ a b. refl) (λ a b. refl) (λ a b. refl))
           g.met.Id.Ord.total g.met.BinId.Ord.total c.args.rects_to_place.now (bins_of c.args.target_bins.now.entries) g.row.A.Denot c.args.heuristics.now
           c.in-Ok-Some.heuristic
-          c.in-Ok-Some.field-0-0-1 best.0 _ _ _ _ _ c.in-Ok-Some.ensures.same c.in_err-packed-in-Ok-Some.ensures.answer);
+          c.in-Ok-Some.field-0-0-1 best _ _ _ _ _ c.in-Ok-Some.ensures.same c.in_err-packed-in-Ok-Some.ensures.answer);
     }
 
 pub returns-in_ok-packed-in-Ok-Some : goal.returns-in_ok-packed-in-Ok-Some
@@ -23,6 +23,6 @@ returns-in_ok-packed-in-Ok-Some g c =
     record {
       answer = best-packed (groups_total _ g.Id.Ord.cmp g.GroupId.Ord.cmp g.met.Id.Ord.total g.met.GroupId.Ord.total (λ a b. refl) (λ a b. refl) (λ a b. refl) (λ a b. refl))
           g.met.Id.Ord.total g.met.BinId.Ord.total c.args.rects_to_place.now (bins_of c.args.target_bins.now.entries) c.args.heuristics.now c.in-Ok-Some.heuristic
-          c.in-Ok-Some.field-0-0-1 best.0 best.1 c.in_ok-packed-in-Ok-Some.packed (bins_of c.pack_by.new.target_bins.entries)
+          c.in-Ok-Some.field-0-0-1 best c.in_ok-packed-in-Ok-Some.packed (bins_of c.pack_by.new.target_bins.entries)
           (rw c.in-Ok-Some.ensures.same at c.in_ok-packed-in-Ok-Some.ensures.answer).0;
     }

@@ -5,5 +5,5 @@ use Rattle.rectangle_pack_bins.proofs.pack.best.use_made.Goals as goal
 
 pub returns : goal.returns
 returns g c =
-    c.by.ensures ∙ rw (c.as_slice.ensures.value, c.in_ok-filled.ensures, keys-bins c.args.bins.now.entries)
+    c.by.ensures ∙ rw (c.as_slice.ensures.value, c.in_ok-counts.ensures, keys-bins c.args.bins.now.entries)
     (ap (λ count. use_by (filter (nat_lt 0) (map count (keys_of c.args.bins.now.entries)))) (fun_ext c.in_ok-cells.ensures))

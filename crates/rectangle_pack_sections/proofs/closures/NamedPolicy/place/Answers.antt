@@ -1,12 +1,12 @@
 use Rattle.rectangle_pack_sections.proofs.Std.{ap, ◌∙◌}
 use Rattle.rectangle_pack_sections.specs.Cuts.{sizes_of}
-use Rattle.rectangle_pack_sections.specs.Heuristics.{by_name, rate_of}
+use Rattle.rectangle_pack_sections.specs.Heuristics.{named_answers, rate_of}
 use Rattle.rectangle_pack_sections.proofs.lemmas.cuts.Choices.{MayChoose-more, smallest_more}
 use Rattle.rectangle_pack_sections.proofs.closures.NamedPolicy.place.Goals as goal
 
 pub returns-clause-pieces : goal.returns-clause-pieces
 returns-clause-pieces c =
-    MayChoose-more _ (λ a b. (by_name c.args.self.now.0).prefer (sizes_of a) (sizes_of b))
+    MayChoose-more _ (λ a b. (named_answers c.args.self.now.0).prefer (sizes_of a) (sizes_of b))
     (λ a b r says. (
       says.first_three,
       says.second_three,

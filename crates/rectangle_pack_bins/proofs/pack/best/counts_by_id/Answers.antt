@@ -1,7 +1,7 @@
 use Rattle.rectangle_pack_sections.proofs.Std.{◌≡◌, refl, sym, ◌∙◌, map, deref_pair, map_push}
 use Rattle.rectangle_pack_bins.specs.private.Cells.{cells_in}
 use Rattle.rectangle_pack_bins.proofs.lemmas.best.Fillings.{filled-none}
-use Rattle.rectangle_pack_bins.proofs.pack.best.filled.Goals as goal
+use Rattle.rectangle_pack_bins.proofs.pack.best.counts_by_id.Goals as goal
 
 pub loop-id-preserved : goal.loop-id-preserved
 loop-id-preserved g c =

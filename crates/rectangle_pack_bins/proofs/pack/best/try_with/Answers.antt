@@ -1,5 +1,5 @@
 use Rattle.rectangle_pack_sections.proofs.Std.{refl, ◌∙◌}
-use Rattle.rectangle_pack_bins.proofs.pack.best.try_by.Goals as goal
+use Rattle.rectangle_pack_bins.proofs.pack.best.try_with.Goals as goal
 
 pub returns-in_ok-use_made-in-Some-clause-tried : goal.returns-in_ok-use_made-in-Some-clause-tried
 returns-in_ok-use_made-in-Some-clause-tried g c =

@@ -3,7 +3,7 @@ use Rattle.rectangle_pack_sections.specs.Boxes.{volume_of}
 use Rattle.rectangle_pack_lists.specs.Numbers.{saturated}
 use Rattle.rectangle_pack_bins.specs.private.Cells.{cells_in}
 use Rattle.rectangle_pack_bins.proofs.lemmas.best.Fillings.{cells_in-more}
-use Rattle.rectangle_pack_bins.proofs.pack.best.fill.Goals as goal
+use Rattle.rectangle_pack_bins.proofs.pack.best.count_cells.Goals as goal
 
 pub loop-placement-preserved : goal.loop-placement-preserved
 loop-placement-preserved g c = λ id.
