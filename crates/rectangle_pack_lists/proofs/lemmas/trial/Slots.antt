@@ -1,7 +1,7 @@
 -- The sections of lists of slots.
 use Rattle.rectangle_pack_sections.proofs.Std.{◌≡◌, ◌≤◌, ◌<◌, ◌+◌, ◌-◌, ℕ, suc, List, [], ◌∷◌, ◌++◌, length, take, drop, get_or, refl, sym, ap, arith}
 use Rattle.rectangle_pack_sections.proofs.Std.{length-append, length-drop, ◌∙◌, Option, Some, None, drop-cons, take-append-drop, drop-drop, length-take-le}
-use Rattle.rectangle_pack_sections.proofs.Std.{take_more, All-append, All-cons}
+use Rattle.rectangle_pack_sections.proofs.Std.{take_more, nil_from_length, All-nil, All-append, All-cons}
 use Rattle.rectangle_pack_sections.specs.Boxes.{Cuboid, Size, Holds}
 use Rattle.rectangle_pack_lists.specs.private.Slots.{sections_of, IsLastHolding, NoneHolds}
 
@@ -29,6 +29,12 @@ NoneHolds-append a b size m n p q =
 -- no more sections are tested than there are slots
 pub NoneHolds-most : (s : List (Option Cuboid)) (i : ℕ) (size : Size) (n : ℕ) → NoneHolds (drop i s) size n → n ≤ length s - i
 NoneHolds-most s i size n p = omega (arith, p.tests_are, length-sections_of (drop i s), length-drop i s)
+
+-- past the last slot stands none
+pub NoneHolds-past : (s : List (Option Cuboid)) (end : ℕ) (size : Size) → length s ≤ end → NoneHolds (drop end s) size 0
+NoneHolds-past s end size past =
+    let none : drop end s ≡ [] = nil_from_length _ (omega (arith, length-drop end s)) in
+    rw none (record { none = All-nil _; tests_are = refl })
 
 -- a stretch, and the slots from its end on
 pub NoneHolds-skip : (s : List (Option Cuboid)) (begin end : ℕ) (size : Size) (m n : ℕ)

@@ -1,6 +1,6 @@
 use Rattle.rectangle_pack_sections.proofs.Std.{arith, rules, ap, sym, ◌∙◌}
 use Rattle.rectangle_pack_lists.specs.private.Slots.{Slots}
-use Rattle.rectangle_pack_lists.proofs.lemmas.trial.Slots.{NoneHolds-most, NoneHolds-skip, NoneHolds-empty, NoneHolds-section, IsLastHolding-at}
+use Rattle.rectangle_pack_lists.proofs.lemmas.trial.Slots.{NoneHolds-past, NoneHolds-most, NoneHolds-skip, NoneHolds-empty, NoneHolds-section, IsLastHolding-at}
 use Rattle.rectangle_pack_lists.proofs.section_slots.SectionSlots.last_holding.Goals as goal
 
 pub overflow_add-tests : goal.overflow_add-tests
@@ -49,3 +49,6 @@ loop-end-preserved g c =
       none = NoneHolds-empty c.self.inside.slots.items c.loop-end.end c.loop-end-test.true now.within _ _ now.none _
           (sym c.in_default-index.is ∙ c.index.ensures);
     }
+
+pub loop-end-init : goal.loop-end-init
+loop-end-init g c = record { within = omega arith; none = NoneHolds-past c.self.inside.slots.items _ c.args.member.now (omega arith) }
