@@ -1,5 +1,5 @@
 -- Parts of lists, and pairs of their elements.
-use Rattle.rectangle_pack_sections.proofs.Std.{◌≡◌, ◌+◌, List, [], ◌∷◌, ◌++◌, get_or, arith, subst, All, All-append, All-cons, All-head, All-nil, All-tail, suc}
+use Rattle.rectangle_pack_sections.proofs.Std.{◌≡◌, List, [], ◌∷◌, ◌++◌, get_or, arith, subst, All, All-append, All-cons, All-head, All-nil, All-tail, suc}
 use Rattle.rectangle_pack_sections.proofs.Std.{AllPairs, AllPairs-cons, zero}
 
 -- the parts of two joined lists
