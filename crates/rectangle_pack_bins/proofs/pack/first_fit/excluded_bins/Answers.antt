@@ -1,5 +1,5 @@
 use Rattle.rectangle_pack_sections.proofs.Std.{◌≡◌, ◌||◌, Bool, false, refl, sym, ◌∙◌, ap, take, ◌+◌, unwrap_or, option_map, option_copied, is_at, list_any}
-use Rattle.rectangle_pack_sections.proofs.Std.{Bor, list_any_more, or-false}
+use Rattle.rectangle_pack_sections.proofs.Std.{Bor, list_any_more, or-false, take_all}
 use Rattle.rectangle_pack_bins.specs.private.Excluded.{are_in, went_to}
 use Rattle.rectangle_pack_bins.proofs.lemmas.packing.Excluded.{excluded-more}
 use Rattle.rectangle_pack_bins.proofs.pack.first_fit.excluded_bins.Goals.{in-Some+in_ok-insert, in_default}
@@ -28,3 +28,6 @@ loop-partner-preserved g c = λ id.
           let same : (list_any t (take i c.args.partners.now) || t p) ≡ list_any t (take i c.args.partners.now) = rw none (or-false _) in
           ap (λ s. are_in g.B.Ord.cmp s.keys id) w.excluded-is ∙ before ∙ sym same ∙ sym more
     ]
+
+pub returns : goal.returns
+returns g c = λ id. rw (take_all c.loop-partner.partner-index c.args.partners.now c.loop-partner-test.false) at c.loop-partner.invariant id

@@ -25,3 +25,6 @@ pub returns-clause-noted : goal.returns-clause-noted
 returns-clause-noted g c =
     rw (← c.self.view_is)
     (LeavesNotes-tried {E = AllocError} _ _ _ c.args.members.now _ (Ok c.in_ok-done.done) _ _ _ _ c.in_ok-done.ensures.tried c.in_ok-done.ensures.noted)
+
+pub returns-clause-room : goal.returns-clause-room
+returns-clause-room g c = rw (← c.self.view_is) c.in_ok-done.ensures.room
