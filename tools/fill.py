@@ -33,9 +33,9 @@ ROOT = os.path.dirname(TOOLS)
 COMPILE = ["cc", "-O3", "-march=x86-64-v2"]
 
 # What fill.rt.in answers to each question, and fill_by_hand.c, in their order.
-HEURISTICS = ["volume", "height", "width", "depth", "side-sum", "longest-side", "shortest-side"]
-EIGHTH, BEST, BEST_OF_EIGHT = "height times depth", "best of all", "best of eight"
-OURS = [*HEURISTICS, EIGHTH, BEST]
+HEURISTICS = ["volume", "height", "width", "depth", "side-sum", "longest-side", "shortest-side", "side-area"]
+BEST = "best of all"
+OURS = [*HEURISTICS, BEST]
 BY_HAND, STB = ["MaxRects", "shelves"], "stb_rect_pack"
 
 Box = tuple[int, int, int]
@@ -239,8 +239,6 @@ def ask(programs: Programs, table: Table) -> list[Answered]:
     asked = list(table.asked())
     text = lines(asked)
     found = answers(programs.ours, OURS, text)
-    for numbers in found:
-        numbers[BEST_OF_EIGHT] = min(numbers[BEST] or numbers[EIGHTH], numbers[EIGHTH] or numbers[BEST])
     if table.is_flat:
         found = [ours | theirs for ours, theirs in zip(found, answers(programs.by_hand, programs.packers, text), strict=True)]
     return [Answered(one, numbers) for one, numbers in zip(asked, found, strict=True)]
@@ -250,15 +248,11 @@ def table_line(words: list[str]) -> str:
     return "| " + " | ".join(words) + " |"
 
 
-def print_table(table: Table, programs: Programs, with_eighth: bool) -> None:
+def print_table(table: Table, programs: Programs) -> None:
     """Asks, and prints a line for each packer."""
     answered = ask(programs, table)
     names = list(dict.fromkeys(one.asked.of for one in answered))
-    packers = [*HEURISTICS, BEST]
-    if table.has_mean:
-        packers += [EIGHTH, BEST_OF_EIGHT] if with_eighth else []
-    if table.is_flat:
-        packers += programs.packers
+    packers = OURS + (programs.packers if table.is_flat else [])
     print(table_line(["", *names] + (["mean"] if table.has_mean else [])))
     print("|---" + "|---:" * (len(names) + table.has_mean) + "|")
     for packer in packers:
@@ -302,7 +296,6 @@ def build(room: str) -> Programs:
 def arguments() -> argparse.Namespace:
     parser = argparse.ArgumentParser(description=__doc__, formatter_class=argparse.RawDescriptionHelpFormatter)
     parser.add_argument("--table", action="append", choices=TABLES, help="this table alone; may be given several times")
-    parser.add_argument("--eighth", action="store_true", help="also by height times depth, which the library has no heuristic for")
     return parser.parse_args()
 
 
@@ -311,7 +304,7 @@ def main() -> None:
     with tempfile.TemporaryDirectory(prefix="fill-") as room:
         programs = build(room)
         for name in given.table or ["squares", "pages", "containers"]:
-            print_table(TABLES[name], programs, given.eighth)
+            print_table(TABLES[name], programs)
 
 
 if __name__ == "__main__":

@@ -1,11 +1,9 @@
-//! A texture atlas. The sprites of a level go onto pages, those of one kind onto one page. Then the
+//! A texture atlas. The sprites of a level go onto pages, those of one kind onto one page, packed
+//! with the best of all heuristics; an atlas that is packed by volume stands beside it. Then the
 //! level is unloaded, and the sprites of the next one go where its sprites were.
 #![tactic(auto)]
 
-use rectangle_pack::{
-    GroupedRectsToPlace, RectToInsert, Session, SessionError, contains_smallest_box,
-    volume_heuristic,
-};
+use rectangle_pack::{GroupedRectsToPlace, Heuristic, RectToInsert, Session, SessionError};
 use std::alloc::Global;
 use std::io;
 
@@ -44,8 +42,14 @@ type Sprite = (&'static str, u32);
 
 type Atlas = Session<Sprite, u32>;
 
-// Packs the kinds, onto new pages where those that are there do not take them.
-fn load(atlas: &mut Atlas, kinds: &[Kind], alloc: Global) -> Result<(), SessionError> {
+// Packs the kinds with the best of the heuristics, onto new pages where those that are there do not
+// take them; which one it is.
+fn load(
+    atlas: &mut Atlas,
+    kinds: &[Kind],
+    heuristics: &[Heuristic],
+    alloc: Global,
+) -> Result<Heuristic, SessionError> {
     let mut sprites = GroupedRectsToPlace::new(alloc);
     for (name, count, width, height) in kinds {
         for number in 0..*count {
@@ -58,11 +62,11 @@ fn load(atlas: &mut Atlas, kinds: &[Kind], alloc: Global) -> Result<(), SessionE
         }
     }
     for page in 1..=MOST_PAGES {
-        match atlas.pack(&sprites, &volume_heuristic, &contains_smallest_box) {
+        match atlas.pack_best(&sprites, heuristics) {
             Err(SessionError::NotEnoughBinSpace) => {}
             packed => {
-                packed?;
-                return Ok(());
+                let (best, _) = packed?;
+                return Ok(best);
             }
         }
         match atlas.add_bin(page, PAGE, PAGE, 1) {
@@ -92,15 +96,34 @@ fn unload(atlas: &mut Atlas, kinds: &[Kind], alloc: Global) -> Result<(), Sessio
     Ok(())
 }
 
+// How full a page is, in percent.
+fn filled(atlas: &Atlas, page: u32) -> u128 {
+    let Some(stats) = atlas.stats(&page) else {
+        return 0;
+    };
+    let part = stats.placed_volume.saturating_mul(100);
+    part.checked_div(stats.bin_volume).unwrap_or(0)
+}
+
+// Prints how full the pages are, beside those that are packed by volume.
+fn compare(rt: &HostRuntime, best: Heuristic, atlas: &Atlas, by_volume: &Atlas) -> io::Result<()> {
+    print!(rt; "the last sprites packed by {best}:")?;
+    for page in atlas.bins().keys() {
+        print!(rt; " {}%", filled(atlas, *page))?;
+    }
+    print!(rt; ", all by volume:")?;
+    for page in by_volume.bins().keys() {
+        print!(rt; " {}%", filled(by_volume, *page))?;
+    }
+    println!(rt; "\n")
+}
+
 // Prints how full each page is, and where each sprite is.
 fn print(rt: &HostRuntime, title: &str, atlas: &Atlas) -> io::Result<()> {
     println!(rt; "== {title}")?;
     for page in atlas.bins().keys() {
-        if let Some(stats) = atlas.stats(page) {
-            let part = stats.placed_volume.saturating_mul(100);
-            let filled = part.checked_div(stats.bin_volume).unwrap_or(0);
-            println!(rt; "bin page-{page} {PAGE} {PAGE} 1 ({filled}% filled)")?;
-        }
+        let filled = filled(atlas, *page);
+        println!(rt; "bin page-{page} {PAGE} {PAGE} 1 ({filled}% filled)")?;
     }
     println!(rt; "")?;
     println!(rt; "  no. sprite      page      x    y z    w    h d kind")?;
@@ -118,14 +141,27 @@ fn print(rt: &HostRuntime, title: &str, atlas: &Atlas) -> io::Result<()> {
     println!(rt; "")
 }
 
+// Loads the kinds into both, and prints the one with the best of all, beside the one by volume.
+fn play(
+    rt: &HostRuntime,
+    title: &str,
+    kinds: &[Kind],
+    atlas: &mut Atlas,
+    by_volume: &mut Atlas,
+) -> io::Result<()> {
+    load(by_volume, kinds, &[Heuristic::Volume], rt.alloc())?;
+    let best = load(atlas, kinds, &Heuristic::ALL, rt.alloc())?;
+    print(rt, title, atlas)?;
+    compare(rt, best, atlas, by_volume)
+}
+
 fn main(rt: HostRuntime) -> io::Result<()> {
     let alloc = rt.alloc();
-    let mut atlas = Session::new(alloc, 0);
-    load(&mut atlas, &ALWAYS, alloc)?;
-    load(&mut atlas, &FOREST, alloc)?;
-    print(&rt, "the forest", &atlas)?;
+    let (mut atlas, mut by_volume) = (Session::new(alloc, 0), Session::new(alloc, 0));
+    load(&mut by_volume, &ALWAYS, &[Heuristic::Volume], alloc)?;
+    load(&mut atlas, &ALWAYS, &Heuristic::ALL, alloc)?;
+    play(&rt, "the forest", &FOREST, &mut atlas, &mut by_volume)?;
     unload(&mut atlas, &FOREST, alloc)?;
-    load(&mut atlas, &CAVE, alloc)?;
-    print(&rt, "the cave", &atlas)?;
-    Ok(())
+    unload(&mut by_volume, &FOREST, alloc)?;
+    play(&rt, "the cave", &CAVE, &mut atlas, &mut by_volume)
 }

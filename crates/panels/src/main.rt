@@ -1,10 +1,11 @@
-//! A sheet cutter's order. The shop's own rule needs fewer sheets than the library's, two panels
-//! are called off for a larger one, and each sheet gets its cutting plan, as steps at the saw.
+//! A sheet cutter's order. The best of the library's heuristics needs as few sheets as the shop's own
+//! rule, two panels are called off for a larger one, and each sheet gets its cutting plan, as steps at
+//! the saw.
 #![tactic(auto)]
 
 use rectangle_pack::{
-    Axis, CutStep, GroupedRectsToPlace, RectToInsert, Session, SessionError, WidthHeightDepth,
-    contains_smallest_box, volume_heuristic,
+    Axis, CutStep, GroupedRectsToPlace, Heuristic, RectToInsert, Session, SessionError,
+    WidthHeightDepth, contains_smallest_box, volume_heuristic,
 };
 use std::alloc::{AllocError, Global};
 use std::cmp::Ordering;
@@ -128,19 +129,40 @@ fn exchange(rt: &HostRuntime, cutting: &mut Cutting) -> io::Result<()> {
     print(rt, "two sides are called off for a desk", cutting)
 }
 
-// Cuts the order by the library's rule.
-fn by_smallest(rt: &HostRuntime, order: &GroupedRectsToPlace<Panel, u32>) -> io::Result<()> {
+// How many sheets have panels.
+fn used(cutting: &Cutting) -> usize {
+    let stats = cutting.bins().keys().map(|sheet| cutting.stats(sheet));
+    stats
+        .filter(|it| it.is_some_and(|it| it.placements > 0))
+        .count()
+}
+
+// Prints how many sheets the order takes with each of the library's heuristics.
+fn compare(rt: &HostRuntime, order: &GroupedRectsToPlace<Panel, u32>) -> io::Result<()> {
+    for heuristic in &Heuristic::ALL {
+        let mut cutting = five_sheets(rt.alloc())?;
+        let rate = |whd: WidthHeightDepth| heuristic.rate(whd);
+        cutting.pack(order, &rate, &contains_smallest_box)?;
+        println!(rt; "{heuristic}: {} sheets", used(&cutting))?;
+    }
+    println!(rt; "")
+}
+
+// Cuts the order with the best of these.
+fn by_the_best(rt: &HostRuntime, order: &GroupedRectsToPlace<Panel, u32>) -> io::Result<()> {
     let mut cutting = five_sheets(rt.alloc())?;
-    cutting.pack(order, &volume_heuristic, &contains_smallest_box)?;
-    print(rt, "the cut with the smallest piece", &cutting)
+    let (best, _) = cutting.pack_best(order, &Heuristic::ALL)?;
+    let title = format!(in rt.alloc(); "the best of all heuristics, {best}")?;
+    print(rt, title.as_str(), &cutting)
 }
 
 fn main(rt: HostRuntime) -> io::Result<()> {
     let order = panels(&ORDER, rt.alloc())?;
-    by_smallest(&rt, &order)?;
+    compare(&rt, &order)?;
+    by_the_best(&rt, &order)?;
     let mut cutting = five_sheets(rt.alloc())?;
     cutting.pack(&order, &volume_heuristic, &longest_strip)?;
-    print(&rt, "the cut with the longest strip", &cutting)?;
+    print(&rt, "the shop's rule, the longest strip", &cutting)?;
     exchange(&rt, &mut cutting)?;
     for sheet in cutting.bins().keys() {
         print_steps(&rt, *sheet, &cutting)?;

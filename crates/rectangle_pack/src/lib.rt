@@ -17,7 +17,8 @@ pub mod bin_section {
 pub mod box_size_heuristics {
     pub use rectangle_pack_sections::box_size_heuristics::{
         Heuristic, UnknownHeuristic, depth_heuristic, height_heuristic, longest_side_heuristic,
-        shortest_side_heuristic, side_sum_heuristic, volume_heuristic, width_heuristic,
+        shortest_side_heuristic, side_area_heuristic, side_sum_heuristic, volume_heuristic,
+        width_heuristic,
     };
 }
 
@@ -66,7 +67,8 @@ pub use bin_section::{
 };
 pub use box_size_heuristics::{
     Heuristic, UnknownHeuristic, depth_heuristic, height_heuristic, longest_side_heuristic,
-    shortest_side_heuristic, side_sum_heuristic, volume_heuristic, width_heuristic,
+    shortest_side_heuristic, side_area_heuristic, side_sum_heuristic, volume_heuristic,
+    width_heuristic,
 };
 pub use grouped_rects_to_place::{
     Group, GroupedRectsToPlace, equal_pushes_leave_equal_collections, groups_are_ordered,

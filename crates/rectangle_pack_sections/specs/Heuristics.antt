@@ -4,7 +4,7 @@ use Rattle.rectangle_pack_sections.specs.Boxes.{Size, volume_of, longest_side, m
 use Rattle.rectangle_pack_sections.specs.Closures.{Answers, AreThreeSizes}
 use Rattle.rectangle_pack_sections.specs.SmallestBox.{IsSmallestOrder}
 use Rattle.rectangle_pack_sections.specs.declared.box_size_heuristics.named.Heuristic.{Heuristic}
-use Rattle.rectangle_pack_sections.specs.declared.box_size_heuristics.named.Heuristic.TheVariants.{Volume, Height, Width, Depth, SideSum, LongestSide, ShortestSide}
+use Rattle.rectangle_pack_sections.specs.declared.box_size_heuristics.named.Heuristic.TheVariants.{Volume, Height, Width, Depth, SideSum, LongestSide, ShortestSide, SideArea}
 
 -- three numbers as one: of numbers of 32 bits the first counts most, then the second, then the third
 abbrev pub in_turn : ℕ → ℕ → ℕ → ℕ
@@ -19,6 +19,7 @@ rate_of Depth s = in_turn s.depth s.width s.height
 rate_of SideSum s = s.width + s.height + s.depth
 rate_of LongestSide s = in_turn (longest_side s) (middle_side s) (shortest_side s)
 rate_of ShortestSide s = in_turn (shortest_side s) (middle_side s) (longest_side s)
+rate_of SideArea s = s.height * s.depth
 
 -- the text of each name
 abbrev pub heuristic_text : Heuristic → List ℕ
@@ -29,6 +30,7 @@ heuristic_text Depth = codes "depth"
 heuristic_text SideSum = codes "side-sum"
 heuristic_text LongestSide = codes "longest-side"
 heuristic_text ShortestSide = codes "shortest-side"
+heuristic_text SideArea = codes "side-area"
 
 -- a text names a heuristic exactly where it is that heuristic's text
 abbrev pub IsNamed : {E : Type 0} → List ℕ → Result Heuristic E → Type 0

@@ -61,6 +61,13 @@ pub fn shortest_side_heuristic(whd: WidthHeightDepth) -> u128
     in_turn(shortest, middle, longest)
 }
 
+/// Height times depth: the area of the box as one sees it along the x axis, in cells.
+pub fn side_area_heuristic(whd: WidthHeightDepth) -> u128
+    ensures { result ≡ whd.height * whd.depth }
+{
+    whd.height() as u128 * whd.depth() as u128
+}
+
 // Three numbers as one: the first counts most, then the second, then the third.
 fn in_turn(first: u32, second: u32, third: u32) -> u128
     ensures { result ≡ in_turn first second third }

@@ -6,4 +6,6 @@ mod bins;
 #[cfg(test)]
 mod cases;
 #[cfg(test)]
+mod examples;
+#[cfg(test)]
 mod sessions;

@@ -3,8 +3,8 @@
 use super::width_height_depth::VOLUMES;
 use rectangle_pack::{
     Heuristic, UnknownHeuristic, WidthHeightDepth, depth_heuristic, height_heuristic,
-    longest_side_heuristic, shortest_side_heuristic, side_sum_heuristic, volume_heuristic,
-    width_heuristic,
+    longest_side_heuristic, shortest_side_heuristic, side_area_heuristic, side_sum_heuristic,
+    volume_heuristic, width_heuristic,
 };
 use std::process::Abort;
 use std::test::Fail;
@@ -38,6 +38,7 @@ const NAMES: &[(Heuristic, &str, u128)] = &[
         "shortest-side",
         55340232242603491335,
     ),
+    (Heuristic::SideArea, "side-area", 35),
 ];
 
 fn box_3_7_5() -> WidthHeightDepth {
@@ -63,6 +64,7 @@ fn rates_by_functions(rt: HostRuntime) {
         side_sum_heuristic(box_3_7_5()),
         longest_side_heuristic(box_3_7_5()),
         shortest_side_heuristic(box_3_7_5()),
+        side_area_heuristic(box_3_7_5()),
     ];
     for (rate, (_, _, expected)) in rates.iter().zip(NAMES) {
         assert_eq!(rt; *rate, *expected);

@@ -4,7 +4,7 @@ ghost use Rattle.rectangle_pack_sections.specs.Heuristics.{rate_of};
 
 use crate::box_size_heuristics::{
     depth_heuristic, height_heuristic, longest_side_heuristic, shortest_side_heuristic,
-    side_sum_heuristic, volume_heuristic, width_heuristic,
+    side_area_heuristic, side_sum_heuristic, volume_heuristic, width_heuristic,
 };
 use crate::width_height_depth::WidthHeightDepth;
 use std::error::Error;
@@ -29,11 +29,13 @@ pub enum Heuristic {
     LongestSide,
     /// `shortest_side_heuristic`, as text `shortest-side`.
     ShortestSide,
+    /// `side_area_heuristic`, as text `side-area`.
+    SideArea,
 }
 
 impl Heuristic {
     /// All heuristics that have a name.
-    pub const ALL: [Heuristic; 7] = [
+    pub const ALL: [Heuristic; 8] = [
         Heuristic::Volume,
         Heuristic::Height,
         Heuristic::Width,
@@ -41,6 +43,7 @@ impl Heuristic {
         Heuristic::SideSum,
         Heuristic::LongestSide,
         Heuristic::ShortestSide,
+        Heuristic::SideArea,
     ];
 
     /// What the heuristic of this name rates the size by.
@@ -55,6 +58,7 @@ impl Heuristic {
             Heuristic::SideSum => side_sum_heuristic(whd),
             Heuristic::LongestSide => longest_side_heuristic(whd),
             Heuristic::ShortestSide => shortest_side_heuristic(whd),
+            Heuristic::SideArea => side_area_heuristic(whd),
         }
     }
 }
@@ -74,6 +78,7 @@ impl fmt::Display for Heuristic {
             Heuristic::SideSum => write!(f, "side-sum"),
             Heuristic::LongestSide => write!(f, "longest-side"),
             Heuristic::ShortestSide => write!(f, "shortest-side"),
+            Heuristic::SideArea => write!(f, "side-area"),
         }
     }
 }
@@ -110,6 +115,7 @@ impl FromStr for Heuristic {
             "side-sum" => Ok(Heuristic::SideSum),
             "longest-side" => Ok(Heuristic::LongestSide),
             "shortest-side" => Ok(Heuristic::ShortestSide),
+            "side-area" => Ok(Heuristic::SideArea),
             _ => Err(UnknownHeuristic),
         }
     }
