@@ -1,4 +1,4 @@
-use Rattle.rectangle_pack_c.proofs.Std.{◌∙◌}
+use Rattle.rectangle_pack_c.proofs.Std.{◌∙◌, arith}
 use Rattle.rectangle_pack_c.proofs.AnswerLemmas.{answer_placed, answer_packed, answer_refused, one_packing, never_both}
 use Rattle.rectangle_pack_c.proofs.rectangle_pack_boxes.Goals as goal
 
@@ -32,3 +32,9 @@ pub returns-in-Err-NotEnoughBinSpace-clause-never_packed :
     goal.returns-in-Err-NotEnoughBinSpace-clause-never_packed
 returns-in-Err-NotEnoughBinSpace-clause-never_packed c = λ is others packed.
     never_both c.args.bins.now c.args.boxes.now others packed (returns-in-Err-NotEnoughBinSpace-clause-refused c is)
+
+pub returns-then-placements-boxes-clause-done : goal.returns-then-placements-boxes-clause-done
+returns-then-placements-boxes-clause-done c = λ done. absurd (omega (arith, done))
+
+pub returns-clause-refused : goal.returns-clause-refused
+returns-clause-refused c = λ refused. absurd (omega (arith, refused))
