@@ -52,29 +52,35 @@ const SCRIPT: &[Step] = &[
 ];
 
 // Whether these are among the steps that were refused memory: all that ask for a plan.
-fn were_all_refused(refused: &[bool]) -> bool {
-    for (step, is_refused) in SCRIPT.iter().zip(refused.iter()) {
+fn were_all_refused(script: &[Step], refused: &[bool]) -> bool {
+    for (step, is_refused) in script.iter().zip(refused.iter()) {
         if matches!(step, IsIn(..)) && !is_refused {
             return false;
         }
     }
-    refused.len() == SCRIPT.len()
+    refused.len() == script.len()
+}
+
+// A table is dear to prove in a longer body, so this one stands alone.
+fn script() -> &'static [Step] {
+    SCRIPT
 }
 
 // Each request is refused in turn, until none is. All that a run takes is given back.
 #[test]
 fn plans(rt: HostRuntime) -> Result<(), Fail> {
+    let script = script();
     let mut refused = [false; 21];
     for granted in 0..200u64 {
         let refusing = Refusing::new(rt.alloc(), granted);
-        let (step, came) = play_all(&refusing, SCRIPT);
+        let (step, came) = play_all(&refusing, script);
         assert_eq!(rt; refusing.taken(), 0);
         assert_eq!(rt; refusing.refused() == 0, matches!(came, Came::Out));
         match came {
             Came::Refused => *refused.get_mut(step).ok_or("no such step")? = true,
             Came::Wrong => assert!(rt; false, "step {step}"),
             Came::Out => {
-                assert!(rt; were_all_refused(&refused));
+                assert!(rt; were_all_refused(script, &refused));
                 return Ok(());
             }
         }
