@@ -4,7 +4,8 @@ mod memory;
 
 use rectangle_pack::{Group, GroupedRectsToPlace, RectToInsert};
 use std::alloc::{AllocError, Global};
-use std::test::Fail;
+use std::collections::BTreeMap;
+use std::process::Abort;
 use tests_support::boxes::{GroupName, Rects, SizedBox, exclude_all, push_boxes};
 use tests_support::refusing::Refusing;
 use tests_support::shapes::named;
@@ -54,12 +55,14 @@ const PUSHES: &[Pushes] = &[
 
 // Whether the groups are these, in order, with these ids.
 fn has_groups(all: &GroupedRectsToPlace<u32, u32>, wanted: &[(GroupName, &[u32])]) -> bool {
-    for ((group, ids), (name, members)) in all.groups().iter().zip(wanted.iter()) {
-        if group != name || ids.as_slice() != *members {
-            return false;
+    let mut found = all.groups().iter();
+    for (name, members) in wanted {
+        match found.next() {
+            Some((group, ids)) if group == name && ids.as_slice() == *members => {}
+            _ => return false,
         }
     }
-    all.groups().len() == wanted.len()
+    found.next().is_none()
 }
 
 // Whether the boxes are these, in order, with these sizes.
@@ -87,20 +90,28 @@ fn pushes_into_groups(rt: HostRuntime) {
     }
 }
 
+// Whether these are the boxes, in order and each of the size of the pushes.
+fn have_size<T: Ord>(rects: &BTreeMap<T, RectToInsert>, ids: &[T]) -> bool {
+    let mut found = rects.iter();
+    for wanted in ids {
+        match found.next() {
+            Some((id, rect))
+                if id == wanted && [rect.width(), rect.height(), rect.depth()] == SIZE => {}
+            _ => return false,
+        }
+    }
+    found.next().is_none()
+}
+
 // Whether these are all boxes, in this one group, in order and each of the size of the pushes.
 fn are_in_one_group<T: Ord + Clone + Drop>(
     all: &GroupedRectsToPlace<T, T>,
     group: &Group<T, T>,
     ids: &[T],
 ) -> bool {
-    for ((id, rect), wanted) in all.rects().iter().zip(ids.iter()) {
-        if id != wanted || [rect.width(), rect.height(), rect.depth()] != SIZE {
-            return false;
-        }
-    }
     match all.groups().get(group) {
         Some(members) if members.as_slice() == ids => {
-            all.groups().len() == 1 && all.rects().len() == ids.len()
+            all.groups().len() == 1 && have_size(all.rects(), ids)
         }
         _ => false,
     }
@@ -167,10 +178,8 @@ enum Side {
     Back,
 }
 
-#[test]
-fn names_as_ids(rt: HostRuntime) -> Result<(), Fail> {
-    let alloc = rt.alloc();
-    let mut all = GroupedRectsToPlace::new(alloc);
+// Two boxes in one group.
+fn push_sides(alloc: Global, all: &mut GroupedRectsToPlace<Side, Side>) -> Result<(), AllocError> {
     for id in [Side::Front, Side::Back] {
         all.push_rect(
             id,
@@ -178,9 +187,15 @@ fn names_as_ids(rt: HostRuntime) -> Result<(), Fail> {
             RectToInsert::new(10, 10, 1),
         )?;
     }
+    Ok(())
+}
+
+#[test]
+fn names_as_ids(rt: HostRuntime) {
+    let mut all = GroupedRectsToPlace::new(rt.alloc());
+    assert!(rt; push_sides(rt.alloc(), &mut all).is_ok());
     let ids = [Side::Front, Side::Back];
     assert!(rt; are_in_one_group(&all, &Group::Grouped(Side::Back), &ids));
-    Ok(())
 }
 
 // Whether each group has one member, and no more room than for a few.
@@ -193,17 +208,27 @@ fn have_little_room(all: &GroupedRectsToPlace<u32, u32>) -> bool {
     true
 }
 
-// A push into 200 groups with one member each leaves no list with room for more than a few.
-#[test]
-fn room_grows_as_the_groups_named(rt: HostRuntime) -> Result<(), Fail> {
-    let alloc = rt.alloc();
+// One box in 200 groups.
+fn push_into_many(
+    alloc: Global,
+    all: &mut GroupedRectsToPlace<u32, u32>,
+) -> Result<(), AllocError> {
     let named: Vec<u32> = (0..200).collect(alloc)?;
     let named = if named.is_empty() { None } else { Some(named) };
-    let mut all = GroupedRectsToPlace::new(alloc);
-    all.push_rect(1, named, RectToInsert::new(1, 1, 1))?;
+    all.push_rect(1, named, RectToInsert::new(1, 1, 1))
+}
+
+fn has_little_room(rt: &impl Abort, all: &GroupedRectsToPlace<u32, u32>) {
     assert_eq!(rt; all.groups().len(), 200);
-    assert!(rt; have_little_room(&all), "{all:?}");
-    Ok(())
+    assert!(rt; have_little_room(all), "{all:?}");
+}
+
+// A push into 200 groups with one member each leaves no list with room for more than a few.
+#[test]
+fn room_grows_as_the_groups_named(rt: HostRuntime) {
+    let mut all = GroupedRectsToPlace::new(rt.alloc());
+    assert!(rt; push_into_many(rt.alloc(), &mut all).is_ok());
+    has_little_room(&rt, &all);
 }
 
 // Each box is in one of four groups, and all are in group 4.
@@ -227,13 +252,12 @@ fn has_members(rects: &GroupedRectsToPlace<u32, u32>, group: u32, count: usize) 
 }
 
 #[test]
-fn two_hundred_boxes_in_groups(rt: HostRuntime) -> Result<(), Fail> {
+fn two_hundred_boxes_in_groups(rt: HostRuntime) {
     let mut rects = GroupedRectsToPlace::new(rt.alloc());
-    push_into_five(rt.alloc(), &mut rects)?;
+    assert!(rt; push_into_five(rt.alloc(), &mut rects).is_ok());
     assert!(rt; (0..4).all(|group| has_members(&rects, group, 50)));
     assert!(rt; has_members(&rects, 4, 200));
     assert_eq!(rt; (rects.groups().len(), rects.rects().len()), (5, 200));
-    Ok(())
 }
 
 const A: GroupName = Group::Grouped(1);
@@ -267,11 +291,15 @@ fn has_pairs(rects: &Rects<'_>) -> bool {
     true
 }
 
+fn excludes_pairs(rt: &impl Abort, rects: &mut Rects<'_>) {
+    assert!(rt; exclude_all(rects, EXCLUDED).is_ok());
+    assert!(rt; has_pairs(rects));
+    assert!(rt; rects.groups().is_empty());
+}
+
 #[test]
 fn pairs(rt: HostRuntime) {
     let refusing = Refusing::new(rt.alloc(), u64::MAX);
-    let mut rects = GroupedRectsToPlace::new(&refusing);
-    assert!(rt; exclude_all(&mut rects, EXCLUDED).is_ok());
-    assert!(rt; has_pairs(&rects));
-    assert!(rt; rects.groups().is_empty());
+    let mut rects = Rects::new(&refusing);
+    excludes_pairs(&rt, &mut rects);
 }

@@ -102,42 +102,54 @@ const PUSHES: &[Push] = &[
     },
 ];
 
+// A group, or a box alone.
+type NamedGroup<'a> = Group<u32, Name<'a>>;
+
 // Whether these are the boxes, in this order.
 fn are(ids: &[Name<'_>], wanted: &[u32]) -> bool {
-    for (id, number) in ids.iter().zip(wanted.iter()) {
-        if id.number != *number {
-            return false;
-        }
-    }
-    ids.len() == wanted.len()
+    ids.iter().map(|id| &id.number).eq(wanted)
 }
 
 // Whether this is the group's number, and `None` for the group of the list's first box alone.
-fn is_group(group: &Group<u32, Name<'_>>, number: Option<u32>, boxes: &[u32]) -> bool {
+fn is_group(group: &NamedGroup<'_>, number: Option<u32>, boxes: &[u32]) -> bool {
     match group {
         Group::Ungrouped(id) => number.is_none() && boxes.first() == Some(&id.number),
         Group::Grouped(group) => number == Some(*group),
     }
 }
 
+// Whether the group is this one, with these boxes.
+fn has_boxes(group: &NamedGroup<'_>, ids: &[Name<'_>], number: Option<u32>, boxes: &[u32]) -> bool {
+    is_group(group, number, boxes) && are(ids, boxes)
+}
+
 // Whether the collection has these groups.
 fn has_groups(all: &Rects<'_>, groups: &[(Option<u32>, &[u32])]) -> bool {
-    for ((group, ids), (number, boxes)) in all.groups().iter().zip(groups.iter()) {
-        if !is_group(group, *number, boxes) || !are(ids.as_slice(), boxes) {
-            return false;
+    let mut found = all.groups().iter();
+    for (number, boxes) in groups {
+        match found.next() {
+            Some((group, ids)) if has_boxes(group, ids.as_slice(), *number, boxes) => {}
+            _ => return false,
         }
     }
-    all.groups().len() == groups.len()
+    found.next().is_none()
+}
+
+// The number of a box, and its size.
+fn sized((id, rect): (&Name<'_>, &RectToInsert)) -> (u32, [u32; 3]) {
+    (id.number, [rect.width(), rect.height(), rect.depth()])
 }
 
 // Whether the collection has these boxes.
 fn has_sizes(all: &Rects<'_>, sizes: &[(u32, [u32; 3])]) -> bool {
-    for ((id, rect), (number, size)) in all.rects().iter().zip(sizes.iter()) {
-        if id.number != *number || [rect.width(), rect.height(), rect.depth()] != *size {
-            return false;
+    let mut found = all.rects().iter();
+    for wanted in sizes {
+        match found.next() {
+            Some(entry) if sized(entry) == *wanted => {}
+            _ => return false,
         }
     }
-    all.rects().len() == sizes.len()
+    found.next().is_none()
 }
 
 fn has(all: &Rects<'_>, boxes: &Boxes) -> bool {
@@ -173,30 +185,36 @@ fn pushes<'a>(
 }
 
 // A push for which so many clones are left. Only the collection before it takes more.
-fn end_of_push(
+fn end_of_push<'a>(
     rt: &impl Abort,
-    alloc: &Refusing<Global>,
-    left: &Cell<u64>,
+    alloc: &'a Refusing<Global>,
+    all: &mut Rects<'a>,
+    left: &'a Cell<u64>,
     clones: u64,
     push: &Push,
 ) -> End {
-    let mut all = GroupedRectsToPlace::new(alloc);
-    if !push.before.sizes.is_empty() && push_old(&mut all, alloc, left).is_err() {
+    if !push.before.sizes.is_empty() && push_old(all, alloc, left).is_err() {
         return End::Before;
     }
     let Ok(named) = push.named.to_vec(alloc) else {
         return End::Before;
     };
     left.set(clones);
-    pushes(rt, &mut all, named, left, push)
+    pushes(rt, all, named, left, push)
 }
 
 // The groups 0 and 1 are excluded, and the group 0 and the old box alone unless that was refused.
-fn has_pairs<'a>(rt: &impl Abort, all: &Rects<'a>, old: &Group<u32, Name<'a>>, is_done: bool) {
-    assert!(rt; all.excluded(&Group::Grouped(1), &Group::Grouped(0)));
-    assert_eq!(rt; all.excluded(&Group::Grouped(0), old), is_done);
-    assert_eq!(rt; all.excluded(old, &Group::Grouped(0)), is_done);
-    assert!(rt; !all.excluded(old, &Group::Grouped(1)));
+fn has_pairs<'a>(
+    rt: &impl Abort,
+    all: &Rects<'a>,
+    (zero, one): (&NamedGroup<'a>, &NamedGroup<'a>),
+    old: &NamedGroup<'a>,
+    is_done: bool,
+) {
+    assert!(rt; all.excluded(one, zero));
+    assert_eq!(rt; all.excluded(zero, old), is_done);
+    assert_eq!(rt; all.excluded(old, zero), is_done);
+    assert!(rt; !all.excluded(old, one));
 }
 
 // Excludes the group 0 and the old box alone. Refused, this changes no boxes and no pairs.
@@ -205,36 +223,55 @@ fn excludes<'a>(rt: &impl Abort, all: &mut Rects<'a>, left: &'a Cell<u64>) -> En
     let old = Group::Ungrouped(Name { number, left });
     let is_done = all.exclude(Group::Grouped(0), old).is_ok();
     assert!(rt; has(all, ONE));
-    has_pairs(rt, all, &Group::Ungrouped(Name { number, left }), is_done);
+    let numbered = (&Group::Grouped(0), &Group::Grouped(1));
+    has_pairs(
+        rt,
+        all,
+        numbered,
+        &Group::Ungrouped(Name { number, left }),
+        is_done,
+    );
     if is_done { End::Done } else { End::Refused }
 }
 
 // An exclusion for which so many clones are left. Only what is before it takes more.
-fn end_of_exclusion(
+fn end_of_exclusion<'a>(
     rt: &impl Abort,
-    alloc: &Refusing<Global>,
-    left: &Cell<u64>,
+    alloc: &'a Refusing<Global>,
+    all: &mut Rects<'a>,
+    left: &'a Cell<u64>,
     clones: u64,
 ) -> End {
-    let mut all = GroupedRectsToPlace::new(alloc);
-    if push_old(&mut all, alloc, left).is_err() {
+    if push_old(all, alloc, left).is_err() {
         return End::Before;
     }
     if all.exclude(Group::Grouped(0), Group::Grouped(1)).is_err() {
         return End::Before;
     }
     left.set(clones);
-    excludes(rt, &mut all, left)
+    excludes(rt, all, left)
+}
+
+// A push, or else an exclusion, in a new collection.
+fn end_in_new(
+    rt: &impl Abort,
+    alloc: &Refusing<Global>,
+    left: &Cell<u64>,
+    clones: u64,
+    push: Option<&Push>,
+) -> End {
+    let mut all = Rects::new(alloc);
+    match push {
+        Some(push) => end_of_push(rt, alloc, &mut all, left, clones, push),
+        None => end_of_exclusion(rt, alloc, &mut all, left, clones),
+    }
 }
 
 // A push, or else an exclusion, under so many requests and clones. All memory is given back.
 fn end(rt: &impl Abort, alloc: Global, requests: u64, clones: u64, push: Option<&Push>) -> End {
     let left = Cell::new(u64::MAX);
     let refusing = Refusing::new(alloc, requests);
-    let end = match push {
-        Some(push) => end_of_push(rt, &refusing, &left, clones, push),
-        None => end_of_exclusion(rt, &refusing, &left, clones),
-    };
+    let end = end_in_new(rt, &refusing, &left, clones, push);
     assert_eq!(rt; refusing.taken(), 0);
     end
 }
@@ -272,17 +309,25 @@ fn exclusions(rt: HostRuntime) {
     assert!(rt; is_refused(&rt, rt.alloc(), true, None));
 }
 
-// Ids that own memory, which their clones take too.
-type Text<'a> = String<&'a Refusing<Global>>;
+// An id that owns memory, which its clones take too.
+#[derive(Clone, PartialEq, Eq, PartialOrd, Ord, Drop)]
+struct Text<'a> {
+    text: String<&'a Refusing<Global>>,
+}
 
 type TextRects<'a> = GroupedRectsToPlace<Text<'a>, u32, &'a Refusing<Global>>;
+
+fn text_of<'a>(alloc: &'a Refusing<Global>, from: &str) -> Result<Text<'a>, AllocError> {
+    let text = String::from_str(alloc, from)?;
+    Ok(Text { text })
+}
 
 fn push_text<'a>(
     all: &mut TextRects<'a>,
     alloc: &'a Refusing<Global>,
     id: &str,
 ) -> Result<(), AllocError> {
-    let id = String::from_str(alloc, id)?;
+    let id = text_of(alloc, id)?;
     let named = [0, 1, 0].to_vec(alloc)?;
     all.push_rect(id, Some(named), RectToInsert::new(2, 3, 1))
 }
@@ -293,7 +338,7 @@ fn exclude_text<'a>(
     alloc: &'a Refusing<Global>,
     id: &str,
 ) -> Result<(), AllocError> {
-    let alone = Group::Ungrouped(String::from_str(alloc, id)?);
+    let alone = Group::Ungrouped(text_of(alloc, id)?);
     all.exclude(alone, Group::Grouped(0))
 }
 
@@ -310,11 +355,8 @@ fn calls_by_texts<'a>(
     rt: &impl Abort,
     alloc: &'a Refusing<Global>,
     all: &mut TextRects<'a>,
+    old: &Group<u32, Text<'a>>,
 ) -> End {
-    let Ok(old) = String::from_str(alloc, "old") else {
-        return End::Before;
-    };
-    let alone = Group::Ungrouped(old);
     if push_text(all, alloc, "old").is_err() {
         return End::Before;
     }
@@ -324,17 +366,25 @@ fn calls_by_texts<'a>(
     }
     assert_eq!(rt; entries(all), (Some((4, 2)), 2));
     let is_done = exclude_text(all, alloc, "old").is_ok();
-    assert_eq!(rt; all.excluded(&alone, &Group::Grouped(0)), is_done);
+    assert_eq!(rt; all.excluded(old, &Group::Grouped(0)), is_done);
     if is_done { End::Done } else { End::Refused }
+}
+
+// The calls in a new collection.
+fn end_by_texts(rt: &impl Abort, alloc: &Refusing<Global>) -> End {
+    match text_of(alloc, "old") {
+        Ok(old) => {
+            let mut all = TextRects::new(alloc);
+            calls_by_texts(rt, alloc, &mut all, &Group::Ungrouped(old))
+        }
+        Err(_) => End::Before,
+    }
 }
 
 // All memory of the ids and of their clones is given back.
 #[test]
 fn ids_that_own_memory(rt: HostRuntime) -> Result<(), Fail> {
-    let refused = each_request::is_refused(rt.alloc(), |refusing| {
-        let mut all = GroupedRectsToPlace::new(refusing);
-        Ok(calls_by_texts(&rt, refusing, &mut all))
-    })?;
+    let refused = each_request::is_refused(rt.alloc(), |refusing| Ok(end_by_texts(&rt, refusing)))?;
     assert!(rt; refused);
     Ok(())
 }
@@ -356,21 +406,31 @@ fn keeps_the_pair(rects: &mut boxes::Rects<'_>) -> bool {
         && rects.exclude(Group::Grouped(0), Group::Grouped(1)).is_ok()
 }
 
-fn pair(rt: &impl Abort, alloc: &Refusing<Global>) -> End {
-    let mut rects = boxes::Rects::new(alloc);
+// Excludes the pair in a collection for which one request is left, or none.
+fn end_of_pair(rt: &impl Abort, alloc: &Refusing<Global>, rects: &mut boxes::Rects<'_>) -> End {
     if rects.exclude(Group::Grouped(0), Group::Grouped(1)).is_err() {
         return End::Before;
     }
     assert_eq!(rt; alloc.left(), 0);
-    assert!(rt; keeps_the_pair(&mut rects));
+    assert!(rt; keeps_the_pair(rects));
     End::Done
+}
+
+fn pair(rt: &impl Abort, alloc: &Refusing<Global>) -> End {
+    let mut rects = boxes::Rects::new(alloc);
+    end_of_pair(rt, alloc, &mut rects)
+}
+
+// Whether a collection is made without memory.
+fn is_made(alloc: Global) -> bool {
+    let refusing = Refusing::new(alloc, 0);
+    is_new(&boxes::Rects::new(&refusing))
 }
 
 // A new collection, and a pair that is there, take no memory.
 #[test]
 fn calls_that_take_none(rt: HostRuntime) -> Result<(), Fail> {
-    let refusing = Refusing::new(rt.alloc(), 0);
-    assert!(rt; is_new(&GroupedRectsToPlace::new(&refusing)));
+    assert!(rt; is_made(rt.alloc()));
     let refused = each_request::is_refused(rt.alloc(), |refusing| Ok(pair(&rt, refusing)))?;
     assert!(rt; !refused);
     Ok(())
