@@ -167,12 +167,14 @@ fn is_placed<A: Allocator + Copy>(
 
 // Whether the placements are these, in order, and the box of each is found.
 fn has_placements<A: Allocator + Copy>(packed: &Packed<A>, wanted: &[Placed]) -> bool {
-    for (placed, row) in packed.placements().iter().zip(wanted.iter()) {
-        if !is_placed(packed, placed, row) {
-            return false;
+    let mut found = packed.placements().iter();
+    for row in wanted {
+        match found.next() {
+            Some(placed) if is_placed(packed, placed, row) => {}
+            _ => return false,
         }
     }
-    packed.placements().len() == wanted.len()
+    found.next().is_none()
 }
 
 // Whether each box that is found is found at the last of these placements of it.
@@ -233,6 +235,15 @@ where
     )
 }
 
+/// The same, of boxes and groups by numbers.
+pub fn pack_numbered<A: Allocator + Copy>(
+    alloc: A,
+    rects: &Rects<A>,
+    bins: &mut Bins<A>,
+) -> Answer<A> {
+    pack(alloc, rects, bins)
+}
+
 /// The same, and adds the fit tests to a counter.
 pub fn pack_counted<A: Allocator + Copy>(
     alloc: A,
@@ -264,11 +275,13 @@ where
     C: Fn([WidthHeightDepth; 3], [WidthHeightDepth; 3], &H) -> Ordering,
     requires { AreCallable H.Fn C.Fn heuristic.now comparison.now }
 {
-    let Ok(rects) = collect(alloc, case.boxes, case.excluded) else {
-        return End::Before;
-    };
-    let answer = pack_rects(alloc, &rects, bins, heuristic, comparison);
-    ends(rt, &answer, bins, case)
+    match collect(alloc, case.boxes, case.excluded) {
+        Ok(rects) => {
+            let answer = pack_rects(alloc, &rects, bins, heuristic, comparison);
+            ends(rt, &answer, bins, case)
+        }
+        Err(_) => End::Before,
+    }
 }
 
 /// The same, into the bins of the case.

@@ -1,6 +1,6 @@
 //! Answers of packings, compared.
 
-use super::{Bins, Packed, Rects, add_bin, pack};
+use super::{Bins, Packed, Rects, add_bin, pack_numbered};
 use rectangle_pack::{RectToInsert, TargetBin};
 use std::alloc::{AllocError, Global};
 use std::test::Fail;
@@ -19,7 +19,7 @@ fn pack_box(
 ) -> Result<Packed<Global>, Fail> {
     let mut rects = Rects::new(alloc);
     push(alloc, &mut rects, groups)?;
-    Ok(pack(alloc, &rects, bins)?)
+    Ok(pack_numbered(alloc, &rects, bins)?)
 }
 
 // The box goes into a new bin twice, and is found at its second place, beside the first.

@@ -35,12 +35,14 @@ fn is_placed(placement: &Placement<Name<'_>, Name<'_>>, wanted: &Placed) -> bool
 
 // Whether these are the placements.
 fn are_placed(placements: &[Placement<Name<'_>, Name<'_>>], all: &[Placed]) -> bool {
-    for (placement, wanted) in placements.iter().zip(all.iter()) {
-        if !is_placed(placement, wanted) {
-            return false;
+    let mut found = placements.iter();
+    for wanted in all {
+        match found.next() {
+            Some(placement) if is_placed(placement, wanted) => {}
+            _ => return false,
         }
     }
-    placements.len() == all.len()
+    found.next().is_none()
 }
 
 // Whether the case came out.

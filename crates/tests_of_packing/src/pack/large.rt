@@ -1,6 +1,6 @@
 //! Packings past small sizes: fifty bins, fifty pairs of groups, and five hundred boxes.
 
-use super::{Answer, Bins, Rects, add_bin, pack};
+use super::{Answer, Bins, Rects, add_bin, pack_numbered};
 use rectangle_pack::{Group, Placement, RectToInsert, RectanglePackError};
 use std::alloc::{AllocError, Allocator, Global};
 use std::process::Abort;
@@ -21,19 +21,21 @@ fn add_cells(alloc: Global, bins: &mut Bins<Global>) -> Result<(), AllocError> {
 // Whether so many boxes are placed in the order of their numbers, each in the bin of its number,
 // but those of greater numbers in the last bin.
 fn are_in_turn(placements: &[Placement<u32, u32>], count: u32, last: u32) -> bool {
-    for (number, placed) in (0..count).zip(placements.iter()) {
-        if placed.id != number || placed.bin != number.min(last) {
-            return false;
+    let mut found = placements.iter();
+    for number in 0..count {
+        match found.next() {
+            Some(placed) if placed.id == number && placed.bin == number.min(last) => {}
+            _ => return false,
         }
     }
-    placements.len() == count as usize
+    found.next().is_none()
 }
 
 // Packs so many boxes of one cell.
 fn pack_units<A: Allocator + Copy>(alloc: A, count: u32, bins: &mut Bins<A>) -> Answer<A> {
     let mut rects = Rects::new(alloc);
     match push_units(&mut rects, count) {
-        Ok(()) => pack(alloc, &rects, bins),
+        Ok(()) => pack_numbered(alloc, &rects, bins),
         Err(_) => Err(RectanglePackError::OutOfMemory),
     }
 }
@@ -73,7 +75,7 @@ fn are_excluded(rects: &Rects<Global>) -> bool {
 
 // Whether box 0 alone is in the first bin.
 fn are_apart(alloc: Global, rects: &Rects<Global>, bins: &mut Bins<Global>) -> bool {
-    match pack(alloc, rects, bins) {
+    match pack_numbered(alloc, rects, bins) {
         Ok(packed) => are_in_turn(packed.placements(), COUNT + 1, 1),
         Err(_) => false,
     }

@@ -37,14 +37,21 @@ fn bins<A: Allocator + Copy>(alloc: A) -> Result<Bins<A>, AllocError> {
     Ok(bins)
 }
 
+// Whether the box of this number stands at the section that it went into.
+fn is_in_place(placed: &Placement<u32, u32>, number: u32) -> bool {
+    placed.id == number && placed.location.x() == free_at(index_of(number)).x()
+}
+
 // Whether each box stands at the section that it went into.
 fn are_in_place(placements: &[Placement<u32, u32>]) -> bool {
-    for (number, placed) in (0..BOXES).zip(placements.iter()) {
-        if placed.id != number || placed.location.x() != free_at(index_of(number)).x() {
-            return false;
+    let mut found = placements.iter();
+    for number in 0..BOXES {
+        match found.next() {
+            Some(placed) if is_in_place(placed, number) => {}
+            _ => return false,
         }
     }
-    placements.len() == BOXES as usize
+    found.next().is_none()
 }
 
 // Whether the bin has the sections that so many boxes left.

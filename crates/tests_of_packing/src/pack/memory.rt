@@ -2,7 +2,7 @@
 
 use super::closures::{EQUAL_KEYS, packs_between};
 use super::exclusions::{ONE_BIN, TWO_BINS, counts};
-use super::{Bins, Case, FULL_BIN, Rects, TWO_IN_A_GROUP, add_bin, pack, pack_counted};
+use super::{Bins, Case, FULL_BIN, Rects, TWO_IN_A_GROUP, add_bin, pack_counted, pack_numbered};
 use rectangle_pack::FitTests;
 use std::alloc::{Allocator, Global};
 use std::process::Abort;
@@ -72,7 +72,7 @@ fn counted_packings(rt: HostRuntime) -> Result<(), Fail> {
 // Whether a packing of nothing into these bins is done.
 fn packs_nothing<A: Allocator + Copy>(alloc: A, bins: &mut Bins<A>) -> bool {
     let rects = Rects::new(alloc);
-    match pack(alloc, &rects, bins) {
+    match pack_numbered(alloc, &rects, bins) {
         Ok(packed) => packed.placements().is_empty() && packed.packed_locations().is_empty(),
         Err(_) => false,
     }
@@ -88,27 +88,36 @@ fn counts_nothing<A: Allocator + Copy>(alloc: A, bins: &mut Bins<A>) -> bool {
     }
 }
 
-// The bin is made before, and all that was granted is used up.
-fn packs_into_a_bin(rt: &impl Abort, alloc: &Refusing<Global>) -> End {
-    let mut bins = Bins::new(alloc);
-    if add_bin(alloc, &mut bins, 7, [4, 4, 1]).is_err() {
+// Adds a bin and packs into it. The bin is made before, and all that was granted is used up.
+fn packs_into_a_bin<'a>(
+    rt: &impl Abort,
+    alloc: &'a Refusing<Global>,
+    bins: &mut Bins<&'a Refusing<Global>>,
+) -> End {
+    if add_bin(alloc, bins, 7, [4, 4, 1]).is_err() {
         return End::Before;
     }
     assert_eq!(rt; alloc.left(), 0);
-    assert!(rt; packs_nothing(alloc, &mut bins) && counts_nothing(alloc, &mut bins));
+    assert!(rt; packs_nothing(alloc, bins) && counts_nothing(alloc, bins));
     End::Done
 }
 
-// Packs into no bins.
-fn packs_into_none(alloc: &Refusing<Global>) -> bool {
+fn packs_into_new(rt: &impl Abort, alloc: &Refusing<Global>) -> End {
     let mut bins = Bins::new(alloc);
-    packs_nothing(alloc, &mut bins) && counts_nothing(alloc, &mut bins)
+    packs_into_a_bin(rt, alloc, &mut bins)
+}
+
+// Packs into no bins, without memory.
+fn packs_into_none(alloc: Global) -> bool {
+    let refusing = Refusing::new(alloc, 0);
+    let mut bins = Bins::new(&refusing);
+    packs_nothing(&refusing, &mut bins) && counts_nothing(&refusing, &mut bins)
 }
 
 #[test]
 fn packings_of_nothing(rt: HostRuntime) -> Result<(), Fail> {
-    assert!(rt; packs_into_none(&Refusing::new(rt.alloc(), 0)));
-    let refused = is_refused(rt.alloc(), |refusing| Ok(packs_into_a_bin(&rt, refusing)))?;
+    assert!(rt; packs_into_none(rt.alloc()));
+    let refused = is_refused(rt.alloc(), |refusing| Ok(packs_into_new(&rt, refusing)))?;
     assert!(rt; !refused);
     Ok(())
 }

@@ -134,12 +134,14 @@ fn is_bin_alike(one: (&String, &TargetBin), other: (&String, &TargetBin)) -> boo
 
 // Whether equal strings stand in the same places of both maps, and the bins have the same lists.
 fn are_bins_alike(bins: &TextBins, others: &TextBins) -> bool {
-    for (one, other) in bins.iter().zip(others.iter()) {
-        if !is_bin_alike(one, other) {
-            return false;
+    let mut found = others.iter();
+    for one in bins {
+        match found.next() {
+            Some(other) if is_bin_alike(one, other) => {}
+            _ => return false,
         }
     }
-    bins.len() == others.len()
+    found.next().is_none()
 }
 
 // Whether the placement is this one.
@@ -151,12 +153,14 @@ fn is_shown(placed: &Placement<String, String>, wanted: &TextPlaced) -> bool {
 // Whether the placements are those of the case, in order.
 fn shows_text(packed: &TextPacked, case: &TextCase) -> bool {
     let wanted = case.placements;
-    for (placed, row) in packed.placements().iter().zip(wanted.iter()) {
-        if !is_shown(placed, row) {
-            return false;
+    let mut found = packed.placements().iter();
+    for row in wanted {
+        match found.next() {
+            Some(placed) if is_shown(placed, row) => {}
+            _ => return false,
         }
     }
-    packed.placements().len() == wanted.len()
+    found.next().is_none()
 }
 
 // Whether the two are equal as a whole, and in both parts.
