@@ -10,17 +10,15 @@ use std::alloc::{AllocError, Global};
 use std::collections::BTreeMap;
 use std::test::Fail;
 
+type Sprites = GroupedRectsToPlace<&'static str, &'static str>;
+
 // The hat and the shoe go together, the tree alone.
-fn sprites(alloc: Global) -> Result<GroupedRectsToPlace<&'static str, &'static str>, AllocError> {
-    let mut rects: GroupedRectsToPlace<&'static str, &'static str> = GroupedRectsToPlace::new(
-        alloc,
-    );
+fn push_sprites(alloc: Global, rects: &mut Sprites) -> Result<(), AllocError> {
     for (id, width, height) in [("hat", 10, 20), ("shoe", 5, 50)] {
         let sprites = vec![in alloc; "sprites"]?;
         rects.push_rect(id, Some(sprites), RectToInsert::new(width, height, 255))?;
     }
-    rects.push_rect("tree", None, RectToInsert::new(30, 30, 255))?;
-    Ok(rects)
+    rects.push_rect("tree", None, RectToInsert::new(30, 30, 255))
 }
 
 // Prints the placements.
@@ -32,13 +30,23 @@ fn print(rt: &HostRuntime, packed: &RectanglePackOk<&str, &str>) -> Result<(), F
     Ok(())
 }
 
+// Packs the boxes into one bin, and prints where they are.
+fn pack_into_atlas(
+    rt: &HostRuntime,
+    rects: &Sprites,
+    bins: &mut BTreeMap<&'static str, TargetBin>,
+) -> Result<(), Fail> {
+    add_bin(rt.alloc(), bins, "atlas", [2048, 2048, 255])?;
+    let packed = pack(rt.alloc(), rects, bins)?;
+    print(rt, &packed)
+}
+
 #[test]
 fn readme(rt: HostRuntime) -> Result<(), Fail> {
-    let rects = sprites(rt.alloc())?;
+    let mut rects = Sprites::new(rt.alloc());
     let mut bins = BTreeMap::new(rt.alloc());
-    add_bin(rt.alloc(), &mut bins, "atlas", [2048, 2048, 255])?;
-    let packed = pack(rt.alloc(), &rects, &mut bins)?;
-    print(&rt, &packed)
+    push_sprites(rt.alloc(), &mut rects)?;
+    pack_into_atlas(&rt, &rects, &mut bins)
 }
 
 // The example of `pack_rects` has two blocks, and so it stands in two functions, as does that of

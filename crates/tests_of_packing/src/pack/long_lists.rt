@@ -17,24 +17,22 @@ fn push_all<A: Allocator + Copy>(rects: &mut Rects<A>) -> Result<(), AllocError>
     Ok(())
 }
 
-// All boxes. One that is too tall has as many cells as a wide one, and so comes after the wide
-// ones.
-fn rects<A: Allocator + Copy>(alloc: A, too_tall: bool) -> Result<Rects<A>, AllocError> {
-    let mut rects = Rects::new(alloc);
-    push_all(&mut rects)?;
+// Pushes all boxes. One that is too tall has as many cells as a wide one, and so comes after the
+// wide ones.
+fn push_boxes<A: Allocator + Copy>(rects: &mut Rects<A>, too_tall: bool) -> Result<(), AllocError> {
+    push_all(rects)?;
     if too_tall {
         rects.push_rect(BOXES, None, RectToInsert::new(1, 2, 1))?;
     }
-    Ok(rects)
+    Ok(())
 }
 
 // The wide boxes' tests, and those of the box that is too tall in the sections that are left.
 const REFUSED_TESTS: u128 = 4955 + 1190;
 
-fn bins<A: Allocator + Copy>(alloc: A) -> Result<Bins<A>, AllocError> {
-    let mut bins = Bins::new(alloc);
+fn add_comb<A: Allocator + Copy>(alloc: A, bins: &mut Bins<A>) -> Result<(), AllocError> {
     bins.insert(0, comb(alloc)?)?;
-    Ok(bins)
+    Ok(())
 }
 
 // Whether the box of this number stands at the section that it went into.
@@ -104,13 +102,25 @@ fn packs_into<A: Allocator + Copy>(
     end_of(&answer)
 }
 
-// Packs these boxes.
+// Packs these boxes into a new bin.
+fn packs_rects<'a>(
+    rt: &impl Abort,
+    alloc: &'a Refusing<Global>,
+    rects: &Rects<&'a Refusing<Global>>,
+    too_tall: bool,
+) -> End {
+    let mut bins = Bins::new(alloc);
+    match add_comb(alloc, &mut bins) {
+        Ok(()) => packs_into(rt, alloc, rects, &mut bins, too_tall),
+        Err(_) => End::Before,
+    }
+}
+
+// Packs all boxes.
 fn packs(rt: &impl Abort, alloc: &Refusing<Global>, too_tall: bool) -> End {
-    let Ok(rects) = rects(alloc, too_tall) else {
-        return End::Before;
-    };
-    match bins(alloc) {
-        Ok(mut bins) => packs_into(rt, alloc, &rects, &mut bins, too_tall),
+    let mut rects = Rects::new(alloc);
+    match push_boxes(&mut rects, too_tall) {
+        Ok(()) => packs_rects(rt, alloc, &rects, too_tall),
         Err(_) => End::Before,
     }
 }
