@@ -1,5 +1,5 @@
 -- A session's packing with the best heuristic ends as the one did that was rolled back, and keeps the promise.
-use Rattle.rectangle_pack_sections.proofs.Std.{◌≡◌, ◌+◌, ◌<◌, ◌^◌, List, refl, subst, All, All-weaker, Ordering, IsTotalOrder, Result, Ok, Err}
+use Rattle.rectangle_pack_sections.proofs.Std.{◌≡◌, List, refl, subst, All-weaker, Ordering, IsTotalOrder, Result, Ok, Err}
 use Rattle.rectangle_pack_sections.specs.declared.box_size_heuristics.named.Heuristic.{Heuristic}
 use Rattle.rectangle_pack_groups.specs.declared.grouped_rects_to_place.Group.{Group}
 use Rattle.rectangle_pack_groups.specs.Groups.{Collection}

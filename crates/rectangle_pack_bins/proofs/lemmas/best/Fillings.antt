@@ -1,6 +1,6 @@
 -- How many cells placements fill in each bin.
-use Rattle.rectangle_pack_sections.proofs.Std.{◌≡◌, ℕ, ◌+◌, ◌≤◌, Bool, true, false, cond, List, [], ◌∷◌, ◌++◌, refl, sym, ap, ◌∙◌, arith, filter, map, option_map}
-use Rattle.rectangle_pack_sections.proofs.Std.{Option, Some, unwrap_or, Ordering, Equal, Equal-is, IsTotalOrder, is_at, lookup, keys_of, Bor, append-nil, sum_by_push, nat_lt, le-ltb}
+use Rattle.rectangle_pack_sections.proofs.Std.{◌≡◌, ℕ, ◌+◌, ◌≤◌, Bool, true, false, cond, List, [], ◌∷◌, ◌++◌, refl, sym, ap, ◌∙◌, arith, filter, map}
+use Rattle.rectangle_pack_sections.proofs.Std.{Some, unwrap_or, Ordering, Equal, Equal-is, IsTotalOrder, is_at, lookup, keys_of, Bor, append-nil, sum_by_push, nat_lt, le-ltb}
 use Rattle.rectangle_pack_sections.proofs.Std.{map-append, filter-append}
 use Rattle.rectangle_pack_sections.specs.Boxes.{Cuboid, volume_of}
 use Rattle.rectangle_pack_sections.specs.Counting.{total_volume}

@@ -1,6 +1,6 @@
 -- A packing with a heuristic that has a name has one result, and so it makes one use of the bins.
-use Rattle.rectangle_pack_sections.proofs.Std.{◌≡◌, ℕ, Bool, true, false, cond, List, [], ◌∷◌, refl, sym, ap, ◌∙◌, filter, map, nat_lt, All, Ordering, Equal}
-use Rattle.rectangle_pack_sections.proofs.Std.{IsTotalOrder, tied_itself, is_at, keys_of, values_of, fun_ext, Result, Ok, Err}
+use Rattle.rectangle_pack_sections.proofs.Std.{◌≡◌, ℕ, Bool, true, false, cond, List, [], ◌∷◌, refl, sym, ap, ◌∙◌, filter, map, nat_lt, Ordering}
+use Rattle.rectangle_pack_sections.proofs.Std.{IsTotalOrder, tied_itself, is_at, keys_of, values_of, fun_ext, Ok, Err}
 use Rattle.rectangle_pack_sections.specs.declared.box_size_heuristics.named.Heuristic.{Heuristic}
 use Rattle.rectangle_pack_sections.specs.Bins.{Bin}
 use Rattle.rectangle_pack_sections.specs.Boxes.{Cuboid}
@@ -14,9 +14,9 @@ use Rattle.rectangle_pack_bins.specs.declared.pack.answer.RectanglePackOk.{Recta
 use Rattle.rectangle_pack_bins.specs.declared.pack.answer.RectanglePackError.{RectanglePackError}
 use Rattle.rectangle_pack_bins.specs.declared.pack.answer.RectanglePackError.TheVariants.{NotEnoughBinSpace, OutOfMemory}
 use Rattle.rectangle_pack_bins.specs.declared.pack.best.Use.{Use}
-use Rattle.rectangle_pack_bins.specs.Best.{use_by, cells_placed_in, use_of, named_rules, PacksWith, IsRefusedWith, IsBestOf, IsBestAnswer}
+use Rattle.rectangle_pack_bins.specs.Best.{use_by, use_of, named_rules, PacksWith, IsRefusedWith, IsBestOf, IsBestAnswer}
 use Rattle.rectangle_pack_bins.specs.KeptBins.{locations_in}
-use Rattle.rectangle_pack_bins.specs.Packing.{PackingDone, PackingRefused}
+use Rattle.rectangle_pack_bins.specs.Packing.{PackingDone}
 use Rattle.rectangle_pack_bins.specs.PackAnswers.{IsPacked, IsCountedAnswer}
 use Rattle.rectangle_pack_bins.specs.Placed.{placements_of}
 use Rattle.rectangle_pack_bins.specs.Results.{ArePlacementsAlike, HaveOneResult}

@@ -1,12 +1,12 @@
 -- What is allowed by some answers is allowed by more; so two packings, each by closures of its own, are packings by what either may answer.
-use Rattle.rectangle_pack_sections.proofs.Std.{◌≡◌, ◌≢◌, ℕ, Bool, true, false, List, [], ◌∷◌, inl, inr, ◌⊎◌, ⊎_elim, All, Any, map, Option, Some, None}
-use Rattle.rectangle_pack_sections.proofs.Std.{IsSomeAnd, MatchBool, Ordering, Equal, Greater, lookup, is_at, All-weaker}
+use Rattle.rectangle_pack_sections.proofs.Std.{◌≡◌, ℕ, Bool, true, false, List, [], ◌∷◌, inl, inr, ◌⊎◌, ⊎_elim, All, map, Option, Some, None}
+use Rattle.rectangle_pack_sections.proofs.Std.{IsSomeAnd, MatchBool, Ordering, Equal, lookup, is_at}
 use Rattle.rectangle_pack_groups.specs.declared.grouped_rects_to_place.Group.{Group}
 use Rattle.rectangle_pack_bins.specs.declared.pack.answer.Placement.{Placement}
 use Rattle.rectangle_pack_sections.specs.Boxes.{Size, Cuboid, IsU32}
 use Rattle.rectangle_pack_sections.specs.Bins.{Bin}
 use Rattle.rectangle_pack_sections.specs.Closures.{Answers}
-use Rattle.rectangle_pack_sections.specs.Choice.{MayChoose, IsAllowedCut}
+use Rattle.rectangle_pack_sections.specs.Choice.{IsAllowedCut}
 use Rattle.rectangle_pack_sections.specs.Cuts.{cuts, sizes_of}
 use Rattle.rectangle_pack_groups.specs.Groups.{Collection}
 use Rattle.rectangle_pack_bins.specs.Orders.{IsGroupKey, IsGroupOrder, IsBinOrder}

@@ -1,7 +1,6 @@
-use Rattle.rectangle_pack_sections.proofs.Std.{length, refl, ap, sym, ◌∙◌, arith, map, sum, values_of, All-nil}
+use Rattle.rectangle_pack_sections.proofs.Std.{length, ap, sym, ◌∙◌, arith, map, sum, values_of, All-nil}
 use Rattle.rectangle_pack_sections.specs.Closures.{answers}
 use Rattle.rectangle_pack_bins.specs.Packing.{bins_of, rules_by}
-use Rattle.rectangle_pack_bins.proofs.lemmas.packing.FitTests.{counted-none}
 use Rattle.rectangle_pack_bins.proofs.lemmas.packing.Groups.{PackingDone-none, lists-some, lists-empty}
 use Rattle.rectangle_pack_bins.proofs.pack.pack_rects_counted.Goals as goal
 

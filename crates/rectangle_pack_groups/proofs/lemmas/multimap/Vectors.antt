@@ -5,7 +5,7 @@ use Rattle.rectangle_pack_sections.proofs.Std.{match_ordering, is_eq, is_at, ins
 use Rattle.rectangle_pack_groups.specs.Groups.{lists_of}
 use Rattle.rectangle_pack_groups.specs.private.Multimaps.{filled, items_of}
 use Rattle.rectangle_pack_groups.proofs.lemmas.util.Maps.{lookup-equal, set_value-map_values, insert_entry-map_values}
-use Rattle.rectangle_pack_sections.proofs.Std.{ℕ, ◌+◌, ◌++◌, arith, map, sum, values_of, sum_by-cons, ◌-◌}
+use Rattle.rectangle_pack_sections.proofs.Std.{ℕ, ◌+◌, ◌++◌, arith, map, sum, values_of, sum_by-cons}
 
 -- what is not there is `None`
 pub none_of : {X : Type 0} (found : Option X) → is_some found ≡ false → found ≡ None

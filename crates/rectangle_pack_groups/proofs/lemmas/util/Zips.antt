@@ -1,5 +1,5 @@
 -- Lists that agree element by element.
-use Rattle.rectangle_pack_sections.proofs.Std.{List, [], ◌∷◌, map, map-id, AllZip, ◌≡◌, ℕ, AllZip-long, ◌++◌, refl, sym, arith, length, All, sum_by, Ordering}
+use Rattle.rectangle_pack_sections.proofs.Std.{List, [], ◌∷◌, AllZip, ◌≡◌, ℕ, AllZip-long, ◌++◌, refl, sym, arith, length, All, sum_by, Ordering}
 use Rattle.rectangle_pack_sections.proofs.Std.{Equal, values_of, All-nil, All-cons, All-head, All-tail, sum_by-cons}
 use Rattle.rectangle_pack_groups.specs.Alike.{AreMapsAlike}
 pub use Rattle.rectangle_pack_sections.proofs.lemmas.util.Zips.{AllZip-mapped, AllZip-weaker}

@@ -1,4 +1,4 @@
-use Rattle.rectangle_pack_sections.proofs.Std.{◌≡◌, ◌<◌, ◌≤◌, length, refl, ap, sym, ◌∙◌, arith, take, take_all, take_more, slice_index_or}
+use Rattle.rectangle_pack_sections.proofs.Std.{refl, ◌∙◌, take, take_all, take_more, slice_index_or}
 use Rattle.rectangle_pack_sections.specs.declared.box_size_heuristics.named.Heuristic.TheVariants.{Volume}
 use Rattle.rectangle_pack_groups.proofs.lemmas.groups.GroupOrder.{groups_total}
 use Rattle.rectangle_pack_bins.specs.Packing.{bins_of}

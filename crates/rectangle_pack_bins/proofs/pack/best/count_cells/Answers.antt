@@ -1,4 +1,4 @@
-use Rattle.rectangle_pack_sections.proofs.Std.{◌≡◌, ◌+◌, refl, sym, ap, ◌∙◌, take, take_more, Bor}
+use Rattle.rectangle_pack_sections.proofs.Std.{◌≡◌, ◌+◌, refl, ◌∙◌, take, take_more, Bor}
 use Rattle.rectangle_pack_sections.specs.Boxes.{volume_of}
 use Rattle.rectangle_pack_lists.specs.Numbers.{saturated}
 use Rattle.rectangle_pack_bins.specs.private.Cells.{cells_in}
