@@ -1,6 +1,8 @@
 //! Collections: boxes and the groups that they are pushed into, and groups that are excluded.
 
 mod memory;
+mod no_memory;
+mod owned_ids;
 
 use rectangle_pack::{Group, GroupedRectsToPlace, RectToInsert};
 use std::alloc::{AllocError, Global};

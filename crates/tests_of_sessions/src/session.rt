@@ -7,6 +7,7 @@ mod cut_plan;
 mod hostile;
 mod large;
 mod no_memory;
+mod numbers;
 mod refusals;
 mod releases;
 mod run;

@@ -1,12 +1,10 @@
 //! Collections of boxes whose memory, or whose ids' clones, are refused.
 
-use rectangle_pack::{Group, GroupedRectsToPlace, RectToInsert};
+use rectangle_pack::{Group, RectToInsert};
 use std::alloc::{AllocError, Global};
 use std::cell::Cell;
 use std::process::Abort;
-use std::test::Fail;
-use tests_support::boxes;
-use tests_support::each_request::{self, End};
+use tests_support::each_request::End;
 use tests_support::names::{Name, Rects};
 use tests_support::refusing::Refusing;
 
@@ -307,131 +305,4 @@ fn pushes_into_collections(rt: HostRuntime) {
 fn exclusions(rt: HostRuntime) {
     assert!(rt; is_refused(&rt, rt.alloc(), false, None));
     assert!(rt; is_refused(&rt, rt.alloc(), true, None));
-}
-
-// An id that owns memory, which its clones take too.
-#[derive(Clone, PartialEq, Eq, PartialOrd, Ord, Drop)]
-struct Text<'a> {
-    text: String<&'a Refusing<Global>>,
-}
-
-type TextRects<'a> = GroupedRectsToPlace<Text<'a>, u32, &'a Refusing<Global>>;
-
-fn text_of<'a>(alloc: &'a Refusing<Global>, from: &str) -> Result<Text<'a>, AllocError> {
-    let text = String::from_str(alloc, from)?;
-    Ok(Text { text })
-}
-
-fn push_text<'a>(
-    all: &mut TextRects<'a>,
-    alloc: &'a Refusing<Global>,
-    id: &str,
-) -> Result<(), AllocError> {
-    let id = text_of(alloc, id)?;
-    let named = [0, 1, 0].to_vec(alloc)?;
-    all.push_rect(id, Some(named), RectToInsert::new(2, 3, 1))
-}
-
-// Excludes the box alone from group 0.
-fn exclude_text<'a>(
-    all: &mut TextRects<'a>,
-    alloc: &'a Refusing<Global>,
-    id: &str,
-) -> Result<(), AllocError> {
-    let alone = Group::Ungrouped(text_of(alloc, id)?);
-    all.exclude(alone, Group::Grouped(0))
-}
-
-// How many entries the groups 0 and 1 have, and how many boxes there are.
-fn entries(all: &TextRects<'_>) -> (Option<(usize, usize)>, usize) {
-    let zero = all.groups().get(&Group::Grouped(0)).map(Vec::len);
-    let one = all.groups().get(&Group::Grouped(1)).map(Vec::len);
-    (zero.zip(one), all.rects().len())
-}
-
-// Pushes a box beside one that is there, and excludes that one alone from group 0. Where this is
-// refused, nothing is changed.
-fn calls_by_texts<'a>(
-    rt: &impl Abort,
-    alloc: &'a Refusing<Global>,
-    all: &mut TextRects<'a>,
-    old: &Group<u32, Text<'a>>,
-) -> End {
-    if push_text(all, alloc, "old").is_err() {
-        return End::Before;
-    }
-    if push_text(all, alloc, "new").is_err() {
-        assert_eq!(rt; entries(all), (Some((2, 1)), 1));
-        return End::Refused;
-    }
-    assert_eq!(rt; entries(all), (Some((4, 2)), 2));
-    let is_done = exclude_text(all, alloc, "old").is_ok();
-    assert_eq!(rt; all.excluded(old, &Group::Grouped(0)), is_done);
-    if is_done { End::Done } else { End::Refused }
-}
-
-// The calls in a new collection.
-fn end_by_texts(rt: &impl Abort, alloc: &Refusing<Global>) -> End {
-    match text_of(alloc, "old") {
-        Ok(old) => {
-            let mut all = TextRects::new(alloc);
-            calls_by_texts(rt, alloc, &mut all, &Group::Ungrouped(old))
-        }
-        Err(_) => End::Before,
-    }
-}
-
-// All memory of the ids and of their clones is given back.
-#[test]
-fn ids_that_own_memory(rt: HostRuntime) -> Result<(), Fail> {
-    let refused = each_request::is_refused(rt.alloc(), |refusing| Ok(end_by_texts(&rt, refusing)))?;
-    assert!(rt; refused);
-    Ok(())
-}
-
-// Whether a new collection has no groups, no boxes and no pairs.
-fn is_new(rects: &boxes::Rects<'_>) -> bool {
-    rects.groups().is_empty()
-        && rects.rects().is_empty()
-        && !rects.excluded(&Group::Grouped(0), &Group::Ungrouped(0))
-}
-
-// The groups 0 and 1 are excluded, either way round, and the group 0 and the box 1 are not. To
-// exclude them again changes nothing.
-fn keeps_the_pair(rects: &mut boxes::Rects<'_>) -> bool {
-    rects.excluded(&Group::Grouped(0), &Group::Grouped(1))
-        && rects.excluded(&Group::Grouped(1), &Group::Grouped(0))
-        && !rects.excluded(&Group::Grouped(0), &Group::Ungrouped(1))
-        && rects.exclude(Group::Grouped(1), Group::Grouped(0)).is_ok()
-        && rects.exclude(Group::Grouped(0), Group::Grouped(1)).is_ok()
-}
-
-// Excludes the pair in a collection for which one request is left, or none.
-fn end_of_pair(rt: &impl Abort, alloc: &Refusing<Global>, rects: &mut boxes::Rects<'_>) -> End {
-    if rects.exclude(Group::Grouped(0), Group::Grouped(1)).is_err() {
-        return End::Before;
-    }
-    assert_eq!(rt; alloc.left(), 0);
-    assert!(rt; keeps_the_pair(rects));
-    End::Done
-}
-
-fn pair(rt: &impl Abort, alloc: &Refusing<Global>) -> End {
-    let mut rects = boxes::Rects::new(alloc);
-    end_of_pair(rt, alloc, &mut rects)
-}
-
-// Whether a collection is made without memory.
-fn is_made(alloc: Global) -> bool {
-    let refusing = Refusing::new(alloc, 0);
-    is_new(&boxes::Rects::new(&refusing))
-}
-
-// A new collection, and a pair that is there, take no memory.
-#[test]
-fn calls_that_take_none(rt: HostRuntime) -> Result<(), Fail> {
-    assert!(rt; is_made(rt.alloc()));
-    let refused = each_request::is_refused(rt.alloc(), |refusing| Ok(pair(&rt, refusing)))?;
-    assert!(rt; !refused);
-    Ok(())
 }

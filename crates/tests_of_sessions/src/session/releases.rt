@@ -1,13 +1,11 @@
-//! Numbers of placements, what they release, and what is joined then.
+//! Placements that are released by their numbers, and what is joined then.
 
 use super::{
-    ADD_BIN, BIN, FIRST, Held, Line, Memory, NEW, OTHER, Order, PlacedBox, Script, State, TILE,
-    UNKNOWN, come_out,
+    ADD_BIN, BIN, Held, Line, Memory, NEW, OTHER, Order, PlacedBox, Script, State, UNKNOWN,
+    come_out,
 };
 use rectangle_pack::{Packed, Reply, SessionError};
 use std::test::Fail;
-
-const USED_UP: Reply = Reply::Refused(SessionError::NumbersUsedUp);
 
 const NO_BIN: Reply = Reply::Refused(SessionError::UnknownBin);
 
@@ -291,71 +289,6 @@ const EMPTY_BOX: &[Line] = &[
     },
 ];
 
-// The greatest number is never given.
-const LAST_NUMBER: &[Line] = &[
-    Line {
-        order: Order::AddBin(BIN, [8, 8, 1]),
-        memory: Memory::Asked,
-        reply: Reply::Done,
-        after: State {
-            bins: &[Held {
-                free: &[[0, 0, 0, 8, 8, 1]],
-                volumes: [64, 64, 0],
-                ..NEW
-            }],
-            placed: &[],
-            next: u64::MAX - 1,
-        },
-    },
-    Line {
-        order: Order::Pack(&[(P, TILE, &[])]),
-        memory: Memory::Asked,
-        reply: Reply::Packed(Packed {
-            first: u64::MAX - 1,
-            count: 1,
-        }),
-        after: AT_THE_END,
-    },
-    Line {
-        order: Order::Pack(&[(Q, TILE, &[])]),
-        memory: Memory::NotAsked,
-        reply: USED_UP,
-        after: AT_THE_END,
-    },
-    Line {
-        order: Order::Pack(&[]),
-        memory: Memory::NotAsked,
-        reply: Reply::Packed(Packed {
-            first: u64::MAX,
-            count: 0,
-        }),
-        after: AT_THE_END,
-    },
-];
-
-const AT_THE_END: State = State {
-    bins: &[Held {
-        free: &[[0, 4, 0, 8, 4, 1], [4, 0, 0, 4, 4, 1]],
-        volumes: [64, 48, 16],
-        counts: [2, 1],
-        ..NEW
-    }],
-    placed: &[(u64::MAX - 1, P, BIN, FIRST)],
-    next: u64::MAX,
-};
-
-// That there is a number is asked before a bin is.
-const NO_NUMBER: &[Line] = &[Line {
-    order: Order::Pack(&[(P, [1, 1, 1], &[])]),
-    memory: Memory::NotAsked,
-    reply: USED_UP,
-    after: State {
-        bins: &[],
-        placed: &[],
-        next: u64::MAX,
-    },
-}];
-
 const TWO_BOXES: &[Script] = &[
     Script {
         first: 0,
@@ -385,29 +318,14 @@ const OTHERS: &[Script] = &[
         lines: EMPTY_BOX,
         refusals: 2,
     },
-    Script {
-        first: u64::MAX - 1,
-        lines: LAST_NUMBER,
-        refusals: 2,
-    },
-    Script {
-        first: u64::MAX,
-        lines: NO_NUMBER,
-        refusals: 0,
-    },
 ];
 
-// Tables are dear to prove in a longer body, and beside each other, so each stands alone.
-fn two_boxes() -> &'static [Script] {
-    TWO_BOXES
-}
-
-fn others() -> &'static [Script] {
-    OTHERS
+#[test]
+fn two_boxes_that_fill_a_bin(rt: HostRuntime) -> Result<(), Fail> {
+    come_out(&rt, rt.alloc(), TWO_BOXES)
 }
 
 #[test]
-fn numbers_and_releases(rt: HostRuntime) -> Result<(), Fail> {
-    come_out(&rt, rt.alloc(), two_boxes())?;
-    come_out(&rt, rt.alloc(), others())
+fn sweeps_and_an_empty_box(rt: HostRuntime) -> Result<(), Fail> {
+    come_out(&rt, rt.alloc(), OTHERS)
 }
