@@ -22,11 +22,13 @@ pub mod journal;
 mod laws;
 mod open_bin;
 pub mod order;
+pub mod packing;
 
 use crate::pack::answer::last_placements;
 use crate::pack::best::best_of;
-use crate::pack::first_fit::{Packing, pack_noted};
+use crate::pack::first_fit::pack_noted;
 use crate::pack::order::bin_order;
+use crate::pack::packing::Packing;
 use crate::target_bin::TargetBin;
 pub use answer::{Placement, RectanglePackError, RectanglePackOk};
 pub use laws::{

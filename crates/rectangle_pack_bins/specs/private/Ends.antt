@@ -4,7 +4,7 @@ use Rattle.std.specs.declared.cmp.Ordering.{Ordering}
 use Rattle.rectangle_pack_bins.specs.declared.pack.answer.RectanglePackOk.{RectanglePackOk}
 use Rattle.rectangle_pack_bins.specs.declared.pack.answer.RectanglePackError.{RectanglePackError}
 use Rattle.rectangle_pack_bins.specs.declared.pack.answer.RectanglePackError.TheVariants.{NotEnoughBinSpace, OutOfMemory}
-use Rattle.rectangle_pack_bins.specs.declared.pack.first_fit.Packing.{Packing}
+use Rattle.rectangle_pack_bins.specs.declared.pack.packing.Packing.{Packing}
 use Rattle.rectangle_pack_sections.specs.Bins.{Bin, Held}
 use Rattle.rectangle_pack_bins.specs.Packing.{bins_of}
 use Rattle.rectangle_pack_bins.specs.Placed.{AreLastPlacements, placements_of, locations_of}

@@ -4,7 +4,7 @@ use Rattle.std.specs.declared.cmp.Ordering.{Ordering}
 use Rattle.std.specs.Map.{lookup, set_value}
 use Rattle.std.specs.BTreeMap.{is_at}
 use Rattle.rectangle_pack_bins.specs.declared.pack.journal.DoneTrial.{DoneTrial}
-use Rattle.rectangle_pack_bins.specs.declared.pack.first_fit.Packing.{Packing}
+use Rattle.rectangle_pack_bins.specs.declared.pack.packing.Packing.{Packing}
 use Rattle.rectangle_pack_sections.specs.Bins.{Bin, Held, IsSound}
 use Rattle.rectangle_pack_bins.specs.Packing.{bins_of}
 use Rattle.rectangle_pack_lists.specs.private.Notes.{before_notes, CanUndo}

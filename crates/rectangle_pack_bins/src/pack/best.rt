@@ -8,8 +8,9 @@ ghost use Rattle.rectangle_pack_bins.specs.Packing.{PackingDone, PackingRefused,
 ghost use Rattle.rectangle_pack_sections.specs.Bins.{Bin};
 
 use crate::pack::answer::Placement;
-use crate::pack::first_fit::{Packing, pack_noted};
+use crate::pack::first_fit::pack_noted;
 use crate::pack::order::bin_order;
+use crate::pack::packing::Packing;
 use crate::target_bin::TargetBin;
 use rectangle_pack_groups::grouped_rects_to_place::{Group, GroupedRectsToPlace};
 use rectangle_pack_sections::bin_section::section_at;

@@ -14,7 +14,7 @@ use Rattle.rectangle_pack_bins.specs.PackAnswers.{AreCounted, IsCountedAnswer}
 use Rattle.rectangle_pack_bins.specs.private.Bounds.{AddsWithin}
 use Rattle.rectangle_pack_bins.specs.private.Ends.{IsEnd}
 use Rattle.rectangle_pack_bins.specs.private.RollBack.{RollsBackTo}
-use Rattle.rectangle_pack_bins.specs.declared.pack.first_fit.Packing.{Packing}
+use Rattle.rectangle_pack_bins.specs.declared.pack.packing.Packing.{Packing}
 use Rattle.rectangle_pack_bins.specs.declared.pack.answer.RectanglePackOk.{RectanglePackOk}
 use Rattle.rectangle_pack_bins.specs.declared.pack.answer.RectanglePackError.{RectanglePackError}
 use Rattle.rectangle_pack_bins.specs.declared.pack.answer.RectanglePackError.TheVariants.{NotEnoughBinSpace, OutOfMemory}
