@@ -189,10 +189,9 @@ where
 ///
 /// ```
 /// let mut rects: GroupedRectsToPlace<u32, u32> = GroupedRectsToPlace::new(alloc);
-/// rects.push_rect(1, None, RectToInsert::new(6, 2, 1))?;
-/// rects.push_rect(2, None, RectToInsert::new(3, 3, 1))?;
-/// rects.push_rect(3, None, RectToInsert::new(2, 5, 1))?;
-/// rects.push_rect(4, None, RectToInsert::new(1, 5, 1))?;
+/// for (id, width, height) in [(1, 6, 2), (2, 3, 3), (3, 2, 5), (4, 1, 5)] {
+///     rects.push_rect(id, None, RectToInsert::new(width, height, 1))?;
+/// }
 /// let mut bins = BTreeMap::new(alloc);
 /// bins.insert(0u32, TargetBin::new(alloc, 6, 7, 1)?)?;
 /// let (best, packed) = pack_rects_best(alloc, &rects, &mut bins, &Heuristic::ALL)?;

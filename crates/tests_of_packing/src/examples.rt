@@ -2,9 +2,9 @@
 
 use crate::pack::{add_bin, pack};
 use rectangle_pack::{
-    BinSection, FitTests, Group, GroupedRectsToPlace, Placement, RectToInsert, RectanglePackOk,
-    TargetBin, WidthHeightDepth, contains_smallest_box, pack_rects, volume_heuristic,
-    volume_packing_has_one_result,
+    BinSection, FitTests, Group, GroupedRectsToPlace, Heuristic, Placement, RectToInsert,
+    RectanglePackOk, TargetBin, WidthHeightDepth, contains_smallest_box, pack_rects,
+    pack_rects_best, volume_heuristic, volume_packing_has_one_result,
 };
 use std::alloc::{AllocError, Global};
 use std::collections::BTreeMap;
@@ -49,8 +49,8 @@ fn readme(rt: HostRuntime) -> Result<(), Fail> {
     pack_into_atlas(&rt, &rects, &mut bins)
 }
 
-// The example of `pack_rects` has two blocks, and so it stands in two functions, as does that of
-// `push_rect`.
+// The example of `pack_rects` has two blocks, and so it stands in two functions, as do those of
+// `pack_rects_best` and `push_rect`.
 fn pack_two_boxes(alloc: Global) -> Result<RectanglePackOk<u32, u32>, Fail> {
     let mut rects: GroupedRectsToPlace<u32, u32> = GroupedRectsToPlace::new(alloc);
     rects.push_rect(7, None, RectToInsert::new(2, 3, 1))?;
@@ -75,6 +75,25 @@ fn pack_rects_places_boxes(rt: HostRuntime) -> Result<(), Fail> {
     let (bin, location) = packed.packed_locations().get(&7).ok_or("not placed")?;
     assert_eq!(rt; *bin, 1);
     assert_eq!(rt; (location.x(), location.y(), location.z()), (4, 0, 0));
+    Ok(())
+}
+
+fn pack_four_boxes(alloc: Global) -> Result<(Heuristic, RectanglePackOk<u32, u32>), Fail> {
+    let mut rects: GroupedRectsToPlace<u32, u32> = GroupedRectsToPlace::new(alloc);
+    for (id, width, height) in [(1, 6, 2), (2, 3, 3), (3, 2, 5), (4, 1, 5)] {
+        rects.push_rect(id, None, RectToInsert::new(width, height, 1))?;
+    }
+    let mut bins = BTreeMap::new(alloc);
+    bins.insert(0u32, TargetBin::new(alloc, 6, 7, 1)?)?;
+    let (best, packed) = pack_rects_best(alloc, &rects, &mut bins, &Heuristic::ALL)?;
+    Ok((best, packed))
+}
+
+#[test]
+fn pack_the_best(rt: HostRuntime) -> Result<(), Fail> {
+    let (best, packed) = pack_four_boxes(rt.alloc())?;
+    assert_eq!(rt; best, Heuristic::Width);
+    assert_eq!(rt; packed.placements().len(), 4);
     Ok(())
 }
 

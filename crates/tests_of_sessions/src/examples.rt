@@ -1,8 +1,8 @@
 //! The examples of the documentation of sessions.
 
 use rectangle_pack::{
-    Axis, BinSection, CutStep, GroupedRectsToPlace, RectToInsert, Session, WidthHeightDepth,
-    contains_smallest_box, volume_heuristic,
+    Axis, BinSection, CutStep, GroupedRectsToPlace, Heuristic, RectToInsert, Session,
+    WidthHeightDepth, contains_smallest_box, volume_heuristic,
 };
 use std::alloc::Global;
 use std::process::Abort;
@@ -55,4 +55,19 @@ fn ask_plan(rt: &impl Abort, session: &Session<u32, &'static str>) -> Result<(),
 fn cut_plan_parts_a_sheet(rt: HostRuntime) -> Result<(), Fail> {
     let session = one_box(&rt, rt.alloc())?;
     ask_plan(&rt, &session)
+}
+
+#[test]
+fn pack_a_session_with_the_best(rt: HostRuntime) -> Result<(), Fail> {
+    let alloc = rt.alloc();
+    let mut session: Session<u32, &'static str> = Session::new(alloc, 0);
+    session.add_bin("sheet", 4, 4, 1)?;
+    let mut rects: GroupedRectsToPlace<u32, u32> = GroupedRectsToPlace::new(alloc);
+    for (id, width, height) in [(1, 1, 3), (2, 3, 2), (3, 3, 1)] {
+        rects.push_rect(id, None, RectToInsert::new(width, height, 1))?;
+    }
+    let (best, packed) = session.pack_best(&rects, &Heuristic::ALL)?;
+    assert_eq!(rt; best, Heuristic::Height);
+    assert_eq!(rt; packed.count, 3);
+    Ok(())
 }

@@ -35,9 +35,9 @@ where
     /// let mut session: Session<u32, &'static str> = Session::new(alloc, 0);
     /// session.add_bin("sheet", 4, 4, 1)?;
     /// let mut rects: GroupedRectsToPlace<u32, u32> = GroupedRectsToPlace::new(alloc);
-    /// rects.push_rect(1, None, RectToInsert::new(1, 3, 1))?;
-    /// rects.push_rect(2, None, RectToInsert::new(3, 2, 1))?;
-    /// rects.push_rect(3, None, RectToInsert::new(3, 1, 1))?;
+    /// for (id, width, height) in [(1, 1, 3), (2, 3, 2), (3, 3, 1)] {
+    ///     rects.push_rect(id, None, RectToInsert::new(width, height, 1))?;
+    /// }
     /// let (best, packed) = session.pack_best(&rects, &Heuristic::ALL)?;
     /// assert_eq!(rt; best, Heuristic::Height);
     /// assert_eq!(rt; packed.count, 3);

@@ -1,11 +1,13 @@
-//! The tests of the library's calls on sizes, sections and bins: a test stands in the module that is
-//! named as that of its call.
+//! The tests of the library's calls on what a packing is made of: sizes, sections, bins and
+//! collections. A test stands in the module that is named as that of its call.
 #![tactic(auto)]
 
 #[cfg(test)]
 mod bin_section;
 #[cfg(test)]
 mod box_size_heuristics;
+#[cfg(test)]
+mod grouped_rects_to_place;
 #[cfg(test)]
 mod packed_location;
 #[cfg(test)]

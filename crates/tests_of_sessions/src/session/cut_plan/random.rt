@@ -1,6 +1,6 @@
 //! Plans of the bins of random sessions, beside their definition.
 
-use crate::read_back::{Cuboid, defined_plan, parts_into};
+use super::read_back::{Cuboid, defined_plan, parts_into};
 use rectangle_pack::{
     BinSection, CutStep, GroupedRectsToPlace, Outstanding, Packed, RectToInsert, Session,
     SessionError, TargetBin, contains_smallest_box, volume_heuristic,

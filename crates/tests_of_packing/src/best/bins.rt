@@ -1,6 +1,6 @@
 //! `pack_rects_best`.
 
-use crate::cases::{BIN, CASES, Case, is_placed};
+use super::cases::{BIN, CASES, Case, is_placed};
 use rectangle_pack::{
     Heuristic, Placement, RectanglePackError, RectanglePackOk, TargetBin, pack_rects_best,
 };

@@ -1,6 +1,6 @@
 //! `Session::pack_best`.
 
-use crate::cases::{BIN, CASES, Case, is_placed};
+use super::cases::{BIN, CASES, Case, is_placed};
 use rectangle_pack::{Heuristic, Outstanding, Packed, Session, SessionError};
 use std::alloc::Global;
 use std::process::Abort;
