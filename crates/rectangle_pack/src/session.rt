@@ -46,17 +46,32 @@ use std::ops::Range;
 /// ```
 /// let mut session: Session<u32, &'static str> = Session::new(alloc, 0);
 /// session.add_bin("sheet", 10, 10, 1)?;
+/// ```
+///
+/// A box is to go in.
+///
+/// ```
 /// let mut rects: GroupedRectsToPlace<u32, u32> = GroupedRectsToPlace::new(alloc);
 /// rects.push_rect(7, None, RectToInsert::new(4, 10, 1))?;
+/// ```
+///
+/// It is the first that is placed, and so it gets the number 0.
+///
+/// ```
 /// let packed = session.pack(&rects, &volume_heuristic, &contains_smallest_box)?;
 /// assert_eq!(rt; packed.first, 0);
 /// ```
 ///
-/// The box stands at (0, 0, 0). It is given back by its number, and all of the bin is one again.
+/// The box stands at (0, 0, 0). It is given back by its number, and free sections are joined.
 ///
 /// ```
 /// session.release(0)?;
 /// session.coalesce_all(&"sheet")?;
+/// ```
+///
+/// All of the bin is one free section again.
+///
+/// ```
 /// let sheet = session.bins().get(&"sheet").ok_or("no such bin")?;
 /// let whole = BinSection::new(0, 0, 0, WidthHeightDepth::new(10, 10, 1));
 /// assert_eq!(rt;

@@ -68,8 +68,14 @@ use std::mem;
 ///
 /// ```
 /// let mut rects: GroupedRectsToPlace<u32, u32> = GroupedRectsToPlace::new(alloc);
-/// rects.push_rect(7, None, RectToInsert::new(2, 3, 1))?;
-/// rects.push_rect(8, None, RectToInsert::new(4, 4, 1))?;
+/// for (id, width, height) in [(7, 2, 3), (8, 4, 4)] {
+///     rects.push_rect(id, None, RectToInsert::new(width, height, 1))?;
+/// }
+/// ```
+///
+/// Both boxes go into one bin:
+///
+/// ```
 /// let mut bins = BTreeMap::new(alloc);
 /// bins.insert(1u32, TargetBin::new(alloc, 10, 10, 1)?)?;
 /// let packed = pack_rects(
@@ -81,14 +87,19 @@ use std::mem;
 /// )?;
 /// ```
 ///
-/// The larger box goes first, and the other one beside it:
+/// The larger box goes first:
 ///
 /// ```
 /// let ids = packed.placements().iter().map(|placed| placed.id);
 /// assert!(rt; ids.eq([8, 7]));
+/// ```
+///
+/// The other one stands beside it, in bin 1:
+///
+/// ```
 /// let (bin, location) = packed.packed_locations().get(&7).ok_or("not placed")?;
-/// assert_eq!(rt; *bin, 1);
-/// assert_eq!(rt; (location.x(), location.y(), location.z()), (4, 0, 0));
+/// let (x, y, z) = (location.x(), location.y(), location.z());
+/// assert_eq!(rt; (*bin, x, y, z), (1, 4, 0, 0));
 /// ```
 pub fn pack_rects<Id, BinId, GroupId, H, C, A>(
     alloc: A,
@@ -192,6 +203,11 @@ where
 /// for (id, width, height) in [(1, 6, 2), (2, 3, 3), (3, 2, 5), (4, 1, 5)] {
 ///     rects.push_rect(id, None, RectToInsert::new(width, height, 1))?;
 /// }
+/// ```
+///
+/// The bin is six cells wide and seven high:
+///
+/// ```
 /// let mut bins = BTreeMap::new(alloc);
 /// bins.insert(0u32, TargetBin::new(alloc, 6, 7, 1)?)?;
 /// let (best, packed) = pack_rects_best(alloc, &rects, &mut bins, &Heuristic::ALL)?;
@@ -200,8 +216,7 @@ where
 /// By volume there would be no space for all four. By width there is:
 ///
 /// ```
-/// assert_eq!(rt; best, Heuristic::Width);
-/// assert_eq!(rt; packed.placements().len(), 4);
+/// assert_eq!(rt; (best, packed.placements().len()), (Heuristic::Width, 4));
 /// ```
 pub fn pack_rects_best<Id, BinId, GroupId, A>(
     alloc: A,

@@ -136,8 +136,18 @@ impl<Id: Ord + Clone + Drop, GroupId: Ord + Clone + Drop, A: Allocator + Copy> G
     ///
     /// ```
     /// let mut rects: GroupedRectsToPlace<u32, &'static str> = GroupedRectsToPlace::new(alloc);
+    /// ```
+    ///
+    /// Box 7 goes into two groups:
+    ///
+    /// ```
     /// let groups = vec![in alloc; "menu", "game"]?;
     /// rects.push_rect(7, Some(groups), RectToInsert::new(10, 20, 1))?;
+    /// ```
+    ///
+    /// Box 8 goes into one of them, and box 9 stays alone:
+    ///
+    /// ```
     /// let groups = vec![in alloc; "game"]?;
     /// rects.push_rect(8, Some(groups), RectToInsert::new(5, 50, 1))?;
     /// rects.push_rect(9, None, RectToInsert::new(30, 30, 1))?;
@@ -147,6 +157,11 @@ impl<Id: Ord + Clone + Drop, GroupId: Ord + Clone + Drop, A: Allocator + Copy> G
     ///
     /// ```
     /// assert_eq!(rt; rects.groups().len(), 3);
+    /// ```
+    ///
+    /// A group has its boxes in the order in which they came:
+    ///
+    /// ```
     /// let game = rects
     ///     .groups()
     ///     .get(&Group::Grouped("game"))

@@ -167,14 +167,14 @@ impl BinSection {
     ///     &volume_heuristic,
     /// )?;
     /// assert_eq!(rt; (location.x(), location.y(), location.z()), (0, 0, 0));
-    /// assert_eq!(rt;
-    ///     right,
-    ///     BinSection::new(50, 0, 0, WidthHeightDepth::new(50, 100, 1))
-    /// );
-    /// assert_eq!(rt;
-    ///     above,
-    ///     BinSection::new(0, 90, 0, WidthHeightDepth::new(50, 10, 1))
-    /// );
+    /// ```
+    ///
+    /// Right of the box and above it there are cells left, and none behind it.
+    ///
+    /// ```
+    /// let beside = BinSection::new(50, 0, 0, WidthHeightDepth::new(50, 100, 1));
+    /// let over = BinSection::new(0, 90, 0, WidthHeightDepth::new(50, 10, 1));
+    /// assert_eq!(rt; [right, above], [beside, over]);
     /// assert_eq!(rt; behind.whd().volume(), 0);
     /// ```
     pub fn try_place<H, C>(

@@ -8,7 +8,14 @@ use rectangle_pack::{
 };
 use std::alloc::{AllocError, Global};
 use std::collections::BTreeMap;
+use std::process::Abort;
 use std::test::Fail;
+
+type Rects = GroupedRectsToPlace<u32, u32>;
+
+type NamedRects = GroupedRectsToPlace<u32, &'static str>;
+
+type Packed = RectanglePackOk<u32, u32>;
 
 type Sprites = GroupedRectsToPlace<&'static str, &'static str>;
 
@@ -49,12 +56,16 @@ fn readme(rt: HostRuntime) -> Result<(), Fail> {
     pack_into_atlas(&rt, &rects, &mut bins)
 }
 
-// The example of `pack_rects` has two blocks, and so it stands in two functions, as do those of
-// `pack_rects_best` and `push_rect`.
-fn pack_two_boxes(alloc: Global) -> Result<RectanglePackOk<u32, u32>, Fail> {
+// An example has several blocks, and so it stands in several functions.
+fn two_boxes(alloc: Global) -> Result<Rects, AllocError> {
     let mut rects: GroupedRectsToPlace<u32, u32> = GroupedRectsToPlace::new(alloc);
-    rects.push_rect(7, None, RectToInsert::new(2, 3, 1))?;
-    rects.push_rect(8, None, RectToInsert::new(4, 4, 1))?;
+    for (id, width, height) in [(7, 2, 3), (8, 4, 4)] {
+        rects.push_rect(id, None, RectToInsert::new(width, height, 1))?;
+    }
+    Ok(rects)
+}
+
+fn pack_two_boxes(alloc: Global, rects: &Rects) -> Result<Packed, Fail> {
     let mut bins = BTreeMap::new(alloc);
     bins.insert(1u32, TargetBin::new(alloc, 10, 10, 1)?)?;
     let packed = pack_rects(
@@ -67,22 +78,35 @@ fn pack_two_boxes(alloc: Global) -> Result<RectanglePackOk<u32, u32>, Fail> {
     Ok(packed)
 }
 
-#[test]
-fn pack_rects_places_boxes(rt: HostRuntime) -> Result<(), Fail> {
-    let packed = pack_two_boxes(rt.alloc())?;
+fn are_in_order(rt: &impl Abort, packed: &Packed) {
     let ids = packed.placements().iter().map(|placed| placed.id);
     assert!(rt; ids.eq([8, 7]));
+}
+
+fn is_beside(rt: &impl Abort, packed: &Packed) -> Result<(), Fail> {
     let (bin, location) = packed.packed_locations().get(&7).ok_or("not placed")?;
-    assert_eq!(rt; *bin, 1);
-    assert_eq!(rt; (location.x(), location.y(), location.z()), (4, 0, 0));
+    let (x, y, z) = (location.x(), location.y(), location.z());
+    assert_eq!(rt; (*bin, x, y, z), (1, 4, 0, 0));
     Ok(())
 }
 
-fn pack_four_boxes(alloc: Global) -> Result<(Heuristic, RectanglePackOk<u32, u32>), Fail> {
+#[test]
+fn pack_rects_places_boxes(rt: HostRuntime) -> Result<(), Fail> {
+    let rects = two_boxes(rt.alloc())?;
+    let packed = pack_two_boxes(rt.alloc(), &rects)?;
+    are_in_order(&rt, &packed);
+    is_beside(&rt, &packed)
+}
+
+fn four_boxes(alloc: Global) -> Result<Rects, AllocError> {
     let mut rects: GroupedRectsToPlace<u32, u32> = GroupedRectsToPlace::new(alloc);
     for (id, width, height) in [(1, 6, 2), (2, 3, 3), (3, 2, 5), (4, 1, 5)] {
         rects.push_rect(id, None, RectToInsert::new(width, height, 1))?;
     }
+    Ok(rects)
+}
+
+fn pack_four_boxes(alloc: Global, rects: &Rects) -> Result<(Heuristic, Packed), Fail> {
     let mut bins = BTreeMap::new(alloc);
     bins.insert(0u32, TargetBin::new(alloc, 6, 7, 1)?)?;
     let (best, packed) = pack_rects_best(alloc, &rects, &mut bins, &Heuristic::ALL)?;
@@ -91,32 +115,50 @@ fn pack_four_boxes(alloc: Global) -> Result<(Heuristic, RectanglePackOk<u32, u32
 
 #[test]
 fn pack_the_best(rt: HostRuntime) -> Result<(), Fail> {
-    let (best, packed) = pack_four_boxes(rt.alloc())?;
-    assert_eq!(rt; best, Heuristic::Width);
-    assert_eq!(rt; packed.placements().len(), 4);
+    let rects = four_boxes(rt.alloc())?;
+    let (best, packed) = pack_four_boxes(rt.alloc(), &rects)?;
+    assert_eq!(rt; (best, packed.placements().len()), (Heuristic::Width, 4));
     Ok(())
 }
 
-fn push_three_boxes(alloc: Global) -> Result<GroupedRectsToPlace<u32, &'static str>, AllocError> {
-    let mut rects: GroupedRectsToPlace<u32, &'static str> = GroupedRectsToPlace::new(alloc);
+fn push_box_7(alloc: Global, rects: &mut NamedRects) -> Result<(), AllocError> {
     let groups = vec![in alloc; "menu", "game"]?;
     rects.push_rect(7, Some(groups), RectToInsert::new(10, 20, 1))?;
+    Ok(())
+}
+
+fn push_boxes_8_and_9(alloc: Global, rects: &mut NamedRects) -> Result<(), AllocError> {
     let groups = vec![in alloc; "game"]?;
     rects.push_rect(8, Some(groups), RectToInsert::new(5, 50, 1))?;
     rects.push_rect(9, None, RectToInsert::new(30, 30, 1))?;
-    Ok(rects)
+    Ok(())
 }
 
-#[test]
-fn push_rect_puts_a_box_into_groups(rt: HostRuntime) -> Result<(), Fail> {
-    let rects = push_three_boxes(rt.alloc())?;
+fn are_three_groups(rt: &impl Abort, rects: &NamedRects) {
     assert_eq!(rt; rects.groups().len(), 3);
+}
+
+fn are_in_game(rt: &impl Abort, rects: &NamedRects) -> Result<(), Fail> {
     let game = rects
         .groups()
         .get(&Group::Grouped("game"))
         .ok_or("no such group")?;
     assert_eq!(rt; game.as_slice(), [7, 8].as_slice());
     Ok(())
+}
+
+fn push_three_boxes(rt: &impl Abort, alloc: Global, rects: &mut NamedRects) -> Result<(), Fail> {
+    push_box_7(alloc, rects)?;
+    push_boxes_8_and_9(alloc, rects)?;
+    are_three_groups(rt, rects);
+    are_in_game(rt, rects)
+}
+
+#[test]
+fn push_rect_puts_a_box_into_groups(rt: HostRuntime) -> Result<(), Fail> {
+    let alloc = rt.alloc();
+    let mut rects: GroupedRectsToPlace<u32, &'static str> = GroupedRectsToPlace::new(alloc);
+    push_three_boxes(&rt, alloc, &mut rects)
 }
 
 #[test]
@@ -158,6 +200,13 @@ fn coalesce_all_joins_two_halves(rt: HostRuntime) -> Result<(), Fail> {
     Ok(())
 }
 
+fn are_pieces(rt: &impl Abort, right: BinSection, above: BinSection, behind: BinSection) {
+    let beside = BinSection::new(50, 0, 0, WidthHeightDepth::new(50, 100, 1));
+    let over = BinSection::new(0, 90, 0, WidthHeightDepth::new(50, 10, 1));
+    assert_eq!(rt; [right, above], [beside, over]);
+    assert_eq!(rt; behind.whd().volume(), 0);
+}
+
 #[test]
 fn try_place_cuts_a_section(rt: HostRuntime) -> Result<(), Fail> {
     let section = BinSection::new(0, 0, 0, WidthHeightDepth::new(100, 100, 1));
@@ -168,15 +217,7 @@ fn try_place_cuts_a_section(rt: HostRuntime) -> Result<(), Fail> {
         &volume_heuristic,
     )?;
     assert_eq!(rt; (location.x(), location.y(), location.z()), (0, 0, 0));
-    assert_eq!(rt;
-        right,
-        BinSection::new(50, 0, 0, WidthHeightDepth::new(50, 100, 1))
-    );
-    assert_eq!(rt;
-        above,
-        BinSection::new(0, 90, 0, WidthHeightDepth::new(50, 10, 1))
-    );
-    assert_eq!(rt; behind.whd().volume(), 0);
+    are_pieces(&rt, right, above, behind);
     Ok(())
 }
 

@@ -1,44 +1,37 @@
-//! The examples of the documentation of sessions.
+//! The examples of the documentation of sessions. One has several blocks, and so it stands in
+//! several functions.
 
 use rectangle_pack::{
-    Axis, BinSection, CutStep, GroupedRectsToPlace, Heuristic, RectToInsert, Session,
+    Axis, BinSection, CutStep, GroupedRectsToPlace, Heuristic, RectToInsert, Session, SessionError,
     WidthHeightDepth, contains_smallest_box, volume_heuristic,
 };
-use std::alloc::Global;
+use std::alloc::{AllocError, Global};
 use std::process::Abort;
 use std::test::Fail;
 
-// The box has the number 0, and stands at (0, 0, 0).
-fn one_box(rt: &impl Abort, alloc: Global) -> Result<Session<u32, &'static str>, Fail> {
-    let mut session: Session<u32, &'static str> = Session::new(alloc, 0);
-    session.add_bin("sheet", 10, 10, 1)?;
+type Rects = GroupedRectsToPlace<u32, u32>;
+
+type Sheets = Session<u32, &'static str>;
+
+fn one_box(alloc: Global) -> Result<Rects, AllocError> {
     let mut rects: GroupedRectsToPlace<u32, u32> = GroupedRectsToPlace::new(alloc);
     rects.push_rect(7, None, RectToInsert::new(4, 10, 1))?;
-    let packed = session.pack(&rects, &volume_heuristic, &contains_smallest_box)?;
-    assert_eq!(rt; packed.first, 0);
-    Ok(session)
+    Ok(rects)
 }
 
-fn give_back(rt: &impl Abort, session: &mut Session<u32, &'static str>) -> Result<(), Fail> {
-    session.release(0)?;
-    session.coalesce_all(&"sheet")?;
-    let sheet = session.bins().get(&"sheet").ok_or("no such bin")?;
-    let whole = BinSection::new(0, 0, 0, WidthHeightDepth::new(10, 10, 1));
-    assert_eq!(rt;
-        sheet.available_bin_sections().as_slice(),
-        [whole].as_slice()
-    );
+fn pack(rt: &impl Abort, session: &mut Sheets, rects: &Rects) -> Result<(), Fail> {
+    let packed = session.pack(&rects, &volume_heuristic, &contains_smallest_box)?;
+    assert_eq!(rt; packed.first, 0);
     Ok(())
 }
 
-#[test]
-fn session_gives_a_box_back(rt: HostRuntime) -> Result<(), Fail> {
-    let mut session = one_box(&rt, rt.alloc())?;
-    give_back(&rt, &mut session)
+fn pack_a_box(rt: &impl Abort, alloc: Global, session: &mut Sheets) -> Result<(), Fail> {
+    let rects = one_box(alloc)?;
+    pack(rt, session, &rects)
 }
 
 // What is right of the box is free.
-fn ask_plan(rt: &impl Abort, session: &Session<u32, &'static str>) -> Result<(), Fail> {
+fn ask_plan(rt: &impl Abort, session: &Sheets) -> Result<(), Fail> {
     let plan = session.cut_plan(&"sheet")?.ok_or("no such cuts")?;
     let cut = CutStep::Cut {
         axis: Axis::X,
@@ -51,10 +44,54 @@ fn ask_plan(rt: &impl Abort, session: &Session<u32, &'static str>) -> Result<(),
     Ok(())
 }
 
+fn give_back(session: &mut Sheets) -> Result<(), SessionError> {
+    session.release(0)?;
+    session.coalesce_all(&"sheet")?;
+    Ok(())
+}
+
+fn is_whole(rt: &impl Abort, session: &Sheets) -> Result<(), Fail> {
+    let sheet = session.bins().get(&"sheet").ok_or("no such bin")?;
+    let whole = BinSection::new(0, 0, 0, WidthHeightDepth::new(10, 10, 1));
+    assert_eq!(rt;
+        sheet.available_bin_sections().as_slice(),
+        [whole].as_slice()
+    );
+    Ok(())
+}
+
+fn pack_and_give_back(rt: &impl Abort, alloc: Global, session: &mut Sheets) -> Result<(), Fail> {
+    pack_a_box(rt, alloc, session)?;
+    ask_plan(rt, session)?;
+    give_back(session)?;
+    is_whole(rt, session)
+}
+
 #[test]
-fn cut_plan_parts_a_sheet(rt: HostRuntime) -> Result<(), Fail> {
-    let session = one_box(&rt, rt.alloc())?;
-    ask_plan(&rt, &session)
+fn session_plans_cuts_and_gives_a_box_back(rt: HostRuntime) -> Result<(), Fail> {
+    let alloc = rt.alloc();
+    let mut session: Session<u32, &'static str> = Session::new(alloc, 0);
+    session.add_bin("sheet", 10, 10, 1)?;
+    pack_and_give_back(&rt, alloc, &mut session)
+}
+
+fn three_boxes(alloc: Global) -> Result<Rects, AllocError> {
+    let mut rects: GroupedRectsToPlace<u32, u32> = GroupedRectsToPlace::new(alloc);
+    for (id, width, height) in [(1, 1, 3), (2, 3, 2), (3, 3, 1)] {
+        rects.push_rect(id, None, RectToInsert::new(width, height, 1))?;
+    }
+    Ok(rects)
+}
+
+fn pack_by_the_best(rt: &impl Abort, session: &mut Sheets, rects: &Rects) -> Result<(), Fail> {
+    let (best, packed) = session.pack_best(&rects, &Heuristic::ALL)?;
+    assert_eq!(rt; (best, packed.count), (Heuristic::Height, 3));
+    Ok(())
+}
+
+fn pack_three_boxes(rt: &impl Abort, alloc: Global, session: &mut Sheets) -> Result<(), Fail> {
+    let rects = three_boxes(alloc)?;
+    pack_by_the_best(rt, session, &rects)
 }
 
 #[test]
@@ -62,12 +99,5 @@ fn pack_a_session_with_the_best(rt: HostRuntime) -> Result<(), Fail> {
     let alloc = rt.alloc();
     let mut session: Session<u32, &'static str> = Session::new(alloc, 0);
     session.add_bin("sheet", 4, 4, 1)?;
-    let mut rects: GroupedRectsToPlace<u32, u32> = GroupedRectsToPlace::new(alloc);
-    for (id, width, height) in [(1, 1, 3), (2, 3, 2), (3, 3, 1)] {
-        rects.push_rect(id, None, RectToInsert::new(width, height, 1))?;
-    }
-    let (best, packed) = session.pack_best(&rects, &Heuristic::ALL)?;
-    assert_eq!(rt; best, Heuristic::Height);
-    assert_eq!(rt; packed.count, 3);
-    Ok(())
+    pack_three_boxes(&rt, alloc, &mut session)
 }

@@ -34,13 +34,22 @@ where
     /// ```
     /// let mut session: Session<u32, &'static str> = Session::new(alloc, 0);
     /// session.add_bin("sheet", 4, 4, 1)?;
+    /// ```
+    ///
+    /// Three boxes are to go in.
+    ///
+    /// ```
     /// let mut rects: GroupedRectsToPlace<u32, u32> = GroupedRectsToPlace::new(alloc);
     /// for (id, width, height) in [(1, 1, 3), (2, 3, 2), (3, 3, 1)] {
     ///     rects.push_rect(id, None, RectToInsert::new(width, height, 1))?;
     /// }
+    /// ```
+    ///
+    /// With the heuristic `Height` all three find space.
+    ///
+    /// ```
     /// let (best, packed) = session.pack_best(&rects, &Heuristic::ALL)?;
-    /// assert_eq!(rt; best, Heuristic::Height);
-    /// assert_eq!(rt; packed.count, 3);
+    /// assert_eq!(rt; (best, packed.count), (Heuristic::Height, 3));
     /// ```
     pub fn pack_best<GroupId>(
         &mut self,
