@@ -262,11 +262,11 @@ pub fn pack_counted<A: Allocator + Copy>(
 }
 
 /// Packs the boxes of the case into these bins, by closures that are handed on.
-pub fn packs_into<'a, H, C>(
+pub fn packs_into<H, C>(
     rt: &impl Abort,
-    alloc: &'a Refusing<Global>,
+    alloc: Refusing,
     case: &Case,
-    bins: &mut Bins<&'a Refusing<Global>>,
+    bins: &mut Bins<Refusing>,
     heuristic: &H,
     comparison: &C,
 ) -> End
@@ -287,7 +287,7 @@ where
 /// The same, into the bins of the case.
 pub fn packs<H, C>(
     rt: &impl Abort,
-    alloc: &Refusing<Global>,
+    alloc: Refusing,
     case: &Case,
     heuristic: &H,
     comparison: &C,
@@ -305,14 +305,14 @@ where
 }
 
 /// The same, by volumes and smallest boxes.
-pub fn packs_by_volume(rt: &impl Abort, alloc: &Refusing<Global>, case: &Case) -> End {
+pub fn packs_by_volume(rt: &impl Abort, alloc: Refusing, case: &Case) -> End {
     packs(rt, alloc, case, &volume_heuristic, &contains_smallest_box)
 }
 
 /// Each case comes out, by volume.
 pub fn pack_by_volume(rt: &impl Abort, alloc: Global, cases: &[Case]) {
     for case in cases {
-        let refusing = Refusing::new(alloc, u64::MAX);
-        assert_eq!(rt; packs_by_volume(rt, &refusing, case), End::Done);
+        let refusing = Refusing::new(alloc, u64::MAX).expect(rt, "no memory for the counts");
+        assert_eq!(rt; packs_by_volume(rt, refusing, case), End::Done);
     }
 }

@@ -284,7 +284,7 @@ const PAIRS: &[(GroupName, GroupName, bool)] = &[
     (A, A, false),
 ];
 
-fn has_pairs(rects: &Rects<'_>) -> bool {
+fn has_pairs(rects: &Rects) -> bool {
     for (one, other, wanted) in PAIRS {
         if rects.excluded(one, other) != *wanted {
             return false;
@@ -293,7 +293,7 @@ fn has_pairs(rects: &Rects<'_>) -> bool {
     true
 }
 
-fn excludes_pairs(rt: &impl Abort, rects: &mut Rects<'_>) {
+fn excludes_pairs(rt: &impl Abort, rects: &mut Rects) {
     assert!(rt; exclude_all(rects, EXCLUDED).is_ok());
     assert!(rt; has_pairs(rects));
     assert!(rt; rects.groups().is_empty());
@@ -301,7 +301,7 @@ fn excludes_pairs(rt: &impl Abort, rects: &mut Rects<'_>) {
 
 #[test]
 fn pairs(rt: HostRuntime) {
-    let refusing = Refusing::new(rt.alloc(), u64::MAX);
-    let mut rects = Rects::new(&refusing);
+    let refusing = Refusing::new(rt.alloc(), u64::MAX).expect(&rt, "no memory for the counts");
+    let mut rects = Rects::new(refusing);
     excludes_pairs(&rt, &mut rects);
 }

@@ -17,7 +17,7 @@ use tests_support::refusing::Refusing;
 use tests_support::shapes::{has_list, numbers, place, section_of};
 
 /// A bin whose memory may be refused.
-pub type Bin<'a> = TargetBin<&'a Refusing<Global>>;
+pub type Bin = TargetBin<Refusing>;
 
 /// A call of a bin, and what it answers. A section is x, y, z, width, height and depth; a box is
 /// width, height and depth.
@@ -102,7 +102,7 @@ enum Came {
 
 type Answers = Result<bool, AllocError>;
 
-fn remove(bin: &mut Bin<'_>, idx: usize) -> bool {
+fn remove(bin: &mut Bin, idx: usize) -> bool {
     let there = idx < bin.available_bin_sections().len();
     if there {
         bin.remove_filled_section(idx);
@@ -111,7 +111,7 @@ fn remove(bin: &mut Bin<'_>, idx: usize) -> bool {
 }
 
 // Whether a checked push answers this. An error where the section is accepted and memory refused.
-fn push(bin: &mut Bin<'_>, pushed: BinSection, wanted: Pushed) -> Answers {
+fn push(bin: &mut Bin, pushed: BinSection, wanted: Pushed) -> Answers {
     let accepted = bin.accepts(&pushed);
     let answer = bin.push_available_bin_section(pushed);
     let (named, answered) = match &answer {
@@ -148,7 +148,7 @@ fn is_answer(accepted: bool, answered: Pushed, wanted: Pushed) -> bool {
     }
 }
 
-fn push_unchecked(bin: &mut Bin<'_>, pushed: BinSection) -> Answers {
+fn push_unchecked(bin: &mut Bin, pushed: BinSection) -> Answers {
     if !bin.accepts(&pushed) {
         return Ok(false);
     }
@@ -181,7 +181,7 @@ fn are_at(locations: Option<&[PackedLocation]>, wanted: Option<&[[u32; 6]]>) -> 
 }
 
 // Whether a trial answers this. Refused, it counts no more than the bound.
-fn trial(bin: &mut Bin<'_>, members: &[RectToInsert], wanted: Tried) -> Answers {
+fn trial(bin: &mut Bin, members: &[RectToInsert], wanted: Tried) -> Answers {
     let mut tests = FitTests::new();
     let answer = bin.place_all(
         members,
@@ -203,7 +203,7 @@ fn trial(bin: &mut Bin<'_>, members: &[RectToInsert], wanted: Tried) -> Answers 
 }
 
 // Whether the call answers as is wanted. An error where it is refused memory.
-fn obey(bin: &mut Bin<'_>, call: Call) -> Answers {
+fn obey(bin: &mut Bin, call: Call) -> Answers {
     match call {
         Call::Remove(idx) => Ok(remove(bin, idx)),
         Call::Push(numbers, wanted) => push(bin, section_of(numbers), wanted),
@@ -227,7 +227,7 @@ fn obey(bin: &mut Bin<'_>, call: Call) -> Answers {
 }
 
 // Pushes the sections of the list into a bin without any. Refused, it has those that came before.
-fn give(bin: &mut Bin<'_>, list: &[[u32; 6]], checked: bool) -> Answers {
+fn give(bin: &mut Bin, list: &[[u32; 6]], checked: bool) -> Answers {
     for (index, numbers) in list.iter().enumerate() {
         let call = if checked {
             Call::Push(*numbers, Pushed::Accepted)
@@ -243,7 +243,7 @@ fn give(bin: &mut Bin<'_>, list: &[[u32; 6]], checked: bool) -> Answers {
     Ok(has_list(bin, list))
 }
 
-fn begin(bin: &mut Bin<'_>, script: &Script) -> Answers {
+fn begin(bin: &mut Bin, script: &Script) -> Answers {
     match script.start {
         Start::New => Ok(has_list(bin, script.list)),
         Start::Pushed => Ok(remove(bin, 0) && give(bin, script.list, true)?),
@@ -252,7 +252,7 @@ fn begin(bin: &mut Bin<'_>, script: &Script) -> Answers {
 }
 
 // Makes the calls, the list before the first of which is this one.
-fn follow(bin: &mut Bin<'_>, list: &[[u32; 6]], steps: &[Step]) -> Came {
+fn follow(bin: &mut Bin, list: &[[u32; 6]], steps: &[Step]) -> Came {
     let mut before = list;
     for (index, step) in steps.iter().enumerate() {
         match obey(bin, step.call) {
@@ -265,7 +265,7 @@ fn follow(bin: &mut Bin<'_>, list: &[[u32; 6]], steps: &[Step]) -> Came {
 }
 
 // Makes these calls on a clone of the bin, which keeps its list.
-fn follow_on_clone(bin: &Bin<'_>, list: &[[u32; 6]], steps: &[Step]) -> Came {
+fn follow_on_clone(bin: &Bin, list: &[[u32; 6]], steps: &[Step]) -> Came {
     let came = match bin.clone() {
         Err(_) => Came::Refused,
         Ok(mut other) => {
@@ -283,7 +283,7 @@ fn follow_on_clone(bin: &Bin<'_>, list: &[[u32; 6]], steps: &[Step]) -> Came {
     }
 }
 
-fn follow_all(bin: &mut Bin<'_>, script: &Script) -> Came {
+fn follow_all(bin: &mut Bin, script: &Script) -> Came {
     match begin(bin, script) {
         Ok(true) => {}
         Ok(false) => return Came::Wrong(0),
@@ -300,7 +300,7 @@ fn follow_all(bin: &mut Bin<'_>, script: &Script) -> Came {
     }
 }
 
-fn run(refusing: &Refusing<Global>, script: &Script) -> Came {
+fn run(refusing: Refusing, script: &Script) -> Came {
     let [width, height, depth] = script.size;
     match TargetBin::new(refusing, width, height, depth) {
         Ok(mut bin) => {
@@ -322,8 +322,8 @@ fn run(refusing: &Refusing<Global>, script: &Script) -> Came {
 pub fn runs(rt: &impl Abort, alloc: Global, script: &Script) -> bool {
     let mut refused = false;
     for granted in 0..200u64 {
-        let refusing = Refusing::new(alloc, granted);
-        let came = run(&refusing, script);
+        let refusing = Refusing::new(alloc, granted).expect(rt, "no memory for the counts");
+        let came = run(refusing, script);
         assert_eq!(rt; refusing.taken(), 0);
         assert_eq!(rt;
             refusing.refused() == 0,

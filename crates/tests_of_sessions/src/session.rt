@@ -24,13 +24,13 @@ use tests_support::refusing::Refusing;
 use tests_support::shapes::{has_list, place};
 
 /// A session whose memory may be refused.
-pub type TestSession<'a> = Session<u32, u32, &'a Refusing<Global>>;
+pub type TestSession = Session<u32, u32, Refusing>;
 
 /// A command for it.
-pub type TestCommand<'a> = Command<u32, u32, u32, &'a Refusing<Global>>;
+pub type TestCommand = Command<u32, u32, u32, Refusing>;
 
 /// Commands for it.
-pub type Commands<'a> = Vec<TestCommand<'a>, &'a Refusing<Global>>;
+pub type Commands = Vec<TestCommand, Refusing>;
 
 /// What is made where there is memory for it.
 pub type Made<T> = Result<T, AllocError>;
@@ -148,16 +148,16 @@ pub const TILE: [u32; 3] = [4, 4, 1];
 /// Where the first of them is placed.
 pub const FIRST: [u32; 6] = [0, 0, 0, 4, 4, 1];
 
-fn packing<'a>(
-    alloc: &'a Refusing<Global>,
+fn packing(
+    alloc: Refusing,
     boxes: &[SizedBox],
     pairs: &[(GroupName, GroupName)],
-) -> Made<TestCommand<'a>> {
+) -> Made<TestCommand> {
     Ok(Command::Pack(collect(alloc, boxes, pairs)?))
 }
 
 /// The command of an order.
-pub fn command<'a>(alloc: &'a Refusing<Global>, order: &Order) -> Made<TestCommand<'a>> {
+pub fn command(alloc: Refusing, order: &Order) -> Made<TestCommand> {
     match order {
         Order::AddBin(id, [width, height, depth]) => Ok(Command::AddBin {
             id: *id,
@@ -178,18 +178,14 @@ pub fn command<'a>(alloc: &'a Refusing<Global>, order: &Order) -> Made<TestComma
     }
 }
 
-fn push_commands<'a>(
-    alloc: &'a Refusing<Global>,
-    commands: &mut Commands<'a>,
-    lines: &[Line],
-) -> Made<()> {
+fn push_commands(alloc: Refusing, commands: &mut Commands, lines: &[Line]) -> Made<()> {
     for line in lines {
         commands.push(command(alloc, &line.order)?)?;
     }
     Ok(())
 }
 
-fn commands<'a>(alloc: &'a Refusing<Global>, script: &Script) -> Made<Commands<'a>> {
+fn commands(alloc: Refusing, script: &Script) -> Made<Commands> {
     let mut commands = Vec::new(alloc);
     push_commands(alloc, &mut commands, script.lines)?;
     Ok(commands)
@@ -207,13 +203,13 @@ fn stats_of(held: &Held) -> BinStats {
     }
 }
 
-fn is_held(session: &TestSession<'_>, bin: &TargetBin<&Refusing<Global>>, held: &Held) -> bool {
+fn is_held(session: &TestSession, bin: &TargetBin<Refusing>, held: &Held) -> bool {
     has_list(bin, held.free)
         && session.stats(&held.id) == Some(stats_of(held))
         && session.was_coalesced(&held.id) == Some(held.coalesced)
 }
 
-fn has_bins(session: &TestSession<'_>, wanted: &[Held]) -> bool {
+fn has_bins(session: &TestSession, wanted: &[Held]) -> bool {
     for ((id, bin), held) in session.bins().iter().zip(wanted.iter()) {
         if *id != held.id || !is_held(session, bin, held) {
             return false;
@@ -245,7 +241,7 @@ fn has_id(bins: &[Held], id: u32) -> bool {
 }
 
 // Whether nothing is said of the bins of scripts that are not among these.
-fn are_unknown(session: &TestSession<'_>, wanted: &[Held]) -> bool {
+fn are_unknown(session: &TestSession, wanted: &[Held]) -> bool {
     for id in [BIN, OTHER, NOWHERE] {
         let is_known = session.stats(&id).is_some() || session.was_coalesced(&id).is_some();
         if is_known && !has_id(wanted, id) {
@@ -256,7 +252,7 @@ fn are_unknown(session: &TestSession<'_>, wanted: &[Held]) -> bool {
 }
 
 /// Whether the session is in this state. Nothing is said of a bin that is not there.
-pub fn is_in(session: &TestSession<'_>, wanted: &State) -> bool {
+pub fn is_in(session: &TestSession, wanted: &State) -> bool {
     session.next_number() == wanted.next
         && has_bins(session, wanted.bins)
         && has_placed(session.outstanding(), wanted.placed)

@@ -1,1 +1,1 @@
-mod CountsLemmas
+mod SelfLemmas

@@ -3,7 +3,7 @@
 use super::refusing::Refusing;
 use super::shapes::named;
 use rectangle_pack::{Group, GroupedRectsToPlace, RectToInsert, TargetBin};
-use std::alloc::{AllocError, Allocator, Global};
+use std::alloc::{AllocError, Allocator};
 use std::collections::BTreeMap;
 
 /// A box by id, size and groups; without groups it is pushed alone.
@@ -16,10 +16,10 @@ pub type SizedBin = (u32, [u32; 3], &'static [[u32; 6]]);
 pub type GroupName = Group<u32, u32>;
 
 /// Boxes to place, whose memory may be refused.
-pub type Rects<'a> = GroupedRectsToPlace<u32, u32, &'a Refusing<Global>>;
+pub type Rects = GroupedRectsToPlace<u32, u32, Refusing>;
 
 /// Bins, whose memory may be refused.
-pub type Bins<'a> = BTreeMap<u32, TargetBin<&'a Refusing<Global>>, &'a Refusing<Global>>;
+pub type Bins = BTreeMap<u32, TargetBin<Refusing>, Refusing>;
 
 /// Pushes the boxes.
 pub fn push_boxes<A: Allocator + Copy>(
@@ -47,10 +47,7 @@ pub fn push_units<A: Allocator + Copy>(
 }
 
 /// Excludes the groups of each pair, which differ.
-pub fn exclude_all(
-    rects: &mut Rects<'_>,
-    pairs: &[(GroupName, GroupName)],
-) -> Result<(), AllocError> {
+pub fn exclude_all(rects: &mut Rects, pairs: &[(GroupName, GroupName)]) -> Result<(), AllocError> {
     for (one, other) in pairs {
         let (one, other) = (one.clone()?, other.clone()?);
         if one != other {
@@ -61,11 +58,11 @@ pub fn exclude_all(
 }
 
 /// These boxes, and the pairs of groups that are excluded.
-pub fn collect<'a>(
-    alloc: &'a Refusing<Global>,
+pub fn collect(
+    alloc: Refusing,
     boxes: &[SizedBox],
     excluded: &[(GroupName, GroupName)],
-) -> Result<Rects<'a>, AllocError> {
+) -> Result<Rects, AllocError> {
     let mut rects = Rects::new(alloc);
     push_boxes(alloc, &mut rects, boxes)?;
     exclude_all(&mut rects, excluded)?;

@@ -1,7 +1,7 @@
 //! Runs in which each request for memory is refused in turn.
 
 use super::refusing::Refusing;
-use std::alloc::Global;
+use std::alloc::{AllocError, Global};
 use std::test::Fail;
 
 /// What came of a run: a request was refused before the call in question, or in that call, or none
@@ -11,6 +11,30 @@ pub enum End {
     Before,
     Refused,
     Done,
+}
+
+/// The allocator of a run. It is a trait, since no call of a closure that takes a `Refusing` itself
+/// is proved: that holds a `'static` reference.
+pub trait Refuser: Copy {
+    fn new(inner: Global, left: u64) -> Result<Self, AllocError>;
+
+    fn taken(&self) -> u64;
+
+    fn refused(&self) -> u64;
+}
+
+impl Refuser for Refusing {
+    fn new(inner: Global, left: u64) -> Result<Refusing, AllocError> {
+        Refusing::new(inner, left)
+    }
+
+    fn taken(&self) -> u64 {
+        Refusing::taken(self)
+    }
+
+    fn refused(&self) -> u64 {
+        Refusing::refused(self)
+    }
 }
 
 fn check(is_so: bool, otherwise: &'static str) -> Result<(), Fail> {
@@ -23,16 +47,18 @@ fn check(is_so: bool, otherwise: &'static str) -> Result<(), Fail> {
 
 /// Runs with each request refused in turn, until none is, and answers whether some were refused in
 /// the call in question. Each run gives back all that it takes, and is done where no request was
-/// refused, and only there.
-pub fn is_refused<F>(alloc: Global, run: F) -> Result<bool, Fail>
+/// refused, and only there. `A` is `Refusing`.
+pub fn is_refused<A: Refuser, F>(alloc: Global, run: F) -> Result<bool, Fail>
 where
-    F: Fn(&Refusing<Global>) -> Result<End, Fail>,
+    F: Fn(A) -> Result<End, Fail>,
     requires { F.IsAlwaysCallable run }
 {
     let mut refused = false;
     for granted in 0..200u64 {
-        let refusing = Refusing::new(alloc, granted);
-        let end = run(&refusing)?;
+        let Ok(refusing) = A::new(alloc, granted) else {
+            return Err(Fail::new("there is no memory for the counts"));
+        };
+        let end = run(refusing)?;
         check(refusing.taken() == 0, "memory was not given back")?;
         let was_refused = refusing.refused() > 0;
         check(

@@ -5,7 +5,7 @@ use super::boxes::{SizedBin, SizedBox};
 use super::refusing::Refusing;
 use super::shapes::{has_list, named};
 use rectangle_pack::{GroupedRectsToPlace, RectToInsert, TargetBin};
-use std::alloc::{AllocError, Global};
+use std::alloc::AllocError;
 use std::cell::Cell;
 use std::collections::BTreeMap;
 
@@ -36,15 +36,15 @@ impl Clone for Name<'_> {
 }
 
 /// Boxes to place, by names and in numbered groups.
-pub type Rects<'a> = GroupedRectsToPlace<Name<'a>, u32, &'a Refusing<Global>>;
+pub type Rects<'a> = GroupedRectsToPlace<Name<'a>, u32, Refusing>;
 
 /// Bins by names.
-pub type Bins<'a> = BTreeMap<Name<'a>, TargetBin<&'a Refusing<Global>>, &'a Refusing<Global>>;
+pub type Bins<'a> = BTreeMap<Name<'a>, TargetBin<Refusing>, Refusing>;
 
 /// Pushes the boxes, under names of their numbers.
 pub fn push_all<'a>(
     rects: &mut Rects<'a>,
-    alloc: &'a Refusing<Global>,
+    alloc: Refusing,
     left: &'a Cell<u64>,
     boxes: &[SizedBox],
 ) -> Result<(), AllocError> {

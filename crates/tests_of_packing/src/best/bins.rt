@@ -4,7 +4,7 @@ use super::cases::{BIN, CASES, Case, is_placed};
 use rectangle_pack::{
     Heuristic, Placement, RectanglePackError, RectanglePackOk, TargetBin, pack_rects_best,
 };
-use std::alloc::{AllocError, Global};
+use std::alloc::AllocError;
 use std::process::Abort;
 use std::test::Fail;
 use tests_support::boxes::{Bins, Rects, collect};
@@ -13,12 +13,9 @@ use tests_support::refusing::Refusing;
 use tests_support::shapes::is_new;
 
 // What is answered.
-type Answer<'a> = Result<
-    (Heuristic, RectanglePackOk<u32, u32, &'a Refusing<Global>>),
-    RectanglePackError,
->;
+type Answer = Result<(Heuristic, RectanglePackOk<u32, u32, Refusing>), RectanglePackError>;
 
-fn add_bins<'a>(alloc: &'a Refusing<Global>, bins: &mut Bins<'a>) -> Result<(), AllocError> {
+fn add_bins(alloc: Refusing, bins: &mut Bins) -> Result<(), AllocError> {
     let [width, height, depth] = BIN;
     for id in 0..2 {
         bins.insert(id, TargetBin::new(alloc, width, height, depth)?)?;
@@ -26,7 +23,7 @@ fn add_bins<'a>(alloc: &'a Refusing<Global>, bins: &mut Bins<'a>) -> Result<(), 
     Ok(())
 }
 
-fn are_new(bins: &Bins<'_>) -> bool {
+fn are_new(bins: &Bins) -> bool {
     bins.values().all(|bin| is_new(bin))
 }
 
@@ -44,7 +41,7 @@ fn is_best(heuristic: Heuristic, placements: &[Placement<u32, u32>], case: &Case
 }
 
 // Where it was refused the bins are as they were, and else the case came out.
-fn ends(rt: &impl Abort, answer: &Answer<'_>, bins: &Bins<'_>, case: &Case) -> End {
+fn ends(rt: &impl Abort, answer: &Answer, bins: &Bins, case: &Case) -> End {
     match answer {
         Ok((heuristic, packed)) => {
             assert!(rt;
@@ -64,18 +61,18 @@ fn ends(rt: &impl Abort, answer: &Answer<'_>, bins: &Bins<'_>, case: &Case) -> E
     }
 }
 
-fn packs_into<'a>(
+fn packs_into(
     rt: &impl Abort,
-    alloc: &'a Refusing<Global>,
-    rects: &Rects<'a>,
-    bins: &mut Bins<'a>,
+    alloc: Refusing,
+    rects: &Rects,
+    bins: &mut Bins,
     case: &Case,
 ) -> End {
     let answer = pack_rects_best(alloc, rects, bins, case.heuristics);
     ends(rt, &answer, bins, case)
 }
 
-fn packs(rt: &impl Abort, alloc: &Refusing<Global>, case: &Case) -> End {
+fn packs(rt: &impl Abort, alloc: Refusing, case: &Case) -> End {
     let mut bins = Bins::new(alloc);
     if add_bins(alloc, &mut bins).is_err() {
         return End::Before;

@@ -2,7 +2,6 @@
 
 use super::cases::{BIN, CASES, Case, is_placed};
 use rectangle_pack::{Heuristic, Outstanding, Packed, Session, SessionError};
-use std::alloc::Global;
 use std::process::Abort;
 use std::test::Fail;
 use tests_support::boxes::{Rects, collect};
@@ -10,12 +9,12 @@ use tests_support::each_request::{End, is_refused};
 use tests_support::refusing::Refusing;
 use tests_support::shapes::is_new;
 
-type TestSession<'a> = Session<u32, u32, &'a Refusing<Global>>;
+type TestSession = Session<u32, u32, Refusing>;
 
 // The number of the first placement.
 const FIRST: u64 = 5;
 
-fn add_bins(session: &mut TestSession<'_>) -> Result<(), SessionError> {
+fn add_bins(session: &mut TestSession) -> Result<(), SessionError> {
     let [width, height, depth] = BIN;
     for id in 0..2 {
         session.add_bin(id, width, height, depth)?;
@@ -23,7 +22,7 @@ fn add_bins(session: &mut TestSession<'_>) -> Result<(), SessionError> {
     Ok(())
 }
 
-fn is_unused(session: &TestSession<'_>) -> bool {
+fn is_unused(session: &TestSession) -> bool {
     session.next_number() == FIRST
         && session.outstanding().is_empty()
         && session.bins().values().all(|bin| is_new(bin))
@@ -60,7 +59,7 @@ fn is_answer(answer: (Heuristic, Packed), count: usize, case: &Case) -> bool {
 fn ends(
     rt: &impl Abort,
     answer: Result<(Heuristic, Packed), SessionError>,
-    session: &TestSession<'_>,
+    session: &TestSession,
     case: &Case,
 ) -> End {
     match answer {
@@ -82,17 +81,12 @@ fn ends(
     }
 }
 
-fn packs_into<'a>(
-    rt: &impl Abort,
-    session: &mut TestSession<'a>,
-    rects: &Rects<'a>,
-    case: &Case,
-) -> End {
+fn packs_into(rt: &impl Abort, session: &mut TestSession, rects: &Rects, case: &Case) -> End {
     let answer = session.pack_best(rects, case.heuristics);
     ends(rt, answer, session, case)
 }
 
-fn packs(rt: &impl Abort, alloc: &Refusing<Global>, case: &Case) -> End {
+fn packs(rt: &impl Abort, alloc: Refusing, case: &Case) -> End {
     let mut session = TestSession::new(alloc, FIRST);
     if add_bins(&mut session).is_err() {
         return End::Before;
@@ -114,11 +108,7 @@ fn into_sessions(rt: HostRuntime) -> Result<(), Fail> {
 }
 
 // Numbers are looked at before the heuristics, and no memory is taken.
-fn refuses_past_the_end<'a>(
-    rt: &impl Abort,
-    alloc: &'a Refusing<Global>,
-    rects: &Rects<'a>,
-) -> End {
+fn refuses_past_the_end(rt: &impl Abort, alloc: Refusing, rects: &Rects) -> End {
     let mut session = TestSession::new(alloc, u64::MAX);
     assert_eq!(rt;
         session.pack_best(rects, &[]),
@@ -127,7 +117,7 @@ fn refuses_past_the_end<'a>(
     End::Done
 }
 
-fn refuses_one_box(rt: &impl Abort, alloc: &Refusing<Global>) -> End {
+fn refuses_one_box(rt: &impl Abort, alloc: Refusing) -> End {
     match collect(alloc, &[(1, [1, 1, 1], &[])], &[]) {
         Ok(rects) => refuses_past_the_end(rt, alloc, &rects),
         Err(_) => End::Before,

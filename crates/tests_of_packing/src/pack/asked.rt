@@ -4,7 +4,6 @@ ghost use Rattle.rectangle_pack.specs.Closures.{CanRate};
 use super::closures::FIRST_CUTS;
 use super::{Case, packs};
 use rectangle_pack::WidthHeightDepth;
-use std::alloc::Global;
 use std::cell::Cell;
 use std::cmp::Ordering;
 use std::process::Abort;
@@ -37,7 +36,7 @@ const PACKINGS: &[(Case, Counts)] = &[
 // Packs the case by cuts of which the first is always better, and counts the comparisons.
 fn packs_counting<H>(
     rt: &impl Abort,
-    alloc: &Refusing<Global>,
+    alloc: Refusing,
     case: &Case,
     heuristic: &H,
     compared: &Cell<u64>,
@@ -54,7 +53,7 @@ where
 }
 
 // How often the packing of the case asks either.
-fn asks(rt: &impl Abort, alloc: &Refusing<Global>, case: &Case) -> Counts {
+fn asks(rt: &impl Abort, alloc: Refusing, case: &Case) -> Counts {
     let (rated, compared) = (Cell::new(0), Cell::new(0));
     let heuristic = |size: WidthHeightDepth| {
         add(&rated, 1);
@@ -67,8 +66,8 @@ fn asks(rt: &impl Abort, alloc: &Refusing<Global>, case: &Case) -> Counts {
 
 #[test]
 fn packings(rt: HostRuntime) {
-    let refusing = Refusing::new(rt.alloc(), u64::MAX);
+    let refusing = Refusing::new(rt.alloc(), u64::MAX).expect(&rt, "no memory for the counts");
     for (case, counts) in PACKINGS {
-        assert_eq!(rt; asks(&rt, &refusing, case), *counts);
+        assert_eq!(rt; asks(&rt, refusing, case), *counts);
     }
 }

@@ -11,12 +11,12 @@ use tests_support::refusing::Refusing;
 use tests_support::shapes::place;
 
 // What a packing placed.
-type Packed<'a> = RectanglePackOk<Name<'a>, Name<'a>, &'a Refusing<Global>>;
+type Packed<'a> = RectanglePackOk<Name<'a>, Name<'a>, Refusing>;
 
 // Adds the bins of the case.
 fn add_bins<'a>(
     bins: &mut Bins<'a>,
-    alloc: &'a Refusing<Global>,
+    alloc: Refusing,
     left: &'a Cell<u64>,
 ) -> Result<(), AllocError> {
     let rows = TWO_IN_A_GROUP.bins;
@@ -54,12 +54,7 @@ fn has_come_out(packed: &Packed<'_>, bins: &Bins<'_>) -> bool {
 }
 
 // Whether no clone was refused. If one was, the bins are as they were.
-fn packs<'a>(
-    rt: &impl Abort,
-    alloc: &'a Refusing<Global>,
-    rects: &Rects<'a>,
-    bins: &mut Bins<'a>,
-) -> bool {
+fn packs<'a>(rt: &impl Abort, alloc: Refusing, rects: &Rects<'a>, bins: &mut Bins<'a>) -> bool {
     match pack(alloc, rects, bins) {
         Err(error) => {
             assert!(rt; error == RectanglePackError::OutOfMemory && are_new(bins));
@@ -75,7 +70,7 @@ fn packs<'a>(
 // Packs the case into these bins. Whether so many clones were enough.
 fn packs_with<'a>(
     rt: &impl Abort,
-    alloc: &'a Refusing<Global>,
+    alloc: Refusing,
     left: &'a Cell<u64>,
     clones: u64,
     bins: &mut Bins<'a>,
@@ -87,7 +82,7 @@ fn packs_with<'a>(
 }
 
 // Whether so many clones were enough for a packing.
-fn is_packed(rt: &impl Abort, alloc: &Refusing<Global>, left: &Cell<u64>, clones: u64) -> bool {
+fn is_packed(rt: &impl Abort, alloc: Refusing, left: &Cell<u64>, clones: u64) -> bool {
     let mut bins = BTreeMap::new(alloc);
     assert!(rt; add_bins(&mut bins, alloc, left).is_ok());
     packs_with(rt, alloc, left, clones, &mut bins)
@@ -97,8 +92,8 @@ fn is_packed(rt: &impl Abort, alloc: &Refusing<Global>, left: &Cell<u64>, clones
 fn enough(rt: &impl Abort, alloc: Global) -> u64 {
     for clones in 0..100u64 {
         let left = Cell::new(u64::MAX);
-        let refusing = Refusing::new(alloc, u64::MAX);
-        let is_done = is_packed(rt, &refusing, &left, clones);
+        let refusing = Refusing::new(alloc, u64::MAX).expect(rt, "no memory for the counts");
+        let is_done = is_packed(rt, refusing, &left, clones);
         assert_eq!(rt; refusing.taken(), 0);
         if is_done {
             return clones;

@@ -6,7 +6,6 @@ use rectangle_pack::{
     Heuristic, WidthHeightDepth, contains_smallest_box, longest_side_heuristic,
     named_packing_has_one_result, volume_heuristic, volume_packing_has_one_result,
 };
-use std::alloc::Global;
 use std::cmp::Ordering;
 use std::process::Abort;
 use tests_support::each_request::End;
@@ -73,7 +72,7 @@ pub const FIRST_CUTS: Case = Case {
 /// Packs the case where a size is rated at its volume, but at least and at most so much.
 pub fn packs_between(
     rt: &impl Abort,
-    alloc: &Refusing<Global>,
+    alloc: Refusing,
     case: &Case,
     least: u128,
     most: u128,
@@ -90,15 +89,15 @@ const BETWEEN: &[(u128, u128, Case)] = &[
 
 #[test]
 fn heuristic_that_captures(rt: HostRuntime) {
-    let refusing = Refusing::new(rt.alloc(), u64::MAX);
+    let refusing = Refusing::new(rt.alloc(), u64::MAX).expect(&rt, "no memory for the counts");
     for (least, most, case) in BETWEEN {
-        let end = packs_between(&rt, &refusing, case, *least, *most);
+        let end = packs_between(&rt, refusing, case, *least, *most);
         assert!(rt; end == End::Done);
     }
 }
 
 // Packs the case by a heuristic that is callable on every size.
-fn packs_by<H>(rt: &impl Abort, alloc: &Refusing<Global>, case: &Case, heuristic: &H) -> End
+fn packs_by<H>(rt: &impl Abort, alloc: Refusing, case: &Case, heuristic: &H) -> End
 where
     H: Fn(WidthHeightDepth) -> u128,
     requires { H.IsAlwaysCallable heuristic.now }
@@ -108,10 +107,10 @@ where
 
 #[test]
 fn heuristic_that_borrows(rt: HostRuntime) {
-    let refusing = Refusing::new(rt.alloc(), u64::MAX);
+    let refusing = Refusing::new(rt.alloc(), u64::MAX).expect(&rt, "no memory for the counts");
     let most = 20u128;
     let heuristic = |size: WidthHeightDepth| size.volume().min(most);
-    let end = packs_by(&rt, &refusing, &EQUAL_ABOVE_20, &heuristic);
+    let end = packs_by(&rt, refusing, &EQUAL_ABOVE_20, &heuristic);
     assert!(rt; end == End::Done);
 }
 
@@ -121,8 +120,8 @@ fn longest_side(size: WidthHeightDepth) -> u128 {
 
 #[test]
 fn heuristic_written_by_hand(rt: HostRuntime) {
-    let refusing = Refusing::new(rt.alloc(), u64::MAX);
-    let end = packs_by(&rt, &refusing, &LONG_BEFORE_SQUARE, &longest_side);
+    let refusing = Refusing::new(rt.alloc(), u64::MAX).expect(&rt, "no memory for the counts");
+    let end = packs_by(&rt, refusing, &LONG_BEFORE_SQUARE, &longest_side);
     assert!(rt; end == End::Done);
 }
 
@@ -136,10 +135,10 @@ fn always_greater<H>(
 
 #[test]
 fn comparison_written_by_hand(rt: HostRuntime) {
-    let refusing = Refusing::new(rt.alloc(), u64::MAX);
+    let refusing = Refusing::new(rt.alloc(), u64::MAX).expect(&rt, "no memory for the counts");
     let end = packs(
         &rt,
-        &refusing,
+        refusing,
         &FIRST_CUTS,
         &volume_heuristic,
         &always_greater,
@@ -150,10 +149,10 @@ fn comparison_written_by_hand(rt: HostRuntime) {
 // A closure over a name is a heuristic. The law takes one beside the function of that name.
 #[test]
 fn heuristic_with_a_name(rt: HostRuntime) {
-    let refusing = Refusing::new(rt.alloc(), u64::MAX);
+    let refusing = Refusing::new(rt.alloc(), u64::MAX).expect(&rt, "no memory for the counts");
     let named = Heuristic::LongestSide;
     let heuristic = move |size: WidthHeightDepth| named.rate(size);
-    let end = packs_by(&rt, &refusing, &LONG_BEFORE_SQUARE, &heuristic);
+    let end = packs_by(&rt, refusing, &LONG_BEFORE_SQUARE, &heuristic);
     assert!(rt; end == End::Done);
     let longest = |size: WidthHeightDepth| Heuristic::LongestSide.rate(size);
     named_packing_has_one_result::<u32, u32, u32, _, _, _, _>(
@@ -168,9 +167,9 @@ fn heuristic_with_a_name(rt: HostRuntime) {
 // The law takes a closure that answers as `volume_heuristic` does beside that one.
 #[test]
 fn closure_that_rates_by_volume(rt: HostRuntime) {
-    let refusing = Refusing::new(rt.alloc(), u64::MAX);
+    let refusing = Refusing::new(rt.alloc(), u64::MAX).expect(&rt, "no memory for the counts");
     let volume = |size: WidthHeightDepth| size.volume();
-    let end = packs_by(&rt, &refusing, &TWO_IN_A_GROUP, &volume);
+    let end = packs_by(&rt, refusing, &TWO_IN_A_GROUP, &volume);
     assert!(rt; end == End::Done);
     volume_packing_has_one_result::<u32, u32, u32, _, _, _, _>(
         &volume,
@@ -223,10 +222,10 @@ fn comparison_is_odd_where_wide(rt: HostRuntime) {
 // No section of these bins is wider than 4096, so its answers on wider ones are never asked.
 #[test]
 fn comparison_that_is_odd_on_what_is_not_met(rt: HostRuntime) {
-    let refusing = Refusing::new(rt.alloc(), u64::MAX);
+    let refusing = Refusing::new(rt.alloc(), u64::MAX).expect(&rt, "no memory for the counts");
     let end = packs(
         &rt,
-        &refusing,
+        refusing,
         &TWO_IN_A_GROUP,
         &volume_heuristic,
         &odd_where_wide,

@@ -3,7 +3,6 @@
 use super::placements::{FULL_AND_EMPTY, THREE_BOXES};
 use super::{Bins, Case, add_bins, ends, pack_by_volume, pack_counted, packs_by_volume};
 use rectangle_pack::{FitTests, Group};
-use std::alloc::Global;
 use std::process::Abort;
 use tests_support::boxes::{GroupName, collect};
 use tests_support::each_request::End;
@@ -107,11 +106,11 @@ const COUNTED: &[(Case, u128)] = &[
 ];
 
 // Packs the case into these bins.
-fn counts_into<'a>(
+fn counts_into(
     rt: &impl Abort,
-    alloc: &'a Refusing<Global>,
+    alloc: Refusing,
     case: &Case,
-    bins: &mut Bins<&'a Refusing<Global>>,
+    bins: &mut Bins<Refusing>,
     tests: &mut FitTests,
 ) -> End {
     let Ok(rects) = collect(alloc, case.boxes, case.excluded) else {
@@ -122,7 +121,7 @@ fn counts_into<'a>(
 }
 
 /// Packs the case by volume, and adds its fit tests to a counter.
-pub fn counts(rt: &impl Abort, alloc: &Refusing<Global>, case: &Case, tests: &mut FitTests) -> End {
+pub fn counts(rt: &impl Abort, alloc: Refusing, case: &Case, tests: &mut FitTests) -> End {
     let mut bins = Bins::new(alloc);
     if add_bins(alloc, case, &mut bins).is_err() {
         return End::Before;
@@ -131,13 +130,7 @@ pub fn counts(rt: &impl Abort, alloc: &Refusing<Global>, case: &Case, tests: &mu
 }
 
 // The packing of the case is done, and leaves the counter at this count.
-fn counts_up_to(
-    rt: &impl Abort,
-    alloc: &Refusing<Global>,
-    case: &Case,
-    count: u128,
-    tests: &mut FitTests,
-) {
+fn counts_up_to(rt: &impl Abort, alloc: Refusing, case: &Case, count: u128, tests: &mut FitTests) {
     let end = counts(rt, alloc, case, tests);
     assert!(rt; end == End::Done && tests.count() == count, "{count}");
 }
@@ -145,19 +138,19 @@ fn counts_up_to(
 // Each packing adds its tests to those of the ones before; without groups none is added.
 #[test]
 fn counted_packings(rt: HostRuntime) {
-    let refusing = Refusing::new(rt.alloc(), u64::MAX);
+    let refusing = Refusing::new(rt.alloc(), u64::MAX).expect(&rt, "no memory for the counts");
     let mut tests = FitTests::new();
     for (case, count) in COUNTED {
-        counts_up_to(&rt, &refusing, case, *count, &mut tests);
+        counts_up_to(&rt, refusing, case, *count, &mut tests);
     }
 }
 
 // The same packings, without a counter.
 #[test]
 fn packings(rt: HostRuntime) {
-    let refusing = Refusing::new(rt.alloc(), u64::MAX);
+    let refusing = Refusing::new(rt.alloc(), u64::MAX).expect(&rt, "no memory for the counts");
     for (case, _) in COUNTED {
-        assert!(rt; packs_by_volume(&rt, &refusing, case) == End::Done);
+        assert!(rt; packs_by_volume(&rt, refusing, case) == End::Done);
     }
 }
 

@@ -110,7 +110,7 @@ fn fill<A: Allocator + Copy>(alloc: A, bins: &mut Bins<A>) -> bool {
     }
 }
 
-fn one_packing(rt: &impl Abort, alloc: &Refusing<Global>) -> Result<(), AllocError> {
+fn one_packing(rt: &impl Abort, alloc: Refusing) -> Result<(), AllocError> {
     let mut bins = Bins::new(alloc);
     add_bin(alloc, &mut bins, 0, [25, 20, 1])?;
     assert!(rt; fill(alloc, &mut bins));
@@ -120,8 +120,8 @@ fn one_packing(rt: &impl Abort, alloc: &Refusing<Global>) -> Result<(), AllocErr
 // Boxes of one cell fill a bin. All memory is given back.
 #[test]
 fn five_hundred_boxes(rt: HostRuntime) -> Result<(), Fail> {
-    let alloc = Refusing::new(rt.alloc(), u64::MAX);
-    one_packing(&rt, &alloc)?;
+    let alloc = Refusing::new(rt.alloc(), u64::MAX)?;
+    one_packing(&rt, alloc)?;
     assert_eq!(rt; alloc.taken(), 0);
     Ok(())
 }

@@ -2,7 +2,7 @@
 
 use super::{Answer, Bins, Rects, pack_counted};
 use rectangle_pack::{FitTests, Placement, RectToInsert, RectanglePackError};
-use std::alloc::{AllocError, Allocator, Global};
+use std::alloc::{AllocError, Allocator};
 use std::process::Abort;
 use std::test::Fail;
 use tests_support::combs::{BOXES, TESTS, WIDE_BOXES, box_of, comb, free_at, has_left, index_of};
@@ -103,12 +103,7 @@ fn packs_into<A: Allocator + Copy>(
 }
 
 // Packs these boxes into a new bin.
-fn packs_rects<'a>(
-    rt: &impl Abort,
-    alloc: &'a Refusing<Global>,
-    rects: &Rects<&'a Refusing<Global>>,
-    too_tall: bool,
-) -> End {
+fn packs_rects(rt: &impl Abort, alloc: Refusing, rects: &Rects<Refusing>, too_tall: bool) -> End {
     let mut bins = Bins::new(alloc);
     match add_comb(alloc, &mut bins) {
         Ok(()) => packs_into(rt, alloc, rects, &mut bins, too_tall),
@@ -117,7 +112,7 @@ fn packs_rects<'a>(
 }
 
 // Packs all boxes.
-fn packs(rt: &impl Abort, alloc: &Refusing<Global>, too_tall: bool) -> End {
+fn packs(rt: &impl Abort, alloc: Refusing, too_tall: bool) -> End {
     let mut rects = Rects::new(alloc);
     match push_boxes(&mut rects, too_tall) {
         Ok(()) => packs_rects(rt, alloc, &rects, too_tall),

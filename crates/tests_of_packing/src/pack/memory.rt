@@ -46,7 +46,7 @@ fn is_counted(end: End, grown: u128, count: u128, bound: u128) -> bool {
 
 fn counts_or_stays(
     rt: &impl Abort,
-    refusing: &Refusing<Global>,
+    refusing: Refusing,
     case: &Case,
     count: u128,
     bound: u128,
@@ -89,11 +89,7 @@ fn counts_nothing<A: Allocator + Copy>(alloc: A, bins: &mut Bins<A>) -> bool {
 }
 
 // Adds a bin and packs into it. The bin is made before, and all that was granted is used up.
-fn packs_into_a_bin<'a>(
-    rt: &impl Abort,
-    alloc: &'a Refusing<Global>,
-    bins: &mut Bins<&'a Refusing<Global>>,
-) -> End {
+fn packs_into_a_bin(rt: &impl Abort, alloc: Refusing, bins: &mut Bins<Refusing>) -> End {
     if add_bin(alloc, bins, 7, [4, 4, 1]).is_err() {
         return End::Before;
     }
@@ -102,21 +98,21 @@ fn packs_into_a_bin<'a>(
     End::Done
 }
 
-fn packs_into_new(rt: &impl Abort, alloc: &Refusing<Global>) -> End {
+fn packs_into_new(rt: &impl Abort, alloc: Refusing) -> End {
     let mut bins = Bins::new(alloc);
     packs_into_a_bin(rt, alloc, &mut bins)
 }
 
 // Packs into no bins, without memory.
-fn packs_into_none(alloc: Global) -> bool {
-    let refusing = Refusing::new(alloc, 0);
-    let mut bins = Bins::new(&refusing);
-    packs_nothing(&refusing, &mut bins) && counts_nothing(&refusing, &mut bins)
+fn packs_into_none(rt: &impl Abort, alloc: Global) -> bool {
+    let refusing = Refusing::new(alloc, 0).expect(rt, "no memory for the counts");
+    let mut bins = Bins::new(refusing);
+    packs_nothing(refusing, &mut bins) && counts_nothing(refusing, &mut bins)
 }
 
 #[test]
 fn packings_of_nothing(rt: HostRuntime) -> Result<(), Fail> {
-    assert!(rt; packs_into_none(rt.alloc()));
+    assert!(rt; packs_into_none(&rt, rt.alloc()));
     let refused = is_refused(rt.alloc(), |refusing| Ok(packs_into_new(&rt, refusing)))?;
     assert!(rt; !refused);
     Ok(())

@@ -2,7 +2,6 @@
 
 use super::{Bins, Case, FULL_BIN, add_bins, pack_by_volume, packs_into};
 use rectangle_pack::{RectanglePackError, contains_smallest_box, volume_heuristic};
-use std::alloc::Global;
 use std::process::Abort;
 use std::test::Fail;
 use tests_support::each_request::End;
@@ -243,12 +242,7 @@ const BEHIND_CELL: Case = Case {
 };
 
 // Packs into the bins that are there.
-fn packs_rest<'a>(
-    rt: &impl Abort,
-    alloc: &'a Refusing<Global>,
-    case: &Case,
-    bins: &mut Bins<&'a Refusing<Global>>,
-) -> End {
+fn packs_rest(rt: &impl Abort, alloc: Refusing, case: &Case, bins: &mut Bins<Refusing>) -> End {
     packs_into(
         rt,
         alloc,
@@ -262,11 +256,11 @@ fn packs_rest<'a>(
 // One cell of the largest bin, and then all that is behind it.
 #[test]
 fn rest_of_the_largest_bin(rt: HostRuntime) {
-    let refusing = Refusing::new(rt.alloc(), u64::MAX);
-    let mut bins = Bins::new(&refusing);
-    assert!(rt; add_bins(&refusing, &CELL, &mut bins).is_ok());
-    assert!(rt; packs_rest(&rt, &refusing, &CELL, &mut bins) == End::Done);
-    assert!(rt; packs_rest(&rt, &refusing, &BEHIND_CELL, &mut bins) == End::Done);
+    let refusing = Refusing::new(rt.alloc(), u64::MAX).expect(&rt, "no memory for the counts");
+    let mut bins = Bins::new(refusing);
+    assert!(rt; add_bins(refusing, &CELL, &mut bins).is_ok());
+    assert!(rt; packs_rest(&rt, refusing, &CELL, &mut bins) == End::Done);
+    assert!(rt; packs_rest(&rt, refusing, &BEHIND_CELL, &mut bins) == End::Done);
 }
 
 const TEXTS: &[(RectanglePackError, &str)] = &[

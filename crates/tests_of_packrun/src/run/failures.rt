@@ -66,7 +66,7 @@ const ALL: Given = Given {
 // How these lines end, and what they print. All memory is given back, and a run that goes on to its
 // end was refused none.
 fn run_with(rt: &impl Abort, alloc: Global, lines: &str, given: Given) -> (Outcome, Kept) {
-    let refusing = Refusing::new(alloc, given.granted);
+    let refusing = Refusing::new(alloc, given.granted).expect(rt, "no memory for the counts");
     let (piece, good_reads) = given.reads;
     let mut reader = Pieces {
         bytes: lines.as_bytes(),
@@ -75,12 +75,12 @@ fn run_with(rt: &impl Abort, alloc: Global, lines: &str, given: Given) -> (Outco
     };
     let (piece, good_writes) = given.writes;
     let mut writer = Kept::new(piece, good_writes);
-    let outcome = run_lines(&refusing, &mut reader, &mut writer);
-    gave_back(rt, &refusing, outcome);
+    let outcome = run_lines(refusing, &mut reader, &mut writer);
+    gave_back(rt, refusing, outcome);
     (outcome, writer)
 }
 
-fn gave_back(rt: &impl Abort, refusing: &Refusing<Global>, outcome: Outcome) {
+fn gave_back(rt: &impl Abort, refusing: Refusing, outcome: Outcome) {
     assert_eq!(rt; refusing.taken(), 0);
     assert!(rt; is_said(outcome, refusing.refused()));
 }

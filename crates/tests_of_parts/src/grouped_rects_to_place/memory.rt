@@ -157,7 +157,7 @@ fn has(all: &Rects<'_>, boxes: &Boxes) -> bool {
 // Pushes the old box alone and into group 0.
 fn push_old<'a>(
     all: &mut Rects<'a>,
-    alloc: &'a Refusing<Global>,
+    alloc: Refusing,
     left: &'a Cell<u64>,
 ) -> Result<(), AllocError> {
     let rect = RectToInsert::new(1, 1, 1);
@@ -170,7 +170,7 @@ fn push_old<'a>(
 fn pushes<'a>(
     rt: &impl Abort,
     all: &mut Rects<'a>,
-    named: Vec<u32, &'a Refusing<Global>>,
+    named: Vec<u32, Refusing>,
     left: &'a Cell<u64>,
     push: &Push,
 ) -> End {
@@ -185,7 +185,7 @@ fn pushes<'a>(
 // A push for which so many clones are left. Only the collection before it takes more.
 fn end_of_push<'a>(
     rt: &impl Abort,
-    alloc: &'a Refusing<Global>,
+    alloc: Refusing,
     all: &mut Rects<'a>,
     left: &'a Cell<u64>,
     clones: u64,
@@ -235,7 +235,7 @@ fn excludes<'a>(rt: &impl Abort, all: &mut Rects<'a>, left: &'a Cell<u64>) -> En
 // An exclusion for which so many clones are left. Only what is before it takes more.
 fn end_of_exclusion<'a>(
     rt: &impl Abort,
-    alloc: &'a Refusing<Global>,
+    alloc: Refusing,
     all: &mut Rects<'a>,
     left: &'a Cell<u64>,
     clones: u64,
@@ -253,7 +253,7 @@ fn end_of_exclusion<'a>(
 // A push, or else an exclusion, in a new collection.
 fn end_in_new(
     rt: &impl Abort,
-    alloc: &Refusing<Global>,
+    alloc: Refusing,
     left: &Cell<u64>,
     clones: u64,
     push: Option<&Push>,
@@ -268,8 +268,8 @@ fn end_in_new(
 // A push, or else an exclusion, under so many requests and clones. All memory is given back.
 fn end(rt: &impl Abort, alloc: Global, requests: u64, clones: u64, push: Option<&Push>) -> End {
     let left = Cell::new(u64::MAX);
-    let refusing = Refusing::new(alloc, requests);
-    let end = end_in_new(rt, &refusing, &left, clones, push);
+    let refusing = Refusing::new(alloc, requests).expect(rt, "no memory for the counts");
+    let end = end_in_new(rt, refusing, &left, clones, push);
     assert_eq!(rt; refusing.taken(), 0);
     end
 }

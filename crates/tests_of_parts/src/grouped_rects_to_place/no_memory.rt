@@ -9,7 +9,7 @@ use tests_support::each_request::{End, is_refused};
 use tests_support::refusing::Refusing;
 
 // Whether a new collection has no groups, no boxes and no pairs.
-fn is_new(rects: &Rects<'_>) -> bool {
+fn is_new(rects: &Rects) -> bool {
     rects.groups().is_empty()
         && rects.rects().is_empty()
         && !rects.excluded(&Group::Grouped(0), &Group::Ungrouped(0))
@@ -17,7 +17,7 @@ fn is_new(rects: &Rects<'_>) -> bool {
 
 // The groups 0 and 1 are excluded, either way round, and the group 0 and the box 1 are not. To
 // exclude them again changes nothing.
-fn keeps_the_pair(rects: &mut Rects<'_>) -> bool {
+fn keeps_the_pair(rects: &mut Rects) -> bool {
     rects.excluded(&Group::Grouped(0), &Group::Grouped(1))
         && rects.excluded(&Group::Grouped(1), &Group::Grouped(0))
         && !rects.excluded(&Group::Grouped(0), &Group::Ungrouped(1))
@@ -26,7 +26,7 @@ fn keeps_the_pair(rects: &mut Rects<'_>) -> bool {
 }
 
 // Excludes the pair in a collection for which one request is left, or none.
-fn end_of_pair(rt: &impl Abort, alloc: &Refusing<Global>, rects: &mut Rects<'_>) -> End {
+fn end_of_pair(rt: &impl Abort, alloc: Refusing, rects: &mut Rects) -> End {
     if rects.exclude(Group::Grouped(0), Group::Grouped(1)).is_err() {
         return End::Before;
     }
@@ -35,21 +35,21 @@ fn end_of_pair(rt: &impl Abort, alloc: &Refusing<Global>, rects: &mut Rects<'_>)
     End::Done
 }
 
-fn pair(rt: &impl Abort, alloc: &Refusing<Global>) -> End {
+fn pair(rt: &impl Abort, alloc: Refusing) -> End {
     let mut rects = Rects::new(alloc);
     end_of_pair(rt, alloc, &mut rects)
 }
 
 // Whether a collection is made without memory.
-fn is_made(alloc: Global) -> bool {
-    let refusing = Refusing::new(alloc, 0);
-    is_new(&Rects::new(&refusing))
+fn is_made(rt: &impl Abort, alloc: Global) -> bool {
+    let refusing = Refusing::new(alloc, 0).expect(rt, "no memory for the counts");
+    is_new(&Rects::new(refusing))
 }
 
 // A new collection, and a pair that is there, take no memory.
 #[test]
 fn calls_that_take_none(rt: HostRuntime) -> Result<(), Fail> {
-    assert!(rt; is_made(rt.alloc()));
+    assert!(rt; is_made(&rt, rt.alloc()));
     let refused = is_refused(rt.alloc(), |refusing| Ok(pair(&rt, refusing)))?;
     assert!(rt; !refused);
     Ok(())

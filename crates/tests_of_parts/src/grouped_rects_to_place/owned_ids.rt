@@ -1,7 +1,7 @@
 //! Collections of boxes whose ids own memory, which is refused.
 
 use rectangle_pack::{Group, GroupedRectsToPlace, RectToInsert};
-use std::alloc::{AllocError, Global};
+use std::alloc::AllocError;
 use std::process::Abort;
 use std::test::Fail;
 use tests_support::each_request::{End, is_refused};
@@ -9,39 +9,31 @@ use tests_support::refusing::Refusing;
 
 // An id that owns memory, which its clones take too.
 #[derive(Clone, PartialEq, Eq, PartialOrd, Ord, Drop)]
-struct Text<'a> {
-    text: String<&'a Refusing<Global>>,
+struct Text {
+    text: String<Refusing>,
 }
 
-type TextRects<'a> = GroupedRectsToPlace<Text<'a>, u32, &'a Refusing<Global>>;
+type TextRects = GroupedRectsToPlace<Text, u32, Refusing>;
 
-fn text_of<'a>(alloc: &'a Refusing<Global>, from: &str) -> Result<Text<'a>, AllocError> {
+fn text_of(alloc: Refusing, from: &str) -> Result<Text, AllocError> {
     let text = String::from_str(alloc, from)?;
     Ok(Text { text })
 }
 
-fn push_text<'a>(
-    all: &mut TextRects<'a>,
-    alloc: &'a Refusing<Global>,
-    id: &str,
-) -> Result<(), AllocError> {
+fn push_text(all: &mut TextRects, alloc: Refusing, id: &str) -> Result<(), AllocError> {
     let id = text_of(alloc, id)?;
     let named = [0, 1, 0].to_vec(alloc)?;
     all.push_rect(id, Some(named), RectToInsert::new(2, 3, 1))
 }
 
 // Excludes the box alone from group 0.
-fn exclude_text<'a>(
-    all: &mut TextRects<'a>,
-    alloc: &'a Refusing<Global>,
-    id: &str,
-) -> Result<(), AllocError> {
+fn exclude_text(all: &mut TextRects, alloc: Refusing, id: &str) -> Result<(), AllocError> {
     let alone = Group::Ungrouped(text_of(alloc, id)?);
     all.exclude(alone, Group::Grouped(0))
 }
 
 // How many entries the groups 0 and 1 have, and how many boxes there are.
-fn entries(all: &TextRects<'_>) -> (Option<(usize, usize)>, usize) {
+fn entries(all: &TextRects) -> (Option<(usize, usize)>, usize) {
     let zero = all.groups().get(&Group::Grouped(0)).map(Vec::len);
     let one = all.groups().get(&Group::Grouped(1)).map(Vec::len);
     (zero.zip(one), all.rects().len())
@@ -49,11 +41,11 @@ fn entries(all: &TextRects<'_>) -> (Option<(usize, usize)>, usize) {
 
 // Pushes a box beside one that is there, and excludes that one alone from group 0. Where this is
 // refused, nothing is changed.
-fn calls_by_texts<'a>(
+fn calls_by_texts(
     rt: &impl Abort,
-    alloc: &'a Refusing<Global>,
-    all: &mut TextRects<'a>,
-    old: &Group<u32, Text<'a>>,
+    alloc: Refusing,
+    all: &mut TextRects,
+    old: &Group<u32, Text>,
 ) -> End {
     if push_text(all, alloc, "old").is_err() {
         return End::Before;
@@ -69,7 +61,7 @@ fn calls_by_texts<'a>(
 }
 
 // The calls in a new collection.
-fn end_by_texts(rt: &impl Abort, alloc: &Refusing<Global>) -> End {
+fn end_by_texts(rt: &impl Abort, alloc: Refusing) -> End {
     match text_of(alloc, "old") {
         Ok(old) => {
             let mut all = TextRects::new(alloc);

@@ -2,7 +2,7 @@
 
 use super::Bin;
 use rectangle_pack::{FitTests, RectToInsert, TargetBin, contains_smallest_box, volume_heuristic};
-use std::alloc::{AllocError, Global};
+use std::alloc::AllocError;
 use std::process::Abort;
 use std::test::Fail;
 use tests_support::refusing::Refusing;
@@ -51,7 +51,7 @@ fn fifty_sections(rt: HostRuntime) -> Result<(), Fail> {
     Ok(())
 }
 
-fn tries(rt: &impl Abort, bin: &mut Bin<'_>) -> Result<(), AllocError> {
+fn tries(rt: &impl Abort, bin: &mut Bin) -> Result<(), AllocError> {
     let members = [RectToInsert::new(1, 1, 1); 500];
     let mut tests = FitTests::new();
     let placed = bin.place_all(
@@ -65,7 +65,7 @@ fn tries(rt: &impl Abort, bin: &mut Bin<'_>) -> Result<(), AllocError> {
     Ok(())
 }
 
-fn one_trial(rt: &impl Abort, alloc: &Refusing<Global>) -> Result<(), AllocError> {
+fn one_trial(rt: &impl Abort, alloc: Refusing) -> Result<(), AllocError> {
     let mut bin = TargetBin::new(alloc, 25, 20, 1)?;
     tries(rt, &mut bin)
 }
@@ -73,8 +73,8 @@ fn one_trial(rt: &impl Abort, alloc: &Refusing<Global>) -> Result<(), AllocError
 // Boxes of one cell fill a bin. All memory is given back.
 #[test]
 fn five_hundred_boxes(rt: HostRuntime) -> Result<(), Fail> {
-    let alloc = Refusing::new(rt.alloc(), u64::MAX);
-    one_trial(&rt, &alloc)?;
+    let alloc = Refusing::new(rt.alloc(), u64::MAX)?;
+    one_trial(&rt, alloc)?;
     assert_eq!(rt; alloc.taken(), 0);
     Ok(())
 }

@@ -168,7 +168,7 @@ fn pushes_that_take_memory(rt: HostRuntime) {
 
 // The first six of a row, three at a time, in a bin 20x20x1 without free sections. Refused, the
 // list stays.
-fn adds_a_row(rt: &impl Abort, alloc: &Refusing<Global>) -> End {
+fn adds_a_row(rt: &impl Abort, alloc: Refusing) -> End {
     let Ok(mut bin) = TargetBin::new(alloc, 20, 20, 1) else {
         return End::Before;
     };

@@ -26,7 +26,7 @@ fn reply(answer: Result<(), SessionError>) -> Reply {
     }
 }
 
-fn pack<'a>(session: &mut TestSession<'a>, rects: &Rects<'a>) -> Reply {
+fn pack(session: &mut TestSession, rects: &Rects) -> Reply {
     match session.pack(rects, &volume_heuristic, &contains_smallest_box) {
         Ok(packed) => Reply::Packed(packed),
         Err(error) => Reply::Refused(error),
@@ -34,7 +34,7 @@ fn pack<'a>(session: &mut TestSession<'a>, rects: &Rects<'a>) -> Reply {
 }
 
 /// What the call of a command answers, by volumes and smallest boxes.
-pub fn call<'a>(session: &mut TestSession<'a>, command: &TestCommand<'a>) -> Reply {
+pub fn call(session: &mut TestSession, command: &TestCommand) -> Reply {
     match command {
         Command::AddBin {
             id,
@@ -53,9 +53,9 @@ pub fn call<'a>(session: &mut TestSession<'a>, command: &TestCommand<'a>) -> Rep
 pub const NO_MEMORY: Reply = Reply::Refused(SessionError::OutOfMemory);
 
 // Makes the call of one line. Where it is refused memory, it changes nothing.
-fn call_line<'a>(
-    session: &mut TestSession<'a>,
-    command: &TestCommand<'a>,
+fn call_line(
+    session: &mut TestSession,
+    command: &TestCommand,
     before: &State,
     index: usize,
     line: &Line,
@@ -71,11 +71,7 @@ fn call_line<'a>(
 }
 
 // Makes the call of each line, until one does not come out.
-fn call_lines<'a>(
-    session: &mut TestSession<'a>,
-    commands: &[TestCommand<'a>],
-    script: &Script,
-) -> Came {
+fn call_lines(session: &mut TestSession, commands: &[TestCommand], script: &Script) -> Came {
     let mut before = empty(script.first);
     for (index, (command, line)) in commands.iter().zip(script.lines.iter()).enumerate() {
         let came = call_line(session, command, &before, index, line);
@@ -88,11 +84,7 @@ fn call_lines<'a>(
 }
 
 // Makes the calls in a new session. Commands take their memory elsewhere.
-fn call_all<'a>(
-    plenty: &'a Refusing<Global>,
-    scarce: &'a Refusing<Global>,
-    script: &Script,
-) -> Made<Came> {
+fn call_all(plenty: Refusing, scarce: Refusing, script: &Script) -> Made<Came> {
     let commands = commands(plenty, script)?;
     let mut session = TestSession::new(scarce, script.first);
     Ok(call_lines(&mut session, commands.as_slice(), script))
@@ -102,9 +94,9 @@ fn call_all<'a>(
 // more than any script makes, and all memory is given back. A call says that memory was refused
 // where it was, and only there.
 fn call_granted(rt: &impl Abort, alloc: Global, granted: u64, script: &Script) -> Made<Came> {
-    let plenty = Refusing::new(alloc, u64::MAX);
-    let scarce = Refusing::new(alloc, granted);
-    let came = call_all(&plenty, &scarce, script)?;
+    let plenty = Refusing::new(alloc, u64::MAX)?;
+    let scarce = Refusing::new(alloc, granted)?;
+    let came = call_all(plenty, scarce, script)?;
     let is_used = matches!(came, Came::Wrong(_)) || scarce.left() == 0;
     assert!(rt; granted == u64::MAX || is_used);
     assert_eq!(rt; scarce.refused() == 0, matches!(came, Came::Out));

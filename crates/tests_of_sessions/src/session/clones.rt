@@ -12,7 +12,7 @@ use tests_support::names::{Name, Rects, have_lists, push_all};
 use tests_support::refusing::Refusing;
 use tests_support::shapes::place;
 
-type NameSession<'a> = Session<Name<'a>, Name<'a>, &'a Refusing<Global>>;
+type NameSession<'a> = Session<Name<'a>, Name<'a>, Refusing>;
 
 const FIRST: &[SizedBox] = &[(1, [4, 10, 1], &[])];
 
@@ -45,7 +45,7 @@ fn are_outstanding(outstanding: &[Outstanding<Name<'_>, Name<'_>>], all: &[Place
 fn fill<'a>(
     session: &mut NameSession<'a>,
     rects: &mut Rects<'a>,
-    alloc: &'a Refusing<Global>,
+    alloc: Refusing,
     left: &'a Cell<u64>,
 ) -> Result<(), SessionError> {
     session.add_bin(Name { number: 7, left }, 10, 10, 1)?;
@@ -71,12 +71,7 @@ fn packs_beside<'a>(rt: &impl Abort, session: &mut NameSession<'a>, rects: &Rect
 }
 
 // Whether so many clones were enough for a packing beside an outstanding one.
-fn is_packed_beside(
-    rt: &impl Abort,
-    alloc: &Refusing<Global>,
-    left: &Cell<u64>,
-    clones: u64,
-) -> bool {
+fn is_packed_beside(rt: &impl Abort, alloc: Refusing, left: &Cell<u64>, clones: u64) -> bool {
     let mut session = Session::new(alloc, 0);
     let mut first = GroupedRectsToPlace::new(alloc);
     assert!(rt; fill(&mut session, &mut first, alloc, left).is_ok());
@@ -90,8 +85,8 @@ fn is_packed_beside(
 fn enough(rt: &impl Abort, alloc: Global) -> u64 {
     for clones in 0..100u64 {
         let left = Cell::new(u64::MAX);
-        let refusing = Refusing::new(alloc, u64::MAX);
-        let is_done = is_packed_beside(rt, &refusing, &left, clones);
+        let refusing = Refusing::new(alloc, u64::MAX).expect(rt, "no memory for the counts");
+        let is_done = is_packed_beside(rt, refusing, &left, clones);
         assert_eq!(rt; refusing.taken(), 0);
         if is_done {
             return clones;

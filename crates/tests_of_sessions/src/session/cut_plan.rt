@@ -76,12 +76,10 @@ pub enum Came {
 /// There is no room for the boxes.
 pub const NO_ROOM: Reply = Reply::Refused(SessionError::NotEnoughBinSpace);
 
-type Alloc<'a> = &'a Refusing<Global>;
-
 // Where every comparison answers the same.
-fn pack_comparing<'a, H>(
-    session: &mut TestSession<'a>,
-    rects: &Rects<'a>,
+fn pack_comparing<H>(
+    session: &mut TestSession,
+    rects: &Rects,
     heuristic: &H,
     answer: Ordering,
 ) -> Result<Packed, SessionError>
@@ -94,21 +92,16 @@ where
 }
 
 // Where every size has the same rate.
-fn pack_rating<'a>(
-    session: &mut TestSession<'a>,
-    rects: &Rects<'a>,
+fn pack_rating(
+    session: &mut TestSession,
+    rects: &Rects,
     rate: u128,
 ) -> Result<Packed, SessionError> {
     let heuristic = |_: WidthHeightDepth| rate;
     session.pack(rects, &heuristic, &contains_smallest_box)
 }
 
-fn pack_by<'a>(
-    session: &mut TestSession<'a>,
-    alloc: Alloc<'a>,
-    rule: Rule,
-    boxes: &[SizedBox],
-) -> Reply {
+fn pack_by(session: &mut TestSession, alloc: Refusing, rule: Rule, boxes: &[SizedBox]) -> Reply {
     let Ok(rects) = collect(alloc, boxes, &[]) else {
         return NO_MEMORY;
     };
@@ -122,7 +115,7 @@ fn pack_by<'a>(
     }
 }
 
-fn obey<'a>(session: &mut TestSession<'a>, alloc: Alloc<'a>, order: &Order) -> Reply {
+fn obey(session: &mut TestSession, alloc: Refusing, order: &Order) -> Reply {
     match command(alloc, order) {
         Ok(command) => call(session, &command),
         Err(_) => NO_MEMORY,
@@ -186,7 +179,7 @@ fn done(order: &Order, next: u64) -> Reply {
     }
 }
 
-fn ask_plan(session: &TestSession<'_>, bin: u32, wanted: &[PlanStep]) -> Came {
+fn ask_plan(session: &TestSession, bin: u32, wanted: &[PlanStep]) -> Came {
     match session.cut_plan(&bin) {
         Ok(Some(plan)) => came_if(is_plan(plan.as_slice(), wanted)),
         Err(SessionError::OutOfMemory) => Came::Refused,
@@ -194,7 +187,7 @@ fn ask_plan(session: &TestSession<'_>, bin: u32, wanted: &[PlanStep]) -> Came {
     }
 }
 
-fn ask_plans(session: &TestSession<'_>, plans: &[(u32, &'static [PlanStep])]) -> Came {
+fn ask_plans(session: &TestSession, plans: &[(u32, &'static [PlanStep])]) -> Came {
     for (bin, wanted) in plans {
         match ask_plan(session, *bin, wanted) {
             Came::Out => {}
@@ -204,14 +197,14 @@ fn ask_plans(session: &TestSession<'_>, plans: &[(u32, &'static [PlanStep])]) ->
     came_if(session.bins().len() == plans.len())
 }
 
-fn is_free(session: &TestSession<'_>, bin: u32, list: &[[u32; 6]]) -> bool {
+fn is_free(session: &TestSession, bin: u32, list: &[[u32; 6]]) -> bool {
     match session.bins().get(&bin) {
         Some(bin) => has_list(bin, list),
         None => false,
     }
 }
 
-fn play<'a>(session: &mut TestSession<'a>, alloc: Alloc<'a>, step: &Step) -> Came {
+fn play(session: &mut TestSession, alloc: Refusing, step: &Step) -> Came {
     let next = session.next_number();
     match step {
         Step::Call(order) => come_of(obey(session, alloc, order), done(order, next)),
@@ -237,11 +230,7 @@ fn play<'a>(session: &mut TestSession<'a>, alloc: Alloc<'a>, step: &Step) -> Cam
 }
 
 // Plays the steps until one does not come out as wanted, and says which.
-fn play_each<'a>(
-    session: &mut TestSession<'a>,
-    alloc: Alloc<'a>,
-    script: &[Step],
-) -> (usize, Came) {
+fn play_each(session: &mut TestSession, alloc: Refusing, script: &[Step]) -> (usize, Came) {
     for (index, step) in script.iter().enumerate() {
         match play(session, alloc, step) {
             Came::Out => {}
@@ -252,7 +241,7 @@ fn play_each<'a>(
 }
 
 /// Plays a script in a new session. Says how it came out, and at which step.
-pub fn play_all(alloc: &Refusing<Global>, script: &[Step]) -> (usize, Came) {
+pub fn play_all(alloc: Refusing, script: &[Step]) -> (usize, Came) {
     let mut session = TestSession::new(alloc, 0);
     play_each(&mut session, alloc, script)
 }
@@ -260,8 +249,8 @@ pub fn play_all(alloc: &Refusing<Global>, script: &[Step]) -> (usize, Came) {
 /// Each script comes out, and all that it takes is given back.
 pub fn come_out(rt: &impl Abort, alloc: Global, subject: &str, scripts: &[&[Step]]) {
     for (index, script) in scripts.iter().enumerate() {
-        let alloc = Refusing::new(alloc, u64::MAX);
-        let (step, came) = play_all(&alloc, script);
+        let alloc = Refusing::new(alloc, u64::MAX).expect(rt, "no memory for the counts");
+        let (step, came) = play_all(alloc, script);
         assert!(rt;
             matches!(came, Came::Out),
             "{subject}: script {index}, step {step}"

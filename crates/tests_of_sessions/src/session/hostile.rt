@@ -82,18 +82,14 @@ fn placed_volume(outstanding: &[Outstanding<u32, u32>], bin: u32) -> u64 {
 }
 
 // Whether what is free and what is placed in the bin make up the whole.
-fn is_whole(
-    bin: &TargetBin<&Refusing<Global>>,
-    id: u32,
-    outstanding: &[Outstanding<u32, u32>],
-) -> bool {
+fn is_whole(bin: &TargetBin<Refusing>, id: u32, outstanding: &[Outstanding<u32, u32>]) -> bool {
     let size = bin.max_size();
     let whole = [0, 0, 0, size.width(), size.height(), size.depth()];
     let free = free_volume(bin.available_bin_sections().as_slice());
     free.wrapping_add(placed_volume(outstanding, id)) == volume(whole)
 }
 
-fn are_whole(session: &TestSession<'_>) -> bool {
+fn are_whole(session: &TestSession) -> bool {
     for (id, bin) in session.bins() {
         if !is_whole(bin, *id, session.outstanding()) {
             return false;
@@ -102,9 +98,9 @@ fn are_whole(session: &TestSession<'_>) -> bool {
     true
 }
 
-fn obey<'a, H, C>(
-    alloc: &'a Refusing<Global>,
-    session: &mut TestSession<'a>,
+fn obey<H, C>(
+    alloc: Refusing,
+    session: &mut TestSession,
     order: &Order,
     heuristic: &H,
     comparison: &C,
@@ -120,10 +116,10 @@ where
 }
 
 // With these closures the commands are obeyed, and after each the volumes add up.
-fn obey_all<'a, H, C>(
+fn obey_all<H, C>(
     rt: &impl Abort,
-    alloc: &'a Refusing<Global>,
-    session: &mut TestSession<'a>,
+    alloc: Refusing,
+    session: &mut TestSession,
     heuristic: &H,
     comparison: &C,
 ) -> Result<(), Fail>
@@ -154,9 +150,9 @@ where
     C: Fn(Three, Three, &H) -> Ordering,
     requires { AreCallable H.Fn C.Fn heuristic.now comparison.now }
 {
-    let alloc = Refusing::new(alloc, u64::MAX);
-    let mut session = TestSession::new(&alloc, 0);
-    obey_all(rt, &alloc, &mut session, heuristic, comparison)
+    let alloc = Refusing::new(alloc, u64::MAX)?;
+    let mut session = TestSession::new(alloc, 0);
+    obey_all(rt, alloc, &mut session, heuristic, comparison)
 }
 
 // How the closures answer.

@@ -2,7 +2,6 @@
 
 use super::TestSession;
 use rectangle_pack::{Packed, RectToInsert, SessionError, contains_smallest_box, volume_heuristic};
-use std::alloc::Global;
 use std::process::Abort;
 use std::test::Fail;
 use tests_support::boxes::Rects;
@@ -11,12 +10,12 @@ use tests_support::refusing::Refusing;
 use tests_support::shapes::{has_list, place};
 
 // What a session answers to a packing, by volumes and smallest boxes.
-fn pack<'a>(session: &mut TestSession<'a>, rects: &Rects<'a>) -> Result<Packed, SessionError> {
+fn pack(session: &mut TestSession, rects: &Rects) -> Result<Packed, SessionError> {
     session.pack(rects, &volume_heuristic, &contains_smallest_box)
 }
 
 // Adds the bin 1 to the session and packs the box 5, which has no cells, into it.
-fn pack_empty<'a>(session: &mut TestSession<'a>, rects: &mut Rects<'a>) -> bool {
+fn pack_empty(session: &mut TestSession, rects: &mut Rects) -> bool {
     let empty = RectToInsert::new(0, 5, 1);
     rects.push_rect(5, None, empty).is_ok()
         && session.add_bin(1, 10, 10, 1).is_ok()
@@ -24,7 +23,7 @@ fn pack_empty<'a>(session: &mut TestSession<'a>, rects: &mut Rects<'a>) -> bool 
 }
 
 // Whether the session has the bin 1, all of it free, the next number 1, and so many placements.
-fn has_bin(session: &TestSession<'_>, placed: usize) -> bool {
+fn has_bin(session: &TestSession, placed: usize) -> bool {
     let list = &[[0, 0, 0, 10, 10, 1]];
     session.next_number() == 1
         && session.outstanding().len() == placed
@@ -35,7 +34,7 @@ fn has_bin(session: &TestSession<'_>, placed: usize) -> bool {
         }
 }
 
-fn has_empty(session: &TestSession<'_>) -> bool {
+fn has_empty(session: &TestSession) -> bool {
     match session.outstanding().first() {
         Some(placement) => {
             placement.number == 0
@@ -47,7 +46,7 @@ fn has_empty(session: &TestSession<'_>) -> bool {
     }
 }
 
-fn releases_empty(session: &mut TestSession<'_>) -> bool {
+fn releases_empty(session: &mut TestSession) -> bool {
     has_bin(session, 1)
         && has_empty(session)
         && session.release(1) == Err(SessionError::UnknownPlacement)
@@ -56,24 +55,19 @@ fn releases_empty(session: &mut TestSession<'_>) -> bool {
 }
 
 // Whether the packing of a box is refused where numbers are used up.
-fn refuses_past_the_end<'a>(alloc: &'a Refusing<Global>, rects: &Rects<'a>) -> bool {
+fn refuses_past_the_end(alloc: Refusing, rects: &Rects) -> bool {
     let mut session = TestSession::new(alloc, u64::MAX);
     pack(&mut session, rects) == Err(SessionError::NumbersUsedUp)
 }
 
 // Whether a packing of nothing is done.
-fn packs_no_rects<'a>(alloc: &'a Refusing<Global>, session: &mut TestSession<'a>) -> bool {
+fn packs_no_rects(alloc: Refusing, session: &mut TestSession) -> bool {
     let nothing = Rects::new(alloc);
     pack(session, &nothing) == Ok(Packed { first: 1, count: 0 })
 }
 
 // The session has a bin and a box without cells, which are those of `pack_empty`.
-fn calls_of_a_session<'a>(
-    rt: &impl Abort,
-    alloc: &'a Refusing<Global>,
-    session: &mut TestSession<'a>,
-    rects: &Rects<'a>,
-) {
+fn calls_of_a_session(rt: &impl Abort, alloc: Refusing, session: &mut TestSession, rects: &Rects) {
     assert_eq!(rt; alloc.left(), 0);
     assert!(rt; session.add_bin(1, 1, 1, 1) == Err(SessionError::DuplicateBin));
     assert!(rt; refuses_past_the_end(alloc, rects));
@@ -81,7 +75,7 @@ fn calls_of_a_session<'a>(
     assert!(rt; releases_empty(session));
 }
 
-fn calls_of_a_new_session(rt: &impl Abort, alloc: &Refusing<Global>) -> End {
+fn calls_of_a_new_session(rt: &impl Abort, alloc: Refusing) -> End {
     let mut rects = Rects::new(alloc);
     let mut session = TestSession::new(alloc, 0);
     if !pack_empty(&mut session, &mut rects) {

@@ -17,11 +17,7 @@ enum Came {
 }
 
 // Whether calls answer these replies.
-fn are_called<'a>(
-    replies: &[Reply],
-    session: &mut TestSession<'a>,
-    commands: &[TestCommand<'a>],
-) -> bool {
+fn are_called(replies: &[Reply], session: &mut TestSession, commands: &[TestCommand]) -> bool {
     for (reply, command) in replies.iter().zip(commands.iter()) {
         if *reply != call(session, command) {
             return false;
@@ -31,7 +27,7 @@ fn are_called<'a>(
 }
 
 // Whether the sessions have the same bins, free sections, placements and next number.
-fn are_alike<'a>(one: &TestSession<'a>, other: &TestSession<'a>) -> bool {
+fn are_alike(one: &TestSession, other: &TestSession) -> bool {
     for ((id, bin), (twin_id, twin)) in one.bins().iter().zip(other.bins().iter()) {
         if id != twin_id || bin.available_bin_sections() != twin.available_bin_sections() {
             return false;
@@ -54,11 +50,11 @@ fn are_wanted(replies: &[Reply], script: &Script) -> bool {
 
 // Each reply is what its call answers, and where the replies are those of the script, the session
 // is in the state that it is to be in after the last line.
-fn compare<'a>(
+fn compare(
     replies: &[Reply],
-    session: &TestSession<'a>,
-    twin: &mut TestSession<'a>,
-    commands: &[TestCommand<'a>],
+    session: &TestSession,
+    twin: &mut TestSession,
+    commands: &[TestCommand],
     script: &Script,
 ) -> Came {
     if !are_called(replies, twin, commands) || !are_alike(session, twin) {
@@ -75,11 +71,11 @@ fn compare<'a>(
 
 // Without room for the replies nothing is done. Else each reply is what its call answers with the
 // memory that the room for the replies leaves.
-fn run_beside_calls<'a>(
+fn run_beside_calls(
     has_room: bool,
-    session: &mut TestSession<'a>,
-    twin: &mut TestSession<'a>,
-    commands: &[TestCommand<'a>],
+    session: &mut TestSession,
+    twin: &mut TestSession,
+    commands: &[TestCommand],
     script: &Script,
 ) -> Came {
     match session.run(commands, &volume_heuristic, &contains_smallest_box) {
@@ -90,12 +86,7 @@ fn run_beside_calls<'a>(
 }
 
 // In two new sessions. Commands take their memory elsewhere.
-fn run_all<'a>(
-    plenty: &'a Refusing<Global>,
-    scarce: &'a Refusing<Global>,
-    left: &'a Refusing<Global>,
-    script: &Script,
-) -> Made<Came> {
+fn run_all(plenty: Refusing, scarce: Refusing, left: Refusing, script: &Script) -> Made<Came> {
     let commands = commands(plenty, script)?;
     let has_room = scarce.left() > 0;
     let mut session = TestSession::new(scarce, script.first);
@@ -112,10 +103,10 @@ fn run_all<'a>(
 // With so many requests granted, the run comes out so. All memory is given back. The run says that
 // memory was refused where it was, and only there.
 fn run_granted(rt: &impl Abort, alloc: Global, granted: u64, script: &Script) -> Made<Came> {
-    let plenty = Refusing::new(alloc, u64::MAX);
-    let scarce = Refusing::new(alloc, granted);
-    let left = Refusing::new(alloc, granted.saturating_sub(1));
-    let came = run_all(&plenty, &scarce, &left, script)?;
+    let plenty = Refusing::new(alloc, u64::MAX)?;
+    let scarce = Refusing::new(alloc, granted)?;
+    let left = Refusing::new(alloc, granted.saturating_sub(1))?;
+    let came = run_all(plenty, scarce, left, script)?;
     assert_eq!(rt; scarce.refused() == 0, matches!(came, Came::Out));
     assert_eq!(rt; (plenty.taken(), scarce.taken(), left.taken()), (0, 0, 0));
     Ok(came)

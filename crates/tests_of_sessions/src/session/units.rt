@@ -4,22 +4,19 @@ use super::{Commands, Made, TestSession};
 use rectangle_pack::{
     Command, CutStep, Packed, Reply, TargetBin, contains_smallest_box, volume_heuristic,
 };
-use std::alloc::Global;
 use std::process::Abort;
 use std::test::Fail;
 use tests_support::boxes::{Rects, push_units};
 use tests_support::refusing::Refusing;
 
-type Alloc<'a> = &'a Refusing<Global>;
-
-type Bin<'a> = TargetBin<Alloc<'a>>;
+type Bin = TargetBin<Refusing>;
 
 // How many free sections the bin has.
-fn free(bin: Option<&Bin<'_>>) -> Option<usize> {
+fn free(bin: Option<&Bin>) -> Option<usize> {
     Some(bin?.available_bin_sections().len())
 }
 
-fn push_bin_and_units<'a>(alloc: Alloc<'a>, commands: &mut Commands<'a>) -> Made<()> {
+fn push_bin_and_units(alloc: Refusing, commands: &mut Commands) -> Made<()> {
     commands.push(Command::AddBin {
         id: 0,
         width: 25,
@@ -32,7 +29,7 @@ fn push_bin_and_units<'a>(alloc: Alloc<'a>, commands: &mut Commands<'a>) -> Made
     Ok(())
 }
 
-fn push_releases(commands: &mut Commands<'_>) -> Made<()> {
+fn push_releases(commands: &mut Commands) -> Made<()> {
     for number in 0..500u64 {
         commands.push(Command::Release(number))?;
     }
@@ -40,7 +37,7 @@ fn push_releases(commands: &mut Commands<'_>) -> Made<()> {
 }
 
 // What these commands reply.
-fn run<'a>(session: &mut TestSession<'a>, commands: &Commands<'a>) -> Made<Vec<Reply, Alloc<'a>>> {
+fn run(session: &mut TestSession, commands: &Commands) -> Made<Vec<Reply, Refusing>> {
     session.run(
         commands.as_slice(),
         &volume_heuristic,
@@ -49,7 +46,7 @@ fn run<'a>(session: &mut TestSession<'a>, commands: &Commands<'a>) -> Made<Vec<R
 }
 
 // A new session runs the commands that fill the bin.
-fn fills<'a>(rt: &impl Abort, alloc: Alloc<'a>, session: &mut TestSession<'a>) -> Made<()> {
+fn fills(rt: &impl Abort, alloc: Refusing, session: &mut TestSession) -> Made<()> {
     let mut commands = Vec::new(alloc);
     push_bin_and_units(alloc, &mut commands)?;
     let replies = run(session, &commands)?;
@@ -71,7 +68,7 @@ fn are_done(replies: &[Reply]) -> bool {
 }
 
 // Then it runs the commands that release all boxes.
-fn empties<'a>(rt: &impl Abort, alloc: Alloc<'a>, session: &mut TestSession<'a>) -> Made<()> {
+fn empties(rt: &impl Abort, alloc: Refusing, session: &mut TestSession) -> Made<()> {
     let mut commands = Vec::new(alloc);
     push_releases(&mut commands)?;
     let replies = run(session, &commands)?;
@@ -92,14 +89,14 @@ fn leaves(plan: &[CutStep]) -> usize {
 }
 
 // The plan of the full bin has a leaf for each box.
-fn has_leaf_for_each_box(session: &TestSession<'_>) -> bool {
+fn has_leaf_for_each_box(session: &TestSession) -> bool {
     match session.cut_plan(&0) {
         Ok(Some(plan)) => leaves(plan.as_slice()) == 500 && plan.len() == 999,
         _ => false,
     }
 }
 
-fn one_session(rt: &impl Abort, alloc: Alloc<'_>) -> Made<()> {
+fn one_session(rt: &impl Abort, alloc: Refusing) -> Made<()> {
     let mut session = TestSession::new(alloc, 0);
     fills(rt, alloc, &mut session)?;
     assert!(rt; has_leaf_for_each_box(&session));
@@ -109,8 +106,8 @@ fn one_session(rt: &impl Abort, alloc: Alloc<'_>) -> Made<()> {
 // All memory is given back.
 #[test]
 fn units_fill_a_bin(rt: HostRuntime) -> Result<(), Fail> {
-    let alloc = Refusing::new(rt.alloc(), u64::MAX);
-    one_session(&rt, &alloc)?;
+    let alloc = Refusing::new(rt.alloc(), u64::MAX)?;
+    one_session(&rt, alloc)?;
     assert_eq!(rt; alloc.taken(), 0);
     Ok(())
 }

@@ -72,8 +72,8 @@ fn plans(rt: HostRuntime) -> Result<(), Fail> {
     let script = script();
     let mut refused = [false; 21];
     for granted in 0..200u64 {
-        let refusing = Refusing::new(rt.alloc(), granted);
-        let (step, came) = play_all(&refusing, script);
+        let refusing = Refusing::new(rt.alloc(), granted)?;
+        let (step, came) = play_all(refusing, script);
         assert_eq!(rt; refusing.taken(), 0);
         assert_eq!(rt; refusing.refused() == 0, matches!(came, Came::Out));
         match came {
