@@ -3,8 +3,10 @@
 //! level is unloaded, and the sprites of the next one go where its sprites were.
 #![tactic(auto)]
 
-use rectangle_pack::{GroupedRectsToPlace, Heuristic, RectToInsert, Session, SessionError};
-use std::alloc::Global;
+use rectangle_pack::{
+    GroupedRectsToPlace, Heuristic, Outstanding, RectToInsert, Session, SessionError,
+};
+use std::alloc::{AllocError, Global};
 use std::io;
 
 // The side of a page, in pixels, and how many pages there may be.
@@ -40,60 +42,91 @@ const CAVE: [Kind; 4] = [
 // The name of a sprite: its kind, and its number among these.
 type Sprite = (&'static str, u32);
 
+type Sprites = GroupedRectsToPlace<Sprite, &'static str>;
+
 type Atlas = Session<Sprite, u32>;
 
-// Packs the kinds with the best of the heuristics, onto new pages where those that are there do not
-// take them; which one it is.
+// Adds the sprites of a kind, as a group.
+fn add_kind(sprites: &mut Sprites, kind: &Kind, alloc: Global) -> Result<(), AllocError> {
+    let (name, count, width, height) = *kind;
+    for number in 0..count {
+        let group = vec![in alloc; name]?;
+        let size = RectToInsert::new(width, height, 1);
+        sprites.push_rect((name, number), Some(group), size)?;
+    }
+    Ok(())
+}
+
+fn add_kinds(sprites: &mut Sprites, kinds: &[Kind], alloc: Global) -> Result<(), AllocError> {
+    for kind in kinds {
+        add_kind(sprites, kind, alloc)?;
+    }
+    Ok(())
+}
+
+fn add_page(atlas: &mut Atlas, page: u32) -> Result<(), SessionError> {
+    match atlas.add_bin(page, PAGE, PAGE, 1) {
+        Err(SessionError::DuplicateBin) => Ok(()),
+        added => added,
+    }
+}
+
+// Packs the sprites with the best of the heuristics, onto new pages where those that are there do
+// not take them; which one it is.
+fn pack(
+    atlas: &mut Atlas,
+    sprites: &Sprites,
+    heuristics: &[Heuristic],
+) -> Result<Heuristic, SessionError> {
+    for page in 1..=MOST_PAGES {
+        match atlas.pack_best(sprites, heuristics) {
+            Err(SessionError::NotEnoughBinSpace) => add_page(atlas, page)?,
+            packed => return packed.map(|(best, _)| best),
+        }
+    }
+    Err(SessionError::NotEnoughBinSpace)
+}
+
+// Packs the sprites of these kinds, as `pack` does.
 fn load(
     atlas: &mut Atlas,
     kinds: &[Kind],
     heuristics: &[Heuristic],
     alloc: Global,
 ) -> Result<Heuristic, SessionError> {
-    let mut sprites = GroupedRectsToPlace::new(alloc);
-    for (name, count, width, height) in kinds {
-        for number in 0..*count {
-            let group = vec![in alloc; *name]?;
-            sprites.push_rect(
-                (*name, number),
-                Some(group),
-                RectToInsert::new(*width, *height, 1),
-            )?;
-        }
-    }
-    for page in 1..=MOST_PAGES {
-        match atlas.pack_best(&sprites, heuristics) {
-            Err(SessionError::NotEnoughBinSpace) => {}
-            packed => {
-                let (best, _) = packed?;
-                return Ok(best);
-            }
-        }
-        match atlas.add_bin(page, PAGE, PAGE, 1) {
-            Ok(()) | Err(SessionError::DuplicateBin) => {}
-            Err(error) => return Err(error),
-        }
-    }
-    Err(SessionError::NotEnoughBinSpace)
+    let mut sprites: Sprites = GroupedRectsToPlace::new(alloc);
+    add_kinds(&mut sprites, kinds, alloc)?;
+    pack(atlas, &sprites, heuristics)
 }
 
-// Releases the sprites of these kinds, and joins what is free.
-fn unload(atlas: &mut Atlas, kinds: &[Kind], alloc: Global) -> Result<(), SessionError> {
+// The numbers of the sprites of these kinds.
+fn numbers(atlas: &Atlas, kinds: &[Kind], alloc: Global) -> Result<Vec<u64>, AllocError> {
     let mut numbers = Vec::new(alloc);
     for placed in atlas.outstanding() {
         if kinds.iter().any(|kind| kind.0 == placed.id.0) {
             numbers.push(placed.number)?;
         }
     }
-    for number in &numbers {
-        atlas.release(*number)?;
-    }
+    Ok(numbers)
+}
+
+// Joins what is free, page by page.
+fn join(atlas: &mut Atlas) -> Result<(), SessionError> {
     for page in 1..=MOST_PAGES {
         if atlas.bins().contains_key(&page) {
             atlas.coalesce_all(&page)?;
         }
     }
     Ok(())
+}
+
+// Releases the sprites of these kinds, and joins what is free.
+fn unload(atlas: &mut Atlas, kinds: &[Kind], alloc: Global) -> Result<(), SessionError> {
+    let numbers = numbers(atlas, kinds, alloc)?;
+    for number in &numbers {
+        atlas.release(*number)?;
+    }
+    join(atlas)
 }
 
 // How full a page is, in percent.
@@ -105,38 +138,44 @@ fn filled(atlas: &Atlas, page: u32) -> u128 {
     part.checked_div(stats.bin_volume).unwrap_or(0)
 }
 
-// Prints how full the pages are, beside those that are packed by volume.
-fn compare(rt: &HostRuntime, best: Heuristic, atlas: &Atlas, by_volume: &Atlas) -> io::Result<()> {
-    print!(rt; "the last sprites packed by {best}:")?;
+fn print_filled(rt: &HostRuntime, atlas: &Atlas) -> io::Result<()> {
     for page in atlas.bins().keys() {
         print!(rt; " {}%", filled(atlas, *page))?;
     }
+    Ok(())
+}
+
+// Prints how full the pages are, beside those that are packed by volume.
+fn compare(rt: &HostRuntime, best: Heuristic, atlas: &Atlas, by_volume: &Atlas) -> io::Result<()> {
+    print!(rt; "the last sprites packed by {best}:")?;
+    print_filled(rt, atlas)?;
     print!(rt; ", all by volume:")?;
-    for page in by_volume.bins().keys() {
-        print!(rt; " {}%", filled(by_volume, *page))?;
-    }
+    print_filled(rt, by_volume)?;
     println!(rt; "\n")
 }
 
-// Prints how full each page is, and where each sprite is.
-fn print(rt: &HostRuntime, title: &str, atlas: &Atlas) -> io::Result<()> {
-    println!(rt; "== {title}")?;
+// Prints how full each page is.
+fn print_pages(rt: &HostRuntime, atlas: &Atlas) -> io::Result<()> {
     for page in atlas.bins().keys() {
         let filled = filled(atlas, *page);
         println!(rt; "bin page-{page} {PAGE} {PAGE} 1 ({filled}% filled)")?;
     }
-    println!(rt; "")?;
+    println!(rt; "")
+}
+
+// Prints where a sprite is.
+fn print_sprite(rt: &HostRuntime, placed: &Outstanding<Sprite, u32>) -> io::Result<()> {
+    let (number, (kind, nth), page) = (placed.number, placed.id, placed.bin);
+    let at = &placed.location;
+    let (x, y, w, h) = (at.x(), at.y(), at.width(), at.height());
+    let name = format!(in rt.alloc(); "{kind}-{nth}")?;
+    println!(rt; "{number:>5} {name:<11} page-{page} {x:>4} {y:>4} 0 {w:>4} {h:>4} 1 {kind}")
+}
+
+fn print_sprites(rt: &HostRuntime, atlas: &Atlas) -> io::Result<()> {
     println!(rt; "  no. sprite      page      x    y z    w    h d kind")?;
     for placed in atlas.outstanding() {
-        let (number, (kind, nth), page, at) = (
-            placed.number,
-            placed.id,
-            placed.bin,
-            &placed.location,
-        );
-        let name = format!(in rt.alloc(); "{kind}-{nth}")?;
-        let (x, y, w, h) = (at.x(), at.y(), at.width(), at.height());
-        println!(rt; "{number:>5} {name:<11} page-{page} {x:>4} {y:>4} 0 {w:>4} {h:>4} 1 {kind}")?;
+        print_sprite(rt, placed)?;
     }
     println!(rt; "")
 }
@@ -151,17 +190,23 @@ fn play(
 ) -> io::Result<()> {
     load(by_volume, kinds, &[Heuristic::Volume], rt.alloc())?;
     let best = load(atlas, kinds, &Heuristic::ALL, rt.alloc())?;
-    print(rt, title, atlas)?;
+    println!(rt; "== {title}")?;
+    print_pages(rt, atlas)?;
+    print_sprites(rt, atlas)?;
     compare(rt, best, atlas, by_volume)
 }
 
+// Plays both levels, and unloads the first one between them.
+fn play_levels(rt: &HostRuntime, atlas: &mut Atlas, by_volume: &mut Atlas) -> io::Result<()> {
+    load(by_volume, &ALWAYS, &[Heuristic::Volume], rt.alloc())?;
+    load(atlas, &ALWAYS, &Heuristic::ALL, rt.alloc())?;
+    play(rt, "the forest", &FOREST, atlas, by_volume)?;
+    unload(atlas, &FOREST, rt.alloc())?;
+    unload(by_volume, &FOREST, rt.alloc())?;
+    play(rt, "the cave", &CAVE, atlas, by_volume)
+}
+
 fn main(rt: HostRuntime) -> io::Result<()> {
-    let alloc = rt.alloc();
-    let (mut atlas, mut by_volume) = (Session::new(alloc, 0), Session::new(alloc, 0));
-    load(&mut by_volume, &ALWAYS, &[Heuristic::Volume], alloc)?;
-    load(&mut atlas, &ALWAYS, &Heuristic::ALL, alloc)?;
-    play(&rt, "the forest", &FOREST, &mut atlas, &mut by_volume)?;
-    unload(&mut atlas, &FOREST, alloc)?;
-    unload(&mut by_volume, &FOREST, alloc)?;
-    play(&rt, "the cave", &CAVE, &mut atlas, &mut by_volume)
+    let (mut atlas, mut by_volume) = (Session::new(rt.alloc(), 0), Session::new(rt.alloc(), 0));
+    play_levels(&rt, &mut atlas, &mut by_volume)
 }

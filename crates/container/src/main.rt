@@ -3,8 +3,8 @@
 #![tactic(auto)]
 
 use rectangle_pack::{
-    Group, GroupedRectsToPlace, RectToInsert, Session, SessionError, contains_smallest_box,
-    volume_heuristic,
+    BinStats, Group, GroupedRectsToPlace, Outstanding, RectToInsert, Session, SessionError,
+    contains_smallest_box, volume_heuristic,
 };
 use std::alloc::{AllocError, Global};
 use std::io;
@@ -34,77 +34,100 @@ const LOTS: [Lot; 9] = [
 // A crate is known by its customer, its lot and its number in the lot.
 type Crate = (&'static str, u32, u32);
 
+type Crates = GroupedRectsToPlace<Crate, &'static str>;
+
 type Loading = Session<Crate, u32>;
 
-// The crates, by customer. Paint and dairy products may not share a container.
-fn crates(alloc: Global) -> Result<GroupedRectsToPlace<Crate, &'static str>, AllocError> {
-    let mut crates = GroupedRectsToPlace::new(alloc);
-    for (lot, (customer, count, width, height, depth)) in (1..).zip(&LOTS) {
-        for nth in 1..=*count {
-            let group = vec![in alloc; *customer]?;
-            let size = RectToInsert::new(*width, *height, *depth);
-            crates.push_rect((*customer, lot, nth), Some(group), size)?;
-        }
-    }
-    crates.exclude(Group::Grouped("paint"), Group::Grouped("dairy"))?;
-    Ok(crates)
-}
-
-// Prints the statistics of each container, in litres, and where each crate stands.
-fn print(rt: &HostRuntime, loading: &Loading) -> io::Result<()> {
-    println!(rt; "== loaded")?;
-    for container in loading.bins().keys() {
-        if let Some(stats) = loading.stats(container) {
-            let part = stats.placed_volume.saturating_mul(100);
-            let percent = part.checked_div(stats.bin_volume).unwrap_or(0);
-            println!(rt;
-                "bin container-{container} {WIDTH} {HEIGHT} {LENGTH} ({percent}% filled)"
-            )?;
-            println!(rt;
-                "    {:>2} crates: {} l",
-                stats.placements, stats.placed_volume
-            )?;
-            println!(rt;
-                "    {:>2} free sections: {} l",
-                stats.free_sections, stats.free_volume
-            )?;
-        }
-    }
-    println!(rt; "\n no. crate      container     x  y  z   w  h  d customer")?;
-    for placed in loading.outstanding() {
-        let (number, (customer, lot, nth), container) = (placed.number, placed.id, placed.bin);
-        let name = format!(in rt.alloc(); "{customer}-{lot}.{nth}")?;
-        let at = &placed.location;
-        print!(rt;
-            "{number:>4} {name:<10} container-{container} {:>3} {:>2} {:>2}",
-            at.x(),
-            at.y(),
-            at.z()
-        )?;
-        println!(rt;
-            " {:>3} {:>2} {:>2} {customer}",
-            at.width(),
-            at.height(),
-            at.depth()
-        )?;
+// Adds the crates of a lot, to the group of its customer.
+fn add_lot(crates: &mut Crates, number: u32, lot: &Lot, alloc: Global) -> Result<(), AllocError> {
+    let (customer, count, width, height, depth) = *lot;
+    for nth in 1..=count {
+        let group = vec![in alloc; customer]?;
+        let size = RectToInsert::new(width, height, depth);
+        crates.push_rect((customer, number, nth), Some(group), size)?;
     }
     Ok(())
 }
 
-fn main(rt: HostRuntime) -> io::Result<()> {
-    let crates = crates(rt.alloc())?;
-    let mut loading = Session::new(rt.alloc(), 1);
+// Adds all lots. Paint and dairy products may not share a container.
+fn add_lots(crates: &mut Crates, alloc: Global) -> Result<(), AllocError> {
+    for (number, lot) in (1..).zip(&LOTS) {
+        add_lot(crates, number, lot, alloc)?;
+    }
+    crates.exclude(Group::Grouped("paint"), Group::Grouped("dairy"))
+}
+
+// Packs all crates, and orders another container where those that are there are not enough.
+fn pack(rt: &HostRuntime, loading: &mut Loading, crates: &Crates) -> io::Result<()> {
     for container in 1..=6 {
         loading.add_bin(container, WIDTH, HEIGHT, LENGTH)?;
-        match loading.pack(&crates, &volume_heuristic, &contains_smallest_box) {
+        match loading.pack(crates, &volume_heuristic, &contains_smallest_box) {
             Err(SessionError::NotEnoughBinSpace) => {
                 println!(rt; "refused: container {container} is not enough, one more is ordered")?;
             }
-            packed => {
-                println!(rt; "packed: {} crates", packed?.count)?;
-                return print(&rt, &loading);
-            }
+            packed => return println!(rt; "packed: {} crates", packed?.count),
         }
     }
     Err(SessionError::NotEnoughBinSpace.into())
+}
+
+fn load(rt: &HostRuntime, loading: &mut Loading) -> io::Result<()> {
+    let mut crates: Crates = GroupedRectsToPlace::new(rt.alloc());
+    add_lots(&mut crates, rt.alloc())?;
+    pack(rt, loading, &crates)
+}
+
+// Prints the statistics of a container, in litres.
+fn print_container(rt: &HostRuntime, container: u32, stats: BinStats) -> io::Result<()> {
+    let part = stats.placed_volume.saturating_mul(100);
+    let percent = part.checked_div(stats.bin_volume).unwrap_or(0);
+    println!(rt; "bin container-{container} {WIDTH} {HEIGHT} {LENGTH} ({percent}% filled)")?;
+    println!(rt;
+        "    {:>2} crates: {} l",
+        stats.placements, stats.placed_volume
+    )?;
+    println!(rt;
+        "    {:>2} free sections: {} l",
+        stats.free_sections, stats.free_volume
+    )
+}
+
+fn print_containers(rt: &HostRuntime, loading: &Loading) -> io::Result<()> {
+    for container in loading.bins().keys() {
+        if let Some(stats) = loading.stats(container) {
+            print_container(rt, *container, stats)?;
+        }
+    }
+    Ok(())
+}
+
+// Prints where a crate stands, and its size.
+fn print_crate(rt: &HostRuntime, placed: &Outstanding<Crate, u32>) -> io::Result<()> {
+    let (number, (customer, lot, nth), container) = (placed.number, placed.id, placed.bin);
+    let name = format!(in rt.alloc(); "{customer}-{lot}.{nth}")?;
+    let at = &placed.location;
+    let (x, y, z) = (at.x(), at.y(), at.z());
+    let (w, h, d) = (at.width(), at.height(), at.depth());
+    print!(rt; "{number:>4} {name:<10} container-{container} {x:>3} {y:>2} {z:>2}")?;
+    println!(rt; " {w:>3} {h:>2} {d:>2} {customer}")
+}
+
+fn print_crates(rt: &HostRuntime, loading: &Loading) -> io::Result<()> {
+    println!(rt; "\n no. crate      container     x  y  z   w  h  d customer")?;
+    for placed in loading.outstanding() {
+        print_crate(rt, placed)?;
+    }
+    Ok(())
+}
+
+fn print(rt: &HostRuntime, loading: &Loading) -> io::Result<()> {
+    println!(rt; "== loaded")?;
+    print_containers(rt, loading)?;
+    print_crates(rt, loading)
+}
+
+fn main(rt: HostRuntime) -> io::Result<()> {
+    let mut loading = Session::new(rt.alloc(), 1);
+    load(&rt, &mut loading)?;
+    print(&rt, &loading)
 }

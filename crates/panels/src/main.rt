@@ -4,8 +4,8 @@
 #![tactic(auto)]
 
 use rectangle_pack::{
-    Axis, CutStep, GroupedRectsToPlace, Heuristic, RectToInsert, Session, SessionError,
-    WidthHeightDepth, contains_smallest_box, volume_heuristic,
+    Axis, BinStats, CutStep, GroupedRectsToPlace, Heuristic, Outstanding, RectToInsert, Session,
+    SessionError, WidthHeightDepth, contains_smallest_box, volume_heuristic,
 };
 use std::alloc::{AllocError, Global};
 use std::cmp::Ordering;
@@ -31,7 +31,12 @@ const ORDER: [Panels; 6] = [
 // A panel is known by the name of its size and its number among those of that size.
 type Panel = (&'static str, u32);
 
+type Order = GroupedRectsToPlace<Panel, u32>;
+
 type Cutting = Session<Panel, u32>;
+
+// A part of a sheet, by its left, lower, right and upper end.
+type Part = (u32, u32, u32, u32);
 
 fn longest_side(pieces: [WidthHeightDepth; 3]) -> u32 {
     let sides = pieces.iter().map(|piece| piece.width().max(piece.height()));
@@ -51,82 +56,149 @@ fn five_sheets(alloc: Global) -> Result<Cutting, SessionError> {
     Ok(cutting)
 }
 
-fn panels(order: &[Panels], alloc: Global) -> Result<GroupedRectsToPlace<Panel, u32>, AllocError> {
-    let mut panels = GroupedRectsToPlace::new(alloc);
-    for (name, count, width, height) in order {
-        for number in 1..=*count {
-            panels.push_rect((*name, number), None, RectToInsert::new(*width, *height, 1))?;
-        }
-    }
-    Ok(panels)
+// Cuts the order by the shop's rule.
+fn cut_by_rule(cutting: &mut Cutting, order: &Order) -> Result<(), SessionError> {
+    cutting.pack(order, &volume_heuristic, &longest_strip)?;
+    Ok(())
 }
 
-// Prints the sheets with their waste, and where each panel is.
-fn print(rt: &HostRuntime, title: &str, cutting: &Cutting) -> io::Result<()> {
-    println!(rt; "== {title}")?;
+// Adds the panels of one size.
+fn add_panels(order: &mut Order, panels: &Panels) -> Result<(), AllocError> {
+    let (name, count, width, height) = *panels;
+    for number in 1..=count {
+        order.push_rect((name, number), None, RectToInsert::new(width, height, 1))?;
+    }
+    Ok(())
+}
+
+fn order(sizes: &[Panels], alloc: Global) -> Result<Order, AllocError> {
+    let mut order = GroupedRectsToPlace::new(alloc);
+    for panels in sizes {
+        add_panels(&mut order, panels)?;
+    }
+    Ok(order)
+}
+
+// Prints a sheet with its waste.
+fn print_sheet(rt: &HostRuntime, sheet: u32, stats: BinStats) -> io::Result<()> {
+    let part = stats.free_volume.saturating_mul(100);
+    let waste = part.checked_div(stats.bin_volume).unwrap_or(0);
+    println!(rt; "bin sheet-{sheet} {WIDTH} {HEIGHT} 1 ({waste}% waste)")
+}
+
+fn print_sheets(rt: &HostRuntime, cutting: &Cutting) -> io::Result<()> {
     for sheet in cutting.bins().keys() {
         if let Some(stats) = cutting.stats(sheet) {
-            let part = stats.free_volume.saturating_mul(100);
-            let waste = part.checked_div(stats.bin_volume).unwrap_or(0);
-            println!(rt; "bin sheet-{sheet} {WIDTH} {HEIGHT} 1 ({waste}% waste)")?;
+            print_sheet(rt, *sheet, stats)?;
         }
-    }
-    println!(rt; "\n  no. panel      sheet      x    y z    w    h d size")?;
-    for placed in cutting.outstanding() {
-        let (no, (size, nth), sheet, at) = (placed.number, placed.id, placed.bin, &placed.location);
-        let name = format!(in rt.alloc(); "{size}-{nth}")?;
-        let (x, y, w, h) = (at.x(), at.y(), at.width(), at.height());
-        println!(rt; "{no:>5} {name:<10} sheet-{sheet} {x:>4} {y:>4} 0 {w:>4} {h:>4} 1 {size}")?;
     }
     println!(rt; "")
 }
 
-// Prints the cutting plan of a sheet. Parts wait on a pile, by left, lower, right and upper ends.
-fn print_steps(rt: &HostRuntime, sheet: u32, cutting: &Cutting) -> io::Result<()> {
-    println!(rt; "-- sheet {sheet}")?;
-    let Some(plan) = cutting.cut_plan(&sheet)? else {
-        return println!(rt; "no straight cuts part it");
-    };
+// Prints where a panel is.
+fn print_panel(rt: &HostRuntime, placed: &Outstanding<Panel, u32>) -> io::Result<()> {
+    let (no, (size, nth), sheet, at) = (placed.number, placed.id, placed.bin, &placed.location);
+    let (x, y, w, h) = (at.x(), at.y(), at.width(), at.height());
+    let name = format!(in rt.alloc(); "{size}-{nth}")?;
+    println!(rt; "{no:>5} {name:<10} sheet-{sheet} {x:>4} {y:>4} 0 {w:>4} {h:>4} 1 {size}")
+}
+
+fn print_panels(rt: &HostRuntime, cutting: &Cutting) -> io::Result<()> {
+    println!(rt; "  no. panel      sheet      x    y z    w    h d size")?;
+    for placed in cutting.outstanding() {
+        print_panel(rt, placed)?;
+    }
+    println!(rt; "")
+}
+
+// Prints the sheets with their waste, and where each panel is.
+fn print(rt: &HostRuntime, cutting: &Cutting) -> io::Result<()> {
+    print_sheets(rt, cutting)?;
+    print_panels(rt, cutting)
+}
+
+// Prints a cut of a part, and puts what it leaves onto the pile.
+fn print_cut(
+    rt: &HostRuntime,
+    axis: Axis,
+    place: u32,
+    part: Part,
+    pile: &mut Vec<Part>,
+) -> io::Result<()> {
+    let (left, low, right, high) = part;
+    if axis == Axis::X {
+        println!(rt; "cut {} mm from the left", place.abs_diff(left))?;
+        pile.push((place, low, right, high))?;
+        pile.push((left, low, place, high))?;
+    } else {
+        println!(rt; "cut {} mm from below", place.abs_diff(low))?;
+        pile.push((left, place, right, high))?;
+        pile.push((left, low, right, place))?;
+    }
+    Ok(())
+}
+
+// Prints what a part is that is not cut: a panel, or an offcut.
+fn print_leaf(rt: &HostRuntime, sheet: u32, part: Part, cutting: &Cutting) -> io::Result<()> {
+    let (left, low, _, _) = part;
+    let mut placed = cutting.outstanding().iter().filter(|it| it.bin == sheet);
+    match placed.find(|it| it.location.x() == left && it.location.y() == low) {
+        Some(it) => println!(rt; "is {}-{}", it.id.0, it.id.1),
+        None => println!(rt; "is an offcut"),
+    }
+}
+
+// Prints the steps of a sheet's cutting plan. Parts wait on a pile.
+fn print_steps(
+    rt: &HostRuntime,
+    sheet: u32,
+    plan: &[CutStep],
+    cutting: &Cutting,
+) -> io::Result<()> {
     let mut pile = vec![in rt.alloc(); (0, 0, WIDTH, HEIGHT)]?;
-    for (i, step) in (1..).zip(&plan) {
-        let Some((left, low, right, high)) = pile.pop() else {
-            break
-        };
-        let (w, h) = (right.abs_diff(left), high.abs_diff(low));
+    for (i, step) in (1..).zip(plan) {
+        let Some(part) = pile.pop() else { break };
+        let (w, h) = (part.2.abs_diff(part.0), part.3.abs_diff(part.1));
         print!(rt; "{i:>4}. {w:>4} x {h:<4} ")?;
-        if let CutStep::Cut { axis, place } = *step {
-            if axis == Axis::X {
-                println!(rt; "cut {} mm from the left", place.abs_diff(left))?;
-                pile.push((place, low, right, high))?;
-                pile.push((left, low, place, high))?;
-            } else {
-                println!(rt; "cut {} mm from below", place.abs_diff(low))?;
-                pile.push((left, place, right, high))?;
-                pile.push((left, low, right, place))?;
-            }
-            continue;
-        }
-        let mut placed = cutting.outstanding().iter().filter(|it| it.bin == sheet);
-        match placed.find(|it| it.location.x() == left && it.location.y() == low) {
-            Some(it) => println!(rt; "is {}-{}", it.id.0, it.id.1)?,
-            None => println!(rt; "is an offcut")?,
+        match *step {
+            CutStep::Cut { axis, place } => print_cut(rt, axis, place, part, &mut pile)?,
+            CutStep::Leaf => print_leaf(rt, sheet, part, cutting)?,
         }
     }
     Ok(())
 }
 
-// Gives two sides back, joins what they leave, and cuts a desk from it.
-fn exchange(rt: &HostRuntime, cutting: &mut Cutting) -> io::Result<()> {
-    for panel in [("side", 1), ("side", 2)] {
-        if let Some(off) = cutting.outstanding().iter().find(|it| it.id == panel) {
-            let (number, sheet) = (off.number, off.bin);
-            cutting.release(number)?;
-            cutting.coalesce_all(&sheet)?;
-        }
+fn print_plan(rt: &HostRuntime, sheet: u32, cutting: &Cutting) -> io::Result<()> {
+    println!(rt; "-- sheet {sheet}")?;
+    match cutting.cut_plan(&sheet)? {
+        Some(plan) => print_steps(rt, sheet, plan.as_slice(), cutting),
+        None => println!(rt; "no straight cuts part it"),
     }
-    let desk = panels(&[("desk", 1, 1100, 700)], rt.alloc())?;
-    cutting.pack(&desk, &volume_heuristic, &longest_strip)?;
-    print(rt, "two sides are called off for a desk", cutting)
+}
+
+fn print_plans(rt: &HostRuntime, cutting: &Cutting) -> io::Result<()> {
+    for sheet in cutting.bins().keys() {
+        print_plan(rt, *sheet, cutting)?;
+    }
+    Ok(())
+}
+
+// Gives a panel back, and joins what it leaves.
+fn call_off(cutting: &mut Cutting, panel: Panel) -> Result<(), SessionError> {
+    let Some(off) = cutting.outstanding().iter().find(|it| it.id == panel) else {
+        return Ok(());
+    };
+    let (number, sheet) = (off.number, off.bin);
+    cutting.release(number)?;
+    cutting.coalesce_all(&sheet)
+}
+
+// Gives two sides back, and cuts a desk from what they leave.
+fn exchange(cutting: &mut Cutting, alloc: Global) -> Result<(), SessionError> {
+    call_off(cutting, ("side", 1))?;
+    call_off(cutting, ("side", 2))?;
+    let desk = order(&[("desk", 1, 1100, 700)], alloc)?;
+    cut_by_rule(cutting, &desk)
 }
 
 // How many sheets have panels.
@@ -137,35 +209,51 @@ fn used(cutting: &Cutting) -> usize {
         .count()
 }
 
+// How many sheets the order takes with a heuristic.
+fn sheets_by(heuristic: Heuristic, order: &Order, alloc: Global) -> Result<usize, SessionError> {
+    let mut cutting = five_sheets(alloc)?;
+    let rate = |whd: WidthHeightDepth| heuristic.rate(whd);
+    cutting.pack(order, &rate, &contains_smallest_box)?;
+    Ok(used(&cutting))
+}
+
 // Prints how many sheets the order takes with each of the library's heuristics.
-fn compare(rt: &HostRuntime, order: &GroupedRectsToPlace<Panel, u32>) -> io::Result<()> {
+fn compare(rt: &HostRuntime, order: &Order) -> io::Result<()> {
     for heuristic in &Heuristic::ALL {
-        let mut cutting = five_sheets(rt.alloc())?;
-        let rate = |whd: WidthHeightDepth| heuristic.rate(whd);
-        cutting.pack(order, &rate, &contains_smallest_box)?;
-        println!(rt; "{heuristic}: {} sheets", used(&cutting))?;
+        let sheets = sheets_by(*heuristic, order, rt.alloc())?;
+        println!(rt; "{heuristic}: {sheets} sheets")?;
     }
     println!(rt; "")
 }
 
 // Cuts the order with the best of these.
-fn by_the_best(rt: &HostRuntime, order: &GroupedRectsToPlace<Panel, u32>) -> io::Result<()> {
+fn by_the_best(rt: &HostRuntime, order: &Order) -> io::Result<()> {
     let mut cutting = five_sheets(rt.alloc())?;
     let (best, _) = cutting.pack_best(order, &Heuristic::ALL)?;
-    let title = format!(in rt.alloc(); "the best of all heuristics, {best}")?;
-    print(rt, title.as_str(), &cutting)
+    println!(rt; "== the best of all heuristics, {best}")?;
+    print(rt, &cutting)
+}
+
+// Cuts the order by the shop's rule, exchanges panels, and plans the cuts.
+fn by_the_rule(rt: &HostRuntime, order: &Order, cutting: &mut Cutting) -> io::Result<()> {
+    cut_by_rule(cutting, order)?;
+    println!(rt; "== the shop's rule, the longest strip")?;
+    print(rt, cutting)?;
+    exchange(cutting, rt.alloc())?;
+    println!(rt; "== two sides are called off for a desk")?;
+    print(rt, cutting)?;
+    print_plans(rt, cutting)
+}
+
+// Cuts the order in each of these ways.
+fn cut(rt: &HostRuntime, order: &Order) -> io::Result<()> {
+    compare(rt, order)?;
+    by_the_best(rt, order)?;
+    let mut cutting = five_sheets(rt.alloc())?;
+    by_the_rule(rt, order, &mut cutting)
 }
 
 fn main(rt: HostRuntime) -> io::Result<()> {
-    let order = panels(&ORDER, rt.alloc())?;
-    compare(&rt, &order)?;
-    by_the_best(&rt, &order)?;
-    let mut cutting = five_sheets(rt.alloc())?;
-    cutting.pack(&order, &volume_heuristic, &longest_strip)?;
-    print(&rt, "the shop's rule, the longest strip", &cutting)?;
-    exchange(&rt, &mut cutting)?;
-    for sheet in cutting.bins().keys() {
-        print_steps(&rt, *sheet, &cutting)?;
-    }
-    Ok(())
+    let order = order(&ORDER, rt.alloc())?;
+    cut(&rt, &order)
 }
