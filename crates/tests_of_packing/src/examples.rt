@@ -1,10 +1,10 @@
-//! The examples of the README and of the library's documentation, but those of sessions.
+//! The examples of the library's documentation, but those of sessions. One has several blocks, and
+//! so it stands in several functions.
 
-use crate::pack::{add_bin, pack};
 use rectangle_pack::{
-    BinSection, FitTests, Group, GroupedRectsToPlace, Heuristic, Placement, RectToInsert,
-    RectanglePackOk, TargetBin, WidthHeightDepth, contains_smallest_box, pack_rects,
-    pack_rects_best, volume_heuristic, volume_packing_has_one_result,
+    BinSection, FitTests, Group, GroupedRectsToPlace, Heuristic, RectToInsert, RectanglePackOk,
+    TargetBin, WidthHeightDepth, contains_smallest_box, pack_rects, pack_rects_best,
+    volume_heuristic, volume_packing_has_one_result,
 };
 use std::alloc::{AllocError, Global};
 use std::collections::BTreeMap;
@@ -17,46 +17,6 @@ type NamedRects = GroupedRectsToPlace<u32, &'static str>;
 
 type Packed = RectanglePackOk<u32, u32>;
 
-type Sprites = GroupedRectsToPlace<&'static str, &'static str>;
-
-// The hat and the shoe go together, the tree alone.
-fn push_sprites(alloc: Global, rects: &mut Sprites) -> Result<(), AllocError> {
-    for (id, width, height) in [("hat", 10, 20), ("shoe", 5, 50)] {
-        let sprites = vec![in alloc; "sprites"]?;
-        rects.push_rect(id, Some(sprites), RectToInsert::new(width, height, 255))?;
-    }
-    rects.push_rect("tree", None, RectToInsert::new(30, 30, 255))
-}
-
-// Prints the placements.
-fn print(rt: &HostRuntime, packed: &RectanglePackOk<&str, &str>) -> Result<(), Fail> {
-    for Placement { id, bin, location } in packed.placements() {
-        let (x, y, z) = (location.x(), location.y(), location.z());
-        println!(rt; "{id} in {bin} at {x} {y} {z}")?;
-    }
-    Ok(())
-}
-
-// Packs the boxes into one bin, and prints where they are.
-fn pack_into_atlas(
-    rt: &HostRuntime,
-    rects: &Sprites,
-    bins: &mut BTreeMap<&'static str, TargetBin>,
-) -> Result<(), Fail> {
-    add_bin(rt.alloc(), bins, "atlas", [2048, 2048, 255])?;
-    let packed = pack(rt.alloc(), rects, bins)?;
-    print(rt, &packed)
-}
-
-#[test]
-fn readme(rt: HostRuntime) -> Result<(), Fail> {
-    let mut rects = Sprites::new(rt.alloc());
-    let mut bins = BTreeMap::new(rt.alloc());
-    push_sprites(rt.alloc(), &mut rects)?;
-    pack_into_atlas(&rt, &rects, &mut bins)
-}
-
-// An example has several blocks, and so it stands in several functions.
 fn two_boxes(alloc: Global) -> Result<Rects, AllocError> {
     let mut rects: GroupedRectsToPlace<u32, u32> = GroupedRectsToPlace::new(alloc);
     for (id, width, height) in [(7, 2, 3), (8, 4, 4)] {
