@@ -7,7 +7,7 @@ heap=$(dirname "$(rt doc)")/c/liblibc_c.a
 build=$root/build
 : "${CC:=cc}"
 
-(cd "$root/crates/rectangle_pack_c" && rt lib "$@" >&2)
+"$root/tools/build.py" rectangle_pack_c >&2
 
 mkdir -p "$build"
 cp "$root/include/rectangle_pack.h" "$build/"

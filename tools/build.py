@@ -1,0 +1,222 @@
+#!/usr/bin/env python3
+"""Proves a program, or the library for C, with all that it stands on, and builds it.
+
+build.py CRATE: proves the crates on which CRATE stands, side by side where neither stands on the other, then CRATE itself,
+    and builds it: a program as crates/CRATE/out/CRATE, a static library as crates/CRATE/out/libCRATE.a. What it proved
+    before is not proved again, as long as no file has changed of that crate and of those below it.
+
+`rattle build` does both: it builds nothing that it has not proved. `rt lib` and `rt run` take one crate after another, and
+keep what a proof after an edit can begin from, which a first build does not need and which makes it longer."""
+import collections.abc
+import concurrent.futures
+import dataclasses
+import graphlib
+import hashlib
+import os
+import pathlib
+import subprocess
+import sys
+import threading
+import time
+
+TOP = pathlib.Path(__file__).resolve().parent.parent
+# What is proved is kept here: of each crate the library that those above read, what was said, and a sum of all that was read.
+PROVED = TOP / "build" / "proved"
+TARGET = "x86_64-unknown-linux-gnu"
+# The memory that a proof takes, and each further process of it, at the most that was seen, in bytes.
+MEMORY_OF_A_JOB = 1.5e9
+
+
+class NotProved(Exception):
+    """A crate that is not proved, or that could not be built."""
+
+
+@dataclasses.dataclass(frozen=True)
+class Crate:
+    """A crate of crates.txt, and the crates that its line names."""
+
+    name: str
+    kind: str
+    below: tuple[str, ...]
+
+    @property
+    def folder(self) -> pathlib.Path:
+        return TOP / "crates" / self.name
+
+    @property
+    def is_program(self) -> bool:
+        return (self.folder / "src" / "main.rt").is_file()
+
+    @property
+    def is_static(self) -> bool:
+        return self.kind == "staticlib"
+
+    @property
+    def made(self) -> pathlib.Path:
+        """What a build of it makes."""
+        if self.is_program:
+            return self.folder / "out" / self.name
+        if self.is_static:
+            return self.folder / "out" / f"lib{self.name}.a"
+        return PROVED / f"{self.name}.rlib"
+
+    def sources(self) -> list[pathlib.Path]:
+        """The files that a proof reads, in order."""
+        return sorted(
+            path for room in ("src", "specs", "proofs") for path in (self.folder / room).rglob("*") if path.is_file()
+        )
+
+
+def crates_of(text: str) -> dict[str, Crate]:
+    """The crates that crates.txt names."""
+    crates = {}
+    for line in text.splitlines():
+        head, colon, below = line.partition("#")[0].partition(":")
+        if colon:
+            name, *kind = head.split()
+            crates[name] = Crate(name, " ".join(kind), tuple(below.split()))
+    return crates
+
+
+def with_all_below(name: str, crates: dict[str, Crate]) -> dict[str, Crate]:
+    """The crate of this name and all that it stands on."""
+    wanted, found = [name], {}
+    while wanted:
+        crate = crates[wanted.pop()]
+        if crate.name not in found:
+            found[crate.name] = crate
+            wanted += crate.below
+    return found
+
+
+def toolchain() -> pathlib.Path:
+    """The folder of the toolchain."""
+    said = subprocess.run(["rt", "doc"], capture_output=True, text=True, check=True)
+    return pathlib.Path(said.stdout.strip()).parent
+
+
+def most_jobs() -> int:
+    """How many processes may prove at once: one for each processor, where memory allows."""
+    processors = len(os.sched_getaffinity(0))
+    free = os.sysconf("SC_AVPHYS_PAGES") * os.sysconf("SC_PAGE_SIZE")
+    return max(1, min(processors, int(free / MEMORY_OF_A_JOB)))
+
+
+class Build:
+    """One build, of these crates."""
+
+    def __init__(self, crates: dict[str, Crate], kit: pathlib.Path) -> None:
+        self.crates = crates
+        self.kit = kit
+        self.began = time.monotonic()
+        self.sums: dict[str, str] = {}
+        self.running: list[subprocess.Popen[bytes]] = []
+        self.lock = threading.Lock()
+
+    def sum_of(self, crate: Crate) -> str:
+        """A sum of all that a proof of the crate reads."""
+        whole = hashlib.sha256((self.kit / "KIT-ID").read_bytes())
+        for path in crate.sources():
+            content = path.read_bytes()
+            whole.update(f"{path.relative_to(TOP)} {len(content)}\n".encode() + content)
+        for name in crate.below:
+            whole.update(self.sums[name].encode())
+        return whole.hexdigest()
+
+    def words(self, crate: Crate, to: pathlib.Path, jobs: int) -> list[str]:
+        """The command that proves the crate and builds it."""
+        kit = self.kit
+        words = ["rattle", "build", "--crate-name", crate.name, f"src/{'main' if crate.is_program else 'lib'}.rt"]
+        words += ["--extern", f"std={kit}/rlibs/std.rlib", "-L", f"dependency={kit}/rlibs"]
+        for name in crate.below:
+            words += ["--extern", f"{name}={self.crates[name].made}"]
+        words += ["-L", f"dependency={PROVED}", "--antt-project", f"{kit}/rattle/logic/antt-project.json"]
+        words += ["--logic-built", f"{kit}/logic_built", "--links", f"{crate.name}=", "--jobs", str(jobs)]
+        if crate.is_program or crate.is_static:
+            words += ["--toolchain", f"{kit}/toolchain", "--backend", "llvm"]
+        else:
+            words += ["--statements"]
+        words += ["--crate-type", "staticlib"] if crate.is_static else []
+        return [*words, "-o", str(to)]
+
+    def call(self, crate: Crate, words: list[str]) -> None:
+        """Runs a command in the crate's folder, and keeps what it says."""
+        said = PROVED / f"{crate.name}.log"
+        with said.open("ab") as log:
+            with self.lock:
+                ran = subprocess.Popen(words, cwd=crate.folder, stdin=subprocess.DEVNULL, stdout=log, stderr=log)
+                self.running.append(ran)
+            status = ran.wait()
+        if status:
+            raise NotProved(f"{said.read_text(errors='replace')}{crate.name} is not built: {words[0]} ended with {status}")
+
+    def make(self, crate: Crate, jobs: int) -> None:
+        """Proves and builds the crate, where that is not done yet."""
+        self.sums[crate.name] = whole = self.sum_of(crate)
+        stamp = PROVED / f"{crate.name}.sum"
+        if crate.made.exists() and stamp.is_file() and stamp.read_text() == whole:
+            crate.made.touch()
+            return
+        stamp.unlink(missing_ok=True)
+        (PROVED / f"{crate.name}.log").unlink(missing_ok=True)
+        crate.made.parent.mkdir(exist_ok=True)
+        began = time.monotonic()
+        if crate.is_program:
+            part = crate.made.with_suffix(".o")
+            self.call(crate, self.words(crate, part, jobs))
+            self.call(crate, self.link(crate.made, part))
+        else:
+            self.call(crate, self.words(crate, crate.made, jobs))
+        if self.sum_of(crate) == whole:
+            stamp.write_text(whole)
+        now = time.monotonic()
+        print(f"{crate.name} is proved: it took {now - began:.0f} s, {now - self.began:.0f} s since the start", flush=True)
+
+    def link(self, program: pathlib.Path, part: pathlib.Path) -> list[str]:
+        """The command that links a program."""
+        kit = self.kit
+        words = [f"{kit}/bin/rattle-link", "--target", TARGET, "--toolchain", f"{kit}/toolchain", "-o", str(program)]
+        return [*words, str(part), f"{kit}/c/libos_c.a", f"{kit}/c/liblibc_c.a"]
+
+    def stop(self) -> None:
+        """Ends what still runs."""
+        with self.lock:
+            for ran in self.running:
+                ran.terminate()
+
+    def run(self, most: int) -> None:
+        """Makes each crate once those are made on which it stands. The processors are shared among those that can be made."""
+        order = graphlib.TopologicalSorter({crate.name: crate.below for crate in self.crates.values()})
+        order.prepare()
+        running: dict[concurrent.futures.Future[None], str] = {}
+        with concurrent.futures.ThreadPoolExecutor(len(self.crates)) as pool:
+            while order.is_active():
+                ready = order.get_ready()
+                jobs = -(-most // max(1, len(ready) + len(running)))
+                running |= {pool.submit(self.make, self.crates[name], jobs): name for name in ready}
+                done, _ = concurrent.futures.wait(running, return_when=concurrent.futures.FIRST_COMPLETED)
+                try:
+                    for it in done:
+                        it.result()
+                        order.done(running.pop(it))
+                except BaseException:
+                    self.stop()
+                    raise
+
+
+def main(words: collections.abc.Sequence[str]) -> int:
+    crates = crates_of((TOP / "crates.txt").read_text())
+    if len(words) != 1 or words[0] not in crates:
+        print(__doc__, file=sys.stderr)
+        return 2
+    PROVED.mkdir(parents=True, exist_ok=True)
+    try:
+        Build(with_all_below(words[0], crates), toolchain()).run(most_jobs())
+    except NotProved as why:
+        print(why, file=sys.stderr)
+        return 1
+    return 0
+
+
+if __name__ == "__main__":
+    sys.exit(main(sys.argv[1:]))
