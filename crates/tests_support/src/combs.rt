@@ -1,7 +1,9 @@
 //! A bin of more than a thousand free sections, and the boxes that go into them.
 
 use crate::shapes::section;
-use rectangle_pack::{BinSection, RectToInsert, TargetBin};
+use rectangle_pack_bins::target_bin::TargetBin;
+use rectangle_pack_sections::bin_section::BinSection;
+use rectangle_pack_sections::rect_to_insert::RectToInsert;
 use std::alloc::{AllocError, Allocator};
 
 // How many free sections there are.

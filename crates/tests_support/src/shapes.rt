@@ -2,9 +2,13 @@
 //! theirs.
 ghost use Rattle.std.specs.Prelude.{◌≡◌, ◌<◌, IfOk, vec_len};
 ghost use Rattle.std.specs.Option.{ForSome};
-ghost use Rattle.rectangle_pack.specs.Boxes.{Size};
+ghost use Rattle.rectangle_pack_sections.specs.Boxes.{Size};
 
-use rectangle_pack::{BinSection, PackedLocation, RectToInsert, TargetBin, WidthHeightDepth};
+use rectangle_pack_bins::target_bin::TargetBin;
+use rectangle_pack_sections::bin_section::BinSection;
+use rectangle_pack_sections::packed_location::PackedLocation;
+use rectangle_pack_sections::rect_to_insert::RectToInsert;
+use rectangle_pack_sections::width_height_depth::WidthHeightDepth;
 use std::alloc::{AllocError, Allocator};
 
 /// A section with this corner and size; any of the numbers may be 0.
