@@ -1,13 +1,16 @@
 //! Boxes in groups.
-ghost use Rattle.std.specs.Prelude.{◌≡◌, ◌<◌, List, [], true, false, length, map, All, OnOk, OnErr, IfOk, IsSome, IsOk, MatchOption, vec_len};
+ghost use Rattle.std.specs.Prelude.{◌≡◌, ◌<◌, List, [], true, false, length, map, unwrap_or, All, OnOk, OnErr, IfOk, IsSome, IsSomeAnd, IsOk, MatchOption, vec_len};
 ghost use Rattle.std.specs.declared.cmp.Ordering.TheVariants.{Equal};
 ghost use Rattle.std.specs.Option.{ForSome};
 ghost use Rattle.std.specs.List.Sorted.{IsStrictlySortedBy};
 ghost use Rattle.std.specs.Map.{lookup, keys_of};
-ghost use Rattle.std.specs.BTreeMap.{get, is_at, insert_entry};
+ghost use Rattle.std.specs.Cmp.{IsTotalOrder};
+ghost use Rattle.std.specs.BTreeMap.{get, is_at, insert_entry, IsOrdered};
 ghost use Rattle.rectangle_pack_groups.specs.Clones.{ClonesEqual};
 ghost use Rattle.rectangle_pack_groups.specs.Exclusions.{are_excluded};
-ghost use Rattle.rectangle_pack_groups.specs.Groups.{Collection, PushesAlone, PushesInto, Excludes, MembersHaveSizes, lists_of};
+ghost use Rattle.rectangle_pack_groups.specs.Groups.{Collection, PushesAlone, PushesInto, Excludes, MembersHaveSizes, Appends, lists_of};
+ghost use Rattle.rectangle_pack_groups.specs.private.Exclusions.{AreNonempty};
+ghost use Rattle.rectangle_pack_groups.specs.private.Multimaps.{times, PutsAlone, CanTakeBack};
 ghost use Rattle.rectangle_pack_groups.specs.declared.grouped_rects_to_place.Group.TheVariants.{Grouped};
 
 pub mod exclusions;
@@ -200,9 +203,7 @@ impl<Id: Ord + Clone + Drop, GroupId: Ord + Clone + Drop, A: Allocator + Copy> G
         ensures err { OnErr result (self.new ≡ self.old) }
     {
         let key = Group::Ungrouped(inbound_id.clone()?);
-        let mut list = Vec::with_capacity(self.alloc, 1)?;
-        list.push_reserved(inbound_id.clone()?);
-        let before = self.groups.insert(key, list)?;
+        let before = put_alone(&mut self.groups, key, &inbound_id, self.alloc)?;
         match self.rects.insert(inbound_id, inbound) {
             Ok(_) => {
                 drop(before);
@@ -231,11 +232,7 @@ impl<Id: Ord + Clone + Drop, GroupId: Ord + Clone + Drop, A: Allocator + Copy> G
         ensures err { OnErr result (self.new ≡ self.old) }
     {
         let keys = named_groups(self.alloc, group_ids)?;
-        let members = clones(self.alloc, &inbound_id, keys.len())?;
-        if add_each(&mut self.groups, keys.as_slice(), members, self.alloc).is_err() {
-            forget_empty(&mut self.groups);
-            return Err(AllocError);
-        }
+        add_clones(&mut self.groups, keys.as_slice(), &inbound_id, self.alloc)?;
         match self.rects.insert(inbound_id, inbound) {
             Ok(_) => Ok(()),
             Err(_) => {
@@ -254,6 +251,62 @@ pub fn exclusions_of<Id: Ord, GroupId: Ord, A: Allocator + Copy>(
     ensures { result.now ≡ collection.now.partners }
 {
     &collection.exclusions
+}
+
+// Puts a list of a clone of the id at the key, and answers the list that was there.
+fn put_alone<K: Ord + Drop, Id: Ord + Clone + Drop, A: Allocator + Copy>(
+    groups: &mut BTreeMap<K, Vec<Id, A>, A>,
+    key: K,
+    id: &Id,
+    alloc: A,
+) -> Result<Option<Vec<Id, A>>, AllocError>
+    requires ids { ClonesEqual Id.is_clone Id.eq }
+    ensures put { OnOk result
+        (PutsAlone K.cmp Id.cmp groups.old.entries groups.new.entries key id.now) }
+    ensures found { OnOk result
+        ((q : K) → K.cmp q key ≡ Equal → IsSome (get K.cmp groups.new q)) }
+    ensures before { IfOk result (λ before. before ≡ get K.cmp groups.old key) }
+    ensures kept { OnErr result (groups.new.entries ≡ groups.old.entries) }
+    ensures ordered { OnOk result (IsOrdered K.cmp groups.old) }
+{
+    let list = clones(alloc, id, 1)?;
+    Ok(groups.insert(key, list)?)
+}
+
+// Appends a clone of the id at each of the keys; where memory is refused, at none.
+fn add_clones<K: Ord + Clone + Drop, Id: Ord + Clone + Drop, A: Allocator + Copy>(
+    groups: &mut BTreeMap<K, Vec<Id, A>, A>,
+    keys: &[K],
+    id: &Id,
+    alloc: A,
+) -> Result<(), AllocError>
+    requires clones_equal { ClonesEqual K.is_clone K.eq }
+    requires ids { ClonesEqual Id.is_clone Id.eq }
+    requires some { AreNonempty (lists_of groups.old.entries) }
+    ensures named { OnOk result
+        ((q : K) → 0 < times K.cmp keys.now q →
+        let at = lookup (is_at (K.cmp q)) in
+        IsSomeAnd (at (lists_of groups.new.entries))
+        (Appends Id.cmp (unwrap_or (at (lists_of groups.old.entries)) []) id.now
+        (times K.cmp keys.now q))) }
+    ensures others { OnOk result
+        ((q : K) → times K.cmp keys.now q ≡ 0 →
+        let at = lookup (is_at (K.cmp q)) in
+        at (lists_of groups.new.entries) ≡ at (lists_of groups.old.entries)) }
+    ensures back { OnOk result
+        (CanTakeBack K.cmp keys.now (lists_of groups.new.entries)
+        (lists_of groups.old.entries)) }
+    ensures kept { OnErr result
+        (lists_of groups.new.entries ≡ lists_of groups.old.entries) }
+    ensures ordered { OnOk result (0 < length keys.now → IsOrdered K.cmp groups.new) }
+    ensures lawful { IsTotalOrder K.cmp }
+{
+    let members = clones(alloc, id, keys.len())?;
+    if add_each(groups, keys, members, alloc).is_err() {
+        forget_empty(groups);
+        return Err(AllocError);
+    }
+    Ok(())
 }
 
 // Takes back an insert at an equal key, where `before` is what it answered.

@@ -9,5 +9,5 @@ abbrev pub AreMutual : {K : Type 0} → (K → K → Ordering) → List (K × Li
 AreMutual {K} cmp partners = (a b : K) → is_listed cmp partners a b ≡ is_listed cmp partners b a
 
 -- something is listed at each key
-abbrev pub AreNonempty : {K : Type 0} → List (K × List K) → Type 0
-AreNonempty partners = All (λ keys. 0 < length keys) (values_of partners)
+abbrev pub AreNonempty : {K X : Type 0} → List (K × List X) → Type 0
+AreNonempty lists = All (λ items. 0 < length items) (values_of lists)

@@ -4,10 +4,11 @@ use Rattle.std.specs.Prelude.{IsSomeAnd, MatchOption, vec_len}
 use Rattle.std.specs.Option.{option_map}
 use Rattle.std.specs.Vec.{vec_capacity}
 use Rattle.std.specs.declared.cmp.Ordering.{Ordering}
+use Rattle.std.specs.declared.cmp.Ordering.TheVariants.{Equal}
 use Rattle.std.specs.declared.vec.Vec.{Vec}
 use Rattle.std.specs.Ordering.{is_eq}
 use Rattle.std.specs.Map.{lookup, set_value}
-use Rattle.std.specs.BTreeMap.{is_at}
+use Rattle.std.specs.BTreeMap.{is_at, insert_entry}
 
 -- the entries of which the list has an item
 abbrev pub filled : {K X : Type 0} → List (K × List X) → List (K × List X)
@@ -52,3 +53,11 @@ pub record CanTakeBack {K X : Type 0} (cmp : K → K → Ordering) (keys : List 
   pub start : List (K × List X)
   pub back : TakesBack cmp (reverse keys) now start
   pub same : filled start ≡ before
+
+-- a vector with one item, which equals the id, is put at the key
+pub record PutsAlone {K Id A : Type 0} (key_cmp : K → K → Ordering) (cmp : Id → Id → Ordering) (old new : List (K × Vec Id A)) (key : K) (id : Id) : Type 0 where
+  pub list : Vec Id A
+  pub member : Id
+  pub equal : cmp id member ≡ Equal
+  pub alone : list.items ≡ member ∷ []
+  pub put : new ≡ insert_entry key_cmp old key list

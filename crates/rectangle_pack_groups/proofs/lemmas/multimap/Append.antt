@@ -105,14 +105,3 @@ appended-other all old None new same so = ap (option_map (λ v. v.items)) (so �
 appended-other all old (Some v) None same so = absurd so
 appended-other all old (Some v) (Some w) same so =
     ap Some (so.joined ∙ ap (λ l. v.items ++ l) (nil_from_length so.tail so.long) ∙ append-nil v.items) ∙ ap (option_map (λ u. u.items)) same
-
--- a list to which items are added is not empty, and what holds of the old items and of the added ones holds of each
-pub added-each : {X : Type 0} (P : X → Type 0) (all : List X) → All P all → (n : ℕ) (old new : Option (List X)) → All P (unwrap_or old [])
-    → IsAdded all (n + 1) old new → IfSome new (λ items. (0 < length items) × All P items)
-added-each P all each n old None was so = tt
-added-each P all each n old (Some items) was (tail, joined, long, given) =
-    let longer : length items ≡ length (unwrap_or old []) + length tail = ap length joined ∙ length-append (unwrap_or old []) tail in (
-      omega (arith, longer, long),
-      subst (All P) (sym joined)
-          (All-append P (unwrap_or old []) tail was (All-weaker (Contains all) P (λ x. All-contains P all x each) tail given)),
-    )

@@ -5,7 +5,7 @@ use Rattle.rectangle_pack_sections.proofs.Std.{match_ordering, is_eq, is_at, ins
 use Rattle.rectangle_pack_groups.specs.Groups.{lists_of}
 use Rattle.rectangle_pack_groups.specs.private.Multimaps.{filled, items_of}
 use Rattle.rectangle_pack_groups.proofs.lemmas.util.Maps.{lookup-equal, set_value-map_values, insert_entry-map_values}
-use Rattle.rectangle_pack_sections.proofs.Std.{ℕ, ◌+◌, ◌++◌, arith, map, sum, values_of, sum_by-cons}
+use Rattle.rectangle_pack_sections.proofs.Std.{ℕ, ◌+◌, ◌++◌, arith, map, sum, values_of, sum_by-cons, All, All-head}
 
 -- what is not there is `None`
 pub none_of : {X : Type 0} (found : Option X) → is_some found ≡ false → found ≡ None
@@ -90,3 +90,9 @@ entries_in-append {K} {X} {A} (x ∷ xs) ys = omega (arith, entries_in-append xs
 -- a list that a key has, by the vector that it has
 pub list-found : {K X A : Type 0} (test : K → Bool) (es : List (K × Vec X A)) (v : Vec X A) → lookup test es ≡ Some v → lookup test (lists_of es) ≡ Some v.items
 list-found {X = X} {A = A} test es v found = lookup-lists test es ∙ ap (option_map (λ (w : Vec X A). w.items)) found
+
+-- the item of a list of one
+pub one_item : {X : Type 0} (P : X → Type 0) (xs : List X) → length xs ≡ 1 → All P xs → (x : X) × P x × (xs ≡ x ∷ [])
+one_item P [] long all = absurd (omega arith)
+one_item P (x ∷ []) long all = (x, All-head P x [] all, refl)
+one_item P (x ∷ y ∷ ys) long all = absurd (omega arith)
