@@ -1,24 +1,21 @@
 //! Boxes in groups.
-ghost use Rattle.std.specs.Prelude.{◌≡◌, ◌<◌, List, [], true, false, length, map, unwrap_or, All, OnOk, OnErr, IfOk, IsSome, IsSomeAnd, IsOk, MatchOption, vec_len};
-ghost use Rattle.std.specs.declared.cmp.Ordering.TheVariants.{Equal};
+ghost use Rattle.std.specs.Prelude.{◌≡◌, ◌<◌, [], true, false, map, OnOk, OnErr, IfOk, IsOk, MatchOption, vec_len};
 ghost use Rattle.std.specs.Option.{ForSome};
 ghost use Rattle.std.specs.List.Sorted.{IsStrictlySortedBy};
-ghost use Rattle.std.specs.Map.{lookup, keys_of};
-ghost use Rattle.std.specs.Cmp.{IsTotalOrder};
-ghost use Rattle.std.specs.BTreeMap.{get, is_at, insert_entry, IsOrdered};
+ghost use Rattle.std.specs.Map.{keys_of};
 ghost use Rattle.rectangle_pack_groups.specs.Clones.{ClonesEqual};
 ghost use Rattle.rectangle_pack_groups.specs.Exclusions.{are_excluded};
-ghost use Rattle.rectangle_pack_groups.specs.Groups.{Collection, PushesAlone, PushesInto, Excludes, MembersHaveSizes, Appends, lists_of};
-ghost use Rattle.rectangle_pack_groups.specs.private.Exclusions.{AreNonempty};
-ghost use Rattle.rectangle_pack_groups.specs.private.Multimaps.{times, PutsAlone, CanTakeBack};
+ghost use Rattle.rectangle_pack_groups.specs.Groups.{Collection, PushesAlone, PushesInto, Excludes, MembersHaveSizes, lists_of};
 ghost use Rattle.rectangle_pack_groups.specs.declared.grouped_rects_to_place.Group.TheVariants.{Grouped};
 
 pub mod exclusions;
 mod laws;
+mod members;
 pub mod multimap;
 
 use crate::grouped_rects_to_place::exclusions::Exclusions;
-use crate::grouped_rects_to_place::multimap::{add_each, ascending, forget_empty, take_back};
+use crate::grouped_rects_to_place::members::{add_member, put_alone, restore};
+use crate::grouped_rects_to_place::multimap::ascending;
 pub use laws::{equal_pushes_leave_equal_collections, groups_are_ordered};
 use rectangle_pack_sections::rect_to_insert::RectToInsert;
 use std::alloc::{AllocError, Allocator, Global};
@@ -216,7 +213,6 @@ impl<Id: Ord + Clone + Drop, GroupId: Ord + Clone + Drop, A: Allocator + Copy> G
         }
     }
 
-    // The size is set last; where that is refused, the entries are taken back.
     fn push_grouped(
         &mut self,
         inbound_id: Id,
@@ -232,15 +228,14 @@ impl<Id: Ord + Clone + Drop, GroupId: Ord + Clone + Drop, A: Allocator + Copy> G
         ensures err { OnErr result (self.new ≡ self.old) }
     {
         let keys = named_groups(self.alloc, group_ids)?;
-        add_clones(&mut self.groups, keys.as_slice(), &inbound_id, self.alloc)?;
-        match self.rects.insert(inbound_id, inbound) {
-            Ok(_) => Ok(()),
-            Err(_) => {
-                take_back(&mut self.groups, keys.as_slice());
-                forget_empty(&mut self.groups);
-                Err(AllocError)
-            }
-        }
+        add_member(
+            &mut self.groups,
+            &mut self.rects,
+            inbound_id,
+            inbound,
+            keys,
+            self.alloc,
+        )
     }
 }
 
@@ -251,88 +246,6 @@ pub fn exclusions_of<Id: Ord, GroupId: Ord, A: Allocator + Copy>(
     ensures { result.now ≡ collection.now.partners }
 {
     &collection.exclusions
-}
-
-// Puts a list of a clone of the id at the key, and answers the list that was there.
-fn put_alone<K: Ord + Drop, Id: Ord + Clone + Drop, A: Allocator + Copy>(
-    groups: &mut BTreeMap<K, Vec<Id, A>, A>,
-    key: K,
-    id: &Id,
-    alloc: A,
-) -> Result<Option<Vec<Id, A>>, AllocError>
-    requires ids { ClonesEqual Id.is_clone Id.eq }
-    ensures put { OnOk result
-        (PutsAlone K.cmp Id.cmp groups.old.entries groups.new.entries key id.now) }
-    ensures found { OnOk result
-        ((q : K) → K.cmp q key ≡ Equal → IsSome (get K.cmp groups.new q)) }
-    ensures before { IfOk result (λ before. before ≡ get K.cmp groups.old key) }
-    ensures kept { OnErr result (groups.new.entries ≡ groups.old.entries) }
-    ensures ordered { OnOk result (IsOrdered K.cmp groups.old) }
-{
-    let list = clones(alloc, id, 1)?;
-    Ok(groups.insert(key, list)?)
-}
-
-// Appends a clone of the id at each of the keys; where memory is refused, at none.
-fn add_clones<K: Ord + Clone + Drop, Id: Ord + Clone + Drop, A: Allocator + Copy>(
-    groups: &mut BTreeMap<K, Vec<Id, A>, A>,
-    keys: &[K],
-    id: &Id,
-    alloc: A,
-) -> Result<(), AllocError>
-    requires clones_equal { ClonesEqual K.is_clone K.eq }
-    requires ids { ClonesEqual Id.is_clone Id.eq }
-    requires some { AreNonempty (lists_of groups.old.entries) }
-    ensures named { OnOk result
-        ((q : K) → 0 < times K.cmp keys.now q →
-        let at = lookup (is_at (K.cmp q)) in
-        IsSomeAnd (at (lists_of groups.new.entries))
-        (Appends Id.cmp (unwrap_or (at (lists_of groups.old.entries)) []) id.now
-        (times K.cmp keys.now q))) }
-    ensures others { OnOk result
-        ((q : K) → times K.cmp keys.now q ≡ 0 →
-        let at = lookup (is_at (K.cmp q)) in
-        at (lists_of groups.new.entries) ≡ at (lists_of groups.old.entries)) }
-    ensures back { OnOk result
-        (CanTakeBack K.cmp keys.now (lists_of groups.new.entries)
-        (lists_of groups.old.entries)) }
-    ensures kept { OnErr result
-        (lists_of groups.new.entries ≡ lists_of groups.old.entries) }
-    ensures ordered { OnOk result (0 < length keys.now → IsOrdered K.cmp groups.new) }
-    ensures lawful { IsTotalOrder K.cmp }
-{
-    let members = clones(alloc, id, keys.len())?;
-    if add_each(groups, keys, members, alloc).is_err() {
-        forget_empty(groups);
-        return Err(AllocError);
-    }
-    Ok(())
-}
-
-// Takes back an insert at an equal key, where `before` is what it answered.
-fn restore<K: Ord + Drop, V: Drop, A: Allocator + Copy>(
-    map: &mut BTreeMap<K, V, A>,
-    key: &K,
-    before: Option<V>,
-)
-    requires has { IsSome (get K.cmp map.old key.now) }
-    ensures { (was : List (K × V)) (k : K) (v : V) → IsStrictlySortedBy K.cmp (keys_of was) →
-        K.cmp key.now k ≡ Equal →
-        before ≡ lookup (is_at (K.cmp k)) was →
-        map.old.entries ≡ insert_entry K.cmp was k v →
-        map.new.entries ≡ was }
-{
-    match before {
-        None => {
-            map.remove(key);
-        }
-        Some(value) => {
-            match map.get_mut(key) {
-                Some(place) => *place = value,
-                None => unreachable!(),
-            }
-        }
-    }
 }
 
 // The groups of these names.
@@ -346,21 +259,4 @@ fn named_groups<Id: Drop, GroupId: Drop, A: Allocator + Copy>(
         .into_iter()
         .map(|id| Group::Grouped(id))
         .collect(alloc)
-}
-
-// So many clones of the id.
-fn clones<Id: Ord + Clone + Drop, A: Allocator + Copy>(
-    alloc: A,
-    id: &Id,
-    count: usize,
-) -> Result<Vec<Id, A>, AllocError>
-    requires ids { ClonesEqual Id.is_clone Id.eq }
-    ensures count { IfOk result (λ all. length all.items ≡ count) }
-    ensures clones { IfOk result (λ all. All (λ x. Id.cmp id.now x ≡ Equal) all.items) }
-{
-    let mut all = Vec::with_capacity(alloc, count)?;
-    for _ in 0..count {
-        all.push_reserved(id.clone()?);
-    }
-    Ok(all)
 }

@@ -1,5 +1,5 @@
 -- Lists under keys, to which items are appended, and from which they are taken back.
-use Rattle.std.specs.Prelude.{◌≡◌, ℕ, ◌+◌, ◌≤◌, List, [], ◌∷◌, ◌++◌, Option, Some, None, length, filter, reverse, nat_lt, count_by, unwrap_or, All, Contains}
+use Rattle.std.specs.Prelude.{◌≡◌, ℕ, ◌+◌, ◌<◌, ◌≤◌, List, [], ◌∷◌, ◌++◌, Option, Some, None, length, filter, reverse, nat_lt, count_by, unwrap_or, All, Contains}
 use Rattle.std.specs.Prelude.{IsSomeAnd, MatchOption, vec_len}
 use Rattle.std.specs.Option.{option_map}
 use Rattle.std.specs.Vec.{vec_capacity}
@@ -9,6 +9,7 @@ use Rattle.std.specs.declared.vec.Vec.{Vec}
 use Rattle.std.specs.Ordering.{is_eq}
 use Rattle.std.specs.Map.{lookup, set_value}
 use Rattle.std.specs.BTreeMap.{is_at, insert_entry}
+use Rattle.rectangle_pack_groups.specs.Groups.{Appends}
 
 -- the entries of which the list has an item
 abbrev pub filled : {K X : Type 0} → List (K × List X) → List (K × List X)
@@ -61,3 +62,9 @@ pub record PutsAlone {K Id A : Type 0} (key_cmp : K → K → Ordering) (cmp : I
   pub equal : cmp id member ≡ Equal
   pub alone : list.items ≡ member ∷ []
   pub put : new ≡ insert_entry key_cmp old key list
+
+-- each list at one of the keys is the one of before, or the empty one, followed by the id as often as the key occurs, and the others stay
+pub record AppendsAtEach {K Id : Type 0} (key_cmp : K → K → Ordering) (cmp : Id → Id → Ordering) (keys : List K) (id : Id) (old new : List (K × List Id)) : Type 0 where
+  pub named : (q : K) → 0 < times key_cmp keys q
+      → IsSomeAnd (lookup (is_at (key_cmp q)) new) (Appends cmp (unwrap_or (lookup (is_at (key_cmp q)) old) []) id (times key_cmp keys q))
+  pub others : (q : K) → times key_cmp keys q ≡ 0 → lookup (is_at (key_cmp q)) new ≡ lookup (is_at (key_cmp q)) old

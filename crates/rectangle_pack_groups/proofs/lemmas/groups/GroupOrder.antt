@@ -1,4 +1,4 @@
--- The order of groups is total.
+-- The order of groups is total, and a claim on two groups follows from its cases.
 use Rattle.rectangle_pack_sections.proofs.Std.{◌≡◌, refl, Ordering, Less, Equal, Greater, ordering_reverse, IsTotalOrder}
 use Rattle.rectangle_pack_groups.specs.declared.grouped_rects_to_place.Group.{Group}
 use Rattle.rectangle_pack_groups.specs.declared.grouped_rects_to_place.Group.TheVariants.{Ungrouped, Grouped}
@@ -32,3 +32,12 @@ module _ {Id G : Type 0} (R : Group G Id → Group G Id → Ordering) (P : Id �
   -- a total order of ids, before a total order of names, is a total order of groups
   pub groups_total : IsTotalOrder R
   groups_total = record { antisymm = antisymm; trans = trans; congr = congr }
+
+-- what holds of two groups by the four cases
+pub groups_by_variants : {Id G : Type 0} (P : Group G Id → Group G Id → Type 0)
+    → ((a b : Id) → P (Ungrouped a) (Ungrouped b)) → ((a : Id) (b : G) → P (Ungrouped a) (Grouped b))
+    → ((a : G) (b : Id) → P (Grouped a) (Ungrouped b)) → ((a b : G) → P (Grouped a) (Grouped b)) → (a b : Group G Id) → P a b
+groups_by_variants P alone before behind named (Ungrouped a) (Ungrouped b) = alone a b
+groups_by_variants P alone before behind named (Ungrouped a) (Grouped b) = before a b
+groups_by_variants P alone before behind named (Grouped a) (Ungrouped b) = behind a b
+groups_by_variants P alone before behind named (Grouped a) (Grouped b) = named a b

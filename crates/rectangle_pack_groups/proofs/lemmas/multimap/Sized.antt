@@ -7,7 +7,7 @@ use Rattle.rectangle_pack_sections.proofs.Std.{IfSome-lookup_from_All, All-value
 use Rattle.rectangle_pack_groups.proofs.lemmas.multimap.Vectors.{lists_of-insert_entry}
 use Rattle.rectangle_pack_groups.specs.Groups.{lists_of}
 use Rattle.rectangle_pack_groups.specs.private.Exclusions.{AreNonempty}
-use Rattle.rectangle_pack_groups.specs.private.Multimaps.{filled, times, IsAdded, PutsAlone, CanTakeBack}
+use Rattle.rectangle_pack_groups.specs.private.Multimaps.{filled, times, IsAdded, PutsAlone, AppendsAtEach, CanTakeBack}
 use Rattle.rectangle_pack_groups.proofs.lemmas.multimap.Append.{sum_by-map}
 use Rattle.rectangle_pack_sections.specs.Boxes.{Size}
 use Rattle.rectangle_pack_groups.specs.Groups.{Appends, HaveSizes, MembersHaveSizes}
@@ -41,6 +41,11 @@ MembersHaveSizes-more cmp old new groups grows h =
     (λ ids p. (p.0, All-weaker (λ id. IsSome (lookup (is_at (cmp id)) old)) (λ id. IsSome (lookup (is_at (cmp id)) new)) grows ids p.1))
     (values_of groups)
     h
+
+-- nothing changed
+pub MembersHaveSizes-same : {Id G : Type 0} (cmp : Id → Id → Ordering) (old new : List (Id × Size)) (was now : List (G × List Id))
+    → new ≡ old → now ≡ was → MembersHaveSizes cmp old was → MembersHaveSizes cmp new now
+MembersHaveSizes-same cmp old new was now e f h = rw (e, f) h
 
 -- what is found stays found where a value is set
 pub IsSome-cond : {X : Type 0} (b : Bool) (v : X) (o : Option X) → IsSome o → IsSome (cond b (Some v) o)
@@ -98,12 +103,10 @@ module _ {Id : Type 0} (cmp : Id → Id → Ordering) (old_sizes new_sizes : Lis
   -- and where the id is appended at keys
   pub MembersHaveSizes-added : {K : Type 0} {kcmp : K → K → Ordering} → IsTotalOrder kcmp → (keys : List K) (old new : List (K × List Id))
       → MembersHaveSizes cmp old_sizes old
-      → ((q : K) → 0 < times kcmp keys q
-      → IsSomeAnd (lookup (is_at (kcmp q)) new) (Appends cmp (unwrap_or (lookup (is_at (kcmp q)) old) []) id (times kcmp keys q)))
-      → ((q : K) → times kcmp keys q ≡ 0 → lookup (is_at (kcmp q)) new ≡ lookup (is_at (kcmp q)) old)
+      → AppendsAtEach kcmp cmp keys id old new
       → IsStrictlySortedBy kcmp (keys_of new)
       → MembersHaveSizes cmp new_sizes new
-  MembersHaveSizes-added {K} {kcmp} o keys old new was named others ordered =
+  MembersHaveSizes-added {K} {kcmp} o keys old new was added ordered =
       All-values_from_lookup (eq_by_cmp_equiv o) (λ ids. (0 < length ids) × HaveSizes cmp new_sizes ids) new
       (IsDistinct-from_sorted kcmp (keys_of new) ordered)
       (λ q. by q (times kcmp keys q) refl)
@@ -113,12 +116,12 @@ module _ {Id : Type 0} (cmp : Id → Id → Ordering) (old_sizes new_sizes : Lis
           (MembersHaveSizes-more cmp old_sizes new_sizes old grows was)
 
       by : (q : K) (n : ℕ) → times kcmp keys q ≡ n → IfSome (lookup (is_at (kcmp q)) new) (λ ids. (0 < length ids) × HaveSizes cmp new_sizes ids)
-      by q zero e = subst (λ f. IfSome f (λ ids. (0 < length ids) × HaveSizes cmp new_sizes ids)) (sym (others q e)) (before q)
+      by q zero e = subst (λ f. IfSome f (λ ids. (0 < length ids) × HaveSizes cmp new_sizes ids)) (sym (added.others q e)) (before q)
       by q (suc n) e =
           let some : 0 < times kcmp keys q = omega (arith, e) in
           appended-each cmp (λ x. IsSome (lookup (is_at (cmp x)) new_sizes)) id has_size (unwrap_or (lookup (is_at (kcmp q)) old) [])
           (HaveSizes-found (λ x. IsSome (lookup (is_at (cmp x)) new_sizes)) (lookup (is_at (kcmp q)) old) (before q))
-          (times kcmp keys q) some (lookup (is_at (kcmp q)) new) (named q some)
+          (times kcmp keys q) some (lookup (is_at (kcmp q)) new) (added.named q some)
 
 -- how often a key occurs among those that a function gives
 pub times-map : {K N : Type 0} (kcmp : K → K → Ordering) (f : N → K) (named : List N) (keys : List K) (q : K) → keys ≡ map f named
@@ -157,3 +160,12 @@ on_err P (Err e) failed h = h
 pub OnErr-given : {X E P : Type 0} (r : Result X E) → P → OnErr r P
 OnErr-given (Ok x) h = tt
 OnErr-given (Err e) h = h
+
+-- what follows of two promises on a success, and on a failure
+pub OnOk-both : {X E P Q R : Type 0} (r : Result X E) → (P → Q → R) → OnOk r P → OnOk r Q → OnOk r R
+OnOk-both (Ok x) f p q = f p q
+OnOk-both (Err e) f p q = tt
+
+pub OnErr-both : {X E P Q R : Type 0} (r : Result X E) → (P → Q → R) → OnErr r P → OnErr r Q → OnErr r R
+OnErr-both (Ok x) f p q = tt
+OnErr-both (Err e) f p q = f p q

@@ -1,7 +1,7 @@
 use Rattle.rectangle_pack_sections.proofs.Std.{◌≡◌, refl, Equal, IfOk-from_err, tied_back}
 use Rattle.rectangle_pack_groups.proofs.lemmas.multimap.Vectors.{one_item}
 use Rattle.rectangle_pack_groups.proofs.lemmas.multimap.Sized.{OnErr-given}
-use Rattle.rectangle_pack_groups.proofs.grouped_rects_to_place.put_alone.Goals as goal
+use Rattle.rectangle_pack_groups.proofs.grouped_rects_to_place.members.put_alone.Goals as goal
 
 pub clones-requires : goal.clones-requires
 clones-requires g c = record { ids = c.requires.ids }

@@ -1,5 +1,5 @@
 use Rattle.rectangle_pack_sections.proofs.Std.{◌≡◌, [], ◌∷◌, length-append, refl, sym, ◌∙◌, arith, Equal-is, Equal, All-push}
-use Rattle.rectangle_pack_groups.proofs.grouped_rects_to_place.clones.Goals as goal
+use Rattle.rectangle_pack_groups.proofs.grouped_rects_to_place.members.clones.Goals as goal
 
 pub loop-preserved : goal.loop-preserved
 loop-preserved g c =

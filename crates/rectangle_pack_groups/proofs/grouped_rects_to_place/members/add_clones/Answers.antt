@@ -2,7 +2,7 @@ use Rattle.rectangle_pack_sections.proofs.Std.{refl, sym, ◌∙◌, lookup, is_
 use Rattle.rectangle_pack_groups.specs.Groups.{lists_of}
 use Rattle.rectangle_pack_groups.specs.private.Multimaps.{times}
 use Rattle.rectangle_pack_groups.proofs.lemmas.multimap.Sized.{filled-all, Appends-from_added, CanTakeBack-whole, on_ok, on_err, OnErr-given}
-use Rattle.rectangle_pack_groups.proofs.grouped_rects_to_place.add_clones.Goals as goal
+use Rattle.rectangle_pack_groups.proofs.grouped_rects_to_place.members.add_clones.Goals as goal
 
 pub clones-requires : goal.clones-requires
 clones-requires g c = record { ids = c.requires.ids }
@@ -17,8 +17,7 @@ pub returns-in_err-members : goal.returns-in_err-members
 returns-in_err-members g c =
     let failed = c.from_residual.ensures.0 in
     record {
-      named = IfOk-from_err _ _ failed;
-      others = IfOk-from_err _ _ failed;
+      appended = IfOk-from_err _ _ failed;
       back = IfOk-from_err _ _ failed;
       kept = OnErr-given _ refl;
       ordered = IfOk-from_err _ _ failed;
@@ -29,8 +28,7 @@ pub returns-then-is_err : goal.returns-then-is_err
 returns-then-is_err g c =
     let kept = on_err _ c.add_each.result (sym c.is_err.ensures.value ∙ c.if-is_err.true) c.add_each.ensures.kept in
     record {
-      named = tt;
-      others = tt;
+      appended = tt;
       back = tt;
       kept = c.forget_empty.ensures ∙ kept ∙ filled-all (lists_of c.args.groups.now.entries) c.requires.some;
       ordered = tt;
@@ -46,9 +44,11 @@ returns g c =
     let fine = sym c.is_err.ensures.value ∙ c.if-is_err.false in
     let added = on_ok _ c.add_each.result fine c.add_each.ensures.named in
     record {
-      named = λ q some. Appends-from_added g.Id.Ord.cmp c.args.id.now c.in_ok-members.members.items c.in_ok-members.ensures.clones (times cmp keys q)
-          (lookup (is_at (cmp q)) old) (lookup (is_at (cmp q)) new) (added q some);
-      others = on_ok _ c.add_each.result fine c.add_each.ensures.others;
+      appended = record {
+        named = λ q some. Appends-from_added g.Id.Ord.cmp c.args.id.now c.in_ok-members.members.items c.in_ok-members.ensures.clones (times cmp keys q)
+            (lookup (is_at (cmp q)) old) (lookup (is_at (cmp q)) new) (added q some);
+        others = on_ok _ c.add_each.result fine c.add_each.ensures.others;
+      };
       back = CanTakeBack-whole cmp keys new old c.requires.some (on_ok _ c.add_each.result fine c.add_each.ensures.back);
       kept = tt;
       ordered = on_ok _ c.add_each.result fine c.add_each.ensures.ordered;

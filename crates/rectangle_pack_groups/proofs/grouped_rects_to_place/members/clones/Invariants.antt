@@ -1,5 +1,5 @@
 use Rattle.rectangle_pack_sections.proofs.Std.{◌≡◌, ◌≤◌, length, All, vec_capacity, Equal}
-use Rattle.rectangle_pack_groups.proofs.grouped_rects_to_place.clones.Given as goal
+use Rattle.rectangle_pack_groups.proofs.grouped_rects_to_place.members.clones.Given as goal
 
 abbrev pub invariant-loop : goal.invariant-loop
 invariant-loop g l = record {
