@@ -29,6 +29,11 @@ or-given true t h = refl
 or-given false false h = refl
 or-given false true h = h refl
 
+-- a test that fails does not hold
+pub not-both : {P : Type 0} (t : Bool) → t ≡ false → t ≡ true → P
+not-both true fails holds = absurd cc
+not-both false fails holds = absurd cc
+
 module _ {K : Type 0} {cmp : K → K → Ordering} (o : IsTotalOrder cmp) where
   -- equal keys equal the same keys
   pub is_at-equal : (x y z : K) → cmp x y ≡ Equal → is_at (cmp x) z ≡ is_at (cmp y) z

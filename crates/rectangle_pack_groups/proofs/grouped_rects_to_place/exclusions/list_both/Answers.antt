@@ -1,4 +1,6 @@
-use Rattle.rectangle_pack_sections.proofs.Std.{refl, IfOk-from_err, ◌≡◌, sym, ◌∙◌, Equal-is, Equal}
+use Rattle.rectangle_pack_sections.proofs.Std.{refl, subst, get, IfOk-from_err, ◌≡◌, sym, ◌∙◌, Equal-is, Equal}
+use Rattle.rectangle_pack_groups.specs.private.Multimaps.{HasRoom}
+use Rattle.rectangle_pack_groups.proofs.lemmas.util.Maps.{is_at-back}
 use Rattle.rectangle_pack_groups.proofs.lemmas.multimap.Sized.{OnErr-given}
 use Rattle.rectangle_pack_groups.proofs.lemmas.multimap.Mutual.{listed-both, some-appended}
 use Rattle.rectangle_pack_groups.proofs.grouped_rects_to_place.exclusions.list_both.Goals as goal
@@ -38,3 +40,13 @@ make_room-requires g c = record { clones_equal = c.requires.clones_equal }
 
 pub make_room-requires-2 : goal.make_room-requires-2
 make_room-requires-2 g c = record { clones_equal = c.requires.clones_equal }
+
+pub append_at-requires : goal.append_at-requires
+append_at-requires g c =
+    let other = is_at-back g.met.K.Ord.total c.args.b c.args.a ∙ c.requires.different in
+    record { room = subst (λ found. HasRoom found 1) (sym (c.make_room-2.ensures.others c.args.a other)) c.in_ok-make_room.ensures.room }
+
+pub append_at-requires-2 : goal.append_at-requires-2
+append_at-requires-2 g c = record {
+  room = subst (λ found. HasRoom found 1) (sym (c.append_at.ensures.others c.args.b c.requires.different)) c.in_ok-make_room-2.ensures.room;
+}

@@ -1,7 +1,9 @@
-use Rattle.rectangle_pack_sections.proofs.Std.{◌∙◌, sym, get, is_at, on_ok_weaker}
-use Rattle.rectangle_pack_groups.specs.private.Multimaps.{times}
+use Rattle.rectangle_pack_sections.proofs.Std.{◌∙◌, ap, sym, get, is_at, IfOk-from_err, on_ok_weaker, on_err_weaker}
+use Rattle.rectangle_pack_groups.specs.Groups.{lists_of}
+use Rattle.rectangle_pack_groups.specs.private.Multimaps.{times, filled}
 use Rattle.rectangle_pack_groups.proofs.lemmas.multimap.Vectors.{lookup-lists}
 use Rattle.rectangle_pack_groups.proofs.lemmas.multimap.Append.{appended-named, appended-other}
+use Rattle.rectangle_pack_groups.proofs.lemmas.multimap.Sized.{OnErr-given}
 use Rattle.rectangle_pack_groups.proofs.grouped_rects_to_place.multimap.add_each.Goals as goal
 
 pub returns-clause-named : goal.returns-clause-named
@@ -24,3 +26,32 @@ returns-clause-others g c = on_ok_weaker c.append_each.result
     (rw none at (appended q))
     ∙ sym (lookup-lists (is_at (cmp q)) c.args.map.now.entries))
     c.append_each.ensures.appended
+
+pub append_each-requires : goal.append_each-requires
+append_each-requires g c = record { known = c.in_ok-ensure_keys.ensures.has; enough = c.requires.enough }
+
+pub returns-in_err-ensure_keys : goal.returns-in_err-ensure_keys
+returns-in_err-ensure_keys g c =
+    let failed = c.from_residual.ensures.0 in
+    record {
+      named = IfOk-from_err _ _ failed;
+      others = IfOk-from_err _ _ failed;
+      back = IfOk-from_err _ _ failed;
+      kept = OnErr-given _ c.ensure_keys.ensures.kept;
+      ordered = IfOk-from_err _ _ failed;
+      lawful = g.met.K.Ord.total;
+    }
+
+pub returns-clause-back : goal.returns-clause-back
+returns-clause-back g c = on_ok_weaker c.append_each.result
+    (λ back. record { start = lists_of c.ensure_keys.new.map.entries; back = back; same = c.ensure_keys.ensures.kept })
+    c.append_each.ensures.back
+
+pub returns-clause-kept : goal.returns-clause-kept
+returns-clause-kept g c = on_err_weaker c.append_each.result (λ kept. ap filled kept ∙ c.ensure_keys.ensures.kept) c.append_each.ensures.kept
+
+pub returns-clause-ordered : goal.returns-clause-ordered
+returns-clause-ordered g c = c.append_each.ensures.ordered
+
+pub returns-clause-lawful : goal.returns-clause-lawful
+returns-clause-lawful g c = g.met.K.Ord.total

@@ -1,4 +1,4 @@
-use Rattle.rectangle_pack_sections.proofs.Std.{rules, ◌≡◌, [], ◌∷◌, ◌++◌, sym, ◌∙◌, ap, Some, option_map, lookup, is_at}
+use Rattle.rectangle_pack_sections.proofs.Std.{rules, ◌≡◌, [], ◌∷◌, ◌++◌, sym, ◌∙◌, ap, Some, is_some, option_map, lookup, is_at}
 use Rattle.rectangle_pack_groups.specs.Groups.{lists_of}
 use Rattle.rectangle_pack_groups.proofs.lemmas.multimap.Vectors.{lists_of-set_value, lookup-lists}
 use Rattle.rectangle_pack_groups.proofs.lemmas.multimap.TakeBack.{TakesBack-appended}
@@ -15,3 +15,9 @@ returns-clause-back g c = λ keys start h.
     let found : lookup test (lists_of old) ≡ Some list.items = lookup-lists test old ∙ ap (option_map (λ v. v.items)) (sym c.in-Some.ensures.value) in
     rw ((c.get_mut.follows.holds w).0, lists_of-set_value test old w, items)
     (TakesBack-appended cmp c.args.key.now keys (lists_of old) start list.items c.args.item found h)
+
+pub returns-clause-others : goal.returns-clause-others
+returns-clause-others g c = ((c.get_mut.follows.holds c.push_reserved.new.self).3 (ap is_some (sym c.in-Some.ensures.value))).2
+
+pub returns-clause-ordered : goal.returns-clause-ordered
+returns-clause-ordered g c = (c.get_mut.follows.holds c.push_reserved.new.self).4

@@ -11,3 +11,6 @@ returns-clause-kept g c =
     let found : lookup test (lists_of old) ≡ Some list.items = lookup-lists test old ∙ ap (option_map (λ v. v.items)) (sym c.in-Some.ensures.value) in
     rw ((c.get_mut.follows.holds c.reserve.new.self).0, lists_of-set_value test old c.reserve.new.self, c.reserve.ensures.items)
     (set_value_same test (lists_of old) list.items found)
+
+pub returns-clause-others : goal.returns-clause-others
+returns-clause-others g c = ((c.get_mut.follows.holds c.reserve.new.self).3 c.requires.has).2

@@ -1,7 +1,7 @@
-use Rattle.rectangle_pack_sections.proofs.Std.{sym, ◌∙◌}
+use Rattle.rectangle_pack_sections.proofs.Std.{refl, sym, ◌∙◌}
 use Rattle.rectangle_pack_groups.specs.Groups.{lists_of}
 use Rattle.rectangle_pack_groups.proofs.lemmas.multimap.Sized.{filled-all}
-use Rattle.rectangle_pack_groups.proofs.lemmas.multimap.Mutual.{excluded-again, excluded-added, these-back}
+use Rattle.rectangle_pack_groups.proofs.lemmas.multimap.Mutual.{excluded-again, excluded-added, these-back, not-both}
 use Rattle.rectangle_pack_groups.proofs.grouped_rects_to_place.exclusions.Exclusions.add.Goals as goal
 
 pub returns-then-has-clause-ok : goal.returns-then-has-clause-ok
@@ -23,3 +23,22 @@ returns-in-Ok-clause-ok g c = rw (← c.self.view_is)
 pub returns-in-Err-clause-err : goal.returns-in-Err-clause-err
 returns-in-Err-clause-err g c =
     rw (c.forget_empty.ensures ∙ c.in-Err.ensures.kept ∙ filled-all (lists_of c.self.inside.partners.entries) c.self.invariant.1) c.self.view_is
+
+pub list_both-requires : goal.list_both-requires
+list_both-requires g c = record {
+  clones_equal = c.requires.clones_equal;
+  different = sym (g.met.K.Ord.matches_eq _ _) ∙ c.requires.different;
+  some = c.self.invariant.1;
+}
+
+pub returns-in-Ok-clause-again : goal.returns-in-Ok-clause-again
+returns-in-Ok-clause-again g c = λ there. not-both _ (sym c.has.ensures ∙ c.if-has.false) there
+
+pub returns-in-Ok-clause-err : goal.returns-in-Ok-clause-err
+returns-in-Ok-clause-err g c = tt
+
+pub returns-in-Err-clause-ok : goal.returns-in-Err-clause-ok
+returns-in-Err-clause-ok g c = tt
+
+pub returns-in-Err-clause-again : goal.returns-in-Err-clause-again
+returns-in-Err-clause-again g c = λ there. not-both _ (sym c.has.ensures ∙ c.if-has.false) there
