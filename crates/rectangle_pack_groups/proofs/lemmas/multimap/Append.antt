@@ -105,3 +105,8 @@ appended-other all old None new same so = ap (option_map (λ v. v.items)) (so �
 appended-other all old (Some v) None same so = absurd so
 appended-other all old (Some v) (Some w) same so =
     ap Some (so.joined ∙ ap (λ l. v.items ++ l) (nil_from_length so.tail so.long) ∙ append-nil v.items) ∙ ap (option_map (λ u. u.items)) same
+
+-- an item is appended to the vector that is found
+pub appended-found : {X A : Type 0} (x : X) (old new : Option (Vec X A)) (v w : Vec X A) → old ≡ Some v → new ≡ Some w → w.items ≡ v.items ++ x ∷ []
+    → IsSomeAnd old (λ v. IsSomeAnd new (λ w. w.items ≡ v.items ++ x ∷ []))
+appended-found x old new v w found now items = rw (found, now) items

@@ -4,8 +4,8 @@ use Rattle.rectangle_pack_sections.proofs.Std.{nat_lt, IsTotalOrder, Equal-is, O
 use Rattle.rectangle_pack_sections.proofs.Std.{match_ordering, is_eq, is_at, insert_entry, lookup-map_values, keys_of-map_values}
 use Rattle.rectangle_pack_groups.specs.Groups.{lists_of}
 use Rattle.rectangle_pack_groups.specs.private.Multimaps.{filled, items_of}
-use Rattle.rectangle_pack_groups.proofs.lemmas.util.Maps.{lookup-equal, set_value-map_values, insert_entry-map_values}
-use Rattle.rectangle_pack_sections.proofs.Std.{ℕ, ◌+◌, ◌++◌, arith, map, sum, values_of, sum_by-cons, All, All-head}
+use Rattle.rectangle_pack_groups.proofs.lemmas.util.Maps.{lookup-equal, set_value-map_values, insert_entry-map_values, is_some-option_map}
+use Rattle.rectangle_pack_sections.proofs.Std.{ℕ, ◌+◌, ◌++◌, arith, map, sum, values_of, sum_by-cons, All, All-head, unwrap_or}
 
 -- what is not there is `None`
 pub none_of : {X : Type 0} (found : Option X) → is_some found ≡ false → found ≡ None
@@ -52,6 +52,21 @@ keys-lists es = keys_of-map_values (λ v. v.items) es
 -- a list that a key has, by the vector that it has
 pub lookup-lists : {K X A : Type 0} (test : K → Bool) (es : List (K × Vec X A)) → lookup test (lists_of es) ≡ option_map (λ v. v.items) (lookup test es)
 lookup-lists test es = lookup-map_values (λ v. v.items) test es
+
+-- a key has a list where it has a vector
+pub known-lists : {K X A : Type 0} (test : K → Bool) (es : List (K × Vec X A)) → is_some (lookup test (lists_of es)) ≡ is_some (lookup test es)
+known-lists test es = ap is_some (lookup-lists test es) ∙ is_some-option_map (λ v. v.items) (lookup test es)
+
+-- where the lists are the same, look-ups find the same items
+pub items-same : {K X A : Type 0} (test : K → Bool) (new old : List (K × Vec X A)) → lists_of new ≡ lists_of old
+    → items_of (lookup test new) ≡ items_of (lookup test old)
+items-same {X = X} test new old same =
+    ap (λ (found : Option (List X)). unwrap_or found []) (sym (lookup-lists test new) ∙ ap (lookup test) same ∙ lookup-lists test old)
+
+-- and something at the same keys
+pub known-same : {K X A : Type 0} (test : K → Bool) (new old : List (K × Vec X A)) → lists_of new ≡ lists_of old
+    → is_some (lookup test new) ≡ is_some (lookup test old)
+known-same test new old same = sym (known-lists test new) ∙ ap (λ es. is_some (lookup test es)) same ∙ known-lists test old
 
 -- a key is new, and gets a vector with no items
 module _ {K X A : Type 0} {cmp : K → K → Ordering} (o : IsTotalOrder cmp) (k n : K) (old new : List (K × Vec X A)) (v : Vec X A) (equal : cmp k n ≡ Equal)
