@@ -1,9 +1,9 @@
 -- How often keys occur, and lists to which items are appended.
 use Rattle.rectangle_pack_sections.proofs.Std.{◌≡◌, ℕ, ◌+◌, ◌<◌, ◌≤◌, List, [], ◌∷◌, ◌++◌, length, take, get_or, refl, ap, sym, ◌∙◌, arith, cond, true, false}
-use Rattle.rectangle_pack_sections.proofs.Std.{Bool, append_assoc, length-append, subst, Option, Some, None, All, Contains, IsSome, IsSomeAnd, IfSome, is_some}
-use Rattle.rectangle_pack_sections.proofs.Std.{unwrap_or, map, option_map, sum_by, Ordering, Vec, IsTotalOrder, is_eq, eq_by_cmp_equiv, append-nil}
-use Rattle.rectangle_pack_sections.proofs.Std.{count_by_more_yes, count_by_more_no, sum_by-take-le, sum_by-cons, All-append, All-cons, All-nil, All-weaker}
-use Rattle.rectangle_pack_sections.proofs.Std.{All-contains, nil_from_length, lookup, is_at, Equal-is}
+use Rattle.rectangle_pack_sections.proofs.Std.{Bool, append_assoc, length-append, Option, Some, None, Contains, IsSome, IsSomeAnd, is_some}
+use Rattle.rectangle_pack_sections.proofs.Std.{map, option_map, sum_by, Ordering, Vec, IsTotalOrder, is_eq, eq_by_cmp_equiv, append-nil}
+use Rattle.rectangle_pack_sections.proofs.Std.{count_by_more_yes, count_by_more_no, sum_by-take-le, sum_by-cons, All-append, All-cons, All-nil}
+use Rattle.rectangle_pack_sections.proofs.Std.{nil_from_length, lookup, is_at, Equal-is}
 use Rattle.rectangle_pack_groups.specs.private.Multimaps.{times, items_of, AreAppended, IsAdded}
 use Rattle.rectangle_pack_groups.proofs.lemmas.util.Maps.{lookup-equal}
 use Rattle.rectangle_pack_groups.proofs.lemmas.multimap.Vectors.{none_of}

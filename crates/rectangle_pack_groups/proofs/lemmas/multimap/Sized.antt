@@ -1,5 +1,5 @@
 -- Groups whose members have sizes, as lists are set, extended and forgotten.
-use Rattle.rectangle_pack_sections.proofs.Std.{◌≡◌, ℕ, ◌+◌, ◌<◌, List, [], ◌∷◌, ◌++◌, length, refl, ap, sym, subst, ◌∙◌, arith, cond, true, false, Bool, rules}
+use Rattle.rectangle_pack_sections.proofs.Std.{◌≡◌, ℕ, ◌+◌, ◌<◌, List, [], ◌∷◌, length, refl, ap, sym, subst, ◌∙◌, arith, cond, true, false, Bool, rules}
 use Rattle.rectangle_pack_sections.proofs.Std.{zero, suc, IsSome, All, Contains, nat_lt, Option, Some, None, IfSome, IsSomeAnd, unwrap_or, map, count_by}
 use Rattle.rectangle_pack_sections.proofs.Std.{Result, Ok, Err, OnOk, OnErr, Ordering, Vec, IsTotalOrder, is_eq, is_err, lookup, values_of, keys_of, is_at}
 use Rattle.rectangle_pack_sections.proofs.Std.{insert_entry, All-weaker, All-contains, All-tail, All-head, All-cons, All-nil, All-append, All-values_from_lookup, Equal, length-append}

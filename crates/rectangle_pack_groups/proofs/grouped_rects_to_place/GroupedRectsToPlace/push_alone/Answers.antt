@@ -1,4 +1,4 @@
-use Rattle.rectangle_pack_sections.proofs.Std.{◌≡◌, refl, sym, ◌∙◌, Equal, Equal-is, IfOk-from_err, tied_back, tied_itself}
+use Rattle.rectangle_pack_sections.proofs.Std.{◌≡◌, refl, sym, ◌∙◌, Equal, Equal-is, IfOk-from_err, tied_itself}
 use Rattle.rectangle_pack_groups.specs.declared.grouped_rects_to_place.Group.TheVariants.{Ungrouped}
 use Rattle.rectangle_pack_groups.proofs.lemmas.multimap.Sized.{MembersHaveSizes-alone, lists-alone, OnErr-given}
 use Rattle.rectangle_pack_groups.proofs.grouped_rects_to_place.GroupedRectsToPlace.push_alone.Goals as goal

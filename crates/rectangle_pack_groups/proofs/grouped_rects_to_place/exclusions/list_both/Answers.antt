@@ -1,4 +1,4 @@
-use Rattle.rectangle_pack_sections.proofs.Std.{refl, subst, get, IfOk-from_err, ◌≡◌, sym, ◌∙◌, Equal-is, Equal}
+use Rattle.rectangle_pack_sections.proofs.Std.{refl, subst, IfOk-from_err, ◌≡◌, sym, ◌∙◌, Equal-is, Equal}
 use Rattle.rectangle_pack_groups.specs.private.Multimaps.{HasRoom}
 use Rattle.rectangle_pack_groups.proofs.lemmas.util.Maps.{is_at-back}
 use Rattle.rectangle_pack_groups.proofs.lemmas.multimap.Sized.{OnErr-given}

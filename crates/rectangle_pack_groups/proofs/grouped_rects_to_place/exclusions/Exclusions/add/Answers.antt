@@ -1,4 +1,4 @@
-use Rattle.rectangle_pack_sections.proofs.Std.{refl, sym, ◌∙◌}
+use Rattle.rectangle_pack_sections.proofs.Std.{sym, ◌∙◌}
 use Rattle.rectangle_pack_groups.specs.Groups.{lists_of}
 use Rattle.rectangle_pack_groups.proofs.lemmas.multimap.Sized.{filled-all}
 use Rattle.rectangle_pack_groups.proofs.lemmas.multimap.Mutual.{excluded-again, excluded-added, these-back, not-both}
