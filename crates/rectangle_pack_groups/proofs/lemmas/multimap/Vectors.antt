@@ -5,7 +5,7 @@ use Rattle.rectangle_pack_sections.proofs.Std.{match_ordering, is_eq, is_at, ins
 use Rattle.rectangle_pack_groups.specs.Groups.{lists_of}
 use Rattle.rectangle_pack_groups.specs.private.Multimaps.{filled, items_of}
 use Rattle.rectangle_pack_groups.proofs.lemmas.util.Maps.{lookup-equal, set_value-map_values, insert_entry-map_values, is_some-option_map}
-use Rattle.rectangle_pack_sections.proofs.Std.{ℕ, ◌+◌, ◌++◌, arith, map, sum, values_of, sum_by-cons, All, All-head, unwrap_or}
+use Rattle.rectangle_pack_sections.proofs.Std.{ℕ, ◌+◌, ◌++◌, arith, map, sum, values_of, sum_by-cons, All, All-head, unwrap_or, tied_itself}
 
 -- what is not there is `None`
 pub none_of : {X : Type 0} (found : Option X) → is_some found ≡ false → found ≡ None
@@ -90,6 +90,14 @@ module _ {K X A : Type 0} {cmp : K → K → Ordering} (o : IsTotalOrder cmp) (k
             ap items_of (seen q) ∙ ap (λ b. items_of (cond b (Some v) (lookup (is_at (cmp q)) old))) e
             ∙ empty ∙ ap items_of (sym (sym (lookup-equal o n q ((Equal-is _).0 e) old) ∙ none_new))
         by false e = ap items_of (seen q) ∙ ap (λ b. items_of (cond b (Some v) (lookup (is_at (cmp q)) old))) e
+
+    -- nothing changes at the other keys
+    pub others-new_key : (q : K) → is_eq (cmp k q) ≡ false → lookup (is_at (cmp q)) new ≡ lookup (is_at (cmp q)) old
+    others-new_key q other = rw (seen q, ← o.congr k n q equal, other) refl
+
+    -- and the key is there
+    pub has-new_key : is_some (lookup (is_at (cmp k)) new) ≡ true
+    has-new_key = rw (seen k, ← o.congr k n k equal, tied_itself o k) refl
 
 -- how many entries the lists have in all
 abbrev pub entries_in : {K X A : Type 0} → List (K × Vec X A) → ℕ

@@ -1,6 +1,10 @@
 use Rattle.rectangle_pack_sections.proofs.Std.{refl, on_ok_weaker}
 use Rattle.rectangle_pack_groups.specs.Groups.{lists_of, Collection}
+use Rattle.rectangle_pack_groups.proofs.lemmas.groups.GroupOrder.{groups_by_variants}
 use Rattle.rectangle_pack_groups.proofs.grouped_rects_to_place.GroupedRectsToPlace.exclude.Goals as goal
+
+pub add-requires-clause-clones_equal : goal.add-requires-clause-clones_equal
+add-requires-clause-clones_equal g c = groups_by_variants _ c.requires.ids (λ a b h. absurd h) (λ a b h. absurd h) c.requires.group_ids
 
 pub returns-clause-ok : goal.returns-clause-ok
 returns-clause-ok g c = rw (← c.self.view_is) (on_ok_weaker c.add.result (λ p. record { sizes = refl; groups = refl; pairs = p }) c.add.ensures.ok)

@@ -1,6 +1,8 @@
-use Rattle.rectangle_pack_sections.proofs.Std.{◌≡◌, refl, sym, ◌∙◌, Equal, Equal-is, IfOk-from_err, tied_itself}
+use Rattle.rectangle_pack_sections.proofs.Std.{◌≡◌, refl, ap, sym, ◌∙◌, Equal, Equal-is, IfOk-from_err, tied_itself}
 use Rattle.rectangle_pack_groups.specs.declared.grouped_rects_to_place.Group.TheVariants.{Ungrouped}
-use Rattle.rectangle_pack_groups.proofs.lemmas.multimap.Sized.{MembersHaveSizes-alone, lists-alone, OnErr-given}
+use Rattle.rectangle_pack_sections.specs.Boxes.{Size}
+use Rattle.rectangle_pack_groups.specs.Groups.{lists_of}
+use Rattle.rectangle_pack_groups.proofs.lemmas.multimap.Sized.{MembersHaveSizes-alone, MembersHaveSizes-same, lists-alone, OnErr-given}
 use Rattle.rectangle_pack_groups.proofs.grouped_rects_to_place.GroupedRectsToPlace.push_alone.Goals as goal
 
 pub put_alone-requires : goal.put_alone-requires
@@ -13,7 +15,7 @@ restore-requires g c =
     record { has = rw c.in-Err.ensures.value_returned (c.in_ok-before.ensures.found (Ungrouped c.args.inbound_id) same) }
 
 pub invariant_of-self : goal.invariant_of-self
-invariant_of-self g c = rw c.in_err-before.ensures.kept c.self.invariant
+invariant_of-self g c = MembersHaveSizes-same g.Id.Ord.cmp _ _ _ _ refl (ap lists_of c.in_err-before.ensures.kept) c.self.invariant
 
 pub invariant_of-self-in-Ok : goal.invariant_of-self-in-Ok
 invariant_of-self-in-Ok g c =
@@ -25,9 +27,10 @@ invariant_of-self-in-Err g c =
     let before = c.in_ok-before.ensures in
     let same : g.Id.Ord.cmp c.args.inbound_id c.in_ok-clone.field-0 ≡ Equal =
     (Equal-is _).0 (sym (g.met.Id.Ord.matches_eq _ _) ∙ c.requires.ids _ _ c.in_ok-clone.ensures.cases) in
+    let back = ap (λ (pair : g.row.Id.Denot × Size). g.Id.Ord.cmp pair.0 c.in_ok-clone.field-0) c.in-Err.ensures.value_returned ∙ same in
     let restored = c.restore.ensures c.self.inside.groups.entries (Ungrouped c.in_ok-clone.field-0) before.put.list before.ordered
-    (rw c.in-Err.ensures.value_returned same) before.before before.put.put in
-    rw (restored, c.in-Err.ensures.err) c.self.invariant
+    back before.before before.put.put in
+    MembersHaveSizes-same g.Id.Ord.cmp _ _ _ _ c.in-Err.ensures.err (ap lists_of restored) c.self.invariant
 
 pub returns-in_err-clone : goal.returns-in_err-clone
 returns-in_err-clone g c = record { ok = IfOk-from_err _ _ c.from_residual.ensures.0; err = OnErr-given _ refl }
@@ -63,6 +66,7 @@ returns-in-Err-clause-err g c =
     let before = c.in_ok-before.ensures in
     let same : g.Id.Ord.cmp c.args.inbound_id c.in_ok-clone.field-0 ≡ Equal =
     (Equal-is _).0 (sym (g.met.Id.Ord.matches_eq _ _) ∙ c.requires.ids _ _ c.in_ok-clone.ensures.cases) in
+    let back = ap (λ (pair : g.row.Id.Denot × Size). g.Id.Ord.cmp pair.0 c.in_ok-clone.field-0) c.in-Err.ensures.value_returned ∙ same in
     let restored = c.restore.ensures c.self.inside.groups.entries (Ungrouped c.in_ok-clone.field-0) before.put.list before.ordered
-    (rw c.in-Err.ensures.value_returned same) before.before before.put.put in
+    back before.before before.put.put in
     rw (restored, c.in-Err.ensures.err) c.self.view_is

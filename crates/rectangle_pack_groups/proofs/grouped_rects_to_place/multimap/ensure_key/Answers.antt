@@ -1,5 +1,7 @@
-use Rattle.rectangle_pack_sections.proofs.Std.{◌≡◌, refl, sym, ◌∙◌, Equal-is, Equal, IfOk-from_err, tied_itself}
-use Rattle.rectangle_pack_groups.proofs.lemmas.multimap.Vectors.{filled-new_key, items-new_key}
+use Rattle.rectangle_pack_sections.proofs.Std.{◌≡◌, refl, sym, ◌∙◌, ap, Equal-is, Equal, IfOk-from_err}
+use Rattle.rectangle_pack_groups.specs.Groups.{lists_of}
+use Rattle.rectangle_pack_groups.specs.private.Multimaps.{filled}
+use Rattle.rectangle_pack_groups.proofs.lemmas.multimap.Vectors.{filled-new_key, items-new_key, others-new_key, has-new_key}
 use Rattle.rectangle_pack_groups.proofs.grouped_rects_to_place.multimap.ensure_key.Goals as goal
 
 pub returns-in_err-insert : goal.returns-in_err-insert
@@ -21,8 +23,8 @@ returns g c =
     let absent = sym c.contains_key.ensures ∙ c.if-contains_key.false in
     let seen = c.in_ok-insert.ensures.updates.0 in
     record {
-      kept = rw c.in_ok-insert.ensures.entries (filled-new_key o k n old old v same absent c.new.ensures.items);
+      kept = ap (λ es. filled (lists_of es)) c.in_ok-insert.ensures.entries ∙ filled-new_key o k n old old v same absent c.new.ensures.items;
       items = items-new_key o k n old _ v same absent c.new.ensures.items seen;
-      others = λ q other. rw (seen q, ← o.congr k n q same, other) refl;
-      has = rw (seen k, ← o.congr k n k same, tied_itself o k) refl;
+      others = others-new_key o k n old _ v same absent c.new.ensures.items seen;
+      has = has-new_key o k n old _ v same absent c.new.ensures.items seen;
     }
