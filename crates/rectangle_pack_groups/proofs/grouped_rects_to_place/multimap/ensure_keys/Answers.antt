@@ -1,16 +1,24 @@
-use Rattle.rectangle_pack_sections.proofs.Std.{◌≡◌, ap, ◌∙◌, arith, take, take-length}
+use Rattle.rectangle_pack_sections.proofs.Std.{◌≡◌, ap, ◌∙◌, arith, take, take-length, IfOk-from_err}
 use Rattle.rectangle_pack_groups.specs.private.Multimaps.{times}
 use Rattle.rectangle_pack_groups.proofs.lemmas.multimap.Append.{times-more_le, times-more_none, known-more}
 use Rattle.rectangle_pack_groups.proofs.grouped_rects_to_place.multimap.ensure_keys.Goals as goal
 
-pub returns-in_err-ensure_key-clause-others : goal.returns-in_err-ensure_key-clause-others
-returns-in_err-ensure_key-clause-others g c q none =
+pub returns-in_err-ensure_key : goal.returns-in_err-ensure_key
+returns-in_err-ensure_key g c =
     let o = g.met.K.Ord.total in
     let i = c.loop-key.key-index in
     let at = c.key-item.is in
-    let le = times-more_le o c.args.keys.now i c.key-item.result q c.loop-key-test.true at in
-    let none_yet = times-more_none o c.args.keys.now i c.key-item.result q c.loop-key-test.true at (omega (arith, le, none)) in
-    c.ensure_key.ensures.others q none_yet.1 ∙ c.loop-key.invariant.others q none_yet.0
+    let before = c.loop-key.invariant in
+    let now = c.ensure_key.ensures in
+    record {
+      kept = now.kept ∙ before.kept;
+      items = λ q. now.items q ∙ before.items q;
+      others = λ q none.
+          let le = times-more_le o c.args.keys.now i c.key-item.result q c.loop-key-test.true at in
+          let none_yet = times-more_none o c.args.keys.now i c.key-item.result q c.loop-key-test.true at (omega (arith, le, none)) in
+          now.others q none_yet.1 ∙ before.others q none_yet.0;
+      has = IfOk-from_err _ _ c.from_residual.ensures.0;
+    }
 
 pub loop-key-preserved : goal.loop-key-preserved
 loop-key-preserved g c =
