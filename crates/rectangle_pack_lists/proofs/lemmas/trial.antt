@@ -5,5 +5,6 @@ pub mod Steps
 pub mod StepsByIndex
 pub mod FitTests
 pub mod Slots
+pub mod Rooms
 pub mod SlotSteps
 pub mod Summaries

@@ -1,5 +1,5 @@
 -- Steps in slots, and the undoing of noted steps there.
-use Rattle.rectangle_pack_sections.proofs.Std.{◌≡◌, ◌↔◌, ℕ, List, [], ◌∷◌, ◌++◌, length, take, set, get_or, refl, sym, ap, subst, ◌∙◌, Option, Some, None, All}
+use Rattle.rectangle_pack_sections.proofs.Std.{arith, length-append, ◌≡◌, ◌↔◌, ◌<◌, ℕ, List, [], ◌∷◌, ◌++◌, length, take, set, get_or, refl, sym, ap, subst, ◌∙◌, Option, Some, None, IsSome, All}
 use Rattle.rectangle_pack_sections.proofs.Std.{map, set-get_or, set-set, length-set, take-append_seam, get_or-append_seam, set-append_seam}
 use Rattle.rectangle_pack_sections.specs.Boxes.{Size, Cuboid, Holds, FitsU32}
 use Rattle.rectangle_pack_sections.specs.Choice.{IsAllowedCut}
@@ -53,12 +53,21 @@ pub sections_of-full : (xs : List Cuboid) → sections_of (map (λ s. Some s) xs
 sections_of-full [] = refl
 sections_of-full (x ∷ xs) = ap (λ l. x ∷ l) (sections_of-full xs)
 
+-- the last slot that holds a size is one of the slots, and has a section
+pub last-place : (slots : List (Option Cuboid)) (size : Size) (i tests : ℕ) → IsLastHolding slots size i tests → i < length slots
+last-place slots size i tests at = omega (arith, at.place, ap length at.splits, length-append at.before (Some at.section ∷ at.after))
+
+last-is : (slots : List (Option Cuboid)) (size : Size) (i tests : ℕ) (at : IsLastHolding slots size i tests) → get_or slots i None ≡ Some at.section
+last-is slots size i tests at = ap (λ l. get_or l i None) at.splits ∙ rw at.place (get_or-append_seam at.before (Some at.section) at.after None)
+
+pub last-full : (slots : List (Option Cuboid)) (size : Size) (i tests : ℕ) → IsLastHolding slots size i tests → IsSome (get_or slots i None)
+last-full slots size i tests at = rw (last-is slots size i tests at) refl
+
 -- a section that is read at the last slot that holds a size is the one that splits the sections
 last-splits : (slots : List (Option Cuboid)) (size : Size) (i tests : ℕ) (s : Cuboid) (at : IsLastHolding slots size i tests)
     → get_or slots i None ≡ Some s → (at.section ≡ s) × (sections_of slots ≡ sections_of at.before ++ s ∷ sections_of at.after)
 last-splits slots size i tests s at found =
-    let here : get_or slots i None ≡ Some at.section =
-    ap (λ l. get_or l i None) at.splits ∙ rw at.place (get_or-append_seam at.before (Some at.section) at.after None) in
+    let here : get_or slots i None ≡ Some at.section = last-is slots size i tests at in
     let same : at.section ≡ s = cc in
     (same, ap sections_of at.splits ∙ sections_of-append at.before (Some at.section ∷ at.after) ∙ rw same refl)
 
@@ -66,6 +75,20 @@ last-splits slots size i tests s at found =
 pub last-fits : (slots : List (Option Cuboid)) (size : Size) (i tests : ℕ) (s : Cuboid)
     → IsLastHolding slots size i tests → get_or slots i None ≡ Some s → All FitsU32 (sections_of slots) → FitsU32 s
 last-fits slots size i tests s at found = All-middle FitsU32 (sections_of slots) _ _ s (last-splits slots size i tests s at found).1
+
+-- and it holds the size
+pub last-holds : (slots : List (Option Cuboid)) (size : Size) (i tests : ℕ) (s : Cuboid)
+    → IsLastHolding slots size i tests → get_or slots i None ≡ Some s → Holds s size
+last-holds slots size i tests s at found = subst (λ (x : Cuboid). Holds x size) (last-splits slots size i tests s at found).0 at.held
+
+-- the note of a section that was taken out there can be undone, whatever was pushed
+pub CanUndoSlot-taken : (slots taken next pushed : List (Option Cuboid)) (size : Size) (i tests kept : ℕ) (s : Cuboid)
+    → IsLastHolding slots size i tests → kept ≡ length slots → taken ≡ set slots i None → next ≡ taken ++ pushed
+    → CanUndoSlot (record { index = i; section = s; kept = kept }) next
+CanUndoSlot-taken slots taken next pushed size i tests kept s at all same more = record {
+  kept = omega (arith, ap length more, length-append taken pushed, ap length same, length-set slots i None);
+  index = omega (arith, last-place slots size i tests at);
+}
 
 -- a step in slots
 pub IsStep-in_slots : (may : Answers) (slots : List (Option Cuboid)) (member : Size) (i tests : ℕ) (s : Cuboid) (cut left : List Cuboid)

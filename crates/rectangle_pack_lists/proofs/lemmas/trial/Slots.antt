@@ -75,6 +75,13 @@ module _ (s : List (Option Cuboid)) (end : ℕ) (some : 0 < end) (within : end �
     tests_are = omega (arith, later.tests_are);
   }
 
+-- where a summed stretch ends, and no section in it holds a size
+pub NoneHolds-stretch : (w end n : ℕ) (slots all : List (Option Cuboid)) (size : Size) → w ≤ end → slots ≡ all
+    → NoneHolds (take w (drop (end - w) slots)) size n → NoneHolds (take (end - (end - w)) (drop (end - w) all)) size n
+NoneHolds-stretch w end n slots all size within same none =
+    let long : end - (end - w) ≡ w = omega arith in
+    rw (long, ← same) none
+
 -- before a slot with a section there are fewer sections than in all
 pub sections_of-fewer : (s : List (Option Cuboid)) (i : ℕ) (x : Cuboid) (d : Option Cuboid)
     → i < length s → get_or s i d ≡ Some x → length (sections_of (take i s)) < length (sections_of s)

@@ -1,11 +1,22 @@
 use Rattle.rectangle_pack_sections.proofs.Std.{◌∙◌, length-set}
-use Rattle.rectangle_pack_lists.proofs.lemmas.trial.SlotSteps.{before-taken, last-fits, IsStep-in_slots}
+use Rattle.rectangle_pack_lists.proofs.lemmas.trial.SlotSteps.{before-taken, last-place, last-full, last-fits, last-holds, CanUndoSlot-taken, IsStep-in_slots}
 use Rattle.rectangle_pack_lists.proofs.trial.slots.place_at.Goals as goal
+
+pub take-section-requires-clause-place : goal.take-section-requires-clause-place
+take-section-requires-clause-place g c = let (tests, at) = c.requires.newest in last-place _ _ _ tests at
+
+pub take-section-requires-clause-full : goal.take-section-requires-clause-full
+take-section-requires-clause-full g c = let (tests, at) = c.requires.newest in last-full _ _ _ tests at
 
 pub place_in-location-requires-clause-ends : goal.place_in-location-requires-clause-ends
 place_in-location-requires-clause-ends g c =
     let (tests, at) = c.requires.newest in
     last-fits c.args.slots.now.all c.args.member.now c.args.index tests c.take-section.result at c.take-section.ensures.section c.requires.fits
+
+pub place_in-location-requires-clause-holds : goal.place_in-location-requires-clause-holds
+place_in-location-requires-clause-holds g c =
+    let (tests, at) = c.requires.newest in
+    last-holds c.args.slots.now.all c.args.member.now c.args.index tests c.take-section.result at c.take-section.ensures.section
 
 pub returns-clause-step : goal.returns-clause-step
 returns-clause-step g c tests at =
@@ -29,3 +40,9 @@ returns-clause-room g c = c.push_pieces.ensures.room ∙ c.take-section.ensures.
 
 pub returns-clause-no_longer : goal.returns-clause-no_longer
 returns-clause-no_longer g c = rw (c.take-section.ensures.all, length-set) at c.push_pieces.ensures.no_longer
+
+pub returns-clause-can_undo : goal.returns-clause-can_undo
+returns-clause-can_undo g c =
+    let (tests, at) = c.requires.newest in
+    CanUndoSlot-taken c.args.slots.now.all _ _ _ c.args.member.now c.args.index tests _ c.take-section.result at c.slots-kept.ensures.all
+    c.take-section.ensures.all c.push_pieces.ensures.all
