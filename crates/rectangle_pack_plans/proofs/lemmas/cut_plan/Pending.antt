@@ -1,6 +1,6 @@
 -- The parts of a box that are still to be planned, the next one first, whose boxes stand one part after another.
 use Rattle.rectangle_pack_sections.proofs.Std.{ℕ, suc, ◌+◌, ◌-◌, ◌<◌, ◌≤◌, ◌≡◌, true, List, [], ◌∷◌, ◌++◌, length, take, drop, refl, ap, sym, ◌∙◌, subst}
-use Rattle.rectangle_pack_sections.proofs.Std.{append_assoc, reverse, arith, All, count_by, None, IsPermutation, length-take-le, length-drop, reverse-append}
+use Rattle.rectangle_pack_sections.proofs.Std.{append_assoc, sum_by, sum_by_push, reverse, arith, All, count_by, None, IsPermutation, length-take-le, length-drop, reverse-append}
 use Rattle.rectangle_pack_sections.proofs.Std.{take_at, drop_at, length-append, append-nil, take-append-drop, All-take, All-drop, count_by-le-length}
 use Rattle.rectangle_pack_sections.proofs.Std.{length-filter, length_permutation, IsNonDecreasingBy-take, IsNonDecreasingBy-drop}
 use borrow.Rule.Slice.PartMut.{put_mid}
@@ -156,6 +156,25 @@ LeadOn-end boxes whole rest steps tiles h =
 abbrev pub weight : Part → ℕ
 weight p = suc (p.count + p.count - 2)
 
+-- what is still to be planned weighs less once the last part is taken
+pub weight-popped : (pending popped : List Part) (part : Part) → pending ≡ popped ++ part ∷ [] → sum_by weight popped < sum_by weight pending
+weight-popped pending popped part is = omega (arith, ap (sum_by weight) is, sum_by_push weight popped part)
+
+-- and less also where its two parts stand in its place
+pub weight-split : (pending popped with_upper with_both : List Part) (part up lo : Part) → pending ≡ popped ++ part ∷ []
+    → with_upper ≡ popped ++ up ∷ [] → with_both ≡ with_upper ++ lo ∷ [] → 0 < lo.count → lo.count < part.count → up.count ≡ part.count - lo.count
+    → sum_by weight with_both < sum_by weight pending
+weight-split pending popped with_upper with_both part up lo is one two some less rest =
+    omega (
+      arith,
+      ap (sum_by weight) is,
+      sum_by_push weight popped part,
+      ap (sum_by weight) one,
+      sum_by_push weight popped up,
+      ap (sum_by weight) two,
+      sum_by_push weight with_upper lo,
+    )
+
 module _ (boxes : List Cuboid) (whole : Cuboid) where
   pub LeadOn-same : (ps qs : List Part) (rest left : List Cuboid) (steps more : List CutStep)
       → ps ≡ qs → rest ≡ left → steps ≡ more → LeadOn boxes whole ps rest steps → LeadOn boxes whole qs left more
@@ -184,6 +203,12 @@ only_is_next none items p empty is = sym (ap reverse (is ∙ ap (λ l. l ++ p �
 pub lower_is_next : (popped pending last : List Part) (lo up : Part) → pending ≡ popped ++ up ∷ [] → last ≡ pending ++ lo ∷ []
     → lo ∷ up ∷ reverse popped ≡ reverse last
 lower_is_next popped pending last lo up one two = rw (two, one, reverse-append (popped ++ up ∷ []) (lo ∷ []), reverse-append popped (up ∷ [])) refl
+
+-- a split of the boxes of a part leaves fewer than all below it
+pub fewer-below : (done n below : ℕ) (filling es : List Cuboid)
+    → done + n ≤ length filling → IsPermutation (take n (drop done filling)) es → below < length es → below < n
+fewer-below done n below filling es within moved less =
+    omega (arith, length_permutation (take n (drop done filling)) es moved, length-take-le n (drop done filling) (omega (arith, length-drop done filling)))
 
 -- the boxes after those that are planned, once those of the next part are in another order
 module _ (done n : ℕ) (filling es : List Cuboid) (within : done ≤ length filling) where
