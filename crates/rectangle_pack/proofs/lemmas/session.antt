@@ -3,6 +3,7 @@
 pub mod Keeps
 pub mod Numbering
 pub mod Transitions
+pub mod Packing
 pub mod Stats
 pub mod Promise
 pub mod Best

@@ -1,26 +1,32 @@
-use Rattle.rectangle_pack_sections.proofs.Std.{refl, arith, Ok, Err}
-use Rattle.std.proofs.lemmas.Result.{err_from_is_err_and}
+use Rattle.rectangle_pack_sections.proofs.Std.{refl, arith, subst, Ok, Err}
+use Rattle.rectangle_pack_bins.specs.Packing.{bins_of}
 use Rattle.rectangle_pack_groups.proofs.lemmas.groups.GroupOrder.{groups_total}
 use Rattle.rectangle_pack.specs.declared.session.command.SessionError.TheVariants.{NotEnoughBinSpace}
-use Rattle.rectangle_pack.proofs.lemmas.session.Best.{best-kept, best-refused, best-promised}
+use Rattle.rectangle_pack.proofs.lemmas.session.Best.{best-found, none-found, best-kept, best-refused, best-stopped, best-none, best-promised}
+use Rattle.rectangle_pack.proofs.lemmas.session.Packing.{next-fits, first-next, used_up, unchanged, IsSession-same}
+use Rattle.rectangle_pack.specs.Session.{IsSession}
 use Rattle.rectangle_pack.proofs.session.Session.pack_best.Goals as goal
 
 pub returns-in_err-packed-clause-packed : goal.returns-in_err-packed-clause-packed
 returns-in_err-packed-clause-packed g c =
-    let found = rw c.in-Some-best.is at c.in_ok-best.ensures.best in
-    let failed = err_from_is_err_and c.from_residual-in_err-packed.result c.from_residual-in_err-packed.ensures.1 in
-    rw (failed.1, failed.2)
-    (best-refused (groups_total _ g.Id.Ord.cmp g.GroupId.Ord.cmp g.met.Id.Ord.total g.met.GroupId.Ord.total (λ a b. refl) (λ a b. refl) (λ a b. refl) (λ a b. refl))
+    let bins = bins_of c.self.inside.bins.entries in
+    let found = best-found _ g.Id.Ord.cmp g.BinId.Ord.cmp c.args.groups.now c.args.heuristics.now bins c.in_ok-best.best c.in_ok-best.ensures.best
+    c.in-Some-best.best c.in-Some-best.field-0-1 c.in-Some-best.is in
+    best-refused (groups_total _ g.Id.Ord.cmp g.GroupId.Ord.cmp g.met.Id.Ord.total g.met.GroupId.Ord.total (λ a b. refl) (λ a b. refl) (λ a b. refl) (λ a b. refl))
     g.met.Id.Ord.total g.met.BinId.Ord.total c.args.groups.now c.args.heuristics.now _ c.in-Some-best.best c.in-Some-best.field-0-1 found _
-    (rw c.in_ok-best.ensures.same refl) _ c.self.view_is _ _ c.in_err-packed.ensures.packed)
+    (unchanged bins (bins_of c.best_of.new.target_bins.entries) c.self.inside.outstanding.items c.self.inside.outstanding.items c.self.inside.next
+    c.in_ok-best.ensures.same refl _ refl) c.args.self.now c.self.view_is
+    c.from_residual-in_err-packed.result c.in_err-packed.field-0.0 c.from_residual-in_err-packed.ensures.1 _ c.in_err-packed.ensures.packed
 
 pub returns-clause-packed : goal.returns-clause-packed
 returns-clause-packed g c =
-    let found = rw c.in-Some-best.is at c.in_ok-best.ensures.best in
-    rw (← c.self.view_is)
-    (best-kept (groups_total _ g.Id.Ord.cmp g.GroupId.Ord.cmp g.met.Id.Ord.total g.met.GroupId.Ord.total (λ a b. refl) (λ a b. refl) (λ a b. refl) (λ a b. refl))
+    let bins = bins_of c.self.inside.bins.entries in
+    let found = best-found _ g.Id.Ord.cmp g.BinId.Ord.cmp c.args.groups.now c.args.heuristics.now bins c.in_ok-best.best c.in_ok-best.ensures.best
+    c.in-Some-best.best c.in-Some-best.field-0-1 c.in-Some-best.is in
+    best-kept (groups_total _ g.Id.Ord.cmp g.GroupId.Ord.cmp g.met.Id.Ord.total g.met.GroupId.Ord.total (λ a b. refl) (λ a b. refl) (λ a b. refl) (λ a b. refl))
     g.met.Id.Ord.total g.met.BinId.Ord.total c.args.groups.now c.args.heuristics.now _ c.in-Some-best.best c.in-Some-best.field-0-1 found _
-    (rw c.in_ok-best.ensures.same refl) c.in_ok-packed.packed _ c.in_ok-packed.ensures.packed)
+    (unchanged bins (bins_of c.best_of.new.target_bins.entries) c.self.inside.outstanding.items c.self.inside.outstanding.items c.self.inside.next
+    c.in_ok-best.ensures.same refl _ refl) c.args.self.now c.self.view_is c.in_ok-packed.packed _ c.in_ok-packed.ensures.packed
 
 pub returns-clause-promise : goal.returns-clause-promise
 returns-clause-promise g c =
@@ -29,8 +35,12 @@ returns-clause-promise g c =
 
 pub returns-in_default-best-clause-packed : goal.returns-in_default-best-clause-packed
 returns-in_default-best-clause-packed g c =
-    let entries = rw c.groups.ensures.entries at c.in-Some.ensures in
-    rw (← c.self.view_is) (omega arith, rw c.in_default-best.is at c.in_ok-best.ensures.best, rw c.in_ok-best.ensures.same refl)
+    let fits = next-fits c.args.groups.now _ c.groups.ensures.entries c.self.inside.next c.in-Some.next c.in-Some.ensures (omega arith) in
+    let bins = bins_of c.self.inside.bins.entries in
+    let none = none-found _ g.Id.Ord.cmp g.BinId.Ord.cmp c.args.groups.now c.args.heuristics.now bins c.in_ok-best.best c.in_ok-best.ensures.best
+    c.in_default-best.is in
+    best-none _ g.Id.Ord.cmp g.BinId.Ord.cmp c.args.groups.now c.args.heuristics.now bins _ c.self.inside.outstanding.items c.self.inside.next
+    c.in_ok-best.ensures.same c.args.self.now c.self.view_is fits none
 
 pub returns-in_default-best-clause-promise : goal.returns-in_default-best-clause-promise
 returns-in_default-best-clause-promise g c =
@@ -40,3 +50,61 @@ returns-in_default-best-clause-promise g c =
 pub returns-in_err-packed-clause-promise : goal.returns-in_err-packed-clause-promise
 returns-in_err-packed-clause-promise g c =
     best-promised _ g.Id.Ord.cmp g.met.BinId.Ord.total c.args.groups.now c.args.heuristics.now _ _ _ (returns-in_err-packed-clause-packed g c)
+
+pub returns-in_default-clause-packed : goal.returns-in_default-clause-packed
+returns-in_default-clause-packed g c = (used_up c.args.groups.now _ c.args.self.now c.self.view_is _ c.groups.ensures.entries c.in_default.ensures, refl)
+
+pub returns-in_default-clause-promise : goal.returns-in_default-clause-promise
+returns-in_default-clause-promise g c = tt
+
+pub returns-in_default-clause-always : goal.returns-in_default-clause-always
+returns-in_default-clause-always g c = subst (λ s. IsSession g.BinId.Ord.cmp s) c.self.view_is c.self.invariant
+
+pub overflow_sub-entries : goal.overflow_sub-entries
+overflow_sub-entries g c = first-next _ _ _ c.in-Some.ensures
+
+pub best_of-requires-clause-ids : goal.best_of-requires-clause-ids
+best_of-requires-clause-ids g c = c.requires.ids
+
+pub best_of-requires-clause-bin_ids : goal.best_of-requires-clause-bin_ids
+best_of-requires-clause-bin_ids g c = c.requires.bin_ids
+
+pub invariant_of-self : goal.invariant_of-self
+invariant_of-self g c = IsSession-same g.BinId.Ord.cmp c.self.inside.next c.in_err-best.ensures.same refl c.self.invariant
+
+pub returns-in_err-best-clause-always : goal.returns-in_err-best-clause-always
+returns-in_err-best-clause-always g c = invariant_of-self g c
+
+pub invariant_of-self-in_default-best : goal.invariant_of-self-in_default-best
+invariant_of-self-in_default-best g c = IsSession-same g.BinId.Ord.cmp c.self.inside.next c.in_ok-best.ensures.same refl c.self.invariant
+
+pub returns-in_default-best-clause-always : goal.returns-in_default-best-clause-always
+returns-in_default-best-clause-always g c = invariant_of-self-in_default-best g c
+
+pub invariant_of-self-2 : goal.invariant_of-self-2
+invariant_of-self-2 g c = IsSession-same g.BinId.Ord.cmp c.self.inside.next c.in_ok-best.ensures.same refl c.self.invariant
+
+pub pack_by-requires-clause-ids : goal.pack_by-requires-clause-ids
+pack_by-requires-clause-ids g c = c.requires.ids
+
+pub pack_by-requires-clause-bin_ids : goal.pack_by-requires-clause-bin_ids
+pack_by-requires-clause-bin_ids g c = c.requires.bin_ids
+
+pub pack_by-requires-clause-callable : goal.pack_by-requires-clause-callable
+pack_by-requires-clause-callable g c = tt
+
+pub returns-in_err-packed-clause-always : goal.returns-in_err-packed-clause-always
+returns-in_err-packed-clause-always g c = c.in_err-packed.ensures.always
+
+pub returns-clause-always : goal.returns-clause-always
+returns-clause-always g c = c.in_ok-packed.ensures.always
+
+pub returns-in_err-best-clause-packed : goal.returns-in_err-best-clause-packed
+returns-in_err-best-clause-packed g c =
+    let fits = next-fits c.args.groups.now _ c.groups.ensures.entries c.self.inside.next c.in-Some.next c.in-Some.ensures (omega arith) in
+    best-stopped _ g.Id.Ord.cmp g.BinId.Ord.cmp c.args.groups.now c.args.heuristics.now _ _ c.self.inside.outstanding.items c.self.inside.next
+    c.in_err-best.ensures.same c.args.self.now c.self.view_is fits c.from_residual.result c.from_residual.ensures.1
+
+pub returns-in_err-best-clause-promise : goal.returns-in_err-best-clause-promise
+returns-in_err-best-clause-promise g c =
+    best-promised _ g.Id.Ord.cmp g.met.BinId.Ord.total c.args.groups.now c.args.heuristics.now c.args.self.now _ _ (returns-in_err-best-clause-packed g c)
