@@ -1,8 +1,8 @@
 //! Bins with what is placed in them: boxes are packed, and given back by number.
-ghost use Rattle.std.specs.Prelude.{◌≡◌, [], IfSome, IsOk};
+ghost use Rattle.std.specs.Prelude.{◌≡◌, [], IfSome, IsOk, OnOk, OnErr};
 ghost use Rattle.std.specs.List.Sorted.{IsStrictlySortedBy};
 ghost use Rattle.std.specs.Map.{keys_of, lookup};
-ghost use Rattle.std.specs.BTreeMap.{is_at};
+ghost use Rattle.std.specs.BTreeMap.{is_at, insert_entry};
 ghost use Rattle.std.specs.Option.{option_map};
 ghost use Rattle.rectangle_pack_groups.specs.Clones.{ClonesEqual};
 ghost use Rattle.rectangle_pack_sections.specs.Bins.{Bin};
@@ -32,7 +32,7 @@ use rectangle_pack_groups::grouped_rects_to_place::{Group, GroupedRectsToPlace};
 use rectangle_pack_sections::closures::{Closures, Policy};
 use rectangle_pack_sections::width_height_depth::WidthHeightDepth;
 pub use stats::BinStats;
-use std::alloc::{Allocator, Global};
+use std::alloc::{AllocError, Allocator, Global};
 use std::cmp::Ordering;
 use std::collections::BTreeMap;
 use std::marker::Model;
@@ -168,10 +168,8 @@ where
         }
         let alloc = *self.outstanding.allocator();
         let bin = TargetBin::new(alloc, width, height, depth)?;
-        match self.bins.insert(id, bin) {
-            Ok(_) => Ok(()),
-            Err(_) => Err(SessionError::OutOfMemory),
-        }
+        put_bin(&mut self.bins, id, bin)?;
+        Ok(())
     }
 
     /// Packs all groups into the bins, as `pack_rects` does. The placements go to the end of
@@ -317,5 +315,20 @@ where
         };
         bin.coalesce_all();
         Ok(())
+    }
+}
+
+// Puts a bin under an id. A bin that is replaced is dropped, and so is what is refused.
+fn put_bin<B: Ord + Drop, A: Allocator + Copy>(
+    bins: &mut BTreeMap<B, TargetBin<A>, A>,
+    id: B,
+    bin: TargetBin<A>,
+) -> Result<(), AllocError>
+    ensures ok { OnOk result (bins.new.entries ≡ insert_entry B.cmp bins.old.entries id bin) }
+    ensures err { OnErr result (bins.new.entries ≡ bins.old.entries) }
+{
+    match bins.insert(id, bin) {
+        Ok(_) => Ok(()),
+        Err(_) => Err(AllocError),
     }
 }

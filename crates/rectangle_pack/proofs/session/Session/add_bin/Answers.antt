@@ -3,6 +3,7 @@ use Rattle.rectangle_pack_bins.specs.Packing.{bins_of}
 use Rattle.rectangle_pack_bins.proofs.lemmas.packing.RollBack.{is_some-bins_of}
 use Rattle.rectangle_pack_groups.proofs.lemmas.multimap.Vectors.{none_of}
 use Rattle.rectangle_pack.proofs.lemmas.session.Keeps.{None-bins_of}
+use Rattle.rectangle_pack.proofs.lemmas.session.Packing.{state, IsSession-same}
 use Rattle.rectangle_pack.proofs.lemmas.session.Transitions.{added-inserted, memory_refused}
 use Rattle.rectangle_pack.specs.Session.{IsSession}
 use Rattle.rectangle_pack.proofs.session.Session.add_bin.Goals as goal
@@ -11,39 +12,41 @@ pub returns-then-contains_key-clause-added : goal.returns-then-contains_key-clau
 returns-then-contains_key-clause-added g c = rw (← c.self.view_is)
     (is_some-bins_of (is_at (g.BinId.Ord.cmp c.args.id)) c.self.inside.bins.entries ∙ sym c.contains_key.ensures ∙ c.if-contains_key.true, refl)
 
+pub returns-then-contains_key-clause-always : goal.returns-then-contains_key-clause-always
+returns-then-contains_key-clause-always g c = subst (λ s. IsSession g.BinId.Ord.cmp s) c.self.view_is c.self.invariant
+
 pub returns-in_err-bin-clause-added : goal.returns-in_err-bin-clause-added
 returns-in_err-bin-clause-added g c = rw (memory_refused c.from_residual.result c.from_residual.ensures.1, ← c.self.view_is)
     (None-bins_of (is_at (g.BinId.Ord.cmp c.args.id)) c.self.inside.bins.entries (none_of _ (sym c.contains_key.ensures ∙ c.if-contains_key.false)), refl)
 
+pub returns-in_err-bin-clause-always : goal.returns-in_err-bin-clause-always
+returns-in_err-bin-clause-always g c = subst (λ s. IsSession g.BinId.Ord.cmp s) c.self.view_is c.self.invariant
+
 pub invariant_of-self : goal.invariant_of-self
-invariant_of-self g c =
-    (added-inserted g.met.BinId.Ord.total c.args.id (record { width = c.args.width; height = c.args.height; depth = c.args.depth }) _ _ c.in_ok-bin.bin _ _
-    (none_of _ (sym c.contains_key.ensures ∙ c.if-contains_key.false)) c.in-Ok.ensures.entries c.in_ok-bin.ensures c.self.invariant).1
+invariant_of-self g c = IsSession-same g.BinId.Ord.cmp c.self.inside.next (ap bins_of c.in_err-put_bin.ensures.err) refl c.self.invariant
 
-pub returns-in-Ok-clause-added : goal.returns-in-Ok-clause-added
-returns-in-Ok-clause-added g c =
-    rw (← c.self.view_is)
-    (added-inserted g.met.BinId.Ord.total c.args.id (record { width = c.args.width; height = c.args.height; depth = c.args.depth }) _ _ c.in_ok-bin.bin _ _
-    (none_of _ (sym c.contains_key.ensures ∙ c.if-contains_key.false)) c.in-Ok.ensures.entries c.in_ok-bin.ensures c.self.invariant).0
+pub returns-in_err-put_bin-clause-always : goal.returns-in_err-put_bin-clause-always
+returns-in_err-put_bin-clause-always g c = invariant_of-self g c
 
-pub returns-clause-added : goal.returns-clause-added
-returns-clause-added g c = rw (← c.self.view_is) (
-  None-bins_of (is_at (g.BinId.Ord.cmp c.args.id)) c.self.inside.bins.entries (none_of _ (sym c.contains_key.ensures ∙ c.if-contains_key.false)),
-  ap
-      (λ es. record { bins = bins_of es; outstanding = c.self.inside.outstanding.items; next = c.self.inside.next }) c.in-Err.ensures.err,
-)
-
-pub returns-in-Ok-clause-always : goal.returns-in-Ok-clause-always
-returns-in-Ok-clause-always g c = invariant_of-self g c
+pub returns-in_err-put_bin-clause-added : goal.returns-in_err-put_bin-clause-added
+returns-in_err-put_bin-clause-added g c =
+    rw (memory_refused c.from_residual-in_err-put_bin.result c.from_residual-in_err-put_bin.ensures.1, ← c.self.view_is) (
+      None-bins_of (is_at (g.BinId.Ord.cmp c.args.id)) c.self.inside.bins.entries (none_of _ (sym c.contains_key.ensures ∙ c.if-contains_key.false)),
+      ap (λ es. state (bins_of es) c.self.inside.outstanding.items c.self.inside.next) c.in_err-put_bin.ensures.err,
+    )
 
 pub invariant_of-self-2 : goal.invariant_of-self-2
-invariant_of-self-2 g c = rw c.in-Err.ensures.err c.self.invariant
+invariant_of-self-2 g c =
+    (added-inserted g.met.BinId.Ord.total c.args.id (record { width = c.args.width; height = c.args.height; depth = c.args.depth })
+    c.self.inside.bins.entries c.put_bin.new.bins.entries c.in_ok-bin.bin c.self.inside.outstanding.items c.self.inside.next
+    (none_of _ (sym c.contains_key.ensures ∙ c.if-contains_key.false)) c.in_ok-put_bin.ensures.ok c.in_ok-bin.ensures c.self.invariant).1
 
 pub returns-clause-always : goal.returns-clause-always
 returns-clause-always g c = invariant_of-self-2 g c
 
-pub returns-then-contains_key-clause-always : goal.returns-then-contains_key-clause-always
-returns-then-contains_key-clause-always g c = subst (λ s. IsSession g.BinId.Ord.cmp s) c.self.view_is c.self.invariant
-
-pub returns-in_err-bin-clause-always : goal.returns-in_err-bin-clause-always
-returns-in_err-bin-clause-always g c = subst (λ s. IsSession g.BinId.Ord.cmp s) c.self.view_is c.self.invariant
+pub returns-clause-added : goal.returns-clause-added
+returns-clause-added g c =
+    rw (← c.self.view_is)
+    (added-inserted g.met.BinId.Ord.total c.args.id (record { width = c.args.width; height = c.args.height; depth = c.args.depth })
+    c.self.inside.bins.entries c.put_bin.new.bins.entries c.in_ok-bin.bin c.self.inside.outstanding.items c.self.inside.next
+    (none_of _ (sym c.contains_key.ensures ∙ c.if-contains_key.false)) c.in_ok-put_bin.ensures.ok c.in_ok-bin.ensures c.self.invariant).0
