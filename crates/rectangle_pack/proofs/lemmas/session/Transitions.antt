@@ -1,7 +1,7 @@
 -- What each transition of a session keeps, and how a run goes on.
 use Rattle.rectangle_pack_sections.proofs.Std.{◌≡◌, ℕ, ◌+◌, ◌<◌, ◌≤◌, List, [], ◌∷◌, ◌++◌, refl, ap, sym, ◌∙◌, subst, true, arith, length, append-nil, get_or}
 use Rattle.rectangle_pack_sections.proofs.Std.{take, Some, None, Result, Ok, Err, Ordering, Equal, IsTotalOrder, IsErrAnd, lookup, set_value, is_at}
-use Rattle.rectangle_pack_sections.proofs.Std.{insert_entry, take_more, keys-set_value, tied_itself}
+use Rattle.rectangle_pack_sections.proofs.Std.{insert_entry, take_all, take_more, keys-set_value, tied_itself}
 use Rattle.rectangle_pack.specs.declared.session.command.Outstanding.{Outstanding}
 use Rattle.rectangle_pack_groups.specs.declared.grouped_rects_to_place.Group.{Group}
 use Rattle.rectangle_pack.specs.declared.session.command.Command.{Command}
@@ -194,11 +194,15 @@ module _ {C R S : Type 0} (IsStep : C → S → R → S → Type 0) where
   IsRun-push (c' ∷ cs) c old mid new (r' ∷ rs) r (next, first, rest) step = (next, first, IsRun-push cs c next mid new rs r rest step)
   IsRun-push cs c old mid new rs r ran step = absurd ran
 
-  pub IsRun-more : (cs : List C) (i : ℕ) (c : C) (old mid new : S) (rs : List R) (r : R) → i < length cs → c ≡ get_or cs i c
-      → IsRun IsStep (take i cs) old rs mid → IsStep c mid r new → IsRun IsStep (take (i + 1) cs) old (rs ++ r ∷ []) new
-  IsRun-more cs i c old mid new rs r within is ran step =
-      subst (λ xs. IsRun IsStep xs old (rs ++ r ∷ []) new) (sym (take_more cs i c within ∙ ap (λ z. take i cs ++ z ∷ []) (sym is)))
-      (IsRun-push (take i cs) c old mid new rs r ran step)
+  pub IsRun-more : (cs : List C) (i : ℕ) (c : C) (old mid new : S) (rs later : List R) (r : R) → i < length cs → c ≡ get_or cs i c
+      → IsRun IsStep (take i cs) old rs mid → IsStep c mid r new → later ≡ rs ++ r ∷ [] → IsRun IsStep (take (i + 1) cs) old later new
+  IsRun-more cs i c old mid new rs later r within is ran step pushed =
+      rw pushed (subst (λ xs. IsRun IsStep xs old (rs ++ r ∷ []) new) (sym (take_more cs i c within ∙ ap (λ z. take i cs ++ z ∷ []) (sym is)))
+      (IsRun-push (take i cs) c old mid new rs r ran step))
+
+  -- and is whole once no command is left
+  pub IsRun-all : (cs : List C) (i : ℕ) (old new : S) (rs : List R) → length cs ≤ i → IsRun IsStep (take i cs) old rs new → IsRun IsStep cs old rs new
+  IsRun-all cs i old new rs none_left ran = subst (λ xs. IsRun IsStep xs old rs new) (take_all i cs none_left) ran
 
 -- what `?` makes of refused memory
 pub memory_refused : {T : Type 0} (r : Result T SessionError) → IsErrAnd r (λ e. e ≡ OutOfMemory) → r ≡ Err OutOfMemory
