@@ -1,11 +1,15 @@
 -- What a session answers to a packing, by what the packing on its bins did.
 use Rattle.rectangle_pack_sections.proofs.Std.{◌≡◌, ℕ, ◌+◌, ◌-◌, ◌<◌, ◌≤◌, ◌^◌, List, [], ◌++◌, refl, ap, sym, ◌∙◌, subst, arith, true, false, Bool, length}
-use Rattle.rectangle_pack_sections.proofs.Std.{MatchBool, map, sum, values_of, Result, Ok, IsErrAnd, Ordering, IsTotalOrder}
+use Rattle.rectangle_pack_sections.proofs.Std.{MatchBool, OnTrue, map, sum, values_of, Option, Some, None, MatchOption, Result, Ok, Err, IfOk, OnErr, IsErrAnd, Vec}
+use Rattle.rectangle_pack_sections.proofs.Std.{Ordering, IsTotalOrder, cond, ◌⊎◌, inl, inr}
+use Rattle.std.specs.Prelude.{MatchResult}
 use Rattle.rectangle_pack_groups.specs.declared.grouped_rects_to_place.Group.{Group}
 use Rattle.rectangle_pack_groups.specs.Groups.{Collection, entries_of}
-use Rattle.rectangle_pack_sections.specs.Bins.{Bin}
+use Rattle.rectangle_pack_sections.specs.Bins.{Bin, Held}
 use Rattle.rectangle_pack_bins.specs.declared.pack.answer.Placement.{Placement}
-use Rattle.rectangle_pack_bins.specs.Packing.{Rules, PackingDone, PackingRefused}
+use Rattle.rectangle_pack_bins.specs.declared.pack.journal.DoneTrial.{DoneTrial}
+use Rattle.rectangle_pack_bins.specs.private.RollBack.{GoesBack}
+use Rattle.rectangle_pack_bins.specs.Packing.{Rules, PackingDone, PackingRefused, bins_of}
 use Rattle.rectangle_pack.specs.declared.session.command.Outstanding.{Outstanding}
 use Rattle.rectangle_pack.specs.declared.session.command.Packed.{Packed as PackedNumbers}
 use Rattle.rectangle_pack.specs.declared.session.command.Reply.TheVariants.{Packed, Refused}
@@ -115,3 +119,32 @@ module _ {Id B G : Type 0} (group_cmp : Group G Id → Group G Id → Ordering) 
         let (placements, made, length_is, added) = rw is_done at packed in
         IsSession-done group_cmp rules total all bins now placements outstanding later first next made added
         (after ∙ ap (λ n. first + n) (sym (length_is ∙ counted))) h
+
+-- a packing before its first trial goes back to its own bins
+pub start-back : {B A : Type 0} (cmp : B → B → Ordering) (own : List (B × Held)) (journal : List (DoneTrial B A)) (start : List (B × Bin))
+    → bins_of own ≡ start → journal ≡ [] → GoesBack cmp own journal start
+start-back cmp own journal start is none = rw none (record { undoes = is })
+
+-- a packing that was tried, from what it said of itself and how it was ended: done and kept, or refused and rolled back, or stopped and
+-- rolled back
+module _ {Id B G A E : Type 0} (group_cmp : Group G Id → Group G Id → Ordering) (rules : Rules Id B) (all : Collection Id G) (was old : List (B × Bin))
+    (same : was ≡ old) (kept new : List (B × Held)) (placements : Vec (Placement Id B) A)
+    (Counts : PackingDone group_cmp rules all was placements.items (bins_of kept) → Type 0)
+    (CountsRefused : PackingRefused group_cmp rules all was (bins_of kept) → Type 0) (Back : List (B × Bin) → Type 0) (goes_back : Back old) where
+  pub tried : (packed : Result Bool E) → IfOk packed (λ done. MatchBool done
+      ((packing : PackingDone group_cmp rules all was placements.items (bins_of kept)) × Counts packing)
+      ((refused : PackingRefused group_cmp rules all was (bins_of kept)) × CountsRefused refused))
+      → IfOk packed (λ done. OnTrue done (length placements.items ≡ entries_of all))
+      → (result : Result (Option (Vec (Placement Id B) A)) E)
+      → MatchResult packed (λ done. result ≡ Ok (cond done (Some placements) None)) (λ error. result ≡ Err error)
+      → (packed ≡ Ok true → new ≡ kept)
+      → (packed ≡ Ok true) ⊎ ((start : List (B × Bin)) → Back start → bins_of new ≡ start)
+      → IfOk result (λ placed. MatchOption placed
+      ((left : List (B × Bin)) × PackingRefused group_cmp rules all old left × (bins_of new ≡ old))
+      (λ made. PackingDone group_cmp rules all old made.items (bins_of new) × (length made.items ≡ entries_of all)))
+      × OnErr result (bins_of new ≡ old)
+  tried (Ok true) says counted result answered ends back = rw (answered, ends refl, ← same) ((says.0, counted), tt)
+  tried (Ok false) says counted result answered ends (inl is) = absurd cc
+  tried (Ok false) says counted result answered ends (inr back) = rw (answered, ← same) ((bins_of kept, says.0, back old goes_back ∙ sym same), tt)
+  tried (Err e) says counted result answered ends (inl is) = absurd cc
+  tried (Err e) says counted result answered ends (inr back) = rw answered (tt, back old goes_back)
