@@ -148,3 +148,15 @@ module _ {Id B G A E : Type 0} (group_cmp : Group G Id → Group G Id → Orderi
   tried (Ok false) says counted result answered ends (inr back) = rw (answered, ← same) ((bins_of kept, says.0, back old goes_back ∙ sym same), tt)
   tried (Err e) says counted result answered ends (inl is) = absurd cc
   tried (Err e) says counted result answered ends (inr back) = rw answered (tt, back old goes_back)
+
+-- what it placed, or that it is refused
+module _ {Id B G A : Type 0} (group_cmp : Group G Id → Group G Id → Ordering) (rules : Rules Id B) (all : Collection Id G) (old new : List (B × Bin))
+    (placed : Option (Vec (Placement Id B) A))
+    (says : MatchOption placed ((left : List (B × Bin)) × PackingRefused group_cmp rules all old left × (new ≡ old))
+    (λ made. PackingDone group_cmp rules all old made.items new × (length made.items ≡ entries_of all))) where
+  pub tried-done : (made : Vec (Placement Id B) A) → placed ≡ Some made
+      → PackingDone group_cmp rules all old made.items new × (length made.items ≡ entries_of all)
+  tried-done made is = rw is at says
+
+  pub tried-refused : placed ≡ None → (left : List (B × Bin)) × PackingRefused group_cmp rules all old left × (new ≡ old)
+  tried-refused is = rw is at says

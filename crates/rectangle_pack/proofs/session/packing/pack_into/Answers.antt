@@ -1,7 +1,9 @@
-use Rattle.rectangle_pack_sections.proofs.Std.{refl, sym, ap, ◌∙◌, length, vec_len, ◌≡◌, ◌<◌, [], append-nil, map, sum, values_of, IfOk-from_err}
+use Rattle.rectangle_pack_sections.proofs.Std.{refl, sym, ap, ◌∙◌, length, vec_len, ◌≡◌, ◌<◌, ◌++◌, [], append-nil, map, sum, values_of, IfOk-from_err}
 use Rattle.rectangle_pack_groups.proofs.lemmas.multimap.Sized.{OnErr-given}
 use Rattle.rectangle_pack_bins.proofs.lemmas.packing.Groups.{PackingDone-none, lists-some, lists-more, lists-empty}
 use Rattle.rectangle_pack_bins.specs.Packing.{bins_of, rules_by}
+use Rattle.rectangle_pack.specs.Session.{numbered}
+use Rattle.rectangle_pack.proofs.lemmas.session.Packing.{tried-done, tried-refused}
 use Rattle.rectangle_pack.proofs.session.packing.pack_into.Goals as goal
 
 pub returns-then-is_empty : goal.returns-then-is_empty
@@ -41,21 +43,32 @@ returns-in_err-placements g c =
       no_groups = λ none. absurd (lists-some _ _ c.is_empty.ensures c.if-is_empty.false (c.groups.ensures.entries ∙ none));
     }
 
+pub try_packing-requires-clause-ids : goal.try_packing-requires-clause-ids
+try_packing-requires-clause-ids g c = c.requires.ids
+
+pub try_packing-requires-clause-bin_ids : goal.try_packing-requires-clause-bin_ids
+try_packing-requires-clause-bin_ids g c = c.requires.bin_ids
+
+pub try_packing-requires-clause-callable : goal.try_packing-requires-clause-callable
+try_packing-requires-clause-callable g c = c.requires.callable
+
 pub number_all-requires : goal.number_all-requires
 number_all-requires g c =
-    let done = rw c.in-Some.is at c.in_ok-placements.ensures.packed in
+    let done = tried-done _ (rules_by g.Id.Ord.cmp g.BinId.Ord.cmp (g.R.Policy.may c.args.policy.now)) c.args.groups.now (bins_of c.args.bins.now.entries)
+    (bins_of c.try_packing.new.bins.entries) c.in_ok-placements.field-0 c.in_ok-placements.ensures.packed c.in-Some.placements c.in-Some.is in
     let count : vec_len c.in-Some.placements ≡ c.args.count = c.in-Some.placements.ok.0 ∙ done.1 ∙ sym c.requires.count in
     record { room = rw count c.in_ok-reserve.ensures.ok; fits = rw count c.requires.fits }
 
 pub returns-in-Some : goal.returns-in-Some
 returns-in-Some g c =
-    let done = rw c.in-Some.is at c.in_ok-placements.ensures.packed in
+    let done = tried-done _ (rules_by g.Id.Ord.cmp g.BinId.Ord.cmp (g.R.Policy.may c.args.policy.now)) c.args.groups.now (bins_of c.args.bins.now.entries)
+    (bins_of c.try_packing.new.bins.entries) c.in_ok-placements.field-0 c.in_ok-placements.ensures.packed c.in-Some.placements c.in-Some.is in
     record {
       packed = (
         c.in-Some.placements.items,
         done.0,
         done.1 ∙ sym c.requires.count,
-        rw c.in_ok-reserve.ensures.items at c.number_all.ensures,
+        c.number_all.ensures ∙ ap (λ items. items ++ numbered c.args.first c.in-Some.placements.items) c.in_ok-reserve.ensures.items,
       );
       stopped = tt;
       no_groups = λ _. refl;
@@ -63,7 +76,8 @@ returns-in-Some g c =
 
 pub returns-in-None : goal.returns-in-None
 returns-in-None g c =
-    let refused = rw c.in-None.is at c.in_ok-placements.ensures.packed in
+    let refused = tried-refused _ (rules_by g.Id.Ord.cmp g.BinId.Ord.cmp (g.R.Policy.may c.args.policy.now)) c.args.groups.now
+    (bins_of c.args.bins.now.entries) (bins_of c.try_packing.new.bins.entries) c.in_ok-placements.field-0 c.in_ok-placements.ensures.packed c.in-None.is in
     record {
       packed = (refused.0, refused.1, refused.2, c.in_ok-reserve.ensures.items);
       stopped = tt;
