@@ -4,6 +4,7 @@
 pub mod command;
 mod digits;
 pub mod outcome;
+mod packer;
 mod print;
 pub mod run;
 pub mod stop;

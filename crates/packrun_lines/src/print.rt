@@ -7,7 +7,7 @@ ghost use Rattle.packrun_lines.specs.Lines.{box_text, cuboid_text, placement_tex
 use crate::digits::{LONGEST_NUMBER, LONGEST_THREE, put_number, put_three};
 use crate::stop::Stop;
 use crate::word::Word;
-use rectangle_pack::{BinSection, BinStats, Outstanding, Packed, RectanglePackError, SessionError};
+use rectangle_pack::{BinSection, BinStats, Outstanding, RectanglePackError, SessionError};
 use std::alloc::Allocator;
 use std::fmt::Display;
 use std::io;
@@ -20,17 +20,15 @@ fn printed(answer: io::Result<()>) -> Result<(), Stop>
     Ok(answer?)
 }
 
-// Prints the placements of the last packing, which are the last ones, and how many they are.
+// Prints the placements that a packing made, a line each, and how many they are.
 pub fn print_packed<A: Allocator, W: Write>(
     placements: &[Outstanding<Word<A>, Word<A>>],
-    packed: Packed,
     out: &mut W,
 ) -> Result<(), Stop> {
-    let Packed { first, count } = packed;
-    let start = placements.partition_point(|placement| placement.number < first);
-    for placement in &placements[start..] {
+    for placement in placements {
         print_placement(placement, out)?;
     }
+    let count = placements.len();
     printed(writeln!(out, "packed {count}"))
 }
 

@@ -6,13 +6,11 @@ ghost use Rattle.std.specs.Vec.{vec_len};
 ghost use Rattle.packrun_lines.specs.Commands.{NamesTwo};
 
 use crate::command::{Command, Size};
+use crate::packer::Packer;
 use crate::print::{print_list, print_packed, print_sums, refuse, report};
 use crate::stop::Stop;
 use crate::word::Word;
-use rectangle_pack::{
-    BinStats, Group, GroupedRectsToPlace, Packed, RectToInsert, Session, SessionError,
-    contains_smallest_box, volume_heuristic,
-};
+use rectangle_pack::{BinStats, SessionError};
 use std::alloc::{AllocError, Allocator};
 use std::io::Write;
 use std::ops::Range;
@@ -22,8 +20,7 @@ use std::str::SplitAsciiWhitespace;
 #[derive(Drop)]
 pub struct Store<A: Allocator + Copy> {
     alloc: A,
-    session: Session<Word<A>, Word<A>, A>,
-    rects: GroupedRectsToPlace<Word<A>, Word<A>, A>,
+    packer: Packer<Word<A>, A>,
 }
 
 impl<A: Allocator + Copy> Store<A> {
@@ -31,8 +28,7 @@ impl<A: Allocator + Copy> Store<A> {
     pub fn new(alloc: A, first: u64) -> Store<A> {
         Store {
             alloc,
-            session: Session::new(alloc, first),
-            rects: GroupedRectsToPlace::new(alloc),
+            packer: Packer::new(alloc, first),
         }
     }
 
@@ -46,7 +42,7 @@ impl<A: Allocator + Copy> Store<A> {
             Command::Rect { id, size, groups } => report(self.push_rect(id, size, groups), id, out),
             Command::Exclude { one, other } => report(self.exclude(one, other), one, out),
             Command::Pack => self.pack(out),
-            Command::Release(number) => report(self.session.release(number), number, out),
+            Command::Release(number) => report(self.packer.release(number), number, out),
             Command::Sections { name } => self.print_sections(name, out),
             Command::Coalesce { name, idx, range } => {
                 report(self.coalesce(name, idx, range), name, out)
@@ -58,8 +54,7 @@ impl<A: Allocator + Copy> Store<A> {
 
     fn add_bin(&mut self, name: &str, size: Size) -> Result<(), SessionError> {
         let id = Word::new(self.alloc, name)?;
-        self.session
-            .add_bin(id, size.width, size.height, size.depth)
+        self.packer.add_bin(id, size)
     }
 
     fn push_rect(
@@ -70,16 +65,15 @@ impl<A: Allocator + Copy> Store<A> {
     ) -> Result<(), SessionError> {
         let id = Word::new(self.alloc, id)?;
         let named = named_groups(self.alloc, groups)?;
-        let rect = RectToInsert::new(size.width, size.height, size.depth);
-        Ok(self.rects.push_rect(id, named, rect)?)
+        self.packer.push_rect(id, named, size)
     }
 
     fn exclude(&mut self, one: &str, other: &str) -> Result<(), SessionError>
         requires { one.now ≢ other.now }
     {
-        let one = Group::Grouped(Word::new(self.alloc, one)?);
-        let other = Group::Grouped(Word::new(self.alloc, other)?);
-        Ok(self.rects.exclude(one, other)?)
+        let one = Word::new(self.alloc, one)?;
+        let other = Word::new(self.alloc, other)?;
+        self.packer.exclude(one, other)
     }
 
     fn coalesce(
@@ -89,49 +83,32 @@ impl<A: Allocator + Copy> Store<A> {
         range: Range<usize>,
     ) -> Result<(), SessionError> {
         let bin = Word::new(self.alloc, name)?;
-        self.session.coalesce(&bin, idx, range)
+        self.packer.coalesce(&bin, idx, range)
     }
 
     fn sweep(&mut self, name: &str) -> Result<(), SessionError> {
         let bin = Word::new(self.alloc, name)?;
-        self.session.coalesce_all(&bin)
-    }
-
-    // Places the boxes. They are kept where they are refused, so that a bin can be added and the
-    // packing tried again.
-    fn place(&mut self) -> Result<Packed, SessionError> {
-        let packed = self
-            .session
-            .pack(&self.rects, &volume_heuristic, &contains_smallest_box)?;
-        self.forget_rects();
-        Ok(packed)
-    }
-
-    fn forget_rects(&mut self) {
-        self.rects = GroupedRectsToPlace::new(self.alloc);
+        self.packer.sweep(&bin)
     }
 
     fn pack<W: Write>(&mut self, out: &mut W) -> Result<(), Stop> {
-        match self.place() {
-            Ok(packed) => print_packed(self.session.outstanding(), packed, out),
+        match self.packer.pack() {
+            Ok(placements) => print_packed(placements, out),
             Err(error) => refuse(error, "pack", out),
         }
     }
 
     fn print_sections<W: Write>(&self, name: &str, out: &mut W) -> Result<(), Stop> {
-        let id = Word::new(self.alloc, name)?;
-        let Some(bin) = self.session.bins().get(&id) else {
-            return refuse(SessionError::UnknownBin, name, out);
-        };
-        print_list(bin.available_bin_sections().as_slice(), out)
+        let bin = Word::new(self.alloc, name)?;
+        match self.packer.sections(&bin) {
+            Some(sections) => print_list(sections, out),
+            None => refuse(SessionError::UnknownBin, name, out),
+        }
     }
 
     fn stats(&self, name: &str) -> Result<BinStats, SessionError> {
         let bin = Word::new(self.alloc, name)?;
-        match self.session.stats(&bin) {
-            Some(stats) => Ok(stats),
-            None => Err(SessionError::UnknownBin),
-        }
+        self.packer.stats(&bin)
     }
 
     fn print_stats<W: Write>(&self, name: &str, out: &mut W) -> Result<(), Stop> {
@@ -150,17 +127,17 @@ fn named_groups<A: Allocator + Copy>(
     ensures { IfOk result (λ found. ForSome found (λ named. 0 < vec_len named)) }
 {
     let mut named = Vec::new(alloc);
-    for group in groups {
-        push_word(&mut named, alloc, group)?;
-    }
+    push_words(&mut named, alloc, groups)?;
     Ok(if named.is_empty() { None } else { Some(named) })
 }
 
-fn push_word<A: Allocator + Copy>(
+fn push_words<A: Allocator + Copy>(
     words: &mut Vec<Word<A>, A>,
     alloc: A,
-    word: &str,
+    names: SplitAsciiWhitespace<'_>,
 ) -> Result<(), AllocError> {
-    words.push(Word::new(alloc, word)?)?;
+    for name in names {
+        words.push(Word::new(alloc, name)?)?;
+    }
     Ok(())
 }

@@ -9,6 +9,6 @@ not_true false h = refl
 
 pub exclude-requires-clause-different : goal.exclude-requires-clause-different
 exclude-requires-clause-different g c =
-    let a = c.in_ok-new.field-0 in
-    let b = c.in_ok-new-2.field-0 in
-    not_true (bytes_eq a b) (λ e. c.requires (sym c.in_ok-new.ensures ∙ (bytes_eq-Decides a b).0 e ∙ c.in_ok-new-2.ensures))
+    let a = c.in_ok-one.one in
+    let b = c.in_ok-other.other in
+    not_true (bytes_eq a b) (λ e. c.requires (sym c.in_ok-one.ensures ∙ (bytes_eq-Decides a b).0 e ∙ c.in_ok-other.ensures))
