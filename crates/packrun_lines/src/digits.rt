@@ -28,6 +28,7 @@ pub fn put_three(numbers: [u32; 3], behind: u8, line: &mut [u8], end: usize) -> 
     requires room { LONGEST_THREE ≤ end }
     requires within { end ≤ length line.old }
     ensures start { end ≤ result + LONGEST_THREE }
+    ensures below { result < end }
     ensures written { drop result line.new ≡ three_text numbers behind ++ drop end line.old }
 {
     let [x, y, z] = numbers;
