@@ -99,10 +99,7 @@ fn flush_before_read<R: Read, W: Write, A: Allocator>(
 
 // Reads the next line, or so much of it that it is too long. How many bytes were read, none at the
 // end of the input.
-fn read_line<R: Read, A: Allocator>(
-    input: &mut BufReader<R, A>,
-    line: &mut Vec<u8, A>,
-) -> io::Result<usize> {
+fn read_line<B: BufRead, A: Allocator>(input: &mut B, line: &mut Vec<u8, A>) -> io::Result<usize> {
     line.clear();
     input
         .by_ref()
