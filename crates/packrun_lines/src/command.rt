@@ -8,7 +8,7 @@ use std::str;
 use std::str::SplitAsciiWhitespace;
 
 /// The sizes that a line names, in cells.
-#[derive(Clone, Copy, Debug, PartialEq, Eq, Drop)]
+#[derive(Clone, Copy, Drop)]
 pub struct Size {
     pub width: u32,
     pub height: u32,
