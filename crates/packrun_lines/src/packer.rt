@@ -31,6 +31,9 @@ impl<Name: Ord + Clone + Drop, A: Allocator + Copy> Packer<Name, A> {
         }
     }
 
+    /// Ends the session, and gives its memory back.
+    pub fn close(self) {}
+
     pub fn add_bin(&mut self, name: Name, size: Size) -> Result<(), SessionError> {
         self.session
             .add_bin(name, size.width, size.height, size.depth)

@@ -53,7 +53,9 @@ fn obey_input<R: Read, W: Write, A: Allocator + Copy>(
     // With this room a line takes no memory, so an error of `read_until` is the reader's.
     let mut line = Vec::with_capacity(alloc, LONGEST_LINE + 1)?;
     let mut store = Store::new(alloc, 0);
-    obey_each(&mut store, input, &mut line, out)
+    let ended = obey_each(&mut store, input, &mut line, out);
+    store.close();
+    ended
 }
 
 // Obeys each line, until the input ends or something stops it.

@@ -52,6 +52,11 @@ impl<A: Allocator + Copy> Store<A> {
         }
     }
 
+    /// Ends the session, and gives its memory back.
+    pub fn close(self) {
+        self.packer.close();
+    }
+
     fn add_bin(&mut self, name: &str, size: Size) -> Result<(), SessionError> {
         let id = Word::new(self.alloc, name)?;
         self.packer.add_bin(id, size)
