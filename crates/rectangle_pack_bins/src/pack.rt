@@ -18,6 +18,7 @@ pub mod answer;
 pub mod best;
 pub mod checkout;
 pub mod first_fit;
+mod homes;
 pub mod journal;
 mod laws;
 mod open_bin;

@@ -6,6 +6,7 @@ pub mod Placed
 pub mod Checkout
 pub mod RollBack
 pub mod Excluded
+pub mod Cases
 pub mod Groups
 pub mod FitTests
 pub mod Ends

@@ -14,13 +14,14 @@ ghost use Rattle.rectangle_pack_bins.specs.Orders.{IsBinOrder};
 ghost use Rattle.rectangle_pack_bins.specs.Packing.{rules_by, bins_of, excludes_by, at_start, Members, IsStuckIn, IsPlaced, IsRefused, AreAllPlaced, PackingDone, PackingRefused};
 ghost use Rattle.rectangle_pack_groups.specs.Groups.{entries_of};
 ghost use Rattle.rectangle_pack_bins.specs.PackAnswers.{AreCounted};
-ghost use Rattle.rectangle_pack_bins.specs.private.Excluded.{are_in, went_to, AreHomesKept};
+ghost use Rattle.rectangle_pack_bins.specs.private.Excluded.{are_in, AreHomesKept};
 ghost use Rattle.rectangle_pack_groups.specs.Exclusions.{listed_at};
 ghost use Rattle.rectangle_pack_bins.specs.private.Bounds.{AddsWithin};
 ghost use Rattle.rectangle_pack_bins.specs.private.Orders.{members_of, members_in, HasSizes, StopsAmong};
 ghost use Rattle.rectangle_pack_bins.specs.private.RollBack.{RollsBackTo, StaysUndoable};
 
 use crate::pack::answer::{Placement, name_all};
+use crate::pack::homes::{ExcludedBins, Homes};
 use crate::pack::journal::note_trial;
 use crate::pack::order::{OrderedGroup, group_order};
 use crate::pack::packing::Packing;
@@ -30,7 +31,6 @@ use rectangle_pack_lists::fit_tests::bounded;
 use rectangle_pack_sections::closures::Policy;
 use rectangle_pack_sections::rect_to_insert::RectToInsert;
 use std::alloc::{AllocError, Allocator};
-use std::collections::{BTreeMap, BTreeSet};
 
 // Tries a group in the bin of this id, at this index of the order, and places it there where its
 // trial is done; whether it is.
@@ -108,7 +108,7 @@ fn place_group<'b, Id, B, R, A>(
     packing: &mut Packing<'b, Id, B, A>,
     ids: &[Id],
     sizes: &[RectToInsert],
-    excluded: &BTreeSet<&'b B, A>,
+    excluded: &ExcludedBins<'b, B, A>,
     policy: &R,
 ) -> Result<Option<&'b B>, AllocError>
 where
@@ -124,7 +124,7 @@ where
     ensures placed { IfOk result
         (λ placed.
         let by = rules_by Id.cmp B.cmp (R.may policy.now) in
-        let excludes = are_in B.cmp excluded.now.keys in
+        let excludes = are_in B.cmp excluded.now in
         let names = map (λ o. o.1) packing.old.bins.order in
         let group : Members Id = record { ids = ids.now; sizes = sizes.now } in
         let old = bins_of packing.old.bins.kept in
@@ -155,7 +155,7 @@ where
     let order = packing.bins.order();
     for (i, (_, id)) in order.iter().enumerate() {
         packing.bins.check_out(i);
-        if excluded.contains(&id) {
+        if excluded.has(id) {
             continue;
         }
         if place_in_bin(packing, i, id, ids, sizes, policy)? {
@@ -165,46 +165,6 @@ where
     Ok(None)
 }
 
-// The homes of these groups, of those that have one in `homes`.
-fn excluded_bins<'a, 'b, K: Ord, B: Ord, A: Allocator + Copy>(
-    alloc: A,
-    partners: &'a [K],
-    homes: &BTreeMap<&'a K, &'b B, A>,
-) -> Result<BTreeSet<&'b B, A>, AllocError>
-    ensures { IfOk result
-        (λ s.
-        (id : B) → are_in B.cmp s.keys id ≡
-        list_any (λ p. went_to K.cmp B.cmp homes.now.entries p id) partners.now) }
-{
-    let mut excluded = BTreeSet::new(alloc);
-    for partner in partners {
-        if let Some(id) = homes.get(&partner) {
-            excluded.insert(*id)?;
-        }
-    }
-    Ok(excluded)
-}
-
-// Keeps the bin of a group for those that are excluded with it, where there are any.
-fn keep_home<'a, 'b, K: Ord, B: Ord, A: Allocator + Copy>(
-    homes: &mut BTreeMap<&'a K, &'b B, A>,
-    name: &'a K,
-    here: &'b B,
-    partners: &[K],
-) -> Result<(), AllocError>
-    ensures { OnOk result
-        ((all : List (K × List K)) (placed : List (K × B)) →
-        partners.now ≡ listed_at K.cmp all name.now →
-        All (λ home. is_at (K.cmp name.now) home.0 ≡ false) placed →
-        AreHomesKept K.cmp B.cmp all placed homes.old.entries →
-        AreHomesKept K.cmp B.cmp all ((name.now, here.now) ∷ placed) homes.new.entries) }
-{
-    if !partners.is_empty() {
-        homes.insert(name, here)?;
-    }
-    Ok(())
-}
-
 // Puts the next group into the first bin that takes it, and keeps that bin for the groups that are
 // excluded with it; whether there is one.
 fn place_next<'a, 'b, Id, B, K, R, A>(
@@ -212,7 +172,7 @@ fn place_next<'a, 'b, Id, B, K, R, A>(
     group: &OrderedGroup<'a, K, Id, A>,
     sizes: &[RectToInsert],
     exclusions: &'a Exclusions<K, A>,
-    homes: &mut BTreeMap<&'a K, &'b B, A>,
+    homes: &mut Homes<'a, 'b, K, B, A>,
     policy: &R,
 ) -> Result<bool, AllocError>
 where
@@ -230,7 +190,7 @@ where
         (λ done.
         (placed : List (K × B)) →
         All (λ home. is_at (K.cmp group.now.name.now) home.0 ≡ false) placed →
-        AreHomesKept K.cmp B.cmp exclusions.now placed homes.old.entries →
+        AreHomesKept K.cmp B.cmp exclusions.now placed homes.old →
         let by = rules_by Id.cmp B.cmp (R.may policy.now) in
         let excludes = excludes_by K.cmp B.cmp exclusions.now placed group.now.name.now in
         let names = map (λ o. o.1) packing.old.bins.order in
@@ -240,7 +200,7 @@ where
         MatchBool done
         ((added : List (Placement Id B)) × (count : ℕ) ×
         (at : IsPlaced by excludes names members old added new count) ×
-        AreHomesKept K.cmp B.cmp exclusions.now ((name, at.here) ∷ placed) homes.new.entries ×
+        AreHomesKept K.cmp B.cmp exclusions.now ((name, at.here) ∷ placed) homes.new ×
         (packing.new.placements.items ≡ packing.old.placements.items ++ added) ×
         (packing.new.tests ≡ saturated (packing.old.tests + count)))
         ((count : ℕ) ×
@@ -262,11 +222,11 @@ where
     let alloc = *packing.journal.allocator();
     let members = &sizes[group.start..group.start + group.ids.len()];
     let partners = exclusions.partners(group.name);
-    let excluded = excluded_bins(alloc, partners, homes)?;
+    let excluded = homes.excluded_bins(alloc, partners)?;
     match place_group(packing, group.ids.as_slice(), members, &excluded, policy)? {
         None => Ok(false),
         Some(here) => {
-            keep_home(homes, group.name, here, partners)?;
+            homes.keep(group.name, here, partners)?;
             Ok(true)
         }
     }
@@ -316,7 +276,7 @@ where
     bounded(&packing.tests);
     packing.bins.make_room(groups.len(), sizes.len())?;
     packing.journal.reserve(groups.len())?;
-    let mut homes = BTreeMap::new(*packing.journal.allocator());
+    let mut homes = Homes::new(*packing.journal.allocator());
     for group in groups {
         if !place_next(packing, group, sizes, exclusions, &mut homes, policy)? {
             return Ok(false);

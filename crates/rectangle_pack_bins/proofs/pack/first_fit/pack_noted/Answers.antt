@@ -1,9 +1,10 @@
-use Rattle.rectangle_pack_sections.proofs.Std.{arith, on_err_weaker, Ordering}
+use Rattle.rectangle_pack_sections.proofs.Std.{◌∙◌, on_err_weaker, Ordering, IfOk-from_err}
 use Rattle.rectangle_pack_groups.specs.declared.grouped_rects_to_place.Group.{Group}
 use Rattle.rectangle_pack_groups.specs.contracts.grouped_rects_to_place.GroupOrd.TheImpl.{ghosts}
 use Rattle.rectangle_pack_bins.specs.Packing.{Rules, rules_by, bins_of}
 use Rattle.rectangle_pack_groups.proofs.lemmas.multimap.Sized.{OnErr-given}
 use Rattle.rectangle_pack_bins.proofs.lemmas.packing.FitTests.{counted-none}
+use Rattle.rectangle_pack_bins.proofs.lemmas.packing.Cases.{saturated-none}
 use Rattle.rectangle_pack_bins.proofs.lemmas.packing.Groups.{packed-weaker, HasSizes-order}
 use Rattle.rectangle_pack_bins.proofs.lemmas.packing.Ends.{AreInOrder, AreInOrder-from, done-ended, refused-ended, stopped-ended, placements-ended}
 use Rattle.rectangle_pack_bins.proofs.pack.first_fit.pack_noted.Given.{Over}
@@ -32,13 +33,13 @@ in_order g c =
     (rw (← c.groups-lists.ensures.entries) c.in_ok-groups.ensures.counted) c.exclusions_of.ensures)
 
 pub returns-in_err-sizes-clause-stopped : goal.returns-in_err-sizes-clause-stopped
-returns-in_err-sizes-clause-stopped g c = OnErr-given _ (counted-none _ _ c.args.packing.now.tests (omega arith))
+returns-in_err-sizes-clause-stopped g c = OnErr-given _ (counted-none _ _ c.args.packing.now.tests (saturated-none _ c.bounded.ensures))
 
 pub returns-in_err-groups-clause-stopped : goal.returns-in_err-groups-clause-stopped
-returns-in_err-groups-clause-stopped g c = OnErr-given _ (counted-none _ _ c.args.packing.now.tests (omega arith))
+returns-in_err-groups-clause-stopped g c = OnErr-given _ (counted-none _ _ c.args.packing.now.tests (saturated-none _ c.bounded.ensures))
 
 pub returns-in_err-reserve-clause-stopped : goal.returns-in_err-reserve-clause-stopped
-returns-in_err-reserve-clause-stopped g c = OnErr-given _ (counted-none _ _ c.args.packing.now.tests (omega arith))
+returns-in_err-reserve-clause-stopped g c = OnErr-given _ (counted-none _ _ c.args.packing.now.tests (saturated-none _ c.bounded.ensures))
 
 pub place_groups-requires-clause-in_range : goal.place_groups-requires-clause-in_range
 place_groups-requires-clause-in_range g c =
@@ -62,3 +63,39 @@ pub returns-clause-counted : goal.returns-clause-counted
 returns-clause-counted g c =
     let at = in_order g (goal.at.returns-clause-counted g c).After-place_groups in
     packed-weaker c.place_groups.result (λ p. placements-ended _ _ _ _ _ _ _ _ at _ _ p.0 p.1 p.2) (λ q. tt) c.place_groups.ensures.packed
+
+pub returns-in_err-sizes-clause-packed : goal.returns-in_err-sizes-clause-packed
+returns-in_err-sizes-clause-packed g c = IfOk-from_err _ _ c.from_residual.ensures.0
+
+pub returns-in_err-sizes-clause-counted : goal.returns-in_err-sizes-clause-counted
+returns-in_err-sizes-clause-counted g c = IfOk-from_err _ _ c.from_residual.ensures.0
+
+pub returns-in_err-sizes-clause-back : goal.returns-in_err-sizes-clause-back
+returns-in_err-sizes-clause-back g c = λ start b. b
+
+pub returns-in_err-groups-clause-packed : goal.returns-in_err-groups-clause-packed
+returns-in_err-groups-clause-packed g c = IfOk-from_err _ _ c.from_residual-in_err-groups.ensures.0
+
+pub returns-in_err-groups-clause-counted : goal.returns-in_err-groups-clause-counted
+returns-in_err-groups-clause-counted g c = IfOk-from_err _ _ c.from_residual-in_err-groups.ensures.0
+
+pub returns-in_err-groups-clause-back : goal.returns-in_err-groups-clause-back
+returns-in_err-groups-clause-back g c = λ start b. b
+
+pub returns-in_err-reserve-clause-packed : goal.returns-in_err-reserve-clause-packed
+returns-in_err-reserve-clause-packed g c = IfOk-from_err _ _ c.from_residual-in_err-reserve.ensures.0
+
+pub returns-in_err-reserve-clause-counted : goal.returns-in_err-reserve-clause-counted
+returns-in_err-reserve-clause-counted g c = IfOk-from_err _ _ c.from_residual-in_err-reserve.ensures.0
+
+pub returns-in_err-reserve-clause-back : goal.returns-in_err-reserve-clause-back
+returns-in_err-reserve-clause-back g c = λ start b. b
+
+pub returns-clause-back : goal.returns-clause-back
+returns-clause-back g c = c.place_groups.ensures.back
+
+pub place_groups-requires-clause-no_placements : goal.place_groups-requires-clause-no_placements
+place_groups-requires-clause-no_placements g c = c.in_ok-reserve.ensures.items ∙ c.requires.no_placements
+
+pub place_groups-requires-clause-distinct_groups : goal.place_groups-requires-clause-distinct_groups
+place_groups-requires-clause-distinct_groups g c = rw c.as_slice.ensures.value c.in_ok-groups.ensures.distinct

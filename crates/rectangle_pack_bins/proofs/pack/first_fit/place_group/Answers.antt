@@ -1,4 +1,4 @@
-use Rattle.rectangle_pack_sections.proofs.Std.{◌≡◌, ◌++◌, ◌+◌, [], ◌∷◌, false, true, take, refl, sym, ap, ◌∙◌, arith, sum, take_all, sum_by_push, vec_capacity}
+use Rattle.rectangle_pack_sections.proofs.Std.{◌≡◌, ◌++◌, ◌+◌, [], ◌∷◌, false, true, take, refl, sym, ap, ◌∙◌, arith, sum, take_all, sum_by_push, vec_capacity, vec_len}
 use Rattle.rectangle_pack_sections.proofs.Std.{IfOk-from_err}
 use Rattle.rectangle_pack_lists.specs.Numbers.{saturated}
 use Rattle.rectangle_pack_bins.specs.Packing.{Rules, rules_by, bins_of, Members, DoesNotTake}
@@ -6,6 +6,7 @@ use Rattle.rectangle_pack_bins.specs.private.Excluded.{are_in}
 use Rattle.rectangle_pack_bins.proofs.lemmas.packing.Checkout.{stays}
 use Rattle.rectangle_pack_bins.proofs.lemmas.packing.Groups.{IsPlaced-at, on-true, on-false}
 use Rattle.rectangle_pack_groups.proofs.lemmas.multimap.Sized.{OnErr-given}
+use Rattle.rectangle_pack_bins.proofs.lemmas.packing.Cases.{saturated-none, no_longer}
 use Rattle.rectangle_pack_bins.proofs.lemmas.packing.FitTests.{adds-begun}
 use Rattle.rectangle_pack_lists.proofs.lemmas.trial.StepsByIndex.{saturated-add}
 use Rattle.rectangle_pack_bins.proofs.pack.first_fit.place_group.Given.{Over}
@@ -22,7 +23,7 @@ returns-in_err-place_in_bin-clause-stopped g c =
     let passed = c.loop-i.invariant.passed in
     rw (← c.order-order.ensures)
     (OnErr-given _
-    (adds-begun (by g c.args.policy.now) g.met.B.Ord.total (are_in g.B.Ord.cmp c.args.excluded.now.keys) c.order-order.result.now c.loop-i.i
+    (adds-begun (by g c.args.policy.now) g.met.B.Ord.total (are_in g.B.Ord.cmp c.args.excluded.now) c.order-order.result.now c.loop-i.i
     c.index-order-i.result (record { ids = c.args.ids.now; sizes = c.args.sizes.now }) old _ passed.0 c.args.packing.now.tests c.loop-i.packing.tests _
     c.loop-i-test.true c.index-order-i.is mid passed.1 passed.2 c.in_err-place_in_bin.ensures.stopped))
 
@@ -32,10 +33,10 @@ returns-then-branch-clause-placed g c =
     let old = bins_of c.args.packing.now.bins.kept in
     let mid : bins_of c.check_out.new.self.kept ≡ old = ap bins_of (stays c.check_out.ensures).0 ∙ c.loop-i.invariant.same in
     let passed = c.loop-i.invariant.passed in
-    let excluded = are_in g.B.Ord.cmp c.args.excluded.now.keys in
+    let excluded = are_in g.B.Ord.cmp c.args.excluded.now in
     let here = on-true _ _ _ c.if-branch.true c.in_ok-place_in_bin.ensures.placed in
     let at = IsPlaced-at (by g c.args.policy.now) excluded c.order-order.result.now c.loop-i.i c.index-order-i.result group old _ _ passed.0 here.1 here.0
-    c.loop-i-test.true c.index-order-i.is mid passed.1 (sym c.contains.ensures ∙ c.if-contains.false) here.2 in
+    c.loop-i-test.true c.index-order-i.is mid passed.1 (sym c.has.ensures ∙ c.if-has.false) here.2 in
     rw (← c.order-order.ensures) (
       here.0,
       sum passed.0 + here.1,
@@ -49,21 +50,21 @@ pub loop-i-init : goal.loop-i-init
 loop-i-init g c = record {
   same = refl;
   order = sym c.order-order.ensures;
-  passed = ([], tt, omega arith);
+  passed = ([], tt, saturated-none _ c.bounded.ensures);
   journal = refl;
   placements = refl;
   back = λ start b. b;
 }
 
-pub loop-i-preserved-then-contains : goal.loop-i-preserved-then-contains
-loop-i-preserved-then-contains g c =
+pub loop-i-preserved-then-has : goal.loop-i-preserved-then-has
+loop-i-preserved-then-has g c =
     let o = c.index-order-i.result in
     let old = bins_of c.args.packing.now.bins.kept in
     let group : Members g.row.Id.Denot = record { ids = c.args.ids.now; sizes = c.args.sizes.now } in
     let rules = by g c.args.policy.now in
-    let excluded = are_in g.B.Ord.cmp c.args.excluded.now.keys in
+    let excluded = are_in g.B.Ord.cmp c.args.excluded.now in
     let passed = c.loop-i.invariant.passed in
-    let here : excluded o.1 ≡ true = sym c.contains.ensures ∙ c.if-contains.true in
+    let here : excluded o.1 ≡ true = sym c.has.ensures ∙ c.if-has.true in
     record {
       same = ap bins_of (stays c.check_out.ensures).0 ∙ c.loop-i.invariant.same;
       order = (stays c.check_out.ensures).2 ∙ c.loop-i.invariant.order;
@@ -85,8 +86,8 @@ loop-i-preserved g c =
     let old = bins_of c.args.packing.now.bins.kept in
     let mid : bins_of c.check_out.new.self.kept ≡ old = ap bins_of (stays c.check_out.ensures).0 ∙ c.loop-i.invariant.same in
     let passed = c.loop-i.invariant.passed in
-    let excluded = are_in g.B.Ord.cmp c.args.excluded.now.keys in
-    let allowed : excluded o.1 ≡ false = sym c.contains.ensures ∙ c.if-contains.false in
+    let excluded = are_in g.B.Ord.cmp c.args.excluded.now in
+    let allowed : excluded o.1 ≡ false = sym c.has.ensures ∙ c.if-has.false in
     let stuck = on-false _ _ _ c.if-branch.false c.in_ok-place_in_bin.ensures.placed in
     record {
       same = stuck.2 ∙ mid;
@@ -159,3 +160,15 @@ returns-clause-back g c = c.loop-i.invariant.back
 
 pub place_in_bin-requires-clause-journal_room : goal.place_in_bin-requires-clause-journal_room
 place_in_bin-requires-clause-journal_room g c = rw c.loop-i.invariant.journal c.requires.journal_room
+
+pub returns-then-branch-clause-stopped : goal.returns-then-branch-clause-stopped
+returns-then-branch-clause-stopped g c = tt
+
+pub returns-clause-stopped : goal.returns-clause-stopped
+returns-clause-stopped g c = tt
+
+pub returns-clause-journal_grows : goal.returns-clause-journal_grows
+returns-clause-journal_grows g c = rw c.loop-i.invariant.journal (no_longer (vec_len c.args.packing.now.journal))
+
+pub returns-clause-journal_room_stays : goal.returns-clause-journal_room_stays
+returns-clause-journal_room_stays g c = ap vec_capacity c.loop-i.invariant.journal

@@ -10,7 +10,7 @@ invariant-loop-i g l = record {
   same : bins_of l.packing.bins.kept ≡ bins_of l.fn.packing.bins.kept;
   order : l.packing.bins.order ≡ l.order;
   passed : (counts : List ℕ)
-      × AllZip (DoesNotTake (rules_by g.Id.Ord.cmp g.B.Ord.cmp (g.R.Policy.may l.policy)) (are_in g.B.Ord.cmp l.excluded.keys) (bins_of l.fn.packing.bins.kept)
+      × AllZip (DoesNotTake (rules_by g.Id.Ord.cmp g.B.Ord.cmp (g.R.Policy.may l.policy)) (are_in g.B.Ord.cmp l.excluded) (bins_of l.fn.packing.bins.kept)
       (record { ids = l.ids; sizes = l.sizes })) (map (λ o. o.1) (take l.i l.order)) counts
       × (l.packing.tests ≡ saturated (l.fn.packing.tests + sum counts));
   journal : l.packing.journal ≡ l.fn.packing.journal;

@@ -5,6 +5,7 @@ use Rattle.rectangle_pack_bins.specs.declared.pack.order.OrderedGroup.{OrderedGr
 use Rattle.rectangle_pack_bins.specs.private.Orders.{members_of}
 use Rattle.rectangle_pack_bins.proofs.lemmas.packing.Excluded.{AreHomesKept-none, Named-more, Named-fresh}
 use Rattle.rectangle_pack_groups.proofs.lemmas.multimap.Sized.{OnErr-given}
+use Rattle.rectangle_pack_bins.proofs.lemmas.packing.Cases.{saturated-none}
 use Rattle.rectangle_pack_bins.proofs.lemmas.packing.FitTests.{adds-more, adds-none}
 use Rattle.rectangle_pack_bins.proofs.lemmas.packing.Checkout.{stays}
 use Rattle.rectangle_pack_bins.proofs.lemmas.packing.Groups.{StopsAmong-at, AreAllPlaced-next, on-true, on-false}
@@ -43,8 +44,8 @@ loop-group-init g c = record {
     [],
     0,
     rw c.make_room.ensures.same (c.requires.no_placements, refl, refl),
-    omega arith,
-    AreHomesKept-none g.K.Ord.cmp g.B.Ord.cmp g.met.K.Ord.total c.args.exclusions.now c.new-homes.result.entries c.new-homes.ensures.empty,
+    saturated-none _ c.bounded.ensures,
+    AreHomesKept-none g.K.Ord.cmp g.B.Ord.cmp g.met.K.Ord.total c.args.exclusions.now c.new-homes.result c.new-homes.ensures,
     λ q h. All-nil _,
   );
   order = (stays c.make_room.ensures.same).2;
@@ -94,7 +95,7 @@ loop-group-preserved g c =
     }
 
 pub returns-in_err-reserve-clause-stopped : goal.returns-in_err-reserve-clause-stopped
-returns-in_err-reserve-clause-stopped g c = OnErr-given _ (adds-none _ _ _ _ c.args.packing.now.tests _ (omega arith))
+returns-in_err-reserve-clause-stopped g c = OnErr-given _ (adds-none _ _ _ _ c.args.packing.now.tests _ (saturated-none _ c.bounded.ensures))
 
 pub returns-in_err-place_next-clause-stopped : goal.returns-in_err-place_next-clause-stopped
 returns-in_err-place_next-clause-stopped g c =
@@ -115,7 +116,7 @@ pub returns-in_err-make_room-clause-packed : goal.returns-in_err-make_room-claus
 returns-in_err-make_room-clause-packed g c = IfOk-from_err _ _ c.from_residual.ensures.0
 
 pub returns-in_err-make_room-clause-stopped : goal.returns-in_err-make_room-clause-stopped
-returns-in_err-make_room-clause-stopped g c = OnErr-given _ (adds-none _ _ _ _ c.args.packing.now.tests _ (omega arith))
+returns-in_err-make_room-clause-stopped g c = OnErr-given _ (adds-none _ _ _ _ c.args.packing.now.tests _ (saturated-none _ c.bounded.ensures))
 
 pub returns-in_err-make_room-clause-back : goal.returns-in_err-make_room-clause-back
 returns-in_err-make_room-clause-back g c = λ start b. rw c.make_room.ensures.same b
@@ -149,3 +150,9 @@ returns-clause-packed g c =
 
 pub returns-clause-back : goal.returns-clause-back
 returns-clause-back g c = c.loop-group.invariant.back
+
+pub returns-then-not-branch-clause-stopped : goal.returns-then-not-branch-clause-stopped
+returns-then-not-branch-clause-stopped g c = tt
+
+pub returns-clause-stopped : goal.returns-clause-stopped
+returns-clause-stopped g c = tt

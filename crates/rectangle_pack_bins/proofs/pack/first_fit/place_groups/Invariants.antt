@@ -14,7 +14,7 @@ invariant-loop-group g l = record {
       (map (λ o. o.1) l.fn.packing.bins.order) (map (members_of l.sizes) (take l.group-index l.groups)) (at_start (bins_of l.fn.packing.bins.kept))
       l.packing.placements.items (record { bins = bins_of l.packing.bins.kept; homes = placed }) count
       × (l.packing.tests ≡ saturated (l.fn.packing.tests + count))
-      × AreHomesKept g.K.Ord.cmp g.B.Ord.cmp l.exclusions placed l.homes.entries
+      × AreHomesKept g.K.Ord.cmp g.B.Ord.cmp l.exclusions placed l.homes
       × Named g.K.Ord.cmp g.B.Ord.cmp g.met.K.Ord.total (take l.group-index l.groups) placed;
   order : l.packing.bins.order ≡ l.fn.packing.bins.order;
   room : vec_len l.packing.journal + length l.groups ≤ vec_capacity l.packing.journal + l.group-index;

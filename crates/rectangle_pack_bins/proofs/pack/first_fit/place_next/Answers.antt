@@ -1,8 +1,9 @@
-use Rattle.rectangle_pack_sections.proofs.Std.{◌≡◌, List, sym, ◌∙◌, ap, subst, arith, map, ◌∷◌, ◌+◌, length, slice_range, IfOk-from_err}
+use Rattle.rectangle_pack_sections.proofs.Std.{◌≡◌, List, refl, sym, ◌∙◌, ap, subst, map, ◌∷◌, ◌+◌, length, slice_range, vec_len, IfOk-from_err}
 use Rattle.rectangle_pack_bins.specs.Packing.{Rules, Members, rules_by, bins_of}
 use Rattle.rectangle_pack_bins.specs.private.Excluded.{AreHomesKept}
 use Rattle.rectangle_pack_bins.specs.private.Orders.{members_of}
 use Rattle.rectangle_pack_bins.proofs.lemmas.packing.Excluded.{excluded_as_found}
+use Rattle.rectangle_pack_bins.proofs.lemmas.packing.Cases.{on-none, on-some, saturated-none, no_longer, begins_before, ends_within}
 use Rattle.rectangle_pack_bins.proofs.lemmas.packing.Groups.{IsPlaced-alike, IsRefused-alike, members-are, HasSizes-length}
 use Rattle.rectangle_pack_groups.proofs.lemmas.multimap.Sized.{OnErr-given}
 use Rattle.rectangle_pack_bins.proofs.lemmas.packing.FitTests.{adds-none, adds-one}
@@ -24,39 +25,39 @@ alike : (g : Over) (c : After-place_group g) → given g c ≡ own g c
 alike g c = members-are c.args.sizes.now c.args.group.now _ _ c.as_slice.ensures.value (c.len.ensures ∙ c.args.group.now.ids.now.ok.0)
 
 pub returns-in_err-excluded-clause-stopped : goal.returns-in_err-excluded-clause-stopped
-returns-in_err-excluded-clause-stopped g c = OnErr-given _ (adds-none _ _ _ _ c.args.packing.now.tests _ (omega arith))
+returns-in_err-excluded-clause-stopped g c = OnErr-given _ (adds-none _ _ _ _ c.args.packing.now.tests _ (saturated-none _ c.bounded.ensures))
 
 pub returns-in-None-clause-placed : goal.returns-in-None-clause-placed
 returns-in-None-clause-placed g c = λ placed fresh kept.
     let at = (goal.at.returns-in-None-clause-placed g c).After-place_group in
-    let refused = rw c.in-None.is at c.in_ok-place_group.ensures.placed in
-    let same = excluded_as_found g.K.Ord.cmp g.B.Ord.cmp g.met.K.Ord.total c.args.exclusions.now placed c.args.homes.now.entries
-    c.in_ok-excluded.excluded.keys _ c.args.group.now.name.now c.partners-partners.ensures.listed c.partners-partners.ensures.mutual kept
+    let refused = on-none _ _ _ c.in-None.is c.in_ok-place_group.ensures.placed in
+    let same = excluded_as_found g.K.Ord.cmp g.B.Ord.cmp g.met.K.Ord.total c.args.exclusions.now placed c.args.homes.now
+    c.in_ok-excluded.excluded _ c.args.group.now.name.now c.partners-partners.ensures.listed c.partners-partners.ensures.mutual kept
     c.in_ok-excluded.ensures in
     (refused.0, IsRefused-alike (by g c.args.policy.now) _ _ _ (given g at) (own g at) _ _ same (alike g at) refused.1, refused.2, refused.4)
 
 pub returns-clause-placed : goal.returns-clause-placed
 returns-clause-placed g c = λ placed fresh kept.
     let at = (goal.at.returns-clause-placed g c).After-place_group in
-    let here = rw c.in-Some.is at c.in_ok-place_group.ensures.placed in
+    let here = on-some _ _ _ _ c.in-Some.is c.in_ok-place_group.ensures.placed in
     let name = c.args.group.now.name.now in
     let all = c.args.exclusions.now in
-    let same = excluded_as_found g.K.Ord.cmp g.B.Ord.cmp g.met.K.Ord.total all placed c.args.homes.now.entries c.in_ok-excluded.excluded.keys _ name
+    let same = excluded_as_found g.K.Ord.cmp g.B.Ord.cmp g.met.K.Ord.total all placed c.args.homes.now c.in_ok-excluded.excluded _ name
     c.partners-partners.ensures.listed c.partners-partners.ensures.mutual kept c.in_ok-excluded.ensures in
     let goes = IsPlaced-alike (by g c.args.policy.now) _ _ _ (given g at) (own g at) _ here.0 _ here.1 _ same (alike g at) here.2 here.3 in
-    let home = c.in_ok-keep_home-in-Some.ensures all placed c.partners-partners.ensures.listed fresh kept in (
+    let home = c.in_ok-keep-in-Some.ensures all placed c.partners-partners.ensures.listed fresh kept in (
       here.0,
       here.1,
       goes.0,
-      subst (λ (b : g.row.B.Denot). AreHomesKept g.K.Ord.cmp g.B.Ord.cmp all ((name, b) ∷ placed) c.keep_home.new.homes.entries) (sym goes.1) home,
+      subst (λ (b : g.row.B.Denot). AreHomesKept g.K.Ord.cmp g.B.Ord.cmp all ((name, b) ∷ placed) c.keep.new.self) (sym goes.1) home,
       here.4,
       here.5,
     )
 
-pub returns-in_err-keep_home-in-Some-clause-stopped : goal.returns-in_err-keep_home-in-Some-clause-stopped
-returns-in_err-keep_home-in-Some-clause-stopped g c =
-    let at = (goal.at.returns-in_err-keep_home-in-Some-clause-stopped g c).After-place_group in
-    let here = rw c.in-Some.is at c.in_ok-place_group.ensures.placed in
+pub returns-in_err-keep-in-Some-clause-stopped : goal.returns-in_err-keep-in-Some-clause-stopped
+returns-in_err-keep-in-Some-clause-stopped g c =
+    let at = (goal.at.returns-in_err-keep-in-Some-clause-stopped g c).After-place_group in
+    let here = on-some _ _ _ _ c.in-Some.is c.in_ok-place_group.ensures.placed in
     let old = bins_of c.args.packing.now.bins.kept in
     let names : List g.row.B.Denot = map (λ o. o.1) c.args.packing.now.bins.order in
     let one = adds-one (by g c.args.policy.now) g.met.B.Ord.total _ names (given g at) old here.0 _ here.1 c.args.packing.now.tests
@@ -69,8 +70,8 @@ returns-in_err-excluded-clause-placed g c = IfOk-from_err _ _ c.from_residual.en
 pub returns-in_err-place_group-clause-placed : goal.returns-in_err-place_group-clause-placed
 returns-in_err-place_group-clause-placed g c = IfOk-from_err _ _ c.from_residual-in_err-place_group.ensures.0
 
-pub returns-in_err-keep_home-in-Some-clause-placed : goal.returns-in_err-keep_home-in-Some-clause-placed
-returns-in_err-keep_home-in-Some-clause-placed g c = IfOk-from_err _ _ c.from_residual-in_err-keep_home-in-Some.ensures.0
+pub returns-in_err-keep-in-Some-clause-placed : goal.returns-in_err-keep-in-Some-clause-placed
+returns-in_err-keep-in-Some-clause-placed g c = IfOk-from_err _ _ c.from_residual-in_err-keep-in-Some.ensures.0
 
 pub returns-in_err-place_group-clause-stopped : goal.returns-in_err-place_group-clause-stopped
 returns-in_err-place_group-clause-stopped g c =
@@ -80,3 +81,76 @@ returns-in_err-place_group-clause-stopped g c =
 pub place_group-requires-clause-lengths : goal.place_group-requires-clause-lengths
 place_group-requires-clause-lengths g c =
     HasSizes-length c.args.sizes.now c.args.group.now _ _ c.as_slice.ensures.value (c.len.ensures ∙ c.args.group.now.ids.now.ok.0) c.requires.in_range
+
+pub slice_bounds-members-count : goal.slice_bounds-members-count
+slice_bounds-members-count g c = begins_before c.args.group.now.start c.len.result
+
+pub slice_bounds-members-start : goal.slice_bounds-members-start
+slice_bounds-members-start g c = begins_before c.args.group.now.start c.len.result
+
+pub slice_bounds-members-end : goal.slice_bounds-members-end
+slice_bounds-members-end g c =
+    ends_within c.args.group.now.start c.len.result _ _ (c.len.ensures ∙ c.args.group.now.ids.now.ok.0) c.requires.in_range
+
+pub place_group-requires-clause-journal_room : goal.place_group-requires-clause-journal_room
+place_group-requires-clause-journal_room g c = c.requires.journal_room
+
+pub returns-in_err-excluded-clause-back : goal.returns-in_err-excluded-clause-back
+returns-in_err-excluded-clause-back g c = λ start b. b
+
+pub returns-in_err-excluded-clause-order : goal.returns-in_err-excluded-clause-order
+returns-in_err-excluded-clause-order g c = refl
+
+pub returns-in_err-excluded-clause-journal_grows : goal.returns-in_err-excluded-clause-journal_grows
+returns-in_err-excluded-clause-journal_grows g c = no_longer (vec_len c.args.packing.now.journal)
+
+pub returns-in_err-excluded-clause-journal_room_stays : goal.returns-in_err-excluded-clause-journal_room_stays
+returns-in_err-excluded-clause-journal_room_stays g c = refl
+
+pub returns-in_err-place_group-clause-back : goal.returns-in_err-place_group-clause-back
+returns-in_err-place_group-clause-back g c = c.in_err-place_group.ensures.back
+
+pub returns-in_err-place_group-clause-order : goal.returns-in_err-place_group-clause-order
+returns-in_err-place_group-clause-order g c = c.in_err-place_group.ensures.order
+
+pub returns-in_err-place_group-clause-journal_grows : goal.returns-in_err-place_group-clause-journal_grows
+returns-in_err-place_group-clause-journal_grows g c = c.in_err-place_group.ensures.journal_grows
+
+pub returns-in_err-place_group-clause-journal_room_stays : goal.returns-in_err-place_group-clause-journal_room_stays
+returns-in_err-place_group-clause-journal_room_stays g c = c.in_err-place_group.ensures.journal_room_stays
+
+pub returns-in-None-clause-back : goal.returns-in-None-clause-back
+returns-in-None-clause-back g c = c.in_ok-place_group.ensures.back
+
+pub returns-in-None-clause-order : goal.returns-in-None-clause-order
+returns-in-None-clause-order g c = c.in_ok-place_group.ensures.order
+
+pub returns-in-None-clause-journal_grows : goal.returns-in-None-clause-journal_grows
+returns-in-None-clause-journal_grows g c = c.in_ok-place_group.ensures.journal_grows
+
+pub returns-in-None-clause-journal_room_stays : goal.returns-in-None-clause-journal_room_stays
+returns-in-None-clause-journal_room_stays g c = c.in_ok-place_group.ensures.journal_room_stays
+
+pub returns-in_err-keep-in-Some-clause-back : goal.returns-in_err-keep-in-Some-clause-back
+returns-in_err-keep-in-Some-clause-back g c = c.in_ok-place_group.ensures.back
+
+pub returns-in_err-keep-in-Some-clause-order : goal.returns-in_err-keep-in-Some-clause-order
+returns-in_err-keep-in-Some-clause-order g c = c.in_ok-place_group.ensures.order
+
+pub returns-in_err-keep-in-Some-clause-journal_grows : goal.returns-in_err-keep-in-Some-clause-journal_grows
+returns-in_err-keep-in-Some-clause-journal_grows g c = c.in_ok-place_group.ensures.journal_grows
+
+pub returns-in_err-keep-in-Some-clause-journal_room_stays : goal.returns-in_err-keep-in-Some-clause-journal_room_stays
+returns-in_err-keep-in-Some-clause-journal_room_stays g c = c.in_ok-place_group.ensures.journal_room_stays
+
+pub returns-clause-back : goal.returns-clause-back
+returns-clause-back g c = c.in_ok-place_group.ensures.back
+
+pub returns-clause-order : goal.returns-clause-order
+returns-clause-order g c = c.in_ok-place_group.ensures.order
+
+pub returns-clause-journal_grows : goal.returns-clause-journal_grows
+returns-clause-journal_grows g c = c.in_ok-place_group.ensures.journal_grows
+
+pub returns-clause-journal_room_stays : goal.returns-clause-journal_room_stays
+returns-clause-journal_room_stays g c = c.in_ok-place_group.ensures.journal_room_stays

@@ -1,4 +1,4 @@
-use Rattle.rectangle_pack_sections.proofs.Std.{arith, length-append, ◌≡◌, ◌<◌, ◌++◌, drop, length, refl, ap, ◌∙◌, drop-append_seam, map, Some, map_push}
+use Rattle.rectangle_pack_sections.proofs.Std.{IfOk-from_err, arith, length-append, ◌≡◌, ◌<◌, ◌++◌, drop, length, refl, ap, ◌∙◌, drop-append_seam, map, Some, map_push}
 use Rattle.rectangle_pack_sections.proofs.Std.{take_rest, deref_pair, All-weaker, All-push, iter_end, AllZip, slice_range, all_pairs_push, lookup, is_at}
 use Rattle.rectangle_pack_sections.proofs.Std.{All-permutation, sum_by-IsPermutation, sym, subst, List, eq_by_cmp, IsDistinct, keys_of, IsPermutation-map}
 use Rattle.rectangle_pack_sections.proofs.Std.{IsDistinct-from_sorted, IsDistinct-IsPermutation, All-nil, rest_more, ◌≤◌}
@@ -145,3 +145,30 @@ pub loop-group-init : goal.loop-group-init
 loop-group-init g c =
     let none = c.in_ok-order.ensures.items in
     record { listed = rw none tt; sized = rw none (All-nil _); rising = rw none (λ i j d less within. absurd (omega arith)); begun = rw none (All-nil _) }
+
+pub returns-in_err-order : goal.returns-in_err-order
+returns-in_err-order g c = record {
+  order = IfOk-from_err _ _ c.from_residual.ensures.0;
+  listed = IfOk-from_err _ _ c.from_residual.ensures.0;
+  sizes = IfOk-from_err _ _ c.from_residual.ensures.0;
+  distinct = IfOk-from_err _ _ c.from_residual.ensures.0;
+  counted = IfOk-from_err _ _ c.from_residual.ensures.0;
+}
+
+pub returns-in_err-add_sizes : goal.returns-in_err-add_sizes
+returns-in_err-add_sizes g c = record {
+  order = IfOk-from_err _ _ c.from_residual-in_err-add_sizes.ensures.0;
+  listed = IfOk-from_err _ _ c.from_residual-in_err-add_sizes.ensures.0;
+  sizes = IfOk-from_err _ _ c.from_residual-in_err-add_sizes.ensures.0;
+  distinct = IfOk-from_err _ _ c.from_residual-in_err-add_sizes.ensures.0;
+  counted = IfOk-from_err _ _ c.from_residual-in_err-add_sizes.ensures.0;
+}
+
+pub returns-in_err-push : goal.returns-in_err-push
+returns-in_err-push g c = record {
+  order = IfOk-from_err _ _ c.from_residual-in_err-push.ensures.0;
+  listed = IfOk-from_err _ _ c.from_residual-in_err-push.ensures.0;
+  sizes = IfOk-from_err _ _ c.from_residual-in_err-push.ensures.0;
+  distinct = IfOk-from_err _ _ c.from_residual-in_err-push.ensures.0;
+  counted = IfOk-from_err _ _ c.from_residual-in_err-push.ensures.0;
+}
