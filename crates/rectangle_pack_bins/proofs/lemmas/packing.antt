@@ -8,6 +8,7 @@ pub mod RollBack
 pub mod Excluded
 pub mod Cases
 pub mod Groups
+pub mod Turns
 pub mod FitTests
 pub mod Ends
 pub mod Frame

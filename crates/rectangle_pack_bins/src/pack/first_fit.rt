@@ -219,11 +219,10 @@ where
         vec_capacity packing.old.journal }
 {
     bounded(&packing.tests);
-    let alloc = *packing.journal.allocator();
-    let members = &sizes[group.start..group.start + group.ids.len()];
+    let (ids, members) = (group.ids.as_slice(), group.sizes_in(sizes));
     let partners = exclusions.partners(group.name);
-    let excluded = homes.excluded_bins(alloc, partners)?;
-    match place_group(packing, group.ids.as_slice(), members, &excluded, policy)? {
+    let excluded = homes.excluded_bins(partners)?;
+    match place_group(packing, ids, members, &excluded, policy)? {
         None => Ok(false),
         Some(here) => {
             homes.keep(group.name, here, partners)?;

@@ -43,6 +43,7 @@ impl<'b, B: Ord, A: Allocator + Copy> ExcludedBins<'b, B, A> {
 // The homes of groups: the bin of each group that was placed and is excluded with others.
 pub(crate) struct Homes<'a, 'b, K: Ord, B, A: Allocator + Copy> {
     bins: BTreeMap<&'a K, &'b B, A>,
+    alloc: A,
 }
 
 impl<'a, 'b, K: Ord, B, A: Allocator + Copy> Model for Homes<'a, 'b, K, B, A> {
@@ -57,7 +58,7 @@ impl<'a, 'b, K: Ord, B, A: Allocator + Copy> Model for Homes<'a, 'b, K, B, A> {
 // Written out, as above.
 impl<'a, 'b, K: Ord, B, A: Allocator + Copy> Drop for Homes<'a, 'b, K, B, A> {
     fn drop(self) {
-        let Homes { bins } = self;
+        let Homes { bins, alloc: _ } = self;
         drop(bins);
     }
 }
@@ -69,6 +70,7 @@ impl<'a, 'b, K: Ord, B: Ord, A: Allocator + Copy> Homes<'a, 'b, K, B, A> {
     {
         Homes {
             bins: BTreeMap::new(alloc),
+            alloc,
         }
     }
 
@@ -95,7 +97,6 @@ impl<'a, 'b, K: Ord, B: Ord, A: Allocator + Copy> Homes<'a, 'b, K, B, A> {
     // The homes of these groups, of those that have one.
     pub(crate) fn excluded_bins(
         &self,
-        alloc: A,
         partners: &'a [K],
     ) -> Result<ExcludedBins<'b, B, A>, AllocError>
         ensures { IfOk result
@@ -103,7 +104,7 @@ impl<'a, 'b, K: Ord, B: Ord, A: Allocator + Copy> Homes<'a, 'b, K, B, A> {
             (id : B) → are_in B.cmp s id ≡
             list_any (λ p. went_to K.cmp B.cmp self.now p id) partners.now) }
     {
-        let mut ids = BTreeSet::new(alloc);
+        let mut ids = BTreeSet::new(self.alloc);
         for partner in partners {
             if let Some(id) = self.bins.get(&partner) {
                 ids.insert(*id)?;

@@ -8,7 +8,7 @@ ghost use Rattle.std.specs.Map.{keys_of, lookup, values_of};
 ghost use Rattle.std.specs.List.Sorted.{IsPermutation, IsSorted};
 ghost use Rattle.rectangle_pack_groups.specs.Clones.{ClonesEqual};
 ghost use Rattle.rectangle_pack_bins.specs.Orders.{IsBinOrder, IsGroupOrder, falling_then};
-ghost use Rattle.rectangle_pack_bins.specs.private.Orders.{keys_of_order, entries_at, SizesStandAt};
+ghost use Rattle.rectangle_pack_bins.specs.private.Orders.{keys_of_order, entries_at, members_of, HasSizes, SizesStandAt};
 ghost use Rattle.rectangle_pack_bins.specs.Packing.{bins_of};
 ghost use Rattle.rectangle_pack_groups.specs.Groups.{HaveSizes, MembersHaveSizes, lists_of};
 ghost use Rattle.rectangle_pack_sections.specs.Boxes.{Size};
@@ -91,6 +91,16 @@ pub(crate) struct OrderedGroup<'a, K, Id, A: Allocator> {
     pub name: &'a K,
     pub ids: &'a Vec<Id, A>,
     pub start: usize,
+}
+
+impl<K, Id, A: Allocator> OrderedGroup<'_, K, Id, A> {
+    // The sizes of its ids, of those of all.
+    pub(crate) fn sizes_in<'s>(&self, sizes: &'s [RectToInsert]) -> &'s [RectToInsert]
+        requires { HasSizes sizes.now self.now }
+        ensures { result.now ≡ (members_of sizes.now self.now).1.sizes }
+    {
+        &sizes[self.start..self.start + self.ids.len()]
+    }
 }
 
 // By falling key, and at equal keys by name. Where the sizes of a group begin rises with its name,

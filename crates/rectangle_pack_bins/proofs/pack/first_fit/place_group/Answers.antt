@@ -1,16 +1,16 @@
-use Rattle.rectangle_pack_sections.proofs.Std.{◌≡◌, ◌++◌, ◌+◌, [], ◌∷◌, false, true, take, refl, sym, ap, ◌∙◌, arith, sum, take_all, sum_by_push, vec_capacity, vec_len}
+use Rattle.rectangle_pack_sections.proofs.Std.{◌≡◌, ℕ, List, map, length, subst, AllZip, ◌++◌, ◌+◌, [], false, true, take, refl, sym, ap, ◌∙◌, arith, sum, take_all, vec_capacity, vec_len}
 use Rattle.rectangle_pack_sections.proofs.Std.{IfOk-from_err}
-use Rattle.rectangle_pack_lists.specs.Numbers.{saturated}
-use Rattle.rectangle_pack_bins.specs.Packing.{Rules, rules_by, bins_of, Members, DoesNotTake}
+use Rattle.rectangle_pack_bins.specs.Packing.{Rules, rules_by, bins_of, Members, DoesNotTake, IsPlaced}
+use Rattle.rectangle_pack_bins.specs.private.Bounds.{AddsWithin}
 use Rattle.rectangle_pack_bins.specs.private.Excluded.{are_in}
 use Rattle.rectangle_pack_bins.proofs.lemmas.packing.Checkout.{stays}
 use Rattle.rectangle_pack_bins.proofs.lemmas.packing.Groups.{IsPlaced-at, on-true, on-false}
 use Rattle.rectangle_pack_groups.proofs.lemmas.multimap.Sized.{OnErr-given}
-use Rattle.rectangle_pack_bins.proofs.lemmas.packing.Cases.{saturated-none, no_longer}
+use Rattle.rectangle_pack_bins.proofs.lemmas.packing.Cases.{saturated-none, saturated-none-more, no_longer, DoesNotTake-excluded, DoesNotTake-stuck, GoesBack-same}
 use Rattle.rectangle_pack_bins.proofs.lemmas.packing.FitTests.{adds-begun}
 use Rattle.rectangle_pack_lists.proofs.lemmas.trial.StepsByIndex.{saturated-add}
 use Rattle.rectangle_pack_bins.proofs.pack.first_fit.place_group.Given.{Over}
-use Rattle.rectangle_pack_bins.proofs.lemmas.packing.Orders.{AllZip-next}
+use Rattle.rectangle_pack_bins.proofs.lemmas.packing.Turns.{ArePassed-more}
 use Rattle.rectangle_pack_bins.proofs.pack.first_fit.place_group.Goals as goal
 
 abbrev by : (g : Over) → g.row.R.Denot → Rules g.row.Id.Denot g.row.B.Denot
@@ -21,8 +21,9 @@ returns-in_err-place_in_bin-clause-stopped g c =
     let old = bins_of c.args.packing.now.bins.kept in
     let mid : bins_of c.check_out.new.self.kept ≡ old = ap bins_of (stays c.check_out.ensures).0 ∙ c.loop-i.invariant.same in
     let passed = c.loop-i.invariant.passed in
-    rw (← c.order-order.ensures)
-    (OnErr-given _
+    OnErr-given _
+    (subst (λ (order : List (ℕ × g.row.B.Denot)). AddsWithin g.B.Ord.cmp old (map (λ o. o.1) order) (length c.args.sizes.now) c.args.packing.now.tests
+    c.place_in_bin.new.packing.tests) c.order-order.ensures
     (adds-begun (by g c.args.policy.now) g.met.B.Ord.total (are_in g.B.Ord.cmp c.args.excluded.now) c.order-order.result.now c.loop-i.i
     c.index-order-i.result (record { ids = c.args.ids.now; sizes = c.args.sizes.now }) old _ passed.0 c.args.packing.now.tests c.loop-i.packing.tests _
     c.loop-i-test.true c.index-order-i.is mid passed.1 passed.2 c.in_err-place_in_bin.ensures.stopped))
@@ -35,9 +36,10 @@ returns-then-branch-clause-placed g c =
     let passed = c.loop-i.invariant.passed in
     let excluded = are_in g.B.Ord.cmp c.args.excluded.now in
     let here = on-true _ _ _ c.if-branch.true c.in_ok-place_in_bin.ensures.placed in
-    let at = IsPlaced-at (by g c.args.policy.now) excluded c.order-order.result.now c.loop-i.i c.index-order-i.result group old _ _ passed.0 here.1 here.0
-    c.loop-i-test.true c.index-order-i.is mid passed.1 (sym c.has.ensures ∙ c.if-has.false) here.2 in
-    rw (← c.order-order.ensures) (
+    let at = subst (λ (order : List (ℕ × g.row.B.Denot)). (p : IsPlaced (by g c.args.policy.now) excluded (map (λ o. o.1) order) group old here.0
+    (bins_of c.place_in_bin.new.packing.bins.kept) (sum passed.0 + here.1)) × (p.here ≡ c.index-order-i.result.1)) c.order-order.ensures
+    (IsPlaced-at (by g c.args.policy.now) excluded c.order-order.result.now c.loop-i.i c.index-order-i.result group old _ _ passed.0 here.1 here.0
+    c.loop-i-test.true c.index-order-i.is mid passed.1 (sym c.has.ensures ∙ c.if-has.false) here.2) in (
       here.0,
       sum passed.0 + here.1,
       at.0,
@@ -68,15 +70,12 @@ loop-i-preserved-then-has g c =
     record {
       same = ap bins_of (stays c.check_out.ensures).0 ∙ c.loop-i.invariant.same;
       order = (stays c.check_out.ensures).2 ∙ c.loop-i.invariant.order;
-      passed = (
-        passed.0 ++ 0 ∷ [],
-        AllZip-next (DoesNotTake rules excluded old group) (λ x. x.1) c.order-order.result.now passed.0 c.loop-i.i o 0 c.loop-i-test.true c.index-order-i.is
-            passed.1 (rw here refl),
-        passed.2 ∙ ap (λ n. saturated (c.args.packing.now.tests + n)) (sym (sum_by_push (λ x. x) passed.0 0 ∙ omega arith)),
-      );
+      passed = ArePassed-more rules excluded c.order-order.result.now c.loop-i.i o group old 0 c.args.packing.now.tests c.loop-i.packing.tests _
+          c.loop-i-test.true c.index-order-i.is passed (DoesNotTake-excluded rules excluded old group o.1 here)
+          (saturated-none-more _ _ passed.2);
       journal = c.loop-i.invariant.journal;
       placements = c.loop-i.invariant.placements;
-      back = λ start b. rw (stays c.check_out.ensures).1 (c.loop-i.invariant.back start b);
+      back = λ start b. GoesBack-same g.B.Ord.cmp _ _ _ start (stays c.check_out.ensures).1 (c.loop-i.invariant.back start b);
     }
 
 pub loop-i-preserved : goal.loop-i-preserved
@@ -92,24 +91,22 @@ loop-i-preserved g c =
     record {
       same = stuck.2 ∙ mid;
       order = c.in_ok-place_in_bin.ensures.order ∙ (stays c.check_out.ensures).2 ∙ c.loop-i.invariant.order;
-      passed = (
-        passed.0 ++ stuck.0 ∷ [],
-        AllZip-next (DoesNotTake (by g c.args.policy.now) excluded old group) (λ x. x.1) c.order-order.result.now passed.0 c.loop-i.i o stuck.0
-            c.loop-i-test.true c.index-order-i.is passed.1 (rw (allowed, ← mid) stuck.1),
-        saturated-add c.args.packing.now.tests c.loop-i.packing.tests _ (sum passed.0) stuck.0 passed.2 stuck.5
-            ∙ ap (λ n. saturated (c.args.packing.now.tests + n)) (sym (sum_by_push (λ x. x) passed.0 stuck.0)),
-      );
+      passed = ArePassed-more (by g c.args.policy.now) excluded c.order-order.result.now c.loop-i.i o group old stuck.0 c.args.packing.now.tests
+          c.loop-i.packing.tests _ c.loop-i-test.true c.index-order-i.is passed
+          (DoesNotTake-stuck (by g c.args.policy.now) excluded old group o.1 (bins_of c.check_out.new.self.kept) stuck.0 allowed mid stuck.1) stuck.5;
       journal = stuck.4 ∙ c.loop-i.invariant.journal;
       placements = stuck.3 ∙ c.loop-i.invariant.placements;
-      back = λ start b. c.in_ok-place_in_bin.ensures.back start (rw (stays c.check_out.ensures).1 (c.loop-i.invariant.back start b));
+      back = λ start b. c.in_ok-place_in_bin.ensures.back start (GoesBack-same g.B.Ord.cmp _ _ _ start (stays c.check_out.ensures).1 (c.loop-i.invariant.back start b));
     }
 
 pub returns-clause-placed : goal.returns-clause-placed
 returns-clause-placed g c =
     let e : take c.loop-i.i c.order-order.result.now ≡ c.order-order.result.now = take_all c.loop-i.i c.order-order.result.now (omega arith) in
-    let passed = rw e at c.loop-i.invariant.passed in
-    rw (← c.order-order.ensures)
-    (sum passed.0, record { counts = passed.0; passed = passed.1; tests_are = refl }, c.loop-i.invariant.same, c.loop-i.invariant.placements, passed.2)
+    let passed = c.loop-i.invariant.passed in
+    let all = subst (λ (tried : List (ℕ × g.row.B.Denot)). AllZip (DoesNotTake (by g c.args.policy.now) (are_in g.B.Ord.cmp c.args.excluded.now)
+    (bins_of c.args.packing.now.bins.kept) (record { ids = c.args.ids.now; sizes = c.args.sizes.now })) (map (λ o. o.1) tried) passed.0)
+    (e ∙ c.order-order.ensures) passed.1 in
+    (sum passed.0, record { counts = passed.0; passed = all; tests_are = refl }, c.loop-i.invariant.same, c.loop-i.invariant.placements, passed.2)
 
 pub returns-clause-order : goal.returns-clause-order
 returns-clause-order g c = c.loop-i.invariant.order ∙ c.order-order.ensures
@@ -129,7 +126,7 @@ returns-in_err-place_in_bin-clause-placed g c = IfOk-from_err _ _ c.from_residua
 
 pub returns-in_err-place_in_bin-clause-back : goal.returns-in_err-place_in_bin-clause-back
 returns-in_err-place_in_bin-clause-back g c =
-    λ start b. c.in_err-place_in_bin.ensures.back start (rw (stays c.check_out.ensures).1 (c.loop-i.invariant.back start b))
+    λ start b. c.in_err-place_in_bin.ensures.back start (GoesBack-same g.B.Ord.cmp _ _ _ start (stays c.check_out.ensures).1 (c.loop-i.invariant.back start b))
 
 pub returns-in_err-place_in_bin-clause-order : goal.returns-in_err-place_in_bin-clause-order
 returns-in_err-place_in_bin-clause-order g c =
@@ -143,7 +140,7 @@ returns-in_err-place_in_bin-clause-journal_room_stays g c = c.in_err-place_in_bi
 
 pub returns-then-branch-clause-back : goal.returns-then-branch-clause-back
 returns-then-branch-clause-back g c =
-    λ start b. c.in_ok-place_in_bin.ensures.back start (rw (stays c.check_out.ensures).1 (c.loop-i.invariant.back start b))
+    λ start b. c.in_ok-place_in_bin.ensures.back start (GoesBack-same g.B.Ord.cmp _ _ _ start (stays c.check_out.ensures).1 (c.loop-i.invariant.back start b))
 
 pub returns-then-branch-clause-order : goal.returns-then-branch-clause-order
 returns-then-branch-clause-order g c =

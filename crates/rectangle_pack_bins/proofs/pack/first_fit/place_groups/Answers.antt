@@ -8,8 +8,9 @@ use Rattle.rectangle_pack_groups.proofs.lemmas.multimap.Sized.{OnErr-given}
 use Rattle.rectangle_pack_bins.proofs.lemmas.packing.Cases.{saturated-none}
 use Rattle.rectangle_pack_bins.proofs.lemmas.packing.FitTests.{adds-more, adds-none}
 use Rattle.rectangle_pack_bins.proofs.lemmas.packing.Checkout.{stays}
-use Rattle.rectangle_pack_bins.proofs.lemmas.packing.Groups.{StopsAmong-at, AreAllPlaced-next, on-true, on-false}
-use Rattle.rectangle_pack_bins.proofs.lemmas.packing.Orders.{map-split_at, map-take_more}
+use Rattle.rectangle_pack_bins.proofs.lemmas.packing.Groups.{StopsAmong-at, on-true, on-false}
+use Rattle.rectangle_pack_bins.proofs.lemmas.packing.Turns.{AreAllPlaced-turn}
+use Rattle.rectangle_pack_bins.proofs.lemmas.packing.Orders.{map-split_at}
 use Rattle.rectangle_pack_lists.proofs.lemmas.trial.StepsByIndex.{saturated-add}
 use Rattle.rectangle_pack_bins.proofs.pack.first_fit.place_groups.Given.{Over}
 use Rattle.rectangle_pack_bins.proofs.pack.first_fit.place_groups.Goals.{After-place_next}
@@ -81,10 +82,10 @@ loop-group-preserved g c =
       done = (
         (o.name.now, placed.2.here) ∷ done.0,
         done.1 + placed.1,
-        rw (map-take_more (group g at) c.args.groups.now i o c.loop-group-test.true c.group-item.is)
-            (AreAllPlaced-next (by g c.args.policy.now) (excludes g c.args.exclusions.now) _ _ (map (group g at) (take i c.args.groups.now)) (group g at o)
+        AreAllPlaced-turn (by g c.args.policy.now) (excludes g c.args.exclusions.now) (group g at) c.args.groups.now i o _ _
             (at_start (bins_of c.args.packing.now.bins.kept)) (bins_of c.loop-group.packing.bins.kept) done.0 (bins_of c.place_next.new.packing.bins.kept)
-            c.loop-group.packing.placements.items placed.0 _ done.1 placed.1 (ap (map (λ o. o.1)) c.loop-group.invariant.order) done.2 placed.2 placed.4),
+            c.loop-group.packing.placements.items placed.0 _ done.1 placed.1 c.loop-group-test.true c.group-item.is
+            (ap (map (λ o. o.1)) c.loop-group.invariant.order) done.2 placed.2 placed.4,
         saturated-add c.args.packing.now.tests c.loop-group.packing.tests _ done.1 placed.1 done.3 placed.5,
         placed.3,
         Named-more g.K.Ord.cmp g.B.Ord.cmp g.met.K.Ord.total c.args.groups.now i o done.0 placed.2.here c.loop-group-test.true c.group-item.is done.5,

@@ -1,7 +1,8 @@
-use Rattle.rectangle_pack_sections.proofs.Std.{true, length, refl, sym, ap, ◌∙◌, arith}
+use Rattle.rectangle_pack_sections.proofs.Std.{true, length, vec_len, refl, sym, ap, ◌∙◌, arith}
 use Rattle.rectangle_pack_sections.proofs.Std.{is_at, IfOk-from_err}
 use Rattle.rectangle_pack_bins.specs.Packing.{Rules, rules_by, bins_of, Members}
 use Rattle.rectangle_pack_bins.specs.private.Checkout.{closed}
+use Rattle.rectangle_pack_bins.proofs.lemmas.packing.Cases.{no_longer}
 use Rattle.rectangle_pack_bins.proofs.lemmas.packing.Groups.{GoesBack-grown, bins_of-grown, GoesBack-tried, found-bins_of, IsPlaced-alone, IsDone-length}
 use Rattle.rectangle_pack_groups.proofs.lemmas.multimap.Sized.{OnErr-given}
 use Rattle.rectangle_pack_bins.proofs.lemmas.packing.FitTests.{adds-none, adds-alone}
@@ -21,7 +22,7 @@ returns-in_err-done g c =
           (GoesBack-grown g.B.Ord.cmp c.args.packing.now.bins.own c.args.packing.now.journal.items c.args.id.now tried.0.own tried.1.own start
           tried.2.own.found tried.4 tried.2.own.room b);
       order = tried.2.order;
-      journal_grows = omega arith;
+      journal_grows = no_longer (vec_len c.args.packing.now.journal);
       journal_room_stays = refl;
     }
 
@@ -47,7 +48,7 @@ returns-then-not-done g c =
           (GoesBack-grown g.B.Ord.cmp c.args.packing.now.bins.own c.args.packing.now.journal.items c.args.id.now tried.0.own tried.1.own start
           tried.2.own.found left tried.2.own.room b);
       order = tried.2.order;
-      journal_grows = omega arith;
+      journal_grows = no_longer (vec_len c.args.packing.now.journal);
       journal_room_stays = refl;
     }
 

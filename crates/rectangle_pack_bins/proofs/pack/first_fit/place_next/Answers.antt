@@ -1,10 +1,10 @@
-use Rattle.rectangle_pack_sections.proofs.Std.{◌≡◌, List, refl, sym, ◌∙◌, ap, subst, map, ◌∷◌, ◌+◌, length, slice_range, vec_len, IfOk-from_err}
+use Rattle.rectangle_pack_sections.proofs.Std.{◌≡◌, List, refl, sym, ◌∙◌, ap, map, length, vec_len, IfOk-from_err}
 use Rattle.rectangle_pack_bins.specs.Packing.{Rules, Members, rules_by, bins_of}
-use Rattle.rectangle_pack_bins.specs.private.Excluded.{AreHomesKept}
 use Rattle.rectangle_pack_bins.specs.private.Orders.{members_of}
 use Rattle.rectangle_pack_bins.proofs.lemmas.packing.Excluded.{excluded_as_found}
-use Rattle.rectangle_pack_bins.proofs.lemmas.packing.Cases.{on-none, on-some, saturated-none, no_longer, begins_before, ends_within}
-use Rattle.rectangle_pack_bins.proofs.lemmas.packing.Groups.{IsPlaced-alike, IsRefused-alike, members-are, HasSizes-length}
+use Rattle.rectangle_pack_bins.proofs.lemmas.packing.Cases.{on-none, on-some, saturated-none, no_longer, members-alike, adds-as-many}
+use Rattle.rectangle_pack_bins.proofs.lemmas.packing.Turns.{placed-kept}
+use Rattle.rectangle_pack_bins.proofs.lemmas.packing.Groups.{IsRefused-alike, HasSizes-length}
 use Rattle.rectangle_pack_groups.proofs.lemmas.multimap.Sized.{OnErr-given}
 use Rattle.rectangle_pack_bins.proofs.lemmas.packing.FitTests.{adds-none, adds-one}
 use Rattle.rectangle_pack_bins.proofs.pack.first_fit.place_next.Given.{Over}
@@ -16,13 +16,17 @@ by g rules = rules_by g.Id.Ord.cmp g.B.Ord.cmp (g.R.Policy.may rules)
 
 -- the members that are handed on, and those of the group
 abbrev given : (g : Over) → After-place_group g → Members g.row.Id.Denot
-given g c = record { ids = c.as_slice.result.now; sizes = slice_range c.args.sizes.now c.args.group.now.start (c.args.group.now.start + c.len.result) }
+given g c = record { ids = c.as_slice-ids.result.now; sizes = c.sizes_in-members.result.now }
 
 abbrev own : (g : Over) → After-place_group g → Members g.row.Id.Denot
 own g c = (members_of c.args.sizes.now c.args.group.now).1
 
 alike : (g : Over) (c : After-place_group g) → given g c ≡ own g c
-alike g c = members-are c.args.sizes.now c.args.group.now _ _ c.as_slice.ensures.value (c.len.ensures ∙ c.args.group.now.ids.now.ok.0)
+alike g c = members-alike (own g c) c.as_slice-ids.result.now c.sizes_in-members.result.now c.as_slice-ids.ensures.value c.sizes_in-members.ensures
+
+-- as many sizes are handed on as the group has
+counted : (g : Over) (c : After-place_group g) → length c.sizes_in-members.result.now ≡ length (own g c).sizes
+counted g c = ap length c.sizes_in-members.ensures
 
 pub returns-in_err-excluded-clause-stopped : goal.returns-in_err-excluded-clause-stopped
 returns-in_err-excluded-clause-stopped g c = OnErr-given _ (adds-none _ _ _ _ c.args.packing.now.tests _ (saturated-none _ c.bounded.ensures))
@@ -39,20 +43,12 @@ returns-in-None-clause-placed g c = λ placed fresh kept.
 pub returns-clause-placed : goal.returns-clause-placed
 returns-clause-placed g c = λ placed fresh kept.
     let at = (goal.at.returns-clause-placed g c).After-place_group in
-    let here = on-some _ _ _ _ c.in-Some.is c.in_ok-place_group.ensures.placed in
-    let name = c.args.group.now.name.now in
     let all = c.args.exclusions.now in
-    let same = excluded_as_found g.K.Ord.cmp g.B.Ord.cmp g.met.K.Ord.total all placed c.args.homes.now c.in_ok-excluded.excluded _ name
-    c.partners-partners.ensures.listed c.partners-partners.ensures.mutual kept c.in_ok-excluded.ensures in
-    let goes = IsPlaced-alike (by g c.args.policy.now) _ _ _ (given g at) (own g at) _ here.0 _ here.1 _ same (alike g at) here.2 here.3 in
-    let home = c.in_ok-keep-in-Some.ensures all placed c.partners-partners.ensures.listed fresh kept in (
-      here.0,
-      here.1,
-      goes.0,
-      subst (λ (b : g.row.B.Denot). AreHomesKept g.K.Ord.cmp g.B.Ord.cmp all ((name, b) ∷ placed) c.keep.new.self) (sym goes.1) home,
-      here.4,
-      here.5,
-    )
+    let same = excluded_as_found g.K.Ord.cmp g.B.Ord.cmp g.met.K.Ord.total all placed c.args.homes.now c.in_ok-excluded.excluded _
+    c.args.group.now.name.now c.partners-partners.ensures.listed c.partners-partners.ensures.mutual kept c.in_ok-excluded.ensures in
+    placed-kept (by g c.args.policy.now) g.K.Ord.cmp all placed c.keep.new.self c.args.group.now.name.now _ _ _ (given g at) (own g at) _ _ _ _
+    c.args.packing.now.tests _ _ same (alike g at) (on-some _ _ _ _ c.in-Some.is c.in_ok-place_group.ensures.placed)
+    (c.in_ok-keep-in-Some.ensures all placed c.partners-partners.ensures.listed fresh kept)
 
 pub returns-in_err-keep-in-Some-clause-stopped : goal.returns-in_err-keep-in-Some-clause-stopped
 returns-in_err-keep-in-Some-clause-stopped g c =
@@ -62,7 +58,7 @@ returns-in_err-keep-in-Some-clause-stopped g c =
     let names : List g.row.B.Denot = map (λ o. o.1) c.args.packing.now.bins.order in
     let one = adds-one (by g c.args.policy.now) g.met.B.Ord.total _ names (given g at) old here.0 _ here.1 c.args.packing.now.tests
     c.place_group.new.packing.tests here.2 here.5 in
-    OnErr-given _ (rw (ap (λ (m : Members g.row.Id.Denot). length m.sizes) (alike g at)) at one)
+    OnErr-given _ (adds-as-many _ _ _ _ _ c.args.packing.now.tests _ (counted g at) one)
 
 pub returns-in_err-excluded-clause-placed : goal.returns-in_err-excluded-clause-placed
 returns-in_err-excluded-clause-placed g c = IfOk-from_err _ _ c.from_residual.ensures.0
@@ -76,24 +72,12 @@ returns-in_err-keep-in-Some-clause-placed g c = IfOk-from_err _ _ c.from_residua
 pub returns-in_err-place_group-clause-stopped : goal.returns-in_err-place_group-clause-stopped
 returns-in_err-place_group-clause-stopped g c =
     let at = (goal.at.returns-in_err-place_group-clause-stopped g c).After-place_group in
-    OnErr-given _ (rw (ap (λ (m : Members g.row.Id.Denot). length m.sizes) (alike g at)) at c.in_err-place_group.ensures.stopped)
+    OnErr-given _ (adds-as-many _ _ _ _ _ c.args.packing.now.tests _ (counted g at) c.in_err-place_group.ensures.stopped)
 
 pub place_group-requires-clause-lengths : goal.place_group-requires-clause-lengths
 place_group-requires-clause-lengths g c =
-    HasSizes-length c.args.sizes.now c.args.group.now _ _ c.as_slice.ensures.value (c.len.ensures ∙ c.args.group.now.ids.now.ok.0) c.requires.in_range
-
-pub slice_bounds-members-count : goal.slice_bounds-members-count
-slice_bounds-members-count g c = begins_before c.args.group.now.start c.len.result
-
-pub slice_bounds-members-start : goal.slice_bounds-members-start
-slice_bounds-members-start g c = begins_before c.args.group.now.start c.len.result
-
-pub slice_bounds-members-end : goal.slice_bounds-members-end
-slice_bounds-members-end g c =
-    ends_within c.args.group.now.start c.len.result _ _ (c.len.ensures ∙ c.args.group.now.ids.now.ok.0) c.requires.in_range
-
-pub place_group-requires-clause-journal_room : goal.place_group-requires-clause-journal_room
-place_group-requires-clause-journal_room g c = c.requires.journal_room
+    HasSizes-length c.args.sizes.now c.args.group.now c.as_slice-ids.result.now _ c.as_slice-ids.ensures.value refl c.requires.in_range
+    ∙ ap length (sym c.sizes_in-members.ensures)
 
 pub returns-in_err-excluded-clause-back : goal.returns-in_err-excluded-clause-back
 returns-in_err-excluded-clause-back g c = λ start b. b
@@ -106,51 +90,3 @@ returns-in_err-excluded-clause-journal_grows g c = no_longer (vec_len c.args.pac
 
 pub returns-in_err-excluded-clause-journal_room_stays : goal.returns-in_err-excluded-clause-journal_room_stays
 returns-in_err-excluded-clause-journal_room_stays g c = refl
-
-pub returns-in_err-place_group-clause-back : goal.returns-in_err-place_group-clause-back
-returns-in_err-place_group-clause-back g c = c.in_err-place_group.ensures.back
-
-pub returns-in_err-place_group-clause-order : goal.returns-in_err-place_group-clause-order
-returns-in_err-place_group-clause-order g c = c.in_err-place_group.ensures.order
-
-pub returns-in_err-place_group-clause-journal_grows : goal.returns-in_err-place_group-clause-journal_grows
-returns-in_err-place_group-clause-journal_grows g c = c.in_err-place_group.ensures.journal_grows
-
-pub returns-in_err-place_group-clause-journal_room_stays : goal.returns-in_err-place_group-clause-journal_room_stays
-returns-in_err-place_group-clause-journal_room_stays g c = c.in_err-place_group.ensures.journal_room_stays
-
-pub returns-in-None-clause-back : goal.returns-in-None-clause-back
-returns-in-None-clause-back g c = c.in_ok-place_group.ensures.back
-
-pub returns-in-None-clause-order : goal.returns-in-None-clause-order
-returns-in-None-clause-order g c = c.in_ok-place_group.ensures.order
-
-pub returns-in-None-clause-journal_grows : goal.returns-in-None-clause-journal_grows
-returns-in-None-clause-journal_grows g c = c.in_ok-place_group.ensures.journal_grows
-
-pub returns-in-None-clause-journal_room_stays : goal.returns-in-None-clause-journal_room_stays
-returns-in-None-clause-journal_room_stays g c = c.in_ok-place_group.ensures.journal_room_stays
-
-pub returns-in_err-keep-in-Some-clause-back : goal.returns-in_err-keep-in-Some-clause-back
-returns-in_err-keep-in-Some-clause-back g c = c.in_ok-place_group.ensures.back
-
-pub returns-in_err-keep-in-Some-clause-order : goal.returns-in_err-keep-in-Some-clause-order
-returns-in_err-keep-in-Some-clause-order g c = c.in_ok-place_group.ensures.order
-
-pub returns-in_err-keep-in-Some-clause-journal_grows : goal.returns-in_err-keep-in-Some-clause-journal_grows
-returns-in_err-keep-in-Some-clause-journal_grows g c = c.in_ok-place_group.ensures.journal_grows
-
-pub returns-in_err-keep-in-Some-clause-journal_room_stays : goal.returns-in_err-keep-in-Some-clause-journal_room_stays
-returns-in_err-keep-in-Some-clause-journal_room_stays g c = c.in_ok-place_group.ensures.journal_room_stays
-
-pub returns-clause-back : goal.returns-clause-back
-returns-clause-back g c = c.in_ok-place_group.ensures.back
-
-pub returns-clause-order : goal.returns-clause-order
-returns-clause-order g c = c.in_ok-place_group.ensures.order
-
-pub returns-clause-journal_grows : goal.returns-clause-journal_grows
-returns-clause-journal_grows g c = c.in_ok-place_group.ensures.journal_grows
-
-pub returns-clause-journal_room_stays : goal.returns-clause-journal_room_stays
-returns-clause-journal_room_stays g c = c.in_ok-place_group.ensures.journal_room_stays

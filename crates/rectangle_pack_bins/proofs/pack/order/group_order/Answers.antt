@@ -1,4 +1,4 @@
-use Rattle.rectangle_pack_sections.proofs.Std.{IfOk-from_err, arith, length-append, ◌≡◌, ◌<◌, ◌++◌, drop, length, refl, ap, ◌∙◌, drop-append_seam, map, Some, map_push}
+use Rattle.rectangle_pack_sections.proofs.Std.{IfOk-from_err, arith, ℕ, All, AllPairs, [], ◌∷◌, length-append, ◌≡◌, ◌<◌, ◌++◌, drop, length, refl, ap, ◌∙◌, drop-append_seam, map, Some, map_push}
 use Rattle.rectangle_pack_sections.proofs.Std.{take_rest, deref_pair, All-weaker, All-push, iter_end, AllZip, slice_range, all_pairs_push, lookup, is_at}
 use Rattle.rectangle_pack_sections.proofs.Std.{All-permutation, sum_by-IsPermutation, sym, subst, List, eq_by_cmp, IsDistinct, keys_of, IsPermutation-map}
 use Rattle.rectangle_pack_sections.proofs.Std.{IsDistinct-from_sorted, IsDistinct-IsPermutation, All-nil, rest_more, ◌≤◌}
@@ -15,6 +15,28 @@ use Rattle.rectangle_pack_bins.proofs.pack.order.group_order.Goals as goal
 
 abbrev Ordered : Over → Type 0
 Ordered g = OrderedGroup g.row.K.Denot g.row.Id.Denot g.row.A.Denot
+
+-- one more of each, at the ends of two lists
+AllZip-pushed : {X Y Z : Type 0} (R : Y → Z → Type 0) (f : X → Y) (xs : List X) (x : X) (zs new : List Z) (z : Z) → new ≡ zs ++ z ∷ []
+    → AllZip R (map f xs) zs → R (f x) z → AllZip R (map f (xs ++ x ∷ [])) new
+AllZip-pushed R f xs x zs new z pushed h r = rw (map_push f xs x, pushed) (AllZip-more R (map f xs) zs (f x) z h r)
+
+-- what the last one and those before it have, where it may be weaker than what they had
+All-pushed : {X : Type 0} (P Q : X → Type 0) (xs new : List X) (x : X) → new ≡ xs ++ x ∷ [] → ((y : X) → P y → Q y) → All P xs → Q x → All Q new
+All-pushed P Q xs new x pushed weaker h q = rw pushed (All-push Q xs x (All-weaker P Q weaker xs h) q)
+
+-- numbers still rise, where the last is more than those before it
+rise-pushed : {X : Type 0} (number : X → ℕ) (xs new : List X) (x : X) → new ≡ xs ++ x ∷ [] → AllPairs (λ a b. number a < number b) xs
+    → All (λ a. number a < number x) xs → AllPairs (λ a b. number a < number b) new
+rise-pushed number xs new x pushed rising h = rw pushed (all_pairs_push (λ a b. number a < number b) xs x rising h)
+
+-- a list to which something for each of some ids was added is longer
+longer : {X Y : Type 0} (R : X → Y → Type 0) (ids : List X) (old added new : List Y) → new ≡ old ++ added → AllZip R ids added → 0 < length ids
+    → length old < length new
+longer R ids old added new more each some = omega (arith, ap length more, length-append old added, length-zip R ids added each, some)
+
+less-less : (a b c : ℕ) → a < b → b < c → a < c
+less-less a b c h k = omega (arith, h, k)
 
 pub add_sizes-requires : goal.add_sizes-requires
 add_sizes-requires g c =
@@ -38,14 +60,12 @@ loop-group-preserved g c =
     let new = c.add_sizes.new.sizes.items in
     let some = items-turn (λ ids. (0 < length ids) × HaveSizes cmp rects ids) c.args.lists.now.entries _ _ _ _ _ _ c.requires.sized
     c.into_iter-group-iterator.ensures.into_iter_gives.0 c.loop-group.yielded_by c.in-Some.is c.next.ensures.steps in
-    let grown : length old < length new = omega (arith, ap length more, length-append old added, length-zip _ ids added each, some.0) in
+    let grown = longer _ ids old added new more each some.0 in
     let rated = c.group_key-key.ensures in
     let rates : AllZip (g.R.Policy.may c.args.policy.now).rate added rated.0 = rw (← tail) rated.1 in
     record {
-      listed =
-          rw (map_push deref_pair c.loop-group.yielded (c.in-Some.group, c.in-Some.ids), c.in_ok-push.ensures.items)
-          (AllZip-more _ (map deref_pair c.loop-group.yielded) c.loop-group.order.items (deref_pair (c.in-Some.group, c.in-Some.ids))
-          (record { key = _; name = c.in-Some.group; ids = c.in-Some.ids; start = _ }) c.loop-group.invariant.listed (
+      listed = AllZip-pushed _ deref_pair c.loop-group.yielded (c.in-Some.group, c.in-Some.ids) c.loop-group.order.items _ _ c.in_ok-push.ensures.items
+          c.loop-group.invariant.listed (
             refl,
             (
               rated.0,
@@ -53,24 +73,15 @@ loop-group-preserved g c =
               rated.2,
             ),
             refl,
-          ));
-      sized =
-          let P : Ordered g → Type 0 = λ o. SizesStandAt cmp rects new o.ids.now.items o.start in
-          rw c.in_ok-push.ensures.items
-          (All-push P c.loop-group.order.items _
-          (All-weaker (λ (o : Ordered g). SizesStandAt cmp rects old o.ids.now.items o.start) P
-          (λ o h. SizesStandAt-more cmp rects old added new o.ids.now.items o.start more h) c.loop-group.order.items c.loop-group.invariant.sized)
-          (SizesStandAt-last cmp rects old added new ids start more starts each));
-      rising =
-          rw c.in_ok-push.ensures.items
-          (all_pairs_push (λ (o p : Ordered g). o.start < p.start) c.loop-group.order.items _ c.loop-group.invariant.rising
-          (λ k d within. rw starts (c.loop-group.invariant.begun k d within)));
-      begun =
-          let P : Ordered g → Type 0 = λ o. o.start < length new in
-          rw c.in_ok-push.ensures.items
-          (All-push P c.loop-group.order.items _
-          (All-weaker (λ (o : Ordered g). o.start < length old) P (λ o h. omega (arith, h, grown)) c.loop-group.order.items c.loop-group.invariant.begun)
-          (omega (arith, starts, grown)));
+          );
+      sized = All-pushed (λ (o : Ordered g). SizesStandAt cmp rects old o.ids.now.items o.start)
+          (λ (o : Ordered g). SizesStandAt cmp rects new o.ids.now.items o.start) c.loop-group.order.items _ _ c.in_ok-push.ensures.items
+          (λ o h. SizesStandAt-more cmp rects old added new o.ids.now.items o.start more h) c.loop-group.invariant.sized
+          (SizesStandAt-last cmp rects old added new ids start more starts each);
+      rising = rise-pushed (λ (o : Ordered g). o.start) c.loop-group.order.items _ _ c.in_ok-push.ensures.items c.loop-group.invariant.rising
+          (λ k d within. rw starts (c.loop-group.invariant.begun k d within));
+      begun = All-pushed (λ (o : Ordered g). o.start < length old) (λ (o : Ordered g). o.start < length new) c.loop-group.order.items _ _
+          c.in_ok-push.ensures.items (λ o h. less-less o.start (length old) (length new) h grown) c.loop-group.invariant.begun (rw starts grown);
     }
 
 pub sort_falling-requires : goal.sort_falling-requires
