@@ -101,7 +101,7 @@ loop-i-preserved g c =
 
 pub returns-clause-placed : goal.returns-clause-placed
 returns-clause-placed g c =
-    let e : take c.loop-i.i c.order-order.result.now ≡ c.order-order.result.now = take_all c.loop-i.i c.order-order.result.now (omega arith) in
+    let e : take c.loop-i.i c.order-order.result.now ≡ c.order-order.result.now = take_all c.loop-i.i c.order-order.result.now c.loop-i-test.false in
     let passed = c.loop-i.invariant.passed in
     let all = subst (λ (tried : List (ℕ × g.row.B.Denot)). AllZip (DoesNotTake (by g c.args.policy.now) (are_in g.B.Ord.cmp c.args.excluded.now)
     (bins_of c.args.packing.now.bins.kept) (record { ids = c.args.ids.now; sizes = c.args.sizes.now })) (map (λ o. o.1) tried) passed.0)

@@ -145,7 +145,7 @@ returns-then-not-branch-clause-back g c = λ start b. c.in_ok-place_next.ensures
 
 pub returns-clause-packed : goal.returns-clause-packed
 returns-clause-packed g c =
-    let e : take c.loop-group.group-index c.args.groups.now ≡ c.args.groups.now = take_all c.loop-group.group-index c.args.groups.now (omega arith) in
+    let e : take c.loop-group.group-index c.args.groups.now ≡ c.args.groups.now = take_all c.loop-group.group-index c.args.groups.now c.loop-group-test.false in
     let done = rw e at c.loop-group.invariant.done in
     (done.0, done.1, done.2, done.3)
 
