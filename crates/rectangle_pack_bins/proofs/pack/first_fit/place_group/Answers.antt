@@ -1,4 +1,4 @@
-use Rattle.rectangle_pack_sections.proofs.Std.{◌≡◌, ℕ, List, map, length, subst, AllZip, ◌++◌, ◌+◌, [], false, true, take, refl, sym, ap, ◌∙◌, arith, sum, take_all, vec_capacity, vec_len}
+use Rattle.rectangle_pack_sections.proofs.Std.{◌≡◌, ℕ, List, map, length, subst, AllZip, ◌++◌, ◌+◌, [], false, true, take, refl, sym, ap, ◌∙◌, sum, take_all, vec_capacity, vec_len}
 use Rattle.rectangle_pack_sections.proofs.Std.{IfOk-from_err}
 use Rattle.rectangle_pack_bins.specs.Packing.{Rules, rules_by, bins_of, Members, DoesNotTake, IsPlaced}
 use Rattle.rectangle_pack_bins.specs.private.Bounds.{AddsWithin}
