@@ -1,7 +1,7 @@
 -- How many cells placements fill in each bin.
 use Rattle.rectangle_pack_sections.proofs.Std.{◌≡◌, ℕ, ◌+◌, ◌≤◌, Bool, true, false, cond, List, [], ◌∷◌, ◌++◌, refl, sym, ap, ◌∙◌, arith, filter, map}
 use Rattle.rectangle_pack_sections.proofs.Std.{Some, unwrap_or, Ordering, Equal, Equal-is, IsTotalOrder, is_at, lookup, keys_of, Bor, append-nil, sum_by_push, nat_lt, le-ltb}
-use Rattle.rectangle_pack_sections.proofs.Std.{map-append, filter-append}
+use Rattle.rectangle_pack_sections.proofs.Std.{◌<◌, lt-ltb, map-append, map_push, filter-append, deref_pair}
 use Rattle.rectangle_pack_sections.specs.Boxes.{Cuboid, volume_of}
 use Rattle.rectangle_pack_sections.specs.Counting.{total_volume}
 use Rattle.rectangle_pack_lists.specs.Numbers.{saturated}
@@ -43,10 +43,24 @@ module _ {Id B : Type 0} {cmp : B → B → Ordering} (o : IsTotalOrder cmp) whe
       by false elsewhere =
           ap (λ found. unwrap_or found 0) (updates id) ∙ rw elsewhere (right id) ∙ sym (cells_placed_in-more ps p id false elsewhere)
 
--- a bin more, which gets no cell
-pub filled-none : {K X : Type 0} (count : K → ℕ) (es : List (K × X)) (e : K × X) → count e.0 ≤ 0
-    → filter (nat_lt 0) (map count (keys_of (es ++ e ∷ []))) ≡ filter (nat_lt 0) (map count (keys_of es))
-filled-none {K} {X} count es e none =
-    ap (λ keys. filter (nat_lt 0) (map count keys)) (map-append (λ (x : K × X). x.0) es (e ∷ []))
-    ∙ ap (filter (nat_lt 0)) (map-append count (keys_of es) (e.0 ∷ [])) ∙ filter-append (nat_lt 0) (map count (keys_of es)) (count e.0 ∷ [])
-    ∙ rw (le-ltb 0 (count e.0) none) (append-nil _)
+-- the counts of the bins that get cells, after one more bin
+module _ {K X : Type 0} (count : K → ℕ) (seen : List (Bor K × Bor X)) (next : Bor K × Bor X) where
+  abbrev filled : List (Bor K × Bor X) → List ℕ
+  filled bins = filter (nat_lt 0) (map count (keys_of (map deref_pair bins)))
+
+  filled-more : filled (seen ++ next ∷ []) ≡ filled seen ++ filter (nat_lt 0) (count next.0.now ∷ [])
+  filled-more =
+      let es = map deref_pair seen in
+      let e = deref_pair next in
+      ap (λ (es : List (K × X)). filter (nat_lt 0) (map count (keys_of es))) (map_push deref_pair seen next)
+      ∙ ap (λ keys. filter (nat_lt 0) (map count keys)) (map-append (λ (x : K × X). x.0) es (e ∷ []))
+      ∙ ap (filter (nat_lt 0)) (map-append count (keys_of es) (e.0 ∷ [])) ∙ filter-append (nat_lt 0) (map count (keys_of es)) (count e.0 ∷ [])
+
+  -- which gets some
+  pub counts-with : (counts more : List ℕ) (n : ℕ) → counts ≡ filled seen → n ≡ count next.0.now → 0 < n → more ≡ counts ++ n ∷ []
+      → more ≡ filled (seen ++ next ∷ [])
+  counts-with counts more n are is some pushed = pushed ∙ rw (filled-more, ← is, are, lt-ltb 0 n some) refl
+
+  -- which gets none
+  pub counts-without : (counts : List ℕ) (n : ℕ) → counts ≡ filled seen → n ≡ count next.0.now → n ≤ 0 → counts ≡ filled (seen ++ next ∷ [])
+  counts-without counts n are is none = are ∙ sym (rw (filled-more, ← is, le-ltb 0 n none) (append-nil _))
