@@ -1,8 +1,9 @@
 -- Packings. Read Orders, Groups and RollBack first; Frame carries whatever each step keeps through a packing, and is the main lemma. Whole and Refused say what
--- is promised of groups, FitTests bounds the tests, Ends joins these. SoundBins is for pushes.
+-- is promised of groups, FitTests bounds the tests, Ends joins these. SoundBins is for pushes, Trials for trials in one bin.
 pub mod SoundBins
 pub mod Orders
 pub mod Placed
+pub mod Trials
 pub mod Checkout
 pub mod RollBack
 pub mod Excluded

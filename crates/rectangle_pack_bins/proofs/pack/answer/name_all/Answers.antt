@@ -1,4 +1,5 @@
-use Rattle.rectangle_pack_sections.proofs.Std.{◌≡◌, [], ◌++◌, ◌∷◌, refl, sym, ap, ◌∙◌, true, rules, append_assoc, Equal-is, Equal, All-nil}
+use Rattle.rectangle_pack_sections.proofs.Std.{◌≡◌, [], ◌++◌, ◌∷◌, refl, sym, ap, ◌∙◌, true, rules, append_assoc, Equal-is, Equal, All-nil, IfOk-from_err, take_all}
+use borrow.Author.Count.{falls}
 use Rattle.rectangle_pack_bins.specs.declared.pack.answer.Placement.{Placement}
 use Rattle.rectangle_pack_bins.proofs.lemmas.packing.Groups.{AreNamed-more}
 use Rattle.rectangle_pack_bins.proofs.pack.answer.name_all.Goals as goal
@@ -26,3 +27,25 @@ loop-i-preserved g c =
           c.loop-i-test.true (rw (← c.requires.lengths) c.loop-i-test.true) c.index-ids-i.is c.index-locations-i.is equal equal_bin inv.1,
       items ∙ ap (λ l. l ++ p ∷ []) inv.2 ∙ append_assoc c.args.placements.now.items inv.0 (p ∷ []),
     )
+
+pub bounds-locations-i : goal.bounds-locations-i
+bounds-locations-i g c = rw (← c.requires.lengths) c.loop-i-test.true
+
+pub returns-in_err-clone : goal.returns-in_err-clone
+returns-in_err-clone g c = IfOk-from_err _ _ c.from_residual.ensures.0
+
+pub returns-in_err-clone-2 : goal.returns-in_err-clone-2
+returns-in_err-clone-2 g c = IfOk-from_err _ _ c.from_residual-in_err-clone-2.ensures.0
+
+pub returns-in_err-push : goal.returns-in_err-push
+returns-in_err-push g c = IfOk-from_err _ _ c.from_residual-in_err-push.ensures.0
+
+pub loop-i-smaller : goal.loop-i-smaller
+loop-i-smaller g c = falls _ c.loop-i.i c.loop-i-test.true
+
+pub returns : goal.returns
+returns g c =
+    let (added, named, items) = c.loop-i.invariant in
+    let i = c.loop-i.i in
+    let past = c.loop-i-test.false in
+    (added, rw (take_all i c.args.ids.now past, take_all i c.args.locations.now (rw (← c.requires.lengths) past)) at named, items)
