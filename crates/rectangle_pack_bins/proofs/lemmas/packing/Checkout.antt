@@ -17,6 +17,10 @@ closed-room : (kept : Bool) (open' : Open) → (closed kept open').room ≡ open
 closed-room true open' = refl
 closed-room false open' = refl
 
+-- a list that is not as long as its room has room for one more
+pub has_room : (long room counted asked : ℕ) → counted ≡ long → asked ≡ room → (counted ≡ asked → ⊥) → long ≤ room → long < room
+has_room long room counted asked same_long same_room not_full within = omega arith
+
 -- what is left of the bins that are in use
 pub left_of-in_use : {B : Type 0} (cmp : B → B → Ordering) (kept : Bool) (order : List (ℕ × B)) (out : List Open) (es : List (B × Held))
     → left_of kept (in_use cmp order out es) ≡ checked_in cmp kept order out es

@@ -1,8 +1,8 @@
 -- What keeps the sections of a bin sound, and what a bin accepts.
 use Rattle.rectangle_pack_sections.proofs.Std.{◌≡◌, ℕ, suc, ◌<◌, List, [], ◌∷◌, ◌++◌, length, get_or, take, drop, refl, subst, sym, All, AllPairs, Option, Some}
-use Rattle.rectangle_pack_sections.proofs.Std.{None, IfNone, IfSome, IsTrue, is_some, not, true, false, Bool, ◌↔◌, split_at, all_pairs_push, All-push}
-use Rattle.rectangle_pack_sections.proofs.Std.{All-append, All-head}
-use Rattle.rectangle_pack_sections.specs.Boxes.{Cuboid, IsInside, AreApart, SharesCell}
+use Rattle.rectangle_pack_sections.proofs.Std.{None, IfNone, IfSome, IsTrue, is_some, not, true, false, Bool, ◌↔◌, split_at, all_pairs_push, all_pairs_remove, remove, All-push}
+use Rattle.rectangle_pack_sections.proofs.Std.{All-append, All-head, All-take, All-drop}
+use Rattle.rectangle_pack_sections.specs.Boxes.{Size, Cuboid, IsInside, AreApart, SharesCell}
 use Rattle.rectangle_pack_sections.specs.Bins.{IsSound, IsAccepted, Bin}
 use Rattle.rectangle_pack_bins.specs.Pushes.{IsFirstSharing}
 use Rattle.rectangle_pack_sections.proofs.lemmas.cuts.Boxes.{not_from_AreApart}
@@ -12,6 +12,14 @@ pub IsSound-push : (bin : Bin) (s : Cuboid) → IsSound bin.size bin.sections �
 IsSound-push bin s sound accepted = record {
   inside = All-push (IsInside bin.size) bin.sections s sound.inside accepted.inside;
   apart = all_pairs_push AreApart bin.sections s sound.apart accepted.apart;
+}
+
+-- one section less leaves a sound list sound
+pub IsSound-remove : (size : Size) (sections : List Cuboid) (i : ℕ) → i < length sections → IsSound size sections → IsSound size (remove sections i)
+IsSound-remove size sections i within sound = record {
+  inside = All-append (IsInside size) (take i sections) (drop (suc i) sections) (All-take (IsInside size) i sections sound.inside)
+      (All-drop (IsInside size) (suc i) sections sound.inside);
+  apart = all_pairs_remove AreApart sections i within sound.apart;
 }
 
 -- sections that are each accepted, and are apart, leave a sound list sound

@@ -1,11 +1,12 @@
 -- Trials in one bin, whose sections stand in its own list or in slots.
 use Rattle.std.specs.Result.{IsErr}
-use Rattle.rectangle_pack_sections.proofs.Std.{◌≡◌, ◌≤◌, ℕ, ◌+◌, List, [], length, refl, arith, inl, true, false, Bool, Option, Some, None, is_some}
-use Rattle.rectangle_pack_sections.proofs.Std.{Result, Ok, Err}
+use Rattle.rectangle_pack_sections.proofs.Std.{◌≡◌, ◌≤◌, ℕ, ◌+◌, List, [], length, refl, ap, arith, inl, true, false, Bool, Option, Some, None, is_some}
+use Rattle.rectangle_pack_sections.proofs.Std.{Result, Ok, Err, Vec, nat_eq}
 use Rattle.rectangle_pack_sections.specs.Boxes.{Size, Cuboid}
 use Rattle.rectangle_pack_sections.specs.Bins.{Bin, Held, IsSound}
 use Rattle.rectangle_pack_sections.specs.Closures.{Answers}
 use Rattle.rectangle_pack_lists.specs.Numbers.{saturated}
+use Rattle.rectangle_pack_lists.specs.Trials.{IsTrialAnswer}
 use Rattle.rectangle_pack_lists.specs.declared.trial.Note.{Note}
 use Rattle.rectangle_pack_lists.specs.private.Slots.{Slots, sections_of}
 use Rattle.rectangle_pack_lists.specs.private.TrialNotes.{IsStuckAtOnce, IsTried, IsNotedAnswer, LeavesNotes}
@@ -50,6 +51,21 @@ pub IsNotedAnswer-stuck_at_once : (E : Type 0) (may : Answers) (bin : Bin) (slot
 IsNotedAnswer-stuck_at_once E may bin None ms counted n ls counter none stuck all added = (n, rw stuck.2 (inl (stuck.3, all)), refl, added)
 IsNotedAnswer-stuck_at_once E may bin (Some s) ms counted n ls counter none stuck all added = absurd cc
 
+-- one that is stuck leaves any bin that stays
+pub IsNotedAnswer-stuck : (E : Type 0) (may : Answers) (old mid new : Bin) (ms : List Size) (counted : ℕ) (done : Bool) (ls : List Cuboid) (counter : ℕ)
+    → done ≡ false → new ≡ old → IsNotedAnswer {E = E} may old ms counted (Ok done) ls mid counter
+    → IsNotedAnswer {E = E} may old ms counted (Ok done) ls new counter
+IsNotedAnswer-stuck E may old mid new ms counted true ls counter not_done same h = absurd cc
+IsNotedAnswer-stuck E may old mid new ms counted false ls counter not_done same h = (h.0, h.1, same, h.3)
+
+-- there are members
+pub some_member : (n : ℕ) → false ≡ nat_eq n 0 → n ≡ 0 → ⊥
+some_member n some none = let is_none = ap (λ (k : ℕ). nat_eq k 0) none in absurd cc
+
+-- a count that stays has not grown by more than this
+pub grows_not : (n counted most : ℕ) → n ≡ counted → n ≤ counted + most
+grows_not n counted most same = omega arith
+
 module _ {E : Type 0} where
   -- want of memory leaves the bin and the count
   pub IsNotedAnswer-refused : (may : Answers) (old new : Bin) (ms : List Size) (counted : ℕ) (r : Result Bool E) (ls : List Cuboid) (counter : ℕ)
@@ -67,6 +83,12 @@ module _ {E : Type 0} where
   LeavesNotes-none (Ok true) notes old new none same = rw (same, none) (refl, record { before = refl; can = tt })
   LeavesNotes-none (Ok false) notes old new none same = same
   LeavesNotes-none (Err e) notes old new none same = same
+
+  -- and as a trial in a bin, without notes
+  pub IsTrialAnswer-refused : {A : Type 0} (may : Answers) (old new : Bin) (ms : List Size) (counted : ℕ) (r : Result (Option (Vec Cuboid A)) E) (counter : ℕ)
+      → IsErr r → new ≡ old → counter ≡ counted → IsTrialAnswer may old ms counted r new counter
+  IsTrialAnswer-refused may old new ms counted (Ok done) counter error same none = absurd cc
+  IsTrialAnswer-refused may old new ms counted (Err e) counter error same none = (same, none)
 
   -- what a trial in slots answers
   pub IsNotedAnswer-slots : (may : Answers) (old new : Bin) (s first last : Slots) (ms : List Size) (counted : ℕ) (r : Result Bool E) (ls : List Cuboid)

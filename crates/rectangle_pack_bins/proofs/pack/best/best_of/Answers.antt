@@ -1,4 +1,5 @@
-use Rattle.rectangle_pack_sections.proofs.Std.{refl, ◌∙◌, take, take_all, take_more, slice_index_or}
+use Rattle.rectangle_pack_sections.proofs.Std.{refl, ◌∙◌, take, take_all, take_more, slice_index_or, All-nil, IfOk-from_err}
+use borrow.Author.Count.{falls}
 use Rattle.rectangle_pack_sections.specs.declared.box_size_heuristics.named.Heuristic.TheVariants.{Volume}
 use Rattle.rectangle_pack_groups.proofs.lemmas.groups.GroupOrder.{groups_total}
 use Rattle.rectangle_pack_bins.specs.Packing.{bins_of}
@@ -32,3 +33,15 @@ loop-heuristic-preserved g c =
 
 pub returns-clause-best : goal.returns-clause-best
 returns-clause-best g c = rw (take_all c.loop-heuristic.heuristic-index c.args.heuristics.now c.loop-heuristic-test.false) at c.loop-heuristic.invariant.1
+
+pub loop-heuristic-init : goal.loop-heuristic-init
+loop-heuristic-init g c = (refl, All-nil _)
+
+pub returns-in_err-made-clause-best : goal.returns-in_err-made-clause-best
+returns-in_err-made-clause-best g c = IfOk-from_err _ _ c.from_residual.ensures.0
+
+pub returns-in_err-made-clause-same : goal.returns-in_err-made-clause-same
+returns-in_err-made-clause-same g c = c.try_with.ensures.same ∙ c.loop-heuristic.invariant.0
+
+pub loop-heuristic-smaller : goal.loop-heuristic-smaller
+loop-heuristic-smaller g c = falls _ c.loop-heuristic.heuristic-index c.loop-heuristic-test.true

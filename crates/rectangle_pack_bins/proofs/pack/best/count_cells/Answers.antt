@@ -1,4 +1,5 @@
-use Rattle.rectangle_pack_sections.proofs.Std.{◌≡◌, ◌+◌, refl, ◌∙◌, take, take_more, Bor}
+use Rattle.rectangle_pack_sections.proofs.Std.{◌≡◌, ◌+◌, refl, ap, ◌∙◌, take, take_all, take_more, Bor, IfOk-from_err}
+use borrow.Author.Count.{falls}
 use Rattle.rectangle_pack_sections.specs.Boxes.{volume_of}
 use Rattle.rectangle_pack_lists.specs.Numbers.{saturated}
 use Rattle.rectangle_pack_bins.specs.private.Cells.{cells_in}
@@ -16,3 +17,15 @@ loop-placement-preserved g c = λ id.
     rw (take_more c.args.placements.now i p c.loop-placement-test.true, ← c.placement-item.is)
     (cells_in-more g.met.B.Ord.total (take i c.args.placements.now) p old c.insert.new.self.entries c.saturating_add-filled.result
     c.loop-placement.invariant counted (λ q. c.in_ok-insert.ensures.updates.0 (key q)) id)
+
+pub loop-placement-init : goal.loop-placement-init
+loop-placement-init g c = λ id. ap (λ es. cells_in g.B.Ord.cmp es id) c.new-cells.ensures.empty
+
+pub returns-in_err-insert : goal.returns-in_err-insert
+returns-in_err-insert g c = IfOk-from_err _ _ c.from_residual.ensures.0
+
+pub loop-placement-smaller : goal.loop-placement-smaller
+loop-placement-smaller g c = falls _ c.loop-placement.placement-index c.loop-placement-test.true
+
+pub returns : goal.returns
+returns g c = rw (take_all c.loop-placement.placement-index c.args.placements.now c.loop-placement-test.false) at c.loop-placement.invariant

@@ -1,4 +1,4 @@
-use Rattle.rectangle_pack_sections.proofs.Std.{refl}
+use Rattle.rectangle_pack_sections.proofs.Std.{refl, IfOk-from_err}
 use Rattle.rectangle_pack_bins.specs.Packing.{bins_of}
 use Rattle.rectangle_pack_bins.specs.private.RollBack.{RollsBackTo}
 use Rattle.rectangle_pack_bins.proofs.pack.best.rehearse.Given.{Over}
@@ -31,3 +31,19 @@ returns-clause-rehearsed g c = elim c.if-branch.branch [
       let refused = rw (w.if-branch.false, c.new-packing.ensures.bins, c.replace-bins.ensures.value) at c.in_ok-packed.ensures.packed in
       rw w.result-is (_, refused.0)
 ]
+
+pub returns-in_err-order-clause-rehearsed : goal.returns-in_err-order-clause-rehearsed
+returns-in_err-order-clause-rehearsed g c = IfOk-from_err _ _ c.from_residual.ensures.0
+
+pub new-packing-requires-clause-distinct : goal.new-packing-requires-clause-distinct
+new-packing-requires-clause-distinct g c = rw c.as_slice.ensures.value c.in_ok-order.ensures.ids
+
+pub pack_noted-packed-requires-clause-order : goal.pack_noted-packed-requires-clause-order
+pack_noted-packed-requires-clause-order g c =
+    rw (c.new-packing.ensures.bins, c.replace-bins.ensures.value, c.as_slice.ensures.value) c.in_ok-order.ensures.order
+
+pub pack_noted-packed-requires-clause-distinct : goal.pack_noted-packed-requires-clause-distinct
+pack_noted-packed-requires-clause-distinct g c = rw (c.new-packing.ensures.bins, c.replace-bins.ensures.value) c.in_ok-order.ensures.distinct
+
+pub returns-in_err-packed-clause-rehearsed : goal.returns-in_err-packed-clause-rehearsed
+returns-in_err-packed-clause-rehearsed g c = IfOk-from_err _ _ c.from_residual-in_err-packed.ensures.0

@@ -1,7 +1,7 @@
 use Rattle.rectangle_pack_sections.proofs.Std.{◌≡◌, ◌<◌, ◌≤◌, ◌++◌, ◌∷◌, [], length, get_or, sym, ap, ◌∙◌, arith, length-append, Some, IsSome, is_some}
 use Rattle.rectangle_pack_sections.proofs.Std.{option_copied_mut, lookup, is_at, keys-set_value}
 use Rattle.rectangle_pack_groups.proofs.lemmas.util.Maps.{is_some-option_map}
-use Rattle.rectangle_pack_bins.proofs.lemmas.packing.Checkout.{stays, CanCheckIn-written, in_use-out}
+use Rattle.rectangle_pack_bins.proofs.lemmas.packing.Checkout.{stays, CanCheckIn-written, in_use-out, has_room}
 use Rattle.rectangle_pack_bins.proofs.pack.checkout.PackingBins.check_out.Goals as goal
 
 pub unwrap-bin-requires : goal.unwrap-bin-requires
@@ -38,3 +38,6 @@ returns g c =
     sym c.get_mut.ensures.value ∙ ap option_copied_mut c.unwrap-bin.ensures in
     rw ((c.get_mut.follows.holds c.replace.new.dest).0, c.push_reserved.ensures.items, c.new-open.ensures, c.replace.ensures.value)
     (in_use-out g.met.B.Ord.total order out c.self.inside.bins.entries o held c.replace.new.dest c.self.invariant.distinct next is found ∙ c.self.view_is)
+
+pub push_reserved-requires : goal.push_reserved-requires
+push_reserved-requires g c = has_room _ _ _ _ c.len-else-index-len.ensures c.capacity.ensures c.if-len-capacity.false c.self.inside.out.ok.1

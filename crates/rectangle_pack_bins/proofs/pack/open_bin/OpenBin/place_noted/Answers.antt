@@ -3,8 +3,11 @@ use Rattle.rectangle_pack_bins.proofs.pack.open_bin.OpenBin.place_noted.Goals as
 
 pub returns-then-not-are_worth_it-clause-answer : goal.returns-then-not-are_worth_it-clause-answer
 returns-then-not-are_worth_it-clause-answer g c =
-    rw (← c.self.view_is, with_slots-none c.self.inside.bin.bin c.self.inside.slots c.if-is_none.ensures,
-    with_slots-none c.place_noted.new.self.bin c.self.inside.slots c.if-is_none.ensures) c.place_noted.ensures.answer
+    rw (
+      ← c.self.view_is,
+      with_slots-none c.self.inside.bin.bin c.self.inside.slots c.if-is_none.ensures,
+      with_slots-none c.place_noted.new.self.bin c.self.inside.slots c.if-is_none.ensures,
+    ) c.place_noted.ensures.answer
 
 pub returns-then-not-are_worth_it-clause-noted : goal.returns-then-not-are_worth_it-clause-noted
 returns-then-not-are_worth_it-clause-noted g c = rw (← c.self.view_is) c.place_noted.ensures.noted
