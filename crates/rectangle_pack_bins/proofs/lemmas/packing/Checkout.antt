@@ -1,6 +1,6 @@
 -- Bins that are checked out of their map, and checked in.
 use Rattle.rectangle_pack_sections.proofs.Std.{◌≡◌, ◌≤◌, ℕ, suc, zero, ◌<◌, List, [], ◌∷◌, ◌++◌, length, refl, ap, sym, ◌∙◌, true, false, Bool, arith, get_or}
-use Rattle.rectangle_pack_sections.proofs.Std.{Option, Some, None, IsSome, map, set, Ordering, is_eq, eq_by_cmp, IsTotalOrder, Equal-is, IsDistinct}
+use Rattle.rectangle_pack_sections.proofs.Std.{Option, Some, None, IsSome, All, map, set, Ordering, is_eq, eq_by_cmp, IsTotalOrder, Equal-is, IsDistinct}
 use Rattle.rectangle_pack_sections.proofs.Std.{AllByRecursion, lookup, set_value, keys_of, is_at, keys-set_value, IsDistinct-head, IsDistinct-tail}
 use Rattle.rectangle_pack_sections.proofs.Std.{set_value_same, inl, inr, cases_Bool, set-get_or}
 use Rattle.rectangle_pack_sections.specs.Bins.{Held, IsSound}
@@ -36,6 +36,15 @@ checked_in-none cmp kept order (a ∷ out) es none = absurd (omega (arith, none)
 -- of bins in use that stay, each part stays
 pub stays : {B : Type 0} {new old : BinsInUse B} → new ≡ old → (new.kept ≡ old.kept) × (new.own ≡ old.own) × (new.order ≡ old.order)
 stays {B} same = (ap (λ (b : BinsInUse B). b.kept) same, ap (λ (b : BinsInUse B). b.own) same, ap (λ (b : BinsInUse B). b.order) same)
+
+-- where none is out, all are in the map
+pub in_use-none : {B : Type 0} (cmp : B → B → Ordering) (order : List (ℕ × B)) (out : List Open) (es : List (B × Held)) → out ≡ []
+    → in_use cmp order out es ≡ record { kept = es; own = es; order = order }
+in_use-none cmp order out es none = rw none refl
+
+pub CanCheckIn-none : {B : Type 0} (cmp : B → B → Ordering) (order : List (ℕ × B)) (out : List Open) (es : List (B × Held)) → out ≡ []
+    → All (λ o. IsSome (lookup (is_at (cmp o.1)) es)) order → IsDistinct (eq_by_cmp cmp) (map (λ (o : ℕ × B). o.1) order) → CanCheckIn cmp order out es
+CanCheckIn-none cmp order out es none found distinct = record { found = found; distinct = distinct; within = rw none (omega arith) }
 
 -- bins can be checked in where values alone were written in the map, and there are no more of them than ids
 pub CanCheckIn-written : {B : Type 0} {cmp : B → B → Ordering} {order : List (ℕ × B)} {out : List Open} {es : List (B × Held)} (later : List Open)

@@ -2,11 +2,11 @@
 -- `Packing::roll_back`, which stands on these.
 use Rattle.rectangle_pack_sections.proofs.Std.{◌≡◌, ◌≤◌, List, [], ◌∷◌, ◌++◌, refl, ap, sym, ◌∙◌, subst, cond, true, false, Bool, arith, Some, reverse}
 use Rattle.rectangle_pack_sections.proofs.Std.{Ordering, reverse-append, AllZip, lookup, set_value, keys_of, is_some, option_map, is_at, lookup-map_values}
-use Rattle.rectangle_pack_sections.proofs.Std.{keys_of-map_values}
+use Rattle.rectangle_pack_sections.proofs.Std.{keys_of-map_values, length, nat_eq, vec_len, if◌then◌else◌}
 use Rattle.rectangle_pack_bins.specs.declared.pack.journal.DoneTrial.{DoneTrial}
 use Rattle.rectangle_pack_sections.specs.Bins.{Bin, Held}
 use Rattle.rectangle_pack_bins.specs.Packing.{bins_of}
-use Rattle.rectangle_pack_bins.specs.private.RollBack.{CanUndoTrial, before_trial, Undoes, GoesBack}
+use Rattle.rectangle_pack_bins.specs.private.RollBack.{CanUndoTrial, before_trial, trials_noted, Undoes, GoesBack}
 use Rattle.rectangle_pack_groups.proofs.lemmas.util.Maps.{is_some-keys, set_value-map_values, set_value-twice, lookup-set_here}
 use Rattle.rectangle_pack_lists.proofs.lemmas.trial.StepsByIndex.{CanUndo-more}
 use Rattle.rectangle_pack_bins.proofs.lemmas.packing.Orders.{AllZip-equal}
@@ -149,6 +149,19 @@ GoesBack-pushed {B} {A} cmp now journal new e v w start same found can back h =
       undoes = subst (λ (es : List (DoneTrial B A)). Undoes cmp es (set_value (is_at (cmp e.id.now)) now w) start)
           (sym (ap reverse same ∙ reverse-append journal (e ∷ []))) (Undoes-noted cmp e (reverse journal) now v w start found can back h.undoes);
     }
+
+-- where the journal is empty, the bins are those of the start
+pub GoesBack-none : {B A : Type 0} (cmp : B → B → Ordering) (now : List (B × Held)) (journal : List (DoneTrial B A)) (start : List (B × Bin))
+    → length journal ≡ 0 → GoesBack cmp now journal start → bins_of now ≡ start
+GoesBack-none cmp now [] start none h = h.undoes
+GoesBack-none cmp now (e ∷ es) start some h = absurd (omega (arith, some))
+
+-- a trial that left notes is noted, and one that left none is not
+pub trials_noted-some : {B A : Type 0} (done : DoneTrial B A) → false ≡ nat_eq (vec_len done.notes) 0 → trials_noted done ≡ done ∷ []
+trials_noted-some done some = ap (λ none. if none then [] else done ∷ []) (ap (λ n. nat_eq n 0) (sym done.notes.ok.0) ∙ sym some)
+
+pub trials_noted-none : {B A : Type 0} (done : DoneTrial B A) → true ≡ nat_eq (vec_len done.notes) 0 → trials_noted done ≡ []
+trials_noted-none done none = ap (λ none. if none then [] else done ∷ []) (ap (λ n. nat_eq n 0) (sym done.notes.ok.0) ∙ sym none)
 
 -- more room does no harm to a journal
 pub GoesBack-more : {B A : Type 0} (cmp : B → B → Ordering) (now more : List (B × Held)) (journal : List (DoneTrial B A)) (start : List (B × Bin))

@@ -87,7 +87,7 @@ module _ {E : Type 0} where
   -- and as a trial in a bin, without notes
   pub IsTrialAnswer-refused : {A : Type 0} (may : Answers) (old new : Bin) (ms : List Size) (counted : ℕ) (r : Result (Option (Vec Cuboid A)) E) (counter : ℕ)
       → IsErr r → new ≡ old → counter ≡ counted → IsTrialAnswer may old ms counted r new counter
-  IsTrialAnswer-refused may old new ms counted (Ok done) counter error same none = absurd cc
+  IsTrialAnswer-refused may old new ms counted (Ok found) counter error same none = absurd cc
   IsTrialAnswer-refused may old new ms counted (Err e) counter error same none = (same, none)
 
   -- what a trial in slots answers

@@ -1,7 +1,7 @@
-use Rattle.rectangle_pack_sections.proofs.Std.{◌≡◌, refl, sym, is_at}
+use Rattle.rectangle_pack_sections.proofs.Std.{◌≡◌, refl, sym, ◌∙◌, is_at}
 use Rattle.rectangle_pack_lists.specs.private.Notes.{before_notes, LeadsBack}
 use Rattle.rectangle_pack_bins.specs.private.RollBack.{GoesBack, before_trial}
-use Rattle.rectangle_pack_bins.proofs.lemmas.packing.RollBack.{GoesBack-popped, GoesBack-more, IsRoomier-set, IsRoomier-same, IsMore}
+use Rattle.rectangle_pack_bins.proofs.lemmas.packing.RollBack.{GoesBack-none, GoesBack-popped, GoesBack-more, IsRoomier-set, IsRoomier-same, IsMore}
 use Rattle.rectangle_pack_bins.proofs.pack.journal.undo_trials.Goals as goal
 
 pub loop-done-preserved : goal.loop-done-preserved
@@ -37,3 +37,18 @@ undo_notes-requires g c =
     let notes = c.in-Some.done.notes.items in
     let leads : LeadsBack held.room held.bin.sections notes (before_notes notes held.bin.sections) = rw (← same) (record { before = refl; can = u.can.can }) in
     (before_notes notes held.bin.sections, rw (← same) u.can.sound, leads)
+
+pub loop-done-init : goal.loop-done-init
+loop-done-init g c = record { some = c.requires; each = λ start back. back }
+
+pub returns : goal.returns
+returns g c = λ start back.
+    GoesBack-none g.B.Ord.cmp c.loop-done.bins.entries c.loop-done.journal.items start
+    (sym c.loop-done.journal.ok.0 ∙ c.in_default.ensures.cases.0) (c.loop-done.invariant.each start back)
+
+pub unreachable-requires : goal.unreachable-requires
+unreachable-requires g c =
+    let some = c.loop-done.invariant.some in
+    let u = GoesBack-popped g.B.Ord.cmp c.loop-done.bins.entries _ c.pop.new.self.items c.in-Some.done some.0 c.in-Some.ensures.items some.1 in
+    let never = c.in-None.ensures.value ∙ u.found in
+    absurd cc

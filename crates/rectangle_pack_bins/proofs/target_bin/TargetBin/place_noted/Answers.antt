@@ -1,9 +1,20 @@
-use Rattle.rectangle_pack_sections.proofs.Std.{Ok, AllocError, subst}
+use Rattle.rectangle_pack_sections.proofs.Std.{◌≡◌, List, ap, ◌∙◌, Ok, AllocError, subst}
+use Rattle.rectangle_pack_sections.specs.Boxes.{Cuboid}
 use Rattle.rectangle_pack_sections.specs.Bins.{Held}
 use Rattle.rectangle_pack_lists.specs.private.TrialNotes.{IsNotedAnswer}
 use Rattle.rectangle_pack_lists.proofs.lemmas.trial.Steps.{IsSound-tried}
 use Rattle.rectangle_pack_lists.proofs.lemmas.trial.StepsByIndex.{IsNotedAnswer-tried, LeavesNotes-tried}
+use Rattle.rectangle_pack_bins.proofs.lemmas.packing.Trials.{IsNotedAnswer-refused, LeavesNotes-refused}
+use Rattle.rectangle_pack_bins.proofs.target_bin.TargetBin.place_noted.Given.{Over}
+use Rattle.rectangle_pack_bins.proofs.target_bin.TargetBin.place_noted.Goals.{After-from_residual}
 use Rattle.rectangle_pack_bins.proofs.target_bin.TargetBin.place_noted.Goals as goal
+
+-- where memory is refused, the bin is as it was
+same : (g : Over) (c : After-from_residual g)
+    → record { size = c.self.inside.max_size; sections = c.run_trial.new.list.items; coalesced = c.self.inside.was_coalesced } ≡ c.args.self.now.bin
+same g c =
+    ap (λ (s : List Cuboid). record { size = c.self.inside.max_size; sections = s; coalesced = c.self.inside.was_coalesced }) c.in_err-done.ensures.tried.0
+    ∙ ap (λ (h : Held). h.bin) c.self.view_is
 
 pub invariant_of-self-2 : goal.invariant_of-self-2
 invariant_of-self-2 g c =
@@ -28,3 +39,22 @@ returns-clause-noted g c =
 
 pub returns-clause-room : goal.returns-clause-room
 returns-clause-room g c = rw (← c.self.view_is) c.in_ok-done.ensures.room
+
+pub invariant_of-self : goal.invariant_of-self
+invariant_of-self g c = rw c.in_err-done.ensures.tried.0 c.self.invariant
+
+pub returns-in_err-done-clause-answer : goal.returns-in_err-done-clause-answer
+returns-in_err-done-clause-answer g c =
+    IsNotedAnswer-refused _ _ _ _ _ c.from_residual.result _ _ c.from_residual.ensures.0
+    (same g (goal.at.returns-in_err-done-clause-answer g c).After-from_residual) c.in_err-done.ensures.tried.1
+
+pub returns-in_err-done-clause-noted : goal.returns-in_err-done-clause-noted
+returns-in_err-done-clause-noted g c =
+    LeavesNotes-refused c.from_residual.result _ c.args.self.now _ c.from_residual.ensures.0
+    (same g (goal.at.returns-in_err-done-clause-noted g c).After-from_residual)
+
+pub returns-in_err-done-clause-sound : goal.returns-in_err-done-clause-sound
+returns-in_err-done-clause-sound g c = rw (← c.self.view_is) c.self.invariant
+
+pub returns-clause-sound : goal.returns-clause-sound
+returns-clause-sound g c = rw (← c.self.view_is) c.self.invariant
