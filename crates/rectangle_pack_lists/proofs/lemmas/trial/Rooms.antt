@@ -14,20 +14,6 @@ module _ (room slots blocks rows : ℕ) (is : min slots (min (blocks * 8 + 7) (r
   pub room-kept : (slots' blocks' rows' : ℕ) → slots ≤ slots' → blocks ≤ blocks' → rows ≤ rows' → room ≤ min slots' (min (blocks' * 8 + 7) (rows' * 64 + 63))
   room-kept slots' blocks' rows' a b c = omega arith
 
-  -- where there is room for a slot more, the slots have it, and so have the blocks and the rows for those that it completes
-  pub slot-room : (len all : ℕ) → len ≡ all → all < room → len < slots
-  slot-room len all same more = omega arith
-
-  pub block-room : (all more : ℕ) → all < room → more ≡ all + 1 → more < blocks * 8 + 8
-  block-room all more left one = omega arith
-
-  pub row-room : (all n more : ℕ) → all < room → more ≡ all + 1 → n * 8 ≤ more → n < rows * 8 + 8
-  row-room all n more left one whole = omega arith
-
-  -- where slots, blocks and rows keep their room, it stays
-  pub room-same : (slots' blocks' rows' : ℕ) → slots' ≡ slots → blocks' ≡ blocks → rows' ≡ rows → min slots' (min (blocks' * 8 + 7) (rows' * 64 + 63)) ≡ room
-  room-same slots' blocks' rows' a b c = rw (a, b, c) is
-
   -- where a slot too many was asked for, it lacks
   pub slots-lack : (len all extra : ℕ) → len ≡ all → slots < len + extra → room < all + extra
   slots-lack len all extra same lack = omega arith

@@ -1,5 +1,5 @@
 -- Summaries of stretches of slots.
-use Rattle.rectangle_pack_sections.proofs.Std.{ap, ◌≡◌, ◌≤◌, ◌<◌, ◌+◌, ◌*◌, ◌^◌, ◌≢◌, ℕ, List, [], ◌∷◌, ◌++◌, length, take, drop, set, get_or, refl, arith, inl}
+use Rattle.rectangle_pack_sections.proofs.Std.{◌≡◌, ◌≤◌, ◌<◌, ◌+◌, ◌*◌, ◌^◌, ◌≢◌, ℕ, List, [], ◌∷◌, ◌++◌, length, take, drop, set, get_or, refl, arith, inl}
 use Rattle.rectangle_pack_sections.proofs.Std.{inr, length-append, length-drop, append-nil, Option, Some, None, lt_of_mul-lt-mul_right, length-set}
 use Rattle.rectangle_pack_sections.proofs.Std.{get_or-append_seam, take-add, cases_order, drop-drop, get_or-drop, get_or_append_left, get_or-set_same}
 use Rattle.rectangle_pack_sections.proofs.Std.{get_or-set_other, get_or-take, take_all, length-take-le, All-append, All-cons, All-nil, All-weaker, ◌⊎◌}
@@ -132,24 +132,6 @@ AreSummed-empty slots blocks rows a b c = rw (a, b, c) (record { in_blocks = Sum
 pub AreSummed-same : (slots slots' : List (Option Cuboid)) (blocks blocks' rows rows' : List Summary)
     → slots' ≡ slots → blocks' ≡ blocks → rows' ≡ rows → AreSummed 8 64 slots blocks rows → AreSummed 8 64 slots' blocks' rows'
 AreSummed-same slots slots' blocks blocks' rows rows' a b c summed = rw (a, b, c) summed
-
--- what is known of the blocks and rows of slots, and of the blocks once a slot is pushed
-module _ (slots new : List (Option Cuboid)) (x : Option Cuboid) (blocks rows blocks' : List Summary) (summed : AreSummed 8 64 slots blocks rows)
-    (same : new ≡ slots ++ x ∷ []) where
-  pub pushed-long : length new ≡ length slots + 1
-  pushed-long = omega (arith, ap length same, length-append slots (x ∷ []))
-
-  pub pushed-whole : length blocks * 8 < length new
-  pushed-whole = omega (arith, pushed-long, summed.in_blocks.whole)
-
-  pub pushed-rest : length new ≤ length blocks * 8 + 8
-  pushed-rest = omega (arith, pushed-long, summed.in_blocks.rest)
-
-  pub rows-whole : SumAll 8 new blocks' → length rows * 8 ≤ length blocks'
-  rows-whole p = omega (arith, pushed-long, summed.in_rows.whole, p.rest)
-
-  pub rows-rest : SumAll 8 new blocks' → length blocks' ≤ length rows * 8 + 8
-  rows-rest p = omega (arith, pushed-long, summed.in_rows.rest, p.whole)
 
 -- the slots of a block more
 pub Sums-block : (summary : Summary) (slots : List (Option Cuboid)) (blocks : List Summary) (i : ℕ) (d : Summary)

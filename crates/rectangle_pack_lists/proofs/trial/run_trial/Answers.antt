@@ -1,4 +1,4 @@
-use Rattle.rectangle_pack_sections.proofs.Std.{ap, ℕ, ◌<◌, ◌≤◌, ◌-◌, IfOk-from_err, rules, arith, refl, ◌≡◌, ◌+◌, length, take, take_all}
+use Rattle.rectangle_pack_sections.proofs.Std.{ℕ, ◌<◌, ◌≤◌, ◌-◌, IfOk-from_err, rules, arith, refl, ◌≡◌, ◌+◌, length, take, take_all}
 use Rattle.rectangle_pack_lists.proofs.lemmas.trial.StepsByIndex.{IsDone-more, IsStuck-at, IsTried-refused, is_first, saturated-add}
 use Rattle.rectangle_pack_lists.proofs.lemmas.trial.Steps.{IsStep-fits}
 use Rattle.rectangle_pack_lists.proofs.trial.run_trial.Goals as goal
@@ -9,19 +9,6 @@ le_through a b c first second = omega arith
 -- before the last member some are left
 some_left : (i count : ℕ) → i < count → 0 < count - i
 some_left i count within = omega arith
-
--- room for the members that are left is room for one
-room_for_one : (before same items len count i room : ℕ) → before ≡ items → len ≡ same → same ≡ items → i < count → before + (count - i) ≤ room → len < room
-room_for_one before same items len count i room a b d within made = omega arith
-
-no_more : (i count : ℕ) → i < count → i ≤ count
-no_more i count within = omega arith
-
-no_less : (n : ℕ) → n ≤ n
-no_less n = omega arith
-
-none_before : (0 < 0) → ⊥
-none_before h = omega arith
 
 -- a list with a member is not empty
 has_none : (i count : ℕ) → i < count → count ≡ 0 → ⊥
@@ -51,7 +38,7 @@ loop-i-preserved g c =
       );
       fits = IsStep-fits _ _ _ _ _ _ step c.loop-i.invariant.fits;
       room_for = λ p. omega (arith, c.in_ok-location.ensures.room_for);
-      room = le_through _ _ _ c.loop-i.invariant.room c.in_ok-location.ensures.room;
+      room = omega (arith, c.loop-i.invariant.room, c.in_ok-location.ensures.room);
       note_count = search rules;
       note_room = λ p. omega (arith, c.in_ok-reserve.ensures.note_room, c.push_reserved-in-loop-i.ensures.capacity);
       location_count = search rules;
@@ -63,12 +50,12 @@ pub loop-i-init : goal.loop-i-init
 loop-i-init g c = record {
   placed = (0, (c.clear-2.ensures.items, refl, refl), omega arith);
   fits = c.requires.fits;
-  room_for = λ p. absurd (none_before p);
-  room = no_less _;
+  room_for = λ p. absurd (omega arith);
+  room = omega arith;
   note_count = search rules;
-  note_room = λ p. absurd (none_before p);
+  note_room = λ p. absurd (omega arith);
   location_count = search rules;
-  location_room = λ p. absurd (none_before p);
+  location_room = λ p. absurd (omega arith);
   back = rw c.clear.ensures.items (g.met.L.FreeList.stays c.args.list.now);
 }
 
@@ -143,16 +130,3 @@ returns-clause-noted g c = c.loop-i.invariant.back
 
 pub returns-clause-no_members : goal.returns-clause-no_members
 returns-clause-no_members g c = λ none. refl
-
-pub overflow_sub-steps : goal.overflow_sub-steps
-overflow_sub-steps g c = no_more _ _ c.loop-i-test.true
-
-pub push_reserved-requires : goal.push_reserved-requires
-push_reserved-requires g c =
-    room_for_one _ _ _ _ _ _ _ c.loop-i.buffers.locations.ok.0 c.reserve.new.self.locations.ok.0 (ap length c.reserve.ensures.locations) c.loop-i-test.true
-    c.in_ok-reserve.ensures.location_room
-
-pub push_reserved-requires-in-loop-i : goal.push_reserved-requires-in-loop-i
-push_reserved-requires-in-loop-i g c =
-    room_for_one _ _ _ _ _ _ _ c.loop-i.buffers.notes.ok.0 c.reserve.new.self.notes.ok.0 (ap length c.reserve.ensures.notes) c.loop-i-test.true
-    c.in_ok-reserve.ensures.note_room
