@@ -1,11 +1,10 @@
 //! One packing of a session.
-ghost use Rattle.std.specs.Prelude.{◌≡◌, ◌+◌, ◌<◌, ◌^◌, ◌++◌, ◌⊎◌, [], length, List, IfOk, OnErr, MatchBool, MatchOption, MatchResult, Ok, Err, Some, None, cond, true};
+ghost use Rattle.std.specs.Prelude.{◌≡◌, ◌+◌, ◌<◌, ◌^◌, ◌++◌, [], length, List, IfOk, OnErr, MatchBool, MatchOption, Ok, true};
 ghost use Rattle.rectangle_pack_groups.specs.Clones.{ClonesEqual};
 ghost use Rattle.rectangle_pack_bins.specs.declared.pack.answer.Placement.{Placement};
 ghost use Rattle.rectangle_pack_sections.specs.Bins.{Bin};
 ghost use Rattle.rectangle_pack_groups.specs.Groups.{entries_of};
 ghost use Rattle.rectangle_pack_bins.specs.Packing.{rules_by, bins_of, PackingDone, PackingRefused};
-ghost use Rattle.rectangle_pack_bins.specs.private.RollBack.{RollsBackTo};
 ghost use Rattle.rectangle_pack.specs.Session.{numbered};
 
 use crate::session::command::Outstanding;
@@ -112,27 +111,7 @@ where
     let order = bin_order(alloc, bins, policy)?;
     let old = mem::replace(bins, BTreeMap::new(alloc));
     let mut packing = Packing::new(old, order.as_slice(), alloc);
-    let packed = pack_noted(&mut packing, groups, entries, policy);
-    end_packing(packing, bins, packed)
-}
-
-// Ends a packing: what it placed and its bins are kept where it is done, and it is rolled back where
-// it is not.
-fn end_packing<Id: Drop, B: Ord + Drop, A: Allocator + Copy>(
-    packing: Packing<'_, Id, B, A>,
-    bins: &mut BTreeMap<B, TargetBin<A>, A>,
-    packed: Result<bool, AllocError>,
-) -> Result<Option<Vec<Placement<Id, B>, A>>, AllocError>
-    requires undoable { (start : List (B × Bin)) × RollsBackTo B.cmp packing start }
-    ensures answered { MatchResult packed
-        (λ done. result ≡ Ok (cond done (Some packing.entry.placements) None))
-        (λ error. result ≡ Err error) }
-    ensures kept { packed ≡ Ok true → bins.new.entries ≡ packing.entry.bins.kept }
-    ensures back { (packed ≡ Ok true) ⊎
-        ((start : List (B × Bin)) →
-        RollsBackTo B.cmp packing.entry start → bins_of bins.new.entries ≡ start) }
-{
-    match packed {
+    match pack_noted(&mut packing, groups, entries, policy) {
         Ok(true) => {
             let (kept, placements) = packing.keep();
             *bins = kept;

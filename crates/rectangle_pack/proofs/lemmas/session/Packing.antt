@@ -1,8 +1,7 @@
 -- What a session answers to a packing, by what the packing on its bins did.
 use Rattle.rectangle_pack_sections.proofs.Std.{◌≡◌, ℕ, ◌+◌, ◌-◌, ◌<◌, ◌≤◌, ◌^◌, List, [], ◌++◌, refl, ap, sym, ◌∙◌, subst, arith, true, false, Bool, length}
-use Rattle.rectangle_pack_sections.proofs.Std.{MatchBool, OnTrue, map, sum, values_of, Option, Some, None, MatchOption, Result, Ok, Err, IfOk, OnErr, IsErrAnd, Vec}
-use Rattle.rectangle_pack_sections.proofs.Std.{Ordering, IsTotalOrder, cond, ◌⊎◌, inl, inr}
-use Rattle.std.specs.Prelude.{MatchResult}
+use Rattle.rectangle_pack_sections.proofs.Std.{MatchBool, OnTrue, map, sum, values_of, Option, Some, None, MatchOption, Result, Ok, IsErrAnd, Vec}
+use Rattle.rectangle_pack_sections.proofs.Std.{Ordering, IsTotalOrder}
 use Rattle.rectangle_pack_groups.specs.declared.grouped_rects_to_place.Group.{Group}
 use Rattle.rectangle_pack_groups.specs.Groups.{Collection, entries_of}
 use Rattle.rectangle_pack_sections.specs.Bins.{Bin, Held}
@@ -125,29 +124,26 @@ pub start-back : {B A : Type 0} (cmp : B → B → Ordering) (own : List (B × H
     → bins_of own ≡ start → journal ≡ [] → GoesBack cmp own journal start
 start-back cmp own journal start is none = rw none (record { undoes = is })
 
--- a packing that was tried, from what it said of itself and how it was ended: done and kept, or refused and rolled back, or stopped and
--- rolled back
-module _ {Id B G A E : Type 0} (group_cmp : Group G Id → Group G Id → Ordering) (rules : Rules Id B) (all : Collection Id G) (was old : List (B × Bin))
-    (same : was ≡ old) (kept new : List (B × Held)) (placements : Vec (Placement Id B) A)
+-- what a packing that was tried said of itself, of the bins that it began with: what it placed where it is done and kept, and that it is
+-- refused
+module _ {Id B G A : Type 0} (group_cmp : Group G Id → Group G Id → Ordering) (rules : Rules Id B) (all : Collection Id G) (was old : List (B × Bin))
+    (same : was ≡ old) (kept : List (B × Held)) (placements : Vec (Placement Id B) A)
     (Counts : PackingDone group_cmp rules all was placements.items (bins_of kept) → Type 0)
-    (CountsRefused : PackingRefused group_cmp rules all was (bins_of kept) → Type 0) (Back : List (B × Bin) → Type 0) (goes_back : Back old) where
-  pub tried : (packed : Result Bool E) → IfOk packed (λ done. MatchBool done
+    (CountsRefused : PackingRefused group_cmp rules all was (bins_of kept) → Type 0) where
+  pub kept-done : (done : Bool) → done ≡ true → MatchBool done
       ((packing : PackingDone group_cmp rules all was placements.items (bins_of kept)) × Counts packing)
-      ((refused : PackingRefused group_cmp rules all was (bins_of kept)) × CountsRefused refused))
-      → IfOk packed (λ done. OnTrue done (length placements.items ≡ entries_of all))
-      → (result : Result (Option (Vec (Placement Id B) A)) E)
-      → MatchResult packed (λ done. result ≡ Ok (cond done (Some placements) None)) (λ error. result ≡ Err error)
-      → (packed ≡ Ok true → new ≡ kept)
-      → (packed ≡ Ok true) ⊎ ((start : List (B × Bin)) → Back start → bins_of new ≡ start)
-      → IfOk result (λ placed. MatchOption placed
-      ((left : List (B × Bin)) × PackingRefused group_cmp rules all old left × (bins_of new ≡ old))
-      (λ made. PackingDone group_cmp rules all old made.items (bins_of new) × (length made.items ≡ entries_of all)))
-      × OnErr result (bins_of new ≡ old)
-  tried (Ok true) says counted result answered ends back = rw (answered, ends refl, ← same) ((says.0, counted), tt)
-  tried (Ok false) says counted result answered ends (inl is) = absurd cc
-  tried (Ok false) says counted result answered ends (inr back) = rw (answered, ← same) ((bins_of kept, says.0, back old goes_back ∙ sym same), tt)
-  tried (Err e) says counted result answered ends (inl is) = absurd cc
-  tried (Err e) says counted result answered ends (inr back) = rw answered (tt, back old goes_back)
+      ((refused : PackingRefused group_cmp rules all was (bins_of kept)) × CountsRefused refused)
+      → OnTrue done (length placements.items ≡ entries_of all) → (made : Vec (Placement Id B) A) (new : List (B × Held)) → made ≡ placements → new ≡ kept
+      → PackingDone group_cmp rules all old made.items (bins_of new) × (length made.items ≡ entries_of all)
+  kept-done true is says counted made new made_are new_are = rw (← same, made_are, new_are) (says.0, counted)
+  kept-done false is says counted made new made_are new_are = absurd cc
+
+  pub rolled-refused : (done : Bool) → done ≡ false → MatchBool done
+      ((packing : PackingDone group_cmp rules all was placements.items (bins_of kept)) × Counts packing)
+      ((refused : PackingRefused group_cmp rules all was (bins_of kept)) × CountsRefused refused)
+      → PackingRefused group_cmp rules all old (bins_of kept)
+  rolled-refused true is says = absurd cc
+  rolled-refused false is says = rw (← same) says.0
 
 -- what it placed, or that it is refused
 module _ {Id B G A : Type 0} (group_cmp : Group G Id → Group G Id → Ordering) (rules : Rules Id B) (all : Collection Id G) (old new : List (B × Bin))
