@@ -1,5 +1,5 @@
 -- Sessions. Read Keeps first: what is always true of a session, call by call. The main lemma is in Transitions: each transition keeps it. Promise adds what the
--- headline says of packings.
+-- headline says of packings. Packing has what a packing is answered, by what was done on the bins.
 pub mod Keeps
 pub mod Numbering
 pub mod Transitions
