@@ -90,3 +90,15 @@ returns-in_err-excluded-clause-journal_grows g c = no_longer (vec_len c.args.pac
 
 pub returns-in_err-excluded-clause-journal_room_stays : goal.returns-in_err-excluded-clause-journal_room_stays
 returns-in_err-excluded-clause-journal_room_stays g c = refl
+
+pub returns-in_err-place_group-clause-back : goal.returns-in_err-place_group-clause-back
+returns-in_err-place_group-clause-back g c = c.in_err-place_group.ensures.back
+
+pub returns-in-None-clause-back : goal.returns-in-None-clause-back
+returns-in-None-clause-back g c = c.in_ok-place_group.ensures.back
+
+pub returns-in_err-keep-in-Some-clause-back : goal.returns-in_err-keep-in-Some-clause-back
+returns-in_err-keep-in-Some-clause-back g c = c.in_ok-place_group.ensures.back
+
+pub returns-clause-back : goal.returns-clause-back
+returns-clause-back g c = c.in_ok-place_group.ensures.back
