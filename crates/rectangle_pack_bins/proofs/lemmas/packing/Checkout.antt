@@ -2,7 +2,7 @@
 use Rattle.rectangle_pack_sections.proofs.Std.{◌≡◌, ◌≤◌, ℕ, suc, zero, ◌<◌, List, [], ◌∷◌, ◌++◌, length, refl, ap, sym, ◌∙◌, true, false, Bool, arith, get_or}
 use Rattle.rectangle_pack_sections.proofs.Std.{Option, Some, None, IsSome, All, map, set, Ordering, is_eq, eq_by_cmp, IsTotalOrder, Equal-is, IsDistinct}
 use Rattle.rectangle_pack_sections.proofs.Std.{AllByRecursion, lookup, set_value, keys_of, is_at, keys-set_value, IsDistinct-head, IsDistinct-tail}
-use Rattle.rectangle_pack_sections.proofs.Std.{set_value_same, inl, inr, cases_Bool, set-get_or}
+use Rattle.rectangle_pack_sections.proofs.Std.{set_value_same, inl, inr, cases_Bool, set-get_or, length-append}
 use Rattle.rectangle_pack_sections.specs.Bins.{Held, IsSound}
 use Rattle.rectangle_pack_bins.specs.private.Checkout.{Open, closed, checked_in, BinsInUse, in_use, left_of, CanCheckIn, IsTriedIn, IsBinTried}
 use Rattle.rectangle_pack_groups.proofs.lemmas.util.Maps.{is_at-back, is_some-keys, set_value-twice, lookup-set_here}
@@ -20,6 +20,10 @@ closed-room false open' = refl
 -- a list that is not as long as its room has room for one more
 pub has_room : (long room counted asked : ℕ) → counted ≡ long → asked ≡ room → (counted ≡ asked → ⊥) → long ≤ room → long < room
 has_room long room counted asked same_long same_room not_full within = omega arith
+
+-- and one more is within a bound that is past it
+pub within-pushed : {X : Type 0} (xs : List X) (x : X) (n : ℕ) → length xs < n → length (xs ++ x ∷ []) ≤ n
+within-pushed xs x n past = omega (arith, past, length-append xs (x ∷ []))
 
 -- what is left of the bins that are in use
 pub left_of-in_use : {B : Type 0} (cmp : B → B → Ordering) (kept : Bool) (order : List (ℕ × B)) (out : List Open) (es : List (B × Held))

@@ -1,7 +1,7 @@
 -- Where the placements of a packing are, and which bins it knows.
 use Rattle.rectangle_pack_sections.proofs.Std.{◌≡◌, ℕ, List, [], ◌∷◌, ◌++◌, refl, ap, ◌∙◌, cond, true, false, Bool, Some, IsSome, map, filter, All, Ordering}
 use Rattle.rectangle_pack_sections.proofs.Std.{Equal, IsTotalOrder, is_eq, lookup, keys_of, is_at, keys-set_value, All-nil, All-head, All-tail, All-append}
-use Rattle.rectangle_pack_sections.proofs.Std.{All-weaker, filter-append, map-append, IsStrictlySortedBy}
+use Rattle.rectangle_pack_sections.proofs.Std.{All-weaker, filter-append, map-append, append_assoc, IsStrictlySortedBy}
 use Rattle.rectangle_pack_bins.specs.declared.pack.answer.Placement.{Placement}
 use Rattle.rectangle_pack_sections.specs.Bins.{Bin}
 use Rattle.rectangle_pack_bins.specs.KeptBins.{locations_in}
@@ -14,6 +14,10 @@ use Rattle.rectangle_pack_groups.proofs.lemmas.util.Maps.{lookup-equal, lookup-w
 pub AreLastPlacements-none : {Id B : Type 0} (cmp : Id → Id → Ordering) (bin_cmp : B → B → Ordering) (found : List (Id × (B × Cuboid)))
     → IsStrictlySortedBy cmp (keys_of found) → found ≡ [] → AreLastPlacements cmp bin_cmp [] found
 AreLastPlacements-none cmp bin_cmp found ascend none = record { ascend = ascend; each = λ id. rw none (All-nil _) }
+
+-- one more stands last among those that were added
+pub added-more : {X : Type 0} (old added mid new : List X) (x : X) → mid ≡ old ++ added → new ≡ mid ++ x ∷ [] → new ≡ old ++ (added ++ x ∷ [])
+added-more old added mid new x so_far pushed = rw (pushed, so_far) (append_assoc old added (x ∷ []))
 
 -- all placements are in the bin that is asked for, or none
 pub locations_in-here : {Id B : Type 0} (cmp : B → B → Ordering) (ps : List (Placement Id B)) (q : B) → All (λ p. is_at (cmp p.bin) q ≡ true) ps

@@ -2,7 +2,7 @@
 -- `Packing::roll_back`, which stands on these.
 use Rattle.rectangle_pack_sections.proofs.Std.{◌≡◌, ◌≤◌, List, [], ◌∷◌, ◌++◌, refl, ap, sym, ◌∙◌, subst, cond, true, false, Bool, arith, Some, reverse}
 use Rattle.rectangle_pack_sections.proofs.Std.{Ordering, reverse-append, AllZip, lookup, set_value, keys_of, is_some, option_map, is_at, lookup-map_values}
-use Rattle.rectangle_pack_sections.proofs.Std.{keys_of-map_values, length, nat_eq, vec_len, if◌then◌else◌}
+use Rattle.rectangle_pack_sections.proofs.Std.{keys_of-map_values, length, nat_eq, vec_len, if◌then◌else◌, Option, None}
 use Rattle.rectangle_pack_bins.specs.declared.pack.journal.DoneTrial.{DoneTrial}
 use Rattle.rectangle_pack_sections.specs.Bins.{Bin, Held}
 use Rattle.rectangle_pack_bins.specs.Packing.{bins_of}
@@ -149,6 +149,14 @@ GoesBack-pushed {B} {A} cmp now journal new e v w start same found can back h =
       undoes = subst (λ (es : List (DoneTrial B A)). Undoes cmp es (set_value (is_at (cmp e.id.now)) now w) start)
           (sym (ap reverse same ∙ reverse-append journal (e ∷ []))) (Undoes-noted cmp e (reverse journal) now v w start found can back h.undoes);
     }
+
+-- what two look-ups find is the same
+pub found-same : {X : Type 0} {o : Option X} (v w : X) → o ≡ Some v → Some w ≡ o → v ≡ w
+found-same v w one other = cc
+
+-- and not nothing
+pub found-never : {X : Type 0} {o : Option X} (v : X) → o ≡ Some v → None ≡ o → ⊥
+found-never v one other = cc
 
 -- where the journal is empty, the bins are those of the start
 pub GoesBack-none : {B A : Type 0} (cmp : B → B → Ordering) (now : List (B × Held)) (journal : List (DoneTrial B A)) (start : List (B × Bin))

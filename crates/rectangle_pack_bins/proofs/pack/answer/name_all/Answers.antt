@@ -1,7 +1,8 @@
-use Rattle.rectangle_pack_sections.proofs.Std.{◌≡◌, [], ◌++◌, ◌∷◌, refl, sym, ap, ◌∙◌, true, rules, append_assoc, Equal-is, Equal, All-nil, IfOk-from_err, take_all}
+use Rattle.rectangle_pack_sections.proofs.Std.{◌≡◌, [], ◌++◌, ◌∷◌, refl, sym, ◌∙◌, true, rules, Equal-is, Equal, All-nil, IfOk-from_err, take_all}
 use borrow.Author.Count.{falls}
 use Rattle.rectangle_pack_bins.specs.declared.pack.answer.Placement.{Placement}
 use Rattle.rectangle_pack_bins.proofs.lemmas.packing.Groups.{AreNamed-more}
+use Rattle.rectangle_pack_bins.proofs.lemmas.packing.Placed.{added-more}
 use Rattle.rectangle_pack_bins.proofs.pack.answer.name_all.Goals as goal
 
 pub loop-i-init : goal.loop-i-init
@@ -14,7 +15,6 @@ loop-i-preserved g c =
     let equal : g.Id.Ord.cmp c.index-ids-i.result c.in_ok-clone.field-0 ≡ Equal = (Equal-is _).0 (sym (g.met.Id.Ord.matches_eq _ _) ∙ same) in
     let same_bin : g.B.PartialEq.eq c.args.bin.now c.in_ok-clone-2.field-0 ≡ true = c.requires.bin_ids _ _ c.in_ok-clone-2.ensures.cases in
     let equal_bin : g.B.Ord.cmp c.args.bin.now c.in_ok-clone-2.field-0 ≡ Equal = (Equal-is _).0 (sym (g.met.B.Ord.matches_eq _ _) ∙ same_bin) in
-    let items = c.in_ok-push.ensures.items in
     let i = c.loop-i.i in
     let p : Placement g.row.Id.Denot g.row.B.Denot = record {
       id = c.in_ok-clone.field-0;
@@ -25,7 +25,7 @@ loop-i-preserved g c =
       AreNamed-more g.Id.Ord.cmp g.B.Ord.cmp c.args.ids.now c.args.bin.now c.args.locations.now i c.index-ids-i.result c.in_ok-clone.field-0
           c.in_ok-clone-2.field-0 c.index-locations-i.result inv.0
           c.loop-i-test.true (rw (← c.requires.lengths) c.loop-i-test.true) c.index-ids-i.is c.index-locations-i.is equal equal_bin inv.1,
-      items ∙ ap (λ l. l ++ p ∷ []) inv.2 ∙ append_assoc c.args.placements.now.items inv.0 (p ∷ []),
+      added-more c.args.placements.now.items inv.0 c.loop-i.placements.items c.push.new.self.items p inv.2 c.in_ok-push.ensures.items,
     )
 
 pub bounds-locations-i : goal.bounds-locations-i

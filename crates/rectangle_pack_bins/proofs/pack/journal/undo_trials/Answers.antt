@@ -1,7 +1,7 @@
 use Rattle.rectangle_pack_sections.proofs.Std.{◌≡◌, refl, sym, ◌∙◌, is_at}
 use Rattle.rectangle_pack_lists.specs.private.Notes.{before_notes, LeadsBack}
 use Rattle.rectangle_pack_bins.specs.private.RollBack.{GoesBack, before_trial}
-use Rattle.rectangle_pack_bins.proofs.lemmas.packing.RollBack.{GoesBack-none, GoesBack-popped, GoesBack-more, IsRoomier-set, IsRoomier-same, IsMore}
+use Rattle.rectangle_pack_bins.proofs.lemmas.packing.RollBack.{found-same, found-never, GoesBack-none, GoesBack-popped, GoesBack-more, IsRoomier-set, IsRoomier-same, IsMore}
 use Rattle.rectangle_pack_bins.proofs.pack.journal.undo_trials.Goals as goal
 
 pub loop-done-preserved : goal.loop-done-preserved
@@ -12,11 +12,10 @@ loop-done-preserved g c =
     let held = c.in-Some-get_mut.bin.now in
     let now = c.loop-done.bins.entries in
     let h = c.get_mut.follows.holds w in
-    let found = sym c.in-Some-get_mut.ensures.value in
     let step : (start : _) → GoesBack cmp now c.loop-done.journal.items start → GoesBack cmp (c.get_mut.follows.lender w).entries c.pop.new.self.items start =
     λ start b.
     let u = GoesBack-popped cmp now _ c.pop.new.self.items e start c.in-Some.ensures.items b in
-    let same : u.held ≡ held = cc in
+    let same : u.held ≡ held = found-same u.held held u.found c.in-Some-get_mut.ensures.value in
     let leads : LeadsBack held.room held.bin.sections e.notes.items (before_notes e.notes.items held.bin.sections) =
     rw (← same) (record { before = refl; can = u.can.can }) in
     let more : IsMore (before_trial e u.held) w = rw same (record { bin = c.undo_notes.ensures.bin _ leads; room = c.undo_notes.ensures.room }) in
@@ -31,8 +30,7 @@ pub undo_notes-requires : goal.undo_notes-requires
 undo_notes-requires g c =
     let some = c.loop-done.invariant.some in
     let u = GoesBack-popped g.B.Ord.cmp c.loop-done.bins.entries _ c.pop.new.self.items c.in-Some.done some.0 c.in-Some.ensures.items some.1 in
-    let found = sym c.in-Some-get_mut.ensures.value in
-    let same : u.held ≡ c.in-Some-get_mut.bin.now = cc in
+    let same : u.held ≡ c.in-Some-get_mut.bin.now = found-same u.held c.in-Some-get_mut.bin.now u.found c.in-Some-get_mut.ensures.value in
     let held = c.in-Some-get_mut.bin.now in
     let notes = c.in-Some.done.notes.items in
     let leads : LeadsBack held.room held.bin.sections notes (before_notes notes held.bin.sections) = rw (← same) (record { before = refl; can = u.can.can }) in
@@ -50,5 +48,4 @@ pub unreachable-requires : goal.unreachable-requires
 unreachable-requires g c =
     let some = c.loop-done.invariant.some in
     let u = GoesBack-popped g.B.Ord.cmp c.loop-done.bins.entries _ c.pop.new.self.items c.in-Some.done some.0 c.in-Some.ensures.items some.1 in
-    let never = c.in-None.ensures.value ∙ u.found in
-    absurd cc
+    found-never u.held u.found c.in-None.ensures.value

@@ -1,7 +1,7 @@
-use Rattle.rectangle_pack_sections.proofs.Std.{◌≡◌, ◌<◌, ◌≤◌, ◌++◌, ◌∷◌, [], length, get_or, sym, ap, ◌∙◌, arith, length-append, Some, IsSome, is_some}
+use Rattle.rectangle_pack_sections.proofs.Std.{◌≡◌, ◌<◌, ◌≤◌, ◌++◌, ◌∷◌, [], length, get_or, sym, ap, ◌∙◌, Some, IsSome, is_some}
 use Rattle.rectangle_pack_sections.proofs.Std.{option_copied_mut, lookup, is_at, keys-set_value}
 use Rattle.rectangle_pack_groups.proofs.lemmas.util.Maps.{is_some-option_map}
-use Rattle.rectangle_pack_bins.proofs.lemmas.packing.Checkout.{stays, CanCheckIn-written, in_use-out, has_room}
+use Rattle.rectangle_pack_bins.proofs.lemmas.packing.Checkout.{stays, CanCheckIn-written, in_use-out, has_room, within-pushed}
 use Rattle.rectangle_pack_bins.proofs.pack.checkout.PackingBins.check_out.Goals as goal
 
 pub unwrap-bin-requires : goal.unwrap-bin-requires
@@ -19,8 +19,8 @@ pub invariant_of-self : goal.invariant_of-self
 invariant_of-self g c =
     let out = c.self.inside.out.items in
     let in_order : c.args.index < length c.self.inside.order.now = rw (stays c.self.view_is).2 c.requires in
-    let within : length (out ++ c.new-open.result ∷ []) ≤ length c.self.inside.order.now =
-    omega (arith, in_order, c.if-index-len.false, c.len.ensures, c.self.inside.out.ok.0, length-append out (c.new-open.result ∷ [])) in
+    let at : c.args.index ≡ length out = c.if-index-len.false ∙ c.len.ensures ∙ c.self.inside.out.ok.0 in
+    let within : length (out ++ c.new-open.result ∷ []) ≤ length c.self.inside.order.now = within-pushed out c.new-open.result _ (rw (← at) in_order) in
     rw ((c.get_mut.follows.holds c.replace.new.dest).0, c.push_reserved.ensures.items)
     (CanCheckIn-written _ _ (keys-set_value (is_at (g.B.Ord.cmp c.index-order-index.result.1)) c.self.inside.bins.entries c.replace.new.dest) within
     c.self.invariant)
@@ -30,7 +30,7 @@ returns g c =
     let o = c.index-order-index.result in
     let out = c.self.inside.out.items in
     let order = c.self.inside.order.now in
-    let at : c.args.index ≡ length out = omega (arith, c.if-index-len.false, c.len.ensures, c.self.inside.out.ok.0) in
+    let at : c.args.index ≡ length out = c.if-index-len.false ∙ c.len.ensures ∙ c.self.inside.out.ok.0 in
     let is : o ≡ get_or order (length out) o = rw (← at) c.index-order-index.is in
     let next : length out < length order = rw (← at, (stays c.self.view_is).2) c.requires in
     let held = c.unwrap-bin.result.now in
