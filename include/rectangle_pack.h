@@ -50,7 +50,11 @@ enum {
     /* No placement of this number is outstanding in the session. */
     RP_UNKNOWN_PLACEMENT = 6,
     /* The numbers of the session's placements would reach 2^64 - 1, which is never given. */
-    RP_NUMBERS_USED_UP = 7
+    RP_NUMBERS_USED_UP = 7,
+    /* The array is shorter than the list that is to go into it. How long the list is has been written, and nothing else. */
+    RP_SHORT_ARRAY = 8,
+    /* No straight cuts leave the free sections and the boxes of the bin. */
+    RP_NO_PLAN = 9
 };
 
 /* Packs all boxes into the bins; placements[i] is where boxes[i] stands.
@@ -95,9 +99,9 @@ uint32_t rectangle_pack_boxes(const rp_bin *bins, size_t bin_count, const rp_box
    Proved of every session, after each call, whatever was called before and wherever memory is refused:
    - Each cell of each bin is in exactly one free section or outstanding placement, and each of these is inside the bin. So
      no two outstanding boxes share a cell, and no cell is lost.
-   - A call that answers anything but RP_DONE leaves the session as it was and writes nothing. RP_BAD_LENGTHS,
-     RP_DUPLICATE_BIN, RP_UNKNOWN_BIN and RP_UNKNOWN_PLACEMENT come exactly under their conditions, and RP_NUMBERS_USED_UP
-     too, unless RP_OUT_OF_MEMORY is answered in its place.
+   - A call that answers anything but RP_DONE leaves the session as it was and writes nothing, but for RP_SHORT_ARRAY the
+     length of the list. RP_BAD_LENGTHS, RP_DUPLICATE_BIN, RP_UNKNOWN_BIN, RP_UNKNOWN_PLACEMENT and RP_SHORT_ARRAY come exactly
+     under their conditions, and RP_NUMBERS_USED_UP and RP_NO_PLAN too, unless RP_OUT_OF_MEMORY is answered in their place.
    - No number is given twice in a session: placements are numbered 0, 1, 2 and so on, in the order of packing.
    Only tested: that RP_OUT_OF_MEMORY comes only where malloc or realloc answered NULL, and that free gives all memory
    back.
@@ -176,11 +180,74 @@ uint32_t rectangle_pack_session_release(rp_session *session, uint64_t number);
    Proved: the free cells are the same as before, and no two free sections of the bin share a whole face. */
 uint32_t rectangle_pack_session_coalesce_all(rp_session *session, uint32_t bin);
 
+/* Joins one free section of a bin, the one of this index in the list that rectangle_pack_session_free_sections writes, with
+   those from index start to below end that share a whole face with it. It looks at these alone, so that after a release it
+   is cheaper than rectangle_pack_session_coalesce_all. An index or a range beyond the list joins nothing there. RP_DONE or
+   RP_UNKNOWN_BIN.
+
+   Proved: the free cells are the same as before. The joined section stands in the place of the first one, and those that it
+   took up are gone from the list. */
+uint32_t rectangle_pack_session_coalesce(rp_session *session, uint32_t bin, size_t index, size_t start, size_t end);
+
 /* Writes what is free and what is placed in a bin, and leaves the session as it is. RP_DONE or RP_UNKNOWN_BIN.
 
    Proved: the sums and the counts are those of the bin's free sections and outstanding placements, and the free and the
    placed volume add up to that of the bin. */
 uint32_t rectangle_pack_session_stats(rp_session *session, uint32_t bin, rp_stats *stats);
+
+/* The calls below read a session and leave it as it is.
+
+   Those that write a list are given an array and its length, and write to count how long the list is. RP_DONE: the list stands
+   at the beginning of the array, and what is behind it in the array is as before. RP_SHORT_ARRAY: the array is as before; with
+   one of count entries the next call will do. So a first call may ask for the length, with an array of length 0. */
+
+/* A free section of a bin, or where a box stands: the corner with the least coordinates, and the sides. */
+typedef struct rp_section {
+    uint32_t x, y, z;
+    uint32_t width, height, depth;
+} rp_section;
+
+/* An outstanding placement: its number; the index of its box among those of the call that packed it; its bin; and where it
+   stands there. */
+typedef struct rp_standing {
+    uint64_t number;
+    uint32_t index, bin;
+    rp_section section;
+} rp_standing;
+
+/* In place of an axis in a step of a plan. */
+enum { RP_LEAF = 3 };
+
+/* A step of a cutting plan. axis is 0, 1 or 2: a straight cut across the whole part, at right angles to x, y or z, so many
+   cells from the bin's corner as place says; the plan of the lower part follows, and then that of the upper part. axis is
+   RP_LEAF: the part is not cut, since it is one free section, one box, or without cells; place is 0. */
+typedef struct rp_cut_step {
+    uint32_t axis, place;
+} rp_cut_step;
+
+/* The ids of all bins, in rising order. RP_DONE or RP_SHORT_ARRAY. */
+uint32_t rectangle_pack_session_bins(rp_session *session, uint32_t *bins, size_t length, size_t *count);
+
+/* The free sections of a bin, the newest last. RP_DONE, RP_SHORT_ARRAY or RP_UNKNOWN_BIN. */
+uint32_t rectangle_pack_session_free_sections(rp_session *session, uint32_t bin, rp_section *sections, size_t length, size_t *count);
+
+/* The outstanding placements of all bins, in the order of their numbers. RP_DONE or RP_SHORT_ARRAY. */
+uint32_t rectangle_pack_session_outstanding(rp_session *session, rp_standing *placements, size_t length, size_t *count);
+
+/* The cutting plan of a bin: straight cuts, each across a whole part, that leave its free sections and its boxes. RP_DONE,
+   RP_SHORT_ARRAY, RP_NO_PLAN, RP_UNKNOWN_BIN or RP_OUT_OF_MEMORY.
+
+   Proved: each part in which there are two boxes with cells, or more, is cut at its first open plane, by axis x, y, z and
+   then by the least place; and RP_NO_PLAN comes only where no straight cuts leave these boxes. Until sections of the bin are
+   joined it does not come. */
+uint32_t rectangle_pack_session_cut_plan(rp_session *session, uint32_t bin, rp_cut_step *steps, size_t length, size_t *count);
+
+/* Writes 1 where a call that joins sections was done for the bin, also if it joined nothing, else 0. RP_DONE or
+   RP_UNKNOWN_BIN. */
+uint32_t rectangle_pack_session_was_coalesced(rp_session *session, uint32_t bin, uint32_t *coalesced);
+
+/* The number that the next placement gets, or 2^64 - 1 where numbers are used up. */
+uint64_t rectangle_pack_session_next_number(rp_session *session);
 
 #ifdef __cplusplus
 }

@@ -1,7 +1,7 @@
 -- One step of each loop.
-use Rattle.rectangle_pack_c.proofs.Std.{◌≡◌, ◌≢◌, ℕ, ◌+◌, ◌<◌, List, [], ◌∷◌, ◌++◌, length, get_or, take, ap, sym, ◌∙◌, arith, below_more, subst, ◌==◌, false}
+use Rattle.rectangle_pack_c.proofs.Std.{◌≡◌, ◌≢◌, ℕ, ◌+◌, ◌<◌, ◌≤◌, List, [], ◌∷◌, ◌++◌, length, get_or, take, drop, refl, ap, sym, ◌∙◌, arith, below_more, subst, ◌==◌, false}
 use Rattle.rectangle_pack_c.proofs.Std.{AllPairs, map, Some, slice_get, enumerate_from, IsStrictlySortedBy, Ordering, Equal, keys_of, nat_cmp, insert_entry}
-use Rattle.rectangle_pack_c.proofs.Std.{nat_tests, take_more, length-map, length-take, length-set, get_or_default, map-append, get_or-set_same}
+use Rattle.rectangle_pack_c.proofs.Std.{nat_tests, take_more, length-map, length-take, length-take-le, length-set, get_or_default, map-append, get_or-set_same, length-append}
 use Rattle.rectangle_pack_c.proofs.Std.{get_or-set_other, slice_get-get_or, slice_get_within, get_or_from_slice_get, exact_unsigned, set}
 use Rattle.rectangle_pack_c.proofs.Std.{Option, None, MatchOption, Vec}
 use Rattle.rectangle_pack.specs.declared.session.command.Outstanding.{Outstanding}
@@ -91,3 +91,21 @@ pub pushed : {A : Type 0} (R : Group ℕ ℕ → Group ℕ ℕ → Ordering) (i 
     → size ≡ box_size b → R ≡ group_order → Pushes i b old new
 pushed R i b old new None size of_group p is same = pushes_alone R i b old new size p is of_group same
 pushed R i b old new (Some named) size of_group p is same = pushes_into R i b old new named.items size p is of_group.1 of_group.0 same
+
+-- a list that goes to the beginning of an array: one entry more
+pub told_next : {X Y : Type 0} (f : X → Y) (given : List X) (x : X) (array : List Y) → length given < length array
+    → set (map f given ++ drop (length given) array) (length given) (f x) ≡ map f (given ++ x ∷ []) ++ drop (length (given ++ x ∷ [])) array
+told_next f given x [] within = absurd (omega (arith, within))
+told_next f [] x (a ∷ array) within = refl
+told_next f (g ∷ given) x (a ∷ array) within = ap (λ l. f g ∷ l) (told_next f given x array (omega (arith, within)))
+
+-- the same of the entry of this index
+pub told_more : {X Y : Type 0} (f : X → Y) (there : List X) (array : List Y) (i : ℕ) (x : X)
+    → i < length there → length there ≤ length array → x ≡ get_or there i x
+    → set (map f (take i there) ++ drop i array) i (f x) ≡ map f (take (i + 1) there) ++ drop (i + 1) array
+told_more {X = X} {Y = Y} f there array i x within long is =
+    let n : length (take i there) ≡ i = length-take-le i there (omega (arith, within)) in
+    let m : length (take i there ++ x ∷ []) ≡ i + 1 = omega (arith, length-append (take i there) (x ∷ []), n) in
+    let one : take (i + 1) there ≡ take i there ++ x ∷ [] = take_more there i x within ∙ ap (λ (y : X). take i there ++ y ∷ []) (sym is) in
+    let next = told_next {X = X} {Y = Y} f (take i there) x array (omega (arith, n, within, long)) in
+    rw one (rw (n, m) at next)

@@ -21,7 +21,7 @@ pub use Rattle.std.specs.declared.vec.Vec.{Vec}
 pub use Rattle.std.proofs.Math.Seq.{drop-append_seam}
 pub use Rattle.std.proofs.lemmas.Bool.Decides.{nat_tests}
 pub use Rattle.std.proofs.lemmas.Cmp.{nat_cmp_total}
-pub use Rattle.std.proofs.lemmas.List.{get_or_default, length-map, map-append, take_more}
+pub use Rattle.std.proofs.lemmas.List.{length-take-le, get_or_default, length-map, map-append, take_more}
 pub use Rattle.std.proofs.lemmas.List.Elements.{All-contains, All-cons, All-head, All-nil, All-weaker, Contains-append_right, Contains-get_or, All-tail}
 pub use Rattle.std.proofs.lemmas.List.Elements.{All-from_recursion, Contains-append_cases, Contains-append_left, filter-append}
 pub use Rattle.std.proofs.lemmas.List.FromFn.{get_or-enumerate_from, length-enumerate_from}

@@ -1,5 +1,6 @@
 pub mod Arguments
 pub mod Answers
 pub mod Handle
+pub mod Reading
 pub mod Sessions
 pub mod private

@@ -14,6 +14,7 @@ ghost use Rattle.rectangle_pack.specs.Session.{IsSession, packed_reply};
 ghost use Rattle.rectangle_pack.specs.declared.session.command.Outstanding.{Outstanding};
 
 mod handle;
+mod reading;
 mod session;
 #[cfg(test)]
 mod tests;
@@ -81,6 +82,10 @@ pub const RP_UNKNOWN_BIN: u32 = 5;
 pub const RP_UNKNOWN_PLACEMENT: u32 = 6;
 /// The numbers of the placements would reach 2^64 - 1, which is never given.
 pub const RP_NUMBERS_USED_UP: u32 = 7;
+/// The array is shorter than the list that it is to take.
+pub const RP_SHORT_ARRAY: u32 = 8;
+/// The boxes of the bin are not what straight cuts leave.
+pub const RP_NO_PLAN: u32 = 9;
 
 // There are fewer bins and boxes than this, so that each index and their count is of 32 bits.
 const LIMIT: usize = 0x1_0000_0000;
@@ -136,7 +141,7 @@ fn session_of(alloc: Global, bins: &[RpBin]) -> Result<Session<u32, u32>, Sessio
 }
 
 // Packs the boxes into the session, and writes the placements.
-fn pack_into<T: Written>(
+fn pack_into<T: Written<Outstanding<u32, u32>>>(
     alloc: Global,
     session: &mut Session<u32, u32>,
     boxes: &[RpBox],
@@ -202,15 +207,15 @@ fn groups_of(alloc: Global, group: u32) -> Result<Option<Vec<u32>>, AllocError>
     Ok(Some(vec![in alloc; group]?))
 }
 
-// What is written of an outstanding placement.
-pub(crate) trait Written: Copy {
-    ghost written: { Outstanding ℕ ℕ → Self };
+// What is written of an entry of a list.
+pub(crate) trait Written<S>: Copy {
+    ghost written: { S → Self };
 
-    fn of(outstanding: &Outstanding<u32, u32>) -> Self
-        ensures { result ≡ written outstanding.now };
+    fn of(entry: &S) -> Self
+        ensures { result ≡ written entry.now };
 }
 
-impl Written for RpPlacement {
+impl Written<Outstanding<u32, u32>> for RpPlacement {
     ghost use Rattle.rectangle_pack_c.specs.private.Written.{as_placement};
 
     ghost written = { as_placement };
@@ -226,7 +231,10 @@ impl Written for RpPlacement {
 }
 
 // Writes each outstanding placement at the index of its box.
-fn write_all<T: Written>(outstanding: &[Outstanding<u32, u32>], placements: &mut [T])
+fn write_all<T: Written<Outstanding<u32, u32>>>(
+    outstanding: &[Outstanding<u32, u32>],
+    placements: &mut [T],
+)
     requires within { All (λ o. o.id < length placements.old) outstanding.now }
     requires once { AllPairs (λ o p. o.id ≢ p.id) outstanding.now }
     ensures { AreWritten T.written outstanding.now placements.new }

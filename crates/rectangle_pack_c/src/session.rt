@@ -5,7 +5,7 @@ ghost use Rattle.std.specs.Map.{lookup};
 ghost use Rattle.std.specs.BTreeMap.{is_at};
 ghost use Rattle.rectangle_pack.specs.Bins.{Bin};
 ghost use Rattle.rectangle_pack.specs.Boxes.{Size};
-ghost use Rattle.rectangle_pack.specs.Joining.{IsSwept, ShareNoFace};
+ghost use Rattle.rectangle_pack.specs.Joining.{IsJoined, IsSwept, ShareNoFace};
 ghost use Rattle.rectangle_pack.specs.Session.{State, AddsBin, Releases, Coalesces, reply_of};
 ghost use Rattle.rectangle_pack.specs.declared.session.command.Reply.TheVariants.{Refused};
 ghost use Rattle.rectangle_pack_c.specs.Sessions.{ChangesAs, AreAsMany, PacksBoxes, ArePackedNow, TellsStats, reply_status, volume};
@@ -143,6 +143,28 @@ pub extern "C" fn rectangle_pack_session_coalesce_all(
     status(&answer)
 }
 
+/// Joins the free section of a bin that has this index in the bin's list with those of the range
+/// from `start` to below `end` that share a whole face with it, as `Session::coalesce` does. `RP_DONE`,
+/// or `RP_UNKNOWN_BIN` where there is no such bin. Takes no memory.
+#[unsafe(no_mangle)]
+pub extern "C" fn rectangle_pack_session_coalesce(
+    alloc: Global,
+    session: &mut RpSession,
+    bin: u32,
+    index: usize,
+    start: usize,
+    end: usize,
+) -> u32
+    requires made { IsSome session.old.state }
+    ensures joined { ChangesAs (Coalesces nat_cmp (IsJoined index start end) bin)
+        session.old.state result session.new.state }
+{
+    let mut held = session.take(alloc);
+    let answer = held.coalesce(&bin, index, start..end);
+    *session = RpSession::of(held);
+    status(&answer)
+}
+
 /// Packs all boxes into the bins of the session: placement i, with its number, is that of box i.
 /// Groups go in falling order of the sum of their volumes, each whole into the first bin, by rising
 /// volume, that takes it. `RP_DONE`, `RP_NOT_ENOUGH_SPACE` where for some group no bin takes all of
@@ -176,7 +198,7 @@ pub extern "C" fn rectangle_pack_session_pack(
     }
 }
 
-impl Written for RpOutstanding {
+impl Written<Outstanding<u32, u32>> for RpOutstanding {
     ghost use Rattle.rectangle_pack_c.specs.private.Written.{as_outstanding};
 
     ghost written = { as_outstanding };
@@ -239,7 +261,7 @@ fn status(answer: &Result<(), SessionError>) -> u32
 }
 
 // The status of a refusal.
-fn refusal(error: SessionError) -> u32
+pub(crate) fn refusal(error: SessionError) -> u32
     ensures { result ≡ reply_status (Refused error) }
 {
     match error {

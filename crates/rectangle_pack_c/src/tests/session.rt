@@ -32,7 +32,7 @@ const NO_STATS: RpStats = RpStats {
 };
 
 // Makes the session, and adds the bin 7, a sheet: whether both are done.
-fn opens(alloc: Global, session: &mut RpSession) -> bool
+pub(super) fn opens(alloc: Global, session: &mut RpSession) -> bool
     requires { session.old.state ≡ None }
     ensures { result ≡ true → IsSome session.new.state }
 {
@@ -42,7 +42,7 @@ fn opens(alloc: Global, session: &mut RpSession) -> bool
 }
 
 // What is answered to a box that is so wide: the status, the number and where the box is.
-fn pack(alloc: Global, session: &mut RpSession, width: u32) -> (u32, u64, [u32; 4])
+pub(super) fn pack(alloc: Global, session: &mut RpSession, width: u32) -> (u32, u64, [u32; 4])
     requires { IsSome session.old.state }
     ensures { IsSome session.new.state }
 {

@@ -1,0 +1,58 @@
+-- What C reads of a session: lists that go to arrays of the caller's.
+use Rattle.std.specs.Prelude.{◌≡◌, ◌⊎◌, ℕ, ◌<◌, ◌≤◌, List, ◌++◌, length, drop, map, MatchOption, if◌then◌else◌}
+use Rattle.std.specs.Ordering.{nat_cmp}
+use Rattle.std.specs.Map.{lookup}
+use Rattle.std.specs.BTreeMap.{is_at}
+use Rattle.rectangle_pack.specs.declared.session.command.Outstanding.{Outstanding}
+use Rattle.rectangle_pack.specs.declared.CutStep.{CutStep}
+use Rattle.rectangle_pack.specs.declared.CutStep.TheVariants.{Cut as CutAt, Leaf as LeafHere}
+use Rattle.rectangle_pack.specs.Bins.{Bin, whole}
+use Rattle.rectangle_pack.specs.Boxes.{Cuboid}
+use Rattle.rectangle_pack.specs.CutPlans.{IsCutPlan, axis_rank}
+use Rattle.rectangle_pack.specs.CutTrees.{IsFromCuts}
+use Rattle.rectangle_pack.specs.Session.{State, boxes_of}
+use Rattle.rectangle_pack_c.specs.declared.reading.RpCutStep.{RpCutStep}
+use Rattle.rectangle_pack_c.specs.declared.reading.RpSection.{RpSection}
+use Rattle.rectangle_pack_c.specs.declared.reading.RpStanding.{RpStanding}
+
+-- a box of cells, by its corner and its sides
+abbrev pub section_of : Cuboid → RpSection
+section_of c = record { x = c.x; y = c.y; z = c.z; width = c.whd.width; height = c.whd.height; depth = c.whd.depth }
+
+-- an outstanding placement, with its box
+abbrev pub standing_of : Outstanding ℕ ℕ → RpStanding
+standing_of o = record { number = o.number; index = o.id; bin = o.bin; section = section_of o.location }
+
+-- a list goes to an array: how many entries it has is written; where the array holds them, they stand at its beginning, and
+-- the rest of it is as before; and where it is too short, it is as before
+pub record Tells {X : Type 0} (there : List X) (status : ℕ) (old new : List X) (count : ℕ) : Type 0 where
+  pub counted : count ≡ length there
+  pub enough : length there ≤ length old → (status ≡ 0) × (new ≡ there ++ drop (length there) old)
+  pub short : length old < length there → (status ≡ 8) × (new ≡ old)
+
+-- the free sections of a bin go to an array; or the bin is not there, and nothing is written
+abbrev pub TellsSections : State ℕ ℕ → (bin status : ℕ) (old new : List RpSection) (before after : ℕ) → Type 0
+TellsSections state bin status old new before after =
+    MatchOption (lookup (is_at (nat_cmp bin)) state.bins) ((status ≡ 5) × (new ≡ old) × (after ≡ before))
+    (λ (b : Bin). Tells (map section_of b.sections) status old new after)
+
+-- whether the sections of a bin were joined is said, as 1 or 0; or the bin is not there, and nothing is written
+abbrev pub TellsCoalesced : State ℕ ℕ → (bin status old new : ℕ) → Type 0
+TellsCoalesced state bin status old new =
+    MatchOption (lookup (is_at (nat_cmp bin)) state.bins) ((status ≡ 5) × (new ≡ old))
+    (λ (b : Bin). (status ≡ 0) × (new ≡ if b.coalesced then 1 else 0))
+
+-- a step of a plan: the axis of the cut, 0 for x, 1 for y and 2 for z, and its place; or 3 where the part is not cut
+abbrev pub step_of : CutStep → RpCutStep
+step_of (CutAt axis place) = record { axis = axis_rank axis; place = place }
+step_of LeafHere = record { axis = 3; place = 0 }
+
+-- the cutting plan of a bin goes to an array; or no tree of cuts has the boxes of the bin as its leaves; or memory is refused; or
+-- the bin is not there; and but for the first nothing is written
+abbrev pub TellsPlan : State ℕ ℕ → (bin status : ℕ) (old new : List RpCutStep) (before after : ℕ) → Type 0
+TellsPlan state bin status old new before after =
+    MatchOption (lookup (is_at (nat_cmp bin)) state.bins) ((status ≡ 5) × (new ≡ old) × (after ≡ before))
+    (λ (b : Bin). ((plan : List CutStep) × IsCutPlan (boxes_of nat_cmp state.outstanding bin b) (whole b.size) plan
+    × Tells (map step_of plan) status old new after)
+    ⊎ ((status ≡ 9) × ¬ IsFromCuts (boxes_of nat_cmp state.outstanding bin b) (whole b.size) × (new ≡ old) × (after ≡ before))
+    ⊎ ((status ≡ 2) × (new ≡ old) × (after ≡ before)))

@@ -1,0 +1,320 @@
+//! What C reads of a session: the free sections of a bin, the outstanding placements, the bins. Each
+//! list goes to an array of the caller's.
+ghost use Rattle.std.specs.Prelude.{◌≡◌, ℕ, IsSome, IfSome, map};
+ghost use Rattle.rectangle_pack.specs.Session.{State};
+ghost use Rattle.std.specs.Map.{keys_of};
+ghost use Rattle.rectangle_pack_c.specs.Reading.{Tells, TellsSections, TellsCoalesced, TellsPlan, standing_of};
+ghost use Rattle.rectangle_pack.specs.CutPlans.{axis_rank};
+
+use super::handle::RpSession;
+use super::session::refusal;
+use super::{RP_DONE, RP_NO_PLAN, RP_SHORT_ARRAY, RP_UNKNOWN_BIN, Written};
+use rectangle_pack::{Axis, BinSection, CutStep, Outstanding, Session};
+use std::alloc::Global;
+
+/// A free section of a bin: its corner with the least coordinates, and its sides.
+#[repr(C)]
+#[derive(Clone, Copy)]
+pub struct RpSection {
+    /// The distance of the corner from the bin's left side, in cells.
+    pub x: u32,
+    /// Its distance from the bottom.
+    pub y: u32,
+    /// Its distance from the front.
+    pub z: u32,
+    /// The width, in cells.
+    pub width: u32,
+    /// The height.
+    pub height: u32,
+    /// The depth.
+    pub depth: u32,
+}
+
+/// An outstanding placement: its number, its box, and where it stands.
+#[repr(C)]
+#[derive(Clone, Copy)]
+pub struct RpStanding {
+    /// Its number, by which it is released.
+    pub number: u64,
+    /// The index of its box among those of the call that packed it.
+    pub index: u32,
+    /// The id of its bin.
+    pub bin: u32,
+    /// Where it is in the bin.
+    pub section: RpSection,
+}
+
+/// A step of a cutting plan: a cut, or that a part is not cut.
+#[repr(C)]
+#[derive(Clone, Copy)]
+pub struct RpCutStep {
+    /// The axis that the cut stands across: 0 for x, 1 for y, 2 for z. Where the part is not cut,
+    /// `RP_LEAF`.
+    pub axis: u32,
+    /// So many cells from the bin's corner the cut stands, or 0.
+    pub place: u32,
+}
+
+/// In place of an axis: the part is not cut.
+pub const RP_LEAF: u32 = 3;
+
+impl Written<BinSection> for RpSection {
+    ghost use Rattle.rectangle_pack_c.specs.Reading.{section_of};
+
+    ghost written = { section_of };
+
+    fn of(section: &BinSection) -> Self {
+        let whd = section.whd();
+        RpSection {
+            x: section.x(),
+            y: section.y(),
+            z: section.z(),
+            width: whd.width(),
+            height: whd.height(),
+            depth: whd.depth(),
+        }
+    }
+}
+
+impl Written<Outstanding<u32, u32>> for RpStanding {
+    ghost use Rattle.rectangle_pack_c.specs.Reading.{standing_of};
+
+    ghost written = { standing_of };
+
+    fn of(outstanding: &Outstanding<u32, u32>) -> Self {
+        let location = outstanding.location;
+        RpStanding {
+            number: outstanding.number,
+            index: outstanding.id,
+            bin: outstanding.bin,
+            section: RpSection {
+                x: location.x(),
+                y: location.y(),
+                z: location.z(),
+                width: location.width(),
+                height: location.height(),
+                depth: location.depth(),
+            },
+        }
+    }
+}
+
+impl Written<CutStep> for RpCutStep {
+    ghost use Rattle.rectangle_pack_c.specs.Reading.{step_of};
+
+    ghost written = { step_of };
+
+    fn of(step: &CutStep) -> Self {
+        match step {
+            CutStep::Cut { axis, place } => RpCutStep {
+                axis: axis_number(*axis),
+                place: *place,
+            },
+            CutStep::Leaf => RpCutStep {
+                axis: RP_LEAF,
+                place: 0,
+            },
+        }
+    }
+}
+
+// The number of an axis.
+fn axis_number(axis: Axis) -> u32
+    ensures { result ≡ axis_rank axis }
+{
+    match axis {
+        Axis::X => 0,
+        Axis::Y => 1,
+        Axis::Z => 2,
+    }
+}
+
+// Writes how many entries a list has, and these to the beginning of an array, where it is long
+// enough.
+fn tell<S, T: Written<S>>(there: &[S], array: &mut [T], count: &mut usize) -> u32
+    ensures { Tells (map T.written there.now) result array.old array.new count.new }
+{
+    *count = there.len();
+    if array.len() < there.len() {
+        return RP_SHORT_ARRAY;
+    }
+    for (i, entry) in there.iter().enumerate() {
+        array[i] = T::of(entry);
+    }
+    RP_DONE
+}
+
+/// Writes the free sections of a bin to an array, the newest last, and how many they are. `RP_DONE`,
+/// `RP_SHORT_ARRAY` where there are more than the array holds, and then only their number is
+/// written, or `RP_UNKNOWN_BIN`, and then nothing is written. Takes no memory, and leaves the
+/// session as it was.
+#[unsafe(no_mangle)]
+pub extern "C" fn rectangle_pack_session_free_sections(
+    alloc: Global,
+    session: &mut RpSession,
+    bin: u32,
+    sections: &mut [RpSection],
+    count: &mut usize,
+) -> u32
+    requires made { IsSome session.old.state }
+    ensures told { IfSome session.old.state (λ (state : State ℕ ℕ).
+        TellsSections state bin result sections.old sections.new count.old count.new) }
+    ensures unchanged { session.new.state ≡ session.old.state }
+{
+    let held = session.take(alloc);
+    let answer = tell_sections(&held, bin, sections, count);
+    *session = RpSession::of(held);
+    answer
+}
+
+// Writes the free sections of a bin of a session.
+fn tell_sections(
+    session: &Session<u32, u32>,
+    bin: u32,
+    sections: &mut [RpSection],
+    count: &mut usize,
+) -> u32
+    ensures { TellsSections session.now bin result sections.old sections.new count.old count.new }
+{
+    let Some(found) = session.bins().get(&bin) else {
+        return RP_UNKNOWN_BIN;
+    };
+    tell(found.available_bin_sections().as_slice(), sections, count)
+}
+
+/// Writes the outstanding placements of all bins to an array, in the order of their numbers, and
+/// how many they are. `RP_DONE`, or `RP_SHORT_ARRAY` where there are more than the array holds, and
+/// then only their number is written. Takes no memory, and leaves the session as it was.
+#[unsafe(no_mangle)]
+pub extern "C" fn rectangle_pack_session_outstanding(
+    alloc: Global,
+    session: &mut RpSession,
+    placements: &mut [RpStanding],
+    count: &mut usize,
+) -> u32
+    requires made { IsSome session.old.state }
+    ensures told { IfSome session.old.state (λ (state : State ℕ ℕ).
+        Tells (map standing_of state.outstanding) result placements.old placements.new count.new) }
+    ensures unchanged { session.new.state ≡ session.old.state }
+{
+    let held = session.take(alloc);
+    let answer = tell(held.outstanding(), placements, count);
+    *session = RpSession::of(held);
+    answer
+}
+
+/// Writes 1 where a bin's sections were joined, by either call, also where nothing was there to
+/// join, else 0. `RP_DONE`, or `RP_UNKNOWN_BIN` where there is no such bin, and then nothing is
+/// written. Takes no memory, and leaves the session as it was.
+#[unsafe(no_mangle)]
+pub extern "C" fn rectangle_pack_session_was_coalesced(
+    alloc: Global,
+    session: &mut RpSession,
+    bin: u32,
+    coalesced: &mut u32,
+) -> u32
+    requires made { IsSome session.old.state }
+    ensures told { IfSome session.old.state (λ (state : State ℕ ℕ).
+        TellsCoalesced state bin result coalesced.old coalesced.new) }
+    ensures unchanged { session.new.state ≡ session.old.state }
+{
+    let held = session.take(alloc);
+    let answer = held.was_coalesced(&bin);
+    *session = RpSession::of(held);
+    let Some(was) = answer else {
+        return RP_UNKNOWN_BIN;
+    };
+    *coalesced = if was { 1 } else { 0 };
+    RP_DONE
+}
+
+/// The number of the next placement, or 2^64 - 1 where numbers are used up. Leaves the session as
+/// it was.
+#[unsafe(no_mangle)]
+pub extern "C" fn rectangle_pack_session_next_number(alloc: Global, session: &mut RpSession) -> u64
+    requires made { IsSome session.old.state }
+    ensures number { IfSome session.old.state (λ (state : State ℕ ℕ). result ≡ state.next) }
+    ensures unchanged { session.new.state ≡ session.old.state }
+{
+    let held = session.take(alloc);
+    let number = held.next_number();
+    *session = RpSession::of(held);
+    number
+}
+
+// Writes the ids of the bins of a session.
+fn tell_bins(session: &Session<u32, u32>, ids: &mut [u32], count: &mut usize) -> u32
+    ensures { Tells (keys_of session.now.bins) result ids.old ids.new count.new }
+{
+    let bins = session.bins();
+    *count = bins.len();
+    if ids.len() < bins.len() {
+        return RP_SHORT_ARRAY;
+    }
+    for (i, (id, _)) in bins.iter().enumerate() {
+        ids[i] = *id;
+    }
+    RP_DONE
+}
+
+/// Writes the ids of all bins to an array, in rising order, and how many they are. `RP_DONE`, or
+/// `RP_SHORT_ARRAY` where there are more than the array holds, and then only their number is
+/// written. Takes no memory, and leaves the session as it was.
+#[unsafe(no_mangle)]
+pub extern "C" fn rectangle_pack_session_bins(
+    alloc: Global,
+    session: &mut RpSession,
+    ids: &mut [u32],
+    count: &mut usize,
+) -> u32
+    requires made { IsSome session.old.state }
+    ensures told { IfSome session.old.state (λ (state : State ℕ ℕ).
+        Tells (keys_of state.bins) result ids.old ids.new count.new) }
+    ensures unchanged { session.new.state ≡ session.old.state }
+{
+    let held = session.take(alloc);
+    let answer = tell_bins(&held, ids, count);
+    *session = RpSession::of(held);
+    answer
+}
+
+// Writes the cutting plan of a bin of a session.
+fn tell_plan(
+    session: &Session<u32, u32>,
+    bin: u32,
+    steps: &mut [RpCutStep],
+    count: &mut usize,
+) -> u32
+    ensures { TellsPlan session.now bin result steps.old steps.new count.old count.new }
+{
+    match session.cut_plan(&bin) {
+        Ok(Some(plan)) => tell(plan.as_slice(), steps, count),
+        Ok(None) => RP_NO_PLAN,
+        Err(error) => refusal(error),
+    }
+}
+
+/// Writes the steps of a bin's cutting plan to an array, and how many they are: straight cuts, each
+/// across a whole part, that leave the free sections and the boxes of the bin. `RP_DONE`;
+/// `RP_SHORT_ARRAY` where there are more than the array holds, and then only their number is
+/// written; `RP_NO_PLAN` where no such cuts leave them, which can come only after a call that joins
+/// sections; `RP_UNKNOWN_BIN` or `RP_OUT_OF_MEMORY`. With the last three nothing is written. Leaves
+/// the session as it was.
+#[unsafe(no_mangle)]
+pub extern "C" fn rectangle_pack_session_cut_plan(
+    alloc: Global,
+    session: &mut RpSession,
+    bin: u32,
+    steps: &mut [RpCutStep],
+    count: &mut usize,
+) -> u32
+    requires made { IsSome session.old.state }
+    ensures told { IfSome session.old.state (λ (state : State ℕ ℕ).
+        TellsPlan state bin result steps.old steps.new count.old count.new) }
+    ensures unchanged { session.new.state ≡ session.old.state }
+{
+    let held = session.take(alloc);
+    let answer = tell_plan(&held, bin, steps, count);
+    *session = RpSession::of(held);
+    answer
+}
