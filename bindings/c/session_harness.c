@@ -1,6 +1,7 @@
 /* Drives sessions by drawn commands and keeps its own account of what is outstanding, cell by cell. After each call it looks at
-   what the header promises: the status, no two boxes in one cell, each box in its bin, groups together, the numbers, the sums
-   of stats, and nothing changed or written unless the call was done. Then it runs the same commands with each request for
+   what the header promises: the status, the numbers, groups together, and nothing changed or written unless the call was done.
+   It asks each of the calls that read a session, for each bin: each cell is in exactly one free section or outstanding box of
+   its bin, and lists, sums and cutting plans are those of the account. Then it runs the same commands with each request for
    memory refused in turn, alone and with all after it: a call that wants memory leaves the session as it was and is made
    again, so that in the end all answers are the same. Link it with -Wl,--wrap=malloc,--wrap=realloc,--wrap=free. */
 #include <limits.h>
@@ -9,15 +10,15 @@
 
 #include "rectangle_pack.h"
 #include "refusing.h"
+#include "session_account.h"
+#include "session_reading.h"
 
-enum { SCRIPTS = 40, COMMANDS = 30, IDS = 4, BOXES = 6, STANDING = COMMANDS * BOXES, SIDE = 12, STATUSES = 8 };
+enum { SCRIPTS = 40, STATUSES = 10 };
 
-/* The ids of the bins, in no order. */
-static const uint32_t ids[IDS] = {7, 0, 4294967295u, 12};
+enum kind { ADD_BIN, PACK, RELEASE, COALESCE, COALESCE_ALL };
 
-enum kind { ADD_BIN, PACK, RELEASE, COALESCE_ALL };
-
-/* A command. The bin is an index in ids. Which number is released, pick chooses from those that were given by then. */
+/* A command. The bin is an index in ids. Which number is released, pick chooses from those that were given by then. A section
+   is joined with those of a range. */
 typedef struct command {
     enum kind kind;
     size_t bin;
@@ -25,120 +26,24 @@ typedef struct command {
     rp_box boxes[BOXES];
     size_t count, places;
     uint64_t pick;
+    size_t section, start, stop;
 } command;
 
-/* What a command answered, and the statistics of all bins after it. */
+/* What a command answered, and after it the statistics of all bins, and a number made from all free sections. */
 typedef struct answer {
     uint32_t status;
     rp_outstanding places[BOXES + 1];
     rp_stats stats[IDS];
+    uint64_t free;
 } answer;
 
-typedef struct standing {
-    rp_outstanding at;
-    rp_box box;
-} standing;
-
-/* What there has to be in a session by the answers so far. */
-typedef struct account {
-    int has_bin[IDS];
-    rp_bin bins[IDS];
-    standing placed[STANDING];
-    size_t count;
-    uint64_t next;
-    rp_stats stats[IDS];
-} account;
-
-static size_t index_of(uint32_t bin)
-{
-    size_t i = 0;
-    while (i < IDS && ids[i] != bin)
-        i++;
-    return i;
-}
-
-/* The place in the account of the outstanding placement of this number, or past its end. */
-static size_t position_of(const account *now, uint64_t number)
-{
-    size_t i = 0;
-    while (i < now->count && now->placed[i].at.number != number)
-        i++;
-    return i;
-}
-
-static uint64_t volume(const rp_box *box)
-{
-    return (uint64_t)box->width * box->height * box->depth;
-}
+/* How many sections the joins of one section took up. */
+static long taken_up;
 
 /* One of the numbers that were given, or of the next two. */
 static uint64_t number_to_release(const command *it, const account *now)
 {
     return it->pick % (now->next + 2);
-}
-
-static int is_untouched(const void *at, size_t size)
-{
-    const unsigned char *bytes = at;
-    for (size_t i = 0; i < size; i++)
-        if (bytes[i] != UNTOUCHED)
-            return 0;
-    return 1;
-}
-
-/* Each outstanding box is inside its bin, and each cell is in at most one. */
-static void check_cells(const account *now)
-{
-    static unsigned char cells[IDS][SIDE][SIDE][SIDE];
-    memset(cells, 0, sizeof cells);
-    for (size_t i = 0; i < now->count; i++) {
-        const rp_placement *at = &now->placed[i].at.placement;
-        const rp_box *box = &now->placed[i].box;
-        size_t bin = index_of(at->bin);
-        check(bin < IDS && now->has_bin[bin], "a box is in no bin");
-        check((uint64_t)at->x + box->width <= now->bins[bin].width, "a box is too wide");
-        check((uint64_t)at->y + box->height <= now->bins[bin].height, "a box is too high");
-        check((uint64_t)at->z + box->depth <= now->bins[bin].depth, "a box is too deep");
-        for (uint32_t x = 0; x < box->width; x++)
-            for (uint32_t y = 0; y < box->height; y++)
-                for (uint32_t z = 0; z < box->depth; z++)
-                    check(!cells[bin][at->x + x][at->y + y][at->z + z]++, "two boxes share a cell");
-    }
-}
-
-/* The statistics of one bin are the sums of the account. */
-static void check_sums(const account *now, size_t bin, const rp_stats *stats)
-{
-    const rp_bin *size = &now->bins[bin];
-    uint64_t placed = 0;
-    size_t count = 0;
-    for (size_t i = 0; i < now->count; i++) {
-        if (now->placed[i].at.placement.bin == ids[bin]) {
-            placed += volume(&now->placed[i].box);
-            count++;
-        }
-    }
-    check(!stats->bin_volume.high && !stats->free_volume.high && !stats->placed_volume.high, "a small volume is large");
-    check(stats->bin_volume.low == (uint64_t)size->width * size->height * size->depth, "the volume of a bin");
-    check(stats->placed_volume.low == placed, "the placed volume");
-    check(stats->placed_volume.low + stats->free_volume.low == stats->bin_volume.low, "free and placed are not the bin");
-    check(stats->placements == count, "how many placements there are");
-}
-
-/* Asks for the statistics of all bins; of a bin that is not there nothing is written. No memory is taken. */
-static void tell_stats(rp_session *session, const account *now, rp_stats *stats)
-{
-    long before = requests;
-    memset(stats, UNTOUCHED, IDS * sizeof *stats);
-    for (size_t i = 0; i < IDS; i++) {
-        uint32_t status = rectangle_pack_session_stats(session, ids[i], &stats[i]);
-        check(status == (now->has_bin[i] ? RP_DONE : RP_UNKNOWN_BIN), "the status of stats");
-        if (now->has_bin[i])
-            check_sums(now, i, &stats[i]);
-        else
-            check(is_untouched(&stats[i], sizeof stats[i]), "stats of no bin are written");
-    }
-    check(requests == before, "stats takes memory");
 }
 
 static uint32_t perform(rp_session *session, const command *it, const account *now, rp_outstanding *places)
@@ -152,6 +57,8 @@ static uint32_t perform(rp_session *session, const command *it, const account *n
         return rectangle_pack_session_pack(session, it->boxes, it->count, places, it->places);
     case RELEASE:
         return rectangle_pack_session_release(session, number_to_release(it, now));
+    case COALESCE:
+        return rectangle_pack_session_coalesce(session, ids[it->bin], it->section, it->start, it->stop);
     default:
         return rectangle_pack_session_coalesce_all(session, ids[it->bin]);
     }
@@ -216,6 +123,13 @@ static void check_packed(const command *it, const account *now, const rp_outstan
     check(is_untouched(&places[it->count], sizeof *places), "something is written past the placements");
 }
 
+/* Strikes a placement from the account. */
+static void strike(account *now, size_t position)
+{
+    now->count--;
+    memmove(&now->placed[position], &now->placed[position + 1], (now->count - position) * sizeof *now->placed);
+}
+
 /* Takes up in the account what was done. */
 static void take_up(account *now, const command *it, const rp_outstanding *places)
 {
@@ -227,49 +141,110 @@ static void take_up(account *now, const command *it, const rp_outstanding *place
     case PACK:
         check_packed(it, now, places);
         for (size_t i = 0; i < it->count; i++)
-            now->placed[now->count++] = (standing){places[i], it->boxes[i]};
+            now->placed[now->count + places[i].number - now->next] = (standing){places[i], it->boxes[i], (uint32_t)i};
+        now->count += it->count;
         now->next += it->count;
         break;
     case RELEASE:
-        now->placed[position_of(now, number_to_release(it, now))] = now->placed[now->count - 1];
-        now->count--;
+        strike(now, position_of(now, number_to_release(it, now)));
         break;
     default:
+        now->was_coalesced[it->bin] = 1;
         break;
     }
 }
 
-/* Free sections: a release adds one where the box has cells, and coalescing adds none. */
-static void check_sections(const command *it, size_t bin, size_t cells, const rp_stats *before, const rp_stats *after)
+/* Whether two free sections of a bin share a whole face. */
+static int share_a_face(const sections *free)
 {
-    if (it->kind == RELEASE)
-        check(after[bin].free_sections == before[bin].free_sections + (cells > 0), "the free section of a release");
-    if (it->kind == COALESCE_ALL)
-        check(after[bin].free_sections <= before[bin].free_sections, "coalescing adds sections");
+    for (size_t i = 0; i < free->count; i++) {
+        for (size_t j = 0; j < free->count; j++) {
+            rp_section one = free->list[i], other = free->list[j];
+            if (i != j && join(&one, &other))
+                return 1;
+        }
+    }
+    return 0;
+}
+
+/* The list of a bin after a command, made of that before it. What a packing leaves is not known, nor the order in which all
+   are joined. */
+static void expect_sections(const command *it, const account *now, const standing *released, sections *free)
+{
+    if (it->kind == ADD_BIN) {
+        free->list[0] = whole_of(&now->bins[it->bin]);
+        free->count = 1;
+    }
+    if (it->kind == RELEASE && volume(&released->box) > 0)
+        free->list[free->count++] = section_of(released);
+    if (it->kind == COALESCE) {
+        size_t before = free->count;
+        join_range(free, it->section, it->start, it->stop);
+        taken_up += (long)(before - free->count);
+    }
+}
+
+static void check_same_sections(const sections *one, const sections *other)
+{
+    check(one->count == other->count, "how many free sections there are after a command");
+    check(!memcmp(one->list, other->list, one->count * sizeof *one->list), "the free sections after a command");
+}
+
+/* The free sections of all bins after a command that was done, by those before it. */
+static void check_sections(const command *it, const account *now, const standing *released, const sections *after)
+{
+    static sections expected;
+    size_t touched = it->kind == RELEASE ? index_of(released->at.placement.bin) : it->bin;
+    for (size_t i = 0; i < IDS && it->kind != PACK; i++) {
+        if (i == touched && it->kind == COALESCE_ALL) {
+            check(after[i].count <= now->free[i].count, "coalescing adds sections");
+            check(!share_a_face(&after[i]), "after coalescing two sections share a face");
+            continue;
+        }
+        expected = now->free[i];
+        if (i == touched)
+            expect_sections(it, now, released, &expected);
+        check_same_sections(&expected, &after[i]);
+    }
+}
+
+/* A number made from what is free in all bins. */
+static uint64_t number_of(const sections *free)
+{
+    uint64_t number = 14695981039346656037u;
+    for (size_t i = 0; i < IDS; i++) {
+        const unsigned char *bytes = (const unsigned char *)free[i].list;
+        for (size_t j = 0; j < free[i].count * sizeof *free[i].list; j++)
+            number = (number ^ bytes[j]) * 1099511628211u;
+    }
+    return number;
 }
 
 /* Holds a call that was done against the account. */
 static void settle_done(rp_session *session, const command *it, account *now, answer *said)
 {
-    size_t bin = it->bin, cells = 0;
-    if (it->kind == RELEASE) {
-        const standing *released = &now->placed[position_of(now, number_to_release(it, now))];
-        bin = index_of(released->at.placement.bin);
-        cells = volume(&released->box);
-    }
+    static sections after[IDS];
+    standing released = {0};
+    if (it->kind == RELEASE)
+        released = now->placed[position_of(now, number_to_release(it, now))];
     take_up(now, it, said->places);
-    check_cells(now);
-    tell_stats(session, now, said->stats);
-    check_sections(it, bin, cells, now->stats, said->stats);
+    read_session(session, now, said->stats, after);
+    check_sections(it, now, &released, after);
+    said->free = number_of(after);
     memcpy(now->stats, said->stats, sizeof now->stats);
+    memcpy(now->free, after, sizeof now->free);
 }
 
 /* Nothing is written, and the session is as it was. */
 static void check_nothing_done(rp_session *session, const account *now, answer *said)
 {
+    static sections after[IDS];
     check(is_untouched(said->places, sizeof said->places), "something is written");
-    tell_stats(session, now, said->stats);
+    read_session(session, now, said->stats, after);
     check(!memcmp(said->stats, now->stats, sizeof now->stats), "a call that is not done changes the session");
+    for (size_t i = 0; i < IDS; i++)
+        check_same_sections(&now->free[i], &after[i]);
+    said->free = number_of(after);
 }
 
 /* One command. Where memory is wanted, the session is as it was, and the same call is made again with all memory. Whether
@@ -279,7 +254,7 @@ static int obey(rp_session *session, const command *it, account *now, answer *sa
     long before = requests;
     said->status = perform(session, it, now, said->places);
     int wanted = said->status == RP_OUT_OF_MEMORY;
-    check(it->kind != COALESCE_ALL || requests == before, "coalescing takes memory");
+    check((it->kind != COALESCE && it->kind != COALESCE_ALL) || requests == before, "coalescing takes memory");
     if (wanted) {
         check(refused, "want of memory is answered where all was there");
         check_nothing_done(session, now, said);
@@ -310,7 +285,8 @@ static int begin(rp_session *session)
 }
 
 /* Runs a script in a session of its own, in which the requests from first to last are refused. Between commands the session is
-   moved. How often memory was wanted. */
+   moved. Plans are read where none are refused: all that they are made of is the same with refusals. How often memory was
+   wanted. */
 static long run(const command *script, long first, long last, answer *answers)
 {
     static account now;
@@ -321,6 +297,8 @@ static long run(const command *script, long first, long last, answer *answers)
     long wanted = begin(&handles[0]);
     for (size_t i = 0; i < COMMANDS; i++) {
         wanted += obey(&handles[i % 2], &script[i], &now, &answers[i]);
+        if (first == NONE)
+            read_plans(&handles[i % 2], &now, now.free);
         handles[(i + 1) % 2] = handles[i % 2];
         memset(&handles[i % 2], UNTOUCHED, sizeof handles[i % 2]);
     }
@@ -337,6 +315,7 @@ static void check_same(const answer *one, const answer *other)
         check(one[i].status == other[i].status, "a refused request changes a status");
         check(!memcmp(one[i].places, other[i].places, sizeof one[i].places), "a refused request changes placements");
         check(!memcmp(one[i].stats, other[i].stats, sizeof one[i].stats), "a refused request changes statistics");
+        check(one[i].free == other[i].free, "a refused request changes free sections");
     }
 }
 
@@ -356,25 +335,55 @@ static long run_each(const command *script, answer *answers)
     return wanted;
 }
 
+/* An index in a short list, or beyond it. */
+static size_t draw_index(void)
+{
+    return within(0, 9) == 0 ? SIZE_MAX - within(0, 1) : within(0, 9);
+}
+
 /* The first command adds a bin, so that there is one to pack into. */
 static void draw_script(command *script)
 {
-    static const enum kind kinds[] = {ADD_BIN, ADD_BIN, PACK, PACK, PACK, PACK, RELEASE, RELEASE, RELEASE, COALESCE_ALL};
+    static const enum kind kinds[] = {ADD_BIN, ADD_BIN, PACK, PACK, PACK, PACK, RELEASE,
+                                      RELEASE, RELEASE, COALESCE, COALESCE, COALESCE_ALL};
     uint32_t depth = within(0, 1) ? SIDE : 1;
     memset(script, 0, COMMANDS * sizeof *script);
     for (size_t i = 0; i < COMMANDS; i++) {
         command *it = &script[i];
         it->kind = i == 0 ? ADD_BIN : kinds[within(0, sizeof kinds / sizeof *kinds - 1)];
         it->bin = within(0, IDS - 1);
-        it->size = (rp_bin){within(2, SIDE), within(2, SIDE), within(1, depth)};
+        it->size = (rp_bin){within(2, SIDE), within(2, SIDE), within(0, 11) ? within(1, depth) : 0};
         it->count = within(0, BOXES);
         it->places = it->count;
         if (within(0, 9) == 0)
             it->places = it->count > 0 && within(0, 1) ? it->count - 1 : it->count + 1;
         it->pick = within(0, UINT32_MAX - 1);
+        it->section = draw_index();
+        it->start = within(0, 1) ? 0 : draw_index();
+        it->stop = draw_index();
         for (size_t j = 0; j < it->count; j++)
             it->boxes[j] = (rp_box){within(0, 5), within(1, 5), within(1, depth < 4 ? depth : 4), within(0, 3)};
     }
+}
+
+/* Nine boxes of one cell fill a square, eight of them are released, and joins make four strips of these, round the box that
+   stays: no straight cut leaves all five whole. The commands behind these stay as they were drawn. */
+static void begin_with_pinwheel(command *script)
+{
+    static const uint64_t released[] = {0, 1, 2, 6, 7, 8, 3, 4};
+    static const size_t joins[][3] = {{0, 0, 2}, {1, 1, 3}, {2, 2, 4}, {3, 3, 5}};
+    size_t at = 0;
+    script[at++] = (command){.kind = ADD_BIN, .size = {3, 3, 1}};
+    for (size_t count = 6; count > 0; count -= 3) {
+        command *it = &script[at++];
+        *it = (command){.kind = PACK, .count = count, .places = count};
+        for (size_t i = 0; i < count; i++)
+            it->boxes[i] = (rp_box){1, 1, 1, 0};
+    }
+    for (size_t i = 0; i < sizeof released / sizeof *released; i++)
+        script[at++] = (command){.kind = RELEASE, .pick = released[i]};
+    for (size_t i = 0; i < sizeof joins / sizeof *joins; i++)
+        script[at++] = (command){COALESCE, .section = joins[i][0], .start = joins[i][1], .stop = joins[i][2]};
 }
 
 int main(void)
@@ -382,17 +391,24 @@ int main(void)
     static command script[COMMANDS];
     static answer answers[COMMANDS];
     long seen[STATUSES] = {0}, wanted = 0;
-    for (int i = 0; i < SCRIPTS; i++) {
+    for (int i = 0; i <= SCRIPTS; i++) {
+        long before = no_plans;
         draw_script(script);
+        if (i == SCRIPTS)
+            begin_with_pinwheel(script);
         wanted += run_each(script, answers);
+        check(i < SCRIPTS || no_plans > before, "a pinwheel has a plan");
         for (size_t j = 0; j < COMMANDS; j++)
             seen[answers[j].status]++;
     }
     check(seen[RP_DONE] > 100 && seen[RP_NOT_ENOUGH_SPACE] > 10 && wanted > 100, "the drawn commands show too little");
     check(seen[RP_BAD_LENGTHS] > 5 && seen[RP_DUPLICATE_BIN] > 5, "the drawn commands are refused too seldom");
     check(seen[RP_UNKNOWN_BIN] > 5 && seen[RP_UNKNOWN_PLACEMENT] > 5, "the drawn commands name too little that is unknown");
+    check(taken_up > 10 && short_arrays > 100 && plans_wanting > 100, "what is read of the drawn sessions shows too little");
     printf("sessions: %ld commands done, %ld without space, %ld refused by name; memory was wanted %ld times\n", seen[RP_DONE],
            seen[RP_NOT_ENOUGH_SPACE],
            seen[RP_BAD_LENGTHS] + seen[RP_DUPLICATE_BIN] + seen[RP_UNKNOWN_BIN] + seen[RP_UNKNOWN_PLACEMENT], wanted);
+    printf("reading: %ld arrays too short, %ld times no plan, %ld times no memory for a plan; joins took up %ld sections\n",
+           short_arrays, no_plans, plans_wanting, taken_up);
     return 0;
 }
