@@ -2,9 +2,10 @@
 
 use std::cell::UnsafeCell;
 use std::fmt;
+use std::ops::Range;
 use std::ptr;
 
-use crate::{BinStats, RectanglePackError, SessionError};
+use crate::{Axis, BinStats, CutStep, RectanglePackError, Section, SessionError};
 
 #[repr(C)]
 pub(crate) struct RpBin {
@@ -59,6 +60,24 @@ struct RpStats {
     placements: usize,
 }
 
+#[repr(C)]
+#[derive(Clone, Copy, Default)]
+struct RpSection {
+    x: u32,
+    y: u32,
+    z: u32,
+    width: u32,
+    height: u32,
+    depth: u32,
+}
+
+#[repr(C)]
+#[derive(Clone, Copy, Default)]
+struct RpCutStep {
+    axis: u32,
+    place: u32,
+}
+
 const DONE: u32 = 0;
 const NOT_ENOUGH_SPACE: u32 = 1;
 const OUT_OF_MEMORY: u32 = 2;
@@ -66,6 +85,8 @@ const DUPLICATE_BIN: u32 = 4;
 const UNKNOWN_BIN: u32 = 5;
 const UNKNOWN_PLACEMENT: u32 = 6;
 const NUMBERS_USED_UP: u32 = 7;
+const SHORT_ARRAY: u32 = 8;
+const NO_PLAN: u32 = 9;
 
 extern "C" {
     fn rectangle_pack_boxes(
@@ -94,7 +115,34 @@ extern "C" {
     ) -> u32;
     fn rectangle_pack_session_release(session: *mut RpSession, number: u64) -> u32;
     fn rectangle_pack_session_coalesce_all(session: *mut RpSession, bin: u32) -> u32;
+    fn rectangle_pack_session_coalesce(
+        session: *mut RpSession,
+        bin: u32,
+        index: usize,
+        start: usize,
+        end: usize,
+    ) -> u32;
     fn rectangle_pack_session_stats(session: *mut RpSession, bin: u32, stats: *mut RpStats) -> u32;
+    fn rectangle_pack_session_free_sections(
+        session: *mut RpSession,
+        bin: u32,
+        sections: *mut RpSection,
+        length: usize,
+        count: *mut usize,
+    ) -> u32;
+    fn rectangle_pack_session_cut_plan(
+        session: *mut RpSession,
+        bin: u32,
+        steps: *mut RpCutStep,
+        length: usize,
+        count: *mut usize,
+    ) -> u32;
+    fn rectangle_pack_session_was_coalesced(
+        session: *mut RpSession,
+        bin: u32,
+        coalesced: *mut u32,
+    ) -> u32;
+    fn rectangle_pack_session_next_number(session: *mut RpSession) -> u64;
 }
 
 /// One placement for each box, in the same place of the list.
@@ -167,6 +215,18 @@ impl Handle {
         answer(unsafe { rectangle_pack_session_coalesce_all(self.0.get(), bin) })
     }
 
+    pub(crate) fn coalesce(
+        &mut self,
+        bin: u32,
+        index: usize,
+        range: &Range<usize>,
+    ) -> Result<(), SessionError> {
+        // SAFETY: the handle has a session, and nobody else reads or writes it during the call.
+        answer(unsafe {
+            rectangle_pack_session_coalesce(self.0.get(), bin, index, range.start, range.end)
+        })
+    }
+
     pub(crate) fn stats(&self, bin: u32) -> Result<BinStats, SessionError> {
         let mut stats = RpStats::default();
         // SAFETY: the handle has a session. It stays on its thread, so nobody else reads or writes it
@@ -179,6 +239,50 @@ impl Handle {
             free_sections: stats.free_sections,
             placements: stats.placements,
         })
+    }
+
+    pub(crate) fn free_sections(&self, bin: u32) -> Result<Vec<Section>, SessionError> {
+        let sections = read(self.stats(bin)?.free_sections, |sections, length, count| {
+            // SAFETY: the handle has a session. It stays on its thread, so nobody else reads or writes it
+            // during the call. The array and the count are those of `read`.
+            unsafe {
+                rectangle_pack_session_free_sections(self.0.get(), bin, sections, length, count)
+            }
+        });
+        Ok(sections.map_err(refusal)?.iter().map(section).collect())
+    }
+
+    /// The plan, or `None` where there is none.
+    pub(crate) fn cut_plan(&self, bin: u32) -> Result<Option<Vec<CutStep>>, SessionError> {
+        // To ask twice would be to plan twice. Each box has one leaf, and there is one cut less than there are leaves.
+        let stats = self.stats(bin)?;
+        let longest = (stats.free_sections + stats.placements) * 2;
+        let steps = read(longest, |steps, length, count| {
+            // SAFETY: the handle has a session. It stays on its thread, so nobody else reads or writes it
+            // during the call. The array and the count are those of `read`.
+            unsafe { rectangle_pack_session_cut_plan(self.0.get(), bin, steps, length, count) }
+        });
+        match steps {
+            Ok(steps) => Ok(Some(steps.iter().map(cut_step).collect())),
+            Err(NO_PLAN) => Ok(None),
+            Err(status) => Err(refusal(status)),
+        }
+    }
+
+    pub(crate) fn was_coalesced(&self, bin: u32) -> Result<bool, SessionError> {
+        let mut coalesced = 0;
+        // SAFETY: the handle has a session. It stays on its thread, so nobody else reads or writes it
+        // during the call. The number that is written is that of this function.
+        answer(unsafe {
+            rectangle_pack_session_was_coalesced(self.0.get(), bin, &mut coalesced)
+        })?;
+        Ok(coalesced != 0)
+    }
+
+    pub(crate) fn next_number(&self) -> u64 {
+        // SAFETY: the handle has a session. It stays on its thread, so nobody else reads or writes it
+        // during the call.
+        unsafe { rectangle_pack_session_next_number(self.0.get()) }
     }
 }
 
@@ -199,15 +303,121 @@ fn volume(parts: &RpVolume) -> u128 {
     u128::from(parts.low) | u128::from(parts.high) << 64
 }
 
+fn section(it: &RpSection) -> Section {
+    Section {
+        x: it.x,
+        y: it.y,
+        z: it.z,
+        width: it.width,
+        height: it.height,
+        depth: it.depth,
+    }
+}
+
+fn cut_step(it: &RpCutStep) -> CutStep {
+    let axis = match it.axis {
+        0 => Axis::X,
+        1 => Axis::Y,
+        2 => Axis::Z,
+        _ => return CutStep::Leaf,
+    };
+    CutStep::Cut {
+        axis,
+        place: it.place,
+    }
+}
+
+/// The list that a call writes, or its status where it writes none. The call gets an array, its length, and where the length of
+/// the list goes. Where the list is longer than it was guessed to be, the call is made again.
+fn read<T: Clone + Default>(
+    guess: usize,
+    call: impl Fn(*mut T, usize, *mut usize) -> u32,
+) -> Result<Vec<T>, u32> {
+    let mut list = vec![T::default(); guess];
+    loop {
+        let mut count = 0;
+        match call(list.as_mut_ptr(), list.len(), &mut count) {
+            DONE => {
+                list.truncate(count);
+                return Ok(list);
+            }
+            SHORT_ARRAY => list.resize(count, T::default()),
+            status => return Err(status),
+        }
+    }
+}
+
 fn answer(status: u32) -> Result<(), SessionError> {
     match status {
         DONE => Ok(()),
-        NOT_ENOUGH_SPACE => Err(SessionError::NotEnoughBinSpace),
-        OUT_OF_MEMORY => Err(SessionError::OutOfMemory),
-        DUPLICATE_BIN => Err(SessionError::DuplicateBin),
-        UNKNOWN_BIN => Err(SessionError::UnknownBin),
-        UNKNOWN_PLACEMENT => Err(SessionError::UnknownPlacement),
-        NUMBERS_USED_UP => Err(SessionError::NumbersUsedUp),
-        _ => Err(SessionError::TooMany),
+        _ => Err(refusal(status)),
+    }
+}
+
+fn refusal(status: u32) -> SessionError {
+    match status {
+        NOT_ENOUGH_SPACE => SessionError::NotEnoughBinSpace,
+        OUT_OF_MEMORY => SessionError::OutOfMemory,
+        DUPLICATE_BIN => SessionError::DuplicateBin,
+        UNKNOWN_BIN => SessionError::UnknownBin,
+        UNKNOWN_PLACEMENT => SessionError::UnknownPlacement,
+        NUMBERS_USED_UP => SessionError::NumbersUsedUp,
+        _ => SessionError::TooMany,
+    }
+}
+
+/// Lists of C that this crate keeps on its own side, to be compared with these.
+#[cfg(test)]
+pub(crate) mod kept {
+    use super::{read, refusal, section, Handle, RpSection, RpSession};
+    use crate::{Section, SessionError};
+
+    #[repr(C)]
+    #[derive(Clone, Copy, Default)]
+    struct RpStanding {
+        number: u64,
+        index: u32,
+        bin: u32,
+        section: RpSection,
+    }
+
+    extern "C" {
+        fn rectangle_pack_session_bins(
+            session: *mut RpSession,
+            bins: *mut u32,
+            length: usize,
+            count: *mut usize,
+        ) -> u32;
+        fn rectangle_pack_session_outstanding(
+            session: *mut RpSession,
+            placements: *mut RpStanding,
+            length: usize,
+            count: *mut usize,
+        ) -> u32;
+    }
+
+    impl Handle {
+        /// The ids of the bins.
+        pub(crate) fn bins(&self) -> Result<Vec<u32>, SessionError> {
+            read(0, |bins, length, count| {
+                // SAFETY: the handle has a session. It stays on its thread, so nobody else reads or writes it
+                // during the call. The array and the count are those of `read`.
+                unsafe { rectangle_pack_session_bins(self.0.get(), bins, length, count) }
+            })
+            .map_err(refusal)
+        }
+
+        /// The number of each placement, the index of its box, its bin, and where it stands.
+        pub(crate) fn outstanding(&self) -> Result<Vec<(u64, u32, u32, Section)>, SessionError> {
+            let placements = read(0, |placements: *mut RpStanding, length, count| {
+                // SAFETY: as above.
+                unsafe {
+                    rectangle_pack_session_outstanding(self.0.get(), placements, length, count)
+                }
+            });
+            let all = placements.map_err(refusal)?;
+            let told = all.iter().map(|it| (it.number, it.index, it.bin, section(&it.section)));
+            Ok(told.collect())
+        }
     }
 }

@@ -24,7 +24,8 @@
 //! # Ok::<(), rectangle_pack::RectanglePackError>(())
 //! ```
 //!
-//! `pack_rects` packs once. A [`Session`] keeps its bins: boxes are packed into them and released again.
+//! `pack_rects` packs once. A [`Session`] keeps its bins: boxes are packed into them and released again, free sections are
+//! listed and joined, and a bin has a plan of the cuts that part it.
 
 #![warn(missing_docs)]
 
@@ -35,7 +36,7 @@ use std::collections::{BTreeMap, BTreeSet};
 use std::error::Error;
 use std::fmt;
 
-pub use session::{BinStats, Outstanding, Session, SessionError};
+pub use session::{Axis, BinStats, CutStep, Outstanding, Section, Session, SessionError};
 
 /// The size of a box that is to be placed, in cells.
 #[derive(Debug, Clone, Copy, PartialEq, Eq, Hash)]

@@ -3,6 +3,7 @@
 use std::collections::BTreeMap;
 use std::error::Error;
 use std::fmt;
+use std::ops::Range;
 
 use crate::{ffi, GroupedRectsToPlace, PackedLocation, RectToInsert, TargetBin};
 
@@ -33,6 +34,49 @@ pub struct BinStats {
     pub free_sections: usize,
     /// How many placements are outstanding in it. Boxes without cells are counted too.
     pub placements: usize,
+}
+
+/// A free section of a bin: its corner with the least coordinates, and its size, in cells.
+#[derive(Debug, Clone, Copy, PartialEq, Eq, Hash)]
+pub struct Section {
+    /// The distance of the corner from the bin's left side.
+    pub x: u32,
+    /// Its distance from the bottom.
+    pub y: u32,
+    /// Its distance from the front.
+    pub z: u32,
+    /// The width.
+    pub width: u32,
+    /// The height.
+    pub height: u32,
+    /// The depth.
+    pub depth: u32,
+}
+
+/// An axis: `X` with widths, `Y` with heights, `Z` with depths.
+#[derive(Debug, Clone, Copy, PartialEq, Eq, Hash)]
+pub enum Axis {
+    /// From left to right.
+    X,
+    /// From bottom to top.
+    Y,
+    /// From front to back.
+    Z,
+}
+
+/// A step of a cutting plan. The plan of a part is a `Leaf`, where it is not cut, or a `Cut` followed by the plan of its lower
+/// and then the plan of its upper part.
+#[derive(Debug, Clone, Copy, PartialEq, Eq, Hash)]
+pub enum CutStep {
+    /// A straight cut across the whole part.
+    Cut {
+        /// The axis that the cut stands across.
+        axis: Axis,
+        /// Where it stands: so many cells from the corner of the bin, not of the part.
+        place: u32,
+    },
+    /// The part is one free section or one box, or has no cells.
+    Leaf,
 }
 
 /// Why a session refused a call. The session is then as it was.
@@ -220,6 +264,87 @@ impl<RectId: Ord + Clone, BinId: Ord + Clone> Session<RectId, BinId> {
         self.handle.coalesce_all(number)
     }
 
+    /// Joins one free section of a bin, by its index in the list of [`free_sections`](Self::free_sections), with those of the
+    /// range that share a whole face with it. The joined section stands in its place, and those that it took up leave the list.
+    /// An index or a range past the end of the list joins nothing there.
+    ///
+    /// What was released last is the last of the list. To join this alone is cheaper than to join all:
+    ///
+    /// ```
+    /// # use rectangle_pack::{GroupedRectsToPlace, RectToInsert, Session, TargetBin};
+    /// # let mut session: Session<&str, &str> = Session::new()?;
+    /// # session.add_bin("sheet", TargetBin::new(10, 10, 1))?;
+    /// # let mut rects: GroupedRectsToPlace<&str, &str> = GroupedRectsToPlace::new();
+    /// # rects.push_rect("hat", None, RectToInsert::new(4, 10, 1));
+    /// let hat = session.pack(&rects)?.remove(0);
+    /// session.release(hat.number)?;
+    /// let last = session.stats(&"sheet")?.free_sections - 1;
+    /// session.coalesce(&"sheet", last, 0..last)?;
+    /// assert_eq!(session.free_sections(&"sheet")?.len(), 1);
+    /// # Ok::<(), rectangle_pack::SessionError>(())
+    /// ```
+    ///
+    /// # Errors
+    ///
+    /// `UnknownBin`.
+    pub fn coalesce(
+        &mut self,
+        bin: &BinId,
+        index: usize,
+        range: Range<usize>,
+    ) -> Result<(), SessionError> {
+        let number = self.number_of(bin)?;
+        self.handle.coalesce(number, index, &range)
+    }
+
+    /// Whether free sections of a bin were joined, one or all, also where nothing was there to join.
+    ///
+    /// # Errors
+    ///
+    /// `UnknownBin`.
+    pub fn was_coalesced(&self, bin: &BinId) -> Result<bool, SessionError> {
+        self.handle.was_coalesced(self.number_of(bin)?)
+    }
+
+    /// The ids of all bins, in their order.
+    pub fn bins(&self) -> impl Iterator<Item = &BinId> {
+        self.numbers.keys()
+    }
+
+    /// The free sections of a bin, the newest last.
+    ///
+    /// # Errors
+    ///
+    /// `UnknownBin`.
+    pub fn free_sections(&self, bin: &BinId) -> Result<Vec<Section>, SessionError> {
+        self.handle.free_sections(self.number_of(bin)?)
+    }
+
+    /// The cutting plan of a bin: straight cuts, each across a whole part, that leave its free sections and its boxes. A part
+    /// with two of these or more is cut on the first axis of x, y and z on which it can be, at the least place. `None` where no
+    /// straight cuts leave them, which is so only where sections of the bin were joined.
+    ///
+    /// ```
+    /// use rectangle_pack::{Axis, CutStep};
+    /// # use rectangle_pack::{GroupedRectsToPlace, RectToInsert, Session, TargetBin};
+    /// # let mut session: Session<&str, &str> = Session::new()?;
+    /// # session.add_bin("sheet", TargetBin::new(10, 10, 1))?;
+    /// # let mut rects: GroupedRectsToPlace<&str, &str> = GroupedRectsToPlace::new();
+    /// # rects.push_rect("hat", None, RectToInsert::new(4, 10, 1));
+    /// // The hat is 4 wide and as high as the sheet: one cut parts it from what is free.
+    /// session.pack(&rects)?;
+    /// let cut = CutStep::Cut { axis: Axis::X, place: 4 };
+    /// assert_eq!(session.cut_plan(&"sheet")?, Some(vec![cut, CutStep::Leaf, CutStep::Leaf]));
+    /// # Ok::<(), rectangle_pack::SessionError>(())
+    /// ```
+    ///
+    /// # Errors
+    ///
+    /// `UnknownBin` or `OutOfMemory`.
+    pub fn cut_plan(&self, bin: &BinId) -> Result<Option<Vec<CutStep>>, SessionError> {
+        self.handle.cut_plan(self.number_of(bin)?)
+    }
+
     /// What is free and what is placed in a bin.
     ///
     /// # Errors
@@ -234,8 +359,73 @@ impl<RectId: Ord + Clone, BinId: Ord + Clone> Session<RectId, BinId> {
         self.outstanding.values()
     }
 
+    /// The number that the next placement gets, or the greatest `u64` where numbers are used up.
+    pub fn next_number(&self) -> u64 {
+        self.handle.next_number()
+    }
+
     fn number_of(&self, bin: &BinId) -> Result<u32, SessionError> {
         let number = self.numbers.get(bin).copied();
         number.ok_or(SessionError::UnknownBin)
+    }
+}
+
+#[cfg(test)]
+mod tests {
+    use super::*;
+
+    fn rects(sizes: &[(u32, u32, u32)]) -> GroupedRectsToPlace<u32, u32> {
+        let mut rects = GroupedRectsToPlace::new();
+        for &(id, width, height) in sizes {
+            rects.push_rect(id, None, RectToInsert::new(width, height, 1));
+        }
+        rects
+    }
+
+    /// The lists that are kept here are those of C.
+    fn check_lists(session: &Session<u32, &str>, packed: &[Vec<u64>]) -> Result<(), SessionError> {
+        let own: Vec<_> = session
+            .outstanding()
+            .map(|it| {
+                let mut indices = packed.iter().filter_map(|call| call.iter().position(|number| *number == it.number));
+                let index = u32::try_from(indices.next().expect("it was packed")).expect("few");
+                let section = Section {
+                    x: it.location.x(),
+                    y: it.location.y(),
+                    z: it.location.z(),
+                    width: it.location.width(),
+                    height: it.location.height(),
+                    depth: it.location.depth(),
+                };
+                (it.number, index, session.numbers[it.bin], section)
+            })
+            .collect();
+        assert_eq!(session.handle.outstanding()?, own);
+        let mut numbers: Vec<_> = session.bins().map(|id| session.numbers[id]).collect();
+        numbers.sort_unstable();
+        assert_eq!(session.handle.bins()?, numbers);
+        Ok(())
+    }
+
+    #[test]
+    fn lists_that_are_kept_are_those_of_c() -> Result<(), SessionError> {
+        let mut session = Session::new()?;
+        let mut packed = Vec::new();
+        check_lists(&session, &packed)?;
+        for (id, side) in [("wall", 9), ("sheet", 9), ("shelf", 4)] {
+            session.add_bin(id, TargetBin::new(side, side, 1))?;
+            check_lists(&session, &packed)?;
+        }
+        for sizes in [&[(5, 1, 2), (2, 4, 4), (9, 6, 3)][..], &[], &[(1, 9, 5), (0, 0, 7)]] {
+            let placed = session.pack(&rects(sizes))?;
+            packed.push(placed.iter().map(|it| it.number).collect());
+            check_lists(&session, &packed)?;
+        }
+        for number in [3, 0, 4] {
+            session.release(number)?;
+            check_lists(&session, &packed)?;
+        }
+        assert_eq!(session.outstanding().count(), 2);
+        Ok(())
     }
 }

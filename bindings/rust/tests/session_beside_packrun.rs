@@ -1,5 +1,5 @@
-//! Drawn sessions of several packings, releases and sweeps, by this crate and by the program `packrun`: both answer the same,
-//! line by line.
+//! Drawn sessions of several packings, releases, joins and sweeps, by this crate and by the program `packrun`: both answer the
+//! same, line by line.
 mod shared;
 
 use std::cmp::Reverse;
@@ -15,7 +15,9 @@ enum Command {
     Rect(String, [u32; 3], Vec<String>),
     Pack,
     Release(u64),
+    Coalesce(u32, [usize; 3]),
     Sweep(u32),
+    Sections(u32),
     Stats(u32),
 }
 
@@ -30,7 +32,11 @@ fn line(command: &Command) -> String {
         Command::Rect(id, [w, h, d], groups) => format!("rect {id} {w} {h} {d} {}\n", groups.join(" ")),
         Command::Pack => "pack\n".to_string(),
         Command::Release(number) => format!("release {number}\n"),
+        Command::Coalesce(bin, [index, start, end]) => {
+            format!("coalesce {} {index} {start} {end}\n", bin_name(*bin))
+        }
         Command::Sweep(bin) => format!("sweep {}\n", bin_name(*bin)),
+        Command::Sections(bin) => format!("sections {}\n", bin_name(*bin)),
         Command::Stats(bin) => format!("stats {}\n", bin_name(*bin)),
     }
 }
@@ -79,12 +85,26 @@ impl Script {
             let number = self.draw.within(0, self.entries);
             self.commands.push(Command::Release(u64::from(number)));
         }
-        if self.draw.within(0, 1) == 0 {
+        for _ in 0..self.draw.within(0, 4) {
+            self.add_join();
+        }
+        if self.draw.within(0, 3) == 0 {
             let bin = self.draw.within(0, self.bins);
             self.commands.push(Command::Sweep(bin));
         }
         self.commands
-            .extend((0..=self.bins).map(Command::Stats));
+            .extend((0..=self.bins).flat_map(|bin| [Command::Sections(bin), Command::Stats(bin)]));
+    }
+
+    /// Joins a section with those of a range, most often with all. Both may be past the end of the list.
+    fn add_join(&mut self) {
+        let bin = self.draw.within(0, self.bins);
+        let mut index = || self.draw.within(0, 20) as usize;
+        let mut join = [index(), index(), index()];
+        if self.draw.within(0, 2) > 0 {
+            join = [join[0], 0, usize::MAX];
+        }
+        self.commands.push(Command::Coalesce(bin, join));
     }
 
     fn size(&mut self, low: u32, high: u32) -> [u32; 3] {
@@ -145,7 +165,12 @@ impl Answers {
             }
             Command::Pack => return self.pack(),
             Command::Release(number) => self.session.release(*number)?,
+            Command::Coalesce(bin, [index, start, end]) => {
+                let bin = Reverse(bin_name(*bin));
+                self.session.coalesce(&bin, *index, *start..*end)?;
+            }
             Command::Sweep(bin) => self.session.coalesce_all(&Reverse(bin_name(*bin)))?,
+            Command::Sections(bin) => return self.sections(*bin),
             Command::Stats(bin) => return self.stats(*bin),
         }
         self.text += "ok\n";
@@ -167,6 +192,16 @@ impl Answers {
         Ok(())
     }
 
+    fn sections(&mut self, bin: u32) -> Result<(), SessionError> {
+        let sections = self.session.free_sections(&Reverse(bin_name(bin)))?;
+        for it in &sections {
+            let (x, y, z, w, h, d) = (it.x, it.y, it.z, it.width, it.height, it.depth);
+            self.text += &format!("{x} {y} {z} {w} {h} {d}\n");
+        }
+        self.text += &format!("sections {}\n", sections.len());
+        Ok(())
+    }
+
     fn stats(&mut self, bin: u32) -> Result<(), SessionError> {
         let it = self.session.stats(&Reverse(bin_name(bin)))?;
         let (free, placed, whole) = (it.free_volume, it.placed_volume, it.bin_volume);
@@ -180,7 +215,10 @@ impl Answers {
 fn refusal(command: &Command, error: SessionError) -> String {
     match (command, error) {
         (Command::Bin(bin, _), SessionError::DuplicateBin) => format!("refused: bin {} exists\n", bin_name(*bin)),
-        (Command::Sweep(bin) | Command::Stats(bin), SessionError::UnknownBin) => {
+        (
+            Command::Coalesce(bin, _) | Command::Sweep(bin) | Command::Sections(bin) | Command::Stats(bin),
+            SessionError::UnknownBin,
+        ) => {
             format!("refused: bin {} is unknown\n", bin_name(*bin))
         }
         (Command::Release(number), SessionError::UnknownPlacement) => format!("refused: placement {number} is unknown\n"),
@@ -210,8 +248,8 @@ fn by_crate(commands: &[Command]) -> Vec<String> {
 
 #[test]
 fn answers_are_those_of_packrun() {
-    let mut seen = [0; 6];
-    let starts = ["packed", "refused: Not", "refused: bin", "refused: placement", "free", "ok"];
+    let mut seen = [0; 7];
+    let starts = ["packed", "refused: Not", "refused: bin", "refused: placement", "sections", "free", "ok"];
     for run in 0..RUNS {
         let commands = Script::drawn(0x9E37_79B9_7F4A_7C15 ^ run as u64);
         let own = by_crate(&commands);
