@@ -11,8 +11,8 @@ from pathlib import Path
 
 import rectangle_pack
 from rectangle_pack import (
-    Bin, Box, DuplicateBin, NotEnoughBinSpace, NumbersUsedUp, OutOfMemory, Outstanding, PackError, Placement, Session, Stats,
-    TooMany, UnknownBin, UnknownPlacement, pack,
+    Bin, Box, Cut, DuplicateBin, Leaf, NotEnoughBinSpace, NumbersUsedUp, OutOfMemory, Outstanding, PackError, Placement,
+    Section, Session, Standing, Stats, TooMany, UnknownBin, UnknownPlacement, pack,
 )
 
 HERE = Path(__file__).resolve().parent
@@ -98,6 +98,23 @@ def session_with(*bins):
     return session
 
 
+def leaves_of(plan, whole):
+    """The parts that a plan does not cut. Each cut goes through its part, and the steps are one tree."""
+    parts, leaves = [whole], []
+    for step in plan:
+        part = parts.pop()
+        if step == Leaf():
+            leaves.append(part)
+            continue
+        side = {"x": "width", "y": "height", "z": "depth"}[step.axis]
+        below = step.place - getattr(part, step.axis)
+        above = getattr(part, side) - below
+        assert below > 0 and above > 0, "a cut at the end of a part"
+        parts += [part._replace(**{step.axis: step.place, side: above}), part._replace(**{side: below})]
+    assert not parts, "a plan ends before its parts"
+    return leaves
+
+
 class Sessions(unittest.TestCase):
     def test_a_bin_is_free_at_first(self):
         with session_with((7, 10, 20, 3), (8, 0, 5)) as session:
@@ -157,30 +174,52 @@ class Sessions(unittest.TestCase):
             self.assertEqual(session.stats(largest), Stats(largest**3, largest**2 * (largest - 2), largest**2 * 2, 1, 1))
 
     def test_boxes_come_and_go_cell_by_cell(self):
-        r, sizes, placed = random.Random(3), {1: (6, 6, 6), 2: (9, 9, 1), 3: (5, 8, 3)}, {}
+        r, sizes, placed, coalesced = random.Random(3), {3: (5, 8, 3), 1: (6, 6, 6), 2: (9, 9, 1)}, {}, set()
         with session_with(*((bin, *size) for bin, size in sizes.items())) as session:
             for _ in range(300):
-                if r.random() < 0.5:
+                kind, bin = r.random(), r.choice(sorted(sizes))
+                if kind < 0.4:
                     boxes = [Box(*(r.randint(1, 3) for _ in range(3)), r.randint(0, 2)) for _ in range(r.randint(1, 4))]
                     try:
-                        placed |= {it.number: (box, it) for box, it in zip(boxes, session.pack(boxes))}
+                        places = session.pack(boxes)
+                        placed |= {it.number: (index, box, it) for index, (box, it) in enumerate(zip(boxes, places))}
                     except NotEnoughBinSpace:
                         pass
-                elif placed:
-                    session.release(placed.pop(r.choice(sorted(placed)))[1].number)
+                elif kind < 0.75 and placed:
+                    session.release(placed.pop(r.choice(sorted(placed)))[2].number)
                 else:
-                    session.coalesce_all(r.choice(sorted(sizes)))
-                self.check_cells(session, sizes, placed.values())
+                    coalesced.add(bin)
+                    if kind < 0.95:
+                        session.coalesce(bin, *(r.randint(0, 12) for _ in range(3)))
+                    else:
+                        session.coalesce_all(bin)
+                self.check_lists(session, sizes, placed)
+                for bin in sizes:
+                    self.assertEqual(session.was_coalesced(bin), bin in coalesced)
+                    self.check_plan(session, bin, sizes[bin])
 
-    def check_cells(self, session, sizes, placed):
-        cells = [cell for box, at in placed for cell in cells_of(box, at)]
-        self.assertEqual(len(cells), len(set(cells)))
+    def check_lists(self, session, sizes, placed):
+        """The lists are those of what is placed. Each cell of each bin is in one free section or in one box."""
+        standing = session.outstanding()
+        known = [(number, index, *at[1:], *box[:3]) for number, (index, box, at) in sorted(placed.items())]
+        self.assertEqual([tuple(it) for it in standing], known)
+        self.assertEqual(session.bins(), sorted(sizes))
         for bin, (width, height, depth) in sizes.items():
-            filled = [cell for cell in cells if cell[0] == bin]
-            self.assertTrue(all(x < width and y < height and z < depth for _, x, y, z in filled))
-            stats, whole = session.stats(bin), width * height * depth
-            self.assertEqual(stats[:3], (whole, whole - len(filled), len(filled)))
-            self.assertEqual(stats.placements, sum(at.bin == bin for _, at in placed))
+            sections, here = session.free_sections(bin), [it for it in standing if it.bin == bin]
+            free = sum(it.width * it.height * it.depth for it in sections)
+            whole = width * height * depth
+            self.assertEqual(session.stats(bin), Stats(whole, free, whole - free, len(sections), len(here)))
+            cells = [cell for it in [*sections, *here] for cell in cells_of(it, Placement(bin, it.x, it.y, it.z))]
+            self.assertCountEqual(cells, cells_of(Box(width, height, depth), Placement(bin, 0, 0, 0)))
+
+    def check_plan(self, session, bin, size):
+        """The leaves are the free sections and the boxes, each once. Without joins there is a plan."""
+        plan = session.cut_plan(bin)
+        if plan is None:
+            self.assertTrue(session.was_coalesced(bin))
+            return
+        standing = [Section(*it[3:]) for it in session.outstanding() if it.bin == bin]
+        self.assertCountEqual(leaves_of(plan, Section(0, 0, 0, *size)), [*session.free_sections(bin), *standing])
 
     def test_any_iterable_of_plain_tuples_will_do(self):
         with session_with((7, 10, 10)) as session:
@@ -200,6 +239,135 @@ class Sessions(unittest.TestCase):
             "banner is placement 3, on sheet 7 at 10 40",
             "4096 cells: 296 free (sections: 2), 3800 placed (placements: 3)",
         ])
+
+
+class Reading(unittest.TestCase):
+    def test_bins_rise(self):
+        with Session() as session:
+            self.assertEqual(session.bins(), [])
+            for bin in (7, 0, 2**32 - 1, 12):
+                session.add_bin(bin, 1, 1)
+            self.assertEqual(session.bins(), [0, 7, 12, 2**32 - 1])
+
+    def test_free_sections_by_hand(self):
+        with session_with((7, 100, 100), (8, 0, 5, 2)) as session:
+            self.assertEqual(session.free_sections(7), [Section(0, 0, 0, 100, 100, 1)])
+            self.assertEqual(session.free_sections(8), [Section(0, 0, 0, 0, 5, 2)])
+            # 50x90 leaves 50x100 beside it and 50x10 above it, or 50x90 and 100x10: the smallest of these is 50x10.
+            session.pack([Box(50, 90)])
+            self.assertEqual(session.free_sections(7), [Section(50, 0, 0, 50, 100, 1), Section(0, 90, 0, 50, 10, 1)])
+            # What is released is the newest. A box without cells leaves nothing.
+            session.release(0)
+            self.assertEqual(session.free_sections(7)[2:], [Section(0, 0, 0, 50, 90, 1)])
+            session.pack([Box(0, 5)])
+            before = session.free_sections(8), session.free_sections(7)
+            session.release(1)
+            self.assertEqual((session.free_sections(8), session.free_sections(7)), before)
+
+    def test_outstanding_goes_by_number_and_knows_the_index(self):
+        with session_with((7, 10, 10), (3, 2, 2, 2)) as session:
+            self.assertEqual(session.outstanding(), [])
+            session.pack([Box(1, 1, 2), Box(4, 10), Box(5, 10)])
+            session.pack([Box(1, 10)])
+            first, second = Standing(0, 2, 7, 0, 0, 0, 5, 10, 1), Standing(1, 1, 7, 5, 0, 0, 4, 10, 1)
+            third, fourth = Standing(2, 0, 3, 0, 0, 0, 1, 1, 2), Standing(3, 0, 7, 9, 0, 0, 1, 10, 1)
+            self.assertEqual(session.outstanding(), [first, second, third, fourth])
+            session.release(1)
+            self.assertEqual(session.outstanding(), [first, third, fourth])
+
+    def test_the_next_number(self):
+        with session_with((7, 10, 10)) as session:
+            self.assertEqual(session.next_number(), 0)
+            session.pack([Box(1, 1), Box(2, 2)])
+            self.assertEqual(session.next_number(), 2)
+            session.release(1)
+            self.assertEqual(session.next_number(), 2)
+
+    def test_one_section_is_joined_with_those_of_the_range(self):
+        with session_with((7, 10, 10)) as session:
+            # Three columns, and 4x10 that are free beside them.
+            session.pack([Box(2, 10)] * 3)
+            for number in range(3):
+                session.release(number)
+            free = [Section(x, 0, 0, width, 10, 1) for x, width in ((6, 4), (0, 2), (2, 2), (4, 2))]
+            self.assertEqual(session.free_sections(7), free)
+            self.assertFalse(session.was_coalesced(7))
+            # An empty range, and an index and a range past the end: nothing is joined, but the call is known.
+            for join in ((3, 2, 2), (3, 2, 1), (4, 0, 4), (2**64 - 1, 0, 2**64 - 1), (3, 4, 2**64 - 1)):
+                session.coalesce(7, *join)
+                self.assertEqual(session.free_sections(7), free)
+            self.assertIs(session.was_coalesced(7), True)
+            # The column between is taken up, and then the one behind it, which shares a face with the join.
+            session.coalesce(7, 3, 1, 2**64 - 1)
+            self.assertEqual(session.free_sections(7), [free[0], Section(0, 0, 0, 6, 10, 1)])
+            session.coalesce(7, 0, 0, 2)
+            self.assertEqual(session.free_sections(7), [Section(0, 0, 0, 10, 10, 1)])
+
+    def test_coalesce_all_is_known(self):
+        with session_with((7, 10, 10), (8, 10, 10)) as session:
+            session.coalesce_all(7)
+            self.assertEqual([session.was_coalesced(bin) for bin in (7, 8)], [True, False])
+
+    def test_plans_by_hand(self):
+        with session_with((7, 10, 10), (8, 1, 1, 3), (9, 0, 5)) as session:
+            self.assertEqual([session.cut_plan(bin) for bin in (7, 8, 9)], [[Leaf()]] * 3)
+            session.pack([Box(1, 1, 2)])
+            self.assertEqual(session.cut_plan(8), [Cut("z", 2), Leaf(), Leaf()])
+            # 4x3 leaves 6x10 beside it and 4x7 above it, or 6x3 and 10x7: the smallest of these is 6x3, so a cut at x would
+            # go through 10x7.
+            session.pack([Box(4, 3)])
+            self.assertEqual(session.cut_plan(7), [Cut("y", 3), Cut("x", 4), Leaf(), Leaf(), Leaf()])
+
+    def test_a_pinwheel_has_no_plan(self):
+        with session_with((7, 3, 3)) as session:
+            session.pack([Box(1, 1)] * 9)
+            for number in (0, 1, 2, 6, 7, 8, 3, 4):
+                session.release(number)
+            self.assertEqual(len(session.cut_plan(7)), 17)
+            # Four strips round the box that stays: each straight cut would go through one of them.
+            for index in range(4):
+                session.coalesce(7, index, index, index + 2)
+            strips = [(0, 0, 0, 2, 1, 1), (2, 0, 0, 1, 2, 1), (1, 2, 0, 2, 1, 1), (0, 1, 0, 1, 2, 1)]
+            self.assertEqual(session.free_sections(7), strips)
+            self.assertIsNone(session.cut_plan(7))
+            # All of it is free now, and still no two share a whole face.
+            session.release(5)
+            session.coalesce_all(7)
+            self.assertEqual(session.free_sections(7), [*strips, (1, 1, 0, 1, 1, 1)])
+            self.assertIsNone(session.cut_plan(7))
+
+    def test_lists_grow_and_shrink(self):
+        # Each list is asked for with the length of the last one of its kind, also where that was one of another bin.
+        with session_with((7, 100, 1), (8, 1, 1)) as session:
+            for count in (0, 100, 1, 50, 49, 101):
+                for it in session.outstanding()[count:]:
+                    session.release(it.number)
+                session.pack([Box(1, 1)] * (count - len(session.outstanding())))
+                self.assertEqual(len(session.outstanding()), count)
+                for bin, size in ((8, (1, 1, 1)), (7, (100, 1, 1))):
+                    self.assertEqual(len(session.free_sections(bin)), session.stats(bin).free_sections)
+                    leaves = leaves_of(session.cut_plan(bin), Section(0, 0, 0, *size))
+                    self.assertEqual(len(leaves), session.stats(bin).free_sections + session.stats(bin).placements)
+
+    def test_the_plan_of_a_sheet(self):
+        run = subprocess.run([sys.executable, str(HERE / "sheet_plan.py")], capture_output=True, text=True, check=True)
+        lines = run.stdout.splitlines()
+        # The left side is the first of the largest panels, so it stands in the corner.
+        self.assertEqual(lines[:3], ["1. cut across x at 600", "   2. cut across y at 800", "      left side: 600x800"])
+        cuts = [line.split(".")[0].strip() for line in lines if "cut across" in line]
+        self.assertEqual(cuts, [str(i) for i in range(1, len(cuts) + 1)])
+        leaves = [line.split(":") for line in lines if "cut across" not in line]
+        self.assertEqual(len(leaves), len(cuts) + 1)
+        self.assertEqual(len([name for name, _ in leaves if name.strip() != "left over"]), 12)
+        sides = [map(int, size.split("x")) for _, size in leaves]
+        self.assertEqual(sum(width * height for width, height in sides), 2440 * 1220)
+
+    def test_an_atlas_is_unloaded(self):
+        run = subprocess.run([sys.executable, str(HERE / "unload.py")], capture_output=True, text=True, check=True)
+        first, *gone, last = run.stdout.splitlines()
+        self.assertEqual(first, "7 sprites, 8 free sections")
+        self.assertEqual(gone, [f"sprite {number} is gone, {number + 1} free sections" for number in reversed(range(7))])
+        self.assertEqual(last, "free again: Section(x=0, y=0, z=0, width=128, height=128, depth=1)")
 
 
 class SessionErrors(unittest.TestCase):
@@ -223,6 +391,10 @@ class SessionErrors(unittest.TestCase):
             refused = [
                 (DuplicateBin, lambda: session.add_bin(7, 20, 20)),
                 (UnknownBin, lambda: session.coalesce_all(8)),
+                (UnknownBin, lambda: session.coalesce(8, 0, 0, 1)),
+                (UnknownBin, lambda: session.was_coalesced(8)),
+                (UnknownBin, lambda: session.free_sections(8)),
+                (UnknownBin, lambda: session.cut_plan(8)),
                 (UnknownBin, lambda: session.stats(8)),
                 (UnknownPlacement, lambda: session.release(1)),
                 (UnknownPlacement, lambda: session.release(2**64 - 1)),
@@ -232,6 +404,9 @@ class SessionErrors(unittest.TestCase):
                 with self.assertRaises(error):
                     call()
                 self.assertEqual(session.stats(7), Stats(100, 60, 40, 1, 1))
+                self.assertEqual(session.free_sections(7), [Section(4, 0, 0, 6, 10, 1)])
+                self.assertEqual(session.outstanding(), [Standing(0, 0, 7, 0, 0, 0, 4, 10, 1)])
+                self.assertEqual((session.bins(), session.next_number(), session.was_coalesced(7)), ([7], 1, False))
             session.release(0)
             with self.assertRaises(UnknownPlacement):
                 session.release(0)
@@ -250,12 +425,16 @@ class SessionErrors(unittest.TestCase):
                     lambda: session.add_bin(bad, 1, 1), lambda: session.add_bin(1, bad, 1),
                     lambda: session.add_bin(1, 1, bad), lambda: session.add_bin(1, 1, 1, bad),
                     lambda: session.pack([Box(bad, 1)]), lambda: session.pack([Box(1, 1, group=bad)]),
-                    lambda: session.coalesce_all(bad), lambda: session.stats(bad),
+                    lambda: session.coalesce_all(bad), lambda: session.stats(bad), lambda: session.coalesce(bad, 0, 0, 0),
+                    lambda: session.was_coalesced(bad), lambda: session.free_sections(bad), lambda: session.cut_plan(bad),
                 ]
                 for call in calls:
                     self.assertRaises(error, call)
             for bad, error in ((-1, ValueError), (2**64, ValueError), (0.0, TypeError), (False, TypeError)):
                 self.assertRaises(error, session.release, bad)
+                for join in ((bad, 0, 0), (0, bad, 0), (0, 0, bad)):
+                    self.assertRaises(error, session.coalesce, 0, *join)
+            self.assertFalse(session.was_coalesced(0))
             self.assertEqual(session.stats(0), Stats(1, 0, 1, 0, 1))
 
 
@@ -264,6 +443,8 @@ class Closing(unittest.TestCase):
         calls = [
             lambda: session.add_bin(1, 1, 1), lambda: session.pack([]), lambda: session.release(0),
             lambda: session.coalesce_all(7), lambda: session.stats(7), session.__enter__,
+            lambda: session.coalesce(7, 0, 0, 1), lambda: session.was_coalesced(7), lambda: session.free_sections(7),
+            lambda: session.cut_plan(7), session.bins, session.outstanding, session.next_number,
         ]
         for call in calls:
             self.assertRaises(ValueError, call)
@@ -314,7 +495,11 @@ class Threads(unittest.TestCase):
         refused = []
 
         def work(i):
-            for call in (lambda: session.stats(7), session.close):
+            calls = (
+                lambda: session.stats(7), lambda: session.free_sections(7), lambda: session.cut_plan(7),
+                session.bins, session.outstanding, session.next_number, session.close,
+            )
+            for call in calls:
                 try:
                     call()
                 except RuntimeError:
@@ -322,7 +507,7 @@ class Threads(unittest.TestCase):
 
         with session_with((7, 10, 10)) as session:
             self.run_all(work)
-            self.assertEqual(sorted(refused), [0, 0, 1, 1, 2, 2, 3, 3])
+            self.assertEqual(sorted(refused), [i for i in range(4) for _ in range(7)])
             self.assertEqual(session.stats(7).free_volume, 100)
 
 
