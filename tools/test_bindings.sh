@@ -59,6 +59,10 @@ if have python3 Python; then
     for it in atlas session; do
         python3 "bindings/python/$it.py" | diff - "$work/$it.txt"
     done
+    # These have no twin in C: the tests look at what they print.
+    for it in sheet_plan unload; do
+        python3 "bindings/python/$it.py" >/dev/null
+    done
     tools/c_beside_packrun.py "$runs"
     echo "Python: the tests, the examples, and the drawn inputs and sessions beside packrun"
 fi
