@@ -100,8 +100,8 @@ uint32_t rectangle_pack_boxes(const rp_bin *bins, size_t bin_count, const rp_box
    - Each cell of each bin is in exactly one free section or outstanding placement, and each of these is inside the bin. So
      no two outstanding boxes share a cell, and no cell is lost.
    - A call that answers anything but RP_DONE leaves the session as it was and writes nothing, but for RP_SHORT_ARRAY the
-     length of the list. RP_BAD_LENGTHS, RP_DUPLICATE_BIN, RP_UNKNOWN_BIN, RP_UNKNOWN_PLACEMENT and RP_SHORT_ARRAY come exactly
-     under their conditions, and RP_NUMBERS_USED_UP and RP_NO_PLAN too, unless RP_OUT_OF_MEMORY is answered in their place.
+     length of the list. RP_BAD_LENGTHS, RP_DUPLICATE_BIN, RP_UNKNOWN_BIN and RP_UNKNOWN_PLACEMENT come exactly under their
+     conditions, and RP_NUMBERS_USED_UP, RP_SHORT_ARRAY and RP_NO_PLAN too, unless RP_OUT_OF_MEMORY is answered in their place.
    - No number is given twice in a session: placements are numbered 0, 1, 2 and so on, in the order of packing.
    Only tested: that RP_OUT_OF_MEMORY comes only where malloc or realloc answered NULL, and that free gives all memory
    back.
@@ -181,12 +181,13 @@ uint32_t rectangle_pack_session_release(rp_session *session, uint64_t number);
 uint32_t rectangle_pack_session_coalesce_all(rp_session *session, uint32_t bin);
 
 /* Joins one free section of a bin, the one of this index in the list that rectangle_pack_session_free_sections writes, with
-   those from index start to below end that share a whole face with it. It looks at these alone, so that after a release it
-   is cheaper than rectangle_pack_session_coalesce_all. An index or a range beyond the list joins nothing there. RP_DONE or
-   RP_UNKNOWN_BIN.
+   those from index start to below end. The first of these that shares a whole face with it is taken up into it, and is gone
+   from the list, where those behind it move up by one; the range, cut to the list, then ends one earlier. The same is done
+   with what was joined, until none of the range shares a whole face with it. It looks at these sections alone, so that after
+   a release it is cheaper than rectangle_pack_session_coalesce_all. Where the list has no such index nothing is joined.
+   RP_DONE or RP_UNKNOWN_BIN.
 
-   Proved: the free cells are the same as before. The joined section stands in the place of the first one, and those that it
-   took up are gone from the list. */
+   Proved: which sections are joined, and that the free cells are the same as before. */
 uint32_t rectangle_pack_session_coalesce(rp_session *session, uint32_t bin, size_t index, size_t start, size_t end);
 
 /* Writes what is free and what is placed in a bin, and leaves the session as it is. RP_DONE or RP_UNKNOWN_BIN.
@@ -199,7 +200,8 @@ uint32_t rectangle_pack_session_stats(rp_session *session, uint32_t bin, rp_stat
 
    Those that write a list are given an array and its length, and write to count how long the list is. RP_DONE: the list stands
    at the beginning of the array, and what is behind it in the array is as before. RP_SHORT_ARRAY: the array is as before; with
-   one of count entries the next call will do. So a first call may ask for the length, with an array of length 0. */
+   one of count entries the next call will do. So a first call may ask for the length, with an array of length 0. Only
+   rectangle_pack_session_cut_plan takes memory, and makes a whole plan each time, also where the array is too short. */
 
 /* A free section of a bin, or where a box stands: the corner with the least coordinates, and the sides. */
 typedef struct rp_section {

@@ -1,7 +1,7 @@
 #!/usr/bin/env python3
 """c_beside_packrun.py [RUNS]: packs drawn boxes by the C call, over ctypes, and by packrun, and compares what they answer. Then
-runs drawn sessions of several packings, releases and sweeps by the calls for sessions and by packrun, and compares each
-answer."""
+runs drawn sessions of several packings, releases, joins and sweeps by the calls for sessions and by packrun, and compares each
+answer, and the free sections of all bins."""
 import collections
 import random
 import subprocess
@@ -66,6 +66,12 @@ def drawn(r):
     return bins, boxes
 
 
+def drawn_join(r):
+    """The index of a section and a range of others, most often all of them. Both may be past the end of the list."""
+    whole = r.random() < 0.6
+    return (r.randint(0, 20), 0, 2**64 - 1) if whole else tuple(r.randint(0, 20) for _ in range(3))
+
+
 def drawn_session(r):
     """Commands of a session, some of them of what is not there."""
     commands, bins, boxes = [], 0, 0
@@ -80,8 +86,9 @@ def drawn_session(r):
         commands.append(("pack", packed))
         boxes += len(packed)
         commands += [("release", r.randint(0, boxes)) for _ in range(r.randint(0, 12))]
-        commands += [("sweep", bin) for bin in range(bins + 1) if r.random() < 0.5]
-        commands += [("stats", bin) for bin in range(bins + 1)]
+        commands += [("coalesce", r.randint(0, bins), *drawn_join(r)) for _ in range(r.randint(0, 6))]
+        commands += [("sweep", bin) for bin in range(bins + 1) if r.random() < 0.25]
+        commands += [(name, bin) for bin in range(bins + 1) for name in ("sections", "stats")]
     return commands
 
 
@@ -92,6 +99,9 @@ def lines_of(command, boxes):
         return [bin_line(*rest)]
     if name == "pack":
         return [*(rect_line(boxes + i, *box) for i, box in enumerate(rest[0])), "pack"]
+    if name == "coalesce":
+        bin, index, start, end = rest
+        return [f"coalesce b{bin:04} {index} {start} {end}"]
     return [f"{name} {rest[0]}" if name == "release" else f"{name} b{rest[0]:04}"]
 
 
@@ -134,6 +144,14 @@ class BySession:
     def release(self, number):
         self.session.release(number)
         return ["ok"]
+
+    def coalesce(self, bin, index, start, end):
+        self.session.coalesce(bin, index, start, end)
+        return ["ok"]
+
+    def sections(self, bin):
+        free = self.session.free_sections(bin)
+        return [*(" ".join(map(str, it)) for it in free), f"sections {len(free)}"]
 
     def sweep(self, bin):
         self.session.coalesce_all(bin)
