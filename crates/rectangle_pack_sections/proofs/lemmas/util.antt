@@ -1,3 +1,4 @@
--- What is about no subject of this project: parts of lists, and pairs of their elements.
+-- What is about no subject of this project: parts of lists, pairs of their elements, and answers.
 pub mod Lists
+pub mod Results
 pub mod Zips

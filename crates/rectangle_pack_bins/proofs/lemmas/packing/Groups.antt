@@ -293,12 +293,7 @@ module _ {Id K A : Type 0} (cmp : Id → Id → Ordering) (sizes : List (Id × S
       let later = AreGroups-order group_cmp lists order (All-tail L o order listed) (All-tail S o order stand) in
       record { each = ((refl, All-head L o order listed, here.1), later.each) }
 
--- the members of a group, by its parts
-pub members-are : {Id K A : Type 0} (all : List Size) (o : OrderedGroup K Id A) (ids : List Id) (long : ℕ) → ids ≡ o.ids.now.items
-    → long ≡ length o.ids.now.items → record { ids = ids; sizes = slice_range all o.start (o.start + long) } ≡ (members_of all o).1
-members-are all o ids long same counted = rw (same, counted) refl
-
--- and there are as many sizes
+-- a group has as many sizes as ids
 pub HasSizes-length : {Id K A : Type 0} (all : List Size) (o : OrderedGroup K Id A) (ids : List Id) (long : ℕ) → ids ≡ o.ids.now.items
     → long ≡ length o.ids.now.items → HasSizes all o → length ids ≡ length (slice_range all o.start (o.start + long))
 HasSizes-length all o ids long same counted within =

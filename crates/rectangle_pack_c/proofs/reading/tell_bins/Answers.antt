@@ -1,4 +1,4 @@
-use Rattle.rectangle_pack_c.proofs.Std.{◌≡◌, List, ◌++◌, length, map, arith, sym, ap, ◌∙◌, length-map, length-append, keys_of, [], ◌∷◌, ℕ, refl}
+use Rattle.rectangle_pack_c.proofs.Std.{◌≡◌, List, map, arith, sym, ap, ◌∙◌, length-map, length-append, keys_of, [], ◌∷◌, ℕ, refl}
 use Rattle.std.proofs.Common.{Bor}
 use Rattle.std.specs.Map.Iter.{deref_pair}
 use Rattle.std.proofs.lemmas.Map.Iter.{iter_turn, iter_end}

@@ -156,11 +156,6 @@ pub on_err : {X E : Type 0} (P : Type 0) (r : Result X E) → is_err r ≡ true 
 on_err P (Ok x) failed h = absurd cc
 on_err P (Err e) failed h = h
 
--- what holds anyway holds of a refusal
-pub OnErr-given : {X E P : Type 0} (r : Result X E) → P → OnErr r P
-OnErr-given (Ok x) h = tt
-OnErr-given (Err e) h = h
-
 -- what follows of two promises on a success, and on a failure
 pub OnOk-both : {X E P Q R : Type 0} (r : Result X E) → (P → Q → R) → OnOk r P → OnOk r Q → OnOk r R
 OnOk-both (Ok x) f p q = f p q

@@ -1,12 +1,7 @@
 -- Room in lists of slots: what is made stays, an error shows that it lacked, and pieces take no more of it than they are.
 use Rattle.rectangle_pack_sections.proofs.Std.{◌≡◌, ◌≤◌, ◌<◌, ◌+◌, ◌-◌, ◌*◌, ◌/◌, ◌^◌, ℕ, List, [], ◌∷◌, ◌++◌, length, take, get_or, min, arith, ap, refl, ◌∙◌}
-use Rattle.rectangle_pack_sections.proofs.Std.{Option, Some, map, filter, length-append, length-map, length-filter, count_by-le-length, take_more, map-append, Result, Ok, Err, OnErr}
+use Rattle.rectangle_pack_sections.proofs.Std.{Option, Some, map, filter, length-append, length-map, length-filter, count_by-le-length, take_more, map-append}
 use Rattle.rectangle_pack_sections.specs.Boxes.{Cuboid, has_cells}
-
--- what is so, an error or not
-pub OnErr-given : {X E P : Type 0} (r : Result X E) → P → OnErr r P
-OnErr-given (Ok x) h = tt
-OnErr-given (Err e) h = h
 
 -- there is as much room as the least of slots, blocks and rows leaves
 module _ (room slots blocks rows : ℕ) (is : min slots (min (blocks * 8 + 7) (rows * 64 + 63)) ≡ room) where

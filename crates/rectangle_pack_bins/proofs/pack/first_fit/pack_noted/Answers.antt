@@ -2,7 +2,7 @@ use Rattle.rectangle_pack_sections.proofs.Std.{◌∙◌, on_err_weaker, Orderin
 use Rattle.rectangle_pack_groups.specs.declared.grouped_rects_to_place.Group.{Group}
 use Rattle.rectangle_pack_groups.specs.contracts.grouped_rects_to_place.GroupOrd.TheImpl.{ghosts}
 use Rattle.rectangle_pack_bins.specs.Packing.{Rules, rules_by, bins_of}
-use Rattle.rectangle_pack_groups.proofs.lemmas.multimap.Sized.{OnErr-given}
+use Rattle.rectangle_pack_sections.proofs.lemmas.util.Results.{OnErr-given}
 use Rattle.rectangle_pack_bins.proofs.lemmas.packing.FitTests.{counted-none}
 use Rattle.rectangle_pack_bins.proofs.lemmas.packing.Cases.{saturated-none}
 use Rattle.rectangle_pack_bins.proofs.lemmas.packing.Groups.{packed-weaker, HasSizes-order}

@@ -5,7 +5,7 @@ use Rattle.rectangle_pack_bins.specs.private.Bounds.{AddsWithin}
 use Rattle.rectangle_pack_bins.specs.private.Excluded.{are_in}
 use Rattle.rectangle_pack_bins.proofs.lemmas.packing.Checkout.{stays}
 use Rattle.rectangle_pack_bins.proofs.lemmas.packing.Groups.{IsPlaced-at, on-true, on-false}
-use Rattle.rectangle_pack_groups.proofs.lemmas.multimap.Sized.{OnErr-given}
+use Rattle.rectangle_pack_sections.proofs.lemmas.util.Results.{OnErr-given}
 use Rattle.rectangle_pack_bins.proofs.lemmas.packing.Cases.{saturated-none, saturated-none-more, no_longer, DoesNotTake-excluded, DoesNotTake-stuck, GoesBack-same}
 use Rattle.rectangle_pack_bins.proofs.lemmas.packing.FitTests.{adds-begun}
 use Rattle.rectangle_pack_lists.proofs.lemmas.trial.StepsByIndex.{saturated-add}

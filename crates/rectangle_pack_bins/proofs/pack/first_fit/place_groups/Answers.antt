@@ -4,7 +4,7 @@ use Rattle.rectangle_pack_bins.specs.Packing.{Rules, rules_by, bins_of, excludes
 use Rattle.rectangle_pack_bins.specs.declared.pack.order.OrderedGroup.{OrderedGroup}
 use Rattle.rectangle_pack_bins.specs.private.Orders.{members_of}
 use Rattle.rectangle_pack_bins.proofs.lemmas.packing.Excluded.{AreHomesKept-none, Named-more, Named-fresh}
-use Rattle.rectangle_pack_groups.proofs.lemmas.multimap.Sized.{OnErr-given}
+use Rattle.rectangle_pack_sections.proofs.lemmas.util.Results.{OnErr-given}
 use Rattle.rectangle_pack_bins.proofs.lemmas.packing.Cases.{saturated-none}
 use Rattle.rectangle_pack_bins.proofs.lemmas.packing.FitTests.{adds-more, adds-none}
 use Rattle.rectangle_pack_bins.proofs.lemmas.packing.Checkout.{stays}

@@ -4,7 +4,7 @@ use Rattle.rectangle_pack_bins.specs.Packing.{Rules, rules_by, bins_of, Members}
 use Rattle.rectangle_pack_bins.specs.private.Checkout.{closed}
 use Rattle.rectangle_pack_bins.proofs.lemmas.packing.Cases.{no_longer}
 use Rattle.rectangle_pack_bins.proofs.lemmas.packing.Groups.{GoesBack-grown, bins_of-grown, GoesBack-tried, found-bins_of, IsPlaced-alone, IsDone-length}
-use Rattle.rectangle_pack_groups.proofs.lemmas.multimap.Sized.{OnErr-given}
+use Rattle.rectangle_pack_sections.proofs.lemmas.util.Results.{OnErr-given}
 use Rattle.rectangle_pack_bins.proofs.lemmas.packing.FitTests.{adds-none, adds-alone}
 use Rattle.rectangle_pack_bins.proofs.pack.first_fit.place_in_bin.Given.{Over}
 use Rattle.rectangle_pack_bins.proofs.pack.first_fit.place_in_bin.Goals as goal

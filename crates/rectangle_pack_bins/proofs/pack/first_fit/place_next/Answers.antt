@@ -5,7 +5,7 @@ use Rattle.rectangle_pack_bins.proofs.lemmas.packing.Excluded.{excluded_as_found
 use Rattle.rectangle_pack_bins.proofs.lemmas.packing.Cases.{on-none, on-some, saturated-none, no_longer, members-alike, adds-as-many}
 use Rattle.rectangle_pack_bins.proofs.lemmas.packing.Turns.{placed-kept}
 use Rattle.rectangle_pack_bins.proofs.lemmas.packing.Groups.{IsRefused-alike, HasSizes-length}
-use Rattle.rectangle_pack_groups.proofs.lemmas.multimap.Sized.{OnErr-given}
+use Rattle.rectangle_pack_sections.proofs.lemmas.util.Results.{OnErr-given}
 use Rattle.rectangle_pack_bins.proofs.lemmas.packing.FitTests.{adds-none, adds-one}
 use Rattle.rectangle_pack_bins.proofs.pack.first_fit.place_next.Given.{Over}
 use Rattle.rectangle_pack_bins.proofs.pack.first_fit.place_next.Goals.{After-place_group}

@@ -2,7 +2,8 @@ use Rattle.rectangle_pack_sections.proofs.Std.{◌≡◌, refl, ap, sym, ◌∙�
 use Rattle.rectangle_pack_groups.specs.declared.grouped_rects_to_place.Group.TheVariants.{Ungrouped}
 use Rattle.rectangle_pack_sections.specs.Boxes.{Size}
 use Rattle.rectangle_pack_groups.specs.Groups.{lists_of}
-use Rattle.rectangle_pack_groups.proofs.lemmas.multimap.Sized.{MembersHaveSizes-alone, MembersHaveSizes-same, lists-alone, OnErr-given}
+use Rattle.rectangle_pack_sections.proofs.lemmas.util.Results.{OnErr-given}
+use Rattle.rectangle_pack_groups.proofs.lemmas.multimap.Sized.{MembersHaveSizes-alone, MembersHaveSizes-same, lists-alone}
 use Rattle.rectangle_pack_groups.proofs.grouped_rects_to_place.GroupedRectsToPlace.push_alone.Goals as goal
 
 pub put_alone-requires : goal.put_alone-requires

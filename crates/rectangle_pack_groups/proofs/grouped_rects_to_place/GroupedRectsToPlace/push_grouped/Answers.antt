@@ -1,6 +1,7 @@
 use Rattle.rectangle_pack_sections.proofs.Std.{◌≡◌, refl, length, vec_len, length-map, IfOk-from_err}
 use Rattle.rectangle_pack_groups.specs.Groups.{lists_of}
-use Rattle.rectangle_pack_groups.proofs.lemmas.multimap.Sized.{lists-added, lists-other, OnOk-both, OnErr-both, OnErr-given}
+use Rattle.rectangle_pack_sections.proofs.lemmas.util.Results.{OnErr-given}
+use Rattle.rectangle_pack_groups.proofs.lemmas.multimap.Sized.{lists-added, lists-other, OnOk-both, OnErr-both}
 use Rattle.rectangle_pack_groups.proofs.lemmas.groups.GroupOrder.{groups_by_variants}
 use Rattle.rectangle_pack_groups.specs.declared.grouped_rects_to_place.Group.TheVariants.{Grouped}
 use contract.BorrowLft.{⊑_meet, ⊑_static}

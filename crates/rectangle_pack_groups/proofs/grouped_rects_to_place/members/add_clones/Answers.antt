@@ -1,7 +1,8 @@
 use Rattle.rectangle_pack_sections.proofs.Std.{refl, sym, ◌∙◌, lookup, is_at, IfOk-from_err}
 use Rattle.rectangle_pack_groups.specs.Groups.{lists_of}
 use Rattle.rectangle_pack_groups.specs.private.Multimaps.{times}
-use Rattle.rectangle_pack_groups.proofs.lemmas.multimap.Sized.{filled-all, Appends-from_added, CanTakeBack-whole, on_ok, on_err, OnErr-given}
+use Rattle.rectangle_pack_sections.proofs.lemmas.util.Results.{OnErr-given}
+use Rattle.rectangle_pack_groups.proofs.lemmas.multimap.Sized.{filled-all, Appends-from_added, CanTakeBack-whole, on_ok, on_err}
 use Rattle.rectangle_pack_groups.proofs.grouped_rects_to_place.members.add_clones.Goals as goal
 
 pub clones-requires : goal.clones-requires

@@ -2,7 +2,8 @@ use Rattle.rectangle_pack_sections.proofs.Std.{◌≡◌, ◌<◌, List, refl, s
 use Rattle.rectangle_pack_groups.specs.Groups.{lists_of}
 use Rattle.rectangle_pack_groups.specs.private.Multimaps.{filled, TakesBack, AppendsAtEach}
 use Rattle.rectangle_pack_groups.proofs.lemmas.multimap.Vectors.{keys-lists}
-use Rattle.rectangle_pack_groups.proofs.lemmas.multimap.Sized.{MembersHaveSizes-some, MembersHaveSizes-added, MembersHaveSizes-same, OnErr-given}
+use Rattle.rectangle_pack_sections.proofs.lemmas.util.Results.{OnErr-given}
+use Rattle.rectangle_pack_groups.proofs.lemmas.multimap.Sized.{MembersHaveSizes-some, MembersHaveSizes-added, MembersHaveSizes-same}
 use Rattle.rectangle_pack_groups.proofs.grouped_rects_to_place.members.add_member.Goals as goal
 
 pub add_clones-requires-clause-clones_equal : goal.add_clones-requires-clause-clones_equal

@@ -1,6 +1,6 @@
 use Rattle.rectangle_pack_sections.proofs.Std.{◌≡◌, refl, Equal, IfOk-from_err, tied_back}
 use Rattle.rectangle_pack_groups.proofs.lemmas.multimap.Vectors.{one_item}
-use Rattle.rectangle_pack_groups.proofs.lemmas.multimap.Sized.{OnErr-given}
+use Rattle.rectangle_pack_sections.proofs.lemmas.util.Results.{OnErr-given}
 use Rattle.rectangle_pack_groups.proofs.grouped_rects_to_place.members.put_alone.Goals as goal
 
 pub clones-requires : goal.clones-requires

@@ -1,7 +1,7 @@
 use Rattle.rectangle_pack_sections.proofs.Std.{ℕ, ◌≤◌, ◌<◌, ◌+◌, ◌-◌, ◌*◌, ◌/◌, arith, ◌∙◌, IfOk-from_err}
 use Rattle.rectangle_pack_lists.proofs.lemmas.trial.Steps.{length-step}
 use Rattle.rectangle_pack_lists.proofs.lemmas.trial.StepsByIndex.{LeadsBack-noted}
-use Rattle.rectangle_pack_lists.proofs.lemmas.trial.Rooms.{OnErr-given}
+use Rattle.rectangle_pack_sections.proofs.lemmas.util.Results.{OnErr-given}
 use Rattle.rectangle_pack_lists.proofs.lemmas.util.Reads.{le-through}
 use Rattle.rectangle_pack_lists.proofs.trial.plain.VecBinSectionFreeList.place.Goals as goal
 

@@ -1,7 +1,7 @@
 use Rattle.rectangle_pack_sections.proofs.Std.{ℕ, ◌≡◌, ◌≤◌, ◌<◌, ◌+◌, ◌-◌, ◌*◌, ◌/◌, length, ap, arith, ◌∙◌, IfOk-from_err}
 use Rattle.rectangle_pack_lists.proofs.lemmas.trial.SlotSteps.{SlotsLeadBack-noted}
 use Rattle.rectangle_pack_lists.specs.private.Slots.{sections_of}
-use Rattle.rectangle_pack_lists.proofs.lemmas.trial.Rooms.{OnErr-given}
+use Rattle.rectangle_pack_sections.proofs.lemmas.util.Results.{OnErr-given}
 use Rattle.rectangle_pack_lists.proofs.trial.slots.SectionSlotsFreeList.place.Goals as goal
 
 -- a step has room for the three slots that it takes
