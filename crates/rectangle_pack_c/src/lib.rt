@@ -1,7 +1,7 @@
 //! The packer for C: lists of bins and of boxes in, a list of placements out.
 #![tactic(auto)]
 
-ghost use Rattle.std.specs.Prelude.{ℕ, ◌≡◌, ◌<◌, ◌≤◌, ◌↔◌, ◌≢◌, [], ◌∷◌, IfOk, IfErr, IsOk, MatchOption, List, length, All, AllPairs};
+ghost use Rattle.std.specs.Prelude.{◌≡◌, ◌<◌, ◌≤◌, ◌↔◌, ◌≢◌, [], ◌∷◌, IfOk, IfErr, IsOk, MatchOption, List, length, All, AllPairs};
 ghost use Rattle.std.specs.Ordering.{nat_cmp};
 ghost use Rattle.std.specs.List.Sorted.{IsStrictlySortedBy};
 ghost use Rattle.std.specs.Map.{keys_of};
@@ -11,7 +11,6 @@ ghost use Rattle.rectangle_pack_c.specs.Sessions.{PacksBoxes};
 ghost use Rattle.rectangle_pack_c.specs.private.Pushed.{Pushes};
 ghost use Rattle.rectangle_pack_c.specs.private.Written.{AreWritten, NewAreWritten};
 ghost use Rattle.rectangle_pack.specs.Session.{IsSession, packed_reply};
-ghost use Rattle.rectangle_pack.specs.declared.session.command.Outstanding.{Outstanding};
 
 mod handle;
 mod reading;

@@ -1,13 +1,12 @@
 //! One packing: group after group into the first bin that takes it.
-ghost use Rattle.std.specs.Prelude.{ℕ, ◌≡◌, ◌<◌, ◌+◌, ◌≤◌, ◌∷◌, ◌++◌, [], length, vec_len, List, false, IfOk, OnOk, OnErr, IsSome, All, MatchBool, MatchOption, map, slice_index_or};
-ghost use Rattle.std.specs.BTreeMap.{get, is_at};
+ghost use Rattle.std.specs.Prelude.{ℕ, ◌≡◌, ◌<◌, ◌+◌, ◌≤◌, ◌∷◌, ◌++◌, [], length, vec_len, List, false, IfOk, OnErr, All, MatchBool, MatchOption, map, slice_index_or};
+ghost use Rattle.std.specs.BTreeMap.{is_at};
 ghost use Rattle.std.specs.Bool.{OnTrue};
-ghost use Rattle.std.specs.List.{list_any, IsDistinct};
+ghost use Rattle.std.specs.List.{IsDistinct};
 ghost use Rattle.std.specs.Map.{keys_of};
 ghost use Rattle.std.specs.Vec.{vec_capacity};
 ghost use Rattle.rectangle_pack_groups.specs.Clones.{ClonesEqual};
 ghost use Rattle.rectangle_pack_bins.specs.declared.pack.answer.Placement.{Placement};
-ghost use Rattle.rectangle_pack_sections.specs.Bins.{Bin};
 ghost use Rattle.std.specs.Ordering.{eq_by_cmp};
 ghost use Rattle.rectangle_pack_lists.specs.Numbers.{saturated};
 ghost use Rattle.rectangle_pack_bins.specs.Orders.{IsBinOrder};
@@ -15,10 +14,9 @@ ghost use Rattle.rectangle_pack_bins.specs.Packing.{rules_by, bins_of, excludes_
 ghost use Rattle.rectangle_pack_groups.specs.Groups.{entries_of};
 ghost use Rattle.rectangle_pack_bins.specs.PackAnswers.{AreCounted};
 ghost use Rattle.rectangle_pack_bins.specs.private.Excluded.{are_in, AreHomesKept};
-ghost use Rattle.rectangle_pack_groups.specs.Exclusions.{listed_at};
 ghost use Rattle.rectangle_pack_bins.specs.private.Bounds.{AddsWithin};
 ghost use Rattle.rectangle_pack_bins.specs.private.Orders.{members_of, members_in, HasSizes, StopsAmong};
-ghost use Rattle.rectangle_pack_bins.specs.private.RollBack.{RollsBackTo, StaysUndoable};
+ghost use Rattle.rectangle_pack_bins.specs.private.RollBack.{StaysUndoable};
 
 use crate::pack::answer::{Placement, name_all};
 use crate::pack::homes::{ExcludedBins, Homes};
