@@ -10,6 +10,7 @@ keep what a proof after an edit can begin from, which a first build does not nee
 import collections.abc
 import concurrent.futures
 import dataclasses
+import fcntl
 import graphlib
 import hashlib
 import os
@@ -23,8 +24,8 @@ TOP = pathlib.Path(__file__).resolve().parent.parent
 # What is proved is kept here: of each crate the library that those above read, what was said, and a sum of all that was read.
 PROVED = TOP / "build" / "proved"
 TARGET = "x86_64-unknown-linux-gnu"
-# The memory that a proof takes, and each further process of it, at the most that was seen, in bytes.
-MEMORY_OF_A_JOB = 1.5e9
+# In kB: the memory that is left alone, and what a proof or a further job of it is reckoned to take.
+LEFT_ALONE, MEMORY_OF_A_JOB = 1e6, 3e6
 
 
 class NotProved(Exception):
@@ -95,11 +96,11 @@ def toolchain() -> pathlib.Path:
     return pathlib.Path(said.stdout.strip()).parent
 
 
-def most_jobs() -> int:
-    """How many processes may prove at once: one for each processor, where memory allows."""
-    processors = len(os.sched_getaffinity(0))
-    free = os.sysconf("SC_AVPHYS_PAGES") * os.sysconf("SC_PAGE_SIZE")
-    return max(1, min(processors, int(free / MEMORY_OF_A_JOB)))
+def most_by_memory() -> int:
+    """How many jobs the memory allows that is there to be had."""
+    said = pathlib.Path("/proc/meminfo").read_text()
+    free = next(int(line.split()[1]) for line in said.splitlines() if line.startswith("MemAvailable:"))
+    return max(1, int((free - LEFT_ALONE) / MEMORY_OF_A_JOB))
 
 
 class Build:
@@ -184,24 +185,27 @@ class Build:
             for ran in self.running:
                 ran.terminate()
 
-    def run(self, most: int) -> None:
+    def run(self) -> None:
         """Makes each crate once those are made on which it stands. The processors are shared among those that can be made."""
+        by_memory = most_by_memory()
+        most = min(len(os.sched_getaffinity(0)), by_memory)
         order = graphlib.TopologicalSorter({crate.name: crate.below for crate in self.crates.values()})
         order.prepare()
         running: dict[concurrent.futures.Future[None], str] = {}
-        with concurrent.futures.ThreadPoolExecutor(len(self.crates)) as pool:
-            while order.is_active():
-                ready = order.get_ready()
-                jobs = -(-most // max(1, len(ready) + len(running)))
-                running |= {pool.submit(self.make, self.crates[name], jobs): name for name in ready}
-                done, _ = concurrent.futures.wait(running, return_when=concurrent.futures.FIRST_COMPLETED)
-                try:
+        with concurrent.futures.ThreadPoolExecutor(by_memory) as pool:
+            try:
+                while order.is_active():
+                    ready = order.get_ready()
+                    jobs = -(-most // max(1, len(ready) + len(running)))
+                    running |= {pool.submit(self.make, self.crates[name], jobs): name for name in ready}
+                    done, _ = concurrent.futures.wait(running, return_when=concurrent.futures.FIRST_COMPLETED)
                     for it in done:
                         it.result()
                         order.done(running.pop(it))
-                except BaseException:
-                    self.stop()
-                    raise
+            except BaseException:
+                pool.shutdown(wait=False, cancel_futures=True)
+                self.stop()
+                raise
 
 
 def main(words: collections.abc.Sequence[str]) -> int:
@@ -211,7 +215,10 @@ def main(words: collections.abc.Sequence[str]) -> int:
         return 2
     PROVED.mkdir(parents=True, exist_ok=True)
     try:
-        Build(with_all_below(words[0], crates), toolchain()).run(most_jobs())
+        with (PROVED / "lock").open("w") as lock:
+            # A second build waits, and then finds what the first one proved.
+            fcntl.flock(lock, fcntl.LOCK_EX)
+            Build(with_all_below(words[0], crates), toolchain()).run()
     except NotProved as why:
         print(why, file=sys.stderr)
         return 1

@@ -1,8 +1,10 @@
 //! What C reads of a session: the free sections of a bin, the outstanding placements, the bins. Each
 //! list goes to an array of the caller's.
-ghost use Rattle.std.specs.Prelude.{◌≡◌, ℕ, IsSome, IfSome, map};
-ghost use Rattle.rectangle_pack.specs.Session.{State};
+ghost use Rattle.std.specs.Prelude.{◌≡◌, ◌<◌, ℕ, IsSome, IfSome, AllPairs, map};
+ghost use Rattle.std.specs.List.Sorted.{IsStrictlySortedBy};
 ghost use Rattle.std.specs.Map.{keys_of};
+ghost use Rattle.std.specs.Ordering.{nat_cmp};
+ghost use Rattle.rectangle_pack.specs.Session.{State};
 ghost use Rattle.rectangle_pack_c.specs.Reading.{Tells, TellsSections, TellsCoalesced, TellsPlan, standing_of};
 ghost use Rattle.rectangle_pack.specs.CutPlans.{axis_rank};
 
@@ -195,6 +197,8 @@ pub extern "C" fn rectangle_pack_session_outstanding(
     requires made { IsSome session.old.state }
     ensures told { IfSome session.old.state (λ (state : State ℕ ℕ).
         Tells (map standing_of state.outstanding) result placements.old placements.new count.new) }
+    ensures rising { IfSome session.old.state (λ (state : State ℕ ℕ).
+        AllPairs (λ a b. a.number < b.number) state.outstanding) }
     ensures unchanged { session.new.state ≡ session.old.state }
 {
     let held = session.take(alloc);
@@ -244,7 +248,8 @@ pub extern "C" fn rectangle_pack_session_next_number(alloc: Global, session: &mu
 
 // Writes the ids of the bins of a session.
 fn tell_bins(session: &Session<u32, u32>, ids: &mut [u32], count: &mut usize) -> u32
-    ensures { Tells (keys_of session.now.bins) result ids.old ids.new count.new }
+    ensures told { Tells (keys_of session.now.bins) result ids.old ids.new count.new }
+    ensures ascend { IsStrictlySortedBy nat_cmp (keys_of session.now.bins) }
 {
     let bins = session.bins();
     *count = bins.len();
@@ -270,6 +275,8 @@ pub extern "C" fn rectangle_pack_session_bins(
     requires made { IsSome session.old.state }
     ensures told { IfSome session.old.state (λ (state : State ℕ ℕ).
         Tells (keys_of state.bins) result ids.old ids.new count.new) }
+    ensures ascend { IfSome session.old.state (λ (state : State ℕ ℕ).
+        IsStrictlySortedBy nat_cmp (keys_of state.bins)) }
     ensures unchanged { session.new.state ≡ session.old.state }
 {
     let held = session.take(alloc);

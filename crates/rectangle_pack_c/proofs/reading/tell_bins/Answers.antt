@@ -28,8 +28,8 @@ seen_keys : {X : Type 0} (seen : List (Bor ℕ × Bor X)) → map (λ e. e.0.now
 seen_keys [] = refl
 seen_keys (e ∷ seen) = ap (λ ks. e.0.now ∷ ks) (seen_keys seen)
 
-pub returns : goal.returns
-returns c =
+pub returns-clause-told : goal.returns-clause-told
+returns-clause-told c =
     let end = iter_end deref_pair _ _ _ _ _ _ c.iter-id-items.ensures.rest c.loop-i.yielded_by c.in-None.is c.next.ensures.steps in
     let entries = c.bins-bins.result.now.entries in
     let keys : keys_of c.args.session.now.bins ≡ map (λ e. e.0.now) c.loop-i.yielded =
