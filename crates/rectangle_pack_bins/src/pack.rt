@@ -1,5 +1,5 @@
 //! Packing groups of boxes into bins.
-ghost use Rattle.std.specs.Prelude.{◌≡◌, [], List, All, map, IsOk, IsSome};
+ghost use Rattle.std.specs.Prelude.{◌≡◌, ◌∷◌, [], length, List, All, map, IsOk, IsSome};
 ghost use Rattle.std.specs.BTreeMap.{get};
 ghost use Rattle.std.specs.List.{IsDistinct};
 ghost use Rattle.std.specs.Map.{keys_of};
@@ -11,7 +11,7 @@ ghost use Rattle.rectangle_pack_bins.specs.Best.{IsBestAnswer};
 ghost use Rattle.rectangle_pack_bins.specs.Orders.{IsBinOrder};
 ghost use Rattle.rectangle_pack_bins.specs.Packing.{rules_by, bins_of};
 ghost use Rattle.rectangle_pack_bins.specs.PackAnswers.{IsPackAnswer, IsCountedAnswer};
-ghost use Rattle.rectangle_pack_bins.specs.private.Ends.{IsEnd};
+ghost use Rattle.rectangle_pack_bins.specs.private.Ends.{IsEnd, IsUndoneAnswer};
 ghost use Rattle.rectangle_pack_bins.specs.private.RollBack.{RollsBackTo};
 
 pub mod answer;
@@ -170,18 +170,11 @@ where
         tests.new }
     ensures no_groups { rects_to_place.now.groups ≡ [] → IsOk result }
 {
-    bounded(tests);
-    if rects_to_place.groups().is_empty() {
-        return Ok(RectanglePackOk {
-            packed_locations: BTreeMap::new(alloc),
-            placements: Vec::new(alloc),
-        });
-    }
     let policy = Closures {
         heuristic: box_size_heuristic,
         comparison: more_suitable_containers_fn,
     };
-    pack_by(alloc, rects_to_place, target_bins, &policy, tests)
+    pack_by(alloc, rects_to_place, target_bins, &policy, false, tests)
 }
 
 /// Packs all groups into the bins, with each heuristic of a list in turn, and keeps the packing that
@@ -192,7 +185,8 @@ where
 ///
 /// Each packing is rolled back before the next begins, and the best is made once more. So this takes
 /// at most the time of one packing more than there are entries in the list, and a count of cells
-/// after each. The caller sees to it that clones of ids equal their originals.
+/// after each. A heuristic that is alone in the list is packed with once, and then no memory is taken
+/// without groups. The caller sees to it that clones of ids equal their originals.
 ///
 /// `NotEnoughBinSpace` says that the packing is refused for space with each heuristic of the list;
 /// so an empty list is always refused. `OutOfMemory` says that a growth or a clone was refused in
@@ -236,30 +230,57 @@ where
         IsBestAnswer groups Id.cmp BinId.cmp rects_to_place.now
         (bins_of target_bins.old.entries) heuristics.now result
         (bins_of target_bins.new.entries) }
+    ensures no_groups { length heuristics.now ≡ 1 → rects_to_place.now.groups ≡ [] → IsOk result }
 {
+    if heuristics.len() == 1 {
+        return pack_named(alloc, rects_to_place, target_bins, heuristics[0]);
+    }
     let entries = number_after(0, rects_to_place.groups()).unwrap_or(u64::MAX) as usize;
     match best_of(alloc, rects_to_place, target_bins, entries, heuristics) {
-        Ok(Some((heuristic, _))) => {
-            let packed = pack_by(
-                alloc,
-                rects_to_place,
-                target_bins,
-                &Named(heuristic),
-                &mut FitTests::new(),
-            )?;
-            Ok((heuristic, packed))
-        }
+        Ok(Some((best, _))) => pack_named(alloc, rects_to_place, target_bins, best),
         Ok(None) => Err(RectanglePackError::NotEnoughBinSpace),
         Err(_) => Err(RectanglePackError::OutOfMemory),
     }
 }
 
-// Packs all groups into the bins by a policy.
+// Packs all groups into the bins with this heuristic.
+fn pack_named<Id, BinId, GroupId, A>(
+    alloc: A,
+    rects_to_place: &GroupedRectsToPlace<Id, GroupId, A>,
+    target_bins: &mut BTreeMap<BinId, TargetBin<A>, A>,
+    heuristic: Heuristic,
+) -> Result<(Heuristic, RectanglePackOk<Id, BinId, A>), RectanglePackError>
+where
+    Id: Ord + Clone + Drop,
+    BinId: Ord + Clone + Drop,
+    GroupId: Ord + Clone + Drop,
+    A: Allocator + Copy,
+    requires ids { ClonesEqual Id.is_clone Id.eq }
+    requires bin_ids { ClonesEqual BinId.is_clone BinId.eq }
+    ensures answer { IsBestAnswer ⟦<Group<GroupId, Id> as Ord>⟧.cmp Id.cmp BinId.cmp
+        rects_to_place.now (bins_of target_bins.old.entries) (heuristic ∷ []) result
+        (bins_of target_bins.new.entries) }
+    ensures no_groups { rects_to_place.now.groups ≡ [] → IsOk result }
+{
+    let packed = pack_by(
+        alloc,
+        rects_to_place,
+        target_bins,
+        &Named(heuristic),
+        true,
+        &mut FitTests::new(),
+    )?;
+    Ok((heuristic, packed))
+}
+
+// Packs all groups into the bins by a policy. Where it is refused for space, `undoes_refused` says
+// whether what was placed is undone.
 fn pack_by<Id, BinId, GroupId, R, A>(
     alloc: A,
     rects_to_place: &GroupedRectsToPlace<Id, GroupId, A>,
     target_bins: &mut BTreeMap<BinId, TargetBin<A>, A>,
     policy: &R,
+    undoes_refused: bool,
     tests: &mut FitTests,
 ) -> Result<RectanglePackOk<Id, BinId, A>, RectanglePackError>
 where
@@ -271,12 +292,19 @@ where
     requires ids { ClonesEqual Id.is_clone Id.eq }
     requires bin_ids { ClonesEqual BinId.is_clone BinId.eq }
     requires callable { R.is_callable policy.now }
-    ensures answer { IsCountedAnswer ⟦<Group<GroupId, Id> as Ord>⟧.cmp
-        (rules_by Id.cmp BinId.cmp (R.may policy.now)) rects_to_place.now
+    ensures answer { IsUndoneAnswer ⟦<Group<GroupId, Id> as Ord>⟧.cmp
+        (rules_by Id.cmp BinId.cmp (R.may policy.now)) undoes_refused rects_to_place.now
         (bins_of target_bins.old.entries) tests.old result (bins_of target_bins.new.entries)
         tests.new }
+    ensures no_groups { rects_to_place.now.groups ≡ [] → IsOk result }
 {
     bounded(tests);
+    if rects_to_place.groups().is_empty() {
+        return Ok(RectanglePackOk {
+            packed_locations: BTreeMap::new(alloc),
+            placements: Vec::new(alloc),
+        });
+    }
     let Ok(order) = bin_order(alloc, target_bins, policy) else {
         return Err(RectanglePackError::OutOfMemory);
     };
@@ -286,6 +314,7 @@ where
         target_bins,
         order.as_slice(),
         policy,
+        undoes_refused,
         tests,
     )
 }
@@ -297,6 +326,7 @@ fn pack_in_order<Id, BinId, GroupId, R, A>(
     target_bins: &mut BTreeMap<BinId, TargetBin<A>, A>,
     order: &[(u128, BinId)],
     policy: &R,
+    undoes_refused: bool,
     tests: &mut FitTests,
 ) -> Result<RectanglePackOk<Id, BinId, A>, RectanglePackError>
 where
@@ -314,8 +344,8 @@ where
     requires distinct { IsDistinct (eq_by_cmp BinId.cmp) (map (λ o. o.1) order.now) }
     requires distinct_bins { IsDistinct (eq_by_cmp BinId.cmp)
         (keys_of (bins_of target_bins.old.entries)) }
-    ensures answer { IsCountedAnswer ⟦<Group<GroupId, Id> as Ord>⟧.cmp
-        (rules_by Id.cmp BinId.cmp (R.may policy.now)) rects_to_place.now
+    ensures answer { IsUndoneAnswer ⟦<Group<GroupId, Id> as Ord>⟧.cmp
+        (rules_by Id.cmp BinId.cmp (R.may policy.now)) undoes_refused rects_to_place.now
         (bins_of target_bins.old.entries) tests.old result (bins_of target_bins.new.entries)
         tests.new }
 {
@@ -324,17 +354,18 @@ where
     let mut packing = Packing::new(bins, order, alloc);
     let packed = pack_noted(&mut packing, rects_to_place, entries, policy);
     add_all(tests, &packing.tests);
-    let (bins, answer) = end_packing(alloc, packing, packed);
+    let (bins, answer) = end_packing(alloc, packing, packed, undoes_refused);
     *target_bins = bins;
     answer
 }
 
-// The bins of a packing that ends so, and its answer: done or refused it is kept, and for want of
-// memory rolled back.
+// The bins of a packing that ends so, and its answer: done it is kept, for want of memory rolled
+// back, and refused for space the one or the other.
 fn end_packing<Id, BinId, A>(
     alloc: A,
     packing: Packing<'_, Id, BinId, A>,
     packed: Result<bool, AllocError>,
+    undoes_refused: bool,
 ) -> (
     BTreeMap<BinId, TargetBin<A>, A>,
     Result<RectanglePackOk<Id, BinId, A>, RectanglePackError>,
@@ -346,12 +377,17 @@ where
     requires ids { ClonesEqual Id.is_clone Id.eq }
     requires bin_ids { ClonesEqual BinId.is_clone BinId.eq }
     requires back { (start : List (BinId × Bin)) × RollsBackTo BinId.cmp packing start }
-    ensures { IsEnd Id.cmp BinId.cmp packing.entry packed result.0.entries result.1 }
+    ensures { IsEnd Id.cmp BinId.cmp packing.entry packed undoes_refused result.0.entries
+        result.1 }
 {
     let last = match packed {
         Ok(true) => last_placements(alloc, packing.placements.as_slice()),
         Ok(false) => {
-            let (bins, _) = packing.keep();
+            let (bins, _) = if undoes_refused {
+                packing.roll_back()
+            } else {
+                packing.keep()
+            };
             return (bins, Err(RectanglePackError::NotEnoughBinSpace));
         }
         Err(error) => Err(error),

@@ -1,6 +1,6 @@
 -- A packing with a heuristic that has a name has one result, and so it makes one use of the bins.
-use Rattle.rectangle_pack_sections.proofs.Std.{◌≡◌, ℕ, Bool, true, false, cond, List, [], ◌∷◌, refl, sym, ap, ◌∙◌, filter, map, nat_lt, Ordering}
-use Rattle.rectangle_pack_sections.proofs.Std.{IsTotalOrder, tied_itself, is_at, keys_of, values_of, fun_ext, Ok, Err}
+use Rattle.rectangle_pack_sections.proofs.Std.{◌≡◌, Bool, true, false, cond, List, [], ◌∷◌, refl, sym, ap, ◌∙◌, filter, map, nat_lt, Ordering}
+use Rattle.rectangle_pack_sections.proofs.Std.{IsTotalOrder, tied_itself, is_at, keys_of, values_of, fun_ext, All-head, Result, Ok, Err}
 use Rattle.rectangle_pack_sections.specs.declared.box_size_heuristics.named.Heuristic.{Heuristic}
 use Rattle.rectangle_pack_sections.specs.Bins.{Bin}
 use Rattle.rectangle_pack_sections.specs.Boxes.{Cuboid}
@@ -17,11 +17,12 @@ use Rattle.rectangle_pack_bins.specs.declared.pack.best.Use.{Use}
 use Rattle.rectangle_pack_bins.specs.Best.{use_by, use_of, named_rules, PacksWith, IsRefusedWith, IsBestOf, IsBestAnswer}
 use Rattle.rectangle_pack_bins.specs.KeptBins.{locations_in}
 use Rattle.rectangle_pack_bins.specs.Packing.{PackingDone}
-use Rattle.rectangle_pack_bins.specs.PackAnswers.{IsPacked, IsCountedAnswer}
+use Rattle.rectangle_pack_bins.specs.PackAnswers.{IsPacked}
 use Rattle.rectangle_pack_bins.specs.Placed.{placements_of}
 use Rattle.rectangle_pack_bins.specs.Results.{ArePlacementsAlike, HaveOneResult}
 use Rattle.rectangle_pack_sections.proofs.lemmas.cuts.SmallestBox.{smallest_is_preorder}
 use Rattle.rectangle_pack_sections.proofs.lemmas.util.Zips.{AllZip-itself}
+use Rattle.rectangle_pack_bins.proofs.lemmas.best.Alone.{best-alone}
 use Rattle.rectangle_pack_bins.proofs.lemmas.determinism.OnePacking.{one_result}
 use Rattle.rectangle_pack_bins.proofs.lemmas.determinism.Preorders.{total_decides}
 
@@ -80,17 +81,14 @@ module _ {Id B G : Type 0} {group_cmp : Group G Id → Group G Id → Ordering} 
   not-refused h made done refused =
       (one_by_name h).not_done_and_refused done.placements done.new refused.left done.done refused.refused
 
-  -- so the packing with the best heuristic makes the best use
-  pub best-packed : {A : Type 0} (heuristics : List Heuristic) (best : Heuristic) (made : Use) → IsBestOf group_cmp cmp bin_cmp all old heuristics best made
-      → (ok : RectanglePackOk Id B A) (new : List (B × Bin)) → IsPacked group_cmp (named_rules cmp bin_cmp best) all old ok new
-      → IsBestAnswer group_cmp cmp bin_cmp all old heuristics (Ok (best, ok)) new
-  best-packed heuristics best made b ok new packed = (packed, rw (← use-same best made b.done (placements_of ok) new packed.done) b)
-
-  -- or ends for want of memory
-  pub best-failed : (A : Type 0) (heuristics : List Heuristic) (best : Heuristic) (made : Use) → IsBestOf group_cmp cmp bin_cmp all old heuristics best made
-      → (error : RectanglePackError) (now new : List (B × Bin)) (before after : ℕ) → now ≡ old
-      → IsCountedAnswer group_cmp (named_rules cmp bin_cmp best) {A = A} all now before (Err error) new after
-      → IsBestAnswer group_cmp cmp bin_cmp all old {A = A} heuristics (Err error) new
-  best-failed A heuristics best made b NotEnoughBinSpace now new before after same h =
-      absurd (not-refused best made b.done (record { left = new; refused = rw same at h.0 }))
-  best-failed A heuristics best made b OutOfMemory now new before after same h = h.0 ∙ same
+  -- so the packing with the best heuristic is the answer, or it ends for want of memory
+  pub best-named : {A : Type 0} (heuristics : List Heuristic) (best : Heuristic) (made : Use) → IsBestOf group_cmp cmp bin_cmp all old heuristics best made
+      → (answer : Result (Heuristic × RectanglePackOk Id B A) RectanglePackError) (new : List (B × Bin))
+      → IsBestAnswer group_cmp cmp bin_cmp all old (best ∷ []) answer new → IsBestAnswer group_cmp cmp bin_cmp all old heuristics answer new
+  best-named heuristics best made b (Ok (one, ok)) new (packed, alone) =
+      let is = best-alone group_cmp cmp bin_cmp all old best one _ alone in
+      let by_best : IsPacked group_cmp (named_rules cmp bin_cmp best) all old ok new = rw is at packed in
+      rw is (by_best, rw (← use-same best made b.done (placements_of ok) new by_best.done) b)
+  best-named heuristics best made b (Err NotEnoughBinSpace) new (refused, same) =
+      absurd (not-refused best made b.done (All-head (IsRefusedWith group_cmp cmp bin_cmp all old) best [] refused))
+  best-named heuristics best made b (Err OutOfMemory) new same = same

@@ -1,6 +1,6 @@
 use Rattle.rectangle_pack_sections.proofs.Std.{refl}
 use Rattle.rectangle_pack_bins.specs.Packing.{bins_of, rules_by}
-use Rattle.rectangle_pack_bins.proofs.lemmas.packing.Ends.{counted-end}
+use Rattle.rectangle_pack_bins.proofs.lemmas.packing.Ends.{undone-end}
 use Rattle.rectangle_pack_bins.specs.private.RollBack.{RollsBackTo}
 use Rattle.rectangle_pack_bins.proofs.pack.pack_in_order.Given.{Over}
 use Rattle.rectangle_pack_bins.proofs.pack.pack_in_order.Goals.{After-pack_noted-packed}
@@ -14,8 +14,8 @@ back g c = c.pack_noted-packed.ensures.back (bins_of c.args.target_bins.now.entr
 pub returns : goal.returns
 returns g c = record {
   answer =
-      counted-end _ (rules_by g.Id.Ord.cmp g.BinId.Ord.cmp (g.R.Policy.may c.args.policy.now)) c.args.rects_to_place.now
-      (bins_of c.args.target_bins.now.entries) c.pack_noted-packed.new.packing c.pack_noted-packed.result _ _ c.new-packing.result.tests _ c.args.tests.now _
+      undone-end _ (rules_by g.Id.Ord.cmp g.BinId.Ord.cmp (g.R.Policy.may c.args.policy.now)) c.args.rects_to_place.now
+      (bins_of c.args.target_bins.now.entries) c.pack_noted-packed.new.packing c.pack_noted-packed.result _ _ c.new-packing.result.tests _ c.args.tests.now _ c.args.undoes_refused
       (rw (c.new-packing.ensures.bins, c.replace-bins.ensures.value) at c.pack_noted-packed.ensures.packed)
       (rw (c.new-packing.ensures.bins, c.replace-bins.ensures.value) at c.pack_noted-packed.ensures.stopped)
       c.pack_noted-packed.ensures.counted (back g (goal.at.returns g c).After-pack_noted-packed) c.new-packing.ensures.tests c.add_all.ensures

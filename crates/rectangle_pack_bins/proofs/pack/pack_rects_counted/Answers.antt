@@ -1,22 +1,9 @@
-use Rattle.rectangle_pack_sections.proofs.Std.{length, ap, sym, ◌∙◌, arith, map, sum, values_of, All-nil}
 use Rattle.rectangle_pack_sections.specs.Closures.{answers}
-use Rattle.rectangle_pack_bins.specs.Packing.{bins_of, rules_by}
-use Rattle.rectangle_pack_bins.proofs.lemmas.packing.Groups.{PackingDone-none, lists-some, lists-empty}
+use Rattle.rectangle_pack_bins.specs.Packing.{rules_by}
+use Rattle.rectangle_pack_bins.proofs.lemmas.packing.Ends.{kept-answer}
 use Rattle.rectangle_pack_bins.proofs.pack.pack_rects_counted.Goals as goal
 
-pub returns-then-is_empty-clause-answer : goal.returns-then-is_empty-clause-answer
-returns-then-is_empty-clause-answer g c =
-    let none = sym c.groups.ensures.entries ∙ lists-empty c.groups.result.now.entries c.is_empty.result c.is_empty.ensures c.if-is_empty.true in
-    let rules = rules_by g.Id.Ord.cmp g.BinId.Ord.cmp (answers g.H.Fn g.C.Fn c.args.box_size_heuristic.now c.args.more_suitable_containers_fn.now) in
-    let done = PackingDone-none _ rules c.args.rects_to_place.now (bins_of c.args.target_bins.now.entries) c.new-then-is_empty.result.items none
-    c.new-then-is_empty.ensures.items in (
-      record {
-        done = done.0;
-        counted = ap length c.new-then-is_empty.ensures.items ∙ sym (ap (λ gs. sum (map length (values_of gs))) none);
-        last = record { ascend = c.new.ensures.ordered; each = λ id. rw (c.new.ensures.empty, c.new-then-is_empty.ensures.items) (All-nil _) };
-      },
-      record { most = omega (arith, done.1); added = rw done.1 (omega arith) },
-    )
-
-pub returns-clause-no_groups : goal.returns-clause-no_groups
-returns-clause-no_groups g c = λ none. absurd (lists-some _ _ c.is_empty.ensures c.if-is_empty.false (c.groups.ensures.entries ∙ none))
+pub returns-clause-answer : goal.returns-clause-answer
+returns-clause-answer g c =
+    kept-answer _ (rules_by g.Id.Ord.cmp g.BinId.Ord.cmp (answers g.H.Fn g.C.Fn c.args.box_size_heuristic.now c.args.more_suitable_containers_fn.now))
+    c.args.rects_to_place.now _ _ c.args.tests.now _ c.pack_by.result c.pack_by.ensures.answer
