@@ -1,4 +1,5 @@
 //! Packing a session with the best of several heuristics.
+ghost use Rattle.std.specs.Prelude.{◌≡◌, ◌∷◌, [], length, IsOk};
 ghost use Rattle.rectangle_pack_groups.specs.Clones.{ClonesEqual};
 ghost use Rattle.rectangle_pack.specs.Session.{IsSession};
 ghost use Rattle.rectangle_pack.specs.SessionBest.{PacksBest, PacksBestAsPromised};
@@ -21,7 +22,8 @@ where
     /// Packs all groups into the bins as `pack` does, with the heuristic of the list that uses the
     /// bins best, by the rule of `pack_rects_best`: what stood in the bins before does not count.
     /// `contains_smallest_box` chooses the cuts. Answers this heuristic, and the numbers of the
-    /// placements. Each packing that is tried is rolled back.
+    /// placements. Each packing that is tried is rolled back. A heuristic that is alone in the list
+    /// is packed with once, and then no memory is taken without groups.
     ///
     /// The caller sees to it that clones of ids equal their originals.
     ///
@@ -64,8 +66,12 @@ where
             heuristics.now groups.now self.old result self.new }
         ensures promise { PacksBestAsPromised ⟦<Group<GroupId, Id> as Ord>⟧.cmp Id.cmp BinId.cmp
             heuristics.now groups.now self.old result self.new }
+        ensures no_groups { length heuristics.now ≡ 1 → groups.now.groups ≡ [] → IsOk result }
         ensures always { IsSession BinId.cmp self.new }
     {
+        if heuristics.len() == 1 {
+            return self.pack_named(groups, heuristics[0]);
+        }
         let first = self.next;
         let Some(next) = number_after(first, groups.groups()) else {
             return Err(SessionError::NumbersUsedUp);
@@ -76,7 +82,25 @@ where
         let Some((best, _)) = best else {
             return Err(SessionError::NotEnoughBinSpace);
         };
-        let packed = self.pack_by(groups, &Named(best))?;
-        Ok((best, packed))
+        self.pack_named(groups, best)
+    }
+
+    // Packs all groups into the bins with this heuristic.
+    fn pack_named<GroupId>(
+        &mut self,
+        groups: &GroupedRectsToPlace<Id, GroupId, A>,
+        heuristic: Heuristic,
+    ) -> Result<(Heuristic, Packed), SessionError>
+    where
+        GroupId: Ord + Clone + Drop,
+        requires ids { ClonesEqual Id.is_clone Id.eq }
+        requires bin_ids { ClonesEqual BinId.is_clone BinId.eq }
+        ensures packed { PacksBest ⟦<Group<GroupId, Id> as Ord>⟧.cmp Id.cmp BinId.cmp
+            (heuristic ∷ []) groups.now self.old result self.new }
+        ensures no_groups { groups.now.groups ≡ [] → IsOk result }
+        ensures always { IsSession BinId.cmp self.new }
+    {
+        let packed = self.pack_by(groups, &Named(heuristic))?;
+        Ok((heuristic, packed))
     }
 }

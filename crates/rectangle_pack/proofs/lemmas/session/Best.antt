@@ -1,11 +1,13 @@
--- A session's packing with the best heuristic ends as the one did that was rolled back, and keeps the promise.
-use Rattle.rectangle_pack_sections.proofs.Std.{◌≡◌, ℕ, ◌+◌, ◌<◌, ◌^◌, List, All, refl, sym, subst, All-weaker, Ordering, IsTotalOrder, Option, Some, None, MatchOption, Result, Ok, Err, IsErrAnd}
+-- What a session answers to a packing with one heuristic, and with the best of a list: that ends as the one did that was rolled back, and keeps
+-- the promise.
+use Rattle.rectangle_pack_sections.proofs.Std.{◌≡◌, ℕ, ◌+◌, ◌<◌, ◌^◌, List, [], ◌∷◌, length, get_or, All, refl, sym, subst, All-weaker, Ordering, IsTotalOrder, Option, Some, None}
+use Rattle.rectangle_pack_sections.proofs.Std.{All-nil, All-cons, All-head, MatchOption, Result, Ok, Err, IsErrAnd}
 use Rattle.rectangle_pack_sections.specs.declared.box_size_heuristics.named.Heuristic.{Heuristic}
 use Rattle.rectangle_pack_groups.specs.declared.grouped_rects_to_place.Group.{Group}
 use Rattle.rectangle_pack_groups.specs.Groups.{Collection, entries_of}
 use Rattle.rectangle_pack_sections.specs.Bins.{Bin}
 use Rattle.rectangle_pack_bins.specs.declared.pack.best.Use.{Use}
-use Rattle.rectangle_pack_bins.specs.Best.{named_rules, IsRefusedWith, IsBestOf}
+use Rattle.rectangle_pack_bins.specs.Best.{named_rules, use_of, IsRefusedWith, IsBestOf}
 use Rattle.rectangle_pack.specs.declared.session.command.Packed.{Packed as PackedNumbers}
 use Rattle.rectangle_pack.specs.declared.session.command.Reply.TheVariants.{Packed, Refused}
 use Rattle.rectangle_pack.specs.declared.session.command.SessionError.{SessionError}
@@ -18,44 +20,74 @@ use Rattle.rectangle_pack.proofs.lemmas.session.Packing.{state, unchanged}
 use Rattle.rectangle_pack.proofs.lemmas.session.Transitions.{memory_refused}
 use Rattle.rectangle_pack.proofs.lemmas.session.Promise.{packs-promised}
 use Rattle.rectangle_pack.specs.SessionBest.{PacksBest, PacksBestAsPromised}
+use Rattle.rectangle_pack_bins.proofs.lemmas.best.Alone.{one-entry, alone-best, best-alone}
 use Rattle.rectangle_pack_bins.proofs.lemmas.best.Whole.{use-same, not-refused}
+
+-- a packing with a heuristic is the best of the list that has it alone
+module _ {Id B G : Type 0} (group_cmp : Group G Id → Group G Id → Ordering) (cmp : Id → Id → Ordering) (bin_cmp : B → B → Ordering)
+    (all : Collection Id G) (heuristic : Heuristic) (old new : State Id B) where
+  pub alone-kept : (numbers : PackedNumbers) → Packs group_cmp (named_rules cmp bin_cmp heuristic) all old (Packed numbers) new
+      → PacksBest group_cmp cmp bin_cmp (heuristic ∷ []) all old (Ok (heuristic, numbers)) new
+  alone-kept numbers (low, kept) = (
+    low,
+    kept,
+    alone-best group_cmp cmp bin_cmp all old.bins heuristic (use_of bin_cmp kept.placements old.bins)
+        (record { placements = kept.placements; new = new.bins; done = kept.done; use_is = refl }),
+  )
+
+  alone-ended : (error : SessionError) → Packs group_cmp (named_rules cmp bin_cmp heuristic) all old (Refused error) new
+      → PacksBest group_cmp cmp bin_cmp (heuristic ∷ []) all old (Err error) new
+  alone-ended DuplicateBin h = absurd h
+  alone-ended UnknownBin h = absurd h
+  alone-ended UnknownPlacement h = absurd h
+  alone-ended NumbersUsedUp h = h
+  alone-ended NotEnoughBinSpace (low, left, refused, same) =
+      (low, All-cons (IsRefusedWith group_cmp cmp bin_cmp all old.bins) heuristic [] (record { left = left; refused = refused }) (All-nil _), same)
+  alone-ended OutOfMemory (low, some, same) = (low, same)
+
+  pub alone-refused : (result : Result (Heuristic × PackedNumbers) SessionError) (error : SessionError) → IsErrAnd result (λ e. e ≡ error)
+      → Packs group_cmp (named_rules cmp bin_cmp heuristic) all old (Refused error) new
+      → PacksBest group_cmp cmp bin_cmp (heuristic ∷ []) all old result new
+  alone-refused (Ok x) error failed h = absurd failed
+  alone-refused (Err e) error failed h = subst (λ r. PacksBest group_cmp cmp bin_cmp (heuristic ∷ []) all old (Err r) new) (sym failed) (alone-ended error h)
+
+-- and a list of one has the answer of its entry
+module _ {Id B G : Type 0} (group_cmp : Group G Id → Group G Id → Ordering) (cmp : Id → Id → Ordering) (bin_cmp : B → B → Ordering)
+    (all : Collection Id G) (heuristics : List Heuristic) (old : State Id B) where
+  pub alone-listed : (d : Heuristic) → length heuristics ≡ 1 → (result : Result (Heuristic × PackedNumbers) SessionError) (new : State Id B)
+      → PacksBest group_cmp cmp bin_cmp (get_or heuristics 0 d ∷ []) all old result new → PacksBest group_cmp cmp bin_cmp heuristics all old result new
+  alone-listed d one result new h = subst (λ hs. PacksBest group_cmp cmp bin_cmp hs all old result new) (sym (one-entry heuristics d one)) h
 
 module _ {Id B G : Type 0} {group_cmp : Group G Id → Group G Id → Ordering} {cmp : Id → Id → Ordering} {bin_cmp : B → B → Ordering}
     (group_total : IsTotalOrder group_cmp) (total : IsTotalOrder cmp) (bin_total : IsTotalOrder bin_cmp)
     (all : Collection Id G) (heuristics : List Heuristic) (old : State Id B) (best : Heuristic) (made : Use)
     (b : IsBestOf group_cmp cmp bin_cmp all old.bins heuristics best made) where
-  -- it is kept, and makes the best use
-  kept : (now : State Id B) → now ≡ old → (numbers : PackedNumbers)
-      → (new : State Id B) → Packs group_cmp (named_rules cmp bin_cmp best) all now (Packed numbers) new
+  -- a packing with the best of them that is kept makes the best use
+  kept : (numbers : PackedNumbers) (new : State Id B) → Packs group_cmp (named_rules cmp bin_cmp best) all old (Packed numbers) new
       → PacksBest group_cmp cmp bin_cmp heuristics all old (Ok (best, numbers)) new
-  kept now same numbers new h =
-      let (low, kept) = rw same at h in
-      (low, kept, rw (← use-same group_total total bin_total all old.bins best made b.done kept.placements new.bins kept.done) b)
+  kept numbers new (low, done) =
+      (low, done, rw (← use-same group_total total bin_total all old.bins best made b.done done.placements new.bins done.done) b)
 
-  pub best-kept : (now : State Id B) → now ≡ old → (asked : State Id B) → old ≡ asked → (numbers : PackedNumbers)
-      → (new : State Id B) → Packs group_cmp (named_rules cmp bin_cmp best) all now (Packed numbers) new
-      → PacksBest group_cmp cmp bin_cmp heuristics all asked (Ok (best, numbers)) new
-  best-kept now same asked is numbers new h =
-      subst (λ s. PacksBest group_cmp cmp bin_cmp heuristics all s (Ok (best, numbers)) new) is (kept now same numbers new h)
+  -- so what is answered to it alone is answered to the list
+  ended : (result : Result (Heuristic × PackedNumbers) SessionError) (new : State Id B) → PacksBest group_cmp cmp bin_cmp (best ∷ []) all old result new
+      → PacksBest group_cmp cmp bin_cmp heuristics all old result new
+  ended (Ok (one, numbers)) new (low, done, alone) =
+      let is = best-alone group_cmp cmp bin_cmp all old.bins best one _ alone in
+      let packed : Packs group_cmp (named_rules cmp bin_cmp one) all old (Packed numbers) new = (low, done) in
+      rw is (kept numbers new (rw is at packed))
+  ended (Err DuplicateBin) new h = absurd h
+  ended (Err UnknownBin) new h = absurd h
+  ended (Err UnknownPlacement) new h = absurd h
+  ended (Err NumbersUsedUp) new h = h
+  ended (Err NotEnoughBinSpace) new (low, refused, same) =
+      absurd (not-refused group_total total bin_total all old.bins best made b.done (All-head (IsRefusedWith group_cmp cmp bin_cmp all old.bins) best [] refused))
+  ended (Err OutOfMemory) new h = h
 
-  -- or it ends for want of memory
-  ended : (now : State Id B) → now ≡ old → (error : SessionError) (new : State Id B)
-      → Packs group_cmp (named_rules cmp bin_cmp best) all now (Refused error) new → PacksBest group_cmp cmp bin_cmp heuristics all old (Err error) new
-  ended now same DuplicateBin new h = absurd h
-  ended now same UnknownBin new h = absurd h
-  ended now same UnknownPlacement new h = absurd h
-  ended now same NumbersUsedUp new h = rw same at h
-  ended now same NotEnoughBinSpace new h =
-      let refused = rw same at h in absurd (not-refused group_total total bin_total all old.bins best made b.done (record { left = refused.1; refused = refused.2 }))
-  ended now same OutOfMemory new h = let stopped = rw same at h in (stopped.0, stopped.2)
-
-  pub best-refused : (now : State Id B) → now ≡ old → (asked : State Id B) → old ≡ asked → (result : Result (Heuristic × PackedNumbers) SessionError)
-      → (error : SessionError) → IsErrAnd result (λ e. e ≡ error) → (new : State Id B)
-      → Packs group_cmp (named_rules cmp bin_cmp best) all now (Refused error) new → PacksBest group_cmp cmp bin_cmp heuristics all asked result new
-  best-refused now same asked is (Ok x) error failed new h = absurd failed
-  best-refused now same asked is (Err e) error failed new h =
-      subst (λ s. PacksBest group_cmp cmp bin_cmp heuristics all s (Err e) new) is
-      (subst (λ r. PacksBest group_cmp cmp bin_cmp heuristics all old (Err r) new) (sym failed) (ended now same error new h))
+  pub best-named : (now : State Id B) → now ≡ old → (asked : State Id B) → old ≡ asked → (result : Result (Heuristic × PackedNumbers) SessionError)
+      → (new : State Id B) → PacksBest group_cmp cmp bin_cmp (best ∷ []) all now result new
+      → PacksBest group_cmp cmp bin_cmp heuristics all asked result new
+  best-named now same asked is result new h =
+      subst (λ s. PacksBest group_cmp cmp bin_cmp heuristics all s result new) is (ended result new (rw same at h))
 
 module _ {Id B G : Type 0} (group_cmp : Group G Id → Group G Id → Ordering) (cmp : Id → Id → Ordering) (bin_cmp : B → B → Ordering)
     (all : Collection Id G) (heuristics : List Heuristic) (bins : List (B × Bin)) where

@@ -1,37 +1,43 @@
-use Rattle.rectangle_pack_sections.proofs.Std.{refl, arith, subst, Ok, Err}
+use Rattle.rectangle_pack_sections.proofs.Std.{refl, arith, subst, Err}
+use Rattle.rectangle_pack_sections.specs.declared.box_size_heuristics.named.Heuristic.TheVariants.{Volume}
 use Rattle.rectangle_pack_bins.specs.Packing.{bins_of}
 use Rattle.rectangle_pack_groups.proofs.lemmas.groups.GroupOrder.{groups_total}
 use Rattle.rectangle_pack.specs.declared.session.command.SessionError.TheVariants.{NotEnoughBinSpace}
-use Rattle.rectangle_pack.proofs.lemmas.session.Best.{best-found, none-found, best-kept, best-refused, best-stopped, best-none, best-promised}
+use Rattle.rectangle_pack.proofs.lemmas.session.Best.{best-found, none-found, alone-listed, best-named, best-stopped, best-none, best-promised}
 use Rattle.rectangle_pack.proofs.lemmas.session.Packing.{next-fits, first-next, used_up, unchanged, IsSession-same}
 use Rattle.rectangle_pack.specs.Session.{IsSession}
 use Rattle.rectangle_pack.proofs.session.Session.pack_best.Goals as goal
 
-pub returns-in_err-packed-clause-packed : goal.returns-in_err-packed-clause-packed
-returns-in_err-packed-clause-packed g c =
-    let bins = bins_of c.self.inside.bins.entries in
-    let found = best-found _ g.Id.Ord.cmp g.BinId.Ord.cmp c.args.groups.now c.args.heuristics.now bins c.in_ok-best.best c.in_ok-best.ensures.best
-    c.in-Some-best.best c.in-Some-best.field-0-1 c.in-Some-best.is in
-    best-refused (groups_total _ g.Id.Ord.cmp g.GroupId.Ord.cmp g.met.Id.Ord.total g.met.GroupId.Ord.total (λ a b. refl) (λ a b. refl) (λ a b. refl) (λ a b. refl))
-    g.met.Id.Ord.total g.met.BinId.Ord.total c.args.groups.now c.args.heuristics.now _ c.in-Some-best.best c.in-Some-best.field-0-1 found _
-    (unchanged bins (bins_of c.best_of.new.target_bins.entries) c.self.inside.outstanding.items c.self.inside.outstanding.items c.self.inside.next
-    c.in_ok-best.ensures.same refl _ refl) c.args.self.now c.self.view_is
-    c.from_residual-in_err-packed.result c.in_err-packed.field-0.0 c.from_residual-in_err-packed.ensures.1 _ c.in_err-packed.ensures.packed
+pub returns-then-heuristics-eq1-clause-packed : goal.returns-then-heuristics-eq1-clause-packed
+returns-then-heuristics-eq1-clause-packed g c =
+    alone-listed _ g.Id.Ord.cmp g.BinId.Ord.cmp c.args.groups.now c.args.heuristics.now c.args.self.now Volume c.if-heuristics-eq1.true c.pack_named.result
+    c.pack_named.new.self c.pack_named.ensures.packed
+
+pub returns-then-heuristics-eq1-clause-promise : goal.returns-then-heuristics-eq1-clause-promise
+returns-then-heuristics-eq1-clause-promise g c =
+    best-promised _ g.Id.Ord.cmp g.met.BinId.Ord.total c.args.groups.now c.args.heuristics.now c.args.self.now c.pack_named.result c.pack_named.new.self
+    (returns-then-heuristics-eq1-clause-packed g c)
+
+pub returns-then-heuristics-eq1-clause-no_groups : goal.returns-then-heuristics-eq1-clause-no_groups
+returns-then-heuristics-eq1-clause-no_groups g c = λ one. c.pack_named.ensures.no_groups
 
 pub returns-clause-packed : goal.returns-clause-packed
 returns-clause-packed g c =
     let bins = bins_of c.self.inside.bins.entries in
     let found = best-found _ g.Id.Ord.cmp g.BinId.Ord.cmp c.args.groups.now c.args.heuristics.now bins c.in_ok-best.best c.in_ok-best.ensures.best
     c.in-Some-best.best c.in-Some-best.field-0-1 c.in-Some-best.is in
-    best-kept (groups_total _ g.Id.Ord.cmp g.GroupId.Ord.cmp g.met.Id.Ord.total g.met.GroupId.Ord.total (λ a b. refl) (λ a b. refl) (λ a b. refl) (λ a b. refl))
+    best-named (groups_total _ g.Id.Ord.cmp g.GroupId.Ord.cmp g.met.Id.Ord.total g.met.GroupId.Ord.total (λ a b. refl) (λ a b. refl) (λ a b. refl) (λ a b. refl))
     g.met.Id.Ord.total g.met.BinId.Ord.total c.args.groups.now c.args.heuristics.now _ c.in-Some-best.best c.in-Some-best.field-0-1 found _
     (unchanged bins (bins_of c.best_of.new.target_bins.entries) c.self.inside.outstanding.items c.self.inside.outstanding.items c.self.inside.next
-    c.in_ok-best.ensures.same refl _ refl) c.args.self.now c.self.view_is c.in_ok-packed.packed _ c.in_ok-packed.ensures.packed
+    c.in_ok-best.ensures.same refl _ refl) c.args.self.now c.self.view_is c.pack_named-2.result c.pack_named-2.new.self c.pack_named-2.ensures.packed
 
 pub returns-clause-promise : goal.returns-clause-promise
 returns-clause-promise g c =
-    best-promised _ g.Id.Ord.cmp g.met.BinId.Ord.total c.args.groups.now c.args.heuristics.now c.args.self.now
-    (Ok (c.in-Some-best.best, c.in_ok-packed.packed)) c.pack_by.new.self (returns-clause-packed g c)
+    best-promised _ g.Id.Ord.cmp g.met.BinId.Ord.total c.args.groups.now c.args.heuristics.now c.args.self.now c.pack_named-2.result c.pack_named-2.new.self
+    (returns-clause-packed g c)
+
+pub returns-clause-no_groups : goal.returns-clause-no_groups
+returns-clause-no_groups g c = λ one none. absurd (c.if-heuristics-eq1.false one)
 
 pub returns-in_default-best-clause-packed : goal.returns-in_default-best-clause-packed
 returns-in_default-best-clause-packed g c =
@@ -46,10 +52,6 @@ pub returns-in_default-best-clause-promise : goal.returns-in_default-best-clause
 returns-in_default-best-clause-promise g c =
     best-promised _ g.Id.Ord.cmp g.met.BinId.Ord.total c.args.groups.now c.args.heuristics.now c.args.self.now (Err NotEnoughBinSpace) _
     (returns-in_default-best-clause-packed g c)
-
-pub returns-in_err-packed-clause-promise : goal.returns-in_err-packed-clause-promise
-returns-in_err-packed-clause-promise g c =
-    best-promised _ g.Id.Ord.cmp g.met.BinId.Ord.total c.args.groups.now c.args.heuristics.now _ _ _ (returns-in_err-packed-clause-packed g c)
 
 pub returns-in_default-clause-packed : goal.returns-in_default-clause-packed
 returns-in_default-clause-packed g c = (used_up c.args.groups.now _ c.args.self.now c.self.view_is _ c.groups.ensures.entries c.in_default.ensures, refl)
@@ -84,21 +86,6 @@ returns-in_default-best-clause-always g c = invariant_of-self-in_default-best g 
 pub invariant_of-self-2 : goal.invariant_of-self-2
 invariant_of-self-2 g c = IsSession-same g.BinId.Ord.cmp c.self.inside.next c.in_ok-best.ensures.same refl c.self.invariant
 
-pub pack_by-requires-clause-ids : goal.pack_by-requires-clause-ids
-pack_by-requires-clause-ids g c = c.requires.ids
-
-pub pack_by-requires-clause-bin_ids : goal.pack_by-requires-clause-bin_ids
-pack_by-requires-clause-bin_ids g c = c.requires.bin_ids
-
-pub pack_by-requires-clause-callable : goal.pack_by-requires-clause-callable
-pack_by-requires-clause-callable g c = tt
-
-pub returns-in_err-packed-clause-always : goal.returns-in_err-packed-clause-always
-returns-in_err-packed-clause-always g c = c.in_err-packed.ensures.always
-
-pub returns-clause-always : goal.returns-clause-always
-returns-clause-always g c = c.in_ok-packed.ensures.always
-
 pub returns-in_err-best-clause-packed : goal.returns-in_err-best-clause-packed
 returns-in_err-best-clause-packed g c =
     let fits = next-fits c.args.groups.now _ c.groups.ensures.entries c.self.inside.next c.in-Some.next c.in-Some.ensures (omega arith) in
@@ -108,3 +95,30 @@ returns-in_err-best-clause-packed g c =
 pub returns-in_err-best-clause-promise : goal.returns-in_err-best-clause-promise
 returns-in_err-best-clause-promise g c =
     best-promised _ g.Id.Ord.cmp g.met.BinId.Ord.total c.args.groups.now c.args.heuristics.now c.args.self.now _ _ (returns-in_err-best-clause-packed g c)
+
+pub pack_named-requires-clause-ids : goal.pack_named-requires-clause-ids
+pack_named-requires-clause-ids g c = c.requires.ids
+
+pub pack_named-requires-clause-bin_ids : goal.pack_named-requires-clause-bin_ids
+pack_named-requires-clause-bin_ids g c = c.requires.bin_ids
+
+pub pack_named-requires-2-clause-ids : goal.pack_named-requires-2-clause-ids
+pack_named-requires-2-clause-ids g c = c.requires.ids
+
+pub pack_named-requires-2-clause-bin_ids : goal.pack_named-requires-2-clause-bin_ids
+pack_named-requires-2-clause-bin_ids g c = c.requires.bin_ids
+
+pub returns-then-heuristics-eq1-clause-always : goal.returns-then-heuristics-eq1-clause-always
+returns-then-heuristics-eq1-clause-always g c = c.pack_named.ensures.always
+
+pub returns-clause-always : goal.returns-clause-always
+returns-clause-always g c = c.pack_named-2.ensures.always
+
+pub returns-in_default-clause-no_groups : goal.returns-in_default-clause-no_groups
+returns-in_default-clause-no_groups g c = λ one none. absurd (c.if-heuristics-eq1.false one)
+
+pub returns-in_err-best-clause-no_groups : goal.returns-in_err-best-clause-no_groups
+returns-in_err-best-clause-no_groups g c = λ one none. absurd (c.if-heuristics-eq1.false one)
+
+pub returns-in_default-best-clause-no_groups : goal.returns-in_default-best-clause-no_groups
+returns-in_default-best-clause-no_groups g c = λ one none. absurd (c.if-heuristics-eq1.false one)
