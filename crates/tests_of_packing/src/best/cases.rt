@@ -62,6 +62,15 @@ const UPRIGHT_BY_HEIGHT: (Heuristic, &[Placed]) = (
     ],
 );
 
+const UPRIGHT_BY_VOLUME: (Heuristic, &[Placed]) = (
+    Heuristic::Volume,
+    &[
+        (2, 0, [0, 0, 0, 3, 2, 1]),
+        (1, 1, [0, 0, 0, 1, 3, 1]),
+        (3, 0, [0, 2, 0, 3, 1, 1]),
+    ],
+);
+
 pub const CASES: &[Case] = &[
     // The one that uses fewer bins is the best, wherever it stands in the list.
     Case {
@@ -100,14 +109,7 @@ pub const CASES: &[Case] = &[
     Case {
         boxes: ONE_UPRIGHT,
         heuristics: &[Heuristic::Volume, Heuristic::Width],
-        best: Some((
-            Heuristic::Volume,
-            &[
-                (2, 0, [0, 0, 0, 3, 2, 1]),
-                (1, 1, [0, 0, 0, 1, 3, 1]),
-                (3, 0, [0, 2, 0, 3, 1, 1]),
-            ],
-        )),
+        best: Some(UPRIGHT_BY_VOLUME),
         takes_memory: true,
     },
     Case {
@@ -143,7 +145,20 @@ pub const CASES: &[Case] = &[
         best: None,
         takes_memory: true,
     },
-    // Without heuristics, and without boxes.
+    // One that is alone in the list. Where it is refused, two boxes find space before the third.
+    Case {
+        boxes: ONE_UPRIGHT,
+        heuristics: &[Heuristic::Volume],
+        best: Some(UPRIGHT_BY_VOLUME),
+        takes_memory: true,
+    },
+    Case {
+        boxes: ONE_COLUMN,
+        heuristics: &[Heuristic::Volume],
+        best: None,
+        takes_memory: true,
+    },
+    // Without heuristics, and without boxes. For one that is alone no memory is asked for then.
     Case {
         boxes: ONE_UPRIGHT,
         heuristics: &[],
@@ -155,6 +170,12 @@ pub const CASES: &[Case] = &[
         heuristics: &[Heuristic::Width, Heuristic::Volume],
         best: Some((Heuristic::Width, &[])),
         takes_memory: true,
+    },
+    Case {
+        boxes: &[],
+        heuristics: &[Heuristic::Width],
+        best: Some((Heuristic::Width, &[])),
+        takes_memory: false,
     },
 ];
 
