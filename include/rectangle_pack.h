@@ -1,7 +1,8 @@
 /* rectangle_pack: packs boxes into bins, in two and three dimensions, without overlaps. rectangle_pack_boxes packs a list
-   of boxes and keeps nothing. A session keeps its bins from call to call: boxes are packed into them and released again.
-   All calls are proved; what is proved of them stands beside them, and as their contracts in crates/rectangle_pack_c/src
-   (lib.rt and session.rt). C99 and C++.
+   of boxes and keeps nothing; rectangle_pack_collection packs boxes that are in several groups, groups that may not share a
+   bin, and by a heuristic of the caller's choice. A session keeps its bins from call to call: boxes are packed into them and
+   released again. All calls are proved; what is proved of them stands beside them, and as their contracts in
+   crates/rectangle_pack_c/src (lib.rt, session.rt and reading.rt). C99 and C++.
 
    Sizes and corners are counted in cells. In two dimensions each depth is 1 and each z is 0. */
 #ifndef RECTANGLE_PACK_H
@@ -37,11 +38,11 @@ typedef struct rp_placement {
 enum {
     /* It is done. Where boxes were packed, each has its placement. */
     RP_DONE = 0,
-    /* For some group no bin takes all of its boxes, as the groups before it left the bins. */
+    /* For some group no bin that is not excluded for it takes all of its boxes, as the groups before it left the bins. */
     RP_NOT_ENOUGH_SPACE = 1,
     /* malloc or realloc answered NULL. */
     RP_OUT_OF_MEMORY = 2,
-    /* box_count and placement_count differ, or a list has 2^32 entries or more. */
+    /* There are not as many placements as boxes and members together, or 2^32 of these or of bins, or more. */
     RP_BAD_LENGTHS = 3,
     /* The session has a bin of this id already. */
     RP_DUPLICATE_BIN = 4,
@@ -54,7 +55,13 @@ enum {
     /* The array is shorter than the list that is to go into it. How long the list is has been written, and nothing else. */
     RP_SHORT_ARRAY = 8,
     /* No straight cuts leave the free sections and the boxes of the bin. */
-    RP_NO_PLAN = 9
+    RP_NO_PLAN = 9,
+    /* There is no heuristic of this number. */
+    RP_UNKNOWN_HEURISTIC = 10,
+    /* A member names a box that is not there. */
+    RP_UNKNOWN_BOX = 11,
+    /* An exclusion names one group twice. */
+    RP_EQUAL_GROUPS = 12
 };
 
 /* Packs all boxes into the bins; placements[i] is where boxes[i] stands.
@@ -78,6 +85,90 @@ enum {
 uint32_t rectangle_pack_boxes(const rp_bin *bins, size_t bin_count, const rp_box *boxes, size_t box_count,
                               rp_placement *placements, size_t placement_count);
 
+/* A box in one group more, in which it is placed once more. index says which box of the list it is. With group 0 the box is
+   alone once more. */
+typedef struct rp_member {
+    uint32_t index, group;
+} rp_member;
+
+/* Two groups that are excluded: within the call neither goes into a bin that the other went into. Boxes of earlier calls do not
+   count. A pair with 0, or with a group that has no boxes, excludes nothing; but a pair of twice one number, also of 0, is
+   RP_EQUAL_GROUPS. */
+typedef struct rp_exclusion {
+    uint32_t one, other;
+} rp_exclusion;
+
+/* What is to be packed: boxes, members and exclusions, each a pointer and how many there are. A box of two groups has one of
+   them in its own field and a member for the other. */
+typedef struct rp_collection {
+    const rp_box *boxes;
+    size_t box_count;
+    const rp_member *members;
+    size_t member_count;
+    const rp_exclusion *exclusions;
+    size_t exclusion_count;
+} rp_collection;
+
+/* Boxes without members and exclusions: rp_collection collection = RP_COLLECTION(boxes, box_count);
+   Lists of these can be put into it afterwards. No pointer of a collection is NULL, also not that of an empty list: here all
+   three point to the boxes, which are not NULL. */
+#define RP_COLLECTION(boxes, box_count)                                                                                    \
+    {                                                                                                                      \
+        (boxes), (size_t)(box_count), (const rp_member *)(const void *)(boxes), 0,                                         \
+            (const rp_exclusion *)(const void *)(boxes), 0                                                                 \
+    }
+
+/* Heuristics: what a size is rated by. Groups go in falling order of the sums of the rates of their boxes. Bins are tried in
+   rising order of the rates of their whole sizes. And where a box is placed, the rest of the free section is cut so that the
+   smallest of its three pieces, those without cells too, is as small as can be by its rate, and at a tie the second smallest. */
+enum {
+    /* Width times height times depth. */
+    RP_VOLUME = 0,
+    /* The height; at equal heights the width, and then the depth. */
+    RP_HEIGHT = 1,
+    /* The width, then the height, then the depth. */
+    RP_WIDTH = 2,
+    /* The depth, then the width, then the height. */
+    RP_DEPTH = 3,
+    /* Width plus height plus depth. */
+    RP_SIDE_SUM = 4,
+    /* The longest side, then the middle one, then the shortest. */
+    RP_LONGEST_SIDE = 5,
+    /* The shortest side, then the middle one, then the longest. */
+    RP_SHORTEST_SIDE = 6,
+    /* Height times depth. */
+    RP_SIDE_AREA = 7,
+    /* Each of these in turn, and then once more the one with which the bins are used best: so that the boxes with cells of this
+       call are in the fewest bins, and at a tie the fewest of their cells in the last of these by index, or by id. It takes as
+       long as nine packings. */
+    RP_BEST = 0xffff
+};
+
+/* Packs a collection into the bins by a heuristic: placements[i] is where boxes[i] stands, and placements[box_count + j] where
+   the box of members[j] stands for its group. So there are as many placements as boxes and members together. chosen, which is
+   not NULL, gets the number of the heuristic that was packed with: the one that was asked for, or with RP_BEST the best. RP_DONE,
+   RP_NOT_ENOUGH_SPACE or RP_OUT_OF_MEMORY; or, looked at first and in this order, RP_BAD_LENGTHS, RP_UNKNOWN_HEURISTIC,
+   RP_UNKNOWN_BOX or RP_EQUAL_GROUPS.
+
+   Proved, for all lists, wherever memory is refused:
+   - The answer is one of these. Each of the last four comes exactly under its condition, where none before it comes.
+   - RP_DONE: each box, and each member as a box in its group, stands inside its bin, and the bin is one of the list; no two of
+     them share a cell of one bin; those of one group above 0 are in one bin; those of groups that are excluded are in different
+     bins; and the placements are those of the packing rule. Equal bins and equal collections get equal placements with the same
+     heuristic, in every call, on every machine.
+   - With RP_BEST no other heuristic makes a better use of the bins, and each with a smaller number makes a worse one, or finds
+     no space.
+   - RP_NOT_ENOUGH_SPACE comes only where the packing rule gets stuck, with RP_BEST by each heuristic, and never where another
+     call with equal bins, an equal collection and the same heuristic was done. Groups go in falling order of their rates; at
+     equal rates boxes of group 0 go by their indices, members behind the boxes, and before the other groups, which go by their
+     numbers. Each goes into the first bin, by rising rate and at equal rates by index, that is not excluded for it and in which
+     all of its boxes find a place in turn. Another order might succeed.
+   - Where the answer is not RP_DONE nothing is written.
+   Only tested, and what the caller sees to, is as of rectangle_pack_boxes. The caller sees to it too that the collection and
+   chosen are there and aligned, that nobody else reads or writes chosen, and that it overlaps nothing else. */
+uint32_t rectangle_pack_collection(const rp_bin *bins, size_t bin_count, const rp_collection *collection, uint32_t heuristic,
+                                   rp_placement *placements, size_t placement_count, uint32_t *chosen);
+
 /* A session: bins that stay, and boxes that come and go, as in a texture atlas that is filled while a program runs.
 
        rp_session session = RP_NO_SESSION;
@@ -100,21 +191,24 @@ uint32_t rectangle_pack_boxes(const rp_bin *bins, size_t bin_count, const rp_box
    - Each cell of each bin is in exactly one free section or outstanding placement, and each of these is inside the bin. So
      no two outstanding boxes share a cell, and no cell is lost.
    - A call that answers anything but RP_DONE leaves the session as it was and writes nothing, but for RP_SHORT_ARRAY the
-     length of the list. RP_BAD_LENGTHS, RP_DUPLICATE_BIN, RP_UNKNOWN_BIN and RP_UNKNOWN_PLACEMENT come exactly under their
-     conditions, and RP_NUMBERS_USED_UP, RP_SHORT_ARRAY and RP_NO_PLAN too, unless RP_OUT_OF_MEMORY is answered in their place.
+     length of the list. RP_BAD_LENGTHS, RP_DUPLICATE_BIN, RP_UNKNOWN_BIN, RP_UNKNOWN_PLACEMENT, RP_UNKNOWN_HEURISTIC,
+     RP_UNKNOWN_BOX and RP_EQUAL_GROUPS come exactly under their conditions, where none that is looked at before comes; and
+     RP_NUMBERS_USED_UP, RP_SHORT_ARRAY and RP_NO_PLAN too, unless RP_OUT_OF_MEMORY is answered in their place.
    - No number is given twice in a session: placements are numbered 0, 1, 2 and so on, in the order of packing.
+   - A session owns nothing that belongs to one thread, so it may go to another.
    Only tested: that RP_OUT_OF_MEMORY comes only where malloc or realloc answered NULL, and that free gives all memory
    back.
 
    The caller sees to it that:
    - rectangle_pack_session_new gets a handle that is as RP_NO_SESSION makes it, and every other call one that
      rectangle_pack_session_new made with RP_DONE and that was not freed since. Nobody else writes to it.
-   - A session stays on the thread that made it. Different sessions have nothing in common, and may be called from several
-     threads at once.
+   - A session is given to one call at a time, also where calls only read. It may go from thread to thread: the calls of one
+     come before those of the next by a lock, the start or the join of a thread, or a sequentially consistent atomic.
+     Different sessions have nothing in common, and may be called from several threads at once.
    - Where a handle is copied, one copy alone is used from then on. So a session may be moved.
-   - Until a call returns, the handle, the statistics and the lists are there and aligned, no two of them overlap, each list has
-     as many entries as its count says, nobody writes to them, and nobody else reads those that are not const. No pointer is
-     NULL: for an empty list any other aligned pointer will do.
+   - Until a call returns, all that it is given a pointer to is there and aligned, what is not const overlaps nothing else, each
+     list has as many entries as its count says, nobody writes to any of it, and nobody else reads what is not const. No pointer
+     is NULL: for an empty list any other aligned pointer will do.
    - No call is made from a signal handler, nor after fork in the child of a process with threads. The calls need a processor
      of x86-64-v2. */
 typedef struct rp_session {
@@ -170,6 +264,26 @@ uint32_t rectangle_pack_session_add_bin(rp_session *session, uint32_t bin, uint3
 uint32_t rectangle_pack_session_pack(rp_session *session, const rp_box *boxes, size_t box_count, rp_outstanding *placements,
                                      size_t placement_count);
 
+/* Packs a collection into what is free in the bins, by a heuristic: placements[i] is where boxes[i] stands, with its number, and
+   placements[box_count + j] where the box of members[j] stands for its group. chosen gets the number of the heuristic that was
+   packed with. RP_DONE, RP_NOT_ENOUGH_SPACE, RP_OUT_OF_MEMORY, after some 2^64 boxes RP_NUMBERS_USED_UP; or, looked at first and
+   in this order, RP_BAD_LENGTHS, RP_UNKNOWN_HEURISTIC, RP_UNKNOWN_BOX or RP_EQUAL_GROUPS. Groups are those of one call: a later
+   one may use their numbers anew.
+
+   Proved:
+   - RP_DONE: each box, and each member as a box in its group with the index box_count + j, is outstanding at its placement, in
+     its size, under a number of its own that was not given before; those of one group above 0 are in one bin; those of groups
+     that are excluded are in different bins; and what was outstanding before stays where it is.
+   - With RP_BEST no other heuristic makes a better use of the bins, and each with a smaller number makes a worse one, or finds
+     no space. What stood in the bins before does not count.
+   - RP_OUT_OF_MEMORY does not come where there are neither boxes nor exclusions, unless RP_BEST is asked for.
+   - The order of groups and that of bins are those of rectangle_pack_collection, with the bins' ids for their indices.
+   - RP_NOT_ENOUGH_SPACE comes only where for some group each bin is excluded or does not take all of its boxes, as the groups
+     before it left the bins; with RP_BEST, by each heuristic. Another order might succeed, and so might
+     rectangle_pack_session_coalesce_all before it. */
+uint32_t rectangle_pack_session_pack_collection(rp_session *session, const rp_collection *collection, uint32_t heuristic,
+                                                rp_outstanding *placements, size_t placement_count, uint32_t *chosen);
+
 /* Releases a placement by its number, which is not outstanding any more. Its cells are free again, as the newest free section
    of its bin, the last of the list; a box without cells leaves none. RP_DONE, RP_UNKNOWN_PLACEMENT or RP_OUT_OF_MEMORY. */
 uint32_t rectangle_pack_session_release(rp_session *session, uint64_t number);
@@ -200,8 +314,9 @@ uint32_t rectangle_pack_session_stats(rp_session *session, uint32_t bin, rp_stat
 
    Those that write a list are given an array and its length, and write to count how long the list is. RP_DONE: the list stands
    at the beginning of the array, and what is behind it in the array is as before. RP_SHORT_ARRAY: the array is as before; with
-   one of count entries the next call will do. So a first call may ask for the length, with an array of length 0. Only
-   rectangle_pack_session_cut_plan takes memory, and makes a whole plan each time, also where the array is too short. */
+   one of count entries the next call will do, if the session is not changed in between. So a first call may ask for the length,
+   with an array of length 0. Only rectangle_pack_session_cut_plan takes memory, and makes a whole plan each time, also where the
+   array is too short. */
 
 /* A free section of a bin, or where a box stands: the corner with the least coordinates, and the sides. */
 typedef struct rp_section {
@@ -209,8 +324,8 @@ typedef struct rp_section {
     uint32_t width, height, depth;
 } rp_section;
 
-/* An outstanding placement: its number; the index of its box among those of the call that packed it; its bin; and where it
-   stands there. */
+/* An outstanding placement: its number; the index of its box among those of the call that packed it, for a member box_count plus
+   its own index; its bin; and where it stands there. */
 typedef struct rp_standing {
     uint64_t number;
     uint32_t index, bin;
@@ -239,9 +354,9 @@ uint32_t rectangle_pack_session_outstanding(rp_session *session, rp_standing *pl
 /* The cutting plan of a bin: straight cuts, each across a whole part, that leave its free sections and its boxes. RP_DONE,
    RP_SHORT_ARRAY, RP_NO_PLAN, RP_UNKNOWN_BIN or RP_OUT_OF_MEMORY.
 
-   Proved: each part in which there are two boxes with cells, or more, is cut at its first open plane, by axis x, y, z and
-   then by the least place; and RP_NO_PLAN comes only where no straight cuts leave these boxes. Until sections of the bin are
-   joined it does not come. */
+   Proved: each part in which there are two free sections or boxes with cells, or more, is cut at its first open plane, by axis
+   x, y, z and then by the least place; and RP_NO_PLAN comes only where no straight cuts leave these sections and boxes. Until
+   sections of the bin are joined it does not come. */
 uint32_t rectangle_pack_session_cut_plan(rp_session *session, uint32_t bin, rp_cut_step *steps, size_t length, size_t *count);
 
 /* Writes 1 where a call that joins sections was done for the bin, also if it joined nothing, else 0. RP_DONE or

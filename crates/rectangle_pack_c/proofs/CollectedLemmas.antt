@@ -4,15 +4,22 @@ use Rattle.rectangle_pack_c.proofs.Std.{subst, arith, suc, zero, append-nil, Opt
 use Rattle.rectangle_pack_c.proofs.Std.{filter, AllZip, enumerate_from, IsStrictlySortedBy, option_map, Equal, nat_cmp_is, nat_cmp, is_eq, lookup}
 use Rattle.rectangle_pack_c.proofs.Std.{keys_of, is_at, insert_entry, exact_unsigned, map-append, length-map, get_or_default, length-enumerate_from}
 use Rattle.rectangle_pack_c.proofs.Std.{get_or-enumerate_from, AllPairs-cons, All-nil, All-cons, All-weaker, All-head, Contains-get_or, filter-append}
-use Rattle.rectangle_pack_c.proofs.Std.{slice_get-map, slice_get-get_or}
+use Rattle.rectangle_pack_c.proofs.Std.{slice_get-map, slice_get-get_or, ◌||◌, ◌&&◌, list_any, list_any-append, or-false}
 use Rattle.rectangle_pack.specs.declared.grouped_rects_to_place.Group.{Group}
 use Rattle.rectangle_pack.specs.declared.grouped_rects_to_place.Group.TheVariants.{Ungrouped, Grouped}
-use Rattle.rectangle_pack.specs.Groups.{Collection, SetsSize, PushesAlone, PushesInto, Appends, times_named}
+use Rattle.rectangle_pack.specs.Groups.{Collection, SetsSize, PushesAlone, PushesInto, Excludes, Appends, times_named}
+use mathlib.Core.Path.{fun_ext}
+use Rattle.rectangle_pack.specs.declared.pack.Placement.{Placement}
+use Rattle.rectangle_pack.specs.Bins.{Bin}
+use Rattle.rectangle_pack.specs.Exclusions.{are_excluded}
+use Rattle.rectangle_pack.specs.Packing.{Rules, AreAllPlaced, PackingDone, at_start, excludes_by}
 use Rattle.rectangle_pack.specs.Alike.{AreCollectionsAlike}
 use Rattle.rectangle_pack_sections.proofs.lemmas.cuts.Counting.{count_yes, count_no}
 use Rattle.rectangle_pack_groups.proofs.lemmas.util.Maps.{lookup-inserted, AreOptionsAlike, maps_alike}
 use Rattle.rectangle_pack_c.specs.declared.RpBox.{RpBox}
-use Rattle.rectangle_pack_c.specs.Arguments.{box_size, group_order, group_of, members_of, unless_empty, IsCollected}
+use Rattle.rectangle_pack_c.specs.declared.collection.RpExclusion.{RpExclusion}
+use Rattle.rectangle_pack_c.specs.Arguments.{box_size}
+use Rattle.rectangle_pack_c.specs.Collections.{group_order, group_of, indices_in, unless_empty, are_pair, IsCollected}
 use Rattle.rectangle_pack_c.specs.private.Pushed.{Pushes}
 use Rattle.rectangle_pack_c.proofs.OrderLemmas.{nat_same, nat_greater, nat_other, group_order_total, exact_group, group_same, group_swap}
 use Rattle.rectangle_pack_sections.proofs.lemmas.util.Zips.{AllZip-itself}
@@ -47,13 +54,13 @@ kept_one true m b = refl
 kept_one false m b = refl
 
 members_more : (k : Group ℕ ℕ) (boxes : List RpBox) (b : RpBox)
-    → members_of k (boxes ++ b ∷ []) ≡ with_last (is_in k (length boxes, b)) (members_of k boxes) (length boxes)
+    → indices_in k (boxes ++ b ∷ []) ≡ with_last (is_in k (length boxes, b)) (indices_in k boxes) (length boxes)
 members_more k boxes b =
     let m = length boxes in
     ap (λ es. map index_of (filter (is_in k) es)) (enumerate_last 0 boxes b m (omega arith))
     ∙ ap (map index_of) (filter-append (is_in k) (enumerate_from 0 boxes) ((m, b) ∷ []))
     ∙ map-append index_of (filter (is_in k) (enumerate_from 0 boxes)) (filter (is_in k) ((m, b) ∷ []))
-    ∙ ap (λ ids. members_of k boxes ++ ids) (kept_one (is_in k (m, b)) m b)
+    ∙ ap (λ ids. indices_in k boxes ++ ids) (kept_one (is_in k (m, b)) m b)
 
 -- a box is in the group of another index only by its number
 not_own : (m n : ℕ) (b : RpBox) → m ≢ n → is_eq (group_order (Ungrouped m) (group_of n b)) ≡ false
@@ -79,7 +86,7 @@ is_list : (ids found : List ℕ) → unless_empty ids ≡ Some found → found �
 is_list [] found e = absurd cc
 is_list (i ∷ ids) found e = cc
 
-module _ (boxes : List RpBox) (b : RpBox) (old new : Collection ℕ ℕ) (h : IsCollected boxes old) where
+module _ (boxes : List RpBox) (exclusions : List RpExclusion) (b : RpBox) (old new : Collection ℕ ℕ) (h : IsCollected boxes exclusions old) where
   sizes_more : SetsSize nat_cmp old.sizes new.sizes (length boxes) (box_size b) → new.sizes ≡ enumerate_from 0 (map box_size (boxes ++ b ∷ []))
   sizes_more (key, same, are) =
       let here : key ≡ length boxes = sym (exact_unsigned (length boxes) key same) in
@@ -88,32 +95,32 @@ module _ (boxes : List RpBox) (b : RpBox) (old new : Collection ℕ ℕ) (h : Is
       ∙ ap (enumerate_from 0) (sym (map-append box_size boxes (b ∷ [])))
 
   -- a group that the box is not in
-  without : (k : Group ℕ ℕ) → is_in k (length boxes, b) ≡ false → unless_empty (members_of k boxes) ≡ unless_empty (members_of k (boxes ++ b ∷ []))
+  without : (k : Group ℕ ℕ) → is_in k (length boxes, b) ≡ false → unless_empty (indices_in k boxes) ≡ unless_empty (indices_in k (boxes ++ b ∷ []))
   without k out =
-      let same : members_of k (boxes ++ b ∷ []) ≡ members_of k boxes =
-      members_more k boxes b ∙ ap (λ t. with_last t (members_of k boxes) (length boxes)) out ∙ append-nil (members_of k boxes) in
+      let same : indices_in k (boxes ++ b ∷ []) ≡ indices_in k boxes =
+      members_more k boxes b ∙ ap (λ t. with_last t (indices_in k boxes) (length boxes)) out ∙ append-nil (indices_in k boxes) in
       ap unless_empty (sym same)
 
   -- and one that it is in
-  within : (k : Group ℕ ℕ) → is_in k (length boxes, b) ≡ true → Some (members_of k boxes ++ length boxes ∷ []) ≡ unless_empty (members_of k (boxes ++ b ∷ []))
+  within : (k : Group ℕ ℕ) → is_in k (length boxes, b) ≡ true → Some (indices_in k boxes ++ length boxes ∷ []) ≡ unless_empty (indices_in k (boxes ++ b ∷ []))
   within k inn =
-      let same : members_of k (boxes ++ b ∷ []) ≡ members_of k boxes ++ length boxes ∷ [] =
-      members_more k boxes b ∙ ap (λ t. with_last t (members_of k boxes) (length boxes)) inn in
-      not_empty (members_of k boxes) (length boxes) ∙ ap unless_empty (sym same)
+      let same : indices_in k (boxes ++ b ∷ []) ≡ indices_in k boxes ++ length boxes ∷ [] =
+      members_more k boxes b ∙ ap (λ t. with_last t (indices_in k boxes) (length boxes)) inn in
+      not_empty (indices_in k boxes) (length boxes) ∙ ap unless_empty (sym same)
 
   collected_alone : b.group == 0 ≡ true → PushesAlone nat_cmp group_order old new (length boxes) (box_size b)
-      → IsStrictlySortedBy group_order (keys_of new.groups) → IsCollected (boxes ++ b ∷ []) new
+      → IsStrictlySortedBy group_order (keys_of new.groups) → IsCollected (boxes ++ b ∷ []) exclusions new
   collected_alone alone p up = record {
     sizes = sizes_more p.sizes;
     groups = λ k. found k ∙ at k (is_eq (group_order (Ungrouped (length boxes)) k)) refl;
     ascend = up;
-    partners = p.partners ∙ h.partners;
+    excluded = λ x y. rw p.partners (h.excluded x y);
   }
     where
       own : group_of (length boxes) b ≡ Ungrouped (length boxes)
       own = ap (λ t. cond t (Ungrouped (length boxes)) (Grouped b.group)) alone
 
-      none_yet : members_of (Ungrouped (length boxes)) boxes ≡ []
+      none_yet : indices_in (Ungrouped (length boxes)) boxes ≡ []
       none_yet = fresh 0 (length boxes) boxes (omega arith)
 
       found : (k : Group ℕ ℕ) → lookup (is_at (group_order k)) new.groups
@@ -126,24 +133,24 @@ module _ (boxes : List RpBox) (b : RpBox) (old new : Collection ℕ ℕ) (h : Is
           (h.groups (Ungrouped (length boxes)) ∙ ap unless_empty none_yet) k)
 
       at : (k : Group ℕ ℕ) (t : Bool) → is_eq (group_order (Ungrouped (length boxes)) k) ≡ t
-          → cond t (Some (length boxes ∷ [])) (lookup (is_at (group_order k)) old.groups) ≡ unless_empty (members_of k (boxes ++ b ∷ []))
+          → cond t (Some (length boxes ∷ [])) (lookup (is_at (group_order k)) old.groups) ≡ unless_empty (indices_in k (boxes ++ b ∷ []))
       at k true e =
           let is : Ungrouped (length boxes) ≡ k = exact_group (Ungrouped (length boxes)) k e in
           let inn : is_in (Ungrouped (length boxes)) (length boxes, b) ≡ true = ap
           (λ g. is_eq (group_order (Ungrouped (length boxes)) g)) own ∙ nat_same (length boxes) in
-          subst (λ g. Some (length boxes ∷ []) ≡ unless_empty (members_of g (boxes ++ b ∷ []))) is
+          subst (λ g. Some (length boxes ∷ []) ≡ unless_empty (indices_in g (boxes ++ b ∷ []))) is
           (ap (λ ids. Some (ids ++ length boxes ∷ [])) (sym none_yet) ∙ within (Ungrouped (length boxes)) inn)
       at k false e =
           let out : is_in k (length boxes, b) ≡ false = ap (λ g. is_eq (group_order k g)) own ∙ group_swap k (Ungrouped (length boxes)) ∙ e in
           h.groups k ∙ without k out
 
   collected_into : b.group == 0 ≡ false → PushesInto nat_cmp group_order old new (length boxes) (b.group ∷ []) (box_size b)
-      → IsStrictlySortedBy group_order (keys_of new.groups) → IsCollected (boxes ++ b ∷ []) new
+      → IsStrictlySortedBy group_order (keys_of new.groups) → IsCollected (boxes ++ b ∷ []) exclusions new
   collected_into not_alone p up = record {
     sizes = sizes_more p.sizes;
     groups = λ k. at k (is_eq (group_order k (Grouped b.group))) refl;
     ascend = up;
-    partners = p.partners ∙ h.partners;
+    excluded = λ x y. rw p.partners (h.excluded x y);
   }
     where
       own : group_of (length boxes) b ≡ Grouped b.group
@@ -166,23 +173,33 @@ module _ (boxes : List RpBox) (b : RpBox) (old new : Collection ℕ ℕ) (h : Is
       appended was (Some ids) (tail, joined, long, all) = ap (λ l. Some l) (joined ∙ ap (λ t. was ++ t) (last_is tail long all))
 
       at : (k : Group ℕ ℕ) (t : Bool) → is_eq (group_order k (Grouped b.group)) ≡ t
-          → lookup (is_at (group_order k)) new.groups ≡ unless_empty (members_of k (boxes ++ b ∷ []))
+          → lookup (is_at (group_order k)) new.groups ≡ unless_empty (indices_in k (boxes ++ b ∷ []))
       at k true e =
           let inn : is_in k (length boxes, b) ≡ true = ap (λ g. is_eq (group_order k g)) own ∙ e in
-          let was : unwrap_or (lookup (is_at (group_order k)) old.groups) [] ≡ members_of k boxes = ap (λ o. unwrap_or o []) (h.groups k)
-          ∙ or_empty (members_of k boxes) in
+          let was : unwrap_or (lookup (is_at (group_order k)) old.groups) [] ≡ indices_in k boxes = ap (λ o. unwrap_or o []) (h.groups k)
+          ∙ or_empty (indices_in k boxes) in
           appended _ _ (rw (once k e) at (p.named_groups k (omega (arith, once k e)))) ∙ ap (λ ids. Some (ids ++ length boxes ∷ [])) was ∙ within k inn
       at k false e =
           let out : is_in k (length boxes, b) ≡ false = ap (λ g. is_eq (group_order k g)) own ∙ e in
           p.other_groups k (never k e) ∙ h.groups k ∙ without k out
 
   -- one more box
-  pub collected_more : Pushes (length boxes) b old new → IsStrictlySortedBy group_order (keys_of new.groups) → IsCollected (boxes ++ b ∷ []) new
+  pub collected_more : Pushes (length boxes) b old new → IsStrictlySortedBy group_order (keys_of new.groups) → IsCollected (boxes ++ b ∷ []) exclusions new
   collected_more p up = by (b.group == 0) refl
     where
-      by : (t : Bool) → b.group == 0 ≡ t → IsCollected (boxes ++ b ∷ []) new
+      by : (t : Bool) → b.group == 0 ≡ t → IsCollected (boxes ++ b ∷ []) exclusions new
       by true alone = collected_alone alone (rw alone at p) up
       by false into = collected_into into (rw into at p) up
+
+-- one more pair of groups that are excluded
+pub excluded_more : (boxes : List RpBox) (exclusions : List RpExclusion) (e : RpExclusion) (old new : Collection ℕ ℕ) → IsCollected boxes exclusions old
+    → Excludes group_order old new (Grouped e.one) (Grouped e.other) → IsCollected boxes (exclusions ++ e ∷ []) new
+excluded_more boxes exclusions e old new h x = record {
+  sizes = x.sizes ∙ h.sizes;
+  groups = λ k. ap (lookup (is_at (group_order k))) x.groups ∙ h.groups k;
+  ascend = rw x.groups h.ascend;
+  excluded = λ a b. x.pairs a b ∙ ap (λ t. t || are_pair a b e) (h.excluded a b) ∙ sym (list_any-append (are_pair a b) exclusions (e ∷ []) ∙ ap (λ t. list_any (are_pair a b) exclusions || t) (or-false (are_pair a b e)));
+}
 
 -- a look-up among numbered entries
 pub lookup_numbered : {X : Type 0} (n : ℕ) (xs : List X) (k i : ℕ) → i ≡ n + k → lookup (is_at (nat_cmp i)) (enumerate_from n xs) ≡ slice_get xs k
@@ -232,15 +249,16 @@ pub record AreHeld (box : ℕ → RpBox) (count : ℕ) (all : Collection ℕ ℕ
   pub once : (k : Group ℕ ℕ) (ids : List ℕ) → lookup (is_at (group_order k)) all.groups ≡ Some ids → AllPairs (λ i j. i ≢ j) ids
   pub there : (i : ℕ) → i < count → IsSomeAnd (lookup (is_at (group_order (group_of i (box i)))) all.groups) (λ ids. Contains ids i)
 
-pub collected_held : (boxes : List RpBox) (d : RpBox) (all : Collection ℕ ℕ) → IsCollected boxes all → AreHeld (λ i. get_or boxes i d) (length boxes) all
-collected_held boxes d all h = record {
+pub collected_held : (boxes : List RpBox) (exclusions : List RpExclusion) (d : RpBox) (all : Collection ℕ ℕ) → IsCollected boxes exclusions all
+    → AreHeld (λ i. get_or boxes i d) (length boxes) all
+collected_held boxes exclusions d all h = record {
   sized = λ i low. ap (lookup (is_at (nat_cmp i))) h.sizes ∙ lookup_numbered 0 (map box_size boxes) i i (omega arith) ∙ slice_get-map box_size boxes i
       ∙ ap (option_map box_size) (slice_get-get_or boxes i d low);
   members = λ k ids is.
-      rw (is_list (members_of k boxes) ids (sym (h.groups k) ∙ is)) (All-weaker (IsMember k box 0 (length boxes))
+      rw (is_list (indices_in k boxes) ids (sym (h.groups k) ∙ is)) (All-weaker (IsMember k box 0 (length boxes))
       (λ i. (i < length boxes) × (group_of i (box i) ≡ k)) (λ i p. (p.1, p.2)) _ (members_each k box 0 (length boxes) boxes (omega arith) are));
-  once = λ k ids is. rw (is_list (members_of k boxes) ids (sym (h.groups k) ∙ is)) (members_once k box 0 (length boxes) boxes (omega arith) are);
-  there = λ i low. rw (h.groups (group_of i (box i))) (in_list (members_of (group_of i (box i)) boxes) i (among i low));
+  once = λ k ids is. rw (is_list (indices_in k boxes) ids (sym (h.groups k) ∙ is)) (members_once k box 0 (length boxes) boxes (omega arith) are);
+  there = λ i low. rw (h.groups (group_of i (box i))) (in_list (indices_in (group_of i (box i)) boxes) i (among i low));
 }
   where
     box : ℕ → RpBox
@@ -253,7 +271,7 @@ collected_held boxes d all h = record {
     in_list [] i c = absurd (none_in i c)
     in_list (j ∷ ids) i c = c
 
-    among : (i : ℕ) → i < length boxes → Contains (members_of (group_of i (box i)) boxes) i
+    among : (i : ℕ) → i < length boxes → Contains (indices_in (group_of i (box i)) boxes) i
     among i low =
         let at = get_or-enumerate_from 0 boxes i (i, d) low in
         let here : 0 + i ≡ i = omega arith in
@@ -267,14 +285,14 @@ abbrev AreSame : List ℕ → List ℕ → Type 0
 AreSame xs ys = AllZip (λ x y. nat_cmp x y ≡ Equal) xs ys
 
 -- collections of the same boxes are alike
-pub collected_alike : (boxes : List RpBox) (all other : Collection ℕ ℕ) → IsCollected boxes all → IsCollected boxes other
-    → AreCollectionsAlike group_order nat_cmp all other
-collected_alike boxes all other h g = record {
+pub collected_alike : (boxes : List RpBox) (exclusions : List RpExclusion) (all other : Collection ℕ ℕ) → IsCollected boxes exclusions all
+    → IsCollected boxes exclusions other → AreCollectionsAlike group_order nat_cmp all other
+collected_alike boxes exclusions all other h g = record {
   sizes = rw (h.sizes, g.sizes) (AllZip-itself (λ x y. (nat_cmp x.0 y.0 ≡ Equal) × (x.1 ≡ y.1))
       (λ x. (same_number x.0, refl)) (enumerate_from 0 (map box_size boxes)));
   groups = maps_alike group_order group_order_total AreSame all.groups other.groups h.ascend g.ascend
-      (λ k. rw (h.groups k, g.groups k) (options_alike (unless_empty (members_of k boxes))));
-  excluded = λ a b. rw (h.partners, g.partners) refl;
+      (λ k. rw (h.groups k, g.groups k) (options_alike (unless_empty (indices_in k boxes))));
+  excluded = λ a b. h.excluded a b ∙ sym (g.excluded a b);
 }
   where
     same_number : (n : ℕ) → nat_cmp n n ≡ Equal
@@ -283,3 +301,53 @@ collected_alike boxes all other h g = record {
     options_alike : (o : Option (List ℕ)) → AreOptionsAlike AreSame o o
     options_alike None = tt
     options_alike (Some ids) = AllZip-itself (λ x y. nat_cmp x y ≡ Equal) same_number ids
+
+-- what is packed of the one is packed of the other
+same_entries : (xs ys : List (Group ℕ ℕ × List ℕ)) → AllZip (λ x y. (group_order x.0 y.0 ≡ Equal) × (x.1 ≡ y.1)) xs ys → xs ≡ ys
+same_entries [] [] h = refl
+same_entries [] (y ∷ ys) h = absurd h
+same_entries (x ∷ xs) [] h = absurd h
+same_entries (x ∷ xs) (y ∷ ys) h =
+    let key : x.0 ≡ y.0 = exact_group x.0 y.0 (ap is_eq h.0.0) in
+    let first : x ≡ y = ap (λ k. (k, x.1)) key ∙ ap (λ l. (y.0, l)) h.0.1 in
+    ap (λ z. z ∷ xs) first ∙ ap (λ zs. y ∷ zs) (same_entries xs ys h.1)
+
+same_groups : (boxes : List RpBox) (exclusions : List RpExclusion) (all other : Collection ℕ ℕ) → IsCollected boxes exclusions all
+    → IsCollected boxes exclusions other → all.groups ≡ other.groups
+same_groups boxes exclusions all other h g = same_entries all.groups other.groups
+    (maps_alike group_order group_order_total (λ x y. x ≡ y) all.groups other.groups h.ascend g.ascend
+    (λ k. rw (h.groups k, g.groups k) (options_same (unless_empty (indices_in k boxes)))))
+  where
+    options_same : (o : Option (List ℕ)) → AreOptionsAlike (λ x y. x ≡ y) o o
+    options_same None = tt
+    options_same (Some ids) = refl
+
+pub done_again : (rules : Rules ℕ ℕ) (boxes : List RpBox) (exclusions : List RpExclusion) (all other : Collection ℕ ℕ)
+    → IsCollected boxes exclusions all → IsCollected boxes exclusions other
+    → (old new : List (ℕ × Bin)) (placements : List (Placement ℕ ℕ)) → PackingDone group_order rules all old placements new
+    → PackingDone group_order rules other old placements new
+done_again rules boxes exclusions all other h g old new placements done = record {
+  group_order = done.group_order;
+  bin_order = done.bin_order;
+  groups = done.groups;
+  by_groups = rw (← sizes, ← groups) done.by_groups;
+  by_bins = done.by_bins;
+  listed = rw (← sizes, ← groups) done.listed;
+  homes = done.homes;
+  tests = done.tests;
+  placed = subst (λ excludes. AreAllPlaced rules excludes (map (λ o. o.1) done.bin_order) done.groups (at_start old) placements
+      (record { bins = new; homes = done.homes }) done.tests) excluded done.placed;
+}
+  where
+    sizes : all.sizes ≡ other.sizes
+    sizes = h.sizes ∙ sym g.sizes
+
+    groups : all.groups ≡ other.groups
+    groups = same_groups boxes exclusions all other h g
+
+    pairs : are_excluded group_order all.partners ≡ are_excluded group_order other.partners
+    pairs = fun_ext (λ a. fun_ext (λ b. h.excluded a b ∙ sym (g.excluded a b)))
+
+    excluded : excludes_by group_order rules.bin_cmp all.partners ≡ excludes_by group_order rules.bin_cmp other.partners
+    excluded = ap (λ (are : Group ℕ ℕ → Group ℕ ℕ → Bool). λ (homes : List (Group ℕ ℕ × ℕ)) (group : Group ℕ ℕ) (id : ℕ).
+        list_any (λ home. are group home.0 && is_at (rules.bin_cmp id) home.1) homes) pairs

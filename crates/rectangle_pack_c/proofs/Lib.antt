@@ -4,6 +4,7 @@ pub mod OrderLemmas
 pub mod WholeLemmas
 pub mod CollectedLemmas
 pub mod LoopLemmas
+pub mod FaultLemmas
 pub mod PlacedLemmas
 pub mod AnswerLemmas
 pub mod SessionLemmas

@@ -3,19 +3,23 @@ use Rattle.rectangle_pack_c.proofs.Std.{◌≡◌, ◌≢◌, ℕ, ◌+◌, ◌<
 use Rattle.rectangle_pack_c.proofs.Std.{AllPairs, map, Some, slice_get, enumerate_from, IsStrictlySortedBy, Ordering, Equal, keys_of, nat_cmp, insert_entry}
 use Rattle.rectangle_pack_c.proofs.Std.{nat_tests, take_more, length-map, length-take, length-take-le, length-set, get_or_default, map-append, get_or-set_same, length-append}
 use Rattle.rectangle_pack_c.proofs.Std.{get_or-set_other, slice_get-get_or, slice_get_within, get_or_from_slice_get, exact_unsigned, set}
-use Rattle.rectangle_pack_c.proofs.Std.{Option, None, MatchOption, Vec}
+use Rattle.rectangle_pack_c.proofs.Std.{Option, None, MatchOption, Vec, append_assoc}
 use Rattle.rectangle_pack.specs.declared.session.command.Outstanding.{Outstanding}
 use Rattle.rectangle_pack.specs.declared.session.command.Reply.TheVariants.{Done}
 use Rattle.rectangle_pack.specs.declared.grouped_rects_to_place.Group.{Group}
 use Rattle.rectangle_pack.specs.Bins.{Bin, new_bin}
 use Rattle.rectangle_pack.specs.Boxes.{Size}
-use Rattle.rectangle_pack.specs.Groups.{Collection, PushesAlone, PushesInto}
+use Rattle.rectangle_pack.specs.declared.grouped_rects_to_place.Group.TheVariants.{Grouped}
+use Rattle.rectangle_pack.specs.Groups.{Collection, PushesAlone, PushesInto, Excludes}
 use Rattle.rectangle_pack.specs.Session.{State, AddsBin}
 use Rattle.rectangle_pack_c.specs.declared.RpBin.{RpBin}
 use Rattle.rectangle_pack_c.specs.declared.RpBox.{RpBox}
-use Rattle.rectangle_pack_c.specs.Arguments.{bin_size, box_size, new_bins, group_order, IsCollected}
+use Rattle.rectangle_pack_c.specs.declared.collection.RpMember.{RpMember}
+use Rattle.rectangle_pack_c.specs.declared.collection.RpExclusion.{RpExclusion}
+use Rattle.rectangle_pack_c.specs.Arguments.{bin_size, box_size, new_bins}
+use Rattle.rectangle_pack_c.specs.Collections.{group_order, member_box, IsCollected}
 use Rattle.rectangle_pack_c.specs.private.Pushed.{Pushes}
-use Rattle.rectangle_pack_c.proofs.CollectedLemmas.{insert_last, collected_more}
+use Rattle.rectangle_pack_c.proofs.CollectedLemmas.{insert_last, collected_more, excluded_more}
 
 -- one more bin
 pub bins_more : (bins : List RpBin) (i : ℕ) (bin : RpBin) → i < length bins → get_or bins i bin ≡ bin → (key : ℕ) → nat_cmp i key ≡ Equal
@@ -29,11 +33,34 @@ bins_more bins i bin within is key same =
 
 -- one more box
 pub boxes_more : (boxes : List RpBox) (i : ℕ) (b : RpBox) (old new : Collection ℕ ℕ) → i < length boxes → get_or boxes i b ≡ b
-    → IsCollected (take i boxes) old → Pushes i b old new
-    → IsStrictlySortedBy group_order (keys_of new.groups) → IsCollected (take (i + 1) boxes) new
+    → IsCollected (take i boxes) [] old → Pushes i b old new
+    → IsStrictlySortedBy group_order (keys_of new.groups) → IsCollected (take (i + 1) boxes) [] new
 boxes_more boxes i b old new within is h p up =
     let long : i ≡ length (take i boxes) = omega (arith, length-take i boxes) in
-    rw (take_more boxes i b within, is) (collected_more (take i boxes) b old new h (subst (λ n. Pushes n b old new) long p) up)
+    rw (take_more boxes i b within, is) (collected_more (take i boxes) [] b old new h (subst (λ n. Pushes n b old new) long p) up)
+
+-- one more member, behind the boxes
+pub members_more : (boxes : List RpBox) (members : List RpMember) (i : ℕ) (m : RpMember) (b : RpBox) (old new : Collection ℕ ℕ) → i < length members
+    → get_or members i m ≡ m → b ≡ member_box boxes m
+    → IsCollected (boxes ++ map (member_box boxes) (take i members)) [] old → (n : ℕ) → n ≡ length boxes + i → Pushes n b old new
+    → IsStrictlySortedBy group_order (keys_of new.groups) → IsCollected (boxes ++ map (member_box boxes) (take (i + 1) members)) [] new
+members_more boxes members i m b old new within is box h n here p up =
+    let f = member_box boxes in
+    let was = boxes ++ map f (take i members) in
+    let long : n ≡ length was = omega (arith, here, length-append boxes (map f (take i members)), length-map (take i members) f, length-take i members) in
+    let taken : take (i + 1) members ≡ take i members ++ m ∷ [] = take_more members i m within ∙ ap (λ (x : RpMember). take i members ++ x ∷ []) is in
+    let more : boxes ++ map f (take (i + 1) members) ≡ was ++ b ∷ [] =
+    ap (λ ms. boxes ++ map f ms) taken ∙ ap (λ bs. boxes ++ bs) (map-append f (take i members) (m ∷ []) ∙ ap (λ x. map f (take i members) ++ x ∷ []) (sym box))
+    ∙ sym (append_assoc boxes (map f (take i members)) (b ∷ [])) in
+    rw more (collected_more was [] b old new h (subst (λ k. Pushes k b old new) long p) up)
+
+-- one more pair of groups that are excluded
+pub pairs_more : (boxes : List RpBox) (exclusions : List RpExclusion) (i : ℕ) (e : RpExclusion) (old new : Collection ℕ ℕ) → i < length exclusions
+    → get_or exclusions i e ≡ e → IsCollected boxes (take i exclusions) old → (R : Group ℕ ℕ → Group ℕ ℕ → Ordering) → R ≡ group_order
+    → Excludes R old new (Grouped e.one) (Grouped e.other) → IsCollected boxes (take (i + 1) exclusions) new
+pairs_more boxes exclusions i e old new within is h R same x =
+    rw (take_more exclusions i e within, is)
+    (excluded_more boxes (take i exclusions) e old new h (subst (λ r. Excludes r old new (Grouped e.one) (Grouped e.other)) same x))
 
 -- one more record
 pub written_more : {X : Type 0} (entry : Outstanding ℕ ℕ → X) (records : List (Outstanding ℕ ℕ)) (placements : List X) (i : ℕ) (r : Outstanding ℕ ℕ)

@@ -5,7 +5,7 @@ use mathlib.Core.Path.{fun_ext}
 use Rattle.rectangle_pack.specs.declared.grouped_rects_to_place.Group.{Group}
 use Rattle.rectangle_pack.specs.declared.grouped_rects_to_place.Group.TheVariants.{Ungrouped, Grouped}
 use Rattle.rectangle_pack_groups.proofs.lemmas.groups.GroupOrder.{groups_total}
-use Rattle.rectangle_pack_c.specs.Arguments.{group_order}
+use Rattle.rectangle_pack_c.specs.Collections.{group_order}
 
 pub nat_greater : (a b : ℕ) → b < a → nat_cmp a b ≡ Greater
 nat_greater a b h = sym (nat_cmp_is a b Greater h)

@@ -3,7 +3,7 @@ use Rattle.rectangle_pack_c.proofs.Std.{◌≡◌, ◌≢◌, ◌⊎◌, inl, in
 use Rattle.rectangle_pack_c.proofs.Std.{◌∙◌, arith, Option, Some, None, IsSome, IsSomeAnd, All, AllPairs, Contains, map, filter, slice_get, option_map}
 use Rattle.rectangle_pack_c.proofs.Std.{IsPermutation, IsDistinct, nat_cmp, eq_by_cmp, lookup, keys_of, is_at, nat_cmp_total, Contains-permutation, All-nil}
 use Rattle.rectangle_pack_c.proofs.Std.{All-cons, All-head, All-tail, All-weaker, All-contains, Contains-get_or, Contains-append_right, AllPairs-cons}
-use Rattle.rectangle_pack_c.proofs.Std.{nat_tests, IsDistinct-from_sorted, IsDistinct-IsPermutation, slice_get-map, slice_get_within, get_or_from_slice_get}
+use Rattle.rectangle_pack_c.proofs.Std.{subst, list_any, list_any_at, or_comm, nat_tests, IsDistinct-from_sorted, IsDistinct-IsPermutation, slice_get-map, slice_get_within, get_or_from_slice_get}
 use Rattle.rectangle_pack.specs.declared.grouped_rects_to_place.Group.{Group}
 use Rattle.rectangle_pack.specs.declared.grouped_rects_to_place.Group.TheVariants.{Grouped}
 use Rattle.rectangle_pack.specs.declared.pack.Placement.{Placement}
@@ -14,7 +14,8 @@ use Rattle.rectangle_pack.specs.Counting.{AreAllApart}
 use Rattle.rectangle_pack.specs.Closures.{Answers}
 use Rattle.rectangle_pack.specs.Groups.{Collection}
 use Rattle.rectangle_pack.specs.KeptBins.{locations_in}
-use Rattle.rectangle_pack.specs.Packing.{Rules, rules_by, Stage, at_start, excludes_by, PackingDone}
+use Rattle.rectangle_pack.specs.Exclusions.{are_excluded, is_listed}
+use Rattle.rectangle_pack.specs.Packing.{Rules, rules_by, Stage, at_start, excludes_by, AreKeptApart, PackingDone}
 use Rattle.rectangle_pack.specs.Placed.{ArePlacedWhole}
 use Rattle.rectangle_pack.specs.Session.{numbered}
 use Rattle.rectangle_pack_sections.proofs.lemmas.cuts.Counting.{apart_from_counts, filled_one}
@@ -26,10 +27,12 @@ use Rattle.rectangle_pack.proofs.lemmas.session.Keeps.{some_of}
 use Rattle.rectangle_pack_c.specs.declared.RpBin.{RpBin}
 use Rattle.rectangle_pack_c.specs.declared.RpBox.{RpBox}
 use Rattle.rectangle_pack_c.specs.declared.RpPlacement.{RpPlacement}
-use Rattle.rectangle_pack_c.specs.Arguments.{bin_size, box_size, new_bins, group_order, group_of, IsCollected}
-use Rattle.rectangle_pack_c.specs.Answers.{box_at, corner_of, Stands, ArePlaced}
+use Rattle.rectangle_pack_c.specs.declared.collection.RpExclusion.{RpExclusion}
+use Rattle.rectangle_pack_c.specs.Arguments.{bin_size, box_size, new_bins}
+use Rattle.rectangle_pack_c.specs.Collections.{group_order, group_of, are_pair, IsCollected}
+use Rattle.rectangle_pack_c.specs.Answers.{box_at, corner_of, Stands, ArePlaced, KeepApart}
 use Rattle.rectangle_pack_c.specs.private.Written.{as_placement}
-use Rattle.rectangle_pack_c.proofs.OrderLemmas.{nat_same, group_order_total}
+use Rattle.rectangle_pack_c.proofs.OrderLemmas.{nat_same, group_same, group_order_total}
 use Rattle.rectangle_pack_c.proofs.CollectedLemmas.{lookup_numbered, AreHeld, collected_held}
 use Rattle.rectangle_pack_c.proofs.WholeLemmas.{none_in, in_cases, in_kept, pairs_none, homed, placed_for, placed_once, one_home, home_of_key, key_listed}
 
@@ -100,6 +103,24 @@ pairs_kept test (p ∷ ps) a b h ca cb ta tb ne = by (test p) refl h (in_cases p
     by false t k (inr x) (inl y) ih = absurd (let yes : test p ≡ true = rw y tb in cc)
     by false t k (inr x) (inr y) ih = ih k x y
 
+-- of two elements one is before the other, or they are the same
+pair_of : {X : Type 0} (R : X → X → Type 0) (xs : List X) → AllPairs R xs → (x y : X) → Contains xs x → Contains xs y → (x ≡ y) ⊎ (R x y ⊎ R y x)
+pair_of R [] h x y cx cy = absurd (none_in x cx)
+pair_of {X} R (z ∷ zs) h x y cx cy = by (in_cases z zs x cx) (in_cases z zs y cy) (pair_of R zs (AllPairs-tail R z zs h) x y)
+  where
+    later : (w : X) → Contains zs w → R z w
+    later w c = All-contains (R z) zs w (AllPairs-head R z zs h) c
+
+    by : (z ≡ x) ⊎ Contains zs x → (z ≡ y) ⊎ Contains zs y → (Contains zs x → Contains zs y → (x ≡ y) ⊎ (R x y ⊎ R y x)) → (x ≡ y) ⊎ (R x y ⊎ R y x)
+    by (inl e) (inl f) ih = inl (sym e ∙ f)
+    by (inl e) (inr g) ih = inr (inl (subst (λ w. R w y) e (later y g)))
+    by (inr d) (inl f) ih = inr (inr (subst (λ w. R w x) f (later x d)))
+    by (inr d) (inr g) ih = ih d g
+
+-- what passes a test is found by it
+any_found : {X : Type 0} (test : X → Bool) (xs : List X) (x : X) → Contains xs x → test x ≡ true → list_any test xs ≡ true
+any_found test xs x (k, within, at) passes = list_any_at test xs k x within (ap test at ∙ passes)
+
 -- a look-up among new bins
 lookup_bin : (bins : List RpBin) (i : ℕ) (before : Bin) → lookup (is_at (nat_cmp i)) (new_bins bins) ≡ Some before
     → (bin : RpBin) × (slice_get bins i ≡ Some bin) × (before ≡ new_bin (bin_size bin))
@@ -107,14 +128,14 @@ lookup_bin bins i before is =
     let f : RpBin → Bin = λ b. new_bin (bin_size b) in
     found_map f (slice_get bins i) before (sym (slice_get-map f bins i) ∙ sym (lookup_numbered 0 (map f bins) i i (omega arith)) ∙ is)
 
-module _ (boxes : List RpBox) (all : Collection ℕ ℕ) (collected : IsCollected boxes all) (ps : List (Placement ℕ ℕ))
+module _ (boxes : List RpBox) (exclusions : List RpExclusion) (all : Collection ℕ ℕ) (collected : IsCollected boxes exclusions all) (ps : List (Placement ℕ ℕ))
     (homes : List (Group ℕ ℕ × ℕ)) (moved : IsPermutation (keys_of all.groups) (map (λ h. h.0) homes))
     (are : ArePlacedWhole nat_cmp nat_cmp group_order all.sizes all.groups homes ps) where
   no_box : RpBox
   no_box = record { width = 0; height = 0; depth = 0; group = 0 }
 
   held : AreHeld (λ i. get_or boxes i no_box) (length boxes) all
-  held = collected_held boxes no_box all collected
+  held = collected_held boxes exclusions no_box all collected
 
   -- each placement is that of a box
   known_id : (q : Placement ℕ ℕ) → Contains ps q → q.id < length boxes
@@ -203,6 +224,36 @@ module _ (boxes : List RpBox) (all : Collection ℕ ℕ) (collected : IsCollecte
         let one = one_home homes one_each ha hb in_a in_b (key_a ∙ ap (λ n. Grouped n) same ∙ sym key_b) in
         f.bin ∙ sym bin_a ∙ one ∙ bin_b ∙ sym g.bin
 
+    -- and two boxes of groups that are excluded are in different bins
+    pub keep_apart : All (λ e. e.one ≢ e.other) exclusions → AreKeptApart group_order nat_cmp all.partners homes → KeepApart boxes exclusions placements
+    keep_apart differ apart i j a b p q s t named others e inside one other same_bin =
+        let f = comes_from i a p s in
+        let g = comes_from j b q t in
+        let (ha, in_a, key_a, bin_a) = home_is i a f.from s.box f.inside f.id named in
+        let (hb, in_b, key_b, bin_b) = home_is j b g.from t.box g.inside g.id others in
+        let pair : are_pair (Grouped a.group) (Grouped b.group) e ≡ true = rw (one, other, group_same (Grouped e.one), group_same (Grouped e.other)) refl in
+        let there : are_excluded group_order all.partners (Grouped a.group) (Grouped b.group) ≡ true =
+        collected.excluded (Grouped a.group) (Grouped b.group) ∙ any_found (are_pair (Grouped a.group) (Grouped b.group)) exclusions e inside pair in
+        let forth : are_excluded group_order all.partners ha.0 hb.0 ≡ true = rw (key_a, key_b) there in
+        let back : are_excluded group_order all.partners hb.0 ha.0 ≡ true =
+        or_comm (is_listed group_order all.partners hb.0 ha.0) (is_listed group_order all.partners ha.0 hb.0) ∙ forth in
+        let bins : ha.1 ≡ hb.1 = bin_a ∙ sym f.bin ∙ same_bin ∙ g.bin ∙ sym bin_b in
+        by ha hb forth back bins (key_a, key_b) (pair_of (λ x y. are_excluded group_order all.partners x.0 y.0 ≡ true → is_at (nat_cmp x.1) y.1 ≡ false) homes apart ha hb in_a in_b)
+      where
+        unequal : e.one ≢ e.other
+        unequal = All-contains (λ (e : RpExclusion). e.one ≢ e.other) exclusions e differ inside
+
+        by : (x y : Group ℕ ℕ × ℕ) → are_excluded group_order all.partners x.0 y.0 ≡ true → are_excluded group_order all.partners y.0 x.0 ≡ true → x.1 ≡ y.1
+            → (x.0 ≡ Grouped a.group) × (y.0 ≡ Grouped b.group)
+            → (x ≡ y) ⊎ ((are_excluded group_order all.partners x.0 y.0 ≡ true → is_at (nat_cmp x.1) y.1 ≡ false)
+            ⊎ (are_excluded group_order all.partners y.0 x.0 ≡ true → is_at (nat_cmp y.1) x.1 ≡ false)) → ⊥
+        by x y forth back bins keys (inl same) =
+            let groups : Grouped a.group ≡ Grouped b.group = sym keys.0 ∙ ap (λ h. h.0) same ∙ keys.1 in
+            let numbers : a.group ≡ b.group = cc in
+            unequal (sym one ∙ numbers ∙ other)
+        by x y forth back bins keys (inr (inl h)) = absurd (let yes : is_at (nat_cmp x.1) y.1 ≡ true = rw bins (nat_same y.1) in let none = h forth in cc)
+        by x y forth back bins keys (inr (inr h)) = absurd (let yes : is_at (nat_cmp y.1) x.1 ≡ true = rw bins (nat_same y.1) in let none = h back in cc)
+
     module _ (bins : List RpBin) (may : Answers) (after : List (ℕ × Bin))
         (done : PackingDone group_order (rules_by nat_cmp nat_cmp may) all (new_bins bins) ps after) where
       -- the bin of a placement, and what it has become
@@ -247,8 +298,9 @@ module _ (boxes : List RpBox) (all : Collection ℕ ℕ) (collected : IsCollecte
           pairs_kept (λ p. is_at (nat_cmp p.bin) a.bin) ps a b (pairs_right AreApart s.changed.after.sections (locations_in nat_cmp ps a.bin) pairs) ca cb
           (nat_same a.bin) (rw same (nat_same a.bin)) ne
 
-      pub packed_placed : ArePlaced bins boxes placements
-      packed_placed = record {
+      pub packed_placed : length placements ≡ length boxes → ArePlaced bins boxes placements
+      packed_placed as_many = record {
+        as_many = as_many;
         inside = λ i b p s.
             let f = comes_from i b p s in
             let in_bin = stands_in f.from f.inside in

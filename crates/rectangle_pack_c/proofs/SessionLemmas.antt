@@ -1,33 +1,37 @@
--- What a session's answer to a packing says of the boxes of a C caller: in its order of groups and by volume, and of the
--- placements that are written.
-use Rattle.rectangle_pack_c.proofs.Std.{◌≡◌, ◌≢◌, ◌⊎◌, inl, inr, ℕ, ◌+◌, ◌-◌, ◌<◌, ◌≤◌, List, [], ◌∷◌, ◌++◌, length, take, drop, refl, ap, sym, ◌∙◌, subst}
-use Rattle.rectangle_pack_c.proofs.Std.{arith, length-append, All, AllPairs, Contains, None, Some, map, slice_get, option_map, nat_cmp, Ordering, lookup, is_at}
-use Rattle.rectangle_pack_c.proofs.Std.{drop-append_seam, nat_cmp_total, take_all, All-weaker, All-contains, Contains-append_right, slice_get-map}
+-- What a session's answer to a packing says of the boxes of a C caller, and of the placements that are written.
+use Rattle.rectangle_pack_c.proofs.Std.{◌≡◌, ◌≢◌, ◌⊎◌, inl, inr, ℕ, zero, suc, ◌+◌, ◌-◌, ◌<◌, ◌≤◌, List, [], ◌∷◌, ◌++◌, length, take, drop, refl, ap, sym, ◌∙◌, subst}
+use Rattle.rectangle_pack_c.proofs.Std.{arith, length-append, All, AllPairs, Contains, Option, None, Some, map, slice_get, option_map, nat_cmp, Ordering, lookup, is_at, Result}
+use Rattle.rectangle_pack_c.proofs.Std.{drop-append_seam, take_all, All-weaker, All-contains, Contains-append_right, slice_get-map}
 use Rattle.rectangle_pack_c.proofs.OrderLemmas.{group_same}
+use Rattle.rectangle_pack_sections.specs.declared.box_size_heuristics.named.Heuristic.{Heuristic}
+use Rattle.rectangle_pack_sections.specs.declared.box_size_heuristics.named.Heuristic.TheVariants.{Volume}
 use Rattle.rectangle_pack.specs.declared.grouped_rects_to_place.Group.{Group}
 use Rattle.rectangle_pack.specs.declared.pack.Placement.{Placement}
 use Rattle.rectangle_pack.specs.declared.session.command.Outstanding.{Outstanding}
 use Rattle.rectangle_pack.specs.declared.session.command.Packed.{Packed as Numbers}
-use Rattle.rectangle_pack.specs.declared.session.command.Reply.TheVariants.{Packed, Refused}
+use Rattle.rectangle_pack.specs.declared.session.command.Reply.{Reply}
+use Rattle.rectangle_pack.specs.declared.session.command.Reply.TheVariants.{Done, Packed, Refused}
 use Rattle.rectangle_pack.specs.declared.session.command.SessionError.{SessionError}
 use Rattle.rectangle_pack.specs.declared.session.command.SessionError.TheVariants.{DuplicateBin, UnknownBin, UnknownPlacement, NumbersUsedUp, NotEnoughBinSpace}
 use Rattle.rectangle_pack.specs.declared.session.command.SessionError.TheVariants.{OutOfMemory}
-use Rattle.rectangle_pack.specs.Closures.{Answers}
+use Rattle.rectangle_pack.specs.Best.{named_rules}
 use Rattle.rectangle_pack.specs.Groups.{Collection}
-use Rattle.rectangle_pack.specs.Packing.{rules_by, excludes_by, PackingRefused}
 use Rattle.rectangle_pack.specs.Promise.{PlacesWhole}
-use Rattle.rectangle_pack.specs.Session.{State, IsKept, Packs, numbered}
-use Rattle.rectangle_pack_bins.proofs.lemmas.determinism.Either.{Includes, PackingDone-more, PackingRefused-more}
-use Rattle.rectangle_pack_bins.proofs.lemmas.packing.Refused.{taken_nowhere}
+use Rattle.rectangle_pack.specs.Session.{State, numbered}
+use Rattle.rectangle_pack.specs.SessionBest.{PacksBest, PacksBestAsPromised}
 use Rattle.rectangle_pack_c.specs.declared.RpBox.{RpBox}
 use Rattle.rectangle_pack_c.specs.declared.RpPlacement.{RpPlacement}
+use Rattle.rectangle_pack_c.specs.declared.collection.RpExclusion.{RpExclusion}
+use Rattle.rectangle_pack_c.specs.declared.collection.RpCollection.{RpCollection}
 use Rattle.rectangle_pack_c.specs.declared.session.RpOutstanding.{RpOutstanding}
-use Rattle.rectangle_pack_c.specs.Arguments.{group_order, IsCollected}
-use Rattle.rectangle_pack_c.specs.Answers.{Stands, corner_of, box_at, by_volume}
-use Rattle.rectangle_pack_c.specs.Sessions.{PacksBoxes, IsAt, record_of, AreOutstanding}
+use Rattle.rectangle_pack_c.specs.Collections.{group_order, all_boxes, IsCollected}
+use Rattle.rectangle_pack_c.specs.Answers.{Stands, corner_of, box_at}
+use Rattle.rectangle_pack_c.specs.Heuristics.{asked}
+use Rattle.rectangle_pack_c.specs.Sessions.{reply_status, ChangesAs, PacksCollection, IsAt, record_of, AreOutstanding, StandApart}
 use Rattle.rectangle_pack_c.specs.private.Written.{as_outstanding, AreWritten, NewAreWritten}
 use Rattle.rectangle_pack_c.proofs.WholeLemmas.{none_in, in_cases, in_first, in_later}
-use Rattle.rectangle_pack_c.proofs.PlacedLemmas.{records_each, placements_each, records_once, known_ids, placed_alone, comes_from, stand_together}
+use Rattle.rectangle_pack_c.proofs.AnswerLemmas.{only_one}
+use Rattle.rectangle_pack_c.proofs.PlacedLemmas.{records_each, placements_each, records_once, known_ids, placed_alone, comes_from, stand_together, keep_apart}
 
 -- what was put at the end of a list
 pub new_part : {X : Type 0} (old more all : List X) → all ≡ old ++ more → take (length all - length old) (drop (length old) all) ≡ more
@@ -92,14 +96,13 @@ same_number n (p ∷ ps) r s h g e =
     by (inr x) (inl y) ih = absurd (omega (arith, is_n s y, numbers_from (n + 1) ps r x, e))
     by (inr x) (inr y) ih = ih x y
 
--- where there is a group there is a box
-some_boxes : (boxes : List RpBox) (all : Collection ℕ ℕ) → IsCollected boxes all → 0 < length all.groups → 0 < length boxes
-some_boxes (b ∷ boxes) all collected some = omega arith
-some_boxes [] all collected some = absurd (none all.groups collected.groups some)
+-- where there are no boxes there are no groups
+pub no_groups : (exclusions : List RpExclusion) (all : Collection ℕ ℕ) → IsCollected [] exclusions all → all.groups ≡ []
+no_groups exclusions all collected = none all.groups collected.groups
   where
-    none : (groups : List (Group ℕ ℕ × List ℕ)) → ((group : Group ℕ ℕ) → lookup (is_at (group_order group)) groups ≡ None) → 0 < length groups → ⊥
-    none [] absent some = omega (arith, some)
-    none (g ∷ gs) absent some = let found : lookup (is_at (group_order g.0)) (g ∷ gs) ≡ Some g.1 = rw (group_same g.0) refl in
+    none : (groups : List (Group ℕ ℕ × List ℕ)) → ((group : Group ℕ ℕ) → lookup (is_at (group_order group)) groups ≡ None) → groups ≡ []
+    none [] absent = refl
+    none (g ∷ gs) absent = let found : lookup (is_at (group_order g.0)) (g ∷ gs) ≡ Some g.1 = rw (group_same g.0) refl in
         let missing : lookup (is_at (group_order g.0)) (g ∷ gs) ≡ None = absent g.0 in absurd (let both : Some g.1 ≡ None = sym found ∙ missing in cc)
 
 -- what is written of a box is its record
@@ -111,121 +114,147 @@ is_record i b p r number id bin place =
     ∙ ap (λ n. record { number = r.number; id = r.id; bin = n; location = box_at b p.placement }) bin
     ∙ ap (λ n. record { number = r.number; id = r.id; bin = r.bin; location = n }) place
 
-module _ (R : Group ℕ ℕ → Group ℕ ℕ → Ordering) (may : Answers) (same : R ≡ group_order) (all : Collection ℕ ℕ) (old new : State ℕ ℕ) where
-  abbrev whole_by_order : PlacesWhole R (rules_by nat_cmp nat_cmp may) all old new → PlacesWhole group_order (rules_by nat_cmp nat_cmp may) all old new
-  whole_by_order h = subst (λ r. PlacesWhole r (rules_by nat_cmp nat_cmp may) all old new) same h
+-- what is written of a packing that is kept
+module _ (boxes : List RpBox) (exclusions : List RpExclusion) (all : Collection ℕ ℕ) (collected : IsCollected boxes exclusions all) (best : Heuristic)
+    (old new : State ℕ ℕ) (made : PlacesWhole group_order (named_rules nat_cmp nat_cmp best) all old new) where
+  abbrev pub new_records : List (Outstanding ℕ ℕ)
+  new_records = numbered old.next made.placements
 
-  module _ (includes : Includes may by_volume) (boxes : List RpBox) (collected : IsCollected boxes all) where
-    -- a packing that is kept is one by volume
-    pub packed_by_volume : (numbers : Numbers) → Packs R (rules_by nat_cmp nat_cmp may) all old (Packed numbers) new
-        → PlacesWhole R (rules_by nat_cmp nat_cmp may) all old new
-        → PacksBoxes boxes old (Packed numbers) new
-    packed_by_volume numbers (low, kept) whole =
-        let k = subst (λ r. IsKept r (rules_by nat_cmp nat_cmp may) all old numbers new) same kept in
-        let w = whole_by_order whole in (
-          all,
-          collected,
-          (
-            low,
-            record {
-              placements = k.placements;
-              done = PackingDone-more nat_cmp nat_cmp may by_volume includes group_order (excludes_by group_order nat_cmp all.partners) all old.bins
-                  k.placements new.bins k.done;
-              counted = k.counted;
-              first = k.first;
-              count = k.count;
-              outstanding = k.outstanding;
-              next = k.next;
-            },
-          ),
-          record { placements = w.placements; outstanding = w.outstanding; homes = w.homes; groups = w.groups; whole = w.whole; apart = w.apart },
-        )
+  pub records_are : new.outstanding ≡ old.outstanding ++ new_records
+  records_are = made.outstanding
 
-    -- and so is one that is refused
-    pub refused_by_volume : (error : SessionError) → Packs R (rules_by nat_cmp nat_cmp may) all old (Refused error) new
-        → PacksBoxes boxes old (Refused error) new
-    refused_by_volume DuplicateBin h = absurd h
-    refused_by_volume UnknownBin h = absurd h
-    refused_by_volume UnknownPlacement h = absurd h
-    refused_by_volume NumbersUsedUp h = (all, collected, h, tt)
-    refused_by_volume NotEnoughBinSpace (low, left, refused, as_before) =
-        let here = subst (λ r. PackingRefused r (rules_by nat_cmp nat_cmp may) all old.bins left) same refused in
-        let more = PackingRefused-more nat_cmp nat_cmp may by_volume includes group_order
-        (excludes_by group_order nat_cmp all.partners) all old.bins left here in (
-          all,
-          collected,
-          (low, left, more, as_before),
-          record { left = left; refused = more; each = taken_nowhere group_order (rules_by nat_cmp nat_cmp by_volume) nat_cmp_total all old.bins left more },
-        )
-    refused_by_volume OutOfMemory (low, some, as_before) = (some_boxes boxes all collected some, as_before)
+  -- the new records have indices of boxes as ids, each once
+  pub new_ids : All (λ r. r.id < length boxes) new_records
+  new_ids = records_each (λ id p. id < length boxes) old.next made.placements
+      (known_ids boxes exclusions all collected made.placements made.homes made.groups made.whole)
 
-  -- what is written of a packing that is kept
-  module _ (boxes : List RpBox) (collected : IsCollected boxes all) (promised : PlacesWhole R (rules_by nat_cmp nat_cmp may) all old new) where
-    abbrev made : PlacesWhole group_order (rules_by nat_cmp nat_cmp may) all old new
-    made = whole_by_order promised
+  pub new_once : AllPairs (λ r s. r.id ≢ s.id) new_records
+  new_once = records_once old.next made.placements (placed_alone boxes exclusions all collected made.placements made.homes made.groups made.whole)
 
-    abbrev pub new_records : List (Outstanding ℕ ℕ)
-    new_records = numbered old.next made.placements
+  module _ (outs : List RpOutstanding) (written : AreWritten as_outstanding new_records outs) where
+    abbrev placement : RpOutstanding → RpPlacement
+    placement o = o.placement
 
-    pub records_are : new.outstanding ≡ old.outstanding ++ new_records
-    records_are = made.outstanding
+    stood : All (λ p. slice_get (map placement outs) p.id ≡ Some (corner_of p.bin p.location)) made.placements
+    stood = placements_each (λ id q. slice_get (map placement outs) id ≡ Some q) old.next made.placements
+        (All-weaker (λ (r : Outstanding ℕ ℕ). slice_get outs r.id ≡ Some (as_outstanding r))
+        (λ r. slice_get (map placement outs) r.id ≡ Some (corner_of r.bin r.location))
+        (λ r at. slice_get-map placement outs r.id ∙ ap (option_map placement) at) new_records written)
 
-    -- the new records have indices of boxes as ids, each once
-    pub new_ids : All (λ r. r.id < length boxes) new_records
-    new_ids = records_each (λ id p. id < length boxes) old.next made.placements
-        (known_ids boxes all collected made.placements made.homes made.groups made.whole)
+    standing : (i : ℕ) (b : RpBox) (p : RpOutstanding) → IsAt boxes outs i b p → Stands boxes (map placement outs) i b p.placement
+    standing i b p a = record { box = a.box; at = slice_get-map placement outs i ∙ ap (option_map placement) a.at }
 
-    pub new_once : AllPairs (λ r s. r.id ≢ s.id) new_records
-    new_once = records_once old.next made.placements (placed_alone boxes all collected made.placements made.homes made.groups made.whole)
+    -- the record of a box
+    found : (i : ℕ) (b : RpBox) (p : RpOutstanding) → IsAt boxes outs i b p → Contains new_records (record_of i b p) × (old.next ≤ p.number)
+    found i b p a =
+        let f = comes_from boxes exclusions all collected made.placements made.homes made.groups made.whole (map placement outs) stood i b
+        p.placement (standing i b p a) in
+        let (r, inside, id, bin, location, low) = found_number old.next made.placements f.from f.inside in
+        let r_id : r.id ≡ i = id ∙ f.id in
+        let at : slice_get outs r.id ≡ Some (as_outstanding r) = All-contains
+        (λ (r : Outstanding ℕ ℕ). slice_get outs r.id ≡ Some (as_outstanding r)) new_records r written inside in
+        let both : Some p ≡ Some (as_outstanding r) = sym a.at ∙ rw r_id at at in
+        let p_is : p ≡ as_outstanding r = cc in
+        let number : p.number ≡ r.number = ap (λ (o : RpOutstanding). o.number) p_is in
+        let place : box_at b p.placement ≡ r.location = f.location ∙ sym location in
+        let in_bin : p.placement.bin ≡ r.bin = f.bin ∙ sym bin in
+        let same_record : record_of i b p ≡ r = is_record i b p r number r_id in_bin place in
+        (rw same_record inside, rw number low)
 
-    module _ (outs : List RpOutstanding) (written : AreWritten as_outstanding new_records outs) where
-      abbrev placement : RpOutstanding → RpPlacement
-      placement o = o.placement
+    pub are_outstanding : length outs ≡ length boxes → AreOutstanding boxes outs old new
+    are_outstanding as_many = record {
+      as_many = as_many;
+      outstanding = λ i b p a. rw records_are (Contains-append_right old.outstanding new_records (record_of i b p) (found i b p a).0);
+      fresh = λ i b p a. (found i b p a).1;
+      apart = λ i j a b p q s t differ same.
+          differ (ap (λ (r : Outstanding ℕ ℕ). r.id)
+          (same_number old.next made.placements (record_of i a p) (record_of j b q) (found i a p s).0 (found j b q t).0 same));
+      together = λ i j a b p q s t named same.
+          stand_together boxes exclusions all collected made.placements made.homes made.groups made.whole (map placement outs) stood i j a b p.placement q.placement
+          (standing i a p s) (standing j b q t) named same;
+    }
 
-      stood : All (λ p. slice_get (map placement outs) p.id ≡ Some (corner_of p.bin p.location)) made.placements
-      stood = placements_each (λ id q. slice_get (map placement outs) id ≡ Some q) old.next made.placements
-          (All-weaker (λ (r : Outstanding ℕ ℕ). slice_get outs r.id ≡ Some (as_outstanding r))
-          (λ r. slice_get (map placement outs) r.id ≡ Some (corner_of r.bin r.location))
-          (λ r at. slice_get-map placement outs r.id ∙ ap (option_map placement) at) new_records written)
+    pub stand_apart : All (λ e. e.one ≢ e.other) exclusions → StandApart boxes exclusions outs
+    stand_apart differ = keep_apart boxes exclusions all collected made.placements made.homes made.groups made.whole (map placement outs) stood differ made.apart
 
-      standing : (i : ℕ) (b : RpBox) (p : RpOutstanding) → IsAt boxes outs i b p → Stands boxes (map placement outs) i b p.placement
-      standing i b p a = record { box = a.box; at = slice_get-map placement outs i ∙ ap (option_map placement) a.at }
+-- the same of a packing that the reply says was kept
+module _ (heuristic : ℕ) (boxes : List RpBox) (exclusions : List RpExclusion) (chosen : ℕ) (old new : State ℕ ℕ) (numbers : Numbers)
+    (packs : PacksCollection heuristic boxes exclusions chosen old (Packed numbers) new) (outs : List RpOutstanding)
+    (written : NewAreWritten as_outstanding old new outs) where
+  at_end : AreWritten as_outstanding (new_records boxes exclusions packs.0 packs.2 packs.1 old new packs.5) outs
+  at_end = subst (λ rs. AreWritten as_outstanding rs outs)
+      (new_entries old.outstanding (new_records boxes exclusions packs.0 packs.2 packs.1 old new packs.5) new.outstanding
+      (records_are boxes exclusions packs.0 packs.2 packs.1 old new packs.5)) written
 
-      -- the record of a box
-      found : (i : ℕ) (b : RpBox) (p : RpOutstanding) → IsAt boxes outs i b p → Contains new_records (record_of i b p) × (old.next ≤ p.number)
-      found i b p a =
-          let f = comes_from boxes all collected made.placements made.homes made.groups made.whole (map placement outs) stood i b
-          p.placement (standing i b p a) in
-          let (r, inside, id, bin, location, low) = found_number old.next made.placements f.from f.inside in
-          let r_id : r.id ≡ i = id ∙ f.id in
-          let at : slice_get outs r.id ≡ Some (as_outstanding r) = All-contains
-          (λ (r : Outstanding ℕ ℕ). slice_get outs r.id ≡ Some (as_outstanding r)) new_records r written inside in
-          let both : Some p ≡ Some (as_outstanding r) = sym a.at ∙ rw r_id at at in
-          let p_is : p ≡ as_outstanding r = cc in
-          let number : p.number ≡ r.number = ap (λ (o : RpOutstanding). o.number) p_is in
-          let place : box_at b p.placement ≡ r.location = f.location ∙ sym location in
-          let in_bin : p.placement.bin ≡ r.bin = f.bin ∙ sym bin in
-          let same_record : record_of i b p ≡ r = is_record i b p r number r_id in_bin place in
-          (rw same_record inside, rw number low)
+  pub written_outstanding : length outs ≡ length boxes → AreOutstanding boxes outs old new
+  written_outstanding as_many = are_outstanding boxes exclusions packs.0 packs.2 packs.1 old new packs.5 outs at_end as_many
 
-      pub are_outstanding : length outs ≡ length boxes → AreOutstanding boxes outs old new
-      are_outstanding as_many = record {
-        as_many = as_many;
-        outstanding = λ i b p a. rw records_are (Contains-append_right old.outstanding new_records (record_of i b p) (found i b p a).0);
-        fresh = λ i b p a. (found i b p a).1;
-        apart = λ i j a b p q s t differ same.
-            differ (ap (λ (r : Outstanding ℕ ℕ). r.id)
-            (same_number old.next made.placements (record_of i a p) (record_of j b q) (found i a p s).0 (found j b q t).0 same));
-        together = λ i j a b p q s t named same.
-            stand_together boxes all collected made.placements made.homes made.groups made.whole (map placement outs) stood i j a b p.placement q.placement
-            (standing i a p s) (standing j b q t) named same;
-      }
+  pub written_apart : All (λ e. e.one ≢ e.other) exclusions → StandApart boxes exclusions outs
+  written_apart differ = stand_apart boxes exclusions packs.0 packs.2 packs.1 old new packs.5 outs at_end differ
 
--- the same of a packing by volume
-pub written_outstanding : (boxes : List RpBox) (old new : State ℕ ℕ) (numbers : Numbers) → PacksBoxes boxes old (Packed numbers) new
-    → (outs : List RpOutstanding) → NewAreWritten as_outstanding old new outs → length outs ≡ length boxes → AreOutstanding boxes outs old new
-written_outstanding boxes old new numbers (all, collected, kept, promised) outs written as_many =
-    let more = new_records group_order by_volume refl all old new boxes collected promised in
-    let are = records_are group_order by_volume refl all old new boxes collected promised in
-    are_outstanding group_order by_volume refl all old new boxes collected promised outs
-    (subst (λ rs. AreWritten as_outstanding rs outs) (new_entries old.outstanding more new.outstanding are) written) as_many
+-- of a packing by volume alone that heuristic is chosen
+pub by_volume : (boxes : List RpBox) (exclusions : List RpExclusion) (chosen : ℕ) (old new : State ℕ ℕ) (reply : Reply)
+    → PacksCollection 0 boxes exclusions chosen old reply new → PacksCollection 0 boxes exclusions 0 old reply new
+by_volume boxes exclusions chosen old new Done h = h
+by_volume boxes exclusions chosen old new (Packed numbers) (all, best, collected, number, packed, promised) =
+    let is : best ≡ Volume = only_one packed.2.before best Volume packed.2.after packed.2.listed in
+    (all, best, collected, rw is refl, packed, promised)
+by_volume boxes exclusions chosen old new (Refused NotEnoughBinSpace) h = h
+by_volume boxes exclusions chosen old new (Refused OutOfMemory) h = h
+by_volume boxes exclusions chosen old new (Refused DuplicateBin) h = h
+by_volume boxes exclusions chosen old new (Refused UnknownBin) h = h
+by_volume boxes exclusions chosen old new (Refused UnknownPlacement) h = h
+by_volume boxes exclusions chosen old new (Refused NumbersUsedUp) h = h
+
+-- of a packing that is refused no heuristic is chosen
+pub none_chosen : (heuristic : ℕ) (boxes : List RpBox) (exclusions : List RpExclusion) (chosen other : ℕ) (old new : State ℕ ℕ) (error : SessionError)
+    → PacksCollection heuristic boxes exclusions chosen old (Refused error) new → PacksCollection heuristic boxes exclusions other old (Refused error) new
+none_chosen heuristic boxes exclusions chosen other old new NotEnoughBinSpace h = h
+none_chosen heuristic boxes exclusions chosen other old new OutOfMemory h = h
+none_chosen heuristic boxes exclusions chosen other old new DuplicateBin h = h
+none_chosen heuristic boxes exclusions chosen other old new UnknownBin h = h
+none_chosen heuristic boxes exclusions chosen other old new UnknownPlacement h = h
+none_chosen heuristic boxes exclusions chosen other old new NumbersUsedUp h = h
+
+-- a session changes by volume as the collection of boxes alone says
+pub changes_by_volume : (c : RpCollection) (boxes : List RpBox) (chosen : ℕ) (old : Option (State ℕ ℕ)) (status : ℕ) (new : Option (State ℕ ℕ))
+    → all_boxes c ≡ boxes → c.exclusions.now ≡ []
+    → ChangesAs (PacksCollection 0 (all_boxes c) c.exclusions.now chosen) old status new → ChangesAs (PacksCollection 0 boxes [] 0) old status new
+changes_by_volume c boxes chosen old status new are none h = record {
+  before = h.before;
+  after = h.after;
+  reply = h.reply;
+  had = h.had;
+  has = h.has;
+  status_is = h.status_is;
+  changed = by_volume boxes [] chosen h.before h.after h.reply
+      (subst (λ es. PacksCollection 0 boxes es chosen h.before h.reply h.after) none
+      (subst (λ bs. PacksCollection 0 bs c.exclusions.now chosen h.before h.reply h.after) are h.changed));
+  always = h.always;
+}
+
+-- the status of want of memory is that of no other refusal
+pub is_memory : (error : SessionError) → reply_status (Refused error) ≡ 2 → error ≡ OutOfMemory
+is_memory NotEnoughBinSpace e = absurd (omega (arith, e))
+is_memory OutOfMemory e = refl
+is_memory DuplicateBin e = absurd (omega (arith, e))
+is_memory UnknownBin e = absurd (omega (arith, e))
+is_memory UnknownPlacement e = absurd (omega (arith, e))
+is_memory NumbersUsedUp e = absurd (omega (arith, e))
+
+pub some_entry : (m n : ℕ) → (m ≡ 0 → n ≡ 0 → ⊥) → 0 < m + n
+some_entry zero zero none = absurd (none refl refl)
+some_entry zero (suc n) none = omega arith
+some_entry (suc m) n none = omega arith
+
+-- what the library says in its order of groups, of the heuristics that a number asks for
+module _ (R : Group ℕ ℕ → Group ℕ ℕ → Ordering) (same : R ≡ group_order) (number : ℕ) (heuristics : List Heuristic) (is : asked number ≡ heuristics)
+    (all : Collection ℕ ℕ) (old new : State ℕ ℕ) (result : Result (Heuristic × Numbers) SessionError) where
+  pub packs_asked : PacksBest R nat_cmp nat_cmp heuristics all old result new → PacksBest group_order nat_cmp nat_cmp (asked number) all old result new
+  packs_asked h = subst (λ hs. PacksBest group_order nat_cmp nat_cmp hs all old result new) (sym is)
+      (subst (λ r. PacksBest r nat_cmp nat_cmp heuristics all old result new) same h)
+
+  pub promise_asked : PacksBestAsPromised R nat_cmp nat_cmp heuristics all old result new
+      → PacksBestAsPromised group_order nat_cmp nat_cmp (asked number) all old result new
+  promise_asked h = subst (λ hs. PacksBestAsPromised group_order nat_cmp nat_cmp hs all old result new) (sym is)
+      (subst (λ r. PacksBestAsPromised r nat_cmp nat_cmp heuristics all old result new) same h)

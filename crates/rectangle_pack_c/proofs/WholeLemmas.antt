@@ -9,7 +9,7 @@ use Rattle.rectangle_pack.specs.Boxes.{Size}
 use Rattle.rectangle_pack.specs.Placed.{ArePlacedWhole}
 use Rattle.rectangle_pack_sections.proofs.lemmas.util.Lists.{AllPairs-append, AllPairs-head, AllPairs-tail}
 use Rattle.rectangle_pack_groups.proofs.lemmas.util.Zips.{AllZip-back}
-use Rattle.rectangle_pack_c.specs.Arguments.{group_order}
+use Rattle.rectangle_pack_c.specs.Collections.{group_order}
 use Rattle.rectangle_pack_c.proofs.OrderLemmas.{exact_group, group_same}
 
 one_in : {X : Type 0} (x y : X) → Contains (x ∷ []) y → x ≡ y

@@ -1,18 +1,21 @@
 -- What a packing answers.
-use Rattle.std.specs.Prelude.{◌≡◌, ◌≢◌, ℕ, ◌<◌, List, length, All, Some, IsSomeAnd, slice_get}
+use Rattle.std.specs.Prelude.{◌≡◌, ◌≢◌, ℕ, ◌<◌, List, length, All, Contains, Some, IsSomeAnd, slice_get}
 use Rattle.std.specs.Ordering.{nat_cmp}
+use Rattle.rectangle_pack_sections.specs.declared.box_size_heuristics.named.Heuristic.{Heuristic}
 use Rattle.rectangle_pack.specs.declared.pack.Placement.{Placement}
+use Rattle.rectangle_pack.specs.Best.{IsBestOf, named_rules, use_of}
 use Rattle.rectangle_pack.specs.Bins.{Bin}
-use Rattle.rectangle_pack.specs.Boxes.{Size, Cuboid, IsInside, AreApart, IsU32, volume_of}
-use Rattle.rectangle_pack.specs.Closures.{Answers}
+use Rattle.rectangle_pack.specs.Boxes.{Cuboid, IsInside, AreApart}
 use Rattle.rectangle_pack.specs.Groups.{Collection}
-use Rattle.rectangle_pack.specs.Packing.{rules_by, PackingDone}
+use Rattle.rectangle_pack.specs.Packing.{PackingDone}
 use Rattle.rectangle_pack.specs.Promise.{NoBinTakes}
-use Rattle.rectangle_pack.specs.SmallestBox.{IsSmallestOrder}
 use Rattle.rectangle_pack_c.specs.declared.RpBin.{RpBin}
 use Rattle.rectangle_pack_c.specs.declared.RpBox.{RpBox}
 use Rattle.rectangle_pack_c.specs.declared.RpPlacement.{RpPlacement}
-use Rattle.rectangle_pack_c.specs.Arguments.{bin_size, box_size, new_bins, group_order, IsCollected}
+use Rattle.rectangle_pack_c.specs.declared.collection.RpExclusion.{RpExclusion}
+use Rattle.rectangle_pack_c.specs.Arguments.{bin_size, box_size, new_bins}
+use Rattle.rectangle_pack_c.specs.Collections.{group_order, IsCollected}
+use Rattle.rectangle_pack_c.specs.Heuristics.{heuristic_number}
 
 -- the box with its corner where the placement says
 abbrev pub box_at : RpBox → RpPlacement → Cuboid
@@ -27,8 +30,10 @@ pub record Stands (boxes : List RpBox) (placements : List RpPlacement) (i : ℕ)
   pub box : slice_get boxes i ≡ Some b
   pub at : slice_get placements i ≡ Some p
 
--- each box stands inside its bin; no two in one bin share a cell; those of one group are in one bin
+-- there are as many placements as boxes; each box stands inside its bin; no two in one bin share a cell; those of one group
+-- above 0 are in one bin
 pub record ArePlaced (bins : List RpBin) (boxes : List RpBox) (placements : List RpPlacement) : Type 0 where
+  pub as_many : length placements ≡ length boxes
   pub inside : (i : ℕ) (b : RpBox) (p : RpPlacement) → Stands boxes placements i b p
       → IsSomeAnd (slice_get bins p.bin) (λ bin. IsInside (bin_size bin) (box_at b p))
   pub apart : (i j : ℕ) (a b : RpBox) (p q : RpPlacement) → Stands boxes placements i a p → Stands boxes placements j b q
@@ -36,26 +41,33 @@ pub record ArePlaced (bins : List RpBin) (boxes : List RpBox) (placements : List
   pub together : (i j : ℕ) (a b : RpBox) (p q : RpPlacement) → Stands boxes placements i a p → Stands boxes placements j b q
       → 0 < a.group → a.group ≡ b.group → p.bin ≡ q.bin
 
--- the size is one of numbers of 32 bits, and the rate is its volume
-abbrev pub IsVolume : Size → ℕ → Type 0
-IsVolume size rate = IsU32 size × (rate ≡ volume_of size)
+-- two boxes whose groups, above 0, are excluded are in different bins
+abbrev pub KeepApart : List RpBox → List RpExclusion → List RpPlacement → Type 0
+KeepApart boxes exclusions placements =
+    (i j : ℕ) (a b : RpBox) (p q : RpPlacement) → Stands boxes placements i a p → Stands boxes placements j b q
+    → 0 < a.group → 0 < b.group → (e : RpExclusion) → Contains exclusions e → a.group ≡ e.one → b.group ≡ e.other → p.bin ≢ q.bin
 
--- the volume as the heuristic, and the order of smallest boxes by it
-abbrev pub by_volume : Answers
-by_volume = record { rate = IsVolume; prefer = λ first second r. IsSmallestOrder IsVolume first second r }
+module _ (bins : List RpBin) (boxes : List RpBox) (exclusions : List RpExclusion) where
+  -- the placements are those of a done packing of the boxes into the bins with this heuristic, each at the index of its box
+  pub record IsDonePacking (heuristic : Heuristic) (placements : List RpPlacement) : Type 0 where
+    pub all : Collection ℕ ℕ
+    pub collected : IsCollected boxes exclusions all
+    pub made : List (Placement ℕ ℕ)
+    pub left : List (ℕ × Bin)
+    pub done : PackingDone group_order (named_rules nat_cmp nat_cmp heuristic) all (new_bins bins) made left
+    pub written : All (λ p. slice_get placements p.id ≡ Some (corner_of p.bin p.location)) made
+    pub as_many : length placements ≡ length boxes
 
--- the placements are those of a done packing of the boxes into the bins, each at the index of its box
-pub record IsDonePacking (bins : List RpBin) (boxes : List RpBox) (placements : List RpPlacement) : Type 0 where
-  pub all : Collection ℕ ℕ
-  pub collected : IsCollected boxes all
-  pub made : List (Placement ℕ ℕ)
-  pub left : List (ℕ × Bin)
-  pub done : PackingDone group_order (rules_by nat_cmp nat_cmp by_volume) all (new_bins bins) made left
-  pub written : All (λ p. slice_get placements p.id ≡ Some (corner_of p.bin p.location)) made
-  pub as_many : length placements ≡ length boxes
+  -- the placements are those of such a packing with the best of these heuristics, whose number is `chosen`
+  pub record IsBestPacking (heuristics : List Heuristic) (chosen : ℕ) (placements : List RpPlacement) : Type 0 where
+    pub best : Heuristic
+    pub number : chosen ≡ heuristic_number best
+    pub packing : IsDonePacking best placements
+    pub best_of : IsBestOf group_order nat_cmp nat_cmp packing.all (new_bins bins) heuristics best (use_of nat_cmp packing.made (new_bins bins))
 
--- for some group of the boxes no bin takes all of its boxes, as the groups before it left the bins
-pub record IsRefusedPacking (bins : List RpBin) (boxes : List RpBox) : Type 0 where
-  pub all : Collection ℕ ℕ
-  pub collected : IsCollected boxes all
-  pub refused : NoBinTakes group_order (rules_by nat_cmp nat_cmp by_volume) all (new_bins bins)
+  -- with this heuristic, for some group of the boxes each bin is excluded or does not take all of its boxes, as the groups
+  -- before it left the bins
+  pub record IsRefusedPacking (heuristic : Heuristic) : Type 0 where
+    pub all : Collection ℕ ℕ
+    pub collected : IsCollected boxes exclusions all
+    pub refused : NoBinTakes group_order (named_rules nat_cmp nat_cmp heuristic) all (new_bins bins)

@@ -1,4 +1,6 @@
 pub mod Arguments
+pub mod Heuristics
+pub mod Collections
 pub mod Answers
 pub mod Handle
 pub mod Reading

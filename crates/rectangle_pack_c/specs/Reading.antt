@@ -24,19 +24,20 @@ abbrev pub standing_of : Outstanding ℕ ℕ → RpStanding
 standing_of o = record { number = o.number; index = o.id; bin = o.bin; section = section_of o.location }
 
 -- a list goes to an array: how many entries it has is written; where the array holds them, they stand at its beginning, and
--- the rest of it is as before; and where it is too short, it is as before
+-- the rest of it is as before (`RP_DONE`); and where it is too short, it is as before (`RP_SHORT_ARRAY`)
 pub record Tells {X : Type 0} (there : List X) (status : ℕ) (old new : List X) (count : ℕ) : Type 0 where
   pub counted : count ≡ length there
   pub enough : length there ≤ length old → (status ≡ 0) × (new ≡ there ++ drop (length there) old)
   pub short : length old < length there → (status ≡ 8) × (new ≡ old)
 
--- the free sections of a bin go to an array; or the bin is not there, and nothing is written
-abbrev pub TellsSections : State ℕ ℕ → (bin status : ℕ) (old new : List RpSection) (before after : ℕ) → Type 0
-TellsSections state bin status old new before after =
-    MatchOption (lookup (is_at (nat_cmp bin)) state.bins) ((status ≡ 5) × (new ≡ old) × (after ≡ before))
-    (λ (b : Bin). Tells (map section_of b.sections) status old new after)
+-- the free sections of a bin go to an array; or the bin is not there (`RP_UNKNOWN_BIN`), and nothing is written
+abbrev pub TellsSections : State ℕ ℕ → (bin status : ℕ) (old new : List RpSection) (old_count new_count : ℕ) → Type 0
+TellsSections state bin status old new old_count new_count =
+    MatchOption (lookup (is_at (nat_cmp bin)) state.bins) ((status ≡ 5) × (new ≡ old) × (new_count ≡ old_count))
+    (λ (b : Bin). Tells (map section_of b.sections) status old new new_count)
 
--- whether the sections of a bin were joined is said, as 1 or 0; or the bin is not there, and nothing is written
+-- whether a call that joins sections was done for a bin is said, as 1 or 0; or the bin is not there (`RP_UNKNOWN_BIN`), and
+-- nothing is written
 abbrev pub TellsCoalesced : State ℕ ℕ → (bin status old new : ℕ) → Type 0
 TellsCoalesced state bin status old new =
     MatchOption (lookup (is_at (nat_cmp bin)) state.bins) ((status ≡ 5) × (new ≡ old))
@@ -47,12 +48,13 @@ abbrev pub step_of : CutStep → RpCutStep
 step_of (CutAt axis place) = record { axis = axis_rank axis; place = place }
 step_of LeafHere = record { axis = 3; place = 0 }
 
--- the cutting plan of a bin goes to an array; or no tree of cuts has the boxes of the bin as its leaves; or memory is refused; or
--- the bin is not there; and but for the first nothing is written
-abbrev pub TellsPlan : State ℕ ℕ → (bin status : ℕ) (old new : List RpCutStep) (before after : ℕ) → Type 0
-TellsPlan state bin status old new before after =
-    MatchOption (lookup (is_at (nat_cmp bin)) state.bins) ((status ≡ 5) × (new ≡ old) × (after ≡ before))
+-- the cutting plan of a bin goes to an array; or no tree of cuts has the boxes of the bin as its leaves (`RP_NO_PLAN`); or the
+-- answer is want of memory (`RP_OUT_OF_MEMORY`); or the bin is not there (`RP_UNKNOWN_BIN`). Nothing is written but in the first
+-- case
+abbrev pub TellsPlan : State ℕ ℕ → (bin status : ℕ) (old new : List RpCutStep) (old_count new_count : ℕ) → Type 0
+TellsPlan state bin status old new old_count new_count =
+    MatchOption (lookup (is_at (nat_cmp bin)) state.bins) ((status ≡ 5) × (new ≡ old) × (new_count ≡ old_count))
     (λ (b : Bin). ((plan : List CutStep) × IsCutPlan (boxes_of nat_cmp state.outstanding bin b) (whole b.size) plan
-    × Tells (map step_of plan) status old new after)
-    ⊎ ((status ≡ 9) × ¬ IsFromCuts (boxes_of nat_cmp state.outstanding bin b) (whole b.size) × (new ≡ old) × (after ≡ before))
-    ⊎ ((status ≡ 2) × (new ≡ old) × (after ≡ before)))
+    × Tells (map step_of plan) status old new new_count)
+    ⊎ ((status ≡ 9) × ¬ IsFromCuts (boxes_of nat_cmp state.outstanding bin b) (whole b.size) × (new ≡ old) × (new_count ≡ old_count))
+    ⊎ ((status ≡ 2) × (new ≡ old) × (new_count ≡ old_count)))

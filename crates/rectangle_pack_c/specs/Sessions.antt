@@ -1,9 +1,10 @@
 -- Calls of a session by its handle: what each answers, and what it makes of the session.
-use Rattle.std.specs.Prelude.{◌≡◌, ◌≢◌, ℕ, ◌+◌, ◌*◌, ◌^◌, ◌<◌, ◌≤◌, List, length, Contains, Option, Some, MatchOption, slice_get}
+use Rattle.std.specs.Prelude.{◌≡◌, ◌≢◌, ℕ, ◌+◌, ◌*◌, ◌^◌, ◌<◌, ◌≤◌, List, length, Contains, Option, Some, MatchOption, slice_get, map, Ok, Err}
 use Rattle.std.specs.Option.{option_map}
 use Rattle.std.specs.Ordering.{nat_cmp}
 use Rattle.std.specs.Map.{lookup}
 use Rattle.std.specs.BTreeMap.{is_at}
+use Rattle.rectangle_pack_sections.specs.declared.box_size_heuristics.named.Heuristic.{Heuristic}
 use Rattle.rectangle_pack.specs.declared.session.command.Outstanding.{Outstanding}
 use Rattle.rectangle_pack.specs.declared.session.command.Reply.{Reply}
 use Rattle.rectangle_pack.specs.declared.session.command.Reply.TheVariants.{Done, Packed, Refused}
@@ -12,16 +13,17 @@ use Rattle.rectangle_pack.specs.declared.session.command.SessionError.TheVariant
 use Rattle.rectangle_pack.specs.declared.session.stats.BinStats.{BinStats}
 use Rattle.rectangle_pack.specs.Bins.{Bin}
 use Rattle.rectangle_pack.specs.Groups.{Collection}
-use Rattle.rectangle_pack.specs.Packing.{rules_by}
-use Rattle.rectangle_pack.specs.Promise.{PacksAsPromised}
-use Rattle.rectangle_pack.specs.Session.{State, IsSession, Packs, outstanding_in}
+use Rattle.rectangle_pack.specs.Session.{State, IsSession, outstanding_in}
+use Rattle.rectangle_pack.specs.SessionBest.{PacksBest, PacksBestAsPromised}
 use Rattle.rectangle_pack.specs.Stats.{stats_of}
 use Rattle.rectangle_pack_c.specs.declared.RpBox.{RpBox}
 use Rattle.rectangle_pack_c.specs.declared.session.RpOutstanding.{RpOutstanding}
 use Rattle.rectangle_pack_c.specs.declared.session.RpVolume.{RpVolume}
 use Rattle.rectangle_pack_c.specs.declared.session.RpStats.{RpStats}
-use Rattle.rectangle_pack_c.specs.Arguments.{group_order, IsCollected}
-use Rattle.rectangle_pack_c.specs.Answers.{box_at, by_volume}
+use Rattle.rectangle_pack_c.specs.declared.collection.RpExclusion.{RpExclusion}
+use Rattle.rectangle_pack_c.specs.Collections.{group_order, IsCollected}
+use Rattle.rectangle_pack_c.specs.Heuristics.{asked, heuristic_number}
+use Rattle.rectangle_pack_c.specs.Answers.{box_at, KeepApart}
 
 -- a reply as a status: the one of the header under its name
 abbrev pub reply_status : Reply → ℕ
@@ -35,8 +37,7 @@ reply_status (Refused UnknownPlacement) = 6
 reply_status (Refused NumbersUsedUp) = 7
 
 -- the handle has a session before the call and after it; the status is that of a reply with which the session may have been
--- changed so; and of the session holds what always holds of one: each cell of each bin is in exactly one free section or
--- outstanding placement
+-- changed so; and of the session holds what always holds of one (`IsSession`)
 pub record ChangesAs (MayChange : State ℕ ℕ → Reply → State ℕ ℕ → Type 0) (old : Option (State ℕ ℕ)) (status : ℕ) (new : Option (State ℕ ℕ)) : Type 0 where
   pub before : State ℕ ℕ
   pub after : State ℕ ℕ
@@ -47,19 +48,25 @@ pub record ChangesAs (MayChange : State ℕ ℕ → Reply → State ℕ ℕ → 
   pub changed : MayChange before reply after
   pub always : IsSession nat_cmp after
 
--- as many placements as boxes, and an index of 32 bits for each box
+-- as many placements as boxes, and fewer than 2^32
 pub record AreAsMany (boxes : List RpBox) (placements : List RpOutstanding) : Type 0 where
   pub same : length placements ≡ length boxes
   pub few_boxes : length boxes < 2 ^ 32
 
--- the boxes are packed as a session packs their collection, by volume; or, if there is a box, the reply is want of memory,
--- and the session is as it was
-abbrev pub PacksBoxes : List RpBox → State ℕ ℕ → Reply → State ℕ ℕ → Type 0
-PacksBoxes boxes old (Refused OutOfMemory) new = (0 < length boxes) × (new ≡ old)
-PacksBoxes boxes old reply new =
-    (all : Collection ℕ ℕ) × IsCollected boxes all
-    × Packs group_order (rules_by nat_cmp nat_cmp by_volume) all old reply new
-    × PacksAsPromised group_order (rules_by nat_cmp nat_cmp by_volume) all old reply new
+-- the collection of the boxes is packed, or refused, as `PacksBest` says it of the heuristics that a number asks for; where it is
+-- packed, `chosen` is the number of the one that it was packed with; of want of memory only that the session is as it was; and
+-- `Done` does not come
+abbrev pub PacksCollection : (heuristic : ℕ) → List RpBox → List RpExclusion → (chosen : ℕ) → State ℕ ℕ → Reply → State ℕ ℕ → Type 0
+PacksCollection heuristic boxes exclusions chosen old (Packed numbers) new =
+    (all : Collection ℕ ℕ) × (best : Heuristic) × IsCollected boxes exclusions all × (chosen ≡ heuristic_number best)
+    × PacksBest group_order nat_cmp nat_cmp (asked heuristic) all old (Ok (best, numbers)) new
+    × PacksBestAsPromised group_order nat_cmp nat_cmp (asked heuristic) all old (Ok (best, numbers)) new
+PacksCollection heuristic boxes exclusions chosen old (Refused OutOfMemory) new = new ≡ old
+PacksCollection heuristic boxes exclusions chosen old (Refused error) new =
+    (all : Collection ℕ ℕ) × IsCollected boxes exclusions all
+    × PacksBest group_order nat_cmp nat_cmp (asked heuristic) all old (Err error) new
+    × PacksBestAsPromised group_order nat_cmp nat_cmp (asked heuristic) all old (Err error) new
+PacksCollection heuristic boxes exclusions chosen old Done new = ⊥
 
 -- box i is this one, and this is its placement, with its number
 pub record IsAt (boxes : List RpBox) (placements : List RpOutstanding) (i : ℕ) (b : RpBox) (p : RpOutstanding) : Type 0 where
@@ -70,8 +77,8 @@ pub record IsAt (boxes : List RpBox) (placements : List RpOutstanding) (i : ℕ)
 abbrev pub record_of : ℕ → RpBox → RpOutstanding → Outstanding ℕ ℕ
 record_of i b p = record { number = p.number; id = i; bin = p.placement.bin; location = box_at b p.placement }
 
--- each box is outstanding at its placement, under a number of its own that was not given before; those of one group are in
--- one bin
+-- each box is outstanding at its placement, under a number of its own that was not given before; those of one group above 0
+-- are in one bin
 pub record AreOutstanding (boxes : List RpBox) (placements : List RpOutstanding) (old new : State ℕ ℕ) : Type 0 where
   pub as_many : length placements ≡ length boxes
   pub outstanding : (i : ℕ) (b : RpBox) (p : RpOutstanding) → IsAt boxes placements i b p → Contains new.outstanding (record_of i b p)
@@ -88,6 +95,10 @@ pub record ArePackedNow (boxes : List RpBox) (placements : List RpOutstanding) (
   pub had : old ≡ Some before
   pub has : new ≡ Some after
   pub are : AreOutstanding boxes placements before after
+
+-- two boxes whose groups, above 0, are excluded are in different bins
+abbrev pub StandApart : List RpBox → List RpExclusion → List RpOutstanding → Type 0
+StandApart boxes exclusions placements = KeepApart boxes exclusions (map (λ p. p.placement) placements)
 
 -- the number whose lower 64 bits and whose other bits these are
 abbrev pub volume : RpVolume → ℕ

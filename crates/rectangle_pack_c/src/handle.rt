@@ -26,6 +26,9 @@ impl Model for RpSession {
     ghost also_owns = { λ handle. holds handle.alloc handle.at handle.state };
 }
 
+// It may go to another thread. Without its proof this says nothing, so a test asks for that.
+unsafe impl Send for RpSession {}
+
 impl RpSession {
     // The handle that holds nothing.
     pub(crate) fn none(alloc: Global) -> Self

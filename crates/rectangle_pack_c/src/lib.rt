@@ -1,28 +1,30 @@
 //! The packer for C: lists of bins and of boxes in, a list of placements out.
 #![tactic(auto)]
 
-ghost use Rattle.std.specs.Prelude.{◌≡◌, ◌<◌, ◌≤◌, ◌↔◌, ◌≢◌, [], ◌∷◌, IfOk, IfErr, IsOk, MatchOption, List, length, All, AllPairs};
+ghost use Rattle.std.specs.Prelude.{ℕ, ◌≡◌, ◌<◌, ◌≤◌, ◌==◌, ◌↔◌, ◌≢◌, [], IfOk, IfErr, List, length, All, AllPairs, MatchBool, Err};
 ghost use Rattle.std.specs.Ordering.{nat_cmp};
-ghost use Rattle.std.specs.List.Sorted.{IsStrictlySortedBy};
-ghost use Rattle.std.specs.Map.{keys_of};
-ghost use Rattle.rectangle_pack_c.specs.Arguments.{HaveLengths, IsCollected, group_order, new_bins};
-ghost use Rattle.rectangle_pack_c.specs.Answers.{ArePlaced, IsDonePacking, IsRefusedPacking};
-ghost use Rattle.rectangle_pack_c.specs.Sessions.{PacksBoxes};
-ghost use Rattle.rectangle_pack_c.specs.private.Pushed.{Pushes};
+ghost use Rattle.rectangle_pack_sections.specs.declared.box_size_heuristics.named.Heuristic.TheVariants.{Volume};
+ghost use Rattle.rectangle_pack.specs.declared.session.command.Packed.{Packed};
+ghost use Rattle.rectangle_pack.specs.declared.session.command.Reply.TheVariants.{Packed as Kept, Refused};
+ghost use Rattle.rectangle_pack.specs.declared.session.command.SessionError.TheVariants.{OutOfMemory};
+ghost use Rattle.rectangle_pack.specs.Session.{IsSession};
+ghost use Rattle.rectangle_pack_c.specs.Arguments.{HaveLengths, new_bins};
+ghost use Rattle.rectangle_pack_c.specs.Collections.{all_boxes, fault_in, fault_of};
+ghost use Rattle.rectangle_pack_c.specs.Heuristics.{asked};
+ghost use Rattle.rectangle_pack_c.specs.Answers.{ArePlaced, IsBestPacking, IsDonePacking, IsRefusedPacking, KeepApart};
+ghost use Rattle.rectangle_pack_c.specs.Sessions.{PacksCollection};
 ghost use Rattle.rectangle_pack_c.specs.private.Written.{AreWritten, NewAreWritten};
-ghost use Rattle.rectangle_pack.specs.Session.{IsSession, packed_reply};
 
+mod collection;
 mod handle;
 mod reading;
 mod session;
 #[cfg(test)]
 mod tests;
 
-use rectangle_pack::{
-    GroupedRectsToPlace, Outstanding, Packed, RectToInsert, Session, SessionError,
-    contains_smallest_box, volume_heuristic,
-};
-use std::alloc::{AllocError, Global};
+use collection::{RP_BEST, RP_VOLUME, RpCollection, collection_of, fault, number_of, pack_asked};
+use rectangle_pack::{Outstanding, Session, SessionError};
+use std::alloc::Global;
 
 /// A bin, by its size in cells.
 #[repr(C)]
@@ -71,7 +73,8 @@ pub const RP_DONE: u32 = 0;
 pub const RP_NOT_ENOUGH_SPACE: u32 = 1;
 /// Memory was refused.
 pub const RP_OUT_OF_MEMORY: u32 = 2;
-/// There are not as many placements as boxes, or there are 2^32 bins or boxes, or more.
+/// There are not as many placements as boxes and members together, or 2^32 of these or of bins, or
+/// more.
 pub const RP_BAD_LENGTHS: u32 = 3;
 /// A bin of this id is there already.
 pub const RP_DUPLICATE_BIN: u32 = 4;
@@ -85,6 +88,12 @@ pub const RP_NUMBERS_USED_UP: u32 = 7;
 pub const RP_SHORT_ARRAY: u32 = 8;
 /// The boxes of the bin are not what straight cuts leave.
 pub const RP_NO_PLAN: u32 = 9;
+/// There is no heuristic of this number.
+pub const RP_UNKNOWN_HEURISTIC: u32 = 10;
+/// A member names a box that is not there.
+pub const RP_UNKNOWN_BOX: u32 = 11;
+/// A group is excluded with itself.
+pub const RP_EQUAL_GROUPS: u32 = 12;
 
 // There are fewer bins and boxes than this, so that each index and their count is of 32 bits.
 const LIMIT: usize = 0x1_0000_0000;
@@ -105,22 +114,76 @@ pub extern "C" fn rectangle_pack_boxes(
         HaveLengths bins.now boxes.now placements.old }
     ensures unchanged { result ≢ RP_DONE → placements.new ≡ placements.old }
     ensures done { result ≡ RP_DONE → ArePlaced bins.now boxes.now placements.new }
-    ensures packed { result ≡ RP_DONE → IsDonePacking bins.now boxes.now placements.new }
+    ensures packed { result ≡ RP_DONE →
+        IsDonePacking bins.now boxes.now [] Volume placements.new }
     ensures one_packing { result ≡ RP_DONE → (others : List RpPlacement) →
-        IsDonePacking bins.now boxes.now others → others ≡ placements.new }
-    ensures never_refused { result ≡ RP_DONE → IsRefusedPacking bins.now boxes.now → ⊥ }
-    ensures refused { result ≡ RP_NOT_ENOUGH_SPACE → IsRefusedPacking bins.now boxes.now }
+        IsDonePacking bins.now boxes.now [] Volume others → others ≡ placements.new }
+    ensures never_refused { result ≡ RP_DONE → ¬ IsRefusedPacking bins.now boxes.now [] Volume }
+    ensures refused { result ≡ RP_NOT_ENOUGH_SPACE →
+        IsRefusedPacking bins.now boxes.now [] Volume }
     ensures never_packed { result ≡ RP_NOT_ENOUGH_SPACE → (others : List RpPlacement) →
-        IsDonePacking bins.now boxes.now others → ⊥ }
+        ¬ IsDonePacking bins.now boxes.now [] Volume others }
 {
-    if placements.len() != boxes.len() || boxes.len() >= LIMIT || bins.len() >= LIMIT {
+    let mut chosen = RP_VOLUME;
+    let collection = RpCollection::of(boxes);
+    rectangle_pack_collection(alloc, bins, &collection, RP_VOLUME, placements, &mut chosen)
+}
+
+/// Packs a collection into the bins: placement i is where box i stands, and behind those of the
+/// boxes stand those of the members. `heuristic` is the number of one, or `RP_BEST`; the number of
+/// the one that was packed with is written to `chosen`. What is answered is the status; but for
+/// `RP_DONE` nothing is written. Equal bins and collections get equal placements with the same
+/// heuristic.
+#[unsafe(no_mangle)]
+pub extern "C" fn rectangle_pack_collection(
+    alloc: Global,
+    bins: &[RpBin],
+    collection: &RpCollection<'_>,
+    heuristic: u32,
+    placements: &mut [RpPlacement],
+    chosen: &mut u32,
+) -> u32
+    ensures faults { let fault = fault_in bins.now collection.now heuristic
+        (length placements.old) in
+        MatchBool (fault == 0) (result ≤ RP_OUT_OF_MEMORY) (result ≡ fault) }
+    ensures unchanged { result ≢ RP_DONE →
+        (placements.new ≡ placements.old) × (chosen.new ≡ chosen.old) }
+    ensures done { result ≡ RP_DONE →
+        ArePlaced bins.now (all_boxes collection.now) placements.new }
+    ensures apart { result ≡ RP_DONE →
+        KeepApart (all_boxes collection.now) collection.now.exclusions.now placements.new }
+    ensures packed { result ≡ RP_DONE →
+        IsBestPacking bins.now (all_boxes collection.now) collection.now.exclusions.now
+        (asked heuristic) chosen.new placements.new }
+    ensures one_packing { result ≡ RP_DONE → (other : ℕ) → (others : List RpPlacement) →
+        IsBestPacking bins.now (all_boxes collection.now) collection.now.exclusions.now
+        (asked heuristic) other others → (others ≡ placements.new) × (other ≡ chosen.new) }
+    ensures never_refused { result ≡ RP_DONE →
+        ¬ All (IsRefusedPacking bins.now (all_boxes collection.now)
+        collection.now.exclusions.now) (asked heuristic) }
+    ensures refused { result ≡ RP_NOT_ENOUGH_SPACE →
+        All (IsRefusedPacking bins.now (all_boxes collection.now)
+        collection.now.exclusions.now) (asked heuristic) }
+    ensures never_packed { result ≡ RP_NOT_ENOUGH_SPACE → (other : ℕ) →
+        (others : List RpPlacement) →
+        ¬ IsBestPacking bins.now (all_boxes collection.now) collection.now.exclusions.now
+        (asked heuristic) other others }
+{
+    if bins.len() >= LIMIT {
         return RP_BAD_LENGTHS;
+    }
+    let fault = fault(collection, heuristic, placements.len());
+    if fault != RP_DONE {
+        return fault;
     }
     let Ok(mut session) = session_of(alloc, bins) else {
         return RP_OUT_OF_MEMORY;
     };
-    match pack_into(alloc, &mut session, boxes, placements) {
-        Ok(_) => RP_DONE,
+    match pack_into(alloc, &mut session, collection, heuristic, placements) {
+        Ok(best) => {
+            *chosen = best;
+            RP_DONE
+        }
         Err(SessionError::NotEnoughBinSpace) => RP_NOT_ENOUGH_SPACE,
         Err(_) => RP_OUT_OF_MEMORY,
     }
@@ -139,71 +202,34 @@ fn session_of(alloc: Global, bins: &[RpBin]) -> Result<Session<u32, u32>, Sessio
     Ok(session)
 }
 
-// Packs the boxes into the session, and writes the placements.
+// Packs the collection into the session, and writes the placements: the number of the heuristic that
+// was packed with.
 fn pack_into<T: Written<Outstanding<u32, u32>>>(
     alloc: Global,
     session: &mut Session<u32, u32>,
-    boxes: &[RpBox],
+    collection: &RpCollection<'_>,
+    heuristic: u32,
     placements: &mut [T],
-) -> Result<Packed, SessionError>
-    requires as_many { length placements.old ≡ length boxes.now }
-    requires few { length boxes.now < LIMIT }
-    ensures packed { PacksBoxes boxes.now session.old (packed_reply result) session.new }
+) -> Result<u32, SessionError>
+    requires sound { fault_of collection.now heuristic (length placements.old) ≡ 0 }
+    ensures packed { IfOk result (λ chosen. (numbers : Packed) ×
+        PacksCollection heuristic (all_boxes collection.now) collection.now.exclusions.now chosen
+        session.old (Kept numbers) session.new) }
+    ensures refused { IfErr result (λ error.
+        PacksCollection heuristic (all_boxes collection.now) collection.now.exclusions.now 0
+        session.old (Refused error) session.new) }
+    ensures memory { heuristic ≢ RP_BEST → length collection.now.boxes.now ≡ 0 →
+        length collection.now.exclusions.now ≡ 0 → result ≢ Err OutOfMemory }
     ensures always { IsSession nat_cmp session.new }
     ensures written { IfOk result
         (λ _. NewAreWritten T.written session.old session.new placements.new) }
     ensures unchanged { IfErr result (λ _. placements.new ≡ placements.old) }
 {
     let known = session.outstanding().len();
-    let rects = collection_of(alloc, boxes)?;
-    let packed = session.pack(&rects, &volume_heuristic, &contains_smallest_box)?;
+    let rects = collection_of(alloc, collection)?;
+    let (best, _) = pack_asked(session, &rects, heuristic)?;
     write_all(&session.outstanding()[known..], placements);
-    Ok(packed)
-}
-
-// The boxes, each under its index.
-fn collection_of(
-    alloc: Global,
-    boxes: &[RpBox],
-) -> Result<GroupedRectsToPlace<u32, u32>, AllocError>
-    requires { length boxes.now < LIMIT }
-    ensures collected { IfOk result (λ all. IsCollected boxes.now all) }
-    ensures no_boxes { length boxes.now ≡ 0 → IsOk result }
-{
-    let mut rects = GroupedRectsToPlace::new(alloc);
-    for (i, rect) in boxes.iter().enumerate() {
-        push_box(alloc, &mut rects, i as u32, rect)?;
-    }
-    Ok(rects)
-}
-
-// Pushes a box under its index, alone or into its group.
-fn push_box(
-    alloc: Global,
-    rects: &mut GroupedRectsToPlace<u32, u32>,
-    index: u32,
-    rect: &RpBox,
-) -> Result<(), AllocError>
-    ensures pushed { IfOk result (λ _. Pushes index rect.now rects.old rects.new) }
-    ensures ascend { IfOk result
-        (λ _. IsStrictlySortedBy group_order (keys_of rects.new.groups)) }
-{
-    let size = RectToInsert::new(rect.width, rect.height, rect.depth);
-    rects.push_rect(index, groups_of(alloc, rect.group)?, size)?;
-    // For the proof: the groups are asked for that they ascend.
-    let _ascend = rects.groups();
-    Ok(())
-}
-
-// The groups of a box of this number: none where it is 0.
-fn groups_of(alloc: Global, group: u32) -> Result<Option<Vec<u32>>, AllocError>
-    ensures { IfOk result (λ groups. MatchOption groups (group ≡ 0)
-        (λ named. (group ≢ 0) × (named.items ≡ group ∷ []))) }
-{
-    if group == 0 {
-        return Ok(None);
-    }
-    Ok(Some(vec![in alloc; group]?))
+    Ok(number_of(best))
 }
 
 // What is written of an entry of a list.

@@ -38,7 +38,8 @@ pub struct RpSection {
 pub struct RpStanding {
     /// Its number, by which it is released.
     pub number: u64,
-    /// The index of its box among those of the call that packed it.
+    /// The index of its box among those of the call that packed it; of a member, the number of boxes
+    /// and its own index.
     pub index: u32,
     /// The id of its bin.
     pub bin: u32,

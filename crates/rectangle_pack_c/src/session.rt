@@ -1,5 +1,5 @@
 //! A session for C: bins that stay, and boxes that are packed into them and released by number.
-ghost use Rattle.std.specs.Prelude.{◌≡◌, ◌≢◌, ◌↔◌, ◌⊎◌, [], None, Some, IsSome, IfSome, ℕ};
+ghost use Rattle.std.specs.Prelude.{◌≡◌, ◌≢◌, ◌↔◌, ◌⊎◌, ◌<◌, ◌+◌, [], length, None, Some, IsSome, IfSome, ℕ};
 ghost use Rattle.std.specs.Ordering.{nat_cmp};
 ghost use Rattle.std.specs.Map.{lookup};
 ghost use Rattle.std.specs.BTreeMap.{is_at};
@@ -8,11 +8,13 @@ ghost use Rattle.rectangle_pack.specs.Boxes.{Size};
 ghost use Rattle.rectangle_pack.specs.Joining.{IsJoined, IsSwept, ShareNoFace};
 ghost use Rattle.rectangle_pack.specs.Session.{State, AddsBin, Releases, Coalesces, reply_of};
 ghost use Rattle.rectangle_pack.specs.declared.session.command.Reply.TheVariants.{Refused};
-ghost use Rattle.rectangle_pack_c.specs.Sessions.{ChangesAs, AreAsMany, PacksBoxes, ArePackedNow, TellsStats, reply_status, volume};
+ghost use Rattle.rectangle_pack_c.specs.Collections.{all_boxes, fault_of};
+ghost use Rattle.rectangle_pack_c.specs.Sessions.{ChangesAs, AreAsMany, PacksCollection, ArePackedNow, StandApart, TellsStats, reply_status, volume};
 
+use super::collection::{RP_BEST, RP_VOLUME, RpCollection, fault};
 use super::handle::RpSession;
 use super::{
-    LIMIT, RP_BAD_LENGTHS, RP_DONE, RP_DUPLICATE_BIN, RP_NOT_ENOUGH_SPACE, RP_NUMBERS_USED_UP,
+    RP_BAD_LENGTHS, RP_DONE, RP_DUPLICATE_BIN, RP_NOT_ENOUGH_SPACE, RP_NUMBERS_USED_UP,
     RP_OUT_OF_MEMORY, RP_UNKNOWN_BIN, RP_UNKNOWN_PLACEMENT, RpBox, RpPlacement, Written, pack_into,
 };
 use rectangle_pack::{Outstanding, Session, SessionError};
@@ -181,19 +183,69 @@ pub extern "C" fn rectangle_pack_session_pack(
     ensures lengths { (result ≢ RP_BAD_LENGTHS) ↔ AreAsMany boxes.now placements.old }
     ensures bad_lengths { result ≡ RP_BAD_LENGTHS → session.new.state ≡ session.old.state }
     ensures packed { result ≢ RP_BAD_LENGTHS →
-        ChangesAs (PacksBoxes boxes.now) session.old.state result session.new.state }
+        ChangesAs (PacksCollection RP_VOLUME boxes.now [] RP_VOLUME)
+        session.old.state result session.new.state }
     ensures done { result ≡ RP_DONE →
         ArePackedNow boxes.now placements.new session.old.state session.new.state }
+    ensures memory { result ≡ RP_OUT_OF_MEMORY → 0 < length boxes.now }
     ensures unchanged { result ≢ RP_DONE → placements.new ≡ placements.old }
 {
-    if placements.len() != boxes.len() || boxes.len() >= LIMIT {
-        return RP_BAD_LENGTHS;
+    let mut chosen = RP_VOLUME;
+    let collection = RpCollection::of(boxes);
+    rectangle_pack_session_pack_collection(
+        alloc,
+        session,
+        &collection,
+        RP_VOLUME,
+        placements,
+        &mut chosen,
+    )
+}
+
+/// Packs a collection into the bins of the session: placement i, with its number, is that of box i,
+/// and behind those of the boxes stand those of the members. `heuristic` is the number of one, or
+/// `RP_BEST`; the number of the one that was packed with is written to `chosen`.
+/// `RP_DONE`, `RP_NOT_ENOUGH_SPACE`, `RP_OUT_OF_MEMORY`, `RP_NUMBERS_USED_UP`, `RP_BAD_LENGTHS`,
+/// `RP_UNKNOWN_HEURISTIC`, `RP_UNKNOWN_BOX` or `RP_EQUAL_GROUPS`. What is not done leaves the
+/// session as it was, and writes nothing.
+#[unsafe(no_mangle)]
+pub extern "C" fn rectangle_pack_session_pack_collection(
+    alloc: Global,
+    session: &mut RpSession,
+    collection: &RpCollection<'_>,
+    heuristic: u32,
+    placements: &mut [RpOutstanding],
+    chosen: &mut u32,
+) -> u32
+    requires made { IsSome session.old.state }
+    ensures faults { let fault = fault_of collection.now heuristic (length placements.old) in
+        fault ≢ 0 → (result ≡ fault) × (session.new.state ≡ session.old.state) }
+    ensures packed { fault_of collection.now heuristic (length placements.old) ≡ 0 →
+        ChangesAs (PacksCollection heuristic (all_boxes collection.now)
+        collection.now.exclusions.now chosen.new)
+        session.old.state result session.new.state }
+    ensures done { result ≡ RP_DONE →
+        ArePackedNow (all_boxes collection.now) placements.new
+        session.old.state session.new.state }
+    ensures apart { result ≡ RP_DONE →
+        StandApart (all_boxes collection.now) collection.now.exclusions.now placements.new }
+    ensures memory { result ≡ RP_OUT_OF_MEMORY → heuristic ≢ RP_BEST →
+        0 < length collection.now.boxes.now + length collection.now.exclusions.now }
+    ensures unchanged { result ≢ RP_DONE →
+        (placements.new ≡ placements.old) × (chosen.new ≡ chosen.old) }
+{
+    let fault = fault(collection, heuristic, placements.len());
+    if fault != RP_DONE {
+        return fault;
     }
     let mut held = session.take(alloc);
-    let answer = pack_into(alloc, &mut held, boxes, placements);
+    let answer = pack_into(alloc, &mut held, collection, heuristic, placements);
     *session = RpSession::of(held);
     match answer {
-        Ok(_) => RP_DONE,
+        Ok(best) => {
+            *chosen = best;
+            RP_DONE
+        }
         Err(error) => refusal(error),
     }
 }

@@ -6,6 +6,7 @@ use super::{
 use std::alloc::Global;
 use std::test::Fail;
 
+mod collection;
 mod reading;
 mod session;
 

@@ -142,3 +142,23 @@ fn refusals_are_named(rt: HostRuntime) -> Result<(), Fail> {
     rectangle_pack_session_free(alloc, &mut session);
     Ok(())
 }
+
+// Takes only what may go to another thread.
+fn sent<T: Send>(value: T) -> T
+    ensures { result ≡ value }
+{
+    value
+}
+
+// `Send` is proved of the handle's type, so that a session may go from thread to thread.
+#[test]
+fn a_handle_is_sent(rt: HostRuntime) -> Result<(), Fail> {
+    let alloc = rt.alloc();
+    let mut made = RpSession::none(alloc);
+    assert!(rt; opens(alloc, &mut made));
+    let mut session = sent(made);
+    let packed = pack(alloc, &mut session, 4);
+    assert_eq!(rt; packed, (RP_DONE, 0, [7, 0, 0, 0]));
+    rectangle_pack_session_free(alloc, &mut session);
+    Ok(())
+}

@@ -1,5 +1,5 @@
 use Rattle.rectangle_pack_c.proofs.Std.{rules}
-use Rattle.rectangle_pack_c.proofs.groups_of.Goals as goal
+use Rattle.rectangle_pack_c.proofs.collection.groups_of.Goals as goal
 
 pub returns : goal.returns
 returns c = search rules

@@ -1,7 +1,7 @@
 use Rattle.rectangle_pack_c.proofs.Std.{get_or, get_or_default}
 use Rattle.rectangle_pack_c.specs.declared.RpBox.{RpBox}
 use Rattle.rectangle_pack_c.proofs.LoopLemmas.{boxes_more}
-use Rattle.rectangle_pack_c.proofs.collection_of.Goals as goal
+use Rattle.rectangle_pack_c.proofs.collection.push_boxes.Goals as goal
 
 pub loop-i-preserved : goal.loop-i-preserved
 loop-i-preserved c =

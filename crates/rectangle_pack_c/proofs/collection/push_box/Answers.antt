@@ -1,7 +1,7 @@
 use Rattle.rectangle_pack_c.proofs.Std.{refl, subst, IsStrictlySortedBy, keys_of}
 use Rattle.rectangle_pack_c.proofs.LoopLemmas.{pushed}
 use Rattle.rectangle_pack_c.proofs.OrderLemmas.{same_order}
-use Rattle.rectangle_pack_c.proofs.push_box.Goals as goal
+use Rattle.rectangle_pack_c.proofs.collection.push_box.Goals as goal
 
 pub returns-clause-pushed : goal.returns-clause-pushed
 returns-clause-pushed c =
