@@ -1,76 +1,163 @@
-/* Drives the call by drawn boxes, with each request for memory refused in turn, alone and with all after it, and looks at what
-   it promises: each box in its bin in its size, no two in one cell, groups together, nothing written unless all was placed,
-   all memory given back, and equal answers to equal lists. Link it with -Wl,--wrap=malloc,--wrap=realloc,--wrap=free. */
+/* Drives the calls that pack once by drawn boxes and collections, with each request for memory refused in turn, alone and with
+   all after it, and looks at what they promise: each box in its bin in its size, no two in one cell, groups together, excluded
+   groups apart, the placements of the packing rule, nothing written unless all was placed, all memory given back, and equal
+   answers to equal lists. Link it with -Wl,--wrap=malloc,--wrap=realloc,--wrap=free. */
 #include <limits.h>
 #include <stdio.h>
 #include <string.h>
 
+#include "one_shot.h"
+#include "packing_draws.h"
 #include "rectangle_pack.h"
 #include "refusing.h"
 
-enum { BINS = 4, BOXES = 24, SIDE = 12 };
+enum { BOX_RUNS = 60, COLLECTION_RUNS = 500, STATUSES = 13 };
 
-/* Each cell of each bin is in at most one box. */
-static void check_cells(const rp_bin *bins, const rp_box *boxes, size_t count, const rp_placement *placed)
-{
-    static unsigned char cells[BINS][SIDE][SIDE][SIDE];
-    memset(cells, 0, sizeof cells);
-    for (size_t i = 0; i < count; i++) {
-        const rp_placement *at = &placed[i];
-        check(at->bin < BINS, "a box is in no bin");
-        const rp_bin *bin = &bins[at->bin];
-        check((uint64_t)at->x + boxes[i].width <= bin->width, "a box is too wide");
-        check((uint64_t)at->y + boxes[i].height <= bin->height, "a box is too high");
-        check((uint64_t)at->z + boxes[i].depth <= bin->depth, "a box is too deep");
-        for (uint32_t x = 0; x < boxes[i].width; x++)
-            for (uint32_t y = 0; y < boxes[i].height; y++)
-                for (uint32_t z = 0; z < boxes[i].depth; z++)
-                    check(!cells[at->bin][at->x + x][at->y + y][at->z + z]++, "two boxes share a cell");
-    }
-}
-
-static void check_groups(const rp_box *boxes, size_t count, const rp_placement *placed)
-{
-    for (size_t i = 0; i < count; i++)
-        for (size_t j = 0; j < count; j++)
-            if (boxes[i].group > 0 && boxes[i].group == boxes[j].group)
-                check(placed[i].bin == placed[j].bin, "a group is in two bins");
-}
-
-/* One call in which the requests from first to last are refused; the status. */
-static uint32_t call(long first, long last, const rp_bin *bins, const rp_box *boxes, size_t count, rp_placement *placed)
-{
-    static rp_placement untouched[BOXES];
-    memset(untouched, UNTOUCHED, sizeof untouched);
-    memset(placed, UNTOUCHED, sizeof untouched);
-    refuse_requests(first, last);
-    uint32_t status = rectangle_pack_boxes(bins, BINS, boxes, count, placed, count);
-    refuse_nothing();
-    check(blocks == 0, "memory is not given back");
-    check(status <= RP_OUT_OF_MEMORY, "an answer that does not fit");
-    check(status != RP_OUT_OF_MEMORY || refused, "want of memory is answered where all was there");
-    if (status == RP_DONE) {
-        check_cells(bins, boxes, count, placed);
-        check_groups(boxes, count, placed);
-    } else {
-        check(!memcmp(placed, untouched, sizeof untouched), "something was written");
-    }
-    return status;
-}
+/* How often each status came, how often there was space by each heuristic that was asked for, how often each was chosen as the
+   best, and how often memory was refused. */
+static long seen[STATUSES], done_by[HEURISTICS], best_by[HEURISTICS], wants;
 
 /* Each request is refused in turn. With all after it refused too, want of memory is answered. Alone it may have been for room
-   that was not needed, and then the answer is the one with all memory. The number of refusals. */
-static long refuse_each(const rp_bin *bins, const rp_box *boxes, size_t count, uint32_t status, const rp_placement *placed)
+   that was not needed, and then the answer is the one with all memory. */
+static void refuse_each(const input *it, const reply *right)
 {
-    rp_placement again[BOXES];
+    static reply again;
     long all = requests;
     for (long request = 0; request < all; request++) {
-        check(call(request, LONG_MAX, bins, boxes, count, again) == RP_OUT_OF_MEMORY, "want of memory is not answered");
-        uint32_t alone = call(request, request, bins, boxes, count, again);
-        check(alone == RP_OUT_OF_MEMORY || (alone == status && !memcmp(placed, again, sizeof again)),
-              "a refused request changes the answer");
+        check(call_once(it, request, LONG_MAX, &again) == RP_OUT_OF_MEMORY, "want of memory is not answered");
+        uint32_t alone = call_once(it, request, request, &again);
+        check(alone == RP_OUT_OF_MEMORY || are_same_replies(right, &again), "a refused request changes the answer");
     }
-    return all;
+    wants += all;
+}
+
+/* One call, and the same call with refusals. The status. */
+static uint32_t attempt(const input *it)
+{
+    static reply right, said;
+    reply_by_rule(it, &right);
+    for (int i = 0; i < 2; i++) {
+        call_once(it, NONE, NONE, &said);
+        check_reply(it, &right, &said);
+    }
+    refuse_each(it, &right);
+    seen[right.status]++;
+    if (right.status == RP_DONE)
+        (it->asked.heuristic == RP_BEST ? best_by : done_by)[right.chosen]++;
+    return right.status;
+}
+
+static void draw_bins(input *it, uint32_t low, uint32_t depth)
+{
+    it->bin_count = within(0, 9) ? within(low, BINS) : 0;
+    for (size_t i = 0; i < it->bin_count; i++)
+        it->bins[i] = (rp_bin){within(1, SIDE), within(1, SIDE), within(1, depth)};
+}
+
+/* Boxes alone, or a collection, which is flat in one of two. */
+static void draw_input(input *it, int is_collection)
+{
+    uint32_t depth = is_collection && within(0, 1) ? 1 : SIDE, box_depth = depth < LONGEST ? depth : LONGEST;
+    memset(it, 0, sizeof *it);
+    it->is_collection = is_collection;
+    draw_bins(it, is_collection ? 1 : BINS, depth);
+    if (is_collection)
+        draw_collection(&it->asked, BOXES / 2, MEMBERS, box_depth);
+    else
+        draw_boxes(&it->asked, BOXES, box_depth);
+}
+
+/* Boxes in several groups and excluded groups; there are different numbers of bins, boxes, members and exclusions. The places
+   are those that packrun prints. */
+static const input several = {
+    1,
+    {{10, 10, 1}, {9, 9, 1}, {12, 9, 1}},
+    3,
+    {{{4, 4, 1, 1}, {4, 3, 1, 2}, {2, 3, 1, 1}, {1, 1, 1, 0}, {5, 2, 1, 4}},
+     {{2, 2}, {2, 0}, {0, 3}, {1, 0}},
+     {{2, 1}, {3, 2}},
+     5,
+     4,
+     2,
+     9,
+     RP_VOLUME}};
+
+static const rp_placement places_of_several[] = {{1, 0, 0, 0}, {0, 0, 0, 0}, {1, 4, 0, 0}, {1, 6, 3, 0}, {1, 4, 7, 0},
+                                                 {0, 4, 0, 0}, {1, 6, 0, 0}, {1, 0, 4, 0}, {1, 4, 4, 0}};
+
+static void check_several(void)
+{
+    reply said;
+    check(call_once(&several, NONE, NONE, &said) == RP_DONE, "several groups are not packed");
+    check(!memcmp(said.placed, places_of_several, sizeof places_of_several), "several groups are not where they have to be");
+    check(said.chosen == RP_VOLUME, "another heuristic was asked for");
+    check(attempt(&several) == RP_DONE, "several groups are not packed");
+}
+
+/* Three boxes that find space by their heights, and not by their volumes. */
+static void check_best(void)
+{
+    reply said;
+    input it = {1, {{4, 4, 1}}, 1, {{{1, 3, 1, 0}, {3, 2, 1, 0}, {3, 1, 1, 0}}, {{0, 0}}, {{0, 0}}, 3, 0, 0, 3, RP_BEST}};
+    check(call_once(&it, NONE, NONE, &said) == RP_DONE && said.chosen == RP_HEIGHT, "the best heuristic is another one");
+    check(attempt(&it) == RP_DONE, "the best heuristic finds no space");
+    for (it.asked.heuristic = 0; it.asked.heuristic < HEURISTICS; it.asked.heuristic++)
+        check(attempt(&it) == RP_DONE || it.asked.heuristic != RP_HEIGHT, "there is no space by heights");
+    it.asked.heuristic = RP_VOLUME;
+    check(attempt(&it) == RP_NOT_ENOUGH_SPACE, "there is space by volumes");
+    it.is_collection = 0;
+    check(attempt(&it) == RP_NOT_ENOUGH_SPACE, "there is space for boxes alone");
+}
+
+/* Two boxes of one bin go into two where their groups are excluded. */
+static void check_excluded(void)
+{
+    input it = {1, {{9, 9, 1}}, 1, {{{4, 4, 1, 1}, {4, 4, 1, 2}}, {{0, 0}}, {{1, 2}}, 2, 0, 0, 2, RP_BEST}};
+    check(attempt(&it) == RP_DONE, "two boxes are not packed");
+    it.asked.exclusion_count = 1;
+    check(attempt(&it) == RP_NOT_ENOUGH_SPACE, "excluded groups are in one bin");
+    it.bins[it.bin_count++] = (rp_bin){4, 4, 1};
+    check(attempt(&it) == RP_DONE, "excluded groups are not packed into two bins");
+}
+
+/* Of several things that are wrong the first is answered. */
+static void check_faults(void)
+{
+    static const uint32_t faults[] = {RP_BAD_LENGTHS, RP_UNKNOWN_HEURISTIC, RP_UNKNOWN_BOX, RP_EQUAL_GROUPS};
+    for (uint32_t wrong = 1; wrong < 16; wrong++) {
+        input it = several;
+        it.asked.places -= wrong & 1;
+        it.asked.heuristic = wrong & 2 ? HEURISTICS : RP_BEST;
+        if (wrong & 4)
+            it.asked.members[3].index = 5;
+        if (wrong & 8)
+            it.asked.exclusions[1].one = it.asked.exclusions[1].other;
+        size_t first = 0;
+        while (!(wrong >> first & 1))
+            first++;
+        check(attempt(&it) == faults[first], "another thing that is wrong is answered first");
+    }
+}
+
+/* Lists of 2^32 entries, of which none may be looked at, are too long; and so are a box and members if they need as many
+   places. The lists that are not written may be one. */
+static void check_long_lists(void)
+{
+    enum { A_BIN = 1 };
+    size_t many = (size_t)UINT32_MAX + 1;
+    void *read = forbidden(many * sizeof(rp_box)), *written = forbidden(many * sizeof(rp_placement));
+    rp_collection boxes = RP_COLLECTION((const rp_box *)read, many), members = RP_COLLECTION((const rp_box *)read, 1);
+    rp_bin bin = {1, 1, 1};
+    uint32_t chosen = UNTOUCHED;
+    members.member_count = many - 1;
+    check(rectangle_pack_boxes(&bin, A_BIN, read, many, written, many) == RP_BAD_LENGTHS, "2^32 boxes");
+    check(rectangle_pack_boxes(read, many, read, 0, written, 0) == RP_BAD_LENGTHS, "2^32 bins");
+    check(rectangle_pack_collection(&bin, A_BIN, &boxes, 0, written, many, &chosen) == RP_BAD_LENGTHS, "2^32 boxes to collect");
+    check(rectangle_pack_collection(&bin, A_BIN, &members, 0, written, many, &chosen) == RP_BAD_LENGTHS, "2^32 places");
+    check(rectangle_pack_collection(read, many, &members, 0, written, 1, &chosen) == RP_BAD_LENGTHS, "2^32 bins to collect in");
+    check(chosen == UNTOUCHED, "a heuristic is written where lists are too long");
+    munmap(read, many * sizeof(rp_box));
+    munmap(written, many * sizeof(rp_placement));
 }
 
 /* The example of the README. */
@@ -84,33 +171,39 @@ static void check_readme(void)
     check(placements[0].bin == placements[1].bin, "the example's group is in two bins");
 }
 
-int main(void)
+static void check_bad_lengths(void)
 {
-    long done = 0, no_space = 0, wants = 0;
-    for (int run = 0; run < 60; run++) {
-        rp_bin bins[BINS];
-        rp_box boxes[BOXES];
-        rp_placement placed[BOXES], again[BOXES];
-        size_t count = within(0, BOXES);
-        for (size_t i = 0; i < BINS; i++)
-            bins[i] = (rp_bin){within(1, SIDE), within(1, SIDE), within(1, SIDE)};
-        for (size_t i = 0; i < count; i++)
-            boxes[i] = (rp_box){within(0, 5), within(1, 5), within(1, 5), within(0, 6)};
-        uint32_t status = call(NONE, NONE, bins, boxes, count, placed);
-        check(call(NONE, NONE, bins, boxes, count, again) == status && !memcmp(placed, again, sizeof placed),
-              "equal lists have two answers");
-        done += status == RP_DONE;
-        no_space += status == RP_NOT_ENOUGH_SPACE;
-        wants += refuse_each(bins, boxes, count, status, placed);
-    }
-    check(done > 10 && no_space > 10 && wants > 100, "the drawn boxes show too little");
-    check_readme();
     rp_bin bin = {1, 1, 1};
     rp_box box = {1, 1, 1, 0};
     rp_placement place[2];
     check(rectangle_pack_boxes(&bin, 1, &box, 1, place, 0) == RP_BAD_LENGTHS, "no placement for a box");
     check(rectangle_pack_boxes(&bin, 1, &box, 1, place, 2) == RP_BAD_LENGTHS, "two placements for a box");
     check(rectangle_pack_boxes(&bin, 1, &box, 0, place, 0) == RP_DONE, "no boxes are refused");
-    printf("%ld inputs done, %ld without space, %ld requests refused\n", done, no_space, wants);
+}
+
+int main(void)
+{
+    static input drawn;
+    int winners = 0;
+    for (int run = 0; run < BOX_RUNS + COLLECTION_RUNS; run++) {
+        draw_input(&drawn, run >= BOX_RUNS);
+        attempt(&drawn);
+    }
+    for (int i = 0; i < HEURISTICS; i++) {
+        check(done_by[i] > 2, "a heuristic is asked for too seldom");
+        winners += best_by[i] > 0;
+    }
+    check(seen[RP_DONE] > 50 && seen[RP_NOT_ENOUGH_SPACE] > 30 && wants > 100, "the drawn boxes show too little");
+    check(seen[RP_UNKNOWN_HEURISTIC] > 2 && seen[RP_UNKNOWN_BOX] > 2 && seen[RP_EQUAL_GROUPS] > 2, "too little is wrong");
+    check(seen[RP_BAD_LENGTHS] > 2 && winners > 2, "the drawn collections show too little");
+    check_several();
+    check_best();
+    check_excluded();
+    check_faults();
+    check_long_lists();
+    check_readme();
+    check_bad_lengths();
+    printf("%ld inputs done, %ld without space; %d heuristics were the best; %ld requests refused\n", seen[RP_DONE],
+           seen[RP_NOT_ENOUGH_SPACE], winners, wants);
     return 0;
 }

@@ -103,7 +103,8 @@ static void check_sums(const account *now, size_t bin, const rp_stats *stats)
     size_t count = 0;
     for (size_t i = 0; i < now->count; i++) {
         if (now->placed[i].at.placement.bin == ids[bin]) {
-            placed += volume(&now->placed[i].box);
+            rp_section it = section_of(&now->placed[i]);
+            placed += cells_of(&it);
             count++;
         }
     }
@@ -141,14 +142,14 @@ static void read_coalesced(rp_session *session, const account *now, size_t bin)
 /* The ids rise, and are those of the bins that were added. */
 static void read_bins(rp_session *session, const account *now)
 {
-    static uint32_t list[IDS + 2];
+    static uint32_t list[BINS + 2];
     size_t count = ask_each(&(question){call_bins, session, 0, list, sizeof *list}, RP_DONE), added = 0;
-    for (size_t i = 0; i < IDS; i++)
+    for (size_t i = 0; i < BINS; i++)
         added += (size_t)now->has_bin[i];
     check(count == added, "how many bins there are");
     for (size_t i = 0; i < count; i++) {
         size_t bin = index_of(list[i]);
-        check(bin < IDS && now->has_bin[bin], "a bin was not added");
+        check(bin < BINS && now->has_bin[bin], "a bin was not added");
         check(i == 0 || list[i - 1] < list[i], "the ids of bins do not rise");
     }
 }
@@ -218,15 +219,6 @@ static void read_plan(rp_session *session, const account *now, size_t bin, const
     refuse_plan(&it, right, &own);
 }
 
-/* Reads all plans, with refusals of their own. Their requests are not counted among those of the script. */
-static void read_plans(rp_session *session, const account *now, const sections *free)
-{
-    long counted = requests;
-    for (size_t i = 0; i < IDS; i++)
-        read_plan(session, now, i, &free[i]);
-    requests = counted;
-}
-
 /* Reads all that can be read but the plans, and holds it against the account. No memory is taken. */
 static void read_session(rp_session *session, const account *now, rp_stats *stats, sections *free)
 {
@@ -234,7 +226,7 @@ static void read_session(rp_session *session, const account *now, rp_stats *stat
     read_bins(session, now);
     read_outstanding(session, now);
     check(rectangle_pack_session_next_number(session) == now->next, "the next number");
-    for (size_t i = 0; i < IDS; i++) {
+    for (size_t i = 0; i < BINS; i++) {
         read_stats(session, now, i, &stats[i]);
         read_coalesced(session, now, i);
         read_sections(session, now, i, &free[i]);

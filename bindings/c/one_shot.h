@@ -1,0 +1,126 @@
+/* The calls that pack once and keep nothing: what they are asked, and what they have to answer. To be included once in a
+   program. */
+#ifndef ONE_SHOT_H
+#define ONE_SHOT_H
+
+#include "packing_calls.h"
+
+/* A call: of a collection, or of boxes alone. */
+typedef struct input {
+    int is_collection;
+    rp_bin bins[BINS];
+    size_t bin_count;
+    request asked;
+} input;
+
+/* What it answered; untouched where nothing was written. */
+typedef struct reply {
+    uint32_t status, chosen;
+    rp_placement placed[ENTRIES + 1];
+} reply;
+
+static uint32_t call_either(const input *it, const rp_bin *bins, const rp_collection *all, rp_placement *placed,
+                            uint32_t *chosen)
+{
+    const request *asked = &it->asked;
+    if (it->is_collection)
+        return rectangle_pack_collection(bins, it->bin_count, all, asked->heuristic, placed, asked->places, chosen);
+    uint32_t status = rectangle_pack_boxes(bins, it->bin_count, all->boxes, all->box_count, placed, asked->places);
+    if (status == RP_DONE)
+        *chosen = RP_VOLUME;
+    return status;
+}
+
+static void perform_once(const input *it, reply *said)
+{
+    const rp_bin *bins = guarded_copy(BINS_LIST, it->bins, it->bin_count * sizeof *bins);
+    const rp_collection *all = guarded_collection(&it->asked);
+    size_t size = it->asked.places * sizeof *said->placed;
+    rp_placement *placed = guarded_untouched(PLACEMENTS_LIST, size);
+    uint32_t *chosen = guarded_untouched(CHOSEN, sizeof *chosen);
+    memset(said, UNTOUCHED, sizeof *said);
+    said->status = call_either(it, bins, all, placed, chosen);
+    check_kept(&it->asked, all);
+    check(!memcmp(bins, it->bins, it->bin_count * sizeof *bins), "bins are changed");
+    check_written(said->status, placed, size, chosen);
+    memcpy(said->placed, placed, size);
+    said->chosen = *chosen;
+}
+
+/* A call in which the requests for memory from first to last are refused. It gives all its memory back, and wants memory only
+   where some was refused. */
+static uint32_t call_once(const input *it, long first, long last, reply *said)
+{
+    long before = blocks;
+    refuse_requests(first, last);
+    perform_once(it, said);
+    refuse_nothing();
+    check(blocks == before, "memory is not given back");
+    check(said->status != RP_OUT_OF_MEMORY || refused, "want of memory is answered where all was there");
+    return said->status;
+}
+
+/* What the call has to answer where all memory is there. */
+static void reply_by_rule(const input *it, reply *right)
+{
+    static shelf bins;
+    static packing best;
+    bins.count = it->bin_count;
+    for (size_t i = 0; i < bins.count; i++) {
+        bins.ids[i] = (uint32_t)i;
+        bins.sizes[i] = it->bins[i];
+        bins.free[i].list[0] = whole_of(&it->bins[i]);
+        bins.free[i].count = 1;
+    }
+    memset(right, UNTOUCHED, sizeof *right);
+    right->status = answer_of(&it->asked, &bins, &best);
+    if (right->status != RP_DONE)
+        return;
+    right->chosen = best.heuristic;
+    for (size_t i = 0; i < best.count; i++) {
+        const entry *now = &best.entries[i];
+        right->placed[i] = (rp_placement){(uint32_t)now->bin, now->at.x, now->at.y, now->at.z};
+    }
+}
+
+/* A box, or a member as a box in its group. */
+static rp_box box_of(const request *it, size_t i)
+{
+    rp_box box = it->boxes[i < it->box_count ? i : it->members[i - it->box_count].index];
+    box.group = group_of(it, i);
+    return box;
+}
+
+/* Each box is inside its bin, and no two share a cell; groups are together, and those that are excluded are apart. */
+static void check_placed(const input *it, const reply *said)
+{
+    static cells filled[BINS];
+    uint32_t bins[ENTRIES];
+    memset(filled, 0, sizeof filled);
+    for (size_t i = 0; i < entries_of(&it->asked); i++) {
+        rp_box box = box_of(&it->asked, i);
+        rp_section at = section_at(&said->placed[i], &box);
+        bins[i] = said->placed[i].bin;
+        check(bins[i] < it->bin_count, "a box is in no bin");
+        fill(filled[bins[i]], &it->bins[bins[i]], &at);
+    }
+    check_groups(&it->asked, bins);
+}
+
+static int are_same_replies(const reply *one, const reply *other)
+{
+    return one->status == other->status && one->chosen == other->chosen &&
+           !memcmp(one->placed, other->placed, sizeof one->placed);
+}
+
+/* The answer is what the header promises, and that of the rule. */
+static void check_reply(const input *it, const reply *right, const reply *said)
+{
+    if (said->status == RP_DONE)
+        check_placed(it, said);
+    check(said->status == right->status, "the status is not that of the rule");
+    check(said->chosen == right->chosen, "the heuristic is not that of the rule");
+    check(are_same_replies(said, right), "the placements are not those of the rule");
+}
+
+#endif

@@ -1,0 +1,299 @@
+/* The commands that change a session, each held against the account: the status, what is written, and what is then in the
+   session. To be included once in a program. */
+#ifndef SESSION_COMMANDS_H
+#define SESSION_COMMANDS_H
+
+#include "session_account.h"
+#include "session_reading.h"
+
+enum kind { ADD_BIN, PACK, PACK_COLLECTION, RELEASE, COALESCE, COALESCE_ALL, KINDS };
+
+/* A command. The bin is an index in ids. Which number is released, pick chooses from those that were given by then, unless it
+   is NEVER_GIVEN. A section is joined with those of a range. */
+typedef struct command {
+    enum kind kind;
+    size_t bin;
+    rp_bin size;
+    request asked;
+    uint64_t pick;
+    size_t section, start, stop;
+} command;
+
+/* What a command answered, and after it the statistics of all bins, and a number made from all free sections. */
+typedef struct answer {
+    uint32_t status, chosen;
+    rp_outstanding places[ENTRIES + 1];
+    rp_stats stats[BINS];
+    uint64_t free;
+} answer;
+
+/* What has to become of a session by a command that is done: of a packing, its placements; and the free sections of all bins,
+   but for those of a bin in which all are joined, whose order is not known. */
+typedef struct outlook {
+    packing packed;
+    shelf left;
+    sections free[BINS];
+} outlook;
+
+/* The number that no placement gets. */
+static const uint64_t NEVER_GIVEN = UINT64_MAX;
+
+/* How many sections the joins of one section took up. */
+static long taken_up;
+
+static int packs(const command *it)
+{
+    return it->kind == PACK || it->kind == PACK_COLLECTION;
+}
+
+/* One of the numbers that were given, or of the next two; or one that never is. */
+static uint64_t number_to_release(const command *it, const account *now)
+{
+    return it->pick == NEVER_GIVEN ? NEVER_GIVEN : it->pick % (now->next + 2);
+}
+
+static uint32_t pack(rp_session *session, const command *it, answer *said)
+{
+    const request *asked = &it->asked;
+    const rp_collection *all = guarded_collection(asked);
+    size_t size = asked->places * sizeof *said->places;
+    rp_outstanding *places = guarded_untouched(PLACEMENTS_LIST, size);
+    uint32_t *chosen = guarded_untouched(CHOSEN, sizeof *chosen), status;
+    if (it->kind == PACK) {
+        status = rectangle_pack_session_pack(session, all->boxes, all->box_count, places, asked->places);
+        if (status == RP_DONE)
+            *chosen = RP_VOLUME;
+    } else {
+        status = rectangle_pack_session_pack_collection(session, all, asked->heuristic, places, asked->places, chosen);
+    }
+    check_kept(asked, all);
+    check_written(status, places, size, chosen);
+    memcpy(said->places, places, size);
+    said->chosen = *chosen;
+    return status;
+}
+
+static uint32_t perform(rp_session *session, const command *it, const account *now, answer *said)
+{
+    memset(said->places, UNTOUCHED, sizeof said->places);
+    memset(&said->chosen, UNTOUCHED, sizeof said->chosen);
+    refused = 0;
+    switch (it->kind) {
+    case ADD_BIN:
+        return rectangle_pack_session_add_bin(session, ids[it->bin], it->size.width, it->size.height, it->size.depth);
+    case RELEASE:
+        return rectangle_pack_session_release(session, number_to_release(it, now));
+    case COALESCE:
+        return rectangle_pack_session_coalesce(session, ids[it->bin], it->section, it->start, it->stop);
+    case COALESCE_ALL:
+        return rectangle_pack_session_coalesce_all(session, ids[it->bin]);
+    default:
+        return pack(session, it, said);
+    }
+}
+
+/* The status that the account calls for, and of a packing also what it places and leaves. */
+static uint32_t expected(const command *it, const account *now, outlook *next)
+{
+    switch (it->kind) {
+    case ADD_BIN:
+        return now->has_bin[it->bin] ? RP_DUPLICATE_BIN : RP_DONE;
+    case RELEASE:
+        return position_of(now, number_to_release(it, now)) < now->count ? RP_DONE : RP_UNKNOWN_PLACEMENT;
+    case COALESCE:
+    case COALESCE_ALL:
+        return now->has_bin[it->bin] ? RP_DONE : RP_UNKNOWN_BIN;
+    default:
+        shelve(&next->left, now);
+        return answer_of(&it->asked, &next->left, &next->packed);
+    }
+}
+
+/* Whether a command may want memory: to join sections takes none, nor to pack nothing where nothing is excluded. */
+static int may_want(const command *it)
+{
+    const request *asked = &it->asked;
+    if (it->kind == COALESCE || it->kind == COALESCE_ALL)
+        return 0;
+    return !packs(it) || asked->box_count + asked->exclusion_count > 0 || asked->heuristic == RP_BEST;
+}
+
+/* The free sections of all bins after a command that is done. */
+static void look_ahead(const command *it, const account *now, outlook *next)
+{
+    for (size_t i = 0; i < BINS; i++)
+        copy_sections(&next->free[i], packs(it) && now->has_bin[i] ? free_on(&next->left, ids[i]) : &now->free[i]);
+    if (it->kind == ADD_BIN) {
+        rp_section whole = whole_of(&it->size);
+        add_section(&next->free[it->bin], &whole);
+    }
+    if (it->kind == RELEASE) {
+        const standing *released = &now->placed[position_of(now, number_to_release(it, now))];
+        rp_section section = section_of(released);
+        if (has_cells(&section))
+            add_section(&next->free[index_of(released->at.placement.bin)], &section);
+    }
+    if (it->kind == COALESCE) {
+        size_t before = next->free[it->bin].count;
+        join_range(&next->free[it->bin], it->section, it->start, it->stop);
+        taken_up += (long)(before - next->free[it->bin].count);
+    }
+}
+
+static void check_same_sections(const sections *one, const sections *other)
+{
+    check(one->count == other->count, "how many free sections there are after a command");
+    check(!memcmp(one->list, other->list, one->count * sizeof *one->list), "the free sections after a command");
+}
+
+/* The free sections that were read after a command that was done. */
+static void check_sections(const command *it, const outlook *next, const sections *after)
+{
+    for (size_t i = 0; i < BINS; i++) {
+        if (it->kind == COALESCE_ALL && i == it->bin) {
+            check(after[i].count <= next->free[i].count, "coalescing adds sections");
+            check(!share_a_face(&after[i]), "after coalescing two sections share a face");
+            continue;
+        }
+        check_same_sections(&next->free[i], &after[i]);
+    }
+}
+
+/* Groups are together, and those that are excluded are apart; the placements are those of the rule; and the numbers are the
+   next ones, in the order of packing. */
+static void check_packed(const command *it, const account *now, const packing *right, const answer *said)
+{
+    uint32_t bins[ENTRIES];
+    for (size_t i = 0; i < entries_of(&it->asked); i++)
+        bins[i] = said->places[i].placement.bin;
+    check_groups(&it->asked, bins);
+    check(said->chosen == right->heuristic, "the heuristic is not that of the rule");
+    for (size_t i = 0; i < right->count; i++) {
+        const rp_placement *at = &said->places[i].placement;
+        rp_section place = section_at(at, &right->entries[i].box);
+        check(said->places[i].number == now->next + right->entries[i].turn, "the number of a placement");
+        check(index_of(at->bin) < BINS && are_same(&place, &right->entries[i].at), "a placement is not where the rule has it");
+    }
+}
+
+/* Takes up in the account what a packing placed. Its bins are those of the shelf. */
+static void take_up_packing(account *now, const outlook *next, const answer *said)
+{
+    const packing *packed = &next->packed;
+    for (size_t i = 0; i < packed->count; i++) {
+        const entry *it = &packed->entries[i];
+        check(said->places[i].placement.bin == next->left.ids[it->bin], "the bin of a placement is not that of the rule");
+        now->placed[now->count + it->turn] = (standing){said->places[i], it->box, (uint32_t)i};
+    }
+    now->count += packed->count;
+    now->next += packed->count;
+}
+
+/* Strikes a placement from the account. */
+static void strike(account *now, size_t position)
+{
+    now->count--;
+    memmove(&now->placed[position], &now->placed[position + 1], (now->count - position) * sizeof *now->placed);
+}
+
+/* Takes up in the account what was done. */
+static void take_up(account *now, const command *it, const outlook *next, const answer *said)
+{
+    switch (it->kind) {
+    case ADD_BIN:
+        now->has_bin[it->bin] = 1;
+        now->bins[it->bin] = it->size;
+        break;
+    case RELEASE:
+        strike(now, position_of(now, number_to_release(it, now)));
+        break;
+    case COALESCE:
+    case COALESCE_ALL:
+        now->was_coalesced[it->bin] = 1;
+        break;
+    default:
+        check_packed(it, now, &next->packed, said);
+        take_up_packing(now, next, said);
+        break;
+    }
+}
+
+/* A number made from what is free in all bins. */
+static uint64_t number_of(const sections *free)
+{
+    uint64_t number = 14695981039346656037u;
+    for (size_t i = 0; i < BINS; i++) {
+        const unsigned char *bytes = (const unsigned char *)free[i].list;
+        for (size_t j = 0; j < free[i].count * sizeof *free[i].list; j++)
+            number = (number ^ bytes[j]) * 1099511628211u;
+    }
+    return number;
+}
+
+/* Holds a call that was done against the account. */
+static void settle_done(rp_session *session, const command *it, account *now, outlook *next, answer *said)
+{
+    static sections after[BINS];
+    look_ahead(it, now, next);
+    take_up(now, it, next, said);
+    read_session(session, now, said->stats, after);
+    check_sections(it, next, after);
+    said->free = number_of(after);
+    memcpy(now->stats, said->stats, sizeof now->stats);
+    for (size_t i = 0; i < BINS; i++)
+        copy_sections(&now->free[i], &after[i]);
+}
+
+/* Nothing is written, and the session is as it was. */
+static void check_nothing_done(rp_session *session, const account *now, answer *said)
+{
+    static sections after[BINS];
+    check(is_untouched(said->places, sizeof said->places), "something is written");
+    read_session(session, now, said->stats, after);
+    check(!memcmp(said->stats, now->stats, sizeof now->stats), "a call that is not done changes the session");
+    for (size_t i = 0; i < BINS; i++)
+        check_same_sections(&now->free[i], &after[i]);
+    said->free = number_of(after);
+}
+
+/* One command. Where memory is wanted, the session is as it was, and the same call is made again with all memory. Whether
+   memory was wanted. */
+static int obey(rp_session *session, const command *it, account *now, answer *said)
+{
+    static outlook next;
+    long before = requests;
+    uint32_t right = expected(it, now, &next);
+    said->status = perform(session, it, now, said);
+    int wanted = said->status == RP_OUT_OF_MEMORY;
+    check((it->kind != COALESCE && it->kind != COALESCE_ALL) || requests == before, "coalescing takes memory");
+    if (wanted) {
+        check(refused && may_want(it), "want of memory is answered where all was there");
+        check_nothing_done(session, now, said);
+        refuse_nothing();
+        said->status = perform(session, it, now, said);
+    }
+    check(said->status == right, "the status of a command");
+    if (said->status == RP_DONE)
+        settle_done(session, it, now, &next, said);
+    else
+        check_nothing_done(session, now, said);
+    return wanted;
+}
+
+/* Makes a session; where memory is wanted, again with all memory. Whether memory was wanted. */
+static int begin(rp_session *session)
+{
+    long before = blocks;
+    uint32_t status = rectangle_pack_session_new(session);
+    int wanted = status == RP_OUT_OF_MEMORY;
+    if (wanted) {
+        check(refused, "want of memory is answered where all was there");
+        check(!session->at && blocks == before, "a handle without a session is changed");
+        refuse_nothing();
+        status = rectangle_pack_session_new(session);
+    }
+    check(status == RP_DONE && session->at, "no session is made");
+    return wanted;
+}
+
+#endif

@@ -1,0 +1,57 @@
+/* Commands for sessions that are drawn. To be included once in a program. */
+#ifndef SESSION_DRAWS_H
+#define SESSION_DRAWS_H
+
+#include "packing_draws.h"
+#include "session_commands.h"
+
+enum { MOST_BOXES = 6, MOST_MEMBERS = PACKED - MOST_BOXES };
+
+/* An index in a short list, or beyond it. */
+static size_t draw_index(void)
+{
+    return within(0, 9) == 9 ? SIZE_MAX - within(0, 1) : within(0, 9);
+}
+
+static void draw_bin(command *it, uint32_t depth)
+{
+    it->size.width = within(2, SIDE);
+    it->size.height = within(2, SIDE);
+    it->size.depth = within(0, 11) == 11 ? 0 : within(1, depth);
+}
+
+static void draw_join(command *it)
+{
+    it->section = draw_index();
+    it->start = within(0, 1) ? 0 : draw_index();
+    it->stop = draw_index();
+}
+
+/* A command of this kind, for bins that are no deeper than this. */
+static void draw_command(command *it, enum kind kind, uint32_t depth)
+{
+    uint32_t box_depth = depth < LONGEST ? depth : LONGEST - 1;
+    memset(it, 0, sizeof *it);
+    it->kind = kind;
+    switch (kind) {
+    case PACK:
+        draw_boxes(&it->asked, MOST_BOXES, box_depth);
+        if (within(0, 9) == 9)
+            mistake_places(&it->asked);
+        break;
+    case PACK_COLLECTION:
+        draw_collection(&it->asked, MOST_BOXES, MOST_MEMBERS, box_depth);
+        break;
+    case RELEASE:
+        it->pick = within(0, 15) == 15 ? NEVER_GIVEN : within(0, UINT16_MAX);
+        break;
+    default:
+        it->bin = within(0, BINS - 1);
+        if (kind == ADD_BIN)
+            draw_bin(it, depth);
+        if (kind == COALESCE)
+            draw_join(it);
+    }
+}
+
+#endif
