@@ -1,177 +1,59 @@
-//! The calls of `include/rectangle_pack.h`, and the one place where they are made.
+//! The one place where the calls of C are made.
+
+mod calls;
+#[cfg(test)]
+mod kept;
 
 use std::cell::UnsafeCell;
 use std::fmt;
 use std::ops::Range;
 use std::ptr;
 
-use crate::{Axis, BinStats, CutStep, RectanglePackError, Section, SessionError};
+use calls::*;
+pub(crate) use calls::{Collection, RpBin, RpBox, RpExclusion, RpOutstanding, RpPlacement, BEST};
 
-#[repr(C)]
-pub(crate) struct RpBin {
-    pub(crate) width: u32,
-    pub(crate) height: u32,
-    pub(crate) depth: u32,
-}
+use crate::{Axis, BinStats, CutStep, Heuristic, RectanglePackError, Section, SessionError};
 
-#[repr(C)]
-pub(crate) struct RpBox {
-    pub(crate) width: u32,
-    pub(crate) height: u32,
-    pub(crate) depth: u32,
-    pub(crate) group: u32,
-}
-
-#[repr(C)]
-#[derive(Clone, Copy, Default)]
-pub(crate) struct RpPlacement {
-    pub(crate) bin: u32,
-    pub(crate) x: u32,
-    pub(crate) y: u32,
-    pub(crate) z: u32,
-}
-
-#[repr(C)]
-#[derive(Clone, Copy, Default)]
-pub(crate) struct RpOutstanding {
-    pub(crate) number: u64,
-    pub(crate) placement: RpPlacement,
-}
-
-#[repr(C)]
-struct RpSession {
-    at: *mut u8,
-}
-
-#[repr(C)]
-#[derive(Default)]
-struct RpVolume {
-    low: u64,
-    high: u64,
-}
-
-#[repr(C)]
-#[derive(Default)]
-struct RpStats {
-    bin_volume: RpVolume,
-    free_volume: RpVolume,
-    placed_volume: RpVolume,
-    free_sections: usize,
-    placements: usize,
-}
-
-#[repr(C)]
-#[derive(Clone, Copy, Default)]
-struct RpSection {
-    x: u32,
-    y: u32,
-    z: u32,
-    width: u32,
-    height: u32,
-    depth: u32,
-}
-
-#[repr(C)]
-#[derive(Clone, Copy, Default)]
-struct RpCutStep {
-    axis: u32,
-    place: u32,
-}
-
-const DONE: u32 = 0;
-const NOT_ENOUGH_SPACE: u32 = 1;
-const OUT_OF_MEMORY: u32 = 2;
-const DUPLICATE_BIN: u32 = 4;
-const UNKNOWN_BIN: u32 = 5;
-const UNKNOWN_PLACEMENT: u32 = 6;
-const NUMBERS_USED_UP: u32 = 7;
-const SHORT_ARRAY: u32 = 8;
-const NO_PLAN: u32 = 9;
-
-extern "C" {
-    fn rectangle_pack_boxes(
-        bins: *const RpBin,
-        bin_count: usize,
-        boxes: *const RpBox,
-        box_count: usize,
-        placements: *mut RpPlacement,
-        placement_count: usize,
-    ) -> u32;
-    fn rectangle_pack_session_new(session: *mut RpSession) -> u32;
-    fn rectangle_pack_session_free(session: *mut RpSession);
-    fn rectangle_pack_session_add_bin(
-        session: *mut RpSession,
-        bin: u32,
-        width: u32,
-        height: u32,
-        depth: u32,
-    ) -> u32;
-    fn rectangle_pack_session_pack(
-        session: *mut RpSession,
-        boxes: *const RpBox,
-        box_count: usize,
-        placements: *mut RpOutstanding,
-        placement_count: usize,
-    ) -> u32;
-    fn rectangle_pack_session_release(session: *mut RpSession, number: u64) -> u32;
-    fn rectangle_pack_session_coalesce_all(session: *mut RpSession, bin: u32) -> u32;
-    fn rectangle_pack_session_coalesce(
-        session: *mut RpSession,
-        bin: u32,
-        index: usize,
-        start: usize,
-        end: usize,
-    ) -> u32;
-    fn rectangle_pack_session_stats(session: *mut RpSession, bin: u32, stats: *mut RpStats) -> u32;
-    fn rectangle_pack_session_free_sections(
-        session: *mut RpSession,
-        bin: u32,
-        sections: *mut RpSection,
-        length: usize,
-        count: *mut usize,
-    ) -> u32;
-    fn rectangle_pack_session_cut_plan(
-        session: *mut RpSession,
-        bin: u32,
-        steps: *mut RpCutStep,
-        length: usize,
-        count: *mut usize,
-    ) -> u32;
-    fn rectangle_pack_session_was_coalesced(
-        session: *mut RpSession,
-        bin: u32,
-        coalesced: *mut u32,
-    ) -> u32;
-    fn rectangle_pack_session_next_number(session: *mut RpSession) -> u64;
-}
-
-/// One placement for each box, in the same place of the list.
-pub(crate) fn pack(bins: &[RpBin], boxes: &[RpBox]) -> Result<Vec<RpPlacement>, RectanglePackError> {
-    let mut placements = vec![RpPlacement::default(); boxes.len()];
-    // SAFETY: each pointer is that of a slice, with its length, so it is aligned and not null; the placements are a list of
-    // their own, which nobody else reads or writes during the call.
+/// The heuristic that was packed with, and one placement for each box, in the same place of the list. The heuristic is asked for
+/// by its number, or `BEST`.
+pub(crate) fn pack(
+    bins: &[RpBin],
+    collection: &Collection,
+    heuristic: u32,
+) -> Result<(Heuristic, Vec<RpPlacement>), RectanglePackError> {
+    let mut placements = vec![RpPlacement::default(); collection.boxes.len()];
+    let mut chosen = 0;
+    // SAFETY: each pointer is that of a slice, with its length, or of a variable of this function, so it is aligned and not null;
+    // the placements and the heuristic that is chosen are this function's own, which nobody else reads or writes during the call.
     let status = unsafe {
-        rectangle_pack_boxes(
+        rectangle_pack_collection(
             bins.as_ptr(),
             bins.len(),
-            boxes.as_ptr(),
-            boxes.len(),
+            &collection.lists(),
+            heuristic,
             placements.as_mut_ptr(),
             placements.len(),
+            &mut chosen,
         )
     };
     match status {
-        DONE => Ok(placements),
+        DONE => Ok((Heuristic::of(chosen), placements)),
         NOT_ENOUGH_SPACE => Err(RectanglePackError::NotEnoughBinSpace),
         OUT_OF_MEMORY => Err(RectanglePackError::OutOfMemory),
+        EQUAL_GROUPS => Err(RectanglePackError::EqualGroups),
         _ => Err(RectanglePackError::TooMany),
     }
 }
 
 /// A session of the C library, from `rectangle_pack_session_new` on and until it is dropped.
 ///
-/// The pointer keeps it on the thread that made it, and no call calls back, so that calls come one at a time.
+/// Its cell keeps it from being `Sync`, and no call calls back, so that calls come one at a time.
 pub(crate) struct Handle(UnsafeCell<RpSession>);
+
+// SAFETY: a session owns nothing that belongs to one thread: `Send` is proved of the type by which C holds it. The thread that
+// sends it does not use it any more, and what it did comes before what the other does, by a lock, the start or the join of a
+// thread, or as by a lock: by what is released there and acquired here.
+unsafe impl Send for Handle {}
 
 impl Handle {
     pub(crate) fn new() -> Result<Self, SessionError> {
@@ -188,21 +70,29 @@ impl Handle {
         })
     }
 
-    /// One placement for each box, in the same place of the list.
-    pub(crate) fn pack(&mut self, boxes: &[RpBox]) -> Result<Vec<RpOutstanding>, SessionError> {
-        let mut placements = vec![RpOutstanding::default(); boxes.len()];
+    /// The heuristic that was packed with, and one placement for each box, in the same place of the list. The heuristic is asked
+    /// for by its number, or `BEST`.
+    pub(crate) fn pack(
+        &mut self,
+        collection: &Collection,
+        heuristic: u32,
+    ) -> Result<(Heuristic, Vec<RpOutstanding>), SessionError> {
+        let mut placements = vec![RpOutstanding::default(); collection.boxes.len()];
+        let mut chosen = 0;
         // SAFETY: the handle has a session, and nobody else reads or writes it during the call. The other pointers are those
-        // of slices, each with its length, so they are aligned and not null; the placements are a list of their own.
+        // of slices, each with its length, or of variables of this function, so they are aligned and not null; the placements
+        // and the heuristic that is chosen are this function's own.
         answer(unsafe {
-            rectangle_pack_session_pack(
+            rectangle_pack_session_pack_collection(
                 self.0.get(),
-                boxes.as_ptr(),
-                boxes.len(),
+                &collection.lists(),
+                heuristic,
                 placements.as_mut_ptr(),
                 placements.len(),
+                &mut chosen,
             )
         })?;
-        Ok(placements)
+        Ok((Heuristic::of(chosen), placements))
     }
 
     pub(crate) fn release(&mut self, number: u64) -> Result<(), SessionError> {
@@ -229,7 +119,7 @@ impl Handle {
 
     pub(crate) fn stats(&self, bin: u32) -> Result<BinStats, SessionError> {
         let mut stats = RpStats::default();
-        // SAFETY: the handle has a session. It stays on its thread, so nobody else reads or writes it
+        // SAFETY: the handle has a session. It is not `Sync`, so nobody else reads or writes it
         // during the call. The statistics are those of this function.
         answer(unsafe { rectangle_pack_session_stats(self.0.get(), bin, &mut stats) })?;
         Ok(BinStats {
@@ -243,7 +133,7 @@ impl Handle {
 
     pub(crate) fn free_sections(&self, bin: u32) -> Result<Vec<Section>, SessionError> {
         let sections = read(self.stats(bin)?.free_sections, |sections, length, count| {
-            // SAFETY: the handle has a session. It stays on its thread, so nobody else reads or writes it
+            // SAFETY: the handle has a session. It is not `Sync`, so nobody else reads or writes it
             // during the call. The array and the count are those of `read`.
             unsafe {
                 rectangle_pack_session_free_sections(self.0.get(), bin, sections, length, count)
@@ -258,7 +148,7 @@ impl Handle {
         let stats = self.stats(bin)?;
         let longest = (stats.free_sections + stats.placements) * 2;
         let steps = read(longest, |steps, length, count| {
-            // SAFETY: the handle has a session. It stays on its thread, so nobody else reads or writes it
+            // SAFETY: the handle has a session. It is not `Sync`, so nobody else reads or writes it
             // during the call. The array and the count are those of `read`.
             unsafe { rectangle_pack_session_cut_plan(self.0.get(), bin, steps, length, count) }
         });
@@ -271,7 +161,7 @@ impl Handle {
 
     pub(crate) fn was_coalesced(&self, bin: u32) -> Result<bool, SessionError> {
         let mut coalesced = 0;
-        // SAFETY: the handle has a session. It stays on its thread, so nobody else reads or writes it
+        // SAFETY: the handle has a session. It is not `Sync`, so nobody else reads or writes it
         // during the call. The number that is written is that of this function.
         answer(unsafe {
             rectangle_pack_session_was_coalesced(self.0.get(), bin, &mut coalesced)
@@ -280,7 +170,7 @@ impl Handle {
     }
 
     pub(crate) fn next_number(&self) -> u64 {
-        // SAFETY: the handle has a session. It stays on its thread, so nobody else reads or writes it
+        // SAFETY: the handle has a session. It is not `Sync`, so nobody else reads or writes it
         // during the call.
         unsafe { rectangle_pack_session_next_number(self.0.get()) }
     }
@@ -362,62 +252,7 @@ fn refusal(status: u32) -> SessionError {
         UNKNOWN_BIN => SessionError::UnknownBin,
         UNKNOWN_PLACEMENT => SessionError::UnknownPlacement,
         NUMBERS_USED_UP => SessionError::NumbersUsedUp,
+        EQUAL_GROUPS => SessionError::EqualGroups,
         _ => SessionError::TooMany,
-    }
-}
-
-/// Lists of C that this crate keeps on its own side, to be compared with these.
-#[cfg(test)]
-pub(crate) mod kept {
-    use super::{read, refusal, section, Handle, RpSection, RpSession};
-    use crate::{Section, SessionError};
-
-    #[repr(C)]
-    #[derive(Clone, Copy, Default)]
-    struct RpStanding {
-        number: u64,
-        index: u32,
-        bin: u32,
-        section: RpSection,
-    }
-
-    extern "C" {
-        fn rectangle_pack_session_bins(
-            session: *mut RpSession,
-            bins: *mut u32,
-            length: usize,
-            count: *mut usize,
-        ) -> u32;
-        fn rectangle_pack_session_outstanding(
-            session: *mut RpSession,
-            placements: *mut RpStanding,
-            length: usize,
-            count: *mut usize,
-        ) -> u32;
-    }
-
-    impl Handle {
-        /// The ids of the bins.
-        pub(crate) fn bins(&self) -> Result<Vec<u32>, SessionError> {
-            read(0, |bins, length, count| {
-                // SAFETY: the handle has a session. It stays on its thread, so nobody else reads or writes it
-                // during the call. The array and the count are those of `read`.
-                unsafe { rectangle_pack_session_bins(self.0.get(), bins, length, count) }
-            })
-            .map_err(refusal)
-        }
-
-        /// The number of each placement, the index of its box, its bin, and where it stands.
-        pub(crate) fn outstanding(&self) -> Result<Vec<(u64, u32, u32, Section)>, SessionError> {
-            let placements = read(0, |placements: *mut RpStanding, length, count| {
-                // SAFETY: as above.
-                unsafe {
-                    rectangle_pack_session_outstanding(self.0.get(), placements, length, count)
-                }
-            });
-            let all = placements.map_err(refusal)?;
-            let told = all.iter().map(|it| (it.number, it.index, it.bin, section(&it.section)));
-            Ok(told.collect())
-        }
     }
 }

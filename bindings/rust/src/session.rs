@@ -1,119 +1,14 @@
 //! A session: bins that stay, and boxes that are packed into them and released by number.
 
+mod parts;
+#[cfg(test)]
+mod tests;
+
 use std::collections::BTreeMap;
-use std::error::Error;
-use std::fmt;
 use std::ops::Range;
 
-use crate::{ffi, GroupedRectsToPlace, PackedLocation, RectToInsert, TargetBin};
-
-/// A placement that was not released.
-#[derive(Debug, Clone, PartialEq, Eq)]
-pub struct Outstanding<RectId, BinId> {
-    /// Its number, by which it is released.
-    pub number: u64,
-    /// The id of the box.
-    pub id: RectId,
-    /// The id of the bin.
-    pub bin: BinId,
-    /// The corner and the size of the box.
-    pub location: PackedLocation,
-}
-
-/// What is free and what is placed in a bin. Each cell is one or the other: `free_volume` and `placed_volume` add up to
-/// `bin_volume`.
-#[derive(Debug, Clone, Copy, PartialEq, Eq)]
-pub struct BinStats {
-    /// The volume of the bin, in cells.
-    pub bin_volume: u128,
-    /// The volumes of its free sections, added up.
-    pub free_volume: u128,
-    /// The volumes of the outstanding placements in it, added up.
-    pub placed_volume: u128,
-    /// How many free sections it has.
-    pub free_sections: usize,
-    /// How many placements are outstanding in it. Boxes without cells are counted too.
-    pub placements: usize,
-}
-
-/// A free section of a bin: its corner with the least coordinates, and its size, in cells.
-#[derive(Debug, Clone, Copy, PartialEq, Eq, Hash)]
-pub struct Section {
-    /// The distance of the corner from the bin's left side.
-    pub x: u32,
-    /// Its distance from the bottom.
-    pub y: u32,
-    /// Its distance from the front.
-    pub z: u32,
-    /// The width.
-    pub width: u32,
-    /// The height.
-    pub height: u32,
-    /// The depth.
-    pub depth: u32,
-}
-
-/// An axis: `X` with widths, `Y` with heights, `Z` with depths.
-#[derive(Debug, Clone, Copy, PartialEq, Eq, Hash)]
-pub enum Axis {
-    /// From left to right.
-    X,
-    /// From bottom to top.
-    Y,
-    /// From front to back.
-    Z,
-}
-
-/// A step of a cutting plan. The plan of a part is a `Leaf`, where it is not cut, or a `Cut` followed by the plan of its lower
-/// and then the plan of its upper part.
-#[derive(Debug, Clone, Copy, PartialEq, Eq, Hash)]
-pub enum CutStep {
-    /// A straight cut across the whole part.
-    Cut {
-        /// The axis that the cut stands across.
-        axis: Axis,
-        /// Where it stands: so many cells from the corner of the bin, not of the part.
-        place: u32,
-    },
-    /// The part is one free section or one box, or has no cells.
-    Leaf,
-}
-
-/// Why a session refused a call. The session is then as it was.
-#[derive(Debug, Clone, Copy, PartialEq, Eq)]
-#[non_exhaustive]
-pub enum SessionError {
-    /// The bin is there already.
-    DuplicateBin,
-    /// There is no such bin.
-    UnknownBin,
-    /// No placement of this number is outstanding.
-    UnknownPlacement,
-    /// The numbers of the placements would reach 2^64 - 1, which is never given.
-    NumbersUsedUp,
-    /// For some group no bin takes all of its boxes, as the groups before it left the bins.
-    NotEnoughBinSpace,
-    /// Memory was refused.
-    OutOfMemory,
-    /// There are 2^32 boxes or bins, or more.
-    TooMany,
-}
-
-impl fmt::Display for SessionError {
-    fn fmt(&self, f: &mut fmt::Formatter<'_>) -> fmt::Result {
-        f.write_str(match self {
-            SessionError::DuplicateBin => "The bin is there already.",
-            SessionError::UnknownBin => "There is no such bin.",
-            SessionError::UnknownPlacement => "No placement of this number is outstanding.",
-            SessionError::NumbersUsedUp => "The numbers of placements are used up.",
-            SessionError::NotEnoughBinSpace => "Not enough space to place all of the rectangles.",
-            SessionError::OutOfMemory => "Out of memory.",
-            SessionError::TooMany => "Too many bins or boxes.",
-        })
-    }
-}
-
-impl Error for SessionError {}
+use crate::{ffi, GroupedRectsToPlace, Heuristic, PackedLocation, RectToInsert, TargetBin};
+pub use parts::{Axis, BinStats, CutStep, Outstanding, Section, SessionError};
 
 /// Bins, and the boxes that were placed in them and not released.
 ///
@@ -140,12 +35,20 @@ impl Error for SessionError {}
 /// # Ok::<(), rectangle_pack::SessionError>(())
 /// ```
 ///
-/// It stays on the thread that made it:
+/// It may go to another thread, if its ids may:
 ///
-/// ```compile_fail,E0277
+/// ```
 /// # use rectangle_pack::Session;
 /// fn sent<T: Send>() {}
 /// sent::<Session<u32, u32>>();
+/// ```
+///
+/// But it is not shared, since its calls come one at a time:
+///
+/// ```compile_fail,E0277
+/// # use rectangle_pack::Session;
+/// fn shared<T: Sync>() {}
+/// shared::<Session<u32, u32>>();
 /// ```
 #[derive(Debug)]
 pub struct Session<RectId, BinId> {
@@ -193,9 +96,10 @@ impl<RectId: Ord + Clone, BinId: Ord + Clone> Session<RectId, BinId> {
         Ok(())
     }
 
-    /// Packs all boxes into what is free, each group whole into one bin: one placement for each box and group that it is in,
-    /// in the order of [`RectanglePackOk::placements`](crate::RectanglePackOk::placements). What was placed before stays where
-    /// it is.
+    /// Packs all boxes into what is free, each group whole into one bin, and groups that are excluded into different bins: one
+    /// placement for each box and group that it is in, in the order of
+    /// [`RectanglePackOk::placements`](crate::RectanglePackOk::placements). What was placed before stays where it is, and does not
+    /// exclude anything.
     ///
     /// Placements are numbered 0, 1, 2 and so on, in the order in which they are made. Groups go in falling order of the sum of
     /// their volumes, at equal sums boxes that are alone by their ids, and then groups by theirs. Each goes into the first bin
@@ -203,16 +107,82 @@ impl<RectId: Ord + Clone, BinId: Ord + Clone> Session<RectId, BinId> {
     ///
     /// # Errors
     ///
-    /// `NotEnoughBinSpace`, `OutOfMemory`, `TooMany` or `NumbersUsedUp`.
+    /// `EqualGroups`, `NotEnoughBinSpace`, `OutOfMemory`, `TooMany` or `NumbersUsedUp`.
     pub fn pack<GroupId: Ord>(
         &mut self,
         rects: &GroupedRectsToPlace<RectId, GroupId>,
     ) -> Result<Vec<Outstanding<RectId, BinId>>, SessionError> {
+        self.pack_by(rects, Heuristic::Volume)
+    }
+
+    /// Packs as [`pack`](Self::pack) does, with another heuristic in place of the volume.
+    ///
+    /// ```
+    /// use rectangle_pack::Heuristic;
+    /// # use rectangle_pack::{GroupedRectsToPlace, RectToInsert, Session, SessionError, TargetBin};
+    /// # let mut session: Session<u32, &str> = Session::new()?;
+    /// # session.add_bin("sheet", TargetBin::new(4, 4, 1))?;
+    /// # let mut rects: GroupedRectsToPlace<u32, u32> = GroupedRectsToPlace::new();
+    /// for (id, width, height) in [(1, 1, 3), (2, 3, 2), (3, 3, 1)] {
+    ///     rects.push_rect(id, None, RectToInsert::new(width, height, 1));
+    /// }
+    /// // By their volumes these three do not go into 4x4, and by their heights they do.
+    /// assert_eq!(session.pack(&rects), Err(SessionError::NotEnoughBinSpace));
+    /// assert_eq!(session.pack_by(&rects, Heuristic::Height)?.len(), 3);
+    /// # Ok::<(), SessionError>(())
+    /// ```
+    ///
+    /// # Errors
+    ///
+    /// As of `pack`.
+    pub fn pack_by<GroupId: Ord>(
+        &mut self,
+        rects: &GroupedRectsToPlace<RectId, GroupId>,
+        heuristic: Heuristic,
+    ) -> Result<Vec<Outstanding<RectId, BinId>>, SessionError> {
+        let (_, placed) = self.pack_asked(rects, heuristic.number())?;
+        Ok(placed)
+    }
+
+    /// Packs as [`pack`](Self::pack) does, with the heuristic of [`Heuristic::ALL`] that uses the bins best, and answers this
+    /// heuristic too: it places cells in the fewest bins, and of several such the fewest cells in the last of these bins, in the
+    /// order in which they were added. What stood in the bins before does not count. Of several that are as good it is the first
+    /// in the list. It takes as long as a packing with each of them and one more.
+    ///
+    /// ```
+    /// use rectangle_pack::Heuristic;
+    /// # use rectangle_pack::{GroupedRectsToPlace, RectToInsert, Session, TargetBin};
+    /// # let mut session: Session<u32, &str> = Session::new()?;
+    /// # session.add_bin("sheet", TargetBin::new(4, 4, 1))?;
+    /// # let mut rects: GroupedRectsToPlace<u32, u32> = GroupedRectsToPlace::new();
+    /// # for (id, width, height) in [(1, 1, 3), (2, 3, 2), (3, 3, 1)] {
+    /// #     rects.push_rect(id, None, RectToInsert::new(width, height, 1));
+    /// # }
+    /// let (best, placed) = session.pack_best(&rects)?;
+    /// assert_eq!((best, placed.len()), (Heuristic::Height, 3));
+    /// # Ok::<(), rectangle_pack::SessionError>(())
+    /// ```
+    ///
+    /// # Errors
+    ///
+    /// As of `pack`. `NotEnoughBinSpace` says that there is no space with any of the heuristics.
+    pub fn pack_best<GroupId: Ord>(
+        &mut self,
+        rects: &GroupedRectsToPlace<RectId, GroupId>,
+    ) -> Result<(Heuristic, Vec<Outstanding<RectId, BinId>>), SessionError> {
+        self.pack_asked(rects, ffi::BEST)
+    }
+
+    fn pack_asked<GroupId: Ord>(
+        &mut self,
+        rects: &GroupedRectsToPlace<RectId, GroupId>,
+        heuristic: u32,
+    ) -> Result<(Heuristic, Vec<Outstanding<RectId, BinId>>), SessionError> {
         let entries = rects.entries();
         if u32::try_from(entries.len()).is_err() {
             return Err(SessionError::TooMany);
         }
-        let placed = self.handle.pack(&rects.boxes(&entries))?;
+        let (chosen, placed) = self.handle.pack(&rects.collection(&entries), heuristic)?;
         let added: Vec<_> = entries
             .iter()
             .zip(&placed)
@@ -220,7 +190,7 @@ impl<RectId: Ord + Clone, BinId: Ord + Clone> Session<RectId, BinId> {
             .collect();
         self.outstanding
             .extend(added.iter().map(|it| (it.number, it.clone())));
-        Ok(added)
+        Ok((chosen, added))
     }
 
     fn named(
@@ -367,65 +337,5 @@ impl<RectId: Ord + Clone, BinId: Ord + Clone> Session<RectId, BinId> {
     fn number_of(&self, bin: &BinId) -> Result<u32, SessionError> {
         let number = self.numbers.get(bin).copied();
         number.ok_or(SessionError::UnknownBin)
-    }
-}
-
-#[cfg(test)]
-mod tests {
-    use super::*;
-
-    fn rects(sizes: &[(u32, u32, u32)]) -> GroupedRectsToPlace<u32, u32> {
-        let mut rects = GroupedRectsToPlace::new();
-        for &(id, width, height) in sizes {
-            rects.push_rect(id, None, RectToInsert::new(width, height, 1));
-        }
-        rects
-    }
-
-    /// The lists that are kept here are those of C.
-    fn check_lists(session: &Session<u32, &str>, packed: &[Vec<u64>]) -> Result<(), SessionError> {
-        let own: Vec<_> = session
-            .outstanding()
-            .map(|it| {
-                let mut indices = packed.iter().filter_map(|call| call.iter().position(|number| *number == it.number));
-                let index = u32::try_from(indices.next().expect("it was packed")).expect("few");
-                let section = Section {
-                    x: it.location.x(),
-                    y: it.location.y(),
-                    z: it.location.z(),
-                    width: it.location.width(),
-                    height: it.location.height(),
-                    depth: it.location.depth(),
-                };
-                (it.number, index, session.numbers[it.bin], section)
-            })
-            .collect();
-        assert_eq!(session.handle.outstanding()?, own);
-        let mut numbers: Vec<_> = session.bins().map(|id| session.numbers[id]).collect();
-        numbers.sort_unstable();
-        assert_eq!(session.handle.bins()?, numbers);
-        Ok(())
-    }
-
-    #[test]
-    fn lists_that_are_kept_are_those_of_c() -> Result<(), SessionError> {
-        let mut session = Session::new()?;
-        let mut packed = Vec::new();
-        check_lists(&session, &packed)?;
-        for (id, side) in [("wall", 9), ("sheet", 9), ("shelf", 4)] {
-            session.add_bin(id, TargetBin::new(side, side, 1))?;
-            check_lists(&session, &packed)?;
-        }
-        for sizes in [&[(5, 1, 2), (2, 4, 4), (9, 6, 3)][..], &[], &[(1, 9, 5), (0, 0, 7)]] {
-            let placed = session.pack(&rects(sizes))?;
-            packed.push(placed.iter().map(|it| it.number).collect());
-            check_lists(&session, &packed)?;
-        }
-        for number in [3, 0, 4] {
-            session.release(number)?;
-            check_lists(&session, &packed)?;
-        }
-        assert_eq!(session.outstanding().count(), 2);
-        Ok(())
     }
 }

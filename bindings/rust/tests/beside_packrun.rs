@@ -13,6 +13,7 @@ const RUNS: usize = 200;
 struct Input {
     bins: BTreeMap<String, [u32; 3]>,
     boxes: Vec<(String, [u32; 3], Vec<String>)>,
+    exclusions: Vec<[String; 2]>,
 }
 
 fn drawn(draw: &mut Draw) -> Input {
@@ -39,7 +40,19 @@ fn drawn(draw: &mut Draw) -> Input {
         let id = format!("r{:04}", (i * 37) % 61);
         boxes.push((id, size(draw, 1, (side / part).max(1)), names));
     }
-    Input { bins, boxes }
+    let pairs = if groups > 1 { draw.within(0, 2) } else { 0 };
+    let exclusions = (0..pairs)
+        .map(|_| {
+            let one = draw.within(1, groups);
+            let other = (one + draw.within(1, groups - 1) - 1) % groups + 1;
+            [format!("g{one}"), format!("g{other}")]
+        })
+        .collect();
+    Input {
+        bins,
+        boxes,
+        exclusions,
+    }
 }
 
 type Placed = Vec<(String, String, [u32; 6])>;
@@ -52,6 +65,9 @@ fn by_packrun(input: &Input) -> Option<Placed> {
     }
     for (id, [w, h, d], groups) in &input.boxes {
         lines += &format!("rect {id} {w} {h} {d} {}\n", groups.join(" "));
+    }
+    for [one, other] in &input.exclusions {
+        lines += &format!("exclude {one} {other}\n");
     }
     lines += "pack\n";
     let text = packrun(&lines);
@@ -78,6 +94,9 @@ fn by_crate(input: &Input) -> Option<Placed> {
     for (id, [w, h, d], groups) in &input.boxes {
         let groups = (!groups.is_empty()).then(|| groups.clone());
         rects.push_rect(id.clone(), groups, RectToInsert::new(*w, *h, *d));
+    }
+    for [one, other] in &input.exclusions {
+        rects.exclude(one.clone(), other.clone());
     }
     let bins: BTreeMap<String, TargetBin> = input
         .bins

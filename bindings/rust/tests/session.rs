@@ -90,6 +90,25 @@ fn numbers_go_on_from_packing_to_packing() -> Result<(), SessionError> {
 }
 
 #[test]
+fn a_session_goes_to_another_thread_and_back() -> Result<(), SessionError> {
+    let mut session = sheet();
+    session.pack(&rects(&[("hat", 4, 10)]))?;
+    let other = std::thread::spawn(move || {
+        session.release(0)?;
+        session.coalesce_all(&"sheet")?;
+        session.pack(&rects(&[("shoe", 10, 1)]))?;
+        Ok(session)
+    });
+    let mut session = other.join().expect("it does not panic")?;
+    assert_eq!(numbers(&session), [(1, "shoe".to_string())]);
+    session.release(1)?;
+    session.coalesce_all(&"sheet")?;
+    assert_eq!(session.free_sections(&"sheet")?, [section(0, 0, 10, 10)]);
+    std::thread::spawn(move || drop(session)).join().expect("it does not panic");
+    Ok(())
+}
+
+#[test]
 fn bins_are_in_the_order_of_their_ids() -> Result<(), SessionError> {
     let mut session: Session<&str, &str> = Session::new()?;
     assert_eq!(session.bins().count(), 0);
@@ -196,6 +215,7 @@ fn errors_say_what_was_wrong() {
         (SessionError::NotEnoughBinSpace, "Not enough space to place all of the rectangles."),
         (SessionError::OutOfMemory, "Out of memory."),
         (SessionError::TooMany, "Too many bins or boxes."),
+        (SessionError::EqualGroups, "A group is excluded with itself."),
     ];
     for (error, text) in texts {
         assert_eq!(error.to_string(), text);

@@ -1,5 +1,5 @@
-//! Drawn sessions of several packings, releases, joins and sweeps, by this crate and by the program `packrun`: both answer the
-//! same, line by line.
+//! Drawn sessions of several packings, with boxes in several groups and groups that are excluded, of releases, joins and sweeps, by
+//! this crate and by the program `packrun`: both answer the same, line by line.
 mod shared;
 
 use std::cmp::Reverse;
@@ -9,10 +9,12 @@ use shared::{packrun, Draw};
 
 const RUNS: usize = 150;
 const ROUNDS: u32 = 12;
+const GROUPS: u32 = 5;
 
 enum Command {
     Bin(u32, [u32; 3]),
     Rect(String, [u32; 3], Vec<String>),
+    Exclude(String, String),
     Pack,
     Release(u64),
     Coalesce(u32, [usize; 3]),
@@ -30,6 +32,7 @@ fn line(command: &Command) -> String {
     match command {
         Command::Bin(bin, [w, h, d]) => format!("bin {} {w} {h} {d}\n", bin_name(*bin)),
         Command::Rect(id, [w, h, d], groups) => format!("rect {id} {w} {h} {d} {}\n", groups.join(" ")),
+        Command::Exclude(one, other) => format!("exclude {one} {other}\n"),
         Command::Pack => "pack\n".to_string(),
         Command::Release(number) => format!("release {number}\n"),
         Command::Coalesce(bin, [index, start, end]) => {
@@ -78,6 +81,9 @@ impl Script {
         }
         for _ in 0..self.draw.within(0, 8) {
             self.add_rect();
+        }
+        for _ in 0..self.draw.within(0, 2) {
+            self.add_exclusion();
         }
         self.commands.push(Command::Pack);
         for _ in 0..self.draw.within(0, 6) {
@@ -129,17 +135,24 @@ impl Script {
         }
     }
 
+    /// Excludes two groups. Both are there in most rounds, but not in all.
+    fn add_exclusion(&mut self) {
+        let one = self.draw.within(1, GROUPS);
+        let other = (one + self.draw.within(1, GROUPS - 1) - 1) % GROUPS + 1;
+        self.commands
+            .push(Command::Exclude(format!("g{one}"), format!("g{other}")));
+    }
+
     fn add_rect(&mut self) {
         let size = self.size(1, self.side / 2);
-        let mut groups: Vec<String> = (0..self.draw.within(0, 2))
-            .map(|_| format!("g{}", self.draw.within(1, 4)))
+        // A box may be in several groups, and in one of them twice.
+        let groups: Vec<String> = (0..self.draw.within(0, 3))
+            .map(|_| format!("g{}", self.draw.within(1, GROUPS)))
             .collect();
-        groups.sort();
-        groups.dedup();
         // No id comes twice: 37 and 101 have no common divisor, and there are fewer boxes than 101.
         let id = format!("r{:04}", (self.boxes * 37) % 101);
         self.boxes += 1;
-        self.entries += u32::try_from(groups.len().max(1)).expect("two at most");
+        self.entries += u32::try_from(groups.len().max(1)).expect("three at most");
         self.commands.push(Command::Rect(id, size, groups));
     }
 }
@@ -163,6 +176,7 @@ impl Answers {
                 let size = RectToInsert::new(*w, *h, *d);
                 self.pending.push_rect(id.clone(), groups, size);
             }
+            Command::Exclude(one, other) => self.pending.exclude(one.clone(), other.clone()),
             Command::Pack => return self.pack(),
             Command::Release(number) => self.session.release(*number)?,
             Command::Coalesce(bin, [index, start, end]) => {
@@ -177,7 +191,7 @@ impl Answers {
         Ok(())
     }
 
-    /// Boxes that are refused stay, as they do in `packrun`.
+    /// Boxes and exclusions that are refused stay, as they do in `packrun`.
     fn pack(&mut self) -> Result<(), SessionError> {
         let mut packed = self.session.pack(&self.pending)?;
         self.pending = GroupedRectsToPlace::new();

@@ -1,0 +1,191 @@
+//! The types, the numbers and the calls of `include/rectangle_pack.h`.
+
+#[repr(C)]
+pub(crate) struct RpBin {
+    pub(crate) width: u32,
+    pub(crate) height: u32,
+    pub(crate) depth: u32,
+}
+
+#[repr(C)]
+pub(crate) struct RpBox {
+    pub(crate) width: u32,
+    pub(crate) height: u32,
+    pub(crate) depth: u32,
+    pub(crate) group: u32,
+}
+
+/// A box in one group more. This crate has such a box twice among the boxes, since in a group they go by their places there: its
+/// lists of members are empty.
+#[repr(C)]
+pub(super) struct RpMember {
+    index: u32,
+    group: u32,
+}
+
+#[repr(C)]
+pub(crate) struct RpExclusion {
+    pub(crate) one: u32,
+    pub(crate) other: u32,
+}
+
+#[repr(C)]
+pub(super) struct RpCollection {
+    boxes: *const RpBox,
+    box_count: usize,
+    members: *const RpMember,
+    member_count: usize,
+    exclusions: *const RpExclusion,
+    exclusion_count: usize,
+}
+
+/// What is to be packed: boxes, and groups that are excluded.
+pub(crate) struct Collection {
+    pub(crate) boxes: Vec<RpBox>,
+    pub(crate) exclusions: Vec<RpExclusion>,
+}
+
+impl Collection {
+    /// The lists as C takes them. The pointers are those of vectors, each with its length, so they are aligned and not null; they
+    /// are good for as long as the collection is borrowed.
+    pub(super) fn lists(&self) -> RpCollection {
+        let members: &[RpMember] = &[];
+        RpCollection {
+            boxes: self.boxes.as_ptr(),
+            box_count: self.boxes.len(),
+            members: members.as_ptr(),
+            member_count: members.len(),
+            exclusions: self.exclusions.as_ptr(),
+            exclusion_count: self.exclusions.len(),
+        }
+    }
+}
+
+#[repr(C)]
+#[derive(Clone, Copy, Default)]
+pub(crate) struct RpPlacement {
+    pub(crate) bin: u32,
+    pub(crate) x: u32,
+    pub(crate) y: u32,
+    pub(crate) z: u32,
+}
+
+#[repr(C)]
+#[derive(Clone, Copy, Default)]
+pub(crate) struct RpOutstanding {
+    pub(crate) number: u64,
+    pub(crate) placement: RpPlacement,
+}
+
+#[repr(C)]
+pub(super) struct RpSession {
+    pub(super) at: *mut u8,
+}
+
+#[repr(C)]
+#[derive(Default)]
+pub(super) struct RpVolume {
+    pub(super) low: u64,
+    pub(super) high: u64,
+}
+
+#[repr(C)]
+#[derive(Default)]
+pub(super) struct RpStats {
+    pub(super) bin_volume: RpVolume,
+    pub(super) free_volume: RpVolume,
+    pub(super) placed_volume: RpVolume,
+    pub(super) free_sections: usize,
+    pub(super) placements: usize,
+}
+
+#[repr(C)]
+#[derive(Clone, Copy, Default)]
+pub(super) struct RpSection {
+    pub(super) x: u32,
+    pub(super) y: u32,
+    pub(super) z: u32,
+    pub(super) width: u32,
+    pub(super) height: u32,
+    pub(super) depth: u32,
+}
+
+#[repr(C)]
+#[derive(Clone, Copy, Default)]
+pub(super) struct RpCutStep {
+    pub(super) axis: u32,
+    pub(super) place: u32,
+}
+
+pub(super) const DONE: u32 = 0;
+pub(super) const NOT_ENOUGH_SPACE: u32 = 1;
+pub(super) const OUT_OF_MEMORY: u32 = 2;
+pub(super) const DUPLICATE_BIN: u32 = 4;
+pub(super) const UNKNOWN_BIN: u32 = 5;
+pub(super) const UNKNOWN_PLACEMENT: u32 = 6;
+pub(super) const NUMBERS_USED_UP: u32 = 7;
+pub(super) const SHORT_ARRAY: u32 = 8;
+pub(super) const NO_PLAN: u32 = 9;
+pub(super) const EQUAL_GROUPS: u32 = 12;
+
+/// Asks for the best heuristic of all.
+pub(crate) const BEST: u32 = 0xffff;
+
+extern "C" {
+    pub(super) fn rectangle_pack_collection(
+        bins: *const RpBin,
+        bin_count: usize,
+        collection: *const RpCollection,
+        heuristic: u32,
+        placements: *mut RpPlacement,
+        placement_count: usize,
+        chosen: *mut u32,
+    ) -> u32;
+    pub(super) fn rectangle_pack_session_new(session: *mut RpSession) -> u32;
+    pub(super) fn rectangle_pack_session_free(session: *mut RpSession);
+    pub(super) fn rectangle_pack_session_add_bin(
+        session: *mut RpSession,
+        bin: u32,
+        width: u32,
+        height: u32,
+        depth: u32,
+    ) -> u32;
+    pub(super) fn rectangle_pack_session_pack_collection(
+        session: *mut RpSession,
+        collection: *const RpCollection,
+        heuristic: u32,
+        placements: *mut RpOutstanding,
+        placement_count: usize,
+        chosen: *mut u32,
+    ) -> u32;
+    pub(super) fn rectangle_pack_session_release(session: *mut RpSession, number: u64) -> u32;
+    pub(super) fn rectangle_pack_session_coalesce_all(session: *mut RpSession, bin: u32) -> u32;
+    pub(super) fn rectangle_pack_session_coalesce(
+        session: *mut RpSession,
+        bin: u32,
+        index: usize,
+        start: usize,
+        end: usize,
+    ) -> u32;
+    pub(super) fn rectangle_pack_session_stats(session: *mut RpSession, bin: u32, stats: *mut RpStats) -> u32;
+    pub(super) fn rectangle_pack_session_free_sections(
+        session: *mut RpSession,
+        bin: u32,
+        sections: *mut RpSection,
+        length: usize,
+        count: *mut usize,
+    ) -> u32;
+    pub(super) fn rectangle_pack_session_cut_plan(
+        session: *mut RpSession,
+        bin: u32,
+        steps: *mut RpCutStep,
+        length: usize,
+        count: *mut usize,
+    ) -> u32;
+    pub(super) fn rectangle_pack_session_was_coalesced(
+        session: *mut RpSession,
+        bin: u32,
+        coalesced: *mut u32,
+    ) -> u32;
+    pub(super) fn rectangle_pack_session_next_number(session: *mut RpSession) -> u64;
+}
