@@ -1,16 +1,20 @@
 #!/usr/bin/env python3
-"""c_beside_packrun.py [RUNS]: packs drawn boxes by the C call, over ctypes, and by packrun, and compares what they answer. Then
-runs drawn sessions of several packings, releases, joins and sweeps by the calls for sessions and by packrun, and compares each
-answer, and the free sections of all bins."""
+"""c_beside_packrun.py [RUNS] [--calls CALLS]: packs drawn boxes by the C call, over the module for Python, and by packrun, and
+compares what they answer. Boxes are in several groups, and groups are excluded. Then runs drawn sessions of packings, releases,
+joins of one section and of all, and looks at what is free, by the calls for sessions and by packrun, and compares each answer.
+There are RUNS of each (300 if left out), or so many sessions that they have this number of CALLS."""
+import argparse
 import collections
 import random
 import subprocess
 import sys
+import time
 from pathlib import Path
 
 root = Path(__file__).resolve().parent.parent
 sys.path.insert(0, str(root / "bindings" / "python"))
 import rectangle_pack  # noqa: E402
+from rectangle_pack import Bin, Box  # noqa: E402
 
 
 # Names of one length keep the order of numbers.
@@ -18,8 +22,12 @@ def bin_line(bin, w, h, d):
     return f"bin b{bin:04} {w} {h} {d}"
 
 
-def rect_line(i, w, h, d, group):
-    return f"rect r{i:06} {w} {h} {d}" + (f" g{group:04}" if group else "")
+def rect_line(name, size, groups):
+    return " ".join([f"rect r{name:06}", *map(str, size), *(f"g{group:06}" for group in groups)])
+
+
+def exclude_lines(pairs):
+    return [f"exclude g{one:06} g{other:06}" for one, other in pairs]
 
 
 def packrun(lines):
@@ -28,30 +36,71 @@ def packrun(lines):
     return subprocess.run([str(root / "packrun")], input=text, capture_output=True, text=True, check=True).stdout.splitlines()
 
 
-def by_packrun(bins, boxes):
+def members_of(boxes, in_one_line):
+    """For each group its boxes in the order in which they are packed: as their lines stand, where each box has one line with
+    all of its groups; or first those of which it is the first group, and then those of which it is a further one, as in C."""
+    first = [(name, group) for name, _, groups in boxes for group in groups[:1]]
+    further = [(name, group) for name, _, groups in boxes for group in groups[1:]]
+    order = [(name, group) for name, _, groups in boxes for group in groups] if in_one_line else first + further
+    members = collections.defaultdict(list)
+    for name, group in order:
+        members[group].append(name)
+    return members
+
+
+def rect_lines(boxes):
+    """One line for each box, where that makes no other order than C has, or else another line for each further group."""
+    if members_of(boxes, True) == members_of(boxes, False):
+        return [rect_line(*box) for box in boxes]
+    further = [rect_line(name, size, [group]) for name, size, groups in boxes for group in groups[1:]]
+    return [rect_line(name, size, groups[:1]) for name, size, groups in boxes] + further
+
+
+def groups_of(named):
+    """A mapping from groups to names, of pairs of group and name, in the order of groups."""
+    groups = {}
+    for group, name in sorted(named, key=lambda it: it[0]):
+        groups.setdefault(group, []).append(name)
+    return groups
+
+
+def by_packrun(bins, boxes, pairs):
     """What packrun answers, or None where there is not enough space."""
-    lines = [bin_line(i, *size) for i, size in enumerate(bins)] + [rect_line(i, *box) for i, box in enumerate(boxes)]
+    lines = [bin_line(i, *size) for i, size in enumerate(bins)] + rect_lines(boxes) + exclude_lines(pairs)
     out = packrun([*lines, "pack"])
     if any("refused" in line for line in out):
         return None
-    answer = [None] * len(boxes)
-    for line in out:
-        words = line.split()
-        if len(words) == 9:
-            answer[int(words[1][1:])] = (int(words[2][1:]), *map(int, words[3:6]))
-    return answer
+    return sorted(" ".join(line.split()[1:6]) for line in out if len(line.split()) == 9)
 
 
-def by_call(bins, boxes):
-    """What the C call answers."""
+def by_call(bins, boxes, pairs):
+    """What the C call answers, in the words of packrun. A box says its first group, and the mapping the others."""
+    named = {name: Box(*size, group=groups[0] if groups else None) for name, size, groups in boxes}
+    further = groups_of((group, name) for name, _, groups in boxes for group in groups[1:])
     try:
-        return rectangle_pack.pack(bins, boxes)
+        packing = rectangle_pack.pack([Bin(*size) for size in bins], named, groups=further, exclude=pairs)
     except rectangle_pack.NotEnoughBinSpace:
         return None
+    return sorted(f"r{it.name:06} b{it.bin:04} {it.x} {it.y} {it.z}" for it in packing)
 
 
-def drawn(r):
-    """Bins and boxes, in two or three dimensions, some of them in groups, some empty."""
+def renamed(boxes, pairs):
+    """The groups numbered in the order in which the module meets them: those that are first of a box, then others."""
+    first = [group for _, _, groups in boxes for group in groups[:1]]
+    further = sorted(group for _, _, groups in boxes for group in groups[1:])
+    new = {group: number for number, group in enumerate(dict.fromkeys([*first, *further, *sum(pairs, ())]))}
+    boxes = [(name, size, [new[group] for group in groups]) for name, size, groups in boxes]
+    return boxes, [(new[one], new[other]) for one, other in pairs]
+
+
+def drawn_pairs(r, groups):
+    """Pairs of groups that are excluded."""
+    count = r.choice([0, 0, 0, 1, 2, 5]) if len(groups) > 1 else 0
+    return [tuple(r.sample(groups, 2)) for _ in range(count)]
+
+
+def drawn(r, most=60):
+    """Bins and boxes, in two or three dimensions, some of them in one group or in several, some empty."""
     flat = r.random() < 0.5
     side = r.choice([8, 64, 256])
     depth = 1 if flat else side // 2
@@ -61,9 +110,10 @@ def drawn(r):
 
     bins = [size(side // 2, side) for _ in range(r.randint(0 if r.random() < 0.05 else 1, 5))]
     low = 0 if r.random() < 0.1 else 1
-    groups = r.choice([0, 2, 5])
-    boxes = [(*size(low, max(1, side // r.choice([2, 4, 6]))), r.randint(0, groups)) for _ in range(r.randint(0, 60))]
-    return bins, boxes
+    high, groups = max(1, side // r.choice([2, 4, 6])), range(r.choice([0, 2, 5]))
+    counts = [0, 1, 1, 1, 2, 3] if groups else [0]
+    boxes = [(name, size(low, high), r.choices(groups, k=r.choice(counts))) for name in range(r.randint(0, most))]
+    return bins, boxes, groups
 
 
 def drawn_join(r):
@@ -73,18 +123,19 @@ def drawn_join(r):
 
 
 def drawn_session(r):
-    """Commands of a session, some of them of what is not there."""
-    commands, bins, boxes = [], 0, 0
+    """Commands of a session, some of them of what is not there. Each packing has boxes and groups of its own, and excludes some
+    groups that are known. The groups of a box rise, so that the least is its first."""
+    commands, bins, boxes, groups = [], 0, 0, 0
     for _ in range(r.randint(1, 8)):
-        sizes, packed = drawn(r)
-        packed = packed[:r.randint(0, 12)]
+        sizes, packed, new = drawn(r, 12)
+        packed = [(boxes + name, size, sorted(groups + group for group in its)) for name, size, its in packed]
+        boxes, groups = boxes + len(packed), groups + len(new)
         # One size twice: bins of equal volume.
         for size in sizes[:r.randint(0, 2)] + sizes[:1]:
             known = bins > 0 and r.random() < 0.2
             commands.append(("bin", r.randrange(bins) if known else bins, *size))
             bins += not known
-        commands.append(("pack", packed))
-        boxes += len(packed)
+        commands.append(("pack", packed, drawn_pairs(r, range(max(0, groups - 6), groups))))
         commands += [("release", r.randint(0, boxes)) for _ in range(r.randint(0, 12))]
         commands += [("coalesce", r.randint(0, bins), *drawn_join(r)) for _ in range(r.randint(0, 6))]
         commands += [("sweep", bin) for bin in range(bins + 1) if r.random() < 0.25]
@@ -92,13 +143,13 @@ def drawn_session(r):
     return commands
 
 
-def lines_of(command, boxes):
-    """The lines for a command, where so many boxes were named before. Each has one answer."""
+def lines_of(command):
+    """The lines for a command. Each has one answer, of which those before the last are that it is done."""
     name, *rest = command
     if name == "bin":
         return [bin_line(*rest)]
     if name == "pack":
-        return [*(rect_line(boxes + i, *box) for i, box in enumerate(rest[0])), "pack"]
+        return [*rect_lines(rest[0]), *exclude_lines(rest[1]), "pack"]
     if name == "coalesce":
         bin, index, start, end = rest
         return [f"coalesce b{bin:04} {index} {start} {end}"]
@@ -106,12 +157,13 @@ def lines_of(command, boxes):
 
 
 class BySession:
-    """Answers commands by a session, in the words of packrun. Boxes that are refused stay for the next packing, as there."""
+    """Answers commands by a session, in the words of packrun. Boxes that are refused stay for the next packing, as there, and
+    so do pairs."""
 
     def __init__(self, session):
         self.session = session
-        self.pending = []
-        self.boxes = 0
+        self.boxes = []
+        self.pairs = []
 
     def answer(self, command):
         name, *rest = command
@@ -123,23 +175,23 @@ class BySession:
             return [f"refused: bin b{rest[0]:04} is unknown"]
         except rectangle_pack.UnknownPlacement:
             return [f"refused: placement {rest[0]} is unknown"]
+        except rectangle_pack.NotEnoughBinSpace as error:
+            return [f"refused: {error}"]
 
     def bin(self, bin, w, h, d):
         self.session.add_bin(bin, w, h, d)
         return ["ok"]
 
-    def pack(self, boxes):
-        self.pending += ((self.boxes + i, box) for i, box in enumerate(boxes))
-        self.boxes += len(boxes)
-        named = ["ok"] * len(boxes)
-        try:
-            placed = self.session.pack([box for _, box in self.pending])
-        except rectangle_pack.NotEnoughBinSpace as error:
-            return [*named, f"refused: {error}"]
-        rows = sorted((at, i, box) for at, (i, box) in zip(placed, self.pending))
-        self.pending = []
-        lines = (f"{at.number} r{i:06} b{at.bin:04} {at.x} {at.y} {at.z} {w} {h} {d}" for at, i, (w, h, d, _) in rows)
-        return [*named, *lines, f"packed {len(rows)}"]
+    def pack(self, boxes, pairs):
+        self.boxes += boxes
+        self.pairs += pairs
+        named = {name: Box(*size) for name, size, _ in self.boxes}
+        groups = groups_of((group, name) for name, _, groups in self.boxes for group in groups)
+        packing = self.session.pack(named, groups=groups, exclude=self.pairs)
+        self.boxes, self.pairs = [], []
+        rows = sorted((it.number, it) for it in packing)
+        lines = (f"{number} r{it.name:06} b{it.bin:04} {' '.join(map(str, it.section))}" for number, it in rows)
+        return [*lines, f"packed {len(packing)}"]
 
     def release(self, number):
         self.session.release(number)
@@ -166,10 +218,11 @@ class BySession:
 def compare_packings(runs, r):
     done = refused = 0
     for run in range(runs):
-        bins, boxes = drawn(r)
-        called, printed = by_call(bins, boxes), by_packrun(bins, boxes)
+        bins, boxes, groups = drawn(r)
+        boxes, pairs = renamed(boxes, drawn_pairs(r, groups))
+        called, printed = by_call(bins, boxes, pairs), by_packrun(bins, boxes, pairs)
         if called != printed:
-            sys.exit(f"run {run}: {bins} {boxes}\nthe call: {called}\npackrun: {printed}")
+            sys.exit(f"run {run}: {bins} {boxes} {pairs}\nthe call: {called}\npackrun: {printed}")
         if called is None:
             refused += 1
         else:
@@ -177,29 +230,40 @@ def compare_packings(runs, r):
     print(f"{runs} runs alike: {done} done, {refused} refused")
 
 
-def compare_sessions(runs, r):
-    counts = collections.Counter()
-    for run in range(runs):
-        commands, lines, boxes = drawn_session(r), [], 0
+def compare_session(commands, counts):
+    """Runs the commands by both, and counts them by how they are answered."""
+    lines = [line for command in commands for line in lines_of(command)]
+    printed = iter(packrun(lines))
+    with rectangle_pack.Session() as session:
+        by_session = BySession(session)
         for command in commands:
-            new = lines_of(command, boxes)
-            boxes += len(new) - 1
-            lines += new
-        printed = iter(packrun(lines))
-        with rectangle_pack.Session() as session:
-            by_session = BySession(session)
-            for command in commands:
-                called = by_session.answer(command)
-                answer = [next(printed, None) for _ in called]
-                if called != answer:
-                    sys.exit(f"session {run}: {lines}\n{command}\nthe call: {called}\npackrun: {answer}")
-                counts[command[0], "refused" if "refused" in called[-1] else "done"] += 1
-        if next(printed, None) is not None:
-            sys.exit(f"session {run}: {lines}\npackrun prints more")
+            called = ["ok"] * (len(lines_of(command)) - 1) + by_session.answer(command)
+            answer = [next(printed, None) for _ in called]
+            if called != answer:
+                sys.exit(f"{lines}\n{command}\nthe call: {called}\npackrun: {answer}")
+            counts[command[0], "refused" if "refused" in called[-1] else "done"] += 1
+    if next(printed, None) is not None:
+        sys.exit(f"{lines}\npackrun prints more")
+
+
+def compare_sessions(runs, calls, r):
+    """So many sessions, or as many as it takes for so many calls."""
+    counts, sessions, start = collections.Counter(), 0, time.monotonic()
+    while sum(counts.values()) < calls if calls else sessions < runs:
+        compare_session(drawn_session(r), counts)
+        sessions += 1
     said = ", ".join(f"{name} {count} {how}" for (name, how), count in sorted(counts.items()))
-    print(f"{runs} sessions alike: {said}")
+    print(f"{sessions} sessions of {sum(counts.values())} calls alike, in {time.monotonic() - start:.0f} s: {said}")
 
 
-runs = int(sys.argv[1]) if len(sys.argv) > 1 else 300
-compare_packings(runs, random.Random(20))
-compare_sessions(runs, random.Random(21))
+def main():
+    parser = argparse.ArgumentParser(description=__doc__)
+    parser.add_argument("runs", type=int, nargs="?", default=300)
+    parser.add_argument("--calls", type=int, help="so many calls over sessions, and no packings without one")
+    options = parser.parse_args()
+    if not options.calls:
+        compare_packings(options.runs, random.Random(20))
+    compare_sessions(options.runs, options.calls, random.Random(21))
+
+
+main()

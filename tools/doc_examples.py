@@ -12,7 +12,7 @@ TESTS = [*sorted(TOP.glob("crates/tests_of_*/src/examples.rt")), TOP / "crates/f
 # The README's blocks in other languages, by the fence that opens them, and the tests that have them.
 BINDINGS = {
     "```c": [TOP / "bindings/c/harness.c"],
-    "```rust,ignore": [TOP / "bindings/rust/src/lib.rs"],
+    "```rust,ignore": [TOP / "bindings/rust/src/pack.rs"],
     "```python": [TOP / "bindings/python/test_rectangle_pack.py"],
 }
 

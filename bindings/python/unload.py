@@ -1,19 +1,20 @@
 #!/usr/bin/env python3
 """An atlas that is unloaded sprite by sprite, until it is one free section again: python3 bindings/python/unload.py"""
-from rectangle_pack import Box, Session
+from rectangle_pack import Bin, Box, Session
 
-ATLAS = 7
-SPRITES = [Box(32, 32), Box(64, 16), Box(24, 40), Box(16, 16), Box(48, 48), Box(8, 56), Box(20, 12)]
+SPRITES = {
+    "hat": Box(32, 32), "bridge": Box(64, 16), "door": Box(24, 40), "coin": Box(16, 16), "house": Box(48, 48),
+    "lamp": Box(8, 56), "fish": Box(20, 12),
+}
 
-with Session() as session:
-    session.add_bin(ATLAS, 128, 128)
-    placed = session.pack(SPRITES)
-    print(f"{len(placed)} sprites, {len(session.free_sections(ATLAS))} free sections")
+with Session({"atlas": Bin(128, 128)}) as session:
+    session.pack(SPRITES)
+    print(f"{len(session.outstanding())} sprites, {len(session.free_sections('atlas'))} free sections")
     # The last that came goes first: so each finds the pieces again that it was cut from.
-    for sprite in sorted(placed, reverse=True):
+    for sprite in reversed(session.outstanding()):
         session.release(sprite.number)
         # What it leaves is the last of the list, and may join any of the others.
-        count = len(session.free_sections(ATLAS))
-        session.coalesce(ATLAS, count - 1, 0, count)
-        print(f"sprite {sprite.number} is gone, {len(session.free_sections(ATLAS))} free sections")
-    print("free again:", *session.free_sections(ATLAS))
+        count = len(session.free_sections("atlas"))
+        session.coalesce("atlas", count - 1, 0, count)
+        print(f"the {sprite.name} is gone, {len(session.free_sections('atlas'))} free sections")
+    print("free again:", *session.free_sections("atlas"))

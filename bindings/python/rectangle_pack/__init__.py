@@ -1,0 +1,29 @@
+"""Packs boxes into bins, in two and three dimensions, without overlaps, by the proved library, over ctypes.
+
+    >>> from rectangle_pack import Bin, Box, pack
+    >>> packing = pack({"page": Bin(64, 64)}, {"hat": Box(10, 20), "cap": Box(5, 5)}, groups={"hats": ["hat", "cap"]})
+    >>> packing["cap"]
+    Placement(name='cap', group='hats', bin='page', x=0, y=20, z=0, width=5, height=5, depth=1)
+
+A Session keeps its bins from packing to packing, and releases boxes again. It lists and joins what is free, and plans the
+cuts that part a bin.
+
+Bins, boxes and groups have names: any values that a dict takes as keys. A list in place of a mapping means that the names are
+the indices.
+
+The library is build/librectangle_pack.so, which tools/build_c.sh writes, or the file that RECTANGLE_PACK names."""
+from ._cuts import Axis, Cut, CutNode, CutStep, CutTree, Leaf
+from ._errors import (
+    DuplicateBin, EqualGroups, NotEnoughBinSpace, NumbersUsedUp, OutOfMemory, PackError, TooMany, UnknownBin, UnknownBox,
+    UnknownHeuristic, UnknownPlacement,
+)
+from ._pack import pack
+from ._session import Session
+from ._types import AnyHeuristic, Bin, Box, Heuristic, Outstanding, Packing, Placement, Section, Stats
+
+__all__ = [
+    "Bin", "Box", "pack", "Packing", "Placement", "Heuristic", "AnyHeuristic",
+    "Session", "Outstanding", "Stats", "Section", "Axis", "Cut", "Leaf", "CutStep", "CutNode", "CutTree",
+    "PackError", "NotEnoughBinSpace", "OutOfMemory", "TooMany", "UnknownHeuristic", "UnknownBox", "EqualGroups",
+    "DuplicateBin", "UnknownBin", "UnknownPlacement", "NumbersUsedUp",
+]

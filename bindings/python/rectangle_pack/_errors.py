@@ -1,0 +1,72 @@
+"""Why a call was refused."""
+
+
+class PackError(Exception):
+    """A call was refused. Nothing was packed, and a session is as it was."""
+
+    text = ""
+
+    def __str__(self) -> str:
+        """The text, and behind it what it is about, where that is known."""
+        return ": ".join([self.text, *map(repr, self.args)]) if self.args else f"{self.text}."
+
+
+class NotEnoughBinSpace(PackError):
+    """For some group each bin is excluded or does not take all of its boxes, as the groups before it left the bins. With the
+    heuristic "best" this is so with each heuristic."""
+
+    text = "Not enough space to place all of the rectangles"
+
+
+class OutOfMemory(PackError, MemoryError):
+    """Memory was refused."""
+
+    text = "Out of memory"
+
+
+class TooMany(PackError, ValueError):
+    """There are 2**32 bins or boxes, or more."""
+
+    text = "Too many bins or boxes"
+
+
+class UnknownHeuristic(PackError, ValueError):
+    """There is no heuristic of this name."""
+
+    text = "There is no such heuristic"
+
+
+class UnknownBox(PackError, ValueError):
+    """A group names a box that is not packed."""
+
+    text = "There is no such box"
+
+
+class EqualGroups(PackError, ValueError):
+    """A group is excluded with itself."""
+
+    text = "A group is excluded with itself"
+
+
+class DuplicateBin(PackError):
+    """The session has a bin of this name already."""
+
+    text = "The bin is there already"
+
+
+class UnknownBin(PackError):
+    """The session has no bin of this name."""
+
+    text = "There is no such bin"
+
+
+class UnknownPlacement(PackError):
+    """No placement of this number is outstanding in the session."""
+
+    text = "No placement of this number is outstanding"
+
+
+class NumbersUsedUp(PackError):
+    """The numbers of the session's placements would reach 2**64 - 1, which is never given."""
+
+    text = "The numbers of placements are used up"

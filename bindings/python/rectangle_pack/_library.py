@@ -1,0 +1,178 @@
+"""The shared library, as ctypes sees it: the types and the calls of include/rectangle_pack.h."""
+from __future__ import annotations
+
+import ctypes
+import os
+from collections.abc import Sequence
+from pathlib import Path
+from typing import TypeVar
+
+from ._errors import (
+    DuplicateBin, EqualGroups, NotEnoughBinSpace, NumbersUsedUp, OutOfMemory, PackError, TooMany, UnknownBin, UnknownBox,
+    UnknownHeuristic, UnknownPlacement,
+)
+
+
+def _uint32(*names: str) -> list[tuple[str, type[ctypes.c_uint32]]]:
+    return [(name, ctypes.c_uint32) for name in names]
+
+
+class RpBin(ctypes.Structure):
+    _fields_ = _uint32("width", "height", "depth")
+
+
+class RpBox(ctypes.Structure):
+    _fields_ = _uint32("width", "height", "depth", "group")
+
+
+class RpMember(ctypes.Structure):
+    _fields_ = _uint32("index", "group")
+
+
+class RpExclusion(ctypes.Structure):
+    _fields_ = _uint32("one", "other")
+
+
+class RpCollection(ctypes.Structure):
+    _fields_ = [
+        ("boxes", ctypes.POINTER(RpBox)), ("box_count", ctypes.c_size_t),
+        ("members", ctypes.POINTER(RpMember)), ("member_count", ctypes.c_size_t),
+        ("exclusions", ctypes.POINTER(RpExclusion)), ("exclusion_count", ctypes.c_size_t),
+    ]
+
+
+class RpPlacement(ctypes.Structure):
+    _fields_ = _uint32("bin", "x", "y", "z")
+
+
+class RpSession(ctypes.Structure):
+    _fields_ = [("at", ctypes.c_void_p)]
+
+
+class RpOutstanding(ctypes.Structure):
+    _fields_ = [("number", ctypes.c_uint64), ("placement", RpPlacement)]
+
+
+class RpVolume(ctypes.Structure):
+    _fields_ = [("low", ctypes.c_uint64), ("high", ctypes.c_uint64)]
+
+
+class RpStats(ctypes.Structure):
+    _fields_ = [
+        ("bin_volume", RpVolume), ("free_volume", RpVolume), ("placed_volume", RpVolume),
+        ("free_sections", ctypes.c_size_t), ("placements", ctypes.c_size_t),
+    ]
+
+
+class RpSection(ctypes.Structure):
+    _fields_ = _uint32("x", "y", "z", "width", "height", "depth")
+
+
+class RpStanding(ctypes.Structure):
+    _fields_ = [("number", ctypes.c_uint64), *_uint32("index", "bin"), ("section", RpSection)]
+
+
+class RpCutStep(ctypes.Structure):
+    _fields_ = _uint32("axis", "place")
+
+
+class BinId(ctypes.Structure):
+    """An entry of the list of bins."""
+    _fields_ = _uint32("bin")
+
+
+Entry = TypeVar("Entry", bound=ctypes.Structure)
+
+# A width, a height and a depth, of 32 bits each.
+Size = tuple[int, int, int]
+
+SHORT_ARRAY, NO_PLAN = 8, 9
+
+ERRORS: dict[int, type[PackError]] = {
+    1: NotEnoughBinSpace, 2: OutOfMemory, 3: TooMany,
+    4: DuplicateBin, 5: UnknownBin, 6: UnknownPlacement, 7: NumbersUsedUp,
+    10: UnknownHeuristic, 11: UnknownBox, 12: EqualGroups,
+}
+
+
+def _array_of(kind: type[ctypes.Structure]) -> list[type[object]]:
+    """What a call that writes a list is given: an array, its length, and where the length of the list goes."""
+    return [ctypes.POINTER(kind), ctypes.c_size_t, ctypes.POINTER(ctypes.c_size_t)]
+
+
+def _places_of(kind: type[ctypes.Structure]) -> list[type[object]]:
+    """What a call that packs is given: a collection, a heuristic, an array, its length, and where the chosen heuristic goes."""
+    chosen = ctypes.POINTER(ctypes.c_uint32)
+    return [ctypes.POINTER(RpCollection), ctypes.c_uint32, ctypes.POINTER(kind), ctypes.c_size_t, chosen]
+
+
+_SESSION = ctypes.POINTER(RpSession)
+
+_ARGUMENTS = {
+    "collection": [ctypes.POINTER(RpBin), ctypes.c_size_t, *_places_of(RpPlacement)],
+    "session_new": [_SESSION],
+    "session_free": [_SESSION],
+    "session_add_bin": [_SESSION] + [ctypes.c_uint32] * 4,
+    "session_pack_collection": [_SESSION, *_places_of(RpOutstanding)],
+    "session_release": [_SESSION, ctypes.c_uint64],
+    "session_coalesce_all": [_SESSION, ctypes.c_uint32],
+    "session_coalesce": [_SESSION, ctypes.c_uint32] + [ctypes.c_size_t] * 3,
+    "session_stats": [_SESSION, ctypes.c_uint32, ctypes.POINTER(RpStats)],
+    "session_bins": [_SESSION, *_array_of(BinId)],
+    "session_free_sections": [_SESSION, ctypes.c_uint32, *_array_of(RpSection)],
+    "session_outstanding": [_SESSION, *_array_of(RpStanding)],
+    "session_cut_plan": [_SESSION, ctypes.c_uint32, *_array_of(RpCutStep)],
+    "session_was_coalesced": [_SESSION, ctypes.c_uint32, ctypes.POINTER(ctypes.c_uint32)],
+    "session_next_number": [_SESSION],
+}
+
+# All others answer a status.
+_RESULTS = {"session_free": None, "session_next_number": ctypes.c_uint64}
+
+
+def _loaded() -> ctypes.CDLL:
+    build = Path(__file__).resolve().parents[3] / "build"
+    library = ctypes.CDLL(os.environ.get("RECTANGLE_PACK", str(build / "librectangle_pack.so")))
+    for name, arguments in _ARGUMENTS.items():
+        function = getattr(library, f"rectangle_pack_{name}")
+        function.argtypes = arguments
+        function.restype = _RESULTS.get(name, ctypes.c_uint32)
+    return library
+
+
+_library = _loaded()
+
+
+def call(name: str, *arguments: object) -> int:
+    """What the call of this name answers: a status, or a number."""
+    answer: int = getattr(_library, f"rectangle_pack_{name}")(*arguments)
+    return answer
+
+
+def check(status: int) -> None:
+    """Raises the error of a status."""
+    if status:
+        raise ERRORS[status]()
+
+
+def number(value: int, bits: int = 32) -> int:
+    """The number, where so many bits hold it: ctypes alone would drop the bits above."""
+    if not isinstance(value, int) or isinstance(value, bool):
+        raise TypeError(f"not a whole number: {value!r}")
+    if not 0 <= value < 2**bits:
+        raise ValueError(f"not a number from 0 to 2**{bits} - 1: {value}")
+    return value
+
+
+def size(width: int, height: int, depth: int) -> Size:
+    return number(width), number(height), number(depth)
+
+
+def listed(kind: type[Entry], rows: Sequence[tuple[int, ...]]) -> ctypes.Array[Entry]:
+    """The rows as C takes them. An empty list has an entry that is not counted, so that no pointer is NULL."""
+    return (kind * max(len(rows), 1))(*(kind(*row) for row in rows))
+
+
+def empty(kind: type[Entry], length: int) -> ctypes.Array[Entry]:
+    """An array that a call writes to, with an entry more where it has none."""
+    return (kind * max(length, 1))()

@@ -1,0 +1,85 @@
+"""The call that packs and keeps nothing."""
+from __future__ import annotations
+
+import ctypes
+from collections.abc import Mapping, Sequence
+from typing import Any, overload
+
+from . import _library
+from ._collection import HEURISTICS, Collection, heuristic_number, items_of
+from ._types import AnyHeuristic, Bin, BinName, Box, BoxName, Groups, Packing, Pairs, Placement
+
+
+def _names_and_sizes(bins: Mapping[Any, Bin] | Sequence[Bin]) -> tuple[list[Any], list[_library.Size]]:
+    named = list(items_of(bins))
+    return [name for name, _ in named], [_library.size(*Bin(*size)) for _, size in named]
+
+
+@overload
+def pack(
+    bins: Mapping[BinName, Bin], boxes: Mapping[BoxName, Box], *,
+    groups: Groups[BoxName] | None = ..., exclude: Pairs = ..., heuristic: AnyHeuristic = ...,
+) -> Packing[BoxName, Placement[BoxName, BinName]]: ...
+
+
+@overload
+def pack(
+    bins: Sequence[Bin], boxes: Mapping[BoxName, Box], *,
+    groups: Groups[BoxName] | None = ..., exclude: Pairs = ..., heuristic: AnyHeuristic = ...,
+) -> Packing[BoxName, Placement[BoxName, int]]: ...
+
+
+@overload
+def pack(
+    bins: Mapping[BinName, Bin], boxes: Sequence[Box], *,
+    groups: Groups[int] | None = ..., exclude: Pairs = ..., heuristic: AnyHeuristic = ...,
+) -> Packing[int, Placement[int, BinName]]: ...
+
+
+@overload
+def pack(
+    bins: Sequence[Bin], boxes: Sequence[Box], *,
+    groups: Groups[int] | None = ..., exclude: Pairs = ..., heuristic: AnyHeuristic = ...,
+) -> Packing[int, Placement[int, int]]: ...
+
+
+def pack(
+    bins: Mapping[Any, Bin] | Sequence[Bin], boxes: Mapping[Any, Box] | Sequence[Box], *,
+    groups: Groups[Any] | None = None, exclude: Pairs = (), heuristic: AnyHeuristic = "volume",
+) -> Packing[Any, Placement[Any, Any]]:
+    """Packs all boxes into the bins. Names are any values that a dict takes as keys; those of a list are its indices. Equal
+    bins, boxes, groups and pairs are packed alike, on every machine.
+
+    groups has for each group the names of its boxes. The boxes of one group go into one bin. A box is in the group that Box
+    says, and in all that name it here. It is placed once for each of them, and as often as it is named. A box in no group is
+    alone, and is placed once.
+
+    exclude has pairs of groups that may not share a bin:
+
+    >>> from rectangle_pack import Bin, Box, pack
+    >>> crates = {"milk": Box(2, 2, 2, group="food"), "paint": Box(2, 2, 2, group="poison")}
+    >>> packing = pack({"front": Bin(4, 4, 4), "back": Bin(4, 4, 4)}, crates, exclude=[("food", "poison")])
+    >>> [f"{it.name} in {it.bin}" for it in packing]
+    ['milk in front', 'paint in back']
+
+    heuristic says what boxes, bins and pieces of a bin are rated by. With "best" each is tried, and the one is taken that
+    needs the fewest bins. The answer says which one that is:
+
+    >>> packing = pack({"sheet": Bin(4, 4)}, [Box(1, 3), Box(3, 2), Box(3, 1)], heuristic="best")
+    >>> packing.heuristic
+    'height'
+
+    Raises NotEnoughBinSpace, OutOfMemory or TooMany; before anything is packed UnknownHeuristic, UnknownBox or EqualGroups,
+    which are ValueErrors; and ValueError or TypeError where a size is not a number of 32 bits."""
+    asked = heuristic_number(heuristic)
+    names, sizes = _names_and_sizes(bins)
+    collection: Collection[Any] = Collection(boxes, groups or {}, exclude)
+    entries = collection.entries()
+    places, chosen = _library.empty(_library.RpPlacement, len(entries)), ctypes.c_uint32()
+    bin_list = _library.listed(_library.RpBin, sizes)
+    _library.check(_library.call(
+        "collection", bin_list, len(sizes), collection.as_c(), asked, places, len(entries), chosen))
+    placements = (
+        Placement(name, group, names[at.bin], at.x, at.y, at.z, *size)
+        for (name, group, size), at in zip(entries, places))
+    return Packing(HEURISTICS[chosen.value], tuple(placements))

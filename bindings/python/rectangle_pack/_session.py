@@ -1,0 +1,326 @@
+"""Sessions."""
+from __future__ import annotations
+
+import ctypes
+import functools
+import threading
+import weakref
+from collections.abc import Callable, Hashable, Iterator, Mapping, Sequence
+from contextlib import contextmanager
+from types import TracebackType
+from typing import Any, Generic, TypeVar, cast, overload
+
+from . import _library
+from ._collection import HEURISTICS, Collection, heuristic_number, items_of
+from ._cuts import Axis, Cut, CutStep, CutTree, Leaf, tree_of
+from ._errors import DuplicateBin, UnknownBin, UnknownPlacement
+from ._types import AnyHeuristic, Bin, BinName, Box, BoxName, Groups, Outstanding, Packing, Pairs, Section, Stats
+
+# A leaf has none of these.
+_AXES: dict[int, Axis] = {0: "x", 1: "y", 2: "z"}
+
+
+def _volume(parts: _library.RpVolume) -> int:
+    low: int = parts.low
+    high: int = parts.high
+    return low + (high << 64)
+
+
+def _section(it: _library.RpSection) -> Section:
+    return Section(it.x, it.y, it.z, it.width, it.height, it.depth)
+
+
+@contextmanager
+def _naming(name: Hashable) -> Iterator[None]:
+    """Says in an error which bin or which placement it is about."""
+    try:
+        yield
+    except (DuplicateBin, UnknownBin, UnknownPlacement) as error:
+        error.args = (name,)
+        raise
+
+
+_Method = TypeVar("_Method", bound=Callable[..., Any])
+
+
+def _alone(method: _Method) -> _Method:
+    """Has a call of a session's method wait until no other thread calls one of the same session."""
+    @functools.wraps(method)
+    def waiting(self: Session[Any], *arguments: Any, **named: Any) -> Any:
+        with self._lock:
+            return method(self, *arguments, **named)
+
+    return cast(_Method, waiting)
+
+
+class Session(Generic[BinName]):
+    """Bins that stay, and boxes that are packed into them and released by number.
+
+    >>> from rectangle_pack import Bin, Box, Session
+    >>> with Session({"sheet": Bin(10, 10)}) as session:
+    ...     packing = session.pack({"hat": Box(4, 10)})
+    ...     session.release(packing["hat"].number)
+    ...     session.coalesce_all("sheet")
+    ...     session.stats("sheet")
+    Stats(bin_volume=100, free_volume=100, placed_volume=0, free_sections=1, placements=0)
+
+    Names of bins, boxes and groups are any values that a dict takes as keys. Those of boxes and groups belong to one packing:
+    a later one may use them anew.
+
+    Each cell of a bin is in exactly one free section or outstanding placement. A call that raises leaves the session as it
+    was. Memory is given back at the end of the with block, by close(), or when nothing refers to the session any more.
+
+    Each method raises ValueError where the session is closed, and ValueError or TypeError where a size is not a number of 32
+    bits, or where that of a placement or an index in a list is not one of 64. Several threads may use a session: a call waits
+    until that of another thread has ended."""
+
+    @overload
+    def __init__(self, bins: Mapping[BinName, Bin] = ...) -> None: ...
+
+    @overload
+    def __init__(self: Session[int], bins: Sequence[Bin]) -> None: ...
+
+    def __init__(self, bins: Mapping[Any, Bin] | Sequence[Bin] = ()) -> None:
+        """A session with these bins. More can be added. A list in place of a mapping means that the names are the indices.
+
+        Where there are no bins yet, a type checker is told the type of their names: Session[str]().
+
+        Raises OutOfMemory."""
+        self._handle = _library.RpSession()
+        # Only one thread at a time may call the library with the handle.
+        self._lock = threading.RLock()
+        # The names and the sizes of bins, by their ids, and the ids by name.
+        self._names: list[BinName] = []
+        self._sizes: list[_library.Size] = []
+        self._ids: dict[BinName, int] = {}
+        # The name of the box and its group, for each number that is outstanding.
+        self._boxes: dict[int, tuple[Any, Hashable]] = {}
+        # How long the list was that each call wrote last.
+        self._lengths: dict[str, int] = {}
+        _library.check(_library.call("session_new", self._handle))
+        self._free = weakref.finalize(self, _library.call, "session_free", self._handle)
+        # At the end of the process all memory goes anyway.
+        self._free.atexit = False
+        for name, size in items_of(bins):
+            self.add_bin(name, *size)
+
+    def __enter__(self) -> Session[BinName]:
+        self._check_open()
+        return self
+
+    def __exit__(
+        self, kind: type[BaseException] | None, error: BaseException | None, trace: TracebackType | None,
+    ) -> None:
+        self.close()
+
+    @_alone
+    def close(self) -> None:
+        """Gives the memory back. To close a session again does nothing."""
+        self._free()
+
+    def _check_open(self) -> None:
+        if not self._free.alive:
+            raise ValueError("the session is closed")
+
+    def _call(self, name: str, *arguments: object) -> None:
+        self._check_open()
+        _library.check(_library.call(f"session_{name}", self._handle, *arguments))
+
+    def _ask(self, name: str, kind: type[_library.Entry], *arguments: object) -> tuple[int, list[_library.Entry]]:
+        """The status of a call that writes a list, and the list. A list is most often as long as it was, so that one call is
+        enough; where it is longer, the call has said how long, and is made again."""
+        self._check_open()
+        count, status = ctypes.c_size_t(self._lengths.get(name, 0)), _library.SHORT_ARRAY
+        while status == _library.SHORT_ARRAY:
+            length = count.value
+            array = _library.empty(kind, length)
+            status = _library.call(f"session_{name}", self._handle, *arguments, array, length, count)
+        if status:
+            return status, []
+        self._lengths[name] = count.value
+        return status, array[:count.value]
+
+    def _read(self, name: str, kind: type[_library.Entry], *arguments: object) -> list[_library.Entry]:
+        status, entries = self._ask(name, kind, *arguments)
+        _library.check(status)
+        return entries
+
+    def _id(self, bin: BinName) -> int:
+        """The id of a bin. A name that is not known gets the one that the next bin will have."""
+        return self._ids.get(bin, len(self._ids))
+
+    @_alone
+    def add_bin(self, bin: BinName, width: int, height: int, depth: int = 1) -> None:
+        """Adds a bin of this size under a name of the caller's choice. It stays until the session is closed.
+
+        Raises DuplicateBin or OutOfMemory."""
+        size, id = _library.size(width, height, depth), _library.number(self._id(bin))
+        with _naming(bin):
+            self._call("add_bin", id, *size)
+        self._ids[bin] = id
+        self._names.append(bin)
+        self._sizes.append(size)
+
+    @overload
+    def pack(
+        self, boxes: Mapping[BoxName, Box], *,
+        groups: Groups[BoxName] | None = ..., exclude: Pairs = ..., heuristic: AnyHeuristic = ...,
+    ) -> Packing[BoxName, Outstanding[BoxName, BinName]]: ...
+
+    @overload
+    def pack(
+        self, boxes: Sequence[Box], *,
+        groups: Groups[int] | None = ..., exclude: Pairs = ..., heuristic: AnyHeuristic = ...,
+    ) -> Packing[int, Outstanding[int, BinName]]: ...
+
+    @_alone
+    def pack(
+        self, boxes: Mapping[Any, Box] | Sequence[Box], *,
+        groups: Groups[Any] | None = None, exclude: Pairs = (), heuristic: AnyHeuristic = "volume",
+    ) -> Packing[Any, Outstanding[Any, BinName]]:
+        """Packs all boxes into what is free in the bins, as the function pack does. What stood there before excludes nothing,
+        and "best" does not count it.
+
+        Placements are numbered 0, 1, 2 and so on, in the order of packing: groups by falling sum of their boxes' rates, at ties
+        boxes that are alone first, in their order, and then groups as they were named. Each goes into the first bin that takes
+        it, by rising rate, at ties in the order in which the bins were added. In a group boxes go in their order, and last
+        those for which it is a further group.
+
+        Raises NotEnoughBinSpace, OutOfMemory, TooMany or NumbersUsedUp; and before anything is packed UnknownHeuristic,
+        UnknownBox or EqualGroups, which are ValueErrors."""
+        asked = heuristic_number(heuristic)
+        collection: Collection[Any] = Collection(boxes, groups or {}, exclude)
+        entries = collection.entries()
+        places, chosen = _library.empty(_library.RpOutstanding, len(entries)), ctypes.c_uint32()
+        self._call("pack_collection", collection.as_c(), asked, places, len(entries), chosen)
+        placed = []
+        for (name, group, size), it in zip(entries, places):
+            at = it.placement
+            self._boxes[it.number] = (name, group)
+            placed.append(Outstanding(name, group, self._names[at.bin], at.x, at.y, at.z, *size, it.number))
+        return Packing(HEURISTICS[chosen.value], tuple(placed))
+
+    @_alone
+    def release(self, number: int) -> None:
+        """Releases a placement by its number: its cells are free again, as the newest free section of its bin, the last of the
+        list. A box without cells leaves none.
+
+        Raises UnknownPlacement or OutOfMemory."""
+        with _naming(number):
+            self._call("release", _library.number(number, 64))
+        del self._boxes[number]
+
+    @_alone
+    def coalesce_all(self, bin: BinName) -> None:
+        """Joins free sections of a bin until no two share a whole face. It is worth while after releases.
+
+        Raises UnknownBin."""
+        with _naming(bin):
+            self._call("coalesce_all", self._id(bin))
+
+    @_alone
+    def coalesce(self, bin: BinName, index: int, start: int, end: int) -> None:
+        """Joins one free section of a bin, by its index in free_sections, with those from start to below end that share a whole
+        face with it. The joined section stands in its place. What is past the end of the list joins nothing. After a release it
+        is cheaper than coalesce_all:
+
+        >>> with Session({"sheet": Bin(10, 10)}) as session:
+        ...     packing = session.pack({"hat": Box(4, 10)})
+        ...     session.release(packing["hat"].number)
+        ...     last = len(session.free_sections("sheet")) - 1
+        ...     session.coalesce("sheet", last, 0, last)
+        ...     session.free_sections("sheet")
+        [Section(x=0, y=0, z=0, width=10, height=10, depth=1)]
+
+        Raises UnknownBin."""
+        with _naming(bin):
+            self._call("coalesce", self._id(bin), *(_library.number(it, 64) for it in (index, start, end)))
+
+    @_alone
+    def was_coalesced(self, bin: BinName) -> bool:
+        """Whether sections of a bin were joined, one or all, also where nothing was there to join.
+
+        Raises UnknownBin."""
+        it = ctypes.c_uint32()
+        with _naming(bin):
+            self._call("was_coalesced", self._id(bin), it)
+        return it.value != 0
+
+    @_alone
+    def next_number(self) -> int:
+        """The number that the next placement gets, or 2**64 - 1 where numbers are used up."""
+        self._check_open()
+        return _library.call("session_next_number", self._handle)
+
+    @_alone
+    def bins(self) -> list[BinName]:
+        """The names of all bins, in the order in which they were added."""
+        return [self._names[it.bin] for it in self._read("bins", _library.BinId)]
+
+    @_alone
+    def free_sections(self, bin: BinName) -> list[Section]:
+        """The free sections of a bin, the newest last.
+
+        Raises UnknownBin."""
+        with _naming(bin):
+            return [_section(it) for it in self._read("free_sections", _library.RpSection, self._id(bin))]
+
+    @_alone
+    def outstanding(self) -> list[Outstanding[Any, BinName]]:
+        """The placements of all bins that were not released, in the order of their numbers."""
+        return [self._standing(it) for it in self._read("outstanding", _library.RpStanding)]
+
+    def _standing(self, it: _library.RpStanding) -> Outstanding[Any, BinName]:
+        name, group = self._boxes[it.number]
+        return Outstanding(name, group, self._names[it.bin], *_section(it.section), it.number)
+
+    @_alone
+    def cut_plan(self, bin: BinName) -> list[CutStep] | None:
+        """The cutting plan of a bin: straight cuts, each across a whole part, that leave its free sections and its boxes.
+
+        >>> with Session({"sheet": Bin(10, 10)}) as session:
+        ...     packing = session.pack({"hat": Box(4, 10)})
+        ...     session.cut_plan("sheet")
+        [Cut(axis='x', place=4), Leaf(), Leaf()]
+
+        A part with two of these or more is cut on the first axis of x, y and z on which it can be, at the least place. None
+        where no straight cuts leave them, which is so only where sections of the bin were joined.
+
+        Raises UnknownBin or OutOfMemory."""
+        with _naming(bin):
+            status, steps = self._ask("cut_plan", _library.RpCutStep, self._id(bin))
+            if status == _library.NO_PLAN:
+                return None
+            _library.check(status)
+        return [Cut(_AXES[it.axis], it.place) if it.axis in _AXES else Leaf() for it in steps]
+
+    @_alone
+    def cut_tree(self, bin: BinName) -> CutTree | None:
+        """The cutting plan of a bin as a tree: each cut with what it leaves, down to the sections that are not cut.
+
+        >>> with Session({"sheet": Bin(10, 10)}) as session:
+        ...     packing = session.pack({"hat": Box(4, 10)})
+        ...     cut = session.cut_tree("sheet")
+        >>> cut
+        CutNode(axis='x', place=4)
+        >>> cut.lower == packing["hat"].section
+        True
+        >>> cut.upper
+        Section(x=4, y=0, z=0, width=6, height=10, depth=1)
+
+        It may be as deep as it has cuts, thousands deep: go through it with a stack. None where there is no plan.
+
+        Raises UnknownBin or OutOfMemory."""
+        steps = self.cut_plan(bin)
+        return None if steps is None else tree_of(steps, Section(0, 0, 0, *self._sizes[self._ids[bin]]))
+
+    @_alone
+    def stats(self, bin: BinName) -> Stats:
+        """What is free and what is placed in a bin. The free and the placed volume add up to that of the bin.
+
+        Raises UnknownBin."""
+        it = _library.RpStats()
+        with _naming(bin):
+            self._call("stats", self._id(bin), it)
+        volumes = (_volume(it.bin_volume), _volume(it.free_volume), _volume(it.placed_volume))
+        return Stats(*volumes, it.free_sections, it.placements)

@@ -1,0 +1,52 @@
+"""Uses of the module for a type checker, which test_types.py runs. Each line that is marked is wrong, and has to be found."""
+from __future__ import annotations
+
+from rectangle_pack import AnyHeuristic, Bin, Box, CutNode, Heuristic, Outstanding, Packing, Placement, Section, Session, pack
+
+sheets = {"small": Bin(64, 64), "large": Bin(128, 128)}
+sprites = {("hat", 1): Box(10, 20, group="hats"), ("tree", 1): Box(60, 60)}
+groups = {"hats": [("tree", 1)]}
+
+packing: Packing[tuple[str, int], Placement[tuple[str, int], str]] = pack(sheets, sprites, groups=groups, exclude=[("hats", 3)])
+heuristic: Heuristic = packing.heuristic
+asked: AnyHeuristic = heuristic
+hat: tuple[str, int] = packing["hat", 1].name
+sheet: str = packing["hat", 1].bin
+corners: list[int] = [it.x for it in packing]
+index: int = pack([Bin(1, 1)], sprites, heuristic="best")["hat", 1].bin
+first: Placement[int, str] = pack(sheets, [Box(1, 1)], groups={"hats": [0]})[0]
+listed = pack(sheets, sprites, groups=[[("tree", 1), ("hat", 1)]])["hat", 1]
+both: Placement[int, int] = pack([Bin(1, 1)], [Box(1, 1)], heuristic=asked)[0]
+
+pack(sheets, sprites, heuristic="weight")  # type: ignore
+pack(sheets, sprites, groups={"hats": 3})  # type: ignore
+pack(sheets, sprites, exclude=["hats", 3])  # type: ignore
+pack({"small": 64}, sprites)  # type: ignore
+packing["hat"]  # type: ignore
+packing.heuristic = "height"  # type: ignore
+packing["hat", 1].x = 3  # type: ignore
+large: int = packing["hat", 1].bin  # type: ignore
+Box("10", 20)  # type: ignore
+Box(10, 20, group=["hats"])  # type: ignore
+
+with Session(sheets) as session:
+    standing: Outstanding[tuple[str, int], str] = session.pack(sprites, heuristic="best")["hat", 1]
+    number: int = session.pack([Box(1, 1)])[0].number
+    session.release(standing.number)
+    names: list[str] = session.bins()
+    where: list[tuple[str, Section]] = [(it.bin, it.section) for it in session.outstanding()]
+    tree = session.cut_tree("small")
+    if isinstance(tree, CutNode):
+        axis, lower = tree.axis, tree.lower
+        height: int = 0 if isinstance(lower, CutNode) else lower.height
+
+    session.stats(7)  # type: ignore
+    session.add_bin(7, 1, 1)  # type: ignore
+    session.pack(sprites, heuristic="weight")  # type: ignore
+    session.release("hat")  # type: ignore
+    tree.axis  # type: ignore
+
+by_index: Session[int] = Session([Bin(1, 1)])
+later = Session[str]()
+later.add_bin("sheet", 1, 1)
+later.add_bin(7, 1, 1)  # type: ignore
