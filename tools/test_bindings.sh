@@ -1,7 +1,8 @@
 #!/usr/bin/env bash
 # test_bindings.sh [RUNS]: builds the C library and tests it as its users call it: from C, C++, Rust and Python, on RUNS drawn
-# inputs and RUNS drawn sessions beside packrun (300 if left out), with each request for memory refused in turn, and under the
-# sanitizers for addresses and undefined behaviour. What this machine has no compiler for is skipped, which is said.
+# inputs and RUNS drawn sessions beside packrun (300 if left out), with each request for memory refused in turn, under the
+# sanitizers for addresses and undefined behaviour, and by the seeds of the fuzz target. What this machine has no compiler for is
+# skipped, which is said.
 set -euo pipefail
 cd "$(dirname "${BASH_SOURCE[0]}")/.."
 runs=${1:-300}
@@ -15,7 +16,7 @@ have() {
 
 # run_harness NAME [FLAG..]: a harness takes memory by way of its own functions.
 run_harness() {
-    cc -std=c99 -g "${@:2}" "${flags[@]}" "bindings/c/$1.c" "$link" -Wl,--wrap=malloc,--wrap=realloc,--wrap=free -o "$work/$1"
+    cc -std=c99 -O2 -g "${@:2}" "${flags[@]}" "bindings/c/$1.c" "$link" -Wl,--wrap=malloc,--wrap=realloc,--wrap=free -o "$work/$1"
     "$work/$1"
 }
 
@@ -30,7 +31,7 @@ if have nm "the exported calls"; then
     sed -n 's/^[a-z].*\b\(rectangle_pack_[a-z_]*\)(.*/\1/p' include/rectangle_pack.h | sort | diff - "$work/exported.txt"
 fi
 if have cc C; then
-    for it in atlas session; do
+    for it in atlas session collection; do
         cc -std=c99 "${flags[@]}" "bindings/c/$it.c" "$link" -o "$work/${it}_c"
         "$work/${it}_c" >"$work/$it.txt"
     done
@@ -39,9 +40,10 @@ if have cc C; then
         run_harness "$it" -fsanitize=address,undefined -fno-sanitize-recover=all
     done
     echo "C: the examples and the harnesses, which also ran under the sanitizers"
+    tools/fuzz_c.sh 0
 fi
 if have c++ C++; then
-    for it in atlas session; do
+    for it in atlas session collection; do
         c++ -std=c++11 "${flags[@]}" -x c++ "bindings/c/$it.c" -x none "$link" -o "$work/${it}_cpp"
         "$work/${it}_cpp" | diff - "$work/$it.txt"
     done
@@ -50,9 +52,17 @@ fi
 if have cargo Rust; then
     cargo=(--offline --manifest-path bindings/rust/Cargo.toml --target-dir "$work/rust")
     cargo test -q "${cargo[@]}"
+    RUSTDOCFLAGS="-D warnings" cargo doc -q --no-deps "${cargo[@]}"
+    if cargo clippy --version >/dev/null 2>&1; then
+        cargo clippy -q --all-targets "${cargo[@]}" -- -D warnings
+    else
+        skipped+=("the lints of Rust: no cargo clippy")
+    fi
     cargo run -q "${cargo[@]}" --example atlas >/dev/null
     cargo run -q "${cargo[@]}" --example session | diff - "$work/session.txt"
-    echo "Rust: cargo test, which compares with packrun, and the examples"
+    # The crate lists placements by their groups.
+    cargo run -q "${cargo[@]}" --example collection | sort | diff - <(sort "$work/collection.txt")
+    echo "Rust: cargo test, which compares with packrun, cargo doc, and the examples"
 fi
 if have python3 Python; then
     python3 -m unittest discover -q -s bindings/python
@@ -60,11 +70,14 @@ if have python3 Python; then
         python3 "bindings/python/$it.py" | diff - "$work/$it.txt"
     done
     # These have no twin in C: the tests look at what they print.
-    for it in sheet_plan unload; do
+    for it in sheet_plan unload customers; do
         python3 "bindings/python/$it.py" >/dev/null
     done
     tools/c_beside_packrun.py "$runs"
-    echo "Python: the tests, the examples, and the drawn inputs and sessions beside packrun"
+    tools/c_beside_library.py "$runs"
+    echo "Python: the tests, the examples, and the drawn inputs and sessions beside packrun and the library"
+    # The tests have mypy check the types, where it is there.
+    have mypy "the types in Python" || true
 fi
 for it in ${skipped[@]+"${skipped[@]}"}; do
     echo "skipped: $it"

@@ -1,0 +1,223 @@
+#!/usr/bin/env python3
+"""c_beside_library.py [RUNS]: what packrun has no line for, by the library for C and by a program over the library.
+
+Draws RUNS sessions (200 if left out): packings by each heuristic and by the best of all, of boxes in several groups, of which some
+are excluded; releases; joins of one section and of all; cutting plans of each bin. Each is obeyed by the calls of the shared
+library, over ctypes, and by session_lines.rt.in, which is proved and built in a temporary folder. Every answer is compared, and
+in the end all placements."""
+from __future__ import annotations
+
+import ctypes
+import dataclasses
+import os
+import random
+import shutil
+import subprocess
+import sys
+import tempfile
+from collections.abc import Callable
+from pathlib import Path
+
+TOOLS = Path(__file__).resolve().parent
+TOP = TOOLS.parent
+sys.path[:0] = [str(TOOLS), str(TOP / "bindings" / "python")]
+import build  # noqa: E402
+from rectangle_pack import _library as c  # noqa: E402
+
+BEST = 0xFFFF
+NOT_ENOUGH_SPACE = 1
+COMMANDS = 40
+
+# A line: its word, and its numbers.
+Line = tuple[str, tuple[int, ...]]
+
+
+class Drawn:
+    """The lines of a session."""
+
+    def __init__(self, seed: int) -> None:
+        self.r = random.Random(seed)
+        self.lines: list[Line] = []
+        self.depth = self.r.choice([1, 1, 8])
+        self.bins = self.r.randint(1, 4)
+        for _ in range(self.bins):
+            self.add("bin", *self.sides(12, 30))
+        self.packed = 0
+        for _ in range(COMMANDS):
+            self.r.choices([self.packing, self.release, self.join, self.sweep, self.plan], [4, 6, 3, 1, 4])[0]()
+        for bin in range(self.bins):
+            self.add("plan", bin)
+        self.add("placed")
+
+    def add(self, word: str, *numbers: int) -> None:
+        self.lines.append((word, numbers))
+
+    def sides(self, low: int, high: int) -> tuple[int, int, int]:
+        depth = 1 if self.depth == 1 else self.r.randint(low * self.depth // 30, self.depth)
+        return self.r.randint(low, high), self.r.randint(low, high), depth
+
+    def packing(self) -> None:
+        count = self.r.randint(0, 6)
+        for _ in range(count):
+            self.add("box", *self.sides(1, 12), self.r.choice([0, 0, 1, 2, 3]))
+        members = self.r.randint(0, 2) if count else 0
+        for _ in range(members):
+            self.add("member", self.r.randrange(count), self.r.randint(0, 4))
+        for _ in range(self.r.randint(0, 2)):
+            self.add("exclude", *self.r.sample(range(1, 5), 2))
+        self.add("pack", self.r.choice([*range(8), BEST]))
+        self.packed += count + members
+
+    def release(self) -> None:
+        self.add("release", self.r.randint(0, self.packed))
+
+    def join(self) -> None:
+        low = self.r.randint(0, 6)
+        self.add("join", self.r.randint(0, self.bins), self.r.randint(0, 8), low, low + self.r.randint(0, 8))
+
+    def sweep(self) -> None:
+        self.add("sweep", self.r.randint(0, self.bins))
+
+    def plan(self) -> None:
+        self.add("plan", self.r.randrange(self.bins))
+
+
+class InC:
+    """A session of the library for C, which obeys lines."""
+
+    def __init__(self) -> None:
+        self.session = c.RpSession()
+        c.check(c.call("session_new", self.session))
+        self.bins = 0
+        self.forget()
+
+    def close(self) -> None:
+        c.call("session_free", self.session)
+
+    def forget(self) -> None:
+        self.boxes: list[tuple[int, ...]] = []
+        self.members: list[tuple[int, ...]] = []
+        self.exclusions: list[tuple[int, ...]] = []
+
+    def obey(self, word: str, numbers: tuple[int, ...]) -> str | None:
+        """The answer, where there is one."""
+        later = {"box": self.boxes, "member": self.members, "exclude": self.exclusions}
+        if word in later:
+            later[word].append(numbers)
+            return None
+        obeys: dict[str, Callable[..., str]] = {
+            "bin": self.bin, "pack": self.pack, "release": self.release, "join": self.join, "sweep": self.sweep,
+            "plan": self.plan, "placed": self.placed,
+        }
+        return obeys[word](*numbers)
+
+    def bin(self, *size: int) -> str:
+        c.check(c.call("session_add_bin", self.session, self.bins, *size))
+        self.bins += 1
+        return str(self.bins - 1)
+
+    def pack(self, heuristic: int) -> str:
+        lists = (c.RpBox, self.boxes), (c.RpMember, self.members), (c.RpExclusion, self.exclusions)
+        collection = c.RpCollection(*(part for kind, rows in lists for part in (c.listed(kind, rows), len(rows))))
+        places, chosen = len(self.boxes) + len(self.members), ctypes.c_uint32()
+        array = c.empty(c.RpOutstanding, places)
+        status = c.call("session_pack_collection", self.session, collection, heuristic, array, places, chosen)
+        self.forget()
+        if status == NOT_ENOUGH_SPACE:
+            return "-1"
+        c.check(status)
+        return str(chosen.value)
+
+    def release(self, number: int) -> str:
+        return str(int(c.call("session_release", self.session, number) == 0))
+
+    def join(self, bin: int, index: int, low: int, high: int) -> str:
+        return str(int(c.call("session_coalesce", self.session, bin, index, low, high) == 0))
+
+    def sweep(self, bin: int) -> str:
+        return str(int(c.call("session_coalesce_all", self.session, bin) == 0))
+
+    def read(self, name: str, kind: type[c.Entry], *arguments: object) -> tuple[int, list[c.Entry]]:
+        """The status of a call that writes a list, and the list."""
+        count, array = ctypes.c_size_t(), c.empty(kind, 0)
+        status = c.call(name, self.session, *arguments, array, 0, count)
+        if status == c.SHORT_ARRAY:
+            array = c.empty(kind, count.value)
+            status = c.call(name, self.session, *arguments, array, count.value, count)
+        return status, list(array[:count.value])
+
+    def plan(self, bin: int) -> str:
+        status, steps = self.read("session_cut_plan", c.RpCutStep, bin)
+        if status == c.NO_PLAN:
+            return "-1"
+        c.check(status)
+        return " ".join(f"{step.axis} {step.place}" for step in steps)
+
+    def placed(self) -> str:
+        status, all_placed = self.read("session_outstanding", c.RpStanding)
+        c.check(status)
+        numbers = [(it.number, it.index, it.bin, it.section.x, it.section.y, it.section.z) for it in all_placed]
+        return " ".join(str(number) for row in numbers for number in row)
+
+
+def by_c(lines: list[Line]) -> list[str]:
+    """What the library for C answers to the lines."""
+    session = InC()
+    answers = [answer for word, numbers in lines if (answer := session.obey(word, numbers)) is not None]
+    session.close()
+    return answers
+
+
+def by_library(program: Path, lines: list[Line]) -> list[str]:
+    """What the program over the library answers."""
+    text = "".join(f"{word} {' '.join(map(str, numbers))}\n" for word, numbers in lines)
+    ran = subprocess.run([program], input=text, capture_output=True, text=True, check=True)
+    return [line.rstrip() for line in ran.stdout.splitlines()]
+
+
+@dataclasses.dataclass(frozen=True)
+class Program(build.Crate):
+    """A program that stands outside of the repository."""
+
+    at: Path = Path()
+
+    @property
+    def folder(self) -> Path:
+        return self.at
+
+
+def built(room: Path) -> Path:
+    """The program, proved and built in the folder, over the library that stands proved in build/."""
+    crates = build.crates_of((TOP / "crates.txt").read_text(encoding="utf-8"))
+    below = build.with_all_below("rectangle_pack", crates)
+    over = build.Build(below, build.toolchain())
+    over.run()
+    program = Program("session_lines", "", ("rectangle_pack",), room)
+    for name in ("src", "out"):
+        (room / name).mkdir()
+    shutil.copy(TOOLS / "session_lines.rt.in", room / "src" / "main.rt")
+    part = program.made.with_suffix(".o")
+    over.call(program, over.words(program, part, len(os.sched_getaffinity(0))))
+    over.call(program, over.link(program.made, part))
+    return program.made
+
+
+def main() -> int:
+    runs = int(sys.argv[1]) if len(sys.argv) > 1 else 200
+    differ = compared = refused = 0
+    with tempfile.TemporaryDirectory(prefix="session-lines-") as room:
+        program = built(Path(room))
+        for seed in range(runs):
+            lines = Drawn(seed).lines
+            ours, theirs = by_c(lines), by_library(program, lines)
+            compared += len(theirs)
+            refused += theirs.count("-1")
+            if ours != theirs:
+                differ += 1
+                print(f"seed {seed}: {next((pair for pair in zip(ours, theirs) if pair[0] != pair[1]), 'more answers')}")
+    print(f"{runs} sessions, {compared} answers, {refused} of them without space or plan: {differ} sessions differ")
+    return differ != 0
+
+
+if __name__ == "__main__":
+    sys.exit(main())
