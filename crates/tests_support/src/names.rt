@@ -7,64 +7,92 @@ use super::shapes::{has_list, named};
 use rectangle_pack_bins::target_bin::TargetBin;
 use rectangle_pack_groups::grouped_rects_to_place::GroupedRectsToPlace;
 use rectangle_pack_sections::rect_to_insert::RectToInsert;
-use std::alloc::AllocError;
+use std::alloc::{AllocError, Global};
 use std::cell::Cell;
 use std::collections::BTreeMap;
 
-/// A number that is cloned only while its counter is above 0; each clone lowers it by one.
-#[derive(Drop)]
-#[derive_where(PartialEq, Eq, PartialOrd, Ord)]
-pub struct Name<'a> {
-    pub number: u32,
-    /// How many clones are left, of all names.
-    #[derive_where(skip)]
-    pub left: &'a Cell<u64>,
+/// How many clones are left, of all names that share it. A copy shares the count, which stays on
+/// the heap to the end of the program.
+#[derive(Clone, Copy)]
+pub struct Clones {
+    left: &'static Cell<u64>,
 }
 
-impl Clone for Name<'_> {
+impl Clones {
+    /// So many of them. `AllocError` where there is no memory for the count.
+    pub fn new(alloc: Global, left: u64) -> Result<Clones, AllocError> {
+        let left = Box::new(alloc, Cell::new(left))?;
+        Ok(Clones {
+            left: Box::leak(left),
+        })
+    }
+
+    /// From now on so many are left.
+    pub fn set(&self, left: u64) {
+        self.left.set(left);
+    }
+
+    // Whether one was left, which is then taken.
+    fn take(&self) -> bool {
+        let left = self.left.get();
+        self.left.set(left.saturating_sub(1));
+        left > 0
+    }
+}
+
+/// A number that is cloned only while clones are left; each takes one.
+#[derive(Drop)]
+#[derive_where(PartialEq, Eq, PartialOrd, Ord)]
+pub struct Name {
+    pub number: u32,
+    #[derive_where(skip)]
+    pub clones: Clones,
+}
+
+impl Clone for Name {
     ghost is_clone = { λ x y. y.number ≡ x.number };
 
     fn clone(&self) -> Result<Self, AllocError> {
-        let left = self.left.get();
-        if left == 0 {
+        if !self.clones.take() {
             return Err(AllocError);
         }
-        self.left.set(left - 1);
         Ok(Name {
             number: self.number,
-            left: self.left,
+            clones: self.clones,
         })
     }
 }
 
 /// Boxes to place, by names and in numbered groups.
-pub type Rects<'a> = GroupedRectsToPlace<Name<'a>, u32, Refusing>;
+pub type Rects = GroupedRectsToPlace<Name, u32, Refusing>;
 
 /// Bins by names.
-pub type Bins<'a> = BTreeMap<Name<'a>, TargetBin<Refusing>, Refusing>;
+pub type Bins = BTreeMap<Name, TargetBin<Refusing>, Refusing>;
 
 /// Pushes the boxes, under names of their numbers.
-pub fn push_all<'a>(
-    rects: &mut Rects<'a>,
+pub fn push_all(
+    rects: &mut Rects,
     alloc: Refusing,
-    left: &'a Cell<u64>,
+    clones: Clones,
     boxes: &[SizedBox],
 ) -> Result<(), AllocError> {
     for sized in boxes {
         let (number, [width, height, depth], groups) = *sized;
         let groups = named(alloc, groups)?;
-        let name = Name { number, left };
+        let name = Name { number, clones };
         rects.push_rect(name, groups, RectToInsert::new(width, height, depth))?;
     }
     Ok(())
 }
 
 /// Whether these are the bins, in order, with these free sections.
-pub fn have_lists(bins: &Bins<'_>, wanted: &[SizedBin]) -> bool {
-    for ((name, bin), (number, _, list)) in bins.iter().zip(wanted.iter()) {
-        if name.number != *number || !has_list(bin, list) {
-            return false;
+pub fn have_lists(bins: &Bins, wanted: &[SizedBin]) -> bool {
+    let mut found = bins.iter();
+    for (number, _, list) in wanted {
+        match found.next() {
+            Some((name, bin)) if name.number == *number && has_list(bin, list) => {}
+            _ => return false,
         }
     }
-    bins.len() == wanted.len()
+    found.next().is_none()
 }

@@ -2,10 +2,10 @@
 
 use rectangle_pack::{Group, RectToInsert};
 use std::alloc::{AllocError, Global};
-use std::cell::Cell;
 use std::process::Abort;
+use std::test::Fail;
 use tests_support::each_request::End;
-use tests_support::names::{Name, Rects};
+use tests_support::names::{Clones, Name, Rects};
 use tests_support::refusing::Refusing;
 
 // What a collection holds: its groups with their boxes, where a box alone has the group `None`, and
@@ -101,15 +101,22 @@ const PUSHES: &[Push] = &[
 ];
 
 // A group, or a box alone.
-type NamedGroup<'a> = Group<u32, Name<'a>>;
+type NamedGroup = Group<u32, Name>;
 
 // Whether these are the boxes, in this order.
-fn are(ids: &[Name<'_>], wanted: &[u32]) -> bool {
-    ids.iter().map(|id| &id.number).eq(wanted)
+fn are(ids: &[Name], wanted: &[u32]) -> bool {
+    let mut found = ids.iter();
+    for number in wanted {
+        match found.next() {
+            Some(id) if id.number == *number => {}
+            _ => return false,
+        }
+    }
+    found.next().is_none()
 }
 
 // Whether this is the group's number, and `None` for the group of the list's first box alone.
-fn is_group(group: &NamedGroup<'_>, number: Option<u32>, boxes: &[u32]) -> bool {
+fn is_group(group: &NamedGroup, number: Option<u32>, boxes: &[u32]) -> bool {
     match group {
         Group::Ungrouped(id) => number.is_none() && boxes.first() == Some(&id.number),
         Group::Grouped(group) => number == Some(*group),
@@ -117,12 +124,12 @@ fn is_group(group: &NamedGroup<'_>, number: Option<u32>, boxes: &[u32]) -> bool 
 }
 
 // Whether the group is this one, with these boxes.
-fn has_boxes(group: &NamedGroup<'_>, ids: &[Name<'_>], number: Option<u32>, boxes: &[u32]) -> bool {
+fn has_boxes(group: &NamedGroup, ids: &[Name], number: Option<u32>, boxes: &[u32]) -> bool {
     is_group(group, number, boxes) && are(ids, boxes)
 }
 
 // Whether the collection has these groups.
-fn has_groups(all: &Rects<'_>, groups: &[(Option<u32>, &[u32])]) -> bool {
+fn has_groups(all: &Rects, groups: &[(Option<u32>, &[u32])]) -> bool {
     let mut found = all.groups().iter();
     for (number, boxes) in groups {
         match found.next() {
@@ -134,12 +141,12 @@ fn has_groups(all: &Rects<'_>, groups: &[(Option<u32>, &[u32])]) -> bool {
 }
 
 // The number of a box, and its size.
-fn sized((id, rect): (&Name<'_>, &RectToInsert)) -> (u32, [u32; 3]) {
+fn sized((id, rect): (&Name, &RectToInsert)) -> (u32, [u32; 3]) {
     (id.number, [rect.width(), rect.height(), rect.depth()])
 }
 
 // Whether the collection has these boxes.
-fn has_sizes(all: &Rects<'_>, sizes: &[(u32, [u32; 3])]) -> bool {
+fn has_sizes(all: &Rects, sizes: &[(u32, [u32; 3])]) -> bool {
     let mut found = all.rects().iter();
     for wanted in sizes {
         match found.next() {
@@ -150,159 +157,180 @@ fn has_sizes(all: &Rects<'_>, sizes: &[(u32, [u32; 3])]) -> bool {
     found.next().is_none()
 }
 
-fn has(all: &Rects<'_>, boxes: &Boxes) -> bool {
+fn has(all: &Rects, boxes: &Boxes) -> bool {
     has_groups(all, boxes.groups) && has_sizes(all, boxes.sizes)
 }
 
 // Pushes the old box alone and into group 0.
-fn push_old<'a>(
-    all: &mut Rects<'a>,
-    alloc: Refusing,
-    left: &'a Cell<u64>,
-) -> Result<(), AllocError> {
+fn push_old(all: &mut Rects, alloc: Refusing, clones: Clones) -> Result<(), AllocError> {
     let rect = RectToInsert::new(1, 1, 1);
-    all.push_rect(Name { number: OLD, left }, None, rect)?;
+    all.push_rect(
+        Name {
+            number: OLD,
+            clones,
+        },
+        None,
+        rect,
+    )?;
     let named = [0].to_vec(alloc)?;
-    all.push_rect(Name { number: OLD, left }, Some(named), rect)
+    all.push_rect(
+        Name {
+            number: OLD,
+            clones,
+        },
+        Some(named),
+        rect,
+    )
 }
 
 // Pushes the box into these groups. Refused, this changes nothing.
-fn pushes<'a>(
+fn pushes(
     rt: &impl Abort,
-    all: &mut Rects<'a>,
+    all: &mut Rects,
     named: Vec<u32, Refusing>,
-    left: &'a Cell<u64>,
+    clones: Clones,
     push: &Push,
 ) -> End {
     let named = if named.is_empty() { None } else { Some(named) };
     let number = push.id;
     let rect = RectToInsert::new(2, 3, 1);
-    let is_done = all.push_rect(Name { number, left }, named, rect).is_ok();
+    let is_done = all.push_rect(Name { number, clones }, named, rect).is_ok();
     assert!(rt; has(all, if is_done { push.after } else { push.before }));
     if is_done { End::Done } else { End::Refused }
 }
 
 // A push for which so many clones are left. Only the collection before it takes more.
-fn end_of_push<'a>(
+fn end_of_push(
     rt: &impl Abort,
     alloc: Refusing,
-    all: &mut Rects<'a>,
-    left: &'a Cell<u64>,
-    clones: u64,
+    all: &mut Rects,
+    clones: Clones,
+    count: u64,
     push: &Push,
 ) -> End {
-    if !push.before.sizes.is_empty() && push_old(all, alloc, left).is_err() {
+    if !push.before.sizes.is_empty() && push_old(all, alloc, clones).is_err() {
         return End::Before;
     }
     let Ok(named) = push.named.to_vec(alloc) else {
         return End::Before;
     };
-    left.set(clones);
-    pushes(rt, all, named, left, push)
+    clones.set(count);
+    pushes(rt, all, named, clones, push)
 }
 
-// The groups 0 and 1 are excluded, and the group 0 and the old box alone unless that was refused.
-fn has_pairs<'a>(
-    rt: &impl Abort,
-    all: &Rects<'a>,
-    (zero, one): (&NamedGroup<'a>, &NamedGroup<'a>),
-    old: &NamedGroup<'a>,
-    is_done: bool,
-) {
-    assert!(rt; all.excluded(one, zero));
-    assert_eq!(rt; all.excluded(zero, old), is_done);
-    assert_eq!(rt; all.excluded(old, zero), is_done);
-    assert!(rt; !all.excluded(old, one));
+// Whether the groups 0 and 1 are excluded, and the group 0 and the old box alone unless that was
+// refused.
+fn has_pairs(all: &Rects, old: &NamedGroup, is_done: bool) -> bool {
+    let (zero, one) = (Group::Grouped(0), Group::Grouped(1));
+    all.excluded(&one, &zero)
+        && all.excluded(&zero, old) == is_done
+        && all.excluded(old, &zero) == is_done
+        && !all.excluded(old, &one)
 }
 
 // Excludes the group 0 and the old box alone. Refused, this changes no boxes and no pairs.
-fn excludes<'a>(rt: &impl Abort, all: &mut Rects<'a>, left: &'a Cell<u64>) -> End {
+fn excludes(rt: &impl Abort, all: &mut Rects, clones: Clones) -> End {
     let number = OLD;
-    let old = Group::Ungrouped(Name { number, left });
+    let old = Group::Ungrouped(Name { number, clones });
     let is_done = all.exclude(Group::Grouped(0), old).is_ok();
-    assert!(rt; has(all, ONE));
-    let numbered = (&Group::Grouped(0), &Group::Grouped(1));
-    has_pairs(
-        rt,
-        all,
-        numbered,
-        &Group::Ungrouped(Name { number, left }),
-        is_done,
-    );
+    let old = Group::Ungrouped(Name { number, clones });
+    assert!(rt; has(all, ONE) && has_pairs(all, &old, is_done));
     if is_done { End::Done } else { End::Refused }
 }
 
 // An exclusion for which so many clones are left. Only what is before it takes more.
-fn end_of_exclusion<'a>(
+fn end_of_exclusion(
     rt: &impl Abort,
     alloc: Refusing,
-    all: &mut Rects<'a>,
-    left: &'a Cell<u64>,
-    clones: u64,
+    all: &mut Rects,
+    clones: Clones,
+    count: u64,
 ) -> End {
-    if push_old(all, alloc, left).is_err() {
+    if push_old(all, alloc, clones).is_err() {
         return End::Before;
     }
     if all.exclude(Group::Grouped(0), Group::Grouped(1)).is_err() {
         return End::Before;
     }
-    left.set(clones);
-    excludes(rt, all, left)
+    clones.set(count);
+    excludes(rt, all, clones)
 }
 
 // A push, or else an exclusion, in a new collection.
 fn end_in_new(
     rt: &impl Abort,
     alloc: Refusing,
-    left: &Cell<u64>,
-    clones: u64,
+    clones: Clones,
+    count: u64,
     push: Option<&Push>,
 ) -> End {
     let mut all = Rects::new(alloc);
     match push {
-        Some(push) => end_of_push(rt, alloc, &mut all, left, clones, push),
-        None => end_of_exclusion(rt, alloc, &mut all, left, clones),
+        Some(push) => end_of_push(rt, alloc, &mut all, clones, count, push),
+        None => end_of_exclusion(rt, alloc, &mut all, clones, count),
     }
 }
 
 // A push, or else an exclusion, under so many requests and clones. All memory is given back.
-fn end(rt: &impl Abort, alloc: Global, requests: u64, clones: u64, push: Option<&Push>) -> End {
-    let left = Cell::new(u64::MAX);
-    let refusing = Refusing::new(alloc, requests).expect(rt, "no memory for the counts");
-    let end = end_in_new(rt, refusing, &left, clones, push);
+fn end(
+    rt: &impl Abort,
+    alloc: Global,
+    requests: u64,
+    (clones, count): (Clones, u64),
+    push: Option<&Push>,
+) -> Result<End, AllocError> {
+    let refusing = Refusing::new(alloc, requests)?;
+    clones.set(u64::MAX);
+    let end = end_in_new(rt, refusing, clones, count, push);
     assert_eq!(rt; refusing.taken(), 0);
-    end
+    Ok(end)
 }
 
 // Whether some request, or some clone, is refused in the call, where each is refused in turn, until
 // none is.
-fn is_refused(rt: &impl Abort, alloc: Global, is_clone: bool, push: Option<&Push>) -> bool {
+fn is_refused(
+    rt: &impl Abort,
+    alloc: Global,
+    is_clone: bool,
+    push: Option<&Push>,
+) -> Result<bool, AllocError> {
+    let clones = Clones::new(alloc, 0)?;
     let mut refused = false;
     for granted in 0..200u64 {
-        let (requests, clones) = if is_clone {
+        let (requests, count) = if is_clone {
             (u64::MAX, granted)
         } else {
             (granted, u64::MAX)
         };
-        match end(rt, alloc, requests, clones, push) {
+        match end(rt, alloc, requests, (clones, count), push)? {
             End::Before => {}
             End::Refused => refused = true,
-            End::Done => return refused,
+            End::Done => return Ok(refused),
         }
     }
-    false
+    Ok(false)
+}
+
+// The same for requests, and for clones.
+fn are_refused(rt: &impl Abort, alloc: Global, push: Option<&Push>) -> Result<bool, AllocError> {
+    Ok(is_refused(rt, alloc, false, push)? && is_refused(rt, alloc, true, push)?)
+}
+
+// A table is dear to prove in a longer body, so this one stands alone.
+fn all_pushes() -> &'static [Push] {
+    PUSHES
 }
 
 #[test]
-fn pushes_into_collections(rt: HostRuntime) {
-    for push in PUSHES {
-        assert!(rt; is_refused(&rt, rt.alloc(), false, Some(push)));
-        assert!(rt; is_refused(&rt, rt.alloc(), true, Some(push)));
+fn pushes_into_collections(rt: HostRuntime) -> Result<(), Fail> {
+    for push in all_pushes() {
+        assert!(rt; are_refused(&rt, rt.alloc(), Some(push))?);
     }
+    Ok(())
 }
 
 #[test]
-fn exclusions(rt: HostRuntime) {
-    assert!(rt; is_refused(&rt, rt.alloc(), false, None));
-    assert!(rt; is_refused(&rt, rt.alloc(), true, None));
+fn exclusions(rt: HostRuntime) -> Result<(), Fail> {
+    assert!(rt; are_refused(&rt, rt.alloc(), None)?);
+    Ok(())
 }

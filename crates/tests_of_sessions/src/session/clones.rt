@@ -1,102 +1,147 @@
 //! Packings of a session whose ids refuse to be cloned, each clone in turn until none is refused.
 
 use rectangle_pack::{
-    GroupedRectsToPlace, Outstanding, Packed, Session, SessionError, contains_smallest_box,
-    volume_heuristic,
+    Outstanding, Packed, Session, SessionError, contains_smallest_box, volume_heuristic,
 };
 use std::alloc::Global;
-use std::cell::Cell;
 use std::process::Abort;
+use std::test::Fail;
 use tests_support::boxes::{SizedBin, SizedBox};
-use tests_support::names::{Name, Rects, have_lists, push_all};
+use tests_support::names::{Clones, Name, Rects, have_lists, push_all};
 use tests_support::refusing::Refusing;
 use tests_support::shapes::place;
 
-type NameSession<'a> = Session<Name<'a>, Name<'a>, Refusing>;
+type NameSession = Session<Name, Name, Refusing>;
 
 const FIRST: &[SizedBox] = &[(1, [4, 10, 1], &[])];
 
 const SECOND: &[SizedBox] = &[(2, [2, 10, 1], &[]), (3, [4, 10, 1], &[])];
 
-// A placement: box, bin and place.
-type Placed = (u32, u32, [u32; 6]);
+// What the second packing answers where it is done.
+const PACKED: Packed = Packed { first: 1, count: 2 };
 
-// The placements in the bin 7, in the order of their numbers from 0 on.
-const BESIDE: &[Placed] = &[
-    (1, 7, [0, 0, 0, 4, 10, 1]),
-    (3, 7, [4, 0, 0, 4, 10, 1]),
-    (2, 7, [8, 0, 0, 2, 10, 1]),
-];
+// A placement: number, box, bin and place.
+type Placed = (u64, u32, u32, [u32; 6]);
 
-// Whether these placements are outstanding, with the numbers from 0 on.
-fn are_outstanding(outstanding: &[Outstanding<Name<'_>, Name<'_>>], all: &[Placed]) -> bool {
-    for (placed, (number, (id, bin, at))) in outstanding.iter().zip((0..).zip(all.iter())) {
-        if placed.number != number || placed.id.number != *id || placed.bin.number != *bin {
-            return false;
-        }
-        if place(&placed.location) != *at {
-            return false;
+// A session: its bins with their free sections, and the placements in the order of their numbers,
+// of which the next one is theirs.
+struct State {
+    bins: &'static [SizedBin],
+    placed: &'static [Placed],
+}
+
+const BEFORE: State = State {
+    bins: &[(7, [10, 10, 1], &[[4, 0, 0, 6, 10, 1]])],
+    placed: &[(0, 1, 7, [0, 0, 0, 4, 10, 1])],
+};
+
+const AFTER: State = State {
+    bins: &[(7, [10, 10, 1], &[])],
+    placed: &[
+        (0, 1, 7, [0, 0, 0, 4, 10, 1]),
+        (1, 3, 7, [4, 0, 0, 4, 10, 1]),
+        (2, 2, 7, [8, 0, 0, 2, 10, 1]),
+    ],
+};
+
+// Whether the placement is this one.
+fn is_placed(placed: &Outstanding<Name, Name>, wanted: &Placed) -> bool {
+    let (number, id, bin, at) = *wanted;
+    placed.number == number
+        && placed.id.number == id
+        && placed.bin.number == bin
+        && place(&placed.location) == at
+}
+
+// Whether these placements are outstanding.
+fn are_outstanding(outstanding: &[Outstanding<Name, Name>], all: &[Placed]) -> bool {
+    let mut found = outstanding.iter();
+    for wanted in all {
+        match found.next() {
+            Some(placed) if is_placed(placed, wanted) => {}
+            _ => return false,
         }
     }
-    outstanding.len() == all.len()
+    found.next().is_none()
+}
+
+fn is_in(session: &NameSession, state: &State) -> bool {
+    have_lists(session.bins(), state.bins)
+        && are_outstanding(session.outstanding(), state.placed)
+        && session.next_number() == state.placed.len() as u64
 }
 
 // Adds a bin 10x10x1, and packs the first box.
-fn fill<'a>(
-    session: &mut NameSession<'a>,
-    rects: &mut Rects<'a>,
+fn fill(
+    session: &mut NameSession,
+    rects: &mut Rects,
     alloc: Refusing,
-    left: &'a Cell<u64>,
+    clones: Clones,
 ) -> Result<(), SessionError> {
-    session.add_bin(Name { number: 7, left }, 10, 10, 1)?;
-    push_all(rects, alloc, left, FIRST)?;
+    session.add_bin(Name { number: 7, clones }, 10, 10, 1)?;
+    push_all(rects, alloc, clones, FIRST)?;
     session.pack(rects, &volume_heuristic, &contains_smallest_box)?;
     Ok(())
 }
 
-// Whether no clone was refused. If one was, the session is as it was.
-fn packs_beside<'a>(rt: &impl Abort, session: &mut NameSession<'a>, rects: &Rects<'a>) -> bool {
-    let answer = session.pack(rects, &volume_heuristic, &contains_smallest_box);
-    let is_done = answer == Ok(Packed { first: 1, count: 2 });
-    let (free, count): (&[SizedBin], usize) = if is_done {
-        (&[(7, [10, 10, 1], &[])], 3)
-    } else {
-        assert!(rt; answer == Err(SessionError::OutOfMemory));
-        (&[(7, [10, 10, 1], &[[4, 0, 0, 6, 10, 1]])], 1)
-    };
-    assert!(rt; have_lists(session.bins(), free));
-    assert!(rt; are_outstanding(session.outstanding(), &BESIDE[..count]));
-    assert_eq!(rt; session.next_number(), count as u64);
-    is_done
+fn is_filled(session: &mut NameSession, alloc: Refusing, clones: Clones) -> bool {
+    let mut rects = Rects::new(alloc);
+    fill(session, &mut rects, alloc, clones).is_ok()
 }
 
-// Whether so many clones were enough for a packing beside an outstanding one.
-fn is_packed_beside(rt: &impl Abort, alloc: Refusing, left: &Cell<u64>, clones: u64) -> bool {
-    let mut session = Session::new(alloc, 0);
-    let mut first = GroupedRectsToPlace::new(alloc);
-    assert!(rt; fill(&mut session, &mut first, alloc, left).is_ok());
-    let mut rects = GroupedRectsToPlace::new(alloc);
-    assert!(rt; push_all(&mut rects, alloc, left, SECOND).is_ok());
-    left.set(clones);
-    packs_beside(rt, &mut session, &rects)
+// Whether the session may be so after this answer. If a clone was refused, it is as it was.
+fn is_right(answer: Result<Packed, SessionError>, session: &NameSession) -> bool {
+    match answer {
+        Ok(packed) => packed == PACKED && is_in(session, &AFTER),
+        Err(error) => error == SessionError::OutOfMemory && is_in(session, &BEFORE),
+    }
+}
+
+// Whether no clone was refused.
+fn packs(rt: &impl Abort, session: &mut NameSession, rects: &Rects) -> bool {
+    let answer = session.pack(rects, &volume_heuristic, &contains_smallest_box);
+    assert!(rt; is_right(answer, session));
+    answer.is_ok()
+}
+
+// Packs beside an outstanding placement. Whether so many clones were enough.
+fn packs_beside(
+    rt: &impl Abort,
+    session: &mut NameSession,
+    alloc: Refusing,
+    clones: Clones,
+    count: u64,
+) -> bool {
+    let mut rects = Rects::new(alloc);
+    let is_pushed = push_all(&mut rects, alloc, clones, SECOND).is_ok();
+    clones.set(count);
+    is_pushed && packs(rt, session, &rects)
+}
+
+// The same in a new session.
+fn is_packed_beside(rt: &impl Abort, alloc: Refusing, clones: Clones, count: u64) -> bool {
+    let mut session = NameSession::new(alloc, 0);
+    clones.set(u64::MAX);
+    is_filled(&mut session, alloc, clones) && packs_beside(rt, &mut session, alloc, clones, count)
 }
 
 // How many clones are enough for a packing. All memory is given back.
-fn enough(rt: &impl Abort, alloc: Global) -> u64 {
-    for clones in 0..100u64 {
-        let left = Cell::new(u64::MAX);
-        let refusing = Refusing::new(alloc, u64::MAX).expect(rt, "no memory for the counts");
-        let is_done = is_packed_beside(rt, refusing, &left, clones);
-        assert_eq!(rt; refusing.taken(), 0);
+fn enough(rt: &impl Abort, alloc: Global) -> Result<u64, Fail> {
+    let clones = Clones::new(alloc, 0)?;
+    for count in 0..100u64 {
+        let refusing = Refusing::new(alloc, u64::MAX)?;
+        let is_done = is_packed_beside(rt, refusing, clones, count);
+        assert!(rt; refusing.taken() == 0);
         if is_done {
-            return clones;
+            return Ok(count);
         }
     }
-    0
+    Ok(0)
 }
 
 // Each of the two new placements owns an id of a box and one of a bin.
 #[test]
-fn packings(rt: HostRuntime) {
-    assert!(rt; enough(&rt, rt.alloc()) >= 4);
+fn packings(rt: HostRuntime) -> Result<(), Fail> {
+    assert!(rt; enough(&rt, rt.alloc())? >= 4);
+    Ok(())
 }
