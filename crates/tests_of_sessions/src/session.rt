@@ -15,7 +15,7 @@ mod stats;
 mod strip;
 mod units;
 
-use rectangle_pack::{BinStats, Command, Outstanding, Reply, Session, SessionError, TargetBin};
+use rectangle_pack::{BinStats, Command, Outstanding, Reply, Session, SessionError};
 use std::alloc::{AllocError, Global};
 use std::process::Abort;
 use std::test::Fail;
@@ -203,32 +203,45 @@ fn stats_of(held: &Held) -> BinStats {
     }
 }
 
-fn is_held(session: &TestSession, bin: &TargetBin<Refusing>, held: &Held) -> bool {
-    has_list(bin, held.free)
+/// Whether the session has a bin of this id, with these free sections.
+pub fn has_free(session: &TestSession, id: u32, list: &[[u32; 6]]) -> bool {
+    match session.bins().get(&id) {
+        Some(bin) => has_list(bin, list),
+        None => false,
+    }
+}
+
+fn has_bin(session: &TestSession, held: &Held) -> bool {
+    has_free(session, held.id, held.free)
         && session.stats(&held.id) == Some(stats_of(held))
         && session.was_coalesced(&held.id) == Some(held.coalesced)
 }
 
+// Whether these are the session's bins, each of an id of its own.
 fn has_bins(session: &TestSession, wanted: &[Held]) -> bool {
-    for ((id, bin), held) in session.bins().iter().zip(wanted.iter()) {
-        if *id != held.id || !is_held(session, bin, held) {
+    for held in wanted {
+        if !has_bin(session, held) {
             return false;
         }
     }
     session.bins().len() == wanted.len()
 }
 
+fn is_placed(placed: &Outstanding<u32, u32>, wanted: &PlacedBox) -> bool {
+    let (number, id, bin, at) = *wanted;
+    placed.number == number && placed.id == id && placed.bin == bin && place(&placed.location) == at
+}
+
+// Whether these are the placements, in order.
 fn has_placed(placed: &[Outstanding<u32, u32>], wanted: &[PlacedBox]) -> bool {
-    for (placement, (number, id, bin, numbers)) in placed.iter().zip(wanted.iter()) {
-        if placement.number != *number
-            || placement.id != *id
-            || placement.bin != *bin
-            || place(&placement.location) != *numbers
-        {
-            return false;
+    let mut found = placed.iter();
+    for row in wanted {
+        match found.next() {
+            Some(placement) if is_placed(placement, row) => {}
+            _ => return false,
         }
     }
-    placed.len() == wanted.len()
+    found.next().is_none()
 }
 
 fn has_id(bins: &[Held], id: u32) -> bool {
@@ -270,9 +283,10 @@ pub fn empty(first: u64) -> State {
 
 /// Each script comes out, by its calls and by one run, with each request refused in turn.
 pub fn come_out(rt: &impl Abort, alloc: Global, scripts: &[Script]) -> Result<(), Fail> {
+    let plenty = Refusing::new(alloc, u64::MAX)?;
     for script in scripts {
-        calls::come_out(rt, alloc, script)?;
-        run::come_out(rt, alloc, script)?;
+        calls::come_out(rt, alloc, plenty, script)?;
+        run::come_out(rt, alloc, plenty, script)?;
     }
     Ok(())
 }

@@ -9,8 +9,8 @@ mod random;
 mod read_back;
 mod refusals;
 
-use super::calls::{NO_MEMORY, call};
-use super::{Order, State, TestSession, command, is_in};
+use super::calls::{NO_MEMORY, obey};
+use super::{Order, State, TestSession, has_free, is_in};
 use rectangle_pack::{
     Axis, CutStep, Packed, Reply, SessionError, WidthHeightDepth, contains_smallest_box,
     volume_heuristic,
@@ -20,7 +20,6 @@ use std::cmp::Ordering;
 use std::process::Abort;
 use tests_support::boxes::{Rects, SizedBox, collect};
 use tests_support::refusing::Refusing;
-use tests_support::shapes::has_list;
 
 /// A step of a plan, as data: a cut at a place on an axis, or a leaf.
 #[derive(Clone, Copy)]
@@ -115,13 +114,6 @@ fn pack_by(session: &mut TestSession, alloc: Refusing, rule: Rule, boxes: &[Size
     }
 }
 
-fn obey(session: &mut TestSession, alloc: Refusing, order: &Order) -> Reply {
-    match command(alloc, order) {
-        Ok(command) => call(session, &command),
-        Err(_) => NO_MEMORY,
-    }
-}
-
 fn cut_step(step: &PlanStep) -> CutStep {
     let (axis, place) = match step {
         PlanStep::X(place) => (Axis::X, *place),
@@ -133,12 +125,14 @@ fn cut_step(step: &PlanStep) -> CutStep {
 }
 
 fn is_plan(plan: &[CutStep], wanted: &[PlanStep]) -> bool {
-    for (step, wanted) in plan.iter().zip(wanted.iter()) {
-        if *step != cut_step(wanted) {
-            return false;
+    let mut found = plan.iter();
+    for step in wanted {
+        match found.next() {
+            Some(it) if *it == cut_step(step) => {}
+            _ => return false,
         }
     }
-    plan.len() == wanted.len()
+    found.next().is_none()
 }
 
 fn came_if(is_wanted: bool) -> Came {
@@ -197,10 +191,22 @@ fn ask_plans(session: &TestSession, plans: &[(u32, &'static [PlanStep])]) -> Cam
     came_if(session.bins().len() == plans.len())
 }
 
-fn is_free(session: &TestSession, bin: u32, list: &[[u32; 6]]) -> bool {
-    match session.bins().get(&bin) {
-        Some(bin) => has_list(bin, list),
-        None => false,
+// The session is in this state, and bin 0 has this plan.
+fn ask_in(session: &TestSession, state: &State, plan: &[PlanStep]) -> Came {
+    let answer = ask_plan(session, 0, plan);
+    if is_in(session, state) {
+        answer
+    } else {
+        Came::Wrong
+    }
+}
+
+// Whether there is no plan of a bin that is there, or no such bin.
+fn has_none(session: &TestSession, bin: u32, is_there: bool) -> bool {
+    match session.cut_plan(&bin) {
+        Ok(None) => is_there,
+        Err(SessionError::UnknownBin) => !is_there,
+        _ => false,
     }
 }
 
@@ -213,19 +219,10 @@ fn play(session: &mut TestSession, alloc: Refusing, step: &Step) -> Came {
         }
         Step::Replies(order, wanted) => come_of(obey(session, alloc, order), *wanted),
         Step::Plans(plans) => ask_plans(session, plans),
-        Step::IsIn(state, plan) => {
-            let answer = ask_plan(session, 0, plan);
-            if is_in(session, state) {
-                answer
-            } else {
-                Came::Wrong
-            }
-        }
-        Step::NoPlan(bin) => came_if(matches!(session.cut_plan(bin), Ok(None))),
-        Step::NoBin(bin) => {
-            came_if(matches!(session.cut_plan(bin), Err(SessionError::UnknownBin)))
-        }
-        Step::Free(bin, list) => came_if(is_free(session, *bin, list)),
+        Step::IsIn(state, plan) => ask_in(session, state, plan),
+        Step::NoPlan(bin) => came_if(has_none(session, *bin, true)),
+        Step::NoBin(bin) => came_if(has_none(session, *bin, false)),
+        Step::Free(bin, list) => came_if(has_free(session, *bin, list)),
     }
 }
 
@@ -240,21 +237,37 @@ fn play_each(session: &mut TestSession, alloc: Refusing, script: &[Step]) -> (us
     (script.len(), Came::Out)
 }
 
-/// Plays a script in a new session. Says how it came out, and at which step.
-pub fn play_all(alloc: Refusing, script: &[Step]) -> (usize, Came) {
+// Plays a script in a new session. Says how it came out, and at which step.
+fn play_all(alloc: Refusing, script: &[Step]) -> (usize, Came) {
     let mut session = TestSession::new(alloc, 0);
     play_each(&mut session, alloc, script)
 }
 
-/// Each script comes out, and all that it takes is given back.
+/// The same with so many requests granted. All that it takes is given back, and memory is said to
+/// be refused where it was, and only there.
+pub fn play_granted(
+    rt: &impl Abort,
+    alloc: Global,
+    granted: u64,
+    script: &[Step],
+) -> (usize, Came) {
+    let refusing = Refusing::new(alloc, granted).expect(rt, "no memory for the counts");
+    let (step, came) = play_all(refusing, script);
+    let is_out = matches!(came, Came::Out);
+    assert!(rt;
+        refusing.taken() == 0 && (refusing.refused() == 0) == is_out,
+        "step {step}"
+    );
+    (step, came)
+}
+
+/// Each script comes out.
 pub fn come_out(rt: &impl Abort, alloc: Global, subject: &str, scripts: &[&[Step]]) {
     for (index, script) in scripts.iter().enumerate() {
-        let alloc = Refusing::new(alloc, u64::MAX).expect(rt, "no memory for the counts");
-        let (step, came) = play_all(alloc, script);
+        let (step, came) = play_granted(rt, alloc, u64::MAX, script);
         assert!(rt;
             matches!(came, Came::Out),
             "{subject}: script {index}, step {step}"
         );
-        assert_eq!(rt; alloc.taken(), 0);
     }
 }

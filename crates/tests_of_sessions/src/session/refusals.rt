@@ -137,7 +137,7 @@ const BIN_IN_USE: &[Line] = &[
     },
 ];
 
-const SCRIPTS: &[Script] = &[
+const REFUSED: &[Script] = &[
     Script {
         first: 0,
         lines: REFUSALS,
@@ -145,9 +145,18 @@ const SCRIPTS: &[Script] = &[
     },
     Script {
         first: 0,
-        lines: BIN_IN_USE,
-        refusals: 2,
+        lines: UNDONE,
+        refusals: 1,
     },
+];
+
+const IN_USE: &[Script] = &[Script {
+    first: 0,
+    lines: BIN_IN_USE,
+    refusals: 2,
+}];
+
+const APART: &[Script] = &[
     Script {
         first: 0,
         lines: EXCLUDED,
@@ -158,14 +167,11 @@ const SCRIPTS: &[Script] = &[
         lines: EXCLUDED_BEFORE,
         refusals: 3,
     },
-    Script {
-        first: 0,
-        lines: UNDONE,
-        refusals: 1,
-    },
 ];
 
 #[test]
 fn refusals(rt: HostRuntime) -> Result<(), Fail> {
-    come_out(&rt, rt.alloc(), SCRIPTS)
+    come_out(&rt, rt.alloc(), REFUSED)?;
+    come_out(&rt, rt.alloc(), IN_USE)?;
+    come_out(&rt, rt.alloc(), APART)
 }

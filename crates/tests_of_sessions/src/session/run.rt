@@ -2,7 +2,7 @@
 
 use super::calls::call;
 use super::{Made, Script, TestCommand, TestSession, commands, empty, is_in};
-use rectangle_pack::{BinSection, Reply, contains_smallest_box, volume_heuristic};
+use rectangle_pack::{Reply, TargetBin, contains_smallest_box, volume_heuristic};
 use std::alloc::Global;
 use std::process::Abort;
 use tests_support::refusing::Refusing;
@@ -18,34 +18,50 @@ enum Came {
 
 // Whether calls answer these replies.
 fn are_called(replies: &[Reply], session: &mut TestSession, commands: &[TestCommand]) -> bool {
-    for (reply, command) in replies.iter().zip(commands.iter()) {
-        if *reply != call(session, command) {
-            return false;
+    let mut found = replies.iter();
+    for command in commands {
+        match found.next() {
+            Some(reply) if *reply == call(session, command) => {}
+            _ => return false,
         }
     }
-    replies.len() == commands.len()
+    found.next().is_none()
 }
 
-// Whether the sessions have the same bins, free sections, placements and next number.
-fn are_alike(one: &TestSession, other: &TestSession) -> bool {
-    for ((id, bin), (twin_id, twin)) in one.bins().iter().zip(other.bins().iter()) {
-        if id != twin_id || bin.available_bin_sections() != twin.available_bin_sections() {
+// Whether the session has a bin of this id, with the same free sections.
+fn has_alike(session: &TestSession, id: u32, bin: &TargetBin<Refusing>) -> bool {
+    match session.bins().get(&id) {
+        Some(twin) => bin.available_bin_sections() == twin.available_bin_sections(),
+        None => false,
+    }
+}
+
+fn have_bins_alike(one: &TestSession, other: &TestSession) -> bool {
+    for (id, bin) in one.bins() {
+        if !has_alike(other, *id, bin) {
             return false;
         }
     }
     one.bins().len() == other.bins().len()
+}
+
+// Whether the sessions have the same bins, free sections, placements and next number.
+fn are_alike(one: &TestSession, other: &TestSession) -> bool {
+    have_bins_alike(one, other)
         && one.outstanding() == other.outstanding()
         && one.next_number() == other.next_number()
 }
 
 // Whether the replies are those of the lines.
 fn are_wanted(replies: &[Reply], script: &Script) -> bool {
-    for (reply, line) in replies.iter().zip(script.lines.iter()) {
-        if *reply != line.reply {
-            return false;
+    let mut found = replies.iter();
+    for line in script.lines {
+        match found.next() {
+            Some(reply) if *reply == line.reply => {}
+            _ => return false,
         }
     }
-    replies.len() == script.lines.len()
+    found.next().is_none()
 }
 
 // Each reply is what its call answers, and where the replies are those of the script, the session
@@ -100,32 +116,46 @@ fn run_all(plenty: Refusing, scarce: Refusing, left: Refusing, script: &Script) 
     ))
 }
 
-// With so many requests granted, the run comes out so. All memory is given back. The run says that
-// memory was refused where it was, and only there.
-fn run_granted(rt: &impl Abort, alloc: Global, granted: u64, script: &Script) -> Made<Came> {
-    let plenty = Refusing::new(alloc, u64::MAX)?;
+// Whether a run may come out so. All memory is given back. The run says that memory was refused
+// where it was, and only there.
+fn may_come(came: Came, plenty: Refusing, scarce: Refusing, left: Refusing) -> bool {
+    (scarce.refused() == 0) == matches!(came, Came::Out)
+        && plenty.taken() == 0
+        && scarce.taken() == 0
+        && left.taken() == 0
+}
+
+// With so many requests granted, the run comes out so.
+fn run_granted(
+    rt: &impl Abort,
+    alloc: Global,
+    plenty: Refusing,
+    granted: u64,
+    script: &Script,
+) -> Made<Came> {
     let scarce = Refusing::new(alloc, granted)?;
     let left = Refusing::new(alloc, granted.saturating_sub(1))?;
     let came = run_all(plenty, scarce, left, script)?;
-    assert_eq!(rt; scarce.refused() == 0, matches!(came, Came::Out));
-    assert_eq!(rt; (plenty.taken(), scarce.taken(), left.taken()), (0, 0, 0));
+    assert!(rt; may_come(came, plenty, scarce, left), "{granted} requests");
     Ok(came)
 }
 
-/// Runs with all memory, and then with each request refused in turn, until none is.
-pub fn come_out(rt: &impl Abort, alloc: Global, script: &Script) -> Made<()> {
-    let came = run_granted(rt, alloc, u64::MAX, script)?;
-    assert!(rt; matches!(came, Came::Out));
+// Runs with each request refused in turn, until none is; how many were granted then.
+fn refuse_each(rt: &impl Abort, alloc: Global, plenty: Refusing, script: &Script) -> Made<u64> {
     for granted in 0..300u64 {
-        match run_granted(rt, alloc, granted, script)? {
+        match run_granted(rt, alloc, plenty, granted, script)? {
             Came::Refused => {}
-            Came::Wrong => assert!(rt; false, "{granted} requests"),
-            Came::Out => {
-                assert!(rt; granted > 0);
-                return Ok(());
-            }
+            Came::Wrong => return Ok(0),
+            Came::Out => return Ok(granted),
         }
     }
-    assert!(rt; false);
+    Ok(0)
+}
+
+/// Runs with all memory, and then with each request refused in turn, until none is.
+pub fn come_out(rt: &impl Abort, alloc: Global, plenty: Refusing, script: &Script) -> Made<()> {
+    let came = run_granted(rt, alloc, plenty, u64::MAX, script)?;
+    let granted = refuse_each(rt, alloc, plenty, script)?;
+    assert!(rt; matches!(came, Came::Out) && granted > 0);
     Ok(())
 }

@@ -101,7 +101,7 @@ const SEVERAL_BINS: &[&[Step]] = &[
     ],
 ];
 
-// Boxes in groups, of which some are excluded.
+// Boxes in groups.
 const GROUPS: &[&[Step]] = &[
     &[
         Call(AddBin(0, [8, 8, 1])),
@@ -120,6 +120,10 @@ const GROUPS: &[&[Step]] = &[
         Call(Pack(&[(0, TILE, &[0]), (1, TILE, &[1])])),
         Plans(&[(0, TWO_TILES), (1, &[Leaf])]),
     ],
+];
+
+// Boxes in groups of which some are excluded.
+const EXCLUDED: &[&[Step]] = &[
     &[
         Call(AddBin(0, SQUARE)),
         Call(AddBin(1, SQUARE)),
@@ -204,6 +208,10 @@ const REFUSED: &[&[Step]] = &[
         ),
         Plans(&[(0, &[Z(1), Y(10), X(10), Leaf, Leaf, Leaf, Leaf])]),
     ],
+];
+
+// The same where groups are excluded.
+const REFUSED_APART: &[&[Step]] = &[
     &[
         Call(AddBin(0, SQUARE)),
         Replies(
@@ -231,5 +239,12 @@ fn plans_of_boxes_apart(rt: HostRuntime) {
     let alloc = rt.alloc();
     come_out(&rt, alloc, "several bins", SEVERAL_BINS);
     come_out(&rt, alloc, "groups", GROUPS);
+    come_out(&rt, alloc, "excluded groups", EXCLUDED);
     come_out(&rt, alloc, "refused packings", REFUSED);
+    come_out(
+        &rt,
+        alloc,
+        "refused packings of excluded groups",
+        REFUSED_APART,
+    );
 }

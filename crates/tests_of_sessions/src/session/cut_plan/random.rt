@@ -90,11 +90,20 @@ fn holds(section: &BinSection, rect: &RectToInsert) -> bool {
     rect.width() <= size.width() && rect.height() <= size.height() && rect.depth() <= size.depth()
 }
 
-// Whether a free section of the bin holds one of these boxes.
-fn holds_one(bin: &TargetBin, rects: &Rects) -> bool {
+// Whether one of these free sections holds the box.
+fn one_holds(sections: &[BinSection], rect: &RectToInsert) -> bool {
+    for section in sections {
+        if holds(section, rect) {
+            return true;
+        }
+    }
+    false
+}
+
+// Whether one of these free sections holds one of these boxes.
+fn holds_one(sections: &[BinSection], rects: &Rects) -> bool {
     for rect in rects.rects().values() {
-        let mut sections = bin.available_bin_sections().iter();
-        if sections.any(|section| holds(section, rect)) {
+        if one_holds(sections, rect) {
             return true;
         }
     }
@@ -104,7 +113,7 @@ fn holds_one(bin: &TargetBin, rects: &Rects) -> bool {
 // Whether a free section of some bin does.
 fn hold_one(session: &Numbered, rects: &Rects) -> bool {
     for bin in session.bins().values() {
-        if holds_one(bin, rects) {
+        if holds_one(bin.available_bin_sections().as_slice(), rects) {
             return true;
         }
     }
@@ -136,11 +145,11 @@ fn pack(session: &mut Numbered, alloc: Global, dice: &mut Dice) -> Result<bool, 
 
 fn release(session: &mut Numbered, dice: &mut Dice) -> bool {
     let index = dice.below(session.outstanding().len());
-    let chosen = session.outstanding().get(index);
-    match chosen.map(|placement| placement.number) {
-        Some(number) => session.release(number).is_ok(),
-        None => true,
-    }
+    let number = match session.outstanding().get(index) {
+        Some(chosen) => chosen.number,
+        None => return true,
+    };
+    session.release(number).is_ok()
 }
 
 // Whether this is what a call answers that names a bin which is there or not.

@@ -32,12 +32,17 @@ fn meets(one: &Cuboid, other: &Cuboid, axis: Axis) -> bool {
 }
 
 fn shares_cell(one: &Cuboid, other: &Cuboid) -> bool {
-    AXES.iter().all(|axis| meets(one, other, *axis))
+    meets(one, other, Axis::X) && meets(one, other, Axis::Y) && meets(one, other, Axis::Z)
 }
 
 // Whether no box has this place strictly inside it, of those that fill the part.
 fn is_open(part: &Cuboid, boxes: &[Cuboid], axis: Axis, place: u32) -> bool {
-    boxes.iter().all(|filling| !(shares_cell(filling, part) && is_inside(filling, axis, place)))
+    for filling in boxes {
+        if shares_cell(filling, part) && is_inside(filling, axis, place) {
+            return false;
+        }
+    }
+    true
 }
 
 // The cut at the least place on the axis, strictly inside the part, that goes through no box.
@@ -52,13 +57,28 @@ fn cut_on(part: &Cuboid, boxes: &[Cuboid], axis: Axis) -> Option<CutStep> {
     None
 }
 
+// How many of the boxes fill the part.
+fn count_filling(part: &Cuboid, boxes: &[Cuboid]) -> usize {
+    let mut count = 0usize;
+    for cuboid in boxes {
+        if shares_cell(cuboid, part) {
+            count = count.saturating_add(1);
+        }
+    }
+    count
+}
+
 // What the plan of a part begins with, by the definition; `None` where there is no plan of it.
 fn first_step(part: &Cuboid, boxes: &[Cuboid]) -> Option<CutStep> {
-    let filling = boxes.iter().filter(|cuboid| shares_cell(cuboid, part));
-    if filling.count() <= 1 {
+    if count_filling(part, boxes) <= 1 {
         return Some(CutStep::Leaf);
     }
-    AXES.iter().find_map(|axis| cut_on(part, boxes, *axis))
+    for axis in AXES {
+        if let Some(step) = cut_on(part, boxes, axis) {
+            return Some(step);
+        }
+    }
+    None
 }
 
 // The two parts of a box on both sides of a place that it has strictly inside it.

@@ -2,15 +2,16 @@
 
 use super::PlanStep::{Leaf, X};
 use super::Step::{self, IsIn, NoBin, Replies};
-use super::{Came, PlanStep, play_all};
+use super::{Came, PlanStep, play_granted};
 use crate::session::Order::{AddBin, Coalesce, Pack, Release};
+use crate::session::calls::set;
 use crate::session::releases::{
     BOTH_PLACED, BOTH_RELEASED, JOINED, NOT_JOINED, P, P_PLACED, P_RELEASED, Q,
 };
 use crate::session::{BIN, ONE_NEW_BIN, OTHER, UNKNOWN};
 use rectangle_pack::{Packed, Reply, SessionError};
-use std::test::Fail;
-use tests_support::refusing::Refusing;
+use std::alloc::Global;
+use std::process::Abort;
 
 const FIRST: Reply = Reply::Packed(Packed { first: 0, count: 1 });
 
@@ -53,12 +54,14 @@ const SCRIPT: &[Step] = &[
 
 // Whether these are among the steps that were refused memory: all that ask for a plan.
 fn were_all_refused(script: &[Step], refused: &[bool]) -> bool {
-    for (step, is_refused) in script.iter().zip(refused.iter()) {
-        if matches!(step, IsIn(..)) && !is_refused {
-            return false;
+    let mut flags = refused.iter();
+    for step in script {
+        match flags.next() {
+            Some(is_refused) if *is_refused || !matches!(step, IsIn(..)) => {}
+            _ => return false,
         }
     }
-    refused.len() == script.len()
+    flags.next().is_none()
 }
 
 // A table is dear to prove in a longer body, so this one stands alone.
@@ -66,25 +69,24 @@ fn script() -> &'static [Step] {
     SCRIPT
 }
 
-// Each request is refused in turn, until none is. All that a run takes is given back.
-#[test]
-fn plans(rt: HostRuntime) -> Result<(), Fail> {
+// Each request is refused in turn, until none is, and the steps that are refused are noted. Whether
+// the end was met.
+fn refuse_each(rt: &impl Abort, alloc: Global, were_refused: &mut [bool]) -> bool {
     let script = script();
-    let mut refused = [false; 21];
     for granted in 0..200u64 {
-        let refusing = Refusing::new(rt.alloc(), granted)?;
-        let (step, came) = play_all(refusing, script);
-        assert_eq!(rt; refusing.taken(), 0);
-        assert_eq!(rt; refusing.refused() == 0, matches!(came, Came::Out));
+        let (step, came) = play_granted(rt, alloc, granted, script);
         match came {
-            Came::Refused => *refused.get_mut(step).ok_or("no such step")? = true,
+            Came::Refused => set(were_refused, step),
             Came::Wrong => assert!(rt; false, "step {step}"),
-            Came::Out => {
-                assert!(rt; were_all_refused(script, &refused));
-                return Ok(());
-            }
+            Came::Out => return true,
         }
     }
-    assert!(rt; false);
-    Ok(())
+    false
+}
+
+#[test]
+fn plans(rt: HostRuntime) {
+    let mut were_refused = [false; 21];
+    assert!(rt; refuse_each(&rt, rt.alloc(), &mut were_refused));
+    assert!(rt; were_all_refused(script(), &were_refused));
 }
