@@ -261,6 +261,25 @@ pub fn pack_counted<A: Allocator + Copy>(
     )
 }
 
+// Packs these boxes, which are those of the case, by closures that are handed on.
+fn packs_rects<H, C>(
+    rt: &impl Abort,
+    alloc: Refusing,
+    rects: &Rects<Refusing>,
+    case: &Case,
+    bins: &mut Bins<Refusing>,
+    heuristic: &H,
+    comparison: &C,
+) -> End
+where
+    H: Fn(WidthHeightDepth) -> u128,
+    C: Fn([WidthHeightDepth; 3], [WidthHeightDepth; 3], &H) -> Ordering,
+    requires { AreCallable H.Fn C.Fn heuristic.now comparison.now }
+{
+    let answer = pack_rects(alloc, rects, bins, heuristic, comparison);
+    ends(rt, &answer, bins, case)
+}
+
 /// Packs the boxes of the case into these bins, by closures that are handed on.
 pub fn packs_into<H, C>(
     rt: &impl Abort,
@@ -276,10 +295,7 @@ where
     requires { AreCallable H.Fn C.Fn heuristic.now comparison.now }
 {
     match collect(alloc, case.boxes, case.excluded) {
-        Ok(rects) => {
-            let answer = pack_rects(alloc, &rects, bins, heuristic, comparison);
-            ends(rt, &answer, bins, case)
-        }
+        Ok(rects) => packs_rects(rt, alloc, &rects, case, bins, heuristic, comparison),
         Err(_) => End::Before,
     }
 }
@@ -309,10 +325,15 @@ pub fn packs_by_volume(rt: &impl Abort, alloc: Refusing, case: &Case) -> End {
     packs(rt, alloc, case, &volume_heuristic, &contains_smallest_box)
 }
 
+/// An allocator that refuses nothing, and counts.
+pub fn plenty(rt: &impl Abort, alloc: Global) -> Refusing {
+    Refusing::new(alloc, u64::MAX).expect(rt, "no memory for the counts")
+}
+
 /// Each case comes out, by volume.
 pub fn pack_by_volume(rt: &impl Abort, alloc: Global, cases: &[Case]) {
+    let refusing = plenty(rt, alloc);
     for case in cases {
-        let refusing = Refusing::new(alloc, u64::MAX).expect(rt, "no memory for the counts");
-        assert_eq!(rt; packs_by_volume(rt, refusing, case), End::Done);
+        assert!(rt; packs_by_volume(rt, refusing, case) == End::Done);
     }
 }

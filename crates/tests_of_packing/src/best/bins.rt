@@ -1,63 +1,59 @@
 //! `pack_rects_best`.
 
-use super::cases::{BIN, CASES, Case, is_placed};
-use rectangle_pack::{
-    Heuristic, Placement, RectanglePackError, RectanglePackOk, TargetBin, pack_rects_best,
-};
+use super::cases::{BIN, Case, Placed, cases, is_placed};
+use crate::pack::{add_bin, are_new};
+use rectangle_pack::{Heuristic, Placement, RectanglePackError, RectanglePackOk, pack_rects_best};
 use std::alloc::AllocError;
 use std::process::Abort;
 use std::test::Fail;
 use tests_support::boxes::{Bins, Rects, collect};
 use tests_support::each_request::{End, is_refused};
 use tests_support::refusing::Refusing;
-use tests_support::shapes::is_new;
 
 // What is answered.
 type Answer = Result<(Heuristic, RectanglePackOk<u32, u32, Refusing>), RectanglePackError>;
 
 fn add_bins(alloc: Refusing, bins: &mut Bins) -> Result<(), AllocError> {
-    let [width, height, depth] = BIN;
     for id in 0..2 {
-        bins.insert(id, TargetBin::new(alloc, width, height, depth)?)?;
+        add_bin(alloc, bins, id, BIN)?;
     }
     Ok(())
 }
 
-fn are_new(bins: &Bins) -> bool {
-    bins.values().all(|bin| is_new(bin))
+// Whether these are the placements, in order.
+fn are_placed(placements: &[Placement<u32, u32>], wanted: &[Placed]) -> bool {
+    let mut found = placements.iter();
+    for row in wanted {
+        match found.next() {
+            Some(placed) if is_placed(placed.id, placed.bin, &placed.location, row) => {}
+            _ => return false,
+        }
+    }
+    found.next().is_none()
 }
 
 // Whether this heuristic and these placements are the best of the case.
 fn is_best(heuristic: Heuristic, placements: &[Placement<u32, u32>], case: &Case) -> bool {
-    let Some((best, wanted)) = case.best else {
-        return false;
-    };
-    for (placed, row) in placements.iter().zip(wanted.iter()) {
-        if !is_placed(placed.id, placed.bin, &placed.location, row) {
-            return false;
-        }
+    match case.best {
+        Some((best, wanted)) => heuristic == best && are_placed(placements, wanted),
+        None => false,
     }
-    heuristic == best && placements.len() == wanted.len()
 }
 
-// Where it was refused the bins are as they were, and else the case came out.
-fn ends(rt: &impl Abort, answer: &Answer, bins: &Bins, case: &Case) -> End {
+// Whether the answer is that of the case. Where it is a refusal the bins are as they were.
+fn is_right(answer: &Answer, bins: &Bins, case: &Case) -> bool {
     match answer {
-        Ok((heuristic, packed)) => {
-            assert!(rt;
-                is_best(*heuristic, packed.placements(), case),
-                "{packed:?}"
-            );
-            End::Done
-        }
-        Err(RectanglePackError::NotEnoughBinSpace) => {
-            assert!(rt; case.best.is_none() && are_new(bins), "{bins:?}");
-            End::Done
-        }
-        Err(RectanglePackError::OutOfMemory) => {
-            assert!(rt; are_new(bins), "{bins:?}");
-            End::Refused
-        }
+        Ok((heuristic, packed)) => is_best(*heuristic, packed.placements(), case),
+        Err(RectanglePackError::NotEnoughBinSpace) => case.best.is_none() && are_new(bins),
+        Err(RectanglePackError::OutOfMemory) => are_new(bins),
+    }
+}
+
+fn ends(rt: &impl Abort, answer: &Answer, bins: &Bins, case: &Case) -> End {
+    assert!(rt; is_right(answer, bins, case), "{answer:?}");
+    match answer {
+        Err(RectanglePackError::OutOfMemory) => End::Refused,
+        _ => End::Done,
     }
 }
 
@@ -86,7 +82,7 @@ fn packs(rt: &impl Abort, alloc: Refusing, case: &Case) -> End {
 // Whichever request is refused, the bins stay as they were; at the end each case comes out.
 #[test]
 fn into_bins(rt: HostRuntime) -> Result<(), Fail> {
-    for case in CASES {
+    for case in cases() {
         let refused = is_refused(rt.alloc(), |refusing| Ok(packs(&rt, refusing, case)))?;
         assert_eq!(rt; refused, case.takes_memory);
     }

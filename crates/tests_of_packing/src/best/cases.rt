@@ -71,7 +71,7 @@ const UPRIGHT_BY_VOLUME: (Heuristic, &[Placed]) = (
     ],
 );
 
-pub const CASES: &[Case] = &[
+const CASES: &[Case] = &[
     // The one that uses fewer bins is the best, wherever it stands in the list.
     Case {
         boxes: ONE_UPRIGHT,
@@ -178,6 +178,11 @@ pub const CASES: &[Case] = &[
         takes_memory: false,
     },
 ];
+
+/// All cases. A table is dear to prove in a longer body, so it stands alone.
+pub fn cases() -> &'static [Case] {
+    CASES
+}
 
 /// Whether a box that was placed so is this placement.
 pub fn is_placed(id: u32, bin: u32, location: &PackedLocation, wanted: &Placed) -> bool {

@@ -1,13 +1,13 @@
 //! `Session::pack_best`.
 
-use super::cases::{BIN, CASES, Case, is_placed};
+use super::cases::{BIN, Case, Placed, cases, is_placed};
+use crate::pack::are_new;
 use rectangle_pack::{Heuristic, Outstanding, Packed, Session, SessionError};
 use std::process::Abort;
 use std::test::Fail;
 use tests_support::boxes::{Rects, collect};
 use tests_support::each_request::{End, is_refused};
 use tests_support::refusing::Refusing;
-use tests_support::shapes::is_new;
 
 type TestSession = Session<u32, u32, Refusing>;
 
@@ -23,67 +23,65 @@ fn add_bins(session: &mut TestSession) -> Result<(), SessionError> {
 }
 
 fn is_unused(session: &TestSession) -> bool {
-    session.next_number() == FIRST
-        && session.outstanding().is_empty()
-        && session.bins().values().all(|bin| is_new(bin))
+    session.next_number() == FIRST && session.outstanding().is_empty() && are_new(session.bins())
 }
 
-// Whether these are the placements of the case, under the next numbers.
-fn are_best(outstanding: &[Outstanding<u32, u32>], case: &Case) -> bool {
-    let Some((_, wanted)) = case.best else {
-        return false;
-    };
+fn is_best_placed(placed: &Outstanding<u32, u32>, wanted: &Placed) -> bool {
+    is_placed(placed.id, placed.bin, &placed.location, wanted)
+}
+
+// Whether these are the placements, under the next numbers.
+fn are_placed(outstanding: &[Outstanding<u32, u32>], wanted: &[Placed]) -> bool {
+    let mut found = outstanding.iter();
     let mut number = FIRST;
-    for (placed, row) in outstanding.iter().zip(wanted.iter()) {
-        if placed.number != number || !is_placed(placed.id, placed.bin, &placed.location, row) {
-            return false;
+    for row in wanted {
+        match found.next() {
+            Some(placed) if placed.number == number && is_best_placed(placed, row) => {
+                number = number.wrapping_add(1);
+            }
+            _ => return false,
         }
-        number = number.wrapping_add(1);
     }
-    outstanding.len() == wanted.len()
+    found.next().is_none()
 }
 
-// Whether the answer names the best heuristic of the case, and the numbers of so many placements.
-fn is_answer(answer: (Heuristic, Packed), count: usize, case: &Case) -> bool {
+// Whether the answer names the best heuristic of the case and the numbers of its placements, which
+// are these.
+fn is_best(
+    answer: (Heuristic, Packed),
+    outstanding: &[Outstanding<u32, u32>],
+    case: &Case,
+) -> bool {
     let numbers = Packed {
         first: FIRST,
-        count: count as u64,
+        count: outstanding.len() as u64,
     };
     match case.best {
-        Some((best, _)) => answer == (best, numbers),
+        Some((best, wanted)) => answer == (best, numbers) && are_placed(outstanding, wanted),
         None => false,
     }
 }
 
-// Where it was refused the session is as it was, and else the case came out.
-fn ends(
-    rt: &impl Abort,
+// Whether the answer is that of the case. Where it is a refusal the session is as it was.
+fn is_right(
     answer: Result<(Heuristic, Packed), SessionError>,
     session: &TestSession,
     case: &Case,
-) -> End {
+) -> bool {
     match answer {
-        Ok(answer) => {
-            let outstanding = session.outstanding();
-            assert!(rt; is_answer(answer, outstanding.len(), case), "{answer:?}");
-            assert!(rt; are_best(outstanding, case), "{outstanding:?}");
-            End::Done
-        }
-        Err(SessionError::NotEnoughBinSpace) => {
-            assert!(rt; case.best.is_none() && is_unused(session));
-            End::Done
-        }
-        Err(error) => {
-            assert_eq!(rt; error, SessionError::OutOfMemory);
-            assert!(rt; is_unused(session));
-            End::Refused
-        }
+        Ok(answer) => is_best(answer, session.outstanding(), case),
+        Err(SessionError::NotEnoughBinSpace) => case.best.is_none() && is_unused(session),
+        Err(error) => error == SessionError::OutOfMemory && is_unused(session),
     }
 }
 
 fn packs_into(rt: &impl Abort, session: &mut TestSession, rects: &Rects, case: &Case) -> End {
     let answer = session.pack_best(rects, case.heuristics);
-    ends(rt, answer, session, case)
+    assert!(rt; is_right(answer, session, case), "{answer:?}");
+    match answer {
+        Err(SessionError::OutOfMemory) => End::Refused,
+        _ => End::Done,
+    }
 }
 
 fn packs(rt: &impl Abort, alloc: Refusing, case: &Case) -> End {
@@ -100,7 +98,7 @@ fn packs(rt: &impl Abort, alloc: Refusing, case: &Case) -> End {
 // Whichever request is refused, the session stays as it was; at the end each case comes out.
 #[test]
 fn into_sessions(rt: HostRuntime) -> Result<(), Fail> {
-    for case in CASES {
+    for case in cases() {
         let refused = is_refused(rt.alloc(), |refusing| Ok(packs(&rt, refusing, case)))?;
         assert_eq!(rt; refused, case.takes_memory);
     }
@@ -110,10 +108,8 @@ fn into_sessions(rt: HostRuntime) -> Result<(), Fail> {
 // Numbers are looked at before the heuristics, and no memory is taken.
 fn refuses_past_the_end(rt: &impl Abort, alloc: Refusing, rects: &Rects) -> End {
     let mut session = TestSession::new(alloc, u64::MAX);
-    assert_eq!(rt;
-        session.pack_best(rects, &[]),
-        Err(SessionError::NumbersUsedUp)
-    );
+    let answer = session.pack_best(rects, &[]);
+    assert!(rt; matches!(answer, Err(SessionError::NumbersUsedUp)));
     End::Done
 }
 

@@ -1,11 +1,12 @@
 //! Heuristics and comparisons of users.
-ghost use Rattle.rectangle_pack.specs.Closures.{CanRate};
+ghost use Rattle.rectangle_pack.specs.Closures.{AreCallable, CanRate};
 
-use super::{Case, TWO_IN_A_GROUP, packs};
+use super::{Case, TWO_IN_A_GROUP, packs, plenty};
 use rectangle_pack::{
     Heuristic, WidthHeightDepth, contains_smallest_box, longest_side_heuristic,
     named_packing_has_one_result, volume_heuristic, volume_packing_has_one_result,
 };
+use std::alloc::Global;
 use std::cmp::Ordering;
 use std::process::Abort;
 use tests_support::each_request::End;
@@ -89,29 +90,38 @@ const BETWEEN: &[(u128, u128, Case)] = &[
 
 #[test]
 fn heuristic_that_captures(rt: HostRuntime) {
-    let refusing = Refusing::new(rt.alloc(), u64::MAX).expect(&rt, "no memory for the counts");
+    let refusing = plenty(&rt, rt.alloc());
     for (least, most, case) in BETWEEN {
         let end = packs_between(&rt, refusing, case, *least, *most);
         assert!(rt; end == End::Done);
     }
 }
 
-// Packs the case by a heuristic that is callable on every size.
-fn packs_by<H>(rt: &impl Abort, alloc: Refusing, case: &Case, heuristic: &H) -> End
+// The case comes out by these closures.
+fn comes_out<H, C>(rt: &impl Abort, alloc: Global, case: &Case, heuristic: &H, comparison: &C)
+where
+    H: Fn(WidthHeightDepth) -> u128,
+    C: Fn([WidthHeightDepth; 3], [WidthHeightDepth; 3], &H) -> Ordering,
+    requires { AreCallable H.Fn C.Fn heuristic.now comparison.now }
+{
+    let end = packs(rt, plenty(rt, alloc), case, heuristic, comparison);
+    assert!(rt; end == End::Done);
+}
+
+// The case comes out by a heuristic that is callable on every size.
+fn comes_out_by<H>(rt: &impl Abort, alloc: Global, case: &Case, heuristic: &H)
 where
     H: Fn(WidthHeightDepth) -> u128,
     requires { H.IsAlwaysCallable heuristic.now }
 {
-    packs(rt, alloc, case, heuristic, &contains_smallest_box)
+    comes_out(rt, alloc, case, heuristic, &contains_smallest_box);
 }
 
 #[test]
 fn heuristic_that_borrows(rt: HostRuntime) {
-    let refusing = Refusing::new(rt.alloc(), u64::MAX).expect(&rt, "no memory for the counts");
     let most = 20u128;
     let heuristic = |size: WidthHeightDepth| size.volume().min(most);
-    let end = packs_by(&rt, refusing, &EQUAL_ABOVE_20, &heuristic);
-    assert!(rt; end == End::Done);
+    comes_out_by(&rt, rt.alloc(), &EQUAL_ABOVE_20, &heuristic);
 }
 
 fn longest_side(size: WidthHeightDepth) -> u128 {
@@ -120,9 +130,7 @@ fn longest_side(size: WidthHeightDepth) -> u128 {
 
 #[test]
 fn heuristic_written_by_hand(rt: HostRuntime) {
-    let refusing = Refusing::new(rt.alloc(), u64::MAX).expect(&rt, "no memory for the counts");
-    let end = packs_by(&rt, refusing, &LONG_BEFORE_SQUARE, &longest_side);
-    assert!(rt; end == End::Done);
+    comes_out_by(&rt, rt.alloc(), &LONG_BEFORE_SQUARE, &longest_side);
 }
 
 fn always_greater<H>(
@@ -135,25 +143,21 @@ fn always_greater<H>(
 
 #[test]
 fn comparison_written_by_hand(rt: HostRuntime) {
-    let refusing = Refusing::new(rt.alloc(), u64::MAX).expect(&rt, "no memory for the counts");
-    let end = packs(
+    comes_out(
         &rt,
-        refusing,
+        rt.alloc(),
         &FIRST_CUTS,
         &volume_heuristic,
         &always_greater,
     );
-    assert!(rt; end == End::Done);
 }
 
 // A closure over a name is a heuristic. The law takes one beside the function of that name.
 #[test]
 fn heuristic_with_a_name(rt: HostRuntime) {
-    let refusing = Refusing::new(rt.alloc(), u64::MAX).expect(&rt, "no memory for the counts");
     let named = Heuristic::LongestSide;
     let heuristic = move |size: WidthHeightDepth| named.rate(size);
-    let end = packs_by(&rt, refusing, &LONG_BEFORE_SQUARE, &heuristic);
-    assert!(rt; end == End::Done);
+    comes_out_by(&rt, rt.alloc(), &LONG_BEFORE_SQUARE, &heuristic);
     let longest = |size: WidthHeightDepth| Heuristic::LongestSide.rate(size);
     named_packing_has_one_result::<u32, u32, u32, _, _, _, _>(
         Heuristic::LongestSide,
@@ -167,10 +171,8 @@ fn heuristic_with_a_name(rt: HostRuntime) {
 // The law takes a closure that answers as `volume_heuristic` does beside that one.
 #[test]
 fn closure_that_rates_by_volume(rt: HostRuntime) {
-    let refusing = Refusing::new(rt.alloc(), u64::MAX).expect(&rt, "no memory for the counts");
     let volume = |size: WidthHeightDepth| size.volume();
-    let end = packs_by(&rt, refusing, &TWO_IN_A_GROUP, &volume);
-    assert!(rt; end == End::Done);
+    comes_out_by(&rt, rt.alloc(), &TWO_IN_A_GROUP, &volume);
     volume_packing_has_one_result::<u32, u32, u32, _, _, _, _>(
         &volume,
         &contains_smallest_box,
@@ -211,24 +213,19 @@ fn comparison_is_odd_where_wide(rt: HostRuntime) {
     let wider = [WidthHeightDepth::new(6000, 1, 1); 3];
     let one_way = odd_where_wide(wide, wider, &volume_heuristic);
     let other_way = odd_where_wide(wider, wide, &volume_heuristic);
-    assert_eq!(rt;
-        (one_way, other_way),
-        (Ordering::Greater, Ordering::Greater)
-    );
     let smallest = contains_smallest_box(wider, wide, &volume_heuristic);
-    assert_eq!(rt; smallest, Ordering::Less);
+    assert!(rt; one_way == Ordering::Greater && other_way == Ordering::Greater);
+    assert!(rt; smallest == Ordering::Less);
 }
 
 // No section of these bins is wider than 4096, so its answers on wider ones are never asked.
 #[test]
 fn comparison_that_is_odd_on_what_is_not_met(rt: HostRuntime) {
-    let refusing = Refusing::new(rt.alloc(), u64::MAX).expect(&rt, "no memory for the counts");
-    let end = packs(
+    comes_out(
         &rt,
-        refusing,
+        rt.alloc(),
         &TWO_IN_A_GROUP,
         &volume_heuristic,
         &odd_where_wide,
     );
-    assert!(rt; end == End::Done);
 }

@@ -1,7 +1,7 @@
 //! Groups that are excluded, and the fit tests of whole packings.
 
 use super::placements::{FULL_AND_EMPTY, THREE_BOXES};
-use super::{Bins, Case, add_bins, ends, pack_by_volume, pack_counted, packs_by_volume};
+use super::{Bins, Case, add_bins, ends, pack_by_volume, pack_counted, packs_by_volume, plenty};
 use rectangle_pack::{FitTests, Group};
 use std::process::Abort;
 use tests_support::boxes::{GroupName, collect};
@@ -48,12 +48,12 @@ pub const ONE_BIN: Case = Case {
 };
 
 // Without the pair both groups go into one bin.
-const NOT_EXCLUDED: Case = Case {
+const NOT_EXCLUDED: &[Case] = &[Case {
     bins: &[(1, BIN, AFTER_TWO), (2, BIN, WHOLE)],
     boxes: &[(1, BOX, &[1]), (2, BOX, &[2])],
     excluded: &[],
     placements: Some(&[(1, 1, FIRST), (2, 1, SECOND)]),
-};
+}];
 
 const NOTHING: Case = Case {
     bins: &[(1, BIN, WHOLE)],
@@ -105,6 +105,11 @@ const COUNTED: &[(Case, u128)] = &[
     (ONE_GROUP, 15 + 1),
 ];
 
+// A table is dear to prove in a longer body, so this one stands alone.
+fn counted() -> &'static [(Case, u128)] {
+    COUNTED
+}
+
 // Packs the case into these bins.
 fn counts_into(
     rt: &impl Abort,
@@ -138,9 +143,9 @@ fn counts_up_to(rt: &impl Abort, alloc: Refusing, case: &Case, count: u128, test
 // Each packing adds its tests to those of the ones before; without groups none is added.
 #[test]
 fn counted_packings(rt: HostRuntime) {
-    let refusing = Refusing::new(rt.alloc(), u64::MAX).expect(&rt, "no memory for the counts");
+    let refusing = plenty(&rt, rt.alloc());
     let mut tests = FitTests::new();
-    for (case, count) in COUNTED {
+    for (case, count) in counted() {
         counts_up_to(&rt, refusing, case, *count, &mut tests);
     }
 }
@@ -148,13 +153,13 @@ fn counted_packings(rt: HostRuntime) {
 // The same packings, without a counter.
 #[test]
 fn packings(rt: HostRuntime) {
-    let refusing = Refusing::new(rt.alloc(), u64::MAX).expect(&rt, "no memory for the counts");
-    for (case, _) in COUNTED {
+    let refusing = plenty(&rt, rt.alloc());
+    for (case, _) in counted() {
         assert!(rt; packs_by_volume(&rt, refusing, case) == End::Done);
     }
 }
 
 #[test]
 fn groups_that_are_not_excluded(rt: HostRuntime) {
-    pack_by_volume(&rt, rt.alloc(), &[NOT_EXCLUDED]);
+    pack_by_volume(&rt, rt.alloc(), NOT_EXCLUDED);
 }

@@ -40,14 +40,20 @@ fn pack_units<A: Allocator + Copy>(alloc: A, count: u32, bins: &mut Bins<A>) -> 
     }
 }
 
+// Whether as many boxes of one cell are placed, each in the bin of its number.
+fn fill_cells(alloc: Global, bins: &mut Bins<Global>) -> bool {
+    match pack_units(alloc, COUNT, bins) {
+        Ok(packed) => are_in_turn(packed.placements(), COUNT, COUNT),
+        Err(_) => false,
+    }
+}
+
 // Each bin holds one cell, and there are as many boxes of one cell.
 #[test]
-fn fifty_bins(rt: HostRuntime) -> Result<(), Fail> {
+fn fifty_bins(rt: HostRuntime) {
     let mut bins = Bins::new(rt.alloc());
-    add_cells(rt.alloc(), &mut bins)?;
-    let packed = pack_units(rt.alloc(), COUNT, &mut bins)?;
-    assert!(rt; are_in_turn(packed.placements(), COUNT, COUNT));
-    Ok(())
+    assert!(rt; add_cells(rt.alloc(), &mut bins).is_ok());
+    assert!(rt; fill_cells(rt.alloc(), &mut bins));
 }
 
 // Excludes group 0 and another one.
@@ -70,7 +76,12 @@ fn push_apart(alloc: Global, rects: &mut Rects<Global>) -> Result<(), AllocError
 }
 
 fn are_excluded(rects: &Rects<Global>) -> bool {
-    (1..=COUNT).all(|id| rects.excluded(&Group::Grouped(id), &Group::Grouped(0)))
+    for id in 1..=COUNT {
+        if !rects.excluded(&Group::Grouped(id), &Group::Grouped(0)) {
+            return false;
+        }
+    }
+    true
 }
 
 // Whether box 0 alone is in the first bin.
@@ -81,17 +92,20 @@ fn are_apart(alloc: Global, rects: &Rects<Global>, bins: &mut Bins<Global>) -> b
     }
 }
 
-// Either bin has room for all, and box 0 alone is in the first.
+// Either bin has room for all.
+fn add_two(alloc: Global, bins: &mut Bins<Global>) -> Result<(), AllocError> {
+    add_bin(alloc, bins, 0, [52, 1, 1])?;
+    add_bin(alloc, bins, 1, [53, 1, 1])
+}
+
+// Box 0 alone is in the first bin.
 #[test]
-fn fifty_pairs(rt: HostRuntime) -> Result<(), Fail> {
+fn fifty_pairs(rt: HostRuntime) {
     let mut rects = Rects::new(rt.alloc());
     let mut bins = Bins::new(rt.alloc());
-    push_apart(rt.alloc(), &mut rects)?;
-    add_bin(rt.alloc(), &mut bins, 0, [52, 1, 1])?;
-    add_bin(rt.alloc(), &mut bins, 1, [53, 1, 1])?;
-    assert!(rt; are_excluded(&rects));
+    assert!(rt; push_apart(rt.alloc(), &mut rects).is_ok() && are_excluded(&rects));
+    assert!(rt; add_two(rt.alloc(), &mut bins).is_ok());
     assert!(rt; are_apart(rt.alloc(), &rects, &mut bins));
-    Ok(())
 }
 
 // Whether no cell of the bin 0 is free.

@@ -1,6 +1,6 @@
 //! Packings of single boxes: where each is placed, and what is free afterwards.
 
-use super::{Bins, Case, FULL_BIN, add_bins, pack_by_volume, packs_into};
+use super::{Bins, Case, FULL_BIN, add_bins, pack_by_volume, packs_into, plenty};
 use rectangle_pack::{RectanglePackError, contains_smallest_box, volume_heuristic};
 use std::process::Abort;
 use std::test::Fail;
@@ -189,9 +189,11 @@ const NOTHING: Case = Case {
     placements: Some(&[]),
 };
 
+const SEVERAL_AND_NONE: &[Case] = &[FIVE_TILES, NOTHING];
+
 #[test]
 fn several_boxes_and_none(rt: HostRuntime) {
-    pack_by_volume(&rt, rt.alloc(), &[FIVE_TILES, NOTHING]);
+    pack_by_volume(&rt, rt.alloc(), SEVERAL_AND_NONE);
 }
 
 const WITHOUT_ROOM: &[Case] = &[
@@ -256,7 +258,7 @@ fn packs_rest(rt: &impl Abort, alloc: Refusing, case: &Case, bins: &mut Bins<Ref
 // One cell of the largest bin, and then all that is behind it.
 #[test]
 fn rest_of_the_largest_bin(rt: HostRuntime) {
-    let refusing = Refusing::new(rt.alloc(), u64::MAX).expect(&rt, "no memory for the counts");
+    let refusing = plenty(&rt, rt.alloc());
     let mut bins = Bins::new(refusing);
     assert!(rt; add_bins(refusing, &CELL, &mut bins).is_ok());
     assert!(rt; packs_rest(&rt, refusing, &CELL, &mut bins) == End::Done);

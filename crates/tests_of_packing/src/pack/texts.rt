@@ -72,6 +72,18 @@ fn texts(alloc: Global, from: &[&str], room: usize) -> Result<Vec<String>, Alloc
     Ok(texts)
 }
 
+// A box under this name, in these groups or alone.
+fn push_named(
+    rects: &mut TextRects,
+    id: String,
+    named: Vec<String>,
+    size: [u32; 3],
+) -> Result<(), AllocError> {
+    let [width, height, depth] = size;
+    let named = if named.is_empty() { None } else { Some(named) };
+    rects.push_rect(id, named, RectToInsert::new(width, height, depth))
+}
+
 // A box under a string of its own with so much room, as are its groups.
 fn push_text(
     alloc: Global,
@@ -79,11 +91,9 @@ fn push_text(
     room: usize,
     rects: &mut TextRects,
 ) -> Result<(), AllocError> {
-    let (id, [width, height, depth], groups) = *of;
-    let named = texts(alloc, groups, room)?;
-    let named = if named.is_empty() { None } else { Some(named) };
+    let (id, size, groups) = *of;
     let id = text(alloc, id, room)?;
-    rects.push_rect(id, named, RectToInsert::new(width, height, depth))
+    push_named(rects, id, texts(alloc, groups, room)?, size)
 }
 
 // The boxes of a case.
