@@ -7,9 +7,8 @@ use rectangle_pack::{
     BinSection, BinSectionError, RectToInsert, WidthHeightDepth, contains_smallest_box,
     volume_heuristic,
 };
-use std::alloc::Global;
+use std::alloc::{AllocError, Global};
 use std::cmp::Ordering;
-use std::process::Abort;
 use std::test::Fail;
 use tests_support::shapes::{numbers, place, section, section_of};
 
@@ -17,8 +16,7 @@ use tests_support::shapes::{numbers, place, section, section_of};
 fn numbers_are_kept(rt: HostRuntime) {
     let whd = WidthHeightDepth::new(1, 2, 3);
     let section = BinSection::new(4, 5, 6, whd);
-    assert_eq!(rt; numbers(&section), [4, 5, 6, 1, 2, 3]);
-    assert_eq!(rt; section.whd(), whd);
+    assert!(rt; numbers(&section) == [4, 5, 6, 1, 2, 3] && section.whd() == whd);
 }
 
 #[test]
@@ -138,53 +136,49 @@ fn cuts(rt: HostRuntime) -> Result<(), Fail> {
     } in CUTS {
         let ([width, height, depth], [right, above, behind]) = (*rect, *pieces);
         let wanted = [[0, 0, 0, width, height, depth], right, above, behind];
-        assert_eq!(rt; place_and_pieces(*whole, *rect)?, wanted);
+        assert!(rt; place_and_pieces(*whole, *rect)? == wanted, "{rect:?}");
     }
     Ok(())
 }
 
-// A box of this size does not fit into a section of 5x20x1, with this error and its text.
-fn refuses(
-    rt: &impl Abort,
+// Boxes that do not fit into a section of 5x20x1, with the error and its text.
+const ERRORS: &[([u32; 3], BinSectionError, &str)] = &[
+    (
+        [6, 20, 1],
+        BinSectionError::PlacementWiderThanBinSection,
+        "Can not place a rectangle inside of a bin that is wider than that rectangle.",
+    ),
+    (
+        [5, 21, 1],
+        BinSectionError::PlacementTallerThanBinSection,
+        "Can not place a rectangle inside of a bin that is taller than that rectangle.",
+    ),
+    (
+        [5, 20, 2],
+        BinSectionError::PlacementDeeperThanBinSection,
+        "Can not place a rectangle inside of a bin that is deeper than that rectangle.",
+    ),
+];
+
+// Whether the box is refused with this error.
+fn is_refused(
     alloc: Global,
     rect: [u32; 3],
-    wanted: BinSectionError,
+    wanted: &BinSectionError,
     text: &str,
-) -> Result<(), Fail> {
+) -> Result<bool, AllocError> {
     match place_and_pieces([5, 20, 1], rect) {
-        Ok(_) => assert!(rt; false, "{rect:?}"),
-        Err(error) => {
-            assert!(rt; error == wanted, "{error}");
-            assert_eq!(rt; format!(in alloc; "{error}")?.as_str(), text);
-        }
+        Ok(_) => Ok(false),
+        Err(error) => Ok(error == *wanted && format!(in alloc; "{error}")?.as_str() == text),
     }
-    Ok(())
 }
 
 #[test]
 fn errors(rt: HostRuntime) -> Result<(), Fail> {
-    let alloc = rt.alloc();
-    refuses(
-        &rt,
-        alloc,
-        [6, 20, 1],
-        BinSectionError::PlacementWiderThanBinSection,
-        "Can not place a rectangle inside of a bin that is wider than that rectangle.",
-    )?;
-    refuses(
-        &rt,
-        alloc,
-        [5, 21, 1],
-        BinSectionError::PlacementTallerThanBinSection,
-        "Can not place a rectangle inside of a bin that is taller than that rectangle.",
-    )?;
-    refuses(
-        &rt,
-        alloc,
-        [5, 20, 2],
-        BinSectionError::PlacementDeeperThanBinSection,
-        "Can not place a rectangle inside of a bin that is deeper than that rectangle.",
-    )
+    for (rect, wanted, text) in ERRORS {
+        assert!(rt; is_refused(rt.alloc(), *rect, wanted, text)?, "{text}");
+    }
+    Ok(())
 }
 
 // What every comparison answers, and then the pieces of 50x90x1 in 100x100x1. The first cut stays
@@ -224,9 +218,8 @@ where
 #[test]
 fn constant_comparisons(rt: HostRuntime) -> Result<(), Fail> {
     for (answer, wanted) in CONSTANT {
-        assert_eq!(rt;
-            pieces_by(&volume_heuristic, *answer)?,
-            *wanted,
+        assert!(rt;
+            pieces_by(&volume_heuristic, *answer)? == *wanted,
             "{answer:?}"
         );
     }
@@ -265,6 +258,6 @@ const SHARING: &[([u32; 6], [u32; 6], bool)] = &[
 fn sections_that_share_a_cell(rt: HostRuntime) {
     for (one, other, wanted) in SHARING {
         let shares = section_of(*one).overlaps(&section_of(*other));
-        assert_eq!(rt; shares, *wanted, "{one:?} {other:?}");
+        assert!(rt; shares == *wanted, "{one:?} {other:?}");
     }
 }

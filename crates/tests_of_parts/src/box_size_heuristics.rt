@@ -41,17 +41,25 @@ const NAMES: &[(Heuristic, &str, u128)] = &[
     (Heuristic::SideArea, "side-area", 35),
 ];
 
+// A table is dear to prove in a longer body, so this one stands alone.
+fn names() -> &'static [(Heuristic, &'static str, u128)] {
+    NAMES
+}
+
 fn box_3_7_5() -> WidthHeightDepth {
     WidthHeightDepth::new(3, 7, 5)
 }
 
 #[test]
 fn rates_by_names(rt: HostRuntime) {
-    assert_eq!(rt; Heuristic::ALL.len(), NAMES.len());
-    for (listed, (heuristic, _, rate)) in Heuristic::ALL.iter().zip(NAMES) {
-        assert_eq!(rt; *listed, *heuristic);
-        assert_eq!(rt; heuristic.rate(box_3_7_5()), *rate);
+    let mut listed = Heuristic::ALL.iter();
+    for (heuristic, name, rate) in names() {
+        assert!(rt;
+            listed.next() == Some(heuristic) && heuristic.rate(box_3_7_5()) == *rate,
+            "{name}"
+        );
     }
+    assert!(rt; listed.next().is_none());
 }
 
 #[test]
@@ -66,21 +74,25 @@ fn rates_by_functions(rt: HostRuntime) {
         shortest_side_heuristic(box_3_7_5()),
         side_area_heuristic(box_3_7_5()),
     ];
-    for (rate, (_, _, expected)) in rates.iter().zip(NAMES) {
-        assert_eq!(rt; *rate, *expected);
+    let mut found = rates.iter();
+    for (_, name, rate) in names() {
+        assert!(rt; found.next() == Some(rate), "{name}");
     }
 }
 
 // Each heuristic is printed as its text, and read from it.
 fn is_named(rt: &impl Abort, text: &str, heuristic: Heuristic) {
-    assert_eq!(rt; text.parse::<Heuristic>(), Ok(heuristic));
+    assert!(rt;
+        matches!(text.parse::<Heuristic>(), Ok(read) if read == heuristic),
+        "{text}"
+    );
 }
 
 #[test]
 fn texts(rt: HostRuntime) -> Result<(), Fail> {
-    for (heuristic, text, _) in NAMES {
+    for (heuristic, text, _) in names() {
         let printed = heuristic.to_string(rt.alloc())?;
-        assert_eq!(rt; printed.as_str(), *text);
+        assert!(rt; printed.as_str() == *text, "{text}");
         is_named(&rt, text, *heuristic);
     }
     Ok(())
@@ -89,7 +101,7 @@ fn texts(rt: HostRuntime) -> Result<(), Fail> {
 #[test]
 fn other_texts(rt: HostRuntime) -> Result<(), Fail> {
     for text in ["", "Height", "height ", "heigh", "sides"] {
-        assert_eq!(rt; text.parse::<Heuristic>(), Err(UnknownHeuristic));
+        assert!(rt; text.parse::<Heuristic>().is_err(), "{text}");
     }
     let printed = UnknownHeuristic.to_string(rt.alloc())?;
     assert_eq!(rt; printed.as_str(), "There is no heuristic of this name.");

@@ -166,18 +166,16 @@ fn boxes(sizes: &[[u32; 3]]) -> [RectToInsert; 3] {
     boxes
 }
 
-fn are_at(locations: Option<&[PackedLocation]>, wanted: Option<&[[u32; 6]]>) -> bool {
-    match (locations, wanted) {
-        (Some(locations), Some(places)) => {
-            locations.len() == places.len()
-                && locations
-                    .iter()
-                    .zip(places.iter())
-                    .all(|(location, wanted)| place(location) == *wanted)
+// Whether these are the places, in order.
+fn are_at(locations: &[PackedLocation], places: &[[u32; 6]]) -> bool {
+    let mut found = locations.iter();
+    for wanted in places {
+        match found.next() {
+            Some(location) if place(location) == *wanted => {}
+            _ => return false,
         }
-        (None, None) => true,
-        _ => false,
     }
+    found.next().is_none()
 }
 
 // Whether a trial answers this. Refused, it counts no more than the bound.
@@ -189,16 +187,14 @@ fn trial(bin: &mut Bin, members: &[RectToInsert], wanted: Tried) -> Answers {
         &contains_smallest_box,
         &mut tests,
     );
-    if tests.count() > wanted.most {
-        return Ok(false);
-    }
-    match answer {
-        Err(refused) => Err(refused),
-        Ok(None) => Ok(tests.count() == wanted.count && wanted.places.is_none()),
-        Ok(Some(locations)) => {
-            let counted = tests.count() == wanted.count;
-            Ok(counted && are_at(Some(locations.as_slice()), wanted.places))
+    let count = tests.count();
+    match (answer, wanted.places) {
+        (Err(refused), _) if count <= wanted.most => Err(refused),
+        (Ok(None), None) => Ok(count == wanted.count),
+        (Ok(Some(locations)), Some(places)) => {
+            Ok(count == wanted.count && are_at(locations.as_slice(), places))
         }
+        _ => Ok(false),
     }
 }
 
@@ -315,30 +311,33 @@ fn run(refusing: Refusing, script: &Script) -> Came {
     }
 }
 
-/// Runs the script with each request refused in turn, until none is. Each run gives back all that
-/// it takes, and comes out where no request was refused, and only there. Without memory there is no
-/// bin, and the last run has used up what was granted. Answers whether a request was refused once
-/// the bin was made.
+// Whether a run may come out so, for which so many requests were granted. It gives back all that it
+// takes, and comes out where no request was refused, and only there. Without memory there is no
+// bin, and the last run has used up what was granted.
+fn may_come(came: Came, granted: u64, refusing: Refusing) -> bool {
+    let is_out = matches!(came, Came::Out);
+    refusing.taken() == 0
+        && (refusing.refused() == 0) == is_out
+        && (!is_out || granted > 0 && refusing.left() == 0)
+}
+
+fn run_granted(rt: &impl Abort, alloc: Global, granted: u64, script: &Script) -> Came {
+    let refusing = Refusing::new(alloc, granted).expect(rt, "no memory for the counts");
+    let came = run(refusing, script);
+    assert!(rt; may_come(came, granted, refusing), "{}", script.subject);
+    came
+}
+
+/// Runs the script with each request refused in turn, until none is. Answers whether a request was
+/// refused once the bin was made.
 pub fn runs(rt: &impl Abort, alloc: Global, script: &Script) -> bool {
     let mut refused = false;
     for granted in 0..200u64 {
-        let refusing = Refusing::new(alloc, granted).expect(rt, "no memory for the counts");
-        let came = run(refusing, script);
-        assert_eq!(rt; refusing.taken(), 0);
-        assert_eq!(rt;
-            refusing.refused() == 0,
-            matches!(came, Came::Out),
-            "{}",
-            script.subject
-        );
-        match came {
+        match run_granted(rt, alloc, granted, script) {
             Came::Unmade => {}
             Came::Refused => refused = true,
             Came::Wrong(step) => assert!(rt; false, "{} {step}", script.subject),
-            Came::Out => {
-                assert!(rt; granted > 0 && refusing.left() == 0, "{}", script.subject);
-                return refused;
-            }
+            Came::Out => return refused,
         }
     }
     assert!(rt; false, "{}", script.subject);

@@ -28,10 +28,7 @@ fn volumes(rt: HostRuntime) {
 #[test]
 fn size_of_a_box(rt: HostRuntime) {
     let rect = RectToInsert::new(1, 2, 3);
-    assert_eq!(rt;
-        WidthHeightDepth::from(rect),
-        WidthHeightDepth::new(1, 2, 3)
-    );
+    assert!(rt; WidthHeightDepth::from(rect) == WidthHeightDepth::new(1, 2, 3));
 }
 
 #[test]

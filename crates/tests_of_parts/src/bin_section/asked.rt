@@ -48,8 +48,13 @@ fn boxes_in_a_section(rt: HostRuntime) {
     }
 }
 
+fn wide(width: u32) -> WidthHeightDepth {
+    WidthHeightDepth::from(RectToInsert::new(width, 1, 1))
+}
+
 fn sized(widths: [u32; 3]) -> [WidthHeightDepth; 3] {
-    widths.map(|width| WidthHeightDepth::from(RectToInsert::new(width, 1, 1)))
+    let [one, two, three] = widths;
+    [wide(one), wide(two), wide(three)]
 }
 
 // How many sizes are asked for, and their widths, added up.

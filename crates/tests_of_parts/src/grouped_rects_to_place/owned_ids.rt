@@ -51,12 +51,12 @@ fn calls_by_texts(
         return End::Before;
     }
     if push_text(all, alloc, "new").is_err() {
-        assert_eq!(rt; entries(all), (Some((2, 1)), 1));
+        assert!(rt; entries(all) == (Some((2, 1)), 1));
         return End::Refused;
     }
-    assert_eq!(rt; entries(all), (Some((4, 2)), 2));
+    assert!(rt; entries(all) == (Some((4, 2)), 2));
     let is_done = exclude_text(all, alloc, "old").is_ok();
-    assert_eq!(rt; all.excluded(old, &Group::Grouped(0)), is_done);
+    assert!(rt; all.excluded(old, &Group::Grouped(0)) == is_done);
     if is_done { End::Done } else { End::Refused }
 }
 

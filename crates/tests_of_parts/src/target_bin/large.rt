@@ -10,13 +10,14 @@ use tests_support::shapes::section;
 
 // Whether the free sections of the bin are so many single cells, in a row.
 fn has_row(bin: &TargetBin, count: u32) -> bool {
-    let sections = bin.available_bin_sections();
-    for (x, free) in (0..count).zip(sections.iter()) {
-        if *free != section(x, 0, 0, 1, 1, 1) {
-            return false;
+    let mut found = bin.available_bin_sections().iter();
+    for x in 0..count {
+        match found.next() {
+            Some(free) if *free == section(x, 0, 0, 1, 1, 1) => {}
+            _ => return false,
         }
     }
-    sections.len() == count as usize
+    found.next().is_none()
 }
 
 // Whether fifty cells in a row are accepted, one after another.

@@ -1,7 +1,7 @@
 //! Trials in lists of more than a thousand free sections, which stand in slots.
 
 use rectangle_pack::{
-    FitTests, PackedLocation, RectToInsert, contains_smallest_box, volume_heuristic,
+    FitTests, PackedLocation, RectToInsert, TargetBin, contains_smallest_box, volume_heuristic,
 };
 use std::alloc::{AllocError, Global};
 use std::test::Fail;
@@ -9,41 +9,60 @@ use tests_support::combs::{BOXES, TESTS, box_of, comb, free_at, has_left, index_
 
 // Whether each box stands at the section that it went into.
 fn are_in_place(locations: &[PackedLocation]) -> bool {
-    (0..BOXES).zip(locations.iter()).all(|(number, location)| location.x()
-        == free_at(index_of(number)).x())
-        && locations.len() == BOXES as usize
+    let mut found = locations.iter();
+    for number in 0..BOXES {
+        match found.next() {
+            Some(location) if location.x() == free_at(index_of(number)).x() => {}
+            _ => return false,
+        }
+    }
+    found.next().is_none()
 }
 
+// All boxes, and one that is too wide.
 fn members(alloc: Global) -> Result<Vec<RectToInsert>, AllocError> {
     let mut members = Vec::new(alloc);
     for number in 0..BOXES {
         members.push(box_of(number))?;
     }
+    members.push(RectToInsert::new(3, 1, 1))?;
     Ok(members)
 }
 
-// A trial that is done leaves the other sections in their order; one that is stuck at its last
-// member asks those that are left once more, and leaves all.
+// Whether a trial of these takes so many tests, and is done or leaves all sections.
+fn tries(
+    bin: &mut TargetBin,
+    members: &[RectToInsert],
+    wanted: u128,
+    is_done: bool,
+) -> Result<bool, AllocError> {
+    let mut tests = FitTests::new();
+    let placed = bin.place_all(
+        members,
+        &volume_heuristic,
+        &contains_smallest_box,
+        &mut tests,
+    )?;
+    let is_right = match placed {
+        None => !is_done && has_left(bin, 0),
+        Some(locations) => is_done && are_in_place(locations.as_slice()),
+    };
+    Ok(is_right && tests.count() == wanted)
+}
+
+// A trial that is stuck at its last member asks those that are left once more, and leaves all; one
+// that is done leaves the other sections in their order.
+fn tries_all(bin: &mut TargetBin, members: &mut Vec<RectToInsert>) -> Result<bool, AllocError> {
+    let is_stuck = tries(bin, members.as_slice(), TESTS + 1100, false)?;
+    members.truncate(BOXES as usize);
+    let is_done = tries(bin, members.as_slice(), TESTS, true)?;
+    Ok(is_stuck && is_done && has_left(bin, BOXES))
+}
+
 #[test]
 fn trials_in_long_lists(rt: HostRuntime) -> Result<(), Fail> {
     let mut bin = comb(rt.alloc())?;
     let mut members = members(rt.alloc())?;
-    members.push(RectToInsert::new(3, 1, 1))?;
-    for (boxes, tests_wanted) in [(BOXES as usize + 1, TESTS + 1100), (BOXES as usize, TESTS)] {
-        let mut tests = FitTests::new();
-        members.truncate(boxes);
-        let placed = bin.place_all(
-            members.as_slice(),
-            &volume_heuristic,
-            &contains_smallest_box,
-            &mut tests,
-        )?;
-        assert_eq!(rt; tests.count(), tests_wanted);
-        match placed {
-            None => assert!(rt; boxes > BOXES as usize && has_left(&bin, 0)),
-            Some(locations) => assert!(rt; are_in_place(locations.as_slice())),
-        }
-    }
-    assert!(rt; has_left(&bin, BOXES));
+    assert!(rt; tries_all(&mut bin, &mut members)?);
     Ok(())
 }

@@ -98,11 +98,16 @@ const SCRIPTS: &[Script] = &[
 
 const THREE: &[[u32; 6]] = &[[0, 0, 0, 4, 4, 1], [6, 6, 0, 4, 4, 1], [4, 0, 0, 6, 6, 1]];
 
+// A table is dear to prove in a longer body, so this one stands alone.
+fn scripts() -> &'static [Script] {
+    SCRIPTS
+}
+
 // Each request for memory is refused in turn.
 #[test]
 fn pushes(rt: HostRuntime) {
     let alloc = rt.alloc();
-    for script in SCRIPTS {
+    for script in scripts() {
         runs(&rt, alloc, script);
     }
 }
@@ -158,10 +163,15 @@ const REFUSED: &[Script] = &[
     },
 ];
 
+// A table is dear to prove in a longer body, so this one stands alone.
+fn refused() -> &'static [Script] {
+    REFUSED
+}
+
 #[test]
 fn pushes_that_take_memory(rt: HostRuntime) {
     let alloc = rt.alloc();
-    for script in REFUSED {
+    for script in refused() {
         assert!(rt; runs(&rt, alloc, script), "{}", script.subject);
     }
 }

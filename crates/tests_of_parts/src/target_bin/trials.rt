@@ -171,12 +171,17 @@ const WITHOUT_SECTIONS: Script = Script {
     on_clone: None,
 };
 
+// A table is dear to prove in a longer body, so this one stands alone.
+fn scripts() -> &'static [Script] {
+    SCRIPTS
+}
+
 // Each request for memory is refused in turn, and some in the trials.
 #[test]
 fn trials(rt: HostRuntime) {
     let alloc = rt.alloc();
     runs(&rt, alloc, &WITHOUT_SECTIONS);
-    for script in SCRIPTS {
+    for script in scripts() {
         assert!(rt; runs(&rt, alloc, script), "{}", script.subject);
     }
 }
