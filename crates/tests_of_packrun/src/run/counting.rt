@@ -28,7 +28,9 @@ impl Seen {
 
 fn row(line: &str) -> Row {
     let mut row = [0; 9];
-    for (at, word) in row.iter_mut().zip(line.split_ascii_whitespace()) {
+    let mut words = line.split_ascii_whitespace();
+    for at in &mut row {
+        let word = words.next().unwrap_or("");
         *at = word.parse::<u32>().unwrap_or(0);
     }
     row
@@ -58,7 +60,20 @@ fn is_inside([x, y, z, width, height, depth]: [u32; 6], [right, top, back]: [u32
 }
 
 fn times_filled(boxes: &[[u32; 6]], cell: [u32; 3]) -> usize {
-    boxes.iter().filter(|at| has_cell(**at, cell)).count()
+    let mut times = 0usize;
+    for at in boxes {
+        times = times.saturating_add(usize::from(has_cell(*at, cell)));
+    }
+    times
+}
+
+fn are_inside(boxes: &[[u32; 6]], size: [u32; 3]) -> bool {
+    for at in boxes {
+        if !is_inside(*at, size) {
+            return false;
+        }
+    }
+    true
 }
 
 // Whether these boxes are inside a bin of this size, of sides up to 6, and each of its cells is in
@@ -71,7 +86,7 @@ fn fill_once(boxes: &[[u32; 6]], size: [u32; 3]) -> bool {
             return false;
         }
     }
-    boxes.iter().all(|at| is_inside(*at, size))
+    are_inside(boxes, size)
 }
 
 fn free_box(row: &Row) -> [u32; 6] {
@@ -102,10 +117,12 @@ fn push_free(boxes: &mut Vec<[u32; 6]>, free: &[Row]) -> Result<(), AllocError> 
 }
 
 fn size_of(bins: &[Row], name: u32) -> [u32; 3] {
-    match bins.iter().find(|row| row[1] == name) {
-        Some([_, _, width, height, depth, ..]) => [*width, *height, *depth],
-        None => [0; 3],
+    for row in bins {
+        if row[1] == name {
+            return [row[2], row[3], row[4]];
+        }
     }
+    [0; 3]
 }
 
 // How many groups the line of a box names.
@@ -128,20 +145,46 @@ fn times_named(boxes: &[Row], id: u32) -> usize {
 }
 
 fn times_placed(lines: &[Row], id: u32) -> usize {
-    lines.iter().filter(|row| row[1] == id).count()
+    let mut times = 0usize;
+    for row in lines {
+        times = times.saturating_add(usize::from(row[1] == id));
+    }
+    times
 }
 
 // Whether the last line of this id gave the box the size in which it was placed.
 fn is_in_its_size(boxes: &[Row], placed: &Row) -> bool {
-    match boxes.iter().rev().find(|row| row[1] == placed[1]) {
-        Some([_, _, width, height, depth, ..]) => placed.ends_with(&[*width, *height, *depth]),
-        None => false,
+    for row in boxes.iter().rev() {
+        if row[1] == placed[1] {
+            return [placed[6], placed[7], placed[8]] == [row[2], row[3], row[4]];
+        }
     }
+    false
+}
+
+// Whether a line names this group for the box of this id, before any other.
+fn is_named(boxes: &[Row], id: u32, group: u32) -> bool {
+    for row in boxes {
+        if row[1] == id && row[5] == group {
+            return true;
+        }
+    }
+    false
+}
+
+// Whether each of these lines places a box in its size.
+fn are_in_their_sizes(boxes: &[Row], lines: &[Row]) -> bool {
+    for row in lines {
+        if !is_in_its_size(boxes, row) {
+            return false;
+        }
+    }
+    true
 }
 
 // Whether the box of this id is to be placed once, for this group.
 fn is_of_group(boxes: &[Row], id: u32, group: u32) -> bool {
-    times_named(boxes, id) == 1 && boxes.iter().any(|row| row[1] == id && row[5] == group)
+    times_named(boxes, id) == 1 && is_named(boxes, id, group)
 }
 
 // Whether the boxes that are of this group alone are in one bin.
@@ -167,12 +210,17 @@ fn places_all(boxes: &[Row], lines: &[Row]) -> bool {
             return false;
         }
     }
-    lines.iter().all(|row| is_in_its_size(boxes, row))
+    are_in_their_sizes(boxes, lines)
 }
 
 // Whether a bin of this name was added.
 fn is_known(bins: &[Row], name: u32) -> bool {
-    bins.iter().any(|row| row[1] == name)
+    for row in bins {
+        if row[1] == name {
+            return true;
+        }
+    }
+    false
 }
 
 // Whether one of these has this number, which is then taken away.
