@@ -3,8 +3,8 @@
 #![tactic(auto)]
 
 use rectangle_pack::{
-    BinStats, Group, GroupedRectsToPlace, Outstanding, RectToInsert, Session, SessionError,
-    contains_smallest_box, volume_heuristic,
+    BinStats, Group, GroupedRectsToPlace, Outstanding, PackedLocation, RectToInsert, Session,
+    SessionError, contains_smallest_box, volume_heuristic,
 };
 use std::alloc::{AllocError, Global};
 use std::io;
@@ -77,19 +77,18 @@ fn load(rt: &HostRuntime, loading: &mut Loading) -> io::Result<()> {
     pack(rt, loading, &crates)
 }
 
+// Prints how many litres so many of these are.
+fn print_volume(rt: &HostRuntime, count: usize, what: &str, litres: u128) -> io::Result<()> {
+    println!(rt; "    {count:>2} {what}: {litres} l")
+}
+
 // Prints the statistics of a container, in litres.
 fn print_container(rt: &HostRuntime, container: u32, stats: BinStats) -> io::Result<()> {
     let part = stats.placed_volume.saturating_mul(100);
     let percent = part.checked_div(stats.bin_volume).unwrap_or(0);
     println!(rt; "bin container-{container} {WIDTH} {HEIGHT} {LENGTH} ({percent}% filled)")?;
-    println!(rt;
-        "    {:>2} crates: {} l",
-        stats.placements, stats.placed_volume
-    )?;
-    println!(rt;
-        "    {:>2} free sections: {} l",
-        stats.free_sections, stats.free_volume
-    )
+    print_volume(rt, stats.placements, "crates", stats.placed_volume)?;
+    print_volume(rt, stats.free_sections, "free sections", stats.free_volume)
 }
 
 fn print_containers(rt: &HostRuntime, loading: &Loading) -> io::Result<()> {
@@ -102,14 +101,17 @@ fn print_containers(rt: &HostRuntime, loading: &Loading) -> io::Result<()> {
 }
 
 // Prints where a crate stands, and its size.
+fn print_place(rt: &HostRuntime, at: &PackedLocation) -> io::Result<()> {
+    print!(rt; " {:>3} {:>2} {:>2}", at.x(), at.y(), at.z())?;
+    print!(rt; " {:>3} {:>2} {:>2}", at.width(), at.height(), at.depth())
+}
+
 fn print_crate(rt: &HostRuntime, placed: &Outstanding<Crate, u32>) -> io::Result<()> {
-    let (number, (customer, lot, nth), container) = (placed.number, placed.id, placed.bin);
+    let (customer, lot, nth) = placed.id;
     let name = format!(in rt.alloc(); "{customer}-{lot}.{nth}")?;
-    let at = &placed.location;
-    let (x, y, z) = (at.x(), at.y(), at.z());
-    let (w, h, d) = (at.width(), at.height(), at.depth());
-    print!(rt; "{number:>4} {name:<10} container-{container} {x:>3} {y:>2} {z:>2}")?;
-    println!(rt; " {w:>3} {h:>2} {d:>2} {customer}")
+    print!(rt; "{:>4} {name:<10} container-{}", placed.number, placed.bin)?;
+    print_place(rt, &placed.location)?;
+    println!(rt; " {customer}")
 }
 
 fn print_crates(rt: &HostRuntime, loading: &Loading) -> io::Result<()> {
