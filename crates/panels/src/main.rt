@@ -4,8 +4,8 @@
 #![tactic(auto)]
 
 use rectangle_pack::{
-    Axis, BinStats, CutStep, GroupedRectsToPlace, Heuristic, Outstanding, RectToInsert, Session,
-    SessionError, WidthHeightDepth, contains_smallest_box, volume_heuristic,
+    Axis, BinStats, CutStep, GroupedRectsToPlace, Heuristic, Outstanding, PackedLocation,
+    RectToInsert, Session, SessionError, WidthHeightDepth, contains_smallest_box, volume_heuristic,
 };
 use std::alloc::{AllocError, Global};
 use std::cmp::Ordering;
@@ -38,14 +38,21 @@ type Cutting = Session<Panel, u32>;
 // A part of a sheet, by its left, lower, right and upper end.
 type Part = (u32, u32, u32, u32);
 
-fn longest_side(pieces: [WidthHeightDepth; 3]) -> u32 {
-    let sides = pieces.iter().map(|piece| piece.width().max(piece.height()));
-    sides.max().unwrap_or(0)
+fn longest_side(piece: WidthHeightDepth) -> u32 {
+    piece.width().max(piece.height())
+}
+
+// How long the longest of the strips is that a cut leaves.
+fn longest(pieces: [WidthHeightDepth; 3]) -> u32 {
+    let [right, above, behind] = pieces;
+    longest_side(right)
+        .max(longest_side(above))
+        .max(longest_side(behind))
 }
 
 // The shop's rule: the cut is better that leaves the longest strip.
 fn longest_strip<H>(a: [WidthHeightDepth; 3], b: [WidthHeightDepth; 3], _: &H) -> Ordering {
-    longest_side(a).cmp(&longest_side(b))
+    longest(a).cmp(&longest(b))
 }
 
 fn five_sheets(alloc: Global) -> Result<Cutting, SessionError> {
@@ -95,12 +102,18 @@ fn print_sheets(rt: &HostRuntime, cutting: &Cutting) -> io::Result<()> {
     println!(rt; "")
 }
 
-// Prints where a panel is.
-fn print_panel(rt: &HostRuntime, placed: &Outstanding<Panel, u32>) -> io::Result<()> {
-    let (no, (size, nth), sheet, at) = (placed.number, placed.id, placed.bin, &placed.location);
+// Prints where on its sheet a panel of this size is.
+fn print_place(rt: &HostRuntime, at: &PackedLocation, size: &str) -> io::Result<()> {
     let (x, y, w, h) = (at.x(), at.y(), at.width(), at.height());
+    println!(rt; " {x:>4} {y:>4} 0 {w:>4} {h:>4} 1 {size}")
+}
+
+// Prints a panel, and where it is.
+fn print_panel(rt: &HostRuntime, placed: &Outstanding<Panel, u32>) -> io::Result<()> {
+    let (size, nth) = placed.id;
     let name = format!(in rt.alloc(); "{size}-{nth}")?;
-    println!(rt; "{no:>5} {name:<10} sheet-{sheet} {x:>4} {y:>4} 0 {w:>4} {h:>4} 1 {size}")
+    print!(rt; "{:>5} {name:<10} sheet-{}", placed.number, placed.bin)?;
+    print_place(rt, &placed.location, size)
 }
 
 fn print_panels(rt: &HostRuntime, cutting: &Cutting) -> io::Result<()> {
@@ -138,12 +151,22 @@ fn print_cut(
     Ok(())
 }
 
+// The panel whose left and lower end are here, if there is one.
+fn panel_at(cutting: &Cutting, sheet: u32, left: u32, low: u32) -> Option<Panel> {
+    for placed in cutting.outstanding() {
+        let at = &placed.location;
+        if placed.bin == sheet && at.x() == left && at.y() == low {
+            return Some(placed.id);
+        }
+    }
+    None
+}
+
 // Prints what a part is that is not cut: a panel, or an offcut.
 fn print_leaf(rt: &HostRuntime, sheet: u32, part: Part, cutting: &Cutting) -> io::Result<()> {
     let (left, low, _, _) = part;
-    let mut placed = cutting.outstanding().iter().filter(|it| it.bin == sheet);
-    match placed.find(|it| it.location.x() == left && it.location.y() == low) {
-        Some(it) => println!(rt; "is {}-{}", it.id.0, it.id.1),
+    match panel_at(cutting, sheet, left, low) {
+        Some((size, nth)) => println!(rt; "is {size}-{nth}"),
         None => println!(rt; "is an offcut"),
     }
 }
@@ -183,12 +206,21 @@ fn print_plans(rt: &HostRuntime, cutting: &Cutting) -> io::Result<()> {
     Ok(())
 }
 
+// The number of a panel that is placed, and its sheet.
+fn find(cutting: &Cutting, panel: Panel) -> Option<(u64, u32)> {
+    for placed in cutting.outstanding() {
+        if placed.id == panel {
+            return Some((placed.number, placed.bin));
+        }
+    }
+    None
+}
+
 // Gives a panel back, and joins what it leaves.
 fn call_off(cutting: &mut Cutting, panel: Panel) -> Result<(), SessionError> {
-    let Some(off) = cutting.outstanding().iter().find(|it| it.id == panel) else {
+    let Some((number, sheet)) = find(cutting, panel) else {
         return Ok(());
     };
-    let (number, sheet) = (off.number, off.bin);
     cutting.release(number)?;
     cutting.coalesce_all(&sheet)
 }
@@ -201,16 +233,24 @@ fn exchange(cutting: &mut Cutting, alloc: Global) -> Result<(), SessionError> {
     cut_by_rule(cutting, &desk)
 }
 
+fn has_panels(cutting: &Cutting, sheet: u32) -> bool {
+    match cutting.stats(&sheet) {
+        Some(stats) => stats.placements > 0,
+        None => false,
+    }
+}
+
 // How many sheets have panels.
-fn used(cutting: &Cutting) -> usize {
-    let stats = cutting.bins().keys().map(|sheet| cutting.stats(sheet));
-    stats
-        .filter(|it| it.is_some_and(|it| it.placements > 0))
-        .count()
+fn used(cutting: &Cutting) -> u32 {
+    let mut used = 0u32;
+    for sheet in cutting.bins().keys() {
+        used = used.saturating_add(u32::from(has_panels(cutting, *sheet)));
+    }
+    used
 }
 
 // How many sheets the order takes with a heuristic.
-fn sheets_by(heuristic: Heuristic, order: &Order, alloc: Global) -> Result<usize, SessionError> {
+fn sheets_by(heuristic: Heuristic, order: &Order, alloc: Global) -> Result<u32, SessionError> {
     let mut cutting = five_sheets(alloc)?;
     let rate = |whd: WidthHeightDepth| heuristic.rate(whd);
     cutting.pack(order, &rate, &contains_smallest_box)?;
