@@ -4,7 +4,8 @@
 #![tactic(auto)]
 
 use rectangle_pack::{
-    GroupedRectsToPlace, Heuristic, Outstanding, RectToInsert, Session, SessionError,
+    GroupedRectsToPlace, Heuristic, Outstanding, PackedLocation, RectToInsert, Session,
+    SessionError,
 };
 use std::alloc::{AllocError, Global};
 use std::io;
@@ -81,7 +82,10 @@ fn pack(
     for page in 1..=MOST_PAGES {
         match atlas.pack_best(sprites, heuristics) {
             Err(SessionError::NotEnoughBinSpace) => add_page(atlas, page)?,
-            packed => return packed.map(|(best, _)| best),
+            packed => {
+                let (best, _) = packed?;
+                return Ok(best);
+            }
         }
     }
     Err(SessionError::NotEnoughBinSpace)
@@ -99,15 +103,31 @@ fn load(
     pack(atlas, &sprites, heuristics)
 }
 
-// The numbers of the sprites of these kinds.
-fn numbers(atlas: &Atlas, kinds: &[Kind], alloc: Global) -> Result<Vec<u64>, AllocError> {
-    let mut numbers = Vec::new(alloc);
+// Whether the sprite is of one of these kinds.
+fn is_of(sprite: &Sprite, kinds: &[Kind]) -> bool {
+    for (name, ..) in kinds {
+        if *name == sprite.0 {
+            return true;
+        }
+    }
+    false
+}
+
+// Notes the numbers of the sprites of these kinds.
+fn note_numbers(numbers: &mut Vec<u64>, atlas: &Atlas, kinds: &[Kind]) -> Result<(), AllocError> {
     for placed in atlas.outstanding() {
-        if kinds.iter().any(|kind| kind.0 == placed.id.0) {
+        if is_of(&placed.id, kinds) {
             numbers.push(placed.number)?;
         }
     }
-    Ok(numbers)
+    Ok(())
+}
+
+fn release_all(atlas: &mut Atlas, numbers: &[u64]) -> Result<(), SessionError> {
+    for number in numbers {
+        atlas.release(*number)?;
+    }
+    Ok(())
 }
 
 // Joins what is free, page by page.
@@ -122,10 +142,9 @@ fn join(atlas: &mut Atlas) -> Result<(), SessionError> {
 
 // Releases the sprites of these kinds, and joins what is free.
 fn unload(atlas: &mut Atlas, kinds: &[Kind], alloc: Global) -> Result<(), SessionError> {
-    let numbers = numbers(atlas, kinds, alloc)?;
-    for number in &numbers {
-        atlas.release(*number)?;
-    }
+    let mut numbers = Vec::new(alloc);
+    note_numbers(&mut numbers, atlas, kinds)?;
+    release_all(atlas, numbers.as_slice())?;
     join(atlas)
 }
 
@@ -154,22 +173,30 @@ fn compare(rt: &HostRuntime, best: Heuristic, atlas: &Atlas, by_volume: &Atlas) 
     println!(rt; "\n")
 }
 
-// Prints how full each page is.
+// Prints a page, and how full it is.
+fn print_page(rt: &HostRuntime, page: u32, filled: u128) -> io::Result<()> {
+    println!(rt; "bin page-{page} {PAGE} {PAGE} 1 ({filled}% filled)")
+}
+
 fn print_pages(rt: &HostRuntime, atlas: &Atlas) -> io::Result<()> {
     for page in atlas.bins().keys() {
-        let filled = filled(atlas, *page);
-        println!(rt; "bin page-{page} {PAGE} {PAGE} 1 ({filled}% filled)")?;
+        print_page(rt, *page, filled(atlas, *page))?;
     }
     println!(rt; "")
 }
 
-// Prints where a sprite is.
-fn print_sprite(rt: &HostRuntime, placed: &Outstanding<Sprite, u32>) -> io::Result<()> {
-    let (number, (kind, nth), page) = (placed.number, placed.id, placed.bin);
-    let at = &placed.location;
+// Prints where on its page a sprite of this kind is.
+fn print_place(rt: &HostRuntime, at: &PackedLocation, kind: &str) -> io::Result<()> {
     let (x, y, w, h) = (at.x(), at.y(), at.width(), at.height());
+    println!(rt; " {x:>4} {y:>4} 0 {w:>4} {h:>4} 1 {kind}")
+}
+
+// Prints a sprite, and where it is.
+fn print_sprite(rt: &HostRuntime, placed: &Outstanding<Sprite, u32>) -> io::Result<()> {
+    let (kind, nth) = placed.id;
     let name = format!(in rt.alloc(); "{kind}-{nth}")?;
-    println!(rt; "{number:>5} {name:<11} page-{page} {x:>4} {y:>4} 0 {w:>4} {h:>4} 1 {kind}")
+    print!(rt; "{:>5} {name:<11} page-{}", placed.number, placed.bin)?;
+    print_place(rt, &placed.location, kind)
 }
 
 fn print_sprites(rt: &HostRuntime, atlas: &Atlas) -> io::Result<()> {
