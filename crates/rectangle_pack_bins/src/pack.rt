@@ -11,12 +11,12 @@ ghost use Rattle.rectangle_pack_bins.specs.Best.{IsBestAnswer};
 ghost use Rattle.rectangle_pack_bins.specs.Orders.{IsBinOrder};
 ghost use Rattle.rectangle_pack_bins.specs.Packing.{rules_by, bins_of};
 ghost use Rattle.rectangle_pack_bins.specs.PackAnswers.{IsPackAnswer, IsCountedAnswer};
-ghost use Rattle.rectangle_pack_bins.specs.private.Ends.{IsEnd, IsUndoneAnswer};
-ghost use Rattle.rectangle_pack_bins.specs.private.RollBack.{RollsBackTo};
+ghost use Rattle.rectangle_pack_bins.specs.private.Ends.{IsUndoneAnswer};
 
 pub mod answer;
 pub mod best;
 pub mod checkout;
+mod ends;
 pub mod first_fit;
 mod homes;
 pub mod journal;
@@ -25,8 +25,8 @@ mod open_bin;
 pub mod order;
 pub mod packing;
 
-use crate::pack::answer::last_placements;
 use crate::pack::best::best_of;
+use crate::pack::ends::end_packing;
 use crate::pack::first_fit::pack_noted;
 use crate::pack::order::bin_order;
 use crate::pack::packing::Packing;
@@ -357,53 +357,4 @@ where
     let (bins, answer) = end_packing(alloc, packing, packed, undoes_refused);
     *target_bins = bins;
     answer
-}
-
-// The bins of a packing that ends so, and its answer: done it is kept, for want of memory rolled
-// back, and refused for space the one or the other.
-fn end_packing<Id, BinId, A>(
-    alloc: A,
-    packing: Packing<'_, Id, BinId, A>,
-    packed: Result<bool, AllocError>,
-    undoes_refused: bool,
-) -> (
-    BTreeMap<BinId, TargetBin<A>, A>,
-    Result<RectanglePackOk<Id, BinId, A>, RectanglePackError>,
-)
-where
-    Id: Ord + Clone + Drop,
-    BinId: Ord + Clone + Drop,
-    A: Allocator + Copy,
-    requires ids { ClonesEqual Id.is_clone Id.eq }
-    requires bin_ids { ClonesEqual BinId.is_clone BinId.eq }
-    requires back { (start : List (BinId × Bin)) × RollsBackTo BinId.cmp packing start }
-    ensures { IsEnd Id.cmp BinId.cmp packing.entry packed undoes_refused result.0.entries
-        result.1 }
-{
-    let last = match packed {
-        Ok(true) => last_placements(alloc, packing.placements.as_slice()),
-        Ok(false) => {
-            let (bins, _) = if undoes_refused {
-                packing.roll_back()
-            } else {
-                packing.keep()
-            };
-            return (bins, Err(RectanglePackError::NotEnoughBinSpace));
-        }
-        Err(error) => Err(error),
-    };
-    match last {
-        Ok(packed_locations) => {
-            let (bins, placements) = packing.keep();
-            let done = RectanglePackOk {
-                packed_locations,
-                placements,
-            };
-            (bins, Ok(done))
-        }
-        Err(_) => {
-            let (bins, _) = packing.roll_back();
-            (bins, Err(RectanglePackError::OutOfMemory))
-        }
-    }
 }

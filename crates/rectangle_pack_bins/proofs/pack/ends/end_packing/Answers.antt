@@ -1,7 +1,7 @@
 use Rattle.rectangle_pack_sections.proofs.Std.{Bool, Ok, sym, ap, ◌∙◌}
 use Rattle.rectangle_pack_bins.proofs.lemmas.packing.Ends.{refused-undone, refused-kept}
-use Rattle.rectangle_pack_bins.proofs.pack.end_packing.Goals as goal
-use Rattle.rectangle_pack_bins.proofs.pack.end_packing.Goals.{in-Ok-true, in-Err, then-undoes_refused, else-undoes_refused}
+use Rattle.rectangle_pack_bins.proofs.pack.ends.end_packing.Goals as goal
+use Rattle.rectangle_pack_bins.proofs.pack.ends.end_packing.Goals.{in-Ok-true, in-Err, then-undoes_refused, else-undoes_refused}
 
 pub returns-in-Ok : goal.returns-in-Ok
 returns-in-Ok g c = elim c.match-packed.branch [
