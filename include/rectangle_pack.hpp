@@ -1,0 +1,465 @@
+/* rectangle_pack.hpp: rectangle_pack.h for C++17, in one header over the same library. A Session frees itself; lists go in as
+   views and come out as vectors; a refusal is an Error. What the calls ask and what is proved of them stands in
+   rectangle_pack.h; this wrapper is not proved, but tested.
+
+       namespace rp = rectangle_pack;
+
+       const rp::Box sprites[] = {rp::box(10, 20), rp::box(5, 50)};
+       rp::Session session;
+       session.add_bin(rp::BinId{7}, rp::bin(64, 64));
+       for (const rp::Outstanding &it : session.pack(sprites))
+           session.release(it.number);
+
+   Names in this header that end in an underscore and the namespace detail are its own. */
+#ifndef RECTANGLE_PACK_HPP
+#define RECTANGLE_PACK_HPP
+
+#include <cstddef>
+#include <cstdint>
+#include <exception>
+#include <limits>
+#include <optional>
+#include <stdexcept>
+#include <type_traits>
+#include <utility>
+#include <vector>
+
+#include "rectangle_pack.h"
+
+namespace rectangle_pack {
+
+/// What a call answers.
+enum class Status : std::uint32_t {
+    done = RP_DONE,
+    not_enough_space = RP_NOT_ENOUGH_SPACE,
+    out_of_memory = RP_OUT_OF_MEMORY,
+    bad_lengths = RP_BAD_LENGTHS,
+    duplicate_bin = RP_DUPLICATE_BIN,
+    unknown_bin = RP_UNKNOWN_BIN,
+    unknown_placement = RP_UNKNOWN_PLACEMENT,
+    numbers_used_up = RP_NUMBERS_USED_UP,
+    short_array = RP_SHORT_ARRAY,
+    no_plan = RP_NO_PLAN,
+    unknown_heuristic = RP_UNKNOWN_HEURISTIC,
+    unknown_box = RP_UNKNOWN_BOX,
+    equal_groups = RP_EQUAL_GROUPS,
+};
+
+/// What a status means.
+inline const char *text(Status status) noexcept
+{
+    switch (status) {
+    case Status::done:
+        return "it is done";
+    case Status::not_enough_space:
+        return "for some group no bin takes all of its boxes";
+    case Status::out_of_memory:
+        return "memory was refused";
+    case Status::bad_lengths:
+        return "a list has 2^32 entries or more";
+    case Status::duplicate_bin:
+        return "the session has a bin of this id already";
+    case Status::unknown_bin:
+        return "the session has no bin of this id";
+    case Status::unknown_placement:
+        return "no placement of this number is outstanding";
+    case Status::numbers_used_up:
+        return "the numbers of placements are used up";
+    case Status::short_array:
+        return "the array is shorter than the list";
+    case Status::no_plan:
+        return "no straight cuts leave the sections and boxes of the bin";
+    case Status::unknown_heuristic:
+        return "there is no heuristic of this number";
+    case Status::unknown_box:
+        return "a member names a box that is not there";
+    case Status::equal_groups:
+        return "a group is excluded with itself";
+    }
+    return "a status that this header does not know";
+}
+
+/// A refusal. Nothing was packed, and a session is as it was. It takes no memory.
+class Error : public std::exception {
+public:
+    explicit Error(Status status) noexcept : status_(status) {}
+
+    /// Which refusal it is.
+    Status status() const noexcept { return status_; }
+
+    /// What it means.
+    const char *what() const noexcept override { return text(status_); }
+
+private:
+    Status status_;
+};
+
+/// What boxes, bins and pieces of a bin are rated by.
+enum class Heuristic : std::uint32_t {
+    volume = RP_VOLUME,
+    height = RP_HEIGHT,
+    width = RP_WIDTH,
+    depth = RP_DEPTH,
+    side_sum = RP_SIDE_SUM,
+    longest_side = RP_LONGEST_SIDE,
+    shortest_side = RP_SHORTEST_SIDE,
+    side_area = RP_SIDE_AREA,
+    /// The one of these with which the bins are used best.
+    best = RP_BEST,
+};
+
+/// The id of a bin in a session: any number that the caller chooses.
+enum class BinId : std::uint32_t {};
+
+/// The number of a placement in a session.
+enum class PlacementNumber : std::uint64_t {};
+
+using Bin = rp_bin;
+using Box = rp_box;
+using Member = rp_member;
+using Exclusion = rp_exclusion;
+/// Where a box stands: the index of its bin, and its corner there.
+using Placement = rp_placement;
+using Volume = rp_volume;
+using Stats = rp_stats;
+using Section = rp_section;
+
+/// A bin of this size.
+constexpr Bin bin(std::uint32_t width, std::uint32_t height, std::uint32_t depth = 1) noexcept
+{
+    return {width, height, depth};
+}
+
+/// A box of this size. The boxes of one group above 0 go into one bin; in group 0 each is alone.
+constexpr Box box(std::uint32_t width, std::uint32_t height, std::uint32_t depth = 1, std::uint32_t group = 0) noexcept
+{
+    return {width, height, depth, group};
+}
+
+/// A list of the caller's, which is read and not copied: an array, a vector, a span, or whatever has data() and size(). It is
+/// to be there until the call returns.
+template <class T> class View {
+public:
+    /// A list without entries.
+    constexpr View() noexcept = default;
+
+    constexpr View(const T *data, std::size_t size) noexcept : data_(data), size_(size) {}
+
+    template <std::size_t N> constexpr View(const T (&array)[N]) noexcept : data_(array), size_(N) {}
+
+    template <class List, class = std::enable_if_t<
+                              std::is_convertible_v<decltype(std::declval<const List &>().data()), const T *> &&
+                              std::is_convertible_v<decltype(std::declval<const List &>().size()), std::size_t>>>
+    constexpr View(const List &list) noexcept(noexcept(list.data())) : data_(list.data()), size_(list.size())
+    {
+    }
+
+    /// Never null, as the calls ask.
+    const T *data() const noexcept { return data_ ? data_ : &none_; }
+    constexpr std::size_t size() const noexcept { return size_; }
+    constexpr const T *begin() const noexcept { return data_; }
+    constexpr const T *end() const noexcept { return data_ ? data_ + size_ : nullptr; }
+
+private:
+    static constexpr T none_{};
+    const T *data_ = nullptr;
+    std::size_t size_ = 0;
+};
+
+/// What is to be packed. A box of two groups has one of them in its own field, and a member for the other. Two groups that are
+/// excluded do not share a bin.
+struct Collection {
+    View<Box> boxes;
+    View<Member> members = {};
+    View<Exclusion> exclusions = {};
+};
+
+/// Where the boxes of a collection stand: first those of the boxes, then those of the members. chosen is the heuristic that
+/// was asked for, or with Heuristic::best the one that was taken.
+template <class Place> struct Packed {
+    std::vector<Place> placements;
+    Heuristic chosen;
+};
+
+/// Where a box stands in a session, and the number by which it is released.
+struct Outstanding {
+    PlacementNumber number;
+    BinId bin;
+    std::uint32_t x, y, z;
+};
+
+/// An outstanding placement: its number; the index of its box in the call that packed it, where members stand behind the boxes;
+/// its bin; and where it stands there.
+struct Standing {
+    PlacementNumber number;
+    std::uint32_t index;
+    BinId bin;
+    Section section;
+};
+
+/// The axis that a straight cut is at right angles to, or leaf for a part that is not cut.
+enum class Axis : std::uint32_t { x = 0, y = 1, z = 2, leaf = RP_LEAF };
+
+/// A step of a cutting plan: a straight cut across the whole part, so many cells from the corner of the bin. The plan of the
+/// lower part follows, and then that of the upper part. A leaf has the place 0.
+struct CutStep {
+    Axis axis;
+    std::uint32_t place;
+};
+
+namespace detail {
+
+inline void check(std::uint32_t status)
+{
+    if (status != RP_DONE)
+        throw Error(static_cast<Status>(status));
+}
+
+/// How many placements a collection gets. It is looked at before they get memory.
+inline std::size_t count_of(const Collection &it)
+{
+    constexpr std::size_t most = std::numeric_limits<std::uint32_t>::max();
+    if (it.boxes.size() > most || it.members.size() > most - it.boxes.size() || it.exclusions.size() > most)
+        throw Error(Status::bad_lengths);
+    return it.boxes.size() + it.members.size();
+}
+
+inline rp_collection as_c(const Collection &it) noexcept
+{
+    return {it.boxes.data(),   it.boxes.size(),      it.members.data(),
+            it.members.size(), it.exclusions.data(), it.exclusions.size()};
+}
+
+/// An array that a call writes to. It has an entry that is not counted, so that it is never null.
+template <class T> class Room {
+public:
+    explicit Room(std::size_t size) : entries_(size + 1) {}
+    T *data() noexcept { return entries_.data(); }
+    std::size_t size() const noexcept { return entries_.size() - 1; }
+    const T &operator[](std::size_t i) const noexcept { return entries_[i]; }
+
+    /// The entries that are counted.
+    std::vector<T> taken() &&
+    {
+        entries_.pop_back();
+        return std::move(entries_);
+    }
+
+private:
+    std::vector<T> entries_;
+};
+
+/// The list that a call writes, each entry as `of` makes it. The array has at first so much room.
+template <class T, class Call, class Of> auto read(std::size_t room, Call call, Of of)
+{
+    Room<T> array(room);
+    std::size_t count = 0;
+    std::uint32_t status = call(array.data(), array.size(), &count);
+    if (status == RP_SHORT_ARRAY) {
+        array = Room<T>(count);
+        status = call(array.data(), array.size(), &count);
+    }
+    check(status);
+    std::vector<decltype(of(array[0]))> list;
+    list.reserve(count);
+    for (std::size_t i = 0; i < count; i++)
+        list.push_back(of(array[i]));
+    return list;
+}
+
+inline Outstanding outstanding(const rp_outstanding &it) noexcept
+{
+    const rp_placement &at = it.placement;
+    return {PlacementNumber{it.number}, BinId{at.bin}, at.x, at.y, at.z};
+}
+
+} // namespace detail
+
+/// Packs all boxes into the bins, by their volumes: placement i is where box i stands.
+inline std::vector<Placement> pack(View<Bin> bins, View<Box> boxes)
+{
+    detail::Room<Placement> places(detail::count_of({boxes}));
+    detail::check(::rectangle_pack_boxes(bins.data(), bins.size(), boxes.data(), boxes.size(), places.data(), places.size()));
+    return std::move(places).taken();
+}
+
+/// Packs a collection into the bins, by a heuristic.
+inline Packed<Placement> pack(View<Bin> bins, const Collection &collection, Heuristic heuristic = Heuristic::volume)
+{
+    detail::Room<Placement> places(detail::count_of(collection));
+    const rp_collection list = detail::as_c(collection);
+    std::uint32_t chosen = 0;
+    detail::check(::rectangle_pack_collection(bins.data(), bins.size(), &list, static_cast<std::uint32_t>(heuristic),
+                                              places.data(), places.size(), &chosen));
+    return {std::move(places).taken(), Heuristic{chosen}};
+}
+
+/// Bins that stay, and boxes that come and go. It moves and does not copy. It may go from thread to thread, but takes one call
+/// at a time, also where calls only read and are const. A call of one that was moved from throws std::logic_error; it may be
+/// assigned to.
+class Session {
+public:
+    /// A session without bins.
+    Session() { detail::check(::rectangle_pack_session_new(&session_)); }
+
+    Session(Session &&other) noexcept : session_(std::exchange(other.session_, none())) {}
+
+    Session &operator=(Session &&other) noexcept
+    {
+        Session taken(std::move(other));
+        std::swap(session_, taken.session_);
+        return *this;
+    }
+
+    Session(const Session &) = delete;
+    Session &operator=(const Session &) = delete;
+
+    ~Session()
+    {
+        if (*this)
+            ::rectangle_pack_session_free(&session_);
+    }
+
+    /// Whether there is a session: false once it was moved from.
+    explicit operator bool() const noexcept { return session_.at != nullptr; }
+
+    /// Adds a bin under an id that no other bin of the session has.
+    void add_bin(BinId id, const Bin &size)
+    {
+        detail::check(::rectangle_pack_session_add_bin(at(), number(id), size.width, size.height, size.depth));
+    }
+
+    /// Packs all boxes into what is free in the bins, by their volumes: placement i is where box i stands. Where this throws,
+    /// the session is as it was.
+    std::vector<Outstanding> pack(View<Box> boxes)
+    {
+        Places places(detail::count_of({boxes}));
+        detail::check(
+            ::rectangle_pack_session_pack(at(), boxes.data(), boxes.size(), places.array.data(), places.array.size()));
+        return std::move(places).taken();
+    }
+
+    /// Packs a collection into what is free in the bins, by a heuristic. Where this throws, the session is as it was.
+    Packed<Outstanding> pack(const Collection &collection, Heuristic heuristic = Heuristic::volume)
+    {
+        Places places(detail::count_of(collection));
+        const rp_collection list = detail::as_c(collection);
+        std::uint32_t chosen = 0;
+        detail::check(::rectangle_pack_session_pack_collection(at(), &list, static_cast<std::uint32_t>(heuristic),
+                                                               places.array.data(), places.array.size(), &chosen));
+        return {std::move(places).taken(), Heuristic{chosen}};
+    }
+
+    /// Takes back a placement by its number: its cells are free again.
+    void release(PlacementNumber placement)
+    {
+        detail::check(::rectangle_pack_session_release(at(), static_cast<std::uint64_t>(placement)));
+    }
+
+    /// Joins free sections of a bin until no two share a whole face.
+    void coalesce_all(BinId id) { detail::check(::rectangle_pack_session_coalesce_all(at(), number(id))); }
+
+    /// Joins the free section of this index with those from index start to below end.
+    void coalesce(BinId id, std::size_t index, std::size_t start, std::size_t end)
+    {
+        detail::check(::rectangle_pack_session_coalesce(at(), number(id), index, start, end));
+    }
+
+    /// What is free and what is placed in a bin.
+    Stats stats(BinId id) const
+    {
+        Stats stats{};
+        detail::check(::rectangle_pack_session_stats(at(), number(id), &stats));
+        return stats;
+    }
+
+    /// The ids of all bins, in rising order.
+    std::vector<BinId> bins() const
+    {
+        const auto call = [this](auto... to) { return ::rectangle_pack_session_bins(at(), to...); };
+        return detail::read<std::uint32_t>(16, call, [](std::uint32_t id) { return BinId{id}; });
+    }
+
+    /// The free sections of a bin, the newest last.
+    std::vector<Section> free_sections(BinId id) const
+    {
+        const auto call = [this, id](auto... to) { return ::rectangle_pack_session_free_sections(at(), number(id), to...); };
+        return detail::read<rp_section>(16, call, [](const rp_section &it) { return it; });
+    }
+
+    /// The outstanding placements of all bins, in the order of their numbers.
+    std::vector<Standing> outstanding() const
+    {
+        const auto call = [this](auto... to) { return ::rectangle_pack_session_outstanding(at(), to...); };
+        return detail::read<rp_standing>(16, call, [](const rp_standing &it) {
+            return Standing{PlacementNumber{it.number}, it.index, BinId{it.bin}, it.section};
+        });
+    }
+
+    /// The straight cuts that part a bin into its free sections and its boxes, or nothing where no straight cuts do.
+    std::optional<std::vector<CutStep>> cut_plan(BinId id) const
+    {
+        const Stats has = stats(id);
+        const auto call = [this, id](auto... to) { return ::rectangle_pack_session_cut_plan(at(), number(id), to...); };
+        try {
+            // A whole plan is made for each call, so the first one has room for most plans.
+            return detail::read<rp_cut_step>(2 * (has.free_sections + has.placements), call, [](const rp_cut_step &it) {
+                return CutStep{Axis{it.axis}, it.place};
+            });
+        } catch (const Error &error) {
+            if (error.status() == Status::no_plan)
+                return std::nullopt;
+            throw;
+        }
+    }
+
+    /// Whether a call that joins sections was done for the bin, also if it joined nothing.
+    bool was_coalesced(BinId id) const
+    {
+        std::uint32_t coalesced = 0;
+        detail::check(::rectangle_pack_session_was_coalesced(at(), number(id), &coalesced));
+        return coalesced != 0;
+    }
+
+    /// The number that the next placement gets, or nothing where numbers are used up.
+    std::optional<PlacementNumber> next_number() const
+    {
+        const std::uint64_t next = ::rectangle_pack_session_next_number(at());
+        if (next == std::numeric_limits<std::uint64_t>::max())
+            return std::nullopt;
+        return PlacementNumber{next};
+    }
+
+private:
+    /// The placements of a packing. They have all their memory before boxes are packed, so that none is lost.
+    struct Places {
+        explicit Places(std::size_t count) : array(count) { list.reserve(count); }
+
+        std::vector<Outstanding> taken() &&
+        {
+            for (std::size_t i = 0; i < array.size(); i++)
+                list.push_back(detail::outstanding(array[i]));
+            return std::move(list);
+        }
+
+        detail::Room<rp_outstanding> array;
+        std::vector<Outstanding> list;
+    };
+
+    static rp_session none() noexcept { return RP_NO_SESSION; }
+    static std::uint32_t number(BinId id) noexcept { return static_cast<std::uint32_t>(id); }
+
+    /// The handle, which the calls that read take as not const too.
+    rp_session *at() const
+    {
+        if (!*this)
+            throw std::logic_error("this session was moved from");
+        return &session_;
+    }
+
+    mutable rp_session session_ = RP_NO_SESSION;
+};
+
+} // namespace rectangle_pack
+
+#endif
