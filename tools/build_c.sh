@@ -1,5 +1,6 @@
 #!/usr/bin/env bash
-# Proves and builds the C library: build/rectangle_pack.h, build/librectangle_pack.a and build/librectangle_pack.so.
+# Proves and builds the C library: build/rectangle_pack.h, build/rectangle_pack.hpp, build/librectangle_pack.a and
+# build/librectangle_pack.so.
 set -euo pipefail
 
 root=$(dirname "$(dirname "$(readlink -f "${BASH_SOURCE[0]}")")")
@@ -10,7 +11,7 @@ build=$root/build
 "$root/tools/build.py" rectangle_pack_c >&2
 
 mkdir -p "$build"
-cp "$root/include/rectangle_pack.h" "$build/"
+cp "$root"/include/rectangle_pack.{h,hpp} "$build/"
 
 # One archive of the library and of what takes its memory from malloc.
 rm -f "$build/librectangle_pack.a"
@@ -22,7 +23,9 @@ save
 end
 END
 
-# Only the calls are exported.
-$CC -shared -o "$build/librectangle_pack.so" \
+# Only the calls are exported. Programs that are linked with it ask for librectangle_pack.so.0 when they start.
+soname=librectangle_pack.so.0
+$CC -shared -o "$build/$soname" -Wl,-soname,$soname -Wl,-z,relro,-z,now \
     -Wl,--whole-archive "$build/librectangle_pack.a" -Wl,--no-whole-archive \
-    -Wl,--version-script=/dev/stdin <<<'{ global: rectangle_pack_*; local: *; };'
+    -Wl,--version-script="$root/packaging/rectangle_pack.map"
+ln -sf $soname "$build/librectangle_pack.so"

@@ -27,7 +27,7 @@ link=build/librectangle_pack.a
 
 # The shared library exports the calls of the header, and nothing else.
 if have nm "the exported calls"; then
-    nm -D --defined-only build/librectangle_pack.so | awk '{ print $3 }' | sort >"$work/exported.txt"
+    nm -D --defined-only build/librectangle_pack.so | sed -n 's/.* T \(.*\)@@RECTANGLE_PACK_.*/\1/p' | sort >"$work/exported.txt"
     sed -n 's/^[a-z].*\b\(rectangle_pack_[a-z_]*\)(.*/\1/p' include/rectangle_pack.h | sort | diff - "$work/exported.txt"
 fi
 if have cc C; then
@@ -47,7 +47,18 @@ if have c++ C++; then
         c++ -std=c++11 "${flags[@]}" -x c++ "bindings/c/$it.c" -x none "$link" -o "$work/${it}_cpp"
         "$work/${it}_cpp" | diff - "$work/$it.txt"
     done
-    echo "C++: the examples print what they print in C"
+    # The header of its own for C++17, which is tested as the standards after it compile it too.
+    strict=(-Wpedantic -Wconversion -Wshadow "${flags[@]}")
+    for it in atlas session collection; do
+        c++ -std=c++17 "${strict[@]}" "bindings/cpp/$it.cpp" "$link" -o "$work/${it}_hpp"
+        "$work/${it}_hpp" | diff - "$work/$it.txt"
+    done
+    for it in -std=c++20 "-std=c++17 -g -fsanitize=address,undefined -fno-sanitize-recover=all"; do
+        # shellcheck disable=SC2086 # These are words.
+        c++ $it "${strict[@]}" bindings/cpp/test.cpp "$link" -Wl,--wrap=malloc,--wrap=realloc -o "$work/test_hpp"
+        "$work/test_hpp"
+    done
+    echo "C++: the examples print what they print in C, and the header for C++17 passes its test, also under the sanitizers"
 fi
 if have cargo Rust; then
     cargo=(--offline --manifest-path bindings/rust/Cargo.toml --target-dir "$work/rust")
