@@ -13,11 +13,12 @@ build=$root/build
 mkdir -p "$build"
 cp "$root"/include/rectangle_pack.{h,hpp} "$build/"
 
-# One archive of the library and of what takes its memory from malloc.
+# One archive of the library and of what takes its memory from malloc. ar takes no path with a space.
 rm -f "$build/librectangle_pack.a"
+cd "$root"
 ar -M <<END
-create $build/librectangle_pack.a
-addlib $root/crates/rectangle_pack_c/out/librectangle_pack_c.a
+create build/librectangle_pack.a
+addlib crates/rectangle_pack_c/out/librectangle_pack_c.a
 addlib $heap
 save
 end
