@@ -30,8 +30,6 @@ def source(folder: pathlib.Path) -> None:
         copied(parts / name, folder / name)
     for name in ("LICENSE-MIT", "LICENSE-APACHE"):
         copied(TOP / name, folder / name)
-    # In the repository the module looks for the library in build/, and in a wheel beside itself.
-    run(["git", "apply", "--unidiff-zero", parts / "look-beside.patch"], folder, GIT_CEILING_DIRECTORIES=str(WORK))
 
 
 def wheel(release: Release, python: str) -> None:

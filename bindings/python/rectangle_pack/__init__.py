@@ -11,7 +11,8 @@ cuts that part a bin.
 Bins, boxes and groups have names: any values that a dict takes as keys. A list in place of a mapping means that the names are
 the indices.
 
-The library is build/librectangle_pack.so, which tools/build_c.sh writes, or the file that RECTANGLE_PACK names."""
+The library is the file that RECTANGLE_PACK names, librectangle_pack.so beside this module, or that in build/, which
+tools/build_c.sh writes."""
 from ._cuts import Axis, Cut, CutNode, CutStep, CutTree, Leaf
 from ._errors import (
     DuplicateBin, EqualGroups, NotEnoughBinSpace, NumbersUsedUp, OutOfMemory, PackError, TooMany, UnknownBin, UnknownBox,

@@ -130,9 +130,15 @@ _ARGUMENTS = {
 _RESULTS = {"session_free": None, "session_next_number": ctypes.c_uint64}
 
 
+def _path() -> str:
+    """Where the shared library is: where RECTANGLE_PACK says, beside this module, as in a wheel, or in build/."""
+    here, name = Path(__file__).resolve(), "librectangle_pack.so"
+    beside = here.with_name(name)
+    return os.environ.get("RECTANGLE_PACK") or str(beside if beside.is_file() else here.parents[3] / "build" / name)
+
+
 def _loaded() -> ctypes.CDLL:
-    build = Path(__file__).resolve().parents[3] / "build"
-    library = ctypes.CDLL(os.environ.get("RECTANGLE_PACK", str(build / "librectangle_pack.so")))
+    library = ctypes.CDLL(_path())
     for name, arguments in _ARGUMENTS.items():
         function = getattr(library, f"rectangle_pack_{name}")
         function.argtypes = arguments

@@ -73,7 +73,7 @@ impl<RectId: Ord + Clone, GroupId: Ord> GroupedRectsToPlace<RectId, GroupId> {
     /// Whether two groups are excluded, in either order.
     pub fn excluded(&self, one: &GroupId, other: &GroupId) -> bool {
         let partners = self.exclusions.get(one.min(other));
-        partners.is_some_and(|greater| greater.contains(one.max(other)))
+        partners.map_or(false, |greater| greater.contains(one.max(other)))
     }
 
     /// One entry for each box and group that it is in, in the order that the library's ties go by: boxes that are alone by
