@@ -41,10 +41,11 @@ static void draw_groups(request *asked, uint32_t most)
     asked->places = entries_of(asked);
 }
 
-/* Has the places differ from what is to be placed. */
+/* Has the places be one less or one more than what is to be placed. */
 static void mistake_places(request *asked)
 {
-    asked->places = asked->places > 0 && within(0, 1) ? asked->places - 1 : asked->places + 1;
+    size_t right = entries_of(asked);
+    asked->places = right > 0 && within(0, 1) ? right - 1 : right + 1;
 }
 
 static void mistake_heuristic(request *asked)
