@@ -29,4 +29,6 @@ soname=librectangle_pack.so.0
 $CC -shared -o "$build/$soname" -Wl,-soname,$soname -Wl,-z,relro,-z,now \
     -Wl,--whole-archive "$build/librectangle_pack.a" -Wl,--no-whole-archive \
     -Wl,--version-script="$root/packaging/rectangle_pack.map"
-ln -sf $soname "$build/librectangle_pack.so"
+# No link: rt takes none in a workspace.
+rm -f "$build/librectangle_pack.so"
+cp "$build/$soname" "$build/librectangle_pack.so"

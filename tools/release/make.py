@@ -38,12 +38,16 @@ def make(release: Release) -> None:
     ready.must_be_clean()
     emptied(WORK)
     emptied(DIST)
-    said = provenance(release, functions, gate, python)
-    archive(release, said)
-    packages(release)
-    wheel(release, python)
-    crate(release)
-    shutil.copyfile(said, DIST / said.name)
+    try:
+        said = provenance(release, functions, gate, python)
+        archive(release, said)
+        packages(release)
+        wheel(release, python)
+        crate(release)
+        shutil.copyfile(said, DIST / said.name)
+    finally:
+        # The archive has links, and rt takes none in a workspace.
+        shutil.rmtree(WORK)
     (DIST / "SHA256SUMS").write_text(sums())
 
 
