@@ -6,7 +6,7 @@ use Rattle.std.specs.declared.cmp.Ordering.TheVariants.{Equal}
 use Rattle.std.specs.Map.{lookup, set_value}
 use Rattle.std.specs.BTreeMap.{is_at, insert_entry}
 use Rattle.rectangle_pack_groups.specs.declared.grouped_rects_to_place.Group.{Group}
-use Rattle.rectangle_pack_bins.specs.declared.pack.answer.Placement.{Placement}
+use Rattle.rectangle_pack_rules.specs.declared.answer.Placement.{Placement}
 use Rattle.rectangle_pack.specs.declared.session.command.Outstanding.{Outstanding}
 use Rattle.rectangle_pack.specs.declared.session.command.Packed.{Packed as PackedNumbers}
 use Rattle.rectangle_pack.specs.declared.session.command.SessionError.{SessionError}
@@ -22,7 +22,7 @@ use Rattle.rectangle_pack_sections.specs.Covering.{CoverBin}
 use Rattle.rectangle_pack_sections.specs.CutTrees.{IsFromCuts}
 use Rattle.rectangle_pack_lists.specs.Joining.{IsJoined, IsSwept}
 use Rattle.rectangle_pack_groups.specs.Groups.{Collection, entries_of}
-use Rattle.rectangle_pack_bins.specs.Packing.{Rules, PackingDone, PackingRefused}
+use Rattle.rectangle_pack_rules.specs.Packing.{Rules, PackingDone, PackingRefused}
 
 -- a session: its bins by id, the outstanding placements, and the number of the next placement
 pub record State (Id B : Type 0) : Type 0 where

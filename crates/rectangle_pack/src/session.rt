@@ -5,11 +5,11 @@ ghost use Rattle.std.specs.Map.{keys_of, lookup};
 ghost use Rattle.std.specs.BTreeMap.{is_at, insert_entry};
 ghost use Rattle.std.specs.Option.{option_map};
 ghost use Rattle.rectangle_pack_groups.specs.Clones.{ClonesEqual};
-ghost use Rattle.rectangle_pack_sections.specs.Bins.{Bin};
+ghost use Rattle.rectangle_pack_sections.specs.Bins.{Bin, bins_of};
 ghost use Rattle.rectangle_pack_sections.specs.Boxes.{Size};
 ghost use Rattle.rectangle_pack_sections.specs.Closures.{AreCallable, answers};
 ghost use Rattle.rectangle_pack_lists.specs.Joining.{IsJoined, IsSwept, ShareNoFace};
-ghost use Rattle.rectangle_pack_bins.specs.Packing.{bins_of, rules_by};
+ghost use Rattle.rectangle_pack_rules.specs.Packing.{rules_by};
 ghost use Rattle.rectangle_pack.specs.Promise.{PacksAsPromised};
 ghost use Rattle.rectangle_pack.specs.Session.{State, IsSession, AddsBin, Packs, Releases, Coalesces, reply_of, packed_reply};
 
@@ -87,7 +87,7 @@ pub struct Session<Id, BinId: Ord, A: Allocator + Copy = Global> {
 }
 
 impl<Id, BinId: Ord, A: Allocator + Copy> Model for Session<Id, BinId, A> {
-    ghost use Rattle.rectangle_pack_bins.specs.Packing.{bins_of};
+    ghost use Rattle.rectangle_pack_sections.specs.Bins.{bins_of};
     ghost use Rattle.rectangle_pack.specs.Session.{State, IsSession};
 
     ghost Value = { State Id BinId };

@@ -1,10 +1,2 @@
 pub mod Pushes
-pub mod Orders
-pub mod Placed
-pub mod KeptBins
-pub mod Packing
-pub mod PackAnswers
-pub mod Best
-pub mod Results
-pub mod PackingTexts
 pub mod private

@@ -1,8 +1,3 @@
 -- Definitions that only the clauses of functions below `rectangle_pack` use, or of its private ones.
-pub mod Bounds
-pub mod Cells
 pub mod Checkout
-pub mod Ends
-pub mod Excluded
-pub mod Orders
-pub mod RollBack
+pub mod Journals

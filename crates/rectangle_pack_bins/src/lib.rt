@@ -1,5 +1,8 @@
-//! Bins, and packings into them. A layer of `rectangle_pack`, which passes on what is for its users.
+//! Bins, and the bins of a packing while it lasts. A layer of `rectangle_pack`, which passes on what is
+//! for its users.
 #![tactic(auto)]
 
-pub mod pack;
+pub mod checkout;
+pub mod journal;
+mod open_bin;
 pub mod target_bin;

@@ -1,5 +1,5 @@
 -- Bins: a size, a list of free sections, and whether a coalescing call was made.
-use Rattle.std.specs.Prelude.{ℕ, Bool, false, List, [], ◌∷◌, All, AllPairs}
+use Rattle.std.specs.Prelude.{ℕ, Bool, false, List, [], ◌∷◌, All, AllPairs, map}
 use Rattle.rectangle_pack_sections.specs.Boxes.{Size, Cuboid, IsInside, AreApart}
 
 -- a bin: its size, its free sections, and whether a coalescing of it was done
@@ -12,6 +12,10 @@ pub record Bin : Type 0 where
 pub record Held : Type 0 where
   pub bin : Bin
   pub room : ℕ
+
+-- bins by id, without the room of their lists
+abbrev pub bins_of : {B : Type 0} → List (B × Held) → List (B × Bin)
+bins_of es = map (λ e. (e.0, e.1.bin)) es
 
 -- each free section is inside the bin, and no two share a cell
 pub record IsSound (size : Size) (sections : List Cuboid) : Type 0 where

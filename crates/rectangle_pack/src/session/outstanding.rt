@@ -3,13 +3,12 @@ ghost use Rattle.std.specs.Prelude.{◌≡◌, ◌≢◌, ◌+◌, ◌≤◌, �
 ghost use Rattle.std.specs.BTreeMap.{get};
 ghost use Rattle.std.specs.Vec.{vec_capacity};
 ghost use Rattle.rectangle_pack.specs.declared.session.command.Outstanding.{Outstanding};
-ghost use Rattle.rectangle_pack_sections.specs.Bins.{IsAccepted};
+ghost use Rattle.rectangle_pack_sections.specs.Bins.{IsAccepted, bins_of};
 ghost use Rattle.rectangle_pack_sections.specs.Boxes.{has_cells};
-ghost use Rattle.rectangle_pack_bins.specs.Packing.{bins_of};
 ghost use Rattle.rectangle_pack.specs.Session.{GivesBack, numbered};
 
 use crate::session::command::Outstanding;
-use rectangle_pack_bins::pack::Placement;
+use rectangle_pack_rules::answer::Placement;
 use rectangle_pack_bins::target_bin::TargetBin;
 use rectangle_pack_sections::bin_section::{has_cells, section_at};
 use rectangle_pack_sections::packed_location::PackedLocation;

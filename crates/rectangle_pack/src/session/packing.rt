@@ -1,18 +1,18 @@
 //! One packing of a session.
 ghost use Rattle.std.specs.Prelude.{◌≡◌, ◌+◌, ◌<◌, ◌^◌, ◌++◌, [], length, List, IfOk, OnErr, MatchBool, MatchOption, Ok, true};
 ghost use Rattle.rectangle_pack_groups.specs.Clones.{ClonesEqual};
-ghost use Rattle.rectangle_pack_bins.specs.declared.pack.answer.Placement.{Placement};
-ghost use Rattle.rectangle_pack_sections.specs.Bins.{Bin};
+ghost use Rattle.rectangle_pack_rules.specs.declared.answer.Placement.{Placement};
+ghost use Rattle.rectangle_pack_sections.specs.Bins.{Bin, bins_of};
 ghost use Rattle.rectangle_pack_groups.specs.Groups.{entries_of};
-ghost use Rattle.rectangle_pack_bins.specs.Packing.{rules_by, bins_of, PackingDone, PackingRefused};
+ghost use Rattle.rectangle_pack_rules.specs.Packing.{rules_by, PackingDone, PackingRefused};
 ghost use Rattle.rectangle_pack.specs.Session.{numbered};
 
 use crate::session::command::Outstanding;
 use crate::session::outstanding::number_all;
-use rectangle_pack_bins::pack::Placement;
-use rectangle_pack_bins::pack::first_fit::pack_noted;
-use rectangle_pack_bins::pack::order::bin_order;
-use rectangle_pack_bins::pack::packing::Packing;
+use rectangle_pack_rules::answer::Placement;
+use rectangle_pack_packings::pack::first_fit::pack_noted;
+use rectangle_pack_packings::pack::bin_order::bin_order;
+use rectangle_pack_packings::pack::packing::Packing;
 use rectangle_pack_bins::target_bin::TargetBin;
 use rectangle_pack_groups::grouped_rects_to_place::{Group, GroupedRectsToPlace};
 use rectangle_pack_sections::closures::Policy;

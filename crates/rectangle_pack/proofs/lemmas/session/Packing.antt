@@ -4,11 +4,11 @@ use Rattle.rectangle_pack_sections.proofs.Std.{MatchBool, OnTrue, map, sum, valu
 use Rattle.rectangle_pack_sections.proofs.Std.{Ordering, IsTotalOrder}
 use Rattle.rectangle_pack_groups.specs.declared.grouped_rects_to_place.Group.{Group}
 use Rattle.rectangle_pack_groups.specs.Groups.{Collection, entries_of}
-use Rattle.rectangle_pack_sections.specs.Bins.{Bin, Held}
-use Rattle.rectangle_pack_bins.specs.declared.pack.answer.Placement.{Placement}
-use Rattle.rectangle_pack_bins.specs.declared.pack.journal.DoneTrial.{DoneTrial}
-use Rattle.rectangle_pack_bins.specs.private.RollBack.{GoesBack}
-use Rattle.rectangle_pack_bins.specs.Packing.{Rules, PackingDone, PackingRefused, bins_of}
+use Rattle.rectangle_pack_sections.specs.Bins.{Bin, Held, bins_of}
+use Rattle.rectangle_pack_rules.specs.declared.answer.Placement.{Placement}
+use Rattle.rectangle_pack_bins.specs.declared.journal.DoneTrial.{DoneTrial}
+use Rattle.rectangle_pack_bins.specs.private.Journals.{GoesBack}
+use Rattle.rectangle_pack_rules.specs.Packing.{Rules, PackingDone, PackingRefused}
 use Rattle.rectangle_pack.specs.declared.session.command.Outstanding.{Outstanding}
 use Rattle.rectangle_pack.specs.declared.session.command.Packed.{Packed as PackedNumbers}
 use Rattle.rectangle_pack.specs.declared.session.command.Reply.TheVariants.{Packed, Refused}

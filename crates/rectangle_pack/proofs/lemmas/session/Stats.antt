@@ -4,9 +4,8 @@ use Rattle.rectangle_pack_sections.proofs.Std.{arith, get_or, append_assoc, Some
 use Rattle.rectangle_pack_sections.proofs.Std.{length-map, take_more, filter-append, sum_by-cons, sum_by-append, length-filter, count_by-le-length}
 use Rattle.rectangle_pack.specs.declared.session.command.Outstanding.{Outstanding}
 use Rattle.rectangle_pack_sections.specs.Boxes.{Cuboid, has_cells, volume_of}
-use Rattle.rectangle_pack_sections.specs.Bins.{Held}
+use Rattle.rectangle_pack_sections.specs.Bins.{Held, bins_of}
 use Rattle.rectangle_pack_sections.specs.Counting.{total_volume}
-use Rattle.rectangle_pack_bins.specs.Packing.{bins_of}
 use Rattle.rectangle_pack.specs.Session.{State, IsSession, outstanding_in}
 use Rattle.rectangle_pack.specs.Stats.{stats_of}
 use Rattle.rectangle_pack_sections.proofs.lemmas.cuts.CoverVolumes.{CoverBin-volume}

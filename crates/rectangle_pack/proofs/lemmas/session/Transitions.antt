@@ -12,15 +12,15 @@ use Rattle.rectangle_pack.specs.declared.session.command.Reply.TheVariants.{Done
 use Rattle.rectangle_pack.specs.declared.session.command.SessionError.TheVariants.{DuplicateBin, UnknownBin, UnknownPlacement, NumbersUsedUp, NotEnoughBinSpace}
 use Rattle.rectangle_pack.specs.declared.session.command.SessionError.TheVariants.{OutOfMemory}
 use Rattle.rectangle_pack_sections.specs.Boxes.{Size, Cuboid, IsInside}
-use Rattle.rectangle_pack_sections.specs.Bins.{Bin, Held, new_bin}
+use Rattle.rectangle_pack_sections.specs.Bins.{Bin, Held, new_bin, bins_of}
 use Rattle.rectangle_pack_groups.specs.Groups.{Collection}
 use Rattle.rectangle_pack_lists.specs.Joining.{IsJoined, IsSwept}
-use Rattle.rectangle_pack_bins.specs.Packing.{Rules, bins_of}
+use Rattle.rectangle_pack_rules.specs.Packing.{Rules}
 use Rattle.rectangle_pack.specs.Session.{State, outstanding_in, IsSession, IsOutstanding, GivesBack, AddsBin, Releases, Packs, Coalesces, IsTransition, IsRun}
-use Rattle.rectangle_pack_bins.proofs.lemmas.packing.Frame.{IsRecut, IsFrame-recut}
+use Rattle.rectangle_pack_rules.proofs.lemmas.packing.Frame.{IsRecut, IsFrame-recut}
 use Rattle.rectangle_pack_lists.proofs.lemmas.joining.Joins.{IsJoined-cells, IsSwept-cells, IsJoined-keeps, IsSwept-keeps, join-inside}
-use Rattle.rectangle_pack_bins.proofs.lemmas.packing.RollBack.{bins_of-written}
-use Rattle.rectangle_pack_groups.proofs.lemmas.util.Maps.{lookup-equal, lookup-inserted}
+use Rattle.rectangle_pack_bins.proofs.lemmas.bins.Journals.{bins_of-written}
+use Rattle.rectangle_pack_sections.proofs.lemmas.util.Maps.{lookup-equal, lookup-inserted}
 use Rattle.rectangle_pack.proofs.lemmas.session.Keeps.{Some-bins_of, None-bins_of, bins_of-insert_entry, IsSession-carried, AreCarried-written, known-kept}
 use Rattle.rectangle_pack.proofs.lemmas.session.Keeps.{IsSession-added, IsSession-released, IsSession-done}
 

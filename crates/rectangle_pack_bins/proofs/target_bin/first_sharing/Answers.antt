@@ -1,6 +1,6 @@
 use Rattle.rectangle_pack_sections.proofs.Std.{refl, take, take_more, All-push}
 use Rattle.rectangle_pack_sections.specs.Boxes.{AreApart}
-use Rattle.rectangle_pack_bins.proofs.lemmas.packing.SoundBins.{first_at}
+use Rattle.rectangle_pack_bins.proofs.lemmas.bins.SoundBins.{first_at}
 use Rattle.rectangle_pack_bins.proofs.target_bin.first_sharing.Goals as goal
 
 pub returns-then-overlaps-clause-first : goal.returns-then-overlaps-clause-first

@@ -8,9 +8,9 @@ use Rattle.rectangle_pack_sections.specs.Boxes.{Size}
 use Rattle.rectangle_pack_groups.specs.Exclusions.{are_excluded}
 use Rattle.rectangle_pack_groups.specs.Groups.{Collection, SetsSize, PushesAlone, PushesInto, Appends, times_named}
 use Rattle.rectangle_pack_groups.specs.Alike.{AreMapsAlike, AreCollectionsAlike}
-use Rattle.rectangle_pack_groups.proofs.lemmas.util.Maps.{congr_right, AreOptionsAlike, lookup-alike, maps_alike}
+use Rattle.rectangle_pack_sections.proofs.lemmas.util.Maps.{congr_right, same_keys}
+use Rattle.rectangle_pack_groups.proofs.lemmas.util.Maps.{AreOptionsAlike, lookup-alike, maps_alike}
 use Rattle.rectangle_pack_groups.proofs.lemmas.util.Zips.{AllZip-append, sums_alike}
-use Rattle.rectangle_pack_groups.proofs.lemmas.util.Maps.{same_keys}
 
 -- the same entry, put into maps that agree
 insert-alike : {K X : Type 0} {cmp : K → K → Ordering} → IsTotalOrder cmp → (R : X → X → Type 0) (x y : K) (v w : X) → cmp x y ≡ Equal → R v w

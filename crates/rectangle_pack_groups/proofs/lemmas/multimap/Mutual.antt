@@ -9,7 +9,7 @@ use Rattle.rectangle_pack_groups.specs.private.Multimaps.{items_of}
 use Rattle.rectangle_pack_groups.specs.Exclusions.{listed_at, is_listed, are_excluded, are_these}
 use Rattle.rectangle_pack_groups.specs.private.Exclusions.{AreNonempty}
 use Rattle.rectangle_pack_groups.proofs.lemmas.multimap.Vectors.{lookup-lists, keys-lists}
-use Rattle.rectangle_pack_groups.proofs.lemmas.util.Maps.{lookup-equal, is_at-back}
+use Rattle.rectangle_pack_sections.proofs.lemmas.util.Maps.{lookup-equal, is_at-back}
 
 -- tests that agree find the same
 pub list_any-alike : {X : Type 0} (p q : X → Bool) → ((x : X) → p x ≡ q x) → (xs : List X) → list_any p xs ≡ list_any q xs

@@ -5,12 +5,11 @@ use Rattle.rectangle_pack_sections.proofs.Std.{Result, Ok, Err, OnOk, OnErr, Ord
 use Rattle.rectangle_pack_sections.proofs.Std.{insert_entry, All-weaker, All-contains, All-tail, All-head, All-cons, All-nil, All-append, All-values_from_lookup, Equal, length-append}
 use Rattle.rectangle_pack_sections.proofs.Std.{IfSome-lookup_from_All, All-values-insert_entry, IsStrictlySortedBy, IsDistinct-from_sorted, eq_by_cmp_equiv}
 use Rattle.rectangle_pack_groups.proofs.lemmas.multimap.Vectors.{lists_of-insert_entry}
-use Rattle.rectangle_pack_groups.specs.Groups.{lists_of}
+use Rattle.rectangle_pack_groups.specs.Groups.{lists_of, Appends, HaveSizes, MembersHaveSizes}
 use Rattle.rectangle_pack_groups.specs.private.Exclusions.{AreNonempty}
 use Rattle.rectangle_pack_groups.specs.private.Multimaps.{filled, times, IsAdded, PutsAlone, AppendsAtEach, CanTakeBack}
 use Rattle.rectangle_pack_groups.proofs.lemmas.multimap.Append.{sum_by-map}
 use Rattle.rectangle_pack_sections.specs.Boxes.{Size}
-use Rattle.rectangle_pack_groups.specs.Groups.{Appends, HaveSizes, MembersHaveSizes}
 
 -- no list is left out where each has an item
 pub filled-all : {K X : Type 0} (es : List (K × List X)) → All (λ ids. 0 < length ids) (values_of es) → filled es ≡ es

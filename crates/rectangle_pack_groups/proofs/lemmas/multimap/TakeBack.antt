@@ -3,7 +3,7 @@ use Rattle.rectangle_pack_sections.proofs.Std.{◌≡◌, ℕ, ◌+◌, ◌-◌,
 use Rattle.rectangle_pack_sections.proofs.Std.{add-one, take-suc, take-append_seam, Some, IsSome, reverse, Ordering, lookup, set_value, is_at, reverse-append}
 use Rattle.rectangle_pack_sections.proofs.Std.{set_value_same}
 use Rattle.rectangle_pack_groups.specs.private.Multimaps.{TakesBack}
-use Rattle.rectangle_pack_groups.proofs.lemmas.util.Maps.{set_value-twice, lookup-set_here}
+use Rattle.rectangle_pack_sections.proofs.lemmas.util.Maps.{set_value-twice, lookup-set_here}
 
 -- one more item is appended
 pub TakesBack-appended : {K X : Type 0} (cmp : K → K → Ordering) (k : K) (ks : List K) (now start : List (K × List X)) (list : List X) (x : X)

@@ -4,7 +4,7 @@ use Rattle.rectangle_pack_sections.proofs.Std.{nat_lt, IsTotalOrder, Equal-is, O
 use Rattle.rectangle_pack_sections.proofs.Std.{match_ordering, is_eq, is_at, insert_entry, lookup-map_values, keys_of-map_values}
 use Rattle.rectangle_pack_groups.specs.Groups.{lists_of}
 use Rattle.rectangle_pack_groups.specs.private.Multimaps.{filled, items_of}
-use Rattle.rectangle_pack_groups.proofs.lemmas.util.Maps.{lookup-equal, set_value-map_values, insert_entry-map_values, is_some-option_map}
+use Rattle.rectangle_pack_sections.proofs.lemmas.util.Maps.{lookup-equal, set_value-map_values, insert_entry-map_values, is_some-option_map}
 use Rattle.rectangle_pack_sections.proofs.Std.{ℕ, ◌+◌, ◌++◌, arith, map, sum, values_of, sum_by-cons, All, All-head, unwrap_or, tied_itself}
 
 -- what is not there is `None`

@@ -13,12 +13,11 @@ use Rattle.rectangle_pack_lists.specs.Steps.{AreLeft, IsStep, IsDone}
 use Rattle.rectangle_pack_lists.specs.private.TrialNotes.{IsTried}
 use Rattle.rectangle_pack_sections.proofs.lemmas.util.Lists.{All-front, All-back}
 use Rattle.rectangle_pack_sections.proofs.lemmas.cuts.Counting.{filled-append, filled-cons, filled-nil, apart_from_counts, counts_from_apart}
-use Rattle.rectangle_pack_sections.proofs.lemmas.cuts.Counting.{KeepCells-from_counts}
+use Rattle.rectangle_pack_sections.proofs.lemmas.cuts.Counting.{KeepCells-from_counts, filled-filter, filled-permutation}
 use Rattle.rectangle_pack_sections.proofs.lemmas.cuts.Pieces.{chosen_part, chosen_tiles, length-chosen}
 use Rattle.rectangle_pack_lists.proofs.lemmas.trial.FallingRates.{IsPermutation-ranked}
 use Rattle.rectangle_pack_sections.proofs.lemmas.cuts.SameBoxes.{HaveSameBoxes-filter}
 use Rattle.rectangle_pack_sections.proofs.lemmas.cuts.Times.{times_in-permutation}
-use Rattle.rectangle_pack_sections.proofs.lemmas.cuts.Counting.{filled-filter, filled-permutation}
 
 map-zip : (R : Cuboid → ℕ → Type 0) (cut : List Cuboid) (rates : List ℕ) → AllZip R cut rates → map (λ p. p.1) (zip rates cut) ≡ cut
 map-zip R [] [] h = refl

@@ -1,5 +1,5 @@
 -- Relations between lists, element by element.
-use Rattle.rectangle_pack_sections.proofs.Std.{List, [], ◌∷◌, map, map-id, AllZip}
+use Rattle.rectangle_pack_sections.proofs.Std.{◌≡◌, List, [], ◌∷◌, refl, ap, sym, ◌∙◌, map, map-id, AllZip}
 
 -- a relation that follows, between what two functions make of the elements
 pub AllZip-mapped : {A B C D : Type 0} (R : A → B → Type 0) (S : C → D → Type 0) (f : A → C) (g : B → D) → ((x : A) (y : B) → R x y → S (f x) (g y))
@@ -17,3 +17,11 @@ AllZip-weaker R S passes xs ys h = simp map-id at (AllZip-mapped R S (λ x. x) (
 pub AllZip-itself : {A : Type 0} (R : A → A → Type 0) → ((x : A) → R x x) → (xs : List A) → AllZip R xs xs
 AllZip-itself R same [] = tt
 AllZip-itself R same (x ∷ xs) = (same x, AllZip-itself R same xs)
+
+-- what is equal of the elements of two lists
+pub AllZip-equal : {A B C : Type 0} (R : A → B → Type 0) (f : A → C) (g : B → C) → ((x : A) (y : B) → R x y → g y ≡ f x) → (xs : List A) (ys : List B)
+    → AllZip R xs ys → map g ys ≡ map f xs
+AllZip-equal R f g same [] [] h = refl
+AllZip-equal R f g same [] (y ∷ ys) h = absurd h
+AllZip-equal R f g same (x ∷ xs) [] h = absurd h
+AllZip-equal R f g same (x ∷ xs) (y ∷ ys) h = rw (same x y h.0, AllZip-equal R f g same xs ys h.1) refl

@@ -1,6 +1,6 @@
 use Rattle.rectangle_pack_sections.proofs.Std.{sym, ap, refl, rules, ◌∙◌, lookup, is_at}
 use Rattle.rectangle_pack_lists.specs.Joining.{IsSwept}
-use Rattle.rectangle_pack_groups.proofs.lemmas.util.Maps.{lookup-set_here}
+use Rattle.rectangle_pack_sections.proofs.lemmas.util.Maps.{lookup-set_here}
 use Rattle.rectangle_pack.proofs.lemmas.session.Keeps.{Some-bins_of, None-bins_of}
 use Rattle.rectangle_pack.proofs.lemmas.session.Transitions.{IsRecut-swept, coalesced-written}
 use Rattle.rectangle_pack.proofs.session.Session.coalesce_all.Goals as goal

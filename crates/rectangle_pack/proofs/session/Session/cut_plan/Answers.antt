@@ -1,10 +1,9 @@
 use Rattle.rectangle_pack_sections.proofs.Std.{◌≡◌, refl, sym, subst, rules, Option, Some, None, Ok, filter, MatchOption, Ordering, Vec, lookup, is_at}
 use Rattle.rectangle_pack_plans.specs.declared.cut_plan.CutStep.{CutStep}
-use Rattle.rectangle_pack_sections.specs.Bins.{Bin, whole}
+use Rattle.rectangle_pack_sections.specs.Bins.{Bin, whole, bins_of}
 use Rattle.rectangle_pack_sections.specs.Boxes.{has_cells}
 use Rattle.rectangle_pack_sections.specs.CutTrees.{IsFromCuts}
 use Rattle.rectangle_pack_plans.specs.CutPlans.{IsCutPlan}
-use Rattle.rectangle_pack_bins.specs.Packing.{bins_of}
 use Rattle.rectangle_pack.specs.Session.{State, boxes_of}
 use Rattle.rectangle_pack.specs.PlanAnswers.{IsPlanAnswer}
 use Rattle.rectangle_pack_plans.proofs.lemmas.cut_plan.FirstPlanes.{IsCutPlan-same}

@@ -2,7 +2,7 @@ use Rattle.rectangle_pack_sections.proofs.Std.{take, ◌+◌, ◌≤◌, ◌-◌
 use Rattle.rectangle_pack_groups.specs.contracts.grouped_rects_to_place.GroupOrd.TheImpl.{ghosts}
 use Rattle.rectangle_pack_sections.specs.Closures.{answers}
 use Rattle.rectangle_pack.specs.Session.{IsRun, IsSession}
-use Rattle.rectangle_pack_bins.specs.Packing.{rules_by}
+use Rattle.rectangle_pack_rules.specs.Packing.{rules_by}
 use Rattle.rectangle_pack.specs.Promise.{KeepsPromise}
 use Rattle.rectangle_pack.proofs.session.Session.run.Given as goal
 

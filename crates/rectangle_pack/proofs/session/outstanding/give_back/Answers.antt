@@ -1,8 +1,8 @@
 use Rattle.rectangle_pack_sections.proofs.Std.{◌≡◌, sym, ◌∙◌, rules, refl, true, ◌++◌, ◌∷◌, [], is_at, on_ok_weaker, on_err_weaker, set_value_same}
 use Rattle.rectangle_pack_sections.specs.Boxes.{has_cells}
-use Rattle.rectangle_pack_bins.specs.Packing.{bins_of}
+use Rattle.rectangle_pack_sections.specs.Bins.{bins_of}
 use Rattle.rectangle_pack.specs.Session.{GivesBack}
-use Rattle.rectangle_pack_bins.proofs.lemmas.packing.RollBack.{bins_of-written}
+use Rattle.rectangle_pack_bins.proofs.lemmas.bins.Journals.{bins_of-written}
 use Rattle.rectangle_pack.proofs.lemmas.session.Keeps.{Some-bins_of}
 use Rattle.rectangle_pack.proofs.session.outstanding.give_back.Goals as goal
 

@@ -1,6 +1,7 @@
 use Rattle.rectangle_pack_sections.proofs.Std.{refl, ap, ◌∙◌, IfOk-from_err}
 use Rattle.rectangle_pack_sections.proofs.lemmas.util.Results.{OnErr-given}
-use Rattle.rectangle_pack_bins.specs.Packing.{bins_of, rules_by}
+use Rattle.rectangle_pack_sections.specs.Bins.{bins_of}
+use Rattle.rectangle_pack_rules.specs.Packing.{rules_by}
 use Rattle.rectangle_pack.proofs.lemmas.session.Packing.{start-back, kept-done, rolled-refused}
 use Rattle.rectangle_pack.proofs.session.packing.try_packing.Goals as goal
 

@@ -1,5 +1,5 @@
 use Rattle.rectangle_pack_sections.proofs.Std.{ap, rules}
-use Rattle.rectangle_pack_bins.proofs.lemmas.packing.SoundBins.{accepts_by}
+use Rattle.rectangle_pack_bins.proofs.lemmas.bins.SoundBins.{accepts_by}
 use Rattle.rectangle_pack_bins.proofs.target_bin.TargetBin.accepts.Goals as goal
 
 pub returns-then-is_inside : goal.returns-then-is_inside

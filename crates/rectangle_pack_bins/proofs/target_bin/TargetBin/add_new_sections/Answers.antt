@@ -1,7 +1,7 @@
 use Rattle.rectangle_pack_sections.proofs.Std.{subst, sym, All, filter}
 use Rattle.rectangle_pack_sections.specs.Boxes.{has_cells}
 use Rattle.rectangle_pack_sections.specs.Bins.{IsAccepted}
-use Rattle.rectangle_pack_bins.proofs.lemmas.packing.SoundBins.{IsSound-append}
+use Rattle.rectangle_pack_bins.proofs.lemmas.bins.SoundBins.{IsSound-append}
 use Rattle.rectangle_pack_bins.proofs.target_bin.TargetBin.add_new_sections.Goals as goal
 
 pub invariant_of-self-2 : goal.invariant_of-self-2

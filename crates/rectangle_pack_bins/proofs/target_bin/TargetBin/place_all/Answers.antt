@@ -1,6 +1,6 @@
 use Rattle.rectangle_pack_sections.proofs.Std.{Ok, Some, None, AllocError}
 use Rattle.rectangle_pack_lists.proofs.lemmas.trial.FitTests.{counted-le}
-use Rattle.rectangle_pack_bins.proofs.lemmas.packing.Trials.{IsTrialAnswer-refused, grows_not}
+use Rattle.rectangle_pack_bins.proofs.lemmas.bins.Trials.{IsTrialAnswer-refused, grows_not}
 use Rattle.rectangle_pack_bins.proofs.target_bin.TargetBin.place_all.Goals as goal
 
 pub returns-then-done-clause-most : goal.returns-then-done-clause-most

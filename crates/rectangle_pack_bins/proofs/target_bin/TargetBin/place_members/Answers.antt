@@ -1,5 +1,5 @@
 use Rattle.rectangle_pack_sections.proofs.Std.{AllocError}
-use Rattle.rectangle_pack_bins.proofs.lemmas.packing.Trials.{IsNotedAnswer-refused, IsNotedAnswer-stuck, some_member}
+use Rattle.rectangle_pack_bins.proofs.lemmas.bins.Trials.{IsNotedAnswer-refused, IsNotedAnswer-stuck, some_member}
 use Rattle.rectangle_pack_bins.proofs.target_bin.TargetBin.place_members.Goals as goal
 
 pub returns-in_err-done-clause-answer : goal.returns-in_err-done-clause-answer

@@ -4,7 +4,7 @@ use Rattle.rectangle_pack_sections.specs.Bins.{Held}
 use Rattle.rectangle_pack_lists.specs.private.TrialNotes.{IsNotedAnswer}
 use Rattle.rectangle_pack_lists.proofs.lemmas.trial.Steps.{IsSound-tried}
 use Rattle.rectangle_pack_lists.proofs.lemmas.trial.StepsByIndex.{IsNotedAnswer-tried, LeavesNotes-tried}
-use Rattle.rectangle_pack_bins.proofs.lemmas.packing.Trials.{IsNotedAnswer-refused, LeavesNotes-refused}
+use Rattle.rectangle_pack_bins.proofs.lemmas.bins.Trials.{IsNotedAnswer-refused, LeavesNotes-refused}
 use Rattle.rectangle_pack_bins.proofs.target_bin.TargetBin.place_noted.Given.{Over}
 use Rattle.rectangle_pack_bins.proofs.target_bin.TargetBin.place_noted.Goals.{After-from_residual}
 use Rattle.rectangle_pack_bins.proofs.target_bin.TargetBin.place_noted.Goals as goal

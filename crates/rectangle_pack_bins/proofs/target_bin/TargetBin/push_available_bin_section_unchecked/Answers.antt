@@ -1,6 +1,6 @@
 use Rattle.rectangle_pack_sections.proofs.Std.{subst, sym}
 use Rattle.rectangle_pack_sections.specs.Bins.{IsAccepted}
-use Rattle.rectangle_pack_bins.proofs.lemmas.packing.SoundBins.{IsSound-push}
+use Rattle.rectangle_pack_bins.proofs.lemmas.bins.SoundBins.{IsSound-push}
 use Rattle.rectangle_pack_bins.proofs.target_bin.TargetBin.push_available_bin_section_unchecked.Goals as goal
 
 pub invariant_of-self-2 : goal.invariant_of-self-2

@@ -3,8 +3,8 @@ use Rattle.rectangle_pack_lists.specs.private.Slots.{sections_of}
 use Rattle.rectangle_pack_lists.proofs.lemmas.trial.FitTests.{grown-tried}
 use Rattle.rectangle_pack_lists.proofs.lemmas.trial.Slots.{length-sections_of}
 use Rattle.rectangle_pack_lists.proofs.lemmas.trial.Steps.{IsSound-tried}
-use Rattle.rectangle_pack_bins.proofs.lemmas.packing.Trials.{IsNotedAnswer-refused, IsNotedAnswer-slots, LeavesNotes-refused, LeavesNotes-none}
-use Rattle.rectangle_pack_bins.proofs.lemmas.packing.Trials.{with_slots-same, CanWriteBack-same}
+use Rattle.rectangle_pack_bins.proofs.lemmas.bins.Trials.{IsNotedAnswer-refused, IsNotedAnswer-slots, LeavesNotes-refused, LeavesNotes-none}
+use Rattle.rectangle_pack_bins.proofs.lemmas.bins.Trials.{with_slots-same, CanWriteBack-same}
 use Rattle.rectangle_pack_bins.proofs.target_bin.slotted.place_in.Goals as goal
 
 pub returns-clause-can_write_back : goal.returns-clause-can_write_back

@@ -1,6 +1,6 @@
 use Rattle.rectangle_pack_sections.proofs.Std.{◌≡◌, [], length, refl, ap, ◌∙◌, AllocError}
 use Rattle.rectangle_pack_bins.specs.private.Checkout.{CanWriteBack, with_slots}
-use Rattle.rectangle_pack_bins.proofs.lemmas.packing.Trials.{IsNotedAnswer-refused, IsNotedAnswer-stuck_at_once, LeavesNotes-refused, with_slots-made}
+use Rattle.rectangle_pack_bins.proofs.lemmas.bins.Trials.{IsNotedAnswer-refused, IsNotedAnswer-stuck_at_once, LeavesNotes-refused, with_slots-made}
 use Rattle.rectangle_pack_bins.proofs.target_bin.slotted.place_slotted.Goals as goal
 use Rattle.rectangle_pack_bins.proofs.target_bin.slotted.place_slotted.Goals.{then-is_none+else-is_stuck_at_once+in_ok-in_slots+in-Some-1}
 use Rattle.rectangle_pack_bins.proofs.target_bin.slotted.place_slotted.Goals.{then-is_none+else-is_stuck_at_once+in_ok-in_slots+in-None-1, else-is_none}

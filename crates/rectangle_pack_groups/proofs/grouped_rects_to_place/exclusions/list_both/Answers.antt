@@ -1,6 +1,6 @@
 use Rattle.rectangle_pack_sections.proofs.Std.{refl, subst, IfOk-from_err, ◌≡◌, sym, ◌∙◌, Equal-is, Equal}
 use Rattle.rectangle_pack_groups.specs.private.Multimaps.{HasRoom}
-use Rattle.rectangle_pack_groups.proofs.lemmas.util.Maps.{is_at-back}
+use Rattle.rectangle_pack_sections.proofs.lemmas.util.Maps.{is_at-back}
 use Rattle.rectangle_pack_sections.proofs.lemmas.util.Results.{OnErr-given}
 use Rattle.rectangle_pack_groups.proofs.lemmas.multimap.Mutual.{listed-both, some-appended}
 use Rattle.rectangle_pack_groups.proofs.grouped_rects_to_place.exclusions.list_both.Goals as goal

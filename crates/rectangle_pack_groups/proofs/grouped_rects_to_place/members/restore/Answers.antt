@@ -1,5 +1,5 @@
 use Rattle.rectangle_pack_sections.proofs.Std.{sym, ◌∙◌, ap, remove_entry, set_value, is_at}
-use Rattle.rectangle_pack_groups.proofs.lemmas.util.Maps.{lookup-equal}
+use Rattle.rectangle_pack_sections.proofs.lemmas.util.Maps.{lookup-equal}
 use Rattle.rectangle_pack_groups.proofs.lemmas.multimap.Restore.{remove-insert, set-insert}
 use Rattle.rectangle_pack_groups.proofs.grouped_rects_to_place.members.restore.Goals as goal
 

@@ -1,7 +1,7 @@
 use Rattle.rectangle_pack_sections.proofs.Std.{rules, ◌≡◌, [], ◌∷◌, ◌++◌, sym, ◌∙◌, ap, Some, is_some, option_map, lookup, is_at, cond, Equal-is}
 use Rattle.rectangle_pack_groups.specs.Groups.{lists_of}
 use Rattle.rectangle_pack_groups.proofs.lemmas.multimap.Vectors.{lists_of-set_value, lookup-lists}
-use Rattle.rectangle_pack_groups.proofs.lemmas.util.Maps.{lookup-equal}
+use Rattle.rectangle_pack_sections.proofs.lemmas.util.Maps.{lookup-equal}
 use Rattle.rectangle_pack_groups.proofs.lemmas.multimap.Append.{appended-found}
 use Rattle.rectangle_pack_groups.proofs.lemmas.multimap.TakeBack.{TakesBack-appended}
 use Rattle.rectangle_pack_groups.proofs.grouped_rects_to_place.multimap.append_at.Goals as goal

@@ -1,0 +1,6 @@
+-- Bins, and the bins of a packing. SoundBins is for pushes, Trials for trials in one bin, Checkout for the bins that are out of their map, Journals for undoing
+-- trials.
+pub mod SoundBins
+pub mod Trials
+pub mod Checkout
+pub mod Journals

@@ -1,9 +1,0 @@
--- The texts that errors of packings print.
-use Rattle.std.specs.Prelude.{ℕ, List, codes}
-use Rattle.rectangle_pack_bins.specs.declared.pack.answer.RectanglePackError.{RectanglePackError}
-use Rattle.rectangle_pack_bins.specs.declared.pack.answer.RectanglePackError.TheVariants.{NotEnoughBinSpace, OutOfMemory}
-
--- why a packing failed
-abbrev pub packing_text : RectanglePackError → List ℕ
-packing_text NotEnoughBinSpace = codes "Not enough space to place all of the rectangles."
-packing_text OutOfMemory = codes "Out of memory."

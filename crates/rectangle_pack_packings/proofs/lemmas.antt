@@ -1,0 +1,3 @@
+-- Lemmas by subject, each subject after those that it stands on.
+pub mod packing
+pub mod best

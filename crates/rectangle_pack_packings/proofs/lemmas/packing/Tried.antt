@@ -1,0 +1,35 @@
+-- A trial that is done, as a group that is placed.
+use Rattle.rectangle_pack_sections.proofs.Std.{◌≡◌, ℕ, List, [], ◌∷◌, refl, arith, false}
+use Rattle.rectangle_pack_sections.proofs.Std.{is_at}
+use Rattle.rectangle_pack_sections.specs.Boxes.{Cuboid}
+use Rattle.rectangle_pack_sections.specs.Bins.{Held, bins_of}
+use Rattle.rectangle_pack_lists.specs.Steps.{IsDone}
+use Rattle.rectangle_pack_rules.specs.declared.answer.Placement.{Placement}
+use Rattle.rectangle_pack_rules.specs.Packing.{Rules, Members, IsPlaced}
+use Rattle.rectangle_pack_rules.specs.Placed.{AreNamed}
+use Rattle.rectangle_pack_bins.specs.private.Checkout.{IsTriedIn}
+use Rattle.rectangle_pack_bins.proofs.lemmas.bins.Journals.{bins_of-written, found-bins_of}
+
+-- a group whose trial is done in a bin is placed, where that bin is the only one
+pub IsPlaced-alone : {Id B : Type 0} (rules : Rules Id B) (group : Members Id) (now new : List (B × Held)) (here : B) (v w : Held) (locations : List Cuboid) (count : ℕ)
+    (added : List (Placement Id B)) → IsTriedIn rules.bin_cmp here now v w new → w.bin ≡ record v.bin { sections = w.bin.sections }
+    → IsDone rules.may v.bin.sections group.sizes locations w.bin.sections count → AreNamed rules.id_cmp rules.bin_cmp group.ids here locations added
+    → IsPlaced rules (λ id. false) (here ∷ []) group (bins_of now) added (bins_of new) count
+IsPlaced-alone rules group now new here v w locations count added tried rest done named = record {
+  before = [];
+  here = here;
+  after = [];
+  order_is = refl;
+  counts = [];
+  passed = tt;
+  allowed = refl;
+  bin = v.bin;
+  found = found-bins_of (is_at (rules.bin_cmp here)) now (bins_of now) v refl tried.found;
+  last = w.bin.sections;
+  locations = locations;
+  count = count;
+  done = done;
+  named = named;
+  new_is = bins_of-written (is_at (rules.bin_cmp here)) now new w _ tried.written rest;
+  tests_are = omega arith;
+}

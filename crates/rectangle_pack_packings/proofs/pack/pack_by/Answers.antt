@@ -1,0 +1,38 @@
+use Rattle.rectangle_pack_sections.proofs.Std.{length, ap, sym, ◌∙◌, refl, arith, map, sum, values_of, All-nil}
+use Rattle.rectangle_pack_sections.specs.Bins.{bins_of}
+use Rattle.rectangle_pack_rules.specs.Packing.{rules_by}
+use Rattle.rectangle_pack_rules.proofs.lemmas.packing.FitTests.{counted-none}
+use Rattle.rectangle_pack_rules.proofs.lemmas.packing.Groups.{PackingDone-none, lists-some, lists-empty}
+use Rattle.rectangle_pack_packings.proofs.pack.pack_by.Goals as goal
+
+pub returns-then-is_empty-clause-answer : goal.returns-then-is_empty-clause-answer
+returns-then-is_empty-clause-answer g c =
+    let none = sym c.groups.ensures.entries ∙ lists-empty c.groups.result.now.entries c.is_empty.result c.is_empty.ensures c.if-is_empty.true in
+    let rules = rules_by g.Id.Ord.cmp g.BinId.Ord.cmp (g.R.Policy.may c.args.policy.now) in
+    let done = PackingDone-none _ rules c.args.rects_to_place.now (bins_of c.args.target_bins.now.entries) c.new-then-is_empty.result.items none
+    c.new-then-is_empty.ensures.items in (
+      record {
+        done = done.0;
+        counted = ap length c.new-then-is_empty.ensures.items ∙ sym (ap (λ gs. sum (map length (values_of gs))) none);
+        last = record { ascend = c.new.ensures.ordered; each = λ id. rw (c.new.ensures.empty, c.new-then-is_empty.ensures.items) (All-nil _) };
+      },
+      record { most = omega (arith, done.1); added = rw done.1 (omega arith) },
+    )
+
+pub returns-in_default-clause-answer : goal.returns-in_default-clause-answer
+returns-in_default-clause-answer g c = (refl, counted-none _ _ c.args.tests.now (omega arith))
+
+pub returns-in_default-clause-no_groups : goal.returns-in_default-clause-no_groups
+returns-in_default-clause-no_groups g c = λ none. absurd (lists-some _ _ c.is_empty.ensures c.if-is_empty.false (c.groups.ensures.entries ∙ none))
+
+pub returns-clause-no_groups : goal.returns-clause-no_groups
+returns-clause-no_groups g c = λ none. absurd (lists-some _ _ c.is_empty.ensures c.if-is_empty.false (c.groups.ensures.entries ∙ none))
+
+pub pack_in_order-requires-clause-found : goal.pack_in_order-requires-clause-found
+pack_in_order-requires-clause-found g c = rw c.as_slice.ensures.value c.in-Ok.ensures.found
+
+pub pack_in_order-requires-clause-distinct : goal.pack_in_order-requires-clause-distinct
+pack_in_order-requires-clause-distinct g c = rw c.as_slice.ensures.value c.in-Ok.ensures.ids
+
+pub pack_in_order-requires-clause-order : goal.pack_in_order-requires-clause-order
+pack_in_order-requires-clause-order g c = rw c.as_slice.ensures.value c.in-Ok.ensures.order

@@ -1,0 +1,2 @@
+-- The best of several packings. Fillings is on how many cells placements fill.
+pub mod Fillings

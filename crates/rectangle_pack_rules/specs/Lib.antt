@@ -1,0 +1,9 @@
+pub mod Orders
+pub mod Placed
+pub mod KeptBins
+pub mod Packing
+pub mod PackAnswers
+pub mod Best
+pub mod Results
+pub mod PackingTexts
+pub mod private

@@ -1,0 +1,47 @@
+-- What a packing answers, and what it counts.
+use Rattle.std.specs.Prelude.{◌≡◌, ℕ, ◌+◌, ◌-◌, ◌*◌, ◌≤◌, List, length, Result, Ok, Err}
+use Rattle.std.specs.declared.cmp.Ordering.{Ordering}
+use Rattle.std.specs.List.{sum_by}
+use Rattle.rectangle_pack_groups.specs.declared.grouped_rects_to_place.Group.{Group}
+use Rattle.rectangle_pack_rules.specs.declared.answer.RectanglePackOk.{RectanglePackOk}
+use Rattle.rectangle_pack_rules.specs.declared.answer.RectanglePackError.{RectanglePackError}
+use Rattle.rectangle_pack_rules.specs.declared.answer.RectanglePackError.TheVariants.{NotEnoughBinSpace, OutOfMemory}
+use Rattle.rectangle_pack_sections.specs.Bins.{Bin}
+use Rattle.rectangle_pack_groups.specs.Groups.{Collection, entries_of}
+use Rattle.rectangle_pack_lists.specs.Numbers.{saturated}
+use Rattle.rectangle_pack_rules.specs.Packing.{Rules, PackingDone, PackingRefused}
+use Rattle.rectangle_pack_rules.specs.Placed.{AreLastPlacements, placements_of, locations_of}
+
+-- how many free sections the bins have in all
+abbrev pub sections_in : {B : Type 0} → List (B × Bin) → ℕ
+sections_in bins = sum_by (λ b. length b.1.sections) bins
+
+-- the fit tests of a packing are added to a count, which stays at the greatest of 128 bits; with n entries they are at most
+-- n for each free section of before, and n * (n - 1) for each bin
+pub record AreCounted {Id B G : Type 0} (all : Collection Id G) (old : List (B × Bin)) (tests before after : ℕ) : Type 0 where
+  pub most : tests ≤ entries_of all * sections_in old + length old * (entries_of all * (entries_of all - 1))
+  pub added : after ≡ saturated (before + tests)
+
+module _ {Id B G : Type 0} (group_cmp : Group G Id → Group G Id → Ordering) (rules : Rules Id B) where
+  -- what a packing answers where it is done: the placements, one for each entry of a group, and where each id was placed last
+  pub record IsPacked {A : Type 0} (all : Collection Id G) (old : List (B × Bin)) (ok : RectanglePackOk Id B A) (new : List (B × Bin)) : Type 0 where
+    pub done : PackingDone group_cmp rules all old (placements_of ok) new
+    pub counted : length (placements_of ok) ≡ entries_of all
+    pub last : AreLastPlacements rules.id_cmp rules.bin_cmp (placements_of ok) (locations_of ok)
+
+  -- done; or refused, where the groups before stay placed; or want of memory, where the bins are as they were
+  abbrev pub IsPackAnswer : {A : Type 0} → Collection Id G → List (B × Bin)
+      → Result (RectanglePackOk Id B A) RectanglePackError → List (B × Bin) → Type 0
+  IsPackAnswer all old (Ok ok) new = IsPacked all old ok new
+  IsPackAnswer all old (Err NotEnoughBinSpace) new = PackingRefused group_cmp rules all old new
+  IsPackAnswer all old (Err OutOfMemory) new = new ≡ old
+
+  -- the same, and exactly the fit tests of the packing are counted; for want of memory, no more than the bound
+  abbrev pub IsCountedAnswer : {A : Type 0} → Collection Id G → List (B × Bin) → ℕ
+      → Result (RectanglePackOk Id B A) RectanglePackError → List (B × Bin) → ℕ → Type 0
+  IsCountedAnswer all old before (Ok ok) new after =
+      (packed : IsPacked all old ok new) × AreCounted all old packed.done.tests before after
+  IsCountedAnswer all old before (Err NotEnoughBinSpace) new after =
+      (refused : PackingRefused group_cmp rules all old new) × AreCounted all old refused.tests before after
+  IsCountedAnswer all old before (Err OutOfMemory) new after =
+      (new ≡ old) × ((tests : ℕ) × AreCounted all old tests before after)

@@ -1,0 +1,267 @@
+//! Laws of packings.
+ghost use Rattle.std.specs.Prelude.{ℕ, ◌≡◌, ◌↔◌, ◌∷◌, [], List, All, Some, false, map, reverse};
+ghost use Rattle.std.specs.BTreeMap.{is_at};
+ghost use Rattle.std.specs.Map.{lookup, values_of};
+ghost use Rattle.rectangle_pack_rules.specs.declared.answer.Placement.{Placement};
+ghost use Rattle.rectangle_pack_sections.specs.Boxes.{Size, Cuboid, Holds, volume_of};
+ghost use Rattle.rectangle_pack_sections.specs.Bins.{Bin};
+ghost use Rattle.rectangle_pack_sections.specs.Heuristics.{rate_of};
+ghost use Rattle.rectangle_pack_sections.specs.Closures.{MayRateBy, MayCompare, answers};
+ghost use Rattle.rectangle_pack_sections.specs.Choice.{IsFunction, IsTotalPreorder};
+ghost use Rattle.rectangle_pack_groups.specs.Groups.{Collection};
+ghost use Rattle.rectangle_pack_groups.specs.Exclusions.{are_excluded};
+ghost use Rattle.rectangle_pack_rules.specs.Best.{named_rules};
+ghost use Rattle.rectangle_pack_rules.specs.Packing.{rules_by, excludes_by, excludes_none, AreKeptApart, PackingDone, PackingDoneBy, PackingRefused, PackingRefusedBy};
+ghost use Rattle.rectangle_pack_rules.specs.Placed.{AreLastPlacements, ArePlacedWhole};
+ghost use Rattle.rectangle_pack_rules.specs.KeptBins.{KeepsEachBin};
+ghost use Rattle.rectangle_pack_sections.specs.SmallestBox.{IsSmallestOrder};
+ghost use Rattle.rectangle_pack_rules.specs.Results.{ClosuresDecide, either_of, AreBinsAlike, ArePlacementsAlike, AreLocationsAlike, HaveOneResult};
+ghost use Rattle.rectangle_pack_groups.specs.Alike.{AreCollectionsAlike};
+
+use rectangle_pack_groups::grouped_rects_to_place::Group;
+use rectangle_pack_sections::box_size_heuristics::Heuristic;
+use rectangle_pack_sections::width_height_depth::WidthHeightDepth;
+use std::cmp::Ordering;
+
+/// A law: no two groups that are excluded share a bin, of those that one packing placed. `homes`
+/// has the bin of each, in which it is placed whole (`groups_are_placed_whole`).
+pub fn excluded_groups_are_apart<Id: Ord, BinId: Ord, GroupId: Ord, H, C>(
+    heuristic: &H,
+    comparison: &C,
+)
+where
+    H: Fn(WidthHeightDepth) -> u128,
+    C: Fn([WidthHeightDepth; 3], [WidthHeightDepth; 3], &H) -> Ordering,
+    ensures done { let groups = ⟦<Group<GroupId, Id> as Ord>⟧.cmp in
+        let rules = rules_by Id.cmp BinId.cmp (answers H.Fn C.Fn heuristic.now comparison.now) in
+        (all : Collection Id GroupId) (old new : List (BinId × Bin)) →
+        (placements : List (Placement Id BinId)) →
+        (done : PackingDone groups rules all old placements new) →
+        AreKeptApart groups BinId.cmp all.partners done.homes }
+    ensures refused { let groups = ⟦<Group<GroupId, Id> as Ord>⟧.cmp in
+        let rules = rules_by Id.cmp BinId.cmp (answers H.Fn C.Fn heuristic.now comparison.now) in
+        (all : Collection Id GroupId) (old new : List (BinId × Bin)) →
+        (refused : PackingRefused groups rules all old new) →
+        AreKeptApart groups BinId.cmp all.partners refused.stops.homes }
+{}
+
+/// A law: a packing that is done places each group whole, in one bin: one placement for each entry,
+/// in the size of its id. `homes` has the bin of each group, the last one first.
+pub fn groups_are_placed_whole<Id: Ord, BinId: Ord, GroupId: Ord, H, C>(
+    heuristic: &H,
+    comparison: &C,
+)
+where
+    H: Fn(WidthHeightDepth) -> u128,
+    C: Fn([WidthHeightDepth; 3], [WidthHeightDepth; 3], &H) -> Ordering,
+    ensures whole { let groups = ⟦<Group<GroupId, Id> as Ord>⟧.cmp in
+        let rules = rules_by Id.cmp BinId.cmp (answers H.Fn C.Fn heuristic.now comparison.now) in
+        (all : Collection Id GroupId) (old new : List (BinId × Bin)) →
+        (placements : List (Placement Id BinId)) →
+        (done : PackingDone groups rules all old placements new) →
+        ArePlacedWhole Id.cmp BinId.cmp groups all.sizes all.groups (reverse done.homes)
+        placements }
+    ensures all_groups { let groups = ⟦<Group<GroupId, Id> as Ord>⟧.cmp in
+        let rules = rules_by Id.cmp BinId.cmp (answers H.Fn C.Fn heuristic.now comparison.now) in
+        (all : Collection Id GroupId) (old new : List (BinId × Bin)) →
+        (placements : List (Placement Id BinId)) →
+        (done : PackingDone groups rules all old placements new) →
+        map (λ h. h.0) (reverse done.homes) ≡ map (λ o. o.1) done.group_order }
+{}
+
+/// A law: where two packings made equal placements, the locations that they answer by id are equal.
+pub fn locations_follow_placements<Id: Ord, BinId: Ord>()
+    ensures { (placements others : List (Placement Id BinId)) →
+        (found other_found : List (Id × (BinId × Cuboid))) →
+        ArePlacementsAlike Id.cmp BinId.cmp placements others →
+        AreLastPlacements Id.cmp BinId.cmp placements found →
+        AreLastPlacements Id.cmp BinId.cmp others other_found →
+        AreLocationsAlike Id.cmp BinId.cmp found other_found }
+{}
+
+/// A law: with a heuristic that has a name and `contains_smallest_box`, or closures that answer as
+/// they do, two packings have one result; and this is the one of a packing with this heuristic, as
+/// `pack_rects_best` makes it.
+pub fn named_packing_has_one_result<Id, BinId, GroupId, H, C, I, D>(
+    named: Heuristic,
+    heuristic: &H,
+    comparison: &C,
+    other_heuristic: &I,
+    other_comparison: &D,
+)
+where
+    Id: Ord,
+    BinId: Ord,
+    GroupId: Ord,
+    H: Fn(WidthHeightDepth) -> u128,
+    C: Fn([WidthHeightDepth; 3], [WidthHeightDepth; 3], &H) -> Ordering,
+    I: Fn(WidthHeightDepth) -> u128,
+    D: Fn([WidthHeightDepth; 3], [WidthHeightDepth; 3], &I) -> Ordering,
+    requires rates { (size : Size) (rate : ℕ) → MayRateBy H.Fn heuristic.now size rate →
+        rate ≡ rate_of named size }
+    requires smallest { (a b : List Size) (r : Ordering) →
+        MayCompare C.Fn comparison.now heuristic.now a b r →
+        IsSmallestOrder (H.post heuristic.now) a b r }
+    requires other_rates { (size : Size) (rate : ℕ) →
+        MayRateBy I.Fn other_heuristic.now size rate →
+        rate ≡ rate_of named size }
+    requires other_smallest { (a b : List Size) (r : Ordering) →
+        MayCompare D.Fn other_comparison.now other_heuristic.now a b r →
+        IsSmallestOrder (I.post other_heuristic.now) a b r }
+    ensures closures { let groups = ⟦<Group<GroupId, Id> as Ord>⟧.cmp in
+        let rules = rules_by Id.cmp BinId.cmp in
+        let may = answers H.Fn C.Fn heuristic.now comparison.now in
+        let other_may = answers I.Fn D.Fn other_heuristic.now other_comparison.now in
+        (all others : Collection Id GroupId) (bins other_bins : List (BinId × Bin)) →
+        AreCollectionsAlike groups Id.cmp all others →
+        AreBinsAlike BinId.cmp bins other_bins →
+        HaveOneResult groups (rules may) (rules other_may) all others bins other_bins }
+    ensures by_name { let groups = ⟦<Group<GroupId, Id> as Ord>⟧.cmp in
+        let rules = rules_by Id.cmp BinId.cmp (answers H.Fn C.Fn heuristic.now comparison.now) in
+        (all others : Collection Id GroupId) (bins other_bins : List (BinId × Bin)) →
+        AreCollectionsAlike groups Id.cmp all others →
+        AreBinsAlike BinId.cmp bins other_bins →
+        HaveOneResult groups rules (named_rules Id.cmp BinId.cmp named) all others bins
+        other_bins }
+{}
+
+/// A law: where the heuristics of two packings have one answer on each size that may be rated, and
+/// their comparisons are one total preorder on the cuts that may be met, the packings have one
+/// result. Of two packings of equal collections into equal bins, neither of which ends for want of
+/// memory, both are done, with equal bins and placements, or both are refused for space, with equal
+/// bins. Here ids are equal where their order says so, and closures need only answer alike.
+pub fn packing_has_one_result<Id, BinId, GroupId, H, C, I, D>(
+    heuristic: &H,
+    comparison: &C,
+    other_heuristic: &I,
+    other_comparison: &D,
+)
+where
+    Id: Ord,
+    BinId: Ord,
+    GroupId: Ord,
+    H: Fn(WidthHeightDepth) -> u128,
+    C: Fn([WidthHeightDepth; 3], [WidthHeightDepth; 3], &H) -> Ordering,
+    I: Fn(WidthHeightDepth) -> u128,
+    D: Fn([WidthHeightDepth; 3], [WidthHeightDepth; 3], &I) -> Ordering,
+    ensures { let groups = ⟦<Group<GroupId, Id> as Ord>⟧.cmp in
+        let rules = rules_by Id.cmp BinId.cmp in
+        let may = answers H.Fn C.Fn heuristic.now comparison.now in
+        let other_may = answers I.Fn D.Fn other_heuristic.now other_comparison.now in
+        (all others : Collection Id GroupId) (bins other_bins : List (BinId × Bin)) →
+        AreCollectionsAlike groups Id.cmp all others →
+        AreBinsAlike BinId.cmp bins other_bins →
+        ClosuresDecide (values_of all.sizes) (values_of bins) (either_of may other_may) →
+        HaveOneResult groups (rules may) (rules other_may) all others bins other_bins }
+{}
+
+/// A law: a packing that is done keeps the cells of each bin whose free sections share no cell. The
+/// bin's size stays, its free cells of before are its free cells of after and the cells of the
+/// boxes placed in it, and no two of these share one.
+pub fn packing_keeps_cells<Id: Ord, BinId: Ord, GroupId: Ord, H, C>(heuristic: &H, comparison: &C)
+where
+    H: Fn(WidthHeightDepth) -> u128,
+    C: Fn([WidthHeightDepth; 3], [WidthHeightDepth; 3], &H) -> Ordering,
+    ensures { let groups = ⟦<Group<GroupId, Id> as Ord>⟧.cmp in
+        let rules = rules_by Id.cmp BinId.cmp (answers H.Fn C.Fn heuristic.now comparison.now) in
+        (all : Collection Id GroupId) (old new : List (BinId × Bin)) →
+        (placements : List (Placement Id BinId)) →
+        PackingDone groups rules all old placements new →
+        KeepsEachBin BinId.cmp old placements new }
+{}
+
+/// A law: where no two groups are excluded, a packing is one that excludes no bin, done or refused,
+/// and makes as many fit tests.
+pub fn packing_without_exclusions<Id: Ord, BinId: Ord, GroupId: Ord, H, C>(
+    heuristic: &H,
+    comparison: &C,
+)
+where
+    H: Fn(WidthHeightDepth) -> u128,
+    C: Fn([WidthHeightDepth; 3], [WidthHeightDepth; 3], &H) -> Ordering,
+    ensures done { let groups = ⟦<Group<GroupId, Id> as Ord>⟧.cmp in
+        let rules = rules_by Id.cmp BinId.cmp (answers H.Fn C.Fn heuristic.now comparison.now) in
+        (all : Collection Id GroupId) →
+        ((a b : Group GroupId Id) → are_excluded groups all.partners a b ≡ false) →
+        (old new : List (BinId × Bin)) (placements : List (Placement Id BinId)) (n : ℕ) →
+        ((done : PackingDone groups rules all old placements new) × (done.tests ≡ n)) ↔
+        ((done : PackingDoneBy groups rules excludes_none all old placements new) ×
+        (done.tests ≡ n)) }
+    ensures refused { let groups = ⟦<Group<GroupId, Id> as Ord>⟧.cmp in
+        let rules = rules_by Id.cmp BinId.cmp (answers H.Fn C.Fn heuristic.now comparison.now) in
+        (all : Collection Id GroupId) →
+        ((a b : Group GroupId Id) → are_excluded groups all.partners a b ≡ false) →
+        (old new : List (BinId × Bin)) (n : ℕ) →
+        ((refused : PackingRefused groups rules all old new) × (refused.tests ≡ n)) ↔
+        ((refused : PackingRefusedBy groups rules excludes_none all old new) ×
+        (refused.tests ≡ n)) }
+{}
+
+/// A law: a heuristic that has one answer on each size, and a comparison that is a total preorder
+/// on all triples of sizes, decide each packing.
+pub fn preorders_decide<H, C>(heuristic: &H, comparison: &C)
+where
+    H: Fn(WidthHeightDepth) -> u128,
+    C: Fn([WidthHeightDepth; 3], [WidthHeightDepth; 3], &H) -> Ordering,
+    requires one_rate { IsFunction (MayRateBy H.Fn heuristic.now) }
+    requires preorder { IsTotalPreorder (MayCompare C.Fn comparison.now heuristic.now) }
+    ensures { (boxes : List Size) (bins : List Bin) →
+        ClosuresDecide boxes bins (answers H.Fn C.Fn heuristic.now comparison.now) }
+{}
+
+/// A law: where the refused group has one entry, no free section of a bin that is not excluded for
+/// it, as the groups before it left them, holds its box.
+pub fn refused_box_is_held_nowhere<Id: Ord, BinId: Ord, GroupId: Ord, H, C>(
+    heuristic: &H,
+    comparison: &C,
+)
+where
+    H: Fn(WidthHeightDepth) -> u128,
+    C: Fn([WidthHeightDepth; 3], [WidthHeightDepth; 3], &H) -> Ordering,
+    ensures { let groups = ⟦<Group<GroupId, Id> as Ord>⟧.cmp in
+        let rules = rules_by Id.cmp BinId.cmp (answers H.Fn C.Fn heuristic.now comparison.now) in
+        (all : Collection Id GroupId) (old new : List (BinId × Bin)) →
+        (refused : PackingRefused groups rules all old new) →
+        let stops = refused.stops in
+        (size : Size) → stops.next.1.sizes ≡ size ∷ [] → (id : BinId) (bin : Bin) →
+        excludes_by groups BinId.cmp all.partners stops.homes stops.next.0 id ≡ false →
+        lookup (is_at (BinId.cmp id)) new ≡ Some bin →
+        All (λ s. ¬ Holds s size) bin.sections }
+{}
+
+/// A law: with `volume_heuristic` and `contains_smallest_box`, or closures that answer as they do,
+/// two packings have one result.
+pub fn volume_packing_has_one_result<Id, BinId, GroupId, H, C, I, D>(
+    heuristic: &H,
+    comparison: &C,
+    other_heuristic: &I,
+    other_comparison: &D,
+)
+where
+    Id: Ord,
+    BinId: Ord,
+    GroupId: Ord,
+    H: Fn(WidthHeightDepth) -> u128,
+    C: Fn([WidthHeightDepth; 3], [WidthHeightDepth; 3], &H) -> Ordering,
+    I: Fn(WidthHeightDepth) -> u128,
+    D: Fn([WidthHeightDepth; 3], [WidthHeightDepth; 3], &I) -> Ordering,
+    requires volume { (size : Size) (rate : ℕ) → MayRateBy H.Fn heuristic.now size rate →
+        rate ≡ volume_of size }
+    requires smallest { (a b : List Size) (r : Ordering) →
+        MayCompare C.Fn comparison.now heuristic.now a b r →
+        IsSmallestOrder (H.post heuristic.now) a b r }
+    requires other_volume { (size : Size) (rate : ℕ) →
+        MayRateBy I.Fn other_heuristic.now size rate →
+        rate ≡ volume_of size }
+    requires other_smallest { (a b : List Size) (r : Ordering) →
+        MayCompare D.Fn other_comparison.now other_heuristic.now a b r →
+        IsSmallestOrder (I.post other_heuristic.now) a b r }
+    ensures { let groups = ⟦<Group<GroupId, Id> as Ord>⟧.cmp in
+        let rules = rules_by Id.cmp BinId.cmp in
+        let may = answers H.Fn C.Fn heuristic.now comparison.now in
+        let other_may = answers I.Fn D.Fn other_heuristic.now other_comparison.now in
+        (all others : Collection Id GroupId) (bins other_bins : List (BinId × Bin)) →
+        AreCollectionsAlike groups Id.cmp all others →
+        AreBinsAlike BinId.cmp bins other_bins →
+        HaveOneResult groups (rules may) (rules other_may) all others bins other_bins }
+{}

@@ -1,0 +1,9 @@
+//! The packing rule: the order of groups, the bins that are excluded for a group, what a packing answers, and
+//! the laws of packings. A layer of `rectangle_pack`, which passes on what is for its users.
+#![tactic(auto)]
+
+pub mod answer;
+pub mod homes;
+pub mod laws;
+pub mod order;
+pub mod uses;
