@@ -1,6 +1,8 @@
-use Rattle.rectangle_pack_sections.proofs.Std.{length, ap, sym, ◌∙◌, refl, arith, map, sum, values_of, All-nil}
+use Rattle.rectangle_pack_sections.proofs.Std.{length, ap, sym, ◌∙◌, refl, arith, map, sum, values_of}
 use Rattle.rectangle_pack_sections.specs.Bins.{bins_of}
 use Rattle.rectangle_pack_rules.specs.Packing.{rules_by}
+use Rattle.rectangle_pack_rules.specs.Placed.{placements_of}
+use Rattle.rectangle_pack_rules.proofs.lemmas.packing.Placed.{AreLastPlacements-nothing}
 use Rattle.rectangle_pack_rules.proofs.lemmas.packing.FitTests.{counted-none}
 use Rattle.rectangle_pack_rules.proofs.lemmas.packing.Groups.{PackingDone-none, lists-some, lists-empty}
 use Rattle.rectangle_pack_packings.proofs.pack.pack_by.Goals as goal
@@ -9,12 +11,12 @@ pub returns-then-is_empty-clause-answer : goal.returns-then-is_empty-clause-answ
 returns-then-is_empty-clause-answer g c =
     let none = sym c.groups.ensures.entries ∙ lists-empty c.groups.result.now.entries c.is_empty.result c.is_empty.ensures c.if-is_empty.true in
     let rules = rules_by g.Id.Ord.cmp g.BinId.Ord.cmp (g.R.Policy.may c.args.policy.now) in
-    let done = PackingDone-none _ rules c.args.rects_to_place.now (bins_of c.args.target_bins.now.entries) c.new-then-is_empty.result.items none
-    c.new-then-is_empty.ensures.items in (
+    let placed = c.answer_of.ensures.placements ∙ c.new-then-is_empty.ensures.items in
+    let done = PackingDone-none _ rules c.args.rects_to_place.now (bins_of c.args.target_bins.now.entries) (placements_of c.answer_of.result) none placed in (
       record {
         done = done.0;
-        counted = ap length c.new-then-is_empty.ensures.items ∙ sym (ap (λ gs. sum (map length (values_of gs))) none);
-        last = record { ascend = c.new.ensures.ordered; each = λ id. rw (c.new.ensures.empty, c.new-then-is_empty.ensures.items) (All-nil _) };
+        counted = ap length placed ∙ sym (ap (λ gs. sum (map length (values_of gs))) none);
+        last = AreLastPlacements-nothing g.Id.Ord.cmp g.BinId.Ord.cmp _ _ c.new.result.entries c.new.ensures.ordered placed c.answer_of.ensures.locations c.new.ensures.empty;
       },
       record { most = omega (arith, done.1); added = rw done.1 (omega arith) },
     )

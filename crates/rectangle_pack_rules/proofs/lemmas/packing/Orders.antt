@@ -8,6 +8,7 @@ use Rattle.rectangle_pack_sections.proofs.Std.{slice_range, BTreeMap, IsOrdered,
 use Rattle.rectangle_pack_sections.proofs.Std.{false, Bool, IsSome, Less, Equal, Greater, is_lt, ordering_then, IsTotalOrder, lookup, is_at, All-weaker}
 use Rattle.rectangle_pack_sections.proofs.Std.{take-append-drop, take_more, map-id, map-append, All-from_recursion, IsDistinct-head, IsDistinct, keys_of}
 use Rattle.rectangle_pack_groups.proofs.lemmas.util.Zips.{AllZip-mapped, length-zip, All-alike, AllZip-along, AllZip-back}
+use Rattle.rectangle_pack_sections.proofs.lemmas.util.Zips.{AllZip-equal}
 use Rattle.rectangle_pack_rules.specs.declared.order.OrderedGroup.{OrderedGroup}
 use Rattle.rectangle_pack_groups.specs.Groups.{lists_of}
 use Rattle.rectangle_pack_lists.specs.Numbers.{saturated}

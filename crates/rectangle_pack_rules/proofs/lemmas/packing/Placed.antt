@@ -15,6 +15,12 @@ pub AreLastPlacements-none : {Id B : Type 0} (cmp : Id → Id → Ordering) (bin
     → IsStrictlySortedBy cmp (keys_of found) → found ≡ [] → AreLastPlacements cmp bin_cmp [] found
 AreLastPlacements-none cmp bin_cmp found ascend none = record { ascend = ascend; each = λ id. rw none (All-nil _) }
 
+-- nor in an answer that has none
+pub AreLastPlacements-nothing : {Id B : Type 0} (cmp : Id → Id → Ordering) (bin_cmp : B → B → Ordering) (placements : List (Placement Id B))
+    (found made : List (Id × (B × Cuboid))) → IsStrictlySortedBy cmp (keys_of made) → placements ≡ [] → found ≡ made → made ≡ []
+    → AreLastPlacements cmp bin_cmp placements found
+AreLastPlacements-nothing cmp bin_cmp placements found made ascend none is empty = rw (none, is) (AreLastPlacements-none cmp bin_cmp made ascend empty)
+
 -- one more stands last among those that were added
 pub added-more : {X : Type 0} (old added mid new : List X) (x : X) → mid ≡ old ++ added → new ≡ mid ++ x ∷ [] → new ≡ old ++ (added ++ x ∷ [])
 added-more old added mid new x so_far pushed = rw (pushed, so_far) (append_assoc old added (x ∷ []))

@@ -8,8 +8,8 @@ returns-in-Ok g c = elim c.match-packed.branch [
   | in-Ok-true w ↦ (
     w.in-Ok-true.is ∙ ap (λ (b : Bool). Ok b) w.in-Ok-true.field-0-test,
     c.keep-bins.ensures.bins,
-    ap (λ v. v.items) c.keep-bins.ensures.placements,
-    rw (c.keep-bins.ensures.placements, ← w.as_slice.ensures.value)
+    c.answer_of.ensures.placements ∙ ap (λ v. v.items) c.keep-bins.ensures.placements,
+    rw (c.answer_of.ensures.placements, c.answer_of.ensures.locations, c.keep-bins.ensures.placements, ← w.as_slice.ensures.value)
         (rw (sym w.last-is ∙ c.in-Ok.is) at w.last_placements-last.ensures),
   )
   | in-Err w ↦ absurd (let e = sym w.last-is ∙ c.in-Ok.is in cc)
