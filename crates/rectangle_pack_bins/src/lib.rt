@@ -1,5 +1,5 @@
-//! Bins, and the bins of a packing while it lasts. A layer of `rectangle_pack`, which passes on what is
-//! for its users.
+//! Bins, and the bins of a packing while it lasts. A layer of `rectangle_pack`, which passes on
+//! what is for its users.
 #![tactic(auto)]
 
 pub mod checkout;

@@ -98,7 +98,8 @@ where
     Ok(last)
 }
 
-/// The answer of a packing that made these placements, with the last placement of each id. Takes no memory.
+/// The answer of a packing that made these placements, with the last placement of each id. Takes no
+/// memory.
 pub fn answer_of<Id: Ord, BinId, A: Allocator + Copy>(
     packed_locations: BTreeMap<Id, (BinId, PackedLocation), A>,
     placements: Vec<Placement<Id, BinId>, A>,

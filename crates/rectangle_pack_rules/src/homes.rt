@@ -75,12 +75,7 @@ impl<'a, 'b, K: Ord, B: Ord, A: Allocator + Copy> Homes<'a, 'b, K, B, A> {
     }
 
     /// Keeps the bin of a group for those that are excluded with it, where there are any.
-    pub fn keep(
-        &mut self,
-        name: &'a K,
-        here: &'b B,
-        partners: &[K],
-    ) -> Result<(), AllocError>
+    pub fn keep(&mut self, name: &'a K, here: &'b B, partners: &[K]) -> Result<(), AllocError>
         ensures { OnOk result
             ((all : List (K × List K)) (placed : List (K × B)) →
             partners.now ≡ listed_at K.cmp all name.now →
@@ -95,10 +90,7 @@ impl<'a, 'b, K: Ord, B: Ord, A: Allocator + Copy> Homes<'a, 'b, K, B, A> {
     }
 
     /// The homes of these groups, of those that have one.
-    pub fn excluded_bins(
-        &self,
-        partners: &'a [K],
-    ) -> Result<ExcludedBins<'b, B, A>, AllocError>
+    pub fn excluded_bins(&self, partners: &'a [K]) -> Result<ExcludedBins<'b, B, A>, AllocError>
         ensures { IfOk result
             (λ s.
             (id : B) → are_in B.cmp s id ≡

@@ -1,5 +1,6 @@
-//! The packing rule: the order of groups, the bins that are excluded for a group, what a packing answers, and
-//! the laws of packings. A layer of `rectangle_pack`, which passes on what is for its users.
+//! The packing rule: the order of groups, the bins that are excluded for a group, what a packing
+//! answers, and the laws of packings. A layer of `rectangle_pack`, which passes on what is for its
+//! users.
 #![tactic(auto)]
 
 pub mod answer;

@@ -6,9 +6,9 @@ ghost use Rattle.rectangle_pack.specs.SessionBest.{PacksBest, PacksBestAsPromise
 
 use crate::session::Session;
 use crate::session::command::{Packed, SessionError};
-use rectangle_pack_packings::pack::best::best_of;
 use rectangle_pack_groups::grouped_rects_to_place::multimap::number_after;
 use rectangle_pack_groups::grouped_rects_to_place::{Group, GroupedRectsToPlace};
+use rectangle_pack_packings::pack::best::best_of;
 use rectangle_pack_sections::box_size_heuristics::Heuristic;
 use rectangle_pack_sections::closures::Named;
 use std::alloc::Allocator;

@@ -8,8 +8,8 @@ ghost use Rattle.rectangle_pack_sections.specs.Boxes.{has_cells};
 ghost use Rattle.rectangle_pack.specs.Session.{GivesBack, numbered};
 
 use crate::session::command::Outstanding;
-use rectangle_pack_rules::answer::Placement;
 use rectangle_pack_bins::target_bin::TargetBin;
+use rectangle_pack_rules::answer::Placement;
 use rectangle_pack_sections::bin_section::{has_cells, section_at};
 use rectangle_pack_sections::packed_location::PackedLocation;
 use std::alloc::{AllocError, Allocator};

@@ -9,12 +9,12 @@ ghost use Rattle.rectangle_pack.specs.Session.{numbered};
 
 use crate::session::command::Outstanding;
 use crate::session::outstanding::number_all;
-use rectangle_pack_rules::answer::Placement;
-use rectangle_pack_packings::pack::first_fit::pack_noted;
-use rectangle_pack_packings::pack::bin_order::bin_order;
-use rectangle_pack_packings::pack::packing::Packing;
 use rectangle_pack_bins::target_bin::TargetBin;
 use rectangle_pack_groups::grouped_rects_to_place::{Group, GroupedRectsToPlace};
+use rectangle_pack_packings::pack::bin_order::bin_order;
+use rectangle_pack_packings::pack::first_fit::pack_noted;
+use rectangle_pack_packings::pack::packing::Packing;
+use rectangle_pack_rules::answer::Placement;
 use rectangle_pack_sections::closures::Policy;
 use std::alloc::{AllocError, Allocator};
 use std::collections::BTreeMap;
