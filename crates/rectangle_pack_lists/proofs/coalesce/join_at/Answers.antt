@@ -1,4 +1,4 @@
-use Rattle.rectangle_pack_sections.proofs.Std.{rules, arith, ℕ, ◌≡◌, ◌<◌, ◌+◌, ◌-◌, ◌∙◌, length, sym, ap}
+use Rattle.rectangle_pack_sections.proofs.Std.{rules, arith, ◌-◌, ◌∙◌, sym}
 use Rattle.rectangle_pack_lists.specs.Joining.{PastEnd, Alone}
 use Rattle.rectangle_pack_lists.proofs.lemmas.joining.Joins.{one_join, joined_index-at}
 use Rattle.rectangle_pack_sections.specs.Boxes.{FitsU32}

@@ -1,5 +1,5 @@
 -- Room in lists of slots: what is made stays, an error shows that it lacked, and pieces take no more of it than they are.
-use Rattle.rectangle_pack_sections.proofs.Std.{◌≡◌, ◌≤◌, ◌<◌, ◌+◌, ◌-◌, ◌*◌, ◌/◌, ◌^◌, ℕ, List, [], ◌∷◌, ◌++◌, length, take, get_or, min, arith, ap, refl, ◌∙◌}
+use Rattle.rectangle_pack_sections.proofs.Std.{◌≡◌, ◌≤◌, ◌<◌, ◌+◌, ◌-◌, ◌*◌, ◌/◌, ◌^◌, ℕ, List, [], ◌∷◌, ◌++◌, length, take, get_or, min, arith, ap}
 use Rattle.rectangle_pack_sections.proofs.Std.{Option, Some, map, filter, length-append, length-map, length-filter, count_by-le-length, take_more, map-append}
 use Rattle.rectangle_pack_sections.specs.Boxes.{Cuboid, has_cells}
 

@@ -1,8 +1,8 @@
 -- Groups that are placed, one after another.
 use Rattle.rectangle_pack_sections.proofs.Std.{◌≡◌, ℕ, suc, ◌+◌, ◌<◌, ◌≤◌, List, [], ◌∷◌, ◌++◌, length, take, drop, refl, ap, sym, ◌∙◌, subst, cond, true}
-use Rattle.rectangle_pack_sections.proofs.Std.{false, Bool, arith, get_or, append_assoc, append-nil, Option, Some, None, map, sum, All, IsTrue, ◌↔◌, nat_eq}
-use Rattle.rectangle_pack_sections.proofs.Std.{if◌then◌else◌, Result, Ok, Err, IfOk, MatchBool, MatchOption, Ordering, Equal, is_eq, IsTotalOrder, Equal-is}
-use Rattle.rectangle_pack_sections.proofs.Std.{AllZip, sum_by, sum_by-cons, length-append, lookup, set_value, keys_of, IsStrictlySortedBy, option_map, is_at}
+use Rattle.rectangle_pack_sections.proofs.Std.{false, Bool, arith, get_or, append_assoc, append-nil, Option, Some, None, map, sum, All, IsTrue, ◌↔◌}
+use Rattle.rectangle_pack_sections.proofs.Std.{Result, Ok, Err, IfOk, MatchBool, MatchOption, Ordering, Equal, is_eq, IsTotalOrder, Equal-is}
+use Rattle.rectangle_pack_sections.proofs.Std.{AllZip, sum_by, sum_by-cons, length-append, lookup, keys_of, IsStrictlySortedBy, is_at}
 use Rattle.rectangle_pack_sections.proofs.Std.{split_at, take_more, take-append-drop, map-append, length-map, Vec, All-push, All-nil, All-head}
 use Rattle.rectangle_pack_sections.proofs.Std.{All-tail, All-weaker, sum-map, slice_range, ◌-◌, length-drop, length-take-le}
 use Rattle.rectangle_pack_rules.specs.declared.order.OrderedGroup.{OrderedGroup}

@@ -1,6 +1,6 @@
 -- What is said of the groups of an order, said of the collection.
-use Rattle.rectangle_pack_sections.proofs.Std.{◌≡◌, ℕ, ◌+◌, List, length, map, ap, subst, sym, ◌∙◌, Some, All, Ordering, IsTotalOrder, IsDistinct, eq_by_cmp, keys_of}
-use Rattle.rectangle_pack_sections.proofs.Std.{sum_by, lookup, is_at, Vec, Bool, true, false, Result, Ok, Err, IfOk, OnErr, OnTrue, MatchBool}
+use Rattle.rectangle_pack_sections.proofs.Std.{◌≡◌, ℕ, ◌+◌, List, length, map, subst, sym, ◌∙◌, Some, All, Ordering, IsTotalOrder, IsDistinct, eq_by_cmp, keys_of}
+use Rattle.rectangle_pack_sections.proofs.Std.{sum_by, lookup, is_at, Vec}
 use Rattle.rectangle_pack_groups.specs.declared.grouped_rects_to_place.Group.{Group}
 use Rattle.rectangle_pack_groups.specs.Groups.{Collection, entries_of, lists_of}
 use Rattle.rectangle_pack_rules.specs.declared.answer.Placement.{Placement}

@@ -1,5 +1,5 @@
 -- Relations between lists, element by element.
-use Rattle.rectangle_pack_sections.proofs.Std.{◌≡◌, List, [], ◌∷◌, refl, ap, sym, ◌∙◌, map, map-id, AllZip}
+use Rattle.rectangle_pack_sections.proofs.Std.{◌≡◌, List, [], ◌∷◌, refl, map, map-id, AllZip}
 
 -- a relation that follows, between what two functions make of the elements
 pub AllZip-mapped : {A B C D : Type 0} (R : A → B → Type 0) (S : C → D → Type 0) (f : A → C) (g : B → D) → ((x : A) (y : B) → R x y → S (f x) (g y))

@@ -1,4 +1,4 @@
-use Rattle.rectangle_pack_sections.proofs.Std.{ℕ, ◌≡◌, ◌≤◌, ◌<◌, ◌+◌, arith, rules, length, ap, ◌∙◌, take_all, IfOk-from_err}
+use Rattle.rectangle_pack_sections.proofs.Std.{ℕ, ◌≡◌, ◌≤◌, ◌<◌, ◌+◌, arith, ap, ◌∙◌, take_all, IfOk-from_err}
 use Rattle.rectangle_pack_lists.specs.private.Slots.{sections_of}
 use Rattle.rectangle_pack_lists.proofs.lemmas.trial.Rooms.{counted-more, full-more}
 use Rattle.rectangle_pack_lists.proofs.lemmas.trial.SlotSteps.{sections_of-full}

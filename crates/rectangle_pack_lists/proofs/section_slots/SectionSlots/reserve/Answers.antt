@@ -1,4 +1,4 @@
-use Rattle.rectangle_pack_sections.proofs.Std.{refl, IfOk-from_err, ap, vec_capacity, sym, length, ◌≡◌, ◌≤◌, ◌+◌, ◌/◌, ◌∙◌}
+use Rattle.rectangle_pack_sections.proofs.Std.{refl, IfOk-from_err, ap, vec_capacity, sym, length, ◌≤◌, ◌+◌, ◌∙◌}
 use Rattle.rectangle_pack_lists.specs.private.Slots.{Slots}
 use Rattle.rectangle_pack_sections.proofs.lemmas.util.Results.{OnErr-given}
 use Rattle.rectangle_pack_lists.proofs.lemmas.trial.Rooms.{no-less, fits-added, few-blocks, few-rows, room-kept, room-made, slots-lack, blocks-lack, rows-lack}

@@ -1,6 +1,5 @@
-use Rattle.rectangle_pack_sections.proofs.Std.{ℕ, ◌≡◌, ◌≤◌, ◌<◌, ◌+◌, ◌-◌, ◌*◌, arith, ap, length, sym}
+use Rattle.rectangle_pack_sections.proofs.Std.{ℕ, ◌≡◌, ◌≤◌, ◌<◌, ◌+◌, ◌-◌, ◌*◌, arith, ap, length}
 use Rattle.rectangle_pack_lists.specs.private.Slots.{Slots}
-use Rattle.rectangle_pack_lists.specs.private.Summaries.{SumAll}
 use Rattle.rectangle_pack_lists.proofs.lemmas.trial.Slots.{NoneHolds-stretch}
 use Rattle.rectangle_pack_lists.proofs.section_slots.SectionSlots.too_small_before.Goals as goal
 

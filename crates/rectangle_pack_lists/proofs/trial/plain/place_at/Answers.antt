@@ -1,6 +1,6 @@
 use Rattle.rectangle_pack_sections.proofs.Std.{rules, ℕ, ◌≡◌, ◌≤◌, ◌+◌, arith}
 use Rattle.rectangle_pack_sections.specs.Boxes.{Holds, FitsU32}
-use Rattle.rectangle_pack_lists.proofs.lemmas.util.Reads.{below-same, All-read, HoldsAt-read, le-through}
+use Rattle.rectangle_pack_lists.proofs.lemmas.util.Reads.{below-same, All-read, HoldsAt-read}
 use Rattle.rectangle_pack_lists.proofs.lemmas.trial.StepsByIndex.{IsStep-at}
 use Rattle.rectangle_pack_lists.proofs.trial.plain.place_at.Goals as goal
 

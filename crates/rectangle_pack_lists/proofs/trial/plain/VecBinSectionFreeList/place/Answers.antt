@@ -1,8 +1,7 @@
-use Rattle.rectangle_pack_sections.proofs.Std.{ℕ, ◌≤◌, ◌<◌, ◌+◌, ◌-◌, ◌*◌, ◌/◌, arith, ◌∙◌, IfOk-from_err}
+use Rattle.rectangle_pack_sections.proofs.Std.{ℕ, ◌≤◌, ◌<◌, ◌+◌, ◌-◌, ◌*◌, ◌/◌, arith, ◌∙◌}
 use Rattle.rectangle_pack_lists.proofs.lemmas.trial.Steps.{length-step}
 use Rattle.rectangle_pack_lists.proofs.lemmas.trial.StepsByIndex.{LeadsBack-noted}
 use Rattle.rectangle_pack_sections.proofs.lemmas.util.Results.{OnErr-given}
-use Rattle.rectangle_pack_lists.proofs.lemmas.util.Reads.{le-through}
 use Rattle.rectangle_pack_lists.proofs.trial.plain.VecBinSectionFreeList.place.Goals as goal
 
 -- a step has room for two more than it takes
@@ -23,41 +22,8 @@ returns-clause-noted g c = λ notes start back.
     (c.place_at.ensures.before ∙ c.in_ok-reserve.ensures.items)
     (omega (arith, c.in_ok-reserve.ensures.capacity, c.place_at.ensures.capacity)) c.place_at.ensures.can_undo back
 
-pub returns-in_err-reserve-clause-room_for : goal.returns-in_err-reserve-clause-room_for
-returns-in_err-reserve-clause-room_for g c = IfOk-from_err _ _ c.from_residual.ensures.0
-
-pub returns-in_err-reserve-clause-step : goal.returns-in_err-reserve-clause-step
-returns-in_err-reserve-clause-step g c = IfOk-from_err _ _ c.from_residual.ensures.0
-
-pub returns-in_err-reserve-clause-noted : goal.returns-in_err-reserve-clause-noted
-returns-in_err-reserve-clause-noted g c = IfOk-from_err _ _ c.from_residual.ensures.0
-
 pub returns-in_err-reserve-clause-full : goal.returns-in_err-reserve-clause-full
 returns-in_err-reserve-clause-full g c = OnErr-given _ (fewer_steps _ _ _ c.requires.some c.in_err-reserve.ensures.full)
 
-pub returns-in_err-reserve-clause-err : goal.returns-in_err-reserve-clause-err
-returns-in_err-reserve-clause-err g c = OnErr-given _ c.reserve.ensures.items
-
-pub place_at-requires-clause-callable : goal.place_at-requires-clause-callable
-place_at-requires-clause-callable g c = c.requires.callable
-
-pub place_at-requires-clause-index : goal.place_at-requires-clause-index
-place_at-requires-clause-index g c = rw c.reserve.ensures.items c.requires.newest.1.0
-
-pub place_at-requires-clause-holds : goal.place_at-requires-clause-holds
-place_at-requires-clause-holds g c = rw c.reserve.ensures.items c.requires.newest.1.1
-
-pub place_at-requires-clause-newest : goal.place_at-requires-clause-newest
-place_at-requires-clause-newest g c = rw c.reserve.ensures.items c.requires.newest.1.2
-
-pub place_at-requires-clause-fits : goal.place_at-requires-clause-fits
-place_at-requires-clause-fits g c = rw c.reserve.ensures.items c.requires.fits
-
 pub place_at-requires-clause-room : goal.place_at-requires-clause-room
 place_at-requires-clause-room g c = room_for_step _ _ _ c.requires.some c.in_ok-reserve.ensures.ok
-
-pub returns-clause-room : goal.returns-clause-room
-returns-clause-room g c = le-through _ _ _ c.reserve.ensures.capacity c.place_at.ensures.capacity
-
-pub returns-clause-step : goal.returns-clause-step
-returns-clause-step g c = λ tests at. rw (at.3, ← c.reserve.ensures.items) c.place_at.ensures.step
