@@ -57,9 +57,13 @@ where
 /// A group in an order: its key, its name, its ids, and where their sizes begin among those of all.
 #[derive(Drop)]
 pub struct OrderedGroup<'a, K, Id, A: Allocator> {
+    /// The sum of the rates of its boxes, of which the greater goes first.
     pub key: Reverse<u128>,
+    /// Its name.
     pub name: &'a K,
+    /// The ids of its boxes.
     pub ids: &'a Vec<Id, A>,
+    /// Where the sizes of these begin.
     pub start: usize,
 }
 
