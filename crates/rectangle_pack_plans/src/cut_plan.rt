@@ -1,16 +1,21 @@
 //! Cutting plans: the straight cuts that part a box into given boxes.
-ghost use Rattle.std.specs.Prelude.{◌≡◌, ◌≤◌, IfOk, MatchOption};
+ghost use Rattle.std.specs.Prelude.{◌≡◌, ◌≤◌, ◌++◌, List, length, reverse, IfOk, OnOk, MatchBool, MatchOption};
+ghost use Rattle.std.specs.Option.{option_to_list};
 ghost use Rattle.rectangle_pack_sections.specs.Boxes.{FitsU32};
 ghost use Rattle.rectangle_pack_sections.specs.CutTrees.{IsPlaceOf, IsFromCuts};
 ghost use Rattle.rectangle_pack_plans.specs.CutPlans.{IsCutPlan};
-ghost use Rattle.rectangle_pack_plans.specs.private.CutPlans.{IsFilled, lower_part, upper_part};
+ghost use Rattle.rectangle_pack_plans.specs.declared.cut_plan.Part.{Part};
+ghost use Rattle.rectangle_pack_plans.specs.private.CutPlans.{IsFilled, AreOrdered, lower_part, upper_part};
+ghost use Rattle.rectangle_pack_plans.specs.private.Pending.{IsPeeled};
 
 pub mod laws;
 mod order;
 mod parts;
+mod peel;
 mod split;
 
 use crate::cut_plan::parts::{lower, upper};
+use crate::cut_plan::peel::{TURNS, peel};
 use crate::cut_plan::split::{Split, first_split};
 use rectangle_pack_sections::axis::Axis;
 use rectangle_pack_sections::bin_section::BinSection;
@@ -31,13 +36,16 @@ pub enum CutStep {
     Leaf,
 }
 
-// A part that is still to be planned: how many boxes fill it, and on which axis they stand in
-// order of their starts, if that is known.
+// A part that is still to be planned: how many boxes fill it, on which axis they stand in order of
+// their starts, if that is known, and the cut that comes before its plan, if any. `turns` says how
+// often its boxes were put in order anew since they were few.
 #[derive(Clone, Copy)]
 struct Part {
     whole: BinSection,
     count: usize,
     ordered: Option<Axis>,
+    before: Option<CutStep>,
+    turns: u32,
 }
 
 // The lower and the upper part of a part that is split.
@@ -46,20 +54,71 @@ fn cut(part: &Part, split: &Split) -> (Part, Part)
     requires place { IsPlaceOf split.now.axis split.now.place part.now.whole }
     requires some { split.now.below ≤ part.now.count }
     ensures lower { result.0 ≡ lower_part part.now split.now }
-    ensures upper { result.1 ≡ upper_part part.now split.now }
+    ensures upper { result.1 ≡ upper_part part.now split.now result.1.turns }
 {
     let (axis, place) = (split.axis, split.place);
     let below = Part {
         whole: lower(&part.whole, axis, place),
         count: split.below,
         ordered: Some(axis),
+        before: Some(CutStep::Cut { axis, place }),
+        turns: 0,
+    };
+    let count = part.count - split.below;
+    let turns = if count < split.below || part.turns >= TURNS {
+        0
+    } else {
+        part.turns.saturating_add(u32::from(split.is_anew))
     };
     let above = Part {
         whole: upper(&part.whole, axis, place),
-        count: part.count - split.below,
+        count,
         ordered: Some(axis),
+        before: None,
+        turns,
     };
     (below, above)
+}
+
+// Puts the cut that comes before a part at the end of the plan.
+fn push_before<A: Allocator>(plan: &mut Vec<CutStep, A>, part: &Part) -> Result<(), AllocError>
+    ensures { OnOk result (plan.new.items ≡ plan.old.items ++ option_to_list part.now.before) }
+{
+    if let Some(step) = part.before {
+        plan.push(step)?;
+    }
+    Ok(())
+}
+
+// Cuts a part with two boxes or more at its first open plane, and perhaps what is above it at further
+// ones, and puts the parts behind the pending ones, the first one last. Puts the boxes in the order
+// of these parts. `false` where no plane is open.
+fn cut_up<A: Allocator + Copy>(
+    alloc: A,
+    part: &Part,
+    boxes: &mut [BinSection],
+    pending: &mut Vec<Part, A>,
+) -> Result<bool, AllocError>
+    requires filled { IsFilled part.now.whole boxes.old }
+    requires ordered { AreOrdered part.now.ordered boxes.old }
+    requires count { part.now.count ≡ length boxes.old }
+    requires many { 2 ≤ length boxes.old }
+    ensures { IfOk result (λ is_cut.
+        MatchBool is_cut
+        ((parts : List Part) × (pending.new.items ≡ pending.old.items ++ reverse parts) ×
+        IsPeeled part.now boxes.old boxes.new parts)
+        (¬ IsFromCuts boxes.old part.now.whole)) }
+{
+    if peel(alloc, part, boxes, pending)? {
+        return Ok(true);
+    }
+    let Some(split) = first_split(&part.whole, part.ordered, boxes) else {
+        return Ok(false);
+    };
+    let (below, above) = cut(part, &split);
+    pending.push(above)?;
+    pending.push(below)?;
+    Ok(true)
 }
 
 /// The plan of the whole, which the boxes fill: a cut at the first open plane of each part with two
@@ -82,24 +141,21 @@ pub fn plan_of<A: Allocator + Copy>(
         whole,
         count: boxes.len(),
         ordered: None,
+        before: None,
+        turns: 0,
     })?;
     let mut done = 0;
     while let Some(part) = pending.pop() {
+        push_before(&mut plan, &part)?;
+        let end = done + part.count;
         if part.count <= 1 {
             plan.push(CutStep::Leaf)?;
-            done += part.count;
+            done = end;
             continue;
         }
-        let end = done + part.count;
-        let found = first_split(&part.whole, part.ordered, &mut boxes[done..end]);
-        let Some(split) = found else {
+        if !cut_up(alloc, &part, &mut boxes[done..end], &mut pending)? {
             return Ok(None);
-        };
-        let (axis, place) = (split.axis, split.place);
-        plan.push(CutStep::Cut { axis, place })?;
-        let (below, above) = cut(&part, &split);
-        pending.push(above)?;
-        pending.push(below)?;
+        }
     }
     Ok(Some(plan))
 }

@@ -7,4 +7,7 @@ pub mod FirstPlanes
 pub mod FirstOpen
 pub mod Ends
 pub mod Pending
+pub mod Left
+pub mod Orders
+pub mod Peel
 pub mod Pinwheel

@@ -1,12 +1,16 @@
 -- What is known of the parts of a box while its cutting plan is made.
-use Rattle.std.specs.Prelude.{ℕ, ◌≡◌, ◌-◌, ◌<◌, true, List, take, drop, length, All, Option, Some, IfSome}
+use Rattle.std.specs.Prelude.{ℕ, ◌≡◌, ◌+◌, ◌-◌, ◌*◌, ◌<◌, ◌&&◌, ⊤, Bool, true, nat_le, List, take, drop, length, filter, All, Option, Some, None, IfSome}
 use Rattle.std.specs.List.Sorted.{IsNonDecreasingBy}
 use Rattle.rectangle_pack_sections.specs.declared.axis.Axis.{Axis}
+use Rattle.rectangle_pack_sections.specs.declared.axis.Axis.TheVariants.{X, Y, Z}
+use Rattle.rectangle_pack_plans.specs.declared.cut_plan.CutStep.TheVariants.{Cut as CutAt}
 use Rattle.rectangle_pack_plans.specs.declared.cut_plan.Part.{Part}
+use Rattle.rectangle_pack_plans.specs.declared.cut_plan.peel.Look.{Look}
+use Rattle.rectangle_pack_plans.specs.declared.cut_plan.peel.Look.TheVariants.{Open, Closed, Unknown}
 use Rattle.rectangle_pack_plans.specs.declared.cut_plan.split.Split.{Split}
-use Rattle.rectangle_pack_sections.specs.Boxes.{Cuboid, FitsU32, start, has_cells}
+use Rattle.rectangle_pack_sections.specs.Boxes.{Cuboid, FitsU32, extent, start, has_cells}
 use Rattle.rectangle_pack_sections.specs.Counting.{Tiles}
-use Rattle.rectangle_pack_sections.specs.CutTrees.{lower, upper}
+use Rattle.rectangle_pack_sections.specs.CutTrees.{lower, upper, HaveSameBoxes}
 use Rattle.rectangle_pack_plans.specs.CutPlans.{IsOpenPlane, axis_rank, lower_boxes, upper_boxes}
 
 -- the boxes have cells, and end within 32 bits
@@ -50,9 +54,57 @@ pub record IsSplit (whole : Cuboid) (boxes : List Cuboid) (split : Split) : Type
   pub ordered : IsNonDecreasingBy (start split.axis) boxes
   pub first : AreClosed (axis_rank split.axis) whole boxes
 
--- the lower and the upper part of a part that is split
+-- the lower and the upper part of a part that is split; before the lower one comes the cut
 abbrev pub lower_part : Part → Split → Part
-lower_part p s = record { whole = lower s.axis s.place p.whole; count = s.below; ordered = Some s.axis }
+lower_part p s =
+    record { whole = lower s.axis s.place p.whole; count = s.below; ordered = Some s.axis; before = Some (CutAt s.axis s.place); turns = 0 }
 
-abbrev pub upper_part : Part → Split → Part
-upper_part p s = record { whole = upper s.axis s.place p.whole; count = p.count - s.below; ordered = Some s.axis }
+abbrev pub upper_part : Part → Split → ℕ → Part
+upper_part p s turns = record { whole = upper s.axis s.place p.whole; count = p.count - s.below; ordered = Some s.axis; before = None; turns = turns }
+
+-- whether a box does not start before the part, on any axis
+unfoldable pub is_left : Cuboid → Cuboid → Bool
+is_left part b = (nat_le (start X part) (start X b) && nat_le (start Y part) (start Y b)) && nat_le (start Z part) (start Z b)
+
+-- the boxes that are left of a part, once lower parts were cut off it
+abbrev pub left_in : Cuboid → List Cuboid → List Cuboid
+left_in part boxes = filter (is_left part) boxes
+
+-- the rest of an order, from which the first n boxes that are left were taken
+pub record IsLeftIn (part : Cuboid) (n : ℕ) (order rest : List Cuboid) : Type 0 where
+  pub gone : ℕ
+  pub is : rest ≡ drop gone order
+  pub left : left_in part rest ≡ drop n (left_in part order)
+
+-- what a look along an axis may find: the first open plane on it, or that none is open; it may find nothing
+abbrev pub FindsPlane : Axis → Cuboid → List Cuboid → Look → Type 0
+FindsPlane a whole boxes (Open place below) = IsFirstOpen a whole boxes place below
+FindsPlane a whole boxes Closed = IsClosedOn a whole boxes
+FindsPlane a whole boxes Unknown = ⊤
+
+-- by start on an axis, and the longest first
+abbrev pub start_rank : Axis → Cuboid → ℕ
+start_rank a b = start a b * 4294967296 + (4294967295 - extent a b.whd)
+
+-- of three orders, that along an axis
+abbrev pub along : Axis → List Cuboid → List Cuboid → List Cuboid → List Cuboid
+along X xs ys zs = xs
+along Y xs ys zs = ys
+along Z xs ys zs = zs
+
+-- of three lists, in order along x, y and z, the same boxes are left, and they fill the part; where it is flat, the last may be
+-- in any order
+pub record AreInOrder (part : Cuboid) (xs ys zs : List Cuboid) : Type 0 where
+  pub rising : (a : Axis) → (a ≡ Z → 1 < part.whd.depth) → IsNonDecreasingBy (start a) (along a xs ys zs)
+  pub filled : IsFilled part (left_in part xs)
+  pub same : (a : Axis) → HaveSameBoxes (left_in part xs) (left_in part (along a xs ys zs))
+  pub cells : (a : Axis) → All (λ b. has_cells b ≡ true) (left_in part (along a xs ys zs))
+
+-- the boxes that are left in the order along the axis of a split are split by it
+abbrev pub IsKeptSplit : Cuboid → List Cuboid → List Cuboid → List Cuboid → Split → Type 0
+IsKeptSplit part xs ys zs split = IsSplit part (left_in part (along split.axis xs ys zs)) split
+
+-- what is kept of the orders once the boxes below a split are taken off
+pub record IsKeptAbove (part : Cuboid) (split : Split) (es xs ys zs : List Cuboid) : Type 0 where
+  pub ordered : AreInOrder (upper split.axis split.place part) xs ys zs
+  pub same : HaveSameBoxes (drop split.below es) (left_in (upper split.axis split.place part) xs)

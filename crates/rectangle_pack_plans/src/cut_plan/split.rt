@@ -10,12 +10,14 @@ use rectangle_pack_sections::axis::Axis;
 use rectangle_pack_sections::bin_section::BinSection;
 use rectangle_pack_sections::span::Span;
 
-// Where a part is cut, and how many of its boxes are below the cut.
+// Where a part is cut, how many of its boxes are below the cut, and whether its boxes had to be put
+// in order anew.
 #[derive(Clone, Copy)]
 pub(crate) struct Split {
     pub axis: Axis,
     pub place: u32,
     pub below: usize,
+    pub is_anew: bool,
 }
 
 // The first open plane on an axis, where the boxes stand in order on it: its place, and how many
@@ -58,7 +60,12 @@ fn split_on(
         return None;
     }
     let (place, below) = first_open_plane(whole, axis, boxes)?;
-    Some(Split { axis, place, below })
+    Some(Split {
+        axis,
+        place,
+        below,
+        is_anew: false,
+    })
 }
 
 // The first open plane, by axis x, y, z and then by the least place. Puts the boxes below it in
@@ -76,9 +83,13 @@ pub(crate) fn first_split(
         (IsSplit whole.now boxes.new) }
 {
     let mut ordered = ordered;
+    let mut is_anew = false;
     for axis in [Axis::X, Axis::Y, Axis::Z] {
-        if let Some(split) = split_on(whole, axis, &mut ordered, boxes) {
-            return Some(split);
+        let before = ordered;
+        let found = split_on(whole, axis, &mut ordered, boxes);
+        is_anew |= before != ordered;
+        if let Some(split) = found {
+            return Some(Split { is_anew, ..split });
         }
     }
     None

@@ -1,5 +1,5 @@
 use Rattle.rectangle_pack_sections.proofs.Std.{◌≤◌, length, drop, reverse, sum_by}
-use Rattle.rectangle_pack_plans.proofs.lemmas.cut_plan.Pending.{LeadOn, weight}
+use Rattle.rectangle_pack_plans.specs.private.Pending.{LeadOn, weight}
 use Rattle.rectangle_pack_plans.proofs.cut_plan.plan_of.Given as goal
 
 -- the steps so far, and what is planned for the pending parts, are the plan

@@ -12,6 +12,7 @@ use Rattle.rectangle_pack_sections.proofs.lemmas.cuts.Axes.{cell_at, IsAt, is_ce
 use Rattle.rectangle_pack_sections.proofs.lemmas.cuts.Boxes.{is_cell_of-true, is_cell_of-from, has_cells-from}
 use Rattle.rectangle_pack_sections.proofs.lemmas.cuts.Counting.{count_yes, count_no, cell_from_filled, filled-filter, filled-permutation}
 use Rattle.rectangle_pack_sections.proofs.lemmas.cuts.Trees.{times_in-empty}
+use Rattle.rectangle_pack_sections.proofs.lemmas.cuts.SameBoxes.{count-same}
 use Rattle.rectangle_pack_plans.proofs.lemmas.cut_plan.OpenPlanes.{last_at, IsAt-last}
 use Rattle.rectangle_pack_sections.proofs.lemmas.cuts.Parts.{box_alike}
 use Rattle.rectangle_pack_sections.proofs.lemmas.cuts.Times.{cases_box, times_in-nil, times_in-cons, times_in-other, times_in-permutation, which_passes}
@@ -97,6 +98,15 @@ IsFilled-permutation whole bs es moved filled = record {
   fits = filled.fits;
   tiles = record { same = λ c. filled-permutation c bs es moved ∙ filled.tiles.same c };
   cells = All-permutation (λ e. has_cells e ≡ true) bs es moved filled.cells;
+}
+
+-- lists of the same boxes fill the same
+pub IsFilled-same : (whole : Cuboid) (bs es : List Cuboid) → HaveSameBoxes bs es → All (λ e. has_cells e ≡ true) es → IsFilled whole bs → IsFilled whole es
+unfolding times_filled
+IsFilled-same whole bs es same cells filled = record {
+  fits = filled.fits;
+  tiles = record { same = λ c. sym (count-same (is_cell_of c) (λ b. has_cells-from c b) bs es same) ∙ filled.tiles.same c };
+  cells = cells;
 }
 
 -- the boxes with cells that cover a bin fill it

@@ -1,5 +1,5 @@
 -- First open planes, and the trees that they plan.
-use Rattle.rectangle_pack_sections.proofs.Std.{ℕ, ◌≡◌, ◌+◌, List, refl, ap, sym, ◌∙◌, subst, arith, inl, inr, nat_le, IsPermutation, cases_lt, cases_order}
+use Rattle.rectangle_pack_sections.proofs.Std.{ℕ, ◌≡◌, ◌+◌, ◌<◌, [], ◌∷◌, get_or, List, refl, ap, sym, ◌∙◌, subst, arith, inl, inr, nat_le, IsPermutation, cases_lt, cases_order}
 use Rattle.rectangle_pack_sections.specs.declared.axis.Axis.{Axis}
 use Rattle.rectangle_pack_sections.specs.declared.axis.Axis.TheVariants.{X, Y, Z}
 use Rattle.rectangle_pack_plans.specs.declared.cut_plan.CutStep.{CutStep}
@@ -13,6 +13,12 @@ use Rattle.rectangle_pack_plans.proofs.lemmas.cut_plan.OpenPlanes.{IsOpenPlane-s
 use Rattle.rectangle_pack_plans.proofs.lemmas.cut_plan.Split.{IsPlaceOf-open, times_in-sides, lower_side, upper_side}
 use Rattle.rectangle_pack_sections.proofs.lemmas.cuts.SameBoxes.{HaveSameBoxes-sym, HaveSameBoxes-permutation, HaveSameBoxes-filtered, count-same}
 use Rattle.rectangle_pack_sections.proofs.lemmas.cuts.Times.{times_in-append}
+use Rattle.rectangle_pack_sections.proofs.lemmas.cuts.Axes.{below_3}
+
+-- the axes stand in the order of their ranks
+pub rank_at : (i : ℕ) → i < 3 → axis_rank (get_or (X ∷ Y ∷ Z ∷ []) i X) ≡ i
+unfolding axis_rank
+rank_at = below_3 (λ i. axis_rank (get_or (X ∷ Y ∷ Z ∷ []) i X) ≡ i) refl refl refl
 
 axis_by_rank : (a e : Axis) → axis_rank a ≡ axis_rank e → a ≡ e
 unfolding axis_rank
@@ -21,7 +27,7 @@ axis_by_rank Y Y same = refl
 axis_by_rank Z Z same = refl
 axis_by_rank _ _ same = absurd (omega arith)
 
-AreClosed-same : (n : ℕ) (whole : Cuboid) (bs es : List Cuboid) → HaveSameBoxes bs es → AreClosed n whole bs → AreClosed n whole es
+pub AreClosed-same : (n : ℕ) (whole : Cuboid) (bs es : List Cuboid) → HaveSameBoxes bs es → AreClosed n whole bs → AreClosed n whole es
 AreClosed-same n whole bs es same closed = λ a lt q h. closed a lt q (IsOpenPlane-same a q whole es bs (HaveSameBoxes-sym bs es same) h)
 
 pub AreClosed-permutation : (n : ℕ) (whole : Cuboid) (bs es : List Cuboid) → IsPermutation bs es → AreClosed n whole bs → AreClosed n whole es

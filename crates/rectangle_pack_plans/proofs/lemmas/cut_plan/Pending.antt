@@ -1,8 +1,11 @@
 -- The parts of a box that are still to be planned, the next one first, whose boxes stand one part after another.
-use Rattle.rectangle_pack_sections.proofs.Std.{ℕ, suc, ◌+◌, ◌-◌, ◌<◌, ◌≤◌, ◌≡◌, true, List, [], ◌∷◌, ◌++◌, length, take, drop, refl, ap, sym, ◌∙◌, subst}
+use Rattle.rectangle_pack_sections.proofs.Std.{ℕ, ◌+◌, ◌-◌, ◌<◌, ◌≤◌, ◌≡◌, true, List, [], ◌∷◌, ◌++◌, length, take, drop, refl, ap, sym, ◌∙◌, subst}
 use Rattle.rectangle_pack_sections.proofs.Std.{append_assoc, sum_by, sum_by_push, reverse, arith, All, count_by, None, IsPermutation, length-take-le, length-drop, reverse-append}
 use Rattle.rectangle_pack_sections.proofs.Std.{take_at, drop_at, length-append, append-nil, take-append-drop, All-take, All-drop, count_by-le-length}
 use Rattle.rectangle_pack_sections.proofs.Std.{length-filter, length_permutation, IsNonDecreasingBy-take, IsNonDecreasingBy-drop}
+use Rattle.rectangle_pack_sections.proofs.Std.{All-permutation, sum_by-append, sum_by-IsPermutation}
+use Rattle.std.proofs.lemmas.List.{reverse-reverse}
+use Rattle.std.proofs.lemmas.List.Sorted.{IsPermutation-reverse}
 use borrow.Rule.Slice.PartMut.{put_mid}
 use Rattle.rectangle_pack_sections.specs.declared.axis.Axis.{Axis}
 use Rattle.rectangle_pack_sections.specs.declared.axis.Axis.TheVariants.{X}
@@ -12,12 +15,14 @@ use Rattle.rectangle_pack_plans.specs.declared.cut_plan.CutStep.{CutStep}
 use Rattle.rectangle_pack_plans.specs.declared.cut_plan.CutStep.TheVariants.{Cut as CutAt, Leaf as LeafHere}
 use Rattle.rectangle_pack_sections.specs.Boxes.{Cuboid, start, has_cells}
 use Rattle.rectangle_pack_sections.specs.Counting.{Tiles}
-use Rattle.rectangle_pack_sections.specs.CutTrees.{CutTree, Leaf, Cut, lower, upper, IsFromCuts, IsPlaceOf}
+use Rattle.rectangle_pack_sections.specs.CutTrees.{CutTree, Leaf, Cut, lower, upper, IsFromCuts, IsPlaceOf, HaveSameBoxes}
 use Rattle.rectangle_pack_plans.specs.CutPlans.{axis_rank, IsOpenPlane, IsFirstPlane, IsPlannedTree, steps_of, IsCutPlan}
 use Rattle.rectangle_pack_plans.specs.private.CutPlans.{IsFilled, AreOrdered, AreClosed, IsSplit, lower_part, upper_part}
+use Rattle.rectangle_pack_plans.specs.private.Pending.{IsPending, LeadOn, weight}
+use Rattle.std.specs.Option.{option_to_list}
 use Rattle.rectangle_pack_sections.proofs.lemmas.cuts.Counting.{filter_all}
 use Rattle.rectangle_pack_plans.proofs.lemmas.cut_plan.FirstPlanes.{IsPlannedTree-same, planned_tree_has_leaves}
-use Rattle.rectangle_pack_plans.proofs.lemmas.cut_plan.Filling.{FitsU32-part, IsFilled-permutation}
+use Rattle.rectangle_pack_plans.proofs.lemmas.cut_plan.Filling.{FitsU32-part, IsFilled-same}
 use Rattle.rectangle_pack_plans.proofs.lemmas.cut_plan.OpenPlanes.{cuts_have_open_planes}
 use Rattle.rectangle_pack_plans.proofs.lemmas.cut_plan.Split.{IsPlaceOf-open, IsSide, lower_side, upper_side}
 use Rattle.rectangle_pack_sections.proofs.lemmas.cuts.SameBoxes.{HaveSameBoxes-sym, HaveSameBoxes-permutation, IsFromCuts-same}
@@ -28,67 +33,81 @@ rank_below X = omega arith
 rank_below _ = omega arith
 
 module _ (boxes : List Cuboid) (whole : Cuboid) where
-  -- a part: its filling fill it, in this order, and are from cuts of it where the boxes are from cuts of the whole
-  pub record IsPending (p : Part) (filling : List Cuboid) : Type 0 where
-    pub filled : IsFilled p.whole filling
-    pub ordered : AreOrdered p.ordered filling
-    pub from_cuts : IsFromCuts boxes whole → IsFromCuts filling p.whole
-
-  -- the steps so far, and whatever is planned for the pending parts, in order, are the plan of the whole
-  unfoldable pub LeadOn : List Part → List Cuboid → List CutStep → Type 0
-  LeadOn [] rest steps = (tree : CutTree) × IsPlannedTree tree whole boxes × (steps ≡ steps_of tree)
-  LeadOn (p ∷ ps) rest steps =
-      (p.count ≤ length rest) × IsPending p (take p.count rest)
-      × ((t : CutTree) → IsPlannedTree t p.whole (take p.count rest) → LeadOn ps (drop p.count rest) (steps ++ steps_of t))
-
   -- a part in front of others
-  LeadOn-cons : (p : Part) (ps : List Part) (es left : List Cuboid) (steps : List CutStep) → length es ≡ p.count → IsPending p es
-      → ((t : CutTree) → IsPlannedTree t p.whole es → LeadOn ps left (steps ++ steps_of t)) → LeadOn (p ∷ ps) (es ++ left) steps
+  LeadOn-cons : (p : Part) (ps : List Part) (es left : List Cuboid) (steps : List CutStep) → length es ≡ p.count → IsPending boxes whole p es
+      → ((t : CutTree) → IsPlannedTree t p.whole es → LeadOn boxes whole ps left ((steps ++ option_to_list p.before) ++ steps_of t))
+      → LeadOn boxes whole (p ∷ ps) (es ++ left) steps
   unfolding LeadOn
   LeadOn-cons p ps es left steps len pending goes_on =
+      let now = steps ++ option_to_list p.before in
       let front : es ≡ take p.count (es ++ left) = sym (take_at es left p.count len) in
       let back : left ≡ drop p.count (es ++ left) = sym (drop_at es left p.count len) in (
         omega (arith, length-append es left),
-        subst (IsPending p) front pending,
-        λ t is. subst (λ l. LeadOn ps l (steps ++ steps_of t)) back (goes_on t (subst (IsPlannedTree t p.whole) (sym front) is)),
+        subst (IsPending boxes whole p) front pending,
+        λ t is. subst (λ l. LeadOn boxes whole ps l (now ++ steps_of t)) back (goes_on t (subst (IsPlannedTree t p.whole) (sym front) is)),
       )
 
+  -- what is known of the part in front
+  record IsInFront (p : Part) (ps : List Part) (es left : List Cuboid) (steps : List CutStep) : Type 0 where
+    pub pending : IsPending boxes whole p es
+    pub goes_on : (t : CutTree) → IsPlannedTree t p.whole es → LeadOn boxes whole ps left ((steps ++ option_to_list p.before) ++ steps_of t)
+
+  LeadOn-front : (p : Part) (ps : List Part) (es left : List Cuboid) (steps : List CutStep) → length es ≡ p.count
+      → LeadOn boxes whole (p ∷ ps) (es ++ left) steps → IsInFront p ps es left steps
+  unfolding LeadOn
+  LeadOn-front p ps es left steps len h =
+      let now = steps ++ option_to_list p.before in
+      let front : take p.count (es ++ left) ≡ es = take_at es left p.count len in
+      let back : drop p.count (es ++ left) ≡ left = drop_at es left p.count len in
+      record {
+        pending = subst (IsPending boxes whole p) front h.1;
+        goes_on = λ t is. subst (λ l. LeadOn boxes whole ps l (now ++ steps_of t)) back (h.2 t (subst (IsPlannedTree t p.whole) (sym front) is));
+      }
+
   -- at most one box
-  pub LeadOn-leaf : (p : Part) (ps : List Part) (rest : List Cuboid) (steps : List CutStep)
-      → p.count ≤ 1 → LeadOn (p ∷ ps) rest steps → LeadOn ps (drop p.count rest) (steps ++ LeafHere ∷ [])
+  pub LeadOn-leaf : (p : Part) (ps : List Part) (rest : List Cuboid) (steps : List CutStep) → p.count ≤ 1 → LeadOn boxes whole (p ∷ ps) rest steps
+      → LeadOn boxes whole ps (drop p.count rest) ((steps ++ option_to_list p.before) ++ LeafHere ∷ [])
   unfolding LeadOn
   LeadOn-leaf p ps rest steps few h = h.2 Leaf (omega (arith, count_by-le-length has_cells (take p.count rest), length-take-le p.count rest h.0))
 
-  module _ (p : Part) (ps : List Part) (rest es : List Cuboid) (steps : List CutStep) (many : 2 ≤ p.count)
-      (moved : IsPermutation (take p.count rest) es) (leads : LeadOn (p ∷ ps) rest steps) where
-    there : p.count ≤ length rest
-    unfolding LeadOn
-    there = leads.0
+  -- the same part, with its boxes in another order, and the step before it taken or not
+  pub LeadOn-turn : (p q : Part) (ps : List Part) (es fs left : List Cuboid) (steps more : List CutStep) → q.whole ≡ p.whole
+      → length es ≡ p.count → length fs ≡ q.count → HaveSameBoxes es fs → All (λ e. has_cells e ≡ true) fs → AreOrdered q.ordered fs
+      → more ++ option_to_list q.before ≡ steps ++ option_to_list p.before
+      → LeadOn boxes whole (p ∷ ps) (es ++ left) steps → LeadOn boxes whole (q ∷ ps) (fs ++ left) more
+  LeadOn-turn p q ps es fs left steps more part len long same cells ordered text h =
+      let front = LeadOn-front p ps es left steps len h in
+      let filled : IsFilled q.whole fs = rw part (IsFilled-same p.whole es fs same cells front.pending.filled) in
+      let pending : IsPending boxes whole q fs =
+      record { filled = filled; ordered = ordered; from_cuts = λ from. rw part (IsFromCuts-same es fs same (front.pending.from_cuts from)) } in
+      LeadOn-cons q ps fs left more long pending (λ t is. subst (λ l. LeadOn boxes whole ps left (l ++ steps_of t)) (sym text)
+      (front.goes_on t (IsPlannedTree-same t p.whole fs es (HaveSameBoxes-sym es fs same) (subst (λ w. IsPlannedTree t w fs) part is))))
 
-    pending : IsPending p (take p.count rest)
+  -- what stands behind the part in front may become other parts
+  pub LeadOn-under : (p : Part) (ps qs : List Part) (es rest left : List Cuboid) (steps : List CutStep) → length es ≡ p.count
+      → ((now : List CutStep) → LeadOn boxes whole ps rest now → LeadOn boxes whole qs left now)
+      → LeadOn boxes whole (p ∷ ps) (es ++ rest) steps → LeadOn boxes whole (p ∷ qs) (es ++ left) steps
+  LeadOn-under p ps qs es rest left steps len becomes h =
+      let front = LeadOn-front p ps es rest steps len h in
+      LeadOn-cons p qs es left steps len front.pending (λ t is. becomes ((steps ++ option_to_list p.before) ++ steps_of t) (front.goes_on t is))
+
+  module _ (p : Part) (ps : List Part) (rest es : List Cuboid) (steps : List CutStep) (many : 2 ≤ length es) (len : length es ≡ p.count)
+      (same : HaveSameBoxes (take p.count rest) es) (cells : All (λ e. has_cells e ≡ true) es) (leads : LeadOn boxes whole (p ∷ ps) rest steps) where
+    pending : IsPending boxes whole p (take p.count rest)
     unfolding LeadOn
     pending = leads.1
 
     filled : IsFilled p.whole es
-    filled = IsFilled-permutation p.whole (take p.count rest) es moved pending.filled
-
-    len : length es ≡ p.count
-    len = length_permutation (take p.count rest) es moved ∙ length-take-le p.count rest there
+    filled = IsFilled-same p.whole (take p.count rest) es same cells pending.filled
 
     two : 2 ≤ count_by has_cells es
-    two = omega (arith, length-filter has_cells es, ap length (filter_all has_cells es filled.cells), len)
+    two = omega (arith, length-filter has_cells es, ap length (filter_all has_cells es cells), many)
 
     from_cuts : IsFromCuts boxes whole → IsFromCuts es p.whole
-    from_cuts from = IsFromCuts-same (take p.count rest) es (HaveSameBoxes-permutation (take p.count rest) es moved) (pending.from_cuts from)
-
-    -- no plane is open
-    pub stuck_has_no_tree : AreClosed 3 p.whole es → ¬ IsFromCuts boxes whole
-    stuck_has_no_tree closed from =
-        let plane = cuts_have_open_planes es p.whole (from_cuts from) two in
-        closed plane.0 (rank_below plane.0) plane.1 plane.2
+    from_cuts from = IsFromCuts-same (take p.count rest) es same (pending.from_cuts from)
 
     -- a cut at the first open plane
-    module _ (s : Split) (split : IsSplit p.whole es s) where
+    module _ (s : Split) (split : IsSplit p.whole es s) (turns : ℕ) where
       is_open : IsOpenPlane s.axis s.place p.whole es
       is_open = split.on_axis.is_open
 
@@ -97,22 +116,22 @@ module _ (boxes : List Cuboid) (whole : Cuboid) where
 
       -- the part on a side of it, with the boxes there
       side_pending : (q : Part) (xs : List Cuboid) → IsSide p.whole es q.whole xs → All (λ e. has_cells e ≡ true) xs → AreOrdered q.ordered xs
-          → IsPending q xs
-      side_pending q xs side cells ordered = record {
-        filled = record { fits = FitsU32-part q.whole p.whole side.inside filled.fits; tiles = side.tiles; cells = cells };
+          → IsPending boxes whole q xs
+      side_pending q xs side kept ordered = record {
+        filled = record { fits = FitsU32-part q.whole p.whole side.inside filled.fits; tiles = side.tiles; cells = kept };
         ordered = ordered;
         from_cuts = λ from. side.from_cuts (from_cuts from);
       }
 
-      lower_pending : IsPending (lower_part p s) (take s.below es)
+      lower_pending : IsPending boxes whole (lower_part p s) (take s.below es)
       lower_pending = side_pending (lower_part p s) (take s.below es)
           (rw split.on_axis.front (lower_side s.axis s.place p.whole es place is_open.uncut filled.tiles))
-          (All-take (λ e. has_cells e ≡ true) s.below es filled.cells) (IsNonDecreasingBy-take (start s.axis) s.below es split.ordered)
+          (All-take (λ e. has_cells e ≡ true) s.below es cells) (IsNonDecreasingBy-take (start s.axis) s.below es split.ordered)
 
-      upper_pending : IsPending (upper_part p s) (drop s.below es)
-      upper_pending = side_pending (upper_part p s) (drop s.below es)
+      upper_pending : IsPending boxes whole (upper_part p s turns) (drop s.below es)
+      upper_pending = side_pending (upper_part p s turns) (drop s.below es)
           (rw split.on_axis.back (upper_side s.axis s.place p.whole es place is_open.uncut filled.tiles))
-          (All-drop (λ e. has_cells e ≡ true) s.below es filled.cells) (IsNonDecreasingBy-drop (start s.axis) s.below es split.ordered)
+          (All-drop (λ e. has_cells e ≡ true) s.below es cells) (IsNonDecreasingBy-drop (start s.axis) s.below es split.ordered)
 
       planned_cut : (t u : CutTree) → IsPlannedTree t (lower s.axis s.place p.whole) (take s.below es)
           → IsPlannedTree u (upper s.axis s.place p.whole) (drop s.below es) → IsPlannedTree (Cut s.axis s.place t u) p.whole (take p.count rest)
@@ -120,27 +139,35 @@ module _ (boxes : List Cuboid) (whole : Cuboid) where
           let first : IsFirstPlane s.axis s.place p.whole es =
           record { is_open = is_open; least = split.on_axis.least; first = λ e q lt. split.first e lt q } in
           let here : IsPlannedTree (Cut s.axis s.place t u) p.whole es = (two, first, rw split.on_axis.front at below, rw split.on_axis.back at above) in
-          let same = HaveSameBoxes-permutation (take p.count rest) es moved in
           IsPlannedTree-same (Cut s.axis s.place t u) p.whole es (take p.count rest) (HaveSameBoxes-sym (take p.count rest) es same) here
 
-      pub LeadOn-cut : LeadOn (lower_part p s ∷ upper_part p s ∷ ps) (es ++ drop p.count rest) (steps ++ CutAt s.axis s.place ∷ [])
+      -- the steps of a cut, as they come
+      text : (t u : CutTree) → let now = steps ++ option_to_list p.before in
+          now ++ steps_of (Cut s.axis s.place t u) ≡ (((now ++ CutAt s.axis s.place ∷ []) ++ steps_of t) ++ []) ++ steps_of u
+      text t u =
+          let now = steps ++ option_to_list p.before in
+          sym (ap (λ l. l ++ steps_of u) (append-nil ((now ++ CutAt s.axis s.place ∷ []) ++ steps_of t)) ∙ simp append_assoc)
+
+      pub LeadOn-cut : LeadOn boxes whole (lower_part p s ∷ upper_part p s turns ∷ ps) (es ++ drop p.count rest) (steps ++ option_to_list p.before)
       unfolding LeadOn
       LeadOn-cut =
           let left = drop p.count rest in
           let xs = take s.below es in
           let ys = drop s.below es in
-          let now = steps ++ CutAt s.axis s.place ∷ [] in
+          let now = steps ++ option_to_list p.before in
           let cut : length xs ≡ s.below = length-take-le s.below es (omega (arith, split.on_axis.some_above)) in
-          subst (λ l. LeadOn (lower_part p s ∷ upper_part p s ∷ ps) l now) (sym (append_assoc xs ys left) ∙ ap (λ l. l ++ left) (take-append-drop s.below es))
-          (LeadOn-cons (lower_part p s) (upper_part p s ∷ ps) xs (ys ++ left) now cut lower_pending
-          (λ t below. LeadOn-cons (upper_part p s) ps ys left (now ++ steps_of t) (omega (arith, length-drop s.below es, len)) upper_pending
-          (λ u above. subst (LeadOn ps left) (simp append_assoc) (leads.2 (Cut s.axis s.place t u) (planned_cut t u below above)))))
+          subst (λ l. LeadOn boxes whole (lower_part p s ∷ upper_part p s turns ∷ ps) l now)
+          (sym (append_assoc xs ys left) ∙ ap (λ l. l ++ left) (take-append-drop s.below es))
+          (LeadOn-cons (lower_part p s) (upper_part p s turns ∷ ps) xs (ys ++ left) now cut lower_pending
+          (λ t below. LeadOn-cons (upper_part p s turns) ps ys left ((now ++ CutAt s.axis s.place ∷ []) ++ steps_of t)
+          (omega (arith, length-drop s.below es, len)) upper_pending
+          (λ u above. subst (LeadOn boxes whole ps left) (text t u) (leads.2 (Cut s.axis s.place t u) (planned_cut t u below above)))))
 
 pub LeadOn-start : (whole : Cuboid) (filling : List Cuboid) → IsFilled whole filling
-    → LeadOn filling whole (record { whole = whole; count = length filling; ordered = None } ∷ []) filling []
+    → LeadOn filling whole (record { whole = whole; count = length filling; ordered = None; before = None; turns = 0 } ∷ []) filling []
 unfolding LeadOn
 LeadOn-start whole filling filled =
-    let p : Part = record { whole = whole; count = length filling; ordered = None } in
+    let p : Part = record { whole = whole; count = length filling; ordered = None; before = None; turns = 0 } in
     subst (λ l. LeadOn filling whole (p ∷ []) l []) (append-nil filling)
     (LeadOn-cons filling whole p [] filling [] [] refl (record { filled = filled; ordered = tt; from_cuts = λ from. from }) (λ t is. (t, is, refl)))
 
@@ -152,27 +179,21 @@ LeadOn-end boxes whole rest steps tiles h =
     let right = planned_tree_has_leaves h.0 whole boxes tiles h.1 in
     record { from_cuts = record { tree = h.0; is_tree = right.0; same = right.1 }; planned = h.1; in_order = h.2 }
 
--- at least one, and less for two parts than for both together
-abbrev pub weight : Part → ℕ
-weight p = suc (p.count + p.count - 2)
-
 -- what is still to be planned weighs less once the last part is taken
 pub weight-popped : (pending popped : List Part) (part : Part) → pending ≡ popped ++ part ∷ [] → sum_by weight popped < sum_by weight pending
 weight-popped pending popped part is = omega (arith, ap (sum_by weight) is, sum_by_push weight popped part)
 
--- and less also where its two parts stand in its place
-pub weight-split : (pending popped with_upper with_both : List Part) (part up lo : Part) → pending ≡ popped ++ part ∷ []
-    → with_upper ≡ popped ++ up ∷ [] → with_both ≡ with_upper ++ lo ∷ [] → 0 < lo.count → lo.count < part.count → up.count ≡ part.count - lo.count
-    → sum_by weight with_both < sum_by weight pending
-weight-split pending popped with_upper with_both part up lo is one two some less rest =
+-- and less also where others stand in its place that weigh less
+pub weight-parted : (pending popped more parts : List Part) (part : Part) → pending ≡ popped ++ part ∷ [] → more ≡ popped ++ reverse parts
+    → sum_by weight parts < weight part → sum_by weight more < sum_by weight pending
+weight-parted pending popped more parts part is pushed lighter =
     omega (
       arith,
       ap (sum_by weight) is,
       sum_by_push weight popped part,
-      ap (sum_by weight) one,
-      sum_by_push weight popped up,
-      ap (sum_by weight) two,
-      sum_by_push weight with_upper lo,
+      ap (sum_by weight) pushed,
+      sum_by-append weight popped (reverse parts),
+      sum_by-IsPermutation weight parts (reverse parts) (IsPermutation-reverse parts),
     )
 
 module _ (boxes : List Cuboid) (whole : Cuboid) where
@@ -199,16 +220,18 @@ module _ (boxes : List Cuboid) (whole : Cuboid) where
 pub only_is_next : (none items : List Part) (p : Part) → none ≡ [] → items ≡ none ++ p ∷ [] → p ∷ [] ≡ reverse items
 only_is_next none items p empty is = sym (ap reverse (is ∙ ap (λ l. l ++ p ∷ []) empty))
 
--- two parts are kept, the lower one last
-pub lower_is_next : (popped pending last : List Part) (lo up : Part) → pending ≡ popped ++ up ∷ [] → last ≡ pending ++ lo ∷ []
-    → lo ∷ up ∷ reverse popped ≡ reverse last
-lower_is_next popped pending last lo up one two = rw (two, one, reverse-append (popped ++ up ∷ []) (lo ∷ []), reverse-append popped (up ∷ [])) refl
+-- the parts in the place of the last one, the first of them last
+pub parts_are_next : (popped more parts : List Part) → more ≡ popped ++ reverse parts → parts ++ reverse popped ≡ reverse more
+parts_are_next popped more parts pushed = sym (ap reverse pushed ∙ reverse-append popped (reverse parts) ∙ ap (λ l. l ++ reverse popped) (reverse-reverse parts))
 
--- a split of the boxes of a part leaves fewer than all below it
-pub fewer-below : (done n below : ℕ) (filling es : List Cuboid)
-    → done + n ≤ length filling → IsPermutation (take n (drop done filling)) es → below < length es → below < n
-fewer-below done n below filling es within moved less =
-    omega (arith, length_permutation (take n (drop done filling)) es moved, length-take-le n (drop done filling) (omega (arith, length-drop done filling)))
+-- no plane is open
+pub closed_has_no_tree : (p : Cuboid) (bs es : List Cuboid) → IsFilled p bs → 2 ≤ length bs → IsPermutation bs es → AreClosed 3 p es → ¬ IsFromCuts bs p
+closed_has_no_tree p bs es filled many moved closed from =
+    let cells = All-permutation (λ e. has_cells e ≡ true) bs es moved filled.cells in
+    let two : 2 ≤ count_by has_cells es =
+    omega (arith, length-filter has_cells es, ap length (filter_all has_cells es cells), length_permutation bs es moved, many) in
+    let plane = cuts_have_open_planes es p (IsFromCuts-same bs es (HaveSameBoxes-permutation bs es moved) from) two in
+    closed plane.0 (rank_below plane.0) plane.1 plane.2
 
 -- the boxes after those that are planned, once those of the next part are in another order
 module _ (done n : ℕ) (filling es : List Cuboid) (within : done ≤ length filling) where
