@@ -18,7 +18,7 @@ from collections import namedtuple
 TOP = pathlib.Path(__file__).resolve().parent.parent
 CRATES = TOP / "crates"
 FOR_C = CRATES / "rectangle_pack_c/src"
-PROGRAM = CRATES / "packrun_lines"
+PROGRAM = (CRATES / "packrun_words", CRATES / "packrun_lines")
 PAGE = TOP / "docs/API.md"
 PROVED = TOP / "docs/PROVED.md"
 ROOT = "rectangle_pack"
@@ -580,8 +580,8 @@ def faults_of_rows(proved, calls):
 def faults_of_private(proved):
     """Rows of the program's private functions that name what is not there, and wrong bodies of the program without a row."""
     where, shown = PROVED.relative_to(TOP), set()
-    edits = {path.stem for path in PROGRAM.glob("must-fail/*.edit")}
-    text = "\n".join(path.read_text() for path in sorted((PROGRAM / "src").rglob("*.rt")))
+    edits = {path.stem for crate in PROGRAM for path in crate.glob("must-fail/*.edit")}
+    text = "\n".join(path.read_text() for crate in PROGRAM for path in sorted((crate / "src").rglob("*.rt")))
     for line, section, name, named in proved.private:
         if section != PROGRAM_HEADING or not re.search(rf"\bfn {name}\b", text):
             yield f"{where}:{line}: `{section}` has no function `{name}`"

@@ -4,7 +4,8 @@
 audit.py: a table of all public calls, each with the definitions that it rests on and their lines.
 audit.py CALL: the call's contract, and these definitions, in an order in which none is used before it is told. CALL is
     `pack_rects`, or `Session::run`.
-audit.py --headline: the same of `Session::run`, by the four parts of its promise. docs/HEADLINE.md is what this prints.
+audit.py --headline: the same of `Session::run`, by the four parts of its promise, and what `run_buffered` of the program
+    rests on beside that. docs/HEADLINE.md is what this prints.
 audit.py --check: fails where docs/HEADLINE.md is not what `audit.py --headline` prints.
 
 A call rests on the definitions in specs/ that its contract names, that name how the types of its signature are seen (`Value`
@@ -78,9 +79,22 @@ REST = (
     "`release`, `coalesce` and `coalesce_all`, made one by one, each say the transition of their command and `always`, and `pack` says `PacksAsPromised` as its clause `promise`. What is left of the definitions:",
 )
 
+PROGRAM = (
+    "The program",
+    "packrun prints the transcript of its input",
+    "`main` gives standard input and a buffered standard output to `run_buffered` ({place}), whose clauses stand below. "
+    "`IsTranscript` says what is printed: line by line what the line asks for (`Asks`), by the library's own transitions what that "
+    "makes of the session and of the boxes to place, with the text of the answer (`Answers`), and how the run ends (`MayEnd`). "
+    "By the law `answers_keep_sessions` the part on cells (`IsSession`) holds after each line, and the part on packings "
+    "(`PacksAsPromised`) of each packing, so the headline holds of what is printed. By the law `input_has_one_transcript` an input "
+    "has one transcript, memory aside. [COMMANDS.md](COMMANDS.md) says it for users of the program. That standard input and output "
+    "are a reader and a writer whose bytes are known is taken as given. Definitions beside those above:",
+)
 
-# The library's crates, by crates.txt: the root, and those that it stands on.
+
+# The library's crates, by crates.txt: the root, and those that it stands on; and those of the program that say what it does.
 LAYERS = [ROOT, *re.search(rf"(?m)^{ROOT}:(.*)$", (TOP / "crates.txt").read_text())[1].split()]
+LINES = ["packrun_lines", "packrun_words"]
 
 # How a type is seen: what its values are, and what each is shown as.
 SEEN = re.compile(r"(?ms)^    ghost (?:Value|view) = .*?(?=\n\n|\n\})")
@@ -123,9 +137,9 @@ def module_of(path):
     return ".".join(path.relative_to(CRATES).with_suffix("").parts)
 
 
-def files_of(folder, ending):
-    """The library's files below this folder of each of its crates."""
-    return [path for crate in LAYERS for path in sorted((CRATES / crate / folder).rglob(f"*{ending}"))]
+def files_of(crates, folder, ending):
+    """The files below this folder of each of the crates."""
+    return [path for crate in crates for path in sorted((CRATES / crate / folder).rglob(f"*{ending}"))]
 
 
 def definitions_of(path):
@@ -156,7 +170,7 @@ def definitions_of(path):
 def read_specs():
     """Every definition by its module and name, and what each module brings in."""
     known, brought = {}, {}
-    for path in files_of("specs", ".antt"):
+    for path in files_of(LAYERS + LINES, "specs", ".antt"):
         for definition in definitions_of(path):
             known[definition.path, definition.name] = definition
             for case in re.findall(r"(?m)^\s+(\w+) : ", "\n".join(definition.lines[1:])):
@@ -176,6 +190,18 @@ def words(lines):
 class Specs:
     def __init__(self):
         self.known, self.brought = read_specs()
+        # The modules of its layers that the root hands on, by the names that they have there.
+        handed = re.findall(r"(?m)^pub use Rattle\.(\S+\.(\w+))$", (CRATES / ROOT / "specs/Lib.antt").read_text())
+        self.handed = {f"{ROOT}.specs.{name}": module for module, name in handed}
+
+    def origin(self, path, name):
+        """Where a name stands that this path has, or hands on: its module, and what it is called there."""
+        inside = path.removeprefix("Rattle.")
+        inside = self.handed.get(inside, inside)
+        if inside not in self.brought and inside.rpartition(".")[0] in self.brought:
+            # The cases of a `data`.
+            inside = inside.rpartition(".")[0]
+        return inside, name
 
     def named(self, lines, names, module=None):
         """The definitions, types of the code and words of std that these lines name, in the order in which they stand."""
@@ -184,13 +210,12 @@ class Specs:
             if module and (module, word) in self.known:
                 found.append(self.known[module, word])
             elif word in names:
-                path, there = names[word]
-                inside = path.removeprefix("Rattle.")
+                inside, there = self.origin(*names[word])
                 crate, _, rest = inside.partition(".specs.")
                 if (inside, there) in self.known:
                     found.append(self.known[inside, there])
-                elif crate in LAYERS and rest.startswith("declared."):
-                    found.append(("type", rest.split(".TheVariants")[0].split(".")[-1]))
+                elif crate in LAYERS + LINES and rest.startswith("declared."):
+                    found.append(("type" if crate in LAYERS else "line", rest.split(".TheVariants")[0].split(".")[-1]))
                 else:
                     found.append(("std", there))
         return found
@@ -263,19 +288,25 @@ def calls_of(path):
             if text in (start[1] + "{", start[1] + "{}"):
                 break
             head.append(text)
-            if text.endswith(" {"):
+            whole = "\n".join(head)
+            if text.endswith(" {") and whole.count("{") == whole.count("}") + 1:
                 break
         clauses, signature = clauses_of("\n".join(head))
         name = f"{owner}::{start[2]}" if start[1] else start[2]
         yield Call(name, path, number + 1, signature, clauses)
 
 
+def exported():
+    """What the library's root exports."""
+    return set(re.findall(r"\w+", " ".join(re.findall(r"pub use [^;]*;", (CRATES / ROOT / "src/lib.rt").read_text()))))
+
+
 class Library:
-    def __init__(self):
+    """Calls, types and models of crates; the calls are those of the names that are given, or all."""
+
+    def __init__(self, crates, names=None):
         self.calls, self.models, self.types, self.names = {}, {}, {}, {}
-        root = (CRATES / ROOT / "src/lib.rt").read_text()
-        exported = set(re.findall(r"\w+", " ".join(re.findall(r"pub use [^;]*;", root))))
-        for path in files_of("src", ".rt"):
+        for path in files_of(crates, "src", ".rt"):
             text = path.read_text()
             self.names[path] = imports(text)
             for found in re.finditer(r"(?ms)^pub(?:\([^)]*\))? (?:struct|enum) (\w+).*?(?:^\}|;$)", text):
@@ -283,7 +314,7 @@ class Library:
             for found in re.finditer(r"(?ms)^impl[^\n]* Model for (\w+).*?^\}", text):
                 self.models[found[1]] = (path, found[0])
             for call in calls_of(path):
-                if call.name.split("::")[0] in exported:
+                if names is None or call.name.split("::")[0] in names:
                     self.calls[call.name] = call
 
     def types_of(self, call):
@@ -325,9 +356,9 @@ def print_definition(definition):
     print("```\n" + "\n".join(definition.code()) + "\n```\n")
 
 
-def print_told(library, order):
-    """Types of the code and words of std first, by name, then the definitions."""
-    types = [f"`{n}` ({place(*library.types[n][:2])})" for kind, n in (o for o in order if isinstance(o, tuple)) if kind == "type"]
+def print_told(of, order):
+    """Types of the code and words of std first, by name, then the definitions. `of` has what knows the types, by their kind."""
+    types = [f"`{n}` ({place(*of[kind].types[n][:2])})" for kind, n in (o for o in order if isinstance(o, tuple)) if kind in of]
     std = sorted({n for kind, n in (o for o in order if isinstance(o, tuple)) if kind == "std"})
     if types:
         print("Types of the code: " + ", ".join(types) + ".\n")
@@ -351,7 +382,7 @@ def print_call(specs, library, call):
     print(f"# {call.name}\n\n{place(call.path, call.line)}: {number} definitions in {files} files, {lines} lines.\n")
     print("```\n" + "\n".join(call.clauses) + "\n```\n")
     print_views(library, call)
-    print_told(library, order)
+    print_told({"type": library}, order)
 
 
 def print_table(specs, library):
@@ -382,13 +413,14 @@ def print_headline(specs, library):
     print("# The headline\n\n`tools/audit.py --headline` makes this page; `.ci/run` fails where it is not what that prints.\n")
     print(f"**{HEADLINE}**\n")
     print(
-        f"The clause `promise` of `Session::run` ({place(call.path, call.line)}) says it; signature and clauses stand in the last "
-        "section. Premises: clones of the ids of boxes and bins equal their originals, and the closures may be asked about every "
+        f"The clause `promise` of `Session::run` ({place(call.path, call.line)}) says it; signature and clauses stand in the section "
+        f"*{REST[0]}*. Premises: clones of the ids of boxes and bins equal their originals, and the closures may be asked about every "
         "size. [GLOSSARY.md](GLOSSARY.md) has the words of the sentence, [DEFINITIONS.md](DEFINITIONS.md) each definition in plain "
         "words with an example.\n\n"
         f"A reader who believes nothing reads {number} definitions, {lines} lines "
         f"in {len({d.path for d in found})} files. They stand here in {len(PARTS) + 1} sections, each once, and none names a later "
-        "one; what the text and the views name stands at the end at the latest. Words of the standard library are listed; they are "
+        "one; what the text and the views name stands in the last of them at the latest. What the program rests on beside that stands "
+        "behind them. Words of the standard library are listed; they are "
         "defined in the toolchain (`rt doc` prints where it begins). A line `module _` says what a definition is "
         "given first; definitions of one module leave that out where they name each other.\n\n"
         "Numbers are whole and do not wrap; `-` stops at 0. `(x : T) × P`: there is an x with P. `P ⊎ Q`: one of the two. `⊥`: "
@@ -409,14 +441,25 @@ def print_headline(specs, library):
         print(f"It rests on {number} definitions, {lines} lines" + (", beside those above.\n" if title != "Cells" else ".\n"))
         if title in BESIDE:
             print(BESIDE[title] + "\n")
-        print_told(library, order)
+        print_told({"type": library}, order)
     order = specs.tell(library.roots(specs, call), told)
     number, lines, _ = count(order)
     print(f"## {REST[0]}\n\n*{REST[1]}*\n\n{REST[2]} {number}, {lines} lines.\n")
     print("```\n" + f"{call.signature.strip()}\n" + "\n".join(call.clauses) + "\n```\n")
     print("Clauses speak of values as they are seen, before the call (`old`) and after it (`new`):\n")
     print_views(library, call)
-    print_told(library, order)
+    print_told({"type": library}, order)
+    print_program(specs, library, told)
+
+
+def print_program(specs, library, told):
+    lines = Library(LINES)
+    call = lines.calls["run_buffered"]
+    order = specs.tell(lines.roots(specs, call), told)
+    number, length, _ = count(order)
+    print(f"## {PROGRAM[0]}\n\n*{PROGRAM[1]}*\n\n{PROGRAM[2].format(place=place(call.path, call.line))} {number}, {length} lines.\n")
+    print("```\n" + f"{call.signature.strip()}\n" + "\n".join(call.clauses) + "\n```\n")
+    print_told({"type": library, "line": lines}, order)
 
 
 def printed(what, *args):
@@ -428,7 +471,7 @@ def printed(what, *args):
 
 
 def main():
-    specs, library = Specs(), Library()
+    specs, library = Specs(), Library(LAYERS, exported())
     match sys.argv[1:]:
         case []:
             print_table(specs, library)

@@ -13,6 +13,7 @@ import sys
 TOP = pathlib.Path(__file__).resolve().parent.parent
 PAGE = TOP / "docs/DEFINITIONS.md"
 # The library's crates, by crates.txt: its root, and those that it stands on.
+PROGRAM = ("packrun_words", "packrun_lines")
 LAYERS = ["rectangle_pack", *re.search(r"(?m)^rectangle_pack:(.*)$", (TOP / "crates.txt").read_text())[1].split()]
 # What a table of definitions has above its first column.
 HEADS = ("Name", "Definition", "Word")
@@ -73,7 +74,7 @@ def faults():
         named.add(name)
         if name not in defined and (is_first or (name not in known and re.search("[A-Z_]", name))):
             yield f"docs/DEFINITIONS.md:{number}: there is no `{name}`"
-    for path in sorted(path for crate in LAYERS for path in TOP.glob(f"crates/{crate}/specs/*.antt")):
+    for path in sorted(path for crate in (*LAYERS, *PROGRAM) for path in TOP.glob(f"crates/{crate}/specs/*.antt")):
         for name in sorted(definitions_of([path]) - named):
             yield f"{path.relative_to(TOP)}: `{name}` is not in docs/DEFINITIONS.md"
 

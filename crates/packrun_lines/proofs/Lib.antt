@@ -1,2 +1,5 @@
+pub mod Desk
 pub mod Lines
-pub mod Names
+pub mod Obeyed
+pub mod Transcripts
+pub mod lemmas

@@ -1,18 +1,29 @@
 -- What is written part by part is the whole line.
-use Rattle.std.proofs.Common.{◌≡◌, ℕ, List, [], ◌∷◌, ◌++◌, Option, Result, Ok, Err, OnOk, IsOk, length, take, drop, take_all, length-drop, ◌-◌, arith, sym, ap, ◌∙◌, subst, append_assoc, append-nil}
+use Rattle.std.proofs.Common.{◌≡◌, ℕ, List, [], ◌∷◌, ◌++◌, Option, Result, Ok, Err, OnOk, IsOk, IfErr, length, take, drop, take_all, length-drop, ◌-◌, arith, sym, ap, ◌∙◌, subst, append_assoc, append-nil}
 use Rattle.std.specs.Io.KnownBytes.{Appends}
 use Rattle.std.proofs.KnownBytes.{Appends-trans}
+use Rattle.packrun_lines.specs.declared.stop.Stop.{Stop}
+use Rattle.packrun_lines.specs.declared.stop.Stop.TheVariants.{IoFailed}
+use Rattle.packrun_lines.specs.private.Printing.{Prints}
 use Rattle.packrun_lines.specs.Lines.{three_text, box_text}
 
-pub OnOk-map : {T E : Type 0} (P Q : Type 0) (r : Result T E) → (P → Q) → OnOk r P → OnOk r Q
-OnOk-map P Q (Ok _) f p = f p
-OnOk-map P Q (Err _) f p = tt
+-- what holds where a write succeeds holds where its answer is handed on, and any other stop is that it failed
+pub Prints-handed : {U F : Type 0} (a b : Option (List ℕ)) (r : Result (Unit {0}) Stop) (answer : Result U F) (text : List ℕ)
+    → OnOk r (IsOk answer) → IfErr r (λ stop. stop ≡ IoFailed) → OnOk answer (Appends a b text) → Prints a b r text
+Prints-handed a b (Ok _) (Ok _) text ok failed p = p
+Prints-handed a b (Ok _) (Err _) text ok failed p = absurd (cc ok)
+Prints-handed a b (Err stop) answer text ok failed p = failed
 
--- what holds where a write succeeds holds where its answer is handed on
-pub OnOk-handed : {T U E F : Type 0} (P : Type 0) (r : Result T E) (answer : Result U F) → OnOk r (IsOk answer) → OnOk answer P → OnOk r P
-OnOk-handed P (Ok _) (Ok _) ok p = p
-OnOk-handed P (Ok _) (Err _) ok p = absurd (cc ok)
-OnOk-handed P (Err _) answer ok p = tt
+-- a text that is printed behind another
+pub Prints-behind : (a b c : Option (List ℕ)) (r : Result (Unit {0}) Stop) (front text : List ℕ) → Appends a b front → Prints b c r text
+    → Prints a c r (front ++ text)
+Prints-behind a b c (Ok _) front text p q = Appends-trans a b c front text p q
+Prints-behind a b c (Err stop) front text p q = q
+
+-- a text and a space, and then the rest
+pub Prints-spaced : (a b c : Option (List ℕ)) (r : Result (Unit {0}) Stop) (text rest : List ℕ) → Appends a b (text ++ 32 ∷ []) → Prints b c r rest
+    → Prints a c r (text ++ 32 ∷ rest)
+Prints-spaced a b c r text rest p q = subst (Prints a c r) (append_assoc text (32 ∷ []) rest) (Prints-behind a b c r (text ++ 32 ∷ []) rest p q)
 
 -- a text and a space, and then the rest
 pub Appends-spaced : (a b c : Option (List ℕ)) (text rest : List ℕ) → Appends a b (text ++ 32 ∷ []) → Appends b c rest → Appends a c (text ++ 32 ∷ rest)

@@ -1,5 +1,6 @@
-pub mod Commands
+pub mod Answers
+pub mod Desk
 pub mod Lines
-pub mod Names
+pub mod private
 pub mod Statuses
-pub mod Words
+pub mod Transcripts

@@ -1,8 +1,13 @@
--- What a line prints.
-use Rattle.std.specs.Prelude.{ℕ, List, [], ◌∷◌, ◌++◌, slice_index}
+-- What a line prints, as bytes: 32 is a space, 10 a line feed.
+use Rattle.std.specs.Prelude.{ℕ, List, [], ◌∷◌, ◌++◌, Option, Some, None, Result, Ok, Err, length, slice_index, codes}
+use Rattle.std.specs.List.{flat_map}
 use Rattle.std.specs.Fmt.{decimal}
 use Rattle.rectangle_pack.specs.Boxes.{Cuboid}
 use Rattle.rectangle_pack.specs.declared.session.command.Outstanding.{Outstanding}
+use Rattle.rectangle_pack.specs.declared.session.command.SessionError.{SessionError}
+use Rattle.rectangle_pack.specs.declared.session.command.SessionError.TheVariants.{DuplicateBin, UnknownBin, UnknownPlacement, NumbersUsedUp, NotEnoughBinSpace}
+use Rattle.rectangle_pack.specs.declared.session.command.SessionError.TheVariants.{OutOfMemory}
+use Rattle.rectangle_pack.specs.declared.session.stats.BinStats.{BinStats}
 
 -- three numbers in decimal, a space behind each but the last, and behind that the byte
 abbrev pub three_text : List ℕ → ℕ → List ℕ
@@ -19,3 +24,32 @@ cuboid_text c = box_text (c.x ∷ c.y ∷ c.z ∷ []) (c.whd.width ∷ c.whd.hei
 -- the line of a placement, whose names are lists of bytes
 abbrev pub placement_text : Outstanding (List ℕ) (List ℕ) → List ℕ
 placement_text p = decimal p.number ++ 32 ∷ p.id ++ 32 ∷ p.bin ++ 32 ∷ cuboid_text p.location
+
+-- the placements of a packing, a line each, and how many they are
+abbrev pub packed_text : List (Outstanding (List ℕ) (List ℕ)) → List ℕ
+packed_text placements = flat_map placement_text placements ++ codes "packed " ++ decimal (length placements) ++ codes "\n"
+
+-- free sections, a line each, and how many there are
+abbrev pub sections_text : List Cuboid → List ℕ
+sections_text sections = flat_map cuboid_text sections ++ codes "sections " ++ decimal (length sections) ++ codes "\n"
+
+-- what is free and what is placed in a bin, in one line
+abbrev pub sums_text : BinStats → List ℕ
+sums_text s =
+    codes "free " ++ decimal s.free_volume ++ codes " in " ++ decimal s.free_sections
+    ++ codes ", placed " ++ decimal s.placed_volume ++ codes " in " ++ decimal s.placements
+    ++ codes ", bin " ++ decimal s.bin_volume ++ codes "\n"
+
+-- why the session refused a line that names this bin, or this placement; refused memory ends the run, and has no text
+abbrev pub refusal_text : SessionError → List ℕ → Option (List ℕ)
+refusal_text DuplicateBin named = Some (codes "refused: bin " ++ named ++ codes " exists\n")
+refusal_text UnknownBin named = Some (codes "refused: bin " ++ named ++ codes " is unknown\n")
+refusal_text UnknownPlacement named = Some (codes "refused: placement " ++ named ++ codes " is unknown\n")
+refusal_text NumbersUsedUp named = Some (codes "refused: numbers are used up\n")
+refusal_text NotEnoughBinSpace named = Some (codes "refused: Not enough space to place all of the rectangles.\n")
+refusal_text OutOfMemory named = None
+
+-- the answer to a line that is only done: `ok`, or why it was refused
+abbrev pub reply_text : Result (Unit {0}) SessionError → List ℕ → Option (List ℕ)
+reply_text (Ok done) named = Some (codes "ok\n")
+reply_text (Err error) named = refusal_text error named

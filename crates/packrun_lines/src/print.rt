@@ -1,12 +1,12 @@
 //! What a run prints.
-ghost use Rattle.std.specs.Prelude.{[], ◌∷◌, ◌++◌, IsOk, OnOk};
+ghost use Rattle.std.specs.Prelude.{◌≡◌, [], ◌∷◌, ◌++◌, IsOk, OnOk, IfErr, IfSome};
 ghost use Rattle.std.specs.Fmt.{decimal};
-ghost use Rattle.std.specs.Io.KnownBytes.{Appends};
-ghost use Rattle.packrun_lines.specs.Lines.{box_text, cuboid_text, placement_text};
+ghost use Rattle.packrun_lines.specs.Lines.{box_text, cuboid_text, placement_text, packed_text, sections_text, sums_text, refusal_text, reply_text};
+ghost use Rattle.packrun_lines.specs.private.Printing.{Prints, PrintsAnswer};
 
 use crate::digits::{LONGEST_NUMBER, LONGEST_THREE, put_number, put_three};
 use crate::stop::Stop;
-use crate::word::Word;
+use packrun_words::word::Word;
 use rectangle_pack::{BinSection, BinStats, Outstanding, RectanglePackError, SessionError};
 use std::alloc::Allocator;
 use std::fmt::Display;
@@ -15,7 +15,8 @@ use std::io::Write;
 
 // What a write answers, as a run ends by it.
 fn printed(answer: io::Result<()>) -> Result<(), Stop>
-    ensures { OnOk result (IsOk answer) }
+    ensures done { OnOk result (IsOk answer) }
+    ensures failed { IfErr result (λ stop. stop ≡ Stop.IoFailed) }
 {
     Ok(answer?)
 }
@@ -24,7 +25,10 @@ fn printed(answer: io::Result<()>) -> Result<(), Stop>
 pub fn print_packed<A: Allocator, W: Write>(
     placements: &[Outstanding<Word<A>, Word<A>>],
     out: &mut W,
-) -> Result<(), Stop> {
+) -> Result<(), Stop>
+    ensures { Prints (W.contents out.old) (W.contents out.new) result
+        (packed_text placements.now) }
+{
     for placement in placements {
         print_placement(placement, out)?;
     }
@@ -37,8 +41,8 @@ fn print_placement<A: Allocator, W: Write>(
     placement: &Outstanding<Word<A>, Word<A>>,
     out: &mut W,
 ) -> Result<(), Stop>
-    ensures { OnOk result (Appends (W.contents out.old) (W.contents out.new)
-        (placement_text placement.now)) }
+    ensures { Prints (W.contents out.old) (W.contents out.new) result
+        (placement_text placement.now) }
 {
     let Outstanding {
         number,
@@ -58,8 +62,7 @@ fn print_placement<A: Allocator, W: Write>(
 
 // Prints the number and the space behind it.
 fn print_number<W: Write>(number: u64, out: &mut W) -> Result<(), Stop>
-    ensures { OnOk result
-        (Appends (W.contents out.old) (W.contents out.new) (decimal number ++ 32 ∷ [])) }
+    ensures { Prints (W.contents out.old) (W.contents out.new) result (decimal number ++ 32 ∷ []) }
 {
     let mut line = [0; LONGEST_NUMBER];
     let start = put_number(number, b' ', &mut line, LONGEST_NUMBER);
@@ -68,15 +71,16 @@ fn print_number<W: Write>(number: u64, out: &mut W) -> Result<(), Stop>
 
 // Prints the word and the space behind it.
 fn print_word<A: Allocator, W: Write>(word: &Word<A>, out: &mut W) -> Result<(), Stop>
-    ensures { OnOk result
-        (Appends (W.contents out.old) (W.contents out.new) (word.now ++ 32 ∷ [])) }
+    ensures { Prints (W.contents out.old) (W.contents out.new) result (word.now ++ 32 ∷ []) }
 {
     printed(out.write_all(word.as_bytes()))?;
     printed(out.write_all(b" "))
 }
 
 // Prints the free sections, a line each, and how many there are.
-pub fn print_list<W: Write>(sections: &[BinSection], out: &mut W) -> Result<(), Stop> {
+pub fn print_list<W: Write>(sections: &[BinSection], out: &mut W) -> Result<(), Stop>
+    ensures { Prints (W.contents out.old) (W.contents out.new) result (sections_text sections.now) }
+{
     for section in sections {
         print_section(section, out)?;
     }
@@ -85,8 +89,7 @@ pub fn print_list<W: Write>(sections: &[BinSection], out: &mut W) -> Result<(), 
 }
 
 fn print_section<W: Write>(section: &BinSection, out: &mut W) -> Result<(), Stop>
-    ensures { OnOk result (Appends (W.contents out.old) (W.contents out.new)
-        (cuboid_text section.now)) }
+    ensures { Prints (W.contents out.old) (W.contents out.new) result (cuboid_text section.now) }
 {
     let whd = section.whd();
     print_box(
@@ -98,8 +101,7 @@ fn print_section<W: Write>(section: &BinSection, out: &mut W) -> Result<(), Stop
 
 // Prints the least corner of a box and its sides, to the end of the line.
 fn print_box<W: Write>(corner: [u32; 3], sides: [u32; 3], out: &mut W) -> Result<(), Stop>
-    ensures { OnOk result
-        (Appends (W.contents out.old) (W.contents out.new) (box_text corner sides)) }
+    ensures { Prints (W.contents out.old) (W.contents out.new) result (box_text corner sides) }
 {
     let mut line = [0; 2 * LONGEST_THREE];
     let middle = put_three(sides, b'\n', &mut line, 2 * LONGEST_THREE);
@@ -107,7 +109,10 @@ fn print_box<W: Write>(corner: [u32; 3], sides: [u32; 3], out: &mut W) -> Result
     printed(out.write_all(&line[start..]))
 }
 
-pub fn print_sums<W: Write>(stats: BinStats, out: &mut W) -> Result<(), Stop> {
+// Prints what is free and what is placed in a bin.
+pub fn print_sums<W: Write>(stats: BinStats, out: &mut W) -> Result<(), Stop>
+    ensures { Prints (W.contents out.old) (W.contents out.new) result (sums_text stats) }
+{
     let BinStats {
         bin_volume,
         free_volume,
@@ -127,7 +132,10 @@ pub fn report<W: Write, T: Display + Drop>(
     answer: Result<(), SessionError>,
     named: T,
     out: &mut W,
-) -> Result<(), Stop> {
+) -> Result<(), Stop>
+    ensures { IfSome (T.output named) (λ name.
+        PrintsAnswer (W.contents out.old) (W.contents out.new) result (reply_text answer name)) }
+{
     match answer {
         Ok(()) => printed(out.write_all(b"ok\n")),
         Err(error) => refuse(error, named, out),
@@ -140,16 +148,21 @@ pub fn refuse<W: Write, T: Display + Drop>(
     error: SessionError,
     named: T,
     out: &mut W,
-) -> Result<(), Stop> {
-    printed(match error {
-        SessionError::DuplicateBin => writeln!(out, "refused: bin {named} exists"),
-        SessionError::UnknownBin => writeln!(out, "refused: bin {named} is unknown"),
-        SessionError::UnknownPlacement => writeln!(out, "refused: placement {named} is unknown"),
-        SessionError::NumbersUsedUp => writeln!(out, "refused: numbers are used up"),
+) -> Result<(), Stop>
+    ensures { IfSome (T.output named) (λ name.
+        PrintsAnswer (W.contents out.old) (W.contents out.new) result (refusal_text error name)) }
+{
+    match error {
+        SessionError::DuplicateBin => printed(writeln!(out, "refused: bin {named} exists")),
+        SessionError::UnknownBin => printed(writeln!(out, "refused: bin {named} is unknown")),
+        SessionError::UnknownPlacement => {
+            printed(writeln!(out, "refused: placement {named} is unknown"))
+        }
+        SessionError::NumbersUsedUp => printed(writeln!(out, "refused: numbers are used up")),
         SessionError::NotEnoughBinSpace => {
             let text = RectanglePackError::NotEnoughBinSpace;
-            writeln!(out, "refused: {text}")
+            printed(writeln!(out, "refused: {text}"))
         }
-        SessionError::OutOfMemory => return Err(Stop::NoMemory),
-    })
+        SessionError::OutOfMemory => Err(Stop::NoMemory),
+    }
 }

@@ -1,34 +1,54 @@
 //! Commands, a line each, from a reader to a writer.
-ghost use Rattle.std.specs.Prelude.{IfSome};
-ghost use Rattle.packrun_lines.specs.Commands.{NamesTwo};
+ghost use Rattle.std.specs.Prelude.{◌≡◌, ◌≢◌, ◌<◌, [], Ok, IfOk, IfErr, IfSome, OnOk, length, nat_lt};
+ghost use Rattle.std.specs.Io.Buffered.{reader_remaining, writer_buffer, writer_contents};
+ghost use Rattle.std.specs.Io.KnownBytes.{Appends, Keeps};
+ghost use Rattle.packrun_words.specs.private.Reading.{IsLineRead};
+ghost use Rattle.packrun_lines.specs.Desk.{empty_desk};
+ghost use Rattle.packrun_lines.specs.private.Obeying.{IsLineObeyed, StopsSo, outcome_of};
+ghost use Rattle.packrun_lines.specs.Transcripts.{PrintsTranscript, last_line};
 
-use crate::command::{Command, parse};
 use crate::outcome::Outcome;
 use crate::stop::Stop;
 use crate::store::Store;
+use packrun_words::command::{LONGEST_LINE, parse};
+use packrun_words::input::read_line;
 use std::alloc::Allocator;
 use std::io;
-use std::io::{BufRead, BufReader, BufWriter, Read, Write};
-
-// The most bytes that a line may have, its LF not counted.
-const LONGEST_LINE: usize = 4096;
+use std::io::{BufReader, BufWriter, Read, Write};
 
 /// Obeys the commands of `reader`, a line each, and prints to `writer`.
 ///
-/// Lines are numbered from 1, and placements from 0. What lines before the end printed stands.
-/// Where the last line of a run cannot be printed, the outcome is `IoFailed`.
+/// The writer is written to piece by piece, and flushed before each read that may have to wait, and
+/// at the end: [`run_buffered`] takes a buffered one. Lines are numbered from 1, and placements
+/// from 0. What lines before the end printed stands. Where the last line of a run cannot be
+/// printed, the outcome is `IoFailed`.
 pub fn run_lines<R: Read, W: Write, A: Allocator + Copy>(
     alloc: A,
     reader: &mut R,
     writer: &mut W,
-) -> Outcome {
-    let Ok(mut out) = BufWriter::new(alloc, &mut *writer) else {
-        return end(Err(Stop::NoMemory), writer);
-    };
-    let ended = obey_all(alloc, reader, &mut out);
-    let outcome = end(ended, &mut out);
-    // Not dropped: a drop would write again what could not be written.
-    let _ = out.into_parts();
+) -> Outcome
+    ensures transcript { IfSome (R.remaining reader.old)
+        (PrintsTranscript (W.contents writer.old) (W.contents writer.new) result) }
+{
+    let ended = obey_all(alloc, reader, writer);
+    end(ended, writer)
+}
+
+/// Obeys the commands of `reader`, as [`run_lines`] does, and prints to a buffered writer. Nothing is
+/// left in its buffer, unless the outcome is `IoFailed`.
+pub fn run_buffered<R: Read, W: Write + Drop, A: Allocator + Copy>(
+    alloc: A,
+    reader: &mut R,
+    out: &mut BufWriter<W, A>,
+) -> Outcome
+    ensures transcript { IfSome (R.remaining reader.old) (PrintsTranscript
+        (writer_contents W.contents out.old) (writer_contents W.contents out.new) result) }
+    ensures flushed { result ≢ Outcome.IoFailed → writer_buffer out.new ≡ [] }
+{
+    let outcome = run_lines(alloc, reader, out);
+    if outcome == Outcome::IoFailed || out.flush().is_err() {
+        return Outcome::IoFailed;
+    }
     outcome
 }
 
@@ -37,7 +57,10 @@ fn obey_all<R: Read, W: Write, A: Allocator + Copy>(
     alloc: A,
     reader: &mut R,
     out: &mut W,
-) -> Result<(), Stop> {
+) -> Result<(), Stop>
+    ensures { IfSome (R.remaining reader.old) (λ bytes. StopsSo (outcome_of result) bytes
+        (empty_desk 0) (W.contents out.old) (W.contents out.new)) }
+{
     match BufReader::new(alloc, reader) {
         Ok(mut input) => obey_input(alloc, &mut input, out),
         Err(_) => Err(Stop::NoMemory),
@@ -49,8 +72,11 @@ fn obey_input<R: Read, W: Write, A: Allocator + Copy>(
     alloc: A,
     input: &mut BufReader<R, A>,
     out: &mut W,
-) -> Result<(), Stop> {
-    // With this room a line takes no memory, so an error of `read_until` is the reader's.
+) -> Result<(), Stop>
+    ensures { IfSome (reader_remaining R.remaining input.old) (λ bytes. StopsSo (outcome_of result)
+        bytes (empty_desk 0) (W.contents out.old) (W.contents out.new)) }
+{
+    // With this room a line takes no memory, so an error of `read_line` is the reader's.
     let mut line = Vec::with_capacity(alloc, LONGEST_LINE + 1)?;
     let mut store = Store::new(alloc, 0);
     let ended = obey_each(&mut store, input, &mut line, out);
@@ -64,7 +90,10 @@ fn obey_each<R: Read, W: Write, A: Allocator + Copy>(
     input: &mut BufReader<R, A>,
     line: &mut Vec<u8, A>,
     out: &mut W,
-) -> Result<(), Stop> {
+) -> Result<(), Stop>
+    ensures { IfSome (reader_remaining R.remaining input.old) (λ bytes. StopsSo (outcome_of result)
+        bytes store.old (W.contents out.old) (W.contents out.new)) }
+{
     let mut total = 0u64;
     for number in 1..=u64::MAX {
         if !next_line(input, line, &mut total, out)? {
@@ -81,9 +110,16 @@ fn next_line<R: Read, W: Write, A: Allocator>(
     line: &mut Vec<u8, A>,
     total: &mut u64,
     out: &mut W,
-) -> Result<bool, Stop> {
+) -> Result<bool, Stop>
+    ensures read { OnOk result (IsLineRead (reader_remaining R.remaining input.old) line.new.items
+        (reader_remaining R.remaining input.new)) }
+    ensures some { IfOk result (λ more. more ≡ nat_lt 0 (length line.new.items)) }
+    ensures printed { OnOk result (Keeps (W.contents out.old) (W.contents out.new)) }
+    ensures failed { IfErr result (λ stop. stop ≡ Stop.IoFailed) }
+{
     flush_before_read(input, out)?;
-    let count = read_line(input, line)? as u64;
+    read_line(input, line)?;
+    let count = line.len() as u64;
     *total = total.checked_add(count).ok_or(Stop::IoFailed)?;
     Ok(count > 0)
 }
@@ -92,21 +128,13 @@ fn next_line<R: Read, W: Write, A: Allocator>(
 fn flush_before_read<R: Read, W: Write, A: Allocator>(
     input: &BufReader<R, A>,
     out: &mut W,
-) -> io::Result<()> {
+) -> io::Result<()>
+    ensures { OnOk result (Keeps (W.contents out.old) (W.contents out.new)) }
+{
     if input.buffer().contains(&b'\n') {
         return Ok(());
     }
     out.flush()
-}
-
-// Reads the next line, or so much of it that it is too long. How many bytes were read, none at the
-// end of the input.
-fn read_line<B: BufRead, A: Allocator>(input: &mut B, line: &mut Vec<u8, A>) -> io::Result<usize> {
-    line.clear();
-    input
-        .by_ref()
-        .take(LONGEST_LINE as u64 + 1)
-        .read_until(b'\n', line)
 }
 
 fn obey_line<W: Write, A: Allocator + Copy>(
@@ -114,34 +142,41 @@ fn obey_line<W: Write, A: Allocator + Copy>(
     number: u64,
     line: &[u8],
     out: &mut W,
-) -> Result<(), Stop> {
-    match command_of(line) {
+) -> Result<(), Stop>
+    ensures { IsLineObeyed number line.now store.old (W.contents out.old) result store.new
+        (W.contents out.new) }
+{
+    match parse(line) {
         Some(command) => store.obey(command, out),
         None => Err(Stop::BadLine(number)),
     }
 }
 
-// What the line says, which may end with its LF, or `None` where it is bad or too long.
-fn command_of(line: &[u8]) -> Option<Command<'_>>
-    ensures { IfSome result NamesTwo }
+// Prints the last line, where the end has one, and flushes. How the run ends.
+fn end<W: Write>(ended: Result<(), Stop>, out: &mut W) -> Outcome
+    ensures outcome { result ≢ Outcome.IoFailed → result ≡ outcome_of ended }
+    ensures printed { result ≢ Outcome.IoFailed →
+        Appends (W.contents out.old) (W.contents out.new) (last_line result) }
 {
-    let line = line.strip_suffix(b"\n").unwrap_or(line);
-    if line.len() > LONGEST_LINE {
-        return None;
-    }
-    parse(line)
-}
-
-// Prints the last line, where the end has one. How the run ends.
-fn end<W: Write>(ended: Result<(), Stop>, out: &mut W) -> Outcome {
     let outcome = outcome_of(ended);
-    match print_end(outcome, out) {
-        Ok(()) => outcome,
-        Err(_) => Outcome::IoFailed,
+    if outcome == Outcome::IoFailed || print_end(outcome, out).is_err() || out.flush().is_err() {
+        return Outcome::IoFailed;
     }
+    outcome
 }
 
-fn outcome_of(ended: Result<(), Stop>) -> Outcome {
+/// Ends a run for which there is no memory at all, not even for a buffer: prints the last line.
+pub fn end_without_memory<W: Write>(writer: &mut W) -> Outcome
+    ensures outcome { result ≢ Outcome.IoFailed → result ≡ Outcome.NoMemory }
+    ensures printed { result ≢ Outcome.IoFailed →
+        Appends (W.contents writer.old) (W.contents writer.new) (last_line Outcome.NoMemory) }
+{
+    end(Err(Stop::NoMemory), writer)
+}
+
+fn outcome_of(ended: Result<(), Stop>) -> Outcome
+    ensures { result ≡ outcome_of ended }
+{
     match ended {
         Ok(()) => Outcome::Done,
         Err(Stop::BadLine(number)) => Outcome::BadLine(number),
@@ -150,12 +185,13 @@ fn outcome_of(ended: Result<(), Stop>) -> Outcome {
     }
 }
 
-fn print_end<W: Write>(outcome: Outcome, out: &mut W) -> io::Result<()> {
+// Prints the last line of a run that ends so.
+fn print_end<W: Write>(outcome: Outcome, out: &mut W) -> io::Result<()>
+    ensures { OnOk result (Appends (W.contents out.old) (W.contents out.new) (last_line outcome)) }
+{
     match outcome {
-        Outcome::Done => {}
-        Outcome::BadLine(number) => writeln!(out, "line {number} is bad")?,
-        Outcome::NoMemory => writeln!(out, "Out of memory.")?,
-        Outcome::IoFailed => return Ok(()),
+        Outcome::Done | Outcome::IoFailed => Ok(()),
+        Outcome::BadLine(number) => writeln!(out, "line {number} is bad"),
+        Outcome::NoMemory => writeln!(out, "Out of memory."),
     }
-    out.flush()
 }

@@ -1,18 +1,28 @@
 //! The session, and the boxes to place, that lines speak of.
-
-ghost use Rattle.std.specs.Prelude.{◌≢◌, ◌<◌, IfOk};
-ghost use Rattle.std.specs.Option.{ForSome};
+ghost use Rattle.std.specs.Prelude.{◌≡◌, ◌≢◌, ◌<◌, ◌++◌, IfOk, OnOk};
+ghost use Rattle.std.specs.Option.{ForSome, option_map};
 ghost use Rattle.std.specs.Vec.{vec_len};
-ghost use Rattle.packrun_lines.specs.Commands.{NamesTwo};
+ghost use Rattle.rectangle_pack.specs.Groups.{Excludes};
+ghost use Rattle.rectangle_pack.specs.Joining.{IsJoined, IsSwept};
+ghost use Rattle.rectangle_pack.specs.Session.{AddsBin, Coalesces};
+ghost use Rattle.rectangle_pack.specs.declared.grouped_rects_to_place.Group.TheVariants.{Grouped};
+ghost use Rattle.packrun_words.specs.private.Commands.{request_of, words_left};
+ghost use Rattle.packrun_words.specs.Requests as asks;
+ghost use Rattle.packrun_words.specs.private.Verbs.{NamesTwo};
+ghost use Rattle.packrun_lines.specs.Answers.{name_cmp, size_of, groups_of};
+ghost use Rattle.packrun_lines.specs.Desk.{empty_desk, ChangesSession, ChangesBoxes, TakesBox, group_order, stats_in};
+ghost use Rattle.packrun_lines.specs.private.Obeying.{IsObeyed};
+ghost use Rattle.packrun_lines.specs.private.Calls.{UnlessNoMemory, IsFound};
 
-use crate::command::{Command, Size};
 use crate::packer::Packer;
 use crate::print::{print_list, print_packed, print_sums, refuse, report};
 use crate::stop::Stop;
-use crate::word::Word;
+use packrun_words::command::{Command, Size};
+use packrun_words::word::Word;
 use rectangle_pack::{BinStats, SessionError};
 use std::alloc::{AllocError, Allocator};
 use std::io::Write;
+use std::marker::Model;
 use std::ops::Range;
 use std::str::SplitAsciiWhitespace;
 
@@ -23,9 +33,20 @@ pub struct Store<A: Allocator + Copy> {
     packer: Packer<Word<A>, A>,
 }
 
+impl<A: Allocator + Copy> Model for Store<A> {
+    ghost use Rattle.packrun_lines.specs.Answers.{Name};
+    ghost use Rattle.packrun_lines.specs.Desk.{Desk};
+
+    ghost Value = { Desk Name };
+
+    ghost view = { λ s. s.packer };
+}
+
 impl<A: Allocator + Copy> Store<A> {
     /// No bins and no boxes. The first placement gets the number `first`.
-    pub fn new(alloc: A, first: u64) -> Store<A> {
+    pub fn new(alloc: A, first: u64) -> Store<A>
+        ensures { result ≡ empty_desk first }
+    {
         Store {
             alloc,
             packer: Packer::new(alloc, first),
@@ -34,7 +55,9 @@ impl<A: Allocator + Copy> Store<A> {
 
     /// Does what the command says and prints the lines of its answer.
     pub fn obey<W: Write>(&mut self, command: Command<'_>, out: &mut W) -> Result<(), Stop>
-        requires { NamesTwo command }
+        requires { NamesTwo (request_of command) }
+        ensures { IsObeyed (request_of command.entry) self.old (W.contents out.old) result self.new
+            (W.contents out.new) }
     {
         match command {
             Command::Nothing => Ok(()),
@@ -57,7 +80,10 @@ impl<A: Allocator + Copy> Store<A> {
         self.packer.close();
     }
 
-    fn add_bin(&mut self, name: &str, size: Size) -> Result<(), SessionError> {
+    fn add_bin(&mut self, name: &str, size: Size) -> Result<(), SessionError>
+        ensures { UnlessNoMemory result (ChangesSession (AddsBin name_cmp name.now (size_of size))
+            self.old result self.new) }
+    {
         let id = Word::new(self.alloc, name)?;
         self.packer.add_bin(id, size)
     }
@@ -67,7 +93,11 @@ impl<A: Allocator + Copy> Store<A> {
         id: &str,
         size: Size,
         groups: SplitAsciiWhitespace<'_>,
-    ) -> Result<(), SessionError> {
+    ) -> Result<(), SessionError>
+        ensures { let named = groups_of (words_left groups.entry) in
+            UnlessNoMemory result (ChangesBoxes (TakesBox name_cmp id.now (size_of size) named)
+            self.old result self.new) }
+    {
         let id = Word::new(self.alloc, id)?;
         let named = named_groups(self.alloc, groups)?;
         self.packer.push_rect(id, named, size)
@@ -75,35 +105,46 @@ impl<A: Allocator + Copy> Store<A> {
 
     fn exclude(&mut self, one: &str, other: &str) -> Result<(), SessionError>
         requires { one.now ≢ other.now }
+        ensures { UnlessNoMemory result (ChangesBoxes (λ before after.
+            Excludes (group_order name_cmp) before after (Grouped one.now) (Grouped other.now))
+            self.old result self.new) }
     {
         let one = Word::new(self.alloc, one)?;
         let other = Word::new(self.alloc, other)?;
         self.packer.exclude(one, other)
     }
 
-    fn coalesce(
-        &mut self,
-        name: &str,
-        idx: usize,
-        range: Range<usize>,
-    ) -> Result<(), SessionError> {
+    fn coalesce(&mut self, name: &str, idx: usize, range: Range<usize>) -> Result<(), SessionError>
+        ensures { let joins = IsJoined idx range.start range.end in
+            UnlessNoMemory result (ChangesSession (Coalesces name_cmp joins name.now)
+            self.old result self.new) }
+    {
         let bin = Word::new(self.alloc, name)?;
         self.packer.coalesce(&bin, idx, range)
     }
 
-    fn sweep(&mut self, name: &str) -> Result<(), SessionError> {
+    fn sweep(&mut self, name: &str) -> Result<(), SessionError>
+        ensures { UnlessNoMemory result (ChangesSession (Coalesces name_cmp IsSwept name.now)
+            self.old result self.new) }
+    {
         let bin = Word::new(self.alloc, name)?;
         self.packer.sweep(&bin)
     }
 
-    fn pack<W: Write>(&mut self, out: &mut W) -> Result<(), Stop> {
+    fn pack<W: Write>(&mut self, out: &mut W) -> Result<(), Stop>
+        ensures { IsObeyed asks.Pack self.old (W.contents out.old) result self.new
+            (W.contents out.new) }
+    {
         match self.packer.pack() {
-            Ok(placements) => print_packed(placements, out),
+            Ok(packed) => print_packed(self.packer.last_placements(packed.count), out),
             Err(error) => refuse(error, "pack", out),
         }
     }
 
-    fn print_sections<W: Write>(&self, name: &str, out: &mut W) -> Result<(), Stop> {
+    fn print_sections<W: Write>(&self, name: &str, out: &mut W) -> Result<(), Stop>
+        ensures { IsObeyed (asks.Sections name.now) self.now (W.contents out.old) result self.now
+            (W.contents out.new) }
+    {
         let bin = Word::new(self.alloc, name)?;
         match self.packer.sections(&bin) {
             Some(sections) => print_list(sections, out),
@@ -111,12 +152,18 @@ impl<A: Allocator + Copy> Store<A> {
         }
     }
 
-    fn stats(&self, name: &str) -> Result<BinStats, SessionError> {
+    fn stats(&self, name: &str) -> Result<BinStats, SessionError>
+        ensures { UnlessNoMemory result
+            (IsFound (stats_in name_cmp self.now.session name.now) result) }
+    {
         let bin = Word::new(self.alloc, name)?;
         self.packer.stats(&bin)
     }
 
-    fn print_stats<W: Write>(&self, name: &str, out: &mut W) -> Result<(), Stop> {
+    fn print_stats<W: Write>(&self, name: &str, out: &mut W) -> Result<(), Stop>
+        ensures { IsObeyed (asks.Stats name.now) self.now (W.contents out.old) result self.now
+            (W.contents out.new) }
+    {
         match self.stats(name) {
             Ok(stats) => print_sums(stats, out),
             Err(error) => refuse(error, name, out),
@@ -129,7 +176,9 @@ fn named_groups<A: Allocator + Copy>(
     alloc: A,
     groups: SplitAsciiWhitespace<'_>,
 ) -> Result<Option<Vec<Word<A>, A>>, AllocError>
-    ensures { IfOk result (λ found. ForSome found (λ named. 0 < vec_len named)) }
+    ensures some { IfOk result (λ found. ForSome found (λ named. 0 < vec_len named)) }
+    ensures names { IfOk result (λ found.
+        option_map (λ named. named.items) found ≡ groups_of (words_left groups.entry)) }
 {
     let mut named = Vec::new(alloc);
     push_words(&mut named, alloc, groups)?;
@@ -140,7 +189,9 @@ fn push_words<A: Allocator + Copy>(
     words: &mut Vec<Word<A>, A>,
     alloc: A,
     names: SplitAsciiWhitespace<'_>,
-) -> Result<(), AllocError> {
+) -> Result<(), AllocError>
+    ensures { OnOk result (words.new.items ≡ words.old.items ++ words_left names.entry) }
+{
     for name in names {
         words.push(Word::new(alloc, name)?)?;
     }

@@ -1,7 +1,5 @@
 //! How lines are read.
 
-mod bytes;
-
 use crate::support::{Text, all_say, says};
 use packrun_lines::outcome::Outcome;
 

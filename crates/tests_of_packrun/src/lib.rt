@@ -13,3 +13,5 @@ mod run;
 mod store;
 #[cfg(test)]
 mod support;
+#[cfg(test)]
+mod transcripts;

@@ -1,10 +1,10 @@
 //! Readers and writers that fail, and runs over memory.
 
 use packrun_lines::outcome::Outcome;
-use packrun_lines::run::run_lines;
-use std::alloc::Global;
+use packrun_lines::run::{end_without_memory, run_buffered};
+use std::alloc::{Allocator, Global};
 use std::io;
-use std::io::{Cursor, Read, Write};
+use std::io::{BufWriter, Cursor, Read, Write};
 use std::process::Abort;
 
 // Gives its bytes in pieces, and fails once so many reads were good.
@@ -65,6 +65,21 @@ impl Write for Kept {
     }
 }
 
+// A run as the program makes it, over a buffer.
+pub(crate) fn run<R: Read, W: Write, A: Allocator + Copy>(
+    alloc: A,
+    reader: &mut R,
+    writer: &mut W,
+) -> Outcome {
+    let Ok(mut out) = BufWriter::new(alloc, &mut *writer) else {
+        return end_without_memory(writer);
+    };
+    let outcome = run_buffered(alloc, reader, &mut out);
+    // Not dropped: a drop would write again what could not be written.
+    let _ = out.into_parts();
+    outcome
+}
+
 // What a run reads, what it prints, and how it ends.
 pub(crate) type Text = (&'static str, &'static str, Outcome);
 
@@ -93,7 +108,7 @@ pub(crate) fn prints(
         good_reads: u64::MAX,
     };
     let mut written = Vec::new(alloc);
-    let ended = run_lines(alloc, &mut reader, &mut written);
+    let ended = run(alloc, &mut reader, &mut written);
     ended_so(rt, ended, written.as_slice(), (output, outcome));
 }
 

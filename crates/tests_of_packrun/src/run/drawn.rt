@@ -1,8 +1,8 @@
 //! Runs of lines that are drawn by chance, from a fixed seed, and what they print, counted.
 
 use super::counting::is_right;
+use crate::support::run;
 use packrun_lines::outcome::Outcome;
-use packrun_lines::run::run_lines;
 use std::alloc::{AllocError, Global};
 use std::process::Abort;
 use std::str;
@@ -178,7 +178,7 @@ fn end_of(input: &[u8]) -> Outcome {
 // Whether these lines end as they should, and print what may be.
 fn runs_right(alloc: Global, input: &[u8]) -> Result<bool, AllocError> {
     let mut output = Vec::new(alloc);
-    let outcome = run_lines(alloc, &mut &*input, &mut output);
+    let outcome = run(alloc, &mut &*input, &mut output);
     if outcome != end_of(input) {
         return Ok(false);
     }

@@ -1,8 +1,7 @@
 //! Reads, writes and requests for memory of which each fails in turn.
 
-use crate::support::{Kept, Pieces, Text, ended_so};
+use crate::support::{Kept, Pieces, Text, ended_so, run};
 use packrun_lines::outcome::Outcome;
-use packrun_lines::run::run_lines;
 use std::alloc::Global;
 use std::process::Abort;
 use tests_support::refusing::Refusing;
@@ -75,7 +74,7 @@ fn run_with(rt: &impl Abort, alloc: Global, lines: &str, given: Given) -> (Outco
     };
     let (piece, good_writes) = given.writes;
     let mut writer = Kept::new(piece, good_writes);
-    let outcome = run_lines(refusing, &mut reader, &mut writer);
+    let outcome = run(refusing, &mut reader, &mut writer);
     gave_back(rt, refusing, outcome);
     (outcome, writer)
 }

@@ -1,6 +1,6 @@
 use Rattle.std.proofs.Common.{ℕ, List, OnOk, subst, ◌∙◌}
 use Rattle.std.specs.Io.KnownBytes.{Appends}
-use Rattle.packrun_lines.proofs.Lines.{OnOk-handed, box_text-put}
+use Rattle.packrun_lines.proofs.Lines.{Prints-handed, box_text-put}
 use Rattle.packrun_lines.proofs.print.print_box.Goals as goal
 
 pub returns : goal.returns
@@ -11,4 +11,4 @@ returns g c =
     let spelt = box_text-put c.args.corner c.args.sides c.put_three-middle.new.line line c.put_three-middle.result
     c.put_three-start.result (c.put_three-start.auto.line ∙ c.put_three-middle.auto.line) c.put_three-middle.ensures.written c.put_three-start.ensures.written in
     let written = subst (λ (bytes : List ℕ). OnOk c.write_all.result (Appends at end bytes)) spelt c.write_all.ensures.bytes in
-    OnOk-handed (Appends at end _) c.printed.result c.write_all.result c.printed.ensures written
+    Prints-handed at end c.printed.result c.write_all.result _ c.printed.ensures.done c.printed.ensures.failed written

@@ -1,8 +1,8 @@
-use Rattle.std.proofs.Common.{◌∷◌, [], ◌++◌, ◌≡◌, OnOk, List, ℕ, subst}
+use Rattle.std.proofs.Common.{◌∷◌, [], ◌++◌, ◌≡◌, List, ℕ, subst}
 use Rattle.std.specs.Fmt.{decimal}
-use Rattle.std.specs.Io.KnownBytes.{Appends}
-use Rattle.packrun_lines.specs.Lines.{box_text, cuboid_text, placement_text}
-use Rattle.packrun_lines.proofs.Lines.{OnOk-map, Appends-spaced, Appends-word}
+use Rattle.packrun_lines.specs.Lines.{box_text, cuboid_text}
+use Rattle.packrun_lines.specs.private.Printing.{Prints}
+use Rattle.packrun_lines.proofs.Lines.{Prints-spaced, Appends-word}
 use Rattle.packrun_lines.proofs.print.print_placement.Goals as goal
 
 pub returns : goal.returns
@@ -17,9 +17,9 @@ returns g c =
     let found = box_text (c.x.result ∷ c.y.result ∷ c.z.result ∷ []) (c.width.result ∷ c.height.result ∷ c.depth.result ∷ []) in
     let held : found ≡ box =
     λ i. box_text (c.x.ensures i ∷ c.y.ensures i ∷ c.z.ensures i ∷ []) (c.width.ensures i ∷ c.height.ensures i ∷ c.depth.ensures i ∷ []) in
-    let written = subst (λ (bytes : List ℕ). OnOk c.print_box.result (Appends bin end bytes)) held c.print_box.ensures in
+    let written = subst (λ (bytes : List ℕ). Prints bin end c.print_box.result bytes) held c.print_box.ensures in
     let named = decimal placement.number ++ 32 ∷ placement.id in
     let words = Appends-word at id bin named placement.bin
     (Appends-word at number id (decimal placement.number) placement.id c.in_ok-print_number.ensures c.in_ok-print_word.ensures)
     c.in_ok-print_word-2.ensures in
-    OnOk-map (Appends bin end box) (Appends at end (placement_text placement)) c.print_box.result (Appends-spaced at bin end (named ++ 32 ∷ placement.bin) box words) written
+    Prints-spaced at bin end c.print_box.result (named ++ 32 ∷ placement.bin) box words written

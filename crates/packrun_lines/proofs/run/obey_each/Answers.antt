@@ -1,0 +1,43 @@
+use Rattle.std.proofs.Common.{Ok, Err, IfSome, sym, subst, ◌∙◌, length}
+use Rattle.std.specs.Io.Buffered.{reader_remaining}
+use Rattle.packrun_lines.specs.private.Obeying.{IsLineObeyed, StopsSo, outcome_of}
+use Rattle.packrun_lines.proofs.Transcripts.{Obeyed-none, Obeyed-more, Obeyed-at_end, Obeyed-stopped, none_is, some_is, err_is}
+use Rattle.packrun_lines.proofs.run.obey_each.Goals as goal
+
+pub loop-number-init : goal.loop-number-init
+loop-number-init g c = Obeyed-none _ c.args.store.now _
+
+pub returns-then-not-branch : goal.returns-then-not-branch
+returns-then-not-branch g c =
+    let line = c.in_ok-next_line.ensures in
+    let none = none_is (length c.next_line.new.line.items) (sym line.some ∙ c.if-not-branch.true) in
+    Obeyed-at_end _ c.args.store.now _ _ _ c.next_line.new.line.items c.loop-number.number c.loop-number.store _ _ c.loop-number.invariant line.read none line.printed
+
+pub returns-in_err-obey_line : goal.returns-in_err-obey_line
+returns-in_err-obey_line g c =
+    let line = c.in_ok-next_line.ensures in
+    let read = c.next_line.new.line.items in
+    let some = some_is (length read) (sym line.some ∙ c.if-not-branch.false) in
+    let contents = g.W.Write.contents in
+    let why = c.in_err-obey_line.field-0.0 in
+    let n = c.loop-number.number in
+    let at = c.loop-number.store in
+    let obeyed = subst (λ l. IsLineObeyed n l at (contents c.next_line.new.out) (Err why) c.obey_line.new.store (contents c.obey_line.new.out))
+    c.as_slice.ensures.value c.in_err-obey_line.ensures in
+    let stopped = Obeyed-stopped (reader_remaining g.R.Read.remaining c.args.input.now) c.args.store.now (contents c.args.out.now)
+    _ _ read n at c.obey_line.new.store _ _ (contents c.obey_line.new.out) why c.loop-number.invariant line.read some line.printed obeyed in
+    subst (λ r. IfSome (reader_remaining g.R.Read.remaining c.args.input.now)
+    (λ bytes. StopsSo (outcome_of r) bytes c.args.store.now (contents c.args.out.now) (contents c.obey_line.new.out)))
+    (sym (err_is _ why c.from_residual-in_err-obey_line.ensures.1)) stopped
+
+pub loop-number-preserved : goal.loop-number-preserved
+loop-number-preserved g c =
+    let line = c.in_ok-next_line.ensures in
+    let read = c.next_line.new.line.items in
+    let some = some_is (length read) (sym line.some ∙ c.if-not-branch.false) in
+    let contents = g.W.Write.contents in
+    let n = c.loop-number.number in
+    let at = c.loop-number.store in
+    let obeyed = subst (λ l. IsLineObeyed n l at (contents c.next_line.new.out) (Ok tt) c.obey_line.new.store (contents c.obey_line.new.out))
+    c.as_slice.ensures.value c.in_ok-obey_line.ensures in
+    Obeyed-more _ c.args.store.now _ _ _ read n at c.obey_line.new.store _ _ (contents c.obey_line.new.out) c.loop-number.invariant line.read some line.printed obeyed

@@ -1,0 +1,85 @@
+-- A desk: a session, and the boxes that its next packing places. What each call makes of it.
+use Rattle.std.specs.Prelude.{◌≡◌, ℕ, List, [], length, drop, Option, Some, None, Result, Ok, Err}
+use Rattle.std.specs.declared.cmp.Ordering.{Ordering}
+use Rattle.std.specs.declared.cmp.Ordering.TheVariants.{Less, Greater}
+use Rattle.std.specs.Option.{option_map}
+use Rattle.std.specs.List.Sorted.{IsStrictlySortedBy}
+use Rattle.std.specs.Map.{lookup, keys_of}
+use Rattle.std.specs.BTreeMap.{is_at}
+use Rattle.rectangle_pack.specs.declared.box_size_heuristics.Heuristic.TheVariants.{Volume}
+use Rattle.rectangle_pack.specs.declared.grouped_rects_to_place.Group.{Group}
+use Rattle.rectangle_pack.specs.declared.grouped_rects_to_place.Group.TheVariants.{Ungrouped, Grouped}
+use Rattle.rectangle_pack.specs.declared.session.command.Outstanding.{Outstanding}
+use Rattle.rectangle_pack.specs.declared.session.command.Packed.{Packed}
+use Rattle.rectangle_pack.specs.declared.session.command.Reply.{Reply}
+use Rattle.rectangle_pack.specs.declared.session.command.SessionError.{SessionError}
+use Rattle.rectangle_pack.specs.declared.session.command.SessionError.TheVariants.{OutOfMemory}
+use Rattle.rectangle_pack.specs.declared.session.stats.BinStats.{BinStats}
+use Rattle.rectangle_pack.specs.Best.{named_rules}
+use Rattle.rectangle_pack.specs.Bins.{Bin}
+use Rattle.rectangle_pack.specs.Boxes.{Size, Cuboid}
+use Rattle.rectangle_pack.specs.Groups.{Collection, PushesAlone, PushesInto}
+use Rattle.rectangle_pack.specs.Packing.{Rules}
+use Rattle.rectangle_pack.specs.Session.{State, Packs, outstanding_in, reply_of, packed_reply}
+use Rattle.rectangle_pack.specs.Stats.{stats_of}
+
+-- a session, and the boxes to place; bins, boxes and groups have names of one kind
+pub record Desk (Name : Type 0) : Type 0 where
+  pub session : State Name Name
+  pub boxes : Collection Name Name
+
+-- no boxes to place, and no pairs of groups
+abbrev pub no_boxes : {Name : Type 0} → Collection Name Name
+no_boxes = record { sizes = []; groups = []; partners = [] }
+
+-- a desk without bins and boxes, whose first placement gets this number
+abbrev pub empty_desk : {Name : Type 0} → ℕ → Desk Name
+empty_desk first = record { session = record { bins = []; outstanding = []; next = first }; boxes = no_boxes }
+
+-- a call changes the session so, by its reply, and leaves the boxes to place as they are
+abbrev pub ChangesSession : {Name : Type 0} → (State Name Name → Reply → State Name Name → Type 0)
+    → Desk Name → Result (Unit {0}) SessionError → Desk Name → Type 0
+ChangesSession MayChange old result new = MayChange old.session (reply_of result) new.session × (new.boxes ≡ old.boxes)
+
+-- a call changes the boxes to place so, and leaves the session as it is; or memory is refused, and nothing is changed
+abbrev pub ChangesBoxes : {Name : Type 0} → (Collection Name Name → Collection Name Name → Type 0)
+    → Desk Name → Result (Unit {0}) SessionError → Desk Name → Type 0
+ChangesBoxes MayChange old (Ok done) new = MayChange old.boxes new.boxes × (new.session ≡ old.session)
+ChangesBoxes MayChange old (Err error) new = (error ≡ OutOfMemory) × (new ≡ old)
+
+-- the placements that a packing made: those that are outstanding behind the ones of before
+abbrev pub placements_made : {Name : Type 0} → Desk Name → Desk Name → List (Outstanding Name Name)
+placements_made old new = drop (length old.session.outstanding) new.session.outstanding
+
+module _ {Name : Type 0} (cmp : Name → Name → Ordering) where
+  -- the order of groups: boxes that are placed alone first, by their names, then the others, by theirs
+  abbrev pub group_order : Group Name Name → Group Name Name → Ordering
+  group_order (Ungrouped a) (Ungrouped b) = cmp a b
+  group_order (Ungrouped a) (Grouped b) = Less
+  group_order (Grouped a) (Ungrouped b) = Greater
+  group_order (Grouped a) (Grouped b) = cmp a b
+
+  -- a box of this name and size is to be placed: alone, or in each of these groups; the groups of the new boxes stand in order, each once
+  abbrev pub TakesBox : Name → Size → Option (List Name) → Collection Name Name → Collection Name Name → Type 0
+  TakesBox name size None old new = PushesAlone cmp group_order old new name size
+  TakesBox name size (Some groups) old new =
+      PushesInto cmp group_order old new name groups size × IsStrictlySortedBy group_order (keys_of new.groups)
+
+  -- what a packing goes by: volumes, and the cuts that `contains_smallest_box` prefers by them
+  abbrev pub volume_rules : Rules Name Name
+  volume_rules = named_rules cmp cmp Volume
+
+  -- the boxes are packed, and where that is done they are forgotten; else they are kept
+  abbrev pub PacksBoxes : Desk Name → Result Packed SessionError → Desk Name → Type 0
+  PacksBoxes old (Ok numbers) new =
+      Packs group_order volume_rules old.boxes old.session (packed_reply (Ok numbers)) new.session × (new.boxes ≡ no_boxes)
+  PacksBoxes old (Err error) new =
+      Packs group_order volume_rules old.boxes old.session (packed_reply (Err error)) new.session × (new.boxes ≡ old.boxes)
+
+  -- the free sections of the bin of this name, or none where there is no such bin
+  abbrev pub sections_in : State Name Name → Name → Option (List Cuboid)
+  sections_in state name = option_map (λ (bin : Bin). bin.sections) (lookup (is_at (cmp name)) state.bins)
+
+  -- the statistics of the bin of this name, or none where there is no such bin
+  abbrev pub stats_in : State Name Name → Name → Option BinStats
+  stats_in state name = option_map (λ (bin : Bin). stats_of bin (outstanding_in cmp state.outstanding name)) (lookup (is_at (cmp name)) state.bins)

@@ -1,0 +1,49 @@
+-- What a run prints, line after line.
+use Rattle.std.specs.Prelude.{◌≡◌, ◌⊎◌, ℕ, ◌+◌, ◌<◌, List, [], ◌∷◌, ◌++◌, Option, length, codes, ⊤}
+use Rattle.std.specs.Fmt.{decimal}
+use Rattle.std.specs.Io.KnownBytes.{Appends}
+use Rattle.packrun_words.specs.Requests.{Request, Asks, IsBad}
+use Rattle.packrun_words.specs.Input.{lines_of}
+use Rattle.packrun_lines.specs.Answers.{Name, Answers}
+use Rattle.packrun_lines.specs.Desk.{Desk, empty_desk}
+use Rattle.packrun_lines.specs.declared.outcome.Outcome.{Outcome}
+use Rattle.packrun_lines.specs.declared.outcome.Outcome.TheVariants.{Done, BadLine, NoMemory, IoFailed}
+
+-- lines are answered, each on the desk that those before it leave: all have this text, and the last leaves that desk
+abbrev pub AreAnswered : Desk Name → List (List ℕ) → List ℕ → Desk Name → Type 0
+AreAnswered old [] text new = (text ≡ []) × (new ≡ old)
+AreAnswered old (line ∷ lines) text new =
+    (request : Request) × Asks line request × (first : List ℕ) × (next : Desk Name) × Answers request old first next
+    × (later : List ℕ) × AreAnswered next lines later new × (text ≡ first ++ later)
+
+-- where these lines are left, of which the first has the number n, a run ends so: at the end of the input, at a bad line, or where
+-- memory is refused, before the first line or at a line
+abbrev pub MayEnd : ℕ → List (List ℕ) → Outcome → Type 0
+MayEnd n lines Done = lines ≡ []
+MayEnd n lines (BadLine number) = (number ≡ n) × (line : List ℕ) × (later : List (List ℕ)) × (lines ≡ line ∷ later) × IsBad line
+MayEnd n lines NoMemory = (n ≡ 1) ⊎ (0 < length lines)
+MayEnd n lines IoFailed = ⊥
+
+-- the last line of a run that ends so
+abbrev pub last_line : Outcome → List ℕ
+last_line Done = []
+last_line (BadLine number) = codes "line " ++ decimal number ++ codes " is bad\n"
+last_line NoMemory = codes "Out of memory.\n"
+last_line IoFailed = []
+
+-- the transcript of an input: on a desk without bins and boxes its first lines are answered, and then the run ends; what is
+-- printed is the text of these answers, and the last line
+pub record IsTranscript (input : List ℕ) (printed : List ℕ) (outcome : Outcome) : Type 0 where
+  pub answered : List (List ℕ)
+  pub left : List (List ℕ)
+  pub lines_are : lines_of input ≡ answered ++ left
+  pub text : List ℕ
+  pub desk : Desk Name
+  pub answers : AreAnswered (empty_desk 0) answered text desk
+  pub ends : MayEnd (1 + length answered) left outcome
+  pub printed_is : printed ≡ text ++ last_line outcome
+
+-- a transcript of the input is printed, and nothing else; of a run that ends as `IoFailed` nothing is said
+abbrev pub PrintsTranscript : (before after : Option (List ℕ)) → Outcome → (input : List ℕ) → Type 0
+PrintsTranscript before after IoFailed input = ⊤
+PrintsTranscript before after outcome input = (printed : List ℕ) × IsTranscript input printed outcome × Appends before after printed

@@ -1,0 +1,4 @@
+-- Definitions that only the clauses of functions use that no user can call.
+pub mod Calls
+pub mod Obeying
+pub mod Printing

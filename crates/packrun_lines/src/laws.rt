@@ -1,0 +1,67 @@
+//! Laws of answers and of transcripts.
+ghost use Rattle.std.specs.Prelude.{ℕ, ◌≡◌, ◌≢◌, ◌++◌, List, Option, Some, Result};
+ghost use Rattle.rectangle_pack.specs.declared.session.command.Packed.{Packed};
+ghost use Rattle.rectangle_pack.specs.declared.session.command.SessionError.{SessionError};
+ghost use Rattle.rectangle_pack.specs.Promise.{PacksAsPromised};
+ghost use Rattle.rectangle_pack.specs.Session.{IsSession, packed_reply};
+ghost use Rattle.packrun_words.specs.Requests.{Request};
+ghost use Rattle.packrun_lines.specs.Answers.{Name, name_cmp, Answers};
+ghost use Rattle.packrun_lines.specs.Desk.{Desk, PacksBoxes, empty_desk, group_order, volume_rules};
+ghost use Rattle.packrun_lines.specs.Transcripts.{AreAnswered, IsTranscript, PrintsTranscript};
+ghost use Rattle.packrun_lines.specs.declared.outcome.Outcome.{Outcome};
+ghost use Rattle.packrun_lines.specs.declared.outcome.Outcome.TheVariants.{NoMemory, IoFailed};
+
+/// A law: what holds of a session always holds of each desk on which lines are answered. So each
+/// bin that a transcript speaks of is covered by its free sections and the boxes that stand in it,
+/// which are from straight cuts of it until it is coalesced. And each packing keeps the promise
+/// that the library makes of packings.
+pub fn answers_keep_sessions()
+    ensures request { (request : Request) (old new : Desk Name) (text : List ℕ) →
+        Answers request old text new →
+        IsSession name_cmp old.session →
+        IsSession name_cmp new.session }
+    ensures lines { (lines : List (List ℕ)) (old new : Desk Name) (text : List ℕ) →
+        AreAnswered old lines text new →
+        IsSession name_cmp old.session →
+        IsSession name_cmp new.session }
+    ensures begun { (lines : List (List ℕ)) (new : Desk Name) (text : List ℕ) →
+        AreAnswered (empty_desk 0) lines text new →
+        IsSession name_cmp new.session }
+    ensures transcript { (input printed : List ℕ) (outcome : Outcome) →
+        (whole : IsTranscript input printed outcome) (before behind : List (List ℕ)) →
+        whole.answered ≡ before ++ behind →
+        (text later : List ℕ) × (between : Desk Name) ×
+        AreAnswered (empty_desk 0) before text between ×
+        AreAnswered between behind later whole.desk × (whole.text ≡ text ++ later) ×
+        IsSession name_cmp between.session }
+    ensures packings { (old new : Desk Name) (answer : Result Packed SessionError) →
+        PacksBoxes name_cmp old answer new →
+        PacksAsPromised (group_order name_cmp) (volume_rules name_cmp) old.boxes old.session
+        (packed_reply answer) new.session }
+{}
+
+/// A law: an input has at most one transcript that does not end for want of memory. So the input
+/// says what is printed, and how a run ends, where no read or write fails. And where memory is
+/// refused, the text of the answers before is a beginning of the text of this transcript.
+pub fn input_has_one_transcript()
+    ensures one { (input printed other : List ℕ) (outcome other_outcome : Outcome) →
+        IsTranscript input printed outcome →
+        IsTranscript input other other_outcome →
+        outcome ≢ NoMemory →
+        other_outcome ≢ NoMemory →
+        (printed ≡ other) × (outcome ≡ other_outcome) }
+    ensures runs { (input before : List ℕ) (after other_after : Option (List ℕ)) →
+        (outcome other_outcome : Outcome) →
+        PrintsTranscript (Some before) after outcome input →
+        PrintsTranscript (Some before) other_after other_outcome input →
+        outcome ≢ NoMemory →
+        outcome ≢ IoFailed →
+        other_outcome ≢ NoMemory →
+        other_outcome ≢ IoFailed →
+        (after ≡ other_after) × (outcome ≡ other_outcome) }
+    ensures without_memory { (input printed other : List ℕ) (outcome : Outcome) →
+        (stopped : IsTranscript input printed NoMemory) →
+        (whole : IsTranscript input other outcome) →
+        outcome ≢ NoMemory →
+        (later : List ℕ) × (whole.text ≡ stopped.text ++ later) }
+{}

@@ -1,0 +1,5 @@
+pub mod Names
+pub mod NextLines
+pub mod ReadLines
+pub mod Requests
+pub mod Words

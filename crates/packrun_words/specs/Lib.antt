@@ -1,0 +1,4 @@
+pub mod Input
+pub mod private
+pub mod Requests
+pub mod Words

@@ -1,0 +1,4 @@
+pub mod Commands
+pub mod Names
+pub mod Reading
+pub mod Verbs

@@ -1,0 +1,70 @@
+//! The lines of an input.
+ghost use Rattle.std.specs.Prelude.{◌≡◌, ◌≢◌, ◌<◌, ◌≤◌, ◌-◌, All, Ok, take, length, vec_len, IfOk, OnOk, true};
+ghost use Rattle.std.specs.Io.{StartsWith, StopsAt, appended_bytes};
+ghost use Rattle.std.specs.Io.KnownBytes.{Consumes};
+ghost use Rattle.packrun_words.specs.private.Reading.{IsLineRead, IsPartRead, has_ended};
+
+use crate::command::LONGEST_LINE;
+use std::alloc::Allocator;
+use std::io;
+use std::io::{BufRead, ErrorKind};
+
+/// Reads the next line into `line`, with its line feed, or the first 4097 bytes of one that is
+/// longer. Nothing is in `line` at the end of the input.
+///
+/// An error is the reader's, or `line` had less room and memory was refused.
+pub fn read_line<B: BufRead, A: Allocator>(input: &mut B, line: &mut Vec<u8, A>) -> io::Result<()>
+    ensures { OnOk result
+        (IsLineRead (B.remaining input.old) line.new.items (B.remaining input.new)) }
+{
+    line.clear();
+    for _ in 0..u64::MAX {
+        if read_part(input, line)? {
+            return Ok(());
+        }
+    }
+    Err(io::Error::from(ErrorKind::Interrupted))
+}
+
+// Moves to the line what the reader has at hand of it. Whether the line has ended, or is too long.
+fn read_part<B: BufRead, A: Allocator>(input: &mut B, line: &mut Vec<u8, A>) -> io::Result<bool>
+    requires { vec_len line.old ≤ 4096 }
+    ensures appends { StartsWith line.new.items line.old.items }
+    ensures part { IfOk result (IsPartRead (B.remaining input.old) line.old.items line.new.items
+        (B.remaining input.new)) }
+{
+    let bytes = match input.fill_buf() {
+        Ok(bytes) => bytes,
+        Err(error) if error.kind() == ErrorKind::Interrupted => return Ok(false),
+        Err(error) => return Err(error),
+    };
+    let count = length_of_part(bytes, LONGEST_LINE + 1 - line.len());
+    let part = &bytes[..count];
+    let ended = has_ended(part);
+    line.extend_from_slice(part)?;
+    input.consume(count);
+    Ok(ended || line.len() > LONGEST_LINE)
+}
+
+// Whether a line ends with this part of it: with a line feed, or where there is nothing more.
+fn has_ended(part: &[u8]) -> bool
+    ensures { result ≡ has_ended part.now }
+{
+    part.is_empty() || part[part.len() - 1] == b'\n'
+}
+
+// How many bytes there are up to the first line feed, itself counted, and at most so many.
+fn length_of_part(bytes: &[u8], most: usize) -> usize
+    ensures within { result ≤ length bytes.now }
+    ensures limit { result ≤ most }
+    ensures some { 0 < most → 0 < length bytes.now → 0 < result }
+    ensures before { All (λ b. b ≢ 10) (take (result - 1) bytes.now) }
+{
+    let most = most.min(bytes.len());
+    for index in 0..most {
+        if bytes[index] == b'\n' {
+            return index + 1;
+        }
+    }
+    most
+}
