@@ -2,6 +2,7 @@
 from __future__ import annotations
 
 import ctypes
+import functools
 import os
 from collections.abc import Sequence
 from pathlib import Path
@@ -137,8 +138,13 @@ def _path() -> str:
     return os.environ.get("RECTANGLE_PACK") or str(beside if beside.is_file() else here.parents[3] / "build" / name)
 
 
-def _loaded() -> ctypes.CDLL:
-    library = ctypes.CDLL(_path())
+@functools.lru_cache(maxsize=None)
+def loaded() -> ctypes.CDLL:
+    """The library, which is looked for at the first call."""
+    try:
+        library = ctypes.CDLL(_path())
+    except OSError as why:
+        raise ImportError(f"the shared library cannot be loaded (in a clone tools/build_c.sh builds it): {why}") from None
     for name, arguments in _ARGUMENTS.items():
         function = getattr(library, f"rectangle_pack_{name}")
         function.argtypes = arguments
@@ -146,12 +152,9 @@ def _loaded() -> ctypes.CDLL:
     return library
 
 
-_library = _loaded()
-
-
 def call(name: str, *arguments: object) -> int:
     """What the call of this name answers: a status, or a number."""
-    answer: int = getattr(_library, f"rectangle_pack_{name}")(*arguments)
+    answer: int = getattr(loaded(), f"rectangle_pack_{name}")(*arguments)
     return answer
 
 

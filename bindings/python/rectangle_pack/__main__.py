@@ -1,0 +1,7 @@
+"""The commands, as `python3 -m rectangle_pack sheet|cut|load|view`."""
+import sys
+
+from .commands import main
+
+if __name__ == "__main__":
+    sys.exit(main())
