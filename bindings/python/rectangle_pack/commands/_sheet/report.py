@@ -1,0 +1,86 @@
+"""What is said of the pages: a few lines, JSON for programs, and a page to look at."""
+from __future__ import annotations
+
+import base64
+from collections.abc import Sequence
+from pathlib import Path
+from typing import Any
+
+from .._common import print_json
+from .._scene import Item, Room, Scene, Step
+from .rules import shown
+from .sheets import Frame, Sheet
+
+__all__ = ["print_lines", "print_sheets", "scene_of"]
+
+
+def _count(number: int, one: str, many: str) -> str:
+    return f"{number} {one if number == 1 else many}"
+
+
+def _filled(sheets: Sequence[Sheet]) -> str:
+    """The part of the pixels that sprites have, rounded down: only what is full is 100 %."""
+    return f"{100 * sum(it.taken for it in sheets) // sum(it.pixels for it in sheets)} %"
+
+
+def _line(sheet: Sheet) -> str:
+    """What there is to say of a page."""
+    parts = [shown(sheet.size), _count(len(sheet.frames), "sprite", "sprites")]
+    if len(sheet.stored) < len(sheet.frames):
+        parts.append(f"{len(sheet.stored)} stored")
+    return ", ".join([*parts, f"{_filled([sheet])} filled"])
+
+
+def print_lines(sheets: Sequence[Sheet], files: Sequence[Path]) -> None:
+    """Prints a line for each page and for each index."""
+    pages = {sheet.image: _line(sheet) for sheet in sheets}
+    for file in files:
+        print(f"{file}: {pages[file.name]}" if file.name in pages else file)
+
+
+def _sprite(frame: Frame, number: int) -> dict[str, Any]:
+    sprite = frame.sprite
+    return {
+        "name": sprite.name, "file": str(sprite.path), "page": number,
+        "x": frame.corner[0], "y": frame.corner[1], "width": sprite.size[0], "height": sprite.size[1],
+        "source": {"x": sprite.corner[0], "y": sprite.corner[1], "width": sprite.whole[0], "height": sprite.whole[1]},
+        "stored_as": frame.stored_as.name,
+    }
+
+
+def print_sheets(sheets: Sequence[Sheet], files: Sequence[Path]) -> None:
+    """Prints what was decided, for programs."""
+    print_json({
+        "pages": [{
+            "image": sheet.image, "width": sheet.size[0], "height": sheet.size[1], "heuristic": sheet.heuristic,
+            "stored": len(sheet.stored), "filled": round(sheet.taken / sheet.pixels, 4),
+        } for sheet in sheets],
+        "sprites": [_sprite(frame, number) for number, sheet in enumerate(sheets) for frame in sheet.frames],
+        "files": [str(file) for file in files],
+    })
+
+
+def _items(sheet: Sheet, first: int) -> list[Item]:
+    """What is stored on a page."""
+    items = []
+    for number, (stored, corner) in enumerate(sheet.stored, first):
+        sprite, *others = stored.sprites
+        note = f"{sprite.path}; also: {', '.join(it.name for it in others)}" if others else str(sprite.path)
+        items.append(Item(number, sprite.name, sheet.image, (*corner, 0), (*sprite.size, 1), sprite.folder, note))
+    return items
+
+
+def scene_of(title: str, sheets: Sequence[Sheet], images: Sequence[bytes]) -> Scene:
+    """The pages with their pictures, and a step for each."""
+    rooms = [
+        Room(sheet.image, (*sheet.size, 1), "data:image/png;base64," + base64.b64encode(image).decode())
+        for sheet, image in zip(sheets, images)]
+    steps, first = [], 0
+    for sheet in sheets:
+        steps.append(Step(f"{sheet.image}: {_line(sheet)}", _items(sheet, first)))
+        first += len(sheet.stored)
+    facts = [
+        ("sprites", str(sum(len(sheet.frames) for sheet in sheets))), ("pages", str(len(sheets))),
+        ("pixels", str(sum(sheet.pixels for sheet in sheets))), ("filled", _filled(sheets)),
+    ]
+    return Scene(title, rooms, steps, unit="pixels", facts=facts)
