@@ -1,0 +1,101 @@
+"""How a sheet is cut: its parts, and the cuts in their order. All is in cells of the sheet, trim included."""
+from __future__ import annotations
+
+from collections.abc import Sequence
+from dataclasses import dataclass
+from typing import Literal
+
+from .job import Kind, Laid
+from .packing import Filled
+
+__all__ = ["Cut", "Edge", "FlatAxis", "Part", "Rect", "SheetPlan"]
+
+Role = Literal["part", "panel", "offcut", "waste"]
+
+Edge = Literal["", "left", "right", "bottom", "top"]
+
+FlatAxis = Literal["x", "y"]
+
+
+@dataclass(frozen=True)
+class Rect:
+    """A rectangle of material in cells of the sheet, trim included, by its left lower corner and its size."""
+
+    x: int
+    y: int
+    width: int
+    height: int
+
+    @property
+    def area(self) -> int:
+        return self.width * self.height
+
+    def halves(self, axis: FlatAxis, size: int, kerf: int) -> tuple[Rect, Rect]:
+        """What is left before the blade, of this size along the axis, and behind it: which may be nothing."""
+        gone = size + kerf
+        if axis == "x":
+            return Rect(self.x, self.y, size, self.height), Rect(self.x + gone, self.y, self.width - gone, self.height)
+        return Rect(self.x, self.y, self.width, size), Rect(self.x, self.y + gone, self.width, self.height - gone)
+
+
+@dataclass(frozen=True)
+class Part:
+    """What is cut, or what a cut leaves. A part that is cut on has a letter for its name, waste has no name."""
+
+    role: Role
+    name: str
+    rect: Rect
+    laid: Laid | None = None
+
+
+@dataclass(frozen=True)
+class Cut:
+    """A cut, straight through the whole part. The blade takes what is between near and far, counted from the left or lower
+    edge of the sheet; where it takes an edge of the part with it, one of these may be beyond that."""
+
+    part: Part
+    axis: FlatAxis
+    near: int
+    far: int
+    # Left or below, and right or above of the blade. None, where the blade takes all that was there.
+    lower: Part | None
+    upper: Part | None
+    # The edge of the sheet that it trims.
+    trims: Edge = ""
+
+    @property
+    def length(self) -> int:
+        return self.part.rect.height if self.axis == "x" else self.part.rect.width
+
+    @property
+    def at(self) -> int:
+        """How far the near side of the blade is from the part's left or lower edge: so much of it is left there."""
+        return self.near - (self.part.rect.x if self.axis == "x" else self.part.rect.y)
+
+    @property
+    def parts(self) -> list[Part]:
+        return [part for part in (self.lower, self.upper) if part]
+
+
+@dataclass(frozen=True)
+class SheetPlan:
+    """How a sheet is cut."""
+
+    number: int
+    filled: Filled
+    cuts: Sequence[Cut]
+    panels: Sequence[Part]
+    offcuts: Sequence[Part]
+
+    @property
+    def kind(self) -> Kind:
+        return self.filled.kind
+
+    @property
+    def waste(self) -> int:
+        """The area that is neither panel nor an offcut worth keeping: kerf, trim, and what is too small."""
+        return self.kind.area - sum(part.rect.area for part in (*self.panels, *self.offcuts))
+
+    @property
+    def cut_length(self) -> int:
+        return sum(cut.length for cut in self.cuts)

@@ -1,0 +1,210 @@
+"""What the tests of `cut` share: runs of the command, the example, and a saw that cuts by the printed steps."""
+from __future__ import annotations
+
+import contextlib
+import csv
+import functools
+import io
+import json
+import re
+import subprocess
+import sys
+import tempfile
+import unittest
+from collections.abc import Iterator, Sequence
+from dataclasses import dataclass, field
+from fractions import Fraction
+from pathlib import Path
+from typing import Any
+
+try:
+    from rectangle_pack import commands
+except OSError as why:
+    raise unittest.SkipTest(f"the shared library is not there: {why}") from None
+
+PYTHON = Path(__file__).resolve().parent.parent
+
+Size = tuple[Fraction, Fraction]
+
+NUMBER = r"(\d+(?:\.\d+)?)"
+STEP = re.compile(
+    rf" *(\d+)\. ([A-Z]+) {NUMBER} x {NUMBER}: (?:cut across ([xy]) at {NUMBER}|trim {NUMBER} off the (\w+)) -> (.*)")
+PART = re.compile(rf'(?:(panel|offcut) "(.*?)"|(waste)|([A-Z]+)) {NUMBER} x {NUMBER}( \(turned\))?(?:, |$)')
+HEADING = re.compile(rf"Sheet (\d+) of (\d+): (.*), {NUMBER} x {NUMBER} mm")
+UNCUT = re.compile(rf'Nothing is cut: the sheet is panel "(.*)" {NUMBER} x {NUMBER}( \(turned\))?')
+
+
+@dataclass
+class Run:
+    """A run of the command: its status, what it printed, and the folder that it wrote to."""
+
+    status: int
+    out: str
+    err: str
+    folder: Path
+
+    @functools.cached_property
+    def json(self) -> Any:
+        """What was printed, its numbers exact."""
+        return json.loads(self.out, parse_float=Fraction, parse_int=Fraction)
+
+    def sheets(self) -> list[str]:
+        """The plans, in the order of the sheets."""
+        paths = sorted(self.folder.glob("sheet-*.txt"), key=lambda path: int(path.stem[6:]))
+        return [path.read_text(encoding="utf-8") for path in paths]
+
+
+class Case(unittest.TestCase):
+    """A test with a folder of its own."""
+
+    def setUp(self) -> None:
+        folder = tempfile.TemporaryDirectory()
+        self.addCleanup(folder.cleanup)
+        self.folder = Path(folder.name)
+
+    def write(self, name: str, text: str) -> Path:
+        path = self.folder / name
+        path.write_text(text, encoding="utf-8")
+        return path
+
+    def cut(self, *words: object, out: str = "plan", pdf: bool = False) -> Run:
+        """Runs the command in this process."""
+        folder, texts = self.folder / out, (io.StringIO(), io.StringIO())
+        whole = ["cut", *map(str, words), "--out", str(folder), *([] if pdf else ["--no-pdf"])]
+        with contextlib.redirect_stdout(texts[0]), contextlib.redirect_stderr(texts[1]):
+            try:
+                status = commands.main(whole)
+            except SystemExit as end:
+                status = int(end.code or 0)
+        return Run(status, texts[0].getvalue(), texts[1].getvalue(), folder)
+
+    def cut_tables(self, panels: str, stock: str, *words: object, offcuts: str = "", **named: Any) -> Run:
+        """Runs the command on these tables."""
+        paths: list[object] = [self.write("panels.csv", panels), "--stock", self.write("sheets.csv", stock)]
+        if offcuts:
+            paths += ["--offcuts", self.write("offcuts.csv", offcuts)]
+        run = self.cut(*paths, *words, **named)
+        self.assertEqual((run.status, run.err), (0, ""))
+        return run
+
+
+def as_user(*words: object, **environment: str) -> subprocess.CompletedProcess[str]:
+    """Runs the command in a process of its own."""
+    import os
+    paths = os.pathsep.join(filter(None, [environment.pop("FIRST", ""), str(PYTHON)]))
+    return subprocess.run(
+        [sys.executable, "-m", "rectangle_pack", "cut", *map(str, words)], capture_output=True, text=True, encoding="utf-8",
+        env={**os.environ, "PYTHONPATH": paths, **environment}, check=False)
+
+
+def write_example(folder: Path) -> None:
+    """The example set."""
+    subprocess.run([sys.executable, str(PYTHON / "examples_of_commands" / "cut.py"), str(folder)], check=True)
+
+
+def rows_of(text: str) -> list[dict[str, str]]:
+    return list(csv.DictReader(io.StringIO(text)))
+
+
+@dataclass
+class Sawn:
+    """What came off the saw: panels and offcuts by name, with their sizes; and which panels are said to be turned."""
+
+    name: str
+    size: Size
+    cuts: int = 0
+    length: Fraction = Fraction(0)
+    panels: list[tuple[str, Size, bool]] = field(default_factory=list)
+    offcuts: list[tuple[str, Size]] = field(default_factory=list)
+    waste: list[Size] = field(default_factory=list)
+
+
+def _split(size: Size, axis: str, near: Fraction, far: Fraction) -> list[Size]:
+    """What a blade that takes all from near to far leaves of a part."""
+    whole = size[0] if axis == "x" else size[1]
+    left = [stretch for stretch in (min(near, whole), whole - max(far, Fraction(0))) if stretch > 0]
+    return [(it, size[1]) if axis == "x" else (size[0], it) for it in left]
+
+
+def _blade(step: re.Match[str], size: Size, kerf: Fraction) -> tuple[str, Fraction, Fraction]:
+    """The axis, and what the blade takes, from the part's left or lower edge."""
+    axis, at, trim, edge = step.group(5), step.group(6), step.group(7), step.group(8)
+    if axis:
+        near = Fraction(at)
+        assert 0 < near < (size[0] if axis == "x" else size[1]), "a cut beside the part"
+        return axis, near, near + kerf
+    axis = "x" if edge in ("left", "right") else "y"
+    if edge in ("left", "bottom"):
+        return axis, Fraction(trim) - kerf, Fraction(trim)
+    near = (size[0] if axis == "x" else size[1]) - Fraction(trim)
+    return axis, near, near + kerf
+
+
+def _parts(text: str) -> Iterator[tuple[str, str, Size, bool]]:
+    """The parts that a step names: role, name, size, and whether it is turned."""
+    at = 0
+    while at < len(text):
+        part = PART.match(text, at)
+        assert part, f"not a list of parts: {text!r}"
+        role, size = part.group(1) or part.group(3) or "part", (Fraction(part.group(5)), Fraction(part.group(6)))
+        yield role, part.group(2) or part.group(4) or "", size, bool(part.group(7))
+        at = part.end()
+
+
+def saw(text: str, kerf: Fraction, size: Size) -> Sawn:
+    """Saws a sheet of this size by its printed plan, and checks each number in it."""
+    heading = HEADING.fullmatch(text.splitlines()[0])
+    assert heading and (Fraction(heading.group(4)), Fraction(heading.group(5))) == size, "another sheet"
+    sawn, table = Sawn(heading.group(3), size), {"A": size}
+    steps = [step for line in text.splitlines() if (step := STEP.fullmatch(line))]
+    for number, step in enumerate(steps, 1):
+        assert int(step.group(1)) == number, "steps are not numbered in order"
+        part = table.pop(step.group(2))
+        assert part == (Fraction(step.group(3)), Fraction(step.group(4))), "the part has another size"
+        axis, near, far = _blade(step, part, kerf)
+        left, named = _split(part, axis, near, far), list(_parts(step.group(9)))
+        assert left == [it[2] for it in named], f"step {number} leaves {left}"
+        sawn.cuts += 1
+        sawn.length += part[1] if axis == "x" else part[0]
+        for role, name, its_size, is_turned in named:
+            if role == "part":
+                assert name not in table, "two parts with one letter"
+                table[name] = its_size
+            elif role == "panel":
+                sawn.panels.append((name, its_size, is_turned))
+            elif role == "offcut":
+                sawn.offcuts.append((name, its_size))
+            else:
+                sawn.waste.append(its_size)
+    uncut = [line for line in map(UNCUT.fullmatch, text.splitlines()) if line]
+    if not steps and uncut:
+        sawn.panels.append((uncut[0].group(1), table.pop("A"), bool(uncut[0].group(4))))
+    assert not table, f"parts that are not cut on: {table}"
+    return sawn
+
+
+def saw_all(run: Run, kerf: object) -> list[Sawn]:
+    """Saws all sheets of a run: their sizes are those of the heading."""
+    sawn = []
+    for number, text in enumerate(run.sheets(), 1):
+        heading = HEADING.fullmatch(text.splitlines()[0])
+        assert heading and int(heading.group(1)) == number and int(heading.group(2)) == len(run.sheets())
+        size = Fraction(heading.group(4)), Fraction(heading.group(5))
+        sawn.append(saw(text, Fraction(str(kerf)), size))
+    return sawn
+
+
+def check_panels(case: unittest.TestCase, rows: Sequence[dict[str, str]], sawn: Sequence[Sawn]) -> None:
+    """The panels are those of the list: each line's in its number and size, turned only where it is free. Names differ."""
+    found: dict[str, list[tuple[Size, bool]]] = {}
+    for sheet in sawn:
+        for name, size, is_turned in sheet.panels:
+            found.setdefault(name.split(" #")[0], []).append((size, is_turned))
+    for row in rows:
+        size = Fraction(row["width"]), Fraction(row["height"])
+        pieces = found.pop(row["name"], [])
+        case.assertEqual(len(pieces), int(row["count"]))
+        for its_size, is_turned in pieces:
+            case.assertEqual(its_size, (size[1], size[0]) if is_turned else size)
+            case.assertFalse(is_turned and row["grain"] == "keep")
+    case.assertEqual(found, {})
