@@ -1,0 +1,1 @@
+"""load: a packing list into containers or lorries."""

@@ -1,0 +1,148 @@
+"""A load as text, as CSV, as JSON, and as a scene for a page."""
+from __future__ import annotations
+
+import csv
+import io
+from collections.abc import Sequence
+from decimal import Decimal
+from fractions import Fraction
+from typing import Any
+
+from .._scene import Item, Room, Scene
+from .._scene import Step as SceneStep
+from .job import Job
+from .report import LoadedContainer, Report, Step
+
+__all__ = ["as_csv", "as_json", "as_text", "scene_of"]
+
+HEAD = ("step", "crate", "customer", "x", "y", "z", "wide", "high", "long", "down", "on")
+
+# The columns of words, which begin at the left.
+WORDS = {"crate", "customer", "down", "on"}
+
+AXES = "x from the right wall, as one looks in at the door; y up from the floor; z from the end wall to the door"
+
+# So many steps are named on which a crate stands; of more only the count is said.
+MOST_NAMED = 4
+
+
+def _percent(part: Fraction) -> str:
+    """Percent with one decimal, rounded down: what is not whole is not said to be."""
+    tenths = part.numerator * 1000 // part.denominator
+    return f"{tenths // 10}.{tenths % 10}".removesuffix(".0")
+
+
+def _number(text: str) -> int | float:
+    return float(text) if "." in text else int(text)
+
+
+def _places(step: Step) -> dict[str, int]:
+    """Where a crate goes, and its sides as it is turned."""
+    it = step.crate
+    return {"x": it.x, "y": it.y, "z": it.z, "wide": it.turn.wide, "high": it.turn.high, "long": it.turn.long}
+
+
+def _cells(job: Job, step: Step, on: str) -> tuple[str, ...]:
+    kind = step.crate.kind
+    return (str(step.number), kind.name, kind.customer, *map(job.told, _places(step).values()), step.crate.turn.down, on)
+
+
+def _table(rows: Sequence[Sequence[str]]) -> list[str]:
+    """The lines of a table whose first row is its head."""
+    widths = [max(map(len, column)) for column in zip(*rows)]
+    is_word = [name in WORDS for name in rows[0]]
+    return [
+        "  ".join(cell.ljust(width) if left else cell.rjust(width) for cell, width, left in zip(row, widths, is_word)).rstrip()
+        for row in rows]
+
+
+def _counted(count: int, what: str) -> str:
+    return f"{count} {what}" if count == 1 else f"{count} {what}s"
+
+
+def _on(step: Step) -> str:
+    """What a crate stands on, in short."""
+    if not step.on:
+        return "floor"
+    return " ".join(map(str, step.on)) if len(step.on) <= MOST_NAMED else _counted(len(step.on), "crate")
+
+
+def _text_of(job: Job, it: LoadedContainer) -> str:
+    wide, high, long = map(job.told, it.container.room)
+    head = (f"{it.name}: {wide} wide, {high} high, {long} long; {_counted(len(it.steps), 'crate')}, "
+            f"{_percent(it.filled)} % filled, {job.told(it.length)} of the length in use")
+    return "\n".join([head, "", *_table([HEAD, *(_cells(job, step, _on(step)) for step in it.steps)])])
+
+
+def as_text(report: Report) -> str:
+    """A table for each container, and the sums."""
+    job = report.job
+    costs = [f"cost {report.cost:f}"] if job.has_costs else []
+    sums = [
+        _counted(len(report.containers), "container"), *costs, _counted(report.crates, "crate"),
+        f"{_percent(report.filled)} % filled"]
+    unit = f", in {job.unit}" if job.unit else ""
+    return "\n\n".join([AXES + unit, *(_text_of(job, it) for it in report.containers), ", ".join(sums)])
+
+
+def as_csv(report: Report) -> str:
+    """A line for each crate, in the order of loading."""
+    text = io.StringIO()
+    writer = csv.writer(text, lineterminator="\n")
+    writer.writerow(("container", *HEAD))
+    for it in report.containers:
+        for step in it.steps:
+            writer.writerow((it.name, *_cells(report.job, step, " ".join(map(str, step.on)) or "floor")))
+    return text.getvalue()
+
+
+def _json_step(job: Job, step: Step) -> dict[str, Any]:
+    kind = step.crate.kind
+    places = {name: _number(job.told(size)) for name, size in _places(step).items()}
+    return {
+        "step": step.number, "crate": kind.name, "line": kind.line, "piece": step.piece, "customer": kind.customer, **places,
+        "down": step.crate.turn.down, "on": list(step.on)}
+
+
+def _json_container(job: Job, it: LoadedContainer) -> dict[str, Any]:
+    wide, high, long = (_number(job.told(side)) for side in it.container.room)
+    return {
+        "name": it.name, "kind": it.container.name, "wide": wide, "high": high, "long": long,
+        "cost": _number(f"{it.container.cost:f}") if job.has_costs else None, "filled": _number(_percent(it.filled)),
+        "length_in_use": _number(job.told(it.length)), "steps": [_json_step(job, step) for step in it.steps]}
+
+
+def as_json(report: Report) -> dict[str, Any]:
+    """The load for programs."""
+    job = report.job
+    apart = sorted({tuple(sorted((one, other))) for one, others in job.apart.items() for other in others})
+    return {
+        "unit": job.unit, "together": job.together, "apart": [list(pair) for pair in apart],
+        "cost": _number(f"{report.cost:f}") if job.has_costs else None, "crates": report.crates,
+        "filled": _number(_percent(report.filled)), "containers": [_json_container(job, it) for it in report.containers]}
+
+
+def _cell_unit(job: Job) -> str:
+    """What one cell of the scene is."""
+    if not job.decimals:
+        return job.unit or "cells"
+    return f"{Decimal(1).scaleb(-job.decimals):f} {job.unit or 'units'}"
+
+
+def scene_of(report: Report, title: str) -> Scene:
+    """What a page shows: a step for each crate, in the order of loading."""
+    job = report.job
+    steps: list[SceneStep] = []
+    for it in report.containers:
+        for step in it.steps:
+            crate = step.crate
+            corner = (crate.x, crate.y, crate.z)
+            text = f"{it.name}, step {step.number}: {crate.kind.name} at {' '.join(map(job.told, corner))}"
+            note, number = f"{crate.turn.down} down", len(steps) + 1
+            item = Item(number, crate.kind.name, it.name, corner, crate.turn[:3], crate.kind.customer, note)
+            steps.append(SceneStep(text, [item]))
+    facts = [
+        ("containers", str(len(report.containers))), ("crates", str(report.crates)), ("filled", f"{_percent(report.filled)} %"),
+        *([("cost", f"{report.cost:f}")] if job.has_costs else [])]
+    rooms = [Room(it.name, it.container.room) for it in report.containers]
+    return Scene(title, rooms, steps, unit=_cell_unit(job), facts=facts)
