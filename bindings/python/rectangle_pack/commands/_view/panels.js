@@ -1,0 +1,180 @@
+// ---- Text beside the drawing: the step, the box, groups, the table ----------------------------------------------------------
+
+/**
+ * The element of this id.
+ * @template {HTMLElement} T
+ * @param {string} id @param {new () => T} kind @returns {T}
+ */
+function element(id, kind) {
+  const found = document.getElementById(id);
+  if (!(found instanceof kind)) throw new Error(`the page has no ${id}`);
+  return found;
+}
+
+/** @param {string} id */
+const any = (id) => element(id, HTMLElement);
+
+/** @param {string} name @param {string} text @param {string} kind */
+function made(name, text = "", kind = "") {
+  const it = document.createElement(name);
+  if (text) it.textContent = text;
+  if (kind) it.className = kind;
+  return it;
+}
+
+/**
+ * Terms and what is said of them.
+ * @param {HTMLElement} list @param {[string, string][]} rows
+ */
+function fillTerms(list, rows) {
+  list.replaceChildren(...rows.flatMap(([term, text]) => [made("dt", term), made("dd", text)]));
+}
+
+/**
+ * A size with its unit.
+ * @param {Triple} size @param {Scene} scene
+ */
+function measured(size, scene) {
+  return `${sizeText(size, scene)} ${scene.unit}`;
+}
+
+/** @param {Triple} at @param {Scene} scene */
+function placeText(at, scene) {
+  return (scene.isFlat ? at.slice(0, 2) : at).map((place) => lengthText(place, scene)).join(", ");
+}
+
+/**
+ * What is said of a box.
+ * @param {Item} item @param {Scene} scene @returns {[string, string][]}
+ */
+function aboutItem(item, scene) {
+  /** @type {[string, string][]} */
+  const rows = [
+    ["Name", item.name], ["Size", measured(item.size, scene)], ["Bin", item.room.name], ["Corner", placeText(item.at, scene)],
+    ["Number", item.number],
+  ];
+  if (item.group) rows.push(["Group", item.group.name]);
+  if (item.note) rows.push(["Note", item.note]);
+  if (scene.steps.length > 1) rows.push(["Placed", `step ${item.from + 1}`]);
+  if (item.to !== Infinity) rows.push(["Released", `step ${item.to + 1}`]);
+  return rows;
+}
+
+/**
+ * The box in one sentence.
+ * @param {Item} item @param {Scene} scene
+ */
+function spokenItem(item, scene) {
+  const group = item.group ? `, group ${item.group.name}` : "";
+  const note = item.note ? `, ${item.note}` : "";
+  return `${item.name}, ${measured(item.size, scene)}, number ${item.number}${group}, in ${item.room.name} at ${
+    placeText(item.at, scene)}${note}`;
+}
+
+/**
+ * What a step does, in words.
+ * @param {Scene} scene @param {number} index
+ */
+function spokenStep(scene, index) {
+  const step = scene.steps[index];
+  const items = scene.itemsAt(index);
+  const rooms = new Set(items.map((item) => item.room)).size;
+  const said = [];
+  if (step && scene.steps.length > 1) said.push(`Step ${index + 1} of ${scene.steps.length}`);
+  if (step && step.refused) said.push("refused, nothing changes");
+  if (step && scene.steps.length > 1 && step.placed.length) {
+    said.push(`${counted(step.placed.length, "box is", "boxes are")} placed`);
+  }
+  if (step && step.released.length) said.push(`${counted(step.released.length, "box is", "boxes are")} released`);
+  const where = `${counted(items.length, "box stands", "boxes stand")} in ${counted(rooms, "bin", "bins")}`;
+  said.push(items.length ? where : "no box stands in a bin");
+  return `${said.join(". ")}.`.replace(/(^|\. )([a-z])/g, (_, before, letter) => before + letter.toUpperCase());
+}
+
+/** @param {Cut} cut @param {Scene} scene */
+function cutText(cut, scene) {
+  return `${"xyz"[cut.axis]} at ${lengthText(cut.place, scene)} of ${sizeText(cut.size, scene)}`;
+}
+
+/**
+ * What a cut does, in words.
+ * @param {Scene} scene @param {Cut} cut
+ */
+function spokenCut(scene, cut) {
+  const [lower, , upper] = partsOf(cut);
+  const said = `Cut ${cut.index + 1} of ${cut.count} in ${cut.room.name}: across ${cutText(cut, scene)} ${scene.unit}.`;
+  if (scene.kerf === undefined) return said;
+  return `${said} It leaves ${sizeText(lower.size, scene)} and ${sizeText(upper.size, scene)}.`;
+}
+
+/**
+ * The texts of all steps or cuts, for their list.
+ * @param {Scene} scene @param {boolean} isCutting
+ */
+function listTexts(scene, isCutting) {
+  if (!isCutting) return scene.steps.map((step, index) => `${index + 1}. ${step.text}${step.refused ? " (refused)" : ""}`);
+  return ["before the first cut", ...scene.cuts.map((cut) => (
+    `${cut.index + 1}. ${cutText(cut, scene)}, ${cut.room.name}`
+  ))];
+}
+
+const MOST_GROUPS = 200;
+
+/** The groups with their colours; each can be hidden. */
+class Legend {
+  /** @param {Look} look @param {(group: Group | null, isShown: boolean) => void} onChange */
+  constructor(look, onChange) {
+    this.look = look;
+    this.onChange = onChange;
+    this.list = any("groups");
+    /** @type {[HTMLCanvasElement, Group | null][]} */
+    this.swatches = [];
+    /** @type {HTMLInputElement[]} */
+    this.boxes = [];
+  }
+
+  /** @param {Scene} scene */
+  fill(scene) {
+    [this.swatches, this.boxes] = [[], []];
+    const alone = scene.items.filter((item) => !item.group).length;
+    const rows = scene.groups.slice(0, MOST_GROUPS).map((group) => this.row(group, group.name, group.count));
+    if (alone && scene.groups.length) rows.push(this.row(null, "no group", alone));
+    if (scene.groups.length > MOST_GROUPS) rows.push(made("li", `and ${scene.groups.length - MOST_GROUPS} more`));
+    this.list.replaceChildren(...rows);
+    any("groups-section").hidden = scene.groups.length === 0;
+    this.paint();
+  }
+
+  /** @param {Group | null} group @param {string} name @param {number} count */
+  row(group, name, count) {
+    const row = made("li");
+    const label = made("label");
+    const box = document.createElement("input");
+    box.type = "checkbox";
+    box.checked = true;
+    box.addEventListener("change", () => this.onChange(group, box.checked));
+    this.boxes.push(box);
+    const swatch = document.createElement("canvas");
+    swatch.width = swatch.height = 28;
+    swatch.setAttribute("aria-hidden", "true");
+    this.swatches.push([swatch, group]);
+    label.append(box, swatch, made("span", name, "name"), made("span", String(count), "count"));
+    row.append(label);
+    return row;
+  }
+
+  showAll() {
+    for (const box of this.boxes) box.checked = true;
+  }
+
+  paint() {
+    for (const [swatch, group] of this.swatches) {
+      const context = /** @type {CanvasRenderingContext2D} */ (swatch.getContext("2d"));
+      context.fillStyle = this.look.paint(context, group);
+      context.fillRect(0, 0, 28, 28);
+      context.lineWidth = 2;
+      context.strokeStyle = this.look.colours.edge;
+      context.strokeRect(1, 1, 26, 26);
+    }
+  }
+}
