@@ -76,7 +76,8 @@ if have cargo Rust; then
     echo "Rust: cargo test, which compares with packrun, cargo doc, and the examples"
 fi
 if have python3 Python; then
-    python3 -m unittest discover -q -s bindings/python
+    # The tests of the module alone: those of the commands are test_tools.sh's.
+    (cd bindings/python && python3 -m unittest -q test_*.py)
     for it in atlas session; do
         python3 "bindings/python/$it.py" | diff - "$work/$it.txt"
     done

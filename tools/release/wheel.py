@@ -6,6 +6,8 @@ import shutil
 
 from common import DIST, PACKAGING, TOP, WORK, Release, at_commit, copied, emptied, glibc_of, run
 
+# What the package is made of: the page of `view` has files of its own.
+SOURCES = (".py", ".typed", ".html", ".css", ".js")
 # The oldest glibc that has a tag.
 OLDEST = (2, 5)
 
@@ -22,10 +24,10 @@ def tag(library: pathlib.Path) -> str:
 
 def source(folder: pathlib.Path) -> None:
     """What the wheel is built of."""
-    parts = PACKAGING / "wheel"
-    for it in sorted((TOP / "bindings/python/rectangle_pack").iterdir()):
-        if it.suffix in (".py", ".typed"):
-            copied(it, folder / "rectangle_pack" / it.name)
+    parts, package = PACKAGING / "wheel", TOP / "bindings/python/rectangle_pack"
+    for it in sorted(package.rglob("*")):
+        if it.suffix in SOURCES:
+            copied(it, folder / "rectangle_pack" / it.relative_to(package))
     for name in ("pyproject.toml", "hatch_build.py", "README.md"):
         copied(parts / name, folder / name)
     for name in ("LICENSE-MIT", "LICENSE-APACHE"):
