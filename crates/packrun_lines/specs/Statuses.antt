@@ -3,6 +3,7 @@ use Rattle.std.specs.Prelude.{ℕ}
 use Rattle.packrun_lines.specs.declared.outcome.Outcome.{Outcome}
 use Rattle.packrun_lines.specs.declared.outcome.Outcome.TheVariants.{Done, BadLine, NoMemory, IoFailed}
 
+-- the exit status with which each end is told
 abbrev pub status_of : Outcome → ℕ
 status_of Done = 0
 status_of (BadLine _) = 2

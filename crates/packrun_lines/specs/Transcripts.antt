@@ -43,7 +43,8 @@ pub record IsTranscript (input : List ℕ) (printed : List ℕ) (outcome : Outco
   pub ends : MayEnd (1 + length answered) left outcome
   pub printed_is : printed ≡ text ++ last_line outcome
 
--- a transcript of the input is printed, and nothing else; of a run that ends as `IoFailed` nothing is said
+-- a transcript of the input is printed behind what was there before, and nothing else; where that is not known, nothing is said of
+-- what is printed, and of a run that ends as `IoFailed` nothing at all
 abbrev pub PrintsTranscript : (before after : Option (List ℕ)) → Outcome → (input : List ℕ) → Type 0
 PrintsTranscript before after IoFailed input = ⊤
 PrintsTranscript before after outcome input = (printed : List ℕ) × IsTranscript input printed outcome × Appends before after printed

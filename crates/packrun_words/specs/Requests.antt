@@ -32,7 +32,8 @@ pub record WriteSize (width height depth : List ℕ) (size : Size) : Type 0 wher
   pub height_is : Writes (2 ^ 32) height size.height
   pub depth_is : Writes (2 ^ 32) depth size.depth
 
--- what words say: no words nothing, and else the first word is a command, and the others are all that it takes
+-- what words say: no words nothing, and else the first word is a command, and the others are all that it takes: numbers below
+-- their bounds, and for `exclude` two groups that differ
 abbrev pub Say : List (List ℕ) → Request → Type 0
 Say words Nothing = words ≡ []
 Say words (Bin name size) = (w h d : List ℕ) × (words ≡ codes "bin" ∷ name ∷ w ∷ h ∷ d ∷ []) × WriteSize w h d size
