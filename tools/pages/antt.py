@@ -7,6 +7,8 @@ from dataclasses import dataclass
 
 from sources import CRATES
 
+# Cases of the standard library, which stand in equations where a parameter stands in others.
+CASES = ("zero", "true", "false")
 # Where a name is from: a module, and what it is called there.
 Origin = tuple[str, str]
 
@@ -25,6 +27,32 @@ class Definition:
     @property
     def path(self) -> pathlib.Path:
         return CRATES / (self.module.replace(".", "/") + ".antt")
+
+    @property
+    def meaning(self) -> str:
+        """What it means, and below its worked example."""
+        return self.told()[0]
+
+    @property
+    def example(self) -> str:
+        return self.told()[1]
+
+    def told(self) -> tuple[str, str]:
+        meaning, _, example = " ".join(self.comment).partition(" Example: ")
+        return meaning, example
+
+    def call(self) -> str:
+        """Its name, with those of its parameters; `_` for one that only patterns stand for."""
+        code = "\n".join(self.lines)
+        if re.match(r"\s*pub record", code):
+            names = " ".join(re.findall(r"\(([\w ]+) :", code.partition(" where\n")[0])).split()
+            return " ".join([self.name, *names])
+        heads = re.findall(rf"(?m)^\s*{self.name} ([^=]*) =", code)
+        columns = zip(*(re.findall(r"\((?:[^()]|\([^()]*\))*\)|[^\s{}]+(?![^{]*\})", it) for it in heads))
+        # A name with a capital is a parameter where the equation goes on to use it, and else a case.
+        named = [[it for it in column if re.fullmatch(r"[a-z]\w*", it) and it not in CASES
+                  or it[0].isupper() and len(re.findall(rf"\b{it}\b", code)) > column.count(it)] for column in columns]
+        return " ".join([self.name, *(it[0] if it else "_" for it in named)]) if any(named) else self.name
 
     def code(self) -> list[str]:
         return self.heads + self.lines
@@ -49,6 +77,12 @@ class Definition:
             if last is not None and not line.lstrip().startswith("--"):
                 last.append(line)
         return found
+
+
+def head_of(text: str) -> str:
+    """The comment at the head of a file."""
+    lines = re.match(r"(?:--.*\n)*", text)
+    return " ".join(it.lstrip("- ") for it in lines[0].splitlines()) if lines else ""
 
 
 def module_of(path: pathlib.Path) -> str:

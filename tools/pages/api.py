@@ -7,7 +7,7 @@ from collections.abc import Iterator
 
 from library import KINDS, Call, Library, Module
 from proved import Proved, slug
-from rattle import Item, Part, parts_of
+from rattle import Item, indent_of
 from sources import ROOT, fenced, fill_page
 
 
@@ -43,11 +43,11 @@ class Page:
         yield from self.clauses(call)
 
     def type(self, item: Item) -> Iterator[str]:
-        parts = parts_of(item.body or "")
-        visible = [part for part in parts if item.kind == "enum" or part.text.startswith("pub ")]
-        lines = ["    " + line for part in visible for line in bare(part.text).split("\n")]
+        parts = item.parts()
+        visible = [part for part in parts if item.kind == "enum" or part.lines[0].startswith("    pub ")]
+        lines = [line for part in visible for line in part.lines if not line.lstrip().startswith("//")]
         lines += ["    /* private fields */"] if len(visible) < len(parts) else []
-        start, close = (";", []) if item.body is None else (" {", ["}"])
+        start, close = (" {", ["}"]) if item.has_body else (";", [])
         yield self.heading(3, f"{KINDS[item.kind]} `{item.name}`")
         yield fenced([*item.attributes, item.head + start, *lines, *close], "rust")
         yield docs_of(item.docs)
@@ -67,7 +67,7 @@ class Page:
         last = None
         for impl, method in self.library.methods[name]:
             if impl.head != last:
-                yield fenced([impl.head.rstrip().rstrip(",") + " { .. }"], "rust")
+                yield fenced([impl.head.rstrip(",") + " { .. }"], "rust")
                 last = impl.head
             yield from self.function(4, method)
 
@@ -75,9 +75,9 @@ class Page:
         yield self.heading(2, f"`{module.name}`")
         yield docs_of(module.docs)
         if module.name == ROOT:
-            again, others = self.library.again, {name for name, home in self.library.homes.items() if home != ROOT}
-            named = ", ".join(f"`{it}`" for it in again)
-            yield f"Exported here too: {'all that stands under the other modules' if others == set(again) else named}."
+            others = {name for name, home in self.library.homes.items() if home != ROOT}
+            named = ", ".join(f"`{it}`" for it in sorted(self.library.again))
+            yield f"Exported here too: {'all that stands under the other modules' if others == self.library.again else named}."
         # Types first, and laws last.
         for it in sorted(module.stands, key=lambda it: {"struct": 0, "enum": 0, "law": 2}.get(it.kind, 1)):
             if it.kind in ("struct", "enum"):
@@ -107,30 +107,17 @@ def docs_of(docs: list[str]) -> str:
     return re.sub(r"(?ms)^```(\S*)$(.*?)^```$", lambda it: f"```{it[1] or 'rust'}{it[2]}```", "\n".join(docs))
 
 
-def indent_of(line: str) -> int:
-    return len(line) - len(line.lstrip())
-
-
 def dedented(head: str) -> str:
     """A head whose lines after the first are moved to the left as far as the first stood to the right."""
-    first, *rest = head.rstrip().rstrip(",").split("\n")
-    rest = [line for line in rest if line.strip()]
+    first, *rest = head.rstrip(",").split("\n")
     closed = rest and rest[-1].lstrip().startswith(")")
     shift = indent_of(rest[-1]) if closed else min(map(indent_of, rest), default=0)
     return "\n".join([first, *(line[min(shift, indent_of(line)) :] for line in rest)])
 
 
-def bare(text: str) -> str:
-    """A field or a variant without the doc comments in it, as one that ends in a comma."""
-    first, *rest = [line for line in text.split("\n") if not line.lstrip().startswith("//")]
-    shift = indent_of(rest[-1]) if rest else 0
-    return "\n".join([first, *(line[shift:] for line in rest)]) + ","
-
-
-def listed(part: Part, indent: str = "") -> Iterator[str]:
+def listed(part: Item, indent: str = "") -> Iterator[str]:
     """A field or a variant with its doc comment, and below it the fields of a variant."""
-    name, rest = re.findall(r"(?s)^(?:pub\s+)?(\w+)(.*)", part.text)[0]
+    name = re.sub(r"^\s*(?:pub )?(\w+).*", r"\1", part.lines[0])
     yield f"{indent}- `{name}`: {' '.join(part.docs)}"
-    at = rest.find("{")
-    for field in parts_of(rest[at + 1 : -1]) if at >= 0 else []:
+    for field in part.parts():
         yield from listed(field, indent + "  ")

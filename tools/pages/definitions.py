@@ -1,58 +1,72 @@
-"""Checks docs/DEFINITIONS.md: each definition of the library and of the program is named on it, and each name on it is there.
-
-A name is what a span in backticks begins with: `IsStep` of `IsStep sections member`. In the first column of a table of
-definitions each has to be a definition, or a type of the code of which definitions speak. Elsewhere each with a capital or a `_`
-has to be such a one, or something else that has a name in the specs or in the code."""
+"""The page docs/DEFINITIONS.md: each definition in the words of its comment in specs/, in the order of a written text."""
 from __future__ import annotations
 
 import pathlib
 import re
-from collections.abc import Iterable, Iterator
+from collections.abc import Iterator
 
-from antt import definitions_of
-from sources import CRATES, DOCS, LAYERS, PROGRAM, coded, files_of, numbered, shown
+from antt import definitions_of, head_of
+from sources import CRATES, FOR_C, LAYERS, ORDER, PROGRAM, coded, files_of, fill_page, shown, written
 
-PAGE = DOCS / "DEFINITIONS.md"
-# What a table of definitions has above its first column.
-HEADS = ("Name", "Definition", "Word")
 # Names of the standard library that the page says.
 STANDARD = {"Greater", "Equal", "Less", "String"}
 
 
-def found(pattern: str, files: Iterable[pathlib.Path]) -> set[str]:
-    return {name for path in files for name in re.findall(pattern, path.read_text())}
+def name_of(path: pathlib.Path) -> str:
+    """A file of definitions as the written text names it: `rectangle_pack_lists/private/Notes`."""
+    return str(path.relative_to(CRATES).with_suffix("")).replace("/specs/", "/", 1)
 
 
-def names_of_code(files: list[pathlib.Path]) -> set[str]:
-    """All names that the code gives: to functions, types, variants, fields, clauses, modules and crates."""
-    given = found(r"\b(?:fn|struct|enum|trait|type|const|mod) (\w+)", files)
-    given |= found(r"(?m)^\s+(?:pub )?(\w+)(?:[,({:]| \{)", files) | found(r"\b(?:requires|ensures) (\w+) \{", files)
-    return given | {path.relative_to(CRATES).parts[0] for path in files}
+def files() -> dict[str, pathlib.Path]:
+    """The files that have definitions, by their names."""
+    return {name_of(it): it for it in files_of([*LAYERS, *PROGRAM, FOR_C], "specs", ".antt") if definitions_of(it)}
 
 
-def read_page() -> Iterator[tuple[str, int, bool]]:
-    """The names on the page, each with its line, and whether it stands in the first column of a table of definitions."""
-    in_table = False
-    for number, line in numbered(PAGE):
-        cells = line.split(" | ")
-        in_table = line.startswith("|") and (in_table or cells[0].strip("| ") in HEADS)
-        for column, cell in enumerate(cells):
-            for span in coded(cell):
-                name = re.match(r"[A-Za-z_]\w*(?=$| )", span)
-                if name:
-                    yield name[0], number, in_table and column == 0
+def crates(_: str) -> str:
+    """The files of the library by their crates."""
+    lines = ["| Crate | Files | In `specs/private/` |", "|---|---|---|"]
+    for crate in (it for it in ORDER if it in LAYERS):
+        found = [it for it in files().values() if it.is_relative_to(CRATES / crate)]
+        private = [f"`{it.name}`" for it in found if it.parent.name == "private"]
+        public = [f"`{it.name}`" for it in found if it.parent.name != "private"]
+        lines.append(f"| `{crate}` | {', '.join(public)} | {', '.join(private)} |".replace("|  |", "| |"))
+    return "\n".join(lines)
 
 
-def faults() -> Iterator[str]:
-    specs, code = sorted(CRATES.glob("*/specs/**/*.antt")), sorted(CRATES.glob("*/src/**/*.rt"))
-    defined = {it.name for path in specs for it in definitions_of(path)}
-    defined |= found(r"(?m)^use Rattle\.\w+\.specs\.declared\.[\w.]+\.\{(\w+)\}", specs)
-    known = defined | found(r"\w+", specs) | {path.stem for path in specs} | names_of_code(code) | STANDARD
-    named = set()
-    for name, number, is_first in read_page():
-        named.add(name)
-        if name not in defined and (is_first or (name not in known and re.search("[A-Z_]", name))):
-            yield f"{shown(PAGE)}:{number}: there is no `{name}`"
-    for path in (it for it in files_of([*LAYERS, *PROGRAM], "specs", ".antt") if "private" not in it.parts):
-        for name in sorted({it.name for it in definitions_of(path)} - named):
-            yield f"{shown(path)}: `{name}` is not in {shown(PAGE)}"
+def definitions(name: str) -> str:
+    """The definitions of a file, below what its head says."""
+    path = files()[name]
+    found = [(f"`{it.call()}`", it.meaning, it.example) for it in definitions_of(path)]
+    columns = 3 if any(example for _, _, example in found) else 2
+    rows = [f"| {' | '.join(it[:columns])} |".replace("|  |", "| |") for it in [("Name", "Says", "Example"), *found]]
+    head = f"[`{path.name}`](../{shown(path)}) of `{name.partition('/')[0]}`: {head_of(path.read_text())}"
+    return "\n".join([head, "", rows[0], "|---" * columns + "|", *rows[1:]])
+
+
+def page() -> str:
+    return fill_page("DEFINITIONS.md", crates, definitions)
+
+
+def known_names() -> set[str]:
+    """All names that the specs and the code give: to definitions, functions, types, variants, fields, clauses and modules."""
+    specs = sorted(CRATES.glob("*/specs/**/*.antt"))
+    code = "\n".join(path.read_text() for path in sorted(CRATES.glob("*/src/**/*.rt")))
+    given = set(re.findall(r"\b(?:fn|struct|enum|trait|type|const|mod|requires|ensures) (\w+)", code))
+    given |= set(re.findall(r"(?m)^\s+(?:pub )?(\w+)(?:[,({:]| \{)", code))
+    lines = (line for path in specs for line in path.read_text().splitlines() if not line.lstrip().startswith("--"))
+    return given | {word for line in lines for word in re.findall(r"\w+", line)} | {it.stem for it in specs} | {*ORDER} | STANDARD
+
+
+def faults(text: str) -> Iterator[str]:
+    """What the page leaves out, and what it names that is not there."""
+    for name, path in files().items():
+        if f"{{{{definitions {name}}}}}" not in written("DEFINITIONS.md"):
+            yield f"docs/text/DEFINITIONS.md: has no place for the definitions of `{name}`"
+        for it in definitions_of(path):
+            if not it.meaning:
+                yield f"{shown(path)}:{it.line}: `{it.name}` has no comment that says what it means"
+    known = known_names()
+    for span in coded(text):
+        name_of_span = re.match(r"[A-Za-z_]\w*(?=$| )", span)
+        if name_of_span and re.search("[A-Z_]", name_of_span[0]) and name_of_span[0] not in known:
+            yield f"docs/DEFINITIONS.md: there is no `{name_of_span[0]}`"

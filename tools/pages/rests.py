@@ -9,8 +9,8 @@ import re
 from collections.abc import Iterable, Iterator, Mapping
 
 from antt import Definition, Origin, definitions_in, imports, module_of, words
-from library import Call, Placed, calls_in
-from rattle import items_in, split_impl, words_of_type
+from library import Call, calls_in, items_of_crates
+from rattle import split_impl, words_of_type
 from sources import LAYERS, PROGRAM, ROOT, fenced, files_of, shown
 
 # A definition; or the kind and the name of a type of the code, or of a word of std.
@@ -22,8 +22,8 @@ class Code:
 
     def __init__(self, crates: Iterable[str]) -> None:
         self.calls = {it.name: it for it in calls_in(crates)}
-        items = [Placed(path, item) for path in files_of(crates, "src", ".rt") for item in items_in(path)]
-        self.types = {it.item.name: it for it in items if it.kind in ("struct", "enum") and it.item.head.startswith("pub")}
+        items = items_of_crates(crates)
+        self.types = {it.item.name: it for it in items if it.kind in ("struct", "enum") and it.item.lines[0].startswith("pub")}
         impls = [(*split_impl(it.item.head), it) for it in items if it.kind == "impl"]
         self.models = {words_of_type(kind)[0]: it for trait, kind, it in impls if trait == "Model"}
         self.names = {path: imports(path.read_text()) for path in files_of(crates, "src", ".rt")}
@@ -37,11 +37,10 @@ class Code:
             name = todo.pop(0)
             if name in self.types and name not in found:
                 found.append(name)
-                todo += words_of(self.types[name].item.text)
+                todo += words_of("\n".join(self.types[name].item.lines))
         for name in (it for it in found if it in self.models):
             ghosts = self.models[name].item.ghosts()
-            texts = [ghosts[it].text for it in ("Value", "view") if it in ghosts]
-            yield name, self.models[name].path, "\n".join(texts).split("\n")
+            yield name, self.models[name].path, [line for it in ("Value", "view") if it in ghosts for line in ghosts[it].lines]
 
     def tell_views(self, call: Call) -> str:
         """How the values of which clauses speak are seen: `self.old` is the view of the session before the call."""
@@ -54,7 +53,7 @@ def words_of(text: str) -> list[str]:
 
 def lines_of(call: Call) -> list[str]:
     """The clauses of a call."""
-    return [line for clause in call.clauses() for line in clause.text.split("\n")]
+    return [line for clause in call.clauses() for line in clause.lines]
 
 
 class Specs:
@@ -141,5 +140,5 @@ def tell_order(of: dict[str, Code], order: list[Told]) -> str:
     lists = [("Types of the code", types), ("Words of the standard library", std)]
     said = [f"{title}: {', '.join(found)}." for title, found in lists if found]
     for it in definitions_among(order):
-        said.append(f"`{it.name}`, {shown(it.path)}:{it.line}: {' '.join(it.comment)}\n\n{fenced(it.code())}")
+        said.append(f"`{it.name}`, {shown(it.path)}:{it.line}: {it.meaning}\n\n{fenced(it.code())}")
     return "\n\n".join(said)

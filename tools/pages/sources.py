@@ -45,9 +45,14 @@ def fill(text: str, words: Mapping[str, Callable[[str], str]]) -> str:
     return re.sub(r"\{\{(\w+)(?: (.*?))?\}\}", lambda it: words[it[1]](it[2] or ""), text)
 
 
+def written(name: str) -> str:
+    """The written text of a made page."""
+    return (DOCS / "text" / name).read_text()
+
+
 def fill_page(name: str, *words: Callable[[str], str]) -> str:
     """A made page: its written text, filled by functions that go by their names."""
-    return fill((DOCS / "text" / name).read_text(), {it.__name__: it for it in words})
+    return fill(written(name), {it.__name__: it for it in words})
 
 
 def coded(text: str) -> list[str]:

@@ -6,7 +6,7 @@ import api
 import examples
 import proved
 from library import Call
-from rattle import items_of, parts_of
+from rattle import items_of
 from rests import Specs, Told, definitions_among
 
 BOXES = '''use Rattle.std.specs.Prelude.{ℕ}
@@ -46,7 +46,7 @@ CALL = "pub fn set(n: u32)\n    requires small { n < 5 }\n    ensures done { new
 
 
 def call_of(text: str) -> Call:
-    return Call(pathlib.Path("src/pack.rt"), items_of(text)[0], "set", "pack")
+    return Call(pathlib.Path("src/pack.rt"), items_of(text.splitlines())[0], "set", "pack")
 
 
 def rows_of(text: str) -> proved.Proved:
@@ -125,9 +125,9 @@ class Api(unittest.TestCase):
         self.assertEqual(api.dedented("fn set()\n    where\n        u8: Copy,"), "fn set()\nwhere\n    u8: Copy")
 
     def test_variants_are_listed_with_their_fields(self) -> None:
-        (part,) = parts_of("/// It moved.\n    Moved {\n        /// How far.\n        by: u32,\n    },\n")
+        lines = ["    /// It moved.", "    Moved {", "        /// How far.", "        by: u32,", "    },"]
+        (part,) = items_of(lines, ends=",")
         self.assertEqual(list(api.listed(part)), ["- `Moved`: It moved.", "  - `by`: How far."])
-        self.assertEqual(api.bare(part.text), "Moved {\n    by: u32,\n},")
 
 
 class Examples(unittest.TestCase):

@@ -1,8 +1,8 @@
 """The readers, on small texts."""
 import unittest
 
-from antt import definitions_in, imports, words
-from rattle import find_mark, items_of, parts_of, paths_of, split_impl
+from antt import definitions_in, head_of, imports, words
+from rattle import items_of, paths_of, split_impl
 from sources import coded, crates_in, fenced, fill
 
 CODE = '''//! A module.
@@ -34,9 +34,10 @@ where
 {
     ghost Value = { Size };
 
-    ghost view = { λ s. record {
-      width = s.width;
-    } };
+    ghost view = { λ s.
+        record {
+          width = s.width;
+        } };
 }
 '''
 SPECS = '''-- About sizes.
@@ -45,6 +46,8 @@ use Rattle.one.specs.Boxes.{Size}
 
 -- a pair
 -- of numbers
+-- Example: 1
+-- and 2
 pub record Two (a : ℕ) : Type 0 where
   pub first : ℕ
   -- said of the second
@@ -61,8 +64,9 @@ module _ {A : Type 0}
 
   module _ (b : A) where
     -- the sum
-    abbrev pub sum_of : ℕ → ℕ
-    sum_of n = n + n
+    abbrev pub sum_of : ℕ → (ℕ → ℕ) → List ℕ → ℕ
+    sum_of zero Rates [] = Rates zero
+    sum_of n Rates (m ∷ ms) = n + n
 
 -- beyond them
 unfoldable pub last : ℕ
@@ -71,44 +75,52 @@ last = 0
 
 
 class Rattle(unittest.TestCase):
-    def test_item_with_clauses(self) -> None:
-        use, function, constant, impl = items_of(CODE)
-        self.assertEqual((use.kind, use.is_public), ("use", False))
-        self.assertEqual((function.kind, function.name, function.is_public, function.line), ("fn", "set", True, 10))
-        self.assertEqual(function.docs, ["Sets it.", "", "```", "set(1);", "```"])
-        self.assertEqual(function.attributes, ["#[inline]"])
-        self.assertTrue(function.head.startswith("pub fn set(to: &mut u32"))
-        self.assertTrue(function.head.endswith("u32: Copy,"))
-        named = [(it.kind, it.name) for it in function.clauses]
-        self.assertEqual(named, [("requires", "small"), ("ensures", "done"), ("ensures", "ensures")])
-        self.assertEqual(function.clauses[0].text, "    requires small { n < 5 }")
-        self.assertEqual(function.clauses[1].text.split("\n")[-1], "        to.new ≡ n }")
-        self.assertEqual((function.body or "").strip(), "*to = n;")
-        self.assertEqual((constant.kind, constant.name, constant.is_public), ("const", "MOST", False))
-        self.assertEqual(impl.kind, "impl")
+    def setUp(self) -> None:
+        self.use, self.function, self.constant, self.model = items_of(CODE.splitlines())
+
+    def test_heads(self) -> None:
+        found = [(it.kind, it.name, it.is_public) for it in (self.use, self.function, self.constant, self.model)]
+        self.assertEqual(found, [("use", "std", False), ("fn", "set", True), ("const", "MOST", False), ("impl", "", False)])
+        self.assertEqual(self.function.line, 10)
+        self.assertEqual(self.function.head.split("\n"), [
+            "pub fn set(to: &mut u32, n: u32) -> Result<(), Error>", "    where", "        u32: Copy,",
+        ])
+        self.assertEqual(self.model.head.split("\n")[0], "impl<A: Fn(u8) -> u8> Model for Set<A>")
+        self.assertEqual([self.use.has_body, self.function.has_body, self.model.has_body], [False, True, True])
+
+    def test_docs_and_attributes(self) -> None:
+        self.assertEqual(self.function.docs, ["Sets it.", "", "```", "set(1);", "```"])
+        self.assertEqual(self.function.attributes, ["#[inline]"])
+        self.assertEqual(self.constant.docs, [])
+
+    def test_clauses(self) -> None:
+        small, done, last = self.function.clauses
+        found = [(it.kind, it.name) for it in (small, done, last)]
+        self.assertEqual(found, [("requires", "small"), ("ensures", "done"), ("ensures", "ensures")])
+        self.assertEqual(small.lines, ["    requires small { n < 5 }"])
+        self.assertEqual(done.lines[1:], ["        // This is no end: }", "        to.new ≡ n }"])
+        self.assertEqual(last.lines, ["    ensures { true }"])
 
     def test_ghosts_of_a_model(self) -> None:
-        model = items_of(CODE)[-1]
-        self.assertEqual(list(model.ghosts()), ["Value", "view"])
-        self.assertEqual(model.ghosts()["Value"].text, "    ghost Value = { Size };")
-        self.assertEqual(model.ghosts()["view"].line, 30)
-        self.assertEqual(model.ghosts()["view"].text.count("\n"), 2)
-        self.assertEqual(split_impl(model.head), ("Model", "Set<A>"))
-        self.assertEqual(split_impl("impl Set<u8>"), ("", "Set<u8>"))
+        ghosts = self.model.ghosts()
+        self.assertEqual(list(ghosts), ["Value", "view"])
+        self.assertEqual(ghosts["Value"].lines, ["    ghost Value = { Size };"])
+        self.assertEqual((ghosts["view"].line, len(ghosts["view"].lines)), (30, 4))
 
-    def test_marks_within_texts_are_passed_over(self) -> None:
-        text = "a(;) \";\" ';' /* ; */ 'x: b; c"
-        self.assertEqual(text[find_mark(text, 0, ";") :], "; c")
-        self.assertEqual(find_mark("a < b", 0, ";"), 5)
+    def test_impls(self) -> None:
+        self.assertEqual(split_impl(self.model.head), ("Model", "Set<A>"))
+        self.assertEqual(split_impl("impl Set<u8>"), ("", "Set<u8>"))
+        self.assertEqual(split_impl("impl<A>\n    fmt::Display for Set<A>"), ("fmt::Display", "Set<A>"))
 
     def test_parts(self) -> None:
-        parts = parts_of("/// Its width, in cells.\n    pub width: u32,\n    map: Map<u8, fn(u8) -> u8>,\n")
-        self.assertEqual([it.text for it in parts], ["pub width: u32", "map: Map<u8, fn(u8) -> u8>"])
-        self.assertEqual([it.docs for it in parts], [["Its width, in cells."], []])
+        lines = ["pub struct Set {", "    /// Its width, in cells.", "    pub width: u32,", "    map: Map<", "        u8,", "    >,", "}"]
+        (item,) = items_of(lines)
+        self.assertEqual([it.lines for it in item.parts()], [[lines[2]], lines[3:6]])
+        self.assertEqual([it.docs for it in item.parts()], [["Its width, in cells."], []])
 
     def test_paths_of_a_use(self) -> None:
-        self.assertEqual(paths_of("a::b"), [["a", "b"]])
-        self.assertEqual(paths_of("a::{b, c::{d, e},\n}"), [["a", "b"], ["a", "c", "d"], ["a", "c", "e"]])
+        self.assertEqual(paths_of("a::b;"), [["a", "b"]])
+        self.assertEqual(paths_of("a::b::{ c, d, };"), [["a", "b", "c"], ["a", "b", "d"]])
 
 
 class Definitions(unittest.TestCase):
@@ -117,12 +129,15 @@ class Definitions(unittest.TestCase):
 
     def test_names_comments_and_heads(self) -> None:
         self.assertEqual(list(self.found), ["Two", "Which", "sum_of", "last"])
-        self.assertEqual(self.found["Two"].comment, ["a pair", "of numbers"])
+        self.assertEqual(self.found["Two"].comment, ["a pair", "of numbers", "Example: 1", "and 2"])
+        self.assertEqual((self.found["Two"].meaning, self.found["Two"].example), ("a pair of numbers", "1 and 2"))
+        self.assertEqual((self.found["last"].meaning, self.found["last"].example), ("beyond them", ""))
+        self.assertEqual(head_of(SPECS), "About sizes.")
         self.assertEqual(self.found["Which"].comment, ["one of two"])
         self.assertEqual(self.found["Which"].heads, ["module _ {A : Type 0}", "    (all : A) where"])
         self.assertEqual(self.found["sum_of"].heads[2:], ["  module _ (b : A) where"])
         self.assertEqual(self.found["last"].heads, [])
-        self.assertEqual(self.found["last"].line, 27)
+        self.assertEqual(self.found["last"].line, 30)
 
     def test_fields_and_cases(self) -> None:
         two, which = self.found["Two"], self.found["Which"]
@@ -130,6 +145,12 @@ class Definitions(unittest.TestCase):
         fields = {"first": ["  pub first : ℕ"], "second": ["  pub second : Size", "      → ℕ"]}
         self.assertEqual(two.fields(), fields)
         self.assertEqual((two.cases(), which.cases()), ([], ["One", "Other"]))
+
+    def test_names_with_parameters(self) -> None:
+        self.assertEqual(self.found["Two"].call(), "Two a")
+        self.assertEqual(self.found["Which"].call(), "Which")
+        self.assertEqual(self.found["sum_of"].call(), "sum_of n Rates _")
+        self.assertEqual(self.found["last"].call(), "last")
 
     def test_words(self) -> None:
         self.assertEqual(words(["  pub second : Size", "-- ℕ", "      → (List ℕ)"]), ["Size", "→", "List", "ℕ"])
