@@ -7,55 +7,21 @@ from dataclasses import dataclass
 
 from sources import CRATES
 
-# Cases of the standard library, which stand in equations where a parameter stands in others.
-CASES = ("zero", "true", "false")
 # Where a name is from: a module, and what it is called there.
 Origin = tuple[str, str]
 
 
 @dataclass(frozen=True, eq=False)
 class Definition:
-    """One definition. Its comment is a line each; `module` is its file, as `rectangle_pack.specs.Session`."""
+    """One definition. Its comment is what it means, and a worked example; `module` is its file, as `rectangle_pack.specs.Stats`."""
 
     name: str
     module: str
     line: int
     heads: list[str]
-    comment: list[str]
+    meaning: str
+    example: str
     lines: list[str]
-
-    @property
-    def path(self) -> pathlib.Path:
-        return CRATES / (self.module.replace(".", "/") + ".antt")
-
-    @property
-    def meaning(self) -> str:
-        """What it means, and below its worked example."""
-        return self.told()[0]
-
-    @property
-    def example(self) -> str:
-        return self.told()[1]
-
-    def told(self) -> tuple[str, str]:
-        meaning, _, example = " ".join(self.comment).partition(" Example: ")
-        return meaning, example
-
-    def call(self) -> str:
-        """Its name, with those of its parameters; `_` for one that only patterns stand for."""
-        code = "\n".join(self.lines)
-        if re.match(r"\s*pub record", code):
-            names = " ".join(re.findall(r"\(([\w ]+) :", code.partition(" where\n")[0])).split()
-            return " ".join([self.name, *names])
-        heads = re.findall(rf"(?m)^\s*{self.name} ([^=]*) =", code)
-        columns = zip(*(re.findall(r"\((?:[^()]|\([^()]*\))*\)|[^\s{}]+(?![^{]*\})", it) for it in heads))
-        # A name with a capital is a parameter where the equation goes on to use it, and else a case.
-        named = [[it for it in column if re.fullmatch(r"[a-z]\w*", it) and it not in CASES
-                  or it[0].isupper() and len(re.findall(rf"\b{it}\b", code)) > column.count(it)] for column in columns]
-        return " ".join([self.name, *(it[0] if it else "_" for it in named)]) if any(named) else self.name
-
-    def code(self) -> list[str]:
-        return self.heads + self.lines
 
     def length(self) -> int:
         """Its lines without comments."""
@@ -66,17 +32,27 @@ class Definition:
         is_data = re.match(r"\s*pub data ", self.lines[0])
         return re.findall(r"(?m)^\s+(\w+) : ", "\n".join(self.lines[1:])) if is_data else []
 
-    def fields(self) -> dict[str, list[str]]:
-        """The lines of each field of a record."""
-        found: dict[str, list[str]] = {}
-        last = None
-        for line in self.lines[1:]:
-            start = re.match(r"\s+pub (\S+) :", line)
-            if start:
-                last = found.setdefault(start[1], [])
-            if last is not None and not line.lstrip().startswith("--"):
-                last.append(line)
-        return found
+    def field(self, name: str) -> list[str]:
+        """The lines of a field of a record."""
+        lines = [line for line in self.lines if not line.lstrip().startswith("--")]
+        starts = [i for i, line in enumerate(lines) if re.match(r"\s+pub \S+ :", line)] + [len(lines)]
+        return next(lines[i:j] for i, j in zip(starts, starts[1:]) if lines[i].split()[1] == name)
+
+    def call(self) -> str:
+        """Its name, with those of its parameters; `_` for one that only cases stand for."""
+        code = "\n".join(self.lines)
+        if re.match(r"\s*pub record", code):
+            return " ".join([self.name, *re.findall(r"\(([\w ]+) :", code.partition(" where\n")[0])])
+        heads = re.findall(rf"(?m)^\s*{self.name} ([^=]*) =", code)
+        columns = zip(*(re.findall(r"\((?:[^()]|\([^()]*\))*\)|[^\s{}]+(?![^{]*\})", it) for it in heads))
+        names = [next((it for it in column if is_parameter(it, code, column.count(it))), "_") for column in columns]
+        return " ".join([self.name, *names]) if set(names) != {"_"} else self.name
+
+
+def is_parameter(word: str, code: str, times: int) -> bool:
+    """Whether a word at the left of so many equations is no case: one with a capital is none where the equations go on to use it."""
+    is_used = len(re.findall(rf"\b{word}\b", code)) > times if word.isidentifier() else False
+    return word not in ("zero", "true", "false") and (is_used or re.fullmatch(r"[a-z]\w*", word) is not None)
 
 
 def head_of(text: str) -> str:
@@ -115,13 +91,14 @@ def definitions_in(text: str, module: str) -> list[Definition]:
         elif stripped.startswith("--"):
             comment.append(stripped.removeprefix("--").strip())
         else:
-            heads = [it for it in heads if it[0] < indent]
-            block = [line]
+            heads, block = [it for it in heads if it[0] < indent], [line]
             if stripped.startswith("module _"):
                 heads.append((indent, block))
             else:
                 name = re.sub(r"^((abbrev|unfoldable|pub|record|data) )+", "", stripped).split()[0]
-                found.append(Definition(name, module, number, [it for _, lines in heads for it in lines], comment, block))
+                meaning, _, example = " ".join(comment).partition(" Example: ")
+                around = [it for _, lines in heads for it in lines]
+                found.append(Definition(name, module, number, around, meaning, example, block))
         if heads and block is heads[-1][1] and stripped.endswith("where"):
             comment, block = [], []
     return found

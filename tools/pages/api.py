@@ -6,22 +6,20 @@ import re
 from collections.abc import Iterator
 
 from library import KINDS, Call, Library, Module
-from proved import Proved, slug
+from proved import Row, slug
 from rattle import Item, indent_of
-from sources import ROOT, fenced, fill_page
+from sources import ROOT, fenced
 
 
 class Page:
     """The page, whose sections are texts; an empty one is left out."""
 
-    def __init__(self, library: Library, proved: Proved) -> None:
-        self.library, self.proved = library, proved
+    def __init__(self, library: Library, proved: list[Row]) -> None:
+        self.library = library
+        self.anchor_of = {(row.call, clause): row.anchor for row in reversed(proved) for clause in row.clauses}
         self.given: dict[str, int] = {}
         self.anchors: dict[str, str] = {}
         self.told = [text for module in library.modules for text in self.module(module) if text]
-
-    def text(self) -> str:
-        return fill_page("API.md", self.contents, self.sections)
 
     def sections(self, _: str) -> str:
         return "\n\n".join(self.told)
@@ -33,7 +31,7 @@ class Page:
     def clauses(self, call: Call, before: str = "") -> Iterator[str]:
         for kind in ("requires", "ensures"):
             named = [clause.name for clause in call.clauses() if clause.kind == kind]
-            links = ", ".join(f"[`{clause}`](PROVED.md#{self.proved.anchor_of(call.name, clause)})" for clause in named)
+            links = ", ".join(f"[`{it}`](PROVED.md#{self.anchor_of.get((call.name, it), '')})" for it in named)
             yield f"{before}{kind if before else kind.capitalize()}: {links}" if links else ""
 
     def function(self, level: int, call: Call, kind: str = "") -> Iterator[str]:
@@ -44,7 +42,7 @@ class Page:
 
     def type(self, item: Item) -> Iterator[str]:
         parts = item.parts()
-        visible = [part for part in parts if item.kind == "enum" or part.lines[0].startswith("    pub ")]
+        visible = [part for part in parts if item.kind == "enum" or part.is_public]
         lines = [line for part in visible for line in part.lines if not line.lstrip().startswith("//")]
         lines += ["    /* private fields */"] if len(visible) < len(parts) else []
         start, close = (" {", ["}"]) if item.has_body else (";", [])
@@ -72,9 +70,9 @@ class Page:
             yield from self.function(4, method)
 
     def module(self, module: Module) -> Iterator[str]:
-        yield self.heading(2, f"`{module.name}`")
+        yield self.heading(2, f"`{module.words[-1]}`")
         yield docs_of(module.docs)
-        if module.name == ROOT:
+        if module.words == [ROOT]:
             others = {name for name, home in self.library.homes.items() if home != ROOT}
             named = ", ".join(f"`{it}`" for it in sorted(self.library.again))
             yield f"Exported here too: {'all that stands under the other modules' if others == self.library.again else named}."
@@ -97,7 +95,7 @@ class Page:
             for it in module.stands:
                 name = f"`{it.item.name}`"
                 cells[it.kind if it.kind in cells else "type"].append(f"[{name}](#{self.anchors[f'{KINDS[it.kind]} {name}']})")
-            name = f"`{module.name}`"
+            name = f"`{module.words[-1]}`"
             lines.append(f"| {' | '.join([f'[{name}](#{self.anchors[name]})', *map(', '.join, cells.values())])} |")
         return "\n".join(lines)
 
@@ -117,7 +115,6 @@ def dedented(head: str) -> str:
 
 def listed(part: Item, indent: str = "") -> Iterator[str]:
     """A field or a variant with its doc comment, and below it the fields of a variant."""
-    name = re.sub(r"^\s*(?:pub )?(\w+).*", r"\1", part.lines[0])
-    yield f"{indent}- `{name}`: {' '.join(part.docs)}"
+    yield f"{indent}- `{part.name}`: {' '.join(part.docs)}"
     for field in part.parts():
         yield from listed(field, indent + "  ")

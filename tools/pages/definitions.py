@@ -6,30 +6,22 @@ import re
 from collections.abc import Iterator
 
 from antt import definitions_of, head_of
-from sources import CRATES, FOR_C, LAYERS, ORDER, PROGRAM, coded, files_of, fill_page, shown, written
-
-# Names of the standard library that the page says.
-STANDARD = {"Greater", "Equal", "Less", "String"}
-
-
-def name_of(path: pathlib.Path) -> str:
-    """A file of definitions as the written text names it: `rectangle_pack_lists/private/Notes`."""
-    return str(path.relative_to(CRATES).with_suffix("")).replace("/specs/", "/", 1)
+from sources import CRATES, DOCS, FOR_C, LAYERS, ORDER, PROGRAM, coded, files_of, shown
 
 
 def files() -> dict[str, pathlib.Path]:
-    """The files that have definitions, by their names."""
-    return {name_of(it): it for it in files_of([*LAYERS, *PROGRAM, FOR_C], "specs", ".antt") if definitions_of(it)}
+    """The files that have definitions, as the written text names them: `rectangle_pack_lists/private/Notes`."""
+    found = (it for it in files_of([*LAYERS, *PROGRAM, FOR_C], "specs", ".antt") if definitions_of(it))
+    return {str(it.relative_to(CRATES).with_suffix("")).replace("/specs/", "/", 1): it for it in found}
 
 
 def crates(_: str) -> str:
     """The files of the library by their crates."""
     lines = ["| Crate | Files | In `specs/private/` |", "|---|---|---|"]
     for crate in (it for it in ORDER if it in LAYERS):
-        found = [it for it in files().values() if it.is_relative_to(CRATES / crate)]
-        private = [f"`{it.name}`" for it in found if it.parent.name == "private"]
-        public = [f"`{it.name}`" for it in found if it.parent.name != "private"]
-        lines.append(f"| `{crate}` | {', '.join(public)} | {', '.join(private)} |".replace("|  |", "| |"))
+        names = [it.split("/") for it in files() if it.startswith(f"{crate}/")]
+        public, private = (", ".join(f"`{it[-1]}.antt`" for it in names if len(it) == words) for words in (2, 3))
+        lines.append(f"| `{crate}` | {public} | {private} |".replace("|  |", "| |"))
     return "\n".join(lines)
 
 
@@ -43,30 +35,21 @@ def definitions(name: str) -> str:
     return "\n".join([head, "", rows[0], "|---" * columns + "|", *rows[1:]])
 
 
-def page() -> str:
-    return fill_page("DEFINITIONS.md", crates, definitions)
-
-
 def known_names() -> set[str]:
-    """All names that the specs and the code give: to definitions, functions, types, variants, fields, clauses and modules."""
-    specs = sorted(CRATES.glob("*/specs/**/*.antt"))
-    code = "\n".join(path.read_text() for path in sorted(CRATES.glob("*/src/**/*.rt")))
-    given = set(re.findall(r"\b(?:fn|struct|enum|trait|type|const|mod|requires|ensures) (\w+)", code))
-    given |= set(re.findall(r"(?m)^\s+(?:pub )?(\w+)(?:[,({:]| \{)", code))
-    lines = (line for path in specs for line in path.read_text().splitlines() if not line.lstrip().startswith("--"))
-    return given | {word for line in lines for word in re.findall(r"\w+", line)} | {it.stem for it in specs} | {*ORDER} | STANDARD
+    """The words of the specs and of the code, without comments, and the names of crates and files."""
+    paths = [*CRATES.glob("*/specs/**/*.antt"), *CRATES.glob("*/src/**/*.rt")]
+    lines = (line for path in paths for line in path.read_text().splitlines() if not line.lstrip().startswith(("--", "//")))
+    return {word for line in lines for word in re.findall(r"\w+", line)} | {it.stem for it in paths} | {*ORDER}
 
 
 def faults(text: str) -> Iterator[str]:
     """What the page leaves out, and what it names that is not there."""
+    written, known = (DOCS / "text/DEFINITIONS.md").read_text(), known_names()
     for name, path in files().items():
-        if f"{{{{definitions {name}}}}}" not in written("DEFINITIONS.md"):
+        if f"{{{{definitions {name}}}}}" not in written:
             yield f"docs/text/DEFINITIONS.md: has no place for the definitions of `{name}`"
         for it in definitions_of(path):
             if not it.meaning:
                 yield f"{shown(path)}:{it.line}: `{it.name}` has no comment that says what it means"
-    known = known_names()
-    for span in coded(text):
-        name_of_span = re.match(r"[A-Za-z_]\w*(?=$| )", span)
-        if name_of_span and re.search("[A-Z_]", name_of_span[0]) and name_of_span[0] not in known:
-            yield f"docs/DEFINITIONS.md: there is no `{name_of_span[0]}`"
+    spans = (re.match(r"(?=\w*[A-Z_])[A-Za-z_]\w*(?=$| )", span) for span in coded(text))
+    yield from (f"docs/DEFINITIONS.md: there is no `{span[0]}`" for span in spans if span and span[0] not in known)

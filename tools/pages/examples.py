@@ -2,7 +2,6 @@
 example program, those in other languages among the tests of the bindings; white space at the ends of a line aside."""
 from __future__ import annotations
 
-import pathlib
 from collections.abc import Iterator
 
 from sources import CRATES, TOP, shown
@@ -21,39 +20,32 @@ TESTS = {
 
 
 def blocks(lines: list[str]) -> Iterator[tuple[int, str, list[str]]]:
-    """The fenced blocks: each with the number of its first line, its opening fence, and its lines without white space at their
-    ends. One without an end goes on to the last line."""
+    """The fenced blocks of stripped lines: each with the number of its first line, its opening fence, and its lines."""
     fence, start = "", 0
     for number, line in enumerate([*lines, "```"], 1):
-        text = line.strip()
-        if not fence and text.startswith("```"):
-            fence, start = text, number
-        elif fence and text == "```":
-            yield start + 1, fence, [it.strip() for it in lines[start : number - 1]]
+        if not fence and line.startswith("```"):
+            fence, start = line, number
+        elif fence and line == "```":
+            yield start + 1, fence, lines[start : number - 1]
             fence = ""
 
 
 def doc_lines(lines: list[str]) -> list[str]:
     """The lines of doc comments without their slashes; an empty one for each other line."""
-    return [it.strip()[3:] if it.strip().startswith(("///", "//!")) else "" for it in lines]
+    return [it[3:].strip() if it.startswith(("///", "//!")) else "" for it in lines]
 
 
 def stands_in(block: list[str], lines: list[str]) -> bool:
     """Whether the block's lines stand in these lines, one after the other."""
-    size = len(block)
-    return any(lines[i : i + size] == block for i in range(len(lines) - size + 1))
-
-
-def lines_of(path: pathlib.Path) -> list[str]:
-    """The lines of a file of tests, without white space at their ends and the slashes of doc comments."""
-    return [line.strip().removeprefix("///").strip() for line in path.read_text().splitlines()]
+    return any(lines[i : i + len(block)] == block for i in range(len(lines) - len(block) + 1))
 
 
 def faults() -> Iterator[str]:
-    tests = {path: lines_of(path) for paths in TESTS.values() for path in paths}
-    for path in [README, *sorted(CRATES.glob("rectangle_pack*/src/**/*.rt"))]:
-        lines = path.read_text().splitlines()
-        for number, fence, block in blocks(lines if path is README else doc_lines(lines)):
+    paths = [README, *sorted(CRATES.glob("rectangle_pack*/src/**/*.rt")), *(it for paths in TESTS.values() for it in paths)]
+    texts = {path: [line.strip() for line in path.read_text().splitlines()] for path in paths}
+    tests = {path: [line.removeprefix("///").strip() for line in lines] for path, lines in texts.items()}
+    for path in paths[: paths.index(RATTLE[0])]:
+        for number, fence, block in blocks(texts[path] if path is README else doc_lines(texts[path])):
             # A block of the README without a language is text.
             where = TESTS.get(fence, []) if (path, fence) != (README, "```") else []
             if where and not any(stands_in(block, tests[it]) for it in where):

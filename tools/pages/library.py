@@ -2,18 +2,14 @@
 from __future__ import annotations
 
 import pathlib
-import re
 import sys
 from collections.abc import Iterable, Iterator
 from dataclasses import dataclass, field
 
-from rattle import Clause, Item, items_in, paths_of, split_impl, words_of_type
-from sources import CRATES, FOR_C, LAYERS, ORDER, ROOT, files_of, shown
+from rattle import Clause, Item, items_in, paths_of, split_impl, words_of
+from sources import CRATES, LAYERS, ORDER, ROOT, files_of, shown
 
-KINDS = {
-    "struct": "Struct", "enum": "Enum", "trait": "Trait", "type": "Type", "const": "Constant", "static": "Static",
-    "fn": "Function", "law": "Law",
-}
+KINDS = dict(struct="Struct", enum="Enum", trait="Trait", type="Type", const="Constant", static="Static", fn="Function", law="Law")
 
 
 @dataclass(frozen=True, eq=False)
@@ -41,6 +37,9 @@ class Call(Placed):
     def clauses(self) -> list[Clause]:
         return self.item.clauses or [Clause("ensures", name, []) for name in self.item.ghosts()]
 
+    def lines(self) -> list[str]:
+        return [line for clause in self.clauses() for line in clause.lines]
+
 
 @dataclass(frozen=True, eq=False)
 class Module:
@@ -52,18 +51,12 @@ class Module:
     items: list[Item]
     stands: list[Placed] = field(default_factory=list)
 
-    @property
-    def name(self) -> str:
-        return self.words[-1]
-
     def all(self) -> Iterator[Module]:
         """This module and the public ones inside it."""
         yield self
-        for it in self.items:
-            if it.kind == "mod" and it.is_public:
-                inner = [*self.words, it.name]
-                here = Module(inner, self.path, it.docs, it.items) if it.has_body else module_of_file(inner)
-                yield from here.all()
+        for it in (it for it in self.items if it.kind == "mod" and it.is_public):
+            inner = [*self.words, it.name]
+            yield from (Module(inner, self.path, it.docs, it.items) if it.has_body else module_of_file(inner)).all()
 
     def exports(self) -> Iterator[list[str]]:
         """What this module's `pub use` names, as paths from the roots of crates."""
@@ -78,8 +71,9 @@ def module_of_file(words: list[str]) -> Module:
     return Module(words, path, docs, items_in(path))
 
 
-def items_of_crates(crates: Iterable[str]) -> list[Placed]:
-    return [Placed(path, item) for path in files_of(crates, "src", ".rt") for item in items_in(path)]
+def words_of_path(path: pathlib.Path) -> list[str]:
+    """The path of a module, by its file."""
+    return [it for it in path.relative_to(CRATES).with_suffix("").parts if it not in ("src", "lib")]
 
 
 class Library:
@@ -89,12 +83,12 @@ class Library:
         items = items_of_crates(LAYERS)
         self.public = [it for it in items if it.item.is_public and it.item.kind in KINDS]
         root, *others = module_of_file([ROOT]).all()
-        self.modules = [root, *sorted(others, key=lambda it: it.name)]
+        self.modules = [root, *sorted(others, key=lambda it: it.words)]
         self.homes: dict[str, str] = {}
         # The root comes last, since it exports what stands elsewhere too.
         for module in self.modules[1:] + [root]:
             module.stands.extend(it for it in self.offered(module) if it.item.name not in self.homes)
-            self.homes.update((it.item.name, module.name) for it in module.stands)
+            self.homes.update((it.item.name, module.words[-1]) for it in module.stands)
             # What stands lower comes first.
             module.stands.sort(key=lambda it: ([*ORDER].index(words_of_path(it.path)[0]), str(it.path)))
         self.again = {path[-1] for path in root.exports() if self.homes[path[-1]] != ROOT}
@@ -102,8 +96,14 @@ class Library:
         self.methods: dict[str, list[tuple[Item, Call]]] = {name: [] for name in self.homes}
         self.impls: dict[str, list[Call]] = {name: [] for name in self.homes}
         private = {it.item.name for it in items if it.kind == "trait"} - set(self.homes)
-        for placed in (it for it in items if it.kind == "impl"):
-            self.read_impl(placed, private)
+        for it in (it for it in items if it.kind == "impl"):
+            trait, kind = split_impl(it.item.head)
+            words = [word for word in words_of(kind) + words_of(trait) if word in self.homes]
+            if not trait and words[:1] == words_of(kind)[:1]:
+                self.methods[words[0]] += [(it.item, method) for method in methods_in(it, self.homes[words[0]])]
+            elif trait and words_of(trait)[0] not in private:
+                for word in dict.fromkeys(words):
+                    self.impls[word].append(Call(it.path, it.item, f"impl {trait} for {kind}", self.homes[words[0]]))
 
     def offered(self, module: Module) -> list[Placed]:
         """The public items that a module defines, then those that it exports."""
@@ -114,15 +114,6 @@ class Library:
             if len(there) != 1 and (there or module.words != [ROOT] or words[-1] not in self.homes):
                 sys.exit(f"pages: {shown(module.path)}: cannot follow `pub use {'::'.join(words)}`")
         return found
-
-    def read_impl(self, placed: Placed, private_traits: set[str]) -> None:
-        trait, kind = split_impl(placed.item.head)
-        words = [it for it in words_of_type(kind) + words_of_type(trait) if it in self.homes]
-        if not trait and words[:1] == words_of_type(kind)[:1]:
-            self.methods[words[0]] += [(placed.item, it) for it in methods_in(placed, self.homes[words[0]])]
-        elif trait and words_of_type(trait)[0] not in private_traits:
-            for word in dict.fromkeys(words):
-                self.impls[word].append(Call(placed.path, placed.item, f"impl {trait} for {kind}", self.homes[words[0]]))
 
     def calls(self) -> Iterator[Call]:
         """Every public function and method, and every trait impl whose ghost definitions say what it does."""
@@ -138,15 +129,14 @@ class Library:
         return [it for it in found.values() if it.clauses() and not it.name.startswith("impl Model ")]
 
 
-def words_of_path(path: pathlib.Path) -> list[str]:
-    """The path of a module, by its file."""
-    return [it for it in path.relative_to(CRATES).with_suffix("").parts if it not in ("src", "lib")]
+def items_of_crates(crates: Iterable[str]) -> list[Placed]:
+    return [Placed(path, item) for path in files_of(crates, "src", ".rt") for item in items_in(path)]
 
 
 def methods_in(placed: Placed, home: str) -> list[Call]:
     """The public functions of an impl."""
-    kind = words_of_type(split_impl(placed.item.head)[1])[0]
-    methods = [it for it in placed.item.items if it.kind == "fn" and it.is_public]
+    kind = words_of(split_impl(placed.item.head)[1])[0]
+    methods = (it for it in placed.item.items if it.kind == "fn" and it.is_public)
     return [Call(placed.path, it, f"{kind}::{it.name}", home) for it in methods]
 
 
@@ -155,10 +145,4 @@ def calls_in(crates: Iterable[str], home: str = "") -> Iterator[Call]:
     for it in items_of_crates(crates):
         if it.item.kind == "fn" and it.item.is_public:
             yield Call(it.path, it.item, it.item.name, home)
-        elif it.kind == "impl":
-            yield from methods_in(it, home)
-
-
-def calls_for_c() -> list[Call]:
-    """The functions that C calls."""
-    return [it for it in calls_in([FOR_C], FOR_C) if 'extern "C"' in it.item.head]
+        yield from methods_in(it, home) if it.kind == "impl" else ()

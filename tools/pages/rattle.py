@@ -11,7 +11,7 @@ from dataclasses import dataclass
 CLAUSE = re.compile(r" +(requires|ensures)(?: (\w+))? \{")
 ITEM = re.compile(
     r'(?P<public>pub(?:\([^)]*\))? )?(?:unsafe |async |(?:const|extern "C") (?=\w+ \w+ *[<(]))*'
-    r"(?P<kind>fn|struct|enum|trait|type|const|static|mod|use|impl)\b *(?P<name>\w+)?"
+    r"(?:(?P<kind>fn|struct|enum|trait|type|const|static|mod|use|impl)\b *)?(?P<name>\w+)?"
 )
 
 
@@ -26,76 +26,52 @@ class Clause:
 
 @dataclass(frozen=True, eq=False)
 class Item:
-    """An item of a file or of an impl, a field or a variant: its doc comment, its attributes, its lines and the number of the
-    first of these."""
+    """An item of a file or of an impl, a field or a variant: with its doc comment and its attributes, its lines and the number of
+    the first of them. Its head is what stands before the body, without clauses; the body is the lines inside its braces."""
 
     docs: list[str]
     attributes: list[str]
     lines: list[str]
     line: int
-
-    @functools.cached_property
-    def found(self) -> dict[str, str | None]:
-        found = ITEM.match(self.lines[0].strip())
-        return found.groupdict() if found else {}
-
-    @property
-    def is_public(self) -> bool:
-        return self.found.get("public") == "pub "
-
-    @property
-    def kind(self) -> str:
-        return self.found.get("kind") or ""
-
-    @property
-    def name(self) -> str:
-        return self.found.get("name") or ""
-
-    @functools.cached_property
-    def ends_head(self) -> int:
-        """The index of the line that ends the head, or that stands behind it."""
-        ends = (i for i, it in enumerate(self.lines) if CLAUSE.match(it) or it.endswith((" {", ";", "{}")) or it.strip() == "{")
-        return next(ends, len(self.lines))
-
-    @property
-    def head(self) -> str:
-        """What stands before the body, without the clauses."""
-        lines = self.lines[: self.ends_head + 1]
-        lines = lines[:-1] if CLAUSE.match(lines[-1]) else lines
-        return re.sub(r"\s*(\{\}?|;)$", "", "\n".join(lines)).strip()
-
-    @functools.cached_property
-    def clauses(self) -> list[Clause]:
-        found: list[Clause] = []
-        for line in self.lines[self.ends_head :]:
-            start = CLAUSE.match(line)
-            if start:
-                found.append(Clause(start[1], start[2] or start[1], []))
-            if not found or line.strip() in ("{", "{}"):
-                break
-            found[-1].lines.append(line)
-        return found
-
-    @property
-    def has_body(self) -> bool:
-        return not self.lines[self.ends_head].endswith(";")
+    head: str
+    clauses: list[Clause]
+    has_body: bool
+    body: list[str]
+    kind: str
+    name: str
+    is_public: bool
 
     @functools.cached_property
     def items(self) -> list[Item]:
         """The items in an impl or a module."""
-        return items_of(self.lines[self.ends_head + 1 : -1], self.line + self.ends_head + 1)
+        return items_of(self.body, self.line + len(self.lines) - len(self.body) - 1)
 
     def parts(self) -> list[Item]:
         """The fields of a struct or of a variant, or the variants of an enum."""
-        return items_of(self.lines[self.ends_head + 1 : -1], ends=",")
+        return items_of(self.body, ends=",")
 
     def ghosts(self) -> dict[str, Item]:
         """The ghost definitions of the impl of a trait."""
-        return {found[1]: it for it in self.items if (found := re.match(r" *ghost (\w+) =", it.lines[0]))}
+        return {found[1]: it for it in self.items if (found := re.match(r"ghost (\w+) =", it.head))}
 
 
 def indent_of(line: str) -> int:
     return len(line) - len(line.lstrip())
+
+
+def item_of(docs: list[str], attributes: list[str], lines: list[str], line: int) -> Item:
+    clauses: list[Clause] = []
+    at = next((i for i, it in enumerate(lines) if CLAUSE.match(it) or it.endswith((" {", ";", "{}", " }")) or it.strip() == "{"), 0)
+    head = "\n".join(lines[:at] if CLAUSE.match(lines[at]) else lines[: at + 1])
+    while start := CLAUSE.match(lines[at]):
+        end = next(i for i in range(at + 1, len(lines)) if CLAUSE.match(lines[i]) or indent_of(lines[i]) < indent_of(lines[at]))
+        clauses.append(Clause(start[1], start[2] or start[1], lines[at:end]))
+        at = end
+    found = ITEM.match(lines[0].strip())
+    kind, name, public = (found["kind"], found["name"], found["public"]) if found else ("", "", "")
+    has_body = not lines[at].endswith(";")
+    head = re.sub(r"\s*(\{[^{}]*\}?;?|;)$", "", head).strip()
+    return Item(docs, attributes, lines, line, head, clauses, has_body, lines[at + 1 : -1], kind or "", name or "", public == "pub ")
 
 
 def items_of(lines: Iterable[str], first: int = 1, ends: str | tuple[str, ...] = (";", "}")) -> list[Item]:
@@ -113,7 +89,7 @@ def items_of(lines: Iterable[str], first: int = 1, ends: str | tuple[str, ...] =
         block.append(line)
         whole = "".join(block) if text.endswith(";") else "{"
         if whole.count("{") == whole.count("}") or (indent_of(line) == indent_of(block[0]) and text.endswith(ends)):
-            found.append(Item(docs, attributes, block, number - len(block) + 1))
+            found.append(item_of(docs, attributes, block, number - len(block) + 1))
             docs, attributes, block = [], [], []
     return found
 
@@ -130,8 +106,9 @@ def paths_of(tree: str) -> list[list[str]]:
     return [(head + it.strip()).split("::") for it in inside.split(",") if it.strip()] or [head.strip().split("::")]
 
 
-def words_of_type(text: str) -> list[str]:
-    return re.findall(r"\w+", re.sub(r"'\w+", "", text))
+def words_of(text: str) -> list[str]:
+    """The words of code without lifetimes and comments."""
+    return re.findall(r"\w+", re.sub(r"(?m)//.*|'\w+", "", text))
 
 
 def split_impl(head: str) -> tuple[str, str]:

@@ -3,7 +3,7 @@ from __future__ import annotations
 
 import pathlib
 import re
-from collections.abc import Callable, Iterable, Iterator, Mapping
+from collections.abc import Callable, Iterable, Mapping
 
 TOP = pathlib.Path(__file__).resolve().parents[2]
 CRATES = TOP / "crates"
@@ -14,13 +14,9 @@ FOR_C = "rectangle_pack_c"
 PROGRAM = ("packrun_words", "packrun_lines")
 
 
-def crates_in(text: str) -> dict[str, list[str]]:
-    """The crates of crates.txt, in its order, each with those that it stands on."""
-    return {name: below.split() for name, below in re.findall(r"(?m)^(\w+)(?: staticlib)?:(.*)$", text)}
-
-
-ORDER = crates_in((TOP / "crates.txt").read_text())
-# The crates of the library: its root, and those that it stands on.
+# The crates, lower ones first, each with those that it stands on; and those of the library.
+CRATE = re.compile(r"(?m)^(\w+)(?: staticlib)?:(.*)$")
+ORDER = {name: below.split() for name, below in CRATE.findall((TOP / "crates.txt").read_text())}
 LAYERS = [ROOT, *ORDER[ROOT]]
 
 
@@ -35,24 +31,14 @@ def shown(path: pathlib.Path) -> str:
     return str(path.relative_to(TOP))
 
 
-def numbered(path: pathlib.Path) -> Iterator[tuple[int, str]]:
-    """The lines of a file by their numbers."""
-    return enumerate(path.read_text().splitlines(), 1)
-
-
 def fill(text: str, words: Mapping[str, Callable[[str], str]]) -> str:
     """A written text in which each `{{word argument}}` is what the word makes of the argument, from the first to the last."""
     return re.sub(r"\{\{(\w+)(?: (.*?))?\}\}", lambda it: words[it[1]](it[2] or ""), text)
 
 
-def written(name: str) -> str:
-    """The written text of a made page."""
-    return (DOCS / "text" / name).read_text()
-
-
 def fill_page(name: str, *words: Callable[[str], str]) -> str:
     """A made page: its written text, filled by functions that go by their names."""
-    return fill(written(name), {it.__name__: it for it in words})
+    return fill((DOCS / "text" / name).read_text(), {it.__name__: it for it in words})
 
 
 def coded(text: str) -> list[str]:

@@ -5,9 +5,9 @@ import unittest
 import api
 import examples
 import proved
+from headline import Specs, Told, definitions_among
 from library import Call
 from rattle import items_of
-from rests import Specs, Told, definitions_among
 
 BOXES = '''use Rattle.std.specs.Prelude.{ℕ}
 use Rattle.rectangle_pack_sections.specs.declared.axis.Axis.{Axis}
@@ -49,10 +49,6 @@ def call_of(text: str) -> Call:
     return Call(pathlib.Path("src/pack.rt"), items_of(text.splitlines())[0], "set", "pack")
 
 
-def rows_of(text: str) -> proved.Proved:
-    return proved.Proved(enumerate(text.splitlines(), 1))
-
-
 class Rests(unittest.TestCase):
     def setUp(self) -> None:
         lib = "pub use Rattle.rectangle_pack_sections.specs.Boxes\n"
@@ -60,38 +56,38 @@ class Rests(unittest.TestCase):
         self.specs = Specs({"rectangle_pack.specs.Lib": lib, low: BOXES, high: BINS})
 
     def test_what_is_named_is_told_first(self) -> None:
-        roots, _ = self.specs.roots_of("Bin")
-        order = self.specs.tell(roots, set())
+        order = self.specs.tell(self.specs.roots("Bin"), set())
         self.assertEqual([it.name for it in definitions_among(order)], ["Size", "side", "Bin"])
         self.assertEqual([it for it in order if isinstance(it, tuple)], [("std", "ℕ"), ("type", "Axis")])
 
     def test_what_was_told_is_left_out(self) -> None:
         told: set[Told] = set()
-        self.specs.tell(self.specs.roots_of("Size")[0], told)
-        order = self.specs.tell(self.specs.roots_of("Bin")[0], told)
+        self.specs.tell(self.specs.roots("Size"), told)
+        order = self.specs.tell(self.specs.roots("Bin"), told)
         self.assertEqual([it.name for it in definitions_among(order)], ["side", "Bin"])
 
     def test_a_field_rests_on_what_it_names(self) -> None:
-        roots, said = self.specs.roots_of("Bin.first")
-        self.assertEqual(said, ["  pub first : side_of"])
-        self.assertEqual([it.name for it in definitions_among(roots)], ["side"])
+        self.assertEqual([it.name for it in definitions_among(self.specs.roots("Bin.first"))], ["side"])
 
 
 class Proved(unittest.TestCase):
+    def setUp(self) -> None:
+        self.rows = proved.rows_of(ROWS.splitlines())
+
     def test_rows(self) -> None:
-        first, second = rows_of(ROWS).rows
+        first, second, private = self.rows
         self.assertEqual((second.call, second.clauses, second.edits), ("set", ["done"], ["set.is_left", "set.two"]))
         self.assertEqual((first.line, first.section, first.anchor), (7, "pack", "pack"))
-        self.assertEqual([(it.call, it.edits) for it in rows_of(ROWS).private], [("read", ["read.stops"])])
-        self.assertEqual(rows_of(ROWS).anchor_of("set", "done"), "pack")
+        self.assertEqual((private.call, private.edits, private.anchor), ("read", ["read.stops"], "the-call-set"))
+        self.assertEqual([it.of_call for it in self.rows], [True, True, False])
 
     def test_a_row_that_is_right(self) -> None:
         words, edits = {"n"}, ["set.is_left", "set.two"]
-        for row in rows_of(ROWS).rows:
+        for row in self.rows[:2]:
             self.assertEqual(list(proved.faults_of_row(row, call_of(CALL), edits, words)), [])
 
     def test_rows_that_are_wrong(self) -> None:
-        first, second = rows_of(ROWS).rows
+        first, second, _ = self.rows
         named = call_of(CALL.replace("done", "made").replace("requires", "ensures"))
         faults = [*proved.faults_of_row(first, named, [], {"n"}), *proved.faults_of_row(second, named, ["set.two"] * 2, set())]
         self.assertEqual(faults, [
@@ -105,8 +101,8 @@ class Proved(unittest.TestCase):
 
     def test_a_clause_without_a_row(self) -> None:
         more = call_of(CALL.replace("{\n}", "    ensures kept { old }\n{\n}"))
-        faults = [it for it in proved.faults_of_calls(rows_of(ROWS), [more]) if "no row" in it]
-        self.assertEqual(faults, ["docs/PROVED.md: no row of `set` has the clause `kept`"])
+        self.assertEqual(list(proved.faults_of_calls(self.rows, [more])), ["no row of `set` has the clause `kept`"])
+        self.assertEqual(list(proved.faults_of_calls([], [more]))[0], "no row has the call `set`")
 
     def test_anchors(self) -> None:
         given: dict[str, int] = {}
@@ -132,7 +128,7 @@ class Api(unittest.TestCase):
 
 class Examples(unittest.TestCase):
     def test_blocks(self) -> None:
-        lines = examples.doc_lines(["    /// Sets it.", "    /// ```", "    ///   set(1);", "    /// ```", "    fn set() {}"])
+        lines = examples.doc_lines(["/// Sets it.", "/// ```", "///   set(1);", "/// ```", "fn set() {}"])
         self.assertEqual(list(examples.blocks(lines)), [(3, "```", ["set(1);"])])
         self.assertEqual(list(examples.blocks(["```c", "a", "", "b"])), [(2, "```c", ["a", "", "b"])])
 

@@ -3,7 +3,7 @@ import unittest
 
 from antt import definitions_in, head_of, imports, words
 from rattle import items_of, paths_of, split_impl
-from sources import coded, crates_in, fenced, fill
+from sources import CRATE, coded, fenced, fill
 
 CODE = '''//! A module.
 use std::fmt;
@@ -129,11 +129,10 @@ class Definitions(unittest.TestCase):
 
     def test_names_comments_and_heads(self) -> None:
         self.assertEqual(list(self.found), ["Two", "Which", "sum_of", "last"])
-        self.assertEqual(self.found["Two"].comment, ["a pair", "of numbers", "Example: 1", "and 2"])
         self.assertEqual((self.found["Two"].meaning, self.found["Two"].example), ("a pair of numbers", "1 and 2"))
         self.assertEqual((self.found["last"].meaning, self.found["last"].example), ("beyond them", ""))
         self.assertEqual(head_of(SPECS), "About sizes.")
-        self.assertEqual(self.found["Which"].comment, ["one of two"])
+        self.assertEqual(self.found["Which"].meaning, "one of two")
         self.assertEqual(self.found["Which"].heads, ["module _ {A : Type 0}", "    (all : A) where"])
         self.assertEqual(self.found["sum_of"].heads[2:], ["  module _ (b : A) where"])
         self.assertEqual(self.found["last"].heads, [])
@@ -142,8 +141,8 @@ class Definitions(unittest.TestCase):
     def test_fields_and_cases(self) -> None:
         two, which = self.found["Two"], self.found["Which"]
         self.assertEqual(two.length(), 4)
-        fields = {"first": ["  pub first : ℕ"], "second": ["  pub second : Size", "      → ℕ"]}
-        self.assertEqual(two.fields(), fields)
+        self.assertEqual(two.field("first"), ["  pub first : ℕ"])
+        self.assertEqual(two.field("second"), ["  pub second : Size", "      → ℕ"])
         self.assertEqual((two.cases(), which.cases()), ([], ["One", "Other"]))
 
     def test_names_with_parameters(self) -> None:
@@ -161,7 +160,7 @@ class Definitions(unittest.TestCase):
 
 class Texts(unittest.TestCase):
     def test_crates(self) -> None:
-        self.assertEqual(crates_in("# layers: a b\nlow:\nc staticlib: low\n"), {"low": [], "c": ["low"]})
+        self.assertEqual(CRATE.findall("# layers: a b\nlow:\nc staticlib: low\n"), [("low", ""), ("c", " low")])
 
     def test_fill_goes_from_the_first_to_the_last(self) -> None:
         said: list[str] = []
