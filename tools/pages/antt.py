@@ -43,8 +43,8 @@ class Definition:
         code = "\n".join(self.lines)
         if re.match(r"\s*pub record", code):
             return " ".join([self.name, *re.findall(r"\(([\w ]+) :", code.partition(" where\n")[0])])
-        heads = re.findall(rf"(?m)^\s*{self.name} ([^=]*) =", code)
-        columns = zip(*(re.findall(r"\((?:[^()]|\([^()]*\))*\)|[^\s{}]+(?![^{]*\})", it) for it in heads))
+        heads = re.findall(rf"(?m)^\s*{self.name} ([^=]*) =", re.sub(r" \{[^{}]*\}", "", code))
+        columns = zip(*(re.findall(r"\((?:[^()]|\([^()]*\))*\)|\S+", it) for it in heads))
         names = [next((it for it in column if is_parameter(it, code, column.count(it))), "_") for column in columns]
         return " ".join([self.name, *names]) if set(names) != {"_"} else self.name
 

@@ -51,7 +51,7 @@ pub record IsSession {Id B : Type 0} (bin_cmp : B → B → Ordering) (state : S
   pub rising : AllPairs (λ a b. a.number < b.number) state.outstanding
   pub below : All (λ r. r.number < state.next) state.outstanding
 
--- placements, with the numbers from the first one on
+-- placements, with the numbers n, n + 1, and so on
 abbrev pub numbered : {Id B : Type 0} → ℕ → List (Placement Id B) → List (Outstanding Id B)
 numbered n [] = []
 numbered n (p ∷ ps) = record { number = n; id = p.id; bin = p.bin; location = p.location } ∷ numbered (n + 1) ps

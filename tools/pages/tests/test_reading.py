@@ -66,7 +66,7 @@ module _ {A : Type 0}
     -- the sum
     abbrev pub sum_of : ℕ → (ℕ → ℕ) → List ℕ → ℕ
     sum_of zero Rates [] = Rates zero
-    sum_of n Rates (m ∷ ms) = n + n
+    sum_of {A = A} n Rates (m ∷ ms) = n + n
 
 -- beyond them
 unfoldable pub last : ℕ
