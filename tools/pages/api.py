@@ -6,7 +6,7 @@ import re
 from collections.abc import Iterator
 
 from library import KINDS, Call, Library, Module
-from proved import Row, slug
+from proved import Proved, slug
 from rattle import Item, indent_of
 from sources import ROOT, fenced
 
@@ -14,9 +14,8 @@ from sources import ROOT, fenced
 class Page:
     """The page, whose sections are texts; an empty one is left out."""
 
-    def __init__(self, library: Library, proved: list[Row]) -> None:
-        self.library = library
-        self.anchor_of = {(row.call, clause): row.anchor for row in reversed(proved) for clause in row.clauses}
+    def __init__(self, library: Library, proved: Proved) -> None:
+        self.library, self.places = library, proved.places
         self.given: dict[str, int] = {}
         self.anchors: dict[str, str] = {}
         self.told = [text for module in library.modules for text in self.module(module) if text]
@@ -31,7 +30,7 @@ class Page:
     def clauses(self, call: Call, before: str = "") -> Iterator[str]:
         for kind in ("requires", "ensures"):
             named = [clause.name for clause in call.clauses() if clause.kind == kind]
-            links = ", ".join(f"[`{it}`](PROVED.md#{self.anchor_of.get((call.name, it), '')})" for it in named)
+            links = ", ".join(f"[`{it}`](PROVED.md#{self.places.get(call.name, ('', ''))[1]})" for it in named)
             yield f"{before}{kind if before else kind.capitalize()}: {links}" if links else ""
 
     def function(self, level: int, call: Call, kind: str = "") -> Iterator[str]:

@@ -35,7 +35,7 @@ class Call(Placed):
     home: str = ""
 
     def clauses(self) -> list[Clause]:
-        return self.item.clauses or [Clause("ensures", name, []) for name in self.item.ghosts()]
+        return self.item.clauses or [Clause("ensures", name, it.notes, []) for name, it in self.item.ghosts().items()]
 
     def lines(self) -> list[str]:
         return [line for clause in self.clauses() for line in clause.lines]

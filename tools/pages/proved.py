@@ -1,29 +1,31 @@
-"""Checks docs/PROVED.md: a row for each public call, clause and law of the library and of the library for C, and none that names
-what is not there. Whether a claim says what its clause says, no tool can tell."""
+"""The page docs/PROVED.md: what each clause of a public call claims, in the words of the comment above it, and the wrong bodies
+that show it, which stand behind a claim in brackets. Further lines of a claim are indented. A clause that has a name and no comment
+claims what the first one does that reads the same. Whether a claim says what its clause says, no tool can tell."""
 from __future__ import annotations
 
 import re
-from collections.abc import Iterable, Iterator
+from collections.abc import Iterator
 from dataclasses import dataclass
 
 from library import Call
-from sources import CRATES, DOCS, FOR_C, LAYERS, PROGRAM, coded, files_of, shown
+from sources import CRATES, FOR_C, LAYERS, PROGRAM, coded, files_of
 
-PAGE = DOCS / "PROVED.md"
+# A place for calls in the written text, and a heading, whose anchor is that of the calls below it.
+PLACE = re.compile(r"(?m)^(?:\{\{claims (.*)\}\}|(#+) (.*))$")
 
 
 @dataclass(frozen=True)
-class Row:
-    """A row of a table of calls, or of functions of the program: where it stands, and what its cells name."""
-
-    line: int
-    section: str
-    anchor: str
-    of_call: bool
-    call: str
-    claim: str
-    clauses: list[str]
+class Claim:
+    text: str
     edits: list[str]
+
+
+def claims_of(notes: list[str]) -> list[Claim]:
+    """The claims of a comment."""
+    found = re.findall(r"(?m)^// (\S.*(?:\n//   .*)*)", "\n".join(it.strip() for it in notes))
+    texts = [" ".join(it.replace("\n//", "").split()) for it in found]
+    parts = [it[:-1].rpartition(" [") if it.endswith("]") else (it, "", "") for it in texts]
+    return [Claim(text, edits.split(", ") if edits else []) for text, _, edits in parts]
 
 
 def slug(heading: str, given: dict[str, int]) -> str:
@@ -34,80 +36,68 @@ def slug(heading: str, given: dict[str, int]) -> str:
     return f"{name}-{count}" if count else name
 
 
-def rows_of(lines: Iterable[str]) -> list[Row]:
-    """The rows of the page. A cell without a call means the call above it."""
-    found = []
-    given: dict[str, int] = {}
-    section = anchor = call = ""
-    columns: list[str] = []
-    for number, line in enumerate(lines, 1):
-        title = re.match(r"(#+) (.*)", line)
-        if title:
-            section = title[2].strip("`") if len(title[1]) == 2 else section
-            anchor = slug(title[2], given)
-        cells = [cell.strip() for cell in line.strip("|").split("|")] if line.startswith("|") else []
-        if not cells or not columns:
-            call, columns = "", cells
-        elif not set(line) <= set("|-: ") and {"Call", "Function"} & set(columns):
-            row = dict(zip(columns, cells))
-            of_call, names = "Call" in row, coded(row.get("Call", row.get("Function", "")))
-            call = (" ".join(names) if of_call else names[0]) if names else call
-            clauses, edits = coded(row.get("Clause", "")), coded(row.get("Wrong body", ""))
-            found.append(Row(number, section, anchor, of_call, call, row.get("Claim", ""), clauses, edits))
-    return found
+class Proved:
+    """What the written text of the page asks for, and the places of calls in it: each under a module, at an anchor."""
+
+    def __init__(self, calls: list[Call], written: str) -> None:
+        self.calls = {it.name: it for it in calls}
+        self.told: dict[tuple[str, str], list[Claim]] = {}
+        first: dict[str, list[Claim]] = {}
+        for call, clause in ((call, clause) for call in calls for clause in call.clauses()):
+            said = claims_of(clause.notes)
+            text = " ".join(" ".join(clause.lines).split())
+            self.told[call.name, clause.name] = said or (first.get(text, []) if clause.name != clause.kind else [])
+            if said:
+                first.setdefault(text, said)
+        self.places: dict[str, tuple[str, str]] = {}
+        section = anchor = ""
+        given: dict[str, int] = {}
+        for names, marks, title in PLACE.findall(written):
+            section = title.strip("`") if marks == "##" else section
+            anchor = slug(title, given) if marks else anchor
+            self.places.update((name, (section, anchor)) for name in names.split(", ") if name)
+
+    def claims(self, names: str) -> str:
+        """The claims of these calls, a row each."""
+        rows = []
+        for call in (self.calls[name] for name in names.split(", ") if name in self.calls):
+            shown = f"`{call.name}`"
+            for clause, it in ((clause, it) for clause in call.clauses() for it in self.told[call.name, clause.name]):
+                text = f"Premise: {it.text[0].lower()}{it.text[1:]}" if clause.kind == "requires" else it.text
+                rows.append([shown, text, f"`{clause.name}`", ", ".join(f"`{edit}`" for edit in it.edits)])
+                shown = ""
+        columns = 4 if any(row[3] for row in rows) else 3
+        lines = [re.sub(r"\|  (?=\|)", "| ", f"| {' | '.join(it[:columns])} |") for it in [["Call", "Claim", "Clause", "Wrong body"], *rows]]
+        return "\n".join([lines[0], "|---" * columns + "|", *lines[1:]])
+
+    def faults(self) -> Iterator[str]:
+        """Calls without a place, clauses without a claim, and claims that name what is not there."""
+        files = files_of([*LAYERS, FOR_C], "src", ".rt") + files_of([*LAYERS, FOR_C], "specs", ".antt")
+        lines = (line for path in files for line in path.read_text().splitlines() if not line.lstrip().startswith(("// ", "--")))
+        words, edits = set(re.findall(r"\w+", " ".join(lines))), [path.stem for path in CRATES.glob("*/must-fail/*.edit")]
+        yield from (f"docs/text/PROVED.md: there is no public call or law `{it}`" for it in self.places if it not in self.calls)
+        for call in self.calls.values():
+            if self.places.get(call.name, ("", ""))[0] != call.home:
+                yield f"docs/text/PROVED.md: `{call.name}` has no place under `{call.home}`"
+            names = [clause.name for clause in call.clauses()]
+            yield from (f"{call.place()}: two clauses of `{call.name}` are named `{it}`" for it in {*names} if names.count(it) > 1)
+            for name in names:
+                said = self.told[call.name, name]
+                if not said:
+                    yield f"{call.place()}: no comment says what `{name}` of `{call.name}` claims"
+                for edit in (edit for it in said for edit in it.edits if edits.count(edit) != 1):
+                    yield f"{call.place()}: there is {'more than one' if edit in edits else 'no'} wrong body `{edit}`"
+                for word in {*re.findall(r"[A-Za-z]\w*", " ".join(span for it in said for span in coded(it.text)))} - words:
+                    yield f"{call.place()}: `{name}` of `{call.name}` names `{word}`, and no source has that word"
 
 
-def faults_of_row(row: Row, call: Call | None, edits: list[str], words: set[str]) -> Iterator[str]:
-    """What a row names that is not there."""
-    if call is None:
-        yield f"there is no public call or law `{row.call}`"
-        return
-    if row.section != call.home:
-        yield f"`{row.call}` stands under `{row.section}`, and its module is `{call.home}`"
-    if not row.clauses:
-        yield f"the row of `{row.call}` names no clause"
-    for name in row.clauses:
-        kinds = [it.kind for it in call.clauses() if it.name == name]
-        if not kinds:
-            yield f"`{row.call}` has no clause `{name}`"
-        elif ("requires" in kinds) != row.claim.startswith("Premise: "):
-            yield f"the claim of `{name}` begins with \"Premise: \", or that is a `requires`, and not both"
-    for name in row.edits:
-        if edits.count(name) != 1:
-            yield f"there is {'more than one' if name in edits else 'no'} wrong body `{name}`"
-    for word in re.findall(r"[A-Za-z]\w*", " ".join(coded(row.claim))):
-        if word not in words:
-            yield f"no source has the word `{word}`"
-
-
-def faults_of_calls(rows: list[Row], calls: list[Call]) -> Iterator[str]:
-    """Calls and clauses that have no row, and clauses of one call that have one name."""
-    for call in calls:
-        told = [row.clauses for row in rows if row.of_call and row.call == call.name]
-        names = [clause.name for clause in call.clauses()]
-        if not told:
-            yield f"no row has the call `{call.name}`"
-        for name in dict.fromkeys(names):
-            if not any(name in clauses for clauses in told):
-                yield f"no row of `{call.name}` has the clause `{name}`"
-            if names.count(name) > 1:
-                yield f"two clauses of `{call.name}` have the name `{name}`"
-
-
-def faults_of_program(rows: list[Row]) -> Iterator[str]:
-    """Rows of functions of the program that name what is not there, and wrong bodies of the program without a row."""
-    edits, named = {it.stem for it in files_of(PROGRAM, "must-fail", ".edit")}, {it for row in rows for it in row.edits}
+def faults_of_program(page: str) -> Iterator[str]:
+    """Functions and wrong bodies of the program that the page names and that are not there, and wrong bodies that it leaves out."""
+    section = page.partition("\n## `packrun`\n")[2].partition("\n## ")[0]
+    rows = [(coded(function)[0], coded(edits)) for function, edits in re.findall(r"(?m)^\| (`.*?) \| .* \| .* \|(.*)\|$", section)]
     text = "\n".join(path.read_text() for path in files_of(PROGRAM, "src", ".rt"))
-    yield from (f"there is no function `{row.call}` of the program" for row in rows if not re.search(rf"\bfn {row.call}\b", text))
-    yield from (f"there is no wrong body `{it}` of the program" for it in sorted(named - edits))
-    yield from (f"no row names the wrong body `{it}` of the program" for it in sorted(edits - named))
-
-
-def faults(rows: list[Row], calls: list[Call]) -> Iterator[str]:
-    files = files_of([*LAYERS, FOR_C], "src", ".rt") + files_of([*LAYERS, FOR_C], "specs", ".antt")
-    words = {word for path in files for word in re.findall(r"\w+", path.read_text())}
-    edits, known = [path.stem for path in CRATES.glob("*/must-fail/*.edit")], {call.name: call for call in calls}
-    for row in (it for it in rows if it.of_call):
-        yield from (f"{shown(PAGE)}:{row.line}: {it}" for it in faults_of_row(row, known.get(row.call), edits, words))
-    others = [*faults_of_calls(rows, calls), *faults_of_program([it for it in rows if not it.of_call])]
-    yield from (f"{shown(PAGE)}: {it}" for it in others)
+    edits, named = {it.stem for it in files_of(PROGRAM, "must-fail", ".edit")}, {edit for _, edits in rows for edit in edits}
+    gone = [f"there is no function `{it}`" for it, _ in rows if not re.search(rf"\bfn {it}\b", text)]
+    gone += [f"there is no wrong body `{it}`" for it in sorted(named - edits)]
+    gone += [f"no row names the wrong body `{it}`" for it in sorted(edits - named)]
+    yield from (f"docs/PROVED.md: {it} of the program" for it in gone)

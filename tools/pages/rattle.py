@@ -17,18 +17,20 @@ ITEM = re.compile(
 
 @dataclass(frozen=True)
 class Clause:
-    """A clause; one without a name is named by its kind."""
+    """A clause, with the comment above it; one without a name is named by its kind."""
 
     kind: str
     name: str
+    notes: list[str]
     lines: list[str]
 
 
 @dataclass(frozen=True, eq=False)
 class Item:
-    """An item of a file or of an impl, a field or a variant: with its doc comment and its attributes, its lines and the number of
-    the first of them. Its head is what stands before the body, without clauses; the body is the lines inside its braces."""
+    """An item of a file or of an impl, a field or a variant: with its comment, its doc comment and its attributes, its lines and the
+    number of the first of them. Its head is what stands before the body, without clauses; the body is the lines in its braces."""
 
+    notes: list[str]
     docs: list[str]
     attributes: list[str]
     lines: list[str]
@@ -59,24 +61,32 @@ def indent_of(line: str) -> int:
     return len(line) - len(line.lstrip())
 
 
-def item_of(docs: list[str], attributes: list[str], lines: list[str], line: int) -> Item:
+def item_of(notes: list[str], docs: list[str], attributes: list[str], lines: list[str], line: int) -> Item:
     clauses: list[Clause] = []
+    above: list[str] = []
     at = next((i for i, it in enumerate(lines) if CLAUSE.match(it) or it.endswith((" {", ";", "{}", " }")) or it.strip() == "{"), 0)
-    head = "\n".join(lines[:at] if CLAUSE.match(lines[at]) else lines[: at + 1])
-    while start := CLAUSE.match(lines[at]):
-        end = next(i for i in range(at + 1, len(lines)) if CLAUSE.match(lines[i]) or indent_of(lines[i]) < indent_of(lines[at]))
-        clauses.append(Clause(start[1], start[2] or start[1], lines[at:end]))
-        at = end
+    indent = indent_of(lines[at]) if CLAUSE.match(lines[at]) else 0
+    while indent and lines[at - 1].startswith(" " * indent + "// "):
+        at -= 1
+    head = "\n".join(lines[:at] if indent else lines[: at + 1])
+    while indent and indent_of(lines[at]) >= indent:
+        if start := CLAUSE.match(lines[at]):
+            clauses.append(Clause(start[1], start[2] or start[1], above, [lines[at]]))
+            above = []
+        else:
+            (above if lines[at].startswith(" " * indent + "// ") else clauses[-1].lines).append(lines[at])
+        at += 1
     found = ITEM.match(lines[0].strip())
     kind, name, public = (found["kind"], found["name"], found["public"]) if found else ("", "", "")
     has_body = not lines[at].endswith(";")
     head = re.sub(r"\s*(\{[^{}]*\}?;?|;)$", "", head).strip()
-    return Item(docs, attributes, lines, line, head, clauses, has_body, lines[at + 1 : -1], kind or "", name or "", public == "pub ")
+    return Item(notes, docs, attributes, lines, line, head, clauses, has_body, lines[at + 1 : -1], kind or "", name or "", public == "pub ")
 
 
 def items_of(lines: Iterable[str], first: int = 1, ends: str | tuple[str, ...] = (";", "}")) -> list[Item]:
     """The items of lines, of which the first has this number."""
     found = []
+    notes: list[str] = []
     docs: list[str] = []
     attributes: list[str] = []
     block: list[str] = []
@@ -84,13 +94,14 @@ def items_of(lines: Iterable[str], first: int = 1, ends: str | tuple[str, ...] =
         text = line.strip()
         if not block and (not text or text.startswith(("//", "#"))):
             docs += [text[3:].removeprefix(" ")] if text.startswith("///") else []
+            notes = [*notes, line] if text.startswith("// ") else notes if text else []
             attributes += [text] if text.startswith("#[") else []
             continue
         block.append(line)
         whole = "".join(block) if text.endswith(";") else "{"
         if whole.count("{") == whole.count("}") or (indent_of(line) == indent_of(block[0]) and text.endswith(ends)):
-            found.append(item_of(docs, attributes, block, number - len(block) + 1))
-            docs, attributes, block = [], [], []
+            found.append(item_of(notes, docs, attributes, block, number - len(block) + 1))
+            notes, docs, attributes, block = [], [], [], []
     return found
 
 

@@ -114,6 +114,7 @@ where
     /// A session without bins, whose memory is to come from `alloc`. The first placement gets the
     /// number `first`, but for the greatest `u64`, which is never given. This takes no memory.
     pub fn new(alloc: A, first: u64) -> Self
+        // The session has no bins and no outstanding placements, and `first` is its next number.
         ensures { result ≡ record { bins = []; outstanding = []; next = first } }
     {
         Session {
@@ -125,8 +126,12 @@ where
 
     /// The bins, each with its free sections.
     pub fn bins(&self) -> &BTreeMap<BinId, TargetBin<A>, A>
+        // The answer has the bins of the session: under each id the size, the free sections, and
+        //   whether the bin counts as coalesced.
         ensures bins { bins_of result.now.entries ≡ self.now.bins }
+        // The ids are in strictly rising order, so none stands twice.
         ensures ascend { IsStrictlySortedBy BinId.cmp (keys_of self.now.bins) }
+        // What always holds of a session holds.
         ensures always { IsSession BinId.cmp self.now }
     {
         ascending(&self.bins)
@@ -134,6 +139,7 @@ where
 
     /// The placements that were not released, in the order of their numbers.
     pub fn outstanding(&self) -> &[Outstanding<Id, BinId>]
+        // The answer has the outstanding placements of the session, in their order.
         ensures outstanding { result.now ≡ self.now.outstanding }
         ensures always { IsSession BinId.cmp self.now }
     {
@@ -143,6 +149,7 @@ where
     /// The number of the next placement, or the greatest `u64` where numbers are used up. Each
     /// outstanding number is smaller.
     pub fn next_number(&self) -> u64
+        // The answer is the next number of the session.
         ensures { result ≡ self.now.next }
     {
         self.next
@@ -158,9 +165,16 @@ where
         height: u32,
         depth: u32,
     ) -> Result<(), SessionError>
+        // Done: no bin had an equal id. A new bin stands under the id: it has this size, one free
+        //   section, which is all of it, and does not count as coalesced. All else stays.
+        //   [without_sections.new_bin_counts_as_coalesced]
+        // `DuplicateBin`: a bin of an equal id is there. The session is as it was.
+        // `OutOfMemory`: no bin had an equal id. The session is as it was.
+        // No other error is answered.
         ensures added { let size : Size = record { width = width; height = height; depth = depth }
             in
             AddsBin BinId.cmp id size self.old (reply_of result) self.new }
+        // What always holds of a session holds afterwards.
         ensures always { IsSession BinId.cmp self.new }
     {
         if self.bins.contains_key(&id) {
@@ -197,16 +211,40 @@ where
         C: Fn([WidthHeightDepth; 3], [WidthHeightDepth; 3], &H) -> Ordering,
         requires ids { ClonesEqual Id.is_clone Id.eq }
         requires bin_ids { ClonesEqual BinId.is_clone BinId.eq }
+        // The heuristic may be called on every size, and the comparison on every two triples of
+        //   sizes with this heuristic.
         requires callable { AreCallable H.Fn C.Fn heuristic.now comparison.now }
+        // Packed: the groups are packed into the bins by the rule that `pack_rects` keeps where it
+        //   is done. [newest.first_section_is_taken]
+        // Packed: the placements, one for each entry, follow the outstanding ones under the next
+        //   numbers. The answer has the first of these numbers and how many there are; the next
+        //   number grows by as many.
+        // `NumbersUsedUp`: exactly where the next number and the entries add up to more than the
+        //   greatest `u64`. The session is as it was.
+        // `NotEnoughBinSpace`: the packing is refused for space by the rule of `pack_rects`. The
+        //   session is as it was, the order of its lists included.
+        //   [try_packing.refused_packing_stays]
+        // `OutOfMemory`: there is a group, and the numbers are not used up. The session is as it
+        //   was. [undo_one.undone_section_goes_last]
+        // No other error is answered.
         ensures packed { let order = ⟦<Group<GroupId, Id> as Ord>⟧.cmp in
             let may = answers H.Fn C.Fn heuristic.now comparison.now in
             Packs order (rules_by Id.cmp BinId.cmp may) groups.now
             self.old (packed_reply result) self.new }
+        // Packed: every entry of every group is placed once, in the size of its id, and each group
+        //   in one bin.
+        // Packed: two groups of this packing that are excluded are in different bins.
+        //   [excluded_bins.exclusions_are_not_used]
+        // `NotEnoughBinSpace`: for some group, each bin of the session is excluded or the group's
+        //   trial is stuck there, as the groups before it left that bin.
+        //   [place_group.one_bin_only_is_tried]
         ensures promise { let order = ⟦<Group<GroupId, Id> as Ord>⟧.cmp in
             let may = answers H.Fn C.Fn heuristic.now comparison.now in
             PacksAsPromised order (rules_by Id.cmp BinId.cmp may) groups.now
             self.old (packed_reply result) self.new }
+        // Without groups it succeeds.
         ensures no_groups { groups.now.groups ≡ [] → IsOk result }
+        // What always holds of a session holds afterwards. [pieces_round.piece_behind_is_dropped]
         ensures always { IsSession BinId.cmp self.new }
     {
         let policy = Closures {
@@ -260,7 +298,18 @@ where
     /// `UnknownPlacement` says that no placement of this number is outstanding, `OutOfMemory` that
     /// a growth was refused. The session is then as it was.
     pub fn release(&mut self, number: u64) -> Result<(), SessionError>
+        // Done: a placement of this number was outstanding, and it alone is taken out of the
+        //   outstanding ones. The next number stays. [release.number_is_released_twice]
+        // Done: where its box has cells, the box stands as a free section at the end of the list of
+        //   its bin, and all else in the bins stays. [give_back.no_section_is_given_back]
+        // Done: where its box has no cells, the bins are as they were.
+        //   [give_back.empty_box_is_given_back]
+        // `UnknownPlacement`: no placement of this number is outstanding. The session is as it was.
+        // `OutOfMemory`: a placement of this number is outstanding, and its box has cells. The
+        //   session is as it was. [give_back.empty_box_is_given_back]
+        // No other error is answered.
         ensures released { Releases BinId.cmp number self.old (reply_of result) self.new }
+        // What always holds of a session holds afterwards. [give_back.no_section_is_given_back]
         ensures always { IsSession BinId.cmp self.new }
     {
         let Some(index) = position_of(self.outstanding.as_slice(), number) else {
@@ -275,6 +324,8 @@ where
     /// Whether a coalescing call that named the bin was accepted, also where it joined nothing;
     /// `None` where there is no such bin.
     pub fn was_coalesced(&self, id: &BinId) -> Option<bool>
+        // The answer is whether the bin counts as coalesced, and `None` exactly where there is no
+        //   such bin.
         ensures { result ≡ option_map (λ (b : Bin). b.coalesced)
             (lookup (is_at (BinId.cmp id.now)) self.now.bins) }
     {
@@ -290,8 +341,14 @@ where
         idx: usize,
         range: Range<usize>,
     ) -> Result<(), SessionError>
+        // Done: the bin is there, its list is one that the rule of joining allows for this index
+        //   and range, as `joined` of `TargetBin::coalesce_available_sections` says it, and it
+        //   counts as coalesced. All else stays. [shares_face.faces_that_meet_in_part_are_joined]
+        // `UnknownBin`: there is no such bin. The session is as it was. No other error is answered.
         ensures joined { let joins = IsJoined idx range.start range.end in
             Coalesces BinId.cmp joins id.now self.old (reply_of result) self.new }
+        // What always holds of a session holds afterwards.
+        //   [shares_face.faces_that_meet_in_part_are_joined]
         ensures always { IsSession BinId.cmp self.new }
     {
         let Some(bin) = self.bins.get_mut(id) else {
@@ -305,9 +362,16 @@ where
     /// `TargetBin::coalesce_all` does. `UnknownBin` says that there is no such bin. Takes no
     /// memory.
     pub fn coalesce_all(&mut self, id: &BinId) -> Result<(), SessionError>
+        // Done: the bin is there, its list is one that the rule of the sweep allows, as `swept` of
+        //   `TargetBin::coalesce_all` says it, and it counts as coalesced. All else stays.
+        //   [join_all.goes_upward]
+        // `UnknownBin`: there is no such bin. The session is as it was. No other error is answered.
         ensures swept { Coalesces BinId.cmp IsSwept id.now self.old (reply_of result) self.new }
+        // Afterwards no two free sections of that bin share a whole face. [join_all.does_nothing]
         ensures no_face { IfSome (lookup (is_at (BinId.cmp id.now)) self.new.bins)
             (λ (b : Bin). ShareNoFace b.sections) }
+        // What always holds of a session holds afterwards.
+        //   [shares_face.faces_that_meet_in_part_are_joined]
         ensures always { IsSession BinId.cmp self.new }
     {
         let Some(bin) = self.bins.get_mut(id) else {

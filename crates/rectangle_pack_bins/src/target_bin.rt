@@ -91,6 +91,8 @@ impl<A: Allocator + Copy> TargetBin<A> {
     /// A bin of this size, in cells, with one free section, which is all of it; any size will do.
     /// An error is want of memory.
     pub fn new(alloc: A, width: u32, height: u32, depth: u32) -> Result<Self, AllocError>
+        // Where it succeeds, the bin has this size and one free section, which is all of it, and
+        //   does not count as coalesced. [without_sections.new_bin_counts_as_coalesced]
         ensures { IfOk result
             (λ b. b.bin ≡ new_bin (record { width = width; height = height; depth = depth })) }
     {
@@ -114,6 +116,7 @@ impl<A: Allocator + Copy> TargetBin<A> {
 
     /// The size of the bin, in cells.
     pub fn max_size(&self) -> WidthHeightDepth
+        // The answer is the size of the bin.
         ensures { result ≡ self.now.bin.size }
     {
         self.max_size
@@ -121,7 +124,9 @@ impl<A: Allocator + Copy> TargetBin<A> {
 
     /// The free sections, the newest last.
     pub fn available_bin_sections(&self) -> &Vec<BinSection, A>
+        // The answer has the free sections of the bin, in the order of its list.
         ensures items { result.now.items ≡ self.now.bin.sections }
+        // Each free section is inside the bin, and no two share a cell.
         ensures sound { IsSound self.now.bin.size self.now.bin.sections }
     {
         &self.available_bin_sections
@@ -129,6 +134,8 @@ impl<A: Allocator + Copy> TargetBin<A> {
 
     /// An equal bin, with a list of its own. An error is want of memory.
     pub fn clone(&self) -> Result<Self, AllocError>
+        // Where it succeeds, the new bin has the same size, the same list of free sections, and
+        //   counts as coalesced where the old one does.
         ensures { IfOk result (λ b. b.bin ≡ self.now.bin) }
     {
         let mut available_bin_sections = Vec::new(*self.available_bin_sections.allocator());
@@ -142,6 +149,8 @@ impl<A: Allocator + Copy> TargetBin<A> {
 
     /// Whether the section is inside the bin and shares no cell with a free section.
     pub fn accepts(&self, section: &BinSection) -> bool
+        // The answer is true exactly where the section is inside the bin and shares no cell with a
+        //   free section. [overlaps.corner_alone_is_tested]
         ensures { IsTrue result ↔ IsAccepted self.now.bin section.now }
     {
         is_inside(section, &self.max_size)
@@ -151,7 +160,9 @@ impl<A: Allocator + Copy> TargetBin<A> {
     /// Takes the section at the index out of the list, which closes up. The caller sees to it that
     /// the index is below the length of the list.
     pub fn remove_filled_section(&mut self, idx: usize)
+        // The index is below the length of the list.
         requires { idx < length self.old.bin.sections }
+        // The entry at the index is taken out of the list, and all else in the bin stays.
         ensures { self.new.bin ≡
             record self.old.bin { sections = remove self.old.bin.sections idx } }
     {
@@ -165,12 +176,18 @@ impl<A: Allocator + Copy> TargetBin<A> {
     /// The caller sees to it that the bin accepts each of those and that no two of them share a
     /// cell.
     pub fn add_new_sections(&mut self, sections: [BinSection; 3]) -> Result<(), AllocError>
+        // The bin accepts each of the three sections that has cells.
         requires accepted { All (IsAccepted self.old.bin) (filter has_cells sections) }
+        // No two of those share a cell.
         requires apart { AreAllApart (filter has_cells sections) }
+        // Where it succeeds, the sections that have cells stand at the end of the list, in their
+        //   order. All else in the bin stays.
         ensures ok { OnOk result
             (self.new.bin ≡
             record self.old.bin { sections = self.old.bin.sections ++ filter has_cells sections }) }
+        // An error leaves the bin as it was.
         ensures err { OnErr result (self.new.bin ≡ self.old.bin) }
+        // An error is answered only where the list has no room for three sections more.
         ensures full { OnErr result (self.old.room < length self.old.bin.sections + 3) }
     {
         self.available_bin_sections.reserve(3)?;
@@ -206,7 +223,18 @@ impl<A: Allocator + Copy> TargetBin<A> {
         &mut self,
         bin_section: BinSection,
     ) -> Result<(), PushBinSectionError>
+        // It succeeds only where the section is inside the bin and shares no cell with a free
+        //   section. The section then stands at the end of the list, and all else in the bin stays.
+        //   [push_available_bin_section.corner_alone_is_tested]
+        // `OutOfBounds`: the section is not inside the bin. The error has the section, and the bin
+        //   is as it was. [push_available_bin_section.corner_alone_is_tested]
+        // `Overlaps`: the section is inside the bin. The error has the first free section that
+        //   shares a cell with it, and the section. The bin is as it was.
+        //   [overlaps.corner_alone_is_tested]
+        // `OutOfMemory`: the bin accepts the section. The error has the section, and the bin is as
+        //   it was.
         ensures answer { IsPushAnswer self.old.bin bin_section result self.new.bin }
+        // `OutOfMemory` is answered only where the list has no room for one section more.
         ensures full { (refused : Cuboid) → result ≡ Err (OutOfMemory refused) →
             self.old.room ≤ length self.old.bin.sections }
     {
@@ -233,11 +261,15 @@ impl<A: Allocator + Copy> TargetBin<A> {
         &mut self,
         bin_section: BinSection,
     ) -> Result<(), AllocError>
+        // The bin accepts the section.
         requires { IsAccepted self.old.bin bin_section }
+        // Where it succeeds, the section stands at the end of the list, and all else in the bin
+        //   stays.
         ensures ok { OnOk result
             (self.new.bin ≡
             record self.old.bin { sections = self.old.bin.sections ++ bin_section ∷ [] }) }
         ensures err { OnErr result (self.new.bin ≡ self.old.bin) }
+        // An error is answered only where the list has no room for one section more.
         ensures full { OnErr result (self.old.room ≤ length self.old.bin.sections) }
     {
         self.available_bin_sections.push(bin_section)?;
@@ -254,13 +286,24 @@ impl<A: Allocator + Copy> TargetBin<A> {
     /// empty, the list stays as it is; a range that goes past the end is cut to the list. The free
     /// cells stay the same. Takes no memory.
     pub fn coalesce_available_sections(&mut self, idx: usize, range: Range<usize>)
+        // While some other section of the range shares a whole face with the one at the index, the
+        //   one at the least such index is taken out of the list, the section at the index becomes
+        //   the box that the two make up, and the range, cut to the list, ends one earlier. An
+        //   index past the end leaves the list. [shares_face.faces_that_meet_in_part_are_joined]
         ensures joined { IsJoined idx range.start range.end self.old.bin.sections
             self.new.bin.sections }
+        // The bin counts as coalesced, also where nothing was joined. Beside its list all else in
+        //   the bin stays.
         ensures stays { self.new.bin ≡
             record self.old.bin { sections = self.new.bin.sections; coalesced = true } }
+        // Each cell is in as many free sections as before.
+        //   [shares_face.faces_that_meet_in_part_are_joined]
         ensures filled { (c : Cell) →
             times_filled c self.new.bin.sections ≡ times_filled c self.old.bin.sections }
+        // A cell is in some free section exactly where it was in one before, and no two free
+        //   sections share a cell. [shares_face.faces_that_meet_in_part_are_joined]
         ensures cells { KeepCells self.old.bin.sections self.new.bin.sections }
+        // The list is not longer than before.
         ensures no_longer { length self.new.bin.sections ≤ length self.old.bin.sections }
     {
         join_at(&mut self.available_bin_sections, idx, range);
@@ -283,13 +326,17 @@ impl<A: Allocator + Copy> TargetBin<A> {
     /// assert_eq!(rt; bin.available_bin_sections().as_slice(), [whole].as_slice());
     /// ```
     pub fn coalesce_all(&mut self)
+        // The list is what is left where each index, from the last down to 0, is joined as above,
+        //   each time over the whole list as it is then. [join_all.goes_upward]
         ensures swept { IsSwept self.old.bin.sections self.new.bin.sections }
         ensures stays { self.new.bin ≡
             record self.old.bin { sections = self.new.bin.sections; coalesced = true } }
+        // Afterwards no two free sections share a whole face. [join_all.does_nothing]
         ensures no_face { ShareNoFace self.new.bin.sections }
         ensures filled { (c : Cell) →
             times_filled c self.new.bin.sections ≡ times_filled c self.old.bin.sections }
         ensures cells { KeepCells self.old.bin.sections self.new.bin.sections }
+        // The list is not longer than before. [coalesce_all.cuts_anew]
         ensures no_longer { length self.new.bin.sections ≤ length self.old.bin.sections }
     {
         join_all(&mut self.available_bin_sections);

@@ -109,18 +109,36 @@ pub extern "C" fn rectangle_pack_boxes(
     boxes: &[RpBox],
     placements: &mut [RpPlacement],
 ) -> u32
+    // The status is `RP_DONE`, `RP_NOT_ENOUGH_SPACE`, `RP_OUT_OF_MEMORY` or `RP_BAD_LENGTHS`.
     ensures status { result ≤ RP_BAD_LENGTHS }
+    // `RP_BAD_LENGTHS` is answered exactly where there are not as many placements as boxes, or
+    //   there are 2^32 boxes or bins, or more. [are_as_many.placements_may_be_more]
     ensures lengths { (result ≢ RP_BAD_LENGTHS) ↔
         HaveLengths bins.now boxes.now placements.old }
+    // Where the status is not `RP_DONE`, no placement is written.
     ensures unchanged { result ≢ RP_DONE → placements.new ≡ placements.old }
+    // `RP_DONE`: each box stands, in its size, inside the bin that its placement names.
+    //   [of.bin_is_the_box]
+    // `RP_DONE`: no two boxes in one bin share a cell. [write_all.bin_is_the_index]
+    // `RP_DONE`: the boxes of one group above 0 are in one bin. [of.bin_is_the_box]
     ensures done { result ≡ RP_DONE → ArePlaced bins.now boxes.now placements.new }
+    // `RP_DONE`: the placements are those of a done packing of these boxes, in their groups, into
+    //   new bins of these sizes, by the rule of `pack_rects` and by volume.
+    //   [rectangle_pack_boxes.another_heuristic]
     ensures packed { result ≡ RP_DONE →
         IsDonePacking bins.now boxes.now [] Volume placements.new }
+    // `RP_DONE`: every list of placements that is that of a done packing of equal bins and boxes is
+    //   this list.
     ensures one_packing { result ≡ RP_DONE → (others : List RpPlacement) →
         IsDonePacking bins.now boxes.now [] Volume others → others ≡ placements.new }
+    // `RP_DONE`: no packing of equal bins and boxes is refused for space.
     ensures never_refused { result ≡ RP_DONE → ¬ IsRefusedPacking bins.now boxes.now [] Volume }
+    // `RP_NOT_ENOUGH_SPACE`: for some group no bin takes all of its boxes, as the groups before it
+    //   left the bins. [rectangle_pack_collection.no_memory_is_no_space]
     ensures refused { result ≡ RP_NOT_ENOUGH_SPACE →
         IsRefusedPacking bins.now boxes.now [] Volume }
+    // `RP_NOT_ENOUGH_SPACE`: no list of placements is that of a done packing of equal bins and
+    //   boxes. [session_of.bins_are_flat]
     ensures never_packed { result ≡ RP_NOT_ENOUGH_SPACE → (others : List RpPlacement) →
         ¬ IsDonePacking bins.now boxes.now [] Volume others }
 {
@@ -143,27 +161,51 @@ pub extern "C" fn rectangle_pack_collection(
     placements: &mut [RpPlacement],
     chosen: &mut u32,
 ) -> u32
+    // The first thing that is wrong with the arguments is answered, looked at in this order:
+    //   `RP_BAD_LENGTHS`, `RP_UNKNOWN_HEURISTIC`, `RP_UNKNOWN_BOX`, `RP_EQUAL_GROUPS`. Each of them
+    //   comes only so. [rectangle_pack_collection.bad_lengths_are_done,
+    //   name_no_box.one_more_is_allowed]
+    // Where nothing is wrong, the status is `RP_DONE`, `RP_NOT_ENOUGH_SPACE` or `RP_OUT_OF_MEMORY`.
     ensures faults { let fault = fault_in bins.now collection.now heuristic
         (length placements.old) in
         MatchBool (fault == 0) (result ≤ RP_OUT_OF_MEMORY) (result ≡ fault) }
+    // Where the status is not `RP_DONE`, nothing is written.
     ensures unchanged { result ≢ RP_DONE →
         (placements.new ≡ placements.old) × (chosen.new ≡ chosen.old) }
+    // `RP_DONE`: there are as many placements as boxes and members. Each box, and each member as a
+    //   box in its group, stands, in its size, inside the bin that its placement names; no two in
+    //   one bin share a cell; those of one group above 0 are in one bin.
+    //   [push_members.member_takes_a_box_place]
     ensures done { result ≡ RP_DONE →
         ArePlaced bins.now (all_boxes collection.now) placements.new }
+    // `RP_DONE`: boxes of groups that are excluded are in different bins.
+    //   [exclude_all.a_box_is_excluded]
     ensures apart { result ≡ RP_DONE →
         KeepApart (all_boxes collection.now) collection.now.exclusions.now placements.new }
+    // `RP_DONE`: the placements are those of a done packing of this collection into new bins of
+    //   these sizes, with the heuristic whose number is written. It is the one that was asked for,
+    //   or the best of all, as `pack_rects_best` says it. [pack_asked.volume_is_the_best,
+    //   number_of.width_for_height]
     ensures packed { result ≡ RP_DONE →
         IsBestPacking bins.now (all_boxes collection.now) collection.now.exclusions.now
         (asked heuristic) chosen.new placements.new }
+    // `RP_DONE`: every list of placements, and every number of a heuristic, that is the answer to
+    //   an equal call is this one.
     ensures one_packing { result ≡ RP_DONE → (other : ℕ) → (others : List RpPlacement) →
         IsBestPacking bins.now (all_boxes collection.now) collection.now.exclusions.now
         (asked heuristic) other others → (others ≡ placements.new) × (other ≡ chosen.new) }
+    // `RP_DONE`: not with each heuristic that is asked for a packing of equal bins and collections
+    //   is refused for space.
     ensures never_refused { result ≡ RP_DONE →
         ¬ All (IsRefusedPacking bins.now (all_boxes collection.now)
         collection.now.exclusions.now) (asked heuristic) }
+    // `RP_NOT_ENOUGH_SPACE`: with each heuristic that is asked for, for some group each bin is
+    //   excluded or does not take all of its boxes, as the groups before it left the bins.
+    //   [rectangle_pack_collection.no_memory_is_no_space]
     ensures refused { result ≡ RP_NOT_ENOUGH_SPACE →
         All (IsRefusedPacking bins.now (all_boxes collection.now)
         collection.now.exclusions.now) (asked heuristic) }
+    // `RP_NOT_ENOUGH_SPACE`: no list of placements is the answer to an equal call.
     ensures never_packed { result ≡ RP_NOT_ENOUGH_SPACE → (other : ℕ) →
         (others : List RpPlacement) →
         ¬ IsBestPacking bins.now (all_boxes collection.now) collection.now.exclusions.now

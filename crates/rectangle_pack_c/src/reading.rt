@@ -159,9 +159,15 @@ pub extern "C" fn rectangle_pack_session_free_sections(
     sections: &mut [RpSection],
     count: &mut usize,
 ) -> u32
+    // The handle has a session.
     requires made { IsSome session.old.state }
+    // `RP_DONE` and `RP_SHORT_ARRAY`: the bin is there. How many free sections it has is written,
+    //   and they stand in the array, in the order of its list, exactly where it holds as many.
+    //   [tell_sections.another_bin_is_told]
+    // `RP_UNKNOWN_BIN`: there is no such bin, and nothing is written. No other status is answered.
     ensures told { IfSome session.old.state (λ (state : State ℕ ℕ).
         TellsSections state bin result sections.old sections.new count.old count.new) }
+    // The session is as it was.
     ensures unchanged { session.new.state ≡ session.old.state }
 {
     let held = session.take(alloc);
@@ -196,8 +202,13 @@ pub extern "C" fn rectangle_pack_session_outstanding(
     count: &mut usize,
 ) -> u32
     requires made { IsSome session.old.state }
+    // How many placements are outstanding is written, and they stand in the array, in the session's
+    //   order, each with its box, its bin and where it is, exactly where it holds as many:
+    //   `RP_DONE`, or else `RP_SHORT_ARRAY`. [tell.count_is_the_length_of_the_array,
+    //   of.index_is_the_bin]
     ensures told { IfSome session.old.state (λ (state : State ℕ ℕ).
         Tells (map standing_of state.outstanding) result placements.old placements.new count.new) }
+    // Their numbers rise.
     ensures rising { IfSome session.old.state (λ (state : State ℕ ℕ).
         AllPairs (λ a b. a.number < b.number) state.outstanding) }
     ensures unchanged { session.new.state ≡ session.old.state }
@@ -219,6 +230,9 @@ pub extern "C" fn rectangle_pack_session_was_coalesced(
     coalesced: &mut u32,
 ) -> u32
     requires made { IsSome session.old.state }
+    // `RP_DONE`: the bin is there, and 1 is written where a call that joins sections was done for
+    //   it, else 0. `RP_UNKNOWN_BIN`: it is not there, and nothing is written. No other status is
+    //   answered. [rectangle_pack_session_was_coalesced.answer_is_turned]
     ensures told { IfSome session.old.state (λ (state : State ℕ ℕ).
         TellsCoalesced state bin result coalesced.old coalesced.new) }
     ensures unchanged { session.new.state ≡ session.old.state }
@@ -238,6 +252,8 @@ pub extern "C" fn rectangle_pack_session_was_coalesced(
 #[unsafe(no_mangle)]
 pub extern "C" fn rectangle_pack_session_next_number(alloc: Global, session: &mut RpSession) -> u64
     requires made { IsSome session.old.state }
+    // The answer is the number of the next placement.
+    //   [rectangle_pack_session_next_number.number_is_the_last]
     ensures number { IfSome session.old.state (λ (state : State ℕ ℕ). result ≡ state.next) }
     ensures unchanged { session.new.state ≡ session.old.state }
 {
@@ -274,8 +290,13 @@ pub extern "C" fn rectangle_pack_session_bins(
     count: &mut usize,
 ) -> u32
     requires made { IsSome session.old.state }
+    // How many bins there are is written. Where the array holds as many ids, the status is
+    //   `RP_DONE`, the ids of all bins stand at its beginning, in the order of the session's map,
+    //   and the rest of it is as before. Else the status is `RP_SHORT_ARRAY`, and the array is as
+    //   before. [tell_bins.full_array_is_short]
     ensures told { IfSome session.old.state (λ (state : State ℕ ℕ).
         Tells (keys_of state.bins) result ids.old ids.new count.new) }
+    // These ids rise.
     ensures ascend { IfSome session.old.state (λ (state : State ℕ ℕ).
         IsStrictlySortedBy nat_cmp (keys_of state.bins)) }
     ensures unchanged { session.new.state ≡ session.old.state }
@@ -317,6 +338,14 @@ pub extern "C" fn rectangle_pack_session_cut_plan(
     count: &mut usize,
 ) -> u32
     requires made { IsSome session.old.state }
+    // `RP_DONE` and `RP_SHORT_ARRAY`: the bin is there. How many steps its plan has is written, and
+    //   they stand in the array exactly where it holds as many; the plan is that of the bin's free
+    //   sections and outstanding placements, as `planned` of `Session::cut_plan` says it.
+    //   [tell.count_is_the_length_of_the_array]
+    // `RP_NO_PLAN`: the bin is there, no tree of cuts has these boxes as its leaves, and nothing is
+    //   written. [tell_plan.no_plan_is_done]
+    // `RP_UNKNOWN_BIN` and `RP_OUT_OF_MEMORY`: there is no such bin, or there is; nothing is
+    //   written. No other status is answered.
     ensures told { IfSome session.old.state (λ (state : State ℕ ℕ).
         TellsPlan state bin result steps.old steps.new count.old count.new) }
     ensures unchanged { session.new.state ≡ session.old.state }

@@ -63,10 +63,15 @@ pub struct RpStats {
 /// `RP_OUT_OF_MEMORY`, and then the handle is as before.
 #[unsafe(no_mangle)]
 pub extern "C" fn rectangle_pack_session_new(alloc: Global, session: &mut RpSession) -> u32
+    // The handle has no session.
     requires empty { session.old.state ≡ None }
+    // The status is `RP_DONE` or `RP_OUT_OF_MEMORY`.
     ensures status { (result ≡ RP_DONE) ⊎ (result ≡ RP_OUT_OF_MEMORY) }
+    // `RP_DONE`: the handle has a session without bins and placements, whose next number is 0.
+    //   [rectangle_pack_session_new.first_number_is_one]
     ensures made { result ≡ RP_DONE →
         session.new.state ≡ Some (record { bins = []; outstanding = []; next = 0 }) }
+    // `RP_OUT_OF_MEMORY`: the handle has no session.
     ensures refused { result ≡ RP_OUT_OF_MEMORY → session.new.state ≡ None }
 {
     let Ok(made) = Box::new(alloc, Session::new(alloc, 0)) else {
@@ -80,6 +85,7 @@ pub extern "C" fn rectangle_pack_session_new(alloc: Global, session: &mut RpSess
 #[unsafe(no_mangle)]
 pub extern "C" fn rectangle_pack_session_free(alloc: Global, session: &mut RpSession)
     requires made { IsSome session.old.state }
+    // Afterwards the handle has no session. [rectangle_pack_session_free.nothing_is_freed]
     ensures freed { session.new.state ≡ None }
 {
     drop(session.take(alloc));
@@ -97,6 +103,9 @@ pub extern "C" fn rectangle_pack_session_add_bin(
     depth: u32,
 ) -> u32
     requires made { IsSome session.old.state }
+    // The bin is added, or not, as `added` of `Session::add_bin` says it, and the status is that of
+    //   the answer: `RP_DONE`, `RP_DUPLICATE_BIN` or `RP_OUT_OF_MEMORY`. What always holds of a
+    //   session holds afterwards. [rectangle_pack_session_add_bin.bin_is_turned]
     ensures added { let size : Size = record { width = width; height = height; depth = depth } in
         ChangesAs (AddsBin nat_cmp bin size) session.old.state result session.new.state }
 {
@@ -116,6 +125,10 @@ pub extern "C" fn rectangle_pack_session_release(
     number: u64,
 ) -> u32
     requires made { IsSome session.old.state }
+    // The placement of this number is released, or not, as `released` of `Session::release` says
+    //   it, and the status is that of the answer: `RP_DONE`, `RP_UNKNOWN_PLACEMENT` or
+    //   `RP_OUT_OF_MEMORY`. What always holds of a session holds afterwards.
+    //   [rectangle_pack_session_release.first_number_is_released]
     ensures released { ChangesAs (Releases nat_cmp number)
         session.old.state result session.new.state }
 {
@@ -134,8 +147,13 @@ pub extern "C" fn rectangle_pack_session_coalesce_all(
     bin: u32,
 ) -> u32
     requires made { IsSome session.old.state }
+    // The bin is swept, or not, as `swept` of `Session::coalesce_all` says it, and the status is
+    //   that of the answer: `RP_DONE` or `RP_UNKNOWN_BIN`. What always holds of a session holds
+    //   afterwards. [rectangle_pack_session_coalesce_all.another_bin_is_joined]
     ensures swept { ChangesAs (Coalesces nat_cmp IsSwept bin)
         session.old.state result session.new.state }
+    // Afterwards no two free sections of that bin share a whole face.
+    //   [rectangle_pack_session_coalesce_all.another_bin_is_joined]
     ensures no_face { IfSome session.new.state (λ (state : State ℕ ℕ).
         IfSome (lookup (is_at (nat_cmp bin)) state.bins) (λ (b : Bin). ShareNoFace b.sections)) }
 {
@@ -158,6 +176,10 @@ pub extern "C" fn rectangle_pack_session_coalesce(
     end: usize,
 ) -> u32
     requires made { IsSome session.old.state }
+    // The section of this index is joined with those of the range, or not, as `joined` of
+    //   `Session::coalesce` says it, and the status is that of the answer: `RP_DONE` or
+    //   `RP_UNKNOWN_BIN`. What always holds of a session holds afterwards.
+    //   [rectangle_pack_session_coalesce.section_is_the_start]
     ensures joined { ChangesAs (Coalesces nat_cmp (IsJoined index start end) bin)
         session.old.state result session.new.state }
 {
@@ -180,13 +202,29 @@ pub extern "C" fn rectangle_pack_session_pack(
     placements: &mut [RpOutstanding],
 ) -> u32
     requires made { IsSome session.old.state }
+    // `RP_BAD_LENGTHS` is answered exactly where there are not as many placements as boxes, or
+    //   there are 2^32 boxes or more. [are_as_many.placements_may_be_more]
     ensures lengths { (result ≢ RP_BAD_LENGTHS) ↔ AreAsMany boxes.now placements.old }
+    // `RP_BAD_LENGTHS`: the session is as it was.
     ensures bad_lengths { result ≡ RP_BAD_LENGTHS → session.new.state ≡ session.old.state }
+    // `RP_DONE`, `RP_NOT_ENOUGH_SPACE` and `RP_NUMBERS_USED_UP`: the boxes, in their groups, are
+    //   packed into the bins of the session by volume, or not, as `packed` and `promise` of
+    //   `Session::pack_best` say it of this heuristic alone. What always holds of a session holds
+    //   afterwards. [push_box.box_is_turned, rectangle_pack_session_pack.another_heuristic]
+    // `RP_OUT_OF_MEMORY`: the session is as it was. What always holds of a session holds
+    //   afterwards.
+    // No status but these and `RP_BAD_LENGTHS` is answered.
     ensures packed { result ≢ RP_BAD_LENGTHS →
         ChangesAs (PacksCollection RP_VOLUME boxes.now [] RP_VOLUME)
         session.old.state result session.new.state }
+    // `RP_DONE`: each box is outstanding, in its size, in the bin and at the corner that its
+    //   placement names, under the number that its placement has. [of.number_is_the_index]
+    // `RP_DONE`: these numbers differ, and none is below the next number of before.
+    //   [of.number_is_the_index]
+    // `RP_DONE`: the boxes of one group above 0 are in one bin. [of.bin_is_the_box]
     ensures done { result ≡ RP_DONE →
         ArePackedNow boxes.now placements.new session.old.state session.new.state }
+    // `RP_OUT_OF_MEMORY`: there is a box.
     ensures memory { result ≡ RP_OUT_OF_MEMORY → 0 < length boxes.now }
     ensures unchanged { result ≢ RP_DONE → placements.new ≡ placements.old }
 {
@@ -218,17 +256,34 @@ pub extern "C" fn rectangle_pack_session_pack_collection(
     chosen: &mut u32,
 ) -> u32
     requires made { IsSome session.old.state }
+    // The first thing that is wrong with the arguments is answered, looked at in this order:
+    //   `RP_BAD_LENGTHS`, `RP_UNKNOWN_HEURISTIC`, `RP_UNKNOWN_BOX`, `RP_EQUAL_GROUPS`. Then the
+    //   session is as it was. [name_no_box.one_more_is_allowed]
     ensures faults { let fault = fault_of collection.now heuristic (length placements.old) in
         fault ≢ 0 → (result ≡ fault) × (session.new.state ≡ session.old.state) }
+    // Else the collection is packed into the bins of the session, or not, as `packed` and `promise`
+    //   of `Session::pack_best` say it of the heuristics that are asked for: the one of this
+    //   number, or all. The status is that of the answer: `RP_DONE`, `RP_NOT_ENOUGH_SPACE`,
+    //   `RP_NUMBERS_USED_UP` or `RP_OUT_OF_MEMORY`. What always holds of a session holds
+    //   afterwards. [groups_of.groups_are_one, pack_asked.volume_is_the_best]
+    // `RP_DONE`: the number that is written is that of the heuristic with which was packed.
+    //   [rectangle_pack_session_pack_collection.asked_is_chosen]
     ensures packed { fault_of collection.now heuristic (length placements.old) ≡ 0 →
         ChangesAs (PacksCollection heuristic (all_boxes collection.now)
         collection.now.exclusions.now chosen.new)
         session.old.state result session.new.state }
+    // `RP_DONE`: each box, and each member as a box in its group, is outstanding, in its size, in
+    //   the bin and at the corner that its placement names, under the number that its placement
+    //   has; these numbers differ, and none is below the next number of before; those of one group
+    //   above 0 are in one bin. [push_members.member_takes_a_box_place]
     ensures done { result ≡ RP_DONE →
         ArePackedNow (all_boxes collection.now) placements.new
         session.old.state session.new.state }
+    // `RP_DONE`: boxes of groups that are excluded are in different bins.
+    //   [exclude_all.a_box_is_excluded]
     ensures apart { result ≡ RP_DONE →
         StandApart (all_boxes collection.now) collection.now.exclusions.now placements.new }
+    // `RP_OUT_OF_MEMORY`: there is a box or an exclusion, or `RP_BEST` was asked for.
     ensures memory { result ≡ RP_OUT_OF_MEMORY → heuristic ≢ RP_BEST →
         0 < length collection.now.boxes.now + length collection.now.exclusions.now }
     ensures unchanged { result ≢ RP_DONE →
@@ -273,6 +328,10 @@ pub extern "C" fn rectangle_pack_session_stats(
     stats: &mut RpStats,
 ) -> u32
     requires made { IsSome session.old.state }
+    // `RP_DONE`: the bin is there, and what is written are its statistics, as `stats` of
+    //   `Session::stats` says it. The free and the placed volume add up to that of the bin.
+    //   [rectangle_pack_session_stats.free_for_placed]
+    // `RP_UNKNOWN_BIN`: there is no such bin, and nothing is written. No other status is answered.
     ensures told { TellsStats session.old.state bin result stats.old stats.new }
     ensures unchanged { session.new.state ≡ session.old.state }
 {

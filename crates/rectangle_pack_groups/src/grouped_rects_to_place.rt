@@ -64,6 +64,7 @@ impl<Id: Ord + Clone + Drop, GroupId: Ord + Clone + Drop, A: Allocator + Copy> G
 > {
     /// An empty collection, whose memory is to come from `alloc`. This takes no memory.
     pub fn new(alloc: A) -> Self
+        // The collection has no sizes, no groups and no excluded pairs.
         ensures { result ≡ record { sizes = []; groups = []; partners = [] } }
     {
         GroupedRectsToPlace {
@@ -76,9 +77,12 @@ impl<Id: Ord + Clone + Drop, GroupId: Ord + Clone + Drop, A: Allocator + Copy> G
 
     /// The ids of each group, in the order in which they were pushed.
     pub fn groups(&self) -> &BTreeMap<Group<GroupId, Id>, Vec<Id, A>, A>
+        // The answer has the groups of the collection, each with the ids in its list, in order.
         ensures entries { lists_of result.now.entries ≡ self.now.groups }
+        // The groups are in strictly rising order, so none stands twice.
         ensures ascend { IsStrictlySortedBy ⟦<Group<GroupId, Id> as Ord>⟧.cmp
             (keys_of self.now.groups) }
+        // Each group has a member, and each of its members has a size in the collection.
         ensures members { MembersHaveSizes Id.cmp self.now.sizes self.now.groups }
     {
         ascending(&self.groups)
@@ -86,7 +90,9 @@ impl<Id: Ord + Clone + Drop, GroupId: Ord + Clone + Drop, A: Allocator + Copy> G
 
     /// The box of each id.
     pub fn rects(&self) -> &BTreeMap<Id, RectToInsert, A>
+        // The answer has the sizes of the collection, each under its id.
         ensures entries { result.now.entries ≡ self.now.sizes }
+        // The ids are in strictly rising order, so none stands twice.
         ensures ascend { IsStrictlySortedBy Id.cmp (keys_of self.now.sizes) }
     {
         ascending(&self.rects)
@@ -104,13 +110,21 @@ impl<Id: Ord + Clone + Drop, GroupId: Ord + Clone + Drop, A: Allocator + Copy> G
         a: Group<GroupId, Id>,
         b: Group<GroupId, Id>,
     ) -> Result<(), AllocError>
+        // Clones of box ids equal their originals.
         requires ids { ClonesEqual Id.is_clone Id.eq }
+        // Clones of group ids equal their originals.
         requires group_ids { ClonesEqual GroupId.is_clone GroupId.eq }
+        // The two groups differ.
         requires different { ⟦<Group<GroupId, Id> as PartialEq>⟧.eq a b ≡ false }
+        // Where it succeeds, the two groups are excluded, in either order; of all other pairs the
+        //   same are excluded as before; sizes and groups stay. [exclude.keeps_nothing]
         ensures ok { OnOk result
             (Excludes ⟦<Group<GroupId, Id> as Ord>⟧.cmp self.old self.new a b) }
+        // Where the two groups are excluded already, it succeeds and leaves the collection as it
+        //   was, list order included.
         ensures again { are_excluded ⟦<Group<GroupId, Id> as Ord>⟧.cmp self.old.partners a b ≡
             true → IsOk result × (self.new ≡ self.old) }
+        // An error leaves the collection as it was.
         ensures err { OnErr result (self.new ≡ self.old) }
     {
         self.exclusions.add(a, b)
@@ -118,6 +132,7 @@ impl<Id: Ord + Clone + Drop, GroupId: Ord + Clone + Drop, A: Allocator + Copy> G
 
     /// Whether the two groups are excluded, in either order. This takes no memory.
     pub fn excluded(&self, a: &Group<GroupId, Id>, b: &Group<GroupId, Id>) -> bool
+        // The answer is true exactly where the two groups are excluded, in either order.
         ensures { result ≡
             are_excluded ⟦<Group<GroupId, Id> as Ord>⟧.cmp self.now.partners a.now b.now }
     {
@@ -176,7 +191,14 @@ impl<Id: Ord + Clone + Drop, GroupId: Ord + Clone + Drop, A: Allocator + Copy> G
     ) -> Result<(), AllocError>
         requires ids { ClonesEqual Id.is_clone Id.eq }
         requires group_ids { ClonesEqual GroupId.is_clone GroupId.eq }
+        // A list of groups that is given is not empty.
         requires given { ForSome group_ids (λ named. 0 < vec_len named) }
+        // Where it succeeds, the id has this size; the other sizes and the excluded pairs stay.
+        // Where it succeeds without a list of groups, the list of the id's own group is the id
+        //   alone, and the other groups stay.
+        // Where it succeeds with a list of groups, the list of each group that is named is its old
+        //   list, or the empty one, followed by the id as often as the group is named. The groups
+        //   that are not named stay. [push_grouped.twice_named_is_added_once]
         ensures ok { OnOk result
             (let groups = ⟦<Group<GroupId, Id> as Ord>⟧.cmp in
             MatchOption group_ids

@@ -13,14 +13,18 @@ use std::cmp::Ordering;
 
 /// A law: joining can leave one list only, and so can a sweep, for all lists.
 pub fn joining_has_one_result()
+    // The rule by which the section at an index is joined with those of a range leaves at most one
+    //   list, for all lists, indices and ranges.
     ensures joined { (old one other : List Cuboid) (idx lo hi : ℕ) →
         IsJoined idx lo hi old one → IsJoined idx lo hi old other → one ≡ other }
+    // The rule of the sweep leaves at most one list, for all lists.
     ensures swept { (old one other : List Cuboid) →
         IsSwept old one → IsSwept old other → one ≡ other }
 {}
 
 /// A law: joining leaves each cell in as many sections as it was in, for all lists.
 pub fn joining_keeps_cells()
+    // Joining by that rule leaves each cell in as many sections as it was in, for all lists.
     ensures { (old new : List Cuboid) (idx lo hi : ℕ) →
         IsJoined idx lo hi old new →
         (c : Cell) → times_filled c new ≡ times_filled c old }
@@ -29,10 +33,14 @@ pub fn joining_keeps_cells()
 /// A law: where the index is past the end of the list, or the range is empty, the list stays as it
 /// is; a range that goes past the end of the list is the range that is cut there.
 pub fn joining_stays_within_the_list()
+    // An index past the end of the list leaves the list.
     ensures index { (old new : List Cuboid) (idx lo hi : ℕ) →
         length old ≤ idx → IsJoined idx lo hi old new → new ≡ old }
+    // An empty range leaves the list.
     ensures empty { (old new : List Cuboid) (idx lo hi : ℕ) →
         hi ≤ lo → IsJoined idx lo hi old new → new ≡ old }
+    // A range that ends at the end of the list or beyond it allows the same results as the range
+    //   that ends at the end of the list.
     ensures range { (old new : List Cuboid) (idx lo hi : ℕ) →
         length old ≤ hi →
         IsJoined idx lo hi old new ↔ IsJoined idx lo (length old) old new }
@@ -41,6 +49,7 @@ pub fn joining_stays_within_the_list()
 /// A law: a sweep from the last index of a list down to 0 leaves no two sections that share a whole
 /// face, for all lists.
 pub fn sweep_leaves_no_face()
+    // After a sweep by the rule no two sections of the list share a whole face, for all lists.
     ensures { (old new : List Cuboid) → IsSwept old new → ShareNoFace new }
 {}
 
@@ -49,6 +58,7 @@ pub fn step_adds_at_most_two<H, C>(heuristic: &H, comparison: &C)
 where
     H: Fn(WidthHeightDepth) -> u128,
     C: Fn([WidthHeightDepth; 3], [WidthHeightDepth; 3], &H) -> Ordering,
+    // A step makes a list of sections longer by at most two.
     ensures { (sections next : List Cuboid) (member : Size) (location : Cuboid) (tests : ℕ) →
         IsStep (answers H.Fn C.Fn heuristic.now comparison.now) sections member location next
         tests →
@@ -62,6 +72,9 @@ pub fn trial_keeps_cells<H, C>(heuristic: &H, comparison: &C)
 where
     H: Fn(WidthHeightDepth) -> u128,
     C: Fn([WidthHeightDepth; 3], [WidthHeightDepth; 3], &H) -> Ordering,
+    // Where no two sections of a list share a cell, a trial that is done keeps the cells. A cell is
+    //   in a section of before exactly where it is in a section of after or in the location of a
+    //   member, and no two of these boxes share a cell.
     ensures { (sections last locations : List Cuboid) (members : List Size) (tests : ℕ) →
         AreAllApart sections →
         IsDone (answers H.Fn C.Fn heuristic.now comparison.now) sections members locations last
@@ -75,6 +88,8 @@ pub fn trial_tests_are_bounded<H, C>(heuristic: &H, comparison: &C)
 where
     H: Fn(WidthHeightDepth) -> u128,
     C: Fn([WidthHeightDepth; 3], [WidthHeightDepth; 3], &H) -> Ordering,
+    // A trial of m members in a list of s sections, done or stuck, makes at most m * s + m * (m -
+    //   1) fit tests.
     ensures { let may = answers H.Fn C.Fn heuristic.now comparison.now in
         (sections last locations : List Cuboid) (members : List Size) (tests : ℕ) →
         IsDone may sections members locations last tests ⊎ IsStuck may sections members tests →

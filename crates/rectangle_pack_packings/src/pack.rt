@@ -105,13 +105,44 @@ where
     C: Fn([WidthHeightDepth; 3], [WidthHeightDepth; 3], &H) -> Ordering,
     A: Allocator + Copy,
     requires ids { ClonesEqual Id.is_clone Id.eq }
+    // Clones of bin ids equal their originals.
     requires bin_ids { ClonesEqual BinId.is_clone BinId.eq }
+    // The heuristic may be called on every size, and the comparison on every two triples of sizes
+    //   with this heuristic.
     requires callable { AreCallable H.Fn C.Fn box_size_heuristic.now
         more_suitable_containers_fn.now }
+    // Done: all groups are placed, by falling key, and at equal keys in the order of groups. The
+    //   key of a group is the sum of one rate for each of its entries; it stays at the greatest
+    //   `u128`.
+    // Done: if there is a group, bins are tried by rising rate of their whole size, and at equal
+    //   rates by id. Each bin has one rate.
+    // Done: each group goes whole into one bin, the first that is not excluded for it and in which
+    //   its trial is done, as the groups before it left that bin. In each bin before that one, it
+    //   is excluded or its trial is stuck. [try_bin.group_goes_on_into_the_next_bin]
+    // Done: a bin is excluded for a group exactly where a group that is excluded with it went there
+    //   earlier in the same packing. [excluded_bins.exclusions_are_not_used]
+    // Done: in a trial each member in turn goes to the corner of the newest section that holds it.
+    //   [newest.first_section_is_taken]
+    // Done: that section is taken out of the list. The pieces of an allowed cut, as `pieces` of
+    //   `try_place` says it, stand at the end of the list, by falling rate, at equal rates in the
+    //   order right, above, behind; those without cells are left out.
+    //   [place_noted.sections_are_joined]
+    // Done: the list of the bin that takes a group becomes the list of that trial. All else in the
+    //   bins stays. [close.kept_packing_drops_its_slots]
+    // Done: there is one placement for each entry of each group, group after group. It has an id
+    //   that equals the entry's, the bin of the group, and the location of the entry in that trial.
+    // Done: each id that was placed is found with the bin and the location of its last placement.
+    //   No other id is found, and the ids are in strictly rising order.
+    // `NotEnoughBinSpace`: the groups before some group are placed so, and for that group each bin
+    //   is excluded or its trial is stuck there. The bins are as the groups before it left them.
+    //   [pack_rects.is_always_refused]
+    // `OutOfMemory`: the bins are as they were, the order of their lists included.
+    //   [undo_one.undone_section_goes_last]
     ensures answer { let groups = ⟦<Group<GroupId, Id> as Ord>⟧.cmp in
         let may = answers H.Fn C.Fn box_size_heuristic.now more_suitable_containers_fn.now in
         IsPackAnswer groups (rules_by Id.cmp BinId.cmp may) rects_to_place.now
         (bins_of target_bins.old.entries) result (bins_of target_bins.new.entries) }
+    // Without groups it succeeds.
     ensures no_groups { rects_to_place.now.groups ≡ [] → IsOk result }
 {
     let mut tests = FitTests::new();
@@ -151,6 +182,17 @@ where
     requires bin_ids { ClonesEqual BinId.is_clone BinId.eq }
     requires callable { AreCallable H.Fn C.Fn box_size_heuristic.now
         more_suitable_containers_fn.now }
+    // Done, `NotEnoughBinSpace` and `OutOfMemory` say of the answer and of the bins what they say
+    //   in `pack_rects`. [place_group.one_bin_only_is_tried]
+    // Done or `NotEnoughBinSpace`: exactly the fit tests of this packing are added to the counter,
+    //   which stays at the greatest `u128`. They are those of the trials of each group, in the bins
+    //   up to its own, or in all bins where it is refused; in an excluded bin there are none.
+    //   [pack_in_order.tests_are_not_counted]
+    // In a trial, a member that is placed counts one test for its section and one for each section
+    //   after it in the list; a member that is stuck counts one for each section.
+    //   [last_holding.tests_are_one_short]
+    // With n entries in the groups, the fit tests are at most n for each free section of before,
+    //   and n * (n - 1) for each bin. `OutOfMemory` adds at most so many.
     ensures answer { let groups = ⟦<Group<GroupId, Id> as Ord>⟧.cmp in
         let may = answers H.Fn C.Fn box_size_heuristic.now more_suitable_containers_fn.now in
         IsCountedAnswer groups (rules_by Id.cmp BinId.cmp may) rects_to_place.now
@@ -214,10 +256,21 @@ where
     A: Allocator + Copy,
     requires ids { ClonesEqual Id.is_clone Id.eq }
     requires bin_ids { ClonesEqual BinId.is_clone BinId.eq }
+    // Done: the answer names a heuristic of the list, and all that `pack_rects` says of a packing
+    //   that is done is so of one with this heuristic and `contains_smallest_box`.
+    // Done: no packing that is done with a heuristic of the list places cells in fewer bins; of
+    //   those that place cells in as many, none places fewer cells in the last of these bins, in
+    //   the order of ids; and each with a heuristic that stands before the one of the answer is
+    //   worse. Cells in one bin are counted up to the greatest `u128`.
+    //   [better_of.first_that_is_done_is_kept]
+    // `NotEnoughBinSpace`: with each heuristic of the list the packing is refused for space. The
+    //   bins are as they were, the order of their lists included.
+    // `OutOfMemory`: the bins are as they were, the order of their lists included.
     ensures answer { let groups = ⟦<Group<GroupId, Id> as Ord>⟧.cmp in
         IsBestAnswer groups Id.cmp BinId.cmp rects_to_place.now
         (bins_of target_bins.old.entries) heuristics.now result
         (bins_of target_bins.new.entries) }
+    // With one heuristic in the list and without groups it succeeds.
     ensures no_groups { length heuristics.now ≡ 1 → rects_to_place.now.groups ≡ [] → IsOk result }
 {
     if heuristics.len() == 1 {

@@ -33,6 +33,7 @@ impl<Id: Ord, BinId, A: Allocator + Copy> RectanglePackOk<Id, BinId, A> {
     /// The bin and the location of each id. An id that is in several groups, or in one group
     /// several times, is placed as often; here it is found at its last placement.
     pub fn packed_locations(&self) -> &BTreeMap<Id, (BinId, PackedLocation), A>
+        // The answer has the bin and the location of each id, as the packing answered them.
         ensures { result.now.entries ≡ locations_of self.now }
     {
         &self.packed_locations
@@ -40,6 +41,7 @@ impl<Id: Ord, BinId, A: Allocator + Copy> RectanglePackOk<Id, BinId, A> {
 
     /// All placements, in the order in which they were made: one for each entry of each group.
     pub fn placements(&self) -> &[Placement<Id, BinId>]
+        // The answer has all placements, in the order of the packing's answer.
         ensures { result.now ≡ placements_of self.now }
     {
         self.placements.as_slice()
@@ -61,6 +63,8 @@ impl fmt::Display for RectanglePackError {
     ghost use Rattle.std.specs.Prelude.{Some};
     ghost use Rattle.rectangle_pack_rules.specs.PackingTexts.{packing_text};
 
+    // What is printed is "Not enough space to place all of the rectangles." or "Out of memory.", by
+    //   the error.
     ghost output = { λ e. Some (packing_text e) };
 
     fn fmt<W: fmt::Write>(&self, f: &mut fmt::Formatter<W>) -> fmt::Result {

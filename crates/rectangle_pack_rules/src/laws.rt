@@ -32,12 +32,15 @@ pub fn excluded_groups_are_apart<Id: Ord, BinId: Ord, GroupId: Ord, H, C>(
 where
     H: Fn(WidthHeightDepth) -> u128,
     C: Fn([WidthHeightDepth; 3], [WidthHeightDepth; 3], &H) -> Ordering,
+    // In a packing that is done, two groups that are excluded have different bins.
     ensures done { let groups = ⟦<Group<GroupId, Id> as Ord>⟧.cmp in
         let rules = rules_by Id.cmp BinId.cmp (answers H.Fn C.Fn heuristic.now comparison.now) in
         (all : Collection Id GroupId) (old new : List (BinId × Bin)) →
         (placements : List (Placement Id BinId)) →
         (done : PackingDone groups rules all old placements new) →
         AreKeptApart groups BinId.cmp all.partners done.homes }
+    // In a packing that is refused for space, two groups that are excluded, of those that it
+    //   placed, have different bins.
     ensures refused { let groups = ⟦<Group<GroupId, Id> as Ord>⟧.cmp in
         let rules = rules_by Id.cmp BinId.cmp (answers H.Fn C.Fn heuristic.now comparison.now) in
         (all : Collection Id GroupId) (old new : List (BinId × Bin)) →
@@ -54,6 +57,8 @@ pub fn groups_are_placed_whole<Id: Ord, BinId: Ord, GroupId: Ord, H, C>(
 where
     H: Fn(WidthHeightDepth) -> u128,
     C: Fn([WidthHeightDepth; 3], [WidthHeightDepth; 3], &H) -> Ordering,
+    // In a packing that is done, the placements are those of its groups one after another. Of each
+    //   group every entry is placed once, in the size of its id, and all in one bin.
     ensures whole { let groups = ⟦<Group<GroupId, Id> as Ord>⟧.cmp in
         let rules = rules_by Id.cmp BinId.cmp (answers H.Fn C.Fn heuristic.now comparison.now) in
         (all : Collection Id GroupId) (old new : List (BinId × Bin)) →
@@ -61,6 +66,7 @@ where
         (done : PackingDone groups rules all old placements new) →
         ArePlacedWhole Id.cmp BinId.cmp groups all.sizes all.groups (reverse done.homes)
         placements }
+    // The groups that are placed so are all groups of the packing's order, in that order.
     ensures all_groups { let groups = ⟦<Group<GroupId, Id> as Ord>⟧.cmp in
         let rules = rules_by Id.cmp BinId.cmp (answers H.Fn C.Fn heuristic.now comparison.now) in
         (all : Collection Id GroupId) (old new : List (BinId × Bin)) →
@@ -71,6 +77,8 @@ where
 
 /// A law: where two packings made equal placements, the locations that they answer by id are equal.
 pub fn locations_follow_placements<Id: Ord, BinId: Ord>()
+    // Two lists of placements are equal one by one. Then the last placements by id that are found
+    //   in them are equal too.
     ensures { (placements others : List (Placement Id BinId)) →
         (found other_found : List (Id × (BinId × Cuboid))) →
         ArePlacementsAlike Id.cmp BinId.cmp placements others →
@@ -97,17 +105,26 @@ where
     C: Fn([WidthHeightDepth; 3], [WidthHeightDepth; 3], &H) -> Ordering,
     I: Fn(WidthHeightDepth) -> u128,
     D: Fn([WidthHeightDepth; 3], [WidthHeightDepth; 3], &I) -> Ordering,
+    // The only answer of the heuristic on a size is the rate of the heuristic of this name
+    //   (`rate_of`).
     requires rates { (size : Size) (rate : ℕ) → MayRateBy H.Fn heuristic.now size rate →
         rate ≡ rate_of named size }
+    // Each answer that the comparison may give is one that `contains_smallest_box` may give with
+    //   this heuristic.
     requires smallest { (a b : List Size) (r : Ordering) →
         MayCompare C.Fn comparison.now heuristic.now a b r →
         IsSmallestOrder (H.post heuristic.now) a b r }
+    // The only answer of the other heuristic on a size is the same rate.
     requires other_rates { (size : Size) (rate : ℕ) →
         MayRateBy I.Fn other_heuristic.now size rate →
         rate ≡ rate_of named size }
+    // Each answer that the other comparison may give is one that `contains_smallest_box` may give
+    //   with the other heuristic.
     requires other_smallest { (a b : List Size) (r : Ordering) →
         MayCompare D.Fn other_comparison.now other_heuristic.now a b r →
         IsSmallestOrder (I.post other_heuristic.now) a b r }
+    // Two packings with these closures, of equal collections into equal bins, have one result, as
+    //   `packing_has_one_result` says it.
     ensures closures { let groups = ⟦<Group<GroupId, Id> as Ord>⟧.cmp in
         let rules = rules_by Id.cmp BinId.cmp in
         let may = answers H.Fn C.Fn heuristic.now comparison.now in
@@ -116,6 +133,8 @@ where
         AreCollectionsAlike groups Id.cmp all others →
         AreBinsAlike BinId.cmp bins other_bins →
         HaveOneResult groups (rules may) (rules other_may) all others bins other_bins }
+    // A packing with the first two closures, and one with the heuristic of this name as
+    //   `pack_rects_best` makes it, have one result in the same way.
     ensures by_name { let groups = ⟦<Group<GroupId, Id> as Ord>⟧.cmp in
         let rules = rules_by Id.cmp BinId.cmp (answers H.Fn C.Fn heuristic.now comparison.now) in
         (all others : Collection Id GroupId) (bins other_bins : List (BinId × Bin)) →
@@ -144,6 +163,13 @@ where
     C: Fn([WidthHeightDepth; 3], [WidthHeightDepth; 3], &H) -> Ordering,
     I: Fn(WidthHeightDepth) -> u128,
     D: Fn([WidthHeightDepth; 3], [WidthHeightDepth; 3], &I) -> Ordering,
+    // Two packings, each with its own closures, pack equal collections into equal bins. On each
+    //   size that may be rated, the two heuristics together have at most one answer. On the cuts of
+    //   each section that may be cut, round each box, all that the two comparisons may answer
+    //   agrees with one total preorder. Then, if both are done, their bins and placements are
+    //   equal; if both are refused for space, their bins are equal; and never is one done and the
+    //   other refused for space. Bins are equal here where they have the same sizes and free
+    //   sections under equal ids.
     ensures { let groups = ⟦<Group<GroupId, Id> as Ord>⟧.cmp in
         let rules = rules_by Id.cmp BinId.cmp in
         let may = answers H.Fn C.Fn heuristic.now comparison.now in
@@ -162,6 +188,9 @@ pub fn packing_keeps_cells<Id: Ord, BinId: Ord, GroupId: Ord, H, C>(heuristic: &
 where
     H: Fn(WidthHeightDepth) -> u128,
     C: Fn([WidthHeightDepth; 3], [WidthHeightDepth; 3], &H) -> Ordering,
+    // A packing is done. Then each bin whose free sections shared no cell is still there, in its
+    //   size. A cell was in a free section of it exactly where it now is in a free section or in a
+    //   box that was placed there, and no two of these share a cell. No bin is added.
     ensures { let groups = ⟦<Group<GroupId, Id> as Ord>⟧.cmp in
         let rules = rules_by Id.cmp BinId.cmp (answers H.Fn C.Fn heuristic.now comparison.now) in
         (all : Collection Id GroupId) (old new : List (BinId × Bin)) →
@@ -179,6 +208,8 @@ pub fn packing_without_exclusions<Id: Ord, BinId: Ord, GroupId: Ord, H, C>(
 where
     H: Fn(WidthHeightDepth) -> u128,
     C: Fn([WidthHeightDepth; 3], [WidthHeightDepth; 3], &H) -> Ordering,
+    // Where no two groups are excluded, a packing is done, with n fit tests, exactly where one that
+    //   excludes no bin is done with the same bins, placements and n fit tests.
     ensures done { let groups = ⟦<Group<GroupId, Id> as Ord>⟧.cmp in
         let rules = rules_by Id.cmp BinId.cmp (answers H.Fn C.Fn heuristic.now comparison.now) in
         (all : Collection Id GroupId) →
@@ -187,6 +218,8 @@ where
         ((done : PackingDone groups rules all old placements new) × (done.tests ≡ n)) ↔
         ((done : PackingDoneBy groups rules excludes_none all old placements new) ×
         (done.tests ≡ n)) }
+    // Where no two groups are excluded, a packing is refused for space, with n fit tests, exactly
+    //   where one that excludes no bin is refused with the same bins and n fit tests.
     ensures refused { let groups = ⟦<Group<GroupId, Id> as Ord>⟧.cmp in
         let rules = rules_by Id.cmp BinId.cmp (answers H.Fn C.Fn heuristic.now comparison.now) in
         (all : Collection Id GroupId) →
@@ -204,7 +237,11 @@ where
     H: Fn(WidthHeightDepth) -> u128,
     C: Fn([WidthHeightDepth; 3], [WidthHeightDepth; 3], &H) -> Ordering,
     requires one_rate { IsFunction (MayRateBy H.Fn heuristic.now) }
+    // The comparison is a total preorder on all triples of sizes.
     requires preorder { IsTotalPreorder (MayCompare C.Fn comparison.now heuristic.now) }
+    // For all boxes and bins, the heuristic then has at most one answer on each size that may be
+    //   rated, and the comparison is a total preorder on the cuts of each section that may be cut,
+    //   round each box (`ClosuresDecide`).
     ensures { (boxes : List Size) (bins : List Bin) →
         ClosuresDecide boxes bins (answers H.Fn C.Fn heuristic.now comparison.now) }
 {}
@@ -218,6 +255,8 @@ pub fn refused_box_is_held_nowhere<Id: Ord, BinId: Ord, GroupId: Ord, H, C>(
 where
     H: Fn(WidthHeightDepth) -> u128,
     C: Fn([WidthHeightDepth; 3], [WidthHeightDepth; 3], &H) -> Ordering,
+    // A packing is refused for space at a group with one entry. Then, as the groups before it left
+    //   the bins, no free section of a bin that is not excluded for the group holds its box.
     ensures { let groups = ⟦<Group<GroupId, Id> as Ord>⟧.cmp in
         let rules = rules_by Id.cmp BinId.cmp (answers H.Fn C.Fn heuristic.now comparison.now) in
         (all : Collection Id GroupId) (old new : List (BinId × Bin)) →
@@ -245,17 +284,23 @@ where
     C: Fn([WidthHeightDepth; 3], [WidthHeightDepth; 3], &H) -> Ordering,
     I: Fn(WidthHeightDepth) -> u128,
     D: Fn([WidthHeightDepth; 3], [WidthHeightDepth; 3], &I) -> Ordering,
+    // The only answer of the heuristic on a size is its volume.
     requires volume { (size : Size) (rate : ℕ) → MayRateBy H.Fn heuristic.now size rate →
         rate ≡ volume_of size }
+    // Each answer that the comparison may give is one that `contains_smallest_box` may give with
+    //   this heuristic.
     requires smallest { (a b : List Size) (r : Ordering) →
         MayCompare C.Fn comparison.now heuristic.now a b r →
         IsSmallestOrder (H.post heuristic.now) a b r }
+    // The only answer of the other heuristic on a size is its volume.
     requires other_volume { (size : Size) (rate : ℕ) →
         MayRateBy I.Fn other_heuristic.now size rate →
         rate ≡ volume_of size }
     requires other_smallest { (a b : List Size) (r : Ordering) →
         MayCompare D.Fn other_comparison.now other_heuristic.now a b r →
         IsSmallestOrder (I.post other_heuristic.now) a b r }
+    // Two packings with these closures, of equal collections into equal bins, have one result, as
+    //   `packing_has_one_result` says it.
     ensures { let groups = ⟦<Group<GroupId, Id> as Ord>⟧.cmp in
         let rules = rules_by Id.cmp BinId.cmp in
         let may = answers H.Fn C.Fn heuristic.now comparison.now in

@@ -38,7 +38,12 @@ pub fn contains_smallest_box<H>(
 ) -> Ordering
 where
     H: Fn(WidthHeightDepth) -> u128,
+    // The heuristic may be called on every size.
     requires { CanRate H.Fn heuristic.now }
+    // There is an answer of the heuristic on each of the six sizes with this property: the result
+    //   compares the second triple's smallest answer to the first's, and at a tie its second
+    //   smallest to the first's. So `Greater` means that the first triple has the smaller one. The
+    //   largest answer never decides. [contains_smallest_box.first_size_alone_decides]
     ensures { IsSmallestOrder (H.post heuristic.now) container1 container2 result }
 {
     let (smallest1, second1) = two_smallest(container1, heuristic);
@@ -113,6 +118,7 @@ pub enum BinSectionError {
 impl BinSection {
     /// The section with this corner and size; any numbers will do.
     pub fn new(x: u32, y: u32, z: u32, whd: WidthHeightDepth) -> Self
+        // The section has this corner and this size, for all numbers.
         ensures { result ≡ record { x = x; y = y; z = z; whd = whd } }
     {
         BinSection { x, y, z, whd }
@@ -120,6 +126,7 @@ impl BinSection {
 
     /// The corner's place on the x axis.
     pub fn x(&self) -> u32
+        // The answer is the corner's place on the x axis.
         ensures { result ≡ self.now.x }
     {
         self.x
@@ -127,6 +134,7 @@ impl BinSection {
 
     /// The corner's place on the y axis.
     pub fn y(&self) -> u32
+        // The answer is the corner's place on the y axis.
         ensures { result ≡ self.now.y }
     {
         self.y
@@ -134,6 +142,7 @@ impl BinSection {
 
     /// The corner's place on the z axis.
     pub fn z(&self) -> u32
+        // The answer is the corner's place on the z axis.
         ensures { result ≡ self.now.z }
     {
         self.z
@@ -141,6 +150,7 @@ impl BinSection {
 
     /// The size, in cells.
     pub fn whd(&self) -> WidthHeightDepth
+        // The answer is the size of the section.
         ensures { result ≡ self.now.whd }
     {
         self.whd
@@ -186,14 +196,34 @@ impl BinSection {
     where
         H: Fn(WidthHeightDepth) -> u128,
         C: Fn([WidthHeightDepth; 3], [WidthHeightDepth; 3], &H) -> Ordering,
+        // On each axis the corner and the size of the section add up to at most `u32::MAX`.
         requires ends { FitsU32 self.now }
+        // The comparison may be called on every two triples of sizes with this heuristic.
         requires comparable { CanCompare C.Fn container_comparison_fn.now heuristic_fn.now }
+        // It succeeds exactly where no number of the box's size is greater than that of the
+        //   section. Else the error names the first of width, height and depth that is greater.
         ensures fits { IsFitAnswer self.now incoming.now result }
+        // Where it succeeds, the box stands at the section's corner, in its own size.
         ensures location { IfOk result (λ p. p.0 ≡ placed self.now incoming.now) }
+        // Where it succeeds, the box and the three pieces fill each cell of the section exactly
+        //   once, and no other cell. [pieces_round.piece_behind_is_dropped]
         ensures tiles { IfOk result (λ p. Tiles (p.0 ∷ p.1) self.now) }
+        // Where it succeeds, no two of the box and the three pieces share a cell.
+        //   [cuts.piece_above_overlaps_the_right_one]
         ensures apart { IfOk result (λ p. AreAllApart (p.0 ∷ p.1)) }
+        // Where it succeeds, the volumes of the box and the three pieces add up to that of the
+        //   section. [pieces_round.piece_behind_is_dropped]
         ensures volumes { IfOk result (λ p. HaveVolumeOf (p.0 ∷ p.1) self.now) }
+        // Where it succeeds, a cell is in the section exactly where it is in the box or in one of
+        //   the three pieces. [pieces_round.piece_behind_is_dropped]
         ensures make_up { IfOk result (λ p. MakeUp (p.0 ∷ p.1) self.now) }
+        // Where it succeeds, the pieces are those of one of the six cuts round the box. The
+        //   comparison may answer `Greater` on that cut and each later one. If that cut is not the
+        //   first, the comparison may answer something else than `Greater` on some earlier cut and
+        //   it. [place_held.last_cut_is_always_taken]
+        // Where moreover all that the comparison may answer on these six cuts agrees with one total
+        //   preorder, none of the six is greater than the cut of the pieces.
+        //   [place_held.last_cut_is_always_taken]
         ensures pieces { IfOk result
             (λ p.
             IsAllowedCut (MayCompare C.Fn container_comparison_fn.now heuristic_fn.now) self.now
@@ -206,7 +236,10 @@ impl BinSection {
     /// Whether the two sections share a cell, for all numbers; an empty section shares none.
     #[tactic(auto, using(crate::proofs::lemmas::cuts::Boxes::sharing), unfolding(crate::specs::Boxes::start, crate::specs::Boxes::extent))]
     pub fn overlaps(&self, other: &BinSection) -> bool
+        // The answer is true exactly where some cell is in both sections, for all numbers.
+        //   [overlaps.corner_alone_is_tested]
         ensures shares { IsTrue result ↔ SharesCell self.now other.now }
+        // Where the answer is false, no cell is in both sections. [overlaps.corner_alone_is_tested]
         ensures apart { OnFalse result (AreApart self.now other.now) }
     {
         let ((ax, ay, az), (bx, by, bz)) = (spans(self), spans(other));
@@ -333,6 +366,9 @@ impl fmt::Display for BinSectionError {
     ghost use Rattle.std.specs.Prelude.{Some};
     ghost use Rattle.rectangle_pack_sections.specs.Texts.{fitting_text};
 
+    // What is printed is the text that `fitting_text` lists for the error: "Can not place a
+    //   rectangle inside of a bin that is wider than that rectangle.", or the same with "taller" or
+    //   "deeper".
     ghost output = { λ e. Some (fitting_text e) };
 
     fn fmt<W: fmt::Write>(&self, f: &mut fmt::Formatter<W>) -> fmt::Result {

@@ -10,6 +10,7 @@ pub use named::{Heuristic, UnknownHeuristic};
 
 /// The volume of the box, in cells.
 pub fn volume_heuristic(whd: WidthHeightDepth) -> u128
+    // The answer is width times height times depth, and never wraps.
     ensures { result ≡ volume_of whd }
 {
     whd.volume()
@@ -17,6 +18,8 @@ pub fn volume_heuristic(whd: WidthHeightDepth) -> u128
 
 /// By height, then by width, then by depth.
 pub fn height_heuristic(whd: WidthHeightDepth) -> u128
+    // The answer is height * 2^64 + width * 2^32 + depth, and never wraps.
+    //   [height_heuristic.width_is_forgotten]
     ensures { result ≡ whd.height * 2 ^ 64 + whd.width * 2 ^ 32 + whd.depth }
 {
     in_turn(whd.height(), whd.width(), whd.depth())
@@ -24,6 +27,7 @@ pub fn height_heuristic(whd: WidthHeightDepth) -> u128
 
 /// By width, then by height, then by depth.
 pub fn width_heuristic(whd: WidthHeightDepth) -> u128
+    // The answer is width * 2^64 + height * 2^32 + depth, and never wraps.
     ensures { result ≡ whd.width * 2 ^ 64 + whd.height * 2 ^ 32 + whd.depth }
 {
     in_turn(whd.width(), whd.height(), whd.depth())
@@ -31,6 +35,7 @@ pub fn width_heuristic(whd: WidthHeightDepth) -> u128
 
 /// By depth, then by width, then by height.
 pub fn depth_heuristic(whd: WidthHeightDepth) -> u128
+    // The answer is depth * 2^64 + width * 2^32 + height, and never wraps.
     ensures { result ≡ whd.depth * 2 ^ 64 + whd.width * 2 ^ 32 + whd.height }
 {
     in_turn(whd.depth(), whd.width(), whd.height())
@@ -38,6 +43,7 @@ pub fn depth_heuristic(whd: WidthHeightDepth) -> u128
 
 /// The sum of the three sides, in cells.
 pub fn side_sum_heuristic(whd: WidthHeightDepth) -> u128
+    // The answer is width plus height plus depth, and never wraps.
     ensures { result ≡ whd.width + whd.height + whd.depth }
 {
     whd.width() as u128 + whd.height() as u128 + whd.depth() as u128
@@ -45,6 +51,8 @@ pub fn side_sum_heuristic(whd: WidthHeightDepth) -> u128
 
 /// By the longest side, then by the middle one, then by the shortest.
 pub fn longest_side_heuristic(whd: WidthHeightDepth) -> u128
+    // The answer is the longest side * 2^64 + the middle one * 2^32 + the shortest one, and never
+    //   wraps.
     ensures { result ≡
         longest_side whd * 2 ^ 64 + middle_side whd * 2 ^ 32 + shortest_side whd }
 {
@@ -54,6 +62,8 @@ pub fn longest_side_heuristic(whd: WidthHeightDepth) -> u128
 
 /// By the shortest side, then by the middle one, then by the longest.
 pub fn shortest_side_heuristic(whd: WidthHeightDepth) -> u128
+    // The answer is the shortest side * 2^64 + the middle one * 2^32 + the longest one, and never
+    //   wraps.
     ensures { result ≡
         shortest_side whd * 2 ^ 64 + middle_side whd * 2 ^ 32 + longest_side whd }
 {
@@ -63,6 +73,7 @@ pub fn shortest_side_heuristic(whd: WidthHeightDepth) -> u128
 
 /// Height times depth: the area of the box as one sees it along the x axis, in cells.
 pub fn side_area_heuristic(whd: WidthHeightDepth) -> u128
+    // The answer is height times depth, and never wraps.
     ensures { result ≡ whd.height * whd.depth }
 {
     whd.height() as u128 * whd.depth() as u128

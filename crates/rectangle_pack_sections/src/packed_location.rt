@@ -83,6 +83,7 @@ impl PackedLocation {
 
     /// The corner's place on the x axis.
     pub fn x(&self) -> u32
+        // The answer is the corner's place on the x axis.
         ensures { result ≡ self.now.x }
     {
         self.x
@@ -90,6 +91,7 @@ impl PackedLocation {
 
     /// The corner's place on the y axis.
     pub fn y(&self) -> u32
+        // The answer is the corner's place on the y axis.
         ensures { result ≡ self.now.y }
     {
         self.y
@@ -97,6 +99,7 @@ impl PackedLocation {
 
     /// The corner's place on the z axis.
     pub fn z(&self) -> u32
+        // The answer is the corner's place on the z axis.
         ensures { result ≡ self.now.z }
     {
         self.z
@@ -104,6 +107,7 @@ impl PackedLocation {
 
     /// The extent on the x axis, in cells.
     pub fn width(&self) -> u32
+        // The answer is the width of the box.
         ensures { result ≡ self.now.whd.width }
     {
         self.whd.width()
@@ -111,6 +115,7 @@ impl PackedLocation {
 
     /// The extent on the y axis, in cells.
     pub fn height(&self) -> u32
+        // The answer is the height of the box.
         ensures { result ≡ self.now.whd.height }
     {
         self.whd.height()
@@ -118,6 +123,7 @@ impl PackedLocation {
 
     /// The extent on the z axis, in cells.
     pub fn depth(&self) -> u32
+        // The answer is the depth of the box.
         ensures { result ≡ self.now.whd.depth }
     {
         self.whd.depth()

@@ -30,9 +30,13 @@ impl Model for WidthHeightDepth {
 impl WidthHeightDepth {
     /// A size with cells. The caller sees to it that none of the three is 0.
     pub fn new(width: u32, height: u32, depth: u32) -> Self
+        // The width is not 0.
         requires wide { 0 < width }
+        // The height is not 0.
         requires high { 0 < height }
+        // The depth is not 0.
         requires deep { 0 < depth }
+        // The size has this width, height and depth.
         ensures { result ≡ record { width = width; height = height; depth = depth } }
     {
         any_size(width, height, depth)
@@ -40,6 +44,7 @@ impl WidthHeightDepth {
 
     /// The extent on the x axis, in cells.
     pub fn width(&self) -> u32
+        // The answer is the width.
         ensures { result ≡ self.now.width }
     {
         self.width
@@ -47,6 +52,7 @@ impl WidthHeightDepth {
 
     /// The extent on the y axis, in cells.
     pub fn height(&self) -> u32
+        // The answer is the height.
         ensures { result ≡ self.now.height }
     {
         self.height
@@ -54,6 +60,7 @@ impl WidthHeightDepth {
 
     /// The extent on the z axis, in cells.
     pub fn depth(&self) -> u32
+        // The answer is the depth.
         ensures { result ≡ self.now.depth }
     {
         self.depth
@@ -61,6 +68,7 @@ impl WidthHeightDepth {
 
     /// The number of cells.
     pub fn volume(&self) -> u128
+        // The answer is width times height times depth, and never wraps.
         ensures { result ≡ volume_of self.now }
     {
         self.width as u128 * self.height as u128 * self.depth as u128

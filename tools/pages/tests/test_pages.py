@@ -27,26 +27,31 @@ pub record Bin : Type 0 where
   pub first : side_of
   pub next : Bin
 '''
-ROWS = """# Proved
+WRITTEN = """# Proved
 
 ## `pack`
 
-| Call | Clause | Claim | Wrong body |
-|---|---|---|---|
-| `set` | `small` | Premise: `n` is small | |
-| | `done` | it is `n` then | `set.is_left`, `set.two` |
+### The calls
 
-### The call `set`
+{{claims set, reset}}
 
-| Function | Wrong body |
-|---|---|
-| `read` | `read.stops` |
+## `other`
 """
-CALL = "pub fn set(n: u32)\n    requires small { n < 5 }\n    ensures done { new ≡ n }\n{\n}\n"
+CALL = """pub fn NAME(n: u32)
+    // `n` is small.
+    requires small { n < 5 }
+    // It is `n` then,
+    //   whatever it was. [set.is_left, set.two]
+    // It stays.
+    ensures done { new ≡ n }
+    ensures { kept }
+{
+}
+"""
 
 
-def call_of(text: str) -> Call:
-    return Call(pathlib.Path("src/pack.rt"), items_of(text.splitlines())[0], "set", "pack")
+def call_of(name: str, text: str) -> Call:
+    return Call(pathlib.Path("src/pack.rt"), items_of(text.replace("NAME", name).splitlines())[0], name, "pack")
 
 
 class Rests(unittest.TestCase):
@@ -70,39 +75,34 @@ class Rests(unittest.TestCase):
         self.assertEqual([it.name for it in definitions_among(self.specs.roots("Bin.first"))], ["side"])
 
 
-class Proved(unittest.TestCase):
+class ProvedPage(unittest.TestCase):
     def setUp(self) -> None:
-        self.rows = proved.rows_of(ROWS.splitlines())
+        silent = "\n".join(line for line in CALL.splitlines() if "//" not in line)
+        self.proved = proved.Proved([call_of("set", CALL), call_of("reset", silent)], WRITTEN)
+
+    def test_claims_of_a_comment(self) -> None:
+        _, done, kept = call_of("set", CALL).clauses()
+        self.assertEqual(proved.claims_of(done.notes), [
+            proved.Claim("It is `n` then, whatever it was.", ["set.is_left", "set.two"]),
+            proved.Claim("It stays.", []),
+        ])
+        self.assertEqual((done.lines, kept.notes), (["    ensures done { new ≡ n }"], []))
 
     def test_rows(self) -> None:
-        first, second, private = self.rows
-        self.assertEqual((second.call, second.clauses, second.edits), ("set", ["done"], ["set.is_left", "set.two"]))
-        self.assertEqual((first.line, first.section, first.anchor), (7, "pack", "pack"))
-        self.assertEqual((private.call, private.edits, private.anchor), ("read", ["read.stops"], "the-call-set"))
-        self.assertEqual([it.of_call for it in self.rows], [True, True, False])
-
-    def test_a_row_that_is_right(self) -> None:
-        words, edits = {"n"}, ["set.is_left", "set.two"]
-        for row in self.rows[:2]:
-            self.assertEqual(list(proved.faults_of_row(row, call_of(CALL), edits, words)), [])
-
-    def test_rows_that_are_wrong(self) -> None:
-        first, second, _ = self.rows
-        named = call_of(CALL.replace("done", "made").replace("requires", "ensures"))
-        faults = [*proved.faults_of_row(first, named, [], {"n"}), *proved.faults_of_row(second, named, ["set.two"] * 2, set())]
-        self.assertEqual(faults, [
-            "the claim of `small` begins with \"Premise: \", or that is a `requires`, and not both",
-            "`set` has no clause `done`",
-            "there is no wrong body `set.is_left`",
-            "there is more than one wrong body `set.two`",
-            "no source has the word `n`",
+        self.assertEqual(self.proved.claims("set").split("\n"), [
+            "| Call | Claim | Clause | Wrong body |",
+            "|---|---|---|---|",
+            "| `set` | Premise: `n` is small. | `small` | |",
+            "| | It is `n` then, whatever it was. | `done` | `set.is_left`, `set.two` |",
+            "| | It stays. | `done` | |",
         ])
-        self.assertEqual(list(proved.faults_of_row(first, None, [], set())), ["there is no public call or law `set`"])
 
-    def test_a_clause_without_a_row(self) -> None:
-        more = call_of(CALL.replace("{\n}", "    ensures kept { old }\n{\n}"))
-        self.assertEqual(list(proved.faults_of_calls(self.rows, [more])), ["no row of `set` has the clause `kept`"])
-        self.assertEqual(list(proved.faults_of_calls([], [more]))[0], "no row has the call `set`")
+    def test_a_clause_that_reads_the_same_claims_the_same(self) -> None:
+        self.assertEqual(self.proved.told["reset", "small"], [proved.Claim("`n` is small.", [])])
+        self.assertEqual(self.proved.told["reset", "ensures"], [])
+
+    def test_places(self) -> None:
+        self.assertEqual(self.proved.places, {"set": ("pack", "the-calls"), "reset": ("pack", "the-calls")})
 
     def test_anchors(self) -> None:
         given: dict[str, int] = {}

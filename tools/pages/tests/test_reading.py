@@ -17,6 +17,8 @@ use std::fmt;
 pub fn set(to: &mut u32, n: u32) -> Result<(), Error>
     where
         u32: Copy,
+    // It is below five.
+    //   So it is small.
     requires small { n < 5 }
     ensures done { let two = "}" in
         // This is no end: }
@@ -32,6 +34,7 @@ impl<A: Fn(u8) -> u8> Model for Set<A>
 where
     A: Copy,
 {
+    // What it is.
     ghost Value = { Size };
 
     ghost view = { λ s.
@@ -98,6 +101,7 @@ class Rattle(unittest.TestCase):
         found = [(it.kind, it.name) for it in (small, done, last)]
         self.assertEqual(found, [("requires", "small"), ("ensures", "done"), ("ensures", "ensures")])
         self.assertEqual(small.lines, ["    requires small { n < 5 }"])
+        self.assertEqual((small.notes, done.notes), (["    // It is below five.", "    //   So it is small."], []))
         self.assertEqual(done.lines[1:], ["        // This is no end: }", "        to.new ≡ n }"])
         self.assertEqual(last.lines, ["    ensures { true }"])
 
@@ -105,7 +109,8 @@ class Rattle(unittest.TestCase):
         ghosts = self.model.ghosts()
         self.assertEqual(list(ghosts), ["Value", "view"])
         self.assertEqual(ghosts["Value"].lines, ["    ghost Value = { Size };"])
-        self.assertEqual((ghosts["view"].line, len(ghosts["view"].lines)), (30, 4))
+        self.assertEqual((ghosts["view"].line, len(ghosts["view"].lines)), (33, 4))
+        self.assertEqual((ghosts["Value"].notes, ghosts["view"].notes), (["    // What it is."], []))
 
     def test_impls(self) -> None:
         self.assertEqual(split_impl(self.model.head), ("Model", "Set<A>"))

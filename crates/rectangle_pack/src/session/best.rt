@@ -62,10 +62,27 @@ where
         GroupId: Ord + Clone + Drop,
         requires ids { ClonesEqual Id.is_clone Id.eq }
         requires bin_ids { ClonesEqual BinId.is_clone BinId.eq }
+        // Packed: the answer names a heuristic of the list, and all that `packed` of
+        //   `Session::pack` says where it is packed is so of a packing with this heuristic and
+        //   `contains_smallest_box`.
+        // Packed: this heuristic is the best of the list, in the words of `answer` of
+        //   `pack_rects_best`. What stood in the bins before does not count.
+        // `NumbersUsedUp`: exactly where the next number and the entries add up to more than the
+        //   greatest `u64`. The session is as it was.
+        // `NotEnoughBinSpace`: with each heuristic of the list the packing is refused for space.
+        //   The session is as it was, the order of its lists included.
+        // `OutOfMemory`: the numbers are not used up. The session is as it was.
+        // No other error is answered.
         ensures packed { PacksBest ⟦<Group<GroupId, Id> as Ord>⟧.cmp Id.cmp BinId.cmp
             heuristics.now groups.now self.old result self.new }
+        // Packed: every entry of every group is placed once, in the size of its id, and each group
+        //   in one bin; two groups that are excluded are in different bins.
+        // `NotEnoughBinSpace`: with each heuristic of the list, for some group each bin of the
+        //   session is excluded or the group's trial is stuck there, as the groups before it left
+        //   that bin.
         ensures promise { PacksBestAsPromised ⟦<Group<GroupId, Id> as Ord>⟧.cmp Id.cmp BinId.cmp
             heuristics.now groups.now self.old result self.new }
+        // With one heuristic in the list and without groups it succeeds.
         ensures no_groups { length heuristics.now ≡ 1 → groups.now.groups ≡ [] → IsOk result }
         ensures always { IsSession BinId.cmp self.new }
     {

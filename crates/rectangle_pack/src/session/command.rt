@@ -69,6 +69,8 @@ impl fmt::Display for SessionError {
     ghost use Rattle.std.specs.Prelude.{Some};
     ghost use Rattle.rectangle_pack.specs.SessionTexts.{session_text};
 
+    // What is printed is the text that `session_text` lists for the error, such as "There is no
+    //   such bin." for `UnknownBin`.
     ghost output = { λ e. Some (session_text e) };
 
     fn fmt<W: fmt::Write>(&self, f: &mut fmt::Formatter<W>) -> fmt::Result {
@@ -82,6 +84,7 @@ impl From<AllocError> for SessionError {
     ghost use Rattle.std.specs.Prelude.{◌≡◌};
     ghost use Rattle.rectangle_pack.specs.declared.session.command.SessionError.TheVariants.{OutOfMemory};
 
+    // The error is `OutOfMemory`.
     ghost from_gives = { λ e error. error ≡ OutOfMemory };
 
     fn from(_: AllocError) -> Self {
@@ -93,6 +96,7 @@ impl<T: Drop> From<AllocFailed<T>> for SessionError {
     ghost use Rattle.std.specs.Prelude.{◌≡◌};
     ghost use Rattle.rectangle_pack.specs.declared.session.command.SessionError.TheVariants.{OutOfMemory};
 
+    // The error is `OutOfMemory`.
     ghost from_gives = { λ e error. error ≡ OutOfMemory };
 
     fn from(_: AllocFailed<T>) -> Self {

@@ -112,6 +112,18 @@ where
     /// );
     /// ```
     pub fn cut_plan(&self, id: &BinId) -> Result<Option<Vec<CutStep, A>>, SessionError>
+        // A plan: the bin is there, its free sections and outstanding placements are from cuts of
+        //   it, and the plan lists a tree of straight cuts that has them as its leaves, those
+        //   without cells aside. A cut stands before its lower and then its upper part.
+        // A plan: a part with two boxes or more that have cells is cut, and any other part is not.
+        //   The cut stands at the first open plane of the part: by axis x, y, z, and then by the
+        //   least place. [look_along.plane_at_the_reach_is_passed_over,
+        //   take_off.first_box_is_taken_each_time]
+        // `None`: the bin is there, and no tree of straight cuts of it has these boxes as its
+        //   leaves, those without cells aside. [first_split.one_axis_is_tried,
+        //   cut_plan.coalesced_bin_has_no_plan]
+        // `UnknownBin`: there is no such bin.
+        // `OutOfMemory`: the bin is there. No other error is answered.
         ensures planned { IsPlanAnswer BinId.cmp self.now id.now result }
     {
         let Some(bin) = self.bins.get(id) else {

@@ -22,12 +22,15 @@ where
     H: Fn(WidthHeightDepth) -> u128,
     C: Fn([WidthHeightDepth; 3], [WidthHeightDepth; 3], &H) -> Ordering,
     A: Allocator + Copy,
+    // Where what always holds of a session holds before a transition, it holds after it, and the
+    //   next number does not fall.
     ensures transition { let groups = ⟦<Group<GroupId, Id> as Ord>⟧.cmp in
         let rules = rules_by Id.cmp BinId.cmp (answers H.Fn C.Fn heuristic.now comparison.now) in
         (command : Command Id BinId GroupId A) (reply : Reply) (old new : State Id BinId) →
         IsTransition groups rules command old reply new →
         IsSession BinId.cmp old →
         IsSession BinId.cmp new × (old.next ≤ new.next) }
+    // The same of a run of transitions.
     ensures run { let groups = ⟦<Group<GroupId, Id> as Ord>⟧.cmp in
         let rules = rules_by Id.cmp BinId.cmp (answers H.Fn C.Fn heuristic.now comparison.now) in
         (commands : List (Command Id BinId GroupId A)) (replies : List Reply) →

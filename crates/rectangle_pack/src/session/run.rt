@@ -46,10 +46,19 @@ where
         requires ids { ClonesEqual Id.is_clone Id.eq }
         requires bin_ids { ClonesEqual BinId.is_clone BinId.eq }
         requires callable { AreCallable H.Fn C.Fn heuristic.now comparison.now }
+        // There is one reply for each command, in their order. Each reply and what the command
+        //   makes of the session are as the call of its name says: `added`, `packed`, `released`,
+        //   `joined` or `swept`. [run.stops_at_the_first_refusal]
+        // After each command what always holds of a session holds.
+        //   [give_back.no_section_is_given_back]
+        // Each packing keeps what the clause `promise` of `Session::pack` says.
+        //   [place_group.one_bin_only_is_tried]
+        // An error leaves the session as it was.
         ensures promise { let order = ⟦<Group<GroupId, Id> as Ord>⟧.cmp in
             let may = answers H.Fn C.Fn heuristic.now comparison.now in
             let rules = rules_by Id.cmp BinId.cmp may in
             IsRunAnswer order rules commands.now self.old result self.new }
+        // What always holds of a session holds afterwards. [give_back.no_section_is_given_back]
         ensures always { IsSession BinId.cmp self.new }
     {
         let policy = Closures {

@@ -40,9 +40,13 @@ where
     /// This looks once at each free section of the bin, and once at each outstanding placement of
     /// the session.
     pub fn stats(&self, id: &BinId) -> Option<BinStats>
+        // The answer has the volume of the bin, the volumes of its free sections added up, those of
+        //   its outstanding placements added up, and how many there are of each, those without
+        //   cells counted too. It is `None` exactly where there is no such bin.
         ensures stats { let boxes = outstanding_in BinId.cmp self.now.outstanding id.now in
             result ≡ option_map (λ (b : Bin). stats_of b boxes)
             (lookup (is_at (BinId.cmp id.now)) self.now.bins) }
+        // The free and the placed volume add up to that of the bin.
         ensures whole { IfSome result (λ s. s.free_volume + s.placed_volume ≡ s.bin_volume) }
     {
         let bin = self.bins.get(id)?;

@@ -40,10 +40,28 @@ impl<A: Allocator + Copy> TargetBin<A> {
         H: Fn(WidthHeightDepth) -> u128,
         C: Fn([WidthHeightDepth; 3], [WidthHeightDepth; 3], &H) -> Ordering,
         requires callable { AreCallable H.Fn C.Fn heuristic.now comparison.now }
+        // Locations: there is one for each member, in their order.
+        //   [run_trial.member_without_a_section_is_skipped]
+        // Locations: each member in turn stands at the corner of the newest section that held it,
+        //   in its own size. [newest.first_section_is_taken]
+        // Locations: the section of each member is taken out of the list. The pieces of an allowed
+        //   cut, as `pieces` of `try_place` says it, stand at the end of the list, by falling rate,
+        //   at equal rates in the order right, above, behind; those without cells are left out. All
+        //   else in the bin stays. [place_noted.sections_are_joined]
+        // `None`: after steps for the members before it, some member is held by no section of the
+        //   list. [last_holding.search_misses_the_last]
+        // `None`: the bin is as it was, list order included. [undo_one.undone_section_goes_last]
+        // Locations and `None`: exactly the fit tests of the trial are added to the counter, which
+        //   stays at the greatest `u128`: for a member that is placed one for its section and one
+        //   for each section after it, for a stuck member one for each section.
+        //   [add.fit_tests_are_not_counted]
+        // An error leaves the bin and the counter as they were.
         ensures answer { IsTrialAnswer (answers H.Fn C.Fn heuristic.now comparison.now)
             self.old.bin members.now tests.old result self.new.bin tests.new }
+        // With m members and s free sections the counter grows by at most m * s + m * (m - 1).
         ensures most { tests.new ≤ tests.old +
             most_tests (length members.now) (length self.old.bin.sections) }
+        // Without members it succeeds.
         ensures no_members { length members.now ≡ 0 → IsOk result }
     {
         let mut buffers = Buffers::new(*self.available_bin_sections.allocator());

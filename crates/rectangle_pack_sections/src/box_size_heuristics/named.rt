@@ -48,6 +48,7 @@ impl Heuristic {
 
     /// What the heuristic of this name rates the size by.
     pub fn rate(&self, whd: WidthHeightDepth) -> u128
+        // The answer is that of the heuristic of this name.
         ensures { result ≡ rate_of self.now whd }
     {
         match self {
@@ -67,6 +68,7 @@ impl fmt::Display for Heuristic {
     ghost use Rattle.std.specs.Prelude.{Some};
     ghost use Rattle.rectangle_pack_sections.specs.Heuristics.{heuristic_text};
 
+    // What is printed is the text of the name, such as "height" for `Height`.
     ghost output = { λ h. Some (heuristic_text h) };
 
     fn fmt<W: fmt::Write>(&self, f: &mut fmt::Formatter<W>) -> fmt::Result {
@@ -90,6 +92,7 @@ pub struct UnknownHeuristic;
 impl fmt::Display for UnknownHeuristic {
     ghost use Rattle.std.specs.Prelude.{Some, codes};
 
+    // What is printed is "There is no heuristic of this name."
     ghost output = { λ _. Some (codes "There is no heuristic of this name.") };
 
     fn fmt<W: fmt::Write>(&self, f: &mut fmt::Formatter<W>) -> fmt::Result {
@@ -104,6 +107,8 @@ impl FromStr for Heuristic {
 
     ghost use Rattle.rectangle_pack_sections.specs.Heuristics.{IsNamed};
 
+    // A text is parsed to a heuristic exactly where it is the text of its name; any other text is
+    //   an error.
     ghost from_str_gives = { λ text answer. IsNamed text answer };
 
     fn from_str(text: &str) -> Result<Self, UnknownHeuristic> {
