@@ -23,6 +23,7 @@ abbrev pub Name : Type 0
 Name = List ℕ
 
 -- names are ordered by their bytes: by the first that differs, and a name stands before those that it begins
+-- Example: `A` before `a`, `a` before `aa`
 abbrev pub name_cmp : Name → Name → Ordering
 name_cmp = slice_cmp nat_cmp
 
@@ -50,7 +51,8 @@ abbrev pub found_text : {X : Type 0} → (X → List ℕ) → Option X → Name 
 found_text text (Some found) name = Some (text found)
 found_text text None name = refusal_text UnknownBin name
 
--- what a request makes of a desk, and the text that answers it
+-- what a request makes of a desk, by the library's transitions, and the text that answers it
+-- Example: a release of placement 3 that is outstanding: the session without it (`Releases`), the same boxes, `ok`
 abbrev pub Answers : Request → Desk Name → List ℕ → Desk Name → Type 0
 Answers Nothing old text new = (text ≡ []) × (new ≡ old)
 Answers (Bin name size) old text new = Replies (ChangesSession (AddsBin name_cmp name (size_of size))) name old text new

@@ -23,7 +23,7 @@ use Rattle.rectangle_pack.specs.Packing.{Rules}
 use Rattle.rectangle_pack.specs.Session.{State, Packs, outstanding_in, reply_of, packed_reply}
 use Rattle.rectangle_pack.specs.Stats.{stats_of}
 
--- a session, and the boxes to place; bins, boxes and groups have names of one kind
+-- a session, and the boxes that its next packing places; bins, boxes and groups have names of one kind
 pub record Desk (Name : Type 0) : Type 0 where
   pub session : State Name Name
   pub boxes : Collection Name Name
@@ -37,6 +37,7 @@ abbrev pub empty_desk : {Name : Type 0} → ℕ → Desk Name
 empty_desk first = record { session = record { bins = []; outstanding = []; next = first }; boxes = no_boxes }
 
 -- a call changes the session so, by its reply, and leaves the boxes to place as they are
+-- Example: with `AddsBin`: a bin is added, or there already, and the boxes stay
 abbrev pub ChangesSession : {Name : Type 0} → (State Name Name → Reply → State Name Name → Type 0)
     → Desk Name → Result (Unit {0}) SessionError → Desk Name → Type 0
 ChangesSession MayChange old result new = MayChange old.session (reply_of result) new.session × (new.boxes ≡ old.boxes)
@@ -59,18 +60,21 @@ module _ {Name : Type 0} (cmp : Name → Name → Ordering) where
   group_order (Grouped a) (Ungrouped b) = Greater
   group_order (Grouped a) (Grouped b) = cmp a b
 
-  -- a box of this name and size is to be placed: alone; or in these groups, in each as often as it is named, and all groups then
-  -- stand in order, each once
+  -- a box of this name and size is to be placed: alone (`PushesAlone`); or in these groups, in each as often as it is named
+  -- (`PushesInto`), and all groups then stand in order, each once
   abbrev pub TakesBox : Name → Size → Option (List Name) → Collection Name Name → Collection Name Name → Type 0
   TakesBox name size None old new = PushesAlone cmp group_order old new name size
   TakesBox name size (Some groups) old new =
       PushesInto cmp group_order old new name groups size × IsStrictlySortedBy group_order (keys_of new.groups)
 
   -- what a packing goes by: volumes, and the cuts that `contains_smallest_box` prefers by them
+  -- Example: `named_rules` of `Volume`
   abbrev pub volume_rules : Rules Name Name
   volume_rules = named_rules cmp cmp Volume
 
-  -- the boxes are packed, and where that is done they are forgotten, with the pairs of groups; else both are kept
+  -- the boxes are packed by these rules (`Packs`), and where that is done they are forgotten, with the pairs of groups;
+  -- else both are kept
+  -- Example: after `packed 2` there is nothing to place
   abbrev pub PacksBoxes : Desk Name → Result Packed SessionError → Desk Name → Type 0
   PacksBoxes old (Ok numbers) new =
       Packs group_order volume_rules old.boxes old.session (packed_reply (Ok numbers)) new.session × (new.boxes ≡ no_boxes)

@@ -10,30 +10,37 @@ use Rattle.rectangle_pack.specs.declared.session.command.SessionError.TheVariant
 use Rattle.rectangle_pack.specs.declared.session.stats.BinStats.{BinStats}
 
 -- three numbers in decimal, a space behind each but the last, and behind that the byte
+-- Example: 5, 0, 12 and the byte of a comma: `5 0 12,`
 abbrev pub three_text : List ℕ → ℕ → List ℕ
 three_text numbers behind = decimal (slice_index numbers 0) ++ 32 ∷ decimal (slice_index numbers 1) ++ 32 ∷ decimal (slice_index numbers 2) ++ behind ∷ []
 
 -- a box by its least corner and its sides, to the end of the line
+-- Example: 0, 3, 0 and 5, 2, 1: `0 3 0 5 2 1` and a line feed
 abbrev pub box_text : List ℕ → List ℕ → List ℕ
 box_text corner sides = three_text corner 32 ++ three_text sides 10
 
 -- the line of a free section, and the end of the line of a placement
+-- Example: as `box_text`
 abbrev pub cuboid_text : Cuboid → List ℕ
 cuboid_text c = box_text (c.x ∷ c.y ∷ c.z ∷ []) (c.whd.width ∷ c.whd.height ∷ c.whd.depth ∷ [])
 
 -- the line of a placement, whose names are lists of bytes
+-- Example: `4 one a 0 3 0 5 2 1` and a line feed
 abbrev pub placement_text : Outstanding (List ℕ) (List ℕ) → List ℕ
 placement_text p = decimal p.number ++ 32 ∷ p.id ++ 32 ∷ p.bin ++ 32 ∷ cuboid_text p.location
 
 -- the placements of a packing, a line each, and how many they are
+-- Example: none: `packed 0` and a line feed
 abbrev pub packed_text : List (Outstanding (List ℕ) (List ℕ)) → List ℕ
 packed_text placements = flat_map placement_text placements ++ codes "packed " ++ decimal (length placements) ++ codes "\n"
 
 -- free sections, a line each, and how many there are
+-- Example: a new bin 5x2x1: `0 0 0 5 2 1`, and `sections 1`
 abbrev pub sections_text : List Cuboid → List ℕ
 sections_text sections = flat_map cuboid_text sections ++ codes "sections " ++ decimal (length sections) ++ codes "\n"
 
 -- what is free and what is placed in a bin, in one line
+-- Example: `free 84 in 2, placed 16 in 1, bin 100` and a line feed
 abbrev pub sums_text : BinStats → List ℕ
 sums_text s =
     codes "free " ++ decimal s.free_volume ++ codes " in " ++ decimal s.free_sections
@@ -41,6 +48,7 @@ sums_text s =
     ++ codes ", bin " ++ decimal s.bin_volume ++ codes "\n"
 
 -- why the session refused a line that names this bin, or this placement; refused memory ends the run, and has no text
+-- Example: `UnknownPlacement` and `7`: `refused: placement 7 is unknown`
 abbrev pub refusal_text : SessionError → List ℕ → Option (List ℕ)
 refusal_text DuplicateBin named = Some (codes "refused: bin " ++ named ++ codes " exists\n")
 refusal_text UnknownBin named = Some (codes "refused: bin " ++ named ++ codes " is unknown\n")

@@ -27,6 +27,7 @@ MayEnd n lines NoMemory = (n ≡ 1) ⊎ (0 < length lines)
 MayEnd n lines IoFailed = ⊥
 
 -- the last line of a run that ends so, where it has one of its own
+-- Example: `line 8 is bad`
 abbrev pub last_line : Outcome → List ℕ
 last_line Done = []
 last_line (BadLine number) = codes "line " ++ decimal number ++ codes " is bad\n"
@@ -35,6 +36,8 @@ last_line IoFailed = []
 
 -- a transcript of an input: on a desk without bins and boxes its first lines are answered, and then the run ends; what is
 -- printed is the text of these answers, and the last line
+-- Example: three lines, `bin a 100 100 1`, `rect one 50 90 1`, `pack`: `ok`, `ok`, `0 one a 0 0 0 50 90 1`, `packed 1`,
+-- and `Done`
 pub record IsTranscript (input : List ℕ) (printed : List ℕ) (outcome : Outcome) : Type 0 where
   pub answered : List (List ℕ)
   pub left : List (List ℕ)
@@ -45,8 +48,8 @@ pub record IsTranscript (input : List ℕ) (printed : List ℕ) (outcome : Outco
   pub ends : MayEnd (1 + length answered) left outcome
   pub printed_is : printed ≡ text ++ last_line outcome
 
--- a transcript of the input is printed behind what was there before, and nothing else; where that is not known, nothing is said of
--- what is printed, and of a run that ends as `IoFailed` nothing at all
+-- a transcript of the input is printed behind what was there before, and nothing else; where that is not known, nothing
+-- is said of what is printed, and of a run that ends as `IoFailed` nothing at all
 abbrev pub PrintsTranscript : (before after : Option (List ℕ)) → Outcome → (input : List ℕ) → Type 0
 PrintsTranscript before after IoFailed input = ⊤
 PrintsTranscript before after outcome input = (printed : List ℕ) × IsTranscript input printed outcome × Appends before after printed

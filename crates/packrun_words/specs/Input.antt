@@ -3,6 +3,7 @@ use Rattle.std.specs.Prelude.{ℕ, ◌==◌, List, [], ◌∷◌, if◌then◌el
 use Rattle.packrun_words.specs.Words.{put_before}
 
 -- the lines of an input, in order: each ends with a line feed, which is no part of it, or with the input
+-- Example: `a`, LF, LF, `b`: `a`, an empty line, `b`
 abbrev pub lines_of : List ℕ → List (List ℕ)
 lines_of [] = []
 lines_of (b ∷ bs) = if b == 10 then [] ∷ lines_of bs else put_before b (lines_of bs)

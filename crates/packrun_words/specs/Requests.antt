@@ -3,7 +3,8 @@ use Rattle.std.specs.Prelude.{◌≡◌, ◌≢◌, ℕ, ◌≤◌, ◌^◌, Lis
 use Rattle.packrun_words.specs.Words.{may_stand, words_in, Writes}
 use Rattle.packrun_words.specs.declared.command.Size.{Size}
 
--- what a line asks for; names are lists of bytes
+-- what a line asks for, with the names as lists of bytes: nothing, a new bin, a box in groups, an excluded pair, a
+-- packing, a release, a list of sections, a join, a sweep, sums
 pub data Request : Type 0 where
   -- nothing: a line without words
   Nothing : Request
@@ -32,8 +33,9 @@ pub record WriteSize (width height depth : List ℕ) (size : Size) : Type 0 wher
   pub height_is : Writes (2 ^ 32) height size.height
   pub depth_is : Writes (2 ^ 32) depth size.depth
 
--- what words say: no words nothing, and else the first word is a command, and the others are all that it takes: numbers below
--- their bounds, and for `exclude` two groups that differ
+-- what words say: no words nothing, and else the first word is a command, and the others are all that it takes: numbers
+-- below their bounds, and for `exclude` two groups that differ
+-- Example: `bin`, `a`, `7`, `02`, `1`: a new bin `a` of 7x2x1
 abbrev pub Say : List (List ℕ) → Request → Type 0
 Say words Nothing = words ≡ []
 Say words (Bin name size) = (w h d : List ℕ) × (words ≡ codes "bin" ∷ name ∷ w ∷ h ∷ d ∷ []) × WriteSize w h d size
@@ -52,11 +54,12 @@ pub record IsPlain (line : List ℕ) : Type 0 where
   pub short : length line ≤ 4096
   pub bytes : All (λ b. may_stand b ≡ true) line
 
--- a line, without its line feed, asks for this: it is not too long, its bytes may stand in a line, and its words say so
+-- a line, without its line feed, asks for this: it is plain (`IsPlain`), and its words say so (`Say`)
 pub record Asks (line : List ℕ) (request : Request) : Type 0 where
   pub plain : IsPlain line
   pub says : Say (words_in line) request
 
 -- a line is bad: there is no request that it asks for
+-- Example: `exclude A A`, `bin a 1 1`, and `pack` in upper case
 abbrev pub IsBad : List ℕ → Type 0
 IsBad line = (request : Request) → ¬ Asks line request

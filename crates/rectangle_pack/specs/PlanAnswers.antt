@@ -13,8 +13,9 @@ use Rattle.rectangle_pack_plans.specs.CutPlans.{IsCutPlan}
 use Rattle.rectangle_pack.specs.Session.{State, boxes_of}
 
 module _ {Id B : Type 0} (bin_cmp : B → B → Ordering) (state : State Id B) (id : B) where
-  -- a plan, which is that of the bin's boxes; or none, where no tree of cuts has them as its leaves; or the bin is not there; or
-  -- the answer is want of memory, and the bin is there
+  -- what is answered where the cutting plan of a bin is asked for. A plan: the bin is there, and this is the plan of
+  -- its boxes (`IsCutPlan`, `boxes_of`). `None`: the bin is there, and its boxes are not from cuts of it
+  -- (`IsFromCuts`). `UnknownBin`: the bin is not there. `OutOfMemory`: the bin is there. There is no other answer
   abbrev pub IsPlanAnswer : {A : Type 0} → Result (Option (Vec CutStep A)) SessionError → Type 0
   IsPlanAnswer (Ok (Some plan)) =
       (bin : Bin) × (lookup (is_at (bin_cmp id)) state.bins ≡ Some bin)

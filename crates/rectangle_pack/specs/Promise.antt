@@ -19,8 +19,10 @@ use Rattle.rectangle_pack_rules.specs.Placed.{ArePlacedWhole}
 use Rattle.rectangle_pack.specs.Session.{State, IsSession, numbered, IsTransition, IsRun}
 
 module _ {Id B G : Type 0} (group_cmp : Group G Id → Group G Id → Ordering) (rules : Rules Id B) where
-  -- the new placements place every entry of every group once, in its size, each group in one bin: each group has one home, and
-  -- groups that are excluded have different ones
+  -- the new placements place every entry of every group once, in its size, each group in one bin. Each group of the
+  -- collection has one home, a bin; the placements are those of one group after another, all of a group in its home
+  -- (`ArePlacedWhole`). Groups that are excluded have different homes (`AreKeptApart`). The placements stand behind the
+  -- outstanding ones, under the next numbers
   pub record PlacesWhole (all : Collection Id G) (old new : State Id B) : Type 0 where
     pub placements : List (Placement Id B)
     pub outstanding : new.outstanding ≡ old.outstanding ++ numbered old.next placements
@@ -30,6 +32,8 @@ module _ {Id B G : Type 0} (group_cmp : Group G Id → Group G Id → Ordering) 
     pub apart : AreKeptApart group_cmp rules.bin_cmp all.partners homes
 
   -- for some group, each bin is excluded or the group's trial gets stuck there, as the groups before it left that bin
+  -- (`DoesNotTake`): with some answers that the closures may give, a packing into these bins is refused
+  -- (`PackingRefused`)
   pub record NoBinTakes (all : Collection Id G) (bins : List (B × Bin)) : Type 0 where
     pub left : List (B × Bin)
     pub refused : PackingRefused group_cmp rules all bins left
@@ -37,24 +41,25 @@ module _ {Id B G : Type 0} (group_cmp : Group G Id → Group G Id → Ordering) 
         × DoesNotTake rules (excludes_by group_cmp rules.bin_cmp all.partners refused.stops.homes refused.stops.next.0)
         left refused.stops.next.1 id tests
 
-  -- of a packing: one that is kept places whole; one that is refused for space found no bin for some group; of other replies
-  -- nothing is said here: which ones may come is said by `IsTransition`
+  -- of a packing. Where the reply is `Packed`: `PlacesWhole`. Where it is the refusal `NotEnoughBinSpace`:
+  -- `NoBinTakes`. Of other replies nothing is said here; which of them may come is said by `IsTransition`
   abbrev pub PacksAsPromised : Collection Id G → State Id B → Reply → State Id B → Type 0
   PacksAsPromised all old (Packed numbers) new = PlacesWhole all old new
   PacksAsPromised all old (Refused NotEnoughBinSpace) new = NoBinTakes all old.bins
   PacksAsPromised all old _ new = ⊤
 
-  -- one command, with its reply and the states before and after it: it does what is said of it (`done`); after it each bin
-  -- cell lies in exactly one free section or outstanding placement, leaves of a straight-cut tree until that bin is coalesced
-  -- (`always`); a packing that is kept places every group entry once, in its size, each group in one bin, and one is refused
-  -- for space only where, for some group, each bin is excluded or its trial gets stuck there (`packs`)
+  -- one command, with its reply and the states before and after it: it is a transition (`done`, `IsTransition`); after
+  -- it each bin cell lies in exactly one free section or outstanding placement, leaves of a straight-cut tree until
+  -- that bin is coalesced (`always`, `IsSession`); a packing that is kept places every group entry once, in its size,
+  -- each group in one bin, and one is refused for space only where, for some group, each bin is excluded or its trial
+  -- gets stuck there (`packs`, `PacksAsPromised`)
   pub record KeepsPromise {A : Type 0} (command : Command Id B G A) (old : State Id B) (reply : Reply) (new : State Id B) : Type 0 where
     pub done : IsTransition group_cmp rules command old reply new
     pub always : IsSession rules.bin_cmp new
     pub packs : (all : Collection Id G) → command ≡ Pack all → PacksAsPromised all old reply new
 
-  -- what is answered to a list of commands: one reply for each, and each command keeps the promise in the state that the one
-  -- before it left; or an error, and the state is as it was
+  -- what `run` answers. Replies: there is a run (`IsRun`) with these replies, and each of its commands keeps the
+  -- promise (`KeepsPromise`). An error: the state is as it was
   abbrev pub IsRunAnswer : {A E : Type 0} → List (Command Id B G A) → State Id B → Result (Vec Reply A) E → State Id B → Type 0
   IsRunAnswer commands old (Ok replies) new = IsRun KeepsPromise commands old replies.items new
   IsRunAnswer commands old (Err error) new = new ≡ old

@@ -24,7 +24,7 @@ use Rattle.rectangle_pack_lists.specs.Joining.{IsJoined, IsSwept}
 use Rattle.rectangle_pack_groups.specs.Groups.{Collection, entries_of}
 use Rattle.rectangle_pack_rules.specs.Packing.{Rules, PackingDone, PackingRefused}
 
--- a session: its bins by id, the outstanding placements, and the number of the next placement
+-- a session: its bins by id, the outstanding placements in the order of numbers, and the number of the next placement
 pub record State (Id B : Type 0) : Type 0 where
   pub bins : List (B × Bin)
   pub outstanding : List (Outstanding Id B)
@@ -38,9 +38,10 @@ outstanding_in bin_cmp outstanding id = map (λ r. r.location) (filter (λ r. is
 abbrev pub boxes_of : {Id B : Type 0} → (B → B → Ordering) → List (Outstanding Id B) → B → Bin → List Cuboid
 boxes_of bin_cmp outstanding id bin = bin.sections ++ outstanding_in bin_cmp outstanding id
 
--- what holds of a session always: the boxes of each bin cover it, so that each cell is in exactly one free section or
--- outstanding placement, and until it is coalesced they are from cuts of it; each placement's bin is there; numbers rise,
--- and are below the next one
+-- what holds of a session always. The boxes of each bin cover it, so that each cell is in exactly one free section or
+-- outstanding placement (`covered`). While a bin does not count as coalesced, they are from cuts of it (`from_cuts`).
+-- The bin of each outstanding placement is there (`known`). The numbers of the outstanding placements rise (`rising`),
+-- and each is below the next one (`below`)
 pub record IsSession {Id B : Type 0} (bin_cmp : B → B → Ordering) (state : State Id B) : Type 0 where
   pub covered : (id : B) (bin : Bin) → lookup (is_at (bin_cmp id)) state.bins ≡ Some bin
       → CoverBin (boxes_of bin_cmp state.outstanding id bin) bin.size
@@ -50,12 +51,12 @@ pub record IsSession {Id B : Type 0} (bin_cmp : B → B → Ordering) (state : S
   pub rising : AllPairs (λ a b. a.number < b.number) state.outstanding
   pub below : All (λ r. r.number < state.next) state.outstanding
 
--- placements, numbered from n on
+-- placements, with the numbers n, n + 1, and so on
 abbrev pub numbered : {Id B : Type 0} → ℕ → List (Placement Id B) → List (Outstanding Id B)
 numbered n [] = []
 numbered n (p ∷ ps) = record { number = n; id = p.id; bin = p.bin; location = p.location } ∷ numbered (n + 1) ps
 
--- a placement of this number is outstanding
+-- a placement of this number is outstanding; the definition names it, and those before and after it
 pub record IsOutstanding {Id B : Type 0} (outstanding : List (Outstanding Id B)) (number : ℕ) : Type 0 where
   pub before : List (Outstanding Id B)
   pub found : Outstanding Id B
@@ -63,7 +64,7 @@ pub record IsOutstanding {Id B : Type 0} (outstanding : List (Outstanding Id B))
   pub splits : outstanding ≡ before ++ found ∷ after
   pub number_is : found.number ≡ number
 
--- a box is given back: it is put at the end of the list of its bin, unless it has no cells
+-- a box is given back: it stands at the end of the list of its bin. A box without cells changes nothing
 abbrev pub GivesBack : {B : Type 0} → (B → B → Ordering) → List (B × Bin) → B → Cuboid → List (B × Bin) → Type 0
 GivesBack bin_cmp old id box new =
     MatchBool (has_cells box)
@@ -71,8 +72,9 @@ GivesBack bin_cmp old id box new =
     × (new ≡ set_value (is_at (bin_cmp id)) old (record bin { sections = bin.sections ++ box ∷ [] })))
     (new ≡ old)
 
--- a packing that is done and kept: its lists are the bins', its placements follow the outstanding ones under the next numbers, and
--- the answer has the first of these and how many they are
+-- a packing that is done and kept. The bins have its lists. Its placements stand behind the outstanding ones, under the
+-- next numbers. There is one for each entry, and the next number is greater by as many. The answer has the old next
+-- number, and how many placements there are
 pub record IsKept {Id B G : Type 0} (group_cmp : Group G Id → Group G Id → Ordering) (rules : Rules Id B)
     (all : Collection Id G) (old : State Id B) (numbers : PackedNumbers) (new : State Id B) : Type 0 where
   pub placements : List (Placement Id B)
@@ -84,8 +86,8 @@ pub record IsKept {Id B G : Type 0} (group_cmp : Group G Id → Group G Id → O
   pub next : new.next ≡ old.next + entries_of all
 
 module _ {Id B : Type 0} (bin_cmp : B → B → Ordering) where
-  -- a bin is added: the id is new, and under a key that equals it stands a new bin; or the id is there; or
-  -- the reply is want of memory
+  -- a bin is added: the id is new, and under a key that equals it stands a new bin; or the id is there; or the reply is
+  -- want of memory
   abbrev pub AddsBin : B → Size → State Id B → Reply → State Id B → Type 0
   AddsBin id size old Done new =
       (lookup (is_at (bin_cmp id)) old.bins ≡ None)
@@ -94,8 +96,8 @@ module _ {Id B : Type 0} (bin_cmp : B → B → Ordering) where
   AddsBin id size old (Refused OutOfMemory) new = (lookup (is_at (bin_cmp id)) old.bins ≡ None) × (new ≡ old)
   AddsBin id size old _ new = ⊥
 
-  -- a placement is released: it is no longer outstanding, and its box is given back; or the number is not outstanding; or the
-  -- reply is want of memory, and the box has cells
+  -- a placement is released: it is no longer outstanding, and its box is given back; or the number is not outstanding;
+  -- or the reply is want of memory, and the box has cells
   abbrev pub Releases : ℕ → State Id B → Reply → State Id B → Type 0
   Releases number old Done new =
       (at : IsOutstanding old.outstanding number) × GivesBack bin_cmp old.bins at.found.bin at.found.location new.bins
@@ -105,8 +107,8 @@ module _ {Id B : Type 0} (bin_cmp : B → B → Ordering) where
       (at : IsOutstanding old.outstanding number) × (has_cells at.found.location ≡ true) × (new ≡ old)
   Releases number old _ new = ⊥
 
-  -- the free sections of a bin become a list that `MayLeave` allows, and the bin counts as coalesced, also where nothing was
-  -- joined; or the id is not there
+  -- the free sections of a bin become a list that `MayLeave` allows, and the bin counts as coalesced, also where
+  -- nothing was joined; or the id is not there
   abbrev pub Coalesces : (List Cuboid → List Cuboid → Type 0) → B → State Id B → Reply → State Id B → Type 0
   Coalesces MayLeave id old Done new =
       (bin : Bin) × (lookup (is_at (bin_cmp id)) old.bins ≡ Some bin) × (joined : List Cuboid) × MayLeave bin.sections joined
@@ -115,9 +117,9 @@ module _ {Id B : Type 0} (bin_cmp : B → B → Ordering) where
   Coalesces MayLeave id old _ new = ⊥
 
 module _ {Id B G : Type 0} (group_cmp : Group G Id → Group G Id → Ordering) (rules : Rules Id B) where
-  -- a collection is packed. Where the next number and the entries add up to 2^64 or more it is refused, so that the greatest
-  -- number is never given. Else the packing is done and kept; or it is refused for space; or, if there is a group, the
-  -- reply is want of memory. What is refused changes nothing
+  -- a collection is packed. Where the next number and the entries add up to 2^64 or more it is refused, so that the
+  -- greatest number is never given. Else the packing is done and kept; or it is refused for space; or, if there is a
+  -- group, the reply is want of memory. What is refused changes nothing
   abbrev pub Packs : Collection Id G → State Id B → Reply → State Id B → Type 0
   Packs all old (Packed numbers) new = (old.next + entries_of all < 2 ^ 64) × IsKept group_cmp rules all old numbers new
   Packs all old (Refused NumbersUsedUp) new = (2 ^ 64 ≤ old.next + entries_of all) × (new ≡ old)
@@ -127,7 +129,9 @@ module _ {Id B G : Type 0} (group_cmp : Group G Id → Group G Id → Ordering) 
   Packs all old (Refused OutOfMemory) new = (old.next + entries_of all < 2 ^ 64) × (0 < length all.groups) × (new ≡ old)
   Packs all old _ new = ⊥
 
-  -- a transition: a command in a state, its reply, and the state after it
+  -- a transition of the session: a command in a state, its reply, and the state after it, as `AddsBin`, `Packs`,
+  -- `Releases` or `Coalesces` says it of this command. What coalescing leaves of the list is `IsJoined idx lo hi` or
+  -- `IsSwept`
   abbrev pub IsTransition : {A : Type 0} → Command Id B G A → State Id B → Reply → State Id B → Type 0
   IsTransition (AddBin id width height depth) old reply new =
       AddsBin rules.bin_cmp id (record { width = width; height = height; depth = depth }) old reply new
@@ -136,7 +140,7 @@ module _ {Id B G : Type 0} (group_cmp : Group G Id → Group G Id → Ordering) 
   IsTransition (Coalesce id idx lo hi) old reply new = Coalesces rules.bin_cmp (IsJoined idx lo hi) id old reply new
   IsTransition (CoalesceAll id) old reply new = Coalesces rules.bin_cmp IsSwept id old reply new
 
--- the answer of a call as a reply
+-- the answer of a call that answers nothing else, as a reply
 abbrev pub reply_of : Result (Unit {0}) SessionError → Reply
 reply_of (Ok u) = Done
 reply_of (Err error) = Refused error
@@ -147,8 +151,9 @@ packed_reply (Ok numbers) = Packed numbers
 packed_reply (Err error) = Refused error
 
 module _ {C R S : Type 0} (Keeps : C → S → R → S → Type 0) where
-  -- commands and replies, one for each, with a state between each two: the given relation holds of each command, the state
-  -- before it, its reply and the state after it
+  -- a run: one reply for each command, and a state after each. `Keeps` holds of each command, the state before it, its
+  -- reply and the state after it; `old` is the state before the first, `new` the one after the last. For a run of
+  -- transitions `Keeps` is `IsTransition`; for what `run` answers it is `KeepsPromise`
   abbrev pub IsRun : List C → S → List R → S → Type 0
   IsRun [] old [] new = new ≡ old
   IsRun [] old (reply ∷ replies) new = ⊥

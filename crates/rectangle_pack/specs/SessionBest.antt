@@ -12,9 +12,12 @@ use Rattle.rectangle_pack.specs.Promise.{PlacesWhole, NoBinTakes}
 use Rattle.rectangle_pack.specs.Session.{State, IsKept}
 
 module _ {Id B G : Type 0} (group_cmp : Group G Id → Group G Id → Ordering) (cmp : Id → Id → Ordering) (bin_cmp : B → B → Ordering) where
-  -- the collection is packed with the best heuristic of the list, and kept. Or the next number and the entries add up to 2^64 or
-  -- more; or the packing is refused for space, as with each heuristic of the list; or memory is refused. What is refused changes
-  -- nothing
+  -- what a session makes of a packing with the best of several heuristics, by cases on the answer. A heuristic and
+  -- numbers: the packing with this heuristic is done and kept (`IsKept`), and this is the best of the list
+  -- (`IsBestOf`), with the use that its placements make of the bins; what stood there before does not count.
+  -- `NumbersUsedUp`: the next number and the entries add up to 2^64 or more; of all other answers they add up to less.
+  -- `NotEnoughBinSpace`: with each heuristic of the list the packing is refused (`IsRefusedWith`). `OutOfMemory`:
+  -- nothing more is said. On each of these the state is as it was. No other error comes
   abbrev pub PacksBest : List Heuristic → Collection Id G → State Id B → Result (Heuristic × Packed) SessionError → State Id B → Type 0
   PacksBest heuristics all old (Ok (best, numbers)) new =
       (old.next + entries_of all < 2 ^ 64) × (kept : IsKept group_cmp (named_rules cmp bin_cmp best) all old numbers new)
@@ -25,8 +28,8 @@ module _ {Id B G : Type 0} (group_cmp : Group G Id → Group G Id → Ordering) 
   PacksBest heuristics all old (Err OutOfMemory) new = (old.next + entries_of all < 2 ^ 64) × (new ≡ old)
   PacksBest heuristics all old _ new = ⊥
 
-  -- what the headline says of it: one that is kept places whole; one that is refused for space found no bin for some group, with
-  -- each heuristic of the list
+  -- what the promise says of it. A heuristic and numbers: `PlacesWhole`. `NotEnoughBinSpace`: `NoBinTakes` with each
+  -- heuristic of the list. Of other errors nothing is said here
   abbrev pub PacksBestAsPromised : List Heuristic → Collection Id G → State Id B → Result (Heuristic × Packed) SessionError → State Id B → Type 0
   PacksBestAsPromised heuristics all old (Ok (best, numbers)) new = PlacesWhole group_cmp (named_rules cmp bin_cmp best) all old new
   PacksBestAsPromised heuristics all old (Err NotEnoughBinSpace) new =

@@ -4,7 +4,7 @@ use Rattle.rectangle_pack.specs.declared.session.command.SessionError.{SessionEr
 use Rattle.rectangle_pack.specs.declared.session.command.SessionError.TheVariants.{DuplicateBin, UnknownBin, UnknownPlacement, NumbersUsedUp, NotEnoughBinSpace}
 use Rattle.rectangle_pack.specs.declared.session.command.SessionError.TheVariants.{OutOfMemory}
 
--- why a session refused a call
+-- the text that a `SessionError` prints: why a session refused a call
 abbrev pub session_text : SessionError → List ℕ
 session_text DuplicateBin = codes "The bin is there already."
 session_text UnknownBin = codes "There is no such bin."

@@ -5,7 +5,7 @@ use Rattle.rectangle_pack_bins.specs.declared.target_bin.PushBinSectionError.The
 use Rattle.rectangle_pack_sections.specs.Boxes.{Cuboid, SharesCell, AreApart, IsInside}
 use Rattle.rectangle_pack_sections.specs.Bins.{Bin, IsAccepted}
 
--- the first of the sections that shares a cell with the box
+-- `first` is the first of the sections that shares a cell with the box: each section before it is apart from the box
 pub record IsFirstSharing (sections : List Cuboid) (box first : Cuboid) : Type 0 where
   pub before : List Cuboid
   pub after : List Cuboid
@@ -13,7 +13,10 @@ pub record IsFirstSharing (sections : List Cuboid) (box first : Cuboid) : Type 0
   pub shares : SharesCell first box
   pub apart : All (λ s. AreApart s box) before
 
--- accepted: the box stands last in the list; else the first refusal that fits, and the bin as it was
+-- what a checked push answers, by cases. Accepted: the old bin accepts the box (`IsAccepted`), and it stands last in
+-- the new list. `OutOfBounds`: the box is not inside the bin. `Overlaps`: it is inside, and the answer names the first
+-- section that shares a cell with it (`IsFirstSharing`). `OutOfMemory`: the bin would accept it. Each refusal names the
+-- box and leaves the bin as it was
 abbrev pub IsPushAnswer : Bin → Cuboid → Result (Unit {0}) PushBinSectionError → Bin → Type 0
 IsPushAnswer old box (Ok u) new = IsAccepted old box × (new ≡ record old { sections = old.sections ++ box ∷ [] })
 IsPushAnswer old box (Err (OutOfBounds refused)) new = (¬ IsInside old.size box) × (refused ≡ box) × (new ≡ old)

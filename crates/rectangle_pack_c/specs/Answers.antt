@@ -21,17 +21,17 @@ use Rattle.rectangle_pack_c.specs.Heuristics.{heuristic_number}
 abbrev pub box_at : RpBox → RpPlacement → Cuboid
 box_at b p = record { x = p.x; y = p.y; z = p.z; whd = box_size b }
 
--- the corner of a box in a bin
+-- a location in a bin as a placement: the corner of a box
 abbrev pub corner_of : ℕ → Cuboid → RpPlacement
 corner_of bin location = record { bin = bin; x = location.x; y = location.y; z = location.z }
 
--- box i is this one, and this is its placement
+-- b is box i, and p is placement i
 pub record Stands (boxes : List RpBox) (placements : List RpPlacement) (i : ℕ) (b : RpBox) (p : RpPlacement) : Type 0 where
   pub box : slice_get boxes i ≡ Some b
   pub at : slice_get placements i ≡ Some p
 
--- there are as many placements as boxes; each box stands inside its bin; no two in one bin share a cell; those of one group
--- above 0 are in one bin
+-- there are as many placements as boxes; each box stands inside the bin that its placement names; no two boxes in one
+-- bin share a cell; boxes of one group above 0 are in one bin
 pub record ArePlaced (bins : List RpBin) (boxes : List RpBox) (placements : List RpPlacement) : Type 0 where
   pub as_many : length placements ≡ length boxes
   pub inside : (i : ℕ) (b : RpBox) (p : RpPlacement) → Stands boxes placements i b p
@@ -41,14 +41,15 @@ pub record ArePlaced (bins : List RpBin) (boxes : List RpBox) (placements : List
   pub together : (i j : ℕ) (a b : RpBox) (p q : RpPlacement) → Stands boxes placements i a p → Stands boxes placements j b q
       → 0 < a.group → a.group ≡ b.group → p.bin ≡ q.bin
 
--- two boxes whose groups, above 0, are excluded are in different bins
+-- two boxes whose groups, above 0, an exclusion names are in different bins
 abbrev pub KeepApart : List RpBox → List RpExclusion → List RpPlacement → Type 0
 KeepApart boxes exclusions placements =
     (i j : ℕ) (a b : RpBox) (p q : RpPlacement) → Stands boxes placements i a p → Stands boxes placements j b q
     → 0 < a.group → 0 < b.group → (e : RpExclusion) → Contains exclusions e → a.group ≡ e.one → b.group ≡ e.other → p.bin ≢ q.bin
 
 module _ (bins : List RpBin) (boxes : List RpBox) (exclusions : List RpExclusion) where
-  -- the placements are those of a done packing of the boxes into the bins with this heuristic, each at the index of its box
+  -- a done packing (`PackingDone`) of the collection of the boxes into the new bins, with this heuristic, whose
+  -- placements stand each at the index of its box; there are as many as boxes
   pub record IsDonePacking (heuristic : Heuristic) (placements : List RpPlacement) : Type 0 where
     pub all : Collection ℕ ℕ
     pub collected : IsCollected boxes exclusions all
@@ -58,15 +59,15 @@ module _ (bins : List RpBin) (boxes : List RpBox) (exclusions : List RpExclusion
     pub written : All (λ p. slice_get placements p.id ≡ Some (corner_of p.bin p.location)) made
     pub as_many : length placements ≡ length boxes
 
-  -- the placements are those of such a packing with the best of these heuristics, whose number is `chosen`
+  -- such a packing with the best of these heuristics (`IsBestOf`), of which `chosen` is the number
   pub record IsBestPacking (heuristics : List Heuristic) (chosen : ℕ) (placements : List RpPlacement) : Type 0 where
     pub best : Heuristic
     pub number : chosen ≡ heuristic_number best
     pub packing : IsDonePacking best placements
     pub best_of : IsBestOf group_order nat_cmp nat_cmp packing.all (new_bins bins) heuristics best (use_of nat_cmp packing.made (new_bins bins))
 
-  -- with this heuristic, for some group of the boxes each bin is excluded or does not take all of its boxes, as the groups
-  -- before it left the bins
+  -- with this heuristic, for some group of the boxes each bin is excluded or does not take all of them, as the groups
+  -- before it left the bins (`NoBinTakes`)
   pub record IsRefusedPacking (heuristic : Heuristic) : Type 0 where
     pub all : Collection ℕ ℕ
     pub collected : IsCollected boxes exclusions all

@@ -7,16 +7,17 @@ use Rattle.rectangle_pack_c.specs.declared.RpBin.{RpBin}
 use Rattle.rectangle_pack_c.specs.declared.RpBox.{RpBox}
 use Rattle.rectangle_pack_c.specs.declared.RpPlacement.{RpPlacement}
 
--- as many placements as boxes, and fewer than 2^32 boxes and bins
+-- there are as many placements as boxes, and fewer than 2^32 boxes and bins
 pub record HaveLengths (bins : List RpBin) (boxes : List RpBox) (placements : List RpPlacement) : Type 0 where
   pub same : length placements ≡ length boxes
   pub few_boxes : length boxes < 2 ^ 32
   pub few_bins : length bins < 2 ^ 32
 
--- the size of a bin, and of a box
+-- the size of a bin
 abbrev pub bin_size : RpBin → Size
 bin_size b = record { width = b.width; height = b.height; depth = b.depth }
 
+-- the size of a box
 abbrev pub box_size : RpBox → Size
 box_size b = record { width = b.width; height = b.height; depth = b.depth }
 

@@ -26,17 +26,17 @@ member_box boxes m =
     let b : RpBox = slice_index_or boxes m.index (record { width = 0; height = 0; depth = 0; group = 0 }) in
     record { width = b.width; height = b.height; depth = b.depth; group = m.group }
 
--- all boxes that are placed: those of the collection, and then its members
+-- the boxes of a collection that are placed, and behind them its members
 abbrev pub all_boxes : RpCollection → List RpBox
 all_boxes c = c.boxes.now ++ map (member_box c.boxes.now) c.members.now
 
--- there are as many placements as these are, and fewer than 2^32
+-- there are as many placements as boxes and members of the collection together, and fewer than 2^32
 abbrev pub are_as_many : RpCollection → (placement_count : ℕ) → Bool
 are_as_many c placement_count = (placement_count == length c.boxes.now + length c.members.now) && nat_lt placement_count (2 ^ 32)
 
--- the first thing that is wrong with the arguments of a packing, as a status, or 0: their number is another one
--- (`RP_BAD_LENGTHS`), the heuristic is unknown (`RP_UNKNOWN_HEURISTIC`), a member names no box (`RP_UNKNOWN_BOX`), a group is
--- excluded with itself (`RP_EQUAL_GROUPS`)
+-- the first thing that is wrong with the arguments of a packing, as a status, or 0: there are more or fewer placements
+-- than boxes and members, or 2^32 or more (`RP_BAD_LENGTHS`); the heuristic is unknown (`RP_UNKNOWN_HEURISTIC`); a
+-- member names no box (`RP_UNKNOWN_BOX`); a group is excluded with itself (`RP_EQUAL_GROUPS`)
 abbrev pub fault_of : RpCollection → (heuristic placement_count : ℕ) → ℕ
 fault_of c heuristic placement_count =
     if not (are_as_many c placement_count) then 3 else (
@@ -44,7 +44,7 @@ fault_of c heuristic placement_count =
     if list_any (λ m. nat_le (length c.boxes.now) m.index) c.members.now then 11 else (
     if list_any (λ e. e.one == e.other) c.exclusions.now then 12 else 0)))
 
--- the same where they are packed into these bins, of which there may be fewer than 2^32
+-- the same where they are packed into these bins: it is looked at first whether there are fewer than 2^32 of them
 abbrev pub fault_in : List RpBin → RpCollection → (heuristic placement_count : ℕ) → ℕ
 fault_in bins c heuristic placement_count = if nat_lt (length bins) (2 ^ 32) then fault_of c heuristic placement_count else 3
 
@@ -55,7 +55,7 @@ group_order (Ungrouped a) (Grouped b) = Less
 group_order (Grouped a) (Ungrouped b) = Greater
 group_order (Grouped a) (Grouped b) = nat_cmp a b
 
--- the group of the box of this index: one of its own where its number is 0, else the one of that number
+-- the group of box i: one of its own where its number is 0, else the one of that number
 abbrev pub group_of : ℕ → RpBox → Group ℕ ℕ
 group_of i b = if b.group == 0 then Ungrouped i else Grouped b.group
 
@@ -68,12 +68,12 @@ abbrev pub unless_empty : List ℕ → Option (List ℕ)
 unless_empty [] = None
 unless_empty (i ∷ ids) = Some (i ∷ ids)
 
--- the two groups are those that are excluded here, in either order
+-- the two groups are those that the exclusion e names, in either order
 abbrev pub are_pair : Group ℕ ℕ → Group ℕ ℕ → RpExclusion → Bool
 are_pair a b e = are_these group_order (Grouped e.one) (Grouped e.other) a b
 
--- the collection of these boxes: each size under the index of its box; each group that has boxes, once, with their indices
--- in order; and those groups are excluded that a pair of the list names
+-- `all` is the collection of these boxes: each size under the index of its box; each group that has boxes, once, with
+-- their indices in order; and those groups are excluded that an exclusion names
 pub record IsCollected (boxes : List RpBox) (exclusions : List RpExclusion) (all : Collection ℕ ℕ) : Type 0 where
   pub sizes : all.sizes ≡ enumerate_from 0 (map box_size boxes)
   pub groups : (group : Group ℕ ℕ) → lookup (is_at (group_order group)) all.groups ≡ unless_empty (indices_in group boxes)

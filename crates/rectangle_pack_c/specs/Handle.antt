@@ -18,7 +18,8 @@ use denote.RawPtr.{Ptr, null_ptr}
 abbrev pub session_row : RattleType
 session_row = session.the_row u32 u32 global.the_row order.ghosts equality.ghosts partial_order.ghosts heap.ghosts
 
--- a handle owns nothing where its pointer is null; else the session that is there, in this state
+-- what the handle owns: nothing, and then its pointer is null; or the session at its pointer, in this state, with the
+-- right to free it
 abbrev pub holds : Global → Ptr → Option (State ℕ ℕ) → Fml
 holds alloc at None = feq Ptr at null_ptr
 holds alloc at (Some state) = box_owns (heap.ghosts.dealloc_token alloc) session_row at state

@@ -3,7 +3,7 @@ use Rattle.std.specs.Prelude.{ℕ, List, [], ◌∷◌, ◌||◌, ◌==◌, filt
 use Rattle.rectangle_pack_sections.specs.declared.box_size_heuristics.named.Heuristic.{Heuristic}
 use Rattle.rectangle_pack_sections.specs.declared.box_size_heuristics.named.Heuristic.TheVariants.{Volume, Height, Width, Depth, SideSum, LongestSide, ShortestSide, SideArea}
 
--- the number of each heuristic
+-- the number of a heuristic in the header
 abbrev pub heuristic_number : Heuristic → ℕ
 heuristic_number Volume = 0
 heuristic_number Height = 1
@@ -14,10 +14,11 @@ heuristic_number LongestSide = 5
 heuristic_number ShortestSide = 6
 heuristic_number SideArea = 7
 
--- all of them
+-- all heuristics, in the order of their numbers
 abbrev pub all_heuristics : List Heuristic
 all_heuristics = Volume ∷ Height ∷ Width ∷ Depth ∷ SideSum ∷ LongestSide ∷ ShortestSide ∷ SideArea ∷ []
 
--- the heuristics of which the best is asked for: the one of this number, or all; none where the number is unknown
+-- the heuristics of which the best is asked for: the one of this number; all, for `RP_BEST`; none, where the number is
+-- unknown
 abbrev pub asked : ℕ → List Heuristic
 asked number = filter (λ h. (heuristic_number h == number) || (number == 0xffff)) all_heuristics

@@ -15,42 +15,45 @@ use Rattle.rectangle_pack_c.specs.declared.reading.RpCutStep.{RpCutStep}
 use Rattle.rectangle_pack_c.specs.declared.reading.RpSection.{RpSection}
 use Rattle.rectangle_pack_c.specs.declared.reading.RpStanding.{RpStanding}
 
--- a box of cells, by its corner and its sides
+-- what is written of a box of cells: its corner and its sides
 abbrev pub section_of : Cuboid → RpSection
 section_of c = record { x = c.x; y = c.y; z = c.z; width = c.whd.width; height = c.whd.height; depth = c.whd.depth }
 
--- an outstanding placement, with its box
+-- what is written of an outstanding placement, with its box
 abbrev pub standing_of : Outstanding ℕ ℕ → RpStanding
 standing_of o = record { number = o.number; index = o.id; bin = o.bin; section = section_of o.location }
 
--- a list goes to an array: how many entries it has is written; where the array holds them, they stand at its beginning, and
--- the rest of it is as before (`RP_DONE`); and where it is too short, it is as before (`RP_SHORT_ARRAY`)
+-- a list goes to an array of the caller's: `count` is how many entries it has. Where the array holds as many, they
+-- stand at its beginning, the rest of it is as before, and the status is `RP_DONE`; where it is too short, it is as
+-- before, and the status is `RP_SHORT_ARRAY`
 pub record Tells {X : Type 0} (there : List X) (status : ℕ) (old new : List X) (count : ℕ) : Type 0 where
   pub counted : count ≡ length there
   pub enough : length there ≤ length old → (status ≡ 0) × (new ≡ there ++ drop (length there) old)
   pub short : length old < length there → (status ≡ 8) × (new ≡ old)
 
--- the free sections of a bin go to an array; or the bin is not there (`RP_UNKNOWN_BIN`), and nothing is written
+-- the free sections of a bin go to an array (`Tells`); or the bin is not there (`RP_UNKNOWN_BIN`), and nothing is
+-- written
 abbrev pub TellsSections : State ℕ ℕ → (bin status : ℕ) (old new : List RpSection) (old_count new_count : ℕ) → Type 0
 TellsSections state bin status old new old_count new_count =
     MatchOption (lookup (is_at (nat_cmp bin)) state.bins) ((status ≡ 5) × (new ≡ old) × (new_count ≡ old_count))
     (λ (b : Bin). Tells (map section_of b.sections) status old new new_count)
 
--- whether a call that joins sections was done for a bin is said, as 1 or 0; or the bin is not there (`RP_UNKNOWN_BIN`), and
--- nothing is written
+-- 1 is written where a call that joins sections was done for the bin, else 0; or the bin is not there
+-- (`RP_UNKNOWN_BIN`), and nothing is written
 abbrev pub TellsCoalesced : State ℕ ℕ → (bin status old new : ℕ) → Type 0
 TellsCoalesced state bin status old new =
     MatchOption (lookup (is_at (nat_cmp bin)) state.bins) ((status ≡ 5) × (new ≡ old))
     (λ (b : Bin). (status ≡ 0) × (new ≡ if b.coalesced then 1 else 0))
 
--- a step of a plan: the axis of the cut, 0 for x, 1 for y and 2 for z, and its place; or 3 where the part is not cut
+-- what is written of a step of a plan: the axis of the cut, 0 for x, 1 for y and 2 for z, and its place; or 3 where the
+-- part is not cut
 abbrev pub step_of : CutStep → RpCutStep
 step_of (CutAt axis place) = record { axis = axis_rank axis; place = place }
 step_of LeafHere = record { axis = 3; place = 0 }
 
--- the cutting plan of a bin goes to an array; or no tree of cuts has the boxes of the bin as its leaves (`RP_NO_PLAN`); or the
--- answer is want of memory (`RP_OUT_OF_MEMORY`); or the bin is not there (`RP_UNKNOWN_BIN`). Nothing is written but in the first
--- case
+-- the cutting plan of a bin goes to an array; or no tree of cuts has the boxes of the bin as its leaves (`RP_NO_PLAN`);
+-- or the answer is want of memory (`RP_OUT_OF_MEMORY`); or the bin is not there (`RP_UNKNOWN_BIN`). Nothing is written
+-- but in the first case
 abbrev pub TellsPlan : State ℕ ℕ → (bin status : ℕ) (old new : List RpCutStep) (old_count new_count : ℕ) → Type 0
 TellsPlan state bin status old new old_count new_count =
     MatchOption (lookup (is_at (nat_cmp bin)) state.bins) ((status ≡ 5) × (new ≡ old) × (new_count ≡ old_count))

@@ -25,7 +25,8 @@ use Rattle.rectangle_pack_c.specs.Collections.{group_order, IsCollected}
 use Rattle.rectangle_pack_c.specs.Heuristics.{asked, heuristic_number}
 use Rattle.rectangle_pack_c.specs.Answers.{box_at, KeepApart}
 
--- a reply as a status: the one of the header under its name
+-- the status that says this reply: `RP_DONE` for one that is done, else that of the refusal, which the header has under
+-- its name
 abbrev pub reply_status : Reply → ℕ
 reply_status Done = 0
 reply_status (Packed numbers) = 0
@@ -36,8 +37,9 @@ reply_status (Refused UnknownBin) = 5
 reply_status (Refused UnknownPlacement) = 6
 reply_status (Refused NumbersUsedUp) = 7
 
--- the handle has a session before the call and after it; the status is that of a reply with which the session may have been
--- changed so; and of the session holds what always holds of one (`IsSession`)
+-- the handle has a session before the call and after it. There is a reply with which the session may have been changed
+-- so (`MayChange`, which is `AddsBin`, `Releases` or another of these), and the status is that of this reply
+-- (`reply_status`). Of the session after the call holds what always holds (`IsSession`)
 pub record ChangesAs (MayChange : State ℕ ℕ → Reply → State ℕ ℕ → Type 0) (old : Option (State ℕ ℕ)) (status : ℕ) (new : Option (State ℕ ℕ)) : Type 0 where
   pub before : State ℕ ℕ
   pub after : State ℕ ℕ
@@ -48,14 +50,14 @@ pub record ChangesAs (MayChange : State ℕ ℕ → Reply → State ℕ ℕ → 
   pub changed : MayChange before reply after
   pub always : IsSession nat_cmp after
 
--- as many placements as boxes, and fewer than 2^32
+-- there are as many placements as boxes, and fewer than 2^32
 pub record AreAsMany (boxes : List RpBox) (placements : List RpOutstanding) : Type 0 where
   pub same : length placements ≡ length boxes
   pub few_boxes : length boxes < 2 ^ 32
 
--- the collection of the boxes is packed, or refused, as `PacksBest` says it of the heuristics that a number asks for; where it is
--- packed, `chosen` is the number of the one that it was packed with; of want of memory only that the session is as it was; and
--- `Done` does not come
+-- the collection of the boxes is packed, or refused, as `PacksBest` and `PacksBestAsPromised` say it of the heuristics
+-- that are asked for; where it is packed, `chosen` is the number of the one that it was packed with. Of want of memory
+-- only that the session is as it was. `Done` does not come
 abbrev pub PacksCollection : (heuristic : ℕ) → List RpBox → List RpExclusion → (chosen : ℕ) → State ℕ ℕ → Reply → State ℕ ℕ → Type 0
 PacksCollection heuristic boxes exclusions chosen old (Packed numbers) new =
     (all : Collection ℕ ℕ) × (best : Heuristic) × IsCollected boxes exclusions all × (chosen ≡ heuristic_number best)
@@ -68,17 +70,17 @@ PacksCollection heuristic boxes exclusions chosen old (Refused error) new =
     × PacksBestAsPromised group_order nat_cmp nat_cmp (asked heuristic) all old (Err error) new
 PacksCollection heuristic boxes exclusions chosen old Done new = ⊥
 
--- box i is this one, and this is its placement, with its number
+-- b is box i, and p is its placement with its number
 pub record IsAt (boxes : List RpBox) (placements : List RpOutstanding) (i : ℕ) (b : RpBox) (p : RpOutstanding) : Type 0 where
   pub box : slice_get boxes i ≡ Some b
   pub at : slice_get placements i ≡ Some p
 
--- box i at its placement, as a session records it
+-- box i at this placement, as an outstanding placement of the session
 abbrev pub record_of : ℕ → RpBox → RpOutstanding → Outstanding ℕ ℕ
 record_of i b p = record { number = p.number; id = i; bin = p.placement.bin; location = box_at b p.placement }
 
--- each box is outstanding at its placement, under a number of its own that was not given before; those of one group above 0
--- are in one bin
+-- there are as many placements as boxes; each box is outstanding at its placement, under a number of its own that was
+-- not given before; boxes of one group above 0 are in one bin
 pub record AreOutstanding (boxes : List RpBox) (placements : List RpOutstanding) (old new : State ℕ ℕ) : Type 0 where
   pub as_many : length placements ≡ length boxes
   pub outstanding : (i : ℕ) (b : RpBox) (p : RpOutstanding) → IsAt boxes placements i b p → Contains new.outstanding (record_of i b p)
@@ -88,7 +90,7 @@ pub record AreOutstanding (boxes : List RpBox) (placements : List RpOutstanding)
   pub together : (i j : ℕ) (a b : RpBox) (p q : RpOutstanding) → IsAt boxes placements i a p → IsAt boxes placements j b q
       → 0 < a.group → a.group ≡ b.group → p.placement.bin ≡ q.placement.bin
 
--- the same of the sessions that a handle has before and after
+-- the same of what a handle has before and after: it has a session both times, and `AreOutstanding` holds of the two
 pub record ArePackedNow (boxes : List RpBox) (placements : List RpOutstanding) (old new : Option (State ℕ ℕ)) : Type 0 where
   pub before : State ℕ ℕ
   pub after : State ℕ ℕ
@@ -96,11 +98,12 @@ pub record ArePackedNow (boxes : List RpBox) (placements : List RpOutstanding) (
   pub has : new ≡ Some after
   pub are : AreOutstanding boxes placements before after
 
--- two boxes whose groups, above 0, are excluded are in different bins
+-- two boxes whose groups, above 0, are excluded are in different bins: what `KeepApart` says, of placements with their
+-- numbers
 abbrev pub StandApart : List RpBox → List RpExclusion → List RpOutstanding → Type 0
 StandApart boxes exclusions placements = KeepApart boxes exclusions (map (λ p. p.placement) placements)
 
--- the number whose lower 64 bits and whose other bits these are
+-- the number whose lower 64 bits, and whose other bits, these are
 abbrev pub volume : RpVolume → ℕ
 volume v = v.low + v.high * 2 ^ 64
 
@@ -118,8 +121,8 @@ stats_written s = record {
 abbrev pub stats_in : State ℕ ℕ → ℕ → Option BinStats
 stats_in state bin = option_map (λ (b : Bin). stats_of b (outstanding_in nat_cmp state.outstanding bin)) (lookup (is_at (nat_cmp bin)) state.bins)
 
--- what is said of a bin: the statistics of it, whose free and placed volumes add up to that of the bin; or that it is not there,
--- and nothing is written
+-- the statistics of the bin are written, and free and placed volume add up to the bin's; or the bin is not there, and
+-- nothing is written
 pub record TellsStats (held : Option (State ℕ ℕ)) (bin status : ℕ) (old new : RpStats) : Type 0 where
   pub state : State ℕ ℕ
   pub has : held ≡ Some state

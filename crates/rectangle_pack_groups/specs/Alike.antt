@@ -7,11 +7,13 @@ use Rattle.rectangle_pack_groups.specs.declared.grouped_rects_to_place.Group.{Gr
 use Rattle.rectangle_pack_groups.specs.Exclusions.{are_excluded}
 use Rattle.rectangle_pack_groups.specs.Groups.{Collection}
 
--- two maps agree entry by entry: keys that are equal, and values that are alike
+-- two lists of entries of one length; at each place the two keys are equal, by their order, and the two values are
+-- alike
 abbrev pub AreMapsAlike : {K X : Type 0} → (K → K → Ordering) → (X → X → Type 0) → List (K × X) → List (K × X) → Type 0
 AreMapsAlike cmp Alike xs ys = AllZip (λ x y. (cmp x.0 y.0 ≡ Equal) × Alike x.1 y.1) xs ys
 
--- the same sizes under ids that are equal, lists of equal ids under groups that are equal, and the same pairs of groups that are excluded
+-- equal ids with the same sizes, equal groups whose lists have equal ids, in order, and the same pairs that are
+-- excluded
 pub record AreCollectionsAlike {Id G : Type 0} (group_cmp : Group G Id → Group G Id → Ordering)
     (cmp : Id → Id → Ordering) (one other : Collection Id G) : Type 0 where
   pub sizes : AreMapsAlike cmp (λ a b. a ≡ b) one.sizes other.sizes

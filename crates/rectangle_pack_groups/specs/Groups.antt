@@ -11,18 +11,18 @@ use Rattle.rectangle_pack_groups.specs.Exclusions.{are_excluded, are_these}
 use Rattle.rectangle_pack_groups.specs.declared.grouped_rects_to_place.Group.{Group}
 use Rattle.rectangle_pack_groups.specs.declared.grouped_rects_to_place.Group.TheVariants.{Ungrouped, Grouped}
 
--- what is to be packed: the size of each id, the list of ids of each group, and the groups listed at a group as excluded with
--- it
+-- what is to be packed: the size of each id, the list of ids of each group, and the groups listed at a group as
+-- excluded with it
 pub record Collection (Id G : Type 0) : Type 0 where
   pub sizes : List (Id × Size)
   pub groups : List (Group G Id × List Id)
   pub partners : List (Group G Id × List (Group G Id))
 
--- how many entries the groups of a collection have
+-- how many entries the groups of a collection have, in all
 abbrev pub entries_of : {Id G : Type 0} → Collection Id G → ℕ
 entries_of all = sum (map length (values_of all.groups))
 
--- the list at each key
+-- the entries of a map, with the items of each vector
 abbrev pub lists_of : {K X A : Type 0} → List (K × Vec X A) → List (K × List X)
 lists_of es = map (λ e. (e.0, e.1.items)) es
 
@@ -34,7 +34,7 @@ HaveSizes cmp sizes ids = All (λ id. IsSome (lookup (is_at (cmp id)) sizes)) id
 abbrev pub MembersHaveSizes : {Id K : Type 0} → (Id → Id → Ordering) → List (Id × Size) → List (K × List Id) → Type 0
 MembersHaveSizes cmp sizes groups = All (λ ids. (0 < length ids) × HaveSizes cmp sizes ids) (values_of groups)
 
--- the size of the id is set, under a key that equals it, and the others stay
+-- under a key that equals the id stands this size; the sizes of other ids stay
 abbrev pub SetsSize : {Id : Type 0} → (Id → Id → Ordering) → List (Id × Size) → List (Id × Size) → Id → Size → Type 0
 SetsSize {Id} cmp old new id size = (key : Id) × (cmp id key ≡ Equal) × (new ≡ insert_entry cmp old key size)
 
@@ -42,20 +42,21 @@ SetsSize {Id} cmp old new id size = (key : Id) × (cmp id key ≡ Equal) × (new
 abbrev pub times_named : {Id G : Type 0} → (Group G Id → Group G Id → Ordering) → List G → Group G Id → ℕ
 times_named group_cmp named group = count_by (λ n. is_eq (group_cmp group (Grouped n))) named
 
--- a list is the one of before, followed by the id so often
+-- the list is `before`, followed by the id so many times
 abbrev pub Appends : {Id : Type 0} → (Id → Id → Ordering) → List Id → Id → ℕ → List Id → Type 0
 Appends {Id} cmp before id times list = (tail : List Id) × (list ≡ before ++ tail) × (length tail ≡ times) × All (λ x. cmp id x ≡ Equal) tail
 
 module _ {Id G : Type 0} (cmp : Id → Id → Ordering) (group_cmp : Group G Id → Group G Id → Ordering) where
-  -- a push without groups: the size is set, and the id stands alone in the entry of its own
+  -- a push without groups: the size is set, and the entry `Ungrouped(id)` is the list of the id alone
   pub record PushesAlone (old new : Collection Id G) (id : Id) (size : Size) : Type 0 where
     pub sizes : SetsSize cmp old.sizes new.sizes id size
     pub partners : new.partners ≡ old.partners
     pub groups : (key : Id) × (member : Id) × (cmp id key ≡ Equal) × (cmp id member ≡ Equal)
         × (new.groups ≡ insert_entry group_cmp old.groups (Ungrouped key) (member ∷ []))
 
-  -- a push with a list of groups: the size is set, each named group's list is its old one, or the empty one,
-  -- followed by the id as often as the group is named, and the rest stays
+  -- a push with a list of groups: the size is set. Each named group has its old list, or the empty one where it had
+  -- none, followed by the id as often as the group is named. Each group that is not named is as before. Both pushes
+  -- leave the excluded pairs as they were
   pub record PushesInto (old new : Collection Id G) (id : Id) (named : List G) (size : Size) : Type 0 where
     pub sizes : SetsSize cmp old.sizes new.sizes id size
     pub partners : new.partners ≡ old.partners

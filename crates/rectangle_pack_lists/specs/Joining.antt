@@ -5,7 +5,10 @@ use Rattle.rectangle_pack_sections.specs.declared.axis.Axis.{Axis}
 use Rattle.rectangle_pack_sections.specs.declared.axis.Axis.TheVariants.{X, Y, Z}
 use Rattle.rectangle_pack_sections.specs.Boxes.{Cuboid, extent, start, end}
 
--- two boxes share a whole face: on one axis the end of one is the start of the other, and on the others they start and run alike
+-- two boxes share a whole face: on one axis one ends where the other starts; on the two other axes both have the same
+-- start and the same length
+-- Example: (0,0,0) 4x10x1 and (4,0,0) 6x10x1, on x; (0,0,0) 10x10x1 and (10,0,0) 0x10x1, too. (0,0,0) 4x10x1 and
+-- (4,0,0) 6x5x1 do not: 10 high and 5 high
 pub record SharesFace (b other : Cuboid) : Type 0 where
   pub axis : Axis
   pub meet : (end axis b ≡ start axis other) ⊎ (end axis other ≡ start axis b)
@@ -23,7 +26,8 @@ join_start a b other = min (start a b) (start a other)
 unfoldable pub join_extent : Axis → Cuboid → Cuboid → ℕ
 join_extent a b other = max (end a b) (end a other) - join_start a b other
 
--- the join of two boxes
+-- the join of two boxes: on each axis from the lower start to the higher end
+-- Example: of (0,0,0) 4x10x1 and (4,0,0) 6x10x1: (0,0,0) 10x10x1
 unfoldable pub join : Cuboid → Cuboid → Cuboid
 join b other = record {
   x = join_start X b other;
@@ -36,7 +40,7 @@ join b other = record {
   };
 }
 
--- the entry at an index of the list; past the end an empty box
+-- the entry at the index i. Past the end it is the box (0,0,0) 0x0x0, of which no rule asks
 abbrev pub entry : List Cuboid → ℕ → Cuboid
 entry sections i = slice_index_or sections i (record { x = 0; y = 0; z = 0; whd = record { width = 0; height = 0; depth = 0 } })
 
@@ -57,30 +61,32 @@ pub record IsFirstNeighbour (sections : List Cuboid) (idx lo hi j : ℕ) : Type 
   pub is_one : IsNeighbour sections idx lo hi j
   pub least : (k : ℕ) → k < j → ¬ IsNeighbour sections idx lo hi k
 
--- the list whose entry idx is the join of the entries idx and j, without entry j
+-- the list in which the join of the entries idx and j stands in the place of entry idx, and entry j is left out
 unfoldable pub joined_list : List Cuboid → ℕ → ℕ → List Cuboid
 joined_list sections idx j = remove (slice_set sections idx (join (entry sections idx) (entry sections j))) j
 
--- the index of a join that stood at idx, once the entry at j is taken out: one lower where j is below idx
+-- the index of the join in that list: idx - 1 where j is below idx, else idx
+-- Example: of 3 and 1: 2; of 1 and 3: 1
 unfoldable pub joined_index : ℕ → ℕ → ℕ
 joined_index idx j = if nat_lt j idx then idx - 1 else idx
 
--- the list once the entry at idx is joined with its neighbours from lo to before hi. Where idx is past the end, or there is
--- no neighbour, the list stays as it is. Else it is joined with the least neighbour, and the same is done with the join, in a
--- range that is cut to the list and ends one earlier
+-- the list once the entry at idx is joined with its neighbours from lo to before hi. An index past the end, or one that
+-- is alone (`IsAlone`), leaves the list as it is. Else the entry is joined with its first neighbour
+-- (`IsFirstNeighbour`), and the same is done anew with what that leaves: the list `joined_list`, the index
+-- `joined_index`, and the range from lo to before min(hi, old length) - 1
 pub data IsJoined : ℕ → ℕ → ℕ → List Cuboid → List Cuboid → Type 0 where
   PastEnd : {old : List Cuboid} {idx lo hi : ℕ} → length old ≤ idx → IsJoined idx lo hi old old
   Alone : {old : List Cuboid} {idx lo hi : ℕ} → idx < length old → IsAlone old idx lo hi → IsJoined idx lo hi old old
   Joins : {old new : List Cuboid} {idx lo hi : ℕ} → idx < length old → (j : ℕ) → IsFirstNeighbour old idx lo hi j
       → IsJoined (joined_index idx j) lo (min hi (length old) - 1) (joined_list old idx j) new → IsJoined idx lo hi old new
 
--- the list once the entries at n - 1 down to 0 are joined with their neighbours, one after another, each in the whole list as
--- it is then
+-- the list once the entries at n - 1 down to 0 are joined with their neighbours, one after another, each in the whole
+-- list as it is then
 abbrev pub IsSweptBelow : ℕ → List Cuboid → List Cuboid → Type 0
 IsSweptBelow zero old new = new ≡ old
 IsSweptBelow (suc n) old new = (next : List Cuboid) × IsJoined n 0 (length old) old next × IsSweptBelow n next new
 
--- the list after a sweep: each entry, from the last to the first, is joined with its neighbours in the whole list as it is
--- then
+-- the list after a sweep: each entry, from the last to the first, is joined with its neighbours in the whole list as it
+-- is then
 abbrev pub IsSwept : List Cuboid → List Cuboid → Type 0
 IsSwept old new = IsSweptBelow (length old) old new

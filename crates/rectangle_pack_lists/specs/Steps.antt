@@ -6,13 +6,14 @@ use Rattle.rectangle_pack_sections.specs.Boxes.{Size, Cuboid, Holds, has_cells}
 use Rattle.rectangle_pack_sections.specs.Cuts.{placed}
 use Rattle.rectangle_pack_sections.specs.Choice.{IsAllowedCut}
 
--- rated pieces in their order: of any two the one with the greater rate first, and those of one rate as they are listed
+-- the pieces in order: of any two the one with the greater rate first (`falling`), and those of one rate as they are
+-- listed (`as_listed`)
 pub record AreRanked (listed ranked : List (ℕ × Cuboid)) : Type 0 where
   pub falling : AllPairs (λ p q. q.0 ≤ p.0) ranked
   pub as_listed : (rate : ℕ) → filter (λ p. p.0 == rate) ranked ≡ filter (λ p. p.0 == rate) listed
 
--- the pieces that a cut leaves, for one rate of each: by falling rate, and at one rate as listed, without those that have no
--- cells
+-- each piece of the cut has one rate; `left` are the pieces in the order of these rates (`AreRanked`), without those
+-- that have no cells
 pub record AreLeft (MayRate : Size → ℕ → Type 0) (cut left : List Cuboid) : Type 0 where
   pub rates : List ℕ
   pub rated : AllZip (λ piece rate. MayRate piece.whd rate) cut rates
@@ -21,9 +22,10 @@ pub record AreLeft (MayRate : Size → ℕ → Type 0) (cut left : List Cuboid) 
   pub are : left ≡ filter has_cells (map (λ p. p.1) ranked)
 
 module _ (may : Answers) where
-  -- one step: a box of this size (the member) goes to the corner of the last section that holds it; that section is taken
-  -- out, and the pieces that an allowed cut leaves stand at the end of the list; `tests` counts that section and those after
-  -- it
+  -- one step: the member goes into the last section that holds it: that section holds it, and no section after it does.
+  -- The location is the member's size at the section's corner. In the new list the section is left out, and the pieces
+  -- that an allowed cut leaves (`AreLeft`) stand at its end. There is one test for the section, and one for each
+  -- section after it
   pub record IsStep (sections : List Cuboid) (member : Size) (location : Cuboid) (next : List Cuboid) (tests : ℕ) : Type 0 where
     pub before : List Cuboid
     pub section : Cuboid
@@ -39,16 +41,19 @@ module _ (may : Answers) where
     pub next_is : next ≡ before ++ after ++ left
     pub tests_are : tests ≡ 1 + length after
 
-  -- a trial of a list of sizes that is done: each size has its step, in order, in the list that the step before left; `tests`
-  -- is the sum of the steps'
+  -- a trial that is done: each member in turn has a step (`IsStep`), in the list that the step before left. The
+  -- locations are those of the steps, the last list is the one after the last of them, and the tests are the sum of
+  -- theirs
   abbrev pub IsDone : List Cuboid → List Size → List Cuboid → List Cuboid → ℕ → Type 0
   IsDone sections [] locations last tests = (locations ≡ []) × (last ≡ sections) × (tests ≡ 0)
   IsDone sections (m ∷ ms) [] last tests = ⊥
   IsDone sections (m ∷ ms) (l ∷ ls) last tests =
       (next : List Cuboid) × (one : ℕ) × (others : ℕ) × IsStep sections m l next one × IsDone next ms ls last others × (tests ≡ one + others)
 
-  -- a trial of a list of sizes that is stuck: after steps for the sizes before it, some size is held by no section of the
-  -- list that is left; `tests` is the sum of the steps' and the length of that list
+  -- a trial that is stuck: the closures may answer so that, after steps for the members before it, some member is held
+  -- by no section of the list as it is then. The tests are those of these steps, and one for each section of that list.
+  -- Where the closures are functions and the comparison is a total preorder, the answers leave no choice
+  -- (`packing_has_one_result`)
   abbrev pub IsStuck : List Cuboid → List Size → ℕ → Type 0
   IsStuck sections [] tests = ⊥
   IsStuck sections (m ∷ ms) tests =

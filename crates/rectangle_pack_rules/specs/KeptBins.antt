@@ -13,7 +13,9 @@ use Rattle.rectangle_pack_sections.specs.Keeping.{KeepCells}
 abbrev pub locations_in : {Id B : Type 0} → (B → B → Ordering) → List (Placement Id B) → B → List Cuboid
 locations_in bin_cmp placements id = map (λ p. p.location) (filter (λ p. is_at (bin_cmp p.bin) id) placements)
 
--- each bin whose free sections share no cell keeps its size, and its free cells are free or placed in it, once; no bin is added
+-- each old bin of which no two free sections share a cell is there afterwards, in its old size. Its new free sections,
+-- together with the locations that were placed in it, keep the cells of its old free sections (`KeepCells`). No bin is
+-- added
 pub record KeepsEachBin {Id B : Type 0} (bin_cmp : B → B → Ordering)
     (old : List (B × Bin)) (placements : List (Placement Id B)) (new : List (B × Bin)) : Type 0 where
   pub each : (id : B) (before : Bin) → lookup (is_at (bin_cmp id)) old ≡ Some before → AreAllApart before.sections

@@ -20,13 +20,14 @@ abbrev pub rising_then : {B : Type 0} → (B → B → Ordering) → ℕ × B �
 rising_then cmp a b = ordering_then (nat_cmp a.0 b.0) (cmp a.1 b.1)
 
 module _ (MayRate : Size → ℕ → Type 0) where
-  -- the key is the saturated sum of one rate for each id of the list, each a rate of the id's size
+  -- the key is the saturated sum of rates: one for each entry of the group's list, of the size that its id has
   abbrev pub IsGroupKey : {Id : Type 0} → (Id → Id → Ordering) → List (Id × Size) → List Id → ℕ → Type 0
   IsGroupKey cmp sizes ids key =
       (rates : List ℕ) × AllZip (λ id rate. IsSomeAnd (lookup (is_at (cmp id)) sizes) (λ size. MayRate size rate)) ids rates
       × (key ≡ saturated (sum rates))
 
-  -- all groups, each once, with a key of its list: the greater key first, and at equal keys by the order of groups
+  -- all groups, each once, each with a key of its list (`IsGroupKey`): the greater key first, and at equal keys by the
+  -- order of groups
   pub record IsGroupOrder {Id K : Type 0} (group_cmp : K → K → Ordering) (cmp : Id → Id → Ordering)
       (sizes : List (Id × Size)) (groups : List (K × List Id)) (order : List (ℕ × K)) : Type 0 where
     pub unsorted : List (ℕ × K)

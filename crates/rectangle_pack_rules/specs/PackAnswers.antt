@@ -16,27 +16,29 @@ use Rattle.rectangle_pack_rules.specs.Placed.{AreLastPlacements, placements_of, 
 abbrev pub sections_in : {B : Type 0} → List (B × Bin) → ℕ
 sections_in bins = sum_by (λ b. length b.1.sections) bins
 
--- the fit tests of a packing are added to a count, which stays at the greatest of 128 bits; with n entries they are at most
--- n for each free section of before, and n * (n - 1) for each bin
+-- the fit tests of a packing are added to a count, which stays at 2^128 - 1. With N entries, B bins and S free sections
+-- the tests are at most N · S + B · N · (N - 1)
 pub record AreCounted {Id B G : Type 0} (all : Collection Id G) (old : List (B × Bin)) (tests before after : ℕ) : Type 0 where
   pub most : tests ≤ entries_of all * sections_in old + length old * (entries_of all * (entries_of all - 1))
   pub added : after ≡ saturated (before + tests)
 
 module _ {Id B G : Type 0} (group_cmp : Group G Id → Group G Id → Ordering) (rules : Rules Id B) where
-  -- what a packing answers where it is done: the placements, one for each entry of a group, and where each id was placed last
+  -- what a packing answers where it is done: one placement for each entry of a group, and where each id was placed last
   pub record IsPacked {A : Type 0} (all : Collection Id G) (old : List (B × Bin)) (ok : RectanglePackOk Id B A) (new : List (B × Bin)) : Type 0 where
     pub done : PackingDone group_cmp rules all old (placements_of ok) new
     pub counted : length (placements_of ok) ≡ entries_of all
     pub last : AreLastPlacements rules.id_cmp rules.bin_cmp (placements_of ok) (locations_of ok)
 
-  -- done; or refused, where the groups before stay placed; or want of memory, where the bins are as they were
+  -- what a packing answers, by cases. Done: `IsPacked`. `NotEnoughBinSpace`: `PackingRefused`, where the groups before
+  -- the refused one stay placed. `OutOfMemory`: the bins are as they were
   abbrev pub IsPackAnswer : {A : Type 0} → Collection Id G → List (B × Bin)
       → Result (RectanglePackOk Id B A) RectanglePackError → List (B × Bin) → Type 0
   IsPackAnswer all old (Ok ok) new = IsPacked all old ok new
   IsPackAnswer all old (Err NotEnoughBinSpace) new = PackingRefused group_cmp rules all old new
   IsPackAnswer all old (Err OutOfMemory) new = new ≡ old
 
-  -- the same, and exactly the fit tests of the packing are counted; for want of memory, no more than the bound
+  -- the same, and exactly the packing's fit tests are added to the count (`AreCounted`). On `OutOfMemory` some number
+  -- of tests within the bound is added
   abbrev pub IsCountedAnswer : {A : Type 0} → Collection Id G → List (B × Bin) → ℕ
       → Result (RectanglePackOk Id B A) RectanglePackError → List (B × Bin) → ℕ → Type 0
   IsCountedAnswer all old before (Ok ok) new after =

@@ -15,12 +15,12 @@ use Rattle.rectangle_pack_rules.specs.Orders.{IsGroupOrder, IsBinOrder}
 use Rattle.rectangle_pack_rules.specs.Placed.{AreNamed}
 use Rattle.rectangle_pack_lists.specs.Steps.{IsDone, IsStuck}
 
--- the ids of a group, in order, and their sizes
+-- a group as a trial sees it: its ids in order, and their sizes
 pub record Members (Id : Type 0) : Type 0 where
   pub ids : List Id
   pub sizes : List Size
 
--- what a packing goes by: the orders of ids and of bins, and what the closures may answer
+-- what a packing goes by: the orders of ids and of bins, and what the closures may answer (`Answers`)
 pub record Rules (Id B : Type 0) : Type 1 where
   pub id_cmp : Id → Id → Ordering
   pub bin_cmp : B → B → Ordering
@@ -30,7 +30,8 @@ pub record Rules (Id B : Type 0) : Type 1 where
 abbrev pub rules_by : {Id B : Type 0} → (Id → Id → Ordering) → (B → B → Ordering) → Answers → Rules Id B
 rules_by cmp bin_cmp may = record { id_cmp = cmp; bin_cmp = bin_cmp; may = may }
 
--- how far a packing is: the bins as they are, and the bin of each group that it placed, the last first
+-- how far a packing is: `bins`, as they are now, and `homes`, the bin of each group that it placed, the last group
+-- first
 pub record Stage (K B : Type 0) : Type 0 where
   pub bins : List (B × Bin)
   pub homes : List (K × B)
@@ -39,12 +40,13 @@ pub record Stage (K B : Type 0) : Type 0 where
 abbrev pub at_start : {K B : Type 0} → List (B × Bin) → Stage K B
 at_start bins = record { bins = bins; homes = [] }
 
--- whether the bin of this id is excluded for the group: a group that is excluded with this group has it as its bin in `homes`
+-- whether the bin of this id is excluded for the group: a group that is excluded with it went there earlier in the same
+-- packing
 abbrev pub excludes_by : {K B : Type 0} → (K → K → Ordering) → (B → B → Ordering) → List (K × List K) → List (K × B) → K → B → Bool
 excludes_by group_cmp bin_cmp partners homes group id =
     list_any (λ home. are_excluded group_cmp partners group home.0 && is_at (bin_cmp id) home.1) homes
 
--- of any two entries of `homes` whose groups are excluded, the bins differ
+-- where two groups of `homes` are excluded, their bins differ
 abbrev pub AreKeptApart : {K B : Type 0} → (K → K → Ordering) → (B → B → Ordering) → List (K × List K) → List (K × B) → Type 0
 AreKeptApart group_cmp bin_cmp partners homes =
     AllPairs (λ a b. are_excluded group_cmp partners a.0 b.0 ≡ true → is_at (bin_cmp a.1) b.1 ≡ false) homes
@@ -53,14 +55,14 @@ AreKeptApart group_cmp bin_cmp partners homes =
 abbrev pub excludes_none : {K B : Type 0} → List (K × B) → K → B → Bool
 excludes_none homes group id = false
 
--- the groups that an order names, each with the ids listed for it and their sizes
+-- the groups that an order names: of each its name, the ids of its list, and their sizes
 pub record AreGroups {Id K : Type 0} (cmp : Id → Id → Ordering) (group_cmp : K → K → Ordering)
     (sizes : List (Id × Size)) (lists : List (K × List Id)) (order : List (ℕ × K)) (groups : List (K × Members Id)) : Type 0 where
   pub each : AllZip (λ entry group. (group.0 ≡ entry.1) × (lookup (is_at (group_cmp entry.1)) lists ≡ Some group.1.ids)
       × AllZip (λ id size. lookup (is_at (cmp id)) sizes ≡ Some size) group.1.ids group.1.sizes) order groups
 
 module _ {Id B : Type 0} (rules : Rules Id B) where
-  -- the bin of this id is there, and the group's trial is stuck in it
+  -- the bin of this id is in the map, and the group's trial is stuck in its list, with so many fit tests
   abbrev pub IsStuckIn : List (B × Bin) → Members Id → B → ℕ → Type 0
   IsStuckIn bins group id tests =
       IsSomeAnd (lookup (is_at (rules.bin_cmp id)) bins) (λ (bin : Bin). IsStuck rules.may bin.sections group.sizes tests)
@@ -69,8 +71,10 @@ module _ {Id B : Type 0} (rules : Rules Id B) where
   abbrev pub DoesNotTake : (B → Bool) → List (B × Bin) → Members Id → B → ℕ → Type 0
   DoesNotTake excluded bins group id tests = MatchBool (excluded id) (tests ≡ 0) (IsStuckIn bins group id tests)
 
-  -- the group is placed: a bin of the order is not excluded and its trial is done there, and each bin before does not take it;
-  -- that bin's list becomes the trial's, and the rest stays
+  -- the group is placed: some bin of the order, `here`, is not excluded, and the group's trial is done in it
+  -- (`IsDone`); no bin before it in the order takes the group (`DoesNotTake`). The bin `here` gets the trial's list;
+  -- the other bins, and all ids and sizes, stay. The tests are those of the trials in the bins before that are not
+  -- excluded, and of the one in `here`
   pub record IsPlaced (excluded : B → Bool) (order : List B) (group : Members Id)
       (old : List (B × Bin)) (placements : List (Placement Id B)) (new : List (B × Bin)) (tests : ℕ) : Type 0 where
     pub before : List B
@@ -90,14 +94,16 @@ module _ {Id B : Type 0} (rules : Rules Id B) where
     pub new_is : new ≡ set_value (is_at (rules.bin_cmp here)) old (record bin { sections = last })
     pub tests_are : tests ≡ sum counts + count
 
-  -- the group is refused: no bin takes it
+  -- the group is refused: no bin of the order takes it (`DoesNotTake`). The tests are those of the trials in the bins
+  -- that are not excluded
   pub record IsRefused (excluded : B → Bool) (order : List B) (group : Members Id) (bins : List (B × Bin)) (tests : ℕ) : Type 0 where
     pub counts : List ℕ
     pub passed : AllZip (DoesNotTake excluded bins group) order counts
     pub tests_are : tests ≡ sum counts
 
   module _ {K : Type 0} (excludes : List (K × B) → K → B → Bool) where
-    -- each group in turn is placed, in the lists that the groups before it left
+    -- each group in turn is placed (`IsPlaced`), in the bins as the groups before it left them. The placements are
+    -- those of the first group, then those of the second, and so on; the tests are the sum of theirs
     abbrev pub AreAllPlaced : List B → List (K × Members Id) → Stage K B → List (Placement Id B) → Stage K B → ℕ → Type 0
     AreAllPlaced order [] old placements new tests = (placements ≡ []) × (new ≡ old) × (tests ≡ 0)
     AreAllPlaced order (g ∷ gs) old placements new tests =
@@ -106,7 +112,9 @@ module _ {Id B : Type 0} (rules : Rules Id B) where
         × AreAllPlaced order gs (record { bins = next; homes = (g.0, placed.here) ∷ old.homes }) later new others
         × (placements ≡ first ++ later) × (tests ≡ one + others)
 
-    -- a beginning of the group order is placed, and the next group is refused; `taken` names them, the refused one last
+    -- the groups at the beginning of the group order are placed (`AreAllPlaced`), and the next group is refused in the
+    -- bins as these left them (`IsRefused`); `taken` names them all, the refused one last. The tests are those of all
+    -- these groups
     pub record StopsAfter (group_cmp : K → K → Ordering) (sizes : List (Id × Size)) (lists : List (K × List Id))
         (group_order : List (ℕ × K)) (order : List B) (old new : List (B × Bin)) (tests : ℕ) : Type 0 where
       pub taken : List (ℕ × K)
@@ -124,8 +132,9 @@ module _ {Id B : Type 0} (rules : Rules Id B) where
       pub tests_are : tests ≡ first + count
 
 module _ {Id B G : Type 0} (group_cmp : Group G Id → Group G Id → Ordering) (rules : Rules Id B) where
-  -- a packing is done, where `excludes` says which bins are excluded for a group, by the bins of the groups before it: each group,
-  -- in one group order and by one bin order, is placed; without groups no bin is asked
+  -- a packing that is done: by one group order and one bin order each group is placed. `excludes` says which bins are
+  -- excluded for a group, by the homes of the groups before it. Without groups no bin is asked for a rate, nothing is
+  -- placed and nothing changes
   pub record PackingDoneBy (excludes : List (Group G Id × B) → Group G Id → B → Bool)
       (all : Collection Id G) (old : List (B × Bin)) (placements : List (Placement Id B)) (new : List (B × Bin)) : Type 0 where
     pub group_order : List (ℕ × Group G Id)
@@ -138,8 +147,8 @@ module _ {Id B G : Type 0} (group_cmp : Group G Id → Group G Id → Ordering) 
     pub tests : ℕ
     pub placed : AreAllPlaced rules excludes (map (λ o. o.1) bin_order) groups (at_start old) placements (record { bins = new; homes = homes }) tests
 
-  -- a packing is refused, where `excludes` says which bins are excluded for a group, by the bins of the groups before it: in one
-  -- group order and by one bin order, a beginning of the groups is placed and no bin takes the next group
+  -- a packing that is refused: by one group order and one bin order some groups are placed and the next one is refused
+  -- (`StopsAfter`). The bins are as the placed groups left them
   pub record PackingRefusedBy (excludes : List (Group G Id × B) → Group G Id → B → Bool)
       (all : Collection Id G) (old new : List (B × Bin)) : Type 0 where
     pub group_order : List (ℕ × Group G Id)
@@ -149,10 +158,11 @@ module _ {Id B G : Type 0} (group_cmp : Group G Id → Group G Id → Ordering) 
     pub tests : ℕ
     pub stops : StopsAfter rules excludes group_cmp all.sizes all.groups group_order (map (λ o. o.1) bin_order) old new tests
 
-  -- a packing is done: each group is placed, where the collection's excluded pairs exclude bins
+  -- a packing is done (`PackingDoneBy`), where the collection's excluded pairs exclude bins (`excludes_by`)
   abbrev pub PackingDone : Collection Id G → List (B × Bin) → List (Placement Id B) → List (B × Bin) → Type 0
   PackingDone all old placements new = PackingDoneBy (excludes_by group_cmp rules.bin_cmp all.partners) all old placements new
 
-  -- a packing is refused: no bin takes some group, where the collection's excluded pairs exclude bins
+  -- a packing is refused (`PackingRefusedBy`): no bin takes some group, where the collection's excluded pairs exclude
+  -- bins (`excludes_by`)
   abbrev pub PackingRefused : Collection Id G → List (B × Bin) → List (B × Bin) → Type 0
   PackingRefused all old new = PackingRefusedBy (excludes_by group_cmp rules.bin_cmp all.partners) all old new

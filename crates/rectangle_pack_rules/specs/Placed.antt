@@ -20,7 +20,8 @@ abbrev pub locations_of : {Id B A : Type 0} → RectanglePackOk Id B A → List 
 locations_of ok = ok.packed_locations.entries
 
 module _ {Id B : Type 0} (cmp : Id → Id → Ordering) (bin_cmp : B → B → Ordering) where
-  -- one placement for each id, in order, at the location that the list has for it, all in the bin `here`
+  -- one placement for each id of a group, in order. The first has the first location of the trial, the second the
+  -- second, and so on; all are in this bin
   pub record AreNamed (ids : List Id) (here : B) (locations : List Cuboid) (placements : List (Placement Id B)) : Type 0 where
     pub named : AllZip (λ id p. cmp id p.id ≡ Equal) ids placements
     pub together : All (λ p. bin_cmp here p.bin ≡ Equal) placements
@@ -31,8 +32,8 @@ module _ {Id B : Type 0} (cmp : Id → Id → Ordering) (bin_cmp : B → B → O
     pub each : AllZip (λ id p. (cmp id p.id ≡ Equal) × (lookup (is_at (cmp id)) sizes ≡ Some p.location.whd)) ids placements
     pub together : All (λ p. bin_cmp here p.bin ≡ Equal) placements
 
-  -- `homes` names groups, each with a bin; the placements are those of these groups one after another, each id of a group's
-  -- list placed once, and all of a group in its bin
+  -- `homes` lists groups, each with a bin. The placements are those of the first of these groups, then those of the
+  -- second, and so on; those of each group are in its bin, one for each id of the group's list (`ArePlacedIn`)
   abbrev pub ArePlacedWhole : {K : Type 0} → (K → K → Ordering) → List (Id × Size) → List (K × List Id)
       → List (K × B) → List (Placement Id B) → Type 0
   ArePlacedWhole group_cmp sizes lists [] placements = placements ≡ []
@@ -51,7 +52,7 @@ module _ {Id B : Type 0} (cmp : Id → Id → Ordering) (bin_cmp : B → B → O
     pub bin : bin_cmp last.bin found.0 ≡ Equal
     pub location : found.1 ≡ last.location
 
-  -- the ids ascend; each id that was placed is found at its last placement, and no other id is found
+  -- the ids of `found` ascend. Each id that was placed is there, with its last placement, and no other id is there
   pub record AreLastPlacements (placements : List (Placement Id B)) (found : List (Id × (B × Cuboid))) : Type 0 where
     pub ascend : IsStrictlySortedBy cmp (keys_of found)
     pub each : (id : Id) → MatchOption (lookup (is_at (cmp id)) found) (All (λ p. is_eq (cmp id p.id) ≡ false) placements) (IsLastOf placements id)

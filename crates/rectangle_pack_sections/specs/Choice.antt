@@ -6,29 +6,33 @@ use Rattle.std.specs.declared.cmp.Ordering.TheVariants.{Greater}
 use Rattle.rectangle_pack_sections.specs.Boxes.{Size, Cuboid, Holds}
 use Rattle.rectangle_pack_sections.specs.Cuts.{cuts, sizes_of}
 
--- a heuristic that has at most one answer on each size
+-- a heuristic that has at most one answer on each size. Where `MayRate` is `MayRateBy`, nothing is asked of sizes
+-- beyond 32 bits: what a closure answers on these may be left open
 pub record IsFunction (MayRate : Size → ℕ → Type 0) : Type 0 where
   pub rate : Size → ℕ
   pub only : (size : Size) (answer : ℕ) → MayRate size answer → answer ≡ rate size
 
 module _ {A : Type 0} (MayAnswer : A → A → Ordering → Type 0) where
-  -- on any two elements there is at most one answer, swapped arguments give the reversed one, and "not Greater" is transitive
+  -- on any two elements no answer is allowed but that of one function; on swapped elements it is reversed; and where x
+  -- is not `Greater` than y, and y not than z, x is not `Greater` than z
   pub record IsTotalPreorder : Type 0 where
     pub compare : A → A → Ordering
     pub only : (x y : A) (r : Ordering) → MayAnswer x y r → r ≡ compare x y
     pub swapped : (x y : A) → compare y x ≡ ordering_reverse (compare x y)
     pub transitive : (x y z : A) → compare x y ≢ Greater → compare y z ≢ Greater → compare x z ≢ Greater
 
-  -- on these elements no answer but that of `compare` may come, swapped elements have the reversed one, and "not Greater" is
-  -- transitive
+  -- on these elements no answer but that of `compare` may come, swapped elements have the reversed one, and where x is
+  -- not `Greater` than y, and y not than z, x is not `Greater` than z
   pub record IsTotalPreorderOn (xs : List A) (compare : A → A → Ordering) : Type 0 where
     pub only : (x y : A) (r : Ordering) → Contains xs x → Contains xs y → MayAnswer x y r → r ≡ compare x y
     pub swapped : (x y : A) → Contains xs x → Contains xs y → compare y x ≡ ordering_reverse (compare x y)
     pub transitive : (x y z : A) → Contains xs x → Contains xs y → Contains xs z
         → compare x y ≢ Greater → compare y z ≢ Greater → compare x z ≢ Greater
 
-  -- the comparison may answer `Greater` on the chosen one and each later one and, if it is not the first, something else than
-  -- `Greater` on some earlier one and it; where the answers are those of a total preorder, none is greater
+  -- the chosen element stands in the list (`listed`). On it and each later one `Greater` may be answered
+  -- (`beats_later`). It is the first, or on some earlier one and it something else than `Greater` may be answered
+  -- (`replaces`). Where the answers are those of a total preorder on the list, no element is `Greater` than it
+  -- (`greatest`)
   pub record MayChoose (xs : List A) (chosen : A) : Type 0 where
     pub before : List A
     pub after : List A
@@ -37,11 +41,13 @@ module _ {A : Type 0} (MayAnswer : A → A → Ordering → Type 0) where
     pub replaces : (before ≡ []) ⊎ Any (λ earlier. (r : Ordering) × MayAnswer earlier chosen r × (r ≢ Greater)) before
     pub greatest : (compare : A → A → Ordering) → IsTotalPreorderOn xs compare → All (λ other. compare other chosen ≢ Greater) xs
 
--- the pieces are those of a cut that the comparison allows
+-- the pieces are those of one of the six cuts, and the comparison allows this one (`MayChoose`), by the sizes of the
+-- pieces
 abbrev pub IsAllowedCut : (List Size → List Size → Ordering → Type 0) → Cuboid → Size → List Cuboid → Type 0
 IsAllowedCut MayPrefer section size pieces = MayChoose (λ a b. MayPrefer (sizes_of a) (sizes_of b)) (cuts section size) pieces
 
--- the comparison is a total preorder on the six cuts of each section round each size that it holds, of those that are met
+-- take any section and any size that it holds, of which `IsMet` says that they may be met: on the six cuts of the
+-- section round this size the comparison is a total preorder
 pub record IsPreorderOnCuts (IsMet : Cuboid → Size → Type 0) (MayPrefer : List Size → List Size → Ordering → Type 0) : Type 0 where
   pub compare : Cuboid → Size → List Cuboid → List Cuboid → Ordering
   pub preorder : (section : Cuboid) (member : Size) → IsMet section member → Holds section member

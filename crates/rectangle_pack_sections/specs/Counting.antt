@@ -3,7 +3,7 @@ use Rattle.std.specs.Prelude.{◌≡◌, ◌↔◌, ℕ, List, [], ◌∷◌, An
 use Rattle.std.specs.List.{sum_by}
 use Rattle.rectangle_pack_sections.specs.Boxes.{Cuboid, Cell, IsCellOf, AreApart, is_cell_of, volume_of}
 
--- how many of the boxes have the cell
+-- how many of the boxes have the cell c
 unfoldable pub times_filled : Cell → List Cuboid → ℕ
 times_filled c boxes = count_by (is_cell_of c) boxes
 

@@ -12,25 +12,31 @@ is_same Z Z = true
 is_same _ _ = false
 
 -- whether the axis a stands before the axis b in the order
+-- Example: in z, y, x: z is before y, and x is not
 abbrev pub is_before : List Axis → Axis → Axis → Bool
 is_before [] a b = false
 is_before (c ∷ order) a b = if is_same c b then false else if is_same c a then true else is_before order a b
 
 -- the box of this size at the section's corner
+-- Example: of 50x25x10 in (0,0,0) 100x100x100: (0,0,0) 50x25x10
 abbrev pub placed : Cuboid → Size → Cuboid
 placed section size = record section { whd = size }
 
 -- where the piece of the axis a starts on the axis b: beyond the box on its own axis, else at the section's corner
+-- Example: of 50x25x10 in (0,0,0) 100x100x100 the piece of x: 50 on x, 0 on y and z
 unfoldable pub piece_start : Cuboid → Size → Axis → Axis → ℕ
 piece_start section size a b = if is_same a b then start b section + extent b size else start b section
 
 -- how far the piece of the axis a runs on the axis b: on its own axis over what is left beyond the box, on an axis that
 -- stands before a in the order over the box, else over the section
+-- Example: of 50x25x10 in (0,0,0) 100x100x100 the piece of y in the order z, y, x: on y 100 - 25 = 75, on z the box's
+-- 10, on x the section's 100
 unfoldable pub piece_extent : Cuboid → Size → List Axis → Axis → Axis → ℕ
 piece_extent section size order a b =
     if is_same a b then extent b section.whd - extent b size else if is_before order b a then extent b size else extent b section.whd
 
 -- the piece that a cut in this order of the axes cuts off on the axis a
+-- Example: of 50x25x10 in (0,0,0) 100x100x100 on y in the order z, y, x: (0,25,0) 100x75x10
 unfoldable pub piece : Cuboid → Size → List Axis → Axis → Cuboid
 piece section size order a = record {
   x = piece_start section size a X;
@@ -44,6 +50,8 @@ piece section size order a = record {
 }
 
 -- right, above and behind: the pieces on the axes x, y and z
+-- Example: of 50x25x10 in (0,0,0) 100x100x100 in the order z, y, x: (50,0,0) 50x25x10, (0,25,0) 100x75x10, (0,0,10)
+-- 100x100x90
 unfoldable pub pieces : Cuboid → Size → List Axis → List Cuboid
 pieces section size order = piece section size order X ∷ piece section size order Y ∷ piece section size order Z ∷ []
 
@@ -58,6 +66,6 @@ orders =
 unfoldable pub cuts : Cuboid → Size → List (List Cuboid)
 cuts section size = map (pieces section size) orders
 
--- the sizes of boxes
+-- the sizes of a list of boxes
 abbrev pub sizes_of : List Cuboid → List Size
 sizes_of boxes = map (λ b. b.whd) boxes

@@ -43,8 +43,8 @@ pub record AreObeyed (input : List ℕ) (old : Desk Name) (before : Option (List
   pub number_is : number ≡ 1 + length answered
   pub printed : Appends before after text
 
--- the first lines of an input are obeyed, and then they stop so, in which case the run may end; where a read or a write failed,
--- nothing is said
+-- the first lines of an input are obeyed, and then they stop so, in which case the run may end; where a read or a write
+-- failed, nothing is said
 abbrev pub StopsSo : Outcome → (input : List ℕ) → Desk Name → Option (List ℕ) → Option (List ℕ) → Type 0
 StopsSo outcome.IoFailed input old before after = ⊤
 StopsSo end input old before after =

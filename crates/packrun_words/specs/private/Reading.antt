@@ -4,8 +4,8 @@ use Rattle.std.specs.Io.{StopsAt, IsEmptyOrEndsWith, appended_bytes}
 use Rattle.std.specs.Io.KnownBytes.{Consumes, IsAtEnd}
 use Rattle.std.specs.Io.BufRead.{ends_with_byte}
 
--- what was read of a reader's bytes: all up to the first line feed, itself among them, and at most 4097; fewer without a line feed
--- only where the input ends
+-- what was read of a reader's bytes: all up to the first line feed, itself among them, and at most 4097; fewer without
+-- a line feed only where the input ends
 pub record IsLineRead (old : Option (List ℕ)) (line : List ℕ) (new : Option (List ℕ)) : Type 0 where
   pub consumed : Consumes old new line
   pub stops : StopsAt line 10

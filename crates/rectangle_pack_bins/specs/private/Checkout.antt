@@ -9,31 +9,34 @@ use Rattle.std.specs.BTreeMap.{is_at}
 use Rattle.rectangle_pack_sections.specs.Bins.{Bin, Held, IsSound}
 use Rattle.rectangle_pack_lists.specs.private.Slots.{Slots, sections_of}
 
--- the bin with the sections that stand in slots, where they do
+-- the bin with the sections that stand in slots, where there are slots; else the bin as it is
 abbrev pub with_slots : Bin → Option Slots → Bin
 with_slots bin slots = record bin { sections = unwrap_or (option_map (λ (s : Slots). sections_of s.all) slots) bin.sections }
 
--- the sections in slots, where there are any, can be written back: they are sound, and the bin's own list has room for them
+-- the sections in slots, where there are any, can be written back: they are sound, and the bin's own list has room for
+-- them
 abbrev pub CanWriteBack : Held → Option Slots → Type 0
 CanWriteBack held slots = IfSome slots (λ (s : Slots). IsSound held.bin.size (sections_of s.all) × (length (sections_of s.all) ≤ held.room))
 
--- a bin while a packing lasts: its own list, which stays where the packing works in slots, and the bin as the packing has it
+-- a bin that is checked out while a packing lasts: `own`, with its own list, and `now`, as the packing has it
 pub record Open : Type 0 where
   pub own : Held
   pub now : Bin
 
--- the bin that goes back into the map: where the packing is kept, as it has it, and else with its own list
+-- what goes back into the map: where the packing is kept, the bin as the packing has it; else the bin with its own list
 abbrev pub closed : Bool → Open → Held
 closed true bin = record { bin = bin.now; room = bin.own.room }
 closed false bin = bin.own
 
--- the map with these bins checked in, each at the id that stands at its index in the order
+-- the map with these bins checked in: the first of them at the id that comes first in the order, the second at the
+-- next, and so on
 abbrev pub checked_in : {B : Type 0} → (B → B → Ordering) → Bool → List (ℕ × B) → List Open → List (B × Held) → List (B × Held)
 checked_in cmp kept order [] entries = entries
 checked_in cmp kept [] (bin ∷ out) entries = entries
 checked_in cmp kept (o ∷ order) (bin ∷ out) entries = checked_in cmp kept order out (set_value (is_at (cmp o.1)) entries (closed kept bin))
 
--- the bins of a packing, wherever they are: as the packing has them, and with their own lists; and the order in which they are tried
+-- what is seen of the bins of a packing, wherever they are: the map with all bins checked in, as the packing has them
+-- (`kept`) and with their own lists (`own`), and the order in which they are tried
 pub record BinsInUse (B : Type 0) : Type 0 where
   pub kept : List (B × Held)
   pub own : List (B × Held)
@@ -43,25 +46,27 @@ pub record BinsInUse (B : Type 0) : Type 0 where
 abbrev pub in_use : {B : Type 0} → (B → B → Ordering) → List (ℕ × B) → List Open → List (B × Held) → BinsInUse B
 in_use cmp order out entries = record { kept = checked_in cmp true order out entries; own = checked_in cmp false order out entries; order = order }
 
--- what is left of the bins: as the packing has them where it is kept, and else with their own lists
+-- what is left of them at the end: `kept` where the packing is kept, and else `own`
 abbrev pub left_of : {B : Type 0} → Bool → BinsInUse B → List (B × Held)
 left_of true bins = bins.kept
 left_of false bins = bins.own
 
--- they can be checked in: each id of the order is in the map, the ids differ, and no more bins are out of the map than there are ids
+-- each id of the order is in the map, the ids differ, and no more bins are out of it than there are ids
 pub record CanCheckIn {B : Type 0} (cmp : B → B → Ordering) (order : List (ℕ × B)) (out : List Open) (entries : List (B × Held)) : Type 0 where
   pub found : All (λ o. IsSome (lookup (is_at (cmp o.1)) entries)) order
   pub distinct : IsDistinct (eq_by_cmp cmp) (map (λ o. o.1) order)
   pub within : length out ≤ length order
 
--- the bin of this id was tried: it was sound, it has no less room after, and all others stay
+-- the bin of this id was tried: in `old` it is `before`, whose sections are sound; in `new` it is `after`, with no less
+-- room; all others are as they were
 pub record IsTriedIn {B : Type 0} (cmp : B → B → Ordering) (id : B) (old : List (B × Held)) (before after : Held) (new : List (B × Held)) : Type 0 where
   pub found : lookup (is_at (cmp id)) old ≡ Some before
   pub sound : IsSound before.bin.size before.bin.sections
   pub room : before.room ≤ after.room
   pub written : new ≡ set_value (is_at (cmp id)) old after
 
--- the bin of this id was tried, wherever it is, and the order stays
+-- the bin of this id was tried, wherever it is, as `IsTriedIn` says it of both lists of the bins in use, `kept` and
+-- `own`; the order stays
 pub record IsBinTried {B : Type 0} (cmp : B → B → Ordering) (id : B) (old : BinsInUse B) (before after : Open) (new : BinsInUse B) : Type 0 where
   pub kept : IsTriedIn cmp id old.kept (closed true before) (closed true after) new.kept
   pub own : IsTriedIn cmp id old.own before.own after.own new.own

@@ -6,11 +6,11 @@ use Rattle.rectangle_pack_c.specs.declared.RpPlacement.{RpPlacement}
 use Rattle.rectangle_pack_c.specs.declared.session.RpOutstanding.{RpOutstanding}
 use Rattle.rectangle_pack_c.specs.Answers.{corner_of}
 
--- an outstanding placement as a placement
+-- what is written of an outstanding placement
 abbrev pub as_placement : Outstanding ℕ ℕ → RpPlacement
 as_placement o = corner_of o.bin o.location
 
--- an outstanding placement with its number
+-- what is written of an outstanding placement, its number too
 abbrev pub as_outstanding : Outstanding ℕ ℕ → RpOutstanding
 as_outstanding o = record { number = o.number; placement = as_placement o }
 
@@ -18,6 +18,6 @@ as_outstanding o = record { number = o.number; placement = as_placement o }
 abbrev pub AreWritten : {X : Type 0} → (Outstanding ℕ ℕ → X) → List (Outstanding ℕ ℕ) → List X → Type 0
 AreWritten written outstanding entries = All (λ o. slice_get entries o.id ≡ Some (written o)) outstanding
 
--- each placement that a session has beyond those of before is written so
+-- each placement that the new session has beyond those of the old one is written at the index of its box
 abbrev pub NewAreWritten : {X : Type 0} → (Outstanding ℕ ℕ → X) → State ℕ ℕ → State ℕ ℕ → List X → Type 0
 NewAreWritten written old new entries = AreWritten written (drop (length old.outstanding) new.outstanding) entries

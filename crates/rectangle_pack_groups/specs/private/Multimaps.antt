@@ -11,7 +11,7 @@ use Rattle.std.specs.Map.{lookup, set_value}
 use Rattle.std.specs.BTreeMap.{is_at, insert_entry}
 use Rattle.rectangle_pack_groups.specs.Groups.{Appends}
 
--- the entries of which the list has an item
+-- the entries whose list has an item
 abbrev pub filled : {K X : Type 0} → List (K × List X) → List (K × List X)
 filled es = filter (λ e. nat_lt 0 (length e.1)) es
 
@@ -34,22 +34,23 @@ pub record IsAppended {X A : Type 0} (items : List X) (count : ℕ) (before afte
   pub long : length tail ≡ count
   pub given : All (Contains items) tail
 
--- the same of what is found at a key, where nothing stays nothing
+-- the same (`IsAppended`) of what is found at a key; where nothing was found, nothing is found afterwards
 abbrev pub AreAppended : {X A : Type 0} → List X → ℕ → Option (Vec X A) → Option (Vec X A) → Type 0
 AreAppended items count before after = MatchOption before (after ≡ None) (λ v. IsSomeAnd after (IsAppended items count v))
 
--- a list is found, which is that of before, or the empty one, followed by so many of the items
+-- a list is found: the one of before, or the empty one, followed by so many of the items
 abbrev pub IsAdded : {X : Type 0} → List X → ℕ → Option (List X) → Option (List X) → Type 0
 IsAdded {X} items count before after =
     IsSomeAnd after (λ list. (tail : List X) × (list ≡ unwrap_or before [] ++ tail) × (length tail ≡ count) × All (Contains items) tail)
 
--- taking the last item at each of the keys, in their order, leads from now to start
+-- taking the last item away at each of the keys, in their order, leads to the lists `start`
 abbrev pub TakesBack : {K X : Type 0} → (K → K → Ordering) → List K → List (K × List X) → List (K × List X) → Type 0
 TakesBack cmp [] now start = now ≡ start
 TakesBack {X = X} cmp (k ∷ ks) now start =
     (list : List X) × (last : X) × (lookup (is_at (cmp k)) now ≡ Some (list ++ last ∷ [])) × TakesBack cmp ks (set_value (is_at (cmp k)) now list) start
 
--- taking the last item at each of the keys, from the last key, leads to lists that were there before, but for empty ones
+-- taking the last item away at each of the keys, from the last key to the first, leads to the lists that were there
+-- before, empty lists aside
 pub record CanTakeBack {K X : Type 0} (cmp : K → K → Ordering) (keys : List K) (now before : List (K × List X)) : Type 0 where
   pub start : List (K × List X)
   pub back : TakesBack cmp (reverse keys) now start
@@ -63,7 +64,8 @@ pub record PutsAlone {K Id A : Type 0} (key_cmp : K → K → Ordering) (cmp : I
   pub alone : list.items ≡ member ∷ []
   pub put : new ≡ insert_entry key_cmp old key list
 
--- each list at one of the keys is the one of before, or the empty one, followed by the id as often as the key occurs, and the others stay
+-- the list at each of some keys is its old one, or the empty one, followed by the id as often as the key occurs among
+-- them; the lists at other keys stay
 pub record AppendsAtEach {K Id : Type 0} (key_cmp : K → K → Ordering) (cmp : Id → Id → Ordering) (keys : List K) (id : Id) (old new : List (K × List Id)) : Type 0 where
   pub named : (q : K) → 0 < times key_cmp keys q
       → IsSomeAnd (lookup (is_at (key_cmp q)) new) (Appends cmp (unwrap_or (lookup (is_at (key_cmp q)) old) []) id (times key_cmp keys q))

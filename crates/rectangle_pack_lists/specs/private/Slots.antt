@@ -13,7 +13,7 @@ sections_of [] = []
 sections_of (None ∷ slots) = sections_of slots
 sections_of (Some section ∷ slots) = section ∷ sections_of slots
 
--- the section in this slot holds the size, and no section after it does; so many sections stand from there on
+-- the section in this slot holds the size, and none after it does; `tests` is how many sections stand from there on
 pub record IsLastHolding (slots : List (Option Cuboid)) (size : Size) (slot tests : ℕ) : Type 0 where
   pub before : List (Option Cuboid)
   pub section : Cuboid
@@ -24,7 +24,7 @@ pub record IsLastHolding (slots : List (Option Cuboid)) (size : Size) (slot test
   pub newest : All (λ s. ¬ Holds s size) (sections_of after)
   pub tests_are : tests ≡ 1 + length (sections_of after)
 
--- no section holds the size; so many sections stand in the list
+-- no section holds the size; `tests` is how many sections there are
 pub record NoneHolds (slots : List (Option Cuboid)) (size : Size) (tests : ℕ) : Type 0 where
   pub none : All (λ s. ¬ Holds s size) (sections_of slots)
   pub tests_are : tests ≡ length (sections_of slots)

@@ -4,11 +4,11 @@ use Rattle.rectangle_pack_sections.specs.Boxes.{Size, Cuboid, volume_of, middle_
 use Rattle.rectangle_pack_lists.specs.private.Slots.{sections_of}
 use Rattle.rectangle_pack_lists.specs.declared.section_slots.summary.Summary.{Summary}
 
--- how many cells a size has, up to the greatest number of 64 bits
+-- how many cells a size has, at most 2^64 - 1
 abbrev pub bounded_volume_of : Size → ℕ
 bounded_volume_of s = min (volume_of s) (2 ^ 64 - 1)
 
--- the section is not greater than the summary says
+-- the section has no greater width, height, depth, middle side or volume than the summary says
 pub record IsWithin (summary : Summary) (section : Cuboid) : Type 0 where
   pub wide : section.whd.width ≤ summary.width
   pub high : section.whd.height ≤ summary.height
@@ -16,18 +16,18 @@ pub record IsWithin (summary : Summary) (section : Cuboid) : Type 0 where
   pub middle : middle_side section.whd ≤ summary.middle
   pub volume : bounded_volume_of section.whd ≤ summary.volume
 
--- how many sections stand in the slots, and what none of them goes beyond
+-- so many sections stand in these slots, and each is within the summary
 pub record Sums (summary : Summary) (slots : List (Option Cuboid)) : Type 0 where
   pub count : summary.count ≡ length (sections_of slots)
   pub within : All (IsWithin summary) (sections_of slots)
 
--- each whole stretch of the width, from the first slot on, has its summary
+-- each whole stretch of so many slots, from the first slot on, has its summary
 pub record SumAll (width : ℕ) (slots : List (Option Cuboid)) (summaries : List Summary) : Type 0 where
   pub whole : length summaries * width ≤ length slots
   pub rest : length slots < length summaries * width + width
   pub each : (k : ℕ) (d : Summary) → k < length summaries → Sums (slice_index_or summaries k d) (take width (drop (k * width) slots))
 
--- the whole blocks and the whole rows of slots have their summaries
+-- the whole blocks have their summaries, and so have the whole rows (`SumAll`)
 pub record AreSummed (block row : ℕ) (slots : List (Option Cuboid)) (blocks rows : List Summary) : Type 0 where
   pub in_blocks : SumAll block slots blocks
   pub in_rows : SumAll row slots rows
@@ -48,7 +48,7 @@ of_section z =
       count = 1;
     }
 
--- the summary of the slots of both
+-- the summary of two stretches together
 abbrev pub joined : Summary → Summary → Summary
 joined s t =
     record {

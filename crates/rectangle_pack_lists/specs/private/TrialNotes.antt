@@ -12,8 +12,8 @@ use Rattle.rectangle_pack_lists.specs.private.Notes.{LeadsBack}
 abbrev pub IsStuckAtOnce : List Cuboid → List Size → Type 0
 IsStuckAtOnce sections members = (first : Size) × (others : List Size) × (members ≡ first ∷ others) × All (λ s. ¬ Holds s first) sections
 
--- what a trial in a list of sections answers: done, with the last list; or stuck, or want of memory, and the list is as it was. The
--- tests are counted but for want of memory
+-- what a trial in a list of sections answers, true where it is done and false where it is stuck, and what it leaves of
+-- the list, as `IsTrialAnswer` says it of a bin. The tests are counted but for want of memory
 abbrev pub IsTried : {E : Type 0} → Answers → List Cuboid → List Size → ℕ → Result Bool E → List Cuboid → List Cuboid → ℕ → Type 0
 IsTried may old members counted (Ok true) locations new counter =
     (tests : ℕ) × IsDone may old members locations new tests × (counter ≡ saturated (counted + tests))
@@ -21,7 +21,7 @@ IsTried may old members counted (Ok false) locations new counter =
     (tests : ℕ) × IsStuck may old members tests × (new ≡ old) × (counter ≡ saturated (counted + tests))
 IsTried may old members counted (Err error) locations new counter = (new ≡ old) × (counter ≡ counted)
 
--- done: the bin has the trial's list; stuck, or want of memory: the bin is as it was. The tests are counted but for want of memory
+-- the same of a bin: where the trial is done it has the trial's list, and else it is as it was
 abbrev pub IsNotedAnswer : {E : Type 0} → Answers → Bin → List Size → ℕ → Result Bool E → List Cuboid → Bin → ℕ → Type 0
 IsNotedAnswer may old members counted (Ok true) locations new counter =
     (tests : ℕ) × IsDone may old.sections members locations new.sections tests
@@ -30,7 +30,7 @@ IsNotedAnswer may old members counted (Ok false) locations new counter =
     (tests : ℕ) × IsStuck may old.sections members tests × (new ≡ old) × (counter ≡ saturated (counted + tests))
 IsNotedAnswer may old members counted (Err error) locations new counter = (new ≡ old) × (counter ≡ counted)
 
--- done: the notes lead from the new list back to the old; stuck, or want of memory: the bin stays
+-- where the trial is done, its notes lead from the new list back to the old one (`LeadsBack`); else the bin stays
 abbrev pub LeavesNotes : {E : Type 0} → Result Bool E → List Note → Held → Held → Type 0
 LeavesNotes (Ok true) notes old new =
     (new.bin ≡ record old.bin { sections = new.bin.sections }) × LeadsBack new.room new.bin.sections notes old.bin.sections

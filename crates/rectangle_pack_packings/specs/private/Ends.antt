@@ -13,8 +13,8 @@ use Rattle.rectangle_pack_rules.specs.PackAnswers.{AreCounted, IsCountedAnswer}
 use Rattle.rectangle_pack_rules.specs.Placed.{AreLastPlacements, placements_of, locations_of}
 use Rattle.rectangle_pack_packings.specs.private.RollBack.{RollsBackTo}
 
--- the bins and the answer of a packing: where it is done, the bins are as it has them, for want of memory as they are when it is rolled back, and where it is
--- refused the one or the other
+-- what a packing answers, and the bins with it: those it has where it is done; those of the start where memory was
+-- refused; where it is refused for space the former, or the latter if it is undone then
 abbrev pub IsEnd : {Id B A E : Type 0} → (Id → Id → Ordering) → (B → B → Ordering) → Packing Id B A → Result Bool E → Bool → List (B × Held)
     → Result (RectanglePackOk Id B A) RectanglePackError → Type 0
 IsEnd cmp bin_cmp packing packed undoes bins (Ok ok) =
@@ -25,7 +25,8 @@ IsEnd {B = B} cmp bin_cmp packing packed undoes bins (Err NotEnoughBinSpace) =
     × MatchBool undoes ((start : List (B × Bin)) → RollsBackTo bin_cmp packing start → bins_of bins ≡ start) (bins ≡ packing.bins.kept)
 IsEnd {B = B} cmp bin_cmp packing packed undoes bins (Err OutOfMemory) = (start : List (B × Bin)) → RollsBackTo bin_cmp packing start → bins_of bins ≡ start
 
--- what a packing answers, with its fit tests counted (`IsCountedAnswer`), where one that is refused may be undone: then the bins are as they were
+-- what a packing answers, with its fit tests, as `IsCountedAnswer` says it; but if a packing that is refused for space
+-- is undone, the bins are as they were then
 abbrev pub IsUndoneAnswer : {Id B G A : Type 0} → (Group G Id → Group G Id → Ordering) → Rules Id B → Bool → Collection Id G → List (B × Bin) → ℕ
     → Result (RectanglePackOk Id B A) RectanglePackError → List (B × Bin) → ℕ → Type 0
 IsUndoneAnswer {B = B} group_cmp rules undoes all old before (Err NotEnoughBinSpace) new after =

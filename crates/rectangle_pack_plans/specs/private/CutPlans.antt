@@ -13,21 +13,21 @@ use Rattle.rectangle_pack_sections.specs.Counting.{Tiles}
 use Rattle.rectangle_pack_sections.specs.CutTrees.{lower, upper, HaveSameBoxes}
 use Rattle.rectangle_pack_plans.specs.CutPlans.{IsOpenPlane, axis_rank, lower_boxes, upper_boxes}
 
--- the boxes have cells, and end within 32 bits
+-- each of the boxes has cells, and ends within 32 bits
 abbrev pub HaveCellsAndFit : List Cuboid → Type 0
 HaveCellsAndFit boxes = All (λ b. (has_cells b ≡ true) × FitsU32 b) boxes
 
--- the boxes have cells and fill the whole, which ends within 32 bits
+-- the boxes fill the part (`Tiles`), each has cells, and the part ends within 32 bits
 pub record IsFilled (whole : Cuboid) (boxes : List Cuboid) : Type 0 where
   pub fits : FitsU32 whole
   pub tiles : Tiles boxes whole
   pub cells : All (λ e. has_cells e ≡ true) boxes
 
--- the boxes stand in order of their starts, where an axis is named
+-- where an axis is named, the boxes stand in the order of their starts on it
 abbrev pub AreOrdered : Option Axis → List Cuboid → Type 0
 AreOrdered ordered boxes = IfSome ordered (λ a. IsNonDecreasingBy (start a) boxes)
 
--- no plane on the axis is open below a place
+-- no plane on the axis is open below the place
 abbrev pub IsClosedBelow : Axis → ℕ → Cuboid → List Cuboid → Type 0
 IsClosedBelow a place whole boxes = (q : ℕ) → q < place → ¬ IsOpenPlane a q whole boxes
 
@@ -35,11 +35,12 @@ IsClosedBelow a place whole boxes = (q : ℕ) → q < place → ¬ IsOpenPlane a
 abbrev pub IsClosedOn : Axis → Cuboid → List Cuboid → Type 0
 IsClosedOn a whole boxes = (q : ℕ) → ¬ IsOpenPlane a q whole boxes
 
--- no plane is open on the first n axes
+-- no plane is open on the first n of the axes x, y and z
 abbrev pub AreClosed : ℕ → Cuboid → List Cuboid → Type 0
 AreClosed n whole boxes = (a : Axis) → axis_rank a < n → IsClosedOn a whole boxes
 
--- the first open plane on an axis, with the boxes below it in front of those above it
+-- the first open plane on the axis a is at the place. So many boxes are below it, more than none and less than all, and
+-- they stand in front of those above it
 pub record IsFirstOpen (a : Axis) (whole : Cuboid) (boxes : List Cuboid) (place below : ℕ) : Type 0 where
   pub is_open : IsOpenPlane a place whole boxes
   pub least : IsClosedBelow a place whole boxes
@@ -48,35 +49,39 @@ pub record IsFirstOpen (a : Axis) (whole : Cuboid) (boxes : List Cuboid) (place 
   pub front : take below boxes ≡ lower_boxes a place boxes
   pub back : drop below boxes ≡ upper_boxes a place boxes
 
--- the first open plane of the axes, likewise, where the boxes stand in order on its axis
+-- the first open plane of the axes is at the split (`IsFirstOpen`): the boxes stand in order on its axis, and no plane
+-- is open on an axis before it
 pub record IsSplit (whole : Cuboid) (boxes : List Cuboid) (split : Split) : Type 0 where
   pub on_axis : IsFirstOpen split.axis whole boxes split.place split.below
   pub ordered : IsNonDecreasingBy (start split.axis) boxes
   pub first : AreClosed (axis_rank split.axis) whole boxes
 
--- the lower and the upper part of a part that is split; before the lower one comes the cut
+-- the lower part of a part that is split, with how many boxes it has, which are in order on the axis of the split. The
+-- cut comes before its plan
 abbrev pub lower_part : Part → Split → Part
 lower_part p s =
     record { whole = lower s.axis s.place p.whole; count = s.below; ordered = Some s.axis; before = Some (CutAt s.axis s.place); turns = 0 }
 
+-- the upper part, likewise; nothing comes before its plan
 abbrev pub upper_part : Part → Split → ℕ → Part
 upper_part p s turns = record { whole = upper s.axis s.place p.whole; count = p.count - s.below; ordered = Some s.axis; before = None; turns = turns }
 
--- whether a box does not start before the part, on any axis
+-- whether the box does not start before the part, on any axis
 unfoldable pub is_left : Cuboid → Cuboid → Bool
 is_left part b = (nat_le (start X part) (start X b) && nat_le (start Y part) (start Y b)) && nat_le (start Z part) (start Z b)
 
--- the boxes that are left of a part, once lower parts were cut off it
+-- the boxes that are left of a part, once lower parts were cut off it (`is_left`)
 abbrev pub left_in : Cuboid → List Cuboid → List Cuboid
 left_in part boxes = filter (is_left part) boxes
 
--- the rest of an order, from which the first n boxes that are left were taken
+-- `rest` is the end of the list `order`, from the first on that is left once n of those that are left were taken
 pub record IsLeftIn (part : Cuboid) (n : ℕ) (order rest : List Cuboid) : Type 0 where
   pub gone : ℕ
   pub is : rest ≡ drop gone order
   pub left : left_in part rest ≡ drop n (left_in part order)
 
--- what a look along an axis may find: the first open plane on it, or that none is open; it may find nothing
+-- what a look along an axis may find: the first open plane (`IsFirstOpen`), or that none is open (`IsClosedOn`); it may
+-- find nothing
 abbrev pub FindsPlane : Axis → Cuboid → List Cuboid → Look → Type 0
 FindsPlane a whole boxes (Open place below) = IsFirstOpen a whole boxes place below
 FindsPlane a whole boxes Closed = IsClosedOn a whole boxes
@@ -86,25 +91,25 @@ FindsPlane a whole boxes Unknown = ⊤
 abbrev pub start_rank : Axis → Cuboid → ℕ
 start_rank a b = start a b * 4294967296 + (4294967295 - extent a b.whd)
 
--- of three orders, that along an axis
+-- of three lists, that of an axis
 abbrev pub along : Axis → List Cuboid → List Cuboid → List Cuboid → List Cuboid
 along X xs ys zs = xs
 along Y xs ys zs = ys
 along Z xs ys zs = zs
 
--- of three lists, in order along x, y and z, the same boxes are left, and they fill the part; where it is flat, the last may be
--- in any order
+-- each of the lists is in order on its axis, the third only where the part is deeper than 1; the same boxes are left in
+-- all three, and they fill the part
 pub record AreInOrder (part : Cuboid) (xs ys zs : List Cuboid) : Type 0 where
   pub rising : (a : Axis) → (a ≡ Z → 1 < part.whd.depth) → IsNonDecreasingBy (start a) (along a xs ys zs)
   pub filled : IsFilled part (left_in part xs)
   pub same : (a : Axis) → HaveSameBoxes (left_in part xs) (left_in part (along a xs ys zs))
   pub cells : (a : Axis) → All (λ b. has_cells b ≡ true) (left_in part (along a xs ys zs))
 
--- the boxes that are left in the order along the axis of a split are split by it
+-- the boxes that are left in the list of the split's axis are split by it (`IsSplit`)
 abbrev pub IsKeptSplit : Cuboid → List Cuboid → List Cuboid → List Cuboid → Split → Type 0
 IsKeptSplit part xs ys zs split = IsSplit part (left_in part (along split.axis xs ys zs)) split
 
--- what is kept of the orders once the boxes below a split are taken off
+-- the lists are those of the upper part (`AreInOrder`), and what is left in them is what was above the split
 pub record IsKeptAbove (part : Cuboid) (split : Split) (es xs ys zs : List Cuboid) : Type 0 where
   pub ordered : AreInOrder (upper split.axis split.place part) xs ys zs
   pub same : HaveSameBoxes (drop split.below es) (left_in (upper split.axis split.place part) xs)

@@ -9,14 +9,14 @@ use Rattle.rectangle_pack_plans.specs.CutPlans.{IsPlannedTree, steps_of}
 use Rattle.rectangle_pack_plans.specs.private.CutPlans.{IsFilled, AreOrdered}
 
 module _ (boxes : List Cuboid) (whole : Cuboid) where
-  -- a part: its filling fill it, in this order, and are from cuts of it where the boxes are from cuts of the whole
+  -- the filling fill the part, in its order, and are from cuts of it where the boxes are from cuts of the whole
   pub record IsPending (p : Part) (filling : List Cuboid) : Type 0 where
     pub filled : IsFilled p.whole filling
     pub ordered : AreOrdered p.ordered filling
     pub from_cuts : IsFromCuts boxes whole → IsFromCuts filling p.whole
 
-  -- the steps so far, and whatever is planned for the pending parts, in order, each after the step before it, are the plan of
-  -- the whole
+  -- the steps so far, and whatever is planned for these parts, one after another, each behind the cut that comes before
+  -- it, are the plan of the whole; the boxes of the parts stand one after another in `rest`
   unfoldable pub LeadOn : List Part → List Cuboid → List CutStep → Type 0
   LeadOn [] rest steps = (tree : CutTree) × IsPlannedTree tree whole boxes × (steps ≡ steps_of tree)
   LeadOn (p ∷ ps) rest steps =
@@ -24,17 +24,18 @@ module _ (boxes : List Cuboid) (whole : Cuboid) where
       × ((t : CutTree) → IsPlannedTree t p.whole (take p.count rest)
       → LeadOn ps (drop p.count rest) ((steps ++ option_to_list p.before) ++ steps_of t))
 
--- a part with these boxes may stand for other parts with theirs, once the step before it is taken
+-- the parts with their boxes may stand where the part with its boxes stands (`LeadOn`), once the cut that comes before
+-- it is in the plan
 abbrev pub MayBe : Part → List Cuboid → List Part → List Cuboid → Type 0
 MayBe p filling parts fillings =
     (boxes : List Cuboid) (whole : Cuboid) (ps : List Part) (left : List Cuboid) (steps : List CutStep) → LeadOn boxes whole (p ∷ ps) (filling ++ left) steps
     → LeadOn boxes whole (parts ++ ps) (fillings ++ left) (steps ++ option_to_list p.before)
 
--- at least one, and less for two parts than for both together
+-- a number, at least one, less for two parts than for both together
 abbrev pub weight : Part → ℕ
 weight p = suc (p.count + p.count - 2)
 
--- parts, the first of which is the next, that may stand for a part, and are lighter than it
+-- the parts may stand for the part (`MayBe`), the first of them is the next one, and they weigh less
 pub record IsPeeled (p : Part) (filling fillings : List Cuboid) (parts : List Part) : Type 0 where
   pub may_be : MayBe p filling parts fillings
   pub lighter : sum_by weight parts < weight p

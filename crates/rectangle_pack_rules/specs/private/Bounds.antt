@@ -12,15 +12,16 @@ use Rattle.rectangle_pack_lists.specs.Numbers.{saturated}
 abbrev pub free_sections_at : {B : Type 0} → (B → B → Ordering) → List (B × Bin) → B → ℕ
 free_sections_at bin_cmp bins id = unwrap_or (option_map (λ (b : Bin). length b.sections) (lookup (is_at (bin_cmp id)) bins)) 0
 
--- how many the bins of an order have
+-- how many free sections the bins of an order have
 abbrev pub free_sections_of : {B : Type 0} → (B → B → Ordering) → List (B × Bin) → List B → ℕ
 free_sections_of bin_cmp bins order = sum_by (free_sections_at bin_cmp bins) order
 
--- as many fit tests as groups of n entries may make in these bins, n for each free section and n * (n - 1) for each bin
+-- so many fit tests are no more than groups with so many entries may make in these bins: with n entries n for each free
+-- section and n · (n - 1) for each bin
 pub record AreWithin {B : Type 0} (bin_cmp : B → B → Ordering) (bins : List (B × Bin)) (order : List B) (entries tests : ℕ) : Type 0 where
   pub most : tests + length order * entries ≤ entries * free_sections_of bin_cmp bins order + length order * (entries * entries)
 
--- so many tests, or fewer, were added to a count
+-- some number of tests within that bound (`AreWithin`) was added to a count
 pub record AddsWithin {B : Type 0} (bin_cmp : B → B → Ordering) (bins : List (B × Bin)) (order : List B) (entries before after : ℕ) : Type 0 where
   pub tests : ℕ
   pub within : AreWithin bin_cmp bins order entries tests

@@ -12,11 +12,12 @@ use Rattle.rectangle_pack_groups.specs.Exclusions.{listed_at}
 abbrev pub are_in : {B : Type 0} → (B → B → Ordering) → List (Bor B) → B → Bool
 are_in bin_cmp excluded id = list_any (λ b. is_at (bin_cmp id) b.now) excluded
 
--- the bin of this id is the one that is kept for the group
+-- the bin of this id is the one that is kept as the home of the group
 abbrev pub went_to : {K B : Type 0} → (K → K → Ordering) → (B → B → Ordering) → List (Bor K × Bor B) → K → B → Bool
 went_to group_cmp bin_cmp homes group id = unwrap_or (option_map (λ b. is_at (bin_cmp id) b.now) (lookup (λ k. is_at (group_cmp group) k.now) homes)) false
 
--- of the groups that are placed, each in its bin, the bin of each that has partners is kept in `homes`
+-- of the groups that were placed, each one that has excluded partners has its bin kept as its home, and no others are
+-- kept for it
 pub record AreHomesKept {K B : Type 0} (group_cmp : K → K → Ordering) (bin_cmp : B → B → Ordering) (partners : List (K × List K))
     (placed : List (K × B)) (homes : List (Bor K × Bor B)) : Type 0 where
   pub each : (group : K) → 0 < length (listed_at group_cmp partners group) → (id : B)

@@ -10,7 +10,7 @@ use Rattle.rectangle_pack_sections.specs.Bins.{Bin}
 use Rattle.rectangle_pack_sections.specs.Boxes.{Size}
 use Rattle.rectangle_pack_rules.specs.Packing.{Rules, Members, at_start, AreAllPlaced, IsRefused}
 
--- the keys and the names of an order of groups
+-- an order of references, as keys and what they point to
 abbrev pub keys_of_order : {K Id A : Type 0} → List (OrderedGroup K Id A) → List (ℕ × K)
 keys_of_order order = map (λ o. (o.key.0, o.name.now)) order
 
@@ -18,7 +18,7 @@ keys_of_order order = map (λ o. (o.key.0, o.name.now)) order
 abbrev pub entries_at : {Id K : Type 0} → (K → K → Ordering) → List (K × List Id) → ℕ × K → ℕ
 entries_at group_cmp lists o = length (unwrap_or (lookup (is_at (group_cmp o.1)) lists) [])
 
--- the sizes of these ids stand among all sizes from this index on
+-- the sizes of a group's ids stand one after another in the list of all sizes, from this index on
 pub record SizesStandAt {Id : Type 0} (cmp : Id → Id → Ordering) (sizes : List (Id × Size)) (all : List Size) (ids : List Id) (start : ℕ) : Type 0 where
   pub before : List Size
   pub here : List Size
@@ -27,19 +27,22 @@ pub record SizesStandAt {Id : Type 0} (cmp : Id → Id → Ordering) (sizes : Li
   pub start_is : start ≡ length before
   pub each : AllZip (λ id size. lookup (is_at (cmp id)) sizes ≡ Some size) ids here
 
--- a group of an order, with its ids and their sizes
+-- a group of an order, as its name, its ids and the sizes that stand for them in the list of all sizes
+-- Example: where the order says that the sizes of a group of 2 ids begin at 3, they are those at 3 and 4
 abbrev pub members_of : {K Id A : Type 0} → List Size → OrderedGroup K Id A → K × Members Id
 members_of all o = (o.name.now, record { ids = o.ids.now.items; sizes = slice_range all o.start (o.start + length o.ids.now.items) })
 
--- a size for each id of the group is among all sizes, from where they begin
+-- the list of all sizes is long enough: from where those of the group begin, there is one for each of its ids
+-- Example: for 2 ids whose sizes begin at 3, it has 5 sizes or more
 abbrev pub HasSizes : {K Id A : Type 0} → List Size → OrderedGroup K Id A → Type 0
 HasSizes all o = o.start + length o.ids.now.items ≤ length all
 
--- how many members the groups have
+-- how many members these groups have together
+-- Example: of groups of 2 and 3: 5
 abbrev pub members_in : {Id K : Type 0} → List (K × Members Id) → ℕ
 members_in {Id} {K} gs = sum_by (λ (g : K × Members Id). length g.1.sizes) gs
 
--- a beginning of these groups is placed, and the next group is refused
+-- groups at the beginning of the order are placed, and the next one is refused
 pub record StopsAmong {Id B K : Type 0} (rules : Rules Id B) (excludes : List (K × B) → K → B → Bool) (order : List B)
     (groups : List (K × Members Id)) (old new : List (B × Bin)) (tests : ℕ) : Type 0 where
   pub beginning : List (K × Members Id)
