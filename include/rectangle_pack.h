@@ -343,7 +343,7 @@ typedef struct rp_cut_step {
 } rp_cut_step;
 
 /* The ids of all bins, in rising order. RP_DONE or RP_SHORT_ARRAY. */
-uint32_t rectangle_pack_session_bins(rp_session *session, uint32_t *bins, size_t length, size_t *count);
+uint32_t rectangle_pack_session_bins(rp_session *session, uint32_t *ids, size_t length, size_t *count);
 
 /* The free sections of a bin, the newest last. RP_DONE, RP_SHORT_ARRAY or RP_UNKNOWN_BIN. */
 uint32_t rectangle_pack_session_free_sections(rp_session *session, uint32_t bin, rp_section *sections, size_t length, size_t *count);

@@ -2,7 +2,6 @@
 -- what a line asks for, what each transition makes of a session, what an answer is on desks that are alike, and then line after line.
 pub mod Kept
 pub mod Requests
-pub mod OneJoin
 pub mod OneTransition
 pub mod OnePacking
 pub mod OneAnswer

@@ -36,7 +36,8 @@ abbrev pub groups_of : List Name → Option (List Name)
 groups_of [] = None
 groups_of (group ∷ groups) = Some (group ∷ groups)
 
--- a call changes the desk so, and what it answers has this text, of a line that names this bin or this placement
+-- a call changes the desk so, and what it answers has this text. What is named counts only in a refusal: the bin, or the
+-- placement. Want of memory has no text, so it answers no line
 abbrev pub Replies : (Desk Name → Result (Unit {0}) SessionError → Desk Name → Type 0) → (named : List ℕ) → Desk Name → List ℕ → Desk Name → Type 0
 Replies Changes named old text new = (answer : Result (Unit {0}) SessionError) × Changes old answer new × (reply_text answer named ≡ Some text)
 

@@ -60,8 +60,8 @@ module _ {Name : Type 0} (cmp : Name → Name → Ordering) where
   group_order (Grouped a) (Ungrouped b) = Greater
   group_order (Grouped a) (Grouped b) = cmp a b
 
-  -- a box of this name and size is to be placed: alone (`PushesAlone`), or in each of these groups (`PushesInto`); the
-  -- groups of the new boxes stand in order, each once
+  -- a box of this name and size is to be placed: alone (`PushesAlone`); or in these groups, in each as often as it is named
+  -- (`PushesInto`), and all groups then stand in order, each once
   abbrev pub TakesBox : Name → Size → Option (List Name) → Collection Name Name → Collection Name Name → Type 0
   TakesBox name size None old new = PushesAlone cmp group_order old new name size
   TakesBox name size (Some groups) old new =
@@ -72,7 +72,8 @@ module _ {Name : Type 0} (cmp : Name → Name → Ordering) where
   abbrev pub volume_rules : Rules Name Name
   volume_rules = named_rules cmp cmp Volume
 
-  -- the boxes are packed by these rules (`Packs`), and where that is done they are forgotten; else they are kept
+  -- the boxes are packed by these rules (`Packs`), and where that is done they are forgotten, with the pairs of groups;
+  -- else both are kept
   -- Example: after `packed 2` there is nothing to place
   abbrev pub PacksBoxes : Desk Name → Result Packed SessionError → Desk Name → Type 0
   PacksBoxes old (Ok numbers) new =

@@ -9,23 +9,24 @@ use Rattle.packrun_lines.specs.Desk.{Desk, empty_desk}
 use Rattle.packrun_lines.specs.declared.outcome.Outcome.{Outcome}
 use Rattle.packrun_lines.specs.declared.outcome.Outcome.TheVariants.{Done, BadLine, NoMemory, IoFailed}
 
--- lines are answered, each on the desk that those before it leave: all have this text, and the last leaves that desk
+-- lines are answered, each on the desk that those before it leave: the texts of their answers, one after another, are this text,
+-- and the last leaves that desk
 abbrev pub AreAnswered : Desk Name → List (List ℕ) → List ℕ → Desk Name → Type 0
 AreAnswered old [] text new = (text ≡ []) × (new ≡ old)
 AreAnswered old (line ∷ lines) text new =
     (request : Request) × Asks line request × (first : List ℕ) × (next : Desk Name) × Answers request old first next
     × (later : List ℕ) × AreAnswered next lines later new × (text ≡ first ++ later)
 
--- where these lines are left, of which the first has the number n, a run ends so: at the end of the input no line is
--- left; at a bad line it is the first that is left, and has the number; where memory is refused, before the first line
--- or at a line
+-- how a run may end where these lines are left, of which the first has the number n: at the end of the input, where none is left;
+-- at the first of them, where it is bad; or for want of memory, at the first of them whatever it says, so at a bad one too, or
+-- before line 1, also where there is no line. Ends by a failed read or write are not told here
 abbrev pub MayEnd : ℕ → List (List ℕ) → Outcome → Type 0
 MayEnd n lines Done = lines ≡ []
 MayEnd n lines (BadLine number) = (number ≡ n) × (line : List ℕ) × (later : List (List ℕ)) × (lines ≡ line ∷ later) × IsBad line
 MayEnd n lines NoMemory = (n ≡ 1) ⊎ (0 < length lines)
 MayEnd n lines IoFailed = ⊥
 
--- the last line of a run that ends so
+-- the last line of a run that ends so, where it has one of its own
 -- Example: `line 8 is bad`
 abbrev pub last_line : Outcome → List ℕ
 last_line Done = []
@@ -33,8 +34,8 @@ last_line (BadLine number) = codes "line " ++ decimal number ++ codes " is bad\n
 last_line NoMemory = codes "Out of memory.\n"
 last_line IoFailed = []
 
--- the transcript of an input: on a desk without bins and boxes its first lines are answered, and then the run ends;
--- what is printed is the text of these answers, and the last line
+-- a transcript of an input: on a desk without bins and boxes its first lines are answered, and then the run ends; what is
+-- printed is the text of these answers, and the last line
 -- Example: three lines, `bin a 100 100 1`, `rect one 50 90 1`, `pack`: `ok`, `ok`, `0 one a 0 0 0 50 90 1`, `packed 1`,
 -- and `Done`
 pub record IsTranscript (input : List ℕ) (printed : List ℕ) (outcome : Outcome) : Type 0 where

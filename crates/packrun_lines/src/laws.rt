@@ -41,8 +41,9 @@ pub fn answers_keep_sessions()
 {}
 
 /// A law: an input has at most one transcript that does not end for want of memory. So the input
-/// says what is printed, and how a run ends, where no read or write fails. And where memory is
-/// refused, the text of the answers before is a beginning of the text of this transcript.
+/// says what is printed, and how a run ends, where no memory is refused and no read or write fails.
+/// And where memory is refused, the text of the answers before is a beginning of the text of this
+/// transcript.
 pub fn input_has_one_transcript()
     ensures one { (input printed other : List ℕ) (outcome other_outcome : Outcome) →
         IsTranscript input printed outcome →

@@ -12,7 +12,7 @@ pub enum Outcome {
     BadLine(u64),
     /// Memory was refused. What earlier lines printed stands.
     NoMemory,
-    /// A read or a write failed, or the input is longer than 2^64 - 1 bytes.
+    /// A read or a write failed, or the input has more than 2^64 - 1 bytes, or as many lines.
     IoFailed,
 }
 

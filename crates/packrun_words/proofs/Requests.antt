@@ -10,7 +10,7 @@ use Rattle.packrun_words.specs.declared.command.Command.{Command}
 use Rattle.packrun_words.specs.Words.{may_stand, words_in}
 use Rattle.packrun_words.specs.Requests.{Request, Asks, Say, IsPlain}
 use Rattle.packrun_words.specs.Requests.Request.{Nothing, Bin, Rect, Exclude, Pack, Release, Sections, Coalesce, Sweep, Stats}
-use Rattle.packrun_words.specs.private.Verbs.{verb_of, Take, AreOf, NamesTwo}
+use Rattle.packrun_words.specs.private.Verbs.{verb_of, Take, AreOf}
 use Rattle.packrun_words.specs.private.Commands.{IsNextRequest, IsNextSize, IsRead, IsReading, request_of}
 
 is_ascii_where_it_may_stand : (b : ℕ) → may_stand b ≡ true → b < 128
@@ -85,37 +85,8 @@ AreOf-said verb words (Coalesce name idx start end) (i, lo, hi, e, one, two, thr
 AreOf-said verb words (Sweep name) e = (cc e, cc e)
 AreOf-said verb words (Stats name) e = (cc e, cc e)
 
-none-said : (request : Request) → Say [] request → request ≡ Nothing
-none-said Nothing e = refl
-none-said (Bin name size) (w, h, d, e, writes) = absurd (cc e)
-none-said (Rect id size groups) (w, h, d, e, writes) = absurd (cc e)
-none-said (Exclude one other) (e, differ) = absurd (cc e)
-none-said Pack e = absurd (cc e)
-none-said (Release number) (n, e, writes) = absurd (cc e)
-none-said (Sections name) e = absurd (cc e)
-none-said (Coalesce name idx start end) (i, lo, hi, e, one, two, three) = absurd (cc e)
-none-said (Sweep name) e = absurd (cc e)
-none-said (Stats name) e = absurd (cc e)
-
 -- a line is read by its words
 pub IsReading-read : (line verb : List ℕ) (words : List (List ℕ)) (r : Option Command) → IsPlain line → words_in line ≡ verb ∷ words → IsRead verb words r → IsReading line r
 IsReading-read line verb words (Some command) plain words_are read =
     record { plain = plain; says = subst (λ ws. Say ws (request_of command)) (sym words_are) (Say-of verb words (request_of command) read) }
 IsReading-read line verb words None plain words_are none = λ request asks. none request (AreOf-said verb words request (subst (λ ws. Say ws request) words_are asks.says))
-
--- a line that is not plain is bad
-pub IsReading-other : (line : List ℕ) (r : Option Command) → r ≡ None → ¬ IsPlain line → IsReading line r
-IsReading-other line r none other = subst (IsReading line) (sym none) (λ request asks. other asks.plain)
-
--- a request to exclude names two groups
-pub NamesTwo-asked : (line : List ℕ) (request : Request) → Asks line request → NamesTwo request
-NamesTwo-asked line Nothing asks = tt
-NamesTwo-asked line (Bin name size) asks = tt
-NamesTwo-asked line (Rect id size groups) asks = tt
-NamesTwo-asked line (Exclude one other) asks = asks.says.1
-NamesTwo-asked line Pack asks = tt
-NamesTwo-asked line (Release number) asks = tt
-NamesTwo-asked line (Sections name) asks = tt
-NamesTwo-asked line (Coalesce name idx start end) asks = tt
-NamesTwo-asked line (Sweep name) asks = tt
-NamesTwo-asked line (Stats name) asks = tt

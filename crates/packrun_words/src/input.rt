@@ -1,7 +1,6 @@
 //! The lines of an input.
-ghost use Rattle.std.specs.Prelude.{◌≡◌, ◌≢◌, ◌<◌, ◌≤◌, ◌-◌, All, Ok, take, length, vec_len, IfOk, OnOk, true};
-ghost use Rattle.std.specs.Io.{StartsWith, StopsAt, appended_bytes};
-ghost use Rattle.std.specs.Io.KnownBytes.{Consumes};
+ghost use Rattle.std.specs.Prelude.{◌≡◌, ◌≢◌, ◌<◌, ◌≤◌, ◌-◌, All, take, length, vec_len, IfOk, OnOk};
+ghost use Rattle.std.specs.Io.{StartsWith};
 ghost use Rattle.packrun_words.specs.private.Reading.{IsLineRead, IsPartRead, has_ended};
 
 use crate::command::LONGEST_LINE;

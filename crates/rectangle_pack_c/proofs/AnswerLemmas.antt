@@ -1,7 +1,7 @@
 -- What a session's answer to a packing says of the lists of a C caller.
 use Rattle.rectangle_pack_c.proofs.Std.{◌≡◌, ◌≢◌, ◌⊎◌, inl, inr, ℕ, ◌<◌, List, [], ◌∷◌, ◌++◌, length, get_or, refl, ap, sym, ◌∙◌, subst, arith, suc, All, Some, map}
 use Rattle.rectangle_pack_c.proofs.Std.{slice_get, Equal, nat_cmp_is, IsPermutation, nat_cmp, keys_of, values_of, nat_cmp_total, Contains}
-use Rattle.rectangle_pack_c.proofs.Std.{IsPermutation-map, All-contains, All-weaker, exact_unsigned, get_or_from_slice_get, Contains-append_right, All-nil, length-append}
+use Rattle.rectangle_pack_c.proofs.Std.{IsPermutation-map, All-contains, All-weaker, exact_unsigned, get_or_from_slice_get, Contains-append_right, length-append}
 use Rattle.rectangle_pack_sections.specs.declared.box_size_heuristics.named.Heuristic.{Heuristic}
 use Rattle.rectangle_pack.specs.declared.grouped_rects_to_place.Group.{Group}
 use Rattle.rectangle_pack.specs.declared.pack.Placement.{Placement}
@@ -275,28 +275,12 @@ module _ (bins : List RpBin) (boxes : List RpBox) (exclusions : List RpExclusion
       never_both bins boxes exclusions a.best placements a.packing
       (All-contains (IsRefusedPacking bins boxes exclusions) heuristics a.best refused listed)
 
--- a packing with one heuristic is one with the best of it
+-- a packing with the best of one heuristic is one with that
 pub only_one : {X : Type 0} (xs : List X) (x y : X) (ys : List X) → y ∷ [] ≡ xs ++ x ∷ ys → x ≡ y
 only_one [] x y ys same = cc
 only_one (z ∷ xs) x y ys same = absurd (omega (arith, ap length same, length-append xs (x ∷ ys)))
 
 module _ (bins : List RpBin) (boxes : List RpBox) (exclusions : List RpExclusion) (heuristic : Heuristic) (placements : List RpPlacement) where
-  pub best_of_one : IsDonePacking bins boxes exclusions heuristic placements
-      → IsBestPacking bins boxes exclusions (heuristic ∷ []) (heuristic_number heuristic) placements
-  best_of_one h = record {
-    best = heuristic;
-    number = refl;
-    packing = h;
-    best_of = record {
-      done = record { placements = h.made; new = h.left; done = h.done; use_is = refl };
-      before = [];
-      after = [];
-      listed = refl;
-      worse = All-nil _;
-      no_better = All-nil _;
-    };
-  }
-
   pub one_of_best : (chosen : ℕ) → IsBestPacking bins boxes exclusions (heuristic ∷ []) chosen placements
       → IsDonePacking bins boxes exclusions heuristic placements
   one_of_best chosen b = subst (λ h. IsDonePacking bins boxes exclusions h placements)

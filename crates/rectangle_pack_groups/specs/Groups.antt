@@ -66,7 +66,8 @@ module _ {Id G : Type 0} (cmp : Id → Id → Ordering) (group_cmp : Group G Id 
     pub other_groups : (group : Group G Id) → times_named group_cmp named group ≡ 0
         → lookup (is_at (group_cmp group)) new.groups ≡ lookup (is_at (group_cmp group)) old.groups
 
--- the excluded pairs are this one and those of before; nothing else is changed
+-- two groups are excluded: sizes and groups stay, and the excluded pairs are this one and those of before. How the lists of
+-- partners say so is left open
 pub record Excludes {Id G : Type 0} (group_cmp : Group G Id → Group G Id → Ordering) (old new : Collection Id G) (a b : Group G Id) : Type 0 where
   pub sizes : new.sizes ≡ old.sizes
   pub groups : new.groups ≡ old.groups

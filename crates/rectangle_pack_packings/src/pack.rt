@@ -1,11 +1,11 @@
 //! Packing groups of boxes into bins.
-ghost use Rattle.std.specs.Prelude.{◌≡◌, ◌∷◌, [], length, List, All, map, IsOk, IsSome};
+ghost use Rattle.std.specs.Prelude.{◌≡◌, ◌∷◌, [], length, All, map, IsOk, IsSome};
 ghost use Rattle.std.specs.BTreeMap.{get};
 ghost use Rattle.std.specs.List.{IsDistinct};
 ghost use Rattle.std.specs.Map.{keys_of};
 ghost use Rattle.std.specs.Ordering.{eq_by_cmp};
 ghost use Rattle.rectangle_pack_groups.specs.Clones.{ClonesEqual};
-ghost use Rattle.rectangle_pack_sections.specs.Bins.{Bin, bins_of};
+ghost use Rattle.rectangle_pack_sections.specs.Bins.{bins_of};
 ghost use Rattle.rectangle_pack_sections.specs.Closures.{AreCallable, answers};
 ghost use Rattle.rectangle_pack_rules.specs.Best.{IsBestAnswer};
 ghost use Rattle.rectangle_pack_rules.specs.Orders.{IsBinOrder};

@@ -1,5 +1,5 @@
 //! Free sections of a bin, and how a box is placed into one.
-ghost use Rattle.std.specs.Prelude.{◌≡◌, ◌↔◌, ◌∷◌, All, IfOk, IfNone, IfSome, IsTrue};
+ghost use Rattle.std.specs.Prelude.{◌≡◌, ◌↔◌, ◌∷◌, IfOk, IsTrue};
 ghost use Rattle.std.specs.Bool.{OnFalse};
 ghost use Rattle.rectangle_pack_sections.specs.Boxes.{Cuboid, Holds, FitsU32, IsInside, SharesCell, AreApart, has_cells};
 ghost use Rattle.rectangle_pack_sections.specs.Closures.{CanRate, CanCompare, MayCompare};

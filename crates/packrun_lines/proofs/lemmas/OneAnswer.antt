@@ -22,12 +22,12 @@ use Rattle.rectangle_pack.specs.Joining.{IsJoined, IsSwept}
 use Rattle.rectangle_pack.specs.Session.{State, IsSession, AddsBin, Releases, Coalesces, Packs, reply_of, packed_reply}
 use Rattle.rectangle_pack_groups.proofs.lemmas.groups.GroupOrder.{groups_total}
 use Rattle.rectangle_pack_groups.proofs.lemmas.groups.OnePush.{alone_alike, into_alike}
+use Rattle.rectangle_pack_lists.proofs.lemmas.joining.Sweeps.{IsJoined-one, IsSwept-one}
 use Rattle.packrun_words.specs.Requests.{Request}
 use Rattle.packrun_words.specs.Requests as asks
 use Rattle.packrun_lines.specs.Answers.{Name, name_cmp, Answers, Replies, size_of, groups_of, pack_text, found_text}
 use Rattle.packrun_lines.specs.Desk.{Desk, ChangesSession, ChangesBoxes, TakesBox, PacksBoxes, group_order, volume_rules, no_boxes, placements_made, sections_in, stats_in}
 use Rattle.packrun_lines.specs.Lines.{reply_text, refusal_text, packed_text, sections_text, sums_text}
-use Rattle.packrun_lines.proofs.lemmas.OneJoin.{IsJoined-one, IsSwept-one}
 use Rattle.packrun_lines.proofs.lemmas.OneTransition.{HasOneResult, AddsBin-one, Releases-one, Coalesces-one}
 use Rattle.packrun_lines.proofs.lemmas.OnePacking.{Packs-one}
 
@@ -53,12 +53,6 @@ one_reply (Ok x) (Ok y) same = refl
 one_reply (Ok x) (Err e) same = absurd (cc same)
 one_reply (Err e) (Ok y) same = absurd (cc same)
 one_reply (Err e) (Err f) same = let errors : e ≡ f = cc same in ap (λ e. Err e) errors
-
-one_packed : (a b : Result PackedNumbers SessionError) → packed_reply a ≡ packed_reply b → a ≡ b
-one_packed (Ok x) (Ok y) same = let numbers : x ≡ y = cc same in ap (λ x. Ok x) numbers
-one_packed (Ok x) (Err e) same = absurd (cc same)
-one_packed (Err e) (Ok y) same = absurd (cc same)
-one_packed (Err e) (Err f) same = let errors : e ≡ f = cc same in ap (λ e. Err e) errors
 
 -- an answer with a text is not that memory is refused
 has_memory : (error : SessionError) (named text : List ℕ) → refusal_text error named ≡ Some text → Refused error ≢ Refused OutOfMemory
@@ -171,7 +165,7 @@ module _ (old other : Desk Name) (alike : AreDesksAlike old other) (text other_t
       changed-session (Coalesces name_cmp (IsJoined idx start end) name) name
       (Coalesces-one exact_bytes (IsJoined idx start end) (λ x y z p q. IsJoined-one p q) name old.session) a b
   Answers-one (asks.Sweep name) h a b =
-      changed-session (Coalesces name_cmp IsSwept name) name (Coalesces-one exact_bytes IsSwept IsSwept-one name old.session) a b
+      changed-session (Coalesces name_cmp IsSwept name) name (Coalesces-one exact_bytes IsSwept (λ x. IsSwept-one (length x) x) name old.session) a b
   Answers-one (asks.Stats name) h a b =
       unchanged (one_text (found_text sums_text (stats_in name_cmp old.session name) name) _ text other_text
       (ap (λ s. found_text sums_text (stats_in name_cmp s name) name) alike.session) a.0 b.0) a.1 b.1

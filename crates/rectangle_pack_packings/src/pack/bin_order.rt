@@ -1,5 +1,5 @@
 //! The order in which a packing tries bins.
-ghost use Rattle.std.specs.Prelude.{◌≡◌, IfOk, OnOk, IsSome, All, map};
+ghost use Rattle.std.specs.Prelude.{IfOk, OnOk, IsSome, All, map};
 ghost use Rattle.std.specs.BTreeMap.{get};
 ghost use Rattle.std.specs.Ordering.{eq_by_cmp};
 ghost use Rattle.std.specs.List.{IsDistinct};

@@ -6,6 +6,7 @@ use super::{
     come_out,
 };
 use rectangle_pack::{Group, Packed, Reply, SessionError};
+use std::io;
 use std::test::Fail;
 use tests_support::boxes::GroupName;
 
@@ -174,4 +175,20 @@ fn refusals(rt: HostRuntime) -> Result<(), Fail> {
     come_out(&rt, rt.alloc(), REFUSED)?;
     come_out(&rt, rt.alloc(), IN_USE)?;
     come_out(&rt, rt.alloc(), APART)
+}
+
+const ERRORS: &[(SessionError, &str)] = &[
+    (SessionError::DuplicateBin, "The bin is there already."),
+    (SessionError::OutOfMemory, "Out of memory."),
+];
+
+// As an error of input and output a refusal keeps its text.
+#[test]
+fn texts_of_io_errors(rt: HostRuntime) -> Result<(), Fail> {
+    let alloc = rt.alloc();
+    for (error, text) in ERRORS {
+        let error = io::Error::from(*error);
+        assert_eq!(rt; format!(in alloc; "{error}")?.as_str(), *text);
+    }
+    Ok(())
 }

@@ -240,11 +240,6 @@ module _ {Id B : Type 0} (rules : Rules Id B) (o : IsTotalOrder rules.bin_cmp) w
           (record { most = joined-le (length order) _ _ (members_in gs) (length g.1.sizes) n one (all-le order gs old ps new n d placed) last.most })
 
       -- the same of a beginning of groups, with the tests counted
-      pub adds-placed : (all later : List (K × Members Id)) (before mid : ℕ) → all ≡ gs ++ later → mid ≡ saturated (before + n)
-          → AddsWithin rules.bin_cmp old.bins order (members_in all) before mid
-      adds-placed all later before mid splits first =
-          record { tests = n; within = begins-within old.bins order all gs later n splits all-within; added = first }
-
       pub adds-more : (all : List (K × Members Id)) (g : K × Members Id) (later : List (K × Members Id)) (before mid after : ℕ)
           → all ≡ gs ++ g ∷ later → mid ≡ saturated (before + n) → AddsWithin rules.bin_cmp new.bins order (length g.1.sizes) mid after
           → AddsWithin rules.bin_cmp old.bins order (members_in all) before after
