@@ -52,6 +52,32 @@ pub struct Search {
     pub tests: usize,
 }
 
+// Looks for the last section of these slots that holds the member, at each from the last on.
+#[inline(always)]
+fn last_of(slots: &[Option<BinSection>], member: &RectToInsert) -> Search
+    ensures found { MatchOption result.index
+        (NoneHolds slots.now member.now result.tests)
+        (λ slot. IsLastHolding slots.now member.now slot result.tests) }
+    ensures place { IfSome result.index (λ slot. slot < length slots.now) }
+    ensures most { result.tests ≤ length slots.now }
+{
+    let mut end = slots.len();
+    let mut tests = 0;
+    while end > 0 {
+        end -= 1;
+        if let Some(section) = slots[end] {
+            tests += 1;
+            if holds(&section, member) {
+                return Search {
+                    index: Some(end),
+                    tests,
+                };
+            }
+        }
+    }
+    Search { index: None, tests }
+}
+
 impl<A: Allocator + Copy> SectionSlots<A> {
     /// The list of these sections, with room for so many slots more. An error is want of memory.
     pub fn from_slice(alloc: A, sections: &[BinSection], extra: usize) -> Result<Self, AllocError>
@@ -122,16 +148,16 @@ impl<A: Allocator + Copy> SectionSlots<A> {
                 end = begin;
                 tests += count;
             } else {
-                end -= 1;
-                if let Some(section) = self.slots[end] {
-                    tests += 1;
-                    if holds(&section, member) {
-                        return Search {
-                            index: Some(end),
-                            tests,
-                        };
-                    }
+                let begin = (end - 1) / BLOCK * BLOCK;
+                let found = last_of(&self.slots[begin..end], member);
+                tests += found.tests;
+                if let Some(at) = found.index {
+                    return Search {
+                        index: Some(begin + at),
+                        tests,
+                    };
                 }
+                end = begin;
             }
         }
         Search { index: None, tests }

@@ -190,7 +190,7 @@ where
     //   [pack_in_order.tests_are_not_counted]
     // In a trial, a member that is placed counts one test for its section and one for each section
     //   after it in the list; a member that is stuck counts one for each section.
-    //   [last_holding.tests_are_one_short]
+    //   [last_of.tests_are_one_short]
     // With n entries in the groups, the fit tests are at most n for each free section of before,
     //   and n * (n - 1) for each bin. `OutOfMemory` adds at most so many.
     ensures answer { let groups = ⟦<Group<GroupId, Id> as Ord>⟧.cmp in

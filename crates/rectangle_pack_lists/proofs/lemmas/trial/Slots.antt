@@ -1,7 +1,7 @@
 -- The sections of lists of slots.
-use Rattle.rectangle_pack_sections.proofs.Std.{◌≡◌, ◌≤◌, ◌<◌, ◌+◌, ◌-◌, ℕ, suc, List, [], ◌∷◌, ◌++◌, length, take, drop, get_or, refl, sym, ap, arith}
+use Rattle.rectangle_pack_sections.proofs.Std.{◌≡◌, ◌≤◌, ◌<◌, ◌+◌, ◌-◌, ◌*◌, ◌/◌, ℕ, suc, List, [], ◌∷◌, ◌++◌, length, take, drop, get_or, refl, sym, ap, arith}
 use Rattle.rectangle_pack_sections.proofs.Std.{length-append, length-drop, ◌∙◌, Option, Some, None, drop-cons, take-append-drop, drop-drop, length-take-le}
-use Rattle.rectangle_pack_sections.proofs.Std.{take_more, nil_from_length, All-nil, All-append, All-cons}
+use Rattle.rectangle_pack_sections.proofs.Std.{take_more, nil_from_length, All-nil, All-append, All-cons, append_assoc, length-take, get_or-append_seam, IsSome, is_some}
 use Rattle.rectangle_pack_sections.specs.Boxes.{Cuboid, Size, Holds}
 use Rattle.rectangle_pack_lists.specs.private.Slots.{sections_of, IsLastHolding, NoneHolds}
 
@@ -74,6 +74,42 @@ module _ (s : List (Option Cuboid)) (end : ℕ) (some : 0 < end) (within : end �
     newest = later.none;
     tests_are = omega (arith, later.tests_are);
   }
+
+-- the last of a stretch that holds the size is the last of all, where none does from the stretch's end on
+pub IsLastHolding-in : (s : List (Option Cuboid)) (begin end : ℕ) (size : Size) (at m n : ℕ) → begin ≤ end → begin ≤ length s
+    → IsLastHolding (take (end - begin) (drop begin s)) size at m → NoneHolds (drop end s) size n → IsLastHolding s size (begin + at) (n + m)
+IsLastHolding-in s begin end size at m n h within last later =
+    let ends : begin + (end - begin) ≡ end = omega arith in
+    let rest : drop (end - begin) (drop begin s) ≡ drop end s = rw (drop-drop (end - begin) begin s, ends) refl in
+    let all : s ≡ take begin s ++ (last.before ++ Some last.section ∷ (last.after ++ drop end s)) =
+    sym (take-append-drop begin s) ∙ ap (λ t. take begin s ++ t)
+    (sym (take-append-drop (end - begin) (drop begin s)) ∙ rw (rest, last.splits)
+    (append_assoc last.before (Some last.section ∷ last.after) (drop end s))) in
+    let behind = sections_of-append last.after (drop end s) in
+    record {
+      before = take begin s ++ last.before;
+      section = last.section;
+      after = last.after ++ drop end s;
+      splits = all ∙ sym (append_assoc (take begin s) last.before (Some last.section ∷ (last.after ++ drop end s)));
+      place = omega (arith, length-append (take begin s) last.before, length-take-le begin s within, last.place);
+      held = last.held;
+      newest = rw behind (All-append (λ x. ¬ Holds x size) (sections_of last.after) (sections_of (drop end s)) last.newest later.none);
+      tests_are = rw behind (omega (arith, last.tests_are, later.tests_are, length-append (sections_of last.after) (sections_of (drop end s))));
+    }
+
+-- in its slot stands a section
+pub IsLastHolding-full : (s : List (Option Cuboid)) (size : Size) (slot n : ℕ) → IsLastHolding s size slot n → IsSome (get_or s slot None)
+IsLastHolding-full s size slot n last =
+    let read : get_or s slot None ≡ Some last.section = rw (last.splits, last.place) (get_or-append_seam last.before (Some last.section) last.after None) in
+    ap is_some read
+
+-- a stretch has no more slots than lie between its ends
+pub length-stretch : (s : List (Option Cuboid)) (begin end : ℕ) → length (take (end - begin) (drop begin s)) ≤ end - begin
+length-stretch s begin end = omega (arith, length-take (end - begin) (drop begin s))
+
+-- where the block begins in which the slots before an end lie
+pub block-within : (end n : ℕ) → end ≤ n → (end - 1) / 8 * 8 ≤ n
+block-within end n within = omega arith
 
 -- where a summed stretch ends, and no section in it holds a size
 pub NoneHolds-stretch : (w end n : ℕ) (slots all : List (Option Cuboid)) (size : Size) → w ≤ end → slots ≡ all

@@ -1,6 +1,6 @@
-use Rattle.rectangle_pack_sections.proofs.Std.{arith, rules, ap, sym, ◌∙◌}
+use Rattle.rectangle_pack_sections.proofs.Std.{arith, ap, ◌-◌, ◌*◌, ◌/◌}
 use Rattle.rectangle_pack_lists.specs.private.Slots.{Slots}
-use Rattle.rectangle_pack_lists.proofs.lemmas.trial.Slots.{NoneHolds-past, NoneHolds-most, NoneHolds-skip, NoneHolds-empty, NoneHolds-section, IsLastHolding-at}
+use Rattle.rectangle_pack_lists.proofs.lemmas.trial.Slots.{NoneHolds-past, NoneHolds-most, NoneHolds-skip, IsLastHolding-in, IsLastHolding-full, length-stretch, block-within}
 use Rattle.rectangle_pack_lists.proofs.section_slots.SectionSlots.last_holding.Goals as goal
 
 pub overflow_add-tests : goal.overflow_add-tests
@@ -21,33 +21,33 @@ loop-end-preserved-in-Some g c =
       none = NoneHolds-skip slots c.in-Some.begin c.loop-end.end _ _ _ (omega (arith, less)) stretch c.loop-end.invariant.none;
     }
 
-pub overflow_add-tests-in-Some-index : goal.overflow_add-tests-in-Some-index
-overflow_add-tests-in-Some-index g c =
-    omega (arith, NoneHolds-most c.self.inside.slots.items c.loop-end.end _ _ c.loop-end.invariant.none)
+pub overflow_add-tests-in_default : goal.overflow_add-tests-in_default
+overflow_add-tests-in_default g c =
+    let slots = c.self.inside.slots.items in
+    let end = c.loop-end.end in
+    let most = rw c.deref.ensures.value at c.last_of-found.ensures.most in
+    let long = length-stretch slots ((end - 1) / 8 * 8) end in
+    omega (arith, most, long, NoneHolds-most slots end _ _ c.loop-end.invariant.none)
 
-pub returns-then-holds-clause-found : goal.returns-then-holds-clause-found
-returns-then-holds-clause-found g c =
+pub returns-in-Some-index-clause-found : goal.returns-in-Some-index-clause-found
+returns-in-Some-index-clause-found g c =
+    let slots = c.self.inside.slots.items in
     let now = c.loop-end.invariant in
+    let found = rw c.deref.ensures.value at (rw c.in-Some-index.is at c.last_of-found.ensures.found) in
     rw (← ap (λ (v : Slots). v.all) c.self.view_is)
-    (IsLastHolding-at c.self.inside.slots.items c.loop-end.end c.loop-end-test.true now.within _ _ now.none c.in-Some-index.section _
-    (sym c.in-Some-index.is ∙ c.index.ensures) (search rules))
+    (IsLastHolding-in slots _ c.loop-end.end _ _ _ _ (block-within _ _ (omega arith)) (block-within _ _ now.within) found now.none)
 
-pub loop-end-preserved-else-holds : goal.loop-end-preserved-else-holds
-loop-end-preserved-else-holds g c =
-    let now = c.loop-end.invariant in
-    record {
-      within = omega arith;
-      none = NoneHolds-section c.self.inside.slots.items c.loop-end.end c.loop-end-test.true now.within _ _ now.none c.in-Some-index.section _
-          (sym c.in-Some-index.is ∙ c.index.ensures) (search rules);
-    }
+pub returns-in-Some-index-clause-full : goal.returns-in-Some-index-clause-full
+returns-in-Some-index-clause-full g c = IsLastHolding-full _ _ _ _ (returns-in-Some-index-clause-found g c)
 
 pub loop-end-preserved : goal.loop-end-preserved
 loop-end-preserved g c =
+    let slots = c.self.inside.slots.items in
     let now = c.loop-end.invariant in
+    let none = rw c.deref.ensures.value at (rw c.in_default-index.is at c.last_of-found.ensures.found) in
     record {
-      within = omega arith;
-      none = NoneHolds-empty c.self.inside.slots.items c.loop-end.end c.loop-end-test.true now.within _ _ now.none _
-          (sym c.in_default-index.is ∙ c.index.ensures);
+      within = block-within _ _ now.within;
+      none = NoneHolds-skip slots _ c.loop-end.end _ _ _ (block-within _ _ (omega arith)) none now.none;
     }
 
 pub loop-end-init : goal.loop-end-init
