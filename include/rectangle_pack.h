@@ -38,11 +38,13 @@ typedef struct rp_placement {
 enum {
     /* It is done. Where boxes were packed, each has its placement. */
     RP_DONE = 0,
-    /* For some group no bin that is not excluded for it takes all of its boxes, as the groups before it left the bins. */
+    /* For some group no bin that is not excluded for it takes all of its boxes, as the groups before it left the bins. It is not
+       said which group this was: docs/OTHER_LANGUAGES.md says how to find it. */
     RP_NOT_ENOUGH_SPACE = 1,
     /* malloc or realloc answered NULL. */
     RP_OUT_OF_MEMORY = 2,
-    /* There are not as many placements as boxes and members together, or 2^32 of these or of bins, or more. */
+    /* placement_count is not exactly the number of boxes and members together (a longer array is refused too: give the count, and
+       not how much the array could hold), or there are 2^32 of these or of bins, or more. */
     RP_BAD_LENGTHS = 3,
     /* The session has a bin of this id already. */
     RP_DUPLICATE_BIN = 4,
@@ -118,7 +120,8 @@ typedef struct rp_collection {
             (const rp_exclusion *)(const void *)(boxes), 0                                                                 \
     }
 
-/* Heuristics: what a size is rated by. Groups go in falling order of the sums of the rates of their boxes. Bins are tried in
+/* Heuristics: what a size is rated by. RP_HEIGHT is for pages of many sprites or glyphs, RP_VOLUME for bins that take few boxes,
+   RP_BEST where nine packings do not take too long. Groups go in falling order of the sums of the rates of their boxes. Bins are tried in
    rising order of the rates of their whole sizes. And where a box is placed, the rest of the free section is cut so that the
    smallest of its three pieces, those without cells too, is as small as can be by its rate, and at a tie the second smallest. */
 enum {
@@ -288,8 +291,9 @@ uint32_t rectangle_pack_session_pack_collection(rp_session *session, const rp_co
    of its bin, the last of the list; a box without cells leaves none. RP_DONE, RP_UNKNOWN_PLACEMENT or RP_OUT_OF_MEMORY. */
 uint32_t rectangle_pack_session_release(rp_session *session, uint64_t number);
 
-/* Joins free sections of a bin, two at a time, until no two share a whole face. It is worth while after releases: a box goes
-   into one free section, and not across two. RP_DONE or RP_UNKNOWN_BIN.
+/* Joins free sections of a bin, two at a time, until no two share a whole face. A box goes into one free section, and not
+   across two; so call it once after all releases, and not after each, which leaves more pieces. A bin without boxes need not
+   become one section. A new session has whole bins. RP_DONE or RP_UNKNOWN_BIN.
 
    Proved: the free cells are the same as before, and no two free sections of the bin share a whole face. */
 uint32_t rectangle_pack_session_coalesce_all(rp_session *session, uint32_t bin);

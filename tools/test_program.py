@@ -2,15 +2,18 @@
 """Runs packrun where no proof reaches: its exit status, and what it reads and writes by way of the system.
 
 test_program.py [PROGRAM..]: these programs; without any, those that `rt ci` built, one by each of its compilers. What they have to
-    print and how they have to end is what docs/COMMANDS.md says. It prints nothing where all do so."""
+    print and how they have to end is what docs/COMMANDS.md says, each of its examples too. It prints nothing where all do so."""
 
 import pathlib
+import re
 import resource
 import subprocess
 import sys
 import typing
 
-BUILT = pathlib.Path(__file__).resolve().parent.parent / "crates" / "packrun" / "out"
+TOP = pathlib.Path(__file__).resolve().parent.parent
+BUILT = TOP / "crates" / "packrun" / "out"
+PAGE = TOP / "docs" / "COMMANDS.md"
 SECONDS = 60
 # Boxes that no MEMORY holds, in bytes of address space.
 BOXES, MEMORY = 200_000, 32_000_000
@@ -34,6 +37,18 @@ CASES = [
     Case("a last line without its end", b"bin a 1 1 1", b"ok\n", 0),
     Case("arguments, which are ignored", b"bin a 1 1 1\n", b"ok\n", 0, ("--help", "pack")),
 ]
+
+
+def examples() -> list[Case]:
+    """The examples of the page: a line that begins with `>` goes in, and all others come out."""
+    cases = []
+    for block in re.findall(r"(?m)(?:^    .*\n)+", PAGE.read_text()):
+        lines = [line[4:] for line in block.splitlines()]
+        taken = "".join(f"{line[2:]}\n" for line in lines if line.startswith(">"))
+        printed = "".join(f"{line}\n" for line in lines if not line.startswith(">"))
+        status = 2 if lines[-1].startswith("line ") else 0
+        cases.append(Case(f"the example of the page that begins with {lines[0]}", taken.encode(), printed.encode(), status))
+    return cases
 
 
 def ends(program: str, wanted: Case) -> bool:
@@ -82,7 +97,7 @@ def answers_at_once(program: str) -> bool:
 
 def failures(program: str) -> list[str]:
     """What the program does otherwise than it has to."""
-    found = [it.name for it in CASES if not ends(program, it)]
+    found = [it.name for it in CASES + examples() if not ends(program, it)]
     others = [fails_to_write, fails_to_read, wants_memory, answers_at_once]
     return found + [it.__name__.replace("_", " ") for it in others if not it(program)]
 

@@ -1,5 +1,6 @@
 #!/usr/bin/env python3
-"""An atlas that is unloaded sprite by sprite, until it is one free section again: python3 bindings/python/unload.py"""
+"""An atlas that is unloaded sprite by sprite; here it becomes one free section again, with other sprites it may stay in several:
+python3 bindings/python/unload.py"""
 from rectangle_pack import Bin, Box, Session
 
 SPRITES = {
@@ -10,7 +11,7 @@ SPRITES = {
 with Session({"atlas": Bin(128, 128)}) as session:
     session.pack(SPRITES)
     print(f"{len(session.outstanding())} sprites, {len(session.free_sections('atlas'))} free sections")
-    # The last that came goes first: so each finds the pieces again that it was cut from.
+    # The last that came goes first: so each finds most of the pieces again that it was cut from.
     for sprite in reversed(session.outstanding()):
         session.release(sprite.number)
         # What it leaves is the last of the list, and may join any of the others.

@@ -212,7 +212,8 @@ class Session(Generic[BinName]):
 
     @_alone
     def coalesce_all(self, bin: BinName) -> None:
-        """Joins free sections of a bin until no two share a whole face. It is worth while after releases.
+        """Joins free sections of a bin until no two share a whole face. Call it once after all releases, and not after each, which
+        leaves more pieces. A bin that is empty again need not become one section: a new session has whole bins.
 
         Raises UnknownBin."""
         with _naming(bin):

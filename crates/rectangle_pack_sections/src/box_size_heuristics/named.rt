@@ -12,7 +12,8 @@ use std::fmt;
 use std::str::FromStr;
 
 /// A heuristic, by its name: for a program that goes through all of them, keeps one in a setting,
-/// or prints it. Where a closure is asked for, `|whd| heuristic.rate(whd)` is one.
+/// or prints it. Where a closure is asked for, `|whd| heuristic.rate(whd)` is one. `Heuristic::ALL`
+/// has all eight, in the order below.
 #[derive(Debug, Clone, Copy, PartialEq, Eq)]
 pub enum Heuristic {
     /// `volume_heuristic`, as text `volume`.
