@@ -87,7 +87,7 @@ pub record IsKept {Id B G : Type 0} (group_cmp : Group G Id → Group G Id → O
 
 module _ {Id B : Type 0} (bin_cmp : B → B → Ordering) where
   -- a bin is added: the id is new, and under a key that equals it stands a new bin; or the id is there; or the reply is
-  -- want of memory
+  -- want of memory, and the id is new. What is refused changes nothing
   abbrev pub AddsBin : B → Size → State Id B → Reply → State Id B → Type 0
   AddsBin id size old Done new =
       (lookup (is_at (bin_cmp id)) old.bins ≡ None)

@@ -211,8 +211,8 @@ where
         C: Fn([WidthHeightDepth; 3], [WidthHeightDepth; 3], &H) -> Ordering,
         requires ids { ClonesEqual Id.is_clone Id.eq }
         requires bin_ids { ClonesEqual BinId.is_clone BinId.eq }
-        // The heuristic may be called on every size, and the comparison on every two triples of
-        //   sizes with this heuristic.
+        // The heuristic may be called on every size, those with sides of 0 among them, and the
+        //   comparison on every two triples of sizes with this heuristic.
         requires callable { AreCallable H.Fn C.Fn heuristic.now comparison.now }
         // Packed: the groups are packed into the bins by the rule that `pack_rects` keeps where it
         //   is done. [newest.first_section_is_taken]

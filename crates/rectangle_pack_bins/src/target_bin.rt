@@ -281,14 +281,16 @@ impl<A: Allocator + Copy> TargetBin<A> {
     /// the other.
     ///
     /// While some other index of the range has such a section, the one at the least such index is
-    /// taken out, the list closes up, the section at `idx` becomes the box that the two make up,
-    /// and the range ends one earlier. Where the index is past the end of the list, or the range is
+    /// taken out, the list closes up, and the box that the two make up stands in place of the
+    /// section at `idx`, one lower where what was taken out stood before it; the range ends one
+    /// earlier. Where the index is past the end of the list, or the range is
     /// empty, the list stays as it is; a range that goes past the end is cut to the list. The free
     /// cells stay the same. Takes no memory.
     pub fn coalesce_available_sections(&mut self, idx: usize, range: Range<usize>)
         // While some other section of the range shares a whole face with the one at the index, the
-        //   one at the least such index is taken out of the list, the section at the index becomes
-        //   the box that the two make up, and the range, cut to the list, ends one earlier. An
+        //   one at the least such index is taken out of the list, and the box that the two make up
+        //   stands in place of the other. The index is then that of this box, one lower where the
+        //   one taken out stood before it, and the range, cut to the list, ends one earlier. An
         //   index past the end leaves the list. [shares_face.faces_that_meet_in_part_are_joined]
         ensures joined { IsJoined idx range.start range.end self.old.bin.sections
             self.new.bin.sections }

@@ -47,7 +47,8 @@ abbrev pub Appends : {Id : Type 0} → (Id → Id → Ordering) → List Id → 
 Appends {Id} cmp before id times list = (tail : List Id) × (list ≡ before ++ tail) × (length tail ≡ times) × All (λ x. cmp id x ≡ Equal) tail
 
 module _ {Id G : Type 0} (cmp : Id → Id → Ordering) (group_cmp : Group G Id → Group G Id → Ordering) where
-  -- a push without groups: the size is set, and the entry `Ungrouped(id)` is the list of the id alone
+  -- a push without groups: the size is set, and the entry `Ungrouped(id)` is the list of the id alone,
+  -- and the other groups stay
   pub record PushesAlone (old new : Collection Id G) (id : Id) (size : Size) : Type 0 where
     pub sizes : SetsSize cmp old.sizes new.sizes id size
     pub partners : new.partners ≡ old.partners

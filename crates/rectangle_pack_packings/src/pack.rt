@@ -107,8 +107,8 @@ where
     requires ids { ClonesEqual Id.is_clone Id.eq }
     // Clones of bin ids equal their originals.
     requires bin_ids { ClonesEqual BinId.is_clone BinId.eq }
-    // The heuristic may be called on every size, and the comparison on every two triples of sizes
-    //   with this heuristic.
+    // The heuristic may be called on every size, those with sides of 0 among them, and the
+    //   comparison on every two triples of sizes with this heuristic.
     requires callable { AreCallable H.Fn C.Fn box_size_heuristic.now
         more_suitable_containers_fn.now }
     // Done: all groups are placed, by falling key, and at equal keys in the order of groups. The
@@ -116,9 +116,9 @@ where
     //   `u128`.
     // Done: if there is a group, bins are tried by rising rate of their whole size, and at equal
     //   rates by id. Each bin has one rate.
-    // Done: each group goes whole into one bin, the first that is not excluded for it and in which
-    //   its trial is done, as the groups before it left that bin. In each bin before that one, it
-    //   is excluded or its trial is stuck. [try_bin.group_goes_on_into_the_next_bin]
+    // Done: each group goes whole into one bin, which is not excluded for it and in which its trial
+    //   is done, as the groups before it left that bin. In each bin before that one in the order,
+    //   it is excluded or its trial is stuck. [try_bin.group_goes_on_into_the_next_bin]
     // Done: a bin is excluded for a group exactly where a group that is excluded with it went there
     //   earlier in the same packing. [excluded_bins.exclusions_are_not_used]
     // Done: in a trial each member in turn goes to the corner of the newest section that holds it.
@@ -135,7 +135,7 @@ where
     //   No other id is found, and the ids are in strictly rising order.
     // `NotEnoughBinSpace`: the groups before some group are placed so, and for that group each bin
     //   is excluded or its trial is stuck there. The bins are as the groups before it left them.
-    //   [pack_rects.is_always_refused]
+    //   No placement is answered. [pack_rects.is_always_refused]
     // `OutOfMemory`: the bins are as they were, the order of their lists included.
     //   [undo_one.undone_section_goes_last]
     ensures answer { let groups = ⟦<Group<GroupId, Id> as Ord>⟧.cmp in

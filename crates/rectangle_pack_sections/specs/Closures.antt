@@ -14,7 +14,7 @@ RateCalls H = Shared H (Size × Unit {0}) ℕ
 abbrev pub CompareCalls : Type 0 → Type 0 → Type 1
 CompareCalls C H = Shared C (List Size × (List Size × (Bor H × Unit {0}))) Ordering
 
--- the heuristic may be called on each size of 32 bits (`IsU32`)
+-- the heuristic may be called on each size of 32 bits (`IsU32`), also where a side is 0
 abbrev pub CanRate : {H : Type 0} → RateCalls H → H → Type 0
 CanRate g heuristic = (size : Size) → IsU32 size → g.pre heuristic (size, tt)
 

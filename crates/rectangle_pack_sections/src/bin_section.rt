@@ -38,7 +38,7 @@ pub fn contains_smallest_box<H>(
 ) -> Ordering
 where
     H: Fn(WidthHeightDepth) -> u128,
-    // The heuristic may be called on every size.
+    // The heuristic may be called on every size, those with sides of 0 among them.
     requires { CanRate H.Fn heuristic.now }
     // There is an answer of the heuristic on each of the six sizes with this property: the result
     //   compares the second triple's smallest answer to the first's, and at a tie its second
