@@ -36,3 +36,4 @@ pub mod Promise
 pub mod SessionBest
 pub mod PlanAnswers
 pub mod SessionTexts
+pub mod private
