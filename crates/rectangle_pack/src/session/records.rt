@@ -19,7 +19,7 @@ pub(crate) struct Records<T, A: Allocator> {
 impl<T, A: Allocator> Model for Records<T, A> {
     ghost use Rattle.std.specs.Prelude.{◌+◌, ◌-◌, ◌≤◌, drop, vec_len};
     ghost use Rattle.std.specs.Vec.{vec_capacity};
-    ghost use Rattle.rectangle_pack.specs.private.Records.{Roomy};
+    ghost use Rattle.rectangle_pack.specs.Records.{Roomy};
 
     ghost Value = { Roomy T };
 

@@ -1,2 +1,0 @@
--- Definitions that only the clauses of private functions use.
-pub mod Records
