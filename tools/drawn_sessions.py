@@ -138,12 +138,14 @@ class Session:
         self.done()
 
     def release(self, count):
-        """Gives boxes back. Few numbers are unknown."""
+        """Gives boxes back: the oldest ones, the newest or any. Few numbers are unknown."""
+        self.numbers.sort()
+        order = self.r.choice(["oldest", "newest", "any", "any"])
         for _ in range(min(count, len(self.numbers))):
-            at = self.r.randrange(len(self.numbers))
-            self.say("release", self.numbers[at] if self.r.random() < 0.99 else self.next)
-            self.numbers[at] = self.numbers[-1]
-            self.numbers.pop()
+            last = len(self.numbers) - 1
+            at = {"oldest": 0, "newest": last}.get(order, self.r.randint(0, last))
+            number = self.numbers.pop(at)
+            self.say("release", number if self.r.random() < 0.99 else self.next)
 
     def join(self, count, length):
         """Joins one section of a bin with some others, so many times, where its list has so many sections or so."""

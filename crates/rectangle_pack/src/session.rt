@@ -19,11 +19,13 @@ mod cut_plan;
 mod laws;
 mod outstanding;
 mod packing;
+mod records;
 mod run;
 mod stats;
 
 use crate::session::outstanding::{give_back, position_of};
 use crate::session::packing::pack_into;
+use crate::session::records::Records;
 pub use command::{Command, Outstanding, Packed, Reply, SessionError};
 pub use laws::transitions_keep_sessions;
 use rectangle_pack_bins::target_bin::{TargetBin, was_coalesced};
@@ -82,7 +84,7 @@ use std::ops::Range;
 #[derive(Drop)]
 pub struct Session<Id, BinId: Ord, A: Allocator + Copy = Global> {
     bins: BTreeMap<BinId, TargetBin<A>, A>,
-    outstanding: Vec<Outstanding<Id, BinId>, A>,
+    outstanding: Records<Outstanding<Id, BinId>, A>,
     next: u64,
 }
 
@@ -119,7 +121,7 @@ where
     {
         Session {
             bins: BTreeMap::new(alloc),
-            outstanding: Vec::new(alloc),
+            outstanding: Records::new(alloc),
             next: first,
         }
     }
@@ -312,10 +314,11 @@ where
         // What always holds of a session holds afterwards. [give_back.no_section_is_given_back]
         ensures always { IsSession BinId.cmp self.new }
     {
-        let Some(index) = position_of(self.outstanding.as_slice(), number) else {
+        let outstanding = self.outstanding.as_slice();
+        let Some(index) = position_of(outstanding, number) else {
             return Err(SessionError::UnknownPlacement);
         };
-        let placement = &self.outstanding[index];
+        let placement = &outstanding[index];
         give_back(&mut self.bins, &placement.bin, placement.location)?;
         self.outstanding.remove(index);
         Ok(())

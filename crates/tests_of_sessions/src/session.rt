@@ -9,6 +9,7 @@ mod large;
 mod no_memory;
 mod numbers;
 mod refusals;
+mod release_order;
 mod releases;
 mod run;
 mod stats;

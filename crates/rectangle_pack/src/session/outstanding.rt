@@ -1,13 +1,13 @@
 //! The outstanding placements of a session, and a box given back to its bin.
 ghost use Rattle.std.specs.Prelude.{◌≡◌, ◌≢◌, ◌+◌, ◌≤◌, ◌<◌, ◌^◌, ◌++◌, length, OnOk, OnErr, IfSome, IfNone, IsSome, All, AllPairs, slice_index_or, vec_len, true};
 ghost use Rattle.std.specs.BTreeMap.{get};
-ghost use Rattle.std.specs.Vec.{vec_capacity};
 ghost use Rattle.rectangle_pack.specs.declared.session.command.Outstanding.{Outstanding};
 ghost use Rattle.rectangle_pack_sections.specs.Bins.{IsAccepted, bins_of};
 ghost use Rattle.rectangle_pack_sections.specs.Boxes.{has_cells};
 ghost use Rattle.rectangle_pack.specs.Session.{GivesBack, numbered};
 
 use crate::session::command::Outstanding;
+use crate::session::records::Records;
 use rectangle_pack_bins::target_bin::TargetBin;
 use rectangle_pack_rules::answer::Placement;
 use rectangle_pack_sections::bin_section::{has_cells, section_at};
@@ -55,11 +55,11 @@ pub(crate) fn give_back<B: Ord + Drop, A: Allocator + Copy>(
 // Puts placements at the end of the outstanding ones, with their numbers, in the room that is
 // there.
 pub(crate) fn number_all<Id: Drop, B: Drop, A: Allocator>(
-    outstanding: &mut Vec<Outstanding<Id, B>, A>,
+    outstanding: &mut Records<Outstanding<Id, B>, A>,
     placements: Vec<Placement<Id, B>, A>,
     first: u64,
 )
-    requires room { vec_len outstanding.old + vec_len placements ≤ vec_capacity outstanding.old }
+    requires room { vec_len placements ≤ outstanding.old.room }
     requires fits { first + vec_len placements < 2 ^ 64 }
     ensures { outstanding.new.items ≡
         outstanding.old.items ++ numbered first placements.items }

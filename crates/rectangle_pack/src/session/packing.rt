@@ -9,6 +9,7 @@ ghost use Rattle.rectangle_pack.specs.Session.{numbered};
 
 use crate::session::command::Outstanding;
 use crate::session::outstanding::number_all;
+use crate::session::records::Records;
 use rectangle_pack_bins::target_bin::TargetBin;
 use rectangle_pack_groups::grouped_rects_to_place::{Group, GroupedRectsToPlace};
 use rectangle_pack_packings::pack::bin_order::bin_order;
@@ -24,7 +25,7 @@ use std::mem;
 pub(crate) fn pack_into<Id, BinId, GroupId, R, A>(
     groups: &GroupedRectsToPlace<Id, GroupId, A>,
     bins: &mut BTreeMap<BinId, TargetBin<A>, A>,
-    outstanding: &mut Vec<Outstanding<Id, BinId>, A>,
+    outstanding: &mut Records<Outstanding<Id, BinId>, A>,
     first: u64,
     count: u64,
     policy: &R,

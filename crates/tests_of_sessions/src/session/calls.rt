@@ -21,7 +21,8 @@ enum Came {
     Out,
 }
 
-fn reply(answer: Result<(), SessionError>) -> Reply {
+/// What a call answers that answers nothing else.
+pub fn reply(answer: Result<(), SessionError>) -> Reply {
     match answer {
         Ok(()) => Reply::Done,
         Err(error) => Reply::Refused(error),

@@ -11,15 +11,16 @@ use std::alloc::{AllocError, Global};
 
 type Rects = GroupedRectsToPlace<u32, u32>;
 
-type Numbered = Session<u32, u32>;
+/// A session whose memory is not refused.
+pub type Numbered = Session<u32, u32>;
 
-// Boxes one cell high, each alone under its number, from 0 on.
+/// Boxes one cell high, each alone under its number, from 0 on.
 #[derive(Clone, Copy)]
-struct Boxes {
-    count: u32,
-    width: u32,
-    // Whether one more comes after them, which is narrower and too tall for its bin.
-    one_is_too_tall: bool,
+pub struct Boxes {
+    pub count: u32,
+    pub width: u32,
+    /// Whether one more comes after them, which is narrower and too tall for its bin.
+    pub one_is_too_tall: bool,
 }
 
 fn push_boxes(rects: &mut Rects, boxes: Boxes) -> Result<(), AllocError> {
@@ -47,8 +48,8 @@ fn pack(session: &mut Numbered, alloc: Global, boxes: Boxes) -> Reply {
     }
 }
 
-// Whether so many boxes are packed, under the numbers from this one on.
-fn packs(session: &mut Numbered, alloc: Global, boxes: Boxes, first: u64) -> bool {
+/// Whether so many boxes are packed, under the numbers from this one on.
+pub fn packs(session: &mut Numbered, alloc: Global, boxes: Boxes, first: u64) -> bool {
     let count = u64::from(boxes.count);
     pack(session, alloc, boxes) == Reply::Packed(Packed { first, count })
 }

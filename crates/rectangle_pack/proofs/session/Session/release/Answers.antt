@@ -6,46 +6,50 @@ use Rattle.rectangle_pack.proofs.session.Session.release.Goals as goal
 
 pub give_back-requires : goal.give_back-requires
 give_back-requires g c =
-    let some = rw c.as_slice.ensures.value at c.in-Some.ensures.some in
-    let at = outstanding_at c.self.inside.outstanding.items c.args.number c.in-Some.index c.index-placement.result.now some c.index-placement.ensures in
+    let some = rw c.as_slice-outstanding.ensures.value at c.in-Some.ensures.some in
+    let is = rw c.as_slice-outstanding.ensures.value at c.index-outstanding-index.is in
+    let at = outstanding_at c.self.inside.outstanding.items c.args.number c.in-Some.index c.index-outstanding-index.result some is in
     let f = IsSession-found g.met.BinId.Ord.total c.self.inside.bins.entries c.self.inside.outstanding.items c.self.inside.next
     c.args.number at c.self.invariant in
     record { accepted = rw f.1 (refl, f.2) }
 
 pub returns-in_err-give_back-clause-released : goal.returns-in_err-give_back-clause-released
 returns-in_err-give_back-clause-released g c =
-    let some = rw c.as_slice.ensures.value at c.in-Some.ensures.some in
+    let some = rw c.as_slice-outstanding.ensures.value at c.in-Some.ensures.some in
+    let is = rw c.as_slice-outstanding.ensures.value at c.index-outstanding-index.is in
     rw (memory_refused c.from_residual.result c.from_residual.ensures.1, ← c.self.view_is) (
-      outstanding_at c.self.inside.outstanding.items c.args.number c.in-Some.index c.index-placement.result.now some c.index-placement.ensures,
+      outstanding_at c.self.inside.outstanding.items c.args.number c.in-Some.index c.index-outstanding-index.result some is,
       c.in_err-give_back.ensures.err.0,
       ap (λ bs. record { bins = bs; outstanding = c.self.inside.outstanding.items; next = c.self.inside.next }) c.in_err-give_back.ensures.err.1,
     )
 
 pub invariant_of-self-2 : goal.invariant_of-self-2
 invariant_of-self-2 g c =
-    let some = rw c.as_slice.ensures.value at c.in-Some.ensures.some in
+    let some = rw c.as_slice-outstanding.ensures.value at c.in-Some.ensures.some in
+    let is = rw c.as_slice-outstanding.ensures.value at c.index-outstanding-index.is in
     rw c.remove.ensures.items
     (released-removed g.met.BinId.Ord.total c.args.number _ _ _ _ (outstanding_at c.self.inside.outstanding.items c.args.number c.in-Some.index
-    c.index-placement.result.now some c.index-placement.ensures) c.in_ok-give_back.ensures.ok c.self.invariant).1
+    c.index-outstanding-index.result some is) c.in_ok-give_back.ensures.ok c.self.invariant).1
 
 pub returns-clause-released : goal.returns-clause-released
 returns-clause-released g c =
-    let some = rw c.as_slice.ensures.value at c.in-Some.ensures.some in
+    let some = rw c.as_slice-outstanding.ensures.value at c.in-Some.ensures.some in
+    let is = rw c.as_slice-outstanding.ensures.value at c.index-outstanding-index.is in
     rw (← c.self.view_is, c.remove.ensures.items)
     (released-removed g.met.BinId.Ord.total c.args.number _ _ _ _ (outstanding_at c.self.inside.outstanding.items c.args.number c.in-Some.index
-    c.index-placement.result.now some c.index-placement.ensures) c.in_ok-give_back.ensures.ok c.self.invariant).0
+    c.index-outstanding-index.result some is) c.in_ok-give_back.ensures.ok c.self.invariant).0
 
 pub returns-clause-always : goal.returns-clause-always
 returns-clause-always g c = invariant_of-self-2 g c
 
 pub position_of-requires : goal.position_of-requires
-position_of-requires g c = rw c.as_slice.ensures.value record { rising = c.self.invariant.rising }
+position_of-requires g c = rw c.as_slice-outstanding.ensures.value record { rising = c.self.invariant.rising }
 
-pub index-placement-requires : goal.index-placement-requires
-index-placement-requires g c = let some = rw c.as_slice.ensures.value at c.in-Some.ensures.some in rw c.self.inside.outstanding.ok.0 some.0
+pub bounds-outstanding-index : goal.bounds-outstanding-index
+bounds-outstanding-index g c = c.in-Some.ensures.some.0
 
 pub remove-requires : goal.remove-requires
-remove-requires g c = let some = rw c.as_slice.ensures.value at c.in-Some.ensures.some in rw c.self.inside.outstanding.ok.0 some.0
+remove-requires g c = let some = rw c.as_slice-outstanding.ensures.value at c.in-Some.ensures.some in some.0
 
 pub invariant_of-self : goal.invariant_of-self
 invariant_of-self g c = rw c.in_err-give_back.ensures.err.1 c.self.invariant
@@ -55,7 +59,7 @@ returns-in_err-give_back-clause-always g c = invariant_of-self g c
 
 pub returns-in_default-clause-released : goal.returns-in_default-clause-released
 returns-in_default-clause-released g c =
-    let none = rw c.as_slice.ensures.value at c.in_default.ensures.none in
+    let none = rw c.as_slice-outstanding.ensures.value at c.in_default.ensures.none in
     rw (← c.self.view_is) (none, refl)
 
 pub returns-in_default-clause-always : goal.returns-in_default-clause-always

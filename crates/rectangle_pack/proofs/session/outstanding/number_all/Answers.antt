@@ -10,8 +10,7 @@ loop-placement-preserved g c =
       outstanding = numbered-more c.args.outstanding.now.items c.loop-placement.outstanding.items c.push_reserved.new.self.items c.args.first
           c.loop-placement.yielded c.in-Some.placement c.loop-placement.number inv.number inv.outstanding c.push_reserved.ensures.items;
       number = omega (arith, inv.number, more);
-      len = omega (arith, inv.len, c.push_reserved.ensures.len, more);
-      room = omega (arith, inv.room, c.push_reserved.ensures.capacity);
+      room = omega (arith, inv.room, c.push_reserved.ensures.room, more);
       left = omega (arith, inv.left, c.in-Some.ensures.steps.1, more);
     }
 
