@@ -38,3 +38,12 @@ weight p = suc (p.count + p.count - 2)
 pub record IsPeeled (p : Part) (filling fillings : List Cuboid) (parts : List Part) : Type 0 where
   pub may_be : MayBe p filling parts fillings
   pub lighter : sum_by weight parts < weight p
+
+-- parts and steps that may stand for a part, once the step before it is taken: the steps are the plan of so many of its boxes,
+-- and the parts, which are lighter than it, have the others
+pub record IsCutUp (p : Part) (filling fillings : List Cuboid) (parts : List Part) (planned : ℕ) (text : List CutStep) : Type 0 where
+  pub within : planned ≤ length fillings
+  pub goes_on : (boxes : List Cuboid) (whole : Cuboid) (ps : List Part) (left : List Cuboid) (steps : List CutStep)
+      → LeadOn boxes whole (p ∷ ps) (filling ++ left) steps
+      → LeadOn boxes whole (parts ++ ps) (drop planned fillings ++ left) ((steps ++ option_to_list p.before) ++ text)
+  pub lighter : sum_by weight parts < weight p

@@ -1,7 +1,7 @@
 -- The parts of a box that are still to be planned, the next one first, whose boxes stand one part after another.
 use Rattle.rectangle_pack_sections.proofs.Std.{ℕ, ◌+◌, ◌-◌, ◌<◌, ◌≤◌, ◌≡◌, true, List, [], ◌∷◌, ◌++◌, length, take, drop, refl, ap, sym, ◌∙◌, subst}
 use Rattle.rectangle_pack_sections.proofs.Std.{append_assoc, sum_by, sum_by_push, reverse, arith, All, count_by, None, IsPermutation, length-take-le, length-drop, reverse-append}
-use Rattle.rectangle_pack_sections.proofs.Std.{take_at, drop_at, length-append, append-nil, take-append-drop, All-take, All-drop, count_by-le-length}
+use Rattle.rectangle_pack_sections.proofs.Std.{take_at, drop_at, drop-drop, drop-append-le, length-append, append-nil, take-append-drop, All-take, All-drop, count_by-le-length}
 use Rattle.rectangle_pack_sections.proofs.Std.{length-filter, length_permutation, IsNonDecreasingBy-take, IsNonDecreasingBy-drop}
 use Rattle.rectangle_pack_sections.proofs.Std.{All-permutation, sum_by-append, sum_by-IsPermutation}
 use Rattle.std.proofs.lemmas.List.{reverse-reverse}
@@ -240,5 +240,18 @@ module _ (done n : ℕ) (filling es : List Cuboid) (within : done ≤ length fil
       let same : done + n - done ≡ n = omega arith in
       rw same (sym (drop_at (take done filling) (es ++ drop n (drop done filling)) done (length-take-le done filling within)))
 
-  pub still_within : done ≤ length (put_mid done (done + n - done) filling es)
-  still_within = omega (arith, length-append (take done filling) (es ++ drop (done + n - done) (drop done filling)), length-take-le done filling within)
+  pub still_within : (planned : ℕ) → planned ≤ length es → done + planned ≤ length (put_mid done (done + n - done) filling es)
+  still_within planned some = omega (
+    arith,
+    some,
+    length-append (take done filling) (es ++ drop (done + n - done) (drop done filling)),
+    length-append es (drop (done + n - done) (drop done filling)),
+    length-take-le done filling within,
+  )
+
+  -- and once some of them are planned
+  pub planned_moved : (planned : ℕ) → planned ≤ length es
+      → drop planned es ++ drop n (drop done filling) ≡ drop (done + planned) (put_mid done (done + n - done) filling es)
+  planned_moved planned some =
+      sym (drop-append-le planned es (drop n (drop done filling)) some) ∙ ap (drop planned) rest_moved
+      ∙ drop-drop planned done (put_mid done (done + n - done) filling es)
