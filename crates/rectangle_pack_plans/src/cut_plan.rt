@@ -15,6 +15,7 @@ mod order;
 mod parts;
 mod peel;
 mod split;
+mod strip;
 
 use crate::cut_plan::parts::{lower, upper};
 use crate::cut_plan::peel::{TURNS, peel};
@@ -62,7 +63,7 @@ fn cut(part: &Part, split: &Split) -> (Part, Part)
     let below = Part {
         whole: lower(&part.whole, axis, place),
         count: split.below,
-        ordered: Some(axis),
+        ordered: split.ordered,
         before: Some(CutStep::Cut { axis, place }),
         turns: 0,
     };
@@ -75,7 +76,7 @@ fn cut(part: &Part, split: &Split) -> (Part, Part)
     let above = Part {
         whole: upper(&part.whole, axis, place),
         count,
-        ordered: Some(axis),
+        ordered: split.ordered,
         before: None,
         turns,
     };
