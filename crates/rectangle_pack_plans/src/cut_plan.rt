@@ -1,18 +1,21 @@
 //! Cutting plans: the straight cuts that part a box into given boxes.
-ghost use Rattle.std.specs.Prelude.{◌≡◌, ◌≤◌, ◌++◌, List, length, reverse, IfOk, OnOk, MatchBool, MatchOption};
+ghost use Rattle.std.specs.Prelude.{◌≡◌, ◌≤◌, ◌++◌, ◌∷◌, [], List, length, reverse, IfOk, OnOk, MatchOption};
 ghost use Rattle.std.specs.Option.{option_to_list};
 ghost use Rattle.rectangle_pack_sections.specs.Boxes.{FitsU32};
 ghost use Rattle.rectangle_pack_sections.specs.CutTrees.{IsPlaceOf, IsFromCuts};
 ghost use Rattle.rectangle_pack_plans.specs.CutPlans.{IsCutPlan};
 ghost use Rattle.rectangle_pack_plans.specs.declared.cut_plan.Part.{Part};
+ghost use Rattle.rectangle_pack_plans.specs.declared.cut_plan.CutStep.{CutStep};
+ghost use Rattle.rectangle_pack_plans.specs.declared.cut_plan.CutStep.TheVariants.{Leaf};
 ghost use Rattle.rectangle_pack_plans.specs.private.CutPlans.{IsFilled, AreOrdered, lower_part, upper_part};
-ghost use Rattle.rectangle_pack_plans.specs.private.Pending.{IsPeeled};
+ghost use Rattle.rectangle_pack_plans.specs.private.Pending.{IsCutUp};
 
 pub mod laws;
 mod order;
 mod parts;
 mod peel;
 mod split;
+mod strip;
 
 use crate::cut_plan::parts::{lower, upper};
 use crate::cut_plan::peel::{TURNS, peel};
@@ -60,7 +63,7 @@ fn cut(part: &Part, split: &Split) -> (Part, Part)
     let below = Part {
         whole: lower(&part.whole, axis, place),
         count: split.below,
-        ordered: Some(axis),
+        ordered: split.ordered,
         before: Some(CutStep::Cut { axis, place }),
         turns: 0,
     };
@@ -73,7 +76,7 @@ fn cut(part: &Part, split: &Split) -> (Part, Part)
     let above = Part {
         whole: upper(&part.whole, axis, place),
         count,
-        ordered: Some(axis),
+        ordered: split.ordered,
         before: None,
         turns,
     };
@@ -90,35 +93,52 @@ fn push_before<A: Allocator>(plan: &mut Vec<CutStep, A>, part: &Part) -> Result<
     Ok(())
 }
 
+// Puts the cut before a part of one box, and the leaf that it is, at the end of the plan.
+fn push_leaf<A: Allocator>(plan: &mut Vec<CutStep, A>, part: &Part) -> Result<(), AllocError>
+    ensures { OnOk result
+        (plan.new.items ≡ (plan.old.items ++ option_to_list part.now.before) ++ Leaf ∷ []) }
+{
+    push_before(plan, part)?;
+    plan.push(CutStep::Leaf)?;
+    Ok(())
+}
+
 // Cuts a part with two boxes or more at its first open plane, and perhaps what is above it at further
 // ones, and puts the parts behind the pending ones, the first one last. Puts the boxes in the order
-// of these parts. `false` where no plane is open.
+// of these parts. The first part is planned at once where it is one box: how many boxes are planned;
+// `None` where no plane is open.
 fn cut_up<A: Allocator + Copy>(
     alloc: A,
     part: &Part,
     boxes: &mut [BinSection],
     pending: &mut Vec<Part, A>,
-) -> Result<bool, AllocError>
+    plan: &mut Vec<CutStep, A>,
+) -> Result<Option<usize>, AllocError>
     requires filled { IsFilled part.now.whole boxes.old }
     requires ordered { AreOrdered part.now.ordered boxes.old }
     requires count { part.now.count ≡ length boxes.old }
     requires many { 2 ≤ length boxes.old }
-    ensures { IfOk result (λ is_cut.
-        MatchBool is_cut
-        ((parts : List Part) × (pending.new.items ≡ pending.old.items ++ reverse parts) ×
-        IsPeeled part.now boxes.old boxes.new parts)
-        (¬ IsFromCuts boxes.old part.now.whole)) }
+    ensures { IfOk result (λ cut.
+        MatchOption cut (¬ IsFromCuts boxes.old part.now.whole)
+        (λ planned. (parts : List Part) × (text : List CutStep)
+        × (pending.new.items ≡ pending.old.items ++ reverse parts)
+        × (plan.new.items ≡ plan.old.items ++ text)
+        × IsCutUp part.now boxes.old boxes.new parts planned text)) }
 {
     if peel(alloc, part, boxes, pending)? {
-        return Ok(true);
+        return Ok(Some(0));
     }
     let Some(split) = first_split(&part.whole, part.ordered, boxes) else {
-        return Ok(false);
+        return Ok(None);
     };
     let (below, above) = cut(part, &split);
     pending.push(above)?;
+    if below.count == 1 {
+        push_leaf(plan, &below)?;
+        return Ok(Some(1));
+    }
     pending.push(below)?;
-    Ok(true)
+    Ok(Some(0))
 }
 
 /// The plan of the whole, which the boxes fill: a cut at the first open plane of each part with two
@@ -146,16 +166,18 @@ pub fn plan_of<A: Allocator + Copy>(
     })?;
     let mut done = 0;
     while let Some(part) = pending.pop() {
-        push_before(&mut plan, &part)?;
         let end = done + part.count;
         if part.count <= 1 {
-            plan.push(CutStep::Leaf)?;
+            push_leaf(&mut plan, &part)?;
             done = end;
             continue;
         }
-        if !cut_up(alloc, &part, &mut boxes[done..end], &mut pending)? {
+        push_before(&mut plan, &part)?;
+        let filling = &mut boxes[done..end];
+        let Some(planned) = cut_up(alloc, &part, filling, &mut pending, &mut plan)? else {
             return Ok(None);
-        }
+        };
+        done += planned;
     }
     Ok(Some(plan))
 }

@@ -1,5 +1,5 @@
 -- What is known of the parts of a box while its cutting plan is made.
-use Rattle.std.specs.Prelude.{ℕ, ◌≡◌, ◌+◌, ◌-◌, ◌*◌, ◌<◌, ◌&&◌, ⊤, Bool, true, nat_le, List, take, drop, length, filter, All, Option, Some, None, IfSome}
+use Rattle.std.specs.Prelude.{ℕ, ◌≡◌, ◌≢◌, ◌+◌, ◌-◌, ◌*◌, ◌<◌, ◌&&◌, ⊤, Bool, true, nat_le, List, take, drop, length, filter, All, Option, Some, None, IfSome}
 use Rattle.std.specs.List.Sorted.{IsNonDecreasingBy}
 use Rattle.rectangle_pack_sections.specs.declared.axis.Axis.{Axis}
 use Rattle.rectangle_pack_sections.specs.declared.axis.Axis.TheVariants.{X, Y, Z}
@@ -8,7 +8,7 @@ use Rattle.rectangle_pack_plans.specs.declared.cut_plan.Part.{Part}
 use Rattle.rectangle_pack_plans.specs.declared.cut_plan.peel.Look.{Look}
 use Rattle.rectangle_pack_plans.specs.declared.cut_plan.peel.Look.TheVariants.{Open, Closed, Unknown}
 use Rattle.rectangle_pack_plans.specs.declared.cut_plan.split.Split.{Split}
-use Rattle.rectangle_pack_sections.specs.Boxes.{Cuboid, FitsU32, extent, start, has_cells}
+use Rattle.rectangle_pack_sections.specs.Boxes.{Cuboid, FitsU32, extent, start, end, has_cells}
 use Rattle.rectangle_pack_sections.specs.Counting.{Tiles}
 use Rattle.rectangle_pack_sections.specs.CutTrees.{lower, upper, HaveSameBoxes}
 use Rattle.rectangle_pack_plans.specs.CutPlans.{IsOpenPlane, axis_rank, lower_boxes, upper_boxes}
@@ -49,22 +49,32 @@ pub record IsFirstOpen (a : Axis) (whole : Cuboid) (boxes : List Cuboid) (place 
   pub front : take below boxes ≡ lower_boxes a place boxes
   pub back : drop below boxes ≡ upper_boxes a place boxes
 
--- the first open plane of the axes is at the split (`IsFirstOpen`): the boxes stand in order on its axis, and no plane
--- is open on an axis before it
+-- the first open plane of the axes is at the split (`IsFirstOpen`): the boxes stand in the order that the split names
+-- (`AreOrdered`), and no plane is open on an axis before its axis
 pub record IsSplit (whole : Cuboid) (boxes : List Cuboid) (split : Split) : Type 0 where
   pub on_axis : IsFirstOpen split.axis whole boxes split.place split.below
-  pub ordered : IsNonDecreasingBy (start split.axis) boxes
+  pub ordered : AreOrdered split.ordered boxes
   pub first : AreClosed (axis_rank split.axis) whole boxes
 
--- the lower part of a part that is split, with how many boxes it has, which are in order on the axis of the split. The
--- cut comes before its plan
+-- a box starts and ends on the axis where the whole does
+abbrev pub RunsOver : Axis → Cuboid → Cuboid → Type 0
+RunsOver a b whole = (start a b ≡ start a whole) × (end a b ≡ end a whole)
+
+-- a strip: a box that is all of the whole from its own start on the axis on
+pub record IsStrip (a : Axis) (whole b : Cuboid) : Type 0 where
+  pub others : (e : Axis) → a ≢ e → RunsOver e b whole
+  pub after : start a whole < start a b
+  pub ends : end a b ≡ end a whole
+
+-- the lower part of a part that is split, with how many boxes it has, and on which axis they are in order, as the split
+-- names it. The cut comes before its plan
 abbrev pub lower_part : Part → Split → Part
 lower_part p s =
-    record { whole = lower s.axis s.place p.whole; count = s.below; ordered = Some s.axis; before = Some (CutAt s.axis s.place); turns = 0 }
+    record { whole = lower s.axis s.place p.whole; count = s.below; ordered = s.ordered; before = Some (CutAt s.axis s.place); turns = 0 }
 
 -- the upper part, likewise; nothing comes before its plan
 abbrev pub upper_part : Part → Split → ℕ → Part
-upper_part p s turns = record { whole = upper s.axis s.place p.whole; count = p.count - s.below; ordered = Some s.axis; before = None; turns = turns }
+upper_part p s turns = record { whole = upper s.axis s.place p.whole; count = p.count - s.below; ordered = s.ordered; before = None; turns = turns }
 
 -- whether the box does not start before the part, on any axis
 unfoldable pub is_left : Cuboid → Cuboid → Bool

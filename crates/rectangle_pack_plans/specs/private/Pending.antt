@@ -39,3 +39,12 @@ weight p = suc (p.count + p.count - 2)
 pub record IsPeeled (p : Part) (filling fillings : List Cuboid) (parts : List Part) : Type 0 where
   pub may_be : MayBe p filling parts fillings
   pub lighter : sum_by weight parts < weight p
+
+-- once the cut that comes before the part is in the plan, and behind it the steps `text`, the parts may stand for it, and
+-- weigh less; the steps are the plan of the first so many (`planned`) of its boxes, and the parts have the others
+pub record IsCutUp (p : Part) (filling fillings : List Cuboid) (parts : List Part) (planned : ℕ) (text : List CutStep) : Type 0 where
+  pub within : planned ≤ length fillings
+  pub goes_on : (boxes : List Cuboid) (whole : Cuboid) (ps : List Part) (left : List Cuboid) (steps : List CutStep)
+      → LeadOn boxes whole (p ∷ ps) (filling ++ left) steps
+      → LeadOn boxes whole (parts ++ ps) (drop planned fillings ++ left) ((steps ++ option_to_list p.before) ++ text)
+  pub lighter : sum_by weight parts < weight p

@@ -1,6 +1,6 @@
 //! Boxes of a part in order along an axis, and up to which place they leave no plane open.
 ghost use Rattle.std.specs.Prelude.{◌≡◌, ◌+◌, ◌<◌, ◌≤◌, ◌⊎◌, ◌++◌, true, length, List, Contains, MatchBool};
-ghost use Rattle.std.specs.Bool.{OnTrue, OnFalse};
+ghost use Rattle.std.specs.Bool.{OnTrue};
 ghost use Rattle.std.specs.List.Sorted.{IsPermutation, IsNonDecreasingBy};
 ghost use Rattle.rectangle_pack_sections.specs.Boxes.{Cuboid, FitsU32, has_cells, start};
 ghost use Rattle.rectangle_pack_plans.specs.private.CutPlans.{HaveCellsAndFit, IsFilled, AreOrdered, IsClosedBelow, IsClosedOn};
@@ -10,7 +10,7 @@ use rectangle_pack_sections::bin_section::BinSection;
 use rectangle_pack_sections::span::Span;
 
 // Puts boxes in order of their starts on an axis. Takes no memory.
-fn order_on(axis: Axis, boxes: &mut [BinSection])
+pub(crate) fn order_on(axis: Axis, boxes: &mut [BinSection])
     ensures permutation { IsPermutation boxes.old boxes.new }
     ensures ordered { IsNonDecreasingBy (start axis) boxes.new }
 {
@@ -112,32 +112,26 @@ fn is_blocked(
 // So many boxes at either end are looked at first, and four times as many each time.
 const FEW: usize = 16;
 
-// Puts the boxes in order on an axis, unless those at both ends already leave no plane on it
-// open; whether they are in order. `ordered` says on which axis they are, before and after.
-pub(crate) fn put_in_order(
+// Whether the boxes at both ends already leave no plane on the axis open. They stay in order on the
+// axis on which they are, if any.
+pub(crate) fn is_closed_at_ends(
     whole: &BinSection,
     axis: Axis,
-    ordered: &mut Option<Axis>,
+    ordered: Option<Axis>,
     boxes: &mut [BinSection],
 ) -> bool
     requires filled { IsFilled whole.now boxes.old }
-    requires ordered { AreOrdered ordered.old boxes.old }
+    requires ordered { AreOrdered ordered boxes.old }
     ensures permutation { IsPermutation boxes.old boxes.new }
-    ensures ordered { AreOrdered ordered.new boxes.new }
-    ensures ready { OnTrue result (IsNonDecreasingBy (start axis) boxes.new) }
-    ensures blocked { OnFalse result (IsClosedOn axis whole.now boxes.new) }
+    ensures ordered { AreOrdered ordered boxes.new }
+    ensures closed { OnTrue result (IsClosedOn axis whole.now boxes.new) }
 {
-    if *ordered == Some(axis) {
-        return true;
-    }
     let mut count = FEW;
     while count < boxes.len() / 4 {
-        if is_blocked(whole, axis, *ordered, boxes, count) {
-            return false;
+        if is_blocked(whole, axis, ordered, boxes, count) {
+            return true;
         }
         count = count.saturating_mul(4);
     }
-    order_on(axis, boxes);
-    *ordered = Some(axis);
-    true
+    false
 }

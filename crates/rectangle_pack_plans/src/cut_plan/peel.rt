@@ -1,5 +1,5 @@
 //! Lower parts that are cut off a part one after another, while its boxes stay in order on x and y.
-ghost use Rattle.std.specs.Prelude.{◌≡◌, ◌<◌, ◌≤◌, ◌++◌, List, [], length, take, drop, reverse, IfOk, IfSome, MatchBool};
+ghost use Rattle.std.specs.Prelude.{◌≡◌, ◌<◌, ◌≤◌, ◌++◌, Some, List, [], length, take, drop, reverse, IfOk, IfSome, MatchBool};
 ghost use Rattle.std.specs.List.Sorted.{IsPermutation, IsNonDecreasingBy};
 ghost use Rattle.rectangle_pack_sections.specs.declared.axis.Axis.TheVariants.{Z};
 ghost use Rattle.rectangle_pack_sections.specs.Boxes.{start};
@@ -171,11 +171,13 @@ fn split_at(axis: Axis, place: u32, below: usize) -> Split
     ensures axis { result.axis ≡ axis }
     ensures place { result.place ≡ place }
     ensures below { result.below ≡ below }
+    ensures ordered { result.ordered ≡ Some axis }
 {
     Split {
         axis,
         place,
         below,
+        ordered: Some(axis),
         is_anew: false,
     }
 }

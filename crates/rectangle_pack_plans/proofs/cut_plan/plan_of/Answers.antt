@@ -2,11 +2,10 @@ use Rattle.rectangle_pack_sections.proofs.Std.{ℕ, ◌+◌, ◌-◌, ◌≡◌,
 use Rattle.rectangle_pack_sections.proofs.Std.{None, drop-drop, nil_from_length, take-append-drop}
 use Rattle.rectangle_pack_sections.specs.Boxes.{Cuboid}
 use Rattle.rectangle_pack_sections.specs.CutTrees.{IsFromCuts}
-use Rattle.rectangle_pack_plans.specs.declared.cut_plan.CutStep.TheVariants.{Leaf as LeafHere}
 use Rattle.rectangle_pack_plans.specs.private.CutPlans.{IsFilled, AreOrdered}
 use Rattle.rectangle_pack_plans.specs.private.Pending.{LeadOn}
 use Rattle.rectangle_pack_plans.proofs.lemmas.cut_plan.Pending.{LeadOn-same, IsNext, IsNext-popped, LeadOn-leaf, LeadOn-start, LeadOn-end}
-use Rattle.rectangle_pack_plans.proofs.lemmas.cut_plan.Pending.{only_is_next, parts_are_next, rest_moved, still_within, weight-popped, weight-parted}
+use Rattle.rectangle_pack_plans.proofs.lemmas.cut_plan.Pending.{only_is_next, parts_are_next, planned_moved, still_within, weight-popped, weight-parted}
 use Rattle.rectangle_pack_plans.proofs.cut_plan.plan_of.Given.{Over}
 use Rattle.rectangle_pack_plans.proofs.cut_plan.plan_of.Goals as goal
 use Rattle.rectangle_pack_plans.proofs.cut_plan.plan_of.Goals.{In-Some}
@@ -42,12 +41,12 @@ loop-part-preserved-then-part-le1 g c =
     record {
       within = next.within;
       leads = LeadOn-same _ _ _ _ _ _ _ _ refl (drop-drop c.in-Some.part.count c.loop-part.done c.loop-part.boxes)
-          (sym ((c.in_ok-push-2.ensures {u = tt}).items ∙ ap (λ l. l ++ LeafHere ∷ []) (c.in_ok-push_before.ensures {u = tt})))
+          (sym (c.in_ok-push_leaf.ensures {u = tt}))
           (LeadOn-leaf _ _ _ _ _ _ c.if-part-le1.true next.leads);
     }
 
-pub slice_bounds-cut_up-end : goal.slice_bounds-cut_up-end
-slice_bounds-cut_up-end g c = omega (arith, (taken g (goal.at.slice_bounds-cut_up-end g c).In-Some).within)
+pub slice_bounds-filling-end : goal.slice_bounds-filling-end
+slice_bounds-filling-end g c = omega (arith, (taken g (goal.at.slice_bounds-filling-end g c).In-Some).within)
 
 pub cut_up-requires-clause-filled : goal.cut_up-requires-clause-filled
 cut_up-requires-clause-filled g c =
@@ -59,10 +58,10 @@ cut_up-requires-clause-ordered g c =
     let next = taken g (goal.at.cut_up-requires-clause-ordered g c).In-Some in
     subst (AreOrdered c.in-Some.part.ordered) (lent c.loop-part.done c.in-Some.part.count c.loop-part.boxes) next.pending.ordered
 
-pub returns-then-not-branch : goal.returns-then-not-branch
-returns-then-not-branch g c =
-    let next = taken g (goal.at.returns-then-not-branch g c).In-Some in
-    let none = rw c.if-not-branch.true at (c.in_ok-cut_up.ensures {u = tt}) in
+pub returns-in_default-2 : goal.returns-in_default-2
+returns-in_default-2 g c =
+    let next = taken g (goal.at.returns-in_default-2 g c).In-Some in
+    let none = rw c.in_default-2.is at (c.in_ok-planned.ensures {u = tt}) in
     λ from. none (subst (λ l. IsFromCuts l c.in-Some.part.whole) (lent c.loop-part.done c.in-Some.part.count c.loop-part.boxes) (next.pending.from_cuts from))
 
 pub loop-part-preserved : goal.loop-part-preserved
@@ -74,15 +73,18 @@ loop-part-preserved g c =
     let es = c.cut_up.new.boxes in
     let all = c.args.boxes.now in
     let popped = c.pop.new.self.items in
-    let found = rw c.if-not-branch.false at (c.in_ok-cut_up.ensures {u = tt}) in
+    let found = rw c.in-Some-2.is at (c.in_ok-planned.ensures {u = tt}) in
+    let planned = c.in-Some-2.planned in
+    let cut = found.4 in
     let before : drop done boxes ≡ take (done + part.count - done) (drop done boxes) ++ drop part.count (drop done boxes) =
     sym (take-append-drop part.count (drop done boxes)) ∙ ap (λ l. l ++ drop part.count (drop done boxes)) (lent done part.count boxes) in
     let leads = subst (λ l. LeadOn all c.args.whole (part ∷ reverse popped) l c.loop-part.plan.items) before next.leads in
     record {
-      within = still_within done part.count boxes es c.loop-part.invariant.within;
-      leads = LeadOn-same _ _ _ _ _ _ _ _ (parts_are_next popped c.cut_up.new.pending.items found.0 found.1)
-          (rest_moved done part.count boxes es c.loop-part.invariant.within) (sym (c.in_ok-push_before.ensures {u = tt}))
-          (found.2.may_be all c.args.whole (reverse popped) (drop part.count (drop done boxes)) c.loop-part.plan.items leads);
+      within = still_within done part.count boxes es c.loop-part.invariant.within planned cut.within;
+      leads = LeadOn-same _ _ _ _ _ _ _ _ (parts_are_next popped c.cut_up.new.pending.items found.0 found.2)
+          (planned_moved done part.count boxes es c.loop-part.invariant.within planned cut.within)
+          (sym (found.3 ∙ ap (λ l. l ++ found.1) (c.in_ok-push_before.ensures {u = tt})))
+          (cut.goes_on all c.args.whole (reverse popped) (drop part.count (drop done boxes)) c.loop-part.plan.items leads);
     }
 
 pub loop-part-smaller-then-part-le1 : goal.loop-part-smaller-then-part-le1
@@ -90,9 +92,9 @@ loop-part-smaller-then-part-le1 g c = weight-popped c.loop-part.pending.items c.
 
 pub loop-part-smaller : goal.loop-part-smaller
 loop-part-smaller g c =
-    let found = rw c.if-not-branch.false at (c.in_ok-cut_up.ensures {u = tt}) in
-    weight-parted c.loop-part.pending.items c.pop.new.self.items c.cut_up.new.pending.items found.0 c.in-Some.part (c.in-Some.ensures {u = tt}).items found.1
-    found.2.lighter
+    let found = rw c.in-Some-2.is at (c.in_ok-planned.ensures {u = tt}) in
+    weight-parted c.loop-part.pending.items c.pop.new.self.items c.cut_up.new.pending.items found.0 c.in-Some.part (c.in-Some.ensures {u = tt}).items found.2
+    found.4.lighter
 
 pub returns : goal.returns
 returns g c =

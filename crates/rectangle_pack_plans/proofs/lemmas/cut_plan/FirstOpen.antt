@@ -26,10 +26,10 @@ IsClosedBelow-more a whole boxes place b there cells early closed q lt is_open =
 ]
 
 -- a filter that passes the one of two joined lists and nothing of the other
-filter_front : {X : Type 0} (t : X → Bool) (xs ys : List X) → All (λ x. t x ≡ true) xs → All (λ y. t y ≡ false) ys → filter t (xs ++ ys) ≡ xs
+pub filter_front : {X : Type 0} (t : X → Bool) (xs ys : List X) → All (λ x. t x ≡ true) xs → All (λ y. t y ≡ false) ys → filter t (xs ++ ys) ≡ xs
 filter_front t xs ys kept left = rw (filter-append t xs ys, filter_all t xs kept, filter_none t ys left) (append-nil xs)
 
-filter_back : {X : Type 0} (t : X → Bool) (xs ys : List X) → All (λ x. t x ≡ false) xs → All (λ y. t y ≡ true) ys → filter t (xs ++ ys) ≡ ys
+pub filter_back : {X : Type 0} (t : X → Bool) (xs ys : List X) → All (λ x. t x ≡ false) xs → All (λ y. t y ≡ true) ys → filter t (xs ++ ys) ≡ ys
 filter_back t xs ys left kept = rw (filter-append t xs ys, filter_none t xs left, filter_all t ys kept) refl
 
 -- how far the first i boxes reach: they all end there or before, and no plane is open below it

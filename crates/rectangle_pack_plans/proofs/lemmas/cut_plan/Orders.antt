@@ -1,5 +1,5 @@
 -- Orders of the boxes of a part along x, y and z, from which lower parts are cut off.
-use Rattle.rectangle_pack_sections.proofs.Std.{ℕ, ◌≤◌, ◌≡◌, ◌&&◌, Bool, true, false, List, [], ◌∷◌, filter, nat_le, refl, ap, sym, ◌∙◌, subst, arith, All, and_comm}
+use Rattle.rectangle_pack_sections.proofs.Std.{ℕ, ◌≤◌, ◌≡◌, ◌&&◌, Bool, true, false, List, [], ◌∷◌, filter, nat_le, Some, refl, ap, sym, ◌∙◌, subst, arith, All, and_comm}
 use Rattle.rectangle_pack_sections.proofs.Std.{IsNonDecreasingBy, IsNonDecreasingBy-drop, All-filter, filter_passes, le-leb, leb-true, cond, IsPermutation, length-filter, length, ◌<◌, ◌+◌, IsPermutation-refl}
 use Rattle.std.proofs.lemmas.List.Kept.{IsNonDecreasingBy-filter}
 use Rattle.rectangle_pack_sections.specs.declared.axis.Axis.{Axis}
@@ -156,11 +156,11 @@ length-same bs es same one other =
 
 -- the first open plane on an axis is a split, where none is open on the axes before it
 pub IsKeptSplit-on : (part : Cuboid) (xs ys zs : List Cuboid) → AreInOrder part xs ys zs → (a : Axis) → (a ≡ Z → 1 < part.whd.depth) → (s : Split) (place below : ℕ)
-    → s.axis ≡ a → s.place ≡ place → s.below ≡ below → AreClosed (axis_rank a) part (left_in part xs)
+    → s.axis ≡ a → s.place ≡ place → s.below ≡ below → s.ordered ≡ Some a → AreClosed (axis_rank a) part (left_in part xs)
     → IsFirstOpen a part (left_in part (along a xs ys zs)) place below → IsKeptSplit part xs ys zs s
-IsKeptSplit-on part xs ys zs ordered a deep s place below is at some closed found = record {
+IsKeptSplit-on part xs ys zs ordered a deep s place below is at some order closed found = record {
   on_axis = rw (is, at, some) found;
-  ordered = rw is (IsNonDecreasingBy-filter (start a) (is_left part) (along a xs ys zs) (ordered.rising a deep));
+  ordered = rw (is, order) (IsNonDecreasingBy-filter (start a) (is_left part) (along a xs ys zs) (ordered.rising a deep));
   first = rw is (AreClosed-same (axis_rank a) part (left_in part xs) (left_in part (along a xs ys zs)) (ordered.same a) closed);
 }
 

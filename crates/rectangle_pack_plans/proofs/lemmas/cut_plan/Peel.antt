@@ -1,6 +1,6 @@
 -- A part from which lower parts are cut off one after another.
 use Rattle.rectangle_pack_sections.proofs.Std.{ℕ, ◌+◌, ◌-◌, ◌<◌, ◌≤◌, ◌≡◌, true, List, [], ◌∷◌, ◌++◌, length, take, drop, refl, ap, sym, ◌∙◌, subst, arith, All, None, Some}
-use Rattle.rectangle_pack_sections.proofs.Std.{append_assoc, append-nil, sum_by, sum_by_push, length-append, take_at, drop_at, take-append-drop, length-take-le, length-drop}
+use Rattle.rectangle_pack_sections.proofs.Std.{append_assoc, append-nil, drop-append-le, sum_by, sum_by-cons, sum_by_push, length-append, take_at, drop_at, take-append-drop, length-take-le, length-drop}
 use Rattle.rectangle_pack_sections.proofs.Std.{All-drop, IsNonDecreasingBy, length-take, take_all, nil_from_length, reverse, IsPermutation, All-permutation, length_permutation}
 use borrow.Rule.Slice.PartMut.{put_mid}
 use Rattle.std.specs.Option.{option_to_list}
@@ -9,13 +9,14 @@ use Rattle.rectangle_pack_sections.specs.declared.axis.Axis.TheVariants.{X}
 use Rattle.rectangle_pack_plans.specs.declared.cut_plan.Part.{Part}
 use Rattle.rectangle_pack_plans.specs.declared.cut_plan.split.Split.{Split}
 use Rattle.rectangle_pack_plans.specs.declared.cut_plan.CutStep.{CutStep}
+use Rattle.rectangle_pack_plans.specs.declared.cut_plan.CutStep.TheVariants.{Leaf as LeafHere}
 use Rattle.rectangle_pack_sections.specs.Boxes.{Cuboid, start, has_cells}
 use Rattle.rectangle_pack_sections.specs.CutTrees.{upper, HaveSameBoxes}
 use Rattle.rectangle_pack_plans.specs.private.CutPlans.{IsFilled, IsSplit, AreOrdered, is_left, left_in, along, AreInOrder, IsKeptSplit, IsKeptAbove, lower_part, upper_part}
-use Rattle.rectangle_pack_plans.specs.private.Pending.{LeadOn, MayBe, IsPeeled, weight}
+use Rattle.rectangle_pack_plans.specs.private.Pending.{LeadOn, MayBe, IsPeeled, IsCutUp, weight}
 use Rattle.rectangle_pack_sections.proofs.lemmas.cuts.SameBoxes.{HaveSameBoxes-permutation}
 use Rattle.rectangle_pack_plans.proofs.lemmas.cut_plan.Orders.{length-same}
-use Rattle.rectangle_pack_plans.proofs.lemmas.cut_plan.Pending.{LeadOn-turn, LeadOn-under, LeadOn-cut}
+use Rattle.rectangle_pack_plans.proofs.lemmas.cut_plan.Pending.{LeadOn-turn, LeadOn-under, LeadOn-cut, LeadOn-leaf}
 
 -- a part is the same as another, but for its boxes' order and for the step before it, which was taken
 MayBe-turn : (p q : Part) (es fs : List Cuboid) (parts : List Part) (new : List Cuboid) → q.whole ≡ p.whole → q.before ≡ None → length es ≡ p.count
@@ -50,12 +51,46 @@ IsPeeled-split p old es s turns count many filled moved split =
       lighter = omega (arith, count, long, split.on_axis.some_below, split.on_axis.some_above);
     }
 
+-- the upper part is pushed alone
+pub one_pushed : (before peeled one parts : List Part) (up : Part) → peeled ≡ before ++ reverse parts → parts ≡ [] → one ≡ peeled ++ up ∷ []
+    → one ≡ before ++ reverse (up ∷ [])
+one_pushed before peeled one parts up is none pushed =
+    pushed ∙ ap (λ l. l ++ up ∷ []) (is ∙ ap (λ l. before ++ reverse l) none ∙ append-nil before)
+
 -- two parts that are pushed, the upper one first
 pub two_pushed : (before peeled one two parts : List Part) (lo up : Part) → peeled ≡ before ++ reverse parts → parts ≡ [] → one ≡ peeled ++ up ∷ []
     → two ≡ one ++ lo ∷ [] → two ≡ before ++ reverse (lo ∷ up ∷ [])
 two_pushed before peeled one two parts lo up is none first second =
     second ∙ ap (λ l. l ++ lo ∷ []) (first ∙ ap (λ l. l ++ up ∷ []) (is ∙ ap (λ l. before ++ reverse l) none ∙ append-nil before))
     ∙ append_assoc before (up ∷ []) (lo ∷ [])
+
+-- parts that stand for a part, and nothing is planned yet
+pub IsCutUp-parts : (p : Part) (old es : List Cuboid) (parts : List Part) (text : List CutStep) → text ≡ [] → IsPeeled p old es parts
+    → IsCutUp p old es parts 0 text
+IsCutUp-parts p old es parts text none peeled = record {
+  within = omega arith;
+  goes_on = λ boxes whole ps left steps leads.
+      let now = steps ++ option_to_list p.before in
+      let same : now ++ text ≡ now = ap (λ l. now ++ l) none ∙ append-nil now in
+      subst (LeadOn boxes whole (parts ++ ps) (es ++ left)) (sym same) (peeled.may_be boxes whole ps left steps leads);
+  lighter = peeled.lighter;
+}
+
+-- the first of the parts is one box, and planned
+pub IsCutUp-leaf : (p first : Part) (old es : List Cuboid) (parts : List Part) (text : List CutStep) → first.count ≡ 1 → 1 ≤ length es
+    → text ≡ option_to_list first.before ++ LeafHere ∷ [] → IsPeeled p old es (first ∷ parts) → IsCutUp p old es parts 1 text
+IsCutUp-leaf p first old es parts text one some is peeled = record {
+  within = some;
+  goes_on = λ boxes whole ps left steps leads.
+      let now = steps ++ option_to_list p.before in
+      let planned = LeadOn-leaf boxes whole first (parts ++ ps) (es ++ left) now (omega (arith, one)) (peeled.may_be boxes whole ps left steps leads) in
+      let same : (now ++ option_to_list first.before) ++ LeafHere ∷ [] ≡ now ++ text =
+      append_assoc now (option_to_list first.before) (LeafHere ∷ []) ∙ ap (λ l. now ++ l) (sym is) in
+      let rest : drop first.count (es ++ left) ≡ drop 1 es ++ left = ap (λ n. drop n (es ++ left)) one ∙ drop-append-le 1 es left some in
+      subst (LeadOn boxes whole (parts ++ ps) (drop 1 es ++ left)) same
+      (subst (λ l. LeadOn boxes whole (parts ++ ps) l ((now ++ option_to_list first.before) ++ LeafHere ∷ [])) rest planned);
+  lighter = omega (arith, peeled.lighter, sum_by-cons weight first parts);
+}
 
 -- what is known while lower parts are cut off: what is left of the part, its orders, and how many boxes stand in their place
 pub record IsPeeling (part : Part) (old : List Cuboid) (pending : List Part) (rest : Part) (xs ys zs boxes : List Cuboid) (done : ℕ) (more : List Part) : Type 0 where

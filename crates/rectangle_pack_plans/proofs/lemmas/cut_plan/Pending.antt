@@ -1,7 +1,7 @@
 -- The parts of a box that are still to be planned, the next one first, whose boxes stand one part after another.
 use Rattle.rectangle_pack_sections.proofs.Std.{ℕ, ◌+◌, ◌-◌, ◌<◌, ◌≤◌, ◌≡◌, true, List, [], ◌∷◌, ◌++◌, length, take, drop, refl, ap, sym, ◌∙◌, subst}
-use Rattle.rectangle_pack_sections.proofs.Std.{append_assoc, sum_by, sum_by_push, reverse, arith, All, count_by, None, IsPermutation, length-take-le, length-drop, reverse-append}
-use Rattle.rectangle_pack_sections.proofs.Std.{take_at, drop_at, length-append, append-nil, take-append-drop, All-take, All-drop, count_by-le-length}
+use Rattle.rectangle_pack_sections.proofs.Std.{append_assoc, sum_by, sum_by_push, reverse, arith, All, count_by, Option, None, Some, IsPermutation, length-take-le, length-drop, reverse-append}
+use Rattle.rectangle_pack_sections.proofs.Std.{take_at, drop_at, drop-drop, drop-append-le, length-append, append-nil, take-append-drop, All-take, All-drop, count_by-le-length}
 use Rattle.rectangle_pack_sections.proofs.Std.{length-filter, length_permutation, IsNonDecreasingBy-take, IsNonDecreasingBy-drop}
 use Rattle.rectangle_pack_sections.proofs.Std.{All-permutation, sum_by-append, sum_by-IsPermutation}
 use Rattle.std.proofs.lemmas.List.{reverse-reverse}
@@ -31,6 +31,15 @@ rank_below : (a : Axis) → axis_rank a < 3
 unfolding axis_rank
 rank_below X = omega arith
 rank_below _ = omega arith
+
+-- parts of a list in order
+AreOrdered-take : (ordered : Option Axis) (n : ℕ) (es : List Cuboid) → AreOrdered ordered es → AreOrdered ordered (take n es)
+AreOrdered-take None n es h = tt
+AreOrdered-take (Some a) n es h = IsNonDecreasingBy-take (start a) n es h
+
+AreOrdered-drop : (ordered : Option Axis) (n : ℕ) (es : List Cuboid) → AreOrdered ordered es → AreOrdered ordered (drop n es)
+AreOrdered-drop None n es h = tt
+AreOrdered-drop (Some a) n es h = IsNonDecreasingBy-drop (start a) n es h
 
 module _ (boxes : List Cuboid) (whole : Cuboid) where
   -- a part in front of others
@@ -126,12 +135,12 @@ module _ (boxes : List Cuboid) (whole : Cuboid) where
       lower_pending : IsPending boxes whole (lower_part p s) (take s.below es)
       lower_pending = side_pending (lower_part p s) (take s.below es)
           (rw split.on_axis.front (lower_side s.axis s.place p.whole es place is_open.uncut filled.tiles))
-          (All-take (λ e. has_cells e ≡ true) s.below es cells) (IsNonDecreasingBy-take (start s.axis) s.below es split.ordered)
+          (All-take (λ e. has_cells e ≡ true) s.below es cells) (AreOrdered-take s.ordered s.below es split.ordered)
 
       upper_pending : IsPending boxes whole (upper_part p s turns) (drop s.below es)
       upper_pending = side_pending (upper_part p s turns) (drop s.below es)
           (rw split.on_axis.back (upper_side s.axis s.place p.whole es place is_open.uncut filled.tiles))
-          (All-drop (λ e. has_cells e ≡ true) s.below es cells) (IsNonDecreasingBy-drop (start s.axis) s.below es split.ordered)
+          (All-drop (λ e. has_cells e ≡ true) s.below es cells) (AreOrdered-drop s.ordered s.below es split.ordered)
 
       planned_cut : (t u : CutTree) → IsPlannedTree t (lower s.axis s.place p.whole) (take s.below es)
           → IsPlannedTree u (upper s.axis s.place p.whole) (drop s.below es) → IsPlannedTree (Cut s.axis s.place t u) p.whole (take p.count rest)
@@ -240,5 +249,18 @@ module _ (done n : ℕ) (filling es : List Cuboid) (within : done ≤ length fil
       let same : done + n - done ≡ n = omega arith in
       rw same (sym (drop_at (take done filling) (es ++ drop n (drop done filling)) done (length-take-le done filling within)))
 
-  pub still_within : done ≤ length (put_mid done (done + n - done) filling es)
-  still_within = omega (arith, length-append (take done filling) (es ++ drop (done + n - done) (drop done filling)), length-take-le done filling within)
+  pub still_within : (planned : ℕ) → planned ≤ length es → done + planned ≤ length (put_mid done (done + n - done) filling es)
+  still_within planned some = omega (
+    arith,
+    some,
+    length-append (take done filling) (es ++ drop (done + n - done) (drop done filling)),
+    length-append es (drop (done + n - done) (drop done filling)),
+    length-take-le done filling within,
+  )
+
+  -- and once some of them are planned
+  pub planned_moved : (planned : ℕ) → planned ≤ length es
+      → drop planned es ++ drop n (drop done filling) ≡ drop (done + planned) (put_mid done (done + n - done) filling es)
+  planned_moved planned some =
+      sym (drop-append-le planned es (drop n (drop done filling)) some) ∙ ap (drop planned) rest_moved
+      ∙ drop-drop planned done (put_mid done (done + n - done) filling es)

@@ -1,7 +1,7 @@
 //! Cutting plans whose memory is refused.
 
-use super::PlanStep::{Leaf, X};
-use super::Step::{self, IsIn, NoBin, Replies};
+use super::PlanStep::{Leaf, X, Y, Z};
+use super::Step::{self, Call, IsIn, NoBin, Plans, Replies};
 use super::{Came, PlanStep, play_granted};
 use crate::session::Order::{AddBin, Coalesce, Pack, Release};
 use crate::session::calls::set;
@@ -69,10 +69,19 @@ fn script() -> &'static [Step] {
     SCRIPT
 }
 
+// A box on the left, one at the bottom of the rest, and two in front of each other in what is left,
+// whose orders are kept.
+const PEELED: &[Step] = &[
+    Call(AddBin(BIN, [2, 2, 3])),
+    Call(Pack(&[(P, [1, 2, 3], &[])])),
+    Call(Pack(&[(P, [1, 1, 3], &[])])),
+    Call(Pack(&[(P, [1, 1, 1], &[])])),
+    Plans(&[(BIN, &[X(1), Leaf, Y(1), Leaf, Z(1), Leaf, Leaf])]),
+];
+
 // Each request is refused in turn, until none is, and the steps that are refused are noted. Whether
 // the end was met.
-fn refuse_each(rt: &impl Abort, alloc: Global, were_refused: &mut [bool]) -> bool {
-    let script = script();
+fn refuse_each(rt: &impl Abort, alloc: Global, script: &[Step], were_refused: &mut [bool]) -> bool {
     for granted in 0..200u64 {
         let (step, came) = play_granted(rt, alloc, granted, script);
         match came {
@@ -87,6 +96,13 @@ fn refuse_each(rt: &impl Abort, alloc: Global, were_refused: &mut [bool]) -> boo
 #[test]
 fn plans(rt: HostRuntime) {
     let mut were_refused = [false; 21];
-    assert!(rt; refuse_each(&rt, rt.alloc(), &mut were_refused));
+    assert!(rt; refuse_each(&rt, rt.alloc(), script(), &mut were_refused));
     assert!(rt; were_all_refused(script(), &were_refused));
+}
+
+#[test]
+fn plans_with_orders_that_are_kept(rt: HostRuntime) {
+    let mut were_refused = [false; 5];
+    assert!(rt; refuse_each(&rt, rt.alloc(), PEELED, &mut were_refused));
+    assert!(rt; were_refused[4]);
 }

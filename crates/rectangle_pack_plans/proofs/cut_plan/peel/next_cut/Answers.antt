@@ -17,7 +17,7 @@ returns-in-Open c =
     let closed = subst (λ n. AreClosed n c.args.part.now (left_in c.args.part.now c.args.orders.now.x.now))
     (sym (rank_at c.loop-axis.axis-index c.loop-axis-test.true)) c.loop-axis.invariant in
     IsKeptSplit-on _ _ _ _ c.requires.ordered _ (c.if-is_flat_along.ensures {u = tt}) _ _ _ c.split_at.ensures.axis c.split_at.ensures.place
-    c.split_at.ensures.below closed (rw c.along.ensures at (c.in-Open.ensures {u = tt}))
+    c.split_at.ensures.below c.split_at.ensures.ordered closed (rw c.along.ensures at (c.in-Open.ensures {u = tt}))
 
 pub loop-axis-preserved : goal.loop-axis-preserved
 loop-axis-preserved c =

@@ -8,8 +8,8 @@ pub split_on-found-requires-clause-closed : goal.split_on-found-requires-clause-
 split_on-found-requires-clause-closed c = subst (λ n. AreClosed n c.args.whole.now c.loop-axis.boxes)
     (sym (rank_at c.loop-axis.axis-index c.loop-axis-test.true)) c.loop-axis.invariant.closed
 
-pub returns-in-Some-clause-permutation : goal.returns-in-Some-clause-permutation
-returns-in-Some-clause-permutation c = IsPermutation-trans _ _ _ c.loop-axis.invariant.permutation c.split_on-found.ensures.permutation
+pub returns-in-Some-found-clause-permutation : goal.returns-in-Some-found-clause-permutation
+returns-in-Some-found-clause-permutation c = IsPermutation-trans _ _ _ c.loop-axis.invariant.permutation c.split_on-found.ensures.permutation
 
 pub loop-axis-preserved : goal.loop-axis-preserved
 loop-axis-preserved c = record {
@@ -17,7 +17,7 @@ loop-axis-preserved c = record {
   filled = IsFilled-permutation _ _ _ c.split_on-found.ensures.permutation c.loop-axis.invariant.filled;
   ordered = c.split_on-found.ensures.ordered;
   closed = subst (λ n. AreClosed n c.args.whole.now c.split_on-found.new.boxes)
-      (ap (λ n. n + 1) (rank_at c.loop-axis.axis-index c.loop-axis-test.true)) c.in_default.ensures.split;
+      (ap (λ n. n + 1) (rank_at c.loop-axis.axis-index c.loop-axis-test.true)) c.in_default-found.ensures.split;
 }
 
 pub returns-clause-split : goal.returns-clause-split

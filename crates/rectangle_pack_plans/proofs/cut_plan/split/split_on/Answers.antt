@@ -1,21 +1,29 @@
+use Rattle.rectangle_pack_sections.proofs.Std.{IsPermutation-trans}
 use Rattle.rectangle_pack_plans.proofs.lemmas.cut_plan.FirstPlanes.{AreClosed-permutation, AreClosed-more}
 use Rattle.rectangle_pack_plans.proofs.lemmas.cut_plan.Filling.{IsFilled-permutation}
 use Rattle.rectangle_pack_plans.proofs.cut_plan.split.split_on.Goals as goal
 
-pub returns-then-not-put_in_order-clause-split : goal.returns-then-not-put_in_order-clause-split
-returns-then-not-put_in_order-clause-split c =
-    AreClosed-more _ _ _ _ c.put_in_order.ensures.permutation c.requires.closed (c.if-not-put_in_order.ensures {u = tt}).blocked
+pub returns-then-is_closed_at_ends-clause-split : goal.returns-then-is_closed_at_ends-clause-split
+returns-then-is_closed_at_ends-clause-split c =
+    AreClosed-more _ _ _ _ c.is_closed_at_ends.ensures.permutation c.requires.closed c.if-is_closed_at_ends.ensures.closed
 
-pub first_open_plane-requires-clause-filled : goal.first_open_plane-requires-clause-filled
-first_open_plane-requires-clause-filled c = IsFilled-permutation _ _ _ c.put_in_order.ensures.permutation c.requires.filled
+pub put_strips_last-strip-requires : goal.put_strips_last-strip-requires
+put_strips_last-strip-requires c = IsFilled-permutation _ _ _ c.is_closed_at_ends.ensures.permutation c.requires.filled
 
-pub returns-in_err-place-clause-split : goal.returns-in_err-place-clause-split
-returns-in_err-place-clause-split c =
-    rw c.from_residual.ensures (AreClosed-more _ _ _ _ c.put_in_order.ensures.permutation c.requires.closed (c.in_err-place.ensures {u = tt}))
+pub returns-then-is_some-clause-permutation : goal.returns-then-is_some-clause-permutation
+returns-then-is_some-clause-permutation c = IsPermutation-trans _ _ _ c.is_closed_at_ends.ensures.permutation c.put_strips_last-strip.ensures.permutation
 
-pub returns-clause-split : goal.returns-clause-split
-returns-clause-split c = record {
-  on_axis = c.in_ok-place.ensures {u = tt};
-  ordered = (c.if-not-put_in_order.ensures {u = tt}).ready;
-  first = AreClosed-permutation _ _ _ _ c.put_in_order.ensures.permutation c.requires.closed;
-}
+pub plane_on-requires-2-clause-filled : goal.plane_on-requires-2-clause-filled
+plane_on-requires-2-clause-filled c =
+    let moved = IsPermutation-trans _ _ _ c.is_closed_at_ends.ensures.permutation c.put_strips_last-strip.ensures.permutation in
+    IsFilled-permutation _ _ _ (IsPermutation-trans _ _ _ moved c.order_on.ensures.permutation) c.requires.filled
+
+pub plane_on-requires-2-clause-closed : goal.plane_on-requires-2-clause-closed
+plane_on-requires-2-clause-closed c =
+    let moved = IsPermutation-trans _ _ _ c.is_closed_at_ends.ensures.permutation c.put_strips_last-strip.ensures.permutation in
+    AreClosed-permutation _ _ _ _ (IsPermutation-trans _ _ _ moved c.order_on.ensures.permutation) c.requires.closed
+
+pub returns-clause-permutation : goal.returns-clause-permutation
+returns-clause-permutation c =
+    let moved = IsPermutation-trans _ _ _ c.is_closed_at_ends.ensures.permutation c.put_strips_last-strip.ensures.permutation in
+    IsPermutation-trans _ _ _ moved c.order_on.ensures.permutation

@@ -1,6 +1,6 @@
 use Rattle.rectangle_pack_sections.proofs.Std.{◌<◌, ◌-◌, length, IsPermutation}
 use Rattle.rectangle_pack_plans.specs.private.CutPlans.{AreOrdered}
-use Rattle.rectangle_pack_plans.proofs.cut_plan.order.put_in_order.Given as goal
+use Rattle.rectangle_pack_plans.proofs.cut_plan.order.is_closed_at_ends.Given as goal
 
 abbrev pub invariant-loop-count : goal.invariant-loop-count
 invariant-loop-count l = record {
