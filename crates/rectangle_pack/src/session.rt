@@ -239,7 +239,7 @@ where
         //   [excluded_bins.exclusions_are_not_used]
         // `NotEnoughBinSpace`: for some group, each bin of the session is excluded or the group's
         //   trial is stuck there, as the groups before it left that bin.
-        //   [place_group.one_bin_only_is_tried]
+        //   [next_bin.one_bin_only_is_tried]
         ensures promise { let order = ⟦<Group<GroupId, Id> as Ord>⟧.cmp in
             let may = answers H.Fn C.Fn heuristic.now comparison.now in
             PacksAsPromised order (rules_by Id.cmp BinId.cmp may) groups.now

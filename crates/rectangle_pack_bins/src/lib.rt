@@ -5,4 +5,5 @@
 pub mod checkout;
 pub mod journal;
 mod open_bin;
+pub mod open_bins;
 pub mod target_bin;

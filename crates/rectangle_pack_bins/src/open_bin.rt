@@ -1,18 +1,23 @@
 //! A bin while a packing lasts.
-ghost use Rattle.std.specs.Prelude.{◌≡◌, ◌≤◌};
+ghost use Rattle.std.specs.Prelude.{◌≡◌, ◌≤◌, IfSome};
 ghost use Rattle.rectangle_pack_sections.specs.Bins.{IsSound};
 ghost use Rattle.rectangle_pack_bins.specs.private.Checkout.{closed};
+ghost use Rattle.rectangle_pack_lists.specs.private.Summaries.{Bounds};
 ghost use Rattle.rectangle_pack_lists.specs.private.TrialNotes.{IsNotedAnswer, LeavesNotes};
 
 use crate::target_bin::TargetBin;
 use crate::target_bin::slotted::{are_worth_it, place_slotted};
 use rectangle_pack_lists::fit_tests::FitTests;
 use rectangle_pack_lists::section_slots::SectionSlots;
+use rectangle_pack_lists::section_slots::summary::Summary;
 use rectangle_pack_lists::trial::Buffers;
 use rectangle_pack_sections::closures::Policy;
 use rectangle_pack_sections::rect_to_insert::RectToInsert;
 use std::alloc::{AllocError, Allocator};
 use std::marker::Model;
+
+// How many sections are summed anew after each trial that is done, at most.
+const FEW: usize = 64;
 
 // A bin that a packing works on. Once its list is long, the packing works in slots, and the bin's
 // own list stays: where the packing is undone, the slots are dropped.
@@ -76,6 +81,18 @@ impl<A: Allocator + Copy> OpenBin<A> {
             tests,
             buffers,
         )
+    }
+
+    // The summary of its sections as the packing has them, where it is known: where they are few,
+    // and do not stand in slots.
+    pub(crate) fn summary(&self) -> Option<Summary>
+        ensures { IfSome result (λ s. Bounds s self.now.now.sections) }
+    {
+        let sections = self.bin.available_bin_sections();
+        if self.slots.is_some() || sections.len() > FEW {
+            return None;
+        }
+        Some(Summary::of_sections(sections.as_slice()))
     }
 
     // The bin, where the packing is kept as the packing has it, and else with its own list. Takes

@@ -3,7 +3,7 @@ ghost use Rattle.std.specs.Prelude.{◌≡◌, ◌+◌, ◌-◌, ◌<◌, ◌≤
 ghost use Rattle.std.specs.Vec.{vec_capacity};
 ghost use Rattle.rectangle_pack_lists.specs.private.Slots.{sections_of, IsLastHolding, NoneHolds};
 
-mod summary;
+pub mod summary;
 
 use crate::section_slots::summary::{
     BLOCK, ROW, Summary, count_if_too_small, sum_block_anew, sum_last_block, sum_last_row,

@@ -183,7 +183,7 @@ where
     requires callable { AreCallable H.Fn C.Fn box_size_heuristic.now
         more_suitable_containers_fn.now }
     // Done, `NotEnoughBinSpace` and `OutOfMemory` say of the answer and of the bins what they say
-    //   in `pack_rects`. [place_group.one_bin_only_is_tried]
+    //   in `pack_rects`. [next_bin.one_bin_only_is_tried]
     // Done or `NotEnoughBinSpace`: exactly the fit tests of this packing are added to the counter,
     //   which stays at the greatest `u128`. They are those of the trials of each group, in the bins
     //   up to its own, or in all bins where it is refused; in an excluded bin there are none.

@@ -1,6 +1,7 @@
 //! The bins of groups that were placed, and which bins these exclude for a group.
 ghost use Rattle.std.specs.Prelude.{◌≡◌, ◌∷◌, [], List, false, All, IfOk, OnOk};
 ghost use Rattle.std.specs.BTreeMap.{is_at};
+ghost use Rattle.std.specs.Bool.{OnTrue};
 ghost use Rattle.std.specs.List.{list_any};
 ghost use Rattle.rectangle_pack_groups.specs.Exclusions.{listed_at};
 ghost use Rattle.rectangle_pack_rules.specs.private.Excluded.{are_in, went_to, AreHomesKept};
@@ -32,6 +33,13 @@ impl<'b, B: Ord, A: Allocator + Copy> Drop for ExcludedBins<'b, B, A> {
 }
 
 impl<'b, B: Ord, A: Allocator + Copy> ExcludedBins<'b, B, A> {
+    /// Whether there is none.
+    pub fn is_empty(&self) -> bool
+        ensures { OnTrue result (self.now ≡ []) }
+    {
+        self.ids.is_empty()
+    }
+
     /// Whether the bin of this id is excluded.
     pub fn has(&self, id: &'b B) -> bool
         ensures { result ≡ are_in B.cmp self.now id.now }

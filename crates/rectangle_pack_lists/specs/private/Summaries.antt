@@ -1,6 +1,6 @@
--- What a summary says of a stretch of slots, and a list of summaries of the whole stretches of a width.
+-- What a summary says of sections and of a stretch of slots, and a list of summaries of the whole stretches of a width.
 use Rattle.std.specs.Prelude.{◌≡◌, ℕ, ◌+◌, ◌*◌, ◌-◌, ◌^◌, ◌<◌, ◌≤◌, List, length, min, max, All, Option, take, drop, slice_index_or}
-use Rattle.rectangle_pack_sections.specs.Boxes.{Size, Cuboid, volume_of, middle_side}
+use Rattle.rectangle_pack_sections.specs.Boxes.{Size, Cuboid, Holds, volume_of, middle_side}
 use Rattle.rectangle_pack_lists.specs.private.Slots.{sections_of}
 use Rattle.rectangle_pack_lists.specs.declared.section_slots.summary.Summary.{Summary}
 
@@ -16,10 +16,18 @@ pub record IsWithin (summary : Summary) (section : Cuboid) : Type 0 where
   pub middle : middle_side section.whd ≤ summary.middle
   pub volume : bounded_volume_of section.whd ≤ summary.volume
 
+-- there are so many sections, and each is within the summary
+pub record Bounds (summary : Summary) (sections : List Cuboid) : Type 0 where
+  pub count : summary.count ≡ length sections
+  pub within : All (IsWithin summary) sections
+
 -- so many sections stand in these slots, and each is within the summary
-pub record Sums (summary : Summary) (slots : List (Option Cuboid)) : Type 0 where
-  pub count : summary.count ≡ length (sections_of slots)
-  pub within : All (IsWithin summary) (sections_of slots)
+abbrev pub Sums : Summary → List (Option Cuboid) → Type 0
+Sums summary slots = Bounds summary (sections_of slots)
+
+-- no section that is within the summary holds the size
+abbrev pub RulesOut : Summary → Size → Type 0
+RulesOut summary size = (section : Cuboid) → IsWithin summary section → ¬ Holds section size
 
 -- each whole stretch of so many slots, from the first slot on, has its summary
 pub record SumAll (width : ℕ) (slots : List (Option Cuboid)) (summaries : List Summary) : Type 0 where

@@ -2,9 +2,9 @@
 ghost use Rattle.std.specs.Prelude.{◌≡◌, ◌+◌, ◌*◌, ◌-◌, ◌<◌, ◌≤◌, ◌++◌, ◌^◌, ◌∷◌, [], List, Option, length, take, drop, IfSome, set};
 ghost use Rattle.std.specs.Vec.{vec_capacity};
 ghost use Rattle.std.specs.Bool.{OnFalse};
-ghost use Rattle.rectangle_pack_sections.specs.Boxes.{Cuboid, Holds};
+ghost use Rattle.rectangle_pack_sections.specs.Boxes.{Cuboid};
 ghost use Rattle.rectangle_pack_lists.specs.private.Slots.{NoneHolds};
-ghost use Rattle.rectangle_pack_lists.specs.private.Summaries.{IsWithin, Sums, SumAll, HaveSlots, of_section, joined, bounded_volume_of};
+ghost use Rattle.rectangle_pack_lists.specs.private.Summaries.{RulesOut, Bounds, Sums, SumAll, HaveSlots, of_section, joined, bounded_volume_of};
 
 use rectangle_pack_sections::bin_section::BinSection;
 use rectangle_pack_sections::box_size_heuristics::middle_side;
@@ -26,10 +26,10 @@ pub(crate) const ROW: usize = 64;
 // How many blocks a row has.
 const ROW_BLOCKS: usize = 8;
 
-// Of the sections in a stretch of slots: the greatest width, height, depth, middle side and volume,
-// and how many there are.
+/// Of some sections: the greatest width, height, depth, middle side and volume, and how many there
+/// are.
 #[derive(Clone, Copy)]
-pub(crate) struct Summary {
+pub struct Summary {
     width: u32,
     height: u32,
     depth: u32,
@@ -67,6 +67,24 @@ impl Summary {
         }
     }
 
+    /// The summary of these sections.
+    pub fn of_sections(sections: &[BinSection]) -> Self
+        ensures { Bounds result sections.now }
+    {
+        let mut summary = Summary::empty();
+        for section in sections {
+            summary = summary.join(&Summary::of_section(&section.whd()));
+        }
+        summary
+    }
+
+    /// How many sections there are.
+    pub fn count(&self) -> usize
+        ensures { result ≡ self.now.count }
+    {
+        self.count
+    }
+
     // The summary of these slots.
     fn of(slots: &[Option<BinSection>]) -> Self
         ensures { Sums result slots.now }
@@ -95,8 +113,8 @@ impl Summary {
         summary
     }
 
-    // The summary of the slots of both.
-    fn join(self, other: &Self) -> Self
+    /// The summary of the sections of both.
+    pub fn join(self, other: &Self) -> Self
         requires { self.count + other.now.count < 2 ^ 64 }
         ensures { result ≡ joined self other.now }
     {
@@ -110,11 +128,10 @@ impl Summary {
         }
     }
 
-    // Whether a section within the summary may hold this size.
+    /// Whether a section within the summary may hold this size.
     #[inline(always)]
-    fn may_hold(&self, size: &WidthHeightDepth) -> bool
-        ensures { OnFalse result
-            ((section : Cuboid) → IsWithin self.now section → ¬ Holds section size.now) }
+    pub fn may_hold(&self, size: &WidthHeightDepth) -> bool
+        ensures { OnFalse result (RulesOut self.now size.now) }
     {
         // What the size has beyond the summary. One branch for all of it, as any one alone often
         // decides.

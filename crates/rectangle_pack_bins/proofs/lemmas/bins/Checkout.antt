@@ -2,8 +2,11 @@
 use Rattle.rectangle_pack_sections.proofs.Std.{◌≡◌, ◌≤◌, ℕ, suc, zero, ◌<◌, List, [], ◌∷◌, ◌++◌, length, refl, ap, sym, ◌∙◌, true, false, Bool, arith, get_or}
 use Rattle.rectangle_pack_sections.proofs.Std.{Option, Some, None, IsSome, All, map, set, Ordering, is_eq, eq_by_cmp, IsTotalOrder, Equal-is, IsDistinct}
 use Rattle.rectangle_pack_sections.proofs.Std.{AllByRecursion, lookup, set_value, keys_of, is_at, keys-set_value, IsDistinct-head, IsDistinct-tail}
-use Rattle.rectangle_pack_sections.proofs.Std.{set_value_same, inl, inr, cases_Bool, set-get_or, length-append}
+use Rattle.rectangle_pack_sections.proofs.Std.{set_value_same, inl, inr, cases_Bool, set-get_or, length-append, take, drop, ◌+◌, sum_by-cons}
+use Rattle.rectangle_pack_sections.specs.Boxes.{Size}
 use Rattle.rectangle_pack_sections.specs.Bins.{Held, IsSound}
+use Rattle.rectangle_pack_lists.proofs.lemmas.util.Stretches.{drop-head, drop-some}
+use Rattle.rectangle_pack_bins.specs.private.OpenBins.{NoneHold, HoldNone}
 use Rattle.rectangle_pack_bins.specs.private.Checkout.{Open, closed, checked_in, BinsInUse, in_use, left_of, CanCheckIn, IsTriedIn, IsBinTried}
 use Rattle.rectangle_pack_sections.proofs.lemmas.util.Maps.{is_at-back, is_some-keys, set_value-twice, lookup-set_here}
 
@@ -17,11 +20,7 @@ closed-room : (kept : Bool) (open' : Open) → (closed kept open').room ≡ open
 closed-room true open' = refl
 closed-room false open' = refl
 
--- a list that is not as long as its room has room for one more
-pub has_room : (long room counted asked : ℕ) → counted ≡ long → asked ≡ room → (counted ≡ asked → ⊥) → long ≤ room → long < room
-has_room long room counted asked same_long same_room not_full within = omega arith
-
--- and one more is within a bound that is past it
+-- one more is within a bound that is past those before it
 pub within-pushed : {X : Type 0} (xs : List X) (x : X) (n : ℕ) → length xs < n → length (xs ++ x ∷ []) ≤ n
 within-pushed xs x n past = omega (arith, past, length-append xs (x ∷ []))
 
@@ -254,3 +253,30 @@ module _ {B : Type 0} {cmp : B → B → Ordering} (total : IsTotalOrder cmp) wh
       own = IsTriedIn-map false v w past found sound room;
       order = refl;
     }
+
+  -- what no section of bins that are out holds, none of the bins of their ids holds, with all bins checked in
+  pub HoldNone-out : (order : List (ℕ × B)) (out : List Open) (es : List (B × Held)) (size : Size) (n from tests : ℕ) (ids : List (ℕ × B)) (bins : List Open)
+      → CanCheckIn cmp order out es → (0 < n → from + n ≤ length out) → drop from order ≡ ids → drop from out ≡ bins → NoneHold (take n bins) size tests
+      → HoldNone cmp (checked_in cmp true order out es) size (map (λ (x : ℕ × B). x.1) (take n ids)) tests
+  HoldNone-out order out es size zero from tests ids bins can within at b none = record { counts = []; each = tt; tests_are = none }
+  HoldNone-out order out es size (suc n) from tests [] bins can within at b none =
+      absurd (drop-some order from n at (omega (arith, within (omega arith), can.within)))
+  HoldNone-out order out es size (suc n) from tests (o ∷ ids) [] can within at b none = absurd (drop-some out from n b (within (omega arith)))
+  HoldNone-out order out es size (suc n) from tests (o ∷ ids) (bin ∷ bins) can within at b none =
+      let its = drop-head order from o ids at in
+      let this = drop-head out from bin bins b in
+      let there : IsSome (lookup (is_at (cmp o.1)) es) = rw (← its.1) at (can.found from o its.0) in
+      let rest = HoldNone-out order out es size n (suc from) none.1 ids bins can (λ some. omega (arith, within (omega arith))) its.2 this.2 none.2 in
+      record {
+        counts = length bin.now.sections ∷ rest.counts;
+        each = (
+          record {
+            held = closed true bin;
+            found = checked_in-found order out es from o can.distinct its.0 its.1 true bin this.0 this.1 there;
+            none = none.0;
+            tests_are = refl;
+          },
+          rest.each,
+        );
+        tests_are = omega (arith, none.3, rest.tests_are, sum_by-cons (λ k. k) (length bin.now.sections) rest.counts);
+      }

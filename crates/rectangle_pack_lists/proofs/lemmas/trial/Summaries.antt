@@ -2,10 +2,10 @@
 use Rattle.rectangle_pack_sections.proofs.Std.{◌≡◌, ◌≤◌, ◌<◌, ◌+◌, ◌*◌, ◌^◌, ◌≢◌, ℕ, List, [], ◌∷◌, ◌++◌, length, take, drop, set, get_or, refl, arith, inl}
 use Rattle.rectangle_pack_sections.proofs.Std.{inr, length-append, length-drop, append-nil, Option, Some, None, lt_of_mul-lt-mul_right, length-set}
 use Rattle.rectangle_pack_sections.proofs.Std.{get_or-append_seam, take-add, cases_order, drop-drop, get_or-drop, get_or_append_left, get_or-set_same}
-use Rattle.rectangle_pack_sections.proofs.Std.{get_or-set_other, get_or-take, take_all, length-take-le, All-append, All-cons, All-nil, All-weaker, ◌⊎◌}
+use Rattle.rectangle_pack_sections.proofs.Std.{get_or-set_other, get_or-take, take_all, length-take-le, All, All-append, All-cons, All-nil, All-weaker, ◌⊎◌}
 use Rattle.rectangle_pack_sections.specs.Boxes.{Cuboid, Size, Holds}
 use Rattle.rectangle_pack_lists.specs.private.Slots.{sections_of, NoneHolds}
-use Rattle.rectangle_pack_lists.specs.private.Summaries.{IsWithin, Sums, SumAll, AreSummed, HaveSlots, of_section, joined}
+use Rattle.rectangle_pack_lists.specs.private.Summaries.{IsWithin, Bounds, Sums, RulesOut, SumAll, AreSummed, HaveSlots, of_section, joined}
 use Rattle.rectangle_pack_lists.specs.declared.section_slots.summary.Summary.{Summary}
 use Rattle.rectangle_pack_lists.proofs.lemmas.trial.Slots.{sections_of-append, length-sections_of}
 use Rattle.rectangle_pack_lists.proofs.lemmas.util.Stretches.{stretch-ends, stretch-append, stretch-set, stretch-take}
@@ -14,23 +14,37 @@ use Rattle.rectangle_pack_lists.proofs.lemmas.util.Stretches.{stretch-ends, stre
 within-joined : (s t : Summary) (x : Cuboid) → IsWithin s x ⊎ IsWithin t x → IsWithin (joined s t) x
 within-joined s t x p = record { wide = omega arith; high = omega arith; deep = omega arith; middle = omega arith; volume = omega arith }
 
+-- the sections of two lists
+Bounds-join : (a b : Summary) (s t : List Cuboid) → Bounds a s → Bounds b t → Bounds (joined a b) (s ++ t)
+Bounds-join a b s t p q = record {
+  count = omega (arith, p.count, q.count, length-append s t);
+  within = All-append (IsWithin (joined a b)) _ _
+      (All-weaker (IsWithin a) _ (λ x h. within-joined a b x (inl h)) _ p.within)
+      (All-weaker (IsWithin b) _ (λ x h. within-joined a b x (inr h)) _ q.within);
+}
+
+-- one section more
+pub Bounds-more : (s : Summary) (sections : List Cuboid) (x : Cuboid) → Bounds s sections → Bounds (joined s (of_section x.whd)) (sections ++ x ∷ [])
+Bounds-more s sections x p =
+    let whd = of_section x.whd in
+    let within : IsWithin whd x = record { wide = omega arith; high = omega arith; deep = omega arith; middle = omega arith; volume = omega arith } in
+    Bounds-join s whd sections (x ∷ []) p (record { count = refl; within = All-cons (IsWithin whd) x [] within (All-nil _) })
+
 -- the slots of two stretches
 Sums-join : (a b : Summary) (s t : List (Option Cuboid)) → Sums a s → Sums b t → Sums (joined a b) (s ++ t)
-Sums-join a b s t p q =
-    let e = sections_of-append s t in
-    record {
-      count = rw e (omega (arith, p.count, q.count, length-append (sections_of s) (sections_of t)));
-      within = rw e (All-append (IsWithin (joined a b)) _ _
-          (All-weaker (IsWithin a) _ (λ x h. within-joined a b x (inl h)) _ p.within)
-          (All-weaker (IsWithin b) _ (λ x h. within-joined a b x (inr h)) _ q.within));
-    }
+Sums-join a b s t p q = rw (sections_of-append s t) (Bounds-join a b (sections_of s) (sections_of t) p q)
 
 -- one slot more, with a section
 pub Sums-more : (s : Summary) (slots : List (Option Cuboid)) (x : Cuboid) → Sums s slots → Sums (joined s (of_section x.whd)) (slots ++ Some x ∷ [])
-Sums-more s slots x p =
-    let whd = of_section x.whd in
-    let within : IsWithin whd x = record { wide = omega arith; high = omega arith; deep = omega arith; middle = omega arith; volume = omega arith } in
-    Sums-join s whd slots (Some x ∷ []) p (record { count = refl; within = All-cons (IsWithin whd) x [] within (All-nil _) })
+Sums-more s slots x p = rw (sections_of-append slots (Some x ∷ [])) (Bounds-more s (sections_of slots) x p)
+
+-- a size that both rule out together, each rules out
+pub RulesOut-joined : (a b : Summary) (size : Size) → RulesOut (joined a b) size → RulesOut a size × RulesOut b size
+RulesOut-joined a b size out = (λ x within. out x (within-joined a b x (inl within)), λ x within. out x (within-joined a b x (inr within)))
+
+-- no section that a summary bounds holds a size that it rules out
+pub none-bounded : (s : Summary) (sections : List Cuboid) (size : Size) → Bounds s sections → RulesOut s size → All (λ x. ¬ Holds x size) sections
+none-bounded s sections size p out = All-weaker (IsWithin s) (λ x. ¬ Holds x size) out sections p.within
 
 -- one slot more, an empty one
 pub Sums-empty : (s : Summary) (slots : List (Option Cuboid)) → Sums s slots → Sums s (slots ++ None ∷ [])
@@ -43,11 +57,8 @@ Sums-empty s slots p =
 
 -- no section of a stretch holds a size that no section within its summary does
 pub none-held : (s : Summary) (slots : List (Option Cuboid)) (size : Size)
-    → Sums s slots → ((x : Cuboid) → IsWithin s x → ¬ Holds x size) → NoneHolds slots size s.count
-none-held s slots size p apart = record {
-  none = All-weaker (IsWithin s) (λ x. ¬ Holds x size) apart (sections_of slots) p.within;
-  tests_are = p.count;
-}
+    → Sums s slots → RulesOut s size → NoneHolds slots size s.count
+none-held s slots size p out = record { none = none-bounded s (sections_of slots) size p out; tests_are = p.count }
 
 -- a slot more, which completes no stretch
 pub SumAll-same : (w : ℕ) (s : List (Option Cuboid)) (ss : List Summary) (x : Option Cuboid)

@@ -1,5 +1,5 @@
 -- Stretches of lists: so many elements from an index on.
-use Rattle.rectangle_pack_sections.proofs.Std.{◌≡◌, ◌≤◌, ◌<◌, ◌+◌, ◌-◌, ◌*◌, ℕ, zero, suc, List, ◌++◌, length, take, drop, set, ap, subst, arith, inl, inr, ◌⊎◌}
+use Rattle.rectangle_pack_sections.proofs.Std.{◌≡◌, ◌≤◌, ◌<◌, ◌+◌, ◌-◌, ◌*◌, ℕ, zero, suc, List, [], ◌∷◌, ◌++◌, length, take, drop, set, ap, sym, ◌∙◌, subst, arith, inl, inr, ◌⊎◌, get_or, drop-cons}
 use Rattle.rectangle_pack_sections.proofs.Std.{length-drop, mul-le-mul_right, lt_of_mul-lt-mul_right, drop-append-le, take-append-le, drop-set-lt, drop-set-add}
 use Rattle.rectangle_pack_sections.proofs.Std.{take-set-le, drop-take, take-take}
 
@@ -34,3 +34,15 @@ pub stretch-take : {X : Type 0} (w n m : ℕ) (s : List X) → n + w ≤ m → t
 stretch-take w n m s h =
     let e : n + (m - n) ≡ m = omega arith in
     subst (λ q. take w (drop n (take q s)) ≡ take w (drop n s)) e (rw (drop-take n (m - n) s) (take-take w (m - n) (drop n s) (omega arith)))
+
+-- the first element from an index on, and the others
+pub drop-head : {X : Type 0} (xs : List X) (i : ℕ) (x : X) (rest : List X) → drop i xs ≡ x ∷ rest
+    → (i < length xs) × (x ≡ get_or xs i x) × (drop (suc i) xs ≡ rest)
+drop-head xs i x rest is =
+    let within : i < length xs = omega (arith, ap length is, length-drop i xs) in
+    let cons : x ∷ rest ≡ get_or xs i x ∷ drop (suc i) xs = sym is ∙ drop-cons xs i x within in
+    (within, ap (λ l. get_or l 0 x) cons, sym (ap (drop 1) cons))
+
+-- where elements are left from an index on, there are some
+pub drop-some : {X : Type 0} (xs : List X) (i n : ℕ) → drop i xs ≡ [] → i + suc n ≤ length xs → ⊥
+drop-some xs i n is within = omega (arith, ap length is, length-drop i xs)

@@ -1,11 +1,12 @@
 use Rattle.rectangle_pack_sections.proofs.Std.{◌≡◌, ◌<◌, ◌∷◌, [], length, get_or, refl, sym, ap, ◌∙◌, arith, IsSome, is_some, lookup, is_at, length-append}
 use Rattle.rectangle_pack_sections.proofs.Std.{keys-set_value}
 use Rattle.rectangle_pack_sections.proofs.lemmas.util.Maps.{is_some-option_map}
+use Rattle.rectangle_pack_bins.specs.private.Checkout.{checked_in}
 use Rattle.rectangle_pack_bins.proofs.lemmas.bins.Checkout.{CanCheckIn-written, checked_in-none, left_of-in_use, checked_in-last}
 use Rattle.rectangle_pack_bins.proofs.checkout.PackingBins.close.Goals as goal
 
 pub loop-open-init : goal.loop-open-init
-loop-open-init g c = record { same = refl; can = c.self.invariant }
+loop-open-init g c = record { same = refl; can = rw c.into_bins-out.ensures c.self.invariant }
 
 pub unwrap-requires : goal.unwrap-requires
 unwrap-requires g c =
@@ -42,4 +43,5 @@ returns g c =
     let none : length c.loop-open.out.items ≡ 0 = omega (arith, c.in_default.ensures.cases.0, c.loop-open.out.ok.0) in
     rw (← c.self.view_is)
     (sym (checked_in-none cmp c.args.kept order c.loop-open.out.items c.loop-open.bins.entries none)
-    ∙ c.loop-open.invariant.same ∙ sym (left_of-in_use cmp c.args.kept order c.self.inside.out.items c.self.inside.bins.entries))
+    ∙ c.loop-open.invariant.same ∙ ap (λ out. checked_in cmp c.args.kept order out c.self.inside.bins.entries) c.into_bins-out.ensures
+    ∙ sym (left_of-in_use cmp c.args.kept order c.self.inside.out.all c.self.inside.bins.entries))

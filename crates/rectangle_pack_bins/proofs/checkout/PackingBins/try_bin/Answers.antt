@@ -1,22 +1,26 @@
 use Rattle.rectangle_pack_sections.proofs.Std.{◌≡◌, ◌<◌, ◌≤◌, length, get_or, sym, ap, ◌∙◌, arith, Some, IsSome, is_some, option_copied_mut, lookup, is_at}
-use Rattle.rectangle_pack_sections.proofs.Std.{get_or_default, keys-set_value}
+use Rattle.rectangle_pack_sections.proofs.Std.{get_or_default, keys-set_value, length-set, refl}
 use Rattle.rectangle_pack_sections.proofs.lemmas.util.Maps.{is_some-option_map}
 use Rattle.rectangle_pack_bins.proofs.lemmas.bins.Checkout.{stays, CanCheckIn-written, IsBinTried-out, IsBinTried-map}
 use Rattle.rectangle_pack_bins.proofs.checkout.PackingBins.try_bin.Goals as goal
 
+pub invariant_of-self : goal.invariant_of-self
+invariant_of-self g c =
+    let t = c.place_noted.ensures.tried in
+    let within : length c.place_noted.new.self.all ≤ length c.self.inside.order.now = rw (t.3, length-set c.self.inside.out.all c.args.index t.1) c.self.invariant.within in
+    CanCheckIn-written c.place_noted.new.self.all c.self.inside.bins.entries refl within c.self.invariant
+
 pub returns-then-index-len : goal.returns-then-index-len
 returns-then-index-len g c = record {
   tried = λ o is.
-      let v = c.index_mut.result.now in
-      let w = c.place_noted.new.self in
+      let t = c.place_noted.ensures.tried in
       let same = (stays c.self.view_is).2 in
       let at : o ≡ get_or c.self.inside.order.now c.args.index o = rw same is in
       let in_order : c.args.index < length c.self.inside.order.now = rw same c.requires.in_order in
-      let within : c.args.index < length c.self.inside.out.items = omega (arith, c.if-index-len.true, c.len.ensures, c.self.inside.out.ok.0) in
-      let tried = IsBinTried-out g.met.B.Ord.total _ _ c.self.inside.bins.entries c.args.index o c.self.invariant.distinct in_order at v w within
-      c.index_mut.ensures.value (rw at (c.self.invariant.found c.args.index o in_order)) c.place_noted.ensures.sound c.place_noted.ensures.sound_now
-      c.place_noted.ensures.room in
-      rw (← c.self.view_is) (v, w, tried, c.place_noted.ensures.answer, c.place_noted.ensures.noted);
+      let within : c.args.index < length c.self.inside.out.all = omega (arith, c.if-index-len.true, c.len.ensures) in
+      let tried = IsBinTried-out g.met.B.Ord.total _ _ c.self.inside.bins.entries c.args.index o c.self.invariant.distinct in_order at t.0 t.1 within
+      t.2 (rw at (c.self.invariant.found c.args.index o in_order)) t.7 t.8 t.6 in
+      rw (← c.self.view_is, t.3) (t.0, t.1, tried, t.4, t.5);
 }
 
 pub bounds-order-index : goal.bounds-order-index
@@ -50,10 +54,10 @@ returns g c = record {
       let same = (stays c.self.view_is).2 in
       let in_order : c.args.index < length c.self.inside.order.now = rw same c.requires.in_order in
       let one : here ≡ o = c.index-order-index.is ∙ get_or_default c.self.inside.order.now c.args.index here o in_order ∙ sym (rw same is) in
-      let past : length c.self.inside.out.items ≤ c.args.index = omega (arith, c.if-index-len.false, c.len.ensures, c.self.inside.out.ok.0) in
+      let past : length c.self.inside.out.all ≤ c.args.index = omega (arith, c.if-index-len.false, c.len.ensures) in
       let found : lookup (is_at (g.B.Ord.cmp here.1)) c.self.inside.bins.entries ≡ Some v =
       sym c.get_mut.ensures.value ∙ ap option_copied_mut c.unwrap-bin.ensures in
-      let tried = IsBinTried-map g.met.B.Ord.total c.self.inside.order.now c.self.inside.out.items c.self.inside.bins.entries c.args.index here
+      let tried = IsBinTried-map g.met.B.Ord.total c.self.inside.order.now c.self.inside.out.all c.self.inside.bins.entries c.args.index here
       c.self.invariant.distinct in_order c.index-order-index.is v w past found c.place_noted-2.ensures.sound c.place_noted-2.ensures.room in
       rw (← one, ← c.self.view_is) (
         record { own = v; now = v.bin },

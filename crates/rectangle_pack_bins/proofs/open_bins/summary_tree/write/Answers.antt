@@ -1,0 +1,16 @@
+use Rattle.rectangle_pack_sections.proofs.Std.{arith, length-set}
+use Rattle.rectangle_pack_bins.proofs.lemmas.bins.SummaryTrees.{IsTreeBut-leaf, drop-leaf}
+use Rattle.rectangle_pack_bins.proofs.open_bins.summary_tree.write.Goals as goal
+
+pub loop-node-init : goal.loop-node-init
+loop-node-init g c =
+    let nodes = c.args.nodes.now.items in
+    let leaf = c.args.leaf in
+    let long = length-set nodes leaf c.args.summary in
+    record {
+      tree = IsTreeBut-leaf nodes leaf c.args.summary c.requires.tree c.requires.leaf c.requires.within;
+      long = long;
+      some = omega (arith, c.requires.tree.even, c.requires.leaf, c.requires.within);
+      within = omega (arith, long, c.requires.within);
+      leaves = drop-leaf nodes leaf c.args.summary c.requires.leaf;
+    }
