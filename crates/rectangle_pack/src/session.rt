@@ -1,5 +1,5 @@
 //! Bins with what is placed in them: boxes are packed, and given back by number.
-ghost use Rattle.std.specs.Prelude.{◌≡◌, [], IfSome, IsOk, OnOk, OnErr};
+ghost use Rattle.std.specs.Prelude.{◌≡◌, ◌<◌, [], length, IfSome, IsOk, OnOk, OnErr};
 ghost use Rattle.std.specs.List.Sorted.{IsStrictlySortedBy};
 ghost use Rattle.std.specs.Map.{keys_of, lookup};
 ghost use Rattle.std.specs.BTreeMap.{is_at, insert_entry};
@@ -26,9 +26,10 @@ use crate::session::outstanding::{give_back, position_of};
 use crate::session::packing::pack_into;
 pub use command::{Command, Outstanding, Packed, Reply, SessionError};
 pub use laws::transitions_keep_sessions;
-use rectangle_pack_bins::target_bin::{TargetBin, was_coalesced};
+use rectangle_pack_bins::target_bin::{TargetBin, coalesce_all_in, was_coalesced};
 use rectangle_pack_groups::grouped_rects_to_place::multimap::{ascending, number_after};
 use rectangle_pack_groups::grouped_rects_to_place::{Group, GroupedRectsToPlace};
+use rectangle_pack_lists::corners::Corners;
 use rectangle_pack_sections::closures::{Closures, Policy};
 use rectangle_pack_sections::width_height_depth::WidthHeightDepth;
 pub use stats::BinStats;
@@ -84,6 +85,8 @@ pub struct Session<Id, BinId: Ord, A: Allocator + Copy = Global> {
     bins: BTreeMap<BinId, TargetBin<A>, A>,
     outstanding: Vec<Outstanding<Id, BinId>, A>,
     next: u64,
+    // Room for sweeps. It is made where lists grow, so that a sweep takes no memory.
+    corners: Corners<A>,
 }
 
 impl<Id, BinId: Ord, A: Allocator + Copy> Model for Session<Id, BinId, A> {
@@ -120,6 +123,7 @@ where
             bins: BTreeMap::new(alloc),
             outstanding: Vec::new(alloc),
             next: first,
+            corners: Corners::new(alloc),
         }
     }
 
@@ -238,6 +242,7 @@ where
             return Err(SessionError::NumbersUsedUp);
         };
         let count = next - first;
+        make_room(&mut self.corners, &self.bins, groups, count)?;
         let kept = pack_into(
             groups,
             &mut self.bins,
@@ -267,7 +272,8 @@ where
             return Err(SessionError::UnknownPlacement);
         };
         let placement = &self.outstanding[index];
-        give_back(&mut self.bins, &placement.bin, placement.location)?;
+        let corners = &mut self.corners;
+        give_back(&mut self.bins, corners, &placement.bin, placement.location)?;
         self.outstanding.remove(index);
         Ok(())
     }
@@ -313,9 +319,32 @@ where
         let Some(bin) = self.bins.get_mut(id) else {
             return Err(SessionError::UnknownBin);
         };
-        bin.coalesce_all();
+        coalesce_all_in(bin, &mut self.corners);
         Ok(())
     }
+}
+
+// Makes room for a sweep of each bin once so many boxes of the groups are placed: each takes out a
+// free section and adds three at most. Without groups it takes no memory.
+fn make_room<Id, GroupId, B: Ord, A: Allocator + Copy>(
+    corners: &mut Corners<A>,
+    bins: &BTreeMap<B, TargetBin<A>, A>,
+    groups: &GroupedRectsToPlace<Id, GroupId, A>,
+    boxes: u64,
+) -> Result<(), AllocError>
+where
+    Id: Ord + Clone + Drop,
+    GroupId: Ord + Clone + Drop,
+    ensures { OnErr result (0 < length groups.now.groups) }
+{
+    if groups.groups().is_empty() {
+        return Ok(());
+    }
+    let mut longest: usize = 0;
+    for bin in bins.values() {
+        longest = longest.max(bin.available_bin_sections().len());
+    }
+    corners.reserve(longest.saturating_add(boxes.saturating_mul(2) as usize))
 }
 
 // Puts a bin under an id. A bin that is replaced is dropped, and so is what is refused.

@@ -31,19 +31,31 @@ pack_into-requires-clause-count g c = next-count c.args.groups.now _ c.groups.en
 pub pack_into-requires-clause-fits : goal.pack_into-requires-clause-fits
 pack_into-requires-clause-fits g c = count-fits _ _ _ c.in-Some.ensures (omega arith)
 
-pub invariant_of-self : goal.invariant_of-self
-invariant_of-self g c =
+pub returns-in_err-make_room-clause-packed : goal.returns-in_err-make_room-clause-packed
+returns-in_err-make_room-clause-packed g c =
+    let fits = next-fits c.args.groups.now _ c.groups.ensures.entries c.self.inside.next c.in-Some.next c.in-Some.ensures (omega arith) in
+    let bins = bins_of c.self.inside.bins.entries in
+    let outstanding = c.self.inside.outstanding.items in
+    Packs-stopped _ (rules_by g.Id.Ord.cmp g.BinId.Ord.cmp (g.R.Policy.may c.args.policy.now)) c.args.groups.now
+    bins bins outstanding outstanding c.self.inside.next c.args.self.now c.self.view_is fits c.from_residual.result c.from_residual.ensures.1
+    (c.in_err-make_room.ensures, refl, refl)
+
+pub returns-in_err-make_room-clause-no_groups : goal.returns-in_err-make_room-clause-no_groups
+returns-in_err-make_room-clause-no_groups g c = λ none. some-none _ none c.in_err-make_room.ensures
+
+pub invariant_of-self-in_err-kept : goal.invariant_of-self-in_err-kept
+invariant_of-self-in_err-kept g c =
     IsSession-same g.BinId.Ord.cmp c.self.inside.next c.in_err-kept.ensures.stopped.1 c.in_err-kept.ensures.stopped.2 c.self.invariant
 
 pub returns-in_err-kept-clause-always : goal.returns-in_err-kept-clause-always
-returns-in_err-kept-clause-always g c = invariant_of-self g c
+returns-in_err-kept-clause-always g c = invariant_of-self-in_err-kept g c
 
 pub returns-in_err-kept-clause-packed : goal.returns-in_err-kept-clause-packed
 returns-in_err-kept-clause-packed g c =
     let fits = next-fits c.args.groups.now _ c.groups.ensures.entries c.self.inside.next c.in-Some.next c.in-Some.ensures (omega arith) in
     Packs-stopped _ (rules_by g.Id.Ord.cmp g.BinId.Ord.cmp (g.R.Policy.may c.args.policy.now)) c.args.groups.now
     (bins_of c.self.inside.bins.entries) (bins_of c.pack_into.new.bins.entries) c.self.inside.outstanding.items c.pack_into.new.outstanding.items
-    c.self.inside.next c.args.self.now c.self.view_is fits c.from_residual.result c.from_residual.ensures.1
+    c.self.inside.next c.args.self.now c.self.view_is fits c.from_residual-in_err-kept.result c.from_residual-in_err-kept.ensures.1
     c.in_err-kept.ensures.stopped
 
 pub returns-in_err-kept-clause-no_groups : goal.returns-in_err-kept-clause-no_groups
