@@ -1,8 +1,8 @@
 //! Bins with what is placed in them: boxes are packed, and given back by number.
-ghost use Rattle.std.specs.Prelude.{◌≡◌, [], IfSome, IsOk, OnOk, OnErr};
+ghost use Rattle.std.specs.Prelude.{◌≡◌, [], IfSome, IsOk};
 ghost use Rattle.std.specs.List.Sorted.{IsStrictlySortedBy};
 ghost use Rattle.std.specs.Map.{keys_of, lookup};
-ghost use Rattle.std.specs.BTreeMap.{is_at, insert_entry};
+ghost use Rattle.std.specs.BTreeMap.{is_at};
 ghost use Rattle.std.specs.Option.{option_map};
 ghost use Rattle.rectangle_pack_groups.specs.Clones.{ClonesEqual};
 ghost use Rattle.rectangle_pack_sections.specs.Bins.{Bin, bins_of};
@@ -14,6 +14,7 @@ ghost use Rattle.rectangle_pack.specs.Promise.{PacksAsPromised};
 ghost use Rattle.rectangle_pack.specs.Session.{State, IsSession, AddsBin, Packs, Releases, Coalesces, reply_of, packed_reply};
 
 mod best;
+mod bins;
 mod command;
 mod cut_plan;
 mod laws;
@@ -23,14 +24,16 @@ mod records;
 mod run;
 mod stats;
 
+use crate::session::bins::put_bin;
 use crate::session::outstanding::{give_back, position_of};
 use crate::session::packing::pack_into;
 use crate::session::records::Records;
 pub use command::{Command, Outstanding, Packed, Reply, SessionError};
 pub use laws::transitions_keep_sessions;
-use rectangle_pack_bins::target_bin::{TargetBin, was_coalesced};
+use rectangle_pack_bins::target_bin::{TargetBin, coalesce_all_in, was_coalesced};
 use rectangle_pack_groups::grouped_rects_to_place::multimap::{ascending, number_after};
 use rectangle_pack_groups::grouped_rects_to_place::{Group, GroupedRectsToPlace};
+use rectangle_pack_lists::corners::Corners;
 use rectangle_pack_sections::closures::{Closures, Policy};
 use rectangle_pack_sections::width_height_depth::WidthHeightDepth;
 pub use stats::BinStats;
@@ -86,6 +89,8 @@ pub struct Session<Id, BinId: Ord, A: Allocator + Copy = Global> {
     bins: BTreeMap<BinId, TargetBin<A>, A>,
     outstanding: Records<Outstanding<Id, BinId>, A>,
     next: u64,
+    // Room for sweeps, which take no memory. Releases make it.
+    corners: Corners<A>,
 }
 
 impl<Id, BinId: Ord, A: Allocator + Copy> Model for Session<Id, BinId, A> {
@@ -123,6 +128,7 @@ where
             bins: BTreeMap::new(alloc),
             outstanding: Records::new(alloc),
             next: first,
+            corners: Corners::new(alloc),
         }
     }
 
@@ -319,7 +325,8 @@ where
             return Err(SessionError::UnknownPlacement);
         };
         let placement = &outstanding[index];
-        give_back(&mut self.bins, &placement.bin, placement.location)?;
+        let corners = &mut self.corners;
+        give_back(&mut self.bins, corners, &placement.bin, placement.location)?;
         self.outstanding.remove(index);
         Ok(())
     }
@@ -381,22 +388,7 @@ where
         let Some(bin) = self.bins.get_mut(id) else {
             return Err(SessionError::UnknownBin);
         };
-        bin.coalesce_all();
+        coalesce_all_in(bin, &mut self.corners);
         Ok(())
-    }
-}
-
-// Puts a bin under an id. A bin that is replaced is dropped, and so is what is refused.
-fn put_bin<B: Ord + Drop, A: Allocator + Copy>(
-    bins: &mut BTreeMap<B, TargetBin<A>, A>,
-    id: B,
-    bin: TargetBin<A>,
-) -> Result<(), AllocError>
-    ensures ok { OnOk result (bins.new.entries ≡ insert_entry B.cmp bins.old.entries id bin) }
-    ensures err { OnErr result (bins.new.entries ≡ bins.old.entries) }
-{
-    match bins.insert(id, bin) {
-        Ok(_) => Ok(()),
-        Err(_) => Err(AllocError),
     }
 }

@@ -11,7 +11,8 @@ ghost use Rattle.rectangle_pack_sections.specs.Keeping.{KeepCells};
 mod placing;
 pub(crate) mod slotted;
 
-use rectangle_pack_lists::coalesce::{join_all, join_at};
+use rectangle_pack_lists::coalesce::{join_all, join_all_in, join_at};
+use rectangle_pack_lists::corners::Corners;
 pub use rectangle_pack_lists::fit_tests::FitTests;
 use rectangle_pack_lists::trial::plain::push_pieces;
 use rectangle_pack_sections::bin_section::{BinSection, is_inside};
@@ -344,6 +345,18 @@ impl<A: Allocator + Copy> TargetBin<A> {
         join_all(&mut self.available_bin_sections);
         self.was_coalesced = true;
     }
+}
+
+/// Does what `TargetBin::coalesce_all` does, and finds what to join by its corners, in the room that
+/// is lent. Takes no memory.
+pub fn coalesce_all_in<A: Allocator + Copy>(bin: &mut TargetBin<A>, corners: &mut Corners<A>)
+    ensures swept { IsSwept bin.old.bin.sections bin.new.bin.sections }
+    ensures stays { bin.new.bin ≡
+        record bin.old.bin { sections = bin.new.bin.sections; coalesced = true } }
+    ensures no_face { ShareNoFace bin.new.bin.sections }
+{
+    join_all_in(&mut bin.available_bin_sections, corners);
+    bin.was_coalesced = true;
 }
 
 /// Whether a coalescing call was made on the bin.

@@ -1,9 +1,13 @@
 //! Joining sections that share a whole face, in a list of sections.
-ghost use Rattle.std.specs.Prelude.{◌≡◌, ◌<◌, ◌↔◌, length, All, IfNone, IfSome, IsTrue};
-ghost use Rattle.rectangle_pack_sections.specs.Boxes.{FitsU32};
+ghost use Rattle.std.specs.Prelude.{◌≡◌, ◌<◌, ◌↔◌, length, true, All, IfNone, IfSome, IsTrue};
+ghost use Rattle.std.specs.Bool.{OnTrue};
+ghost use Rattle.rectangle_pack_sections.specs.Boxes.{FitsU32, has_cells};
+ghost use Rattle.rectangle_pack_lists.specs.declared.corners.Corner.TheVariants.{Near, Far};
+ghost use Rattle.rectangle_pack_lists.specs.private.Corners.{full, IsFull, AreNamed, IsJoinedAt};
 ghost use Rattle.rectangle_pack_lists.specs.Joining.{SharesFace, join, IsAlone, IsFirstNeighbour, IsJoined, IsSwept};
 
-use rectangle_pack_sections::bin_section::BinSection;
+use crate::corners::Corners;
+use rectangle_pack_sections::bin_section::{BinSection, has_cells};
 use rectangle_pack_sections::span::spans;
 use rectangle_pack_sections::width_height_depth::any_size;
 use std::alloc::Allocator;
@@ -11,7 +15,7 @@ use std::ops::Range;
 
 // Whether the two sections share a whole face.
 #[tactic(auto, unfolding(rectangle_pack_sections::specs::Boxes::start, rectangle_pack_sections::specs::Boxes::extent))]
-fn shares_face(a: &BinSection, b: &BinSection) -> bool
+pub(crate) fn shares_face(a: &BinSection, b: &BinSection) -> bool
     requires first { FitsU32 a.now }
     requires second { FitsU32 b.now }
     ensures { IsTrue result ↔ SharesFace a.now b.now }
@@ -84,4 +88,71 @@ pub fn join_all<A: Allocator>(sections: &mut Vec<BinSection, A>)
         let whole = 0..sections.len();
         join_at(sections, idx, whole);
     }
+}
+
+// Joins the section in this slot with those that share a whole face with it, the least slot first,
+// until none does. A section that is joined leaves its slot without cells.
+fn join_slot<A: Allocator + Copy>(
+    sections: &mut [BinSection],
+    corners: &mut Corners<A>,
+    slot: usize,
+)
+    requires fit { All FitsU32 sections.old }
+    requires full { IsFull sections.old slot }
+    requires near { AreNamed Near sections.old corners.old.near.items }
+    requires far { AreNamed Far sections.old corners.old.far.items }
+    ensures fit { All FitsU32 sections.new }
+    ensures near { AreNamed Near sections.new corners.new.near.items }
+    ensures far { AreNamed Far sections.new corners.new.far.items }
+    ensures joined { IsJoinedAt slot sections.old sections.new }
+{
+    while let Some(other) = corners.first_beside(sections, slot) {
+        corners.rename(&sections[other], slot);
+        sections[slot] = join(&sections[slot], &sections[other]);
+        sections[other] = BinSection::new(0, 0, 0, any_size(0, 0, 0));
+    }
+}
+
+// Joins the section in each slot, from the last down to 0.
+fn join_slots<A: Allocator + Copy>(sections: &mut [BinSection], corners: &mut Corners<A>)
+    requires fit { All FitsU32 sections.old }
+    requires near { AreNamed Near sections.old corners.old.near.items }
+    requires far { AreNamed Far sections.old corners.old.far.items }
+    ensures swept { IsSwept (full sections.old) (full sections.new) }
+    ensures fit { All FitsU32 sections.new }
+{
+    for slot in (0..sections.len()).rev() {
+        if has_cells(&sections[slot]) {
+            join_slot(sections, corners, slot);
+        }
+    }
+}
+
+// Whether each section has cells.
+fn have_cells(sections: &[BinSection]) -> bool
+    ensures { OnTrue result (All (λ s. has_cells s ≡ true) sections.now) }
+{
+    sections.iter().all(|section| has_cells(section))
+}
+
+// Takes the sections without cells out of the list.
+fn close_up<A: Allocator>(sections: &mut Vec<BinSection, A>)
+    ensures { sections.new.items ≡ full sections.old.items }
+{
+    sections.retain(|section| has_cells(section));
+}
+
+/// Does what `join_all` does, and finds what to join by its corners, in the room that is lent. Where
+/// that is too small, or a section has no cells, it looks at each section. Takes no memory.
+pub fn join_all_in<A: Allocator + Copy>(sections: &mut Vec<BinSection, A>, corners: &mut Corners<A>)
+    requires { All FitsU32 sections.old.items }
+    ensures swept { IsSwept sections.old.items sections.new.items }
+    ensures fit { All FitsU32 sections.new.items }
+{
+    if !have_cells(sections.as_slice()) || !corners.name_slots(sections.as_slice()) {
+        join_all(sections);
+        return;
+    }
+    join_slots(sections.as_mut_slice(), corners);
+    close_up(sections);
 }

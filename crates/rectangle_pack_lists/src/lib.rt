@@ -3,6 +3,7 @@
 #![tactic(auto)]
 
 pub mod coalesce;
+pub mod corners;
 pub mod fit_tests;
 pub mod laws;
 pub mod section_slots;

@@ -9,6 +9,7 @@ ghost use Rattle.rectangle_pack.specs.Session.{GivesBack, numbered};
 use crate::session::command::Outstanding;
 use crate::session::records::Records;
 use rectangle_pack_bins::target_bin::TargetBin;
+use rectangle_pack_lists::corners::Corners;
 use rectangle_pack_rules::answer::Placement;
 use rectangle_pack_sections::bin_section::{has_cells, section_at};
 use rectangle_pack_sections::packed_location::PackedLocation;
@@ -29,9 +30,11 @@ pub(crate) fn position_of<Id, B>(outstanding: &[Outstanding<Id, B>], number: u64
         .ok()
 }
 
-// Gives a box back to its bin, at the end of the list. A box without cells leaves no section.
+// Gives a box back to its bin, at the end of the list, and makes room for a sweep of that. A box
+// without cells leaves no section.
 pub(crate) fn give_back<B: Ord + Drop, A: Allocator + Copy>(
     bins: &mut BTreeMap<B, TargetBin<A>, A>,
+    corners: &mut Corners<A>,
     id: &B,
     location: PackedLocation,
 ) -> Result<(), AllocError>
@@ -47,7 +50,10 @@ pub(crate) fn give_back<B: Ord + Drop, A: Allocator + Copy>(
         return Ok(());
     }
     match bins.get_mut(id) {
-        Some(bin) => bin.push_available_bin_section_unchecked(section),
+        Some(bin) => {
+            corners.reserve(bin.available_bin_sections().len() + 1)?;
+            bin.push_available_bin_section_unchecked(section)
+        }
         None => unreachable!(),
     }
 }

@@ -28,7 +28,7 @@ SharesFace-symmetric a b f = record {
   alike = λ o n. let k = f.alike o n in (sym k.0, sym k.1);
 }
 
-runs-join : (a : Axis) (b e : Cuboid) → (start a (join b e) ≡ min (start a b) (start a e)) × (end a (join b e) ≡ max (end a b) (end a e))
+pub runs-join : (a : Axis) (b e : Cuboid) → (start a (join b e) ≡ min (start a b) (start a e)) × (end a (join b e) ≡ max (end a b) (end a e))
 unfolding start extent end join join_start join_extent
 runs-join X b e = (refl, omega arith)
 runs-join _ b e = (refl, omega arith)

@@ -3,17 +3,10 @@ use Rattle.rectangle_pack_sections.proofs.Std.{arith, ℕ, zero, suc, ◌≡◌,
 use Rattle.rectangle_pack_sections.proofs.Std.{min, length-set, cases_lt, cases_eq, get_or-set_other, get_or_default, get_or-remove_below, get_or-remove_above}
 use Rattle.rectangle_pack_sections.proofs.Std.{set}
 use Rattle.rectangle_pack_sections.specs.Boxes.{Cuboid}
-use Rattle.rectangle_pack_lists.specs.Joining.{SharesFace, ShareNoFace, join, entry, IsNeighbour, IsAlone, IsFirstNeighbour, joined_list, joined_index}
+use Rattle.rectangle_pack_lists.specs.Joining.{ShareNoFace, join, entry, IsNeighbour, IsAlone, IsFirstNeighbour, joined_list, joined_index}
 use Rattle.rectangle_pack_lists.specs.Joining.{IsJoined, PastEnd, Alone, Joins, IsSwept, IsSweptBelow}
+use Rattle.rectangle_pack_lists.specs.private.Settling.{Settled, Around}
 use Rattle.rectangle_pack_lists.proofs.lemmas.joining.Joins.{SharesFace-symmetric, length-joined_list, joined_index-at}
-
--- the entries from k on share no whole face with any other entry
-Settled : List Cuboid → ℕ → Type 0
-Settled sections k = (u v : ℕ) → k ≤ u → u < length sections → v < length sections → u ≢ v → ¬ SharesFace (entry sections u) (entry sections v)
-
--- the entries beyond idx share no whole face with any other entry than that at idx
-Around : List Cuboid → ℕ → Type 0
-Around sections idx = (u v : ℕ) → idx < u → u < length sections → v < length sections → u ≢ v → v ≢ idx → ¬ SharesFace (entry sections u) (entry sections v)
 
 -- where an entry other than the join stood before
 entry-joined_list : (sections : List Cuboid) (idx j u : ℕ) → j < length sections → u < length (joined_list sections idx j) → u ≢ joined_index idx j
@@ -36,7 +29,7 @@ entry-joined_list sections idx j u within here n =
           (u + 1, omega arith, ui, inr (ge, refl), same)
     ]
 
-Around-joined_list : (sections : List Cuboid) (idx j : ℕ) → j < length sections → Around sections idx → Around (joined_list sections idx j) (joined_index idx j)
+pub Around-joined_list : (sections : List Cuboid) (idx j : ℕ) → j < length sections → Around sections idx → Around (joined_list sections idx j) (joined_index idx j)
 unfolding Around
 Around-joined_list sections idx j within around u v beyond hu hv uv vi face =
     let at = joined_index-at idx j in
@@ -44,7 +37,7 @@ Around-joined_list sections idx j within around u v beyond hu hv uv vi face =
     let s = entry-joined_list sections idx j v within hv vi in
     around r.0 s.0 (omega arith) r.1 s.1 (λ e. omega arith) s.2 (rw (r.4, s.4) at face)
 
-Settled-from_Around : (sections : List Cuboid) (idx hi : ℕ) → length sections ≤ hi → Around sections idx → IsAlone sections idx 0 hi → Settled sections idx
+pub Settled-from_Around : (sections : List Cuboid) (idx hi : ℕ) → length sections ≤ hi → Around sections idx → IsAlone sections idx 0 hi → Settled sections idx
 unfolding Around Settled
 Settled-from_Around sections idx hi all around none u v from hu hv uv face = elim (cases_eq u idx) [
   | inl p ↦ none v (record { from = omega arith; below = omega arith; within = hv; other = omega arith; shares = rw p at face })
@@ -60,7 +53,7 @@ Settled-weaker : (sections : List Cuboid) (k n : ℕ) → k ≤ n → Settled se
 unfolding Settled
 Settled-weaker sections k n h settled u v from hu hv uv face = settled u v (omega arith) hu hv uv face
 
-Settled-past : (sections : List Cuboid) (k : ℕ) → length sections ≤ k → Settled sections k
+pub Settled-past : (sections : List Cuboid) (k : ℕ) → length sections ≤ k → Settled sections k
 unfolding Settled
 Settled-past sections k h u v from hu hv uv face = omega arith
 
@@ -73,7 +66,7 @@ IsJoined-settles (Joins {old = old} {new = new} {idx = idx} {hi = hi} at j first
     Settled-weaker new (joined_index idx j) idx (omega (arith, joined_index-at idx j))
     (IsJoined-settles next z (omega (arith, length-joined_list old idx j within)) (Around-joined_list old idx j within around))
 
-Around-from_Settled : (sections : List Cuboid) (n : ℕ) → Settled sections (suc n) → Around sections n
+pub Around-from_Settled : (sections : List Cuboid) (n : ℕ) → Settled sections (suc n) → Around sections n
 unfolding Around Settled
 Around-from_Settled sections n settled u v beyond hu hv uv vi face = settled u v (omega arith) hu hv uv face
 

@@ -1,5 +1,6 @@
 -- Indices and what is read there.
-use Rattle.rectangle_pack_sections.proofs.Std.{◌≡◌, ◌<◌, ◌≤◌, ℕ, List, length, get_or, All, HoldsAt, sym, subst, arith}
+use Rattle.rectangle_pack_sections.proofs.Std.{◌≡◌, ◌<◌, ◌≤◌, ℕ, List, [], ◌++◌, length, take, drop, get_or, All, HoldsAt, sym, subst, arith}
+use Rattle.rectangle_pack_sections.proofs.Std.{append-nil, length-drop, nil_from_length, take_all}
 
 -- an index below a length that is counted otherwise
 pub below-same : (i n m : ℕ) → i < n → m ≡ n → i < m
@@ -15,3 +16,9 @@ HoldsAt-read P xs i x at read = subst P (sym read) (at x)
 
 pub le-through : (a b c : ℕ) → a ≤ b → b ≤ c → a ≤ c
 le-through a b c first second = omega arith
+
+-- what is written back over a whole list
+pub written_back : {X : Type 0} (old new : List X) (n : ℕ) → length new ≡ length old → n ≡ length old → take n (new ++ drop (length new) old) ≡ new
+written_back old new n same all =
+    let none : drop (length new) old ≡ [] = nil_from_length _ (omega (arith, length-drop (length new) old)) in
+    rw (none, append-nil) (take_all n new (omega arith))

@@ -2,6 +2,7 @@ use Rattle.rectangle_pack_sections.proofs.Std.{◌≡◌, sym, ◌∙◌, rules,
 use Rattle.rectangle_pack_sections.specs.Boxes.{has_cells}
 use Rattle.rectangle_pack_sections.specs.Bins.{bins_of}
 use Rattle.rectangle_pack.specs.Session.{GivesBack}
+use Rattle.rectangle_pack_sections.proofs.lemmas.util.Results.{OnErr-given}
 use Rattle.rectangle_pack_bins.proofs.lemmas.bins.Journals.{bins_of-written}
 use Rattle.rectangle_pack.proofs.lemmas.session.Keeps.{Some-bins_of}
 use Rattle.rectangle_pack.proofs.session.outstanding.give_back.Goals as goal
@@ -32,3 +33,14 @@ returns-then-not-has_cells g c =
 
 pub push_available_bin_section_unchecked-requires : goal.push_available_bin_section_unchecked-requires
 push_available_bin_section_unchecked-requires g c = rw c.section_at-section.ensures (rw (← c.in-Some.ensures.value) at c.requires.accepted.1)
+
+pub returns-in_err-reserve-in-Some-clause-err : goal.returns-in_err-reserve-in-Some-clause-err
+returns-in_err-reserve-in-Some-clause-err g c =
+    let test = is_at (g.B.Ord.cmp c.args.id.now) in
+    let old = c.args.bins.now.entries in
+    let v = c.in-Some.bin.now in
+    let found = Some-bins_of test old v (sym c.in-Some.ensures.value) in
+    let section : c.section_at-section.result ≡ c.args.location = c.section_at-section.ensures in
+    let full : has_cells c.args.location ≡ true = search rules in
+    OnErr-given c.from_residual.result
+    (full, bins_of-written test old _ v _ (c.get_mut.follows.holds v).0 refl ∙ set_value_same test (bins_of old) v.bin found)
