@@ -114,9 +114,12 @@ fn end_sum(section: &BinSection) -> u64 {
     sum
 }
 
+// Strips are looked for among so many boxes at least: fewer are soon put in order anew.
+const MANY: usize = 1000;
+
 // Where one of the boxes is a strip, puts them in order, so that strips that can be cut off one after
 // another are last: each ends beyond all that is then left. The first open plane, if that shows.
-// Boxes that are in no order are left alone.
+// A few boxes, or such as are in no order, are left alone.
 pub(crate) fn put_strips_last(
     part: &BinSection,
     ordered: Option<Axis>,
@@ -126,7 +129,7 @@ pub(crate) fn put_strips_last(
     ensures permutation { IsPermutation boxes.old boxes.new }
     ensures split { IfSome result (IsSplit part.now boxes.new) }
 {
-    if ordered.is_none() || !has_strip(part, boxes) {
+    if boxes.len() < MANY || ordered.is_none() || !has_strip(part, boxes) {
         return None;
     }
     boxes.sort_unstable_by_key(end_sum);
