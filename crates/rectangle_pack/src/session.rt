@@ -301,7 +301,8 @@ where
 
     /// Gives a placement back: it is no longer outstanding, and its cells are free again, as the
     /// newest section of its bin. Its number is not given again. A box without cells adds no
-    /// section and takes no memory.
+    /// section and takes no memory. Its id may be dropped some time later, at the latest with the
+    /// session.
     ///
     /// `UnknownPlacement` says that no placement of this number is outstanding, `OutOfMemory` that
     /// a growth was refused. The session is then as it was.
@@ -375,7 +376,7 @@ where
     pub fn coalesce_all(&mut self, id: &BinId) -> Result<(), SessionError>
         // Done: the bin is there, its list is one that the rule of the sweep allows, as `swept` of
         //   `TargetBin::coalesce_all` says it, and it counts as coalesced. All else stays.
-        //   [join_all.goes_upward]
+        //   [join_all.goes_upward, at_faces.section_before_is_missed]
         // `UnknownBin`: there is no such bin. The session is as it was. No other error is answered.
         ensures swept { Coalesces BinId.cmp IsSwept id.now self.old (reply_of result) self.new }
         // Afterwards no two free sections of that bin share a whole face. [join_all.does_nothing]

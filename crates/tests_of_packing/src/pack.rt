@@ -10,6 +10,7 @@ mod exclusions;
 mod groups;
 mod large;
 mod long_lists;
+mod many_bins;
 mod memory;
 mod placements;
 mod texts;

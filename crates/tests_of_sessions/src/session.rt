@@ -14,6 +14,7 @@ mod releases;
 mod run;
 mod stats;
 mod strip;
+mod sweeps;
 mod units;
 
 use rectangle_pack::{BinStats, Command, Outstanding, Reply, Session, SessionError};
