@@ -292,8 +292,8 @@ uint32_t rectangle_pack_session_pack_collection(rp_session *session, const rp_co
 uint32_t rectangle_pack_session_release(rp_session *session, uint64_t number);
 
 /* Joins free sections of a bin, two at a time, until no two share a whole face. A box goes into one free section, and not
-   across two; so call it once after all releases, and not after each, which leaves more pieces. A bin without boxes need not
-   become one section. A new session has whole bins. RP_DONE or RP_UNKNOWN_BIN.
+   across two. A bin without boxes need not become one section: that depends on the order of releases and on where joins stand
+   between them. A new session has whole bins. RP_DONE or RP_UNKNOWN_BIN.
 
    Proved: the free cells are the same as before, and no two free sections of the bin share a whole face. */
 uint32_t rectangle_pack_session_coalesce_all(rp_session *session, uint32_t bin);

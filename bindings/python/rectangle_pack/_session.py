@@ -212,8 +212,8 @@ class Session(Generic[BinName]):
 
     @_alone
     def coalesce_all(self, bin: BinName) -> None:
-        """Joins free sections of a bin until no two share a whole face. Call it once after all releases, and not after each, which
-        leaves more pieces. A bin that is empty again need not become one section: a new session has whole bins.
+        """Joins free sections of a bin until no two share a whole face. A bin that is empty again need not become one
+        section: that depends on the order of releases and on where joins stand between them. A new session has whole bins.
 
         Raises UnknownBin."""
         with _naming(bin):
