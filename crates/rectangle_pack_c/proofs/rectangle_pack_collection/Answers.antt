@@ -9,7 +9,7 @@ use Rattle.rectangle_pack_c.proofs.FaultLemmas.{sound}
 use Rattle.rectangle_pack_c.proofs.AnswerLemmas.{IsAnswered, answered, answer_refused, one_best, never_best}
 use Rattle.rectangle_pack_c.proofs.rectangle_pack_collection.Goals as goal
 
-all_said : (c : goal.After-drop-session-inside-in-Ok-pack_into) → IsAnswered c.args.bins.now (all_boxes c.args.collection.now)
+all_said : (c : goal.After-drop-session-inside-in-Ok-pack_into-3) → IsAnswered c.args.bins.now (all_boxes c.args.collection.now)
     c.args.collection.now.exclusions.now c.args.heuristic c.in-Ok-pack_into.best c.pack_into.new.placements
 all_said c =
     let h = c.in-Ok-pack_into.ensures in
