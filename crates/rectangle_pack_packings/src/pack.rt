@@ -17,6 +17,7 @@ pub mod best;
 pub mod bin_order;
 mod ends;
 pub mod first_fit;
+mod next_bin;
 pub mod packing;
 
 use crate::pack::best::best_of;
@@ -262,7 +263,7 @@ where
     //   those that place cells in as many, none places fewer cells in the last of these bins, in
     //   the order of ids; and each with a heuristic that stands before the one of the answer is
     //   worse. Cells in one bin are counted up to the greatest `u128`.
-    //   [better_of.first_that_is_done_is_kept]
+    //   [best_of.first_that_is_done_is_kept]
     // `NotEnoughBinSpace`: with each heuristic of the list the packing is refused for space. The
     //   bins are as they were, the order of their lists included.
     // `OutOfMemory`: the bins are as they were, the order of their lists included.

@@ -1,5 +1,5 @@
 //! One packing: group after group into the first bin that takes it.
-ghost use Rattle.std.specs.Prelude.{ℕ, ◌≡◌, ◌<◌, ◌+◌, ◌≤◌, ◌∷◌, ◌++◌, [], length, vec_len, List, false, IfOk, OnErr, All, MatchBool, MatchOption, IfSome, ◌-◌, ◌^◌, drop, map, slice_index_or, take};
+ghost use Rattle.std.specs.Prelude.{ℕ, ◌≡◌, ◌<◌, ◌+◌, ◌≤◌, ◌∷◌, ◌++◌, [], length, vec_len, List, false, IfOk, OnErr, All, MatchBool, MatchOption, map, slice_index_or};
 ghost use Rattle.std.specs.BTreeMap.{is_at};
 ghost use Rattle.std.specs.Bool.{OnTrue};
 ghost use Rattle.std.specs.List.{IsDistinct};
@@ -17,15 +17,14 @@ ghost use Rattle.rectangle_pack_rules.specs.PackAnswers.{AreCounted};
 ghost use Rattle.rectangle_pack_rules.specs.private.Excluded.{are_in, AreHomesKept};
 ghost use Rattle.rectangle_pack_rules.specs.private.Bounds.{AddsWithin};
 ghost use Rattle.rectangle_pack_rules.specs.private.Orders.{members_of, members_in, HasSizes, StopsAmong};
-ghost use Rattle.rectangle_pack_packings.specs.private.PassedOver.{ArePassedOver};
 ghost use Rattle.rectangle_pack_packings.specs.private.RollBack.{StaysUndoable};
 
+use crate::pack::next_bin::next_bin;
 use crate::pack::packing::Packing;
-use rectangle_pack_bins::checkout::PackingBins;
 use rectangle_pack_bins::journal::note_trial;
 use rectangle_pack_groups::grouped_rects_to_place::exclusions::Exclusions;
 use rectangle_pack_groups::grouped_rects_to_place::{Group, GroupedRectsToPlace, exclusions_of};
-use rectangle_pack_lists::fit_tests::{FitTests, add, bounded};
+use rectangle_pack_lists::fit_tests::bounded;
 use rectangle_pack_rules::answer::{Placement, name_all};
 use rectangle_pack_rules::homes::{ExcludedBins, Homes};
 use rectangle_pack_rules::order::{OrderedGroup, group_order};
@@ -101,62 +100,6 @@ where
         packing.buffers.locations.as_slice(),
     )?;
     Ok(true)
-}
-
-// Passes over bins from this index on, as long as it is known that no section of theirs holds the
-// first member of a group for which no bin is excluded. Their tests are counted; the index of the
-// next bin.
-fn pass_over<'b, B: Ord, A: Allocator + Copy>(
-    bins: &PackingBins<'b, B, A>,
-    from: usize,
-    sizes: &[RectToInsert],
-    excluded: &ExcludedBins<'b, B, A>,
-    tests: &mut FitTests,
-) -> usize
-    ensures from { from ≤ result }
-    ensures passed { ArePassedOver B.cmp excluded.now bins.now.kept sizes.now
-        (map (λ o. o.1) (take (result - from) (drop from bins.now.order))) tests.old tests.new }
-{
-    bounded(tests);
-    match sizes.first() {
-        Some(first) if excluded.is_empty() => {
-            let passed = bins.next_bin(from, first);
-            add(tests, passed.tests);
-            passed.index
-        }
-        _ => from,
-    }
-}
-
-// The next bin for a group, from this index on, and its index; those before it are passed over. It
-// is checked out, where there is room.
-fn next_bin<'b, B: Ord, A: Allocator + Copy>(
-    bins: &mut PackingBins<'b, B, A>,
-    from: usize,
-    sizes: &[RectToInsert],
-    excluded: &ExcludedBins<'b, B, A>,
-    tests: &mut FitTests,
-) -> Option<(usize, &'b B)>
-    ensures same { bins.new ≡ bins.old }
-    ensures next { MatchOption result
-        (ArePassedOver B.cmp excluded.now bins.old.kept sizes.now
-        (map (λ o. o.1) (drop from bins.old.order)) tests.old tests.new)
-        (λ next.
-        (from ≤ next.0) × (next.0 < length bins.old.order) ×
-        ((rate : ℕ) ×
-        ((rate, next.1.now) ≡ slice_index_or bins.old.order next.0 (rate, next.1.now))) ×
-        ArePassedOver B.cmp excluded.now bins.old.kept sizes.now
-        (map (λ o. o.1) (take (next.0 - from) (drop from bins.old.order))) tests.old tests.new) }
-    ensures small { IfSome result (λ next. next.0 + 1 < 2 ^ 64) }
-{
-    let order = bins.order();
-    let index = pass_over(bins, from, sizes, excluded, tests);
-    if index >= order.len() {
-        return None;
-    }
-    let (_, id) = &order[index];
-    bins.check_out(index);
-    Some((index, id))
 }
 
 // Puts a group into the first bin of the order that is not excluded and whose trial is done; the

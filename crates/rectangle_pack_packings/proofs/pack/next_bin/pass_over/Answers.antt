@@ -1,6 +1,6 @@
 use Rattle.rectangle_pack_sections.proofs.Std.{sym}
 use Rattle.rectangle_pack_packings.proofs.lemmas.packing.PassedOver.{ArePassedOver-held}
-use Rattle.rectangle_pack_packings.proofs.pack.first_fit.pass_over.Goals as goal
+use Rattle.rectangle_pack_packings.proofs.pack.next_bin.pass_over.Goals as goal
 
 pub returns-in-Some-clause-passed : goal.returns-in-Some-clause-passed
 returns-in-Some-clause-passed g c =
