@@ -7,7 +7,6 @@ use Rattle.std.specs.BTreeMap.{is_at}
 use Rattle.std.specs.declared.cmp.Ordering.{Ordering}
 use Rattle.std.specs.declared.cmp.Ordering.TheVariants.{Less, Greater}
 use Rattle.std.specs.declared.vec.Vec.{Vec}
-use mathlib.Core.Path.{fun_ext}
 use Rattle.rectangle_pack.specs.declared.grouped_rects_to_place.Group.{Group}
 use Rattle.rectangle_pack.specs.declared.grouped_rects_to_place.Group.TheVariants.{Ungrouped, Grouped}
 use Rattle.rectangle_pack.specs.declared.pack.Placement.{Placement}
@@ -28,7 +27,7 @@ use Rattle.rectangle_pack.specs.Session.{State, Packs, numbered, packed_reply}
 use Rattle.rectangle_pack.proofs.lemmas.session.Promise.{packs-promised}
 use Rattle.rectangle_pack_rules.proofs.lemmas.determinism.Either.{Includes, PackingDone-more, PackingRefused-more}
 use Rattle.rectangle_pack_bins.proofs.lemmas.bins.Journals.{lookup-bins_of}
-use Rattle.rectangle_pack_groups.proofs.lemmas.groups.GroupOrder.{groups_by_variants}
+use Rattle.rectangle_pack_groups.proofs.lemmas.groups.GroupOrder.{same_order}
 use Rattle.packrun_lines.specs.Desk.{Desk, no_boxes, group_order, volume_rules, TakesBox, PacksBoxes, placements_made, sections_in}
 
 -- a packing of a session by some answers is one by more
@@ -61,27 +60,26 @@ module _ {Id B G : Type 0} (group_cmp : Group G Id → Group G Id → Ordering) 
 module _ {Name : Type 0} (cmp : Name → Name → Ordering) (R : Group Name Name → Group Name Name → Ordering)
     (alone : (a b : Name) → R (Ungrouped a) (Ungrouped b) ≡ cmp a b) (before : (a b : Name) → R (Ungrouped a) (Grouped b) ≡ Less)
     (behind : (a b : Name) → R (Grouped a) (Ungrouped b) ≡ Greater) (named : (a b : Name) → R (Grouped a) (Grouped b) ≡ cmp a b) where
-  -- an order that compares groups so is this one
-  pub same_order : R ≡ group_order cmp
-  same_order = fun_ext (λ a. fun_ext (λ b. groups_by_variants (λ x y. R x y ≡ group_order cmp x y) alone before behind named a b))
+  same : R ≡ group_order cmp
+  same = same_order cmp cmp R alone before behind named
 
   -- a box is taken in
   pub TakesBox-pushed : {A : Type 0} (name : Name) (size : Size) (groups : Option (Vec Name A)) (old new : Collection Name Name)
       → MatchOption groups (PushesAlone cmp R old new name size) (λ names. PushesInto cmp R old new name names.items size)
       → IsStrictlySortedBy R (keys_of new.groups) → TakesBox cmp name size (option_map (λ names. names.items) groups) old new
-  TakesBox-pushed name size None old new h sorted = subst (λ S. PushesAlone cmp S old new name size) same_order h
+  TakesBox-pushed name size None old new h sorted = subst (λ S. PushesAlone cmp S old new name size) same h
   TakesBox-pushed name size (Some names) old new h sorted =
-      subst (λ S. PushesInto cmp S old new name names.items size × IsStrictlySortedBy S (keys_of new.groups)) same_order (h, sorted)
+      subst (λ S. PushesInto cmp S old new name names.items size × IsStrictlySortedBy S (keys_of new.groups)) same (h, sorted)
 
   -- two groups are excluded
   pub Excludes-ordered : (old new : Collection Name Name) (a b : Group Name Name) → Excludes R old new a b → Excludes (group_order cmp) old new a b
-  Excludes-ordered old new a b h = subst (λ S. Excludes S old new a b) same_order h
+  Excludes-ordered old new a b h = subst (λ S. Excludes S old new a b) same h
 
   module _ (may : Answers) (old : Desk Name) where
     -- boxes are packed by closures that answer as volumes do
     Packs-volume : Includes may (named_answers Volume) → (reply : Reply) (new : State Name Name)
         → Packs R (rules_by cmp cmp may) old.boxes old.session reply new → Packs (group_order cmp) (volume_rules cmp) old.boxes old.session reply new
-    Packs-volume includes reply new h = subst (λ S. Packs S (volume_rules cmp) old.boxes old.session reply new) same_order
+    Packs-volume includes reply new h = subst (λ S. Packs S (volume_rules cmp) old.boxes old.session reply new) same
         (Packs-more R cmp cmp may (named_answers Volume) includes old.boxes old.session reply new h)
 
     pub PacksBoxes-done : (numbers : PackedNumbers) (packed : State Name Name) (new : Desk Name)

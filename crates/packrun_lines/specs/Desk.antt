@@ -1,27 +1,24 @@
--- A desk: a session, and the boxes that its next packing places. What each call makes of it.
+-- A desk: a session, and the boxes that its next packing places. What each call makes of it. A name may be of any type
+-- that has an order, `cmp`.
 use Rattle.std.specs.Prelude.{◌≡◌, ℕ, List, [], length, drop, Option, Some, None, Result, Ok, Err}
 use Rattle.std.specs.declared.cmp.Ordering.{Ordering}
-use Rattle.std.specs.declared.cmp.Ordering.TheVariants.{Less, Greater}
 use Rattle.std.specs.Option.{option_map}
 use Rattle.std.specs.List.Sorted.{IsStrictlySortedBy}
 use Rattle.std.specs.Map.{lookup, keys_of}
 use Rattle.std.specs.BTreeMap.{is_at}
 use Rattle.rectangle_pack.specs.declared.box_size_heuristics.Heuristic.TheVariants.{Volume}
 use Rattle.rectangle_pack.specs.declared.grouped_rects_to_place.Group.{Group}
-use Rattle.rectangle_pack.specs.declared.grouped_rects_to_place.Group.TheVariants.{Ungrouped, Grouped}
 use Rattle.rectangle_pack.specs.declared.session.command.Outstanding.{Outstanding}
 use Rattle.rectangle_pack.specs.declared.session.command.Packed.{Packed}
 use Rattle.rectangle_pack.specs.declared.session.command.Reply.{Reply}
 use Rattle.rectangle_pack.specs.declared.session.command.SessionError.{SessionError}
 use Rattle.rectangle_pack.specs.declared.session.command.SessionError.TheVariants.{OutOfMemory}
-use Rattle.rectangle_pack.specs.declared.session.stats.BinStats.{BinStats}
 use Rattle.rectangle_pack.specs.Best.{named_rules}
 use Rattle.rectangle_pack.specs.Bins.{Bin}
 use Rattle.rectangle_pack.specs.Boxes.{Size, Cuboid}
-use Rattle.rectangle_pack.specs.Groups.{Collection, PushesAlone, PushesInto}
+use Rattle.rectangle_pack.specs.Groups.{Collection, PushesAlone, PushesInto, order_of_groups}
 use Rattle.rectangle_pack.specs.Packing.{Rules}
-use Rattle.rectangle_pack.specs.Session.{State, Packs, outstanding_in, reply_of, packed_reply}
-use Rattle.rectangle_pack.specs.Stats.{stats_of}
+use Rattle.rectangle_pack.specs.Session.{State, Packs, reply_of, packed_reply}
 
 -- a session, and the boxes that its next packing places; bins, boxes and groups have names of one kind
 pub record Desk (Name : Type 0) : Type 0 where
@@ -53,12 +50,9 @@ abbrev pub placements_made : {Name : Type 0} → Desk Name → Desk Name → Lis
 placements_made old new = drop (length old.session.outstanding) new.session.outstanding
 
 module _ {Name : Type 0} (cmp : Name → Name → Ordering) where
-  -- the order of groups: boxes that are placed alone first, by their names, then the others, by theirs
+  -- the order of groups, by the order of names: boxes that are placed alone first, then the others
   abbrev pub group_order : Group Name Name → Group Name Name → Ordering
-  group_order (Ungrouped a) (Ungrouped b) = cmp a b
-  group_order (Ungrouped a) (Grouped b) = Less
-  group_order (Grouped a) (Ungrouped b) = Greater
-  group_order (Grouped a) (Grouped b) = cmp a b
+  group_order = order_of_groups cmp cmp
 
   -- a box of this name and size is to be placed: alone (`PushesAlone`); or in these groups, in each as often as it is named
   -- (`PushesInto`), and all groups then stand in order, each once
@@ -84,7 +78,3 @@ module _ {Name : Type 0} (cmp : Name → Name → Ordering) where
   -- the free sections of the bin of this name, or none where there is no such bin
   abbrev pub sections_in : State Name Name → Name → Option (List Cuboid)
   sections_in state name = option_map (λ (bin : Bin). bin.sections) (lookup (is_at (cmp name)) state.bins)
-
-  -- the statistics of the bin of this name, or none where there is no such bin
-  abbrev pub stats_in : State Name Name → Name → Option BinStats
-  stats_in state name = option_map (λ (bin : Bin). stats_of bin (outstanding_in cmp state.outstanding name)) (lookup (is_at (cmp name)) state.bins)

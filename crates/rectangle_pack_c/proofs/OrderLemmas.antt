@@ -1,7 +1,6 @@
 -- Orders of numbers and of groups, where equal is the same.
 use Rattle.rectangle_pack_c.proofs.Std.{◌≡◌, ◌≢◌, ℕ, ◌<◌, Bool, true, false, refl, ap, sym, Ordering, Less, Equal, Greater, IsTotalOrder, Equal-is, nat_cmp_is}
 use Rattle.rectangle_pack_c.proofs.Std.{nat_cmp, is_eq, nat_cmp_total, exact_unsigned}
-use mathlib.Core.Path.{fun_ext}
 use Rattle.rectangle_pack.specs.declared.grouped_rects_to_place.Group.{Group}
 use Rattle.rectangle_pack.specs.declared.grouped_rects_to_place.Group.TheVariants.{Ungrouped, Grouped}
 use Rattle.rectangle_pack_groups.proofs.lemmas.groups.GroupOrder.{groups_total}
@@ -43,15 +42,3 @@ group_swap a b = by (is_eq (group_order a b)) (is_eq (group_order b a)) refl ref
     by true false e f = absurd (let yes : is_eq (group_order b a) ≡ true = rw (exact_group a b e) (group_same b) in cc)
     by false true e f = absurd (let yes : is_eq (group_order a b) ≡ true = rw (exact_group b a f) (group_same a) in cc)
     by false false e f = refl
-
--- an order that compares groups so is this one
-pub same_order : (R : Group ℕ ℕ → Group ℕ ℕ → Ordering) → ((a b : ℕ) → R (Ungrouped a) (Ungrouped b) ≡ nat_cmp a b)
-    → ((a b : ℕ) → R (Ungrouped a) (Grouped b) ≡ Less)
-    → ((a b : ℕ) → R (Grouped a) (Ungrouped b) ≡ Greater) → ((a b : ℕ) → R (Grouped a) (Grouped b) ≡ nat_cmp a b) → R ≡ group_order
-same_order R alone before behind named = fun_ext (λ a. fun_ext (λ b. at a b))
-  where
-    at : (a b : Group ℕ ℕ) → R a b ≡ group_order a b
-    at (Ungrouped a) (Ungrouped b) = alone a b
-    at (Ungrouped a) (Grouped b) = before a b
-    at (Grouped a) (Ungrouped b) = behind a b
-    at (Grouped a) (Grouped b) = named a b

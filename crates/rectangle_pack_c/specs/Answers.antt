@@ -42,6 +42,8 @@ pub record ArePlaced (bins : List RpBin) (boxes : List RpBox) (placements : List
       → 0 < a.group → a.group ≡ b.group → p.bin ≡ q.bin
 
 -- two boxes whose groups, above 0, an exclusion names are in different bins
+-- Example: where 1 and 4 are excluded, no box of group 1 is in the bin of a box of group 4; where 4 and 5 are, and no
+-- box is in 5, nothing is kept apart
 abbrev pub KeepApart : List RpBox → List RpExclusion → List RpPlacement → Type 0
 KeepApart boxes exclusions placements =
     (i j : ℕ) (a b : RpBox) (p q : RpPlacement) → Stands boxes placements i a p → Stands boxes placements j b q

@@ -1,4 +1,4 @@
--- What lists of bins and of boxes mean.
+-- What lists of bins and of boxes mean. Ids of boxes and of bins are their indices in these lists.
 use Rattle.std.specs.Prelude.{◌≡◌, ℕ, List, ◌<◌, ◌^◌, map, length}
 use Rattle.std.specs.List.{enumerate_from}
 use Rattle.rectangle_pack.specs.Boxes.{Size}

@@ -2,7 +2,6 @@
 use Rattle.std.specs.Prelude.{◌≡◌, ℕ, ◌+◌, ◌^◌, List, [], ◌∷◌, ◌++◌, ◌==◌, Bool, ◌&&◌, not, if◌then◌else◌, nat_lt, nat_le}
 use Rattle.std.specs.Prelude.{Option, Some, None, map, filter, length, slice_index_or}
 use Rattle.std.specs.declared.cmp.Ordering.{Ordering}
-use Rattle.std.specs.declared.cmp.Ordering.TheVariants.{Less, Greater}
 use Rattle.std.specs.List.{enumerate_from, list_any}
 use Rattle.std.specs.List.Sorted.{IsStrictlySortedBy}
 use Rattle.std.specs.Ordering.{nat_cmp, is_eq}
@@ -11,7 +10,7 @@ use Rattle.std.specs.BTreeMap.{is_at}
 use Rattle.rectangle_pack.specs.declared.grouped_rects_to_place.Group.{Group}
 use Rattle.rectangle_pack.specs.declared.grouped_rects_to_place.Group.TheVariants.{Ungrouped, Grouped}
 use Rattle.rectangle_pack.specs.Exclusions.{are_excluded, are_these}
-use Rattle.rectangle_pack.specs.Groups.{Collection}
+use Rattle.rectangle_pack.specs.Groups.{Collection, order_of_groups}
 use Rattle.rectangle_pack_c.specs.declared.RpBin.{RpBin}
 use Rattle.rectangle_pack_c.specs.declared.RpBox.{RpBox}
 use Rattle.rectangle_pack_c.specs.declared.collection.RpMember.{RpMember}
@@ -27,6 +26,7 @@ member_box boxes m =
     record { width = b.width; height = b.height; depth = b.depth; group = m.group }
 
 -- the boxes of a collection that are placed, and behind them its members
+-- Example: of three boxes and a member that puts box 0 into group 4: the fourth is of the size of box 0, in group 4
 abbrev pub all_boxes : RpCollection → List RpBox
 all_boxes c = c.boxes.now ++ map (member_box c.boxes.now) c.members.now
 
@@ -37,6 +37,8 @@ are_as_many c placement_count = (placement_count == length c.boxes.now + length 
 -- the first thing that is wrong with the arguments of a packing, as a status, or 0: there are more or fewer placements
 -- than boxes and members, or 2^32 or more (`RP_BAD_LENGTHS`); the heuristic is unknown (`RP_UNKNOWN_HEURISTIC`); a
 -- member names no box (`RP_UNKNOWN_BOX`); a group is excluded with itself (`RP_EQUAL_GROUPS`)
+-- Example: of three boxes, one member and a known heuristic: 0 for four placements, `RP_BAD_LENGTHS` for three;
+-- `RP_UNKNOWN_BOX` where the member names box 3; `RP_EQUAL_GROUPS` where 5 and 5 are excluded
 abbrev pub fault_of : RpCollection → (heuristic placement_count : ℕ) → ℕ
 fault_of c heuristic placement_count =
     if not (are_as_many c placement_count) then 3 else (
@@ -50,16 +52,15 @@ fault_in bins c heuristic placement_count = if nat_lt (length bins) (2 ^ 32) the
 
 -- the order of groups: those of one box first, by its index, then the others, by their numbers
 abbrev pub group_order : Group ℕ ℕ → Group ℕ ℕ → Ordering
-group_order (Ungrouped a) (Ungrouped b) = nat_cmp a b
-group_order (Ungrouped a) (Grouped b) = Less
-group_order (Grouped a) (Ungrouped b) = Greater
-group_order (Grouped a) (Grouped b) = nat_cmp a b
+group_order = order_of_groups nat_cmp nat_cmp
 
 -- the group of box i: one of its own where its number is 0, else the one of that number
 abbrev pub group_of : ℕ → RpBox → Group ℕ ℕ
 group_of i b = if b.group == 0 then Ungrouped i else Grouped b.group
 
 -- the indices of the boxes of a group, in order
+-- Example: of two boxes in group 1, one alone and one in group 4: [0, 1] for Grouped 1, [2] for Ungrouped 2, [3] for
+-- Grouped 4, and [] for each other group
 abbrev pub indices_in : Group ℕ ℕ → List RpBox → List ℕ
 indices_in group boxes = map (λ e. e.0) (filter (λ e. is_eq (group_order group (group_of e.0 e.1))) (enumerate_from 0 boxes))
 

@@ -1,4 +1,4 @@
--- What the handle of a session owns.
+-- What the handle of a session owns. For the proof alone it has the state of its session.
 use Rattle.std.specs.Prelude.{ℕ, Option, None, Some}
 use Rattle.std.specs.declared.alloc.Global.{Global}
 use Rattle.std.specs.contracts.alloc.Global as global

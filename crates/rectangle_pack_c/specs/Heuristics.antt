@@ -20,5 +20,6 @@ all_heuristics = Volume ∷ Height ∷ Width ∷ Depth ∷ SideSum ∷ LongestSi
 
 -- the heuristics of which the best is asked for: the one of this number; all, for `RP_BEST`; none, where the number is
 -- unknown
+-- Example: `asked 1` is [`Height`], `asked 8` is []
 abbrev pub asked : ℕ → List Heuristic
 asked number = filter (λ h. (heuristic_number h == number) || (number == 0xffff)) all_heuristics

@@ -26,6 +26,8 @@ standing_of o = record { number = o.number; index = o.id; bin = o.bin; section =
 -- a list goes to an array of the caller's: `count` is how many entries it has. Where the array holds as many, they
 -- stand at its beginning, the rest of it is as before, and the status is `RP_DONE`; where it is too short, it is as
 -- before, and the status is `RP_SHORT_ARRAY`
+-- Example: the section (4,0,0) 6x10x1 goes to an array of three entries: the first is the section, the others stay, and
+-- the count is 1; to an array without entries: `RP_SHORT_ARRAY`, and the count is 1
 pub record Tells {X : Type 0} (there : List X) (status : ℕ) (old new : List X) (count : ℕ) : Type 0 where
   pub counted : count ≡ length there
   pub enough : length there ≤ length old → (status ≡ 0) × (new ≡ there ++ drop (length there) old)

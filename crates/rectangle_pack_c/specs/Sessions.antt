@@ -1,6 +1,6 @@
--- Calls of a session by its handle: what each answers, and what it makes of the session.
+-- Calls of a session by its handle: what each answers, and what it makes of the session. Ids of bins are the caller's
+-- numbers; a box's id is its index in the list of the packing that placed it.
 use Rattle.std.specs.Prelude.{◌≡◌, ◌≢◌, ℕ, ◌+◌, ◌*◌, ◌^◌, ◌<◌, ◌≤◌, List, length, Contains, Option, Some, MatchOption, slice_get, map, Ok, Err}
-use Rattle.std.specs.Option.{option_map}
 use Rattle.std.specs.Ordering.{nat_cmp}
 use Rattle.std.specs.Map.{lookup}
 use Rattle.std.specs.BTreeMap.{is_at}
@@ -13,9 +13,9 @@ use Rattle.rectangle_pack.specs.declared.session.command.SessionError.TheVariant
 use Rattle.rectangle_pack.specs.declared.session.stats.BinStats.{BinStats}
 use Rattle.rectangle_pack.specs.Bins.{Bin}
 use Rattle.rectangle_pack.specs.Groups.{Collection}
-use Rattle.rectangle_pack.specs.Session.{State, IsSession, outstanding_in}
+use Rattle.rectangle_pack.specs.Session.{State, IsSession}
 use Rattle.rectangle_pack.specs.SessionBest.{PacksBest, PacksBestAsPromised}
-use Rattle.rectangle_pack.specs.Stats.{stats_of}
+use Rattle.rectangle_pack.specs.Stats.{stats_in}
 use Rattle.rectangle_pack_c.specs.declared.RpBox.{RpBox}
 use Rattle.rectangle_pack_c.specs.declared.session.RpOutstanding.{RpOutstanding}
 use Rattle.rectangle_pack_c.specs.declared.session.RpVolume.{RpVolume}
@@ -81,6 +81,8 @@ record_of i b p = record { number = p.number; id = i; bin = p.placement.bin; loc
 
 -- there are as many placements as boxes; each box is outstanding at its placement, under a number of its own that was
 -- not given before; boxes of one group above 0 are in one bin
+-- Example: one box 4x10x1 is packed into a new bin 7, 10x10x1: number 0, bin 7 and the corner (0,0,0) are written, and
+-- 0, box 0, bin 7, (0,0,0) 4x10x1 is outstanding
 pub record AreOutstanding (boxes : List RpBox) (placements : List RpOutstanding) (old new : State ℕ ℕ) : Type 0 where
   pub as_many : length placements ≡ length boxes
   pub outstanding : (i : ℕ) (b : RpBox) (p : RpOutstanding) → IsAt boxes placements i b p → Contains new.outstanding (record_of i b p)
@@ -117,14 +119,10 @@ stats_written s = record {
   placements = s.placements;
 }
 
--- the statistics of a bin of a session, where the bin is there
-abbrev pub stats_in : State ℕ ℕ → ℕ → Option BinStats
-stats_in state bin = option_map (λ (b : Bin). stats_of b (outstanding_in nat_cmp state.outstanding bin)) (lookup (is_at (nat_cmp bin)) state.bins)
-
 -- the statistics of the bin are written, and free and placed volume add up to the bin's; or the bin is not there, and
 -- nothing is written
 pub record TellsStats (held : Option (State ℕ ℕ)) (bin status : ℕ) (old new : RpStats) : Type 0 where
   pub state : State ℕ ℕ
   pub has : held ≡ Some state
-  pub told : MatchOption (stats_in state bin) ((status ≡ 5) × (new ≡ old)) (λ stats. (status ≡ 0) × (stats_written new ≡ stats))
+  pub told : MatchOption (stats_in nat_cmp state bin) ((status ≡ 5) × (new ≡ old)) (λ stats. (status ≡ 0) × (stats_written new ≡ stats))
   pub whole : status ≡ 0 → volume new.free_volume + volume new.placed_volume ≡ volume new.bin_volume

@@ -1,7 +1,7 @@
 -- Collections of boxes to place, and the groups that they are in.
 use Rattle.std.specs.Prelude.{◌≡◌, ℕ, ◌<◌, ◌||◌, List, [], ◌∷◌, ◌++◌, length, map, All, IsSome, IsSomeAnd, count_by, sum, unwrap_or}
 use Rattle.std.specs.declared.cmp.Ordering.{Ordering}
-use Rattle.std.specs.declared.cmp.Ordering.TheVariants.{Equal}
+use Rattle.std.specs.declared.cmp.Ordering.TheVariants.{Less, Equal, Greater}
 use Rattle.std.specs.declared.vec.Vec.{Vec}
 use Rattle.std.specs.Map.{lookup, values_of}
 use Rattle.std.specs.Ordering.{is_eq}
@@ -38,6 +38,13 @@ MembersHaveSizes cmp sizes groups = All (λ ids. (0 < length ids) × HaveSizes c
 abbrev pub SetsSize : {Id : Type 0} → (Id → Id → Ordering) → List (Id × Size) → List (Id × Size) → Id → Size → Type 0
 SetsSize {Id} cmp old new id size = (key : Id) × (cmp id key ≡ Equal) × (new ≡ insert_entry cmp old key size)
 
+-- the order of groups, by that of ids and that of names: boxes that are placed alone first, by their ids, then the others
+abbrev pub order_of_groups : {Id G : Type 0} → (Id → Id → Ordering) → (G → G → Ordering) → Group G Id → Group G Id → Ordering
+order_of_groups cmp names (Ungrouped a) (Ungrouped b) = cmp a b
+order_of_groups cmp names (Ungrouped a) (Grouped b) = Less
+order_of_groups cmp names (Grouped a) (Ungrouped b) = Greater
+order_of_groups cmp names (Grouped a) (Grouped b) = names a b
+
 -- how often a group occurs in the given list
 abbrev pub times_named : {Id G : Type 0} → (Group G Id → Group G Id → Ordering) → List G → Group G Id → ℕ
 times_named group_cmp named group = count_by (λ n. is_eq (group_cmp group (Grouped n))) named
@@ -49,6 +56,7 @@ Appends {Id} cmp before id times list = (tail : List Id) × (list ≡ before ++ 
 module _ {Id G : Type 0} (cmp : Id → Id → Ordering) (group_cmp : Group G Id → Group G Id → Ordering) where
   -- a push without groups: the size is set, and the entry `Ungrouped(id)` is the list of the id alone,
   -- and the other groups stay
+  -- Example: a push of One to an empty collection leaves Ungrouped(One): [One]
   pub record PushesAlone (old new : Collection Id G) (id : Id) (size : Size) : Type 0 where
     pub sizes : SetsSize cmp old.sizes new.sizes id size
     pub partners : new.partners ≡ old.partners
@@ -58,6 +66,8 @@ module _ {Id G : Type 0} (cmp : Id → Id → Ordering) (group_cmp : Group G Id 
   -- a push with a list of groups: the size is set. Each named group has its old list, or the empty one where it had
   -- none, followed by the id as often as the group is named. Each group that is not named is as before. Both pushes
   -- leave the excluded pairs as they were
+  -- Example: with Grouped(0): [One], a push of Two in [1, 0, 1] leaves Grouped(0): [One, Two] and Grouped(1): [Two,
+  -- Two]
   pub record PushesInto (old new : Collection Id G) (id : Id) (named : List G) (size : Size) : Type 0 where
     pub sizes : SetsSize cmp old.sizes new.sizes id size
     pub partners : new.partners ≡ old.partners
@@ -69,6 +79,7 @@ module _ {Id G : Type 0} (cmp : Id → Id → Ordering) (group_cmp : Group G Id 
 
 -- two groups are excluded: sizes and groups stay, and the excluded pairs are this one and those of before. How the lists of
 -- partners say so is left open
+-- Example: once A and B are excluded, and then B and C, A and C are not
 pub record Excludes {Id G : Type 0} (group_cmp : Group G Id → Group G Id → Ordering) (old new : Collection Id G) (a b : Group G Id) : Type 0 where
   pub sizes : new.sizes ≡ old.sizes
   pub groups : new.groups ≡ old.groups

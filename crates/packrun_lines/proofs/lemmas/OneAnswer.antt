@@ -26,7 +26,8 @@ use Rattle.rectangle_pack_lists.proofs.lemmas.joining.Sweeps.{IsJoined-one, IsSw
 use Rattle.packrun_words.specs.Requests.{Request}
 use Rattle.packrun_words.specs.Requests as asks
 use Rattle.packrun_lines.specs.Answers.{Name, name_cmp, Answers, Replies, size_of, groups_of, pack_text, found_text}
-use Rattle.packrun_lines.specs.Desk.{Desk, ChangesSession, ChangesBoxes, TakesBox, PacksBoxes, group_order, volume_rules, no_boxes, placements_made, sections_in, stats_in}
+use Rattle.rectangle_pack.specs.Stats.{stats_in}
+use Rattle.packrun_lines.specs.Desk.{Desk, ChangesSession, ChangesBoxes, TakesBox, PacksBoxes, group_order, volume_rules, no_boxes, placements_made, sections_in}
 use Rattle.packrun_lines.specs.Lines.{reply_text, refusal_text, packed_text, sections_text, sums_text}
 use Rattle.packrun_lines.proofs.lemmas.OneTransition.{HasOneResult, AddsBin-one, Releases-one, Coalesces-one}
 use Rattle.packrun_lines.proofs.lemmas.OnePacking.{Packs-one}

@@ -1,12 +1,8 @@
 //! How full a bin is.
 ghost use Rattle.std.specs.Prelude.{◌≡◌, ◌+◌, ◌<◌, ◌^◌, length, IfSome};
-ghost use Rattle.std.specs.Map.{lookup};
-ghost use Rattle.std.specs.BTreeMap.{is_at};
-ghost use Rattle.std.specs.Option.{option_map};
-ghost use Rattle.rectangle_pack_sections.specs.Bins.{Bin};
 ghost use Rattle.rectangle_pack_sections.specs.Counting.{total_volume};
 ghost use Rattle.rectangle_pack.specs.Session.{outstanding_in};
-ghost use Rattle.rectangle_pack.specs.Stats.{stats_of};
+ghost use Rattle.rectangle_pack.specs.Stats.{stats_in};
 
 use crate::session::Session;
 use crate::session::command::Outstanding;
@@ -43,9 +39,7 @@ where
         // The answer has the volume of the bin, the volumes of its free sections added up, those of
         //   its outstanding placements added up, and how many there are of each, those without
         //   cells counted too. It is `None` exactly where there is no such bin.
-        ensures stats { let boxes = outstanding_in BinId.cmp self.now.outstanding id.now in
-            result ≡ option_map (λ (b : Bin). stats_of b boxes)
-            (lookup (is_at (BinId.cmp id.now)) self.now.bins) }
+        ensures stats { result ≡ stats_in BinId.cmp self.now id.now }
         // The free and the placed volume add up to that of the bin.
         ensures whole { IfSome result (λ s. s.free_volume + s.placed_volume ≡ s.bin_volume) }
     {

@@ -1,30 +1,30 @@
 use Rattle.rectangle_pack_c.proofs.Std.{◌∷◌, [], refl}
 use Rattle.rectangle_pack_c.specs.Heuristics.{all_heuristics}
-use Rattle.rectangle_pack_c.proofs.OrderLemmas.{same_order}
+use Rattle.rectangle_pack_groups.proofs.lemmas.groups.GroupOrder.{same_order}
 use Rattle.rectangle_pack_c.proofs.FaultLemmas.{all_asked}
 use Rattle.rectangle_pack_c.proofs.SessionLemmas.{packs_asked, promise_asked}
 use Rattle.rectangle_pack_c.proofs.collection.pack_asked.Goals as goal
 
 pub returns-in-Some-clause-packed : goal.returns-in-Some-clause-packed
 returns-in-Some-clause-packed c =
-    packs_asked _ (same_order _ (λ a b. refl) (λ a b. refl) (λ a b. refl) (λ a b. refl)) c.args.heuristic (c.in-Some.one ∷ []) c.in-Some.ensures.0
+    packs_asked _ (same_order _ _ _ (λ a b. refl) (λ a b. refl) (λ a b. refl) (λ a b. refl)) c.args.heuristic (c.in-Some.one ∷ []) c.in-Some.ensures.0
     c.args.rects.now c.args.session.now c.pack_best.new.self c.pack_best.result c.pack_best.ensures.packed
 
 pub returns-in-Some-clause-promise : goal.returns-in-Some-clause-promise
 returns-in-Some-clause-promise c =
-    promise_asked _ (same_order _ (λ a b. refl) (λ a b. refl) (λ a b. refl) (λ a b. refl)) c.args.heuristic (c.in-Some.one ∷ []) c.in-Some.ensures.0
+    promise_asked _ (same_order _ _ _ (λ a b. refl) (λ a b. refl) (λ a b. refl) (λ a b. refl)) c.args.heuristic (c.in-Some.one ∷ []) c.in-Some.ensures.0
     c.args.rects.now c.args.session.now c.pack_best.new.self c.pack_best.result c.pack_best.ensures.promise
 
 pub returns-in-None-clause-packed : goal.returns-in-None-clause-packed
 returns-in-None-clause-packed c =
     let best = c.pack_best-in-None in
-    packs_asked _ (same_order _ (λ a b. refl) (λ a b. refl) (λ a b. refl) (λ a b. refl)) c.args.heuristic all_heuristics
+    packs_asked _ (same_order _ _ _ (λ a b. refl) (λ a b. refl) (λ a b. refl) (λ a b. refl)) c.args.heuristic all_heuristics
     (all_asked c.args.heuristic c.requires.known c.in-None.ensures) c.args.rects.now c.args.session.now best.new.self best.result best.ensures.packed
 
 pub returns-in-None-clause-promise : goal.returns-in-None-clause-promise
 returns-in-None-clause-promise c =
     let best = c.pack_best-in-None in
-    promise_asked _ (same_order _ (λ a b. refl) (λ a b. refl) (λ a b. refl) (λ a b. refl)) c.args.heuristic all_heuristics
+    promise_asked _ (same_order _ _ _ (λ a b. refl) (λ a b. refl) (λ a b. refl) (λ a b. refl)) c.args.heuristic all_heuristics
     (all_asked c.args.heuristic c.requires.known c.in-None.ensures) c.args.rects.now c.args.session.now best.new.self best.result best.ensures.promise
 
 pub returns-in-Some-clause-no_groups : goal.returns-in-Some-clause-no_groups

@@ -1,5 +1,6 @@
 -- The order of groups is total, and a claim on two groups follows from its cases.
-use Rattle.rectangle_pack_sections.proofs.Std.{◌≡◌, refl, Ordering, Less, Equal, Greater, ordering_reverse, IsTotalOrder}
+use Rattle.rectangle_pack_sections.proofs.Std.{◌≡◌, refl, fun_ext, Ordering, Less, Equal, Greater, ordering_reverse, IsTotalOrder}
+use Rattle.rectangle_pack_groups.specs.Groups.{order_of_groups}
 use Rattle.rectangle_pack_groups.specs.declared.grouped_rects_to_place.Group.{Group}
 use Rattle.rectangle_pack_groups.specs.declared.grouped_rects_to_place.Group.TheVariants.{Ungrouped, Grouped}
 
@@ -41,3 +42,10 @@ groups_by_variants P alone before behind named (Ungrouped a) (Ungrouped b) = alo
 groups_by_variants P alone before behind named (Ungrouped a) (Grouped b) = before a b
 groups_by_variants P alone before behind named (Grouped a) (Ungrouped b) = behind a b
 groups_by_variants P alone before behind named (Grouped a) (Grouped b) = named a b
+
+-- an order that compares groups as `order_of_groups` does is that order
+pub same_order : {Id G : Type 0} (P : Id → Id → Ordering) (Q : G → G → Ordering) (R : Group G Id → Group G Id → Ordering)
+    → ((a b : Id) → R (Ungrouped a) (Ungrouped b) ≡ P a b) → ((a : Id) (b : G) → R (Ungrouped a) (Grouped b) ≡ Less)
+    → ((a : G) (b : Id) → R (Grouped a) (Ungrouped b) ≡ Greater) → ((a b : G) → R (Grouped a) (Grouped b) ≡ Q a b) → R ≡ order_of_groups P Q
+same_order P Q R alone before behind named =
+    fun_ext (λ a. fun_ext (λ b. groups_by_variants (λ x y. R x y ≡ order_of_groups P Q x y) alone before behind named a b))
