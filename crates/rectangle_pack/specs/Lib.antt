@@ -30,7 +30,7 @@ pub use Rattle.rectangle_pack_rules.specs.Best
 pub use Rattle.rectangle_pack_rules.specs.Results
 pub use Rattle.rectangle_pack_rules.specs.PackingTexts
 pub use Rattle.rectangle_pack_plans.specs.CutPlans
-pub mod Records
+pub mod private
 pub mod Session
 pub mod Stats
 pub mod Promise

@@ -16,6 +16,8 @@ module _ {Id B : Type 0} (bin_cmp : B → B → Ordering) (state : State Id B) (
   -- what is answered where the cutting plan of a bin is asked for. A plan: the bin is there, and this is the plan of
   -- its boxes (`IsCutPlan`, `boxes_of`). `None`: the bin is there, and its boxes are not from cuts of it
   -- (`IsFromCuts`). `UnknownBin`: the bin is not there. `OutOfMemory`: the bin is there. There is no other answer
+  -- Example: of a new bin the plan is Leaf; of a bin 10x10x1 with (0,0,0) 4x10x1 placed and (4,0,0) 6x10x1 free it is x
+  -- 4, Leaf, Leaf; of a bin 3x3x1 with the boxes of the `pinwheel` there is none
   abbrev pub IsPlanAnswer : {A : Type 0} → Result (Option (Vec CutStep A)) SessionError → Type 0
   IsPlanAnswer (Ok (Some plan)) =
       (bin : Bin) × (lookup (is_at (bin_cmp id)) state.bins ≡ Some bin)

@@ -23,6 +23,8 @@ module _ {Id B G : Type 0} (group_cmp : Group G Id → Group G Id → Ordering) 
   -- collection has one home, a bin; the placements are those of one group after another, all of a group in its home
   -- (`ArePlacedWhole`). Groups that are excluded have different homes (`AreKeptApart`). The placements stand behind the
   -- outstanding ones, under the next numbers
+  -- Example: the box h 1x1x1 alone is packed into a bin 2x1x1: the one home is that bin, for Ungrouped(h), and the one
+  -- placement is h at (0,0,0), under the next number
   pub record PlacesWhole (all : Collection Id G) (old new : State Id B) : Type 0 where
     pub placements : List (Placement Id B)
     pub outstanding : new.outstanding ≡ old.outstanding ++ numbered old.next placements
@@ -34,6 +36,8 @@ module _ {Id B G : Type 0} (group_cmp : Group G Id → Group G Id → Ordering) 
   -- for some group, each bin is excluded or the group's trial gets stuck there, as the groups before it left that bin
   -- (`DoesNotTake`): with some answers that the closures may give, a packing into these bins is refused
   -- (`PackingRefused`)
+  -- Example: a group g of 1x1x1 and 3x1x1, and the box h 1x1x1 alone, into a bin 2x1x1: g goes first, as its volume is
+  -- greater, and is stuck at its second member
   pub record NoBinTakes (all : Collection Id G) (bins : List (B × Bin)) : Type 0 where
     pub left : List (B × Bin)
     pub refused : PackingRefused group_cmp rules all bins left

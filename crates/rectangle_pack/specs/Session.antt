@@ -1,4 +1,5 @@
--- Sessions: the state of one, what holds of it always, and what each command makes of it.
+-- Sessions: the state of one, what holds of it always, and what each command makes of it. A reply for which `AddsBin`,
+-- `Packs`, `Releases` or `Coalesces` has no case never comes.
 use Rattle.std.specs.Prelude.{◌≡◌, ◌≢◌, ℕ, ◌+◌, ◌<◌, ◌≤◌, ◌^◌, List, [], ◌∷◌, ◌++◌, length, map, filter, All, AllPairs, Some, None, IsSome, MatchBool, Result}
 use Rattle.std.specs.Prelude.{Ok, Err, true, false}
 use Rattle.std.specs.declared.cmp.Ordering.{Ordering}
@@ -120,6 +121,8 @@ module _ {Id B G : Type 0} (group_cmp : Group G Id → Group G Id → Ordering) 
   -- a collection is packed. Where the next number and the entries add up to 2^64 or more it is refused, so that the
   -- greatest number is never given. Else the packing is done and kept; or it is refused for space; or, if there is a
   -- group, the reply is want of memory. What is refused changes nothing
+  -- Example: from the number 18446744073709551614 a packing of one box is done, and the next number is then
+  -- 18446744073709551615. One box more is `NumbersUsedUp`, since 18446744073709551615 + 1 is 2^64
   abbrev pub Packs : Collection Id G → State Id B → Reply → State Id B → Type 0
   Packs all old (Packed numbers) new = (old.next + entries_of all < 2 ^ 64) × IsKept group_cmp rules all old numbers new
   Packs all old (Refused NumbersUsedUp) new = (2 ^ 64 ≤ old.next + entries_of all) × (new ≡ old)

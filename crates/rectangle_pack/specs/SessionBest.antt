@@ -18,6 +18,8 @@ module _ {Id B G : Type 0} (group_cmp : Group G Id → Group G Id → Ordering) 
   -- `NumbersUsedUp`: the next number and the entries add up to 2^64 or more; of all other answers they add up to less.
   -- `NotEnoughBinSpace`: with each heuristic of the list the packing is refused (`IsRefusedWith`). `OutOfMemory`:
   -- nothing more is said. On each of these the state is as it was. No other error comes
+  -- Example: p 4x10x1 and q 6x10x1 into a new bin 10x10x1, from number 2, by the best of [`Width`, `Height`]: `Width`,
+  -- the first of two that make the use 1 bin, 100 cells. Number 2 is q and 3 is p, as by width the wider goes first
   abbrev pub PacksBest : List Heuristic → Collection Id G → State Id B → Result (Heuristic × Packed) SessionError → State Id B → Type 0
   PacksBest heuristics all old (Ok (best, numbers)) new =
       (old.next + entries_of all < 2 ^ 64) × (kept : IsKept group_cmp (named_rules cmp bin_cmp best) all old numbers new)

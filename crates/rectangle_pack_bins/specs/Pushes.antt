@@ -17,6 +17,9 @@ pub record IsFirstSharing (sections : List Cuboid) (box first : Cuboid) : Type 0
 -- the new list. `OutOfBounds`: the box is not inside the bin. `Overlaps`: it is inside, and the answer names the first
 -- section that shares a cell with it (`IsFirstSharing`). `OutOfMemory`: the bin would accept it. Each refusal names the
 -- box and leaves the bin as it was
+-- Example: in a bin 100x100x1 a push of (101,0,0) 1x1x1 is `OutOfBounds`: 101 + 1 > 100. In a bin 3x1x1 with [(0,0,0)
+-- 2x1x1, (2,0,0) 1x1x1] a push of (1,0,0) 2x1x1 `Overlaps` (0,0,0) 2x1x1, the first of the two that share a cell with
+-- it
 abbrev pub IsPushAnswer : Bin → Cuboid → Result (Unit {0}) PushBinSectionError → Bin → Type 0
 IsPushAnswer old box (Ok u) new = IsAccepted old box × (new ≡ record old { sections = old.sections ++ box ∷ [] })
 IsPushAnswer old box (Err (OutOfBounds refused)) new = (¬ IsInside old.size box) × (refused ≡ box) × (new ≡ old)

@@ -6,7 +6,7 @@ ghost use Rattle.std.specs.BTreeMap.{get};
 ghost use Rattle.std.specs.List.{IsDistinct};
 ghost use Rattle.std.specs.Ordering.{eq_by_cmp};
 ghost use Rattle.rectangle_pack_bins.specs.private.Checkout.{Open, left_of, IsBinTried};
-ghost use Rattle.rectangle_pack_bins.specs.private.OpenBins.{HoldNone};
+ghost use Rattle.rectangle_pack_bins.specs.private.OpenBins.{BinsHoldNone};
 ghost use Rattle.rectangle_pack_lists.specs.private.TrialNotes.{IsNotedAnswer, LeavesNotes};
 
 use crate::open_bin::OpenBin;
@@ -132,7 +132,7 @@ impl<'b, B: Ord, A: Allocator + Copy> PackingBins<'b, B, A> {
     /// holds the box. Nothing changes.
     pub fn next_bin(&self, from: usize, first: &RectToInsert) -> Passed
         ensures from { from ≤ result.index }
-        ensures none { HoldNone B.cmp self.now.kept first.now
+        ensures none { BinsHoldNone B.cmp self.now.kept first.now
             (map (λ o. o.1) (take (result.index - from) (drop from self.now.order)))
             result.tests }
     {

@@ -6,7 +6,7 @@ ghost use Rattle.rectangle_pack_lists.specs.declared.section_slots.summary.Summa
 ghost use Rattle.rectangle_pack_lists.specs.private.Summaries.{Bounds};
 ghost use Rattle.rectangle_pack_lists.specs.private.TrialNotes.{IsNotedAnswer, LeavesNotes};
 ghost use Rattle.rectangle_pack_bins.specs.private.Checkout.{Open};
-ghost use Rattle.rectangle_pack_bins.specs.private.OpenBins.{NoneHold};
+ghost use Rattle.rectangle_pack_bins.specs.private.OpenBins.{OpenBinsHoldNone};
 
 pub mod summary_tree;
 
@@ -121,7 +121,7 @@ impl<A: Allocator + Copy> OpenBins<A> {
     pub(crate) fn next(&self, from: usize, size: &WidthHeightDepth) -> Passed
         ensures from { from ≤ result.index }
         ensures within { from < result.index → result.index ≤ length self.now.all }
-        ensures none { NoneHold (take (result.index - from) (drop from self.now.all)) size.now
+        ensures none { OpenBinsHoldNone (take (result.index - from) (drop from self.now.all)) size.now
             result.tests }
     {
         let end = self.bins.len().min(self.summaries.len());

@@ -65,7 +65,7 @@ pub(crate) fn number_all<Id: Drop, B: Drop, A: Allocator>(
     placements: Vec<Placement<Id, B>, A>,
     first: u64,
 )
-    requires room { vec_len placements ≤ outstanding.old.room }
+    requires room { vec_len placements ≤ outstanding.old.spare }
     requires fits { first + vec_len placements < 2 ^ 64 }
     ensures { outstanding.new.items ≡
         outstanding.old.items ++ numbered first placements.items }

@@ -19,13 +19,13 @@ pub(crate) struct Records<T, A: Allocator> {
 impl<T, A: Allocator> Model for Records<T, A> {
     ghost use Rattle.std.specs.Prelude.{◌+◌, ◌-◌, ◌≤◌, drop, vec_len};
     ghost use Rattle.std.specs.Vec.{vec_capacity};
-    ghost use Rattle.rectangle_pack.specs.Records.{Roomy};
+    ghost use Rattle.rectangle_pack.specs.private.Records.{Roomy};
 
     ghost Value = { Roomy T };
 
     ghost view = { λ r. record {
       items = drop r.gone r.all.items;
-      room = vec_capacity r.all - vec_len r.all;
+      spare = vec_capacity r.all - vec_len r.all;
     } };
 
     ghost invariant = { λ r. r.gone + r.gone ≤ vec_len r.all };
@@ -54,7 +54,7 @@ impl<T: Drop, A: Allocator> Records<T, A> {
     // Makes room for so many more. An error is want of memory, and leaves the list.
     pub(crate) fn reserve(&mut self, additional: usize) -> Result<(), AllocError>
         ensures items { self.new.items ≡ self.old.items }
-        ensures ok { OnOk result (additional ≤ self.new.room) }
+        ensures ok { OnOk result (additional ≤ self.new.spare) }
     {
         let room = self.all.capacity() - self.all.len();
         if room < additional && self.gone > self.all.len() / 3 {
@@ -66,9 +66,9 @@ impl<T: Drop, A: Allocator> Records<T, A> {
 
     // Puts an item at the end, in the room that is there.
     pub(crate) fn push_reserved(&mut self, item: T)
-        requires { 0 < self.old.room }
+        requires { 0 < self.old.spare }
         ensures items { self.new.items ≡ self.old.items ++ item ∷ [] }
-        ensures room { self.old.room ≤ self.new.room + 1 }
+        ensures room { self.old.spare ≤ self.new.spare + 1 }
     {
         self.all.push_reserved(item);
     }

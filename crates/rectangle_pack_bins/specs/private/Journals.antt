@@ -7,7 +7,7 @@ use Rattle.rectangle_pack_bins.specs.declared.journal.DoneTrial.{DoneTrial}
 use Rattle.rectangle_pack_sections.specs.Bins.{Bin, Held, IsSound, bins_of}
 use Rattle.rectangle_pack_lists.specs.private.Notes.{before_notes, CanUndo}
 
--- a done trial can be undone in this bin
+-- a done trial can be undone in this bin (`CanUndo`), whose sections are sound then
 pub record CanUndoTrial {B A : Type 0} (done : DoneTrial B A) (held : Held) : Type 0 where
   pub can : CanUndo held.room done.notes.items held.bin.sections
   pub sound : IsSound held.bin.size (before_notes done.notes.items held.bin.sections)

@@ -1,4 +1,5 @@
--- The bins of a packing that are out of their map, with summaries of them.
+-- The bins of a packing that are out of their map, with the summaries that are known: at most those of bins with few
+-- sections.
 use Rattle.std.specs.Prelude.{◌≡◌, ℕ, ◌+◌, ◌<◌, List, [], ◌∷◌, length, sum, All, Option, Some, None, slice_index_or}
 use Rattle.std.specs.declared.cmp.Ordering.{Ordering}
 use Rattle.std.specs.List.{AllZip}
@@ -15,26 +16,27 @@ pub record Opens : Type 0 where
   pub all : List Open
   pub room : ℕ
 
--- each summary that is known is that of the sections of the bin at its index, as the packing has them
+-- each summary that is known bounds the sections of the bin at its index, as the packing has them, and says how many
+-- they are (`Bounds`)
 pub record AreSummed (bins : List Open) (summaries : List (Option Summary)) : Type 0 where
   pub each : (i : ℕ) (bin : Open) (summary : Summary) → i < length bins → bin ≡ slice_index_or bins i bin
       → slice_index_or summaries i None ≡ Some summary → Bounds summary bin.now.sections
 
 -- no section of these bins, as the packing has them, holds the size; so many sections stand in all of them
-abbrev pub NoneHold : List Open → Size → ℕ → Type 0
-NoneHold [] size tests = tests ≡ 0
-NoneHold (bin ∷ bins) size tests =
-    All (λ s. ¬ Holds s size) bin.now.sections × (others : ℕ) × NoneHold bins size others × (tests ≡ length bin.now.sections + others)
+abbrev pub OpenBinsHoldNone : List Open → Size → ℕ → Type 0
+OpenBinsHoldNone [] size tests = tests ≡ 0
+OpenBinsHoldNone (bin ∷ bins) size tests =
+    All (λ s. ¬ Holds s size) bin.now.sections × (others : ℕ) × OpenBinsHoldNone bins size others × (tests ≡ length bin.now.sections + others)
 
 -- the bin of this id has no section that holds the size; so many sections stand in it
-pub record HoldsNone {B : Type 0} (cmp : B → B → Ordering) (bins : List (B × Held)) (size : Size) (id : B) (tests : ℕ) : Type 0 where
+pub record BinHoldsNone {B : Type 0} (cmp : B → B → Ordering) (bins : List (B × Held)) (size : Size) (id : B) (tests : ℕ) : Type 0 where
   pub held : Held
   pub found : lookup (is_at (cmp id)) bins ≡ Some held
   pub none : All (λ s. ¬ Holds s size) held.bin.sections
   pub tests_are : tests ≡ length held.bin.sections
 
 -- nor has any bin of these ids; so many sections stand in all of them
-pub record HoldNone {B : Type 0} (cmp : B → B → Ordering) (bins : List (B × Held)) (size : Size) (ids : List B) (tests : ℕ) : Type 0 where
+pub record BinsHoldNone {B : Type 0} (cmp : B → B → Ordering) (bins : List (B × Held)) (size : Size) (ids : List B) (tests : ℕ) : Type 0 where
   pub counts : List ℕ
-  pub each : AllZip (HoldsNone cmp bins size) ids counts
+  pub each : AllZip (BinHoldsNone cmp bins size) ids counts
   pub tests_are : tests ≡ sum counts

@@ -1,7 +1,6 @@
 //! The summaries of the bins of a packing, in a tree: the search for the next bin that may hold a
 //! box.
-ghost use Rattle.std.specs.Prelude.{◌≡◌, ◌+◌, ◌*◌, ◌-◌, ◌/◌, ◌<◌, ◌≤◌, ◌^◌, ℕ, None, All, IfSome, length, take, drop, set, slice_index_or};
-ghost use Rattle.rectangle_pack_lists.specs.private.Summaries.{RulesOut};
+ghost use Rattle.std.specs.Prelude.{◌≡◌, ◌+◌, ◌*◌, ◌-◌, ◌/◌, ◌<◌, ◌≤◌, ◌^◌, ℕ, None, All, IfSome, length, take, drop, set};
 ghost use Rattle.rectangle_pack_bins.specs.private.SummaryTrees.{IsAbove, IsTree, IsStretch, RuleOut};
 
 use rectangle_pack_lists::section_slots::summary::Summary;

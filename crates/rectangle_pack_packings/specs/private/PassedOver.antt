@@ -7,7 +7,7 @@ use Rattle.rectangle_pack_sections.specs.Boxes.{Size}
 use Rattle.rectangle_pack_sections.specs.Bins.{Held}
 use Rattle.rectangle_pack_lists.specs.Numbers.{saturated}
 use Rattle.rectangle_pack_rules.specs.private.Excluded.{are_in}
-use Rattle.rectangle_pack_bins.specs.private.OpenBins.{HoldsNone}
+use Rattle.rectangle_pack_bins.specs.private.OpenBins.{BinHoldsNone}
 
 -- the bin of this id is not excluded for a group, and none of its sections holds the first member; so many sections stand in it
 pub record IsPassedOver {B : Type 0} (cmp : B → B → Ordering) (excluded : List (Bor B)) (bins : List (B × Held)) (members : List Size) (id : B) (tests : ℕ)
@@ -16,7 +16,7 @@ pub record IsPassedOver {B : Type 0} (cmp : B → B → Ordering) (excluded : Li
   pub first : Size
   pub others : List Size
   pub members_are : members ≡ first ∷ others
-  pub none : HoldsNone cmp bins first id tests
+  pub none : BinHoldsNone cmp bins first id tests
 
 -- so it is with each bin of these ids, and the tests of all were added
 pub record ArePassedOver {B : Type 0} (cmp : B → B → Ordering) (excluded : List (Bor B)) (bins : List (B × Held)) (members : List Size) (ids : List B)

@@ -6,7 +6,7 @@ use Rattle.rectangle_pack_sections.proofs.Std.{set_value_same, inl, inr, cases_B
 use Rattle.rectangle_pack_sections.specs.Boxes.{Size}
 use Rattle.rectangle_pack_sections.specs.Bins.{Held, IsSound}
 use Rattle.rectangle_pack_lists.proofs.lemmas.util.Stretches.{drop-head, drop-some}
-use Rattle.rectangle_pack_bins.specs.private.OpenBins.{NoneHold, HoldNone}
+use Rattle.rectangle_pack_bins.specs.private.OpenBins.{OpenBinsHoldNone, BinsHoldNone}
 use Rattle.rectangle_pack_bins.specs.private.Checkout.{Open, closed, checked_in, BinsInUse, in_use, left_of, CanCheckIn, IsTriedIn, IsBinTried}
 use Rattle.rectangle_pack_sections.proofs.lemmas.util.Maps.{is_at-back, is_some-keys, set_value-twice, lookup-set_here}
 
@@ -255,18 +255,18 @@ module _ {B : Type 0} {cmp : B → B → Ordering} (total : IsTotalOrder cmp) wh
     }
 
   -- what no section of bins that are out holds, none of the bins of their ids holds, with all bins checked in
-  pub HoldNone-out : (order : List (ℕ × B)) (out : List Open) (es : List (B × Held)) (size : Size) (n from tests : ℕ) (ids : List (ℕ × B)) (bins : List Open)
-      → CanCheckIn cmp order out es → (0 < n → from + n ≤ length out) → drop from order ≡ ids → drop from out ≡ bins → NoneHold (take n bins) size tests
-      → HoldNone cmp (checked_in cmp true order out es) size (map (λ (x : ℕ × B). x.1) (take n ids)) tests
-  HoldNone-out order out es size zero from tests ids bins can within at b none = record { counts = []; each = tt; tests_are = none }
-  HoldNone-out order out es size (suc n) from tests [] bins can within at b none =
+  pub BinsHoldNone-out : (order : List (ℕ × B)) (out : List Open) (es : List (B × Held)) (size : Size) (n from tests : ℕ) (ids : List (ℕ × B)) (bins : List Open)
+      → CanCheckIn cmp order out es → (0 < n → from + n ≤ length out) → drop from order ≡ ids → drop from out ≡ bins → OpenBinsHoldNone (take n bins) size tests
+      → BinsHoldNone cmp (checked_in cmp true order out es) size (map (λ (x : ℕ × B). x.1) (take n ids)) tests
+  BinsHoldNone-out order out es size zero from tests ids bins can within at b none = record { counts = []; each = tt; tests_are = none }
+  BinsHoldNone-out order out es size (suc n) from tests [] bins can within at b none =
       absurd (drop-some order from n at (omega (arith, within (omega arith), can.within)))
-  HoldNone-out order out es size (suc n) from tests (o ∷ ids) [] can within at b none = absurd (drop-some out from n b (within (omega arith)))
-  HoldNone-out order out es size (suc n) from tests (o ∷ ids) (bin ∷ bins) can within at b none =
+  BinsHoldNone-out order out es size (suc n) from tests (o ∷ ids) [] can within at b none = absurd (drop-some out from n b (within (omega arith)))
+  BinsHoldNone-out order out es size (suc n) from tests (o ∷ ids) (bin ∷ bins) can within at b none =
       let its = drop-head order from o ids at in
       let this = drop-head out from bin bins b in
       let there : IsSome (lookup (is_at (cmp o.1)) es) = rw (← its.1) at (can.found from o its.0) in
-      let rest = HoldNone-out order out es size n (suc from) none.1 ids bins can (λ some. omega (arith, within (omega arith))) its.2 this.2 none.2 in
+      let rest = BinsHoldNone-out order out es size n (suc from) none.1 ids bins can (λ some. omega (arith, within (omega arith))) its.2 this.2 none.2 in
       record {
         counts = length bin.now.sections ∷ rest.counts;
         each = (

@@ -10,7 +10,7 @@ use Rattle.rectangle_pack_lists.proofs.lemmas.trial.Summaries.{none-bounded}
 use Rattle.rectangle_pack_lists.proofs.lemmas.util.Stretches.{drop-head, drop-some}
 use Rattle.rectangle_pack_bins.specs.private.Checkout.{Open}
 use Rattle.rectangle_pack_bins.specs.private.SummaryTrees.{RuleOut}
-use Rattle.rectangle_pack_bins.specs.private.OpenBins.{AreSummed, NoneHold}
+use Rattle.rectangle_pack_bins.specs.private.OpenBins.{AreSummed, OpenBinsHoldNone}
 
 -- the summary at an index, where there is one
 abbrev at : List (Option Summary) → ℕ → Option Summary
@@ -74,20 +74,20 @@ AreSummed-stays bins k before after summaries low summed is same =
     AreSummed-set bins k after summaries summaries low summed (λ s known. rw same (summed.each k before s low is known)) (λ i apart. refl)
 
 -- no section of bins whose summaries rule a size out holds it
-pub NoneHold-ruled : (all : List Open) (summaries : List (Option Summary)) (size : Size) (n from tests : ℕ) (bins : List Open) (here : List (Option Summary))
+pub OpenBinsHoldNone-ruled : (all : List Open) (summaries : List (Option Summary)) (size : Size) (n from tests : ℕ) (bins : List Open) (here : List (Option Summary))
     → AreSummed all summaries → from + n ≤ length all → from + n ≤ length summaries → drop from all ≡ bins → drop from summaries ≡ here
-    → RuleOut (take n here) size tests → NoneHold (take n bins) size tests
-NoneHold-ruled all summaries size zero from tests bins here summed in_bins in_summaries b s out = out
-NoneHold-ruled all summaries size (suc n) from tests [] here summed in_bins in_summaries b s out = absurd (drop-some all from n b in_bins)
-NoneHold-ruled all summaries size (suc n) from tests (bin ∷ bins) [] summed in_bins in_summaries b s out = absurd (drop-some summaries from n s in_summaries)
-NoneHold-ruled all summaries size (suc n) from tests (bin ∷ bins) (None ∷ here) summed in_bins in_summaries b s out = absurd out
-NoneHold-ruled all summaries size (suc n) from tests (bin ∷ bins) (Some summary ∷ here) summed in_bins in_summaries b s out =
+    → RuleOut (take n here) size tests → OpenBinsHoldNone (take n bins) size tests
+OpenBinsHoldNone-ruled all summaries size zero from tests bins here summed in_bins in_summaries b s out = out
+OpenBinsHoldNone-ruled all summaries size (suc n) from tests [] here summed in_bins in_summaries b s out = absurd (drop-some all from n b in_bins)
+OpenBinsHoldNone-ruled all summaries size (suc n) from tests (bin ∷ bins) [] summed in_bins in_summaries b s out = absurd (drop-some summaries from n s in_summaries)
+OpenBinsHoldNone-ruled all summaries size (suc n) from tests (bin ∷ bins) (None ∷ here) summed in_bins in_summaries b s out = absurd out
+OpenBinsHoldNone-ruled all summaries size (suc n) from tests (bin ∷ bins) (Some summary ∷ here) summed in_bins in_summaries b s out =
     let this = drop-head all from bin bins b in
     let its = drop-head summaries from (Some summary) here s in
     let known : at summaries from ≡ Some summary = get_or_default summaries from None (Some summary) its.0 ∙ sym its.1 in
     let bounds = summed.each from bin summary this.0 this.1 known in (
       none-bounded summary bin.now.sections size bounds out.0,
       out.1,
-      NoneHold-ruled all summaries size n (suc from) out.1 bins here summed (omega (arith, in_bins)) (omega (arith, in_summaries)) this.2 its.2 out.2,
+      OpenBinsHoldNone-ruled all summaries size n (suc from) out.1 bins here summed (omega (arith, in_bins)) (omega (arith, in_summaries)) this.2 its.2 out.2,
       omega (arith, out.3, bounds.count),
     )

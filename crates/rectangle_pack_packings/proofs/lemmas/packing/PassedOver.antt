@@ -11,7 +11,7 @@ use Rattle.rectangle_pack_rules.specs.private.Excluded.{are_in}
 use Rattle.rectangle_pack_rules.proofs.lemmas.packing.Cases.{DoesNotTake-stuck}
 use Rattle.rectangle_pack_rules.proofs.lemmas.packing.Turns.{ArePassed}
 use Rattle.rectangle_pack_bins.proofs.lemmas.bins.Journals.{found-bins_of}
-use Rattle.rectangle_pack_bins.specs.private.OpenBins.{HoldsNone, HoldNone}
+use Rattle.rectangle_pack_bins.specs.private.OpenBins.{BinHoldsNone, BinsHoldNone}
 use Rattle.rectangle_pack_packings.specs.private.PassedOver.{IsPassedOver, ArePassedOver}
 
 -- a relation of the elements of two lists, side by side, and of two others
@@ -24,7 +24,7 @@ AllZip-both R (x ∷ xs) (y ∷ ys) us vs p q = (p.0, AllZip-both R xs ys us vs 
 
 -- bins no section of which holds the first of some members are passed over, where none is excluded
 pub ArePassedOver-held : {B : Type 0} (cmp : B → B → Ordering) (excluded : List (Bor B)) (bins : List (B × Held)) (members : List Size) (first : Size)
-    (ids : List B) (tests before after : ℕ) → excluded ≡ [] → slice_get members 0 ≡ Some first → HoldNone cmp bins first ids tests
+    (ids : List B) (tests before after : ℕ) → excluded ≡ [] → slice_get members 0 ≡ Some first → BinsHoldNone cmp bins first ids tests
     → after ≡ saturated (before + tests) → ArePassedOver cmp excluded bins members ids before after
 ArePassedOver-held {B} cmp excluded bins members first ids tests before after none is held added = record {
   counts = held.counts;
@@ -36,7 +36,7 @@ ArePassedOver-held {B} cmp excluded bins members first ids tests before after no
     begins [] e = absurd cc
     begins (m ∷ ms) e = (ms, cc)
 
-    from : (ids : List B) (counts : List ℕ) → AllZip (HoldsNone cmp bins first) ids counts → AllZip (IsPassedOver cmp excluded bins members) ids counts
+    from : (ids : List B) (counts : List ℕ) → AllZip (BinHoldsNone cmp bins first) ids counts → AllZip (IsPassedOver cmp excluded bins members) ids counts
     from [] [] h = tt
     from (id ∷ ids) [] h = absurd h
     from [] (count ∷ counts) h = absurd h
