@@ -74,6 +74,9 @@ joined_index idx j = if nat_lt j idx then idx - 1 else idx
 -- is alone (`IsAlone`), leaves the list as it is. Else the entry is joined with its first neighbour
 -- (`IsFirstNeighbour`), and the same is done anew with what that leaves: the list `joined_list`, the index
 -- `joined_index`, and the range from lo to before min(hi, old length) - 1
+-- Example: the list (2,0,0) 1x2x1, (0,1,0) 2x1x1, (0,0,0) 1x1x1, (1,0,0) 1x1x1, and the index 3 over 0..4. Entry 3
+-- shares no whole face with entry 0, 2 high, or entry 1, 2 wide. With entry 2 it becomes (0,0,0) 2x1x1 at 2, over 0..3;
+-- that with entry 1 (0,0,0) 2x2x1 at 1, over 0..2; that with entry 0 (0,0,0) 3x2x1 at 0, alone in the list
 pub data IsJoined : ℕ → ℕ → ℕ → List Cuboid → List Cuboid → Type 0 where
   PastEnd : {old : List Cuboid} {idx lo hi : ℕ} → length old ≤ idx → IsJoined idx lo hi old old
   Alone : {old : List Cuboid} {idx lo hi : ℕ} → idx < length old → IsAlone old idx lo hi → IsJoined idx lo hi old old
@@ -88,5 +91,8 @@ IsSweptBelow (suc n) old new = (next : List Cuboid) × IsJoined n 0 (length old)
 
 -- the list after a sweep: each entry, from the last to the first, is joined with its neighbours in the whole list as it
 -- is then
+-- Example: the list in the example of `IsJoined`, with (5,0,0) 1x1x1 and (6,0,0) 1x1x1 at its end, becomes (0,0,0)
+-- 3x2x1, (5,0,0) 2x1x1. Upward the join at index 2 would end at 0, in a list of three. The indices 3 to 5 would be past
+-- its end, and the last two never joined
 abbrev pub IsSwept : List Cuboid → List Cuboid → Type 0
 IsSwept old new = IsSweptBelow (length old) old new

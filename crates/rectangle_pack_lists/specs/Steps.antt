@@ -8,6 +8,8 @@ use Rattle.rectangle_pack_sections.specs.Choice.{IsAllowedCut}
 
 -- the pieces in order: of any two the one with the greater rate first (`falling`), and those of one rate as they are
 -- listed (`as_listed`)
+-- Example: A with rate 5, B with rate 7 and C with rate 5 are listed as A, B, C. Ranked they are B, A, C. In B, C, A
+-- those of rate 5 are not as listed; in A, B, C the rates do not fall; in B, A one is missing
 pub record AreRanked (listed ranked : List (ℕ × Cuboid)) : Type 0 where
   pub falling : AllPairs (λ p q. q.0 ≤ p.0) ranked
   pub as_listed : (rate : ℕ) → filter (λ p. p.0 == rate) ranked ≡ filter (λ p. p.0 == rate) listed

@@ -26,6 +26,7 @@ abbrev pub use_by : List ℕ → Use
 use_by counts = record { bins = length counts; last = slice_index_or counts (length counts - 1) 0 }
 
 -- one use is better than the other: of fewer bins, or of as many and with fewer cells in the last one
+-- Example: 1 bin, 12 cells is better than 2 bins, 3 cells; 2 bins, 9 cells is better than 2 bins, 12 cells
 abbrev pub IsBetterUse : Use → Use → Type 0
 IsBetterUse one other = (one.bins < other.bins) ⊎ ((one.bins ≡ other.bins) × (one.last < other.last))
 
@@ -62,6 +63,8 @@ module _ {Id B G : Type 0} (group_cmp : Group G Id → Group G Id → Ordering) 
   -- a packing with the heuristic `best` of the list is done and makes this use. Of each heuristic before it in the
   -- list, a packing that is done makes a worse use; of each after it, no packing makes a better one. So the first of
   -- those that are as good is the best
+  -- Example: A 1x3x1, B 3x2x1 and C 3x1x1 into the bins 0 and 1, 4x4x1. `Volume` places B and C in bin 0 and A in bin
+  -- 1: 2 bins, 3 cells. `Height` places all in bin 0: 1 bin, 12 cells. So `Height` is the best of the two
   pub record IsBestOf (heuristics : List Heuristic) (best : Heuristic) (made : Use) : Type 0 where
     pub done : PacksWith best made
     pub before : List Heuristic

@@ -28,6 +28,8 @@ module _ (MayRate : Size → ℕ → Type 0) where
 
   -- all groups, each once, each with a key of its list (`IsGroupKey`): the greater key first, and at equal keys by the
   -- order of groups
+  -- Example: where each size has the rate 1 and each Ungrouped comes before each Grouped: Grouped(1): [5, 6] with the
+  -- key 2, then Ungrouped(7): [7], Ungrouped(9): [9] and Grouped(0): [8] with the key 1
   pub record IsGroupOrder {Id K : Type 0} (group_cmp : K → K → Ordering) (cmp : Id → Id → Ordering)
       (sizes : List (Id × Size)) (groups : List (K × List Id)) (order : List (ℕ × K)) : Type 0 where
     pub unsorted : List (ℕ × K)
@@ -36,6 +38,7 @@ module _ (MayRate : Size → ℕ → Type 0) where
     pub falling : IsSorted (falling_then group_cmp) order
 
   -- all bins, each once, with a rate of its whole size as key: the smaller key first, and at equal keys by id
+  -- Example: bin 8, 9x9x1, with the key 81, then the bins 3 and 5, 10x10x1, with the key 100
   pub record IsBinOrder {B : Type 0} (cmp : B → B → Ordering) (bins : List (B × Bin)) (order : List (ℕ × B)) : Type 0 where
     pub unsorted : List (ℕ × B)
     pub each : AllZip (λ bin entry. (cmp bin.0 entry.1 ≡ Equal) × MayRate bin.1.size entry.0) bins unsorted

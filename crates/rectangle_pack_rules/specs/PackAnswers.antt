@@ -18,6 +18,8 @@ sections_in bins = sum_by (λ b. length b.1.sections) bins
 
 -- the fit tests of a packing are added to a count, which stays at 2^128 - 1. With N entries, B bins and S free sections
 -- the tests are at most N · S + B · N · (N - 1)
+-- Example: 2 entries into 2 bins with a section each: at most 2 · 2 + 2 · 2 · 1 = 8; into one of them at most 2 · 1 + 1
+-- · 2 · 1 = 4
 pub record AreCounted {Id B G : Type 0} (all : Collection Id G) (old : List (B × Bin)) (tests before after : ℕ) : Type 0 where
   pub most : tests ≤ entries_of all * sections_in old + length old * (entries_of all * (entries_of all - 1))
   pub added : after ≡ saturated (before + tests)

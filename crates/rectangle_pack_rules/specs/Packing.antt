@@ -42,6 +42,7 @@ at_start bins = record { bins = bins; homes = [] }
 
 -- whether the bin of this id is excluded for the group: a group that is excluded with it went there earlier in the same
 -- packing
+-- Example: A and B are excluded, and A went to P: P is excluded for B
 abbrev pub excludes_by : {K B : Type 0} → (K → K → Ordering) → (B → B → Ordering) → List (K × List K) → List (K × B) → K → B → Bool
 excludes_by group_cmp bin_cmp partners homes group id =
     list_any (λ home. are_excluded group_cmp partners group home.0 && is_at (bin_cmp id) home.1) homes
@@ -159,10 +160,13 @@ module _ {Id B G : Type 0} (group_cmp : Group G Id → Group G Id → Ordering) 
     pub stops : StopsAfter rules excludes group_cmp all.sizes all.groups group_order (map (λ o. o.1) bin_order) old new tests
 
   -- a packing is done (`PackingDoneBy`), where the collection's excluded pairs exclude bins (`excludes_by`)
+  -- Example: into the bins P and Q, 10x10x1, the groups A of p 4x4x1 and B of q 4x4x1, which are excluded. Keys are
+  -- equal, so A goes before B and P before Q. A is done in P, and B in Q, each at (0,0,0) with 1 test
   abbrev pub PackingDone : Collection Id G → List (B × Bin) → List (Placement Id B) → List (B × Bin) → Type 0
   PackingDone all old placements new = PackingDoneBy (excludes_by group_cmp rules.bin_cmp all.partners) all old placements new
 
   -- a packing is refused (`PackingRefusedBy`): no bin takes some group, where the collection's excluded pairs exclude
   -- bins (`excludes_by`)
+  -- Example: the same groups into P alone: A is done there, and then every bin is excluded for B. The one test is A's
   abbrev pub PackingRefused : Collection Id G → List (B × Bin) → List (B × Bin) → Type 0
   PackingRefused all old new = PackingRefusedBy (excludes_by group_cmp rules.bin_cmp all.partners) all old new

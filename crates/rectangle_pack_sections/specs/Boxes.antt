@@ -1,4 +1,4 @@
--- Sizes, boxes and their cells. All numbers are whole numbers without a bound: nothing wraps.
+-- Sizes, boxes and their cells. All numbers are whole numbers without a bound: nothing wraps. An `Axis` is x, y or z.
 use Rattle.std.specs.declared.cmp.Ordering.{Ordering}
 use Rattle.std.specs.Ordering.{nat_cmp, ordering_then}
 use Rattle.std.specs.Prelude.{ℕ, ◌+◌, ◌*◌, ◌^◌, ◌<◌, ◌≤◌, ◌&&◌, Bool, nat_le, nat_lt, min, max}

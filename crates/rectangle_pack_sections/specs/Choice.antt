@@ -1,4 +1,5 @@
--- The choice among the six cuts, by a comparison of the sizes of their pieces.
+-- The choice among the six cuts, by a comparison of the sizes of their pieces. The library goes once over the cuts,
+-- from cut 0 on: it keeps the one that it holds where that is `Greater` than the next, and else takes the next.
 use Rattle.std.specs.Prelude.{◌≡◌, ◌≢◌, ℕ, List, [], ◌∷◌, ◌++◌, All, Any, ◌⊎◌, Contains}
 use Rattle.std.specs.Ordering.{ordering_reverse}
 use Rattle.std.specs.declared.cmp.Ordering.{Ordering}
@@ -15,6 +16,8 @@ pub record IsFunction (MayRate : Size → ℕ → Type 0) : Type 0 where
 module _ {A : Type 0} (MayAnswer : A → A → Ordering → Type 0) where
   -- on any two elements no answer is allowed but that of one function; on swapped elements it is reversed; and where x
   -- is not `Greater` than y, and y not than z, x is not `Greater` than z
+  -- Example: a comparison that always answers `Equal` is one. One that always answers `Greater`, or always `Less`, is
+  -- none: on swapped elements it would have to answer the other
   pub record IsTotalPreorder : Type 0 where
     pub compare : A → A → Ordering
     pub only : (x y : A) (r : Ordering) → MayAnswer x y r → r ≡ compare x y
@@ -43,6 +46,9 @@ module _ {A : Type 0} (MayAnswer : A → A → Ordering → Type 0) where
 
 -- the pieces are those of one of the six cuts, and the comparison allows this one (`MayChoose`), by the sizes of the
 -- pieces
+-- Example: where the answer is always `Greater`, cut 0 alone: a later one replaces none. Where it is always `Less`, or
+-- always `Equal`, cut 5 alone: an earlier one would have to be `Greater` than it. Where any answer may come at any
+-- time, each of the six
 abbrev pub IsAllowedCut : (List Size → List Size → Ordering → Type 0) → Cuboid → Size → List Cuboid → Type 0
 IsAllowedCut MayPrefer section size pieces = MayChoose (λ a b. MayPrefer (sizes_of a) (sizes_of b)) (cuts section size) pieces
 

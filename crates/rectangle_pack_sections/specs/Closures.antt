@@ -52,7 +52,8 @@ pub record MayCompare {C H : Type 0} (g : CompareCalls C H) (comparison : C) (he
 
 -- what the two closures of a packing may answer: `rate size n`, that the heuristic may answer n on this size (n is then
 -- a rate of it); `prefer first second r`, that the comparison may answer r on two triples of sizes, `Greater` where the
--- first is better
+-- first is better. They are relations and no functions: a closure may answer differently from call to call, as its own
+-- contract allows
 pub record Answers : Type 1 where
   pub rate : Size → ℕ → Type 0
   pub prefer : List Size → List Size → Ordering → Type 0

@@ -1,4 +1,5 @@
--- The straight cuts of a section round a box that is placed at its corner.
+-- The straight cuts of a section round a box that is placed at its corner. A cut is an order of the axes: for each in
+-- turn, what is left beyond the box is cut off as one piece.
 use Rattle.std.specs.Prelude.{ℕ, ◌+◌, ◌-◌, Bool, true, false, List, [], ◌∷◌, map, if◌then◌else◌}
 use Rattle.rectangle_pack_sections.specs.declared.axis.Axis.{Axis}
 use Rattle.rectangle_pack_sections.specs.declared.axis.Axis.TheVariants.{X, Y, Z}

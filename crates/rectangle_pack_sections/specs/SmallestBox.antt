@@ -1,4 +1,4 @@
--- The comparison that prefers the cut whose smallest piece is smallest.
+-- What `contains_smallest_box` answers: it prefers the cut whose smallest piece is smallest.
 use Rattle.std.specs.Prelude.{◌≡◌, ℕ, List, [], ◌∷◌, min, max}
 use Rattle.std.specs.Ordering.{nat_cmp, ordering_then}
 use Rattle.std.specs.List.{AllZip}

@@ -1,4 +1,5 @@
--- Notes of steps, by which the steps are undone.
+-- Notes of steps, by which the steps are undone. A note has the section that a step took out, its index, and the length
+-- of the list without it, before pieces were pushed.
 use Rattle.std.specs.Prelude.{ℕ, ◌≡◌, ◌<◌, ◌≤◌, List, [], ◌∷◌, length, take, insert, set, Option, Some}
 use Rattle.rectangle_pack_lists.specs.declared.trial.Note.{Note}
 use Rattle.rectangle_pack_sections.specs.Boxes.{Cuboid}

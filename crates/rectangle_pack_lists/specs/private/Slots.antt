@@ -25,6 +25,8 @@ pub record IsLastHolding (slots : List (Option Cuboid)) (size : Size) (slot test
   pub tests_are : tests ≡ 1 + length (sections_of after)
 
 -- no section holds the size; `tests` is how many sections there are
+-- Example: slots 0 to 7 have seven sections, none higher than 4, slot 8 has 6x3x1, and slot 9 is empty: none holds
+-- 5x5x1, and `tests` is 8
 pub record NoneHolds (slots : List (Option Cuboid)) (size : Size) (tests : ℕ) : Type 0 where
   pub none : All (λ s. ¬ Holds s size) (sections_of slots)
   pub tests_are : tests ≡ length (sections_of slots)

@@ -1,4 +1,6 @@
 -- What a summary says of sections and of a stretch of slots, and a list of summaries of the whole stretches of a width.
+-- A search passes over a stretch whose summary rules the size out, and adds its count to the tests: as many as a look
+-- at each section would make.
 use Rattle.std.specs.Prelude.{◌≡◌, ℕ, ◌+◌, ◌*◌, ◌-◌, ◌^◌, ◌<◌, ◌≤◌, List, length, min, max, All, Option, take, drop, slice_index_or}
 use Rattle.rectangle_pack_sections.specs.Boxes.{Size, Cuboid, Holds, volume_of, middle_side}
 use Rattle.rectangle_pack_lists.specs.private.Slots.{sections_of}
@@ -26,10 +28,11 @@ abbrev pub Sums : Summary → List (Option Cuboid) → Type 0
 Sums summary slots = Bounds summary (sections_of slots)
 
 -- no section that is within the summary holds the size
+-- Example: a summary of height 4 rules out 5x5x1, whatever else it says
 abbrev pub RulesOut : Summary → Size → Type 0
 RulesOut summary size = (section : Cuboid) → IsWithin summary section → ¬ Holds section size
 
--- each whole stretch of so many slots, from the first slot on, has its summary
+-- each whole stretch of so many slots, from the first slot on, has its summary (`Sums`)
 pub record SumAll (width : ℕ) (slots : List (Option Cuboid)) (summaries : List Summary) : Type 0 where
   pub whole : length summaries * width ≤ length slots
   pub rest : length slots < length summaries * width + width
@@ -40,7 +43,7 @@ pub record AreSummed (block row : ℕ) (slots : List (Option Cuboid)) (blocks ro
   pub in_blocks : SumAll block slots blocks
   pub in_rows : SumAll row slots rows
 
--- the summaries are those of the blocks of some slots
+-- the summaries are those of the whole blocks of some slots, which are fewer than 2^64 (`SumAll`)
 abbrev pub HaveSlots : List Summary → Type 0
 HaveSlots blocks = (slots : List (Option Cuboid)) × (length slots < 2 ^ 64) × SumAll 8 slots blocks
 

@@ -1,4 +1,6 @@
--- What is known of the parts of a box while its cutting plan is made.
+-- What is known of the parts of a box while its cutting plan is made. The boxes of a part are those that fill it,
+-- without those that have no cells. Examples are of the part (0,0,0) 4x2x1 with A (0,0,0) 2x1x1, B (2,0,0) 2x1x1, and
+-- above them C (0,1,0) 1x1x1, D (1,1,0) 2x1x1 and E (3,1,0) 1x1x1.
 use Rattle.std.specs.Prelude.{ℕ, ◌≡◌, ◌≢◌, ◌+◌, ◌-◌, ◌*◌, ◌<◌, ◌&&◌, ⊤, Bool, true, nat_le, List, take, drop, length, filter, All, Option, Some, None, IfSome}
 use Rattle.std.specs.List.Sorted.{IsNonDecreasingBy}
 use Rattle.rectangle_pack_sections.specs.declared.axis.Axis.{Axis}
@@ -24,6 +26,7 @@ pub record IsFilled (whole : Cuboid) (boxes : List Cuboid) : Type 0 where
   pub cells : All (λ e. has_cells e ≡ true) boxes
 
 -- where an axis is named, the boxes stand in the order of their starts on it
+-- Example: on x: A, C, D, B, E, which start at 0, 0, 1, 2 and 3
 abbrev pub AreOrdered : Option Axis → List Cuboid → Type 0
 AreOrdered ordered boxes = IfSome ordered (λ a. IsNonDecreasingBy (start a) boxes)
 
@@ -32,6 +35,8 @@ abbrev pub IsClosedBelow : Axis → ℕ → Cuboid → List Cuboid → Type 0
 IsClosedBelow a place whole boxes = (q : ℕ) → q < place → ¬ IsOpenPlane a q whole boxes
 
 -- no plane on the axis is open
+-- Example: on x: 1 is strictly inside A, 2 inside D and 3 inside B. In the order A, C, D, B, E each but the first
+-- starts before an earlier one ends
 abbrev pub IsClosedOn : Axis → Cuboid → List Cuboid → Type 0
 IsClosedOn a whole boxes = (q : ℕ) → ¬ IsOpenPlane a q whole boxes
 
@@ -41,6 +46,8 @@ AreClosed n whole boxes = (a : Axis) → axis_rank a < n → IsClosedOn a whole 
 
 -- the first open plane on the axis a is at the place. So many boxes are below it, more than none and less than all, and
 -- they stand in front of those above it
+-- Example: on y, of A, B, C, D, E: 1, with 2 boxes below it. C is the first that starts where all earlier ones have
+-- ended
 pub record IsFirstOpen (a : Axis) (whole : Cuboid) (boxes : List Cuboid) (place below : ℕ) : Type 0 where
   pub is_open : IsOpenPlane a place whole boxes
   pub least : IsClosedBelow a place whole boxes
@@ -51,6 +58,7 @@ pub record IsFirstOpen (a : Axis) (whole : Cuboid) (boxes : List Cuboid) (place 
 
 -- the first open plane of the axes is at the split (`IsFirstOpen`): the boxes stand in the order that the split names
 -- (`AreOrdered`), and no plane is open on an axis before its axis
+-- Example: y 1. Were D the two boxes (1,1,0) 1x1x1 and (2,1,0) 1x1x1, it would be x 2
 pub record IsSplit (whole : Cuboid) (boxes : List Cuboid) (split : Split) : Type 0 where
   pub on_axis : IsFirstOpen split.axis whole boxes split.place split.below
   pub ordered : AreOrdered split.ordered boxes
@@ -60,7 +68,7 @@ pub record IsSplit (whole : Cuboid) (boxes : List Cuboid) (split : Split) : Type
 abbrev pub RunsOver : Axis → Cuboid → Cuboid → Type 0
 RunsOver a b whole = (start a b ≡ start a whole) × (end a b ≡ end a whole)
 
--- a strip: a box that is all of the whole from its own start on the axis on
+-- a strip: a box that starts beyond the start of the whole on the axis, and is all of the whole from there on
 pub record IsStrip (a : Axis) (whole b : Cuboid) : Type 0 where
   pub others : (e : Axis) → a ≢ e → RunsOver e b whole
   pub after : start a whole < start a b
@@ -107,8 +115,8 @@ along X xs ys zs = xs
 along Y xs ys zs = ys
 along Z xs ys zs = zs
 
--- each of the lists is in order on its axis, the third only where the part is deeper than 1; the same boxes are left in
--- all three, and they fill the part
+-- each of the lists is in order on its axis, the third only where the part is deeper than 1. The boxes that are left in
+-- a list have cells; they are the same in all three, and fill the part
 pub record AreInOrder (part : Cuboid) (xs ys zs : List Cuboid) : Type 0 where
   pub rising : (a : Axis) → (a ≡ Z → 1 < part.whd.depth) → IsNonDecreasingBy (start a) (along a xs ys zs)
   pub filled : IsFilled part (left_in part xs)

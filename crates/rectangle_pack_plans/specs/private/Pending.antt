@@ -9,7 +9,7 @@ use Rattle.rectangle_pack_plans.specs.CutPlans.{IsPlannedTree, steps_of}
 use Rattle.rectangle_pack_plans.specs.private.CutPlans.{IsFilled, AreOrdered}
 
 module _ (boxes : List Cuboid) (whole : Cuboid) where
-  -- the filling fill the part, in its order, and are from cuts of it where the boxes are from cuts of the whole
+  -- the boxes `filling` fill the part, in its order, and are from cuts of it where the boxes are from cuts of the whole
   pub record IsPending (p : Part) (filling : List Cuboid) : Type 0 where
     pub filled : IsFilled p.whole filling
     pub ordered : AreOrdered p.ordered filling

@@ -1,5 +1,5 @@
 //! A part whose last box is all that is above its first open plane: a strip.
-ghost use Rattle.std.specs.Prelude.{◌≡◌, ◌≢◌, ◌≤◌, IfSome, All};
+ghost use Rattle.std.specs.Prelude.{◌≢◌, ◌≤◌, IfSome};
 ghost use Rattle.std.specs.Bool.{OnTrue};
 ghost use Rattle.std.specs.List.Sorted.{IsPermutation};
 ghost use Rattle.rectangle_pack_sections.specs.declared.axis.Axis.{Axis};
