@@ -29,7 +29,7 @@ class Placed:
 
 @dataclass(frozen=True, eq=False)
 class Call(Placed):
-    """A public function, or the impl of a trait whose ghost definitions say what its functions do."""
+    """A function, or the impl of a trait whose ghost definitions say what its functions do."""
 
     name: str
     home: str = ""
@@ -103,7 +103,7 @@ class Library:
                 self.methods[words[0]] += [(it.item, method) for method in methods_in(it, self.homes[words[0]])]
             elif trait and words_of(trait)[0] not in private:
                 for word in dict.fromkeys(words):
-                    self.impls[word].append(Call(it.path, it.item, f"impl {trait} for {kind}", self.homes[words[0]]))
+                    self.impls[word] += functions_of(it, self.homes[words[0]])
 
     def offered(self, module: Module) -> list[Placed]:
         """The public items that a module defines, then those that it exports."""
@@ -133,16 +133,27 @@ def items_of_crates(crates: Iterable[str]) -> list[Placed]:
     return [Placed(path, item) for path in files_of(crates, "src", ".rt") for item in items_in(path)]
 
 
+def functions_of(placed: Placed, home: str) -> list[Call]:
+    """The function that an item is, the functions of a type's impl, or the impl of a trait, which says what its functions do."""
+    item = placed.item
+    if item.kind != "impl":
+        return [Call(placed.path, item, item.name, home)] if item.kind == "fn" else []
+    trait, kind = split_impl(item.head)
+    if trait:
+        return [Call(placed.path, item, f"impl {trait} for {kind}", home)]
+    return [Call(placed.path, it, f"{words_of(kind)[0]}::{it.name}", home) for it in item.items if it.kind == "fn"]
+
+
 def methods_in(placed: Placed, home: str) -> list[Call]:
-    """The public functions of an impl."""
-    kind = words_of(split_impl(placed.item.head)[1])[0]
-    methods = (it for it in placed.item.items if it.kind == "fn" and it.is_public)
-    return [Call(placed.path, it, f"{kind}::{it.name}", home) for it in methods]
+    """The public functions of a type's impl."""
+    return [it for it in functions_of(placed, home) if it.item.is_public]
+
+
+def functions_in(crates: Iterable[str], home: str = "") -> Iterator[Call]:
+    """The functions and methods of crates, public or not, and the impls of traits."""
+    return (it for placed in items_of_crates(crates) for it in functions_of(placed, home))
 
 
 def calls_in(crates: Iterable[str], home: str = "") -> Iterator[Call]:
     """The public functions and methods of crates, whether users have them or not."""
-    for it in items_of_crates(crates):
-        if it.item.kind == "fn" and it.item.is_public:
-            yield Call(it.path, it.item, it.item.name, home)
-        yield from methods_in(it, home) if it.kind == "impl" else ()
+    return (it for it in functions_in(crates, home) if it.item.is_public)

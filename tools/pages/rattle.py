@@ -9,6 +9,8 @@ from collections.abc import Iterable
 from dataclasses import dataclass
 
 CLAUSE = re.compile(r" +(requires|ensures)(?: (\w+))? \{")
+# In a line: a text, and a comment.
+NO_CODE = re.compile(r'"(?:[^"\\]|\\.)*"|//.*')
 ITEM = re.compile(
     r'(?P<public>pub(?:\([^)]*\))? )?(?:unsafe |async |(?:const|extern "C") (?=\w+ \w+ *[<(]))*'
     r"(?:(?P<kind>fn|struct|enum|trait|type|const|static|mod|use|impl)\b *)?(?P<name>\w+)?"
@@ -54,7 +56,8 @@ class Item:
 
     def ghosts(self) -> dict[str, Item]:
         """The ghost definitions of the impl of a trait."""
-        return {found[1]: it for it in self.items if (found := re.match(r"ghost (\w+) =", it.head))}
+        items = self.items if self.kind == "impl" else []
+        return {found[1]: it for it in items if (found := re.match(r"ghost (\w+) =", it.head))}
 
 
 def indent_of(line: str) -> int:
@@ -90,6 +93,7 @@ def items_of(lines: Iterable[str], first: int = 1, ends: str | tuple[str, ...] =
     docs: list[str] = []
     attributes: list[str] = []
     block: list[str] = []
+    depth = 0
     for number, line in enumerate(lines, first):
         text = line.strip()
         if not block and (not text or text.startswith(("//", "#"))):
@@ -98,10 +102,11 @@ def items_of(lines: Iterable[str], first: int = 1, ends: str | tuple[str, ...] =
             attributes += [text] if text.startswith("#[") else []
             continue
         block.append(line)
-        whole = "".join(block) if text.endswith(";") else "{"
-        if whole.count("{") == whole.count("}") or (indent_of(line) == indent_of(block[0]) and text.endswith(ends)):
+        code = NO_CODE.sub("", text).rstrip()
+        depth += code.count("{") - code.count("}")
+        if (depth == 0 and code.endswith(";")) or (indent_of(line) == indent_of(block[0]) and code.endswith(ends)):
             found.append(item_of(notes, docs, attributes, block, number - len(block) + 1))
-            notes, docs, attributes, block = [], [], [], []
+            notes, docs, attributes, block, depth = [], [], [], [], 0
     return found
 
 

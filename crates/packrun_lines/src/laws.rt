@@ -16,17 +16,24 @@ ghost use Rattle.packrun_lines.specs.declared.outcome.Outcome.TheVariants.{NoMem
 /// which are from straight cuts of it until it is coalesced. And each packing keeps the promise
 /// that the library makes of packings.
 pub fn answers_keep_sessions()
+    // Where what always holds of a session holds of a desk before a request is answered, it holds
+    //   after it.
     ensures request { (request : Request) (old new : Desk Name) (text : List ℕ) →
         Answers request old text new →
         IsSession name_cmp old.session →
         IsSession name_cmp new.session }
+    // The same of lines, one after another.
     ensures lines { (lines : List (List ℕ)) (old new : Desk Name) (text : List ℕ) →
         AreAnswered old lines text new →
         IsSession name_cmp old.session →
         IsSession name_cmp new.session }
+    // It holds of each desk on which lines are answered from the empty one on.
     ensures begun { (lines : List (List ℕ)) (new : Desk Name) (text : List ℕ) →
         AreAnswered (empty_desk 0) lines text new →
         IsSession name_cmp new.session }
+    // The answered lines of a transcript can be parted anywhere: those before are answered from the
+    //   empty desk on, and leave a desk of which this holds; the others are answered from there on;
+    //   its text is that of the two parts, one after the other.
     ensures transcript { (input printed : List ℕ) (outcome : Outcome) →
         (whole : IsTranscript input printed outcome) (before behind : List (List ℕ)) →
         whole.answered ≡ before ++ behind →
@@ -34,6 +41,7 @@ pub fn answers_keep_sessions()
         AreAnswered (empty_desk 0) before text between ×
         AreAnswered between behind later whole.desk × (whole.text ≡ text ++ later) ×
         IsSession name_cmp between.session }
+    // Each packing keeps the promise that `Session::pack` makes of packings.
     ensures packings { (old new : Desk Name) (answer : Result Packed SessionError) →
         PacksBoxes name_cmp old answer new →
         PacksAsPromised (group_order name_cmp) (volume_rules name_cmp) old.boxes old.session
@@ -45,12 +53,15 @@ pub fn answers_keep_sessions()
 /// And where memory is refused, the text of the answers before is a beginning of the text of this
 /// transcript.
 pub fn input_has_one_transcript()
+    // Two transcripts of an input that do not end for want of memory are the same text, and end in
+    //   the same way.
     ensures one { (input printed other : List ℕ) (outcome other_outcome : Outcome) →
         IsTranscript input printed outcome →
         IsTranscript input other other_outcome →
         outcome ≢ NoMemory →
         other_outcome ≢ NoMemory →
         (printed ≡ other) × (outcome ≡ other_outcome) }
+    // So do two runs that print them, where no read or write fails.
     ensures runs { (input before : List ℕ) (after other_after : Option (List ℕ)) →
         (outcome other_outcome : Outcome) →
         PrintsTranscript (Some before) after outcome input →
@@ -60,6 +71,8 @@ pub fn input_has_one_transcript()
         other_outcome ≢ NoMemory →
         other_outcome ≢ IoFailed →
         (after ≡ other_after) × (outcome ≡ other_outcome) }
+    // Where memory is refused, the text of the answers before is a beginning of the text of the
+    //   input's transcript.
     ensures without_memory { (input printed other : List ℕ) (outcome : Outcome) →
         (stopped : IsTranscript input printed NoMemory) →
         (whole : IsTranscript input other outcome) →

@@ -19,6 +19,8 @@ pub enum Outcome {
 impl Outcome {
     /// The exit status.
     pub fn status(&self) -> u8
+        // The exit status is 0 at the end of the input, 2 after a bad line, 3 where memory was
+        //   wanted, 1 where a read or a write failed. [status.no_memory_ends_as_failed_read]
         ensures { result ≡ status_of self.now }
     {
         match self {

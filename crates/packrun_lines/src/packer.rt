@@ -10,7 +10,8 @@ ghost use Rattle.rectangle_pack.specs.Promise.{PacksAsPromised};
 ghost use Rattle.rectangle_pack.specs.Session.{IsSession, AddsBin, Releases, Coalesces, packed_reply};
 ghost use Rattle.rectangle_pack.specs.declared.grouped_rects_to_place.Group.TheVariants.{Grouped};
 ghost use Rattle.rectangle_pack.specs.declared.session.command.SessionError.TheVariants.{UnknownBin};
-ghost use Rattle.packrun_lines.specs.Desk.{empty_desk, ChangesSession, ChangesBoxes, TakesBox, PacksBoxes, group_order, volume_rules, sections_in, stats_in, no_boxes};
+ghost use Rattle.rectangle_pack.specs.Stats.{stats_in};
+ghost use Rattle.packrun_lines.specs.Desk.{empty_desk, ChangesSession, ChangesBoxes, TakesBox, PacksBoxes, group_order, volume_rules, sections_in, no_boxes};
 
 use packrun_words::command;
 use rectangle_pack::{
@@ -57,12 +58,16 @@ impl<Name: Ord + Clone + Drop, A: Allocator + Copy> Packer<Name, A> {
     pub fn close(self) {}
 
     pub fn add_bin(&mut self, name: Name, size: command::Size) -> Result<(), SessionError>
+        // The session goes on as `Session::add_bin` says, and the boxes to place stay.
+        //   [add_bin.sides_change_places]
         ensures added { let cells : Size = record {
           width = size.width;
           height = size.height;
           depth = size.depth;
         } in
             ChangesSession (AddsBin Name.cmp name cells) self.old result self.new }
+        // What always holds of a session holds afterwards, so each cell of a bin is in exactly one
+        //   free section or outstanding placement.
         ensures always { IsSession Name.cmp self.new.session }
     {
         self.session
@@ -76,8 +81,12 @@ impl<Name: Ord + Clone + Drop, A: Allocator + Copy> Packer<Name, A> {
         groups: Option<Vec<Name, A>>,
         size: command::Size,
     ) -> Result<(), SessionError>
+        // Clones of names equal their originals.
         requires clones { ClonesEqual Name.is_clone Name.eq }
+        // A list of groups has one or more.
         requires given { ForSome groups (λ names. 0 < vec_len names) }
+        // The boxes to place go on as `GroupedRectsToPlace::push_rect` says, and the session stays.
+        //   Where memory is refused, nothing is changed.
         ensures pushed { let cells : Size = record {
           width = size.width;
           height = size.height;
@@ -97,7 +106,10 @@ impl<Name: Ord + Clone + Drop, A: Allocator + Copy> Packer<Name, A> {
     /// Keeps the two groups out of one bin.
     pub fn exclude(&mut self, one: Name, other: Name) -> Result<(), SessionError>
         requires clones { ClonesEqual Name.is_clone Name.eq }
+        // The two groups are not equal.
         requires different { Name.eq one other ≡ false }
+        // The boxes to place go on as `GroupedRectsToPlace::exclude` says, and the session stays.
+        //   Where memory is refused, nothing is changed. [exclude.box_alone_is_excluded]
         ensures excluded { ChangesBoxes
             (λ old new. Excludes (group_order Name.cmp) old new (Grouped one) (Grouped other))
             self.old result self.new }
@@ -113,7 +125,11 @@ impl<Name: Ord + Clone + Drop, A: Allocator + Copy> Packer<Name, A> {
     /// packing tried again.
     pub fn pack(&mut self) -> Result<Packed, SessionError>
         requires clones { ClonesEqual Name.is_clone Name.eq }
+        // The boxes are packed as `Session::pack` does it by volume and `contains_smallest_box`,
+        //   and are forgotten where that is done; else they are kept. [pack.wide_boxes_go_first,
+        //   pack.refused_boxes_are_forgotten, forget_rects.boxes_are_kept]
         ensures packed { PacksBoxes Name.cmp self.old result self.new }
+        // The packing is as promised.
         ensures promise { PacksAsPromised (group_order Name.cmp) (volume_rules Name.cmp)
             self.old.boxes self.old.session (packed_reply result) self.new.session }
         ensures always { IsSession Name.cmp self.new.session }
@@ -134,7 +150,9 @@ impl<Name: Ord + Clone + Drop, A: Allocator + Copy> Packer<Name, A> {
 
     /// The last `count` placements, as which a packing left those that it made.
     pub fn last_placements(&self, count: u64) -> &[Outstanding<Name, Name>]
+        // As many are asked for as are outstanding, or fewer.
         requires { count ≤ length self.now.session.outstanding }
+        // The last placements, as many as are asked for. [last_placements.first_ones]
         ensures { let placements = self.now.session.outstanding in
             result.now ≡ drop (length placements - count) placements }
     {
@@ -143,6 +161,7 @@ impl<Name: Ord + Clone + Drop, A: Allocator + Copy> Packer<Name, A> {
     }
 
     pub fn release(&mut self, number: u64) -> Result<(), SessionError>
+        // The session goes on as `Session::release` says, and the boxes to place stay.
         ensures released { ChangesSession (Releases Name.cmp number) self.old result self.new }
         ensures always { IsSession Name.cmp self.new.session }
     {
@@ -155,6 +174,7 @@ impl<Name: Ord + Clone + Drop, A: Allocator + Copy> Packer<Name, A> {
         idx: usize,
         range: Range<usize>,
     ) -> Result<(), SessionError>
+        // The session goes on as `Session::coalesce` says, and the boxes to place stay.
         ensures joined { let joins = IsJoined idx range.start range.end in
             ChangesSession (Coalesces Name.cmp joins bin.now) self.old result self.new }
         ensures always { IsSession Name.cmp self.new.session }
@@ -163,6 +183,7 @@ impl<Name: Ord + Clone + Drop, A: Allocator + Copy> Packer<Name, A> {
     }
 
     pub fn sweep(&mut self, bin: &Name) -> Result<(), SessionError>
+        // The session goes on as `Session::coalesce_all` says, and the boxes to place stay.
         ensures swept { ChangesSession (Coalesces Name.cmp IsSwept bin.now)
             self.old result self.new }
         ensures always { IsSession Name.cmp self.new.session }

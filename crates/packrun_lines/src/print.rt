@@ -26,6 +26,8 @@ pub fn print_packed<A: Allocator, W: Write>(
     placements: &[Outstanding<Word<A>, Word<A>>],
     out: &mut W,
 ) -> Result<(), Stop>
+    // What a packing made is printed as a line for each placement, in their order, and how many
+    //   they are. [print_packed.last_is_not_counted]
     ensures { Prints (W.contents out.old) (W.contents out.new) result
         (packed_text placements.now) }
 {
@@ -41,6 +43,8 @@ fn print_placement<A: Allocator, W: Write>(
     placement: &Outstanding<Word<A>, Word<A>>,
     out: &mut W,
 ) -> Result<(), Stop>
+    // The line of a placement is its number, its id, its bin, and its corner and sides, in decimal,
+    //   a space between two. [print_placement.bin_stands_for_the_box]
     ensures { Prints (W.contents out.old) (W.contents out.new) result
         (placement_text placement.now) }
 {
@@ -79,6 +83,8 @@ fn print_word<A: Allocator, W: Write>(word: &Word<A>, out: &mut W) -> Result<(),
 
 // Prints the free sections, a line each, and how many there are.
 pub fn print_list<W: Write>(sections: &[BinSection], out: &mut W) -> Result<(), Stop>
+    // Free sections are printed as a line for each, in the order of the bin's list, and how many
+    //   there are.
     ensures { Prints (W.contents out.old) (W.contents out.new) result (sections_text sections.now) }
 {
     for section in sections {
@@ -89,6 +95,7 @@ pub fn print_list<W: Write>(sections: &[BinSection], out: &mut W) -> Result<(), 
 }
 
 fn print_section<W: Write>(section: &BinSection, out: &mut W) -> Result<(), Stop>
+    // The line of a free section is its corner and its sides.
     ensures { Prints (W.contents out.old) (W.contents out.new) result (cuboid_text section.now) }
 {
     let whd = section.whd();
@@ -111,6 +118,8 @@ fn print_box<W: Write>(corner: [u32; 3], sides: [u32; 3], out: &mut W) -> Result
 
 // Prints what is free and what is placed in a bin.
 pub fn print_sums<W: Write>(stats: BinStats, out: &mut W) -> Result<(), Stop>
+    // The sums of a bin are printed in one line: free volume and sections, placed volume and
+    //   placements, volume of the bin. [print_sums.free_and_placed_are_swapped]
     ensures { Prints (W.contents out.old) (W.contents out.new) result (sums_text stats) }
 {
     let BinStats {
@@ -133,6 +142,8 @@ pub fn report<W: Write, T: Display + Drop>(
     named: T,
     out: &mut W,
 ) -> Result<(), Stop>
+    // `ok` is printed where a line is done. [report.done_prints_nothing]
+    // Where a line was refused, what is printed and answered is as `refuse` says.
     ensures { IfSome (T.output named) (λ name.
         PrintsAnswer (W.contents out.old) (W.contents out.new) result (reply_text answer name)) }
 {
@@ -149,6 +160,9 @@ pub fn refuse<W: Write, T: Display + Drop>(
     named: T,
     out: &mut W,
 ) -> Result<(), Stop>
+    // Why a line was refused is printed. [refuse.unknown_bin_exists]
+    // Where memory was refused nothing is printed, and the answer says so; each other error of a
+    //   print is that a write failed. [refuse.no_memory_is_a_failed_write]
     ensures { IfSome (T.output named) (λ name.
         PrintsAnswer (W.contents out.old) (W.contents out.new) result (refusal_text error name)) }
 {

@@ -27,6 +27,12 @@ pub fn run_lines<R: Read, W: Write, A: Allocator + Copy>(
     reader: &mut R,
     writer: &mut W,
 ) -> Outcome
+    // For every reader whose bytes are known and every writer whose bytes are: what is printed is
+    //   the transcript of the input, and nothing else. It ends at the end of the input, at the
+    //   first bad line with its number, or for want of memory, before any of its lines: then some
+    //   lines from the first are answered, none of the others is, and the last line says so. Where
+    //   the outcome is `IoFailed`, nothing is said. [obey_each.line_is_obeyed_twice,
+    //   obey_each.empty_line_has_no_number, obey_all.panics_without_memory]
     ensures transcript { IfSome (R.remaining reader.old)
         (PrintsTranscript (W.contents writer.old) (W.contents writer.new) result) }
 {
@@ -34,15 +40,18 @@ pub fn run_lines<R: Read, W: Write, A: Allocator + Copy>(
     end(ended, writer)
 }
 
-/// Obeys the commands of `reader`, as [`run_lines`] does, and prints to a buffered writer. Nothing is
-/// left in its buffer, unless the outcome is `IoFailed`.
+/// Obeys the commands of `reader`, as [`run_lines`] does, and prints to a buffered writer. Nothing
+/// is left in its buffer, unless the outcome is `IoFailed`.
 pub fn run_buffered<R: Read, W: Write + Drop, A: Allocator + Copy>(
     alloc: A,
     reader: &mut R,
     out: &mut BufWriter<W, A>,
 ) -> Outcome
+    // The same over a buffer, which `main` calls.
     ensures transcript { IfSome (R.remaining reader.old) (PrintsTranscript
         (writer_contents W.contents out.old) (writer_contents W.contents out.new) result) }
+    // Nothing is left in the buffer, unless the outcome is `IoFailed`.
+    //   [run_buffered.nothing_is_flushed]
     ensures flushed { result ≢ Outcome.IoFailed → writer_buffer out.new ≡ [] }
 {
     let outcome = run_lines(alloc, reader, out);
@@ -167,7 +176,9 @@ fn end<W: Write>(ended: Result<(), Stop>, out: &mut W) -> Outcome
 
 /// Ends a run for which there is no memory at all, not even for a buffer: prints the last line.
 pub fn end_without_memory<W: Write>(writer: &mut W) -> Outcome
+    // The outcome is `NoMemory`, or `IoFailed`.
     ensures outcome { result ≢ Outcome.IoFailed → result ≡ Outcome.NoMemory }
+    // `Out of memory.` is printed, unless the outcome is `IoFailed`.
     ensures printed { result ≢ Outcome.IoFailed →
         Appends (W.contents writer.old) (W.contents writer.new) (last_line Outcome.NoMemory) }
 {

@@ -10,7 +10,8 @@ ghost use Rattle.packrun_words.specs.private.Commands.{request_of, words_left};
 ghost use Rattle.packrun_words.specs.Requests as asks;
 ghost use Rattle.packrun_words.specs.private.Verbs.{NamesTwo};
 ghost use Rattle.packrun_lines.specs.Answers.{name_cmp, size_of, groups_of};
-ghost use Rattle.packrun_lines.specs.Desk.{empty_desk, ChangesSession, ChangesBoxes, TakesBox, group_order, stats_in};
+ghost use Rattle.rectangle_pack.specs.Stats.{stats_in};
+ghost use Rattle.packrun_lines.specs.Desk.{empty_desk, ChangesSession, ChangesBoxes, TakesBox, group_order};
 ghost use Rattle.packrun_lines.specs.private.Obeying.{IsObeyed};
 ghost use Rattle.packrun_lines.specs.private.Calls.{UnlessNoMemory, IsFound};
 
@@ -55,7 +56,12 @@ impl<A: Allocator + Copy> Store<A> {
 
     /// Does what the command says and prints the lines of its answer.
     pub fn obey<W: Write>(&mut self, command: Command<'_>, out: &mut W) -> Result<(), Stop>
+        // An `exclude` names two groups that differ.
         requires { NamesTwo (request_of command) }
+        // A request changes session and boxes as its definition says, and the text of its answer is
+        //   printed, and nothing else. Where memory is refused, nothing is printed.
+        //   [obey.another_placement_is_released, obey.line_is_swallowed,
+        //   obey.sweep_joins_one_section, print_sections.unknown_bin_is_empty]
         ensures { IsObeyed (request_of command.entry) self.old (W.contents out.old) result self.new
             (W.contents out.new) }
     {

@@ -67,6 +67,9 @@ pub enum Command<'a> {
 
 /// What the line says, which may end with its line feed, or `None` where it is bad.
 pub fn parse(line: &[u8]) -> Option<Command<'_>>
+    // A line is read as a command that asks for what the line asks for; or it is bad: there is no
+    //   request that it asks for. [next_exclude.equal_words_are_two_groups,
+    //   words_of.longer_line_is_taken]
     ensures { IsReading (strip_last 10 line.now) result }
 {
     let mut words = words_of(without_line_feed(line))?;
@@ -227,6 +230,7 @@ fn next_index(words: &mut SplitAsciiWhitespace<'_>) -> Option<usize>
 }
 
 fn parse_side(word: &str) -> Option<u32>
+    // A word is a side exactly where it is a number, as `parse_number` says it, and below 2^32.
     ensures { IsNumberAnswer (2 ^ 32) word.now result }
 {
     u32::try_from(parse_number(word)?).ok()
@@ -240,6 +244,8 @@ fn parse_index(word: &str) -> Option<usize>
 
 /// The number that decimal digits say, with any zeros before it.
 pub fn parse_number(word: &str) -> Option<u64>
+    // A word is a number exactly where it has one or more decimal digits, nothing else, and the
+    //   number is below 2^64. [parse_number.plus_sign_is_taken]
     ensures { IsNumberAnswer (2 ^ 64) word.now result }
 {
     // What `parse` takes beside digits is a sign in front.

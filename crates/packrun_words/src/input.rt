@@ -13,6 +13,9 @@ use std::io::{BufRead, ErrorKind};
 ///
 /// An error is the reader's, or `line` had less room and memory was refused.
 pub fn read_line<B: BufRead, A: Allocator>(input: &mut B, line: &mut Vec<u8, A>) -> io::Result<()>
+    // What is read is all up to the first line feed, itself among it, and at most 4097 bytes; fewer
+    //   without a line feed only at the end of the input.
+    //   [read_part.line_feed_after_4096_bytes_is_left]
     ensures { OnOk result
         (IsLineRead (B.remaining input.old) line.new.items (B.remaining input.new)) }
 {

@@ -46,6 +46,8 @@ impl<A: Allocator> Word<A> {
     pub fn new(alloc: A, name: &str) -> Result<Word<A>, AllocError>
     where
         A: Clone,
+        // A name is the bytes that were given, whether it is kept short or long.
+        //   [new.fifteen_bytes_are_short]
         ensures { IfOk result (λ word. word ≡ name.now) }
     {
         if name.len() <= SHORT {
@@ -126,12 +128,17 @@ impl<A: Allocator> PartialOrd for Word<A> {
 }
 
 impl<A: Allocator> Ord for Word<A> {
+    // Names are compared byte by byte, a name before those that it begins.
+    //   [order_short.shorter_names_are_greater]
     ghost cmp = { slice_cmp nat_cmp };
 
+    // This order is total.
     ghost total = { nat_list_cmp_total };
 
+    // `partial_cmp` answers the same.
     ghost matches_partial_cmp = { λ x y. refl };
 
+    // Two names are equal exactly where the order says `Equal`.
     ghost matches_eq = { texts_ties };
 
     #[inline(always)]

@@ -1,13 +1,15 @@
 """What is made and what is found wrong, on small texts."""
-import pathlib
 import unittest
+from unittest import mock
 
 import api
 import examples
+import modules
 import proved
 from headline import Specs, Told, definitions_among
-from library import Call
+from library import Call, Placed, functions_of
 from rattle import items_of
+from sources import CRATES
 
 BOXES = '''use Rattle.std.specs.Prelude.{ℕ}
 use Rattle.rectangle_pack_sections.specs.declared.axis.Axis.{Axis}
@@ -50,8 +52,36 @@ CALL = """pub fn NAME(n: u32)
 """
 
 
+SILENT = "\n".join(line for line in CALL.splitlines() if "//" not in line)
+WORD = """impl<A: Alloc> Word<A> {
+    pub fn new() -> Word<A> {
+        Word {}
+    }
+
+    fn order(&self) -> u8
+        ensures { true }
+    {
+        0
+    }
+}
+
+impl<A: Alloc> Ord for Word<A> {
+    // Words are ordered.
+    ghost cmp = { by_bytes };
+
+    fn cmp(&self, other: &Word<A>) -> Order {
+        Order::Less
+    }
+}
+
+const MOST: u8 = 1;
+pub(crate) fn pad() {}
+"""
+FILE = CRATES / "low/src/pack.rt"
+
+
 def call_of(name: str, text: str) -> Call:
-    return Call(pathlib.Path("src/pack.rt"), items_of(text.replace("NAME", name).splitlines())[0], name, "pack")
+    return Call(FILE, items_of(text.replace("NAME", name).splitlines())[0], name, "pack")
 
 
 class Rests(unittest.TestCase):
@@ -77,8 +107,7 @@ class Rests(unittest.TestCase):
 
 class ProvedPage(unittest.TestCase):
     def setUp(self) -> None:
-        silent = "\n".join(line for line in CALL.splitlines() if "//" not in line)
-        self.proved = proved.Proved([call_of("set", CALL), call_of("reset", silent)], WRITTEN)
+        self.proved = proved.Proved([call_of("set", CALL), call_of("reset", SILENT)], WRITTEN)
 
     def test_claims_of_a_comment(self) -> None:
         _, done, kept = call_of("set", CALL).clauses()
@@ -109,6 +138,52 @@ class ProvedPage(unittest.TestCase):
         found = [proved.slug(it, given) for it in ("`Session::run`", "The call", "The call")]
         self.assertEqual(found, ["sessionrun", "the-call", "the-call-1"])
 
+    def test_functions_of_the_program_are_named_or_have_claims(self) -> None:
+        program = [call_of("reset", SILENT), call_of("end", CALL), call_of("pad", SILENT)]
+        found = proved.Proved([call_of("set", CALL)], WRITTEN, program)
+        self.assertEqual(list(found.calls), ["set", "reset", "end"])
+        self.assertEqual([*found.faults_of_place(found.calls["reset"])], [])
+        self.assertEqual([*found.faults_of_place(found.calls["end"])], ["docs/text/PROVED.md: `end` has no place under `pack`"])
+
+    def test_a_name_stands_for_one_function(self) -> None:
+        program = [call_of("reset", SILENT), call_of("reset", SILENT)]
+        self.assertEqual(proved.Proved([], WRITTEN, program).twice, program[:1])
+        self.assertEqual(self.proved.twice, [])
+
+    def test_each_clause_has_a_claim(self) -> None:
+        reset = self.proved.calls["reset"]
+        found = [[*self.proved.faults_of_clause(reset, it, {"n"})] for it in reset.clauses()]
+        self.assertEqual(found[0], [])
+        self.assertEqual(found[2], ["crates/low/src/pack.rt:1: no comment says what `ensures` of `reset` claims"])
+
+    def test_what_a_claim_names_is_there(self) -> None:
+        call = self.proved.calls["set"]
+        with mock.patch.multiple(proved, TRIED=["set.two"], OTHERS=["set.two"]):
+            found = [*self.proved.faults_of_clause(call, call.clauses()[1], set())]
+        self.assertEqual(found, [f"crates/low/src/pack.rt:1: {it}" for it in (
+            "there is no wrong body `set.is_left`",
+            "there is more than one wrong body `set.two`",
+            "`done` of `set` names `n`, and no source has that word",
+        )])
+
+    def test_a_claim_names_each_wrong_body(self) -> None:
+        edits = [CRATES / "low/must-fail" / it for it in ("set.two.edit", "set.three.edit")]
+        self.assertEqual([*self.proved.faults_of_edits(edits)], ["crates/low/must-fail/set.three.edit: no claim names this wrong body"])
+
+    def test_a_star_marks_what_the_gate_does_not_try(self) -> None:
+        with mock.patch.multiple(proved, TRIED=["set.two", "set.both"], OTHERS=["set.is_left", "set.both"]):
+            self.assertEqual(proved.starred("`set.is_left`, `set.two`, `set.both`, `set`"), r"`set.is_left`\*, `set.two`, `set.both`, `set`")
+
+
+class Functions(unittest.TestCase):
+    def test_functions_of_items(self) -> None:
+        found = [it for item in items_of(WORD.splitlines()) for it in functions_of(Placed(FILE, item), "pack")]
+        self.assertEqual([(it.name, it.item.is_public) for it in found], [
+            ("Word::new", True), ("Word::order", False), ("impl Ord for Word<A>", False), ("pad", False),
+        ])
+        self.assertEqual([[it.name for it in call.clauses()] for call in found[1:3]], [["ensures"], ["cmp"]])
+        self.assertEqual(proved.claims_of(found[2].clauses()[0].notes), [proved.Claim("Words are ordered.", [])])
+
 
 class Api(unittest.TestCase):
     def test_code_in_a_doc_comment_is_rust(self) -> None:
@@ -124,6 +199,38 @@ class Api(unittest.TestCase):
         lines = ["    /// It moved.", "    Moved {", "        /// How far.", "        by: u32,", "    },"]
         (part,) = items_of(lines, ends=",")
         self.assertEqual(list(api.listed(part)), ["- `Moved`: It moved.", "  - `by`: How far."])
+
+
+class Modules(unittest.TestCase):
+    def test_first_sentence(self) -> None:
+        self.assertEqual(modules.sentence_of("//! What `a.b` has, in\n//! order. Then more.\n\nfn a() {}\n"), "What `a.b` has, in order")
+        self.assertEqual(modules.sentence_of("fn a() {}\n"), "")
+
+    def test_module_of_a_file(self) -> None:
+        paths = [CRATES / "low/src" / it for it in ("lib.rt", "main.rt", "pack/best.rt")]
+        self.assertEqual([modules.words_of(it) for it in paths], [("low",), ("low",), ("low", "pack", "best")])
+
+    def test_tree(self) -> None:
+        says = {
+            ("rectangle_pack",): "all",
+            ("rectangle_pack", "pack"): "packs",
+            ("rectangle_pack", "pack", "best"): "the best",
+            ("rectangle_pack", "pack", "pack"): "one",
+            ("rectangle_pack", "plan"): "plans",
+            ("rectangle_pack", "plan", "axis"): "one axis",
+            ("tests",): "tests",
+            ("tests", "pack"): "of pack",
+        }
+        self.assertEqual(modules.tree(says, {"pack"}), [
+            "rectangle_pack  all",
+            "├── pack*       packs",
+            "│   ├── best    the best",
+            "│   └── pack    one",
+            "└── plan        plans",
+            "    └── axis    one axis",
+            "tests           tests",
+            "└── pack        of pack",
+        ])
 
 
 class Examples(unittest.TestCase):

@@ -105,6 +105,10 @@ class Rattle(unittest.TestCase):
         self.assertEqual(done.lines[1:], ["        // This is no end: }", "        to.new ≡ n }"])
         self.assertEqual(last.lines, ["    ensures { true }"])
 
+    def test_a_comment_ends_no_item(self) -> None:
+        lines = ["fn set()", "    // One;", "    //   two, { and so on;", "    ensures { true }", "{", "}", "fn reset() {}"]
+        self.assertEqual([(it.name, len(it.lines)) for it in items_of(lines)], [("set", 6), ("reset", 1)])
+
     def test_ghosts_of_a_model(self) -> None:
         ghosts = self.model.ghosts()
         self.assertEqual(list(ghosts), ["Value", "view"])
