@@ -1,10 +1,7 @@
 #!/usr/bin/env python3
-"""plan_times.py [try]: how long the cutting plans of bins with some 100,000 boxes take.
-
-Copies the library and the program plan_times.rt.in into a temporary workspace, and proves, builds
-and runs the program there. With `try` nothing is proved; the build then has checks, and is many times
-slower.
-"""
+"""How long the cutting plans of bins with some 100,000 boxes take: copies the library and the program plan_times.rt.in
+into a temporary workspace, and proves, builds and runs the program there."""
+import argparse
 import os
 import re
 import shutil
@@ -12,11 +9,14 @@ import subprocess
 import sys
 import tempfile
 
+parser = argparse.ArgumentParser(description=__doc__)
+parser.add_argument("--unproved", action="store_true", help="proves nothing; the build then has checks, and is many times slower")
+wanted = parser.parse_args()
 tools = os.path.dirname(os.path.realpath(__file__))
 top = os.path.dirname(tools)
 with open(f"{top}/crates.txt", encoding="utf-8") as file:
     rows = [row.split(":") for row in file.read().splitlines() if re.match(r"rectangle_pack\w*:", row)]
-command = ["rt", "try", "--seconds", "3600"] if sys.argv[1:] == ["try"] else ["rt", "run"]
+command = ["rt", "try", "--seconds", "3600"] if wanted.unproved else ["rt", "run"]
 with tempfile.TemporaryDirectory(prefix="plan-times-") as room:
     # What was proved of the library's crates, in their folders out, is not proved again.
     for name, _ in rows:

@@ -19,6 +19,7 @@ import tempfile
 import threading
 import time
 
+import inputs
 from beside_rust import answers
 
 TOOLS = os.path.dirname(os.path.realpath(__file__))
@@ -44,9 +45,8 @@ def small_bins(count):
 
 
 def one_bin(count, side):
-    """The lines of many_boxes.py."""
-    made = subprocess.run([f"{TOOLS}/many_boxes.py", str(count), str(side)], capture_output=True, text=True, check=True)
-    return made.stdout.splitlines()
+    """The lines of `inputs.py boxes`."""
+    return list(inputs.boxes(count, side))
 
 
 def one_deep_bin(count, side):

@@ -1,8 +1,7 @@
 #!/usr/bin/env python3
-"""Lists the lemmas and definitions in proofs/ that nothing names but themselves.
+"""Lists the lemmas and definitions in proofs/ that nothing names but themselves: a line for each, with its file."""
 
-unused_lemmas.py [--check]: a line for each, with its file. With --check it fails where there is one."""
-
+import argparse
 import collections
 import pathlib
 import re
@@ -47,10 +46,13 @@ def unused(files: dict[pathlib.Path, str]) -> list[tuple[pathlib.Path, str]]:
 
 
 def main() -> int:
+    parser = argparse.ArgumentParser(description=__doc__)
+    parser.add_argument("--check", action="store_true", help="fails where there is one")
+    check = parser.parse_args().check
     found = unused(texts())
     for path, name in found:
         print(f"{path.relative_to(TOP)}: {name}")
-    return 1 if found and "--check" in sys.argv[1:] else 0
+    return 1 if found and check else 0
 
 
 if __name__ == "__main__":
