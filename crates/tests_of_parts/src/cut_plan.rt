@@ -1,0 +1,4 @@
+//! Cutting plans of the bins of random sessions.
+
+mod random;
+mod read_back;
