@@ -103,6 +103,15 @@ def most_by_memory() -> int:
     return max(1, int((free - LEFT_ALONE) / MEMORY_OF_A_JOB))
 
 
+def lines_behind(crates: dict[str, Crate]) -> dict[str, int]:
+    """How many lines are proved one after another from each crate on: its own, and those of the longest chain above it."""
+    found: dict[str, int] = {}
+    for name in reversed([*graphlib.TopologicalSorter({it.name: it.below for it in crates.values()}).static_order()]):
+        own = sum(len(path.read_bytes().splitlines()) for path in crates[name].sources())
+        found[name] = own + max((found[it.name] for it in crates.values() if name in it.below), default=0)
+    return found
+
+
 class Build:
     """One build, of these crates."""
 
@@ -111,6 +120,7 @@ class Build:
         self.kit = kit
         self.began = time.monotonic()
         self.sums: dict[str, str] = {}
+        self.behind = lines_behind(crates)
         self.running: list[subprocess.Popen[bytes]] = []
         self.lock = threading.Lock()
 
@@ -140,18 +150,19 @@ class Build:
         words += ["--crate-type", "staticlib"] if crate.is_static else []
         return [*words, "-o", str(to)]
 
-    def call(self, crate: Crate, words: list[str]) -> None:
+    def call(self, crate: Crate, words: list[str], niceness: int = 0) -> None:
         """Runs a command in the crate's folder, and keeps what it says."""
         said = PROVED / f"{crate.name}.log"
         with said.open("ab") as log:
             with self.lock:
                 ran = subprocess.Popen(words, cwd=crate.folder, stdin=subprocess.DEVNULL, stdout=log, stderr=log)
                 self.running.append(ran)
+                os.setpriority(os.PRIO_PROCESS, ran.pid, os.getpriority(os.PRIO_PROCESS, 0) + niceness)
             status = ran.wait()
         if status:
             raise NotProved(f"{said.read_text(errors='replace')}{crate.name} is not built: {words[0]} ended with {status}")
 
-    def make(self, crate: Crate, jobs: int) -> None:
+    def make(self, crate: Crate, jobs: int, niceness: int = 0) -> None:
         """Proves and builds the crate, where that is not done yet."""
         self.sums[crate.name] = whole = self.sum_of(crate)
         stamp = PROVED / f"{crate.name}.sum"
@@ -164,10 +175,10 @@ class Build:
         began = time.monotonic()
         if crate.is_program:
             part = crate.made.with_suffix(".o")
-            self.call(crate, self.words(crate, part, jobs))
-            self.call(crate, self.link(crate.made, part))
+            self.call(crate, self.words(crate, part, jobs), niceness)
+            self.call(crate, self.link(crate.made, part), niceness)
         else:
-            self.call(crate, self.words(crate, crate.made, jobs))
+            self.call(crate, self.words(crate, crate.made, jobs), niceness)
         if self.sum_of(crate) == whole:
             stamp.write_text(whole)
         now = time.monotonic()
@@ -186,7 +197,8 @@ class Build:
                 ran.terminate()
 
     def run(self) -> None:
-        """Makes each crate once those are made on which it stands. The processors are shared among those that can be made."""
+        """Makes each crate once those are made on which it stands. The one with the most lines behind it goes before the others,
+        which take what it leaves of the processors."""
         by_memory = most_by_memory()
         most = min(len(os.sched_getaffinity(0)), by_memory)
         order = graphlib.TopologicalSorter({crate.name: crate.below for crate in self.crates.values()})
@@ -196,8 +208,11 @@ class Build:
             try:
                 while order.is_active():
                     ready = order.get_ready()
+                    first = max([*ready, *running.values()], key=self.behind.__getitem__)
                     jobs = -(-most // max(1, len(ready) + len(running)))
-                    running |= {pool.submit(self.make, self.crates[name], jobs): name for name in ready}
+                    for name in ready:
+                        share = (most, 0) if name == first else (jobs, 10)
+                        running[pool.submit(self.make, self.crates[name], *share)] = name
                     done, _ = concurrent.futures.wait(running, return_when=concurrent.futures.FIRST_COMPLETED)
                     for it in done:
                         it.result()
