@@ -266,4 +266,5 @@ def main():
     compare_sessions(options.runs, options.calls, random.Random(21))
 
 
-main()
+if __name__ == "__main__":
+    main()

@@ -19,8 +19,8 @@ import tempfile
 import threading
 import time
 
-import inputs
 from beside_rust import answers
+from inputs import boxes as one_packing
 
 TOOLS = os.path.dirname(os.path.realpath(__file__))
 ROOT = os.path.dirname(TOOLS)
@@ -46,7 +46,7 @@ def small_bins(count):
 
 def one_bin(count, side):
     """The lines of `inputs.py boxes`."""
-    return list(inputs.boxes(count, side))
+    return list(one_packing(count, side))
 
 
 def one_deep_bin(count, side):
@@ -262,4 +262,5 @@ def main():
             sys.exit(1)
 
 
-main()
+if __name__ == "__main__":
+    main()
