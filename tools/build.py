@@ -26,6 +26,8 @@ PROVED = TOP / "build" / "proved"
 TARGET = "x86_64-unknown-linux-gnu"
 # In kB: the memory that is left alone, and what a proof or a further job of it is reckoned to take.
 LEFT_ALONE, MEMORY_OF_A_JOB = 1e6, 3e6
+# The niceness of a proof that nothing waits for, and up to which one gets all processors.
+LAST, HURRIED = 19, 5
 
 
 class NotProved(Exception):
@@ -197,8 +199,8 @@ class Build:
                 ran.terminate()
 
     def run(self) -> None:
-        """Makes each crate once those are made on which it stands. The one with the most lines behind it goes before the others,
-        which take what it leaves of the processors."""
+        """Makes each crate once those are made on which it stands. Those with more lines behind them go before the others, which
+        take what is left of the processors."""
         by_memory = most_by_memory()
         most = min(len(os.sched_getaffinity(0)), by_memory)
         order = graphlib.TopologicalSorter({crate.name: crate.below for crate in self.crates.values()})
@@ -208,11 +210,11 @@ class Build:
             try:
                 while order.is_active():
                     ready = order.get_ready()
-                    first = max([*ready, *running.values()], key=self.behind.__getitem__)
-                    jobs = -(-most // max(1, len(ready) + len(running)))
-                    for name in ready:
-                        share = (most, 0) if name == first else (jobs, 10)
-                        running[pool.submit(self.make, self.crates[name], *share)] = name
+                    longest = max([1, *(self.behind[name] for name in [*ready, *running.values()])])
+                    for name in sorted(ready, key=self.behind.__getitem__, reverse=True):
+                        niceness = LAST - LAST * self.behind[name] // longest
+                        jobs = most if niceness <= HURRIED else 1
+                        running[pool.submit(self.make, self.crates[name], jobs, niceness)] = name
                     done, _ = concurrent.futures.wait(running, return_when=concurrent.futures.FIRST_COMPLETED)
                     for it in done:
                         it.result()
