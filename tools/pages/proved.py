@@ -100,7 +100,7 @@ class Proved:
             yield from self.faults_of_place(call)
             for clause in call.clauses():
                 yield from self.faults_of_clause(call, clause, words)
-        yield from self.faults_of_edits(files_of(PROGRAM, "must-fail", ".edit"))
+        yield from self.faults_of_edits(files_of([*LAYERS, FOR_C, *PROGRAM], "must-fail", ".edit"))
 
     def faults_of_place(self, call: Call) -> Iterator[str]:
         """That it has none under its module, and which of its clauses have one name."""
