@@ -13,6 +13,7 @@ ghost use Rattle.rectangle_pack_rules.specs.Packing.{rules_by};
 ghost use Rattle.rectangle_pack_rules.specs.PackAnswers.{IsPackAnswer, IsCountedAnswer};
 ghost use Rattle.rectangle_pack_packings.specs.private.Ends.{IsUndoneAnswer};
 
+pub mod attempt;
 pub mod best;
 pub mod bin_order;
 mod ends;

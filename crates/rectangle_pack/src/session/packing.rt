@@ -1,5 +1,5 @@
 //! One packing of a session.
-ghost use Rattle.std.specs.Prelude.{◌≡◌, ◌+◌, ◌<◌, ◌^◌, ◌++◌, [], length, List, IfOk, OnErr, MatchBool, MatchOption, Ok, true};
+ghost use Rattle.std.specs.Prelude.{◌≡◌, ◌+◌, ◌<◌, ◌^◌, ◌++◌, [], length, List, IfOk, OnErr, MatchBool, Ok, true};
 ghost use Rattle.rectangle_pack_groups.specs.Clones.{ClonesEqual};
 ghost use Rattle.rectangle_pack_rules.specs.declared.answer.Placement.{Placement};
 ghost use Rattle.rectangle_pack_sections.specs.Bins.{Bin, bins_of};
@@ -12,14 +12,11 @@ use crate::session::outstanding::number_all;
 use crate::session::records::Records;
 use rectangle_pack_bins::target_bin::TargetBin;
 use rectangle_pack_groups::grouped_rects_to_place::{Group, GroupedRectsToPlace};
-use rectangle_pack_packings::pack::bin_order::bin_order;
-use rectangle_pack_packings::pack::first_fit::pack_noted;
-use rectangle_pack_packings::pack::packing::Packing;
+use rectangle_pack_packings::pack::attempt::try_packing;
 use rectangle_pack_rules::answer::Placement;
 use rectangle_pack_sections::closures::Policy;
 use std::alloc::{AllocError, Allocator};
 use std::collections::BTreeMap;
-use std::mem;
 
 // One packing, which is kept where it is done, and undone where it is not; whether it is done.
 pub(crate) fn pack_into<Id, BinId, GroupId, R, A>(
@@ -68,65 +65,11 @@ where
     let entries = count as usize;
     outstanding.reserve(entries)?;
     let alloc = *outstanding.allocator();
-    match try_packing(groups, bins, alloc, entries, policy)? {
+    match try_packing(alloc, groups, bins, entries, policy, true)? {
         Some(placements) => {
             number_all(outstanding, placements, first);
             Ok(true)
         }
         None => Ok(false),
-    }
-}
-
-// Tries a packing of so many entries on these bins: its placements, or `None` where it is refused
-// for space. The bins are as they were unless it is done.
-fn try_packing<Id, BinId, GroupId, R, A>(
-    groups: &GroupedRectsToPlace<Id, GroupId, A>,
-    bins: &mut BTreeMap<BinId, TargetBin<A>, A>,
-    alloc: A,
-    entries: usize,
-    policy: &R,
-) -> Result<Option<Vec<Placement<Id, BinId>, A>>, AllocError>
-where
-    Id: Ord + Clone + Drop,
-    BinId: Ord + Clone + Drop,
-    GroupId: Ord + Clone + Drop,
-    R: Policy,
-    A: Allocator + Copy,
-    requires ids { ClonesEqual Id.is_clone Id.eq }
-    requires bin_ids { ClonesEqual BinId.is_clone BinId.eq }
-    requires callable { R.is_callable policy.now }
-    ensures packed { IfOk result
-        (λ placed.
-        let order = ⟦<Group<GroupId, Id> as Ord>⟧.cmp in
-        let by = rules_by Id.cmp BinId.cmp (R.may policy.now) in
-        let old = bins_of bins.old.entries in
-        let new = bins_of bins.new.entries in
-        MatchOption placed
-        ((left : List (BinId × Bin)) ×
-        PackingRefused order by groups.now old left × (new ≡ old))
-        (λ placements.
-        PackingDone order by groups.now old placements.items new ×
-        (length placements.items ≡ entries_of groups.now))) }
-    ensures stopped { OnErr result (bins_of bins.new.entries ≡ bins_of bins.old.entries) }
-{
-    let order = bin_order(alloc, bins, policy)?;
-    let old = mem::replace(bins, BTreeMap::new(alloc));
-    let mut packing = Packing::new(old, order.as_slice(), alloc);
-    match pack_noted(&mut packing, groups, entries, policy) {
-        Ok(true) => {
-            let (kept, placements) = packing.keep();
-            *bins = kept;
-            Ok(Some(placements))
-        }
-        Ok(false) => {
-            let (start, _) = packing.roll_back();
-            *bins = start;
-            Ok(None)
-        }
-        Err(error) => {
-            let (start, _) = packing.roll_back();
-            *bins = start;
-            Err(error)
-        }
     }
 }

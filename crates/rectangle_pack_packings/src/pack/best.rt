@@ -4,21 +4,17 @@ ghost use Rattle.std.specs.Map.{keys_of};
 ghost use Rattle.rectangle_pack_groups.specs.Clones.{ClonesEqual};
 ghost use Rattle.rectangle_pack_rules.specs.Best.{IsBestOf, PacksWith, IsRefusedWith, use_of};
 ghost use Rattle.rectangle_pack_rules.specs.private.Cells.{cells_in};
-ghost use Rattle.rectangle_pack_rules.specs.Packing.{PackingDone, PackingRefused, rules_by};
-ghost use Rattle.rectangle_pack_sections.specs.Bins.{bins_of, Bin};
+ghost use Rattle.rectangle_pack_sections.specs.Bins.{bins_of};
 
-use crate::pack::bin_order::bin_order;
-use crate::pack::first_fit::pack_noted;
-use crate::pack::packing::Packing;
+use crate::pack::attempt::try_packing;
 use rectangle_pack_bins::target_bin::TargetBin;
 use rectangle_pack_groups::grouped_rects_to_place::{Group, GroupedRectsToPlace};
 use rectangle_pack_rules::answer::Placement;
 use rectangle_pack_rules::uses::{Use, better_of, count_cells};
 use rectangle_pack_sections::box_size_heuristics::Heuristic;
-use rectangle_pack_sections::closures::{Named, Policy};
+use rectangle_pack_sections::closures::Named;
 use std::alloc::{AllocError, Allocator};
 use std::collections::BTreeMap;
-use std::mem;
 
 // The counts of the bins that get cells, in the order of ids.
 fn counts_by_id<'a, B: Ord, A: Allocator + Copy>(
@@ -55,45 +51,6 @@ fn use_made<'a, Id, B: Ord, A: Allocator + Copy>(
     Ok(Use::by(counts.as_slice()))
 }
 
-// Packs all groups, in which there are so many entries, and rolls the packing back: what it placed,
-// or `None` where it is refused.
-fn rehearse<Id, BinId, GroupId, R, A>(
-    alloc: A,
-    rects_to_place: &GroupedRectsToPlace<Id, GroupId, A>,
-    target_bins: &mut BTreeMap<BinId, TargetBin<A>, A>,
-    entries: usize,
-    policy: &R,
-) -> Result<Option<Vec<Placement<Id, BinId>, A>>, AllocError>
-where
-    Id: Ord + Clone + Drop,
-    BinId: Ord + Clone + Drop,
-    GroupId: Ord + Clone + Drop,
-    R: Policy,
-    A: Allocator + Copy,
-    requires ids { ClonesEqual Id.is_clone Id.eq }
-    requires bin_ids { ClonesEqual BinId.is_clone BinId.eq }
-    requires callable { R.is_callable policy.now }
-    ensures rehearsed { IfOk result
-        (λ placed.
-        let order = ⟦<Group<GroupId, Id> as Ord>⟧.cmp in
-        let by = rules_by Id.cmp BinId.cmp (R.may policy.now) in
-        let all = rects_to_place.now in
-        let old = bins_of target_bins.old.entries in
-        MatchOption placed
-        ((left : List (BinId × Bin)) × PackingRefused order by all old left)
-        (λ placements.
-        (new : List (BinId × Bin)) × PackingDone order by all old placements.items new)) }
-    ensures same { bins_of target_bins.new.entries ≡ bins_of target_bins.old.entries }
-{
-    let order = bin_order(alloc, target_bins, policy)?;
-    let bins = mem::replace(target_bins, BTreeMap::new(alloc));
-    let mut packing = Packing::new(bins, order.as_slice(), alloc);
-    let packed = pack_noted(&mut packing, rects_to_place, entries, policy);
-    let (bins, placements) = packing.roll_back();
-    *target_bins = bins;
-    Ok(if packed? { Some(placements) } else { None })
-}
-
 // What use a packing with this heuristic makes of the bins, or `None` where it is refused. The bins
 // stay as they are.
 fn try_with<Id, BinId, GroupId, A>(
@@ -119,12 +76,13 @@ where
         (PacksWith order Id.cmp BinId.cmp rects_to_place.now old heuristic)) }
     ensures same { bins_of target_bins.new.entries ≡ bins_of target_bins.old.entries }
 {
-    match rehearse(
+    match try_packing(
         alloc,
         rects_to_place,
         target_bins,
         entries,
         &Named(heuristic),
+        false,
     )? {
         Some(placements) => Ok(Some(use_made(alloc, target_bins, placements.as_slice())?)),
         None => Ok(None),

@@ -1,13 +1,11 @@
 -- What a session answers to a packing, by what the packing on its bins did.
 use Rattle.rectangle_pack_sections.proofs.Std.{◌≡◌, ℕ, ◌+◌, ◌-◌, ◌<◌, ◌≤◌, ◌^◌, List, [], ◌++◌, refl, ap, sym, ◌∙◌, subst, arith, true, false, Bool, length}
-use Rattle.rectangle_pack_sections.proofs.Std.{MatchBool, OnTrue, map, sum, values_of, Option, Some, None, MatchOption, Result, Ok, IsErrAnd, Vec}
+use Rattle.rectangle_pack_sections.proofs.Std.{MatchBool, map, sum, values_of, Option, Some, None, MatchOption, Result, Ok, IsErrAnd, Vec}
 use Rattle.rectangle_pack_sections.proofs.Std.{Ordering, IsTotalOrder}
 use Rattle.rectangle_pack_groups.specs.declared.grouped_rects_to_place.Group.{Group}
 use Rattle.rectangle_pack_groups.specs.Groups.{Collection, entries_of}
-use Rattle.rectangle_pack_sections.specs.Bins.{Bin, Held, bins_of}
+use Rattle.rectangle_pack_sections.specs.Bins.{Bin}
 use Rattle.rectangle_pack_rules.specs.declared.answer.Placement.{Placement}
-use Rattle.rectangle_pack_bins.specs.declared.journal.DoneTrial.{DoneTrial}
-use Rattle.rectangle_pack_bins.specs.private.Journals.{GoesBack}
 use Rattle.rectangle_pack_rules.specs.Packing.{Rules, PackingDone, PackingRefused}
 use Rattle.rectangle_pack.specs.declared.session.command.Outstanding.{Outstanding}
 use Rattle.rectangle_pack.specs.declared.session.command.Packed.{Packed as PackedNumbers}
@@ -119,40 +117,15 @@ module _ {Id B G : Type 0} (group_cmp : Group G Id → Group G Id → Ordering) 
         IsSession-done group_cmp rules total all bins now placements outstanding later first next made added
         (after ∙ ap (λ n. first + n) (sym (length_is ∙ counted))) h
 
--- a packing before its first trial goes back to its own bins
-pub start-back : {B A : Type 0} (cmp : B → B → Ordering) (own : List (B × Held)) (journal : List (DoneTrial B A)) (start : List (B × Bin))
-    → bins_of own ≡ start → journal ≡ [] → GoesBack cmp own journal start
-start-back cmp own journal start is none = rw none (record { undoes = is })
-
--- what a packing that was tried said of itself, of the bins that it began with: what it placed where it is done and kept, and that it is
--- refused
-module _ {Id B G A : Type 0} (group_cmp : Group G Id → Group G Id → Ordering) (rules : Rules Id B) (all : Collection Id G) (was old : List (B × Bin))
-    (same : was ≡ old) (kept : List (B × Held)) (placements : Vec (Placement Id B) A)
-    (Counts : PackingDone group_cmp rules all was placements.items (bins_of kept) → Type 0)
-    (CountsRefused : PackingRefused group_cmp rules all was (bins_of kept) → Type 0) where
-  pub kept-done : (done : Bool) → done ≡ true → MatchBool done
-      ((packing : PackingDone group_cmp rules all was placements.items (bins_of kept)) × Counts packing)
-      ((refused : PackingRefused group_cmp rules all was (bins_of kept)) × CountsRefused refused)
-      → OnTrue done (length placements.items ≡ entries_of all) → (made : Vec (Placement Id B) A) (new : List (B × Held)) → made ≡ placements → new ≡ kept
-      → PackingDone group_cmp rules all old made.items (bins_of new) × (length made.items ≡ entries_of all)
-  kept-done true is says counted made new made_are new_are = rw (← same, made_are, new_are) (says.0, counted)
-  kept-done false is says counted made new made_are new_are = absurd cc
-
-  pub rolled-refused : (done : Bool) → done ≡ false → MatchBool done
-      ((packing : PackingDone group_cmp rules all was placements.items (bins_of kept)) × Counts packing)
-      ((refused : PackingRefused group_cmp rules all was (bins_of kept)) × CountsRefused refused)
-      → PackingRefused group_cmp rules all old (bins_of kept)
-  rolled-refused true is says = absurd cc
-  rolled-refused false is says = rw (← same) says.0
-
--- what it placed, or that it is refused
+-- what a packing that was to be kept placed, or that it is refused
 module _ {Id B G A : Type 0} (group_cmp : Group G Id → Group G Id → Ordering) (rules : Rules Id B) (all : Collection Id G) (old new : List (B × Bin))
     (placed : Option (Vec (Placement Id B) A))
     (says : MatchOption placed ((left : List (B × Bin)) × PackingRefused group_cmp rules all old left × (new ≡ old))
-    (λ made. PackingDone group_cmp rules all old made.items new × (length made.items ≡ entries_of all))) where
+    (λ made. (packed : List (B × Bin)) × PackingDone group_cmp rules all old made.items packed × (length made.items ≡ entries_of all)
+    × (true ≡ true → new ≡ packed))) where
   pub tried-done : (made : Vec (Placement Id B) A) → placed ≡ Some made
       → PackingDone group_cmp rules all old made.items new × (length made.items ≡ entries_of all)
-  tried-done made is = rw is at says
+  tried-done made is = let (packed, done, counted, same) = rw is at says in (rw (same refl) done, counted)
 
   pub tried-refused : placed ≡ None → (left : List (B × Bin)) × PackingRefused group_cmp rules all old left × (new ≡ old)
   tried-refused is = rw is at says

@@ -56,14 +56,14 @@ try_packing-requires-clause-callable g c = c.requires.callable
 pub number_all-requires : goal.number_all-requires
 number_all-requires g c =
     let done = tried-done _ (rules_by g.Id.Ord.cmp g.BinId.Ord.cmp (g.R.Policy.may c.args.policy.now)) c.args.groups.now (bins_of c.args.bins.now.entries)
-    (bins_of c.try_packing.new.bins.entries) c.in_ok-placements.field-0 c.in_ok-placements.ensures.packed c.in-Some.placements c.in-Some.is in
+    (bins_of c.try_packing.new.bins.entries) c.in_ok-placements.field-0 c.in_ok-placements.ensures.tried c.in-Some.placements c.in-Some.is in
     let count : vec_len c.in-Some.placements ≡ c.args.count = c.in-Some.placements.ok.0 ∙ done.1 ∙ sym c.requires.count in
     record { room = rw count c.in_ok-reserve.ensures.ok; fits = rw count c.requires.fits }
 
 pub returns-in-Some : goal.returns-in-Some
 returns-in-Some g c =
     let done = tried-done _ (rules_by g.Id.Ord.cmp g.BinId.Ord.cmp (g.R.Policy.may c.args.policy.now)) c.args.groups.now (bins_of c.args.bins.now.entries)
-    (bins_of c.try_packing.new.bins.entries) c.in_ok-placements.field-0 c.in_ok-placements.ensures.packed c.in-Some.placements c.in-Some.is in
+    (bins_of c.try_packing.new.bins.entries) c.in_ok-placements.field-0 c.in_ok-placements.ensures.tried c.in-Some.placements c.in-Some.is in
     record {
       packed = (
         c.in-Some.placements.items,
@@ -78,7 +78,7 @@ returns-in-Some g c =
 pub returns-in-None : goal.returns-in-None
 returns-in-None g c =
     let refused = tried-refused _ (rules_by g.Id.Ord.cmp g.BinId.Ord.cmp (g.R.Policy.may c.args.policy.now)) c.args.groups.now
-    (bins_of c.args.bins.now.entries) (bins_of c.try_packing.new.bins.entries) c.in_ok-placements.field-0 c.in_ok-placements.ensures.packed c.in-None.is in
+    (bins_of c.args.bins.now.entries) (bins_of c.try_packing.new.bins.entries) c.in_ok-placements.field-0 c.in_ok-placements.ensures.tried c.in-None.is in
     record {
       packed = (refused.0, refused.1, refused.2, c.in_ok-reserve.ensures.items);
       stopped = tt;
