@@ -242,7 +242,7 @@ where
         // Packed: every entry of every group is placed once, in the size of its id, and each group
         //   in one bin.
         // Packed: two groups of this packing that are excluded are in different bins.
-        //   [excluded_bins.exclusions_are_not_used]
+        //   [place_next.exclusions_are_not_used]
         // `NotEnoughBinSpace`: for some group, each bin of the session is excluded or the group's
         //   trial is stuck there, as the groups before it left that bin.
         //   [next_bin.one_bin_only_is_tried]

@@ -122,7 +122,7 @@ where
     //   is done, as the groups before it left that bin. In each bin before that one in the order,
     //   it is excluded or its trial is stuck. [try_bin.group_goes_on_into_the_next_bin]
     // Done: a bin is excluded for a group exactly where a group that is excluded with it went there
-    //   earlier in the same packing. [excluded_bins.exclusions_are_not_used]
+    //   earlier in the same packing. [place_next.exclusions_are_not_used]
     // Done: in a trial each member in turn goes to the corner of the newest section that holds it.
     //   [newest.first_section_is_taken]
     // Done: that section is taken out of the list. The pieces of an allowed cut, as `pieces` of
