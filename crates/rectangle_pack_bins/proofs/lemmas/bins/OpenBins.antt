@@ -1,5 +1,5 @@
 -- Bins that are out of their map, with summaries of them.
-use Rattle.rectangle_pack_sections.proofs.Std.{◌≡◌, ◌≢◌, ◌≤◌, ◌<◌, ◌+◌, ℕ, zero, suc, List, [], ◌∷◌, ◌++◌, length, take, drop, set, get_or, refl, sym, ap, ◌∙◌, arith}
+use Rattle.rectangle_pack_sections.proofs.Std.{◌≡◌, ◌≢◌, ◌≤◌, ◌<◌, ◌+◌, ℕ, zero, suc, List, [], ◌∷◌, ◌++◌, length, take, drop, set, get_or, refl, sym, ◌∙◌, arith}
 use Rattle.rectangle_pack_sections.proofs.Std.{Option, Some, None, length-set, length-append, get_or-set_same, get_or-set_other, All}
 use Rattle.rectangle_pack_sections.proofs.Std.{inl, inr, cases_order, get_or-append_seam, get_or_append_left, get_or_default}
 use Rattle.std.proofs.lemmas.List.{get_or_past}
@@ -15,10 +15,6 @@ use Rattle.rectangle_pack_bins.specs.private.OpenBins.{AreSummed, OpenBinsHoldNo
 -- the summary at an index, where there is one
 abbrev at : List (Option Summary) → ℕ → Option Summary
 at summaries i = get_or summaries i None
-
--- without bins there is nothing to sum
-pub AreSummed-none : (bins : List Open) (summaries : List (Option Summary)) → bins ≡ [] → AreSummed bins summaries
-AreSummed-none bins summaries none = record { each = λ i bin s within is known. absurd (omega (arith, within, ap length none)) }
 
 unknown-at : (summaries : List (Option Summary)) → All (λ s. s ≡ None) summaries → (i : ℕ) → at summaries i ≡ None
 unknown-at summaries none i = elim (cases_order i (length summaries)) [

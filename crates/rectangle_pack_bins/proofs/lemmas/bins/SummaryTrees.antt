@@ -1,8 +1,8 @@
 -- The tree of the summaries of bins: what a summary above a stretch of it says of each bin there.
 use Rattle.std.proofs.Math.Nat.{pow-suc}
 use Rattle.rectangle_pack_sections.proofs.Std.{◌≡◌, ◌≤◌, ◌<◌, ◌+◌, ◌*◌, ◌-◌, ◌/◌, ◌^◌, ℕ, zero, suc, List, [], ◌∷◌, ◌++◌, length, take, drop, set, get_or, refl, sym, ap, ◌∙◌, arith}
-use Rattle.rectangle_pack_sections.proofs.Std.{Option, Some, None, length-set, length-drop, take-add, drop-drop, drop-cons, get_or-set_same, get_or-set_other}
-use Rattle.rectangle_pack_sections.proofs.Std.{inl, inr, cases_order, mul-le-mul_left, All, drop-set-add, get_or-drop, get_or_default}
+use Rattle.rectangle_pack_sections.proofs.Std.{Option, Some, None, length-set, length-drop, take-add, drop-drop, drop-cons, get_or-set_other}
+use Rattle.rectangle_pack_sections.proofs.Std.{mul-le-mul_left, All, drop-set-add, get_or-drop, get_or_default}
 use Rattle.rectangle_pack_sections.specs.Boxes.{Size}
 use Rattle.rectangle_pack_lists.specs.declared.section_slots.summary.Summary.{Summary}
 use Rattle.rectangle_pack_lists.specs.private.Summaries.{RulesOut, joined}
@@ -63,10 +63,6 @@ RuleOut-below nodes size (suc h) k s tree some within is out =
     ∙ ap (λ n. take w (drop (2 * k * w) nodes) ++ take w (drop n nodes)) (sym second) in
     rw (double, count) (rw (← parts) at (RuleOut-append _ _ size below.0.count below.1.count left right))
 
--- the stretch of one bin
-pub IsStretch-one : (place : ℕ) → IsStretch place place 1
-IsStretch-one place = record { height = 0; width_is = refl; place_is = omega arith }
-
 -- the stretch after one, of the same width
 pub IsStretch-next : (place node width : ℕ) → IsStretch place node width → IsStretch (place + width) (node + 1) width
 IsStretch-next place node width at = record { height = at.height; width_is = at.width_is; place_is = omega (arith, at.place_is) }
@@ -106,51 +102,6 @@ IsTreeBut-leaf nodes leaf new tree low high = record {
         get_or-set_other nodes leaf (2 * n) new None (omega arith),
         get_or-set_other nodes leaf (2 * n + 1) new None (omega arith),
       ) (tree.above n some inside (omega arith));
-}
-
--- one of those above it is written
-pub IsTreeBut-up : (nodes : List (Option Summary)) (node : ℕ) (new : Option Summary) → IsTreeBut node nodes → 0 < node → node < length nodes / 2
-    → IsAbove new (node_at nodes (2 * node)) (node_at nodes (2 * node + 1)) → IsTreeBut (node / 2) (set nodes node new)
-IsTreeBut-up nodes node new tree low high is = record {
-  even = rw (length-set nodes node new) tree.even;
-  above = λ n some inner apart.
-      let inside : n < length nodes / 2 = rw (length-set nodes node new) at inner in
-      elim (cases_order n node) [
-        | inl e ↦ rw (
-          e,
-          get_or-set_same nodes node new None (omega (arith, tree.even)),
-          get_or-set_other nodes node (2 * node) new None (omega arith),
-          get_or-set_other nodes node (2 * node + 1) new None (omega arith),
-        ) is
-        | inr (inl below) ↦ rw (
-          get_or-set_other nodes node n new None (omega arith),
-          get_or-set_other nodes node (2 * n) new None (omega arith),
-          get_or-set_other nodes node (2 * n + 1) new None (omega arith),
-        ) (tree.above n some inside (omega arith))
-        | inr (inr above) ↦ rw (
-          get_or-set_other nodes node n new None (omega arith),
-          get_or-set_other nodes node (2 * n) new None (omega arith),
-          get_or-set_other nodes node (2 * n + 1) new None (omega arith),
-        ) (tree.above n some inside (omega arith))
-      ];
-}
-
--- where nothing is known at the node, it need not be written
-pub IsTreeBut-stop : (nodes : List (Option Summary)) (node : ℕ) → IsTreeBut node nodes → node_at nodes node ≡ None → IsTree nodes
-IsTreeBut-stop nodes node tree none = record {
-  even = tree.even;
-  above = λ n some inner apart. elim (cases_order n node) [
-    | inl e ↦ rw (e, none) tt
-    | inr (inl below) ↦ tree.above n some inner (omega arith)
-    | inr (inr above) ↦ tree.above n some inner (omega arith)
-  ];
-}
-
--- a tree of which nothing is known
-pub IsTree-unknown : (nodes : List (Option Summary)) (half : ℕ) → length nodes ≡ half * 2 → All (λ s. s ≡ None) nodes → IsTree nodes
-IsTree-unknown nodes half twice none = record {
-  even = omega (arith, twice);
-  above = λ n some inner apart. rw (none n None (omega arith)) tt;
 }
 
 -- without nodes nothing is known

@@ -1,6 +1,6 @@
 -- Slots that are named under the numbers of corners.
 use Rattle.rectangle_pack_sections.proofs.Std.{arith, ℕ, zero, suc, ◌≡◌, ◌≢◌, ◌+◌, ◌-◌, ◌<◌, ◌≤◌, inl, inr, Bool, true, false, List, [], ◌∷◌, ◌++◌, length, get_or, set, Contains-append_left}
-use Rattle.rectangle_pack_sections.proofs.Std.{refl, ap, sym, subst, ◌∙◌, Some, None, All, All-contains, Contains, cases_lt, cases_eq, cases_order, length-set}
+use Rattle.rectangle_pack_sections.proofs.Std.{refl, ap, sym, subst, ◌∙◌, Some, None, All, Contains, cases_lt, cases_eq, cases_order, length-set}
 use Rattle.rectangle_pack_sections.proofs.Std.{get_or-set_same, get_or-set_other, get_or_default, nat_cmp, Result, Ok, Err, IfSome, IfNone, result_ok, ranked}
 use Rattle.rectangle_pack_sections.proofs.Std.{IsSearchInRange, IsBinarySearchResult, IsNonDecreasingBy, ordering_index, nat_tests}
 use Rattle.std.specs.List.{AllAdjacentBelow, IsAllAdjacentAnswer}
@@ -96,14 +96,6 @@ renamed-at names new at number slot rising within found is =
       renamed = λ n there same. (at, omega arith, ap (λ l. get_or l at name) is ∙ get_or-set_same names at name name within);
     }
 
--- where the number is not there, none is renamed
-pub renamed-none : (names : List Name) (number slot : ℕ) → Rise names → All (λ n. n.corner ≢ number) names → IsRenamed number slot names names
-renamed-none names number slot rising none = record {
-  rise = rising;
-  others = λ n there other. there;
-  renamed = λ n there same. absurd (All-contains (λ (a : Name). a.corner ≢ number) names n none there same);
-}
-
 -- one more slot is named
 pub named-more : (corner : Corner) (slots : List Cuboid) (names new : List Name) (n number : ℕ) (b : Cuboid)
     → ((k : ℕ) → k < n → Contains names (record { corner = corner_number corner (entry slots k); slot = k }))
@@ -139,14 +131,6 @@ module _ (corner : Corner) (slots : List Cuboid) (names : List Name) (named : Ar
 
     pub at_face-none : ¬ IsBeside slots slot (get_or names at d).slot → IsLeastBeside (IsAtFace corner axis slots slot) slots slot None
     at_face-none none = record { beside = tt; least = λ other near face. none (subst (IsBeside slots slot) (sym (named-at_face other near face)) near) }
-
-  -- where no name is under that number, none is at the face
-  pub at_face-unnamed : (axis : Axis) (slot number : ℕ) → All (λ n. n.corner ≢ number) names → number ≡ neighbour_number corner axis (entry slots slot)
-      → IsLeastBeside (IsAtFace corner axis slots slot) slots slot None
-  at_face-unnamed axis slot number none is = record {
-    beside = tt;
-    least = λ other near face. All-contains (λ (a : Name). a.corner ≢ number) names _ none (named.all other near.full) (face ∙ sym is);
-  }
 
   -- the names once the section in a slot is joined with one that is beside it
   pub named-joined : (slot other : ℕ) (empty : Cuboid) (next : List Cuboid) (new : List Name) → IsFull slots slot → IsBeside slots slot other

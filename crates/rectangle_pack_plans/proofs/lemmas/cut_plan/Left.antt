@@ -1,6 +1,6 @@
 -- The boxes that are left of a part, in lists that have others too.
-use Rattle.rectangle_pack_sections.proofs.Std.{ℕ, suc, ◌+◌, ◌<◌, ◌≤◌, ◌≡◌, Bool, true, false, List, [], ◌∷◌, ◌++◌, length, take, drop, get_or, filter, refl, ap, sym, ◌∙◌}
-use Rattle.rectangle_pack_sections.proofs.Std.{arith, take-append-drop, filter-append, append-nil, drop-cons, get_or-append_seam, length-append, take_at, drop_at, ◌-◌}
+use Rattle.rectangle_pack_sections.proofs.Std.{ℕ, suc, ◌+◌, ◌<◌, ◌≤◌, ◌≡◌, Bool, true, List, [], ◌∷◌, ◌++◌, length, take, drop, get_or, filter, refl, ap, sym, ◌∙◌}
+use Rattle.rectangle_pack_sections.proofs.Std.{arith, take-append-drop, filter-append, drop-cons, get_or-append_seam, length-append, take_at, drop_at, ◌-◌}
 use Rattle.rectangle_pack_sections.proofs.Std.{take_all, length-drop, length-take, length-filter, count_by-le-length}
 use Rattle.std.proofs.lemmas.List.Elements.{filter_more}
 use Rattle.rectangle_pack_sections.specs.Boxes.{Cuboid}
@@ -26,10 +26,6 @@ module _ {X : Type 0} (p : X → Bool) where
   pub passing_more : (xs : List X) (i : ℕ) (x : X) → i < length xs → x ≡ get_or xs i x → p x ≡ true
       → filter p (take (i + 1) xs) ≡ filter p (take i xs) ++ x ∷ []
   passing_more xs i x within at passes = filter_more p xs i x within ∙ rw (← at, passes) refl
-
-  pub passing_none : (xs : List X) (i : ℕ) (x : X) → i < length xs → x ≡ get_or xs i x → p x ≡ false
-      → filter p (take (i + 1) xs) ≡ filter p (take i xs)
-  passing_none xs i x within at fails = filter_more p xs i x within ∙ rw (← at, fails) (append-nil (filter p (take i xs)))
 
   -- the first of those that pass, and the others
   pub passing_front : (xs : List X) (i n : ℕ) → length (filter p (take i xs)) ≡ n → filter p (take i xs) ≡ take n (filter p xs)
