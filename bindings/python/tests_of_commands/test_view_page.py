@@ -247,7 +247,7 @@ class Command(ViewCase):
     def test_the_help_says_what_goes_in(self) -> None:
         it = run("--help")
         self.assertEqual((it.status, it.err), (0, ""))
-        for part in ("rect hat", "--table", "bin NAME W H D", "N ID NAME X Y Z W H D [GROUP]", "--page session.html"):
+        for part in ("rect hat", "--table", "bin NAME W H D", "N ID NAME X Y Z W H D [GROUP]", "--page session.html", "exit status: 0 done"):
             self.assertIn(part, it.out)
 
 

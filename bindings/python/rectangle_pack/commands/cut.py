@@ -41,9 +41,11 @@ written to the folder, for sheets 1, 2 and so on:
   sheet-1.svg   the drawing, to scale          offcuts.csv  what a later run can take as --offcuts
 """
 
-EXAMPLE = """\
+EPILOG = """\
 example:
   python3 -m rectangle_pack cut panels.csv --stock sheets.csv --kerf 3.2 --trim 10 --keep 300x200 --out plan
+
+exit status: 0 done, 1 not all panels fit, 2 the words or a file are wrong, 3 out of memory, 130 interrupted
 """
 
 OFFCUTS = "offcuts.csv"
@@ -55,7 +57,7 @@ OURS = re.compile(r"sheet-[0-9]+\.(txt|svg)|plan\.pdf|offcuts\.csv")
 def add_to(commands: Any) -> None:
     """Adds the command to those of the program."""
     it = commands.add_parser(
-        "cut", help="plans for a panel saw, of a cutting list", description=DESCRIPTION, epilog=EXAMPLE,
+        "cut", help="plans for a panel saw, of a cutting list", description=DESCRIPTION, epilog=EPILOG,
         formatter_class=argparse.RawDescriptionHelpFormatter)
     it.add_argument("panels", type=Path, metavar="PANELS", help="the cutting list")
     it.add_argument("--stock", type=Path, metavar="FILE", help="the sheets that can be bought, with their cost")

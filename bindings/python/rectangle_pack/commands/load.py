@@ -57,7 +57,7 @@ stands with its whole bottom on the floor or on equal crates side by side. In th
 straight in from the door, at the height at which it stands: none is in its way, and it is pushed
 below none.
 
-exit status: 0 done, 1 not all crates fit, 2 the words or a file are wrong, 3 out of memory
+exit status: 0 done, 1 not all crates fit, 2 the words or a file are wrong, 3 out of memory, 130 interrupted
 """
 
 

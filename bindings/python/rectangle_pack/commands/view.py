@@ -18,7 +18,7 @@ __all__ = ["add_to", "write_page"]
 DESCRIPTION = """\
 Writes one HTML page to look at what was packed. It needs no network and nothing beside it: any browser opens it.
 
-FILE has the commands of packrun, a line each, as docs/COMMANDS.md has them:
+FILE has the commands of packrun, a line each:
 
     bin sheet 100 80 1
     rect hat 50 70 1 clothes
@@ -41,7 +41,9 @@ Boxes come in the order of their numbers."""
 EPILOG = """\
 example:
 
-    python3 -m rectangle_pack view session.txt --page session.html"""
+    python3 -m rectangle_pack view session.txt --page session.html
+
+exit status: 0 done, also where a command is refused, 2 the words or a file are wrong, 3 out of memory, 130 interrupted"""
 
 
 def add_to(commands: argparse._SubParsersAction[argparse.ArgumentParser]) -> None:
