@@ -38,7 +38,8 @@ MembersHaveSizes cmp sizes groups = All (λ ids. (0 < length ids) × HaveSizes c
 abbrev pub SetsSize : {Id : Type 0} → (Id → Id → Ordering) → List (Id × Size) → List (Id × Size) → Id → Size → Type 0
 SetsSize {Id} cmp old new id size = (key : Id) × (cmp id key ≡ Equal) × (new ≡ insert_entry cmp old key size)
 
--- the order of groups, by that of ids and that of names: boxes that are placed alone first, by their ids, then the others
+-- the order of groups, by that of ids and that of names: boxes that are placed alone first, by their ids, then the
+-- others, by their names
 abbrev pub order_of_groups : {Id G : Type 0} → (Id → Id → Ordering) → (G → G → Ordering) → Group G Id → Group G Id → Ordering
 order_of_groups cmp names (Ungrouped a) (Ungrouped b) = cmp a b
 order_of_groups cmp names (Ungrouped a) (Grouped b) = Less

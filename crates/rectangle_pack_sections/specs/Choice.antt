@@ -1,5 +1,4 @@
--- The choice among the six cuts, by a comparison of the sizes of their pieces. The library goes once over the cuts,
--- from cut 0 on: it keeps the one that it holds where that is `Greater` than the next, and else takes the next.
+-- The choice among the six cuts, by a comparison of the sizes of their pieces.
 use Rattle.std.specs.Prelude.{◌≡◌, ◌≢◌, ℕ, List, [], ◌∷◌, ◌++◌, All, Any, ◌⊎◌, Contains}
 use Rattle.std.specs.Ordering.{ordering_reverse}
 use Rattle.std.specs.declared.cmp.Ordering.{Ordering}
