@@ -1,8 +1,8 @@
 -- The bins of a packing that are out of their map, with the summaries that are known: at most those of bins with few
 -- sections.
-use Rattle.std.specs.Prelude.{◌≡◌, ℕ, ◌+◌, ◌<◌, List, [], ◌∷◌, length, sum, All, Option, Some, None, slice_index_or}
+use Rattle.std.specs.Prelude.{◌≡◌, ℕ, ◌<◌, List, length, sum, All, Option, Some, None, slice_index_or}
 use Rattle.std.specs.declared.cmp.Ordering.{Ordering}
-use Rattle.std.specs.List.{AllZip}
+use Rattle.std.specs.List.{AllZip, sum_by}
 use Rattle.std.specs.Map.{lookup}
 use Rattle.std.specs.BTreeMap.{is_at}
 use Rattle.rectangle_pack_sections.specs.Boxes.{Size, Holds}
@@ -24,9 +24,8 @@ pub record AreSummed (bins : List Open) (summaries : List (Option Summary)) : Ty
 
 -- no section of these bins, as the packing has them, holds the size; so many sections stand in all of them
 abbrev pub OpenBinsHoldNone : List Open → Size → ℕ → Type 0
-OpenBinsHoldNone [] size tests = tests ≡ 0
-OpenBinsHoldNone (bin ∷ bins) size tests =
-    All (λ s. ¬ Holds s size) bin.now.sections × (others : ℕ) × OpenBinsHoldNone bins size others × (tests ≡ length bin.now.sections + others)
+OpenBinsHoldNone bins size tests =
+    All (λ bin. All (λ s. ¬ Holds s size) bin.now.sections) bins × (tests ≡ sum_by (λ bin. length bin.now.sections) bins)
 
 -- the bin of this id has no section that holds the size; so many sections stand in it
 pub record BinHoldsNone {B : Type 0} (cmp : B → B → Ordering) (bins : List (B × Held)) (size : Size) (id : B) (tests : ℕ) : Type 0 where

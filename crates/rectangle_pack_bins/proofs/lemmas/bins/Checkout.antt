@@ -2,8 +2,8 @@
 use Rattle.rectangle_pack_sections.proofs.Std.{◌≡◌, ◌≤◌, ℕ, suc, zero, ◌<◌, List, [], ◌∷◌, ◌++◌, length, refl, ap, sym, ◌∙◌, true, false, Bool, arith, get_or}
 use Rattle.rectangle_pack_sections.proofs.Std.{Option, Some, None, IsSome, All, map, set, Ordering, is_eq, eq_by_cmp, IsTotalOrder, Equal-is, IsDistinct}
 use Rattle.rectangle_pack_sections.proofs.Std.{AllByRecursion, lookup, set_value, keys_of, is_at, keys-set_value, IsDistinct-head, IsDistinct-tail}
-use Rattle.rectangle_pack_sections.proofs.Std.{set_value_same, inl, inr, cases_Bool, set-get_or, length-append, take, drop, ◌+◌, sum_by-cons}
-use Rattle.rectangle_pack_sections.specs.Boxes.{Size}
+use Rattle.rectangle_pack_sections.proofs.Std.{set_value_same, inl, inr, cases_Bool, set-get_or, length-append, take, drop, ◌+◌, sum_by, sum_by-cons, All-head, All-tail}
+use Rattle.rectangle_pack_sections.specs.Boxes.{Size, Holds}
 use Rattle.rectangle_pack_sections.specs.Bins.{Held, IsSound}
 use Rattle.rectangle_pack_lists.proofs.lemmas.util.Stretches.{drop-head, drop-some}
 use Rattle.rectangle_pack_bins.specs.private.OpenBins.{OpenBinsHoldNone, BinsHoldNone}
@@ -258,7 +258,7 @@ module _ {B : Type 0} {cmp : B → B → Ordering} (total : IsTotalOrder cmp) wh
   pub BinsHoldNone-out : (order : List (ℕ × B)) (out : List Open) (es : List (B × Held)) (size : Size) (n from tests : ℕ) (ids : List (ℕ × B)) (bins : List Open)
       → CanCheckIn cmp order out es → (0 < n → from + n ≤ length out) → drop from order ≡ ids → drop from out ≡ bins → OpenBinsHoldNone (take n bins) size tests
       → BinsHoldNone cmp (checked_in cmp true order out es) size (map (λ (x : ℕ × B). x.1) (take n ids)) tests
-  BinsHoldNone-out order out es size zero from tests ids bins can within at b none = record { counts = []; each = tt; tests_are = none }
+  BinsHoldNone-out order out es size zero from tests ids bins can within at b none = record { counts = []; each = tt; tests_are = none.1 }
   BinsHoldNone-out order out es size (suc n) from tests [] bins can within at b none =
       absurd (drop-some order from n at (omega (arith, within (omega arith), can.within)))
   BinsHoldNone-out order out es size (suc n) from tests (o ∷ ids) [] can within at b none = absurd (drop-some out from n b (within (omega arith)))
@@ -266,17 +266,26 @@ module _ {B : Type 0} {cmp : B → B → Ordering} (total : IsTotalOrder cmp) wh
       let its = drop-head order from o ids at in
       let this = drop-head out from bin bins b in
       let there : IsSome (lookup (is_at (cmp o.1)) es) = rw (← its.1) at (can.found from o its.0) in
-      let rest = BinsHoldNone-out order out es size n (suc from) none.1 ids bins can (λ some. omega (arith, within (omega arith))) its.2 this.2 none.2 in
+      let Open-none : Open → Type 0 = λ o. All (λ s. ¬ Holds s size) o.now.sections in
+      let others = sum_by (λ (o : Open). length o.now.sections) (take n bins) in
+      let rest = BinsHoldNone-out order out es size n (suc from) others ids bins can (λ some. omega (arith, within (omega arith))) its.2 this.2
+      (All-tail Open-none bin (take n bins) none.0, refl) in
       record {
         counts = length bin.now.sections ∷ rest.counts;
         each = (
           record {
             held = closed true bin;
             found = checked_in-found order out es from o can.distinct its.0 its.1 true bin this.0 this.1 there;
-            none = none.0;
+            none = All-head Open-none bin (take n bins) none.0;
             tests_are = refl;
           },
           rest.each,
         );
-        tests_are = omega (arith, none.3, rest.tests_are, sum_by-cons (λ k. k) (length bin.now.sections) rest.counts);
+        tests_are = omega (
+          arith,
+          none.1,
+          rest.tests_are,
+          sum_by-cons (λ (o : Open). length o.now.sections) bin (take n bins),
+          sum_by-cons (λ k. k) (length bin.now.sections) rest.counts,
+        );
       }

@@ -1,9 +1,9 @@
 -- Bins that are out of their map, with summaries of them.
 use Rattle.rectangle_pack_sections.proofs.Std.{◌≡◌, ◌≢◌, ◌≤◌, ◌<◌, ◌+◌, ℕ, zero, suc, List, [], ◌∷◌, ◌++◌, length, take, drop, set, get_or, refl, sym, ◌∙◌, arith}
-use Rattle.rectangle_pack_sections.proofs.Std.{Option, Some, None, length-set, length-append, get_or-set_same, get_or-set_other, All}
+use Rattle.rectangle_pack_sections.proofs.Std.{Option, Some, None, length-set, length-append, get_or-set_same, get_or-set_other, All, All-nil, All-cons, sum_by-cons}
 use Rattle.rectangle_pack_sections.proofs.Std.{inl, inr, cases_order, get_or-append_seam, get_or_append_left, get_or_default}
 use Rattle.std.proofs.lemmas.List.{get_or_past}
-use Rattle.rectangle_pack_sections.specs.Boxes.{Size}
+use Rattle.rectangle_pack_sections.specs.Boxes.{Size, Holds}
 use Rattle.rectangle_pack_lists.specs.declared.section_slots.summary.Summary.{Summary}
 use Rattle.rectangle_pack_lists.specs.private.Summaries.{Bounds}
 use Rattle.rectangle_pack_lists.proofs.lemmas.trial.Summaries.{none-bounded}
@@ -73,7 +73,7 @@ AreSummed-stays bins k before after summaries low summed is same =
 pub OpenBinsHoldNone-ruled : (all : List Open) (summaries : List (Option Summary)) (size : Size) (n from tests : ℕ) (bins : List Open) (here : List (Option Summary))
     → AreSummed all summaries → from + n ≤ length all → from + n ≤ length summaries → drop from all ≡ bins → drop from summaries ≡ here
     → RuleOut (take n here) size tests → OpenBinsHoldNone (take n bins) size tests
-OpenBinsHoldNone-ruled all summaries size zero from tests bins here summed in_bins in_summaries b s out = out
+OpenBinsHoldNone-ruled all summaries size zero from tests bins here summed in_bins in_summaries b s out = (All-nil _, out)
 OpenBinsHoldNone-ruled all summaries size (suc n) from tests [] here summed in_bins in_summaries b s out = absurd (drop-some all from n b in_bins)
 OpenBinsHoldNone-ruled all summaries size (suc n) from tests (bin ∷ bins) [] summed in_bins in_summaries b s out = absurd (drop-some summaries from n s in_summaries)
 OpenBinsHoldNone-ruled all summaries size (suc n) from tests (bin ∷ bins) (None ∷ here) summed in_bins in_summaries b s out = absurd out
@@ -81,9 +81,9 @@ OpenBinsHoldNone-ruled all summaries size (suc n) from tests (bin ∷ bins) (Som
     let this = drop-head all from bin bins b in
     let its = drop-head summaries from (Some summary) here s in
     let known : at summaries from ≡ Some summary = get_or_default summaries from None (Some summary) its.0 ∙ sym its.1 in
-    let bounds = summed.each from bin summary this.0 this.1 known in (
-      none-bounded summary bin.now.sections size bounds out.0,
-      out.1,
-      OpenBinsHoldNone-ruled all summaries size n (suc from) out.1 bins here summed (omega (arith, in_bins)) (omega (arith, in_summaries)) this.2 its.2 out.2,
-      omega (arith, out.3, bounds.count),
+    let bounds = summed.each from bin summary this.0 this.1 known in
+    let rest = OpenBinsHoldNone-ruled all summaries size n (suc from) out.1 bins here summed (omega (arith, in_bins)) (omega (arith, in_summaries)) this.2 its.2 out.2
+    in (
+      All-cons (λ (o : Open). All (λ s. ¬ Holds s size) o.now.sections) bin (take n bins) (none-bounded summary bin.now.sections size bounds out.0) rest.0,
+      omega (arith, out.3, bounds.count, rest.1, sum_by-cons (λ (o : Open). length o.now.sections) bin (take n bins)),
     )
