@@ -3,6 +3,7 @@ use Rattle.rectangle_pack_c.proofs.Std.{◌≡◌, ◌≢◌, ◌⊎◌, inl, in
 use Rattle.rectangle_pack_c.proofs.Std.{arith, length-append, All, AllPairs, Contains, Option, None, Some, map, slice_get, option_map, nat_cmp, Ordering, lookup, is_at, Result}
 use Rattle.rectangle_pack_c.proofs.Std.{drop-append_seam, take_all, All-weaker, All-contains, Contains-append_right, slice_get-map}
 use Rattle.rectangle_pack_c.proofs.OrderLemmas.{group_same}
+use Rattle.std.proofs.Common.{Err}
 use Rattle.rectangle_pack_sections.specs.declared.box_size_heuristics.named.Heuristic.{Heuristic}
 use Rattle.rectangle_pack_sections.specs.declared.box_size_heuristics.named.Heuristic.TheVariants.{Volume}
 use Rattle.rectangle_pack.specs.declared.grouped_rects_to_place.Group.{Group}
@@ -215,6 +216,18 @@ none_chosen heuristic boxes exclusions chosen other old new DuplicateBin h = h
 none_chosen heuristic boxes exclusions chosen other old new UnknownBin h = h
 none_chosen heuristic boxes exclusions chosen other old new UnknownPlacement h = h
 none_chosen heuristic boxes exclusions chosen other old new NumbersUsedUp h = h
+
+-- a packing that is refused, by cases on the error
+pub refused_so : (heuristic : ℕ) (boxes : List RpBox) (exclusions : List RpExclusion) (all : Collection ℕ ℕ) → IsCollected boxes exclusions all
+    → (error : SessionError) (old new : State ℕ ℕ) → PacksBest group_order nat_cmp nat_cmp (asked heuristic) all old (Err error) new
+    → PacksBestAsPromised group_order nat_cmp nat_cmp (asked heuristic) all old (Err error) new
+    → PacksCollection heuristic boxes exclusions 0 old (Refused error) new
+refused_so heuristic boxes exclusions all collected NotEnoughBinSpace old new packs promise = (all, collected, packs, promise)
+refused_so heuristic boxes exclusions all collected OutOfMemory old new packs promise = packs.1
+refused_so heuristic boxes exclusions all collected DuplicateBin old new packs promise = (all, collected, packs, promise)
+refused_so heuristic boxes exclusions all collected UnknownBin old new packs promise = (all, collected, packs, promise)
+refused_so heuristic boxes exclusions all collected UnknownPlacement old new packs promise = (all, collected, packs, promise)
+refused_so heuristic boxes exclusions all collected NumbersUsedUp old new packs promise = (all, collected, packs, promise)
 
 -- a session changes by volume as the collection of boxes alone says
 pub changes_by_volume : (c : RpCollection) (boxes : List RpBox) (chosen : ℕ) (old : Option (State ℕ ℕ)) (status : ℕ) (new : Option (State ℕ ℕ))

@@ -1,9 +1,27 @@
-use Rattle.rectangle_pack_c.proofs.Std.{◌∙◌, length, List, subst}
+use Rattle.rectangle_pack_c.proofs.Std.{◌∙◌, arith, length, List, rules, subst}
 use Rattle.rectangle_pack_c.specs.declared.RpBox.{RpBox}
 use Rattle.rectangle_pack_c.specs.Collections.{all_boxes, IsCollected}
 use Rattle.rectangle_pack_c.proofs.FaultLemmas.{sound, no_boxes}
-use Rattle.rectangle_pack_c.proofs.SessionLemmas.{no_groups, new_entries, new_part, new_ids, new_once, records_are}
+use Rattle.rectangle_pack_c.proofs.SessionLemmas.{no_groups, new_entries, new_part, new_ids, new_once, records_are, refused_so}
 use Rattle.rectangle_pack_c.proofs.pack_into.Goals as goal
+
+pub collection_of-requires : goal.collection_of-requires
+collection_of-requires g c =
+    let s = sound c.args.collection.now c.args.heuristic (length c.args.placements.now) c.requires.sound in
+    record { few = omega (arith, s.as_many, s.few); known = s.known; differ = s.differ }
+
+pub returns-in_err-best-clause-refused : goal.returns-in_err-best-clause-refused
+returns-in_err-best-clause-refused g c =
+    let all = c.in_ok-rects in
+    let h = refused_so c.args.heuristic (all_boxes c.args.collection.now) c.args.collection.now.exclusions.now all.rects all.ensures.collected
+    c.in_err-best.field-0.0 c.args.session.now c.pack_asked.new.session c.in_err-best.ensures.packed c.in_err-best.ensures.promise in
+    search rules
+
+pub returns-clause-packed : goal.returns-clause-packed
+returns-clause-packed g c =
+    let all = c.in_ok-rects in
+    let best = c.in_ok-best in
+    (best.field-0-1, (all.rects, best.best, all.ensures.collected, c.number_of.ensures, best.ensures.packed, best.ensures.promise))
 
 pub write_all-requires-clause-within : goal.write_all-requires-clause-within
 write_all-requires-clause-within g c =

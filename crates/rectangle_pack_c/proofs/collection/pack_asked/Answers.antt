@@ -1,5 +1,4 @@
-use Rattle.rectangle_pack_c.proofs.Std.{◌∷◌, [], refl}
-use Rattle.rectangle_pack_c.specs.Heuristics.{all_heuristics}
+use Rattle.rectangle_pack_c.proofs.Std.{◌∷◌, [], ◌∙◌, refl, sym}
 use Rattle.rectangle_pack_groups.proofs.lemmas.groups.GroupOrder.{same_order}
 use Rattle.rectangle_pack_c.proofs.FaultLemmas.{all_asked}
 use Rattle.rectangle_pack_c.proofs.SessionLemmas.{packs_asked, promise_asked}
@@ -18,14 +17,14 @@ returns-in-Some-clause-promise c =
 pub returns-in-None-clause-packed : goal.returns-in-None-clause-packed
 returns-in-None-clause-packed c =
     let best = c.pack_best-in-None in
-    packs_asked _ (same_order _ _ _ (λ a b. refl) (λ a b. refl) (λ a b. refl) (λ a b. refl)) c.args.heuristic all_heuristics
-    (all_asked c.args.heuristic c.requires.known c.in-None.ensures) c.args.rects.now c.args.session.now best.new.self best.result best.ensures.packed
+    packs_asked _ (same_order _ _ _ (λ a b. refl) (λ a b. refl) (λ a b. refl) (λ a b. refl)) c.args.heuristic c.all.result
+    (all_asked c.args.heuristic c.requires.known c.in-None.ensures ∙ sym c.all.ensures) c.args.rects.now c.args.session.now best.new.self best.result best.ensures.packed
 
 pub returns-in-None-clause-promise : goal.returns-in-None-clause-promise
 returns-in-None-clause-promise c =
     let best = c.pack_best-in-None in
-    promise_asked _ (same_order _ _ _ (λ a b. refl) (λ a b. refl) (λ a b. refl) (λ a b. refl)) c.args.heuristic all_heuristics
-    (all_asked c.args.heuristic c.requires.known c.in-None.ensures) c.args.rects.now c.args.session.now best.new.self best.result best.ensures.promise
+    promise_asked _ (same_order _ _ _ (λ a b. refl) (λ a b. refl) (λ a b. refl) (λ a b. refl)) c.args.heuristic c.all.result
+    (all_asked c.args.heuristic c.requires.known c.in-None.ensures ∙ sym c.all.ensures) c.args.rects.now c.args.session.now best.new.self best.result best.ensures.promise
 
 pub returns-in-Some-clause-no_groups : goal.returns-in-Some-clause-no_groups
 returns-in-Some-clause-no_groups c = λ _ none. c.pack_best.ensures.no_groups refl none
