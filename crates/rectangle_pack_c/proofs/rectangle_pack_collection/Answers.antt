@@ -1,4 +1,4 @@
-use Rattle.rectangle_pack_c.proofs.Std.{◌∙◌, length, subst, sym, ℕ}
+use Rattle.rectangle_pack_c.proofs.Std.{◌∙◌, arith, length, refl, rules, subst, sym, ℕ}
 use Rattle.rectangle_pack.specs.declared.session.command.Reply.TheVariants.{Refused}
 use Rattle.rectangle_pack.specs.declared.session.command.SessionError.TheVariants.{NotEnoughBinSpace}
 use Rattle.rectangle_pack.specs.Session.{State}
@@ -8,6 +8,19 @@ use Rattle.rectangle_pack_c.specs.Sessions.{PacksCollection}
 use Rattle.rectangle_pack_c.proofs.FaultLemmas.{sound}
 use Rattle.rectangle_pack_c.proofs.AnswerLemmas.{IsAnswered, answered, answer_refused, one_best, never_best}
 use Rattle.rectangle_pack_c.proofs.rectangle_pack_collection.Goals as goal
+
+pub returns-then-bins-ge-LIMIT : goal.returns-then-bins-ge-LIMIT
+returns-then-bins-ge-LIMIT c = record {
+  faults = search rules;
+  unchanged = λ other. (refl, refl);
+  done = λ is. absurd (omega (arith, is));
+  apart = λ is. absurd (omega (arith, is));
+  packed = λ is. absurd (omega (arith, is));
+  one_packing = λ is. absurd (omega (arith, is));
+  never_refused = λ is. absurd (omega (arith, is));
+  refused = λ is. absurd (omega (arith, is));
+  never_packed = λ is. absurd (omega (arith, is));
+}
 
 all_said : (c : goal.After-drop-session-inside-in-Ok-pack_into-3) → IsAnswered c.args.bins.now (all_boxes c.args.collection.now)
     c.args.collection.now.exclusions.now c.args.heuristic c.in-Ok-pack_into.best c.pack_into.new.placements
