@@ -62,20 +62,18 @@ fn members_name_boxes_and_groups_differ(rt: HostRuntime) -> Result<(), Fail> {
         RpExclusion { one: 3, other: 3 },
         RpExclusion { one: 3, other: 4 },
     );
-    let none = [9, 9, 9];
-    assert_eq!(rt;
+    let answers = [
         two_strips(rt.alloc(), unknown, equal),
-        (RP_UNKNOWN_BOX, 99, none)
-    );
-    assert_eq!(rt;
         two_strips(rt.alloc(), known, equal),
-        (RP_EQUAL_GROUPS, 99, none)
-    );
-    // The group 1 has two strips of the width 4, and leaves too little of its sheet for a third.
-    assert_eq!(rt;
         two_strips(rt.alloc(), known, other),
-        (RP_DONE, RP_VOLUME, [0, 1, 0])
-    );
+    ];
+    let want = [
+        (RP_UNKNOWN_BOX, 99, [9, 9, 9]),
+        (RP_EQUAL_GROUPS, 99, [9, 9, 9]),
+        // The group 1 has two strips of the width 4, and leaves too little of its sheet for a third.
+        (RP_DONE, RP_VOLUME, [0, 1, 0]),
+    ];
+    assert_eq!(rt; answers, want);
     Ok(())
 }
 
@@ -107,19 +105,17 @@ fn three_boxes(alloc: Global, heuristic: u32) -> (u32, u32, [u32; 3]) {
 
 #[test]
 fn the_best_heuristic_is_said(rt: HostRuntime) -> Result<(), Fail> {
-    let none = [9, 9, 9];
-    assert_eq!(rt;
+    let answers = [
         three_boxes(rt.alloc(), RP_VOLUME),
-        (RP_NOT_ENOUGH_SPACE, 99, none)
-    );
-    assert_eq!(rt;
         three_boxes(rt.alloc(), RP_BEST),
-        (RP_DONE, RP_HEIGHT, [0, 0, 0])
-    );
-    assert_eq!(rt;
         three_boxes(rt.alloc(), 8),
-        (RP_UNKNOWN_HEURISTIC, 99, none)
-    );
+    ];
+    let want = [
+        (RP_NOT_ENOUGH_SPACE, 99, [9, 9, 9]),
+        (RP_DONE, RP_HEIGHT, [0, 0, 0]),
+        (RP_UNKNOWN_HEURISTIC, 99, [9, 9, 9]),
+    ];
+    assert_eq!(rt; answers, want);
     Ok(())
 }
 

@@ -135,6 +135,8 @@ const REST: [u32; 6] = [4, 0, 0, 6, 10, 1];
 
 const STRIP: [u32; 6] = [0, 0, 0, 4, 10, 1];
 
+const WHOLE: [u32; 6] = [0, 0, 0, 10, 10, 1];
+
 const NINES: [u32; 6] = [9; 6];
 
 // The bin 7 of 10x10x1 takes a box 4x10x1, and what is left is one free section. So one cut parts
@@ -145,14 +147,19 @@ fn lists_are_read(rt: HostRuntime) -> Result<(), Fail> {
     let mut session = RpSession::none(alloc);
     assert!(rt; opens(alloc, &mut session));
     pack(alloc, &mut session, 4);
-    let ids = bins(alloc, &mut session, 2);
-    assert_eq!(rt; ids, (RP_DONE, 1, [7, 99]));
-    let free = sections(alloc, &mut session, 7, 3);
-    assert_eq!(rt; free, (RP_DONE, 1, [REST, NINES]));
-    let placed = outstanding(alloc, &mut session, 1);
-    assert_eq!(rt; placed, (RP_DONE, 1, (0, [0, 7], STRIP)));
-    let steps = plan(alloc, &mut session, 7, 4);
-    assert_eq!(rt; steps, (RP_DONE, 3, [[0, 4], [RP_LEAF, 0], [RP_LEAF, 0]]));
+    let lists = (
+        bins(alloc, &mut session, 2),
+        sections(alloc, &mut session, 7, 3),
+        outstanding(alloc, &mut session, 1),
+        plan(alloc, &mut session, 7, 4),
+    );
+    let want = (
+        (RP_DONE, 1, [7, 99]),
+        (RP_DONE, 1, [REST, NINES]),
+        (RP_DONE, 1, (0, [0, 7], STRIP)),
+        (RP_DONE, 3, [[0, 4], [RP_LEAF, 0], [RP_LEAF, 0]]),
+    );
+    assert_eq!(rt; lists, want);
     rectangle_pack_session_free(alloc, &mut session);
     Ok(())
 }
@@ -164,14 +171,19 @@ fn short_arrays_stay(rt: HostRuntime) -> Result<(), Fail> {
     let mut session = RpSession::none(alloc);
     assert!(rt; opens(alloc, &mut session));
     pack(alloc, &mut session, 4);
-    let ids = bins(alloc, &mut session, 0);
-    assert_eq!(rt; ids, (RP_SHORT_ARRAY, 1, [99, 99]));
-    let free = sections(alloc, &mut session, 7, 0);
-    assert_eq!(rt; free, (RP_SHORT_ARRAY, 1, [NINES, NINES]));
-    let placed = outstanding(alloc, &mut session, 0);
-    assert_eq!(rt; placed, (RP_SHORT_ARRAY, 1, (99, [99, 99], NINES)));
-    let steps = plan(alloc, &mut session, 7, 2);
-    assert_eq!(rt; steps, (RP_SHORT_ARRAY, 3, [[9, 9], [9, 9], [9, 9]]));
+    let lists = (
+        bins(alloc, &mut session, 0),
+        sections(alloc, &mut session, 7, 0),
+        outstanding(alloc, &mut session, 0),
+        plan(alloc, &mut session, 7, 2),
+    );
+    let want = (
+        (RP_SHORT_ARRAY, 1, [99, 99]),
+        (RP_SHORT_ARRAY, 1, [NINES, NINES]),
+        (RP_SHORT_ARRAY, 1, (99, [99, 99], NINES)),
+        (RP_SHORT_ARRAY, 3, [[9, 9], [9, 9], [9, 9]]),
+    );
+    assert_eq!(rt; lists, want);
     rectangle_pack_session_free(alloc, &mut session);
     Ok(())
 }
@@ -182,16 +194,31 @@ fn unknown_bins_are_named(rt: HostRuntime) -> Result<(), Fail> {
     let alloc = rt.alloc();
     let mut session = RpSession::none(alloc);
     assert!(rt; opens(alloc, &mut session));
-    let free = sections(alloc, &mut session, 8, 3);
-    assert_eq!(rt; free, (RP_UNKNOWN_BIN, 99, [NINES, NINES]));
-    let steps = plan(alloc, &mut session, 8, 4);
-    assert_eq!(rt; steps, (RP_UNKNOWN_BIN, 99, [[9, 9], [9, 9], [9, 9]]));
-    let was = was_coalesced(alloc, &mut session, 8);
-    assert_eq!(rt; was, (RP_UNKNOWN_BIN, 99));
-    let joined = rectangle_pack_session_coalesce(alloc, &mut session, 8, 0, 0, 1);
-    assert_eq!(rt; joined, RP_UNKNOWN_BIN);
+    let told = (
+        sections(alloc, &mut session, 8, 3),
+        plan(alloc, &mut session, 8, 4),
+        was_coalesced(alloc, &mut session, 8),
+        rectangle_pack_session_coalesce(alloc, &mut session, 8, 0, 0, 1),
+    );
+    let want = (
+        (RP_UNKNOWN_BIN, 99, [NINES, NINES]),
+        (RP_UNKNOWN_BIN, 99, [[9, 9], [9, 9], [9, 9]]),
+        (RP_UNKNOWN_BIN, 99),
+        RP_UNKNOWN_BIN,
+    );
+    assert_eq!(rt; told, want);
     rectangle_pack_session_free(alloc, &mut session);
     Ok(())
+}
+
+// What is answered where the section 1 of the bin 7 is joined with those from `start` to below 2: the
+// status, and the sections afterwards.
+fn join(alloc: Global, session: &mut RpSession, start: usize) -> (u32, (u32, usize, [[u32; 6]; 2]))
+    requires { IsSome session.old.state }
+    ensures { IsSome session.new.state }
+{
+    let status = rectangle_pack_session_coalesce(alloc, session, 7, 1, start, 2);
+    (status, sections(alloc, session, 7, 3))
 }
 
 // A strip is packed and released. Its section, the newest, stands beside the other, and joins it only
@@ -202,21 +229,23 @@ fn one_section_is_joined(rt: HostRuntime) -> Result<(), Fail> {
     let mut session = RpSession::none(alloc);
     assert!(rt; opens(alloc, &mut session));
     pack(alloc, &mut session, 4);
-    let number = rectangle_pack_session_next_number(alloc, &mut session);
-    assert_eq!(rt; number, 1);
-    rectangle_pack_session_release(alloc, &mut session, 0);
-    let before = was_coalesced(alloc, &mut session, 7);
-    assert_eq!(rt; before, (RP_DONE, 0));
-    let none = rectangle_pack_session_coalesce(alloc, &mut session, 7, 1, 1, 2);
-    assert_eq!(rt; none, RP_DONE);
-    let apart = sections(alloc, &mut session, 7, 3);
-    assert_eq!(rt; apart, (RP_DONE, 2, [REST, STRIP]));
-    let one = rectangle_pack_session_coalesce(alloc, &mut session, 7, 1, 0, 2);
-    assert_eq!(rt; one, RP_DONE);
-    let whole = sections(alloc, &mut session, 7, 3);
-    assert_eq!(rt; whole, (RP_DONE, 1, [[0, 0, 0, 10, 10, 1], NINES]));
-    let after = was_coalesced(alloc, &mut session, 7);
-    assert_eq!(rt; after, (RP_DONE, 1));
+    let answers = (
+        rectangle_pack_session_next_number(alloc, &mut session),
+        rectangle_pack_session_release(alloc, &mut session, 0),
+        was_coalesced(alloc, &mut session, 7),
+        [join(alloc, &mut session, 1), join(alloc, &mut session, 0)],
+        was_coalesced(alloc, &mut session, 7),
+    );
+    let apart = (RP_DONE, 2, [REST, STRIP]);
+    let whole = (RP_DONE, 1, [WHOLE, NINES]);
+    let want = (
+        1,
+        RP_DONE,
+        (RP_DONE, 0),
+        [(RP_DONE, apart), (RP_DONE, whole)],
+        (RP_DONE, 1),
+    );
+    assert_eq!(rt; answers, want);
     rectangle_pack_session_free(alloc, &mut session);
     Ok(())
 }

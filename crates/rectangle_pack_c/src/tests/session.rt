@@ -93,14 +93,19 @@ fn a_box_is_packed_and_released(rt: HostRuntime) -> Result<(), Fail> {
     let alloc = rt.alloc();
     let mut session = RpSession::none(alloc);
     assert!(rt; opens(alloc, &mut session));
-    let packed = pack(alloc, &mut session, 4);
-    assert_eq!(rt; packed, (RP_DONE, 0, [7, 0, 0, 0]));
-    let full = stats(alloc, &mut session, 7);
-    assert_eq!(rt; full, (RP_DONE, [100, 60, 40, 0], [1, 1]));
-    let released = release_and_join(alloc, &mut session, 7);
-    assert_eq!(rt; released, [RP_DONE, RP_DONE]);
-    let free = stats(alloc, &mut session, 7);
-    assert_eq!(rt; free, (RP_DONE, [100, 100, 0, 0], [1, 0]));
+    let answers = (
+        pack(alloc, &mut session, 4),
+        stats(alloc, &mut session, 7),
+        release_and_join(alloc, &mut session, 7),
+        stats(alloc, &mut session, 7),
+    );
+    let want = (
+        (RP_DONE, 0, [7, 0, 0, 0]),
+        (RP_DONE, [100, 60, 40, 0], [1, 1]),
+        [RP_DONE, RP_DONE],
+        (RP_DONE, [100, 100, 0, 0], [1, 0]),
+    );
+    assert_eq!(rt; answers, want);
     rectangle_pack_session_free(alloc, &mut session);
     Ok(())
 }
@@ -128,17 +133,19 @@ fn refusals_are_named(rt: HostRuntime) -> Result<(), Fail> {
     let alloc = rt.alloc();
     let mut session = RpSession::none(alloc);
     assert!(rt; opens(alloc, &mut session));
-    let full = pack(alloc, &mut session, 11);
-    assert_eq!(rt; full, (RP_NOT_ENOUGH_SPACE, 99, [9, 9, 9, 9]));
-    let refused = add_again_and_pack_short(alloc, &mut session);
-    assert_eq!(rt;
-        refused,
-        ([RP_DUPLICATE_BIN, RP_BAD_LENGTHS], 99, [9, 9, 9, 9])
+    let refused = (
+        pack(alloc, &mut session, 11),
+        add_again_and_pack_short(alloc, &mut session),
+        release_and_join(alloc, &mut session, 8),
+        stats(alloc, &mut session, 8),
     );
-    let unknown = release_and_join(alloc, &mut session, 8);
-    assert_eq!(rt; unknown, [RP_UNKNOWN_PLACEMENT, RP_UNKNOWN_BIN]);
-    let untold = stats(alloc, &mut session, 8);
-    assert_eq!(rt; untold, (RP_UNKNOWN_BIN, [9, 9, 9, 9], [99, 99]));
+    let want = (
+        (RP_NOT_ENOUGH_SPACE, 99, [9, 9, 9, 9]),
+        ([RP_DUPLICATE_BIN, RP_BAD_LENGTHS], 99, [9, 9, 9, 9]),
+        [RP_UNKNOWN_PLACEMENT, RP_UNKNOWN_BIN],
+        (RP_UNKNOWN_BIN, [9, 9, 9, 9], [99, 99]),
+    );
+    assert_eq!(rt; refused, want);
     rectangle_pack_session_free(alloc, &mut session);
     Ok(())
 }
