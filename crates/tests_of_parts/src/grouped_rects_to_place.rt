@@ -7,7 +7,6 @@ mod owned_ids;
 use rectangle_pack::{Group, GroupedRectsToPlace, RectToInsert};
 use std::alloc::{AllocError, Global};
 use std::collections::BTreeMap;
-use std::process::Abort;
 use tests_support::boxes::{GroupName, Rects, SizedBox, exclude_all, push_boxes};
 use tests_support::refusing::Refusing;
 use tests_support::shapes::named;
@@ -67,13 +66,16 @@ fn has_groups(all: &GroupedRectsToPlace<u32, u32>, wanted: &[(GroupName, &[u32])
     found.next().is_none()
 }
 
+fn size_of(rect: &RectToInsert) -> [u32; 3] {
+    [rect.width(), rect.height(), rect.depth()]
+}
+
 // Whether the boxes are these, in order, with these sizes.
 fn has_boxes(all: &GroupedRectsToPlace<u32, u32>, wanted: &[Sized]) -> bool {
     let mut found = all.rects().iter();
     for (name, size) in wanted {
         match found.next() {
-            Some((id, rect))
-                if id == name && [rect.width(), rect.height(), rect.depth()] == *size => {}
+            Some((id, rect)) if id == name && size_of(rect) == *size => {}
             _ => return false,
         }
     }
@@ -105,8 +107,7 @@ fn have_size<T: Ord>(rects: &BTreeMap<T, RectToInsert>, ids: &[T]) -> bool {
     let mut found = rects.iter();
     for wanted in ids {
         match found.next() {
-            Some((id, rect))
-                if id == wanted && [rect.width(), rect.height(), rect.depth()] == SIZE => {}
+            Some((id, rect)) if id == wanted && size_of(rect) == SIZE => {}
             _ => return false,
         }
     }
@@ -127,39 +128,41 @@ fn are_in_one_group<T: Ord + Clone + Drop>(
     }
 }
 
-// Two boxes in one group.
-fn push_texts(
+// Pushes a box into the group.
+fn push_text(
     alloc: Global,
     all: &mut GroupedRectsToPlace<&'static str, &'static str>,
+    id: &'static str,
 ) -> Result<(), AllocError> {
-    for id in ["One", "Two"] {
-        all.push_rect(
-            id,
-            Some(vec![in alloc; "group"]?),
-            RectToInsert::new(10, 10, 1),
-        )?;
-    }
-    Ok(())
+    let groups = vec![in alloc; "group"]?;
+    all.push_rect(id, Some(groups), RectToInsert::new(10, 10, 1))
+}
+
+// Whether two boxes are in one group, once they are pushed.
+fn keeps_texts(
+    alloc: Global,
+    all: &mut GroupedRectsToPlace<&'static str, &'static str>,
+) -> Result<bool, AllocError> {
+    push_text(alloc, all, "One")?;
+    push_text(alloc, all, "Two")?;
+    Ok(are_in_one_group(all, &Group::Grouped("group"), &["One", "Two"]))
 }
 
 #[test]
 fn texts_as_ids(rt: HostRuntime) {
     let mut all = GroupedRectsToPlace::new(rt.alloc());
-    assert!(rt; push_texts(rt.alloc(), &mut all).is_ok());
-    assert!(rt; are_in_one_group(&all, &Group::Grouped("group"), &["One", "Two"]));
+    assert!(rt; matches!(keeps_texts(rt.alloc(), &mut all), Ok(true)));
 }
 
-// Two boxes in one group, each name a string of its own.
-fn push_strings(
+// Pushes a box, each name of which is a string of its own.
+fn push_string(
     alloc: Global,
     all: &mut GroupedRectsToPlace<String, String>,
+    id: &str,
 ) -> Result<(), AllocError> {
-    for id in ["One", "Two"] {
-        let groups = vec![in alloc; String::from_str(alloc, "group")?]?;
-        let id = String::from_str(alloc, id)?;
-        all.push_rect(id, Some(groups), RectToInsert::new(10, 10, 1))?;
-    }
-    Ok(())
+    let groups = vec![in alloc; String::from_str(alloc, "group")?]?;
+    let id = String::from_str(alloc, id)?;
+    all.push_rect(id, Some(groups), RectToInsert::new(10, 10, 1))
 }
 
 // Whether these are in the group, under equal strings that lie elsewhere.
@@ -175,11 +178,20 @@ fn holds_strings(
     Ok(are_in_one_group(all, &group, &ids))
 }
 
+// Whether two boxes are in one group, once they are pushed.
+fn keeps_strings(
+    alloc: Global,
+    all: &mut GroupedRectsToPlace<String, String>,
+) -> Result<bool, AllocError> {
+    push_string(alloc, all, "One")?;
+    push_string(alloc, all, "Two")?;
+    holds_strings(alloc, all)
+}
+
 #[test]
 fn strings_as_ids(rt: HostRuntime) {
     let mut all = GroupedRectsToPlace::new(rt.alloc());
-    assert!(rt; push_strings(rt.alloc(), &mut all).is_ok());
-    assert!(rt; matches!(holds_strings(rt.alloc(), &all), Ok(true)));
+    assert!(rt; matches!(keeps_strings(rt.alloc(), &mut all), Ok(true)));
 }
 
 #[derive(Clone, Copy, PartialEq, Eq, PartialOrd, Ord, Drop)]
@@ -188,24 +200,31 @@ enum Side {
     Back,
 }
 
-// Two boxes in one group.
-fn push_sides(alloc: Global, all: &mut GroupedRectsToPlace<Side, Side>) -> Result<(), AllocError> {
-    for id in [Side::Front, Side::Back] {
-        all.push_rect(
-            id,
-            Some(vec![in alloc; Side::Back]?),
-            RectToInsert::new(10, 10, 1),
-        )?;
-    }
-    Ok(())
+// Pushes a box into the group.
+fn push_side(
+    alloc: Global,
+    all: &mut GroupedRectsToPlace<Side, Side>,
+    id: Side,
+) -> Result<(), AllocError> {
+    let groups = vec![in alloc; Side::Back]?;
+    all.push_rect(id, Some(groups), RectToInsert::new(10, 10, 1))
+}
+
+// Whether two boxes are in one group, once they are pushed.
+fn keeps_sides(
+    alloc: Global,
+    all: &mut GroupedRectsToPlace<Side, Side>,
+) -> Result<bool, AllocError> {
+    push_side(alloc, all, Side::Front)?;
+    push_side(alloc, all, Side::Back)?;
+    let ids = [Side::Front, Side::Back];
+    Ok(are_in_one_group(all, &Group::Grouped(Side::Back), &ids))
 }
 
 #[test]
 fn names_as_ids(rt: HostRuntime) {
     let mut all = GroupedRectsToPlace::new(rt.alloc());
-    assert!(rt; push_sides(rt.alloc(), &mut all).is_ok());
-    let ids = [Side::Front, Side::Back];
-    assert!(rt; are_in_one_group(&all, &Group::Grouped(Side::Back), &ids));
+    assert!(rt; matches!(keeps_sides(rt.alloc(), &mut all), Ok(true)));
 }
 
 // Whether each group has one member, and no more room than for a few.
@@ -228,17 +247,12 @@ fn push_into_many(
     all.push_rect(1, named, RectToInsert::new(1, 1, 1))
 }
 
-fn has_little_room(rt: &impl Abort, all: &GroupedRectsToPlace<u32, u32>) {
-    assert_eq!(rt; all.groups().len(), 200);
-    assert!(rt; have_little_room(all), "{all:?}");
-}
-
 // A push into 200 groups with one member each leaves no list with room for more than a few.
 #[test]
 fn room_grows_as_the_groups_named(rt: HostRuntime) {
     let mut all = GroupedRectsToPlace::new(rt.alloc());
     assert!(rt; push_into_many(rt.alloc(), &mut all).is_ok());
-    has_little_room(&rt, &all);
+    assert!(rt; all.groups().len() == 200 && have_little_room(&all));
 }
 
 // Each box is in one of four groups, and all are in group 4.
@@ -309,15 +323,13 @@ fn has_pairs(rects: &Rects) -> bool {
     true
 }
 
-fn excludes_pairs(rt: &impl Abort, rects: &mut Rects) {
-    assert!(rt; exclude_all(rects, EXCLUDED).is_ok());
-    assert!(rt; has_pairs(rects));
-    assert!(rt; rects.groups().is_empty());
+fn excludes_pairs(rects: &mut Rects) -> bool {
+    exclude_all(rects, EXCLUDED).is_ok() && has_pairs(rects) && rects.groups().is_empty()
 }
 
 #[test]
 fn pairs(rt: HostRuntime) {
     let refusing = Refusing::new(rt.alloc(), u64::MAX).expect(&rt, "no memory for the counts");
     let mut rects = Rects::new(refusing);
-    excludes_pairs(&rt, &mut rects);
+    assert!(rt; excludes_pairs(&mut rects));
 }

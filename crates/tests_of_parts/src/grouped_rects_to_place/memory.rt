@@ -1,12 +1,14 @@
 //! Collections of boxes whose memory, or whose ids' clones, are refused.
+ghost use Rattle.std.specs.Prelude.{◌<◌, vec_len};
+ghost use Rattle.std.specs.Option.{ForSome};
 
 use rectangle_pack::{Group, RectToInsert};
 use std::alloc::{AllocError, Global};
 use std::process::Abort;
-use std::test::Fail;
 use tests_support::each_request::End;
 use tests_support::names::{Clones, Name, Rects};
 use tests_support::refusing::Refusing;
+use tests_support::shapes::named;
 
 // What a collection holds: its groups with their boxes, where a box alone has the group `None`, and
 // the boxes with their sizes.
@@ -183,20 +185,31 @@ fn push_old(all: &mut Rects, alloc: Refusing, clones: Clones) -> Result<(), Allo
     )
 }
 
+// Whether the box is pushed into these groups, and not refused.
+fn is_pushed(all: &mut Rects, name: Name, groups: Option<Vec<u32, Refusing>>) -> bool
+    requires { ForSome groups (λ named. 0 < vec_len named) }
+{
+    all.push_rect(name, groups, RectToInsert::new(2, 3, 1))
+        .is_ok()
+}
+
 // Pushes the box into these groups. Refused, this changes nothing.
 fn pushes(
     rt: &impl Abort,
     all: &mut Rects,
-    named: Vec<u32, Refusing>,
+    groups: Option<Vec<u32, Refusing>>,
     clones: Clones,
     push: &Push,
-) -> End {
-    let named = if named.is_empty() { None } else { Some(named) };
+) -> End
+    requires { ForSome groups (λ named. 0 < vec_len named) }
+{
     let number = push.id;
-    let rect = RectToInsert::new(2, 3, 1);
-    let is_done = all.push_rect(Name { number, clones }, named, rect).is_ok();
-    assert!(rt; has(all, if is_done { push.after } else { push.before }));
-    if is_done { End::Done } else { End::Refused }
+    if is_pushed(all, Name { number, clones }, groups) {
+        assert!(rt; has(all, push.after));
+        return End::Done;
+    }
+    assert!(rt; has(all, push.before));
+    End::Refused
 }
 
 // A push for which so many clones are left. Only the collection before it takes more.
@@ -211,11 +224,11 @@ fn end_of_push(
     if !push.before.sizes.is_empty() && push_old(all, alloc, clones).is_err() {
         return End::Before;
     }
-    let Ok(named) = push.named.to_vec(alloc) else {
+    let Ok(groups) = named(alloc, push.named) else {
         return End::Before;
     };
     clones.set(count);
-    pushes(rt, all, named, clones, push)
+    pushes(rt, all, groups, clones, push)
 }
 
 // Whether the groups 0 and 1 are excluded, and the group 0 and the old box alone unless that was
@@ -282,7 +295,7 @@ fn end(
     let refusing = Refusing::new(alloc, requests)?;
     clones.set(u64::MAX);
     let end = end_in_new(rt, refusing, clones, count, push);
-    assert_eq!(rt; refusing.taken(), 0);
+    assert!(rt; refusing.taken() == 0);
     Ok(end)
 }
 
@@ -322,15 +335,13 @@ fn all_pushes() -> &'static [Push] {
 }
 
 #[test]
-fn pushes_into_collections(rt: HostRuntime) -> Result<(), Fail> {
+fn pushes_into_collections(rt: HostRuntime) {
     for push in all_pushes() {
-        assert!(rt; are_refused(&rt, rt.alloc(), Some(push))?);
+        assert!(rt; matches!(are_refused(&rt, rt.alloc(), Some(push)), Ok(true)));
     }
-    Ok(())
 }
 
 #[test]
-fn exclusions(rt: HostRuntime) -> Result<(), Fail> {
-    assert!(rt; are_refused(&rt, rt.alloc(), None)?);
-    Ok(())
+fn exclusions(rt: HostRuntime) {
+    assert!(rt; matches!(are_refused(&rt, rt.alloc(), None), Ok(true)));
 }

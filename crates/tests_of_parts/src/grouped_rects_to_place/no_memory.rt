@@ -30,8 +30,7 @@ fn end_of_pair(rt: &impl Abort, alloc: Refusing, rects: &mut Rects) -> End {
     if rects.exclude(Group::Grouped(0), Group::Grouped(1)).is_err() {
         return End::Before;
     }
-    assert_eq!(rt; alloc.left(), 0);
-    assert!(rt; keeps_the_pair(rects));
+    assert!(rt; alloc.left() == 0 && keeps_the_pair(rects));
     End::Done
 }
 

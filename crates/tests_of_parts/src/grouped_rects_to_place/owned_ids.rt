@@ -8,27 +8,19 @@ use tests_support::each_request::{End, is_refused};
 use tests_support::refusing::Refusing;
 
 // An id that owns memory, which its clones take too.
-#[derive(Clone, PartialEq, Eq, PartialOrd, Ord, Drop)]
-struct Text {
-    text: String<Refusing>,
-}
+type Text = String<Refusing>;
 
 type TextRects = GroupedRectsToPlace<Text, u32, Refusing>;
 
-fn text_of(alloc: Refusing, from: &str) -> Result<Text, AllocError> {
-    let text = String::from_str(alloc, from)?;
-    Ok(Text { text })
-}
-
 fn push_text(all: &mut TextRects, alloc: Refusing, id: &str) -> Result<(), AllocError> {
-    let id = text_of(alloc, id)?;
+    let id = String::from_str(alloc, id)?;
     let named = [0, 1, 0].to_vec(alloc)?;
     all.push_rect(id, Some(named), RectToInsert::new(2, 3, 1))
 }
 
 // Excludes the box alone from group 0.
 fn exclude_text(all: &mut TextRects, alloc: Refusing, id: &str) -> Result<(), AllocError> {
-    let alone = Group::Ungrouped(text_of(alloc, id)?);
+    let alone = Group::Ungrouped(String::from_str(alloc, id)?);
     all.exclude(alone, Group::Grouped(0))
 }
 
@@ -39,8 +31,21 @@ fn entries(all: &TextRects) -> (Option<(usize, usize)>, usize) {
     (zero.zip(one), all.rects().len())
 }
 
-// Pushes a box beside one that is there, and excludes that one alone from group 0. Where this is
-// refused, nothing is changed.
+// Excludes the box alone, which is there under an equal text, from group 0. Refused, this changes
+// nothing.
+fn end_of_exclusion(
+    rt: &impl Abort,
+    alloc: Refusing,
+    all: &mut TextRects,
+    old: &Group<u32, Text>,
+) -> End {
+    let is_done = exclude_text(all, alloc, "old").is_ok();
+    assert!(rt; all.excluded(old, &Group::Grouped(0)) == is_done);
+    if is_done { End::Done } else { End::Refused }
+}
+
+// Pushes a box beside one that is there, and excludes that one. Where the push is refused, nothing
+// is changed.
 fn calls_by_texts(
     rt: &impl Abort,
     alloc: Refusing,
@@ -55,14 +60,12 @@ fn calls_by_texts(
         return End::Refused;
     }
     assert!(rt; entries(all) == (Some((4, 2)), 2));
-    let is_done = exclude_text(all, alloc, "old").is_ok();
-    assert!(rt; all.excluded(old, &Group::Grouped(0)) == is_done);
-    if is_done { End::Done } else { End::Refused }
+    end_of_exclusion(rt, alloc, all, old)
 }
 
 // The calls in a new collection.
 fn end_by_texts(rt: &impl Abort, alloc: Refusing) -> End {
-    match text_of(alloc, "old") {
+    match String::from_str(alloc, "old") {
         Ok(old) => {
             let mut all = TextRects::new(alloc);
             calls_by_texts(rt, alloc, &mut all, &Group::Ungrouped(old))
