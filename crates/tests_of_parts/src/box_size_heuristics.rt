@@ -1,23 +1,19 @@
 //! Heuristics, and their names.
 
-use super::width_height_depth::VOLUMES;
+use super::width_height_depth::{VOLUMES, sized};
 use rectangle_pack::{
     Heuristic, UnknownHeuristic, WidthHeightDepth, depth_heuristic, height_heuristic,
     longest_side_heuristic, shortest_side_heuristic, side_area_heuristic, side_sum_heuristic,
     volume_heuristic, width_heuristic,
 };
-use std::process::Abort;
-use std::test::Fail;
-use tests_support::shapes::section;
+use std::alloc::{AllocError, Global};
 
 #[test]
 fn volumes(rt: HostRuntime) {
     for (size, volume) in VOLUMES {
-        let [width, height, depth] = *size;
-        let whd = section(0, 0, 0, width, height, depth).whd();
-        assert_eq!(rt; volume_heuristic(whd), *volume);
+        assert!(rt; volume_heuristic(sized(*size)) == *volume, "{size:?}");
     }
-    assert_eq!(rt; volume_heuristic(WidthHeightDepth::default()), 0);
+    assert!(rt; volume_heuristic(WidthHeightDepth::default()) == 0);
 }
 
 // Each heuristic by its text, and its rate of a box 3 wide, 7 high and 5 deep. Where three numbers
@@ -50,21 +46,30 @@ fn box_3_7_5() -> WidthHeightDepth {
     WidthHeightDepth::new(3, 7, 5)
 }
 
+// Whether the heuristic is printed as this text, and read from it.
+fn is_named(alloc: Global, heuristic: Heuristic, text: &str) -> Result<bool, AllocError> {
+    let printed = heuristic.to_string(alloc)?;
+    let read = text.parse::<Heuristic>();
+    Ok(printed.as_str() == text && matches!(read, Ok(read) if read == heuristic))
+}
+
 #[test]
-fn rates_by_names(rt: HostRuntime) {
+fn names_and_rates(rt: HostRuntime) {
     let mut listed = Heuristic::ALL.iter();
     for (heuristic, name, rate) in names() {
         assert!(rt;
-            listed.next() == Some(heuristic) && heuristic.rate(box_3_7_5()) == *rate,
+            listed.next() == Some(heuristic)
+                && heuristic.rate(box_3_7_5()) == *rate
+                && matches!(is_named(rt.alloc(), *heuristic, name), Ok(true)),
             "{name}"
         );
     }
     assert!(rt; listed.next().is_none());
 }
 
-#[test]
-fn rates_by_functions(rt: HostRuntime) {
-    let rates = [
+// What the functions rate the box at.
+fn rates() -> [u128; 8] {
+    [
         volume_heuristic(box_3_7_5()),
         height_heuristic(box_3_7_5()),
         width_heuristic(box_3_7_5()),
@@ -73,37 +78,31 @@ fn rates_by_functions(rt: HostRuntime) {
         longest_side_heuristic(box_3_7_5()),
         shortest_side_heuristic(box_3_7_5()),
         side_area_heuristic(box_3_7_5()),
-    ];
+    ]
+}
+
+#[test]
+fn rates_by_functions(rt: HostRuntime) {
+    let rates = rates();
     let mut found = rates.iter();
     for (_, name, rate) in names() {
         assert!(rt; found.next() == Some(rate), "{name}");
     }
 }
 
-// Each heuristic is printed as its text, and read from it.
-fn is_named(rt: &impl Abort, text: &str, heuristic: Heuristic) {
-    assert!(rt;
-        matches!(text.parse::<Heuristic>(), Ok(read) if read == heuristic),
-        "{text}"
-    );
-}
+// Texts that name no heuristic.
+const OTHER_TEXTS: &[&str] = &["", "Height", "height ", "heigh", "sides"];
 
 #[test]
-fn texts(rt: HostRuntime) -> Result<(), Fail> {
-    for (heuristic, text, _) in names() {
-        let printed = heuristic.to_string(rt.alloc())?;
-        assert!(rt; printed.as_str() == *text, "{text}");
-        is_named(&rt, text, *heuristic);
-    }
-    Ok(())
-}
-
-#[test]
-fn other_texts(rt: HostRuntime) -> Result<(), Fail> {
-    for text in ["", "Height", "height ", "heigh", "sides"] {
+fn other_texts(rt: HostRuntime) {
+    for text in OTHER_TEXTS {
         assert!(rt; text.parse::<Heuristic>().is_err(), "{text}");
     }
-    let printed = UnknownHeuristic.to_string(rt.alloc())?;
-    assert_eq!(rt; printed.as_str(), "There is no heuristic of this name.");
-    Ok(())
+}
+
+#[test]
+fn text_of_the_error(rt: HostRuntime) {
+    let printed = UnknownHeuristic.to_string(rt.alloc());
+    let wanted = "There is no heuristic of this name.";
+    assert!(rt; matches!(&printed, Ok(text) if text.as_str() == wanted));
 }

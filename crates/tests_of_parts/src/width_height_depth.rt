@@ -13,16 +13,18 @@ pub const VOLUMES: &[([u32; 3], u128)] = &[
     ([0, 0, 0], 0),
 ];
 
+/// The size of these numbers, any of which may be 0.
+pub fn sized(size: [u32; 3]) -> WidthHeightDepth {
+    let [width, height, depth] = size;
+    section(0, 0, 0, width, height, depth).whd()
+}
+
 #[test]
 fn volumes(rt: HostRuntime) {
     for (size, volume) in VOLUMES {
-        let [width, height, depth] = *size;
-        assert_eq!(rt;
-            section(0, 0, 0, width, height, depth).whd().volume(),
-            *volume
-        );
+        assert!(rt; sized(*size).volume() == *volume, "{size:?}");
     }
-    assert_eq!(rt; WidthHeightDepth::default().volume(), 0);
+    assert!(rt; WidthHeightDepth::default().volume() == 0);
 }
 
 #[test]
@@ -34,7 +36,7 @@ fn size_of_a_box(rt: HostRuntime) {
 #[test]
 fn default_is_zero(rt: HostRuntime) {
     let whd = WidthHeightDepth::default();
-    assert_eq!(rt; [whd.width(), whd.height(), whd.depth()], [0, 0, 0]);
+    assert!(rt; [whd.width(), whd.height(), whd.depth()] == [0, 0, 0]);
 }
 
 // The first number that differs decides.

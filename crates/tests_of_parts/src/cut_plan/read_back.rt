@@ -116,6 +116,28 @@ fn push_parts(
     Ok(())
 }
 
+// Puts the steps of the pending parts into the plan. It is `false` where there is no plan of one.
+fn plan_parts(
+    plan: &mut Vec<CutStep>,
+    pending: &mut Vec<Cuboid>,
+    boxes: &[Cuboid],
+) -> Result<bool, AllocError> {
+    // Each box has one leaf, and there is one cut less than there are leaves.
+    for _step in 0..boxes.len().saturating_mul(2).max(1) {
+        let Some(part) = pending.pop() else {
+            return Ok(true);
+        };
+        let Some(step) = first_step(&part, boxes) else {
+            return Ok(false);
+        };
+        plan.push(step)?;
+        if let CutStep::Cut { axis, place } = step {
+            push_parts(pending, &part, axis, place)?;
+        }
+    }
+    Ok(true)
+}
+
 /// The plan of a box that these fill, by the definition: at each part each place of each axis is
 /// tried against each box.
 pub fn defined_plan(
@@ -123,23 +145,10 @@ pub fn defined_plan(
     whole: Cuboid,
     boxes: &[Cuboid],
 ) -> Result<Option<Vec<CutStep>>, AllocError> {
+    let mut pending = [whole].to_vec(alloc)?;
     let mut plan = Vec::new(alloc);
-    let mut pending = Vec::new(alloc);
-    pending.push(whole)?;
-    // Each box has one leaf, and there is one cut less than there are leaves.
-    for _step in 0..boxes.len().saturating_mul(2).max(1) {
-        let Some(part) = pending.pop() else {
-            return Ok(Some(plan));
-        };
-        let Some(step) = first_step(&part, boxes) else {
-            return Ok(None);
-        };
-        plan.push(step)?;
-        if let CutStep::Cut { axis, place } = step {
-            push_parts(&mut pending, &part, axis, place)?;
-        }
-    }
-    Ok(Some(plan))
+    let is_planned = plan_parts(&mut plan, &mut pending, boxes)?;
+    Ok(if is_planned { Some(plan) } else { None })
 }
 
 // Takes a step of a plan: a leaf, or a cut strictly inside the next part. Otherwise it is `false`.
@@ -185,9 +194,8 @@ pub fn parts_into(
     plan: &[CutStep],
     boxes: &[Cuboid],
 ) -> Result<bool, AllocError> {
+    let mut pending = [whole].to_vec(alloc)?;
     let mut leaves = Vec::new(alloc);
-    let mut pending = Vec::new(alloc);
-    pending.push(whole)?;
     let is_whole = read_steps(&mut leaves, &mut pending, plan)?;
     leaves.sort_unstable();
     Ok(is_whole && leaves.as_slice() == boxes)
