@@ -1,5 +1,7 @@
 //! Packings by the best of several heuristics, into bins and into sessions.
 
-mod bins;
+pub mod bins;
 mod cases;
-mod sessions;
+pub mod sessions;
+
+pub use cases::Case;

@@ -5,7 +5,7 @@ use rectangle_pack::{
     groups_are_ordered, groups_are_placed_whole, locations_follow_placements,
     packing_has_one_result, packing_keeps_cells, packing_without_exclusions, preorders_decide,
     refused_box_is_held_nowhere, smallest_box_is_preorder, step_adds_at_most_two,
-    trial_keeps_cells, trial_tests_are_bounded, volume_heuristic, volume_packing_has_one_result,
+    trial_keeps_cells, trial_tests_are_bounded, volume_heuristic,
 };
 
 #[test]
@@ -32,18 +32,12 @@ fn of_packings() {
 }
 
 // These closures meet the conditions: volumes are one answer on each size, and so the comparison by
-// smallest boxes is a total preorder.
+// smallest boxes is a total preorder. `examples` has the law of these two closures.
 #[test]
 fn of_one_result() {
     smallest_box_is_preorder(&volume_heuristic, &contains_smallest_box);
     preorders_decide(&volume_heuristic, &contains_smallest_box);
     packing_has_one_result::<u32, u32, u32, _, _, _, _>(
-        &volume_heuristic,
-        &contains_smallest_box,
-        &volume_heuristic,
-        &contains_smallest_box,
-    );
-    volume_packing_has_one_result::<u32, u32, u32, _, _, _, _>(
         &volume_heuristic,
         &contains_smallest_box,
         &volume_heuristic,

@@ -11,7 +11,7 @@ mod groups;
 mod large;
 mod long_lists;
 mod many_bins;
-mod memory;
+pub mod memory;
 mod placements;
 mod texts;
 
@@ -207,11 +207,10 @@ pub fn ends<A: Allocator + Copy>(
     case: &Case,
 ) -> End {
     if let Err(RectanglePackError::OutOfMemory) = answer {
-        assert!(rt; are_new(bins), "{bins:?}");
+        assert!(rt; are_new(bins));
         return End::Refused;
     }
-    assert!(rt; is_answer(answer, case), "{answer:?}");
-    assert!(rt; have_lists(bins, case), "{bins:?}");
+    assert!(rt; is_answer(answer, case) && have_lists(bins, case));
     End::Done
 }
 
@@ -335,6 +334,7 @@ pub fn plenty(rt: &impl Abort, alloc: Global) -> Refusing {
 pub fn pack_by_volume(rt: &impl Abort, alloc: Global, cases: &[Case]) {
     let refusing = plenty(rt, alloc);
     for case in cases {
-        assert!(rt; packs_by_volume(rt, refusing, case) == End::Done);
+        let end = packs_by_volume(rt, refusing, case);
+        assert!(rt; end == End::Done, "{:?}", case.boxes);
     }
 }

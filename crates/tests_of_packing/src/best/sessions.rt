@@ -2,11 +2,11 @@
 
 use super::cases::{BIN, Case, Placed, cases, is_placed};
 use crate::pack::are_new;
+use crate::pack::memory::{Run, takes_memory};
 use rectangle_pack::{Heuristic, Outstanding, Packed, Session, SessionError};
 use std::process::Abort;
-use std::test::Fail;
 use tests_support::boxes::{Rects, collect};
-use tests_support::each_request::{End, is_refused};
+use tests_support::each_request::End;
 use tests_support::refusing::Refusing;
 
 type TestSession = Session<u32, u32, Refusing>;
@@ -77,14 +77,15 @@ fn is_right(
 
 fn packs_into(rt: &impl Abort, session: &mut TestSession, rects: &Rects, case: &Case) -> End {
     let answer = session.pack_best(rects, case.heuristics);
-    assert!(rt; is_right(answer, session, case), "{answer:?}");
+    assert!(rt; is_right(answer, session, case));
     match answer {
         Err(SessionError::OutOfMemory) => End::Refused,
         _ => End::Done,
     }
 }
 
-fn packs(rt: &impl Abort, alloc: Refusing, case: &Case) -> End {
+/// Packs the boxes of the case.
+pub fn packs(rt: &impl Abort, alloc: Refusing, case: &Case) -> End {
     let mut session = TestSession::new(alloc, FIRST);
     if add_bins(&mut session).is_err() {
         return End::Before;
@@ -95,14 +96,12 @@ fn packs(rt: &impl Abort, alloc: Refusing, case: &Case) -> End {
     }
 }
 
-// Whichever request is refused, the session stays as it was; at the end each case comes out.
 #[test]
-fn into_sessions(rt: HostRuntime) -> Result<(), Fail> {
+fn into_sessions(rt: HostRuntime) {
     for case in cases() {
-        let refused = is_refused(rt.alloc(), |refusing| Ok(packs(&rt, refusing, case)))?;
-        assert_eq!(rt; refused, case.takes_memory);
+        let run = Run::BestInSession(case);
+        assert!(rt; takes_memory(&rt, rt.alloc(), run) == case.takes_memory);
     }
-    Ok(())
 }
 
 // Numbers are looked at before the heuristics, and no memory is taken.
@@ -113,7 +112,8 @@ fn refuses_past_the_end(rt: &impl Abort, alloc: Refusing, rects: &Rects) -> End 
     End::Done
 }
 
-fn refuses_one_box(rt: &impl Abort, alloc: Refusing) -> End {
+/// Packs one box where the numbers are used up.
+pub fn refuses_one_box(rt: &impl Abort, alloc: Refusing) -> End {
     match collect(alloc, &[(1, [1, 1, 1], &[])], &[]) {
         Ok(rects) => refuses_past_the_end(rt, alloc, &rects),
         Err(_) => End::Before,
@@ -121,8 +121,6 @@ fn refuses_one_box(rt: &impl Abort, alloc: Refusing) -> End {
 }
 
 #[test]
-fn past_the_last_number(rt: HostRuntime) -> Result<(), Fail> {
-    let refused = is_refused(rt.alloc(), |refusing| Ok(refuses_one_box(&rt, refusing)))?;
-    assert!(rt; !refused);
-    Ok(())
+fn past_the_last_number(rt: HostRuntime) {
+    assert!(rt; !takes_memory(&rt, rt.alloc(), Run::PastTheLastNumber));
 }

@@ -1,10 +1,9 @@
 //! Packings whose ids refuse to be cloned, each clone in turn until none is refused.
 
-use super::{Placed, TWO_IN_A_GROUP, add_bin, are_new, pack};
+use super::{Placed, TWO_IN_A_GROUP, add_bin, are_new, pack, plenty};
 use rectangle_pack::{Placement, RectanglePackError, RectanglePackOk};
 use std::alloc::{AllocError, Global};
 use std::process::Abort;
-use std::test::Fail;
 use tests_support::names::{Bins, Clones, Name, Rects, have_lists, push_all};
 use tests_support::refusing::Refusing;
 use tests_support::shapes::place;
@@ -84,10 +83,10 @@ fn is_packed(rt: &impl Abort, alloc: Refusing, clones: Clones, count: u64) -> bo
 }
 
 // How many clones are enough for a packing. All memory is given back.
-fn enough(rt: &impl Abort, alloc: Global) -> Result<u64, Fail> {
+fn enough(rt: &impl Abort, alloc: Global) -> Result<u64, AllocError> {
     let clones = Clones::new(alloc, 0)?;
+    let refusing = plenty(rt, alloc);
     for count in 0..100u64 {
-        let refusing = Refusing::new(alloc, u64::MAX)?;
         let is_done = is_packed(rt, refusing, clones, count);
         assert!(rt; refusing.taken() == 0);
         if is_done {
@@ -99,7 +98,6 @@ fn enough(rt: &impl Abort, alloc: Global) -> Result<u64, Fail> {
 
 // Both lists of the answer own three ids of boxes and three of bins.
 #[test]
-fn packings(rt: HostRuntime) -> Result<(), Fail> {
-    assert!(rt; enough(&rt, rt.alloc())? >= 12);
-    Ok(())
+fn packings(rt: HostRuntime) {
+    assert!(rt; matches!(enough(&rt, rt.alloc()), Ok(count) if count >= 12));
 }

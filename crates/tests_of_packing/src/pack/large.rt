@@ -1,10 +1,8 @@
 //! Packings past small sizes: fifty bins, fifty pairs of groups, and five hundred boxes.
 
-use super::{Answer, Bins, Rects, add_bin, pack_numbered};
+use super::{Answer, Bins, Rects, add_bin, pack_numbered, plenty};
 use rectangle_pack::{Group, Placement, RectToInsert, RectanglePackError};
 use std::alloc::{AllocError, Allocator, Global};
-use std::process::Abort;
-use std::test::Fail;
 use tests_support::boxes::push_units;
 use tests_support::refusing::Refusing;
 use tests_support::shapes::named;
@@ -84,6 +82,12 @@ fn are_excluded(rects: &Rects<Global>) -> bool {
     true
 }
 
+// Either bin has room for all.
+fn add_two(alloc: Global, bins: &mut Bins<Global>) -> Result<(), AllocError> {
+    add_bin(alloc, bins, 0, [52, 1, 1])?;
+    add_bin(alloc, bins, 1, [53, 1, 1])
+}
+
 // Whether box 0 alone is in the first bin.
 fn are_apart(alloc: Global, rects: &Rects<Global>, bins: &mut Bins<Global>) -> bool {
     match pack_numbered(alloc, rects, bins) {
@@ -92,20 +96,17 @@ fn are_apart(alloc: Global, rects: &Rects<Global>, bins: &mut Bins<Global>) -> b
     }
 }
 
-// Either bin has room for all.
-fn add_two(alloc: Global, bins: &mut Bins<Global>) -> Result<(), AllocError> {
-    add_bin(alloc, bins, 0, [52, 1, 1])?;
-    add_bin(alloc, bins, 1, [53, 1, 1])
+fn pack_apart(alloc: Global, rects: &Rects<Global>) -> bool {
+    let mut bins = Bins::new(alloc);
+    add_two(alloc, &mut bins).is_ok() && are_apart(alloc, rects, &mut bins)
 }
 
 // Box 0 alone is in the first bin.
 #[test]
 fn fifty_pairs(rt: HostRuntime) {
     let mut rects = Rects::new(rt.alloc());
-    let mut bins = Bins::new(rt.alloc());
     assert!(rt; push_apart(rt.alloc(), &mut rects).is_ok() && are_excluded(&rects));
-    assert!(rt; add_two(rt.alloc(), &mut bins).is_ok());
-    assert!(rt; are_apart(rt.alloc(), &rects, &mut bins));
+    assert!(rt; pack_apart(rt.alloc(), &rects));
 }
 
 // Whether no cell of the bin 0 is free.
@@ -124,18 +125,15 @@ fn fill<A: Allocator + Copy>(alloc: A, bins: &mut Bins<A>) -> bool {
     }
 }
 
-fn one_packing(rt: &impl Abort, alloc: Refusing) -> Result<(), AllocError> {
+// Whether they fill a new one.
+fn fill_new(alloc: Refusing) -> bool {
     let mut bins = Bins::new(alloc);
-    add_bin(alloc, &mut bins, 0, [25, 20, 1])?;
-    assert!(rt; fill(alloc, &mut bins));
-    Ok(())
+    add_bin(alloc, &mut bins, 0, [25, 20, 1]).is_ok() && fill(alloc, &mut bins)
 }
 
 // Boxes of one cell fill a bin. All memory is given back.
 #[test]
-fn five_hundred_boxes(rt: HostRuntime) -> Result<(), Fail> {
-    let alloc = Refusing::new(rt.alloc(), u64::MAX)?;
-    one_packing(&rt, alloc)?;
-    assert_eq!(rt; alloc.taken(), 0);
-    Ok(())
+fn five_hundred_boxes(rt: HostRuntime) {
+    let alloc = plenty(&rt, rt.alloc());
+    assert!(rt; fill_new(alloc) && alloc.taken() == 0);
 }

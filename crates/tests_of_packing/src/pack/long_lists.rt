@@ -4,9 +4,8 @@ use super::{Answer, Bins, Rects, pack_counted};
 use rectangle_pack::{FitTests, Placement, RectToInsert, RectanglePackError};
 use std::alloc::{AllocError, Allocator};
 use std::process::Abort;
-use std::test::Fail;
 use tests_support::combs::{BOXES, TESTS, WIDE_BOXES, box_of, comb, free_at, has_left, index_of};
-use tests_support::each_request::{End, is_refused};
+use tests_support::each_request::End;
 use tests_support::refusing::Refusing;
 
 // Pushes each box alone under its number.
@@ -111,21 +110,11 @@ fn packs_rects(rt: &impl Abort, alloc: Refusing, rects: &Rects<Refusing>, too_ta
     }
 }
 
-// Packs all boxes.
-fn packs(rt: &impl Abort, alloc: Refusing, too_tall: bool) -> End {
+/// Packs all boxes.
+pub fn packs(rt: &impl Abort, alloc: Refusing, too_tall: bool) -> End {
     let mut rects = Rects::new(alloc);
     match push_boxes(&mut rects, too_tall) {
         Ok(()) => packs_rects(rt, alloc, &rects, too_tall),
         Err(_) => End::Before,
     }
-}
-
-// Each request for memory is refused in turn.
-#[test]
-fn packings_in_long_lists(rt: HostRuntime) -> Result<(), Fail> {
-    for too_tall in [false, true] {
-        let refused = is_refused(rt.alloc(), |refusing| Ok(packs(&rt, refusing, too_tall)))?;
-        assert!(rt; refused);
-    }
-    Ok(())
 }

@@ -4,8 +4,7 @@ use super::{Answer, Bins, Rects, add_bin, are_new, pack_counted, plenty};
 use rectangle_pack::{FitTests, Placement, RectToInsert, RectanglePackError};
 use std::alloc::{AllocError, Allocator};
 use std::process::Abort;
-use std::test::Fail;
-use tests_support::each_request::{End, is_refused};
+use tests_support::each_request::End;
 use tests_support::refusing::Refusing;
 
 // A number n of boxes that leave a strip, and the tests of the packing. The box that fills its bin
@@ -125,15 +124,12 @@ fn packs(rt: &impl Abort, alloc: Refusing, case: (u32, u128)) -> End {
     }
 }
 
+/// Packs into sixteen bins.
+pub fn packs_few(rt: &impl Abort, alloc: Refusing) -> End {
+    packs(rt, alloc, FEW)
+}
+
 #[test]
 fn a_hundred_bins(rt: HostRuntime) {
     assert!(rt; packs(&rt, plenty(&rt, rt.alloc()), HUNDRED) == End::Done);
-}
-
-// Each request for memory is refused in turn.
-#[test]
-fn sixteen_bins(rt: HostRuntime) -> Result<(), Fail> {
-    let refused = is_refused(rt.alloc(), |refusing| Ok(packs(&rt, refusing, FEW)))?;
-    assert!(rt; refused);
-    Ok(())
 }

@@ -2,37 +2,99 @@
 
 use super::closures::{EQUAL_KEYS, packs_between};
 use super::exclusions::{ONE_BIN, TWO_BINS, counts};
-use super::{Bins, Case, FULL_BIN, Rects, TWO_IN_A_GROUP, add_bin, pack_counted, pack_numbered};
+use super::{
+    Bins, Case, FULL_BIN, Rects, TWO_IN_A_GROUP, add_bin, long_lists, many_bins, pack_counted,
+    pack_numbered,
+};
+use crate::best;
 use rectangle_pack::FitTests;
 use std::alloc::{Allocator, Global};
 use std::process::Abort;
-use std::test::Fail;
-use tests_support::each_request::{End, is_refused};
+use tests_support::each_request::End;
 use tests_support::refusing::Refusing;
 
-// The least and the most that a size is rated at, and the packing.
-const PACKINGS: &[(u128, u128, Case)] = &[
-    (0, u128::MAX, TWO_IN_A_GROUP),
-    (u128::MAX, u128::MAX, EQUAL_KEYS),
-    (0, u128::MAX, FULL_BIN),
-];
-
-// Whichever request is refused, the bins stay as they were; at the end the case comes out.
-#[test]
-fn packings(rt: HostRuntime) -> Result<(), Fail> {
-    for (least, most, case) in PACKINGS {
-        let refused = is_refused(
-            rt.alloc(),
-            |refusing| Ok(packs_between(&rt, refusing, case, *least, *most)),
-        )?;
-        assert!(rt; refused);
-    }
-    Ok(())
+/// What is run with each request for memory refused in turn. Whichever is refused, bins and sessions
+/// stay as they were; at the end the case comes out.
+#[derive(Clone, Copy)]
+pub enum Run {
+    /// A packing where a size is rated at its volume, but at least and at most so much.
+    Between(&'static Case, u128, u128),
+    /// A packing with its fit tests, and the most that a refused one may add: n entries in the
+    /// groups make n tests for each free section and n * (n - 1) for each bin.
+    Counted(&'static Case, u128, u128),
+    /// Packings of nothing into a bin.
+    Nothing,
+    SixteenBins,
+    /// A packing into a long list, with a box that is too tall or without.
+    LongList(bool),
+    /// The best of several packings into bins.
+    Best(&'static best::Case),
+    /// The same into a session.
+    BestInSession(&'static best::Case),
+    /// The best of none into a session whose numbers are used up.
+    PastTheLastNumber,
 }
 
-// A packing, its fit tests, and the most that a refused one may add: n entries in the groups make
-// n tests for each free section and n * (n - 1) for each bin.
-const COUNTED: &[(Case, u128, u128)] = &[(TWO_BINS, 2, 8), (ONE_BIN, 1, 4)];
+fn end(rt: &impl Abort, alloc: Refusing, run: Run) -> End {
+    match run {
+        Run::Between(case, least, most) => packs_between(rt, alloc, case, least, most),
+        Run::Counted(case, count, bound) => counts_or_stays(rt, alloc, case, count, bound),
+        Run::Nothing => packs_into_new(rt, alloc),
+        Run::SixteenBins => many_bins::packs_few(rt, alloc),
+        Run::LongList(too_tall) => long_lists::packs(rt, alloc, too_tall),
+        Run::Best(case) => best::bins::packs(rt, alloc, case),
+        Run::BestInSession(case) => best::sessions::packs(rt, alloc, case),
+        Run::PastTheLastNumber => best::sessions::refuses_one_box(rt, alloc),
+    }
+}
+
+// The end of a run for which so many requests are granted. It gives back all that it takes, and is
+// done where no request was refused, and only there.
+fn end_of(rt: &impl Abort, alloc: Global, granted: u64, run: Run) -> End {
+    let refusing = Refusing::new(alloc, granted).expect(rt, "no memory for the counts");
+    let end = end(rt, refusing, run);
+    assert!(rt; refusing.taken() == 0);
+    assert!(rt; (refusing.refused() == 0) == (end == End::Done));
+    end
+}
+
+/// Whether some request is refused in the packing itself, where each is refused in turn, until none
+/// is.
+pub fn takes_memory(rt: &impl Abort, alloc: Global, run: Run) -> bool {
+    let mut refused = false;
+    for granted in 0..200u64 {
+        match end_of(rt, alloc, granted, run) {
+            End::Before => {}
+            End::Refused => refused = true,
+            End::Done => return refused,
+        }
+    }
+    assert!(rt; false, "requests were refused to the end");
+    refused
+}
+
+const RUNS: &[Run] = &[
+    Run::Between(&TWO_IN_A_GROUP, 0, u128::MAX),
+    Run::Between(&EQUAL_KEYS, u128::MAX, u128::MAX),
+    Run::Between(&FULL_BIN, 0, u128::MAX),
+    Run::Counted(&TWO_BINS, 2, 8),
+    Run::Counted(&ONE_BIN, 1, 4),
+    Run::SixteenBins,
+    Run::LongList(false),
+    Run::LongList(true),
+];
+
+// A table is dear to prove in a longer body, so this one stands alone.
+fn runs() -> &'static [Run] {
+    RUNS
+}
+
+#[test]
+fn packings(rt: HostRuntime) {
+    for run in runs() {
+        assert!(rt; takes_memory(&rt, rt.alloc(), *run));
+    }
+}
 
 // Whether the counter grew by no more than the bound where a request was refused, and else by the
 // count.
@@ -55,18 +117,6 @@ fn counts_or_stays(
     let end = counts(rt, refusing, case, &mut tests);
     assert!(rt; is_counted(end, tests.count(), count, bound), "{count}");
     end
-}
-
-#[test]
-fn counted_packings(rt: HostRuntime) -> Result<(), Fail> {
-    for (case, count, bound) in COUNTED {
-        let refused = is_refused(
-            rt.alloc(),
-            |refusing| Ok(counts_or_stays(&rt, refusing, case, *count, *bound)),
-        )?;
-        assert!(rt; refused);
-    }
-    Ok(())
 }
 
 // Whether a packing of nothing into these bins is done.
@@ -93,7 +143,7 @@ fn packs_into_a_bin(rt: &impl Abort, alloc: Refusing, bins: &mut Bins<Refusing>)
     if add_bin(alloc, bins, 7, [4, 4, 1]).is_err() {
         return End::Before;
     }
-    assert_eq!(rt; alloc.left(), 0);
+    assert!(rt; alloc.left() == 0);
     assert!(rt; packs_nothing(alloc, bins) && counts_nothing(alloc, bins));
     End::Done
 }
@@ -111,9 +161,7 @@ fn packs_into_none(rt: &impl Abort, alloc: Global) -> bool {
 }
 
 #[test]
-fn packings_of_nothing(rt: HostRuntime) -> Result<(), Fail> {
+fn packings_of_nothing(rt: HostRuntime) {
     assert!(rt; packs_into_none(&rt, rt.alloc()));
-    let refused = is_refused(rt.alloc(), |refusing| Ok(packs_into_new(&rt, refusing)))?;
-    assert!(rt; !refused);
-    Ok(())
+    assert!(rt; !takes_memory(&rt, rt.alloc(), Run::Nothing));
 }
