@@ -3,8 +3,8 @@
 use super::closures::{EQUAL_KEYS, packs_between};
 use super::exclusions::{ONE_BIN, TWO_BINS, counts};
 use super::{
-    Bins, Case, FULL_BIN, Rects, TWO_IN_A_GROUP, add_bin, long_lists, many_bins, pack_counted,
-    pack_numbered,
+    Answer, Bins, Case, FULL_BIN, Rects, TWO_IN_A_GROUP, add_bin, long_lists, many_bins,
+    pack_counted, pack_numbered,
 };
 use crate::best;
 use rectangle_pack::FitTests;
@@ -119,23 +119,25 @@ fn counts_or_stays(
     end
 }
 
-// Whether a packing of nothing into these bins is done.
-fn packs_nothing<A: Allocator + Copy>(alloc: A, bins: &mut Bins<A>) -> bool {
-    let rects = Rects::new(alloc);
-    match pack_numbered(alloc, &rects, bins) {
+// Whether a packing of nothing is done.
+fn is_empty<A: Allocator + Copy>(answer: &Answer<A>) -> bool {
+    match answer {
         Ok(packed) => packed.placements().is_empty() && packed.packed_locations().is_empty(),
         Err(_) => false,
     }
+}
+
+// Whether one into these bins is.
+fn packs_nothing<A: Allocator + Copy>(alloc: A, bins: &mut Bins<A>) -> bool {
+    let rects = Rects::new(alloc);
+    is_empty(&pack_numbered(alloc, &rects, bins))
 }
 
 // The same with a counter, which stays at 0.
 fn counts_nothing<A: Allocator + Copy>(alloc: A, bins: &mut Bins<A>) -> bool {
     let rects = Rects::new(alloc);
     let mut tests = FitTests::new();
-    match pack_counted(alloc, &rects, bins, &mut tests) {
-        Ok(packed) => packed.placements().is_empty() && tests.count() == 0,
-        Err(_) => false,
-    }
+    is_empty(&pack_counted(alloc, &rects, bins, &mut tests)) && tests.count() == 0
 }
 
 // Adds a bin and packs into it. The bin is made before, and all that was granted is used up.

@@ -246,13 +246,24 @@ fn packs_rest(rt: &impl Abort, alloc: Refusing, case: &Case, bins: &mut Bins<Ref
 }
 
 // One cell of the largest bin, and then all that is behind it.
+const IN_TURN: &[Case] = &[CELL, BEHIND_CELL];
+
+// Whether these packings are done.
+fn packs_in_turn(rt: &impl Abort, alloc: Refusing, bins: &mut Bins<Refusing>) -> bool {
+    for case in IN_TURN {
+        if packs_rest(rt, alloc, case, bins) != End::Done {
+            return false;
+        }
+    }
+    true
+}
+
 #[test]
 fn rest_of_the_largest_bin(rt: HostRuntime) {
     let refusing = plenty(&rt, rt.alloc());
     let mut bins = Bins::new(refusing);
     assert!(rt; add_bins(refusing, &CELL, &mut bins).is_ok());
-    assert!(rt; packs_rest(&rt, refusing, &CELL, &mut bins) == End::Done);
-    assert!(rt; packs_rest(&rt, refusing, &BEHIND_CELL, &mut bins) == End::Done);
+    assert!(rt; packs_in_turn(&rt, refusing, &mut bins));
 }
 
 const TEXTS: &[(RectanglePackError, &str)] = &[
