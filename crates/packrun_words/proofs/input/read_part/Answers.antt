@@ -23,3 +23,10 @@ returns-else-ended-clause-part g c =
     let done = ap (nat_lt 4096) (c.len-else-ended.ensures ∙ search rules) ∙ or-second _ (nat_lt 4096 _) (sym c.has_ended-ended.ensures ∙ c.if-ended.false) in
     IsPartRead-of _ _ c.in-Ok.bytes.now c.args.line.now.items c.extend_from_slice.new.self.items end.result (nat_lt 4096 c.len-else-ended.result)
     (search rules) (search rules) end.ensures.within (search rules) (search rules) end.ensures.before done moved
+
+-- nothing is said where a read or memory fails; left to itself, the search takes seven seconds to find that
+pub returns-in-Err-2-clause-part : goal.returns-in-Err-2-clause-part
+returns-in-Err-2-clause-part g c = tt
+
+pub returns-in_err-extend_from_slice-clause-part : goal.returns-in_err-extend_from_slice-clause-part
+returns-in_err-extend_from_slice-clause-part g c = search rules
