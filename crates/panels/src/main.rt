@@ -5,13 +5,15 @@
 
 use rectangle_pack::{
     Axis, BinStats, CutStep, GroupedRectsToPlace, Heuristic, Outstanding, PackedLocation,
-    RectToInsert, Session, SessionError, WidthHeightDepth, contains_smallest_box, volume_heuristic,
+    RectToInsert, Session, SessionError, WidthHeightDepth, volume_heuristic,
 };
 use std::alloc::{AllocError, Global};
 use std::cmp::Ordering;
 use std::io;
 
-// A sheet, in millimetres.
+// The sheets that there are, and one of them, in millimetres.
+const SHEETS: u32 = 5;
+
 const WIDTH: u32 = 2800;
 
 const HEIGHT: u32 = 2070;
@@ -55,12 +57,11 @@ fn longest_strip<H>(a: [WidthHeightDepth; 3], b: [WidthHeightDepth; 3], _: &H) -
     longest(a).cmp(&longest(b))
 }
 
-fn five_sheets(alloc: Global) -> Result<Cutting, SessionError> {
-    let mut cutting = Session::new(alloc, 1);
-    for sheet in 1..=5 {
+fn add_sheets(cutting: &mut Cutting) -> Result<(), SessionError> {
+    for sheet in 1..=SHEETS {
         cutting.add_bin(sheet, WIDTH, HEIGHT, 1)?;
     }
-    Ok(cutting)
+    Ok(())
 }
 
 // Cuts the order by the shop's rule.
@@ -78,12 +79,11 @@ fn add_panels(order: &mut Order, panels: &Panels) -> Result<(), AllocError> {
     Ok(())
 }
 
-fn order(sizes: &[Panels], alloc: Global) -> Result<Order, AllocError> {
-    let mut order = GroupedRectsToPlace::new(alloc);
-    for panels in sizes {
-        add_panels(&mut order, panels)?;
+fn add_all(order: &mut Order) -> Result<(), AllocError> {
+    for panels in &ORDER {
+        add_panels(order, panels)?;
     }
-    Ok(order)
+    Ok(())
 }
 
 // Prints a sheet with its waste.
@@ -94,9 +94,9 @@ fn print_sheet(rt: &HostRuntime, sheet: u32, stats: BinStats) -> io::Result<()> 
 }
 
 fn print_sheets(rt: &HostRuntime, cutting: &Cutting) -> io::Result<()> {
-    for sheet in cutting.bins().keys() {
-        if let Some(stats) = cutting.stats(sheet) {
-            print_sheet(rt, *sheet, stats)?;
+    for sheet in 1..=SHEETS {
+        if let Some(stats) = cutting.stats(&sheet) {
+            print_sheet(rt, sheet, stats)?;
         }
     }
     println!(rt; "")
@@ -130,25 +130,23 @@ fn print(rt: &HostRuntime, cutting: &Cutting) -> io::Result<()> {
     print_panels(rt, cutting)
 }
 
-// Prints a cut of a part, and puts what it leaves onto the pile.
-fn print_cut(
-    rt: &HostRuntime,
-    axis: Axis,
-    place: u32,
-    part: Part,
-    pile: &mut Vec<Part>,
-) -> io::Result<()> {
+// The parts that a cut leaves: the one to the right or above, and the other.
+fn halves(axis: Axis, place: u32, part: Part) -> [Part; 2] {
     let (left, low, right, high) = part;
     if axis == Axis::X {
-        println!(rt; "cut {} mm from the left", place.abs_diff(left))?;
-        pile.push((place, low, right, high))?;
-        pile.push((left, low, place, high))?;
+        [(place, low, right, high), (left, low, place, high)]
     } else {
-        println!(rt; "cut {} mm from below", place.abs_diff(low))?;
-        pile.push((left, place, right, high))?;
-        pile.push((left, low, right, place))?;
+        [(left, place, right, high), (left, low, right, place)]
     }
-    Ok(())
+}
+
+fn print_cut(rt: &HostRuntime, axis: Axis, place: u32, part: Part) -> io::Result<()> {
+    let (left, low, ..) = part;
+    if axis == Axis::X {
+        println!(rt; "cut {} mm from the left", place.abs_diff(left))
+    } else {
+        println!(rt; "cut {} mm from below", place.abs_diff(low))
+    }
 }
 
 // The panel whose left and lower end are here, if there is one.
@@ -164,11 +162,17 @@ fn panel_at(cutting: &Cutting, sheet: u32, left: u32, low: u32) -> Option<Panel>
 
 // Prints what a part is that is not cut: a panel, or an offcut.
 fn print_leaf(rt: &HostRuntime, sheet: u32, part: Part, cutting: &Cutting) -> io::Result<()> {
-    let (left, low, _, _) = part;
+    let (left, low, ..) = part;
     match panel_at(cutting, sheet, left, low) {
         Some((size, nth)) => println!(rt; "is {size}-{nth}"),
         None => println!(rt; "is an offcut"),
     }
+}
+
+// Prints the number of a step, and the sides of the part that it is about.
+fn print_part(rt: &HostRuntime, number: u32, part: Part) -> io::Result<()> {
+    let (w, h) = (part.2.abs_diff(part.0), part.3.abs_diff(part.1));
+    print!(rt; "{number:>4}. {w:>4} x {h:<4} ")
 }
 
 // Prints the steps of a sheet's cutting plan. Parts wait on a pile.
@@ -176,15 +180,19 @@ fn print_steps(
     rt: &HostRuntime,
     sheet: u32,
     plan: &[CutStep],
+    pile: &mut Vec<Part>,
     cutting: &Cutting,
 ) -> io::Result<()> {
-    let mut pile = vec![in rt.alloc(); (0, 0, WIDTH, HEIGHT)]?;
-    for (i, step) in (1..).zip(plan) {
+    let mut number = 0u32;
+    for step in plan {
         let Some(part) = pile.pop() else { break };
-        let (w, h) = (part.2.abs_diff(part.0), part.3.abs_diff(part.1));
-        print!(rt; "{i:>4}. {w:>4} x {h:<4} ")?;
+        number = number.saturating_add(1);
+        print_part(rt, number, part)?;
         match *step {
-            CutStep::Cut { axis, place } => print_cut(rt, axis, place, part, &mut pile)?,
+            CutStep::Cut { axis, place } => {
+                print_cut(rt, axis, place, part)?;
+                pile.extend_from_slice(&halves(axis, place, part))?;
+            }
             CutStep::Leaf => print_leaf(rt, sheet, part, cutting)?,
         }
     }
@@ -193,15 +201,16 @@ fn print_steps(
 
 fn print_plan(rt: &HostRuntime, sheet: u32, cutting: &Cutting) -> io::Result<()> {
     println!(rt; "-- sheet {sheet}")?;
+    let mut pile = vec![in rt.alloc(); (0, 0, WIDTH, HEIGHT)]?;
     match cutting.cut_plan(&sheet)? {
-        Some(plan) => print_steps(rt, sheet, plan.as_slice(), cutting),
+        Some(plan) => print_steps(rt, sheet, plan.as_slice(), &mut pile, cutting),
         None => println!(rt; "no straight cuts part it"),
     }
 }
 
 fn print_plans(rt: &HostRuntime, cutting: &Cutting) -> io::Result<()> {
-    for sheet in cutting.bins().keys() {
-        print_plan(rt, *sheet, cutting)?;
+    for sheet in 1..=SHEETS {
+        print_plan(rt, sheet, cutting)?;
     }
     Ok(())
 }
@@ -225,12 +234,17 @@ fn call_off(cutting: &mut Cutting, panel: Panel) -> Result<(), SessionError> {
     cutting.coalesce_all(&sheet)
 }
 
+fn cut_desk(cutting: &mut Cutting, alloc: Global) -> Result<(), SessionError> {
+    let mut desk: Order = GroupedRectsToPlace::new(alloc);
+    desk.push_rect(("desk", 1), None, RectToInsert::new(1100, 700, 1))?;
+    cut_by_rule(cutting, &desk)
+}
+
 // Gives two sides back, and cuts a desk from what they leave.
 fn exchange(cutting: &mut Cutting, alloc: Global) -> Result<(), SessionError> {
     call_off(cutting, ("side", 1))?;
     call_off(cutting, ("side", 2))?;
-    let desk = order(&[("desk", 1, 1100, 700)], alloc)?;
-    cut_by_rule(cutting, &desk)
+    cut_desk(cutting, alloc)
 }
 
 fn has_panels(cutting: &Cutting, sheet: u32) -> bool {
@@ -243,39 +257,48 @@ fn has_panels(cutting: &Cutting, sheet: u32) -> bool {
 // How many sheets have panels.
 fn used(cutting: &Cutting) -> u32 {
     let mut used = 0u32;
-    for sheet in cutting.bins().keys() {
-        used = used.saturating_add(u32::from(has_panels(cutting, *sheet)));
+    for sheet in 1..=SHEETS {
+        used = used.saturating_add(u32::from(has_panels(cutting, sheet)));
     }
     used
 }
 
-// How many sheets the order takes with a heuristic.
-fn sheets_by(heuristic: Heuristic, order: &Order, alloc: Global) -> Result<u32, SessionError> {
-    let mut cutting = five_sheets(alloc)?;
-    let rate = |whd: WidthHeightDepth| heuristic.rate(whd);
-    cutting.pack(order, &rate, &contains_smallest_box)?;
-    Ok(used(&cutting))
+// Cuts the order with the best of these heuristics; which one it is.
+fn cut_by(
+    heuristics: &[Heuristic],
+    order: &Order,
+    cutting: &mut Cutting,
+) -> Result<Heuristic, SessionError> {
+    add_sheets(cutting)?;
+    let (best, _) = cutting.pack_best(order, heuristics)?;
+    Ok(best)
+}
+
+// Prints how many sheets the order takes with a heuristic.
+fn print_used(rt: &HostRuntime, heuristic: Heuristic, order: &Order) -> io::Result<()> {
+    let mut cutting: Cutting = Session::new(rt.alloc(), 1);
+    cut_by(&[heuristic], order, &mut cutting)?;
+    println!(rt; "{heuristic}: {} sheets", used(&cutting))
 }
 
 // Prints how many sheets the order takes with each of the library's heuristics.
 fn compare(rt: &HostRuntime, order: &Order) -> io::Result<()> {
     for heuristic in &Heuristic::ALL {
-        let sheets = sheets_by(*heuristic, order, rt.alloc())?;
-        println!(rt; "{heuristic}: {sheets} sheets")?;
+        print_used(rt, *heuristic, order)?;
     }
     println!(rt; "")
 }
 
 // Cuts the order with the best of these.
-fn by_the_best(rt: &HostRuntime, order: &Order) -> io::Result<()> {
-    let mut cutting = five_sheets(rt.alloc())?;
-    let (best, _) = cutting.pack_best(order, &Heuristic::ALL)?;
+fn by_the_best(rt: &HostRuntime, order: &Order, cutting: &mut Cutting) -> io::Result<()> {
+    let best = cut_by(&Heuristic::ALL, order, cutting)?;
     println!(rt; "== the best of all heuristics, {best}")?;
-    print(rt, &cutting)
+    print(rt, cutting)
 }
 
 // Cuts the order by the shop's rule, exchanges panels, and plans the cuts.
 fn by_the_rule(rt: &HostRuntime, order: &Order, cutting: &mut Cutting) -> io::Result<()> {
+    add_sheets(cutting)?;
     cut_by_rule(cutting, order)?;
     println!(rt; "== the shop's rule, the longest strip")?;
     print(rt, cutting)?;
@@ -286,14 +309,21 @@ fn by_the_rule(rt: &HostRuntime, order: &Order, cutting: &mut Cutting) -> io::Re
 }
 
 // Cuts the order in each of these ways.
-fn cut(rt: &HostRuntime, order: &Order) -> io::Result<()> {
+fn cut(
+    rt: &HostRuntime,
+    order: &mut Order,
+    best: &mut Cutting,
+    ruled: &mut Cutting,
+) -> io::Result<()> {
+    add_all(order)?;
     compare(rt, order)?;
-    by_the_best(rt, order)?;
-    let mut cutting = five_sheets(rt.alloc())?;
-    by_the_rule(rt, order, &mut cutting)
+    by_the_best(rt, order, best)?;
+    by_the_rule(rt, order, ruled)
 }
 
 fn main(rt: HostRuntime) -> io::Result<()> {
-    let order = order(&ORDER, rt.alloc())?;
-    cut(&rt, &order)
+    let mut order: Order = GroupedRectsToPlace::new(rt.alloc());
+    let mut best: Cutting = Session::new(rt.alloc(), 1);
+    let mut ruled: Cutting = Session::new(rt.alloc(), 1);
+    cut(&rt, &mut order, &mut best, &mut ruled)
 }
