@@ -16,19 +16,20 @@ const HEIGHT: u32 = 23;
 
 const LENGTH: u32 = 58;
 
-// The crates of one size for a customer: how many, and how wide, high and deep each is.
-type Lot = (&'static str, u32, u32, u32, u32);
+// The crates of one size for a customer: which lot this is, how many they are, and how wide, high
+// and deep each is.
+type Lot = (&'static str, u32, u32, u32, u32, u32);
 
 const LOTS: [Lot; 9] = [
-    ("dairy", 8, 11, 10, 12),
-    ("dairy", 6, 7, 9, 8),
-    ("paint", 10, 11, 8, 12),
-    ("paint", 6, 7, 7, 6),
-    ("tools", 12, 7, 10, 8),
-    ("tools", 4, 11, 11, 12),
-    ("cloth", 9, 7, 7, 12),
-    ("cloth", 8, 11, 6, 8),
-    ("glass", 10, 6, 11, 6),
+    ("dairy", 1, 8, 11, 10, 12),
+    ("dairy", 2, 6, 7, 9, 8),
+    ("paint", 3, 10, 11, 8, 12),
+    ("paint", 4, 6, 7, 7, 6),
+    ("tools", 5, 12, 7, 10, 8),
+    ("tools", 6, 4, 11, 11, 12),
+    ("cloth", 7, 9, 7, 7, 12),
+    ("cloth", 8, 8, 11, 6, 8),
+    ("glass", 9, 10, 6, 11, 6),
 ];
 
 // A crate is known by its customer, its lot and its number in the lot.
@@ -39,8 +40,8 @@ type Crates = GroupedRectsToPlace<Crate, &'static str>;
 type Loading = Session<Crate, u32>;
 
 // Adds the crates of a lot, to the group of its customer.
-fn add_lot(crates: &mut Crates, number: u32, lot: &Lot, alloc: Global) -> Result<(), AllocError> {
-    let (customer, count, width, height, depth) = *lot;
+fn add_lot(crates: &mut Crates, lot: &Lot, alloc: Global) -> Result<(), AllocError> {
+    let (customer, number, count, width, height, depth) = *lot;
     for nth in 1..=count {
         let group = vec![in alloc; customer]?;
         let size = RectToInsert::new(width, height, depth);
@@ -51,8 +52,8 @@ fn add_lot(crates: &mut Crates, number: u32, lot: &Lot, alloc: Global) -> Result
 
 // Adds all lots. Paint and dairy products may not share a container.
 fn add_lots(crates: &mut Crates, alloc: Global) -> Result<(), AllocError> {
-    for (number, lot) in (1..).zip(&LOTS) {
-        add_lot(crates, number, lot, alloc)?;
+    for lot in &LOTS {
+        add_lot(crates, lot, alloc)?;
     }
     crates.exclude(Group::Grouped("paint"), Group::Grouped("dairy"))
 }
