@@ -148,18 +148,18 @@ fn unload(atlas: &mut Atlas, kinds: &[Kind], alloc: Global) -> Result<(), Sessio
     join(atlas)
 }
 
-// How full a page is, in percent.
-fn filled(atlas: &Atlas, page: u32) -> u128 {
-    let Some(stats) = atlas.stats(&page) else {
-        return 0;
-    };
+// How full a page is, in percent, if there is one of this number.
+fn filled(atlas: &Atlas, page: u32) -> Option<u128> {
+    let stats = atlas.stats(&page)?;
     let part = stats.placed_volume.saturating_mul(100);
-    part.checked_div(stats.bin_volume).unwrap_or(0)
+    part.checked_div(stats.bin_volume)
 }
 
 fn print_filled(rt: &HostRuntime, atlas: &Atlas) -> io::Result<()> {
-    for page in atlas.bins().keys() {
-        print!(rt; " {}%", filled(atlas, *page))?;
+    for page in 1..=MOST_PAGES {
+        if let Some(filled) = filled(atlas, page) {
+            print!(rt; " {filled}%")?;
+        }
     }
     Ok(())
 }
@@ -179,8 +179,10 @@ fn print_page(rt: &HostRuntime, page: u32, filled: u128) -> io::Result<()> {
 }
 
 fn print_pages(rt: &HostRuntime, atlas: &Atlas) -> io::Result<()> {
-    for page in atlas.bins().keys() {
-        print_page(rt, *page, filled(atlas, *page))?;
+    for page in 1..=MOST_PAGES {
+        if let Some(filled) = filled(atlas, page) {
+            print_page(rt, page, filled)?;
+        }
     }
     println!(rt; "")
 }
