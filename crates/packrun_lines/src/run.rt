@@ -129,7 +129,10 @@ fn next_line<R: Read, W: Write, A: Allocator>(
     flush_before_read(input, out)?;
     read_line(input, line)?;
     let count = line.len() as u64;
-    *total = total.checked_add(count).ok_or(Stop::IoFailed)?;
+    let Some(sum) = total.checked_add(count) else {
+        return Err(Stop::IoFailed);
+    };
+    *total = sum;
     Ok(count > 0)
 }
 

@@ -1,4 +1,4 @@
-use Rattle.std.proofs.Common.{Ok, Err, IfSome, sym, subst, ◌∙◌, length}
+use Rattle.std.proofs.Common.{rules, Ok, Err, IfSome, sym, subst, ◌∙◌, length}
 use Rattle.std.specs.Io.Buffered.{reader_remaining}
 use Rattle.packrun_lines.specs.private.Obeying.{IsLineObeyed, StopsSo, outcome_of}
 use Rattle.packrun_lines.proofs.Transcripts.{Obeyed-none, Obeyed-more, Obeyed-at_end, Obeyed-stopped, none_is, some_is, err_is}
@@ -41,3 +41,6 @@ loop-number-preserved g c =
     let obeyed = subst (λ l. IsLineObeyed n l at (contents c.next_line.new.out) (Ok tt) c.obey_line.new.store (contents c.obey_line.new.out))
     c.as_slice.ensures.value c.in_ok-obey_line.ensures in
     Obeyed-more _ c.args.store.now _ _ _ read n at c.obey_line.new.store _ _ (contents c.obey_line.new.out) c.loop-number.invariant line.read some line.printed obeyed
+
+pub returns-in_err-next_line : goal.returns-in_err-next_line
+returns-in_err-next_line g c = search rules
