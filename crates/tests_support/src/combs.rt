@@ -60,7 +60,12 @@ pub const TESTS: u128 = 5045;
 
 // Whether no box went into the section of this index, of so many that were placed.
 fn is_left(index: u32, placed: u32) -> bool {
-    (0..placed).all(|number| index_of(number) != index)
+    for number in 0..placed {
+        if index_of(number) == index {
+            return false;
+        }
+    }
+    true
 }
 
 /// Whether the bin has the sections that are left, in their order.

@@ -51,14 +51,21 @@ pub fn place(location: &PackedLocation) -> [u32; 6] {
     ]
 }
 
+// Whether the sections have these numbers, in this order.
+fn are_these(sections: &[BinSection], list: &[[u32; 6]]) -> bool {
+    let mut found = sections.iter();
+    for wanted in list {
+        match found.next() {
+            Some(section) if numbers(section) == *wanted => {}
+            _ => return false,
+        }
+    }
+    found.next().is_none()
+}
+
 /// Whether these are the bin's free sections, in this order.
 pub fn has_list<A: Allocator + Copy>(bin: &TargetBin<A>, list: &[[u32; 6]]) -> bool {
-    let sections = bin.available_bin_sections();
-    sections.len() == list.len()
-        && sections
-            .iter()
-            .zip(list.iter())
-            .all(|(section, wanted)| numbers(section) == *wanted)
+    are_these(bin.available_bin_sections().as_slice(), list)
 }
 
 /// Whether all of the bin is free, in one section, as when it was new.
