@@ -55,14 +55,15 @@ fn is_placed(placed: &Outstanding<Name, Name>, wanted: &Placed) -> bool {
 
 // Whether these placements are outstanding.
 fn are_outstanding(outstanding: &[Outstanding<Name, Name>], all: &[Placed]) -> bool {
-    let mut found = outstanding.iter();
-    for wanted in all {
-        match found.next() {
-            Some(placed) if is_placed(placed, wanted) => {}
-            _ => return false,
+    if outstanding.len() != all.len() {
+        return false;
+    }
+    for index in 0..all.len() {
+        if !is_placed(&outstanding[index], &all[index]) {
+            return false;
         }
     }
-    found.next().is_none()
+    true
 }
 
 fn is_in(session: &NameSession, state: &State) -> bool {
@@ -71,22 +72,18 @@ fn is_in(session: &NameSession, state: &State) -> bool {
         && session.next_number() == state.placed.len() as u64
 }
 
-// Adds a bin 10x10x1, and packs the first box.
-fn fill(
+// Packs the boxes where so many clones are left.
+fn pack(
     session: &mut NameSession,
-    rects: &mut Rects,
     alloc: Refusing,
     clones: Clones,
-) -> Result<(), SessionError> {
-    session.add_bin(Name { number: 7, clones }, 10, 10, 1)?;
-    push_all(rects, alloc, clones, FIRST)?;
-    session.pack(rects, &volume_heuristic, &contains_smallest_box)?;
-    Ok(())
-}
-
-fn is_filled(session: &mut NameSession, alloc: Refusing, clones: Clones) -> bool {
+    boxes: &[SizedBox],
+    count: u64,
+) -> Result<Packed, SessionError> {
     let mut rects = Rects::new(alloc);
-    fill(session, &mut rects, alloc, clones).is_ok()
+    push_all(&mut rects, alloc, clones, boxes)?;
+    clones.set(count);
+    session.pack(&rects, &volume_heuristic, &contains_smallest_box)
 }
 
 // Whether the session may be so after this answer. If a clone was refused, it is as it was.
@@ -97,14 +94,7 @@ fn is_right(answer: Result<Packed, SessionError>, session: &NameSession) -> bool
     }
 }
 
-// Whether no clone was refused.
-fn packs(rt: &impl Abort, session: &mut NameSession, rects: &Rects) -> bool {
-    let answer = session.pack(rects, &volume_heuristic, &contains_smallest_box);
-    assert!(rt; is_right(answer, session));
-    answer.is_ok()
-}
-
-// Packs beside an outstanding placement. Whether so many clones were enough.
+// Packs beside an outstanding placement. Whether no clone was refused.
 fn packs_beside(
     rt: &impl Abort,
     session: &mut NameSession,
@@ -112,17 +102,19 @@ fn packs_beside(
     clones: Clones,
     count: u64,
 ) -> bool {
-    let mut rects = Rects::new(alloc);
-    let is_pushed = push_all(&mut rects, alloc, clones, SECOND).is_ok();
-    clones.set(count);
-    is_pushed && packs(rt, session, &rects)
+    let answer = pack(session, alloc, clones, SECOND, count);
+    assert!(rt; is_right(answer, session));
+    answer.is_ok()
 }
 
-// The same in a new session.
+// The same in a new session, with a bin 10x10x1 and the first box in it.
 fn is_packed_beside(rt: &impl Abort, alloc: Refusing, clones: Clones, count: u64) -> bool {
     let mut session = NameSession::new(alloc, 0);
     clones.set(u64::MAX);
-    is_filled(&mut session, alloc, clones) && packs_beside(rt, &mut session, alloc, clones, count)
+    let bin = Name { number: 7, clones };
+    session.add_bin(bin, 10, 10, 1).is_ok()
+        && pack(&mut session, alloc, clones, FIRST, u64::MAX).is_ok()
+        && packs_beside(rt, &mut session, alloc, clones, count)
 }
 
 // How many clones are enough for a packing. All memory is given back.
