@@ -25,11 +25,6 @@ fn pack(rt: &impl Abort, session: &mut Sheets, rects: &Rects) -> Result<(), Fail
     Ok(())
 }
 
-fn pack_a_box(rt: &impl Abort, alloc: Global, session: &mut Sheets) -> Result<(), Fail> {
-    let rects = one_box(alloc)?;
-    pack(rt, session, &rects)
-}
-
 // What is right of the box is free.
 fn ask_plan(rt: &impl Abort, session: &Sheets) -> Result<(), Fail> {
     let plan = session.cut_plan(&"sheet")?.ok_or("no such cuts")?;
@@ -60,8 +55,8 @@ fn is_whole(rt: &impl Abort, session: &Sheets) -> Result<(), Fail> {
     Ok(())
 }
 
-fn pack_and_give_back(rt: &impl Abort, alloc: Global, session: &mut Sheets) -> Result<(), Fail> {
-    pack_a_box(rt, alloc, session)?;
+fn pack_and_give_back(rt: &impl Abort, session: &mut Sheets, rects: &Rects) -> Result<(), Fail> {
+    pack(rt, session, rects)?;
     ask_plan(rt, session)?;
     give_back(session)?;
     is_whole(rt, session)
@@ -70,9 +65,10 @@ fn pack_and_give_back(rt: &impl Abort, alloc: Global, session: &mut Sheets) -> R
 #[test]
 fn session_plans_cuts_and_gives_a_box_back(rt: HostRuntime) -> Result<(), Fail> {
     let alloc = rt.alloc();
+    let rects = one_box(alloc)?;
     let mut session: Session<u32, &'static str> = Session::new(alloc, 0);
     session.add_bin("sheet", 10, 10, 1)?;
-    pack_and_give_back(&rt, alloc, &mut session)
+    pack_and_give_back(&rt, &mut session, &rects)
 }
 
 fn three_boxes(alloc: Global) -> Result<Rects, AllocError> {
@@ -89,15 +85,11 @@ fn pack_by_the_best(rt: &impl Abort, session: &mut Sheets, rects: &Rects) -> Res
     Ok(())
 }
 
-fn pack_three_boxes(rt: &impl Abort, alloc: Global, session: &mut Sheets) -> Result<(), Fail> {
-    let rects = three_boxes(alloc)?;
-    pack_by_the_best(rt, session, &rects)
-}
-
 #[test]
 fn pack_a_session_with_the_best(rt: HostRuntime) -> Result<(), Fail> {
     let alloc = rt.alloc();
+    let rects = three_boxes(alloc)?;
     let mut session: Session<u32, &'static str> = Session::new(alloc, 0);
     session.add_bin("sheet", 4, 4, 1)?;
-    pack_three_boxes(&rt, alloc, &mut session)
+    pack_by_the_best(&rt, &mut session, &rects)
 }
