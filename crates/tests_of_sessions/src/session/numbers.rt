@@ -5,7 +5,8 @@ use super::{BIN, FIRST, Held, Line, Memory, NEW, Order, Script, State, TILE, com
 use rectangle_pack::{Packed, Reply, SessionError};
 use std::test::Fail;
 
-const USED_UP: Reply = Reply::Refused(SessionError::NumbersUsedUp);
+/// There is no number left.
+pub const USED_UP: Reply = Reply::Refused(SessionError::NumbersUsedUp);
 
 // The greatest number is never given.
 const LAST_NUMBER: &[Line] = &[
