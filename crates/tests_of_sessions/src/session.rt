@@ -17,7 +17,7 @@ mod strip;
 mod sweeps;
 mod units;
 
-use rectangle_pack::{BinStats, Command, Outstanding, Reply, Session, SessionError};
+use rectangle_pack::{BinSection, BinStats, Command, Outstanding, Reply, Session, SessionError};
 use std::alloc::{AllocError, Global};
 use std::process::Abort;
 use std::test::Fail;
@@ -87,6 +87,17 @@ pub enum Memory {
     Asked,
     NotAsked,
     Either,
+}
+
+/// How a call, a run or a step came out.
+#[derive(Clone, Copy)]
+pub enum Came {
+    /// As wanted.
+    Out,
+    /// Memory was refused.
+    Refused,
+    /// Not as wanted.
+    Wrong,
 }
 
 /// A command, the reply to it, and the state of the session afterwards.
@@ -213,6 +224,14 @@ pub fn has_free(session: &TestSession, id: u32, list: &[[u32; 6]]) -> bool {
     }
 }
 
+/// The free sections of the bin of most scripts.
+pub fn free_sections(session: &TestSession) -> &[BinSection] {
+    match session.bins().get(&BIN) {
+        Some(bin) => bin.available_bin_sections().as_slice(),
+        None => &[],
+    }
+}
+
 fn has_bin(session: &TestSession, held: &Held) -> bool {
     has_free(session, held.id, held.free)
         && session.stats(&held.id) == Some(stats_of(held))
@@ -236,14 +255,15 @@ fn is_placed(placed: &Outstanding<u32, u32>, wanted: &PlacedBox) -> bool {
 
 // Whether these are the placements, in order.
 fn has_placed(placed: &[Outstanding<u32, u32>], wanted: &[PlacedBox]) -> bool {
-    let mut found = placed.iter();
-    for row in wanted {
-        match found.next() {
-            Some(placement) if is_placed(placement, row) => {}
-            _ => return false,
+    if placed.len() != wanted.len() {
+        return false;
+    }
+    for index in 0..wanted.len() {
+        if !is_placed(&placed[index], &wanted[index]) {
+            return false;
         }
     }
-    found.next().is_none()
+    true
 }
 
 fn has_id(bins: &[Held], id: u32) -> bool {
@@ -283,9 +303,14 @@ pub fn empty(first: u64) -> State {
     }
 }
 
+/// Memory that is never refused.
+pub fn plenty(rt: &impl Abort, alloc: Global) -> Refusing {
+    Refusing::new(alloc, u64::MAX).expect(rt, "no memory for the counts")
+}
+
 /// Each script comes out, by its calls and by one run, with each request refused in turn.
 pub fn come_out(rt: &impl Abort, alloc: Global, scripts: &[Script]) -> Result<(), Fail> {
-    let plenty = Refusing::new(alloc, u64::MAX)?;
+    let plenty = plenty(rt, alloc);
     for script in scripts {
         calls::come_out(rt, alloc, plenty, script)?;
         run::come_out(rt, alloc, plenty, script)?;

@@ -1,25 +1,21 @@
 //! The calls of scripts, one after another.
 
 use super::{
-    Line, Made, Memory, Order, Script, State, TestCommand, TestSession, command, empty, is_in,
+    Came, Line, Made, Memory, Order, Script, State, TestCommand, TestSession, command, empty, is_in,
 };
-use rectangle_pack::{Command, Reply, SessionError, contains_smallest_box, volume_heuristic};
+use rectangle_pack::{
+    Command, Packed, Reply, SessionError, contains_smallest_box, volume_heuristic,
+};
 use std::alloc::Global;
 use std::process::Abort;
 use tests_support::boxes::Rects;
 use tests_support::refusing::Refusing;
 
 // The longest script has fewer lines.
-const MOST_LINES: usize = 16;
+const MOST_LINES: usize = 24;
 
-// How calls came out: the line of this index was refused memory, or was wrong, or all lines are
-// as wanted.
-#[derive(Clone, Copy)]
-enum Came {
-    Refused(usize),
-    Wrong(usize),
-    Out,
-}
+/// Each script makes fewer requests for memory.
+pub const MOST_REQUESTS: u64 = 300;
 
 /// What a call answers that answers nothing else.
 pub fn reply(answer: Result<(), SessionError>) -> Reply {
@@ -29,12 +25,17 @@ pub fn reply(answer: Result<(), SessionError>) -> Reply {
     }
 }
 
-/// What a packing answers, by volumes and smallest boxes.
-pub fn pack(session: &mut TestSession, rects: &Rects) -> Reply {
-    match session.pack(rects, &volume_heuristic, &contains_smallest_box) {
+/// What a packing answers.
+pub fn packed(answer: Result<Packed, SessionError>) -> Reply {
+    match answer {
         Ok(packed) => Reply::Packed(packed),
         Err(error) => Reply::Refused(error),
     }
+}
+
+/// What a packing answers, by volumes and smallest boxes.
+pub fn pack(session: &mut TestSession, rects: &Rects) -> Reply {
+    packed(session.pack(rects, &volume_heuristic, &contains_smallest_box))
 }
 
 /// What the call of a command answers, by volumes and smallest boxes.
@@ -65,37 +66,33 @@ pub fn obey(session: &mut TestSession, alloc: Refusing, order: &Order) -> Reply 
 }
 
 // Makes the call of one line. Where it is refused memory, it changes nothing.
-fn call_line(
-    session: &mut TestSession,
-    plenty: Refusing,
-    before: &State,
-    index: usize,
-    line: &Line,
-) -> Came {
+fn call_line(session: &mut TestSession, plenty: Refusing, before: &State, line: &Line) -> Came {
     let reply = obey(session, plenty, &line.order);
     if reply == NO_MEMORY && is_in(session, before) {
-        Came::Refused(index)
+        Came::Refused
     } else if reply == line.reply && is_in(session, &line.after) {
         Came::Out
     } else {
-        Came::Wrong(index)
+        Came::Wrong
     }
 }
 
-// Makes the call of each line, until one does not come out.
-fn call_lines(session: &mut TestSession, plenty: Refusing, script: &Script) -> Came {
+// Makes the call of each line, until one does not come out, and says which.
+fn call_lines(session: &mut TestSession, plenty: Refusing, script: &Script) -> (usize, Came) {
     let mut before = empty(script.first);
-    for (index, line) in script.lines.iter().enumerate() {
-        match call_line(session, plenty, &before, index, line) {
+    let mut index = 0usize;
+    for line in script.lines {
+        match call_line(session, plenty, &before, line) {
             Came::Out => before = line.after,
-            other => return other,
+            other => return (index, other),
         }
+        index = index.wrapping_add(1);
     }
-    Came::Out
+    (index, Came::Out)
 }
 
 // Makes the calls in a new session. Commands take their memory elsewhere.
-fn call_all(plenty: Refusing, scarce: Refusing, script: &Script) -> Came {
+fn call_all(plenty: Refusing, scarce: Refusing, script: &Script) -> (usize, Came) {
     let mut session = TestSession::new(scarce, script.first);
     call_lines(&mut session, plenty, script)
 }
@@ -104,28 +101,26 @@ fn call_all(plenty: Refusing, scarce: Refusing, script: &Script) -> Came {
 // used, if there are not more than any script makes, and all memory is given back. A call says that
 // memory was refused where it was, and only there.
 fn may_come(came: Came, granted: u64, plenty: Refusing, scarce: Refusing) -> bool {
-    let is_used = matches!(came, Came::Wrong(_)) || scarce.left() == 0;
-    (granted == u64::MAX || is_used)
+    (granted == u64::MAX || scarce.left() == 0)
         && (scarce.refused() == 0) == matches!(came, Came::Out)
         && plenty.taken() == 0
         && scarce.taken() == 0
 }
 
-// With so many requests granted, the calls come out so.
+// How the calls come out with so many requests granted, and at which line.
 fn call_granted(
-    rt: &impl Abort,
     alloc: Global,
     plenty: Refusing,
     granted: u64,
     script: &Script,
-) -> Made<Came> {
+) -> Made<(usize, Came)> {
     let scarce = Refusing::new(alloc, granted)?;
-    let came = call_all(plenty, scarce, script);
-    assert!(rt;
-        may_come(came, granted, plenty, scarce),
-        "{granted} requests"
-    );
-    Ok(came)
+    let (line, came) = call_all(plenty, scarce, script);
+    if may_come(came, granted, plenty, scarce) {
+        Ok((line, came))
+    } else {
+        Ok((line, Came::Wrong))
+    }
 }
 
 fn is_allowed(memory: Memory, was_refused: bool) -> bool {
@@ -136,47 +131,55 @@ fn is_allowed(memory: Memory, was_refused: bool) -> bool {
     }
 }
 
-// Whether the lines were refused memory that are to be.
-fn are_allowed(script: &Script, were_refused: &[bool]) -> bool {
-    let mut flags = were_refused.iter();
-    let mut refusals = script.refusals;
-    for line in script.lines {
-        match flags.next() {
-            Some(flag) if is_allowed(line.memory, *flag) => {
-                refusals = refusals.saturating_sub(usize::from(*flag));
-            }
-            _ => return false,
-        }
+// Whether the lines were refused memory that are to be, and at least so many of them.
+fn are_allowed(lines: &[Line], were_refused: &[bool], refusals: usize) -> bool {
+    if lines.len() > were_refused.len() {
+        return false;
     }
-    refusals == 0
+    let mut count = 0usize;
+    for index in 0..lines.len() {
+        if !is_allowed(lines[index].memory, were_refused[index]) {
+            return false;
+        }
+        count = count.wrapping_add(usize::from(were_refused[index]));
+    }
+    count >= refusals
 }
 
 // Makes the calls with each request refused in turn, until none is, and notes the lines that were
-// refused memory. Whether the end was met.
+// refused memory. How many requests were granted then, and how the calls came out, at which line.
 fn refuse_each(
-    rt: &impl Abort,
     alloc: Global,
     plenty: Refusing,
     script: &Script,
     were_refused: &mut [bool],
-) -> Made<bool> {
-    for granted in 0..300u64 {
-        match call_granted(rt, alloc, plenty, granted, script)? {
-            Came::Refused(index) => set(were_refused, index),
-            Came::Wrong(index) => assert!(rt; false, "line {index}"),
-            Came::Out => return Ok(true),
+) -> Made<(u64, usize, Came)> {
+    for granted in 0..MOST_REQUESTS {
+        match call_granted(alloc, plenty, granted, script)? {
+            (line, Came::Refused) => set(were_refused, line),
+            (line, came) => return Ok((granted, line, came)),
         }
     }
-    Ok(false)
+    Ok((MOST_REQUESTS, 0, Came::Wrong))
+}
+
+// With so many requests granted, the calls came out.
+fn check_out(rt: &impl Abort, granted: u64, line: usize, came: Came) {
+    assert!(rt;
+        matches!(came, Came::Out),
+        "{granted} requests, line {line}"
+    );
 }
 
 /// Makes the calls with all memory, and then with each request refused in turn, until none is. The
 /// refused one changes nothing, and what is not refused comes out.
 pub fn come_out(rt: &impl Abort, alloc: Global, plenty: Refusing, script: &Script) -> Made<()> {
-    let came = call_granted(rt, alloc, plenty, u64::MAX, script)?;
+    let (line, came) = call_granted(alloc, plenty, u64::MAX, script)?;
+    check_out(rt, u64::MAX, line, came);
     let mut were_refused = [false; MOST_LINES];
-    let is_met = refuse_each(rt, alloc, plenty, script, &mut were_refused)?;
-    assert!(rt; matches!(came, Came::Out) && is_met && are_allowed(script, &were_refused));
+    let (granted, line, came) = refuse_each(alloc, plenty, script, &mut were_refused)?;
+    check_out(rt, granted, line, came);
+    assert!(rt; are_allowed(script.lines, &were_refused, script.refusals));
     Ok(())
 }
 

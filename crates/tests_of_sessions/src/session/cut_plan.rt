@@ -7,8 +7,8 @@ mod joins;
 mod packings;
 mod refusals;
 
-use super::calls::{NO_MEMORY, obey};
-use super::{Order, State, TestSession, has_free, is_in};
+use super::calls::{NO_MEMORY, obey, packed};
+use super::{Came, Order, State, TestSession, has_free, is_in};
 use rectangle_pack::{
     Axis, CutStep, Packed, Reply, SessionError, WidthHeightDepth, contains_smallest_box,
     volume_heuristic,
@@ -59,16 +59,8 @@ pub enum Step {
     Free(u32, &'static [[u32; 6]]),
 }
 
-/// How a step came out.
-#[derive(Clone, Copy)]
-pub enum Came {
-    /// As wanted.
-    Out,
-    /// Memory was refused.
-    Refused,
-    /// Not as wanted.
-    Wrong,
-}
+/// Scripts of one subject.
+pub type Scripts = &'static [&'static [Step]];
 
 /// There is no room for the boxes.
 pub const NO_ROOM: Reply = Reply::Refused(SessionError::NotEnoughBinSpace);
@@ -79,36 +71,28 @@ fn pack_comparing<H>(
     rects: &Rects,
     heuristic: &H,
     answer: Ordering,
-) -> Result<Packed, SessionError>
+) -> Reply
 where
     H: Fn(WidthHeightDepth) -> u128,
     requires { CanRate H.Fn heuristic.now }
 {
     let comparison = |_: [WidthHeightDepth; 3], _: [WidthHeightDepth; 3], _: &H| answer;
-    session.pack(rects, heuristic, &comparison)
+    packed(session.pack(rects, heuristic, &comparison))
 }
 
 // Where every size has the same rate.
-fn pack_rating(
-    session: &mut TestSession,
-    rects: &Rects,
-    rate: u128,
-) -> Result<Packed, SessionError> {
+fn pack_rating(session: &mut TestSession, rects: &Rects, rate: u128) -> Reply {
     let heuristic = |_: WidthHeightDepth| rate;
-    session.pack(rects, &heuristic, &contains_smallest_box)
+    packed(session.pack(rects, &heuristic, &contains_smallest_box))
 }
 
 fn pack_by(session: &mut TestSession, alloc: Refusing, rule: Rule, boxes: &[SizedBox]) -> Reply {
     let Ok(rects) = collect(alloc, boxes, &[]) else {
         return NO_MEMORY;
     };
-    let answer = match rule {
+    match rule {
         Rule::Compares(answer) => pack_comparing(session, &rects, &volume_heuristic, answer),
         Rule::Rates(rate) => pack_rating(session, &rects, rate),
-    };
-    match answer {
-        Ok(packed) => Reply::Packed(packed),
-        Err(error) => Reply::Refused(error),
     }
 }
 
@@ -123,14 +107,15 @@ fn cut_step(step: &PlanStep) -> CutStep {
 }
 
 fn is_plan(plan: &[CutStep], wanted: &[PlanStep]) -> bool {
-    let mut found = plan.iter();
-    for step in wanted {
-        match found.next() {
-            Some(it) if *it == cut_step(step) => {}
-            _ => return false,
+    if plan.len() != wanted.len() {
+        return false;
+    }
+    for index in 0..wanted.len() {
+        if plan[index] != cut_step(&wanted[index]) {
+            return false;
         }
     }
-    found.next().is_none()
+    true
 }
 
 fn came_if(is_wanted: bool) -> Came {
@@ -226,13 +211,15 @@ fn play(session: &mut TestSession, alloc: Refusing, step: &Step) -> Came {
 
 // Plays the steps until one does not come out as wanted, and says which.
 fn play_each(session: &mut TestSession, alloc: Refusing, script: &[Step]) -> (usize, Came) {
-    for (index, step) in script.iter().enumerate() {
+    let mut index = 0usize;
+    for step in script {
         match play(session, alloc, step) {
             Came::Out => {}
             other => return (index, other),
         }
+        index = index.wrapping_add(1);
     }
-    (script.len(), Came::Out)
+    (index, Came::Out)
 }
 
 // Plays a script in a new session. Says how it came out, and at which step.
@@ -241,8 +228,8 @@ fn play_all(alloc: Refusing, script: &[Step]) -> (usize, Came) {
     play_each(&mut session, alloc, script)
 }
 
-/// The same with so many requests granted. All that it takes is given back, and memory is said to
-/// be refused where it was, and only there.
+/// The same with so many requests granted. All that it takes is to be given back, and memory said
+/// to be refused where it was, and only there.
 pub fn play_granted(
     rt: &impl Abort,
     alloc: Global,
@@ -252,20 +239,22 @@ pub fn play_granted(
     let refusing = Refusing::new(alloc, granted).expect(rt, "no memory for the counts");
     let (step, came) = play_all(refusing, script);
     let is_out = matches!(came, Came::Out);
-    assert!(rt;
-        refusing.taken() == 0 && (refusing.refused() == 0) == is_out,
-        "step {step}"
-    );
-    (step, came)
+    if refusing.taken() == 0 && (refusing.refused() == 0) == is_out {
+        (step, came)
+    } else {
+        (step, Came::Wrong)
+    }
 }
 
 /// Each script comes out.
-pub fn come_out(rt: &impl Abort, alloc: Global, subject: &str, scripts: &[&[Step]]) {
-    for (index, script) in scripts.iter().enumerate() {
+pub fn come_out(rt: &impl Abort, alloc: Global, subject: &str, scripts: Scripts) {
+    let mut index = 0usize;
+    for script in scripts {
         let (step, came) = play_granted(rt, alloc, u64::MAX, script);
         assert!(rt;
             matches!(came, Came::Out),
             "{subject}: script {index}, step {step}"
         );
+        index = index.wrapping_add(1);
     }
 }

@@ -1,31 +1,23 @@
 //! One run of all commands of a script, beside its calls.
 
-use super::calls::call;
-use super::{Made, Script, TestCommand, TestSession, commands, empty, is_in};
+use super::calls::{MOST_REQUESTS, call};
+use super::{Came, Line, Made, Script, TestCommand, TestSession, commands, empty, is_in};
 use rectangle_pack::{Reply, TargetBin, contains_smallest_box, volume_heuristic};
 use std::alloc::Global;
 use std::process::Abort;
 use tests_support::refusing::Refusing;
 
-// How a run came out: a request was refused, or the replies or the session are wrong, or all is as
-// wanted.
-#[derive(Clone, Copy)]
-enum Came {
-    Refused,
-    Wrong,
-    Out,
-}
-
 // Whether calls answer these replies.
 fn are_called(replies: &[Reply], session: &mut TestSession, commands: &[TestCommand]) -> bool {
-    let mut found = replies.iter();
-    for command in commands {
-        match found.next() {
-            Some(reply) if *reply == call(session, command) => {}
-            _ => return false,
+    if replies.len() != commands.len() {
+        return false;
+    }
+    for index in 0..commands.len() {
+        if replies[index] != call(session, &commands[index]) {
+            return false;
         }
     }
-    found.next().is_none()
+    true
 }
 
 // Whether the session has a bin of this id, with the same free sections.
@@ -53,15 +45,16 @@ fn are_alike(one: &TestSession, other: &TestSession) -> bool {
 }
 
 // Whether the replies are those of the lines.
-fn are_wanted(replies: &[Reply], script: &Script) -> bool {
-    let mut found = replies.iter();
-    for line in script.lines {
-        match found.next() {
-            Some(reply) if *reply == line.reply => {}
-            _ => return false,
+fn are_wanted(replies: &[Reply], lines: &[Line]) -> bool {
+    if replies.len() != lines.len() {
+        return false;
+    }
+    for index in 0..lines.len() {
+        if replies[index] != lines[index].reply {
+            return false;
         }
     }
-    found.next().is_none()
+    true
 }
 
 // Each reply is what its call answers, and where the replies are those of the script, the session
@@ -76,7 +69,7 @@ fn compare(
     if !are_called(replies, twin, commands) || !are_alike(session, twin) {
         return Came::Wrong;
     }
-    if !are_wanted(replies, script) {
+    if !are_wanted(replies, script.lines) {
         return Came::Refused;
     }
     match script.lines.last() {
@@ -125,37 +118,35 @@ fn may_come(came: Came, plenty: Refusing, scarce: Refusing, left: Refusing) -> b
         && left.taken() == 0
 }
 
-// With so many requests granted, the run comes out so.
-fn run_granted(
-    rt: &impl Abort,
-    alloc: Global,
-    plenty: Refusing,
-    granted: u64,
-    script: &Script,
-) -> Made<Came> {
+// How the run comes out with so many requests granted.
+fn run_granted(alloc: Global, plenty: Refusing, granted: u64, script: &Script) -> Made<Came> {
     let scarce = Refusing::new(alloc, granted)?;
     let left = Refusing::new(alloc, granted.saturating_sub(1))?;
     let came = run_all(plenty, scarce, left, script)?;
-    assert!(rt; may_come(came, plenty, scarce, left), "{granted} requests");
-    Ok(came)
+    Ok(if may_come(came, plenty, scarce, left) {
+        came
+    } else {
+        Came::Wrong
+    })
 }
 
-// Runs with each request refused in turn, until none is; how many were granted then.
-fn refuse_each(rt: &impl Abort, alloc: Global, plenty: Refusing, script: &Script) -> Made<u64> {
-    for granted in 0..300u64 {
-        match run_granted(rt, alloc, plenty, granted, script)? {
+// Runs with each request refused in turn, until none is. How many were granted then, and how that
+// run came out.
+fn refuse_each(alloc: Global, plenty: Refusing, script: &Script) -> Made<(u64, Came)> {
+    for granted in 0..MOST_REQUESTS {
+        match run_granted(alloc, plenty, granted, script)? {
             Came::Refused => {}
-            Came::Wrong => return Ok(0),
-            Came::Out => return Ok(granted),
+            came => return Ok((granted, came)),
         }
     }
-    Ok(0)
+    Ok((MOST_REQUESTS, Came::Wrong))
 }
 
 /// Runs with all memory, and then with each request refused in turn, until none is.
 pub fn come_out(rt: &impl Abort, alloc: Global, plenty: Refusing, script: &Script) -> Made<()> {
-    let came = run_granted(rt, alloc, plenty, u64::MAX, script)?;
-    let granted = refuse_each(rt, alloc, plenty, script)?;
-    assert!(rt; matches!(came, Came::Out) && granted > 0);
+    let came = run_granted(alloc, plenty, u64::MAX, script)?;
+    let (granted, last) = refuse_each(alloc, plenty, script)?;
+    let is_out = matches!((came, last), (Came::Out, Came::Out)) && granted > 0;
+    assert!(rt; is_out, "{granted} requests");
     Ok(())
 }

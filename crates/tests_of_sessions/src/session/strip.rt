@@ -236,13 +236,18 @@ const RELEASES: &[Line] = &[
 ];
 
 // The bin, the packing and at least one of the releases are refused memory.
-const SCRIPT: Script = Script {
+const SCRIPTS: &[Script] = &[Script {
     first: 0,
     lines: RELEASES,
     refusals: 3,
-};
+}];
+
+// A table is dear to prove in a longer body, so this one stands alone.
+fn scripts() -> &'static [Script] {
+    SCRIPTS
+}
 
 #[test]
 fn releases_of_units(rt: HostRuntime) -> Result<(), Fail> {
-    come_out(&rt, rt.alloc(), &[SCRIPT])
+    come_out(&rt, rt.alloc(), scripts())
 }

@@ -2,7 +2,7 @@
 
 use super::PlanStep::{Leaf, X, Y, Z};
 use super::Step::{self, Call, Plans, Replies};
-use super::{NO_ROOM, PlanStep, come_out};
+use super::{NO_ROOM, PlanStep, Scripts, come_out};
 use crate::session::Order::{AddBin, Pack, PackApart};
 use rectangle_pack::{Group, Reply, SessionError};
 use tests_support::boxes::GroupName;
@@ -234,17 +234,38 @@ const REFUSED_APART: &[&[Step]] = &[
     ],
 ];
 
+// A table is dear to prove in a longer body, so each stands alone.
+fn several_bins() -> Scripts {
+    SEVERAL_BINS
+}
+
+fn groups() -> Scripts {
+    GROUPS
+}
+
+fn excluded() -> Scripts {
+    EXCLUDED
+}
+
+fn refused() -> Scripts {
+    REFUSED
+}
+
+fn refused_apart() -> Scripts {
+    REFUSED_APART
+}
+
 #[test]
 fn plans_of_boxes_apart(rt: HostRuntime) {
     let alloc = rt.alloc();
-    come_out(&rt, alloc, "several bins", SEVERAL_BINS);
-    come_out(&rt, alloc, "groups", GROUPS);
-    come_out(&rt, alloc, "excluded groups", EXCLUDED);
-    come_out(&rt, alloc, "refused packings", REFUSED);
+    come_out(&rt, alloc, "several bins", several_bins());
+    come_out(&rt, alloc, "groups", groups());
+    come_out(&rt, alloc, "excluded groups", excluded());
+    come_out(&rt, alloc, "refused packings", refused());
     come_out(
         &rt,
         alloc,
         "refused packings of excluded groups",
-        REFUSED_APART,
+        refused_apart(),
     );
 }

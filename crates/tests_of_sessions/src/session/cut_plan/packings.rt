@@ -3,7 +3,7 @@
 use super::PlanStep::{Leaf, X, Y, Z};
 use super::Rule::{Compares, Rates};
 use super::Step::{self, Call, PackBy, Plans};
-use super::{PlanStep, come_out};
+use super::{PlanStep, Scripts, come_out};
 use crate::session::Order::{AddBin, Pack};
 use std::cmp::Ordering;
 use tests_support::boxes::SizedBox;
@@ -188,12 +188,33 @@ const HEURISTICS: &[&[Step]] = &[
     ],
 ];
 
+// A table is dear to prove in a longer body, so each stands alone.
+fn flat() -> Scripts {
+    FLAT
+}
+
+fn deep() -> Scripts {
+    DEEP
+}
+
+fn largest() -> Scripts {
+    LARGEST
+}
+
+fn comparisons() -> Scripts {
+    COMPARISONS
+}
+
+fn heuristics() -> Scripts {
+    HEURISTICS
+}
+
 #[test]
 fn plans_of_packings(rt: HostRuntime) {
     let alloc = rt.alloc();
-    come_out(&rt, alloc, "flat bins", FLAT);
-    come_out(&rt, alloc, "deep bins", DEEP);
-    come_out(&rt, alloc, "largest bins", LARGEST);
-    come_out(&rt, alloc, "constant comparisons", COMPARISONS);
-    come_out(&rt, alloc, "constant heuristics", HEURISTICS);
+    come_out(&rt, alloc, "flat bins", flat());
+    come_out(&rt, alloc, "deep bins", deep());
+    come_out(&rt, alloc, "largest bins", largest());
+    come_out(&rt, alloc, "constant comparisons", comparisons());
+    come_out(&rt, alloc, "constant heuristics", heuristics());
 }

@@ -2,13 +2,13 @@
 
 use super::PlanStep::{Leaf, X, Y, Z};
 use super::Step::{self, Call, IsIn, NoBin, Plans, Replies};
-use super::{Came, PlanStep, play_granted};
+use super::{PlanStep, play_granted};
 use crate::session::Order::{AddBin, Coalesce, Pack, Release};
 use crate::session::calls::set;
 use crate::session::releases::{
     BOTH_PLACED, BOTH_RELEASED, JOINED, NOT_JOINED, P, P_PLACED, P_RELEASED, Q,
 };
-use crate::session::{BIN, ONE_NEW_BIN, OTHER, UNKNOWN};
+use crate::session::{BIN, Came, ONE_NEW_BIN, OTHER, UNKNOWN};
 use rectangle_pack::{Packed, Reply, SessionError};
 use std::alloc::Global;
 use std::process::Abort;
@@ -52,21 +52,20 @@ const SCRIPT: &[Step] = &[
     IsIn(JOINED, ONE),
 ];
 
-// Whether these are among the steps that were refused memory: all that ask for a plan.
+// The longest script has no more steps.
+const MOST_STEPS: usize = 21;
+
+// Whether these are among the steps that were refused memory: all that ask for plans.
 fn were_all_refused(script: &[Step], refused: &[bool]) -> bool {
-    let mut flags = refused.iter();
-    for step in script {
-        match flags.next() {
-            Some(is_refused) if *is_refused || !matches!(step, IsIn(..)) => {}
-            _ => return false,
+    if script.len() > refused.len() {
+        return false;
+    }
+    for index in 0..script.len() {
+        if matches!(script[index], IsIn(..) | Plans(..)) && !refused[index] {
+            return false;
         }
     }
-    flags.next().is_none()
-}
-
-// A table is dear to prove in a longer body, so this one stands alone.
-fn script() -> &'static [Step] {
-    SCRIPT
+    true
 }
 
 // A box on the left, one at the bottom of the rest, and two in front of each other in what is left,
@@ -79,30 +78,41 @@ const PEELED: &[Step] = &[
     Plans(&[(BIN, &[X(1), Leaf, Y(1), Leaf, Z(1), Leaf, Leaf])]),
 ];
 
-// Each request is refused in turn, until none is, and the steps that are refused are noted. Whether
-// the end was met.
-fn refuse_each(rt: &impl Abort, alloc: Global, script: &[Step], were_refused: &mut [bool]) -> bool {
+// Plays the script with each request refused in turn, until none is, and notes the steps that were
+// refused memory. How the script came out then, and at which step.
+fn refuse_each(
+    rt: &impl Abort,
+    alloc: Global,
+    script: &[Step],
+    were_refused: &mut [bool],
+) -> (usize, Came) {
     for granted in 0..200u64 {
-        let (step, came) = play_granted(rt, alloc, granted, script);
-        match came {
-            Came::Refused => set(were_refused, step),
-            Came::Wrong => assert!(rt; false, "step {step}"),
-            Came::Out => return true,
+        match play_granted(rt, alloc, granted, script) {
+            (step, Came::Refused) => set(were_refused, step),
+            end => return end,
         }
     }
-    false
+    (0, Came::Wrong)
+}
+
+fn come_out(rt: &impl Abort, alloc: Global, script: &[Step]) {
+    let mut were_refused = [false; MOST_STEPS];
+    let (step, came) = refuse_each(rt, alloc, script, &mut were_refused);
+    assert!(rt; matches!(came, Came::Out), "step {step}");
+    assert!(rt; were_all_refused(script, &were_refused));
+}
+
+// A table is dear to prove in a longer body, so each stands alone.
+fn script() -> &'static [Step] {
+    SCRIPT
+}
+
+fn peeled() -> &'static [Step] {
+    PEELED
 }
 
 #[test]
 fn plans(rt: HostRuntime) {
-    let mut were_refused = [false; 21];
-    assert!(rt; refuse_each(&rt, rt.alloc(), script(), &mut were_refused));
-    assert!(rt; were_all_refused(script(), &were_refused));
-}
-
-#[test]
-fn plans_with_orders_that_are_kept(rt: HostRuntime) {
-    let mut were_refused = [false; 5];
-    assert!(rt; refuse_each(&rt, rt.alloc(), PEELED, &mut were_refused));
-    assert!(rt; were_refused[4]);
+    come_out(&rt, rt.alloc(), script());
+    come_out(&rt, rt.alloc(), peeled());
 }
