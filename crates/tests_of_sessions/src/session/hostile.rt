@@ -1,16 +1,14 @@
 //! Sessions whose heuristic and comparison answer without sense.
 ghost use Rattle.rectangle_pack.specs.Closures.{AreCallable, CanRate};
 
-use super::{BIN, OTHER, Order, TestCommand, TestSession, command};
+use super::{BIN, OTHER, Order, TestCommand, TestSession, command, plenty};
 use rectangle_pack::{
     BinSection, Outstanding, Packed, Reply, TargetBin, WidthHeightDepth, contains_smallest_box,
 };
-use std::alloc::Global;
 use std::cell::Cell;
 use std::cmp::Ordering;
 use std::process::Abort;
 use std::slice;
-use std::test::Fail;
 use tests_support::refusing::Refusing;
 use tests_support::shapes::{numbers, place};
 
@@ -104,84 +102,6 @@ fn are_whole(session: &TestSession) -> bool {
     true
 }
 
-// What a run of these commands replies first.
-fn run<H, C>(
-    session: &mut TestSession,
-    commands: &[TestCommand],
-    heuristic: &H,
-    comparison: &C,
-) -> Option<Reply>
-where
-    H: Fn(WidthHeightDepth) -> u128,
-    C: Fn(Three, Three, &H) -> Ordering,
-    requires { AreCallable H.Fn C.Fn heuristic.now comparison.now }
-{
-    match session.run(commands, heuristic, comparison) {
-        Ok(replies) => replies.first().copied(),
-        Err(_) => None,
-    }
-}
-
-// Whether the run of this one command replies so, and the volumes add up after it.
-fn obeys<H, C>(
-    alloc: Refusing,
-    session: &mut TestSession,
-    row: &(Order, Reply),
-    heuristic: &H,
-    comparison: &C,
-) -> bool
-where
-    H: Fn(WidthHeightDepth) -> u128,
-    C: Fn(Three, Three, &H) -> Ordering,
-    requires { AreCallable H.Fn C.Fn heuristic.now comparison.now }
-{
-    let (order, wanted) = row;
-    let Ok(command) = command(alloc, order) else {
-        return false;
-    };
-    let reply = run(session, slice::from_ref(&command), heuristic, comparison);
-    reply == Some(*wanted) && are_whole(session)
-}
-
-// With these closures all commands are obeyed.
-fn obey_all<H, C>(
-    rt: &impl Abort,
-    alloc: Refusing,
-    session: &mut TestSession,
-    heuristic: &H,
-    comparison: &C,
-)
-where
-    H: Fn(WidthHeightDepth) -> u128,
-    C: Fn(Three, Three, &H) -> Ordering,
-    requires { AreCallable H.Fn C.Fn heuristic.now comparison.now }
-{
-    for (index, row) in orders().iter().enumerate() {
-        assert!(rt;
-            obeys(alloc, session, row, heuristic, comparison),
-            "at {index}"
-        );
-    }
-}
-
-// In a new session.
-fn stays_whole<H, C>(
-    rt: &impl Abort,
-    alloc: Global,
-    heuristic: &H,
-    comparison: &C,
-) -> Result<(), Fail>
-where
-    H: Fn(WidthHeightDepth) -> u128,
-    C: Fn(Three, Three, &H) -> Ordering,
-    requires { AreCallable H.Fn C.Fn heuristic.now comparison.now }
-{
-    let alloc = Refusing::new(alloc, u64::MAX)?;
-    let mut session = TestSession::new(alloc, 0);
-    obey_all(rt, alloc, &mut session, heuristic, comparison);
-    Ok(())
-}
-
 // How the closures answer.
 #[derive(Clone, Copy)]
 enum Mood {
@@ -202,6 +122,16 @@ const MOODS: [Mood; 4] = [
     Mood::InACircle,
     Mood::LeastAndGreatest,
 ];
+
+// The closures of a session: their mood, and how often each was asked.
+#[derive(Drop)]
+struct Answers {
+    mood: Mood,
+    // Whether sections are compared by smallest boxes instead.
+    by_smallest: bool,
+    rated: Cell<u64>,
+    compared: Cell<u64>,
+}
 
 fn count(counter: &Cell<u64>) -> u64 {
     let now = counter.get();
@@ -233,49 +163,111 @@ fn hash_of_three([right, above, behind]: Three) -> u64 {
         .wrapping_add(hash(behind))
 }
 
-fn rate(mood: Mood, asked: &Cell<u64>, size: WidthHeightDepth) -> u128 {
-    match mood {
-        Mood::Counting => u128::from(count(asked) % 7),
+fn rate(answers: &Answers, size: WidthHeightDepth) -> u128 {
+    match answers.mood {
+        Mood::Counting => u128::from(count(&answers.rated) % 7),
         Mood::Hashing | Mood::InACircle => u128::from(hash(size)),
-        Mood::LeastAndGreatest if count(asked) % 2 == 0 => 0,
+        Mood::LeastAndGreatest if count(&answers.rated) % 2 == 0 => 0,
         Mood::LeastAndGreatest => u128::MAX,
     }
 }
 
-fn compare(mood: Mood, asked: &Cell<u64>, one: Three, other: Three) -> Ordering {
+fn compare(answers: &Answers, one: Three, other: Three) -> Ordering {
     let (one, other) = (hash_of_three(one), hash_of_three(other));
-    match mood {
-        Mood::Counting | Mood::LeastAndGreatest => any_of_three(count(asked)),
+    match answers.mood {
+        Mood::Counting | Mood::LeastAndGreatest => any_of_three(count(&answers.compared)),
         Mood::Hashing => any_of_three(one ^ other.rotate_left(7)),
         Mood::InACircle => any_of_three((one % 3 + 4 - other % 3) % 3),
     }
 }
 
-// By the comparison of this mood, and by smallest boxes. Each begins to count anew.
-fn stays_whole_by_mood<H>(
-    rt: &impl Abort,
-    alloc: Global,
-    mood: Mood,
-    asked: &Cell<u64>,
+// What a run of these commands replies first.
+fn run<H, C>(
+    session: &mut TestSession,
+    commands: &[TestCommand],
     heuristic: &H,
-) -> Result<(), Fail>
+    comparison: &C,
+) -> Option<Reply>
+where
+    H: Fn(WidthHeightDepth) -> u128,
+    C: Fn(Three, Three, &H) -> Ordering,
+    requires { AreCallable H.Fn C.Fn heuristic.now comparison.now }
+{
+    match session.run(commands, heuristic, comparison) {
+        Ok(replies) => replies.first().copied(),
+        Err(_) => None,
+    }
+}
+
+fn run_comparing<H>(
+    session: &mut TestSession,
+    commands: &[TestCommand],
+    answers: &Answers,
+    heuristic: &H,
+) -> Option<Reply>
 where
     H: Fn(WidthHeightDepth) -> u128,
     requires { CanRate H.Fn heuristic.now }
 {
-    let compared = Cell::new(0u64);
-    let comparison = |one: Three, other: Three, _: &H| compare(mood, &compared, one, other);
-    stays_whole(rt, alloc, heuristic, &comparison)?;
-    asked.set(0);
-    stays_whole(rt, alloc, heuristic, &contains_smallest_box)
+    if answers.by_smallest {
+        return run(session, commands, heuristic, &contains_smallest_box);
+    }
+    let comparison = |one: Three, other: Three, _: &H| compare(answers, one, other);
+    run(session, commands, heuristic, &comparison)
+}
+
+fn run_with(
+    session: &mut TestSession,
+    commands: &[TestCommand],
+    answers: &Answers,
+) -> Option<Reply> {
+    let heuristic = |size: WidthHeightDepth| rate(answers, size);
+    run_comparing(session, commands, answers, &heuristic)
+}
+
+// Whether the run of this one command replies so, and the volumes add up after it.
+fn obeys(
+    alloc: Refusing,
+    session: &mut TestSession,
+    row: &(Order, Reply),
+    answers: &Answers,
+) -> bool {
+    let (order, wanted) = row;
+    let Ok(command) = command(alloc, order) else {
+        return false;
+    };
+    run_with(session, slice::from_ref(&command), answers) == Some(*wanted) && are_whole(session)
+}
+
+// How many commands are obeyed, up to the first that is not.
+fn count_obeyed(alloc: Refusing, session: &mut TestSession, answers: &Answers) -> usize {
+    let mut count = 0usize;
+    for row in orders() {
+        if !obeys(alloc, session, row, answers) {
+            return count;
+        }
+        count = count.wrapping_add(1);
+    }
+    count
+}
+
+// In a new session all commands are obeyed.
+fn obey_all(rt: &impl Abort, alloc: Refusing, mood: Mood, by_smallest: bool) {
+    let mut session = TestSession::new(alloc, 0);
+    let answers = Answers {
+        mood,
+        by_smallest,
+        rated: Cell::new(0),
+        compared: Cell::new(0),
+    };
+    assert_eq!(rt; count_obeyed(alloc, &mut session, &answers), orders().len());
 }
 
 #[test]
-fn answers_without_sense(rt: HostRuntime) -> Result<(), Fail> {
+fn answers_without_sense(rt: HostRuntime) {
+    let alloc = plenty(&rt, rt.alloc());
     for mood in MOODS {
-        let asked = Cell::new(0u64);
-        let heuristic = |size: WidthHeightDepth| rate(mood, &asked, size);
-        stays_whole_by_mood(&rt, rt.alloc(), mood, &asked, &heuristic)?;
+        obey_all(&rt, alloc, mood, false);
+        obey_all(&rt, alloc, mood, true);
     }
-    Ok(())
 }
