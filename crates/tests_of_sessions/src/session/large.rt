@@ -1,18 +1,12 @@
 //! Sessions past small sizes: fifty bins, and a bin with more than a thousand free sections, which
 //! stand in slots while it packs.
 
-use super::calls::NO_MEMORY;
+use super::calls::{self, NO_MEMORY};
 use super::cut_plan::NO_ROOM;
-use rectangle_pack::{
-    GroupedRectsToPlace, Outstanding, Packed, RectToInsert, Reply, Session, SessionError,
-    contains_smallest_box, volume_heuristic,
-};
-use std::alloc::{AllocError, Global};
-
-type Rects = GroupedRectsToPlace<u32, u32>;
-
-/// A session whose memory is not refused.
-pub type Numbered = Session<u32, u32>;
+use super::{BIN, Made, TestSession, free_sections, plenty};
+use rectangle_pack::{BinSection, Outstanding, Packed, RectToInsert, Reply};
+use tests_support::boxes::Rects;
+use tests_support::refusing::Refusing;
 
 /// Boxes one cell high, each alone under its number, from 0 on.
 #[derive(Clone, Copy)]
@@ -23,7 +17,7 @@ pub struct Boxes {
     pub one_is_too_tall: bool,
 }
 
-fn push_boxes(rects: &mut Rects, boxes: Boxes) -> Result<(), AllocError> {
+fn push_boxes(rects: &mut Rects, boxes: Boxes) -> Made<()> {
     for id in 0..boxes.count {
         rects.push_rect(id, None, RectToInsert::new(boxes.width, 1, 1))?;
     }
@@ -33,23 +27,16 @@ fn push_boxes(rects: &mut Rects, boxes: Boxes) -> Result<(), AllocError> {
     Ok(())
 }
 
-fn pack_rects(session: &mut Numbered, rects: &Rects) -> Reply {
-    match session.pack(rects, &volume_heuristic, &contains_smallest_box) {
-        Ok(packed) => Reply::Packed(packed),
-        Err(error) => Reply::Refused(error),
-    }
-}
-
-fn pack(session: &mut Numbered, alloc: Global, boxes: Boxes) -> Reply {
+fn pack(session: &mut TestSession, alloc: Refusing, boxes: Boxes) -> Reply {
     let mut rects = Rects::new(alloc);
     match push_boxes(&mut rects, boxes) {
-        Ok(()) => pack_rects(session, &rects),
+        Ok(()) => calls::pack(session, &rects),
         Err(_) => NO_MEMORY,
     }
 }
 
 /// Whether so many boxes are packed, under the numbers from this one on.
-pub fn packs(session: &mut Numbered, alloc: Global, boxes: Boxes, first: u64) -> bool {
+pub fn packs(session: &mut TestSession, alloc: Refusing, boxes: Boxes, first: u64) -> bool {
     let count = u64::from(boxes.count);
     pack(session, alloc, boxes) == Reply::Packed(Packed { first, count })
 }
@@ -60,11 +47,13 @@ const CELLS: Boxes = Boxes {
     one_is_too_tall: false,
 };
 
-fn add_cells(session: &mut Numbered) -> Result<(), SessionError> {
+fn adds_cells(session: &mut TestSession) -> bool {
     for id in 0..CELLS.count {
-        session.add_bin(id, 1, 1, 1)?;
+        if session.add_bin(id, 1, 1, 1).is_err() {
+            return false;
+        }
     }
-    Ok(())
+    true
 }
 
 // Whether each box is in the bin of its own number.
@@ -80,10 +69,10 @@ fn are_in_turn(outstanding: &[Outstanding<u32, u32>]) -> bool {
 // Each bin holds one cell, and there are as many boxes of one cell.
 #[test]
 fn fifty_bins(rt: HostRuntime) {
-    let mut session = Numbered::new(rt.alloc(), 0);
-    assert!(rt; add_cells(&mut session).is_ok());
-    assert!(rt; packs(&mut session, rt.alloc(), CELLS, 0));
-    assert!(rt; are_in_turn(session.outstanding()));
+    let alloc = plenty(&rt, rt.alloc());
+    let mut session = TestSession::new(alloc, 0);
+    let is_packed = adds_cells(&mut session) && packs(&mut session, alloc, CELLS, 0);
+    assert!(rt; is_packed && are_in_turn(session.outstanding()));
 }
 
 // The boxes that fill the bin, and those that are packed afterwards.
@@ -100,68 +89,70 @@ const TOO_TALL: Boxes = Boxes {
     ..AGAIN
 };
 
-fn release_all(session: &mut Numbered) -> Result<(), SessionError> {
-    for number in 0..u64::from(ALL.count) {
-        session.release(number)?;
+/// Whether the placements before this number are released, from the first on.
+pub fn releases_first(session: &mut TestSession, end: u32) -> bool {
+    for number in 0..u64::from(end) {
+        if session.release(number).is_err() {
+            return false;
+        }
     }
-    Ok(())
+    true
 }
 
 // Fills a new bin, and gives its boxes back, the first one first.
-fn fills_and_empties(session: &mut Numbered, alloc: Global) -> bool {
-    session.add_bin(0, ALL.width * ALL.count, 1, 1).is_ok()
+fn fills_and_empties(session: &mut TestSession, alloc: Refusing) -> bool {
+    session.add_bin(BIN, ALL.width * ALL.count, 1, 1).is_ok()
         && packs(session, alloc, ALL, 0)
-        && release_all(session).is_ok()
+        && releases_first(session, ALL.count)
+        && is_empty(session)
 }
 
-// Whether the bin's free sections are the first so many, in their order.
-fn are_free(session: &Numbered, count: u32) -> bool {
-    let Some(bin) = session.bins().get(&0) else {
-        return false;
-    };
-    let mut found = bin.available_bin_sections().iter();
-    for index in 0..count {
-        match found.next() {
-            Some(section) if section.x() == index.wrapping_mul(2) => {}
-            _ => return false,
+// Whether these are so many free sections, from the first on, in their order.
+fn are_first(sections: &[BinSection], count: u32) -> bool {
+    let mut x: u32 = 0;
+    for section in sections {
+        if section.x() != x {
+            return false;
         }
+        x = x.wrapping_add(ALL.width);
     }
-    found.next().is_none()
+    sections.len() == count as usize
 }
 
 // Whether the boxes stand in the last sections, from the last on.
 fn are_placed(outstanding: &[Outstanding<u32, u32>]) -> bool {
-    let mut found = outstanding.iter();
-    for id in 0..AGAIN.count {
-        let x = (ALL.count - 1).saturating_sub(id).wrapping_mul(2);
-        match found.next() {
-            Some(placed) if placed.id == id && placed.location.x() == x => {}
-            _ => return false,
+    let mut id: u32 = 0;
+    let mut x = ALL.width * ALL.count;
+    for placed in outstanding {
+        x = x.wrapping_sub(ALL.width);
+        if placed.id != id || placed.location.x() != x {
+            return false;
         }
+        id = id.wrapping_add(1);
     }
-    found.next().is_none()
+    id == AGAIN.count
 }
 
-fn is_empty(session: &Numbered) -> bool {
-    are_free(session, ALL.count) && session.outstanding().is_empty()
+fn is_empty(session: &TestSession) -> bool {
+    are_first(free_sections(session), ALL.count) && session.outstanding().is_empty()
 }
 
 // Whether a packing whose last box is too tall is rolled back.
-fn rolls_back(session: &mut Numbered, alloc: Global) -> bool {
+fn rolls_back(session: &mut TestSession, alloc: Refusing) -> bool {
     pack(session, alloc, TOO_TALL) == NO_ROOM && is_empty(session)
 }
 
 // Whether the same without that box is kept.
-fn keeps(session: &mut Numbered, alloc: Global) -> bool {
+fn keeps(session: &mut TestSession, alloc: Refusing) -> bool {
     packs(session, alloc, AGAIN, u64::from(ALL.count))
-        && are_free(session, ALL.count - AGAIN.count)
+        && are_first(free_sections(session), ALL.count - AGAIN.count)
         && are_placed(session.outstanding())
 }
 
 #[test]
 fn long_list(rt: HostRuntime) {
-    let mut session = Numbered::new(rt.alloc(), 0);
-    assert!(rt; fills_and_empties(&mut session, rt.alloc()) && is_empty(&session));
-    assert!(rt; rolls_back(&mut session, rt.alloc()));
-    assert!(rt; keeps(&mut session, rt.alloc()));
+    let alloc = plenty(&rt, rt.alloc());
+    let mut session = TestSession::new(alloc, 0);
+    let is_emptied = fills_and_empties(&mut session, alloc);
+    assert!(rt; is_emptied && rolls_back(&mut session, alloc) && keeps(&mut session, alloc));
 }

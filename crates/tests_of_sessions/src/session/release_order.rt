@@ -1,15 +1,10 @@
 //! Placements that are released from the first on, from the last on and in between, and packings
 //! among these releases.
 
-use super::calls::{NO_MEMORY, pack, reply};
-use super::large::{Boxes, Numbered, packs};
-use super::{BIN, TestSession};
-use rectangle_pack::{Outstanding, RectToInsert, Reply, SessionError};
-use std::alloc::Global;
-use std::process::Abort;
+use super::large::{Boxes, packs, releases_first};
+use super::{BIN, Held, Line, Memory, NEW, Order, Script, State, TestSession, come_out, plenty};
+use rectangle_pack::{Outstanding, Packed, Reply, SessionError};
 use std::test::Fail;
-use tests_support::boxes::Rects;
-use tests_support::each_request::{End, is_refused};
 use tests_support::refusing::Refusing;
 
 // So many boxes of one cell fill a bin of one row; each stands at its number.
@@ -21,23 +16,10 @@ const ROW: Boxes = Boxes {
     one_is_too_tall: false,
 };
 
-// In which order they are released.
-#[derive(Clone, Copy)]
-enum Turn {
-    FromTheFirst,
-    FromTheLast,
-    InBetween,
-}
-
-// The number that is released at this step.
-fn number_at(turn: Turn, step: u32) -> u32 {
-    match turn {
-        Turn::FromTheFirst => step,
-        Turn::FromTheLast => (COUNT - 1).saturating_sub(step),
-        // The count is a prime, so that each number comes once.
-        Turn::InBetween => step.wrapping_mul(37) % COUNT,
-    }
-}
+// Orders in which they are released, from the first on, from the last on and in between: the first
+// number, and how far the next one is behind it in a circle. The count is a prime, so that each
+// number comes once.
+const ORDERS: &[(u32, u32)] = &[(0, 1), (COUNT - 1, COUNT - 1), (0, 37)];
 
 // Whether a placement is this one of the row.
 fn is_of_row(placed: &Outstanding<u32, u32>, number: u32) -> bool {
@@ -61,7 +43,7 @@ fn are_left(outstanding: &[Outstanding<u32, u32>], left: &[bool]) -> bool {
 }
 
 // Whether this number of the row is released once, and all that are left stay in order.
-fn releases_one(session: &mut Numbered, left: &mut [bool], number: u32) -> bool {
+fn releases_one(session: &mut TestSession, left: &mut [bool], number: u32) -> bool {
     if let Some(is_left) = left.get_mut(number as usize) {
         *is_left = false;
     }
@@ -70,39 +52,42 @@ fn releases_one(session: &mut Numbered, left: &mut [bool], number: u32) -> bool 
         && are_left(session.outstanding(), left)
 }
 
-fn releases_all(session: &mut Numbered, turn: Turn) -> bool {
+fn releases_all(session: &mut TestSession, first: u32, step: u32) -> bool {
     let mut left = [true; COUNT as usize];
-    for step in 0..COUNT {
-        if !releases_one(session, &mut left, number_at(turn, step)) {
+    let mut number = first;
+    for _ in 0..COUNT {
+        if !releases_one(session, &mut left, number) {
             return false;
         }
+        number = number.wrapping_add(step) % COUNT;
     }
     session.outstanding().is_empty()
 }
 
 // Fills a new bin with the row.
-fn fills(session: &mut Numbered, alloc: Global) -> bool {
+fn fills(session: &mut TestSession, alloc: Refusing) -> bool {
     session.add_bin(BIN, COUNT, 1, 1) == Ok(()) && packs(session, alloc, ROW, 0)
 }
 
 #[test]
 fn each_order(rt: HostRuntime) {
-    for turn in [Turn::FromTheFirst, Turn::FromTheLast, Turn::InBetween] {
-        let mut session = Numbered::new(rt.alloc(), 0);
-        assert!(rt; fills(&mut session, rt.alloc()) && releases_all(&mut session, turn));
+    let alloc = plenty(&rt, rt.alloc());
+    for (first, step) in ORDERS {
+        let mut session = TestSession::new(alloc, 0);
+        assert!(rt; fills(&mut session, alloc) && releases_all(&mut session, *first, *step));
     }
 }
 
 // Whether these numbers are outstanding, in order, up to the one before the end.
 fn are_numbers(outstanding: &[Outstanding<u32, u32>], first: u64, end: u64) -> bool {
-    let mut found = outstanding.iter();
-    for number in first..end {
-        match found.next() {
-            Some(placed) if placed.number == number => {}
-            _ => return false,
+    let mut number = first;
+    for placed in outstanding {
+        if placed.number != number {
+            return false;
         }
+        number = number.wrapping_add(1);
     }
-    found.next().is_none()
+    number == end
 }
 
 // Whether each stands at its number, less as many rows as came before it.
@@ -118,7 +103,7 @@ fn are_in_place(outstanding: &[Outstanding<u32, u32>]) -> bool {
 const ONE: Boxes = Boxes { count: 1, ..ROW };
 
 // Whether the oldest placement is released, and one more box is packed where it stood.
-fn takes_a_turn(session: &mut Numbered, alloc: Global, oldest: u64) -> bool {
+fn takes_a_turn(session: &mut TestSession, alloc: Refusing, oldest: u64) -> bool {
     let first = oldest.wrapping_add(1);
     let next = oldest.wrapping_add(u64::from(COUNT));
     session.release(oldest) == Ok(())
@@ -130,112 +115,160 @@ fn takes_a_turn(session: &mut Numbered, alloc: Global, oldest: u64) -> bool {
 
 #[test]
 fn oldest_and_next_in_turn(rt: HostRuntime) {
-    let mut session = Numbered::new(rt.alloc(), 0);
-    assert!(rt; fills(&mut session, rt.alloc()));
+    let alloc = plenty(&rt, rt.alloc());
+    let mut session = TestSession::new(alloc, 0);
+    assert!(rt; fills(&mut session, alloc));
     for oldest in 0..250 {
-        assert!(rt; takes_a_turn(&mut session, rt.alloc(), oldest));
+        assert!(rt; takes_a_turn(&mut session, alloc, oldest));
     }
 }
 
 // So many are released from the first on, and as many are packed at once.
 const SOME: Boxes = Boxes { count: 50, ..ROW };
 
-fn releases_some(session: &mut Numbered) -> bool {
-    for number in 0..u64::from(SOME.count) {
-        if session.release(number) != Ok(()) {
-            return false;
-        }
-    }
-    true
-}
-
 #[test]
 fn as_many_as_were_released(rt: HostRuntime) {
-    let mut session = Numbered::new(rt.alloc(), 0);
-    assert!(rt; fills(&mut session, rt.alloc()) && releases_some(&mut session));
-    assert!(rt; packs(&mut session, rt.alloc(), SOME, 101));
+    let alloc = plenty(&rt, rt.alloc());
+    let mut session = TestSession::new(alloc, 0);
+    let is_released = fills(&mut session, alloc) && releases_first(&mut session, SOME.count);
+    assert!(rt; is_released && packs(&mut session, alloc, SOME, 101));
     assert!(rt; are_numbers(session.outstanding(), 50, 151));
 }
 
-// So few boxes fill a bin where memory is refused.
-const FEW: u32 = 4;
-
-// What came of a call: where memory was refused, the numbers of before are outstanding, else those
-// of after, each given by the first and the end.
-fn end_of(
-    rt: &impl Abort,
-    session: &TestSession,
-    reply: Reply,
-    before: [u64; 2],
-    after: [u64; 2],
-) -> End {
-    let [first, end] = if reply == NO_MEMORY { before } else { after };
-    assert!(rt; are_numbers(session.outstanding(), first, end));
-    if reply == NO_MEMORY {
-        End::Refused
-    } else {
-        End::Done
-    }
-}
-
-// Releases the oldest placement, and packs one more box.
-fn take_a_turn(rt: &impl Abort, session: &mut TestSession, one: &Rects, oldest: u64) -> End {
-    let first = oldest.wrapping_add(1);
-    let next = oldest.wrapping_add(u64::from(FEW));
-    let released = reply(session.release(oldest));
-    match end_of(rt, session, released, [oldest, next], [first, next]) {
-        End::Done => {}
-        end => return end,
-    }
-    let packed = pack(session, one);
-    end_of(
-        rt,
-        session,
-        packed,
-        [first, next],
-        [first, next.wrapping_add(1)],
-    )
-}
-
-fn take_turns(rt: &impl Abort, session: &mut TestSession, one: &Rects) -> End {
-    for oldest in 0..9 {
-        match take_a_turn(rt, session, one, oldest) {
-            End::Done => {}
-            end => return end,
+// The state of the row: its free sections, their cells and count, what is placed in it, and the next
+// number.
+macro_rules! row {
+    ($free:expr, $cells:expr, $sections:expr, $placed:expr, $next:expr) => {
+        State {
+            bins: &[Held {
+                free: &$free,
+                volumes: [4, $cells, 4 - $cells],
+                counts: [$sections, 4 - $cells],
+                ..NEW
+            }],
+            placed: &$placed,
+            next: $next,
         }
-    }
-    End::Done
+    };
 }
 
-// Fills a new bin with few boxes, one by one.
-fn fills_with_few(session: &mut TestSession, one: &Rects) -> bool {
-    if session.add_bin(BIN, FEW, 1, 1).is_err() {
-        return false;
-    }
-    for _ in 0..FEW {
-        if !matches!(pack(session, one), Reply::Packed(_)) {
-            return false;
+// A row of four cells, where memory is refused.
+const ADD_ROW: Line = Line {
+    order: Order::AddBin(BIN, [4, 1, 1]),
+    memory: Memory::Asked,
+    reply: Reply::Done,
+    after: row!([[0, 0, 0, 4, 1, 1]], 4, 1, [], 0),
+};
+
+// The box of this number. Each takes the cell of the one that was placed four before it.
+macro_rules! unit {
+    ($number:expr) => {
+        ($number, 0, BIN, [$number % 4, 0, 0, 1, 1, 1])
+    };
+}
+
+// One more box is packed, under the number before the next one.
+macro_rules! packed {
+    ($next:expr, $after:expr) => {
+        Line {
+            order: Order::Pack(&[(0, [1, 1, 1], &[])]),
+            memory: Memory::Asked,
+            reply: Reply::Packed(Packed {
+                first: $next - 1,
+                count: 1,
+            }),
+            after: $after,
         }
-    }
-    true
+    };
 }
 
-fn push_cell(rects: &mut Rects) -> bool {
-    rects.push_rect(0, None, RectToInsert::new(1, 1, 1)).is_ok()
+// The oldest placement is released.
+macro_rules! released {
+    ($oldest:expr) => {
+        Line {
+            order: Order::Release($oldest),
+            memory: Memory::Either,
+            reply: Reply::Done,
+            after: row!(
+                [[$oldest % 4, 0, 0, 1, 1, 1]],
+                1,
+                1,
+                [unit!($oldest + 1), unit!($oldest + 2), unit!($oldest + 3)],
+                $oldest + 4
+            ),
+        }
+    };
 }
 
-fn turns_of_few(rt: &impl Abort, alloc: Refusing) -> End {
-    let mut one = Rects::new(alloc);
-    let mut session = TestSession::new(alloc, 0);
-    if !push_cell(&mut one) || !fills_with_few(&mut session, &one) {
-        return End::Before;
-    }
-    take_turns(rt, &mut session, &one)
+// The row is full, and this one is the oldest.
+macro_rules! filled {
+    ($oldest:expr) => {
+        packed!(
+            $oldest + 4,
+            row!(
+                [],
+                0,
+                0,
+                [
+                    unit!($oldest),
+                    unit!($oldest + 1),
+                    unit!($oldest + 2),
+                    unit!($oldest + 3)
+                ],
+                $oldest + 4
+            )
+        )
+    };
+}
+
+const TURNS: &[Line] = &[
+    ADD_ROW,
+    packed!(1, row!([[1, 0, 0, 3, 1, 1]], 3, 1, [unit!(0)], 1)),
+    packed!(2, row!([[2, 0, 0, 2, 1, 1]], 2, 1, [unit!(0), unit!(1)], 2)),
+    packed!(
+        3,
+        row!(
+            [[3, 0, 0, 1, 1, 1]],
+            1,
+            1,
+            [unit!(0), unit!(1), unit!(2)],
+            3
+        )
+    ),
+    filled!(0),
+    released!(0),
+    filled!(1),
+    released!(1),
+    filled!(2),
+    released!(2),
+    filled!(3),
+    released!(3),
+    filled!(4),
+    released!(4),
+    filled!(5),
+    released!(5),
+    filled!(6),
+    released!(6),
+    filled!(7),
+    released!(7),
+    filled!(8),
+    released!(8),
+    filled!(9),
+];
+
+// The bin and each packing are refused memory.
+const SCRIPTS: &[Script] = &[Script {
+    first: 0,
+    lines: TURNS,
+    refusals: 14,
+}];
+
+// A table is dear to prove in a longer body, so this one stands alone.
+fn turns() -> &'static [Script] {
+    SCRIPTS
 }
 
 #[test]
 fn turns_where_memory_is_refused(rt: HostRuntime) -> Result<(), Fail> {
-    let refused = is_refused(rt.alloc(), |refusing| Ok(turns_of_few(&rt, refusing)))?;
-    assert!(rt; refused);
-    Ok(())
+    come_out(&rt, rt.alloc(), turns())
 }

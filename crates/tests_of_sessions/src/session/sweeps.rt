@@ -1,19 +1,13 @@
 //! Sweeps in random sessions: what is left shares no whole face, has the cells that were free, and is
 //! what the sweep of an equal bin outside a session leaves, which looks at each section.
 
-use rectangle_pack::{
-    BinSection, GroupedRectsToPlace, RectToInsert, Session, SessionError, contains_smallest_box,
-    volume_heuristic,
-};
-use std::alloc::{AllocError, Global};
-use std::test::Fail;
+use super::calls::{pack, reply};
+use super::cut_plan::NO_ROOM;
+use super::{BIN, TestSession, UNKNOWN, free_sections, plenty};
+use rectangle_pack::{BinSection, RectToInsert, Reply};
+use tests_support::boxes::Rects;
+use tests_support::refusing::Refusing;
 use tests_support::shapes::numbers;
-
-type Rects = GroupedRectsToPlace<u32, u32>;
-
-type Numbered = Session<u32, u32>;
-
-const BIN: u32 = 0;
 
 // Choices that look random, the same in each run.
 #[derive(Drop)]
@@ -38,34 +32,35 @@ impl Dice {
 }
 
 // Packs a box, if the bin has space for it.
-fn pack_one(session: &mut Numbered, alloc: Global, dice: &mut Dice) -> Result<(), SessionError> {
-    let mut rects: Rects = GroupedRectsToPlace::new(alloc);
+fn packs_one(session: &mut TestSession, alloc: Refusing, dice: &mut Dice) -> bool {
+    let mut rects = Rects::new(alloc);
     let rect = RectToInsert::new(dice.side(), dice.side(), dice.side());
-    rects.push_rect(0, None, rect)?;
-    match session.pack(&rects, &volume_heuristic, &contains_smallest_box) {
-        Ok(_) | Err(SessionError::NotEnoughBinSpace) => Ok(()),
-        Err(error) => Err(error),
+    if rects.push_rect(0, None, rect).is_err() {
+        return false;
     }
+    let reply = pack(session, &rects);
+    matches!(reply, Reply::Packed(_)) || reply == NO_ROOM
 }
 
 // Gives back the placement of this number, if it is outstanding.
-fn release_one(session: &mut Numbered, number: u64) -> Result<(), SessionError> {
-    match session.release(number) {
-        Ok(()) | Err(SessionError::UnknownPlacement) => Ok(()),
-        Err(error) => Err(error),
-    }
+fn releases_one(session: &mut TestSession, number: u64) -> bool {
+    let reply = reply(session.release(number));
+    reply == Reply::Done || reply == UNKNOWN
 }
 
 // Packs boxes, and gives most of them back in another order.
-fn play(session: &mut Numbered, alloc: Global, dice: &mut Dice) -> Result<(), SessionError> {
+fn plays(session: &mut TestSession, alloc: Refusing, dice: &mut Dice) -> bool {
     for _box in 0..60u32 {
-        pack_one(session, alloc, dice)?;
+        if !packs_one(session, alloc, dice) {
+            return false;
+        }
     }
     for _turn in 0..90u32 {
-        let number = dice.below(session.next_number());
-        release_one(session, number)?;
+        if !releases_one(session, dice.below(session.next_number())) {
+            return false;
+        }
     }
-    Ok(())
+    true
 }
 
 // What sections have of each other: how many pairs of them share a whole face, each counted from
@@ -76,35 +71,32 @@ struct Counts {
     cells: u64,
 }
 
+// The start and the length of a section on each axis.
+fn stretches(section: &BinSection) -> [[u32; 2]; 3] {
+    let [x, y, z, width, height, depth] = numbers(section);
+    [[x, width], [y, height], [z, depth]]
+}
+
 // Whether one of two stretches ends where the other begins.
-fn follow(start: u32, length: u32, other: u32, other_length: u32) -> bool {
-    start.checked_add(length) == Some(other) || other.checked_add(other_length) == Some(start)
+fn follow(one: [u32; 2], other: [u32; 2]) -> bool {
+    one[0].checked_add(one[1]) == Some(other[0]) || other[0].checked_add(other[1]) == Some(one[0])
 }
 
 // Whether two sections share a whole face.
-fn share_a_face(one: [u32; 6], other: [u32; 6]) -> bool {
-    let [x, y, z, width, height, depth] = one;
-    let [
-        other_x,
-        other_y,
-        other_z,
-        other_width,
-        other_height,
-        other_depth,
-    ] = other;
-    let same_x = x == other_x && width == other_width;
-    let same_y = y == other_y && height == other_height;
-    let same_z = z == other_z && depth == other_depth;
-    (same_y && same_z && follow(x, width, other_x, other_width))
-        || (same_x && same_z && follow(y, height, other_y, other_height))
-        || (same_x && same_y && follow(z, depth, other_z, other_depth))
+fn share_a_face(one: [[u32; 2]; 3], other: [[u32; 2]; 3]) -> bool {
+    let same_x = one[0] == other[0];
+    let same_y = one[1] == other[1];
+    let same_z = one[2] == other[2];
+    (same_y && same_z && follow(one[0], other[0]))
+        || (same_x && same_z && follow(one[1], other[1]))
+        || (same_x && same_y && follow(one[2], other[2]))
 }
 
 // How many of these sections share a whole face with this one.
-fn neighbours(one: [u32; 6], sections: &[BinSection]) -> u64 {
+fn neighbours(one: [[u32; 2]; 3], sections: &[BinSection]) -> u64 {
     let mut count = 0u64;
     for section in sections {
-        if share_a_face(one, numbers(section)) {
+        if share_a_face(one, stretches(section)) {
             count = count.wrapping_add(1);
         }
     }
@@ -114,53 +106,68 @@ fn neighbours(one: [u32; 6], sections: &[BinSection]) -> u64 {
 fn look_at(sections: &[BinSection]) -> Counts {
     let mut counts = Counts { pairs: 0, cells: 0 };
     for section in sections {
-        let one = numbers(section);
-        let volume = u64::from(one[3]) * u64::from(one[4]);
+        let one = stretches(section);
+        let volume = u64::from(one[0][1]) * u64::from(one[1][1]);
         counts.pairs = counts.pairs.wrapping_add(neighbours(one, sections));
         counts.cells = counts
             .cells
-            .wrapping_add(volume.wrapping_mul(u64::from(one[5])));
+            .wrapping_add(volume.wrapping_mul(u64::from(one[2][1])));
     }
     counts
 }
 
-// The free sections of the bin.
-fn free_sections(session: &Numbered) -> &[BinSection] {
-    match session.bins().get(&BIN) {
-        Some(bin) => bin.available_bin_sections().as_slice(),
-        None => &[],
+// Sweeps the bin, and answers whether it is then as an equal bin outside the session.
+fn is_swept_alike(session: &mut TestSession) -> bool {
+    let Some(bin) = session.bins().get(&BIN) else {
+        return false;
+    };
+    let Ok(mut plain) = bin.clone() else {
+        return false;
+    };
+    plain.coalesce_all();
+    session.coalesce_all(&BIN).is_ok()
+        && free_sections(session) == plain.available_bin_sections().as_slice()
+}
+
+// How many faces were shared before a sweep, if it goes well: none is shared afterwards, and as
+// many cells are free.
+fn sweep(session: &mut TestSession) -> Option<u64> {
+    let old = look_at(free_sections(session));
+    if !is_swept_alike(session) {
+        return None;
+    }
+    let new = look_at(free_sections(session));
+    if new.pairs == 0 && new.cells == old.cells {
+        Some(old.pairs)
+    } else {
+        None
     }
 }
 
-// Sweeps the bin, and answers whether it is then as an equal bin outside the session.
-fn is_swept_alike(session: &mut Numbered) -> Result<bool, AllocError> {
-    let Some(bin) = session.bins().get(&BIN) else {
-        return Ok(false);
-    };
-    let mut plain = bin.clone()?;
-    plain.coalesce_all();
-    if session.coalesce_all(&BIN).is_err() {
-        return Ok(false);
+// Plays and sweeps three times. How many faces were shared, if all went well.
+fn play_and_sweep(session: &mut TestSession, alloc: Refusing, dice: &mut Dice) -> Option<u64> {
+    let mut joins = 0u64;
+    for _sweep in 0..3u32 {
+        if !plays(session, alloc, dice) {
+            return None;
+        }
+        joins = joins.wrapping_add(sweep(session)?);
     }
-    Ok(free_sections(session) == plain.available_bin_sections().as_slice())
+    Some(joins)
+}
+
+// The same in a new session, in which some were shared.
+fn sweeps(alloc: Refusing, dice: &mut Dice) -> bool {
+    let mut session = TestSession::new(alloc, 0);
+    session.add_bin(BIN, 4, 4, 4).is_ok()
+        && matches!(play_and_sweep(&mut session, alloc, dice), Some(joins) if joins > 0)
 }
 
 #[test]
-fn random_sweeps(rt: HostRuntime) -> Result<(), Fail> {
+fn random_sweeps(rt: HostRuntime) {
+    let alloc = plenty(&rt, rt.alloc());
     let mut dice = Dice { state: 1 };
     for number in 0..100u32 {
-        let mut session: Numbered = Session::new(rt.alloc(), 0);
-        assert!(rt; session.add_bin(BIN, 4, 4, 4).is_ok());
-        let mut joins = 0u64;
-        for _sweep in 0..3u32 {
-            assert!(rt; play(&mut session, rt.alloc(), &mut dice).is_ok());
-            let old = look_at(free_sections(&session));
-            assert_eq!(rt; is_swept_alike(&mut session)?, true, "session {number}");
-            let new = look_at(free_sections(&session));
-            assert_eq!(rt; (new.pairs, new.cells), (0, old.cells), "session {number}");
-            joins = joins.wrapping_add(old.pairs);
-        }
-        assert!(rt; joins > 0);
+        assert!(rt; sweeps(alloc, &mut dice), "session {number}");
     }
-    Ok(())
 }

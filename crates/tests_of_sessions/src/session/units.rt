@@ -1,20 +1,9 @@
 //! Five hundred boxes of one cell, which fill a bin 25x20x1 and are all released.
 
-use super::{Commands, Made, TestCommand, TestSession};
-use rectangle_pack::{
-    Command, CutStep, Packed, Reply, TargetBin, contains_smallest_box, volume_heuristic,
-};
-use std::process::Abort;
-use std::test::Fail;
+use super::{BIN, Commands, Made, TestCommand, TestSession, free_sections, plenty};
+use rectangle_pack::{Command, CutStep, Packed, Reply, contains_smallest_box, volume_heuristic};
 use tests_support::boxes::{Rects, push_units};
 use tests_support::refusing::Refusing;
-
-type Bin = TargetBin<Refusing>;
-
-// How many free sections the bin has.
-fn free(bin: Option<&Bin>) -> Option<usize> {
-    Some(bin?.available_bin_sections().len())
-}
 
 fn pack_units(alloc: Refusing) -> Made<TestCommand> {
     let mut rects = Rects::new(alloc);
@@ -24,7 +13,7 @@ fn pack_units(alloc: Refusing) -> Made<TestCommand> {
 
 fn push_bin_and_units(alloc: Refusing, commands: &mut Commands) -> Made<()> {
     commands.push(Command::AddBin {
-        id: 0,
+        id: BIN,
         width: 25,
         height: 20,
         depth: 1,
@@ -85,7 +74,7 @@ fn empties(session: &mut TestSession, alloc: Refusing) -> bool {
     push_releases(&mut commands).is_ok()
         && runs(session, &commands, false)
         && session.outstanding().is_empty()
-        && free(session.bins().get(&0)) == Some(500)
+        && free_sections(session).len() == 500
 }
 
 fn leaves(plan: &[CutStep]) -> usize {
@@ -100,23 +89,20 @@ fn leaves(plan: &[CutStep]) -> usize {
 
 // The plan of the full bin has a leaf for each box.
 fn has_leaf_for_each_box(session: &TestSession) -> bool {
-    match session.cut_plan(&0) {
+    match session.cut_plan(&BIN) {
         Ok(Some(plan)) => leaves(plan.as_slice()) == 500 && plan.len() == 999,
         _ => false,
     }
 }
 
-fn one_session(rt: &impl Abort, alloc: Refusing) {
+fn fills_and_empties(alloc: Refusing) -> bool {
     let mut session = TestSession::new(alloc, 0);
-    assert!(rt; fills(&mut session, alloc) && has_leaf_for_each_box(&session));
-    assert!(rt; empties(&mut session, alloc));
+    fills(&mut session, alloc) && has_leaf_for_each_box(&session) && empties(&mut session, alloc)
 }
 
 // All memory is given back.
 #[test]
-fn units_fill_a_bin(rt: HostRuntime) -> Result<(), Fail> {
-    let alloc = Refusing::new(rt.alloc(), u64::MAX)?;
-    one_session(&rt, alloc);
-    assert_eq!(rt; alloc.taken(), 0);
-    Ok(())
+fn units_fill_a_bin(rt: HostRuntime) {
+    let alloc = plenty(&rt, rt.alloc());
+    assert!(rt; fills_and_empties(alloc) && alloc.taken() == 0);
 }
