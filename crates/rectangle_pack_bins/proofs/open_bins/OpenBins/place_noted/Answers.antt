@@ -21,3 +21,9 @@ invariant_of-self-else-done g c =
     let stuck = rw c.if-done.false at c.in_ok-done.ensures.answer in
     AreSummed-stays c.self.inside.bins.items c.args.index c.index_mut-bin.result.now c.place_noted.new.self c.self.inside.summaries within c.self.invariant
     c.index_mut-bin.ensures.value stuck.2
+
+pub index_mut-bin-requires : goal.index_mut-bin-requires
+index_mut-bin-requires g c = omega (arith, c.requires.within, ap (λ (o : Opens). length o.all) c.self.view_is, c.self.inside.bins.ok.0)
+
+pub place_noted-requires : goal.place_noted-requires
+place_noted-requires g c = record { callable = c.requires.callable }

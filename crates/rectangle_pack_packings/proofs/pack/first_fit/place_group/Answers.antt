@@ -1,4 +1,4 @@
-use Rattle.rectangle_pack_sections.proofs.Std.{◌≡◌, ◌++◌, ◌+◌, [], false, true, refl, sym, ap, ◌∙◌, sum, vec_capacity, vec_len}
+use Rattle.rectangle_pack_sections.proofs.Std.{◌≡◌, ◌≤◌, ◌<◌, ◌++◌, ◌+◌, ◌-◌, ℕ, arith, [], false, true, refl, sym, ap, ◌∙◌, sum, vec_capacity, vec_len}
 use Rattle.rectangle_pack_sections.proofs.Std.{IfOk-from_err}
 use Rattle.rectangle_pack_rules.specs.Packing.{Rules, rules_by, Members}
 use Rattle.rectangle_pack_sections.specs.Bins.{bins_of}
@@ -187,3 +187,28 @@ returns-clause-journal_grows g c = rw c.loop-index.invariant.journal (no_longer 
 
 pub returns-clause-journal_room_stays : goal.returns-clause-journal_room_stays
 returns-clause-journal_room_stays g c = ap vec_capacity c.loop-index.invariant.journal
+
+pub place_in_bin-requires-clause-ids : goal.place_in_bin-requires-clause-ids
+place_in_bin-requires-clause-ids g c = c.requires.ids
+
+pub place_in_bin-requires-clause-bin_ids : goal.place_in_bin-requires-clause-bin_ids
+place_in_bin-requires-clause-bin_ids g c = c.requires.bin_ids
+
+pub place_in_bin-requires-clause-callable : goal.place_in_bin-requires-clause-callable
+place_in_bin-requires-clause-callable g c = c.requires.callable
+
+pub place_in_bin-requires-clause-lengths : goal.place_in_bin-requires-clause-lengths
+place_in_bin-requires-clause-lengths g c = c.requires.lengths
+
+-- behind a later bin of the order there are fewer
+fewer : (from index count : ℕ) → from ≤ index → index < count → count - (index + 1) < count - from
+fewer from index count past within = omega (arith, past, within)
+
+pub overflow_add-from : goal.overflow_add-from
+overflow_add-from g c = omega (arith, c.in-Some.ensures.small)
+
+pub loop-index-smaller-then-has : goal.loop-index-smaller-then-has
+loop-index-smaller-then-has g c = let next = rw c.loop-index.invariant.order at c.in-Some.ensures.next in fewer _ _ _ next.0 next.1
+
+pub loop-index-smaller : goal.loop-index-smaller
+loop-index-smaller g c = let next = rw c.loop-index.invariant.order at c.in-Some.ensures.next in fewer _ _ _ next.0 next.1

@@ -103,3 +103,45 @@ returns-in_err-keep-in-Some-clause-back g c = c.in_ok-place_group.ensures.back
 
 pub returns-clause-back : goal.returns-clause-back
 returns-clause-back g c = c.in_ok-place_group.ensures.back
+
+pub place_group-requires-clause-ids : goal.place_group-requires-clause-ids
+place_group-requires-clause-ids g c = c.requires.ids
+
+pub place_group-requires-clause-bin_ids : goal.place_group-requires-clause-bin_ids
+place_group-requires-clause-bin_ids g c = c.requires.bin_ids
+
+pub place_group-requires-clause-callable : goal.place_group-requires-clause-callable
+place_group-requires-clause-callable g c = c.requires.callable
+
+pub place_group-requires-clause-journal_room : goal.place_group-requires-clause-journal_room
+place_group-requires-clause-journal_room g c = c.requires.journal_room
+
+pub returns-in_err-place_group-clause-order : goal.returns-in_err-place_group-clause-order
+returns-in_err-place_group-clause-order g c = c.in_err-place_group.ensures.order
+
+pub returns-in-None-clause-stopped : goal.returns-in-None-clause-stopped
+returns-in-None-clause-stopped g c = tt
+
+pub returns-in-None-clause-order : goal.returns-in-None-clause-order
+returns-in-None-clause-order g c = c.in_ok-place_group.ensures.order
+
+pub returns-in-None-clause-journal_grows : goal.returns-in-None-clause-journal_grows
+returns-in-None-clause-journal_grows g c = c.in_ok-place_group.ensures.journal_grows
+
+pub returns-in-None-clause-journal_room_stays : goal.returns-in-None-clause-journal_room_stays
+returns-in-None-clause-journal_room_stays g c = c.in_ok-place_group.ensures.journal_room_stays
+
+pub returns-in_err-keep-in-Some-clause-order : goal.returns-in_err-keep-in-Some-clause-order
+returns-in_err-keep-in-Some-clause-order g c = c.in_ok-place_group.ensures.order
+
+pub returns-clause-stopped : goal.returns-clause-stopped
+returns-clause-stopped g c = tt
+
+pub returns-clause-order : goal.returns-clause-order
+returns-clause-order g c = c.in_ok-place_group.ensures.order
+
+pub returns-clause-journal_grows : goal.returns-clause-journal_grows
+returns-clause-journal_grows g c = c.in_ok-place_group.ensures.journal_grows
+
+pub returns-clause-journal_room_stays : goal.returns-clause-journal_room_stays
+returns-clause-journal_room_stays g c = c.in_ok-place_group.ensures.journal_room_stays
