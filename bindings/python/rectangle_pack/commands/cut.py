@@ -29,7 +29,7 @@ trial, so something better may exist. Sizes are in mm and may have decimals. The
 
 tables (CSV; the first line names the columns, in any order; separated by comma, semicolon or tab):
   PANELS    name,count,width,height,grain     name, count (1) and grain (free) may be left out
-              side,4,2000,600,keep            keep: keeps its direction on the sheet; free: may be turned
+              side,4,2000,600,keep            keep: its width lies along that of the sheet; free: may be turned
               shelf,10,564,380.5,free
   --stock   name,count,width,height,cost      name and count may be left out; without a count
               birch 18,,2440,1220,62.50       there are as many as are needed
@@ -37,8 +37,8 @@ tables (CSV; the first line names the columns, in any order; separated by comma,
               birch 18 1-2,1,700,396.8,0      offcuts.csv of an earlier run is such a table
 
 written to the folder, for sheets 1, 2 and so on:
-  sheet-1.txt   the cuts as numbered steps     plan.pdf     the drawings, a page a sheet
-  sheet-1.svg   the drawing, to scale          offcuts.csv  what a later run can take as --offcuts
+  sheet-1.txt   the cuts as numbered steps     plan.pdf     the drawings, a page of A4 a sheet
+  sheet-1.svg   the drawing, to scale          offcuts.csv  what a later run can take as --offcuts: also those not used
 """
 
 EPILOG = """\
@@ -64,7 +64,8 @@ def add_to(commands: Any) -> None:
     it.add_argument(
         "--offcuts", type=Path, metavar="FILE", action="append", default=[], help="offcuts that are there already; may be said again")
     it.add_argument("--out", type=Path, metavar="FOLDER", required=True, help="where the plans go")
-    it.add_argument("--replace", action="store_true", help="the plans of an earlier run in the folder go")
+    it.add_argument("--replace", action="store_true",
+                    help="the plans of an earlier run in the folder go; a folder with such plans is refused without it")
     it.add_argument("--kerf", metavar="MM", required=True, help="the width that the blade takes; 0 where it takes none")
     it.add_argument("--trim", metavar="MM", default="0", help="what goes off each edge of a sheet first, with the kerf (0)")
     it.add_argument("--trim-offcuts", action="store_true", help="offcuts are trimmed too")
@@ -75,7 +76,11 @@ def add_to(commands: Any) -> None:
     it.add_argument("--tries", type=int, metavar="N", default=200,
                     help="how many turnings and sets of sheets are tried (200): more take longer, and may cost less")
     it.add_argument("--no-pdf", action="store_true", help="without plan.pdf, which needs pycairo")
-    it.add_argument("--json", action="store_true", help="prints all that was decided as one JSON object")
+    it.add_argument("--json", action="store_true",
+                    help="prints all that was decided as one JSON object: sums, used, offcuts_left, sheets (each with panels, "
+                    "offcuts and cuts), files. Lengths are in mm, areas in square mm; at of a cut is counted from its part's "
+                    "edge, blade (its near and far side) and all else from the left lower corner of the sheet; line counts "
+                    "the head of a table as line 1")
     it.add_argument("--page", type=Path, metavar="FILE", help="writes an HTML page on which to step through the cuts")
     it.set_defaults(run=run)
 

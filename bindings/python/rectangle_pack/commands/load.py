@@ -20,7 +20,7 @@ into the fewest where no costs are given. It turns crates as the list allows, an
 one stands and in which order they are loaded.
 
 CRATES is a table in CSV. Its first line names the columns, which may stand in any order:
-  name                   of the crates of this line
+  name                   of the crates of this line; lines may share one
   length, width, height  of one crate, as it stands on its bottom
   count                  how many there are; 1 where it is left out
   customer               whose they are; may be left out
@@ -32,7 +32,7 @@ A crate may always be turned about on the floor, so that its length runs along t
 across it.
 
 CONTAINERS is a table too:
-  name                   of containers of this kind
+  name                   of containers of this kind; each line has its own
   length, width, height  inside: length from the end wall to the door
   count                  how many there are; 1 where it is left out
   cost                   of each, for all kinds or for none
@@ -87,7 +87,10 @@ def add_to(commands: Any) -> None:
     parser.add_argument("--tries", type=_tries, default=200, metavar="N",
                         help="fill containers N times on trial; more may find a better load (200)")
     parser.add_argument("--unit", type=_printable, default="", metavar="UNIT", help="what sizes are in, as cm: it is only printed")
-    parser.add_argument("--json", action="store_true", help="print one JSON object for programs")
+    parser.add_argument("--json", action="store_true",
+                        help="print one JSON object for programs: unit, together, apart, cost, crates, filled (in percent) and "
+                        "containers, each with steps; piece of a step is which crate of its line it is, and line counts the "
+                        "head of the table as line 1")
     parser.add_argument("--csv", type=Path, metavar="FILE", help="write a line for each crate, in the order of loading")
     parser.add_argument("--page", type=Path, metavar="FILE", help="write an HTML page that shows the loading step by step")
     parser.set_defaults(run=_run)

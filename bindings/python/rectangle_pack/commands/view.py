@@ -36,7 +36,7 @@ With --table, FILE has what one of the example programs prints: rows among lines
     free NAME X Y Z W H D                 a free section of a bin
     -- sheet 1                            begins the cutting plan of bin sheet-1, as the example panels prints it
 
-Boxes come in the order of their numbers."""
+Boxes come in the order of their numbers. A box outside of its bin, or two that share a cell, are refused."""
 
 EPILOG = """\
 example:
@@ -55,8 +55,10 @@ def add_to(commands: argparse._SubParsersAction[argparse.ArgumentParser]) -> Non
     it.add_argument("--table", action="store_true", help="the file is a table")
     it.add_argument("--page", metavar="PAGE", type=Path, help="the page to write; if left out, FILE with .html, here")
     it.add_argument("--title", help="the title of the page; if left out, the name of FILE")
-    it.add_argument("--unit", default="cells", help="what one cell is, as mm (cells)")
-    it.add_argument("--json", action="store_true", help="also print what the page shows, for programs, as JSON")
+    it.add_argument("--unit", default="cells", help="what one cell is, as mm, or 0.1 mm where it is a tenth of one (cells)")
+    it.add_argument("--json", action="store_true",
+                    help="also print what the page shows, for programs, as JSON: page, and scenes with rooms, steps and cuts; "
+                    "at of a box is [x, y, z, w, h, d]")
     it.set_defaults(run=_run)
 
 

@@ -19,12 +19,15 @@ Packs the PNG files of folders onto pages (texture atlases), and writes an index
 
 In: all *.png in the folders and in those below them. What begins with a dot is passed over, and links to folders are not
 followed. A sprite is called by its path in the folder that is named, with / and without .png: hero/walk-1. Palettes, grey
-and transparent colours are read; colour profiles are left out; of an animated PNG the first picture is taken.
+and transparent colours are read, and become RGBA with 8 bits a channel; files with 16 bits are refused, and two of one name.
+Colour profiles are left out; of an animated PNG the first picture is taken. Names are in the composed form of Unicode (NFC).
 
 Out: NAME.png, or NAME-0.png, NAME-1.png .. where one page is not enough, and an index for each format:
   json-hash     NAME.json, or a file for each page: TexturePacker's JSON (hash), for PixiJS and Phaser 3
   phaser-multi  NAME.phaser.json, for multiatlas of Phaser 3
-  libgdx        NAME.atlas, for TextureAtlas of libGDX
+  libgdx        NAME.atlas, for TextureAtlas of libGDX in all versions: without bounds and offsets; filter is
+                Nearest,Nearest, each index -1
+Where it refuses, nothing is written; where a file cannot be written, those written before it stay.
 """
 
 EPILOG = """\
@@ -94,24 +97,32 @@ def add_words(parser: argparse.ArgumentParser) -> None:
     add = parser.add_argument
     pixels = _whole(0, 256)
     add("folders", nargs="+", type=Path, metavar="FOLDER", help="folder of PNG files")
-    add("-o", "--output", type=_output, default="sheet", metavar="NAME", help="name of the files, with their folder (sheet)")
+    add("-o", "--output", type=_output, default="sheet", metavar="NAME",
+        help="name of the files, with their folder; in a folder that is there they are called sheet (sheet)")
     add("--format", type=_formats, action="extend", metavar="LIST",
         help="one or several of json-hash, phaser-multi and libgdx, with commas (json-hash)")
     add("--with-png", action="store_true", help="names of sprites keep the .png")
-    add("--size", type=_page_size, default=(2048, 2048), metavar="WxH", help="greatest size of a page (2048x2048)")
-    add("--power-of-two", action="store_true", help="sides of pages are powers of two")
+    add("--size", type=_page_size, default=(2048, 2048), metavar="WxH",
+        help="greatest size of a page, at most 16384x16384; 256 is 256x256 (2048x2048)")
+    add("--power-of-two", action="store_true", help="sides of pages are powers of two, none above --size")
     add("--padding", type=pixels, default=2, metavar="N", help="empty pixels between sprites (2)")
     add("--border", type=pixels, default=0, metavar="N", help="empty pixels along the edges of a page (0)")
     add("--extrude", type=pixels, default=0, metavar="N",
-        help="repeat the outermost pixels of each sprite N times round it, so that filters do not mix in what is beside it (0)")
+        help="repeat the outermost pixels of each sprite N times round it, so that filters do not mix in what is beside it; "
+        "frames in the index are without them (0)")
     add("--trim", action="store_true", help="leave out transparent borders; of a sprite without a visible pixel one is kept")
-    add("--alias", action="store_true", help="store sprites of equal pixels once")
+    add("--alias", action="store_true",
+        help="store sprites of equal pixels once, with --group-by once a group; colours hidden under alpha 0 have to be "
+        "equal too")
     add("--group-by", choices=("folder", "top"), default="",
-        help="keep sprites on one page that share their folder, or that share the top one of their folders")
+        help="keep sprites on one page that share their folder, or that share the top one of their folders; those in no "
+        "folder are alone")
     add("--heuristic", choices=("best", *get_args(Heuristic)), default="best", metavar="NAME",
         help=f"what is packed first: {', '.join(get_args(Heuristic))}, or the best of all (best)")
     add("--page", type=Path, metavar="FILE", help="write an HTML page to look at")
-    add("--json", action="store_true", help="print what was decided as JSON")
+    add("--json", action="store_true",
+        help="print what was decided as JSON: pages, whose filled is a part of 1; sprites, whose source is where the kept "
+        "part was in the whole sprite, with the whole's size; files")
 
 
 def options_of(words: argparse.Namespace) -> Options:
