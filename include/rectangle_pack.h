@@ -39,7 +39,7 @@ enum {
     /* It is done. Where boxes were packed, each has its placement. */
     RP_DONE = 0,
     /* For some group no bin that is not excluded for it takes all of its boxes, as the groups before it left the bins. It is not
-       said which group this was. Without exclusions it is found by packing the groups one by one, in the order of the rule. */
+       said which group this was. Without exclusions it is found by packing the groups one by one into new bins, in their order. */
     RP_NOT_ENOUGH_SPACE = 1,
     /* malloc or realloc answered NULL. */
     RP_OUT_OF_MEMORY = 2,
