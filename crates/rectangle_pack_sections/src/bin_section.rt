@@ -8,6 +8,7 @@ ghost use Rattle.rectangle_pack_sections.specs.Choice.{IsAllowedCut};
 ghost use Rattle.rectangle_pack_sections.specs.SmallestBox.{Rates, AreRates, smallest, second_smallest, IsSmallestOrder};
 ghost use Rattle.rectangle_pack_sections.specs.Fitting.{IsFitAnswer};
 ghost use Rattle.rectangle_pack_sections.specs.Counting.{Tiles, AreAllApart, MakeUp, HaveVolumeOf};
+ghost use Rattle.rectangle_pack_sections.specs.Texts.{fitting_text};
 
 mod cutting;
 mod laws;
@@ -362,6 +363,25 @@ fn sizes(sections: &[BinSection; 3]) -> [WidthHeightDepth; 3]
     [sections[0].whd(), sections[1].whd(), sections[2].whd()]
 }
 
+impl BinSectionError {
+    // The text that it prints.
+    fn text(&self) -> &'static str
+        ensures { result.now ≡ fitting_text self.now }
+    {
+        match self {
+            BinSectionError::PlacementWiderThanBinSection => {
+                "Can not place a rectangle inside of a bin that is wider than that rectangle."
+            }
+            BinSectionError::PlacementTallerThanBinSection => {
+                "Can not place a rectangle inside of a bin that is taller than that rectangle."
+            }
+            BinSectionError::PlacementDeeperThanBinSection => {
+                "Can not place a rectangle inside of a bin that is deeper than that rectangle."
+            }
+        }
+    }
+}
+
 impl fmt::Display for BinSectionError {
     ghost use Rattle.std.specs.Prelude.{Some};
     ghost use Rattle.rectangle_pack_sections.specs.Texts.{fitting_text};
@@ -372,20 +392,7 @@ impl fmt::Display for BinSectionError {
     ghost output = { λ e. Some (fitting_text e) };
 
     fn fmt<W: fmt::Write>(&self, f: &mut fmt::Formatter<W>) -> fmt::Result {
-        match self {
-            BinSectionError::PlacementWiderThanBinSection => write!(
-                f,
-                "Can not place a rectangle inside of a bin that is wider than that rectangle."
-            ),
-            BinSectionError::PlacementTallerThanBinSection => write!(
-                f,
-                "Can not place a rectangle inside of a bin that is taller than that rectangle."
-            ),
-            BinSectionError::PlacementDeeperThanBinSection => write!(
-                f,
-                "Can not place a rectangle inside of a bin that is deeper than that rectangle."
-            ),
-        }
+        write!(f, "{}", self.text())
     }
 }
 

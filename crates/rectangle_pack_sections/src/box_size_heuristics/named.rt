@@ -1,6 +1,6 @@
 //! The heuristics by their names.
 ghost use Rattle.std.specs.Prelude.{◌≡◌};
-ghost use Rattle.rectangle_pack_sections.specs.Heuristics.{rate_of};
+ghost use Rattle.rectangle_pack_sections.specs.Heuristics.{heuristic_text, rate_of};
 
 use crate::box_size_heuristics::{
     depth_heuristic, height_heuristic, longest_side_heuristic, shortest_side_heuristic,
@@ -63,6 +63,22 @@ impl Heuristic {
             Heuristic::SideArea => side_area_heuristic(whd),
         }
     }
+
+    // The text of its name.
+    fn text(&self) -> &'static str
+        ensures { result.now ≡ heuristic_text self.now }
+    {
+        match self {
+            Heuristic::Volume => "volume",
+            Heuristic::Height => "height",
+            Heuristic::Width => "width",
+            Heuristic::Depth => "depth",
+            Heuristic::SideSum => "side-sum",
+            Heuristic::LongestSide => "longest-side",
+            Heuristic::ShortestSide => "shortest-side",
+            Heuristic::SideArea => "side-area",
+        }
+    }
 }
 
 impl fmt::Display for Heuristic {
@@ -73,16 +89,7 @@ impl fmt::Display for Heuristic {
     ghost output = { λ h. Some (heuristic_text h) };
 
     fn fmt<W: fmt::Write>(&self, f: &mut fmt::Formatter<W>) -> fmt::Result {
-        match self {
-            Heuristic::Volume => write!(f, "volume"),
-            Heuristic::Height => write!(f, "height"),
-            Heuristic::Width => write!(f, "width"),
-            Heuristic::Depth => write!(f, "depth"),
-            Heuristic::SideSum => write!(f, "side-sum"),
-            Heuristic::LongestSide => write!(f, "longest-side"),
-            Heuristic::ShortestSide => write!(f, "shortest-side"),
-            Heuristic::SideArea => write!(f, "side-area"),
-        }
+        write!(f, "{}", self.text())
     }
 }
 
