@@ -1,11 +1,14 @@
 //! What the tests of the library and of the program share: an allocator and names that
-//! refuse, boxes, bins and sections by their numbers, and counts of what closures are asked.
+//! refuse, boxes, bins and sections by their numbers, counts of what closures are asked, and choices
+//! that look random.
 #![tactic(auto)]
 
 pub mod boxes;
 pub mod combs;
 pub mod counts;
+pub mod dice;
 pub mod each_request;
 pub mod names;
 pub mod refusing;
+pub mod sequences;
 pub mod shapes;

@@ -6,6 +6,7 @@ use packrun_lines::outcome::Outcome;
 use std::alloc::{AllocError, Global};
 use std::process::Abort;
 use std::str;
+use tests_support::dice::Dice;
 
 // In a line `@` is a name from 1 to 3, `#` a digit, `!` the side of a bin, `%` that of a box, and
 // `*` the number of the round.
@@ -90,14 +91,6 @@ const ROUND: usize = 2 + 2 + 2 + 1 + 5;
 // The line after `LAST`.
 const END: usize = 2 + ROUNDS as usize * ROUND + 7 + 1;
 
-// A number by chance.
-fn draw(state: &mut u64) -> u8 {
-    *state = state
-        .wrapping_mul(6364136223846793005)
-        .wrapping_add(1442695040888963407);
-    (*state >> 56) as u8
-}
-
 fn byte_for(at: u8, drawn: u8) -> u8 {
     match at {
         b'@' => b'1' + drawn % 3,
@@ -108,9 +101,9 @@ fn byte_for(at: u8, drawn: u8) -> u8 {
     }
 }
 
-fn write_text(input: &mut Vec<u8>, state: &mut u64, text: &str) -> Result<(), AllocError> {
+fn write_text(input: &mut Vec<u8>, dice: &mut Dice, text: &str) -> Result<(), AllocError> {
     for at in text.bytes() {
-        input.push(byte_for(at, draw(state)))?;
+        input.push(byte_for(at, dice.byte()))?;
     }
     Ok(())
 }
@@ -123,47 +116,47 @@ fn write_cubes(input: &mut Vec<u8>, round: u8) -> Result<(), AllocError> {
     Ok(())
 }
 
-fn write_one(input: &mut Vec<u8>, state: &mut u64, texts: &[&str]) -> Result<(), AllocError> {
-    let at = usize::from(draw(state)) % texts.len().max(1);
-    write_text(input, state, texts.get(at).copied().unwrap_or(""))?;
-    write_text(input, state, "\n")
+fn write_one(input: &mut Vec<u8>, dice: &mut Dice, texts: &[&str]) -> Result<(), AllocError> {
+    let text = dice.one_of(texts, "");
+    write_text(input, dice, text)?;
+    write_text(input, dice, "\n")
 }
 
 // At most three entries, and pairs.
-fn write_boxes(input: &mut Vec<u8>, state: &mut u64) -> Result<(), AllocError> {
-    write_one(input, state, &TWO)?;
-    write_one(input, state, &ONE)?;
-    write_one(input, state, &PAIRS)?;
-    write_one(input, state, &PAIRS)
+fn write_boxes(input: &mut Vec<u8>, dice: &mut Dice) -> Result<(), AllocError> {
+    write_one(input, dice, &TWO)?;
+    write_one(input, dice, &ONE)?;
+    write_one(input, dice, &PAIRS)?;
+    write_one(input, dice, &PAIRS)
 }
 
-fn write_five(input: &mut Vec<u8>, state: &mut u64) -> Result<(), AllocError> {
+fn write_five(input: &mut Vec<u8>, dice: &mut Dice) -> Result<(), AllocError> {
     for _ in 0..5 {
-        write_one(input, state, &LINES)?;
+        write_one(input, dice, &LINES)?;
     }
     Ok(())
 }
 
 // New bins, what is packed, and five lines after it.
-fn write_round(input: &mut Vec<u8>, state: &mut u64, round: u8) -> Result<(), AllocError> {
+fn write_round(input: &mut Vec<u8>, dice: &mut Dice, round: u8) -> Result<(), AllocError> {
     write_cubes(input, round)?;
-    write_boxes(input, state)?;
-    write_text(input, state, "pack\n")?;
-    write_five(input, state)
+    write_boxes(input, dice)?;
+    write_text(input, dice, "pack\n")?;
+    write_five(input, dice)
 }
 
-fn write_rounds(input: &mut Vec<u8>, state: &mut u64) -> Result<(), AllocError> {
+fn write_rounds(input: &mut Vec<u8>, dice: &mut Dice) -> Result<(), AllocError> {
     for round in 0..ROUNDS {
-        write_round(input, state, round)?;
+        write_round(input, dice, round)?;
     }
     Ok(())
 }
 
-fn write_lines(input: &mut Vec<u8>, state: &mut u64) -> Result<(), AllocError> {
-    write_text(input, state, FIRST)?;
-    write_rounds(input, state)?;
-    write_text(input, state, LAST)?;
-    write_one(input, state, &ENDS)
+fn write_lines(input: &mut Vec<u8>, dice: &mut Dice) -> Result<(), AllocError> {
+    write_text(input, dice, FIRST)?;
+    write_rounds(input, dice)?;
+    write_text(input, dice, LAST)?;
+    write_one(input, dice, &ENDS)
 }
 
 // How lines end that end so.
@@ -190,18 +183,18 @@ fn text_of(bytes: &[u8]) -> &str {
 }
 
 // The next lines run right.
-fn run_drawn(rt: &impl Abort, alloc: Global, state: &mut u64, input: &mut Vec<u8>) {
+fn run_drawn(rt: &impl Abort, alloc: Global, dice: &mut Dice, input: &mut Vec<u8>) {
     input.clear();
-    write_lines(input, state).expect(rt, "no memory");
+    write_lines(input, dice).expect(rt, "no memory");
     let is_right = runs_right(alloc, input.as_slice()).expect(rt, "no memory");
     assert!(rt; is_right, "{}", text_of(input.as_slice()));
 }
 
 #[test]
 fn drawn_runs(rt: HostRuntime) {
-    let mut state = 20240607u64;
+    let mut dice = Dice::new(20240607);
     let mut input = Vec::new(rt.alloc());
     for _ in 0..300 {
-        run_drawn(&rt, rt.alloc(), &mut state, &mut input);
+        run_drawn(&rt, rt.alloc(), &mut dice, &mut input);
     }
 }

@@ -7,6 +7,7 @@ use rectangle_pack::{
 };
 use std::alloc::{AllocError, Global};
 use std::test::Fail;
+use tests_support::dice::Dice;
 use tests_support::shapes::{numbers, place};
 
 type Numbered = Session<u32, u32>;
@@ -40,32 +41,9 @@ const JOINING: &[Kind] = &[Kind::Release, Kind::Coalesce, Kind::Coalesce];
 
 const SWEEPING: &[Kind] = &[Kind::Pack, Kind::Release, Kind::Release, Kind::CoalesceAll];
 
-// Choices that look random, the same in each run.
-#[derive(Drop)]
-struct Dice {
-    state: u64,
-}
-
-impl Dice {
-    // A number below this one, if it is not 0.
-    fn below(&mut self, count: usize) -> usize {
-        self.state = self
-            .state
-            .wrapping_mul(6364136223846793005)
-            .wrapping_add(1442695040888963407);
-        (self.state >> 33) as usize % count.max(1)
-    }
-
-    // One of these.
-    fn one_of<T: Copy>(&mut self, choices: &[T], otherwise: T) -> T {
-        let index = self.below(choices.len());
-        choices.get(index).copied().unwrap_or(otherwise)
-    }
-
-    // A side of a box, mostly 1 and seldom 0.
-    fn side(&mut self) -> u32 {
-        self.one_of(&[0, 1, 1, 1, 1, 1, 1, 1, 1, 1, 1, 2, 2, 2, 2, 3], 1)
-    }
+// A side of a box, mostly 1 and seldom 0.
+fn side(dice: &mut Dice) -> u32 {
+    dice.one_of(&[0, 1, 1, 1, 1, 1, 1, 1, 1, 1, 1, 2, 2, 2, 2, 3], 1)
 }
 
 // A box alone, or in one of two groups.
@@ -74,7 +52,7 @@ fn push_one(rects: &mut Rects, alloc: Global, dice: &mut Dice, id: u32) -> Resul
         0 => Some([dice.one_of(&[0, 1], 0)].to_vec(alloc)?),
         _ => None,
     };
-    let rect = RectToInsert::new(dice.side(), dice.side(), dice.side());
+    let rect = RectToInsert::new(side(dice), side(dice), side(dice));
     rects.push_rect(id, groups, rect)
 }
 
@@ -144,7 +122,7 @@ fn pack(session: &mut Numbered, alloc: Global, dice: &mut Dice) -> Result<bool, 
 }
 
 fn release(session: &mut Numbered, dice: &mut Dice) -> bool {
-    let index = dice.below(session.outstanding().len());
+    let index = dice.index(session.outstanding().len());
     let number = match session.outstanding().get(index) {
         Some(chosen) => chosen.number,
         None => return true,
@@ -163,8 +141,8 @@ fn is_of_bin(answer: Result<(), SessionError>, is_there: bool) -> bool {
 fn coalesce(session: &mut Numbered, dice: &mut Dice) -> bool {
     let bin = dice.one_of(&BINS, 0);
     let is_there = session.bins().contains_key(&bin);
-    let (idx, lo) = (dice.below(12), dice.below(12));
-    let hi = lo.saturating_add(dice.below(4));
+    let (idx, lo) = (dice.index(12), dice.index(12));
+    let hi = lo.saturating_add(dice.index(4));
     is_of_bin(session.coalesce(&bin, idx, lo..hi), is_there)
 }
 
@@ -359,7 +337,7 @@ fn count_session(counts: &mut Counts, alloc: Global, dice: &mut Dice) -> Result<
 
 #[test]
 fn random_sessions(rt: HostRuntime) -> Result<(), Fail> {
-    let mut dice = Dice { state: 1 };
+    let mut dice = Dice::new(1);
     let mut counts = Counts {
         with: 0,
         without: 0,

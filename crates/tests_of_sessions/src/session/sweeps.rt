@@ -6,35 +6,19 @@ use super::cut_plan::NO_ROOM;
 use super::{BIN, TestSession, UNKNOWN, free_sections, plenty};
 use rectangle_pack::{BinSection, RectToInsert, Reply};
 use tests_support::boxes::Rects;
+use tests_support::dice::Dice;
 use tests_support::refusing::Refusing;
 use tests_support::shapes::numbers;
 
-// Choices that look random, the same in each run.
-#[derive(Drop)]
-struct Dice {
-    state: u64,
-}
-
-impl Dice {
-    // A number below this one, if it is not 0.
-    fn below(&mut self, count: u64) -> u64 {
-        self.state = self
-            .state
-            .wrapping_mul(6364136223846793005)
-            .wrapping_add(1442695040888963407);
-        (self.state >> 33) % count.max(1)
-    }
-
-    // A side of a box, mostly 1.
-    fn side(&mut self) -> u32 {
-        if self.below(4) == 0 { 2 } else { 1 }
-    }
+// A side of a box, mostly 1.
+fn side(dice: &mut Dice) -> u32 {
+    if dice.below(4) == 0 { 2 } else { 1 }
 }
 
 // Packs a box, if the bin has space for it.
 fn packs_one(session: &mut TestSession, alloc: Refusing, dice: &mut Dice) -> bool {
     let mut rects = Rects::new(alloc);
-    let rect = RectToInsert::new(dice.side(), dice.side(), dice.side());
+    let rect = RectToInsert::new(side(dice), side(dice), side(dice));
     if rects.push_rect(0, None, rect).is_err() {
         return false;
     }
@@ -166,7 +150,7 @@ fn sweeps(alloc: Refusing, dice: &mut Dice) -> bool {
 #[test]
 fn random_sweeps(rt: HostRuntime) {
     let alloc = plenty(&rt, rt.alloc());
-    let mut dice = Dice { state: 1 };
+    let mut dice = Dice::new(1);
     for number in 0..100u32 {
         assert!(rt; sweeps(alloc, &mut dice), "session {number}");
     }
