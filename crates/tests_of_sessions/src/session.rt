@@ -1,6 +1,66 @@
 //! Sessions: what they reply to each command, and their state after it, with all memory and where
 //! it is refused. Each script of commands is obeyed by `calls`, and then by one `run`.
 
+/// What becomes of a new session: the number of its first placement, lines, and how many calls are
+/// refused memory, at least.
+macro_rules! script {
+    (from $first:expr, $lines:expr, refused $refusals:expr) => {
+        $crate::session::Script {
+            first: $first,
+            lines: $lines,
+            refusals: $refusals,
+        }
+    };
+}
+
+/// A command, whether it asks for memory, the reply, and the state of the session afterwards.
+macro_rules! line {
+    ($order:expr, $memory:ident => $reply:expr, $after:expr) => {
+        $crate::session::Line {
+            order: $order,
+            memory: $crate::session::Memory::$memory,
+            reply: $reply,
+            after: $after,
+        }
+    };
+}
+
+/// Bins, placements, and the number of the next one.
+macro_rules! state {
+    ($bins:expr, $placed:expr, next $next:expr) => {
+        $crate::session::State {
+            bins: &$bins,
+            placed: &$placed,
+            next: $next,
+        }
+    };
+}
+
+/// A bin: its id and free sections, its volume as what is free and what is placed, and how many
+/// sections and placements it has. It does not count as coalesced.
+macro_rules! held {
+    ($id:expr, $free:expr; $bin:tt = $left:tt + $placed:tt; $sections:tt free,
+        $placements:tt placed) => {
+        $crate::session::Held {
+            id: $id,
+            free: &$free,
+            volumes: [$bin, $left, $placed],
+            counts: [$sections, $placements],
+            coalesced: false,
+        }
+    };
+}
+
+/// The reply to a packing: the number of its first placement, and how many there are.
+macro_rules! packed {
+    ($first:expr, $count:expr) => {
+        rectangle_pack::Reply::Packed(rectangle_pack::Packed {
+            first: $first,
+            count: $count,
+        })
+    };
+}
+
 mod calls;
 mod clones;
 mod cut_plan;
@@ -21,6 +81,7 @@ use rectangle_pack::{BinSection, BinStats, Command, Outstanding, Reply, Session,
 use std::alloc::{AllocError, Global};
 use std::process::Abort;
 use std::test::Fail;
+use tests_support::all_match;
 use tests_support::boxes::{GroupName, SizedBox, collect};
 use tests_support::refusing::Refusing;
 use tests_support::shapes::{has_list, place};
@@ -129,28 +190,13 @@ pub const OTHER: u32 = 1;
 const NOWHERE: u32 = 2;
 
 /// A new bin of ten by ten cells.
-pub const NEW: Held = Held {
-    id: BIN,
-    free: &[[0, 0, 0, 10, 10, 1]],
-    volumes: [100, 100, 0],
-    counts: [1, 0],
-    coalesced: false,
-};
+pub const NEW: Held = held!(BIN, [[0, 0, 0, 10, 10, 1]]; 100 = 100 + 0; 1 free, 0 placed);
 
 /// A session with that bin alone.
-pub const ONE_NEW_BIN: State = State {
-    bins: &[NEW],
-    placed: &[],
-    next: 0,
-};
+pub const ONE_NEW_BIN: State = state!([NEW], [], next 0);
 
 /// Adds it to a session that has no bin.
-pub const ADD_BIN: Line = Line {
-    order: Order::AddBin(BIN, [10, 10, 1]),
-    memory: Memory::Asked,
-    reply: Reply::Done,
-    after: ONE_NEW_BIN,
-};
+pub const ADD_BIN: Line = line!(Order::AddBin(BIN, [10, 10, 1]), Asked => Reply::Done, ONE_NEW_BIN);
 
 /// Nothing of this number is outstanding.
 pub const UNKNOWN: Reply = Reply::Refused(SessionError::UnknownPlacement);
@@ -255,15 +301,7 @@ fn is_placed(placed: &Outstanding<u32, u32>, wanted: &PlacedBox) -> bool {
 
 // Whether these are the placements, in order.
 fn has_placed(placed: &[Outstanding<u32, u32>], wanted: &[PlacedBox]) -> bool {
-    if placed.len() != wanted.len() {
-        return false;
-    }
-    for index in 0..wanted.len() {
-        if !is_placed(&placed[index], &wanted[index]) {
-            return false;
-        }
-    }
-    true
+    all_match!(placed.iter(), wanted, one, other => is_placed(one, other))
 }
 
 fn has_id(bins: &[Held], id: u32) -> bool {
@@ -296,11 +334,7 @@ pub fn is_in(session: &TestSession, wanted: &State) -> bool {
 
 /// The state of a new session.
 pub fn empty(first: u64) -> State {
-    State {
-        bins: &[],
-        placed: &[],
-        next: first,
-    }
+    state!([], [], next first)
 }
 
 /// Memory that is never refused.

@@ -23,6 +23,26 @@ pub type Rects = GroupedRectsToPlace<u32, u32, Refusing>;
 /// Bins, whose memory may be refused.
 pub type Bins = BTreeMap<u32, TargetBin<Refusing>, Refusing>;
 
+/// Boxes by id and size, as `1: [4, 4, 1]` for one alone and `2: [4, 4, 1] in [0, 1]` for one in two
+/// groups.
+#[macro_export]
+macro_rules! box_list {
+    ($($id:tt: $size:tt $(in $groups:tt)?),*) => {
+        &[$(($id, $size, $crate::groups!($($groups)?))),*]
+    };
+}
+
+/// The groups of a box, if any are named.
+#[macro_export]
+macro_rules! groups {
+    () => {
+        &[]
+    };
+    ($groups:tt) => {
+        &$groups
+    };
+}
+
 /// Pushes the boxes.
 pub fn push_boxes<A: Allocator + Copy>(
     alloc: A,

@@ -4,6 +4,7 @@ ghost use Rattle.std.specs.Prelude.{◌≡◌};
 use super::boxes::{SizedBin, SizedBox};
 use super::refusing::Refusing;
 use super::shapes::{has_list, named};
+use crate::all_match;
 use rectangle_pack_bins::target_bin::TargetBin;
 use rectangle_pack_groups::grouped_rects_to_place::GroupedRectsToPlace;
 use rectangle_pack_sections::rect_to_insert::RectToInsert;
@@ -87,12 +88,6 @@ pub fn push_all(
 
 /// Whether these are the bins, in order, with these free sections.
 pub fn have_lists(bins: &Bins, wanted: &[SizedBin]) -> bool {
-    let mut found = bins.iter();
-    for (number, _, list) in wanted {
-        match found.next() {
-            Some((name, bin)) if name.number == *number && has_list(bin, list) => {}
-            _ => return false,
-        }
-    }
-    found.next().is_none()
+    all_match!(bins.iter(), wanted, (name, bin), (number, _, list) =>
+        name.number == *number && has_list(bin, list))
 }

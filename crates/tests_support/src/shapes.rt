@@ -4,6 +4,7 @@ ghost use Rattle.std.specs.Prelude.{◌≡◌, ◌<◌, IfOk, vec_len};
 ghost use Rattle.std.specs.Option.{ForSome};
 ghost use Rattle.rectangle_pack_sections.specs.Boxes.{Size};
 
+use crate::all_match;
 use rectangle_pack_bins::target_bin::TargetBin;
 use rectangle_pack_sections::bin_section::BinSection;
 use rectangle_pack_sections::packed_location::PackedLocation;
@@ -53,14 +54,7 @@ pub fn place(location: &PackedLocation) -> [u32; 6] {
 
 // Whether the sections have these numbers, in this order.
 fn are_these(sections: &[BinSection], list: &[[u32; 6]]) -> bool {
-    let mut found = sections.iter();
-    for wanted in list {
-        match found.next() {
-            Some(section) if numbers(section) == *wanted => {}
-            _ => return false,
-        }
-    }
-    found.next().is_none()
+    all_match!(sections.iter(), list, section, wanted => numbers(section) == *wanted)
 }
 
 /// Whether these are the bin's free sections, in this order.

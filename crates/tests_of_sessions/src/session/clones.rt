@@ -6,6 +6,7 @@ use rectangle_pack::{
 use std::alloc::Global;
 use std::process::Abort;
 use std::test::Fail;
+use tests_support::all_match;
 use tests_support::boxes::{SizedBin, SizedBox};
 use tests_support::names::{Clones, Name, Rects, have_lists, push_all};
 use tests_support::refusing::Refusing;
@@ -55,15 +56,7 @@ fn is_placed(placed: &Outstanding<Name, Name>, wanted: &Placed) -> bool {
 
 // Whether these placements are outstanding.
 fn are_outstanding(outstanding: &[Outstanding<Name, Name>], all: &[Placed]) -> bool {
-    if outstanding.len() != all.len() {
-        return false;
-    }
-    for index in 0..all.len() {
-        if !is_placed(&outstanding[index], &all[index]) {
-            return false;
-        }
-    }
-    true
+    all_match!(outstanding.iter(), all, placed, wanted => is_placed(placed, wanted))
 }
 
 fn is_in(session: &NameSession, state: &State) -> bool {

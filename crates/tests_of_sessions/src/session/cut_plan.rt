@@ -1,6 +1,39 @@
 //! Cutting plans of the bins that sessions leave: scripts of calls, with the plans between them.
 ghost use Rattle.rectangle_pack.specs.Closures.{CanRate};
 
+/// A packing of these boxes is done; the pairs of groups behind a semicolon are excluded.
+macro_rules! packs {
+    ($($id:tt: $size:tt $(in $groups:tt)?),* $(; $($pair:expr),*)?) => {
+        $crate::session::cut_plan::Step::Call(
+            pack_order!([$($id: $size $(in $groups)?),*] $($($pair),*)?))
+    };
+}
+
+/// The same packing has no room.
+macro_rules! refuses {
+    ($($id:tt: $size:tt $(in $groups:tt)?),* $(; $($pair:expr),*)?) => {
+        $crate::session::cut_plan::Step::Replies(
+            pack_order!([$($id: $size $(in $groups)?),*] $($($pair),*)?),
+            $crate::session::cut_plan::NO_ROOM)
+    };
+}
+
+macro_rules! pack_order {
+    ([$($boxes:tt)*]) => {
+        $crate::session::Order::Pack(tests_support::box_list!($($boxes)*))
+    };
+    ([$($boxes:tt)*] $($pair:expr),+) => {
+        $crate::session::Order::PackApart(tests_support::box_list!($($boxes)*), &[$($pair),+])
+    };
+}
+
+/// These are all bins, each with its plan.
+macro_rules! plans {
+    ($($bin:expr => $plan:expr),*) => {
+        $crate::session::cut_plan::Step::Plans(&[$(($bin, $plan)),*])
+    };
+}
+
 mod empty;
 mod groups;
 mod joins;
@@ -10,12 +43,12 @@ mod refusals;
 use super::calls::{NO_MEMORY, obey, packed};
 use super::{Came, Order, State, TestSession, has_free, is_in};
 use rectangle_pack::{
-    Axis, CutStep, Packed, Reply, SessionError, WidthHeightDepth, contains_smallest_box,
-    volume_heuristic,
+    Axis, CutStep, Reply, SessionError, WidthHeightDepth, contains_smallest_box, volume_heuristic,
 };
 use std::alloc::Global;
 use std::cmp::Ordering;
 use std::process::Abort;
+use tests_support::all_match;
 use tests_support::boxes::{Rects, SizedBox, collect};
 use tests_support::refusing::Refusing;
 
@@ -107,15 +140,7 @@ fn cut_step(step: &PlanStep) -> CutStep {
 }
 
 fn is_plan(plan: &[CutStep], wanted: &[PlanStep]) -> bool {
-    if plan.len() != wanted.len() {
-        return false;
-    }
-    for index in 0..wanted.len() {
-        if plan[index] != cut_step(&wanted[index]) {
-            return false;
-        }
-    }
-    true
+    all_match!(plan.iter(), wanted, step, other => *step == cut_step(other))
 }
 
 fn came_if(is_wanted: bool) -> Came {
@@ -141,10 +166,7 @@ fn entries(boxes: &[SizedBox]) -> u64 {
 
 // What a packing of these boxes replies where it is done, from this next number on.
 fn placed(boxes: &[SizedBox], next: u64) -> Reply {
-    Reply::Packed(Packed {
-        first: next,
-        count: entries(boxes),
-    })
+    packed!(next, entries(boxes))
 }
 
 // What this call replies where it is done.

@@ -3,12 +3,13 @@ ghost use Rattle.rectangle_pack.specs.Closures.{AreCallable, CanRate};
 
 use super::{BIN, OTHER, Order, TestCommand, TestSession, command, plenty};
 use rectangle_pack::{
-    BinSection, Outstanding, Packed, Reply, TargetBin, WidthHeightDepth, contains_smallest_box,
+    BinSection, Outstanding, Reply, TargetBin, WidthHeightDepth, contains_smallest_box,
 };
 use std::cell::Cell;
 use std::cmp::Ordering;
 use std::process::Abort;
 use std::slice;
+use tests_support::box_list;
 use tests_support::refusing::Refusing;
 use tests_support::shapes::{numbers, place};
 
@@ -17,45 +18,32 @@ const ONE_GROUP: u32 = 1;
 
 const OTHER_GROUP: u32 = 2;
 
+// Boxes that are packed, from this number on, so many entries.
+macro_rules! places {
+    ($($id:tt: $size:tt $(in $groups:tt)?),* => $first:literal, $count:literal) => {
+        (Order::Pack(box_list!($($id: $size $(in $groups)?),*)), packed!($first, $count))
+    };
+}
+
 // Whatever the closures answer, the first bin has room: of its million cells a free section that
 // does not hold one of these boxes has at most 30,000, and there are never more than 30 of them.
-const ORDERS: &[(Order, Reply)] = &[
-    (Order::AddBin(BIN, [100, 100, 100]), Reply::Done),
-    (Order::AddBin(OTHER, [7, 5, 3]), Reply::Done),
-    (
-        Order::Pack(&[(1, [3, 2, 2], &[]), (2, [1, 1, 1], &[])]),
-        Reply::Packed(Packed { first: 0, count: 2 }),
-    ),
-    (
-        Order::Pack(&[
-            (3, [2, 1, 1], &[ONE_GROUP]),
-            (4, [1, 2, 3], &[ONE_GROUP, OTHER_GROUP]),
-            (5, [4, 1, 2], &[]),
-        ]),
-        Reply::Packed(Packed { first: 2, count: 4 }),
-    ),
-    (Order::Release(1), Reply::Done),
-    (Order::Release(4), Reply::Done),
-    (
-        Order::Pack(&[
-            (6, [2, 2, 2], &[]),
-            (7, [0, 1, 1], &[OTHER_GROUP, OTHER_GROUP]),
-        ]),
-        Reply::Packed(Packed { first: 6, count: 3 }),
-    ),
-    (Order::Release(0), Reply::Done),
-    (Order::CoalesceAll(BIN), Reply::Done),
-    (Order::CoalesceAll(OTHER), Reply::Done),
-    (
-        Order::Pack(&[(8, [3, 4, 1], &[]), (9, [1, 1, 3], &[])]),
-        Reply::Packed(Packed { first: 9, count: 2 }),
-    ),
-    (Order::Release(10), Reply::Done),
-    (Order::Release(3), Reply::Done),
-];
-
-// A table is dear to prove in a longer body, so this one stands alone.
 fn orders() -> &'static [(Order, Reply)] {
+    const ORDERS: &[(Order, Reply)] = &[
+        (Order::AddBin(BIN, [100, 100, 100]), Reply::Done),
+        (Order::AddBin(OTHER, [7, 5, 3]), Reply::Done),
+        places!(1: [3, 2, 2], 2: [1, 1, 1] => 0, 2),
+        places!(3: [2, 1, 1] in [ONE_GROUP], 4: [1, 2, 3] in [ONE_GROUP, OTHER_GROUP],
+            5: [4, 1, 2] => 2, 4),
+        (Order::Release(1), Reply::Done),
+        (Order::Release(4), Reply::Done),
+        places!(6: [2, 2, 2], 7: [0, 1, 1] in [OTHER_GROUP, OTHER_GROUP] => 6, 3),
+        (Order::Release(0), Reply::Done),
+        (Order::CoalesceAll(BIN), Reply::Done),
+        (Order::CoalesceAll(OTHER), Reply::Done),
+        places!(8: [3, 4, 1], 9: [1, 1, 3] => 9, 2),
+        (Order::Release(10), Reply::Done),
+        (Order::Release(3), Reply::Done),
+    ];
     ORDERS
 }
 

@@ -1,8 +1,8 @@
 //! Numbers of placements, up to the last one.
 
 use super::releases::{P, Q};
-use super::{BIN, FIRST, Held, Line, Memory, NEW, Order, Script, State, TILE, come_out};
-use rectangle_pack::{Packed, Reply, SessionError};
+use super::{BIN, FIRST, Line, Order, Script, State, TILE, come_out};
+use rectangle_pack::{Reply, SessionError};
 use std::test::Fail;
 
 /// There is no number left.
@@ -10,83 +10,33 @@ pub const USED_UP: Reply = Reply::Refused(SessionError::NumbersUsedUp);
 
 // The greatest number is never given.
 const LAST_NUMBER: &[Line] = &[
-    Line {
-        order: Order::AddBin(BIN, [8, 8, 1]),
-        memory: Memory::Asked,
-        reply: Reply::Done,
-        after: State {
-            bins: &[Held {
-                free: &[[0, 0, 0, 8, 8, 1]],
-                volumes: [64, 64, 0],
-                ..NEW
-            }],
-            placed: &[],
-            next: u64::MAX - 1,
-        },
-    },
-    Line {
-        order: Order::Pack(&[(P, TILE, &[])]),
-        memory: Memory::Asked,
-        reply: Reply::Packed(Packed {
-            first: u64::MAX - 1,
-            count: 1,
-        }),
-        after: AT_THE_END,
-    },
-    Line {
-        order: Order::Pack(&[(Q, TILE, &[])]),
-        memory: Memory::NotAsked,
-        reply: USED_UP,
-        after: AT_THE_END,
-    },
-    Line {
-        order: Order::Pack(&[]),
-        memory: Memory::NotAsked,
-        reply: Reply::Packed(Packed {
-            first: u64::MAX,
-            count: 0,
-        }),
-        after: AT_THE_END,
-    },
+    line!(Order::AddBin(BIN, [8, 8, 1]), Asked => Reply::Done,
+        state!([held!(BIN, [[0, 0, 0, 8, 8, 1]]; 64 = 64 + 0; 1 free, 0 placed)], [],
+            next u64::MAX - 1)),
+    line!(Order::Pack(&[(P, TILE, &[])]), Asked => packed!(u64::MAX - 1, 1), AT_THE_END),
+    line!(Order::Pack(&[(Q, TILE, &[])]), NotAsked => USED_UP, AT_THE_END),
+    line!(Order::Pack(&[]), NotAsked => packed!(u64::MAX, 0), AT_THE_END),
 ];
 
-const AT_THE_END: State = State {
-    bins: &[Held {
-        free: &[[0, 4, 0, 8, 4, 1], [4, 0, 0, 4, 4, 1]],
-        volumes: [64, 48, 16],
-        counts: [2, 1],
-        ..NEW
-    }],
-    placed: &[(u64::MAX - 1, P, BIN, FIRST)],
-    next: u64::MAX,
-};
+const AT_THE_END: State = state!(
+    [held!(BIN, [[0, 4, 0, 8, 4, 1], [4, 0, 0, 4, 4, 1]]; 64 = 48 + 16; 2 free, 1 placed)],
+    [(u64::MAX - 1, P, BIN, FIRST)], next u64::MAX);
 
 // That there is a number is asked before a bin is.
-const NO_NUMBER: &[Line] = &[Line {
-    order: Order::Pack(&[(P, [1, 1, 1], &[])]),
-    memory: Memory::NotAsked,
-    reply: USED_UP,
-    after: State {
-        bins: &[],
-        placed: &[],
-        next: u64::MAX,
-    },
-}];
-
-const SCRIPTS: &[Script] = &[
-    Script {
-        first: u64::MAX - 1,
-        lines: LAST_NUMBER,
-        refusals: 2,
-    },
-    Script {
-        first: u64::MAX,
-        lines: NO_NUMBER,
-        refusals: 0,
-    },
+const NO_NUMBER: &[Line] = &[
+    line!(Order::Pack(&[(P, [1, 1, 1], &[])]), NotAsked => USED_UP,
+        state!([], [], next u64::MAX)),
 ];
+
+fn scripts() -> &'static [Script] {
+    const SCRIPTS: &[Script] = &[
+        script!(from u64::MAX - 1, LAST_NUMBER, refused 2),
+        script!(from u64::MAX, NO_NUMBER, refused 0),
+    ];
+    SCRIPTS
+}
 
 #[test]
 fn last_numbers(rt: HostRuntime) -> Result<(), Fail> {
-    come_out(&rt, rt.alloc(), SCRIPTS)
+    come_out(&rt, rt.alloc(), scripts())
 }

@@ -2,8 +2,8 @@
 //! among these releases.
 
 use super::large::{Boxes, packs, releases_first};
-use super::{BIN, Held, Line, Memory, NEW, Order, Script, State, TestSession, come_out, plenty};
-use rectangle_pack::{Outstanding, Packed, Reply, SessionError};
+use super::{BIN, Line, Order, Script, TestSession, come_out, plenty};
+use rectangle_pack::{Outstanding, Reply, SessionError};
 use std::test::Fail;
 use tests_support::refusing::Refusing;
 
@@ -139,26 +139,14 @@ fn as_many_as_were_released(rt: HostRuntime) {
 // number.
 macro_rules! row {
     ($free:expr, $cells:expr, $sections:expr, $placed:expr, $next:expr) => {
-        State {
-            bins: &[Held {
-                free: &$free,
-                volumes: [4, $cells, 4 - $cells],
-                counts: [$sections, 4 - $cells],
-                ..NEW
-            }],
-            placed: &$placed,
-            next: $next,
-        }
+        state!([held!(BIN, $free; 4 = $cells + (4 - $cells); $sections free, (4 - $cells) placed)],
+            $placed, next $next)
     };
 }
 
 // A row of four cells, where memory is refused.
-const ADD_ROW: Line = Line {
-    order: Order::AddBin(BIN, [4, 1, 1]),
-    memory: Memory::Asked,
-    reply: Reply::Done,
-    after: row!([[0, 0, 0, 4, 1, 1]], 4, 1, [], 0),
-};
+const ADD_ROW: Line = line!(Order::AddBin(BIN, [4, 1, 1]), Asked => Reply::Done,
+    row!([[0, 0, 0, 4, 1, 1]], 4, 1, [], 0));
 
 // The box of this number. Each takes the cell of the one that was placed four before it.
 macro_rules! unit {
@@ -168,103 +156,48 @@ macro_rules! unit {
 }
 
 // One more box is packed, under the number before the next one.
-macro_rules! packed {
+macro_rules! packs {
     ($next:expr, $after:expr) => {
-        Line {
-            order: Order::Pack(&[(0, [1, 1, 1], &[])]),
-            memory: Memory::Asked,
-            reply: Reply::Packed(Packed {
-                first: $next - 1,
-                count: 1,
-            }),
-            after: $after,
-        }
+        line!(Order::Pack(&[(0, [1, 1, 1], &[])]), Asked => packed!($next - 1, 1), $after)
     };
 }
 
 // The oldest placement is released.
 macro_rules! released {
     ($oldest:expr) => {
-        Line {
-            order: Order::Release($oldest),
-            memory: Memory::Either,
-            reply: Reply::Done,
-            after: row!(
-                [[$oldest % 4, 0, 0, 1, 1, 1]],
-                1,
-                1,
-                [unit!($oldest + 1), unit!($oldest + 2), unit!($oldest + 3)],
-                $oldest + 4
-            ),
-        }
+        line!(Order::Release($oldest), Either => Reply::Done,
+            row!([[$oldest % 4, 0, 0, 1, 1, 1]], 1, 1,
+                [unit!($oldest + 1), unit!($oldest + 2), unit!($oldest + 3)], $oldest + 4))
     };
 }
 
 // The row is full, and this one is the oldest.
 macro_rules! filled {
     ($oldest:expr) => {
-        packed!(
-            $oldest + 4,
-            row!(
-                [],
-                0,
-                0,
-                [
-                    unit!($oldest),
-                    unit!($oldest + 1),
-                    unit!($oldest + 2),
-                    unit!($oldest + 3)
-                ],
-                $oldest + 4
-            )
-        )
+        packs!($oldest + 4, row!([], 0, 0, [unit!($oldest), unit!($oldest + 1),
+            unit!($oldest + 2), unit!($oldest + 3)], $oldest + 4))
     };
 }
 
-const TURNS: &[Line] = &[
-    ADD_ROW,
-    packed!(1, row!([[1, 0, 0, 3, 1, 1]], 3, 1, [unit!(0)], 1)),
-    packed!(2, row!([[2, 0, 0, 2, 1, 1]], 2, 1, [unit!(0), unit!(1)], 2)),
-    packed!(
-        3,
-        row!(
-            [[3, 0, 0, 1, 1, 1]],
-            1,
-            1,
-            [unit!(0), unit!(1), unit!(2)],
-            3
-        )
-    ),
-    filled!(0),
-    released!(0),
-    filled!(1),
-    released!(1),
-    filled!(2),
-    released!(2),
-    filled!(3),
-    released!(3),
-    filled!(4),
-    released!(4),
-    filled!(5),
-    released!(5),
-    filled!(6),
-    released!(6),
-    filled!(7),
-    released!(7),
-    filled!(8),
-    released!(8),
-    filled!(9),
-];
+// Four boxes are packed, and then one more in turn with the release of the oldest, of these numbers.
+macro_rules! turns {
+    ($($oldest:literal),*) => {
+        &[
+            ADD_ROW,
+            packs!(1, row!([[1, 0, 0, 3, 1, 1]], 3, 1, [unit!(0)], 1)),
+            packs!(2, row!([[2, 0, 0, 2, 1, 1]], 2, 1, [unit!(0), unit!(1)], 2)),
+            packs!(3, row!([[3, 0, 0, 1, 1, 1]], 1, 1, [unit!(0), unit!(1), unit!(2)], 3)),
+            filled!(0),
+            $(released!($oldest), filled!($oldest + 1)),*
+        ]
+    };
+}
+
+const TURNS: &[Line] = turns!(0, 1, 2, 3, 4, 5, 6, 7, 8);
 
 // The bin and each packing are refused memory.
-const SCRIPTS: &[Script] = &[Script {
-    first: 0,
-    lines: TURNS,
-    refusals: 14,
-}];
-
-// A table is dear to prove in a longer body, so this one stands alone.
 fn turns() -> &'static [Script] {
+    const SCRIPTS: &[Script] = &[script!(from 0, TURNS, refused 14)];
     SCRIPTS
 }
 

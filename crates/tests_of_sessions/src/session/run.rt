@@ -5,19 +5,12 @@ use super::{Came, Line, Made, Script, TestCommand, TestSession, commands, empty,
 use rectangle_pack::{Reply, TargetBin, contains_smallest_box, volume_heuristic};
 use std::alloc::Global;
 use std::process::Abort;
+use tests_support::all_match;
 use tests_support::refusing::Refusing;
 
 // Whether calls answer these replies.
 fn are_called(replies: &[Reply], session: &mut TestSession, commands: &[TestCommand]) -> bool {
-    if replies.len() != commands.len() {
-        return false;
-    }
-    for index in 0..commands.len() {
-        if replies[index] != call(session, &commands[index]) {
-            return false;
-        }
-    }
-    true
+    all_match!(replies.iter(), commands, reply, command => *reply == call(session, command))
 }
 
 // Whether the session has a bin of this id, with the same free sections.
@@ -46,15 +39,7 @@ fn are_alike(one: &TestSession, other: &TestSession) -> bool {
 
 // Whether the replies are those of the lines.
 fn are_wanted(replies: &[Reply], lines: &[Line]) -> bool {
-    if replies.len() != lines.len() {
-        return false;
-    }
-    for index in 0..lines.len() {
-        if replies[index] != lines[index].reply {
-            return false;
-        }
-    }
-    true
+    all_match!(replies.iter(), lines, reply, line => *reply == line.reply)
 }
 
 // Each reply is what its call answers, and where the replies are those of the script, the session

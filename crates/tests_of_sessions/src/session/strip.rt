@@ -1,43 +1,19 @@
 //! A strip of nine cells, full of boxes 1x1x1 that are numbered from its start on, and the release
 //! of each. A release that is refused memory changes nothing.
 
-use super::{BIN, Held, Line, Memory, NEW, Order, Script, State, come_out};
-use rectangle_pack::{Packed, Reply};
+use super::{BIN, Line, Order, Script, State, come_out};
+use rectangle_pack::Reply;
 use std::test::Fail;
 
 const UNIT: [u32; 3] = [1, 1, 1];
 
-const ADD_STRIP: Line = Line {
-    order: Order::AddBin(BIN, [9, 1, 1]),
-    memory: Memory::Asked,
-    reply: Reply::Done,
-    after: State {
-        bins: &[Held {
-            free: &[[0, 0, 0, 9, 1, 1]],
-            volumes: [9, 9, 0],
-            ..NEW
-        }],
-        placed: &[],
-        next: 0,
-    },
-};
+const ADD_STRIP: Line = line!(Order::AddBin(BIN, [9, 1, 1]), Asked => Reply::Done,
+    state!([held!(BIN, [[0, 0, 0, 9, 1, 1]]; 9 = 9 + 0; 1 free, 0 placed)], [], next 0));
 
-const PACK_UNITS: Line = Line {
-    order: Order::Pack(&[
-        (0, UNIT, &[]),
-        (1, UNIT, &[]),
-        (2, UNIT, &[]),
-        (3, UNIT, &[]),
-        (4, UNIT, &[]),
-        (5, UNIT, &[]),
-        (6, UNIT, &[]),
-        (7, UNIT, &[]),
-        (8, UNIT, &[]),
-    ]),
-    memory: Memory::Asked,
-    reply: Reply::Packed(Packed { first: 0, count: 9 }),
-    after: FULL,
-};
+const PACK_UNITS: Line = line!(
+    Order::Pack(&[(0, UNIT, &[]), (1, UNIT, &[]), (2, UNIT, &[]), (3, UNIT, &[]), (4, UNIT, &[]),
+            (5, UNIT, &[]), (6, UNIT, &[]), (7, UNIT, &[]), (8, UNIT, &[])]),
+    Asked => packed!(0, 9), FULL);
 
 // The cell of this number.
 macro_rules! cell {
@@ -53,45 +29,17 @@ macro_rules! unit {
     };
 }
 
-const FULL: State = State {
-    bins: &[Held {
-        free: &[],
-        volumes: [9, 0, 9],
-        counts: [0, 9],
-        ..NEW
-    }],
-    placed: &[
-        unit!(0),
-        unit!(1),
-        unit!(2),
-        unit!(3),
-        unit!(4),
-        unit!(5),
-        unit!(6),
-        unit!(7),
-        unit!(8),
-    ],
-    next: 9,
-};
+const FULL: State = state!([held!(BIN, []; 9 = 0 + 9; 0 free, 9 placed)],
+    [unit!(0), unit!(1), unit!(2), unit!(3), unit!(4), unit!(5), unit!(6), unit!(7), unit!(8)],
+    next 9);
 
 // The box of this number is released. Then these cells are free, and these boxes are left.
 macro_rules! released {
     ($number:expr, [$($cell:expr),*], [$($left:expr),*]) => {
-        Line {
-            order: Order::Release($number),
-            memory: Memory::Either,
-            reply: Reply::Done,
-            after: State {
-                bins: &[Held {
-                    free: &[$(cell!($cell)),*],
-                    volumes: [9, $number + 1, 8 - $number],
-                    counts: [$number + 1, 8 - $number],
-                    ..NEW
-                }],
-                placed: &[$(unit!($left)),*],
-                next: 9,
-            },
-        }
+        line!(Order::Release($number), Either => Reply::Done,
+            state!([held!(BIN, [$(cell!($cell)),*]; 9 = ($number + 1) + (8 - $number);
+                    ($number + 1) free, (8 - $number) placed)],
+                [$(unit!($left)),*], next 9))
     };
 }
 
@@ -110,14 +58,8 @@ const RELEASES: &[Line] = &[
 ];
 
 // The bin, the packing and at least one of the releases are refused memory.
-const SCRIPTS: &[Script] = &[Script {
-    first: 0,
-    lines: RELEASES,
-    refusals: 3,
-}];
-
-// A table is dear to prove in a longer body, so this one stands alone.
 fn scripts() -> &'static [Script] {
+    const SCRIPTS: &[Script] = &[script!(from 0, RELEASES, refused 3)];
     SCRIPTS
 }
 

@@ -1,7 +1,7 @@
 //! Five hundred boxes of one cell, which fill a bin 25x20x1 and are all released.
 
 use super::{BIN, Commands, Made, TestCommand, TestSession, free_sections, plenty};
-use rectangle_pack::{Command, CutStep, Packed, Reply, contains_smallest_box, volume_heuristic};
+use rectangle_pack::{Command, CutStep, Reply, contains_smallest_box, volume_heuristic};
 use tests_support::boxes::{Rects, push_units};
 use tests_support::refusing::Refusing;
 
@@ -29,13 +29,7 @@ fn push_releases(commands: &mut Commands) -> Made<()> {
     Ok(())
 }
 
-const FILLED: [Reply; 2] = [
-    Reply::Done,
-    Reply::Packed(Packed {
-        first: 0,
-        count: 500,
-    }),
-];
+const FILLED: [Reply; 2] = [Reply::Done, packed!(0, 500)];
 
 fn are_done(replies: &[Reply]) -> bool {
     for reply in replies {

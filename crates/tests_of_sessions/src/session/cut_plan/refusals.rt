@@ -9,13 +9,13 @@ use crate::session::releases::{
     BOTH_PLACED, BOTH_RELEASED, JOINED, NOT_JOINED, P, P_PLACED, P_RELEASED, Q,
 };
 use crate::session::{BIN, Came, ONE_NEW_BIN, OTHER, UNKNOWN};
-use rectangle_pack::{Packed, Reply, SessionError};
+use rectangle_pack::{Reply, SessionError};
 use std::alloc::Global;
 use std::process::Abort;
 
-const FIRST: Reply = Reply::Packed(Packed { first: 0, count: 1 });
+const FIRST: Reply = packed!(0, 1);
 
-const SECOND: Reply = Reply::Packed(Packed { first: 1, count: 1 });
+const SECOND: Reply = packed!(1, 1);
 
 const NO_BIN: Reply = Reply::Refused(SessionError::UnknownBin);
 
@@ -26,31 +26,34 @@ const TWO: &[PlanStep] = &[X(4), Leaf, Leaf];
 
 // A bin that two boxes fill, and that is free again once both are released; its plan is asked for
 // after each call, and is refused each request. That there is no such bin takes no memory.
-const SCRIPT: &[Step] = &[
-    NoBin(BIN),
-    Replies(AddBin(BIN, [10, 10, 1]), Reply::Done),
-    IsIn(ONE_NEW_BIN, ONE),
-    Replies(Pack(&[(P, [4, 10, 1], &[])]), FIRST),
-    IsIn(P_PLACED, TWO),
-    Replies(Pack(&[(Q, [6, 10, 1], &[])]), SECOND),
-    IsIn(BOTH_PLACED, TWO),
-    Replies(Release(0), Reply::Done),
-    IsIn(P_RELEASED, TWO),
-    Replies(Release(1), Reply::Done),
-    IsIn(BOTH_RELEASED, TWO),
-    // An index past the end and an empty range join nothing.
-    Replies(Coalesce(BIN, 2, 0, 2), Reply::Done),
-    IsIn(NOT_JOINED, TWO),
-    Replies(Coalesce(BIN, 1, 1, 0), Reply::Done),
-    IsIn(NOT_JOINED, TWO),
-    Replies(Coalesce(OTHER, 0, 0, 2), NO_BIN),
-    IsIn(NOT_JOINED, TWO),
-    Replies(Coalesce(BIN, 1, 0, 2), Reply::Done),
-    IsIn(JOINED, ONE),
-    // A released number is unknown.
-    Replies(Release(0), UNKNOWN),
-    IsIn(JOINED, ONE),
-];
+fn script() -> &'static [Step] {
+    const SCRIPT: &[Step] = &[
+        NoBin(BIN),
+        Replies(AddBin(BIN, [10, 10, 1]), Reply::Done),
+        IsIn(ONE_NEW_BIN, ONE),
+        Replies(Pack(&[(P, [4, 10, 1], &[])]), FIRST),
+        IsIn(P_PLACED, TWO),
+        Replies(Pack(&[(Q, [6, 10, 1], &[])]), SECOND),
+        IsIn(BOTH_PLACED, TWO),
+        Replies(Release(0), Reply::Done),
+        IsIn(P_RELEASED, TWO),
+        Replies(Release(1), Reply::Done),
+        IsIn(BOTH_RELEASED, TWO),
+        // An index past the end and an empty range join nothing.
+        Replies(Coalesce(BIN, 2, 0, 2), Reply::Done),
+        IsIn(NOT_JOINED, TWO),
+        Replies(Coalesce(BIN, 1, 1, 0), Reply::Done),
+        IsIn(NOT_JOINED, TWO),
+        Replies(Coalesce(OTHER, 0, 0, 2), NO_BIN),
+        IsIn(NOT_JOINED, TWO),
+        Replies(Coalesce(BIN, 1, 0, 2), Reply::Done),
+        IsIn(JOINED, ONE),
+        // A released number is unknown.
+        Replies(Release(0), UNKNOWN),
+        IsIn(JOINED, ONE),
+    ];
+    SCRIPT
+}
 
 // The longest script has no more steps.
 const MOST_STEPS: usize = 21;
@@ -70,13 +73,16 @@ fn were_all_refused(script: &[Step], refused: &[bool]) -> bool {
 
 // A box on the left, one at the bottom of the rest, and two in front of each other in what is left,
 // whose orders are kept.
-const PEELED: &[Step] = &[
-    Call(AddBin(BIN, [2, 2, 3])),
-    Call(Pack(&[(P, [1, 2, 3], &[])])),
-    Call(Pack(&[(P, [1, 1, 3], &[])])),
-    Call(Pack(&[(P, [1, 1, 1], &[])])),
-    Plans(&[(BIN, &[X(1), Leaf, Y(1), Leaf, Z(1), Leaf, Leaf])]),
-];
+fn peeled() -> &'static [Step] {
+    const PEELED: &[Step] = &[
+        Call(AddBin(BIN, [2, 2, 3])),
+        packs!(P: [1, 2, 3]),
+        packs!(P: [1, 1, 3]),
+        packs!(P: [1, 1, 1]),
+        plans!(BIN => &[X(1), Leaf, Y(1), Leaf, Z(1), Leaf, Leaf]),
+    ];
+    PEELED
+}
 
 // Plays the script with each request refused in turn, until none is, and notes the steps that were
 // refused memory. How the script came out then, and at which step.
@@ -100,15 +106,6 @@ fn come_out(rt: &impl Abort, alloc: Global, script: &[Step]) {
     let (step, came) = refuse_each(rt, alloc, script, &mut were_refused);
     assert!(rt; matches!(came, Came::Out), "step {step}");
     assert!(rt; were_all_refused(script, &were_refused));
-}
-
-// A table is dear to prove in a longer body, so each stands alone.
-fn script() -> &'static [Step] {
-    SCRIPT
-}
-
-fn peeled() -> &'static [Step] {
-    PEELED
 }
 
 #[test]
