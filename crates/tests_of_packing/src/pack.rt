@@ -2,6 +2,30 @@
 ghost use Rattle.rectangle_pack.specs.Closures.{AreCallable};
 ghost use Rattle.rectangle_pack.specs.Clones.{ClonesEqual};
 
+/// Bins, each with the free sections that are left afterwards, boxes, pairs of groups that are
+/// excluded, and what is placed, in order, or that the packing is refused.
+macro_rules! case {
+    (bins $($bin:literal: $size:tt => $free:expr),*;
+        boxes $($id:literal: $rect:tt $(in $groups:tt)?),*;
+        $(apart $($pair:expr),*;)? refused) => {
+        $crate::pack::Case {
+            bins: &[$(($bin, $size, $free)),*],
+            boxes: tests_support::box_list!($($id: $rect $(in $groups)?),*),
+            excluded: &[$($($pair),*)?],
+            placements: None,
+        }
+    };
+    (bins $($bin:literal: $size:tt => $free:expr),*;
+        boxes $($id:literal: $rect:tt $(in $groups:tt)?),*;
+        $(apart $($pair:expr),*;)? placed $($placed:expr),*) => {
+        $crate::pack::Case {
+            placements: Some(&[$($placed),*]),
+            ..case!(bins $($bin: $size => $free),*; boxes $($id: $rect $(in $groups)?),*;
+                $(apart $($pair),*;)? refused)
+        }
+    };
+}
+
 mod answers;
 mod asked;
 mod clones;
@@ -23,6 +47,7 @@ use std::alloc::{AllocError, Allocator, Global};
 use std::cmp::Ordering;
 use std::collections::BTreeMap;
 use std::process::Abort;
+use tests_support::all_match;
 use tests_support::boxes::{GroupName, SizedBin, SizedBox, collect};
 use tests_support::each_request::End;
 use tests_support::refusing::Refusing;
@@ -56,40 +81,16 @@ pub struct Case {
 }
 
 /// A group of two, and a larger box alone, which goes first.
-pub const TWO_IN_A_GROUP: Case = Case {
-    bins: &[
-        (
-            1,
-            [2048, 2048, 255],
-            &[
-                [40, 0, 0, 2008, 30, 255],
-                [30, 20, 0, 10, 10, 255],
-                [5, 30, 0, 2043, 2018, 255],
-                [0, 80, 0, 5, 1968, 255],
-            ],
-        ),
-        (2, [4096, 4096, 1020], &[[0, 0, 0, 4096, 4096, 1020]]),
-    ],
-    boxes: &[
-        (1, [10, 20, 255], &[1]),
-        (2, [5, 50, 255], &[1]),
-        (3, [30, 30, 255], &[]),
-    ],
-    excluded: &[],
-    placements: Some(&[
-        (3, 1, [0, 0, 0, 30, 30, 255]),
-        (1, 1, [30, 0, 0, 10, 20, 255]),
-        (2, 1, [0, 30, 0, 5, 50, 255]),
-    ]),
-};
+pub const TWO_IN_A_GROUP: Case = case!(bins 1: [2048, 2048, 255] => &[[40, 0, 0, 2008, 30, 255],
+        [30, 20, 0, 10, 10, 255], [5, 30, 0, 2043, 2018, 255], [0, 80, 0, 5, 1968, 255]],
+        2: [4096, 4096, 1020] => &[[0, 0, 0, 4096, 4096, 1020]];
+    boxes 1: [10, 20, 255] in [1], 2: [5, 50, 255] in [1], 3: [30, 30, 255];
+    placed (3, 1, [0, 0, 0, 30, 30, 255]), (1, 1, [30, 0, 0, 10, 20, 255]),
+        (2, 1, [0, 30, 0, 5, 50, 255]));
 
 /// The first box fills the bin, the second is refused, and the first stays.
-pub const FULL_BIN: Case = Case {
-    bins: &[(0, [4, 4, 1], &[])],
-    boxes: &[(1, [4, 4, 1], &[]), (2, [2, 2, 1], &[])],
-    excluded: &[],
-    placements: None,
-};
+pub const FULL_BIN: Case = case!(bins 0: [4, 4, 1] => &[]; boxes 1: [4, 4, 1], 2: [2, 2, 1];
+    refused);
 
 /// Puts in a new bin of this size.
 pub fn add_bin<BinId: Ord + Drop, A: Allocator + Copy>(
@@ -168,14 +169,7 @@ fn is_placed<A: Allocator + Copy>(
 
 // Whether the placements are these, in order, and the box of each is found.
 fn has_placements<A: Allocator + Copy>(packed: &Packed<A>, wanted: &[Placed]) -> bool {
-    let mut found = packed.placements().iter();
-    for row in wanted {
-        match found.next() {
-            Some(placed) if is_placed(packed, placed, row) => {}
-            _ => return false,
-        }
-    }
-    found.next().is_none()
+    all_match!(packed.placements().iter(), wanted, placed, row => is_placed(packed, placed, row))
 }
 
 // Whether each box that is found is found at the last of these placements of it.

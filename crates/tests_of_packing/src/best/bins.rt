@@ -6,6 +6,7 @@ use crate::pack::{add_bin, are_new};
 use rectangle_pack::{Heuristic, Placement, RectanglePackError, RectanglePackOk, pack_rects_best};
 use std::alloc::AllocError;
 use std::process::Abort;
+use tests_support::all_match;
 use tests_support::boxes::{Bins, Rects, collect};
 use tests_support::each_request::End;
 use tests_support::refusing::Refusing;
@@ -22,14 +23,8 @@ fn add_bins(alloc: Refusing, bins: &mut Bins) -> Result<(), AllocError> {
 
 // Whether these are the placements, in order.
 fn are_placed(placements: &[Placement<u32, u32>], wanted: &[Placed]) -> bool {
-    let mut found = placements.iter();
-    for row in wanted {
-        match found.next() {
-            Some(placed) if is_placed(placed.id, placed.bin, &placed.location, row) => {}
-            _ => return false,
-        }
-    }
-    found.next().is_none()
+    all_match!(placements.iter(), wanted, placed, row =>
+        is_placed(placed.id, placed.bin, &placed.location, row))
 }
 
 // Whether this heuristic and these placements are the best of the case.

@@ -1,6 +1,8 @@
 //! Packings by the best of several heuristics as data. All are into two bins of 4x4x1, 0 and 1.
 
-use rectangle_pack::{Heuristic, PackedLocation};
+use rectangle_pack::Heuristic::{self, Height, Volume, Width};
+use rectangle_pack::PackedLocation;
+use tests_support::box_list;
 use tests_support::boxes::SizedBox;
 use tests_support::shapes::place;
 
@@ -18,169 +20,87 @@ pub struct Case {
     pub takes_memory: bool,
 }
 
+/// Boxes, heuristics, and which of these is the best with its placements, if one is not refused.
+macro_rules! case {
+    ($boxes:expr, $heuristics:expr => $best:expr) => {
+        Case {
+            boxes: $boxes,
+            heuristics: $heuristics,
+            best: $best,
+            takes_memory: true,
+        }
+    };
+    ($boxes:expr, $heuristics:expr => $best:expr, no memory) => {
+        Case {
+            takes_memory: false,
+            ..case!($boxes, $heuristics => $best)
+        }
+    };
+}
+
+// A heuristic, and its placements.
+macro_rules! by {
+    ($heuristic:ident: $($placed:expr),*) => {
+        ($heuristic, &[$($placed),*])
+    };
+}
+
 /// The size of each bin.
 pub const BIN: [u32; 3] = [4, 4, 1];
 
 // By height the upright box goes first, and 3x4 cells are left beside it for the two others, so all
 // are in one bin. By volume the box of 3x2 goes first. Then the cut with the smaller piece leaves
 // 4x2 cells above it and 1x2 beside it, and the upright box goes into the other bin.
-const ONE_UPRIGHT: &[SizedBox] = &[
-    (1, [1, 3, 1], &[]),
-    (2, [3, 2, 1], &[]),
-    (3, [3, 1, 1], &[]),
-];
+const ONE_UPRIGHT: &[SizedBox] = box_list!(1: [1, 3, 1], 2: [3, 2, 1], 3: [3, 1, 1]);
 
 // Both use two bins. By volume the first bin gets the box of 3x3, so that 12 cells are in the
 // second, and by height the second gets this one alone, so that 9 cells are there.
-const ONE_TALL: &[SizedBox] = &[
-    (1, [3, 3, 1], &[]),
-    (2, [2, 4, 1], &[]),
-    (3, [2, 2, 1], &[]),
-];
+const ONE_TALL: &[SizedBox] = box_list!(1: [3, 3, 1], 2: [2, 4, 1], 3: [2, 2, 1]);
 
 // By volume and by width the boxes of 4x3 and 3x2 go first, one into each bin, and leave no column
 // of four cells that the upright one would need; by height that one goes first.
-const ONE_COLUMN: &[SizedBox] = &[
-    (1, [3, 2, 1], &[]),
-    (2, [1, 4, 1], &[]),
-    (3, [4, 3, 1], &[]),
-];
+const ONE_COLUMN: &[SizedBox] = box_list!(1: [3, 2, 1], 2: [1, 4, 1], 3: [4, 3, 1]);
 
 // No two of them fit into one bin.
-const TOO_MANY: &[SizedBox] = &[
-    (1, [4, 3, 1], &[]),
-    (2, [3, 4, 1], &[]),
-    (3, [3, 3, 1], &[]),
-];
+const TOO_MANY: &[SizedBox] = box_list!(1: [4, 3, 1], 2: [3, 4, 1], 3: [3, 3, 1]);
 
-const UPRIGHT_BY_HEIGHT: (Heuristic, &[Placed]) = (
-    Heuristic::Height,
-    &[
-        (1, 0, [0, 0, 0, 1, 3, 1]),
-        (2, 0, [1, 0, 0, 3, 2, 1]),
-        (3, 0, [1, 2, 0, 3, 1, 1]),
-    ],
-);
+const UPRIGHT_BY_HEIGHT: (Heuristic, &[Placed]) =
+    by!(Height: (1, 0, [0, 0, 0, 1, 3, 1]), (2, 0, [1, 0, 0, 3, 2, 1]),
+        (3, 0, [1, 2, 0, 3, 1, 1]));
 
-const UPRIGHT_BY_VOLUME: (Heuristic, &[Placed]) = (
-    Heuristic::Volume,
-    &[
-        (2, 0, [0, 0, 0, 3, 2, 1]),
-        (1, 1, [0, 0, 0, 1, 3, 1]),
-        (3, 0, [0, 2, 0, 3, 1, 1]),
-    ],
-);
+const UPRIGHT_BY_VOLUME: (Heuristic, &[Placed]) =
+    by!(Volume: (2, 0, [0, 0, 0, 3, 2, 1]), (1, 1, [0, 0, 0, 1, 3, 1]),
+        (3, 0, [0, 2, 0, 3, 1, 1]));
 
-const CASES: &[Case] = &[
-    // The one that uses fewer bins is the best, wherever it stands in the list.
-    Case {
-        boxes: ONE_UPRIGHT,
-        heuristics: &[Heuristic::Volume, Heuristic::Height],
-        best: Some(UPRIGHT_BY_HEIGHT),
-        takes_memory: true,
-    },
-    Case {
-        boxes: ONE_UPRIGHT,
-        heuristics: &[Heuristic::Height, Heuristic::Volume],
-        best: Some(UPRIGHT_BY_HEIGHT),
-        takes_memory: true,
-    },
-    Case {
-        boxes: ONE_UPRIGHT,
-        heuristics: &Heuristic::ALL,
-        best: Some(UPRIGHT_BY_HEIGHT),
-        takes_memory: true,
-    },
-    // Of two that use as many bins, the one with fewer cells in the last.
-    Case {
-        boxes: ONE_TALL,
-        heuristics: &[Heuristic::Volume, Heuristic::Height],
-        best: Some((
-            Heuristic::Height,
-            &[
-                (2, 0, [0, 0, 0, 2, 4, 1]),
-                (1, 1, [0, 0, 0, 3, 3, 1]),
-                (3, 0, [2, 0, 0, 2, 2, 1]),
-            ],
-        )),
-        takes_memory: true,
-    },
-    // Of two that are as good, the first of the list.
-    Case {
-        boxes: ONE_UPRIGHT,
-        heuristics: &[Heuristic::Volume, Heuristic::Width],
-        best: Some(UPRIGHT_BY_VOLUME),
-        takes_memory: true,
-    },
-    Case {
-        boxes: ONE_UPRIGHT,
-        heuristics: &[Heuristic::Width, Heuristic::Volume],
-        best: Some((
-            Heuristic::Width,
-            &[
-                (2, 0, [0, 0, 0, 3, 2, 1]),
-                (3, 0, [0, 2, 0, 3, 1, 1]),
-                (1, 1, [0, 0, 0, 1, 3, 1]),
-            ],
-        )),
-        takes_memory: true,
-    },
-    // The others are refused.
-    Case {
-        boxes: ONE_COLUMN,
-        heuristics: &[Heuristic::Volume, Heuristic::Height, Heuristic::Width],
-        best: Some((
-            Heuristic::Height,
-            &[
-                (2, 0, [0, 0, 0, 1, 4, 1]),
-                (3, 1, [0, 0, 0, 4, 3, 1]),
-                (1, 0, [1, 0, 0, 3, 2, 1]),
-            ],
-        )),
-        takes_memory: true,
-    },
-    Case {
-        boxes: TOO_MANY,
-        heuristics: &Heuristic::ALL,
-        best: None,
-        takes_memory: true,
-    },
-    // One that is alone in the list. Where it is refused, two boxes find space before the third.
-    Case {
-        boxes: ONE_UPRIGHT,
-        heuristics: &[Heuristic::Volume],
-        best: Some(UPRIGHT_BY_VOLUME),
-        takes_memory: true,
-    },
-    Case {
-        boxes: ONE_COLUMN,
-        heuristics: &[Heuristic::Volume],
-        best: None,
-        takes_memory: true,
-    },
-    // Without heuristics, and without boxes. For one that is alone no memory is asked for then.
-    Case {
-        boxes: ONE_UPRIGHT,
-        heuristics: &[],
-        best: None,
-        takes_memory: false,
-    },
-    Case {
-        boxes: &[],
-        heuristics: &[Heuristic::Width, Heuristic::Volume],
-        best: Some((Heuristic::Width, &[])),
-        takes_memory: true,
-    },
-    Case {
-        boxes: &[],
-        heuristics: &[Heuristic::Width],
-        best: Some((Heuristic::Width, &[])),
-        takes_memory: false,
-    },
-];
-
-/// All cases. A table is dear to prove in a longer body, so it stands alone.
+/// All cases.
 pub fn cases() -> &'static [Case] {
+    const CASES: &[Case] = &[
+        // The one that uses fewer bins is the best, wherever it stands in the list.
+        case!(ONE_UPRIGHT, &[Volume, Height] => Some(UPRIGHT_BY_HEIGHT)),
+        case!(ONE_UPRIGHT, &[Height, Volume] => Some(UPRIGHT_BY_HEIGHT)),
+        case!(ONE_UPRIGHT, &Heuristic::ALL => Some(UPRIGHT_BY_HEIGHT)),
+        // Of two that use as many bins, the one with fewer cells in the last.
+        case!(ONE_TALL, &[Volume, Height] =>
+            Some(by!(Height: (2, 0, [0, 0, 0, 2, 4, 1]), (1, 1, [0, 0, 0, 3, 3, 1]),
+                (3, 0, [2, 0, 0, 2, 2, 1])))),
+        // Of two that are as good, the first of the list.
+        case!(ONE_UPRIGHT, &[Volume, Width] => Some(UPRIGHT_BY_VOLUME)),
+        case!(ONE_UPRIGHT, &[Width, Volume] =>
+            Some(by!(Width: (2, 0, [0, 0, 0, 3, 2, 1]), (3, 0, [0, 2, 0, 3, 1, 1]),
+                (1, 1, [0, 0, 0, 1, 3, 1])))),
+        // The others are refused.
+        case!(ONE_COLUMN, &[Volume, Height, Width] =>
+            Some(by!(Height: (2, 0, [0, 0, 0, 1, 4, 1]), (3, 1, [0, 0, 0, 4, 3, 1]),
+                (1, 0, [1, 0, 0, 3, 2, 1])))),
+        case!(TOO_MANY, &Heuristic::ALL => None),
+        // One that is alone in the list. Where it is refused, two boxes find space before the third.
+        case!(ONE_UPRIGHT, &[Volume] => Some(UPRIGHT_BY_VOLUME)),
+        case!(ONE_COLUMN, &[Volume] => None),
+        // Without heuristics, and without boxes. For one that is alone no memory is asked for then.
+        case!(ONE_UPRIGHT, &[] => None, no memory),
+        case!(&[], &[Width, Volume] => Some(by!(Width:))),
+        case!(&[], &[Width] => Some(by!(Width:)), no memory),
+    ];
     CASES
 }
 

@@ -12,19 +12,9 @@ use tests_support::each_request::End;
 use tests_support::refusing::Refusing;
 
 // Group 0 goes first, and its first box fits into neither bin.
-const TOO_LARGE: Case = Case {
-    bins: &[
-        (0, [4, 4, 1], &[[0, 0, 0, 4, 4, 1]]),
-        (1, [4, 4, 1], &[[0, 0, 0, 4, 4, 1]]),
-    ],
-    boxes: &[
-        (0, [5, 4, 1], &[0]),
-        (1, [1, 1, 1], &[0]),
-        (2, [1, 1, 1], &[]),
-    ],
-    excluded: &[],
-    placements: None,
-};
+const TOO_LARGE: Case = case!(bins 0: [4, 4, 1] => &[[0, 0, 0, 4, 4, 1]],
+        1: [4, 4, 1] => &[[0, 0, 0, 4, 4, 1]];
+    boxes 0: [5, 4, 1] in [0], 1: [1, 1, 1] in [0], 2: [1, 1, 1]; refused);
 
 // One rate for each entry of a group and for each bin, and then, for each box that is placed, one
 // for each of the three pieces that are left, and five comparisons of two of its six cuts.

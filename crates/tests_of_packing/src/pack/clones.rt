@@ -4,6 +4,7 @@ use super::{Placed, TWO_IN_A_GROUP, add_bin, are_new, pack, plenty};
 use rectangle_pack::{Placement, RectanglePackError, RectanglePackOk};
 use std::alloc::{AllocError, Global};
 use std::process::Abort;
+use tests_support::all_match;
 use tests_support::names::{Bins, Clones, Name, Rects, have_lists, push_all};
 use tests_support::refusing::Refusing;
 use tests_support::shapes::place;
@@ -28,14 +29,7 @@ fn is_placed(placement: &Placement<Name, Name>, wanted: &Placed) -> bool {
 
 // Whether these are the placements.
 fn are_placed(placements: &[Placement<Name, Name>], all: &[Placed]) -> bool {
-    let mut found = placements.iter();
-    for wanted in all {
-        match found.next() {
-            Some(placement) if is_placed(placement, wanted) => {}
-            _ => return false,
-        }
-    }
-    found.next().is_none()
+    all_match!(placements.iter(), all, placement, wanted => is_placed(placement, wanted))
 }
 
 // Whether the case came out.

@@ -13,62 +13,30 @@ use tests_support::each_request::End;
 use tests_support::refusing::Refusing;
 
 // By the longest side the long box goes first; by volume the square would.
-const LONG_BEFORE_SQUARE: Case = Case {
-    bins: &[(0, [10, 10, 1], &[[4, 1, 0, 6, 9, 1], [0, 5, 0, 4, 5, 1]])],
-    boxes: &[(1, [4, 4, 1], &[]), (2, [10, 1, 1], &[])],
-    excluded: &[],
-    placements: Some(&[(2, 0, [0, 0, 0, 10, 1, 1]), (1, 0, [0, 1, 0, 4, 4, 1])]),
-};
+const LONG_BEFORE_SQUARE: Case = case!(bins 0: [10, 10, 1] => &[[4, 1, 0, 6, 9, 1],
+        [0, 5, 0, 4, 5, 1]];
+    boxes 1: [4, 4, 1], 2: [10, 1, 1];
+    placed (2, 0, [0, 0, 0, 10, 1, 1]), (1, 0, [0, 1, 0, 4, 4, 1]));
 
 // By volumes up to 20 the boxes are worth the same and go by id; by volume 2 would go first.
-const EQUAL_ABOVE_20: Case = Case {
-    bins: &[(0, [12, 6, 1], &[[0, 5, 0, 5, 1, 1], [11, 0, 0, 1, 6, 1]])],
-    boxes: &[(2, [6, 6, 1], &[]), (1, [5, 5, 1], &[])],
-    excluded: &[],
-    placements: Some(&[(1, 0, [0, 0, 0, 5, 5, 1]), (2, 0, [5, 0, 0, 6, 6, 1])]),
-};
+const EQUAL_ABOVE_20: Case = case!(bins 0: [12, 6, 1] => &[[0, 5, 0, 5, 1, 1], [11, 0, 0, 1, 6, 1]];
+    boxes 2: [6, 6, 1], 1: [5, 5, 1];
+    placed (1, 0, [0, 0, 0, 5, 5, 1]), (2, 0, [5, 0, 0, 6, 6, 1]));
 
 /// Where every key is the greatest number, the group's sum stays there, and boxes alone go first.
-pub const EQUAL_KEYS: Case = Case {
-    bins: &[(0, [8, 8, 1], &[[2, 0, 0, 6, 2, 1], [0, 6, 0, 8, 2, 1]])],
-    boxes: &[
-        (3, [2, 2, 1], &[]),
-        (1, [4, 4, 1], &[0]),
-        (2, [4, 4, 1], &[0]),
-    ],
-    excluded: &[],
-    placements: Some(&[
-        (3, 0, [0, 0, 0, 2, 2, 1]),
-        (1, 0, [0, 2, 0, 4, 4, 1]),
-        (2, 0, [4, 2, 0, 4, 4, 1]),
-    ]),
-};
+pub const EQUAL_KEYS: Case = case!(bins 0: [8, 8, 1] => &[[2, 0, 0, 6, 2, 1], [0, 6, 0, 8, 2, 1]];
+    boxes 3: [2, 2, 1], 1: [4, 4, 1] in [0], 2: [4, 4, 1] in [0];
+    placed (3, 0, [0, 0, 0, 2, 2, 1]), (1, 0, [0, 2, 0, 4, 4, 1]), (2, 0, [4, 2, 0, 4, 4, 1]));
 
 // All cuts are equal, so the last is taken, and its pieces stay in their order.
-const RATED_AS_NOTHING: Case = Case {
-    bins: &[(0, [8, 8, 1], &[[4, 0, 0, 4, 4, 1], [0, 4, 0, 8, 4, 1]])],
-    boxes: &[(1, [4, 4, 1], &[])],
-    excluded: &[],
-    placements: Some(&[(1, 0, [0, 0, 0, 4, 4, 1])]),
-};
+const RATED_AS_NOTHING: Case = case!(bins 0: [8, 8, 1] => &[[4, 0, 0, 4, 4, 1], [0, 4, 0, 8, 4, 1]];
+    boxes 1: [4, 4, 1]; placed (1, 0, [0, 0, 0, 4, 4, 1]));
 
 /// Where the first cut is always better, it is the one that is taken.
-pub const FIRST_CUTS: Case = Case {
-    bins: &[(
-        0,
-        [4, 4, 4],
-        &[
-            [2, 0, 0, 2, 4, 4],
-            [0, 2, 0, 2, 2, 4],
-            [1, 0, 2, 1, 2, 2],
-            [0, 1, 2, 1, 1, 2],
-            [0, 0, 3, 1, 1, 1],
-        ],
-    )],
-    boxes: &[(1, [2, 2, 2], &[]), (2, [1, 1, 1], &[])],
-    excluded: &[],
-    placements: Some(&[(1, 0, [0, 0, 0, 2, 2, 2]), (2, 0, [0, 0, 2, 1, 1, 1])]),
-};
+pub const FIRST_CUTS: Case = case!(bins 0: [4, 4, 4] => &[[2, 0, 0, 2, 4, 4], [0, 2, 0, 2, 2, 4],
+        [1, 0, 2, 1, 2, 2], [0, 1, 2, 1, 1, 2], [0, 0, 3, 1, 1, 1]];
+    boxes 1: [2, 2, 2], 2: [1, 1, 1];
+    placed (1, 0, [0, 0, 0, 2, 2, 2]), (2, 0, [0, 0, 2, 1, 1, 1]));
 
 /// Packs the case where a size is rated at its volume, but at least and at most so much.
 pub fn packs_between(
@@ -82,16 +50,19 @@ pub fn packs_between(
     packs(rt, alloc, case, &heuristic, &contains_smallest_box)
 }
 
-const BETWEEN: &[(u128, u128, Case)] = &[
-    (0, 20, EQUAL_ABOVE_20),
-    (u128::MAX, u128::MAX, EQUAL_KEYS),
-    (0, 0, RATED_AS_NOTHING),
-];
+fn between() -> &'static [(u128, u128, Case)] {
+    const BETWEEN: &[(u128, u128, Case)] = &[
+        (0, 20, EQUAL_ABOVE_20),
+        (u128::MAX, u128::MAX, EQUAL_KEYS),
+        (0, 0, RATED_AS_NOTHING),
+    ];
+    BETWEEN
+}
 
 #[test]
 fn heuristic_that_captures(rt: HostRuntime) {
     let refusing = plenty(&rt, rt.alloc());
-    for (least, most, case) in BETWEEN {
+    for (least, most, case) in between() {
         let end = packs_between(&rt, refusing, case, *least, *most);
         assert!(rt; end == End::Done);
     }

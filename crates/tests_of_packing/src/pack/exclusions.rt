@@ -32,81 +32,47 @@ const C: GroupName = Group::Grouped(3);
 const ALONE: GroupName = Group::Ungrouped(1);
 
 /// Two groups of one box each, and two bins; the groups are excluded.
-pub const TWO_BINS: Case = Case {
-    bins: &[(1, BIN, AFTER_ONE), (2, BIN, AFTER_ONE)],
-    boxes: &[(1, BOX, &[1]), (2, BOX, &[2])],
-    excluded: &[(A, B)],
-    placements: Some(&[(1, 1, FIRST), (2, 2, FIRST)]),
-};
+pub const TWO_BINS: Case = case!(bins 1: BIN => AFTER_ONE, 2: BIN => AFTER_ONE;
+    boxes 1: BOX in [1], 2: BOX in [2]; apart (A, B); placed (1, 1, FIRST), (2, 2, FIRST));
 
 /// The same groups and one bin.
-pub const ONE_BIN: Case = Case {
-    bins: &[(1, BIN, AFTER_ONE)],
-    boxes: &[(1, BOX, &[1]), (2, BOX, &[2])],
-    excluded: &[(A, B)],
-    placements: None,
-};
+pub const ONE_BIN: Case = case!(bins 1: BIN => AFTER_ONE; boxes 1: BOX in [1], 2: BOX in [2];
+    apart (A, B); refused);
 
 // Without the pair both groups go into one bin.
-const NOT_EXCLUDED: &[Case] = &[Case {
-    bins: &[(1, BIN, AFTER_TWO), (2, BIN, WHOLE)],
-    boxes: &[(1, BOX, &[1]), (2, BOX, &[2])],
-    excluded: &[],
-    placements: Some(&[(1, 1, FIRST), (2, 1, SECOND)]),
-}];
+const NOT_EXCLUDED: &[Case] = &[case!(bins 1: BIN => AFTER_TWO, 2: BIN => WHOLE;
+    boxes 1: BOX in [1], 2: BOX in [2]; placed (1, 1, FIRST), (2, 1, SECOND))];
 
-const NOTHING: Case = Case {
-    bins: &[(1, BIN, WHOLE)],
-    boxes: &[],
-    excluded: &[(A, B)],
-    placements: Some(&[]),
-};
+const NOTHING: Case = case!(bins 1: BIN => WHOLE; boxes; apart (A, B); placed);
 
 // The third group goes where the first did, with which it is not excluded.
-const CHAIN: Case = Case {
-    bins: &[(1, BIN, AFTER_TWO), (2, BIN, AFTER_ONE)],
-    boxes: &[(1, BOX, &[1]), (2, BOX, &[2]), (3, BOX, &[3])],
-    excluded: &[(A, B), (B, C)],
-    placements: Some(&[(1, 1, FIRST), (2, 2, FIRST), (3, 1, SECOND)]),
-};
+const CHAIN: Case = case!(bins 1: BIN => AFTER_TWO, 2: BIN => AFTER_ONE;
+    boxes 1: BOX in [1], 2: BOX in [2], 3: BOX in [3]; apart (A, B), (B, C);
+    placed (1, 1, FIRST), (2, 2, FIRST), (3, 1, SECOND));
 
-const IN_BOTH: Case = Case {
-    bins: &[(1, BIN, AFTER_ONE), (2, BIN, AFTER_ONE)],
-    boxes: &[(1, BOX, &[1, 2])],
-    excluded: &[(A, B)],
-    placements: Some(&[(1, 1, FIRST), (1, 2, FIRST)]),
-};
+const IN_BOTH: Case = case!(bins 1: BIN => AFTER_ONE, 2: BIN => AFTER_ONE; boxes 1: BOX in [1, 2];
+    apart (A, B); placed (1, 1, FIRST), (1, 2, FIRST));
 
-const ALONE_AND_GROUP: Case = Case {
-    bins: &[(1, BIN, AFTER_ONE)],
-    boxes: &[(1, BOX, &[]), (2, BOX, &[1])],
-    excluded: &[(ALONE, A)],
-    placements: None,
-};
+const ALONE_AND_GROUP: Case = case!(bins 1: BIN => AFTER_ONE; boxes 1: BOX, 2: BOX in [1];
+    apart (ALONE, A); refused);
 
 // No box is in the group 9.
-const ONE_GROUP: Case = Case {
-    bins: &[(1, BIN, AFTER_ONE)],
-    boxes: &[(1, BOX, &[1])],
-    excluded: &[(A, Group::Grouped(9))],
-    placements: Some(&[(1, 1, FIRST)]),
-};
+const ONE_GROUP: Case = case!(bins 1: BIN => AFTER_ONE; boxes 1: BOX in [1];
+    apart (A, Group::Grouped(9)); placed (1, 1, FIRST));
 
 // The count after each packing, from none before the first.
-const COUNTED: &[(Case, u128)] = &[
-    (THREE_BOXES, 4),
-    (FULL_AND_EMPTY, 4 + 2),
-    (TWO_BINS, 6 + 2),
-    (ONE_BIN, 8 + 1),
-    (NOTHING, 9),
-    (CHAIN, 9 + 3),
-    (IN_BOTH, 12 + 2),
-    (ALONE_AND_GROUP, 14 + 1),
-    (ONE_GROUP, 15 + 1),
-];
-
-// A table is dear to prove in a longer body, so this one stands alone.
 fn counted() -> &'static [(Case, u128)] {
+    const COUNTED: &[(Case, u128)] = &[
+        (THREE_BOXES, 4),
+        (FULL_AND_EMPTY, 4 + 2),
+        (TWO_BINS, 6 + 2),
+        (ONE_BIN, 8 + 1),
+        (NOTHING, 9),
+        (CHAIN, 9 + 3),
+        (IN_BOTH, 12 + 2),
+        (ALONE_AND_GROUP, 14 + 1),
+        (ONE_GROUP, 15 + 1),
+    ];
     COUNTED
 }
 

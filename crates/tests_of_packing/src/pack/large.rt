@@ -3,6 +3,7 @@
 use super::{Answer, Bins, Rects, add_bin, pack_numbered, plenty};
 use rectangle_pack::{Group, Placement, RectToInsert, RectanglePackError};
 use std::alloc::{AllocError, Allocator, Global};
+use tests_support::all_match;
 use tests_support::boxes::push_units;
 use tests_support::refusing::Refusing;
 use tests_support::shapes::named;
@@ -19,14 +20,8 @@ fn add_cells(alloc: Global, bins: &mut Bins<Global>) -> Result<(), AllocError> {
 // Whether so many boxes are placed in the order of their numbers, each in the bin of its number,
 // but those of greater numbers in the last bin.
 fn are_in_turn(placements: &[Placement<u32, u32>], count: u32, last: u32) -> bool {
-    let mut found = placements.iter();
-    for number in 0..count {
-        match found.next() {
-            Some(placed) if placed.id == number && placed.bin == number.min(last) => {}
-            _ => return false,
-        }
-    }
-    found.next().is_none()
+    all_match!(placements.iter(), 0..count, placed, number =>
+        placed.id == number && placed.bin == number.min(last))
 }
 
 // Packs so many boxes of one cell.

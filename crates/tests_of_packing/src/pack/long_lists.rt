@@ -4,6 +4,7 @@ use super::{Answer, Bins, Rects, pack_counted};
 use rectangle_pack::{FitTests, Placement, RectToInsert, RectanglePackError};
 use std::alloc::{AllocError, Allocator};
 use std::process::Abort;
+use tests_support::all_match;
 use tests_support::combs::{BOXES, TESTS, WIDE_BOXES, box_of, comb, free_at, has_left, index_of};
 use tests_support::each_request::End;
 use tests_support::refusing::Refusing;
@@ -41,14 +42,7 @@ fn is_in_place(placed: &Placement<u32, u32>, number: u32) -> bool {
 
 // Whether each box stands at the section that it went into.
 fn are_in_place(placements: &[Placement<u32, u32>]) -> bool {
-    let mut found = placements.iter();
-    for number in 0..BOXES {
-        match found.next() {
-            Some(placed) if is_in_place(placed, number) => {}
-            _ => return false,
-        }
-    }
-    found.next().is_none()
+    all_match!(placements.iter(), 0..BOXES, placed, number => is_in_place(placed, number))
 }
 
 // Whether the bin has the sections that so many boxes left.

@@ -4,6 +4,7 @@ use super::{Answer, Bins, Rects, add_bin, are_new, pack_counted, plenty};
 use rectangle_pack::{FitTests, Placement, RectToInsert, RectanglePackError};
 use std::alloc::{AllocError, Allocator};
 use std::process::Abort;
+use tests_support::all_match;
 use tests_support::each_request::End;
 use tests_support::refusing::Refusing;
 
@@ -60,14 +61,8 @@ fn is_in_its_bin(placed: &Placement<u32, u32>, count: u32, number: u32) -> bool 
 
 // Whether each box is in its bin.
 fn are_in_their_bins(placements: &[Placement<u32, u32>], count: u32) -> bool {
-    let mut found = placements.iter();
-    for number in 0..boxes(count) {
-        match found.next() {
-            Some(placed) if is_in_its_bin(placed, count, number) => {}
-            _ => return false,
-        }
-    }
-    found.next().is_none()
+    all_match!(placements.iter(), 0..boxes(count), placed, number =>
+        is_in_its_bin(placed, count, number))
 }
 
 // Where a request was refused, the bins are as they were new.

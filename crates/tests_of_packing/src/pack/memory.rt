@@ -73,19 +73,17 @@ pub fn takes_memory(rt: &impl Abort, alloc: Global, run: Run) -> bool {
     refused
 }
 
-const RUNS: &[Run] = &[
-    Run::Between(&TWO_IN_A_GROUP, 0, u128::MAX),
-    Run::Between(&EQUAL_KEYS, u128::MAX, u128::MAX),
-    Run::Between(&FULL_BIN, 0, u128::MAX),
-    Run::Counted(&TWO_BINS, 2, 8),
-    Run::Counted(&ONE_BIN, 1, 4),
-    Run::SixteenBins,
-    Run::LongList(false),
-    Run::LongList(true),
-];
-
-// A table is dear to prove in a longer body, so this one stands alone.
 fn runs() -> &'static [Run] {
+    const RUNS: &[Run] = &[
+        Run::Between(&TWO_IN_A_GROUP, 0, u128::MAX),
+        Run::Between(&EQUAL_KEYS, u128::MAX, u128::MAX),
+        Run::Between(&FULL_BIN, 0, u128::MAX),
+        Run::Counted(&TWO_BINS, 2, 8),
+        Run::Counted(&ONE_BIN, 1, 4),
+        Run::SixteenBins,
+        Run::LongList(false),
+        Run::LongList(true),
+    ];
     RUNS
 }
 

@@ -9,6 +9,7 @@ use std::alloc::{AllocError, Global};
 use std::collections::BTreeMap;
 use std::process::Abort;
 use tests_support::shapes::place;
+use tests_support::{all_match, box_list};
 
 type TextRects = GroupedRectsToPlace<String, String>;
 
@@ -35,11 +36,8 @@ const TEXT_CASES: &[TextCase] = &[
             ("DestinationBinOne", [2048, 2048, 255]),
             ("DestinationBinTwo", [4096, 4096, 1020]),
         ],
-        boxes: &[
-            ("RectOne", [10, 20, 255], &["GroupIdOne"]),
-            ("RectTwo", [5, 50, 255], &["GroupIdOne"]),
-            ("RectThree", [30, 30, 255], &[]),
-        ],
+        boxes: box_list!("RectOne": [10, 20, 255] in ["GroupIdOne"],
+            "RectTwo": [5, 50, 255] in ["GroupIdOne"], "RectThree": [30, 30, 255]),
         placements: &[
             ("RectThree", "DestinationBinOne", [0, 0, 0, 30, 30, 255]),
             ("RectOne", "DestinationBinOne", [30, 0, 0, 10, 20, 255]),
@@ -49,7 +47,7 @@ const TEXT_CASES: &[TextCase] = &[
     // The box is placed once for each of its groups.
     TextCase {
         bins: &[("bin", [8, 8, 1])],
-        boxes: &[("One", [4, 4, 1], &["0", "1"])],
+        boxes: box_list!("One": [4, 4, 1] in ["0", "1"]),
         placements: &[
             ("One", "bin", [0, 0, 0, 4, 4, 1]),
             ("One", "bin", [4, 0, 0, 4, 4, 1]),
@@ -144,14 +142,7 @@ fn is_bin_alike(one: (&String, &TargetBin), other: (&String, &TargetBin)) -> boo
 
 // Whether equal strings stand in the same places of both maps, and the bins have the same lists.
 fn are_bins_alike(bins: &TextBins, others: &TextBins) -> bool {
-    let mut found = others.iter();
-    for one in bins {
-        match found.next() {
-            Some(other) if is_bin_alike(one, other) => {}
-            _ => return false,
-        }
-    }
-    found.next().is_none()
+    all_match!(others.iter(), bins, other, one => is_bin_alike(one, other))
 }
 
 // Whether the placement is this one.
@@ -163,14 +154,7 @@ fn is_shown(placed: &Placement<String, String>, wanted: &TextPlaced) -> bool {
 // Whether the placements are those of the case, in order.
 fn shows_text(packed: &TextPacked, case: &TextCase) -> bool {
     let wanted = case.placements;
-    let mut found = packed.placements().iter();
-    for row in wanted {
-        match found.next() {
-            Some(placed) if is_shown(placed, row) => {}
-            _ => return false,
-        }
-    }
-    found.next().is_none()
+    all_match!(packed.placements().iter(), wanted, placed, row => is_shown(placed, row))
 }
 
 // Whether the two are equal as a whole, and in both parts.
