@@ -18,27 +18,25 @@ fn volumes(rt: HostRuntime) {
 
 // Each heuristic by its text, and its rate of a box 3 wide, 7 high and 5 deep. Where three numbers
 // count in turn, these are 7 * 2^64 + 3 * 2^32 + 5 and the like.
-const NAMES: &[(Heuristic, &str, u128)] = &[
-    (Heuristic::Volume, "volume", 105),
-    (Heuristic::Height, "height", 129127208528851763205),
-    (Heuristic::Width, "width", 55340232251193425925),
-    (Heuristic::Depth, "depth", 92233720381432659975),
-    (Heuristic::SideSum, "side-sum", 15),
-    (
-        Heuristic::LongestSide,
-        "longest-side",
-        129127208537441697795,
-    ),
-    (
-        Heuristic::ShortestSide,
-        "shortest-side",
-        55340232242603491335,
-    ),
-    (Heuristic::SideArea, "side-area", 35),
-];
-
-// A table is dear to prove in a longer body, so this one stands alone.
 fn names() -> &'static [(Heuristic, &'static str, u128)] {
+    const NAMES: &[(Heuristic, &str, u128)] = &[
+        (Heuristic::Volume, "volume", 105),
+        (Heuristic::Height, "height", 129127208528851763205),
+        (Heuristic::Width, "width", 55340232251193425925),
+        (Heuristic::Depth, "depth", 92233720381432659975),
+        (Heuristic::SideSum, "side-sum", 15),
+        (
+            Heuristic::LongestSide,
+            "longest-side",
+            129127208537441697795,
+        ),
+        (
+            Heuristic::ShortestSide,
+            "shortest-side",
+            55340232242603491335,
+        ),
+        (Heuristic::SideArea, "side-area", 35),
+    ];
     NAMES
 }
 

@@ -7,6 +7,7 @@ mod owned_ids;
 use rectangle_pack::{Group, GroupedRectsToPlace, RectToInsert};
 use std::alloc::{AllocError, Global};
 use std::collections::BTreeMap;
+use tests_support::all_match;
 use tests_support::boxes::{GroupName, Rects, SizedBox, exclude_all, push_boxes};
 use tests_support::refusing::Refusing;
 use tests_support::shapes::named;
@@ -25,45 +26,35 @@ struct Pushes {
     boxes: &'static [Sized],
 }
 
-const PUSHES: &[Pushes] = &[
-    Pushes {
-        pushes: &[(1, SIZE, &[])],
-        groups: &[(Group::Ungrouped(1), &[1])],
-        boxes: &[(1, SIZE)],
-    },
-    Pushes {
-        pushes: &[(1, SIZE, &[0]), (2, SIZE, &[0])],
-        groups: &[(Group::Grouped(0), &[1, 2])],
-        boxes: &[(1, SIZE), (2, SIZE)],
-    },
-    Pushes {
-        pushes: &[(7, SIZE, &[0, 1])],
-        groups: &[(Group::Grouped(0), &[7]), (Group::Grouped(1), &[7])],
-        boxes: &[(7, SIZE)],
-    },
-    Pushes {
-        pushes: &[(1, SIZE, &[0, 0])],
-        groups: &[(Group::Grouped(0), &[1, 1])],
-        boxes: &[(1, SIZE)],
-    },
-    // At a second push the size is the last one, and the box stays where it was before.
-    Pushes {
-        pushes: &[(1, SIZE, &[]), (1, [3, 4, 5], &[0])],
-        groups: &[(Group::Ungrouped(1), &[1]), (Group::Grouped(0), &[1])],
-        boxes: &[(1, [3, 4, 5])],
-    },
-];
+// Boxes that are pushed; the groups with their ids, and the boxes.
+macro_rules! pushes {
+    ($($id:tt: $size:tt $(in $groups:tt)?),* => $($group:ident($name:literal) has $ids:tt),*;
+        $($of:literal: $last:tt),*) => {
+        Pushes {
+            pushes: tests_support::box_list!($($id: $size $(in $groups)?),*),
+            groups: &[$((Group::$group($name), &$ids)),*],
+            boxes: &[$(($of, $last)),*],
+        }
+    };
+}
+
+fn all_pushes() -> &'static [Pushes] {
+    const PUSHES: &[Pushes] = &[
+        pushes!(1: SIZE => Ungrouped(1) has [1]; 1: SIZE),
+        pushes!(1: SIZE in [0], 2: SIZE in [0] => Grouped(0) has [1, 2]; 1: SIZE, 2: SIZE),
+        pushes!(7: SIZE in [0, 1] => Grouped(0) has [7], Grouped(1) has [7]; 7: SIZE),
+        pushes!(1: SIZE in [0, 0] => Grouped(0) has [1, 1]; 1: SIZE),
+        // At a second push the size is the last one, and the box stays where it was before.
+        pushes!(1: SIZE, 1: [3, 4, 5] in [0] => Ungrouped(1) has [1], Grouped(0) has [1];
+            1: [3, 4, 5]),
+    ];
+    PUSHES
+}
 
 // Whether the groups are these, in order, with these ids.
 fn has_groups(all: &GroupedRectsToPlace<u32, u32>, wanted: &[(GroupName, &[u32])]) -> bool {
-    let mut found = all.groups().iter();
-    for (name, members) in wanted {
-        match found.next() {
-            Some((group, ids)) if group == name && ids.as_slice() == *members => {}
-            _ => return false,
-        }
-    }
-    found.next().is_none()
+    all_match!(all.groups().iter(), wanted, (group, ids), (name, members) =>
+        group == name && ids.as_slice() == *members)
 }
 
 fn size_of(rect: &RectToInsert) -> [u32; 3] {
@@ -72,14 +63,8 @@ fn size_of(rect: &RectToInsert) -> [u32; 3] {
 
 // Whether the boxes are these, in order, with these sizes.
 fn has_boxes(all: &GroupedRectsToPlace<u32, u32>, wanted: &[Sized]) -> bool {
-    let mut found = all.rects().iter();
-    for (name, size) in wanted {
-        match found.next() {
-            Some((id, rect)) if id == name && size_of(rect) == *size => {}
-            _ => return false,
-        }
-    }
-    found.next().is_none()
+    all_match!(all.rects().iter(), wanted, (id, rect), (name, size) =>
+        id == name && size_of(rect) == *size)
 }
 
 // Whether the pushes give these groups and boxes.
@@ -88,11 +73,6 @@ fn gives(alloc: Global, row: &Pushes) -> bool {
     push_boxes(alloc, &mut all, row.pushes).is_ok()
         && has_groups(&all, row.groups)
         && has_boxes(&all, row.boxes)
-}
-
-// A table is dear to prove in a longer body, so this one stands alone.
-fn all_pushes() -> &'static [Pushes] {
-    PUSHES
 }
 
 #[test]
@@ -104,14 +84,7 @@ fn pushes_into_groups(rt: HostRuntime) {
 
 // Whether these are the boxes, in order and each of the size of the pushes.
 fn have_size<T: Ord>(rects: &BTreeMap<T, RectToInsert>, ids: &[T]) -> bool {
-    let mut found = rects.iter();
-    for wanted in ids {
-        match found.next() {
-            Some((id, rect)) if id == wanted && size_of(rect) == SIZE => {}
-            _ => return false,
-        }
-    }
-    found.next().is_none()
+    all_match!(rects.iter(), ids, (id, rect), wanted => id == wanted && size_of(rect) == SIZE)
 }
 
 // Whether these are all boxes, in this one group, in order and each of the size of the pushes.

@@ -1,5 +1,31 @@
 //! Bins: their calls as data, made with each request for memory refused in turn.
 
+/// What calls of a bin show; how the bin of this size gets which list; the calls, each with the list
+/// afterwards.
+macro_rules! script {
+    ($subject:literal; $start:ident $size:tt => $list:expr
+        $(; $($call:expr => $after:expr),*)?) => {
+        $crate::target_bin::Script {
+            subject: $subject,
+            size: $size,
+            start: $crate::target_bin::Start::$start,
+            list: $list,
+            steps: &[$($($crate::target_bin::Step { call: $call, list: $after }),*)?],
+        }
+    };
+}
+
+/// What a trial answers: the places, or `None`, with how many of at most how many fit tests.
+macro_rules! tried {
+    ($places:expr, $count:literal of $most:literal) => {
+        $crate::target_bin::Tried {
+            places: $places,
+            count: $count,
+            most: $most,
+        }
+    };
+}
+
 mod joining;
 mod large;
 mod long_lists;
@@ -13,6 +39,7 @@ use rectangle_pack::{
 };
 use std::alloc::{AllocError, Global};
 use std::process::Abort;
+use tests_support::all_match;
 use tests_support::refusing::Refusing;
 use tests_support::shapes::{has_list, numbers, place, section_of};
 
@@ -35,6 +62,8 @@ pub enum Call {
     CoalesceAll,
     /// A trial of at most three boxes.
     Place(&'static [[u32; 3]], Tried),
+    /// A clone, which has the same list and size.
+    Clone,
 }
 
 /// What a checked push answers. A refusal names the pushed section.
@@ -72,8 +101,6 @@ pub struct Script {
     /// The list before the first step.
     pub list: &'static [[u32; 6]],
     pub steps: &'static [Step],
-    /// The steps of a clone that is made at last, if one is. The bin keeps its list meanwhile.
-    pub on_clone: Option<&'static [Step]>,
 }
 
 /// How a bin gets its list.
@@ -168,14 +195,7 @@ fn boxes(sizes: &[[u32; 3]]) -> [RectToInsert; 3] {
 
 // Whether these are the places, in order.
 fn are_at(locations: &[PackedLocation], places: &[[u32; 6]]) -> bool {
-    let mut found = locations.iter();
-    for wanted in places {
-        match found.next() {
-            Some(location) if place(location) == *wanted => {}
-            _ => return false,
-        }
-    }
-    found.next().is_none()
+    all_match!(locations.iter(), places, location, wanted => place(location) == *wanted)
 }
 
 // Whether a trial answers this. Refused, it counts no more than the bound.
@@ -196,6 +216,14 @@ fn trial(bin: &mut Bin, members: &[RectToInsert], wanted: Tried) -> Answers {
         }
         _ => Ok(false),
     }
+}
+
+fn clone_is_alike(bin: &Bin) -> Answers {
+    let other = bin.clone()?;
+    Ok(
+        other.max_size() == bin.max_size()
+            && other.available_bin_sections() == bin.available_bin_sections(),
+    )
 }
 
 // Whether the call answers as is wanted. An error where it is refused memory.
@@ -219,6 +247,7 @@ fn obey(bin: &mut Bin, call: Call) -> Answers {
                 None => Ok(false),
             }
         }
+        Call::Clone => clone_is_alike(bin),
     }
 }
 
@@ -260,40 +289,13 @@ fn follow(bin: &mut Bin, list: &[[u32; 6]], steps: &[Step]) -> Came {
     Came::Out
 }
 
-// Makes these calls on a clone of the bin, which keeps its list.
-fn follow_on_clone(bin: &Bin, list: &[[u32; 6]], steps: &[Step]) -> Came {
-    let came = match bin.clone() {
-        Err(_) => Came::Refused,
-        Ok(mut other) => {
-            if other.max_size() == bin.max_size() && has_list(&other, list) {
-                follow(&mut other, list, steps)
-            } else {
-                Came::Wrong(0)
-            }
-        }
-    };
-    if has_list(bin, list) {
-        came
-    } else {
-        Came::Wrong(0)
-    }
-}
-
 fn follow_all(bin: &mut Bin, script: &Script) -> Came {
     match begin(bin, script) {
         Ok(true) => {}
         Ok(false) => return Came::Wrong(0),
         Err(_) => return Came::Refused,
     }
-    let came = follow(bin, script.list, script.steps);
-    let list = match script.steps.last() {
-        Some(step) => step.list,
-        None => script.list,
-    };
-    match (came, script.on_clone) {
-        (Came::Out, Some(steps)) => follow_on_clone(bin, list, steps),
-        (came, _) => came,
-    }
+    follow(bin, script.list, script.steps)
 }
 
 fn run(refusing: Refusing, script: &Script) -> Came {

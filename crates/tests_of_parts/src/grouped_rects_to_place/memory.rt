@@ -5,6 +5,7 @@ ghost use Rattle.std.specs.Option.{ForSome};
 use rectangle_pack::{Group, RectToInsert};
 use std::alloc::{AllocError, Global};
 use std::process::Abort;
+use tests_support::all_match;
 use tests_support::each_request::End;
 use tests_support::names::{Clones, Name, Rects};
 use tests_support::refusing::Refusing;
@@ -41,80 +42,44 @@ struct Push {
     after: &'static Boxes,
 }
 
-const PUSHES: &[Push] = &[
-    Push {
-        before: NONE,
-        id: NEW,
-        named: &[],
-        after: &Boxes {
-            groups: &[(None, &[NEW])],
-            sizes: &[(NEW, [2, 3, 1])],
-        },
-    },
-    Push {
-        before: NONE,
-        id: NEW,
-        named: &[0, 1, 0],
-        after: &Boxes {
-            groups: &[(Some(0), &[NEW, NEW]), (Some(1), &[NEW])],
-            sizes: &[(NEW, [2, 3, 1])],
-        },
-    },
-    Push {
-        before: ONE,
-        id: NEW,
-        named: &[],
-        after: &Boxes {
-            groups: &[(None, &[NEW]), (None, &[OLD]), (Some(0), &[OLD])],
-            sizes: &[(NEW, [2, 3, 1]), (OLD, [1, 1, 1])],
-        },
-    },
-    Push {
-        before: ONE,
-        id: NEW,
-        named: &[0, 1, 0],
-        after: &Boxes {
-            groups: &[
-                (None, &[OLD]),
-                (Some(0), &[OLD, NEW, NEW]),
-                (Some(1), &[NEW]),
-            ],
-            sizes: &[(NEW, [2, 3, 1]), (OLD, [1, 1, 1])],
-        },
-    },
-    Push {
-        before: ONE,
-        id: OLD,
-        named: &[],
-        after: &Boxes {
-            groups: &[(None, &[OLD]), (Some(0), &[OLD])],
-            sizes: &[(OLD, [2, 3, 1])],
-        },
-    },
-    Push {
-        before: ONE,
-        id: OLD,
-        named: &[1, 0],
-        after: &Boxes {
-            groups: &[(None, &[OLD]), (Some(0), &[OLD, OLD]), (Some(1), &[OLD])],
-            sizes: &[(OLD, [2, 3, 1])],
-        },
-    },
-];
+// What is there before, the box in its groups, and the groups and sizes that are there after.
+macro_rules! push {
+    ($before:ident, $id:ident in $named:tt => $groups:expr, $sizes:expr) => {
+        Push {
+            before: $before,
+            id: $id,
+            named: &$named,
+            after: &Boxes {
+                groups: &$groups,
+                sizes: &$sizes,
+            },
+        }
+    };
+}
+
+fn all_pushes() -> &'static [Push] {
+    const PUSHES: &[Push] = &[
+        push!(NONE, NEW in [] => [(None, &[NEW])], [(NEW, [2, 3, 1])]),
+        push!(NONE, NEW in [0, 1, 0] => [(Some(0), &[NEW, NEW]), (Some(1), &[NEW])],
+            [(NEW, [2, 3, 1])]),
+        push!(ONE, NEW in [] => [(None, &[NEW]), (None, &[OLD]), (Some(0), &[OLD])],
+            [(NEW, [2, 3, 1]), (OLD, [1, 1, 1])]),
+        push!(ONE,
+            NEW in [0, 1, 0] => [(None, &[OLD]), (Some(0), &[OLD, NEW, NEW]), (Some(1), &[NEW])],
+            [(NEW, [2, 3, 1]), (OLD, [1, 1, 1])]),
+        push!(ONE, OLD in [] => [(None, &[OLD]), (Some(0), &[OLD])], [(OLD, [2, 3, 1])]),
+        push!(ONE, OLD in [1, 0] => [(None, &[OLD]), (Some(0), &[OLD, OLD]), (Some(1), &[OLD])],
+            [(OLD, [2, 3, 1])]),
+    ];
+    PUSHES
+}
 
 // A group, or a box alone.
 type NamedGroup = Group<u32, Name>;
 
 // Whether these are the boxes, in this order.
 fn are(ids: &[Name], wanted: &[u32]) -> bool {
-    let mut found = ids.iter();
-    for number in wanted {
-        match found.next() {
-            Some(id) if id.number == *number => {}
-            _ => return false,
-        }
-    }
-    found.next().is_none()
+    all_match!(ids.iter(), wanted, id, number => id.number == *number)
 }
 
 // Whether this is the group's number, and `None` for the group of the list's first box alone.
@@ -132,14 +97,8 @@ fn has_boxes(group: &NamedGroup, ids: &[Name], number: Option<u32>, boxes: &[u32
 
 // Whether the collection has these groups.
 fn has_groups(all: &Rects, groups: &[(Option<u32>, &[u32])]) -> bool {
-    let mut found = all.groups().iter();
-    for (number, boxes) in groups {
-        match found.next() {
-            Some((group, ids)) if has_boxes(group, ids.as_slice(), *number, boxes) => {}
-            _ => return false,
-        }
-    }
-    found.next().is_none()
+    all_match!(all.groups().iter(), groups, (group, ids), (number, boxes) =>
+        has_boxes(group, ids.as_slice(), *number, boxes))
 }
 
 // The number of a box, and its size.
@@ -149,14 +108,7 @@ fn sized((id, rect): (&Name, &RectToInsert)) -> (u32, [u32; 3]) {
 
 // Whether the collection has these boxes.
 fn has_sizes(all: &Rects, sizes: &[(u32, [u32; 3])]) -> bool {
-    let mut found = all.rects().iter();
-    for wanted in sizes {
-        match found.next() {
-            Some(entry) if sized(entry) == *wanted => {}
-            _ => return false,
-        }
-    }
-    found.next().is_none()
+    all_match!(all.rects().iter(), sizes, entry, wanted => sized(entry) == *wanted)
 }
 
 fn has(all: &Rects, boxes: &Boxes) -> bool {
@@ -327,11 +279,6 @@ fn is_refused(
 // The same for requests, and for clones.
 fn are_refused(rt: &impl Abort, alloc: Global, push: Option<&Push>) -> Result<bool, AllocError> {
     Ok(is_refused(rt, alloc, false, push)? && is_refused(rt, alloc, true, push)?)
-}
-
-// A table is dear to prove in a longer body, so this one stands alone.
-fn all_pushes() -> &'static [Push] {
-    PUSHES
 }
 
 #[test]

@@ -1,6 +1,8 @@
 //! Free sections that share a whole face, joined.
 
-use super::{Call, Pushed, Script, Start, Step, runs};
+use super::Call::{Coalesce, CoalesceAll, Push};
+use super::Pushed::Accepted;
+use super::{Script, runs};
 
 // The pieces of a square of 3x2 and of a strip of 2x1, in a bin 7x2x1.
 const PIECES: &[[u32; 6]] = &[
@@ -48,217 +50,39 @@ const LARGE: &[[u32; 6]] = &[[1, 0, 0, MOST - 1, MOST, MOST], [0, 0, 0, 1, MOST,
 
 const LARGEST: &[[u32; 6]] = &[[0, 0, 0, MOST, MOST, MOST]];
 
-// Bins with these lists.
-const OF_PIECES: Script = Script {
-    subject: "",
-    size: [7, 2, 1],
-    start: Start::Pushed,
-    list: PIECES,
-    steps: &[],
-    on_clone: None,
-};
-
-const OF_HALVES: Script = Script {
-    subject: "",
-    size: [10, 10, 1],
-    start: Start::Pushed,
-    list: HALVES,
-    steps: &[],
-    on_clone: None,
-};
-
-const OF_CUBE: Script = Script {
-    subject: "",
-    size: [2, 2, 2],
-    start: Start::Pushed,
-    list: LAYERS,
-    steps: &[],
-    on_clone: None,
-};
-
 // What joining leaves. Upward over the whole list, the strip is not joined: its pieces move down
 // while the square is.
-const SCRIPTS: &[Script] = &[
-    Script {
-        subject: "upward over the whole list",
-        steps: &[
-            Step {
-                call: Call::Coalesce(0, 0, 6),
-                list: PIECES,
-            },
-            Step {
-                call: Call::Coalesce(1, 0, 6),
-                list: PIECES,
-            },
-            Step {
-                call: Call::Coalesce(2, 0, 6),
-                list: SQUARE,
-            },
-            Step {
-                call: Call::Coalesce(3, 0, 3),
-                list: SQUARE,
-            },
-            Step {
-                call: Call::Coalesce(4, 0, 3),
-                list: SQUARE,
-            },
-            Step {
-                call: Call::Coalesce(5, 0, 3),
-                list: SQUARE,
-            },
-        ],
-        ..OF_PIECES
-    },
-    Script {
-        subject: "a sweep joins all",
-        steps: &[Step {
-            call: Call::CoalesceAll,
-            list: SWEPT,
-        }],
-        ..OF_PIECES
-    },
-    Script {
-        subject: "the whole list",
-        steps: &[Step {
-            call: Call::Coalesce(3, 0, 6),
-            list: SQUARE,
-        }],
-        ..OF_PIECES
-    },
-    Script {
-        subject: "the range has the index 2 alone",
-        steps: &[Step {
-            call: Call::Coalesce(3, 2, 3),
-            list: TWO,
-        }],
-        ..OF_PIECES
-    },
-    Script {
-        subject: "after the join the range is 2..3 and has the joined section alone",
-        steps: &[
-            Step {
-                call: Call::Coalesce(3, 2, 4),
-                list: TWO,
-            },
-            Step {
-                call: Call::CoalesceAll,
-                list: SWEPT,
-            },
-        ],
-        ..OF_PIECES
-    },
-    Script {
-        subject: "the index is past the end",
-        steps: &[Step {
-            call: Call::Coalesce(6, 0, 6),
-            list: PIECES,
-        }],
-        ..OF_PIECES
-    },
-    Script {
-        subject: "the range ends before it starts",
-        steps: &[Step {
-            call: Call::Coalesce(3, 4, 2),
-            list: PIECES,
-        }],
-        ..OF_PIECES
-    },
-    Script {
-        subject: "the range is empty",
-        steps: &[Step {
-            call: Call::Coalesce(3, 2, 2),
-            list: PIECES,
-        }],
-        ..OF_PIECES
-    },
-    Script {
-        subject: "the range goes past the end",
-        steps: &[Step {
-            call: Call::Coalesce(3, 0, 100),
-            list: SQUARE,
-        }],
-        ..OF_PIECES
-    },
-    Script {
-        subject: "an empty section is joined",
-        start: Start::New,
-        list: SHEET,
-        steps: &[
-            Step {
-                call: Call::Push([10, 0, 0, 0, 10, 1], Pushed::Accepted),
-                list: WITH_EMPTY,
-            },
-            Step {
-                call: Call::Coalesce(0, 0, 2),
-                list: SHEET,
-            },
-        ],
-        ..OF_HALVES
-    },
-    Script {
-        subject: "faces in depth",
-        steps: &[Step {
-            call: Call::Coalesce(0, 0, 2),
-            list: CUBE,
-        }],
-        ..OF_CUBE
-    },
-    Script {
-        subject: "faces in height",
-        list: SHELVES,
-        steps: &[Step {
-            call: Call::Coalesce(0, 0, 2),
-            list: CUBE,
-        }],
-        ..OF_CUBE
-    },
-    Script {
-        subject: "two halves",
-        steps: &[Step {
-            call: Call::Coalesce(1, 0, 2),
-            list: SHEET,
-        }],
-        ..OF_HALVES
-    },
-    Script {
-        subject: "the range has the index alone",
-        steps: &[Step {
-            call: Call::Coalesce(1, 1, 2),
-            list: HALVES,
-        }],
-        ..OF_HALVES
-    },
-    Script {
-        subject: "the index is the length",
-        steps: &[Step {
-            call: Call::Coalesce(2, 0, 2),
-            list: HALVES,
-        }],
-        ..OF_HALVES
-    },
-    Script {
-        subject: "faces that meet in part",
-        list: IN_PART,
-        steps: &[Step {
-            call: Call::CoalesceAll,
-            list: IN_PART,
-        }],
-        ..OF_HALVES
-    },
-    Script {
-        subject: "ends at the greatest number of 32 bits",
-        size: [MOST, MOST, MOST],
-        list: LARGE,
-        steps: &[Step {
-            call: Call::CoalesceAll,
-            list: LARGEST,
-        }],
-        ..OF_CUBE
-    },
-];
-
-// A table is dear to prove in a longer body, so this one stands alone.
 fn scripts() -> &'static [Script] {
+    const SCRIPTS: &[Script] = &[
+        script!("upward over the whole list"; Pushed [7, 2, 1] => PIECES;
+            Coalesce(0, 0, 6) => PIECES, Coalesce(1, 0, 6) => PIECES, Coalesce(2, 0, 6) => SQUARE,
+            Coalesce(3, 0, 3) => SQUARE, Coalesce(4, 0, 3) => SQUARE, Coalesce(5, 0, 3) => SQUARE),
+        script!("a sweep joins all"; Pushed [7, 2, 1] => PIECES; CoalesceAll => SWEPT),
+        script!("the whole list"; Pushed [7, 2, 1] => PIECES; Coalesce(3, 0, 6) => SQUARE),
+        script!("the range has the index 2 alone"; Pushed [7, 2, 1] => PIECES;
+            Coalesce(3, 2, 3) => TWO),
+        script!("after the join the range is 2..3 and has the joined section alone";
+            Pushed [7, 2, 1] => PIECES; Coalesce(3, 2, 4) => TWO, CoalesceAll => SWEPT),
+        script!("the index is past the end"; Pushed [7, 2, 1] => PIECES;
+            Coalesce(6, 0, 6) => PIECES),
+        script!("the range ends before it starts"; Pushed [7, 2, 1] => PIECES;
+            Coalesce(3, 4, 2) => PIECES),
+        script!("the range is empty"; Pushed [7, 2, 1] => PIECES; Coalesce(3, 2, 2) => PIECES),
+        script!("the range goes past the end"; Pushed [7, 2, 1] => PIECES;
+            Coalesce(3, 0, 100) => SQUARE),
+        script!("an empty section is joined"; New [10, 10, 1] => SHEET;
+            Push([10, 0, 0, 0, 10, 1], Accepted) => WITH_EMPTY, Coalesce(0, 0, 2) => SHEET),
+        script!("faces in depth"; Pushed [2, 2, 2] => LAYERS; Coalesce(0, 0, 2) => CUBE),
+        script!("faces in height"; Pushed [2, 2, 2] => SHELVES; Coalesce(0, 0, 2) => CUBE),
+        script!("two halves"; Pushed [10, 10, 1] => HALVES; Coalesce(1, 0, 2) => SHEET),
+        script!("the range has the index alone"; Pushed [10, 10, 1] => HALVES;
+            Coalesce(1, 1, 2) => HALVES),
+        script!("the index is the length"; Pushed [10, 10, 1] => HALVES;
+            Coalesce(2, 0, 2) => HALVES),
+        script!("faces that meet in part"; Pushed [10, 10, 1] => IN_PART; CoalesceAll => IN_PART),
+        script!("ends at the greatest number of 32 bits"; Pushed [MOST, MOST, MOST] => LARGE;
+            CoalesceAll => LARGEST),
+    ];
     SCRIPTS
 }
 

@@ -5,19 +5,14 @@ use rectangle_pack::{FitTests, RectToInsert, TargetBin, contains_smallest_box, v
 use std::alloc::AllocError;
 use std::process::Abort;
 use std::test::Fail;
+use tests_support::all_match;
 use tests_support::refusing::Refusing;
 use tests_support::shapes::section;
 
 // Whether the free sections of the bin are so many single cells, in a row.
 fn has_row(bin: &TargetBin, count: u32) -> bool {
-    let mut found = bin.available_bin_sections().iter();
-    for x in 0..count {
-        match found.next() {
-            Some(free) if *free == section(x, 0, 0, 1, 1, 1) => {}
-            _ => return false,
-        }
-    }
-    found.next().is_none()
+    all_match!(bin.available_bin_sections().iter(), 0..count, free, x =>
+        *free == section(x, 0, 0, 1, 1, 1))
 }
 
 // Whether fifty cells in a row are accepted, one after another.

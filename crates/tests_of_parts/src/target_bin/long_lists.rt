@@ -5,18 +5,13 @@ use rectangle_pack::{
 };
 use std::alloc::{AllocError, Global};
 use std::test::Fail;
+use tests_support::all_match;
 use tests_support::combs::{BOXES, TESTS, box_of, comb, free_at, has_left, index_of};
 
 // Whether each box stands at the section that it went into.
 fn are_in_place(locations: &[PackedLocation]) -> bool {
-    let mut found = locations.iter();
-    for number in 0..BOXES {
-        match found.next() {
-            Some(location) if location.x() == free_at(index_of(number)).x() => {}
-            _ => return false,
-        }
-    }
-    found.next().is_none()
+    all_match!(locations.iter(), 0..BOXES, location, number =>
+        location.x() == free_at(index_of(number)).x())
 }
 
 // All boxes, and one that is too wide.

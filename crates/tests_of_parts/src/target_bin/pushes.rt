@@ -1,6 +1,8 @@
 //! Sections that are given back to a bin.
 
-use super::{Call, Pushed, Script, Start, Step, runs};
+use super::Call::{Clone, Push, Remove};
+use super::Pushed::{Accepted, OutOfBounds, Overlaps};
+use super::{Script, runs};
 use rectangle_pack::{PushBinSectionError, TargetBin};
 use std::alloc::Global;
 use std::process::Abort;
@@ -12,96 +14,30 @@ use tests_support::shapes::{has_list, section};
 const SHEET: [u32; 6] = [0, 0, 0, 100, 100, 1];
 
 // Which sections a bin accepts, and which is named as the first in the way.
-const SCRIPTS: &[Script] = &[
-    Script {
-        subject: "a new bin",
-        size: [4, 5, 6],
-        start: Start::New,
-        list: &[[0, 0, 0, 4, 5, 6]],
-        steps: &[],
-        on_clone: None,
-    },
-    // An empty section shares no cell with the whole bin, also where the bin ends.
-    Script {
-        subject: "pushes into a new bin",
-        size: [100, 100, 1],
-        start: Start::New,
-        list: &[SHEET],
-        steps: &[
-            Step {
-                call: Call::Push([101, 0, 0, 1, 1, 1], Pushed::OutOfBounds),
-                list: &[SHEET],
-            },
-            Step {
-                call: Call::Push([0, 0, 0, 1, 1, 1], Pushed::Overlaps(SHEET)),
-                list: &[SHEET],
-            },
-            Step {
-                call: Call::Push([1, 1, 0, 1, 1, 1], Pushed::Overlaps(SHEET)),
-                list: &[SHEET],
-            },
-            Step {
-                call: Call::Push([100, 0, 0, 0, 1, 1], Pushed::Accepted),
-                list: &[SHEET, [100, 0, 0, 0, 1, 1]],
-            },
-        ],
-        on_clone: None,
-    },
-    Script {
-        subject: "a push after a removal",
-        size: [100, 100, 1],
-        start: Start::New,
-        list: &[SHEET],
-        steps: &[
-            Step {
-                call: Call::Remove(0),
-                list: &[],
-            },
-            Step {
-                call: Call::Push([1, 2, 0, 1, 1, 1], Pushed::Accepted),
-                list: &[[1, 2, 0, 1, 1, 1]],
-            },
-        ],
-        on_clone: None,
-    },
-    // The fourth one shares cells too, but the bounds are asked first.
-    Script {
-        subject: "the first overlap is named",
-        size: [10, 10, 1],
-        start: Start::Pushed,
-        list: &[],
-        steps: &[
-            Step {
-                call: Call::Push([0, 0, 0, 4, 4, 1], Pushed::Accepted),
-                list: &[[0, 0, 0, 4, 4, 1]],
-            },
-            Step {
-                call: Call::Push([6, 6, 0, 4, 4, 1], Pushed::Accepted),
-                list: &[[0, 0, 0, 4, 4, 1], [6, 6, 0, 4, 4, 1]],
-            },
-            Step {
-                call: Call::Push([3, 3, 0, 4, 4, 1], Pushed::Overlaps([0, 0, 0, 4, 4, 1])),
-                list: &[[0, 0, 0, 4, 4, 1], [6, 6, 0, 4, 4, 1]],
-            },
-            Step {
-                call: Call::Push([7, 7, 0, 4, 4, 1], Pushed::OutOfBounds),
-                list: &[[0, 0, 0, 4, 4, 1], [6, 6, 0, 4, 4, 1]],
-            },
-            Step {
-                call: Call::Push([4, 0, 0, 6, 6, 1], Pushed::Accepted),
-                list: THREE,
-            },
-        ],
-        on_clone: None,
-    },
-];
-
-const THREE: &[[u32; 6]] = &[[0, 0, 0, 4, 4, 1], [6, 6, 0, 4, 4, 1], [4, 0, 0, 6, 6, 1]];
-
-// A table is dear to prove in a longer body, so this one stands alone.
 fn scripts() -> &'static [Script] {
+    const SCRIPTS: &[Script] = &[
+        script!("a new bin"; New [4, 5, 6] => &[[0, 0, 0, 4, 5, 6]]),
+        // An empty section shares no cell with the whole bin, also where the bin ends.
+        script!("pushes into a new bin"; New [100, 100, 1] => &[SHEET];
+            Push([101, 0, 0, 1, 1, 1], OutOfBounds) => &[SHEET],
+            Push([0, 0, 0, 1, 1, 1], Overlaps(SHEET)) => &[SHEET],
+            Push([1, 1, 0, 1, 1, 1], Overlaps(SHEET)) => &[SHEET],
+            Push([100, 0, 0, 0, 1, 1], Accepted) => &[SHEET, [100, 0, 0, 0, 1, 1]]),
+        script!("a push after a removal"; New [100, 100, 1] => &[SHEET];
+            Remove(0) => &[], Push([1, 2, 0, 1, 1, 1], Accepted) => &[[1, 2, 0, 1, 1, 1]]),
+        // The fourth one shares cells too, but the bounds are asked first.
+        script!("the first overlap is named"; Pushed [10, 10, 1] => &[];
+            Push([0, 0, 0, 4, 4, 1], Accepted) => &[[0, 0, 0, 4, 4, 1]],
+            Push([6, 6, 0, 4, 4, 1], Accepted) => &[[0, 0, 0, 4, 4, 1], [6, 6, 0, 4, 4, 1]],
+            Push([3, 3, 0, 4, 4, 1], Overlaps([0, 0, 0, 4, 4, 1])) => &[[0, 0, 0, 4, 4, 1],
+                [6, 6, 0, 4, 4, 1]],
+            Push([7, 7, 0, 4, 4, 1], OutOfBounds) => &[[0, 0, 0, 4, 4, 1], [6, 6, 0, 4, 4, 1]],
+            Push([4, 0, 0, 6, 6, 1], Accepted) => THREE),
+    ];
     SCRIPTS
 }
+
+const THREE: &[[u32; 6]] = &[[0, 0, 0, 4, 4, 1], [6, 6, 0, 4, 4, 1], [4, 0, 0, 6, 6, 1]];
 
 // Each request for memory is refused in turn.
 #[test]
@@ -112,59 +48,25 @@ fn pushes(rt: HostRuntime) {
     }
 }
 
-const ROW: &[[u32; 6]] = &[
-    [0, 0, 0, 1, 1, 1],
-    [1, 0, 0, 1, 1, 1],
-    [2, 0, 0, 1, 1, 1],
-    [3, 0, 0, 1, 1, 1],
-    [4, 0, 0, 1, 1, 1],
-    [5, 0, 0, 1, 1, 1],
-    [6, 0, 0, 1, 1, 1],
-    [7, 0, 0, 1, 1, 1],
-    [8, 0, 0, 1, 1, 1],
-    [9, 0, 0, 1, 1, 1],
-    [10, 0, 0, 1, 1, 1],
-    [11, 0, 0, 1, 1, 1],
-    [12, 0, 0, 1, 1, 1],
-    [13, 0, 0, 1, 1, 1],
-    [14, 0, 0, 1, 1, 1],
-    [15, 0, 0, 1, 1, 1],
-    [16, 0, 0, 1, 1, 1],
-    [17, 0, 0, 1, 1, 1],
-    [18, 0, 0, 1, 1, 1],
-    [19, 0, 0, 1, 1, 1],
+// The cells of these numbers in a row.
+macro_rules! cells {
+    ($($number:literal),*) => {
+        &[$([$number, 0, 0, 1, 1, 1]),*]
+    };
+}
+
+const ROW: &[[u32; 6]] = cells![
+    0, 1, 2, 3, 4, 5, 6, 7, 8, 9, 10, 11, 12, 13, 14, 15, 16, 17, 18, 19
 ];
 
 // Scripts in which a request is refused once the bin is made.
-const REFUSED: &[Script] = &[
-    Script {
-        subject: "checked pushes",
-        size: [20, 20, 1],
-        start: Start::Pushed,
-        list: ROW,
-        steps: &[],
-        on_clone: None,
-    },
-    Script {
-        subject: "unchecked pushes",
-        size: [20, 20, 1],
-        start: Start::Unchecked,
-        list: ROW,
-        steps: &[],
-        on_clone: None,
-    },
-    Script {
-        subject: "a clone of a new bin",
-        size: [4, 5, 6],
-        start: Start::New,
-        list: &[[0, 0, 0, 4, 5, 6]],
-        steps: &[],
-        on_clone: Some(&[]),
-    },
-];
-
-// A table is dear to prove in a longer body, so this one stands alone.
 fn refused() -> &'static [Script] {
+    const REFUSED: &[Script] = &[
+        script!("checked pushes"; Pushed [20, 20, 1] => ROW),
+        script!("unchecked pushes"; Unchecked [20, 20, 1] => ROW),
+        script!("a clone of a new bin"; New [4, 5, 6] => &[[0, 0, 0, 4, 5, 6]];
+            Clone => &[[0, 0, 0, 4, 5, 6]]),
+    ];
     REFUSED
 }
 
