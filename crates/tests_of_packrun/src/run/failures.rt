@@ -196,49 +196,25 @@ const AT_ONCE: &[usize] = &[112, 126];
 
 const BY_LINES: &[usize] = &[3, 6, 9, 12, 90, 112, 126];
 
+macro_rules! writes {
+    (read $read:literal, write $write:literal => $needed:literal $ends:ident) => {
+        Writes {
+            read: $read,
+            write: $write,
+            needed: $needed,
+            ends: $ends,
+        }
+    };
+}
+
 const WRITES: [Writes; 7] = [
-    Writes {
-        read: 98,
-        write: 512,
-        needed: 2,
-        ends: AT_ONCE,
-    },
-    Writes {
-        read: 98,
-        write: 100,
-        needed: 3,
-        ends: AT_ONCE,
-    },
-    Writes {
-        read: 98,
-        write: 1,
-        needed: 126,
-        ends: AT_ONCE,
-    },
-    Writes {
-        read: 7,
-        write: 512,
-        needed: 7,
-        ends: BY_LINES,
-    },
-    Writes {
-        read: 7,
-        write: 1,
-        needed: 126,
-        ends: BY_LINES,
-    },
-    Writes {
-        read: 1,
-        write: 512,
-        needed: 7,
-        ends: BY_LINES,
-    },
-    Writes {
-        read: 1,
-        write: 1,
-        needed: 126,
-        ends: BY_LINES,
-    },
+    writes!(read 98, write 512 => 2 AT_ONCE),
+    writes!(read 98, write 100 => 3 AT_ONCE),
+    writes!(read 98, write 1 => 126 AT_ONCE),
+    writes!(read 7, write 512 => 7 BY_LINES),
+    writes!(read 7, write 1 => 126 BY_LINES),
+    writes!(read 1, write 512 => 7 BY_LINES),
+    writes!(read 1, write 1 => 126 BY_LINES),
 ];
 
 #[test]
