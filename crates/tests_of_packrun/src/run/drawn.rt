@@ -117,8 +117,8 @@ fn write_cubes(input: &mut Vec<u8>, round: u8) -> Result<(), AllocError> {
 }
 
 fn write_one(input: &mut Vec<u8>, dice: &mut Dice, texts: &[&str]) -> Result<(), AllocError> {
-    let text = dice.one_of(texts, "");
-    write_text(input, dice, text)?;
+    let at = dice.index(texts.len());
+    write_text(input, dice, texts.get(at).copied().unwrap_or(""))?;
     write_text(input, dice, "\n")
 }
 
