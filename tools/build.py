@@ -26,6 +26,8 @@ PROVED = TOP / "build" / "proved"
 TARGET = "x86_64-unknown-linux-gnu"
 # In kB: the memory that is left alone, and what a proof or a further job of it is reckoned to take.
 LEFT_ALONE, MEMORY_OF_A_JOB = 1e6, 3e6
+# The checker's allocator keeps what is freed for the next request.
+SETTINGS = {"MIMALLOC_PURGE_DELAY": "-1"}
 # The niceness of a proof that nothing waits for, and up to which one gets all processors.
 LAST, HURRIED = 19, 5
 
@@ -157,7 +159,8 @@ class Build:
         said = PROVED / f"{crate.name}.log"
         with said.open("ab") as log:
             with self.lock:
-                ran = subprocess.Popen(words, cwd=crate.folder, stdin=subprocess.DEVNULL, stdout=log, stderr=log)
+                where, settings = crate.folder, {**SETTINGS, **os.environ}
+                ran = subprocess.Popen(words, cwd=where, env=settings, stdin=subprocess.DEVNULL, stdout=log, stderr=log)
                 self.running.append(ran)
                 os.setpriority(os.PRIO_PROCESS, ran.pid, os.getpriority(os.PRIO_PROCESS, 0) + niceness)
             status = ran.wait()
