@@ -3,7 +3,7 @@ use Rattle.rectangle_pack_c.proofs.Std.{◌≡◌, ◌≢◌, ℕ, ◌+◌, ◌<
 use Rattle.rectangle_pack_c.proofs.Std.{AllPairs, map, Some, slice_get, enumerate_from, IsStrictlySortedBy, Ordering, Equal, keys_of, nat_cmp, insert_entry}
 use Rattle.rectangle_pack_c.proofs.Std.{nat_tests, take_more, length-map, length-take, length-take-le, length-set, get_or_default, map-append, get_or-set_same, length-append}
 use Rattle.rectangle_pack_c.proofs.Std.{get_or-set_other, slice_get-get_or, slice_get_within, get_or_from_slice_get, exact_unsigned, set}
-use Rattle.rectangle_pack_c.proofs.Std.{Option, None, MatchOption, Vec, append_assoc}
+use Rattle.rectangle_pack_c.proofs.Std.{Option, None, MatchOption, Vec, append_assoc, take_all}
 use Rattle.rectangle_pack.specs.declared.session.command.Outstanding.{Outstanding}
 use Rattle.rectangle_pack.specs.declared.session.command.Reply.TheVariants.{Done}
 use Rattle.rectangle_pack.specs.declared.grouped_rects_to_place.Group.{Group}
@@ -136,3 +136,9 @@ told_more {X = X} {Y = Y} f there array i x within long is =
     let one : take (i + 1) there ≡ take i there ++ x ∷ [] = take_more there i x within ∙ ap (λ (y : X). take i there ++ y ∷ []) (sym is) in
     let next = told_next {X = X} {Y = Y} f (take i there) x array (omega (arith, n, within, long)) in
     rw one (rw (n, m) at next)
+
+-- all entries are written
+pub told_all : {S T : Type 0} (written : S → T) (there : List S) (old new : List T) (i : ℕ) → i ≡ length there
+    → new ≡ map written (take i there) ++ drop i old → new ≡ map written there ++ drop (length (map written there)) old
+told_all written there old new i end told =
+    rw (length-map there written) (told ∙ rw (end, take_all (length there) there (omega arith)) refl)

@@ -1,9 +1,9 @@
 -- What a session's answer to a packing says of the boxes of a C caller, and of the placements that are written.
 use Rattle.rectangle_pack_c.proofs.Std.{◌≡◌, ◌≢◌, ◌⊎◌, inl, inr, ℕ, zero, suc, ◌+◌, ◌-◌, ◌<◌, ◌≤◌, List, [], ◌∷◌, ◌++◌, length, take, drop, refl, ap, sym, ◌∙◌, subst}
-use Rattle.rectangle_pack_c.proofs.Std.{arith, length-append, All, AllPairs, Contains, Option, None, Some, map, slice_get, option_map, nat_cmp, Ordering, lookup, is_at, Result}
+use Rattle.rectangle_pack_c.proofs.Std.{Bool, MatchOption, arith, length-append, All, AllPairs, Contains, Option, None, Some, map, slice_get, option_map, nat_cmp, Ordering, lookup, is_at, Result}
 use Rattle.rectangle_pack_c.proofs.Std.{drop-append_seam, take_all, All-weaker, All-contains, Contains-append_right, slice_get-map}
 use Rattle.rectangle_pack_c.proofs.OrderLemmas.{group_same}
-use Rattle.std.proofs.Common.{Err}
+use Rattle.std.proofs.Common.{Err, if◌then◌else◌}
 use Rattle.rectangle_pack_sections.specs.declared.box_size_heuristics.named.Heuristic.{Heuristic}
 use Rattle.rectangle_pack_sections.specs.declared.box_size_heuristics.named.Heuristic.TheVariants.{Volume}
 use Rattle.rectangle_pack.specs.declared.grouped_rects_to_place.Group.{Group}
@@ -18,7 +18,8 @@ use Rattle.rectangle_pack.specs.declared.session.command.SessionError.TheVariant
 use Rattle.rectangle_pack.specs.Best.{named_rules}
 use Rattle.rectangle_pack.specs.Groups.{Collection}
 use Rattle.rectangle_pack.specs.Promise.{PlacesWhole}
-use Rattle.rectangle_pack.specs.Session.{State, numbered}
+use Rattle.rectangle_pack.specs.Bins.{Bin}
+use Rattle.rectangle_pack.specs.Session.{State, IsSession, numbered}
 use Rattle.rectangle_pack.specs.SessionBest.{PacksBest, PacksBestAsPromised}
 use Rattle.rectangle_pack_c.specs.declared.RpBox.{RpBox}
 use Rattle.rectangle_pack_c.specs.declared.RpPlacement.{RpPlacement}
@@ -271,3 +272,24 @@ module _ (R : Group ℕ ℕ → Group ℕ ℕ → Ordering) (same : R ≡ group_
       → PacksBestAsPromised group_order nat_cmp nat_cmp (asked number) all old result new
   promise_asked h = subst (λ hs. PacksBestAsPromised group_order nat_cmp nat_cmp hs all old result new) (sym is)
       (subst (λ r. PacksBestAsPromised r nat_cmp nat_cmp heuristics all old result new) same h)
+
+-- a call changed the session that a handle has: what taking it out, the call and putting it back say of it
+pub changed_so : {Change : State ℕ ℕ → Reply → State ℕ ℕ → Type 0} {old new : Option (State ℕ ℕ)} {taken before after : State ℕ ℕ} {status : ℕ}
+    (reply : Reply) → old ≡ Some taken → before ≡ taken → new ≡ Some after → status ≡ reply_status reply → Change before reply after
+    → IsSession nat_cmp after → ChangesAs Change old status new
+changed_so {before} {after} reply had held has is changed always = record {
+  before = before;
+  after = after;
+  reply = reply;
+  had = had ∙ ap (λ s. Some s) (sym held);
+  has = has;
+  status_is = is;
+  changed = changed;
+  always = always;
+}
+
+-- what is known of a bin that is there is told
+pub told_coalesced : (found : Option Bin) (was : Bool) (absent : Type 0) → option_map (λ b. b.coalesced) found ≡ Some was
+    → MatchOption found absent (λ b. ◌≡◌ {A = ℕ} 0 0 × ◌≡◌ {A = ℕ} (if was then 1 else 0) (if b.coalesced then 1 else 0))
+told_coalesced None was absent e = absurd cc
+told_coalesced (Some b) was absent e = (refl, cc)

@@ -41,3 +41,14 @@ returns-clause-told c =
       enough = λ _. (refl, rw as_many c.loop-i.invariant.told);
       short = λ less. absurd (omega (arith, less, many, c.if-ids-len.false));
     })
+
+pub returns-then-ids-len-clause-told : goal.returns-then-ids-len-clause-told
+returns-then-ids-len-clause-told c =
+    let entries = c.bins-bins.result.now.entries in
+    let keys : keys_of c.args.session.now.bins ≡ keys_of entries = ap keys_of (sym c.bins-bins.ensures.bins) ∙ keys-bins entries in
+    let many = length-map entries (λ e. e.0) in
+    rw keys (record {
+      counted = c.len.ensures.len ∙ sym many;
+      enough = λ fits. absurd (omega (arith, fits, many, c.len.ensures.len, c.if-ids-len.true));
+      short = λ _. (refl, refl);
+    })

@@ -1,5 +1,11 @@
-use Rattle.rectangle_pack_c.proofs.Std.{rules}
+use Rattle.rectangle_pack.specs.Session.{reply_of}
+use Rattle.rectangle_pack_c.proofs.SessionLemmas.{changed_so}
 use Rattle.rectangle_pack_c.proofs.session.rectangle_pack_session_coalesce.Goals as goal
 
 pub returns : goal.returns
-returns c = search rules
+returns c =
+    let answer = c.coalesce-answer.ensures in
+    record {
+      joined = changed_so (reply_of c.coalesce-answer.result) c.take-held.ensures.taken c.deref_mut.ensures.value c.of.ensures c.status.ensures
+          answer.joined answer.always;
+    }

@@ -1,5 +1,4 @@
-use Rattle.rectangle_pack_c.proofs.Std.{rules}
 use Rattle.rectangle_pack_c.proofs.session.rectangle_pack_session_free.Goals as goal
 
 pub returns : goal.returns
-returns c = search rules
+returns c = record { freed = c.take.ensures.left }

@@ -1,5 +1,11 @@
-use Rattle.rectangle_pack_c.proofs.Std.{rules}
+use Rattle.rectangle_pack.specs.Session.{reply_of}
+use Rattle.rectangle_pack_c.proofs.SessionLemmas.{changed_so}
 use Rattle.rectangle_pack_c.proofs.session.rectangle_pack_session_release.Goals as goal
 
 pub returns : goal.returns
-returns c = search rules
+returns c =
+    let answer = c.release-answer.ensures in
+    record {
+      released = changed_so (reply_of c.release-answer.result) c.take-held.ensures.taken c.deref_mut.ensures.value c.of.ensures c.status.ensures
+          answer.released answer.always;
+    }
