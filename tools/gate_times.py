@@ -83,6 +83,13 @@ def status_of(pid):
     return int(fields[1]), sum(map(int, fields[11:15])) / TICKS, fields[19]
 
 
+def taken_by_the_host():
+    """The seconds that the host has given to other machines while a processor that the run may use had work."""
+    mine = {f"cpu{number}" for number in os.sched_getaffinity(0)}
+    rows = (line.split() for line in pathlib.Path("/proc/stat").read_text().splitlines())
+    return sum(int(row[8]) for row in rows if row[0] in mine) / TICKS
+
+
 def edit_in(folder):
     """The name of the edit with which the copy of a crate that is checked in this folder was made, if there is one."""
     for edit in sorted((TOP / "crates").glob("*/must-fail/*.edit")) if "rt-edit-" in folder else []:
@@ -276,7 +283,7 @@ class Watch:
 
 
 def run(words):
-    began = time.time()
+    began, taken = time.time(), taken_by_the_host()
     started = subprocess.Popen(words, cwd=TOP)
     watch = Watch(started.pid)
     while started.poll() is None:
@@ -285,7 +292,8 @@ def run(words):
     passed = time.time() - began
     used = resource.getrusage(resource.RUSAGE_CHILDREN)
     print(f"{shlex.join(words)}: {passed / 60:.1f} min by the clock, user {used.ru_utime / 60:.1f} min, "
-          f"system {used.ru_stime / 60:.1f} min, status {started.returncode}")
+          f"system {used.ru_stime / 60:.1f} min, taken by the host {(taken_by_the_host() - taken) / 60:.1f} min, "
+          f"status {started.returncode}")
     watch.report()
     return started.returncode
 
