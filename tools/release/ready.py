@@ -28,6 +28,7 @@ MODULES = {"build": "python3-build", "hatchling": "python3-hatchling"}
 VERSIONS = {
     "CHANGELOG.md": r"^## ([^\s,]+)",
     "bindings/rust/Cargo.toml": r'^version = "(.*)"',
+    "bindings/rust/Cargo.lock": r'^version = "(.*)"',
     "packaging/wheel/pyproject.toml": r'^version = "(.*)"',
 }
 # What is released.
