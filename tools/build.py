@@ -108,10 +108,11 @@ def most_by_memory() -> int:
 
 
 def lines_behind(crates: dict[str, Crate]) -> dict[str, int]:
-    """How many lines are proved one after another from each crate on: its own, and those of the longest chain above it."""
+    """How many lines of code are proved one after another from each crate on: its own, and those of the longest chain above it.
+    Lines of lemmas are left out, as most of a proof is about the code."""
     found: dict[str, int] = {}
     for name in reversed([*graphlib.TopologicalSorter({it.name: it.below for it in crates.values()}).static_order()]):
-        own = sum(len(path.read_bytes().splitlines()) for path in crates[name].sources())
+        own = sum(len(path.read_bytes().splitlines()) for path in crates[name].sources() if path.suffix == ".rt")
         found[name] = own + max((found[it.name] for it in crates.values() if name in it.below), default=0)
     return found
 
