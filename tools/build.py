@@ -160,8 +160,9 @@ class Build:
         said = PROVED / f"{crate.name}.log"
         with said.open("ab") as log:
             with self.lock:
-                where, settings = crate.folder, {**SETTINGS, **os.environ}
-                ran = subprocess.Popen(words, cwd=where, env=settings, stdin=subprocess.DEVNULL, stdout=log, stderr=log)
+                ran = subprocess.Popen(
+                    words, cwd=crate.folder, env={**SETTINGS, **os.environ}, stdin=subprocess.DEVNULL, stdout=log, stderr=log
+                )
                 self.running.append(ran)
                 os.setpriority(os.PRIO_PROCESS, ran.pid, os.getpriority(os.PRIO_PROCESS, 0) + niceness)
             status = ran.wait()

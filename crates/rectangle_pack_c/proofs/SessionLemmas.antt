@@ -1,4 +1,5 @@
--- What a session's answer to a packing says of the boxes of a C caller, and of the placements that are written.
+-- What a session's answers say to a C caller: of the boxes of a packing and the placements that are written, of a change
+-- of the session, and of a bin.
 use Rattle.rectangle_pack_c.proofs.Std.{◌≡◌, ◌≢◌, ◌⊎◌, inl, inr, ℕ, zero, suc, ◌+◌, ◌-◌, ◌<◌, ◌≤◌, List, [], ◌∷◌, ◌++◌, length, take, drop, refl, ap, sym, ◌∙◌, subst}
 use Rattle.rectangle_pack_c.proofs.Std.{Bool, MatchOption, arith, length-append, All, AllPairs, Contains, Option, None, Some, map, slice_get, option_map, nat_cmp, Ordering, lookup, is_at, Result}
 use Rattle.rectangle_pack_c.proofs.Std.{drop-append_seam, take_all, All-weaker, All-contains, Contains-append_right, slice_get-map}
@@ -288,7 +289,7 @@ changed_so {before} {after} reply had held has is changed always = record {
   always = always;
 }
 
--- what is known of a bin that is there is told
+-- whether a bin that is there was coalesced is told by 1 or 0
 pub told_coalesced : (found : Option Bin) (was : Bool) (absent : Type 0) → option_map (λ b. b.coalesced) found ≡ Some was
     → MatchOption found absent (λ b. ◌≡◌ {A = ℕ} 0 0 × ◌≡◌ {A = ℕ} (if was then 1 else 0) (if b.coalesced then 1 else 0))
 told_coalesced None was absent e = absurd cc

@@ -2,8 +2,6 @@
 -- numbers; a box's id is its index in the list of the packing that placed it.
 use Rattle.std.specs.Prelude.{◌≡◌, ◌≢◌, ℕ, ◌+◌, ◌*◌, ◌^◌, ◌<◌, ◌≤◌, List, length, Contains, Option, Some, MatchOption, slice_get, map, Ok, Err}
 use Rattle.std.specs.Ordering.{nat_cmp}
-use Rattle.std.specs.Map.{lookup}
-use Rattle.std.specs.BTreeMap.{is_at}
 use Rattle.rectangle_pack_sections.specs.declared.box_size_heuristics.named.Heuristic.{Heuristic}
 use Rattle.rectangle_pack.specs.declared.session.command.Outstanding.{Outstanding}
 use Rattle.rectangle_pack.specs.declared.session.command.Reply.{Reply}
@@ -11,7 +9,6 @@ use Rattle.rectangle_pack.specs.declared.session.command.Reply.TheVariants.{Done
 use Rattle.rectangle_pack.specs.declared.session.command.SessionError.TheVariants.{DuplicateBin, UnknownBin, UnknownPlacement}
 use Rattle.rectangle_pack.specs.declared.session.command.SessionError.TheVariants.{NumbersUsedUp, NotEnoughBinSpace, OutOfMemory}
 use Rattle.rectangle_pack.specs.declared.session.stats.BinStats.{BinStats}
-use Rattle.rectangle_pack.specs.Bins.{Bin}
 use Rattle.rectangle_pack.specs.Groups.{Collection}
 use Rattle.rectangle_pack.specs.Session.{State, IsSession}
 use Rattle.rectangle_pack.specs.SessionBest.{PacksBest, PacksBestAsPromised}

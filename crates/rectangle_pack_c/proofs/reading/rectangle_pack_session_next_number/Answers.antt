@@ -1,6 +1,5 @@
-use Rattle.rectangle_pack_c.proofs.Std.{◌∙◌, ap}
+use Rattle.rectangle_pack_c.proofs.Std.{ℕ, ◌∙◌, ap}
 use Rattle.rectangle_pack.specs.Session.{State}
-use Rattle.rectangle_pack_c.proofs.Std.{ℕ}
 use Rattle.rectangle_pack_c.proofs.reading.rectangle_pack_session_next_number.Goals as goal
 
 pub returns-clause-number : goal.returns-clause-number
