@@ -205,8 +205,8 @@ class Build:
 
     def run(self) -> None:
         """Makes each crate once those are made on which it stands. Those with more lines behind them go before the others, which
-        take what is left of the processors. A proof with several jobs takes two fifths more of the processor than with one: on
-        two processors it gets a second where nothing else is to be proved."""
+        take what is left of the processors. A proof with several jobs takes a third more of the processor than with one, or still
+        more: on two processors it gets a second where nothing else is to be proved."""
         by_memory = most_by_memory()
         most = min(len(os.sched_getaffinity(0)), by_memory)
         order = graphlib.TopologicalSorter({crate.name: crate.below for crate in self.crates.values()})
