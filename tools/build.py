@@ -4,6 +4,8 @@
 build.py CRATE: proves the crates on which CRATE stands, side by side where neither stands on the other, then CRATE itself,
     and builds it: a program as crates/CRATE/out/CRATE, a static library as crates/CRATE/out/libCRATE.a. What it proved
     before is not proved again, as long as no file has changed of that crate and of those below it.
+build.py --reached PROGRAM: proves of all these only what the program reaches, as one crate, and builds that: no layer waits for
+    another. tools/reached.py makes the crate, in build/reached.
 
 `rattle build` does both: it builds nothing that it has not proved. `rt lib` and `rt run` take one crate after another, and
 keep what a proof after an edit can begin from, which a first build does not need and which makes it longer."""
@@ -23,6 +25,8 @@ import time
 TOP = pathlib.Path(__file__).resolve().parent.parent
 # What is proved is kept here: of each crate the library that those above read, what was said, and a sum of all that was read.
 PROVED = TOP / "build" / "proved"
+# What a program reaches is copied to here.
+REACHED = TOP / "build" / "reached"
 TARGET = "x86_64-unknown-linux-gnu"
 # In kB: the memory that is left alone, and what a proof or a further job of it is reckoned to take.
 LEFT_ALONE, MEMORY_OF_A_JOB = 1e6, 3e6
@@ -43,10 +47,11 @@ class Crate:
     name: str
     kind: str
     below: tuple[str, ...]
+    home: pathlib.Path = TOP / "crates"
 
     @property
     def folder(self) -> pathlib.Path:
-        return TOP / "crates" / self.name
+        return self.home / self.name
 
     @property
     def is_program(self) -> bool:
@@ -59,10 +64,11 @@ class Crate:
     @property
     def made(self) -> pathlib.Path:
         """What a build of it makes."""
+        built = TOP / "crates" / self.name / "out"
         if self.is_program:
-            return self.folder / "out" / self.name
+            return built / self.name
         if self.is_static:
-            return self.folder / "out" / f"lib{self.name}.a"
+            return built / f"lib{self.name}.a"
         return PROVED / f"{self.name}.rlib"
 
     def sources(self) -> list[pathlib.Path]:
@@ -92,6 +98,14 @@ def with_all_below(name: str, crates: dict[str, Crate]) -> dict[str, Crate]:
             found[crate.name] = crate
             wanted += crate.below
     return found
+
+
+def what_it_reaches(program: str) -> dict[str, Crate]:
+    """What a program reaches, as one crate."""
+    import reached  # Not above, as tools/release reads this file from another folder.
+
+    reached.copy(program, REACHED / program)
+    return {program: Crate(program, "", (), REACHED)}
 
 
 def toolchain() -> pathlib.Path:
@@ -235,7 +249,8 @@ class Build:
 
 def main(words: collections.abc.Sequence[str]) -> int:
     crates = crates_of((TOP / "crates.txt").read_text())
-    if len(words) != 1 or words[0] not in crates:
+    *options, name = words or [""]
+    if options not in ([], ["--reached"]) or name not in crates or (options and not crates[name].is_program):
         print(__doc__, file=sys.stderr)
         return 2
     PROVED.mkdir(parents=True, exist_ok=True)
@@ -243,7 +258,7 @@ def main(words: collections.abc.Sequence[str]) -> int:
         with (PROVED / "lock").open("w") as lock:
             # A second build waits, and then finds what the first one proved.
             fcntl.flock(lock, fcntl.LOCK_EX)
-            Build(with_all_below(words[0], crates), toolchain()).run()
+            Build(what_it_reaches(name) if options else with_all_below(name, crates), toolchain()).run()
     except NotProved as why:
         print(why, file=sys.stderr)
         return 1

@@ -108,7 +108,7 @@ def functions_proved() -> dict[str, int]:
         else:
             lacking.append(name)
     if lacking:
-        raise Refused(f"not proved in this clone as it stands: {', '.join(lacking)}. Run tools/build_c.sh and ./packrun first")
+        raise Refused(f"not proved in this clone as it stands: {', '.join(lacking)}. Run tools/build_c.sh and tools/build.py packrun first")
     return counts
 
 

@@ -1,0 +1,149 @@
+"""What a copy of a small program has of the crate below it."""
+import pathlib
+import tempfile
+import unittest
+from unittest import mock
+
+import reached
+
+MAIN = """//! A program.
+#![tactic(auto)]
+
+use low::sizes::{Size, largest};
+
+fn main(rt: HostRuntime) {
+    let size = Size { width: 1 };
+    rt.exit(size.half() + largest().half());
+}
+"""
+SIZES = """//! Sizes.
+ghost use Rattle.low.specs.Small.{is_small};
+ghost use Rattle.low.specs.Large.{is_large};
+ghost use Rattle.low.specs.declared.sizes.Size.{Size};
+
+use crate::names::{name_of, short_name};
+use std::fmt;
+
+/// A size.
+#[derive(Debug, Clone, Copy)]
+pub struct Size {
+    pub width: u32,
+}
+
+impl Size {
+    // Its half.
+    pub fn half(self) -> u32
+        ensures { is_small result }
+    {
+        shift(self.width)
+    }
+
+    /// Its double.
+    pub fn twice(self) -> u64
+        ensures { is_large result }
+    {
+        name_of(self.width)
+    }
+}
+
+impl fmt::Display for Size {
+    fn fmt<W: fmt::Write>(&self, f: &mut fmt::Formatter<W>) -> fmt::Result {
+        write!(f, "{}", self.width)
+    }
+}
+
+/// The largest of all.
+pub fn largest() -> Size {
+    Size { width: short_name() }
+}
+
+fn shift(width: u32) -> u32 {
+    width / 2
+}
+
+// Named in a comment alone: unused().
+fn unused() -> u32 {
+    shift(1)
+}
+"""
+NAMES = """//! Names.
+
+pub fn name_of(width: u32) -> u64 {
+    u64::from(width)
+}
+
+pub fn short_name() -> u32 {
+    1
+}
+"""
+FILES = {
+    "prog/src/main.rt": MAIN,
+    "low/src/lib.rt": "//! Low.\n#![tactic(auto)]\n\npub mod names;\npub mod sizes;\npub use sizes::{Size, largest};\n",
+    "low/src/sizes.rt": SIZES,
+    "low/src/names.rt": NAMES,
+    "low/specs/Lib.antt": "pub mod Small\npub mod Large\n",
+    "low/specs/Small.antt": "use Rattle.low.specs.declared.sizes.Size.{Size}\n\npub is_small : Size → Type 0\n",
+    "low/specs/Large.antt": "pub is_large : Type 0\n",
+    "low/proofs/Lib.antt": "pub mod lemmas\n",
+    "low/proofs/lemmas.antt": "pub mod Halves\npub mod Doubles\n",
+    "low/proofs/lemmas/Halves.antt": "use Rattle.low.specs.Small.{is_small}\n",
+    "low/proofs/lemmas/Doubles.antt": "use Rattle.low.specs.Large.{is_large}\n",
+    "low/proofs/sizes/Size/half/Answers.antt": "use Rattle.low.proofs.lemmas.Halves.{half}\n",
+    "low/proofs/sizes/Size/twice/Answers.antt": "use Rattle.low.proofs.lemmas.Doubles.{double}\n",
+}
+
+
+class CopyOfAProgram(unittest.TestCase):
+    def setUp(self) -> None:
+        folder = tempfile.TemporaryDirectory()
+        self.addCleanup(folder.cleanup)
+        crates = pathlib.Path(folder.name, "crates")
+        for name, text in FILES.items():
+            (crates / name).parent.mkdir(parents=True, exist_ok=True)
+            (crates / name).write_text(text)
+        with mock.patch.multiple(reached, CRATES=crates, ORDER={"low": [], "prog": ["low"]}):
+            self.copy = {str(path): text for path, text in reached.Copy("prog").files()}
+
+    def test_crates_below_are_modules(self) -> None:
+        self.assertEqual(self.copy["src/main.rt"].splitlines()[2:5], ["mod low;", "", "use crate::low::sizes::{Size, largest};"])
+        self.assertEqual(self.copy["src/low.rt"].splitlines()[:3], ["//! Low.", "", "pub mod names;"])
+        self.assertIn("use crate::low::names::short_name;", self.copy["src/low/sizes.rt"])
+        self.assertEqual(self.copy["specs/Lib.antt"], "pub mod low\n")
+
+    def test_functions_stay_that_are_reached(self) -> None:
+        code = self.copy["src/low/sizes.rt"] + self.copy["src/low/names.rt"]
+        for name in ("half", "largest", "shift", "short_name"):
+            self.assertIn(f"fn {name}(", code)
+        for name in ("twice", "unused", "name_of", "Display"):
+            self.assertNotIn(name, code)
+
+    def test_comments_go_with_what_they_are_about(self) -> None:
+        code = self.copy["src/low/sizes.rt"]
+        self.assertIn("// Its half.", code)
+        self.assertNotIn("Its double", code)
+        self.assertNotIn("Named in a comment", code)
+
+    def test_impls_for_printing_stay_where_something_prints(self) -> None:
+        self.assertIn("#[derive(Clone, Copy)]", self.copy["src/low/sizes.rt"])
+        printing = FILES | {"prog/src/main.rt": MAIN.replace("rt.exit(", 'println!("{size:?}");\n    rt.exit(')}
+        with mock.patch.dict(FILES, printing):
+            self.setUp()
+        self.assertIn("#[derive(Debug, Clone, Copy)]", self.copy["src/low/sizes.rt"])
+        self.assertIn("impl fmt::Display for Size", self.copy["src/low/sizes.rt"])
+
+    def test_definitions_and_lemmas_stay_that_something_names(self) -> None:
+        stays = {path for path in self.copy if path.endswith(".antt")}
+        wanted = {"specs/Lib.antt", "specs/low.antt", "specs/low/Small.antt", "proofs/low.antt", "proofs/low/lemmas.antt"}
+        self.assertEqual(stays, wanted | {"proofs/low/lemmas/Halves.antt", "proofs/low/sizes/Size/half/Answers.antt"})
+        self.assertEqual(self.copy["specs/low.antt"], "pub mod Small\n")
+        self.assertEqual(self.copy["proofs/low/lemmas.antt"], "pub mod Halves\n")
+
+    def test_paths_of_antt_lead_into_the_modules(self) -> None:
+        self.assertIn("ghost use Rattle.prog.specs.low.Small.{is_small};", self.copy["src/low/sizes.rt"])
+        self.assertNotIn("is_large", self.copy["src/low/sizes.rt"])
+        self.assertIn("use Rattle.prog.specs.declared.low.sizes.Size.{Size}", self.copy["specs/low/Small.antt"])
+        self.assertIn("use Rattle.prog.proofs.low.lemmas.Halves.{half}", self.copy["proofs/low/sizes/Size/half/Answers.antt"])
+
+
+if __name__ == "__main__":
+    unittest.main()
