@@ -4,8 +4,8 @@
 build.py CRATE: proves the crates on which CRATE stands, side by side where neither stands on the other, then CRATE itself,
     and builds it: a program as crates/CRATE/out/CRATE, a static library as crates/CRATE/out/libCRATE.a. What it proved
     before is not proved again, as long as no file has changed of that crate and of those below it.
-build.py --reached PROGRAM: proves of all these only what the program reaches, as one crate, and builds that: no layer waits for
-    another. tools/reached.py makes the crate, in build/reached.
+build.py --reached PROGRAM: proves of all these only what the program reaches, which tools/reached.py copies to build/reached, and
+    builds that.
 
 `rattle build` does both: it builds nothing that it has not proved. `rt lib` and `rt run` take one crate after another, and
 keep what a proof after an edit can begin from, which a first build does not need and which makes it longer."""
@@ -23,7 +23,6 @@ import threading
 import time
 
 TOP = pathlib.Path(__file__).resolve().parent.parent
-# What is proved is kept here: of each crate the library that those above read, what was said, and a sum of all that was read.
 PROVED = TOP / "build" / "proved"
 # What a program reaches is copied to here.
 REACHED = TOP / "build" / "reached"
@@ -47,11 +46,16 @@ class Crate:
     name: str
     kind: str
     below: tuple[str, ...]
-    home: pathlib.Path = TOP / "crates"
+    top: pathlib.Path = TOP
 
     @property
     def folder(self) -> pathlib.Path:
-        return self.home / self.name
+        return self.top / "crates" / self.name
+
+    @property
+    def proved(self) -> pathlib.Path:
+        """Where what is proved of it is kept: what was said, a sum of all that was read, and of a library what those above read."""
+        return self.top / "build" / "proved"
 
     @property
     def is_program(self) -> bool:
@@ -69,7 +73,7 @@ class Crate:
             return built / self.name
         if self.is_static:
             return built / f"lib{self.name}.a"
-        return PROVED / f"{self.name}.rlib"
+        return self.proved / f"{self.name}.rlib"
 
     def sources(self) -> list[pathlib.Path]:
         """The files that a proof reads, in order."""
@@ -78,14 +82,14 @@ class Crate:
         )
 
 
-def crates_of(text: str) -> dict[str, Crate]:
+def crates_of(text: str, top: pathlib.Path = TOP) -> dict[str, Crate]:
     """The crates that crates.txt names."""
     crates = {}
     for line in text.splitlines():
         head, colon, below = line.partition("#")[0].partition(":")
         if colon:
             name, *kind = head.split()
-            crates[name] = Crate(name, " ".join(kind), tuple(below.split()))
+            crates[name] = Crate(name, " ".join(kind), tuple(below.split()), top)
     return crates
 
 
@@ -101,11 +105,11 @@ def with_all_below(name: str, crates: dict[str, Crate]) -> dict[str, Crate]:
 
 
 def what_it_reaches(program: str) -> dict[str, Crate]:
-    """What a program reaches, as one crate."""
+    """The crates of a copy of what a program reaches: one, where several processors are to share its proof."""
     import reached  # Not above, as tools/release reads this file from another folder.
 
-    reached.copy(program, REACHED / program)
-    return {program: Crate(program, "", (), REACHED)}
+    reached.copy(program, REACHED, as_one=len(os.sched_getaffinity(0)) > 2)
+    return crates_of((REACHED / "crates.txt").read_text(), REACHED)
 
 
 def toolchain() -> pathlib.Path:
@@ -160,7 +164,7 @@ class Build:
         words += ["--extern", f"std={kit}/rlibs/std.rlib", "-L", f"dependency={kit}/rlibs"]
         for name in crate.below:
             words += ["--extern", f"{name}={self.crates[name].made}"]
-        words += ["-L", f"dependency={PROVED}", "--antt-project", f"{kit}/rattle/logic/antt-project.json"]
+        words += ["-L", f"dependency={crate.proved}", "--antt-project", f"{kit}/rattle/logic/antt-project.json"]
         words += ["--logic-built", f"{kit}/logic_built", "--links", f"{crate.name}=", "--jobs", str(jobs)]
         if crate.is_program or crate.is_static:
             words += ["--toolchain", f"{kit}/toolchain", "--backend", "llvm"]
@@ -171,7 +175,7 @@ class Build:
 
     def call(self, crate: Crate, words: list[str], niceness: int = 0) -> None:
         """Runs a command in the crate's folder, and keeps what it says."""
-        said = PROVED / f"{crate.name}.log"
+        said = crate.proved / f"{crate.name}.log"
         with said.open("ab") as log:
             with self.lock:
                 ran = subprocess.Popen(
@@ -186,12 +190,13 @@ class Build:
     def make(self, crate: Crate, jobs: int, niceness: int = 0) -> None:
         """Proves and builds the crate, where that is not done yet."""
         self.sums[crate.name] = whole = self.sum_of(crate)
-        stamp = PROVED / f"{crate.name}.sum"
+        stamp = crate.proved / f"{crate.name}.sum"
         if crate.made.exists() and stamp.is_file() and stamp.read_text() == whole:
             crate.made.touch()
             return
         stamp.unlink(missing_ok=True)
-        (PROVED / f"{crate.name}.log").unlink(missing_ok=True)
+        crate.proved.mkdir(parents=True, exist_ok=True)
+        (crate.proved / f"{crate.name}.log").unlink(missing_ok=True)
         crate.made.parent.mkdir(exist_ok=True)
         began = time.monotonic()
         if crate.is_program:

@@ -1,14 +1,14 @@
 #!/usr/bin/env python3
-"""Copies what a program reaches of the crates below it, as one crate: a first run proves that and no more, and no layer waits for one
-below.
+"""Copies what a program reaches of the crates below it, so that a first run proves that and no more.
 
-reached.py PROGRAM TO: writes the crate to TO, in place of what is there.
-reached.py --check PROGRAM: fails where the checker's front end or its definitions refuse the crate; it proves nothing.
+reached.py PROGRAM TO: writes TO/crates and TO/crates.txt, in place of what is there.
+reached.py --check PROGRAM: fails where the checker's front end or its definitions refuse the copy as one crate; it proves nothing.
 
 `main` is reached, and each item that one which is reached names. Of functions with one name all are that could be meant by their
-crates, `use` items and types. Types, impls, definitions and lemmas stay that something names which stays. Lines are left out or stay as
-they are, but for a `use` or a `derive` that loses names, and for paths, as each crate below becomes a module. A copy that lacks
-something is refused when it is proved."""
+crates, `use` items and types. Types, impls, definitions and lemmas stay that something names which stays. Where one crate after another
+would wait for the one below, with none beside it, these are modules of the program's crate; or all are, so that many processors can
+share the proof. Lines are left out or stay as they are, but for a `use` or a `derive` that loses names, and for paths that lead into
+modules. A copy that lacks something is refused when it is proved."""
 from __future__ import annotations
 
 import functools
@@ -280,29 +280,37 @@ class Reach:
 class Copy:
     """The files of what is reached, each with the lines that stay."""
 
-    def __init__(self, program: str) -> None:
+    def __init__(self, program: str, as_one: bool = False) -> None:
         self.program = program
         self.reach = reach = Reach(program)
         self.asked = {trait: reach.asked(trait) for trait in ASKS}
         filled = {crate_of(it) for it in reach.filled if CRATES in it.parents}
-        # The crates below it of which something stays, and the others.
-        self.below = [name for name in reach.crates if name in filled and name != program]
-        self.gone = set(reach.crates) - {program, *self.below}
+        # The crates of which something stays, and the others; of the former those that are modules.
+        self.crates = [name for name in reach.crates if name in filled]
+        self.gone = set(reach.crates) - {*self.crates}
+        self.modules = self.crates[:-1] if as_one else without_others_beside(self.crates)
         self.own = {it.item.name for pieces in reach.pieces.values() for it in pieces if it.item.kind in NAMED and not it.around}
         self.emptied = {it.stem for it in reach.code} - {it.stem for it in reach.filled}
 
     def files(self) -> Iterator[tuple[pathlib.Path, str]]:
         """Each file of the copy, and its text."""
         for path, items in self.reach.code.items():
-            if path.name == "lib.rt" and crate_of(path) in self.below or path in self.reach.filled:
+            if path.name == "lib.rt" and crate_of(path) in self.crates or path in self.reach.filled:
                 text = self.renamed(path, self.code(path, items))
                 yield self.place(path), self.root(path, text) if path.stem in ("lib", "main") else text
         for path, text in self.reach.texts.items():
-            if path.name == "Lib.antt" and crate_of(path) in self.below or path in self.reach.filled:
+            if path.name == "Lib.antt" and crate_of(path) in self.crates or path in self.reach.filled:
                 left = "".join(it for it in text.splitlines(keepends=True) if self.line_stays(path, it))
                 yield self.place(path), self.renamed(path, left)
         # Modules of `proofs` are declared by those of the code.
-        yield pathlib.Path("specs/Lib.antt"), "".join(f"pub mod {it}\n" for it in self.below)
+        yield pathlib.Path("crates", self.program, "specs/Lib.antt"), "".join(f"pub mod {it}\n" for it in self.modules)
+        lines = [f"{name}: {' '.join(self.below(name))}\n" for name in self.crates if name not in self.modules]
+        yield pathlib.Path("crates.txt"), "".join(lines)
+
+    def below(self, crate: str) -> list[str]:
+        """The crates of the copy on which one stands, with its modules."""
+        found = {it for name in ([crate, *self.modules] if crate == self.program else [crate]) for it in ORDER[name]}
+        return [it for it in self.crates if it in found and it not in self.modules]
 
     def line_stays(self, path: pathlib.Path, line: str) -> bool:
         """Whether a line of antt stays: one that declares or passes on what is gone does not."""
@@ -374,43 +382,45 @@ class Copy:
         return path[0] == "std" or name not in self.own or name in self.reach.names
 
     def place(self, path: pathlib.Path) -> pathlib.Path:
-        """Where a file stands in the copy: a crate below the program is a module of it."""
+        """Where a file stands in the copy."""
         crate, folder, *rest = path.relative_to(CRATES).parts
-        if crate == self.program:
-            return pathlib.Path(folder, *rest)
-        is_root = rest in (["lib.rt"], ["Lib.antt"])
-        return pathlib.Path(folder, crate).with_suffix(path.suffix) if is_root else pathlib.Path(folder, crate, *rest)
+        if crate not in self.modules:
+            return pathlib.Path("crates", crate, folder, *rest)
+        inside = [f"{crate}{path.suffix}"] if rest in (["lib.rt"], ["Lib.antt"]) else [crate, *rest]
+        return pathlib.Path("crates", self.program, folder, *inside)
 
     def renamed(self, path: pathlib.Path, text: str) -> str:
-        """A text with the paths that lead to crates below the program as they are in the copy."""
+        """A text in which paths that lead into modules of the copy do so."""
         own = crate_of(path)
 
         def module(found: re.Match[str]) -> str:
             crate, room, inside = found.groups()
-            return f"Rattle.{self.program}.{room}.{inside or ''}{crate}." if crate in self.below else found[0]
+            return f"Rattle.{self.program}.{room}.{inside or ''}{crate}." if crate in self.modules else found[0]
 
         def declared(found: re.Match[str]) -> str:
             # A type of the crate itself, or of one below it that it passes on.
             types = [it for it in self.reach.types.get(found[3], []) if found[1] in self.reach.users[crate_of(it.path)]]
             types.sort(key=lambda it: crate_of(it.path) != found[1])
-            home = ".".join(self.place(types[0].path).with_suffix("").parts[1:]) if types else ""
-            return f"Rattle.{self.program}.specs.declared.{home}.{found[3]}" if types else found[0]
+            if not types:
+                return found[0]
+            _, crate, _, *modules = self.place(types[0].path).with_suffix("").parts
+            return f"Rattle.{crate}.specs.declared.{'.'.join(modules)}.{found[3]}"
 
         def code(found: re.Match[str]) -> str:
             crate, room = own if found[1] == "crate" else found[1], found[2] or ""
-            return f"crate::{room}{crate}::" if crate in self.below else found[0]
+            return f"crate::{room}{crate}::" if crate in self.modules else found[0]
 
         text = re.sub(r"\bRattle\.(\w+)\.specs\.declared\.((?:[a-z]\w*\.)+)([A-Z]\w*)", declared, text)
         text = re.sub(r"\bRattle\.(\w+)\.(specs|proofs)\.((?:declared|contracts)\.)?", module, text)
         return re.sub(r"(?<![\w:])(\w+)::((?:specs|proofs)::)?", code, text) if path.suffix == ".rt" else text
 
     def root(self, path: pathlib.Path, text: str) -> str:
-        """The root of the program, with modules for the crates below it; that of such a crate, as a module."""
+        """The root of a crate as that of a module, or as it is; that of the program declares its modules."""
         lines = text.splitlines(keepends=True)
-        if crate_of(path) != self.program:
+        if crate_of(path) in self.modules:
             return "".join(it for it in lines if not it.startswith("#!["))
         first = next(i for i, it in enumerate(lines) if not it.startswith(("//!", "#![")))
-        return "".join([*lines[:first], *(f"mod {it};\n" for it in self.below), *lines[first:]])
+        return "".join([*lines[:first], *(f"mod {it};\n" for it in self.modules if path == self.reach.main), *lines[first:]])
 
 
 def first_of(item: Item, lines: list[str | None]) -> int:
@@ -426,25 +436,35 @@ def take_out(item: Item, lines: list[str | None]) -> None:
         lines[at] = None
 
 
-def copy(program: str, to: pathlib.Path) -> None:
-    """Writes the copy, in place of an older one."""
-    files = dict(Copy(program).files())
-    shutil.rmtree(to, ignore_errors=True)
+def without_others_beside(crates: list[str]) -> list[str]:
+    """Of crates, lower ones first, those that one after another wait for all below, from the one below the last on down."""
+    level: dict[str, int] = {}
+    for name in crates:
+        level[name] = 1 + max((level[it] for it in ORDER[name] if it in level), default=0)
+    alone = [name for name in crates if [*level.values()].count(level[name]) == 1]
+    lowest = next(i for i in range(level[crates[-1]], -1, -1) if i not in [level[it] for it in alone])
+    return [name for name in alone[:-1] if level[name] > lowest]
+
+
+def copy(program: str, to: pathlib.Path, as_one: bool = False) -> None:
+    """Writes the copy, in place of an older one; as one crate, or with those that can be proved side by side."""
+    files = dict(Copy(program, as_one).files())
+    shutil.rmtree(to / "crates", ignore_errors=True)
     for path, text in files.items():
         (to / path).parent.mkdir(parents=True, exist_ok=True)
         (to / path).write_text(text)
 
 
 def check(program: str) -> int:
-    """What the checker says of the copy before it proves anything."""
+    """What the checker says of the copy as one crate before it proves anything."""
     said = subprocess.run(["rt", "doc"], capture_output=True, text=True, check=True)
     kit = pathlib.Path(said.stdout.strip()).parent
     words = ["rattle", "check", "--crate-name", program, "src/main.rt", "--extern", f"std={kit}/rlibs/std.rlib"]
     words += ["-L", f"dependency={kit}/rlibs", "--antt-project", f"{kit}/rattle/logic/antt-project.json"]
+    words += ["--logic-built", f"{kit}/logic_built", "--only", ""]
     with tempfile.TemporaryDirectory() as folder:
-        copy(program, pathlib.Path(folder, program))
-        words += ["--logic-built", f"{kit}/logic_built", "--only", ""]
-        ran = subprocess.run(words, cwd=pathlib.Path(folder, program), capture_output=True, text=True, check=False)
+        copy(program, pathlib.Path(folder), as_one=True)
+        ran = subprocess.run(words, cwd=pathlib.Path(folder, "crates", program), capture_output=True, text=True, check=False)
     if ran.returncode:
         print(ran.stdout + ran.stderr, file=sys.stderr)
     return ran.returncode

@@ -105,44 +105,52 @@ class CopyOfAProgram(unittest.TestCase):
             self.copy = {str(path): text for path, text in reached.Copy("prog").files()}
 
     def test_crates_below_are_modules(self) -> None:
-        self.assertEqual(self.copy["src/main.rt"].splitlines()[2:5], ["mod low;", "", "use crate::low::sizes::{Size, largest};"])
-        self.assertEqual(self.copy["src/low.rt"].splitlines()[:3], ["//! Low.", "", "pub mod names;"])
-        self.assertIn("use crate::low::names::short_name;", self.copy["src/low/sizes.rt"])
-        self.assertEqual(self.copy["specs/Lib.antt"], "pub mod low\n")
+        self.assertEqual(self.copy["crates/prog/src/main.rt"].splitlines()[2:5], ["mod low;", "", "use crate::low::sizes::{Size, largest};"])
+        self.assertEqual(self.copy["crates/prog/src/low.rt"].splitlines()[:3], ["//! Low.", "", "pub mod names;"])
+        self.assertIn("use crate::low::names::short_name;", self.copy["crates/prog/src/low/sizes.rt"])
+        self.assertEqual(self.copy["crates/prog/specs/Lib.antt"], "pub mod low\n")
+
+    def test_crates_with_others_beside_stay_crates(self) -> None:
+        order = {"a": [], "b": [], "c": ["a", "b"], "d": ["a", "c"], "prog": ["d"], "other": []}
+        with mock.patch.object(reached, "ORDER", order):
+            self.assertEqual(reached.without_others_beside(["a", "b", "c", "d", "prog"]), ["c", "d"])
+            self.assertEqual(reached.without_others_beside(["a", "c", "d", "prog"]), ["a", "c", "d"])
+            self.assertEqual(reached.without_others_beside(["a", "b", "prog"]), [])
+        self.assertEqual(self.copy["crates.txt"], "prog: \n")
 
     def test_functions_stay_that_are_reached(self) -> None:
-        code = self.copy["src/low/sizes.rt"] + self.copy["src/low/names.rt"]
+        code = self.copy["crates/prog/src/low/sizes.rt"] + self.copy["crates/prog/src/low/names.rt"]
         for name in ("half", "largest", "shift", "short_name"):
             self.assertIn(f"fn {name}(", code)
         for name in ("twice", "unused", "name_of", "Display"):
             self.assertNotIn(name, code)
 
     def test_comments_go_with_what_they_are_about(self) -> None:
-        code = self.copy["src/low/sizes.rt"]
+        code = self.copy["crates/prog/src/low/sizes.rt"]
         self.assertIn("// Its half.", code)
         self.assertNotIn("Its double", code)
         self.assertNotIn("Named in a comment", code)
 
     def test_impls_for_printing_stay_where_something_prints(self) -> None:
-        self.assertIn("#[derive(Clone, Copy)]", self.copy["src/low/sizes.rt"])
+        self.assertIn("#[derive(Clone, Copy)]", self.copy["crates/prog/src/low/sizes.rt"])
         printing = FILES | {"prog/src/main.rt": MAIN.replace("rt.exit(", 'println!("{size:?}");\n    rt.exit(')}
         with mock.patch.dict(FILES, printing):
             self.setUp()
-        self.assertIn("#[derive(Debug, Clone, Copy)]", self.copy["src/low/sizes.rt"])
-        self.assertIn("impl fmt::Display for Size", self.copy["src/low/sizes.rt"])
+        self.assertIn("#[derive(Debug, Clone, Copy)]", self.copy["crates/prog/src/low/sizes.rt"])
+        self.assertIn("impl fmt::Display for Size", self.copy["crates/prog/src/low/sizes.rt"])
 
     def test_definitions_and_lemmas_stay_that_something_names(self) -> None:
-        stays = {path for path in self.copy if path.endswith(".antt")}
+        stays = {path.removeprefix("crates/prog/") for path in self.copy if path.endswith(".antt")}
         wanted = {"specs/Lib.antt", "specs/low.antt", "specs/low/Small.antt", "proofs/low.antt", "proofs/low/lemmas.antt"}
         self.assertEqual(stays, wanted | {"proofs/low/lemmas/Halves.antt", "proofs/low/sizes/Size/half/Answers.antt"})
-        self.assertEqual(self.copy["specs/low.antt"], "pub mod Small\n")
-        self.assertEqual(self.copy["proofs/low/lemmas.antt"], "pub mod Halves\n")
+        self.assertEqual(self.copy["crates/prog/specs/low.antt"], "pub mod Small\n")
+        self.assertEqual(self.copy["crates/prog/proofs/low/lemmas.antt"], "pub mod Halves\n")
 
     def test_paths_of_antt_lead_into_the_modules(self) -> None:
-        self.assertIn("ghost use Rattle.prog.specs.low.Small.{is_small};", self.copy["src/low/sizes.rt"])
-        self.assertNotIn("is_large", self.copy["src/low/sizes.rt"])
-        self.assertIn("use Rattle.prog.specs.declared.low.sizes.Size.{Size}", self.copy["specs/low/Small.antt"])
-        self.assertIn("use Rattle.prog.proofs.low.lemmas.Halves.{half}", self.copy["proofs/low/sizes/Size/half/Answers.antt"])
+        self.assertIn("ghost use Rattle.prog.specs.low.Small.{is_small};", self.copy["crates/prog/src/low/sizes.rt"])
+        self.assertNotIn("is_large", self.copy["crates/prog/src/low/sizes.rt"])
+        self.assertIn("use Rattle.prog.specs.declared.low.sizes.Size.{Size}", self.copy["crates/prog/specs/low/Small.antt"])
+        self.assertIn("use Rattle.prog.proofs.low.lemmas.Halves.{half}", self.copy["crates/prog/proofs/low/sizes/Size/half/Answers.antt"])
 
 
 if __name__ == "__main__":
