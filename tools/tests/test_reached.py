@@ -1,5 +1,6 @@
 """What a copy of a small program has of the crate below it."""
 import pathlib
+import re
 import tempfile
 import unittest
 from unittest import mock
@@ -151,6 +152,23 @@ class CopyOfAProgram(unittest.TestCase):
         self.assertNotIn("is_large", self.copy["crates/prog/src/low/sizes.rt"])
         self.assertIn("use Rattle.prog.specs.declared.low.sizes.Size.{Size}", self.copy["crates/prog/specs/low/Small.antt"])
         self.assertIn("use Rattle.prog.proofs.low.lemmas.Halves.{half}", self.copy["crates/prog/proofs/low/sizes/Size/half/Answers.antt"])
+
+
+class CopyOfPackrun(unittest.TestCase):
+    def test_lines_of_the_code_are_those_of_the_sources(self) -> None:
+        for as_one in (False, True):
+            copy = reached.Copy("packrun", as_one)
+            files = dict(copy.files())
+            for path in (it for it in copy.reach.code if copy.place(it) in files):
+                lines = iter([without_paths(line) for line in path.read_text().splitlines()])
+                for line in files[copy.place(path)].splitlines():
+                    if not re.match(r" *(?:$|(?:pub )?use |ghost use |(?:pub )?mod |#\[derive)", line):
+                        # What was looked at is gone from the lines: each stands after the one before.
+                        self.assertIn(without_paths(line), lines, path)
+
+
+def without_paths(line: str) -> str:
+    return re.sub(r"\b(?:\w+::)+", "", line)
 
 
 if __name__ == "__main__":
