@@ -23,6 +23,7 @@ import threading
 import time
 
 TOP = pathlib.Path(__file__).resolve().parent.parent
+# What is proved of crates as they are.
 PROVED = TOP / "build" / "proved"
 # What a program reaches is copied to here.
 REACHED = TOP / "build" / "reached"
@@ -105,10 +106,10 @@ def with_all_below(name: str, crates: dict[str, Crate]) -> dict[str, Crate]:
 
 
 def what_it_reaches(program: str) -> dict[str, Crate]:
-    """The crates of a copy of what a program reaches: one, where several processors are to share its proof."""
+    """The crates of a copy of what a program reaches: one, where more than two jobs are to share its proof."""
     import reached  # Not above, as tools/release reads this file from another folder.
 
-    reached.copy(program, REACHED, as_one=len(os.sched_getaffinity(0)) > 2)
+    reached.copy(program, REACHED, as_one=most_jobs() > 2)
     return crates_of((REACHED / "crates.txt").read_text(), REACHED)
 
 
@@ -123,6 +124,11 @@ def most_by_memory() -> int:
     said = pathlib.Path("/proc/meminfo").read_text()
     free = next(int(line.split()[1]) for line in said.splitlines() if line.startswith("MemAvailable:"))
     return max(1, int((free - LEFT_ALONE) / MEMORY_OF_A_JOB))
+
+
+def most_jobs() -> int:
+    """How many jobs there are processors and memory for."""
+    return min(len(os.sched_getaffinity(0)), most_by_memory())
 
 
 def lines_behind(crates: dict[str, Crate]) -> dict[str, int]:
@@ -226,8 +232,7 @@ class Build:
         """Makes each crate once those are made on which it stands. Those with more lines behind them go before the others, which
         take what is left of the processors. A proof with several jobs takes a third more of the processor than with one, or still
         more: on two processors it gets a second where nothing else is to be proved."""
-        by_memory = most_by_memory()
-        most = min(len(os.sched_getaffinity(0)), by_memory)
+        by_memory, most = most_by_memory(), most_jobs()
         order = graphlib.TopologicalSorter({crate.name: crate.below for crate in self.crates.values()})
         order.prepare()
         running: dict[concurrent.futures.Future[None], str] = {}

@@ -177,7 +177,7 @@ class Minutes:
         if "rt-edit-" in check["folder"]:
             kept = words[words.index("--incremental") + 1] if "--incremental" in words else ""
             return crate, SECOND if os.path.basename(kept) == SEED else "edits"
-        return crate, "tests" if "--test" in words else "proof"
+        return crate, "tests" if "--test" in words else "reading" if "--only" in words else "proof"
 
     def look(self, now):
         self.count_waiting(now)
@@ -269,7 +269,8 @@ class Watch:
             if "rt-edit-" in check["folder"]:
                 edits.setdefault(crate, []).append((check["edit"] or "the crate as it is", check["seconds"]))
             else:
-                what = "tests" if "--test" in words else "proof" if words[1] == "check" else "build"
+                read = "reading" if "--only" in words else "proof"
+                what = "tests" if "--test" in words else read if words[1] == "check" else "build"
                 rows.append((check["seconds"], crate, what))
         print("seconds of the processor, as seen once a second")
         for seconds, crate, what in rows:

@@ -21,7 +21,7 @@ run_harness() {
 }
 
 tools/build_c.sh
-./packrun </dev/null
+tools/build.py packrun
 flags=(-Wall -Wextra -Werror -Ibuild)
 link=build/librectangle_pack.a
 

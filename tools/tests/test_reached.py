@@ -1,4 +1,4 @@
-"""What a copy of a small program has of the crate below it."""
+"""What a copy of a small program has of the crate below it, and that one of packrun has lines of the sources."""
 import pathlib
 import re
 import tempfile
@@ -168,7 +168,8 @@ class CopyOfPackrun(unittest.TestCase):
 
 
 def without_paths(line: str) -> str:
-    return re.sub(r"\b(?:\w+::)+", "", line)
+    """A line without what is written anew in the paths of a copy: the crate, or the module for it."""
+    return re.sub(rf"\b(?:(?:crate|specs|proofs|{'|'.join(reached.ORDER)})::)+", "", line)
 
 
 if __name__ == "__main__":
