@@ -38,7 +38,12 @@ ASKS = {
     "Display": re.compile(r"\b(?:write|writeln|print|println|format)!|\bto_string\b|\bDisplay\b"),
     "Error": re.compile(r"\bdyn Error\b|: Error\b"),
     "FromStr": re.compile(r"\bparse\b|\bfrom_str\b|\bFromStr\b"),
+    "Default": re.compile(r"\bdefault\(\)|\bDefault\b"),
 }
+# The traits of comparisons, and the types of which a program compares values: which these are does not show in names alone. The
+# checker refuses the copy where one more is compared.
+COMPARES = ("PartialEq", "Eq", "PartialOrd", "Ord")
+COMPARED = {"Group", "Outcome", "Span", "Word"}
 DERIVE = re.compile(r"( *#\[derive(?:_where)?\()([\w, ]+)(.*)")
 SKIP = "#[derive_where(skip)]"
 # Items that stay where their names stand, and those of them that are types.
@@ -186,7 +191,7 @@ class Reach:
             return True
         if piece.item.kind == "impl":
             trait, kind = piece.impl
-            return self.types.keys() & set(words_of(piece.item.head)) <= self.names and (trait not in ASKS or kind in self.asked(trait))
+            return self.types.keys() & set(words_of(piece.item.head)) <= self.names and self.is_asked(trait, kind)
         if piece.around:
             return self.is_called(piece) and any(self.is_named(it) for it in self.types[piece.impl[1]])
         return self.is_named(piece) or (piece.item.kind in TYPES and piece.item.name in self.declared)
@@ -205,6 +210,10 @@ class Reach:
         """The crates whose code may name an item."""
         crate = crate_of(piece.path)
         return self.users[crate] if piece.item.is_public else [crate]
+
+    def is_asked(self, trait: str, kind: str) -> bool:
+        """Whether the impl of a trait for a type stays."""
+        return kind in COMPARED if trait in COMPARES else trait not in ASKS or kind in self.asked(trait)
 
     def asked(self, trait: str) -> set[str]:
         """Types named by functions that stay and ask for impls of the trait; for `Debug` also what these types have inside."""
@@ -283,7 +292,6 @@ class Copy:
     def __init__(self, program: str, as_one: bool = False) -> None:
         self.program = program
         self.reach = reach = Reach(program)
-        self.asked = {trait: reach.asked(trait) for trait in ASKS}
         filled = {crate_of(it) for it in reach.filled if CRATES in it.parents}
         # The crates of which something stays, and the others; of the former those that are modules.
         self.crates = [name for name in reach.crates if name in filled]
@@ -358,7 +366,7 @@ class Copy:
         for at in range(first_of(item, lines), item.line - 1):
             if found := DERIVE.match(lines[at] or ""):
                 traits = [it.strip() for it in found[2].split(",")]
-                left = [it for it in traits if it not in ASKS or item.name in self.asked[it]]
+                left = [it for it in traits if self.reach.is_asked(it, item.name)]
                 lines[at] = found[1] + ", ".join(left) + found[3] if left else None
         if not any((lines[at] or "").startswith("#[derive_where") for at in range(first_of(item, lines), item.line - 1)):
             for at in range(item.line - 1, item.line - 1 + len(item.lines)):

@@ -140,6 +140,19 @@ class CopyOfAProgram(unittest.TestCase):
         self.assertIn("#[derive(Debug, Clone, Copy)]", self.copy["crates/prog/src/low/sizes.rt"])
         self.assertIn("impl fmt::Display for Size", self.copy["crates/prog/src/low/sizes.rt"])
 
+    def test_comparisons_stay_of_types_whose_values_are_compared(self) -> None:
+        derives = "#[derive(Debug, Clone, Copy, Default, PartialEq, Eq)]"
+        with mock.patch.dict(FILES, {"low/src/sizes.rt": SIZES.replace("#[derive(Debug, Clone, Copy)]", derives)}):
+            self.setUp()
+            self.assertIn("#[derive(Clone, Copy)]", self.copy["crates/prog/src/low/sizes.rt"])
+            with mock.patch.object(reached, "COMPARED", {"Size"}):
+                self.setUp()
+            self.assertIn("#[derive(Clone, Copy, PartialEq, Eq)]", self.copy["crates/prog/src/low/sizes.rt"])
+        default = {"low/src/sizes.rt": SIZES.replace("#[derive(Debug,", "#[derive(Default,").replace("Size { width: short_name() }", "Size::default()")}
+        with mock.patch.dict(FILES, default):
+            self.setUp()
+        self.assertIn("#[derive(Default, Clone, Copy)]", self.copy["crates/prog/src/low/sizes.rt"])
+
     def test_definitions_and_lemmas_stay_that_something_names(self) -> None:
         stays = {path.removeprefix("crates/prog/") for path in self.copy if path.endswith(".antt")}
         wanted = {"specs/Lib.antt", "specs/low.antt", "specs/low/Small.antt", "proofs/low.antt", "proofs/low/lemmas.antt"}

@@ -9,7 +9,9 @@ use Rattle.packrun_words.specs.Requests.{Request}
 use Rattle.packrun_words.specs.Requests as asks
 use Rattle.packrun_lines.specs.Answers.{Name, name_cmp, Answers}
 use Rattle.packrun_lines.specs.Desk.{Desk, PacksBoxes, placements_made}
-use Rattle.packrun_lines.specs.Lines.{packed_text, refusal_text}
+use Rattle.packrun_lines.specs.Lines.{packed_text, refusal_text, reply_text}
+use Rattle.packrun_lines.specs.private.Calls.{UnlessNoMemory}
+use Rattle.std.proofs.lemmas.Option.{none-some}
 use Rattle.packrun_lines.specs.private.Obeying.{IsObeyed}
 use Rattle.packrun_lines.specs.private.Printing.{Prints, PrintsAnswer}
 use Rattle.packrun_lines.specs.declared.stop.Stop.{Stop}
@@ -26,6 +28,16 @@ module _ (request : Request) (old new : Desk Name) (before after : Option (List 
       by (Ok done) (Some text) says p = (text, says text refl, p)
       by (Err stop) (Some text) says p = subst (λ (s : Stop). IsObeyed request old before (Err s) new after) (sym p) tt
       by r None says (is, kept) = subst (λ (s : Result (Unit {0}) Stop). IsObeyed request old before s new after) (sym is) kept
+
+-- what a call makes unless memory is refused, it makes where a text answers
+pub replied : (r : Result (Unit {0}) SessionError) (P : Type 0) (named text : List ℕ) → UnlessNoMemory r P → reply_text r named ≡ Some text → P
+replied (Ok done) P named text p is = p
+replied (Err DuplicateBin) P named text p is = p
+replied (Err UnknownBin) P named text p is = p
+replied (Err UnknownPlacement) P named text p is = p
+replied (Err NumbersUsedUp) P named text p is = p
+replied (Err NotEnoughBinSpace) P named text p is = p
+replied (Err OutOfMemory) P named text p is = absurd (none-some text is)
 
 -- why a packing is refused names nothing
 refused_unnamed : (error : SessionError) (old new : Desk Name) → PacksBoxes name_cmp old (Err error) new → (one other : List ℕ)

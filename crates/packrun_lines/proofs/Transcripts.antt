@@ -1,5 +1,5 @@
 -- Lines that are obeyed one after another, up to where they stop.
-use Rattle.std.proofs.Common.{◌≡◌, ◌≢◌, ℕ, ◌+◌, ◌<◌, inl, inr, nat_lt, true, false, List, [], ◌∷◌, ◌++◌, Option, Some, None, IfSome, IsErrAnd, Result, Ok, Err, length, refl, sym, ap, ◌∙◌, subst, arith, length-append, append_assoc, append-nil}
+use Rattle.std.proofs.Common.{◌≡◌, ◌≢◌, ℕ, ◌+◌, ◌<◌, inl, inr, nat_lt, true, false, List, [], ◌∷◌, ◌++◌, Option, Some, None, IfSome, IsErrAnd, IsErr, OnOk, Result, Ok, Err, length, refl, sym, ap, ◌∙◌, subst, arith, length-append, append_assoc, append-nil}
 use Rattle.std.specs.Io.KnownBytes.{Appends, Keeps}
 use Rattle.std.proofs.KnownBytes.{Appends-nil, Appends-trans}
 use Rattle.packrun_words.specs.Requests.{Request, Asks}
@@ -150,6 +150,18 @@ some_is n h = grind arith
 pub err_is : {T E : Type 0} (r : Result T E) (e : E) → IsErrAnd r (λ f. f ≡ e) → r ≡ Err e
 err_is (Ok x) e h = absurd h
 err_is (Err f) e h = ap Err h
+
+-- an error has no value
+pub OnOk-failed : {T E : Type 0} (P : Type 0) (r : Result T E) → IsErr r → OnOk r P
+OnOk-failed P (Ok x) h = absurd (cc h)
+OnOk-failed P (Err e) h = tt
+
+-- a line could not be read, or its answer not be written
+pub Obeyed-failed : (known : Option (List ℕ)) (old : Desk Name) (before after : Option (List ℕ)) (r : Result (Unit {0}) Stop) (why : Stop) → why ≡ Stop.IoFailed
+    → IsErrAnd r (λ f. f ≡ why) → IfSome known (λ bytes. StopsSo (outcome_of r) bytes old before after)
+Obeyed-failed known old before after (Ok x) why io h = absurd h
+Obeyed-failed None old before after (Err f) why io h = tt
+Obeyed-failed (Some bytes) old before after (Err f) why io h = subst (λ s. StopsSo (outcome_of (Err s)) bytes old before after) (sym (h ∙ io)) tt
 
 -- memory is refused before the first line
 pub stops-without_memory : (known : Option (List ℕ)) (old : Desk Name) (before : Option (List ℕ)) → IfSome known (λ bytes. StopsSo NoMemory bytes old before before)

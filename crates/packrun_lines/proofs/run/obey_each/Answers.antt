@@ -1,7 +1,7 @@
 use Rattle.std.proofs.Common.{rules, Ok, Err, IfSome, sym, subst, ◌∙◌, length}
 use Rattle.std.specs.Io.Buffered.{reader_remaining}
 use Rattle.packrun_lines.specs.private.Obeying.{IsLineObeyed, StopsSo, outcome_of}
-use Rattle.packrun_lines.proofs.Transcripts.{Obeyed-none, Obeyed-more, Obeyed-at_end, Obeyed-stopped, none_is, some_is, err_is}
+use Rattle.packrun_lines.proofs.Transcripts.{Obeyed-none, Obeyed-more, Obeyed-at_end, Obeyed-stopped, Obeyed-failed, none_is, some_is, err_is}
 use Rattle.packrun_lines.proofs.run.obey_each.Goals as goal
 
 pub loop-number-init : goal.loop-number-init
@@ -43,4 +43,5 @@ loop-number-preserved g c =
     Obeyed-more _ c.args.store.now _ _ _ read n at c.obey_line.new.store _ _ (contents c.obey_line.new.out) c.loop-number.invariant line.read some line.printed obeyed
 
 pub returns-in_err-next_line : goal.returns-in_err-next_line
-returns-in_err-next_line g c = search rules
+returns-in_err-next_line g c =
+    Obeyed-failed _ c.args.store.now _ _ c.from_residual.result c.in_err-next_line.field-0.0 c.in_err-next_line.ensures.failed c.from_residual.ensures.1

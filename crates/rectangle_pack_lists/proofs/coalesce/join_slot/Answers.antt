@@ -56,3 +56,30 @@ loop-other-preserved g c =
 
 pub returns-clause-joined : goal.returns-clause-joined
 returns-clause-joined g c = AreJoinedSoFar-done _ _ _ c.loop-other.invariant.at (c.in_default.ensures {u = tt}) c.loop-other.invariant.so_far
+
+pub first_beside-requires-clause-far : goal.first_beside-requires-clause-far
+first_beside-requires-clause-far g c = c.loop-other.invariant.far
+
+pub first_beside-requires-clause-near : goal.first_beside-requires-clause-near
+first_beside-requires-clause-near g c = c.loop-other.invariant.near
+
+pub first_beside-requires-clause-fit : goal.first_beside-requires-clause-fit
+first_beside-requires-clause-fit g c = c.loop-other.invariant.fit
+
+pub first_beside-requires-clause-full : goal.first_beside-requires-clause-full
+first_beside-requires-clause-full g c = c.loop-other.invariant.at
+
+pub returns-clause-far : goal.returns-clause-far
+returns-clause-far g c = c.loop-other.invariant.far
+
+pub returns-clause-near : goal.returns-clause-near
+returns-clause-near g c = c.loop-other.invariant.near
+
+pub returns-clause-fit : goal.returns-clause-fit
+returns-clause-fit g c = c.loop-other.invariant.fit
+
+pub rename-requires-clause-far : goal.rename-requires-clause-far
+rename-requires-clause-far g c = c.loop-other.invariant.far.rise
+
+pub rename-requires-clause-near : goal.rename-requires-clause-near
+rename-requires-clause-near g c = c.loop-other.invariant.near.rise

@@ -31,3 +31,15 @@ returns-clause-packed g c =
 pub returns-clause-promise : goal.returns-clause-promise
 returns-clause-promise g c =
     PacksBoxes-promised g.Name.Ord.cmp g.met.Name.Ord.total c.args.self.now (Ok c.in_ok-packed.packed) c.forget_rects.new.self (returns-clause-packed g c)
+
+pub invariant_of-self : goal.invariant_of-self
+invariant_of-self g c = c.in_err-packed.ensures.always
+
+pub returns-in_err-packed-clause-always : goal.returns-in_err-packed-clause-always
+returns-in_err-packed-clause-always g c = c.in_err-packed.ensures.always
+
+pub invariant_of-self-2 : goal.invariant_of-self-2
+invariant_of-self-2 g c = c.in_ok-packed.ensures.always
+
+pub returns-clause-always : goal.returns-clause-always
+returns-clause-always g c = rw c.forget_rects.ensures.session c.in_ok-packed.ensures.always

@@ -29,3 +29,9 @@ returns-else-summed g c =
       | else-summed-via-then-summed+else-bins-ge-MANY w ↦ ap (λ (o : Opens). o.all) w.self-is ∙ same
       | else-summed-via-else-summed w ↦ ap (λ (o : Opens). o.all) w.self-is ∙ same
     ]
+
+pub invariant_of-self-else-summed : goal.invariant_of-self-else-summed
+invariant_of-self-else-summed g c = rw c.in_ok-reserve.ensures.items c.self.invariant
+
+pub invariant_of-self-else-bins-ge-MANY : goal.invariant_of-self-else-bins-ge-MANY
+invariant_of-self-else-bins-ge-MANY g c = rw c.in_ok-reserve.ensures.items c.self.invariant

@@ -1,6 +1,7 @@
 use Rattle.rectangle_pack_sections.proofs.Std.{◌<◌, ap, length, arith}
 use Rattle.rectangle_pack_bins.specs.private.OpenBins.{Opens}
 use Rattle.rectangle_pack_bins.proofs.lemmas.bins.OpenBins.{AreSummed-set, AreSummed-stays}
+use Rattle.std.proofs.Common.{rules}
 use Rattle.rectangle_pack_bins.proofs.open_bins.OpenBins.place_noted.Goals as goal
 
 pub invariant_of-self : goal.invariant_of-self
@@ -27,3 +28,17 @@ index_mut-bin-requires g c = omega (arith, c.requires.within, ap (λ (o : Opens)
 
 pub place_noted-requires : goal.place_noted-requires
 place_noted-requires g c = record { callable = c.requires.callable }
+
+pub returns-then-done : goal.returns-then-done
+returns-then-done g c =
+    let e = c.in_ok-done.ensures in
+    record {
+      tried = (c.index_mut-bin.result.now, c.place_noted.new.self, search rules, search rules, e.answer, e.noted, e.room, e.sound, e.sound_now);
+    }
+
+pub returns-else-done : goal.returns-else-done
+returns-else-done g c =
+    let e = c.in_ok-done.ensures in
+    record {
+      tried = (c.index_mut-bin.result.now, c.place_noted.new.self, search rules, search rules, e.answer, e.noted, e.room, e.sound, e.sound_now);
+    }

@@ -1,5 +1,7 @@
 use Rattle.rectangle_pack_sections.proofs.Std.{◌≡◌, ◌∙◌, length}
 use Rattle.rectangle_pack_bins.proofs.lemmas.bins.OpenBins.{AreSummed-push}
+use Rattle.rectangle_pack_sections.proofs.Std.{ap, ◌++◌, ◌∷◌, []}
+use Rattle.rectangle_pack_bins.specs.private.OpenBins.{Opens}
 use Rattle.rectangle_pack_bins.proofs.open_bins.OpenBins.push_reserved.Goals as goal
 
 pub invariant_of-self : goal.invariant_of-self
@@ -8,3 +10,7 @@ invariant_of-self g c =
     let long : c.len.result ≡ length bins = c.len.ensures ∙ c.self.inside.bins.ok.0 in
     rw c.push_reserved.ensures.items (AreSummed-push bins c.args.bin c.self.inside.summaries c.sum_anew.new.summaries c.self.invariant
     (rw long at c.sum_anew.ensures.here) (rw long at c.sum_anew.ensures.elsewhere))
+
+pub returns : goal.returns
+returns g c =
+    c.push_reserved.ensures.items ∙ ap (λ (o : Opens). o.all ++ c.args.bin ∷ []) c.self.view_is

@@ -70,3 +70,9 @@ returns-clause-answer g c =
 pub returns-clause-noted : goal.returns-clause-noted
 returns-clause-noted g c =
     LeavesNotes-none {E = AllocError} (Ok c.in_ok-done.done) _ c.args.bin.now c.make_room.new.self c.clear.ensures.items c.make_room.ensures.bin
+
+pub run_trial-requires-clause-callable : goal.run_trial-requires-clause-callable
+run_trial-requires-clause-callable g c = c.requires.callable
+
+pub returns-in_err-reserve-clause-bin : goal.returns-in_err-reserve-clause-bin
+returns-in_err-reserve-clause-bin g c = refl

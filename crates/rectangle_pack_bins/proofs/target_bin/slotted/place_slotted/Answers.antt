@@ -39,3 +39,15 @@ returns-clause-answer g c =
       | else-is_none w ↦ rw w.slots-is refl
     ] in
     rw (← same, c.in-Some.is) c.place_in.ensures.answer
+
+pub place_in-requires-clause-callable : goal.place_in-requires-clause-callable
+place_in-requires-clause-callable g c = c.requires.callable
+
+pub returns-in_err-in_slots-clause-bin : goal.returns-in_err-in_slots-clause-bin
+returns-in_err-in_slots-clause-bin g c = refl
+
+pub returns-then-is_stuck_at_once-clause-bin : goal.returns-then-is_stuck_at_once-clause-bin
+returns-then-is_stuck_at_once-clause-bin g c = refl
+
+pub returns-then-is_stuck_at_once-clause-noted : goal.returns-then-is_stuck_at_once-clause-noted
+returns-then-is_stuck_at_once-clause-noted g c = refl

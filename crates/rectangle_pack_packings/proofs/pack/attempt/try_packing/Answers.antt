@@ -1,4 +1,4 @@
-use Rattle.rectangle_pack_sections.proofs.Std.{refl, ◌≡◌, ◌∙◌}
+use Rattle.rectangle_pack_sections.proofs.Std.{refl, ◌≡◌, ◌∙◌, IfOk-from_err}
 use Rattle.rectangle_pack_sections.proofs.lemmas.util.Results.{OnErr-given}
 use Rattle.rectangle_pack_groups.proofs.lemmas.multimap.Mutual.{not-both}
 use Rattle.rectangle_pack_sections.specs.Bins.{bins_of}
@@ -76,3 +76,33 @@ returns-clause-undone g c = λ no. elim c.if-is_kept.branch [
   ]
   | else-is_kept w ↦ rw w.after-is (w.roll_back.ensures.bins _ (back g (goal.at.returns-clause-undone g c).After-pack_noted-packed))
 ]
+
+pub bin_order-requires-clause-bin_ids : goal.bin_order-requires-clause-bin_ids
+bin_order-requires-clause-bin_ids g c = c.requires.bin_ids
+
+pub bin_order-requires-clause-callable : goal.bin_order-requires-clause-callable
+bin_order-requires-clause-callable g c = c.requires.callable
+
+pub pack_noted-packed-requires-clause-ids : goal.pack_noted-packed-requires-clause-ids
+pack_noted-packed-requires-clause-ids g c = c.requires.ids
+
+pub pack_noted-packed-requires-clause-bin_ids : goal.pack_noted-packed-requires-clause-bin_ids
+pack_noted-packed-requires-clause-bin_ids g c = c.requires.bin_ids
+
+pub pack_noted-packed-requires-clause-callable : goal.pack_noted-packed-requires-clause-callable
+pack_noted-packed-requires-clause-callable g c = c.requires.callable
+
+pub returns-clause-stopped : goal.returns-clause-stopped
+returns-clause-stopped g c = tt
+
+pub returns-in_err-order-clause-stopped : goal.returns-in_err-order-clause-stopped
+returns-in_err-order-clause-stopped g c = OnErr-given c.from_residual.result refl
+
+pub returns-in_err-order-clause-undone : goal.returns-in_err-order-clause-undone
+returns-in_err-order-clause-undone g c = λ not. refl
+
+pub returns-in_err-order-clause-tried : goal.returns-in_err-order-clause-tried
+returns-in_err-order-clause-tried g c = IfOk-from_err _ _ c.from_residual.ensures.0
+
+pub returns-in_err-packed-clause-tried : goal.returns-in_err-packed-clause-tried
+returns-in_err-packed-clause-tried g c = IfOk-from_err _ _ c.from_residual-in_err-packed.ensures.0

@@ -100,3 +100,15 @@ place_groups-requires-clause-no_placements g c = c.in_ok-reserve.ensures.items â
 
 pub place_groups-requires-clause-distinct_groups : goal.place_groups-requires-clause-distinct_groups
 place_groups-requires-clause-distinct_groups g c = rw c.as_slice.ensures.value c.in_ok-groups.ensures.distinct
+
+pub group_order-requires-clause-callable : goal.group_order-requires-clause-callable
+group_order-requires-clause-callable g c = c.requires.callable
+
+pub place_groups-requires-clause-ids : goal.place_groups-requires-clause-ids
+place_groups-requires-clause-ids g c = c.requires.ids
+
+pub place_groups-requires-clause-bin_ids : goal.place_groups-requires-clause-bin_ids
+place_groups-requires-clause-bin_ids g c = c.requires.bin_ids
+
+pub place_groups-requires-clause-callable : goal.place_groups-requires-clause-callable
+place_groups-requires-clause-callable g c = c.requires.callable

@@ -158,3 +158,12 @@ returns-then-not-branch-clause-stopped g c = tt
 
 pub returns-clause-stopped : goal.returns-clause-stopped
 returns-clause-stopped g c = tt
+
+pub place_next-requires-clause-ids : goal.place_next-requires-clause-ids
+place_next-requires-clause-ids g c = c.requires.ids
+
+pub place_next-requires-clause-bin_ids : goal.place_next-requires-clause-bin_ids
+place_next-requires-clause-bin_ids g c = c.requires.bin_ids
+
+pub place_next-requires-clause-callable : goal.place_next-requires-clause-callable
+place_next-requires-clause-callable g c = c.requires.callable

@@ -145,3 +145,15 @@ returns-clause-journal_grows g c = c.in_ok-place_group.ensures.journal_grows
 
 pub returns-clause-journal_room_stays : goal.returns-clause-journal_room_stays
 returns-clause-journal_room_stays g c = c.in_ok-place_group.ensures.journal_room_stays
+
+pub returns-in_err-keep-in-Some-clause-journal_grows : goal.returns-in_err-keep-in-Some-clause-journal_grows
+returns-in_err-keep-in-Some-clause-journal_grows g c = c.in_ok-place_group.ensures.journal_grows
+
+pub returns-in_err-keep-in-Some-clause-journal_room_stays : goal.returns-in_err-keep-in-Some-clause-journal_room_stays
+returns-in_err-keep-in-Some-clause-journal_room_stays g c = c.in_ok-place_group.ensures.journal_room_stays
+
+pub returns-in_err-place_group-clause-journal_grows : goal.returns-in_err-place_group-clause-journal_grows
+returns-in_err-place_group-clause-journal_grows g c = c.in_err-place_group.ensures.journal_grows
+
+pub returns-in_err-place_group-clause-journal_room_stays : goal.returns-in_err-place_group-clause-journal_room_stays
+returns-in_err-place_group-clause-journal_room_stays g c = c.in_err-place_group.ensures.journal_room_stays

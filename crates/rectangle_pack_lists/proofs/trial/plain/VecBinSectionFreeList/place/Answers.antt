@@ -1,4 +1,4 @@
-use Rattle.rectangle_pack_sections.proofs.Std.{ℕ, ◌≤◌, ◌<◌, ◌+◌, ◌-◌, ◌*◌, ◌/◌, arith, ◌∙◌}
+use Rattle.rectangle_pack_sections.proofs.Std.{ℕ, ◌≤◌, ◌<◌, ◌+◌, ◌-◌, ◌*◌, ◌/◌, arith, ◌∙◌, IfOk-from_err}
 use Rattle.rectangle_pack_lists.proofs.lemmas.trial.Steps.{length-step}
 use Rattle.rectangle_pack_lists.proofs.lemmas.trial.StepsByIndex.{LeadsBack-noted}
 use Rattle.rectangle_pack_sections.proofs.lemmas.util.Results.{OnErr-given}
@@ -27,3 +27,21 @@ returns-in_err-reserve-clause-full g c = OnErr-given _ (fewer_steps _ _ _ c.requ
 
 pub place_at-requires-clause-room : goal.place_at-requires-clause-room
 place_at-requires-clause-room g c = room_for_step _ _ _ c.requires.some c.in_ok-reserve.ensures.ok
+
+pub place_at-requires-clause-callable : goal.place_at-requires-clause-callable
+place_at-requires-clause-callable g c = c.requires.callable
+
+pub returns-clause-err : goal.returns-clause-err
+returns-clause-err g c = tt
+
+pub returns-clause-full : goal.returns-clause-full
+returns-clause-full g c = tt
+
+pub returns-in_err-reserve-clause-err : goal.returns-in_err-reserve-clause-err
+returns-in_err-reserve-clause-err g c = OnErr-given c.from_residual.result c.in_err-reserve.ensures.items
+
+pub returns-in_err-reserve-clause-noted : goal.returns-in_err-reserve-clause-noted
+returns-in_err-reserve-clause-noted g c = IfOk-from_err _ _ c.from_residual.ensures.0
+
+pub returns-in_err-reserve-clause-step : goal.returns-in_err-reserve-clause-step
+returns-in_err-reserve-clause-step g c = IfOk-from_err _ _ c.from_residual.ensures.0
