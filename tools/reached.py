@@ -40,10 +40,20 @@ ASKS = {
     "FromStr": re.compile(r"\bparse\b|\bfrom_str\b|\bFromStr\b"),
     "Default": re.compile(r"\bdefault\(\)|\bDefault\b"),
 }
-# The traits of comparisons, and the types of which a program compares values: which these are does not show in names alone. The
-# checker refuses the copy where one more is compared.
+# What does not show in names alone: the types of which a program compares values, and what has the name of something reached. The
+# checker refuses the copy where one more type is compared, or one of these is reached after all.
 COMPARES = ("PartialEq", "Eq", "PartialOrd", "Ord")
 COMPARED = {"Group", "Outcome", "Span", "Word"}
+NAMESAKES = {
+    "FitTests::count",
+    "TargetBin::clone",
+    "TargetBin::coalesce_all",
+    "WidthHeightDepth::new",
+    "impl fmt::Display for SessionError",
+    "impl From<SessionError> for io::Error",
+    "impl<T: Drop> From<AllocFailed<T>> for SessionError",
+    "impl<T: Drop> From<AllocFailed<T>> for Stop",
+}
 DERIVE = re.compile(r"( *#\[derive(?:_where)?\()([\w, ]+)(.*)")
 SKIP = "#[derive_where(skip)]"
 # Items that stay where their names stand, and those of them that are types.
@@ -189,11 +199,13 @@ class Reach:
     def is_reached(self, piece: Piece) -> bool:
         if piece.path == self.main:
             return True
+        trait, kind = piece.impl
+        if {f"{kind}::{piece.item.name}", piece.item.head.removesuffix(" {")} & NAMESAKES:
+            return False
         if piece.item.kind == "impl":
-            trait, kind = piece.impl
             return self.types.keys() & set(words_of(piece.item.head)) <= self.names and self.is_asked(trait, kind)
         if piece.around:
-            return self.is_called(piece) and any(self.is_named(it) for it in self.types[piece.impl[1]])
+            return self.is_called(piece) and any(self.is_named(it) for it in self.types[kind])
         return self.is_named(piece) or (piece.item.kind in TYPES and piece.item.name in self.declared)
 
     def is_named(self, piece: Piece) -> bool:

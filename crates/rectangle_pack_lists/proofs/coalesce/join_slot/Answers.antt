@@ -3,8 +3,7 @@ use Rattle.rectangle_pack_sections.specs.Boxes.{Cuboid, FitsU32, has_cells}
 use Rattle.rectangle_pack_lists.specs.declared.corners.Corner.TheVariants.{Near, Far}
 use Rattle.rectangle_pack_lists.specs.Joining.{entry, join}
 use Rattle.rectangle_pack_lists.specs.private.Corners.{IsFull, IsBeside, IsRenamed, IsLeastBeside, corner_number}
-use Rattle.rectangle_pack_lists.proofs.lemmas.joining.InSlots.{AreJoinedSoFar-none, AreJoinedSoFar-more, AreJoinedSoFar-done}
-use Rattle.rectangle_pack_lists.proofs.lemmas.joining.InSlots.{full-fewer, after_join-slot, written-joined}
+use Rattle.rectangle_pack_lists.proofs.lemmas.joining.InSlots.{AreJoinedSoFar-none, AreJoinedSoFar-more, AreJoinedSoFar-done, full-fewer, after_join-slot, written-joined}
 use Rattle.rectangle_pack_lists.proofs.lemmas.joining.Names.{named-joined}
 use Rattle.rectangle_pack_lists.proofs.coalesce.join_slot.Goals as goal
 

@@ -1,6 +1,5 @@
-use Rattle.rectangle_pack_sections.proofs.Std.{◌≡◌, ◌∙◌, length}
+use Rattle.rectangle_pack_sections.proofs.Std.{◌≡◌, ◌∙◌, length, ap, ◌++◌, ◌∷◌, []}
 use Rattle.rectangle_pack_bins.proofs.lemmas.bins.OpenBins.{AreSummed-push}
-use Rattle.rectangle_pack_sections.proofs.Std.{ap, ◌++◌, ◌∷◌, []}
 use Rattle.rectangle_pack_bins.specs.private.OpenBins.{Opens}
 use Rattle.rectangle_pack_bins.proofs.open_bins.OpenBins.push_reserved.Goals as goal
 
