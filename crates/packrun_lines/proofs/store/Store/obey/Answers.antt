@@ -50,12 +50,3 @@ returns-in-Coalesce g c =
     (IsObeyed-printed (asks.Coalesce name c.in-Coalesce.idx c.in-Coalesce.range.start c.in-Coalesce.range.end) c.args.self.now c.coalesce.new.self (g.W.Write.contents c.args.out.now)
     (g.W.Write.contents c.report-in-Coalesce.new.out) c.report-in-Coalesce.result (reply_text answer name)
     (λ text is. (answer, replied answer _ name text c.coalesce.ensures is, is)) c.report-in-Coalesce.ensures)
-
-pub returns-in-Sweep : goal.returns-in-Sweep
-returns-in-Sweep g c =
-    let answer = c.sweep.result in
-    let name = c.in-Sweep.name.now in
-    rw (c.in-Sweep.is)
-    (IsObeyed-printed (asks.Sweep name) c.args.self.now c.sweep.new.self (g.W.Write.contents c.args.out.now)
-    (g.W.Write.contents c.report-in-Sweep.new.out) c.report-in-Sweep.result (reply_text answer name)
-    (λ text is. (answer, replied answer _ name text c.sweep.ensures is, is)) c.report-in-Sweep.ensures)
