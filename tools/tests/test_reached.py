@@ -153,6 +153,12 @@ class CopyOfAProgram(unittest.TestCase):
             self.setUp()
         self.assertIn("#[derive(Default, Clone, Copy)]", self.copy["crates/prog/src/low/sizes.rt"])
 
+    def test_what_only_has_the_name_of_something_reached_goes(self) -> None:
+        with mock.patch.object(reached, "NAMESAKES", {"Size::half"}):
+            self.setUp()
+        self.assertNotIn("fn half(", self.copy["crates/prog/src/low/sizes.rt"])
+        self.assertIn("fn largest(", self.copy["crates/prog/src/low/sizes.rt"])
+
     def test_definitions_and_lemmas_stay_that_something_names(self) -> None:
         stays = {path.removeprefix("crates/prog/") for path in self.copy if path.endswith(".antt")}
         wanted = {"specs/Lib.antt", "specs/low.antt", "specs/low/Small.antt", "proofs/low.antt", "proofs/low/lemmas.antt"}
@@ -168,6 +174,13 @@ class CopyOfAProgram(unittest.TestCase):
 
 
 class CopyOfPackrun(unittest.TestCase):
+    def test_what_is_listed_as_not_reached_or_compared_is_there(self) -> None:
+        reach = reached.Reach("packrun")
+        pieces = [it for pieces in reach.pieces.values() for it in pieces]
+        there = {f"{it.impl[1]}::{it.item.name}" for it in pieces if it.around} | {it.item.head.removesuffix(" {") for it in pieces}
+        self.assertEqual(reached.NAMESAKES - there, set())
+        self.assertEqual(reached.COMPARED - reach.types.keys(), set())
+
     def test_lines_of_the_code_are_those_of_the_sources(self) -> None:
         for as_one in (False, True):
             copy = reached.Copy("packrun", as_one)
