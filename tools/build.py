@@ -32,7 +32,7 @@ TARGET = "x86_64-unknown-linux-gnu"
 LEFT_ALONE, MEMORY_OF_A_JOB = 1e6, 3e6
 # The checker's allocator keeps what is freed for the next request.
 SETTINGS = {"MIMALLOC_PURGE_DELAY": "-1"}
-# The niceness of a proof that nothing waits for, and up to which one gets all processors.
+# The niceness of a proof that nothing waits for, and up to which one gets the processors that are left.
 LAST, HURRIED = 19, 5
 
 
@@ -106,10 +106,10 @@ def with_all_below(name: str, crates: dict[str, Crate]) -> dict[str, Crate]:
 
 
 def what_it_reaches(program: str) -> dict[str, Crate]:
-    """The crates of a copy of what a program reaches: one, where more than two jobs are to share its proof."""
+    """The crates of a copy of what a program reaches."""
     import reached  # Not above, as tools/release reads this file from another folder.
 
-    reached.copy(program, REACHED, as_one=most_jobs() > 2)
+    reached.copy(program, REACHED)
     return crates_of((REACHED / "crates.txt").read_text(), REACHED)
 
 
@@ -147,6 +147,7 @@ class Build:
     def __init__(self, crates: dict[str, Crate], kit: pathlib.Path) -> None:
         self.crates = crates
         self.kit = kit
+        self.jobs = most_jobs()
         self.began = time.monotonic()
         self.sums: dict[str, str] = {}
         self.behind = lines_behind(crates)
@@ -228,24 +229,26 @@ class Build:
             for ran in self.running:
                 ran.terminate()
 
+    def shares(self, ready: collections.abc.Sequence[str], running: collections.abc.Sequence[str]) -> list[tuple[str, int, int]]:
+        """The crates that are ready, beside what is running, each with its niceness and its jobs. Those with more lines behind them
+        go before the others. A proof with several jobs takes more of the processor than with one: each gets one, and those that
+        are hurried what is left."""
+        side_by_side = [*ready, *running]
+        longest = max([1, *(self.behind[name] for name in side_by_side)])
+        left = max(1, self.jobs - len(side_by_side) + 1)
+        first = sorted(ready, key=self.behind.__getitem__, reverse=True)
+        niceness = {name: LAST - LAST * self.behind[name] // longest for name in first}
+        return [(name, niceness[name], left if niceness[name] <= HURRIED else 1) for name in first]
+
     def run(self) -> None:
-        """Makes each crate once those are made on which it stands. Those with more lines behind them go before the others, which
-        take what is left of the processors. A proof with several jobs takes a third more of the processor than with one, or still
-        more: on two processors it gets a second where nothing else is to be proved."""
-        by_memory, most = most_by_memory(), most_jobs()
+        """Makes each crate once those are made on which it stands."""
         order = graphlib.TopologicalSorter({crate.name: crate.below for crate in self.crates.values()})
         order.prepare()
         running: dict[concurrent.futures.Future[None], str] = {}
-        with concurrent.futures.ThreadPoolExecutor(by_memory) as pool:
+        with concurrent.futures.ThreadPoolExecutor(most_by_memory()) as pool:
             try:
                 while order.is_active():
-                    ready = order.get_ready()
-                    side_by_side = [*ready, *running.values()]
-                    longest = max([1, *(self.behind[name] for name in side_by_side)])
-                    several = most > 2 or len(side_by_side) == 1
-                    for name in sorted(ready, key=self.behind.__getitem__, reverse=True):
-                        niceness = LAST - LAST * self.behind[name] // longest
-                        jobs = most if several and niceness <= HURRIED else 1
+                    for name, niceness, jobs in self.shares(order.get_ready(), [*running.values()]):
                         running[pool.submit(self.make, self.crates[name], jobs, niceness)] = name
                     done, _ = concurrent.futures.wait(running, return_when=concurrent.futures.FIRST_COMPLETED)
                     for it in done:

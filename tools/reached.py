@@ -6,9 +6,9 @@ reached.py --check PROGRAM: fails where the checker's front end or its definitio
 
 `main` is reached, and each item that one which is reached names. Of functions with one name all are that could be meant by their
 crates, `use` items and types. Types, impls, definitions and lemmas stay that something names which stays. Where one crate after another
-would wait for the one below, with none beside it, these are modules of the program's crate; or all are, so that many processors can
-share the proof. Lines are left out or stay as they are, but for a `use` or a `derive` that loses names, and for paths that lead into
-modules. A copy that lacks something is refused when it is proved."""
+would wait for the one below, with none beside it, these are modules of the program's crate; for --check all are. Lines are left out or
+stay as they are, but for a `use` or a `derive` that loses names, and for paths that lead into modules. A copy that lacks something is
+refused when it is proved."""
 from __future__ import annotations
 
 import functools
