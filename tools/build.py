@@ -231,7 +231,7 @@ class Build:
 
     def shares(self, ready: collections.abc.Sequence[str], running: collections.abc.Sequence[str]) -> list[tuple[str, int, int]]:
         """The crates that are ready, beside what is running, each with its niceness and its jobs. Those with more lines behind them
-        go before the others. Each gets one job, and those that are hurried what is left of the processors."""
+        go before the others. Each gets one job, and each that is hurried the processors that are left when all have one."""
         side_by_side = [*ready, *running]
         longest = max([1, *(self.behind[name] for name in side_by_side)])
         left = max(1, self.jobs - len(side_by_side) + 1)

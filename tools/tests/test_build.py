@@ -22,7 +22,7 @@ class Shares(unittest.TestCase):
         self.crates = build.crates_of(BELOW, top)
 
     def shares(self, jobs: int, ready: list[str], running: list[str]) -> dict[str, int]:
-        """How many jobs each crate gets, those first that go first."""
+        """How many jobs each crate gets."""
         with mock.patch.object(build, "most_jobs", return_value=jobs):
             return {name: its for name, _, its in build.Build(self.crates, pathlib.Path()).shares(ready, running)}
 
