@@ -2,7 +2,7 @@
 use Rattle.std.proofs.Math.Nat.{pow-suc}
 use Rattle.rectangle_pack_sections.proofs.Std.{◌≡◌, ◌≤◌, ◌<◌, ◌+◌, ◌*◌, ◌-◌, ◌/◌, ◌^◌, ℕ, zero, suc, List, [], ◌∷◌, ◌++◌, length, take, drop, set, get_or, refl, sym, ap, ◌∙◌, arith}
 use Rattle.rectangle_pack_sections.proofs.Std.{Option, Some, None, length-set, length-drop, take-add, drop-drop, drop-cons, get_or-set_other}
-use Rattle.rectangle_pack_sections.proofs.Std.{mul-le-mul_left, All, drop-set-add, get_or-drop, get_or_default}
+use Rattle.rectangle_pack_sections.proofs.Std.{mul-le-mul_left, All, drop-set-add, get_or-drop, get_or_default, get_or-set_same, cases_eq, inl, inr}
 use Rattle.rectangle_pack_sections.specs.Boxes.{Size}
 use Rattle.rectangle_pack_lists.specs.declared.section_slots.summary.Summary.{Summary}
 use Rattle.rectangle_pack_lists.specs.private.Summaries.{RulesOut, joined}
@@ -149,3 +149,32 @@ drop-leaf nodes leaf new low =
     let half = length nodes / 2 in
     let there : half + (leaf - half) ≡ leaf = omega arith in
     ap (λ i. drop half (set nodes i new)) (sym there) ∙ drop-set-add half nodes (leaf - half) new
+
+-- the summaries of the bins are half of the array
+pub half_of : (nodes leaves : List (Option Summary)) → drop (length nodes / 2) nodes ≡ leaves
+    → IsTree nodes → length leaves ≡ length nodes / 2
+half_of nodes leaves is tree =
+    omega (arith, ap length is, length-drop (length nodes / 2) nodes, tree.even)
+
+-- the summary of a node is written, and the one above it is still to be
+pub IsTreeBut-above : (nodes : List (Option Summary)) (node : ℕ) (new one other : Option Summary)
+    → IsTreeBut node nodes → node < length nodes / 2
+    → one ≡ get_or nodes (2 * node) one → other ≡ get_or nodes (2 * node + 1) other
+    → IsAbove new one other → IsTreeBut (node / 2) (set nodes node new)
+IsTreeBut-above nodes node new one other tree inner left right is = record {
+  even = rw (length-set nodes node new) tree.even;
+  above = λ n some within apart.
+      let low : n < length nodes / 2 = rw (length-set nodes node new) at within in
+      rw (
+        get_or-set_other nodes node (2 * n) new None (omega arith),
+        get_or-set_other nodes node (2 * n + 1) new None (omega arith),
+      ) (elim (cases_eq n node) [
+        | inl same ↦ rw (
+          same,
+          get_or-set_same nodes node new None (omega arith),
+          get_or_default nodes (2 * node) None one (omega arith) ∙ sym left,
+          get_or_default nodes (2 * node + 1) None other (omega arith) ∙ sym right,
+        ) is
+        | inr other ↦ rw (get_or-set_other nodes node n new None other) (tree.above n some low other)
+      ]);
+}

@@ -1,3 +1,4 @@
+use Rattle.std.proofs.Common.{le_of_lt}
 use Rattle.rectangle_pack_sections.proofs.Std.{◌≡◌, ◌<◌, ◌≤◌, ◌++◌, ◌∷◌, [], length, get_or, sym, ap, ◌∙◌, Some, IsSome, is_some}
 use Rattle.rectangle_pack_sections.proofs.Std.{option_copied_mut, lookup, is_at, keys-set_value}
 use Rattle.rectangle_pack_sections.proofs.lemmas.util.Maps.{is_some-option_map}
@@ -38,3 +39,9 @@ returns g c =
     sym c.get_mut.ensures.value ∙ ap option_copied_mut c.unwrap-bin.ensures in
     rw ((c.get_mut.follows.holds c.replace.new.dest).0, c.push_reserved.ensures, c.new-open.ensures, c.replace.ensures.value)
     (in_use-out g.met.B.Ord.total order out c.self.inside.bins.entries o held c.replace.new.dest c.self.invariant.distinct next is found ∙ c.self.view_is)
+
+pub offset_bounds-order-index : goal.offset_bounds-order-index
+offset_bounds-order-index g c = le_of_lt (rw (stays c.self.view_is).2 c.requires)
+
+pub push_reserved-requires : goal.push_reserved-requires
+push_reserved-requires g c = c.if-not-has_room.ensures

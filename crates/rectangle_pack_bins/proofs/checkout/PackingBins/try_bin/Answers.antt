@@ -20,7 +20,7 @@ returns-then-index-len g c = record {
       let within : c.args.index < length c.self.inside.out.all = omega (arith, c.if-index-len.true, c.len.ensures) in
       let tried = IsBinTried-out g.met.B.Ord.total _ _ c.self.inside.bins.entries c.args.index o c.self.invariant.distinct in_order at t.0 t.1 within
       t.2 (rw at (c.self.invariant.found c.args.index o in_order)) t.7 t.8 t.6 in
-      rw (← c.self.view_is, t.3) (t.0, t.1, tried, t.4, t.5);
+      (t.0, t.1, rw (← c.self.view_is, t.3) tried, t.4, t.5);
 }
 
 pub bounds-order-index : goal.bounds-order-index
@@ -58,11 +58,10 @@ returns g c = record {
       let found : lookup (is_at (g.B.Ord.cmp here.1)) c.self.inside.bins.entries ≡ Some v =
       sym c.get_mut.ensures.value ∙ ap option_copied_mut c.unwrap-bin.ensures in
       let tried = IsBinTried-map g.met.B.Ord.total c.self.inside.order.now c.self.inside.out.all c.self.inside.bins.entries c.args.index here
-      c.self.invariant.distinct in_order c.index-order-index.is v w past found c.place_noted-2.ensures.sound c.place_noted-2.ensures.room in
-      rw (← one, ← c.self.view_is) (
+      c.self.invariant.distinct in_order c.index-order-index.is v w past found c.place_noted-2.ensures.sound c.place_noted-2.ensures.room in (
         record { own = v; now = v.bin },
         record { own = w; now = w.bin },
-        rw (c.get_mut.follows.holds w).0 tried,
+        rw (← one, ← c.self.view_is, (c.get_mut.follows.holds w).0) tried,
         c.place_noted-2.ensures.answer,
         c.place_noted-2.ensures.noted,
       );

@@ -40,3 +40,12 @@ returns-clause-sound g c = rw (← c.self.view_is) c.available_bin_sections.ensu
 pub returns-clause-sound_now : goal.returns-clause-sound_now
 returns-clause-sound_now g c = rw (← c.self.view_is)
     (IsSound-with_slots c.self.inside.bin c.self.inside.slots c.available_bin_sections.ensures.sound c.self.invariant)
+
+pub place_slotted-requires-clause-callable : goal.place_slotted-requires-clause-callable
+place_slotted-requires-clause-callable g c = c.requires.callable
+
+pub place_slotted-requires-clause-can_write_back : goal.place_slotted-requires-clause-can_write_back
+place_slotted-requires-clause-can_write_back g c = c.self.invariant
+
+pub invariant_of-self-2 : goal.invariant_of-self-2
+invariant_of-self-2 g c = c.place_slotted.ensures.can_write_back

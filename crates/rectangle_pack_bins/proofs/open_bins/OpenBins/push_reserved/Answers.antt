@@ -13,3 +13,6 @@ invariant_of-self g c =
 pub returns : goal.returns
 returns g c =
     c.push_reserved.ensures.items ∙ ap (λ (o : Opens). o.all ++ c.args.bin ∷ []) c.self.view_is
+
+pub push_reserved-requires : goal.push_reserved-requires
+push_reserved-requires g c = rw c.self.inside.bins.ok.0 (rw (← c.self.view_is) at c.requires)

@@ -76,3 +76,24 @@ run_trial-requires-clause-callable g c = c.requires.callable
 
 pub returns-in_err-reserve-clause-bin : goal.returns-in_err-reserve-clause-bin
 returns-in_err-reserve-clause-bin g c = refl
+
+pub overflow_mul-members : goal.overflow_mul-members
+overflow_mul-members g c = record { fits = omega arith }
+
+pub returns-in_err-make_room-clause-bin : goal.returns-in_err-make_room-clause-bin
+returns-in_err-make_room-clause-bin g c = c.make_room.ensures.bin
+
+pub returns-in_err-make_room-clause-room : goal.returns-in_err-make_room-clause-room
+returns-in_err-make_room-clause-room g c = c.make_room.ensures.room
+
+pub returns-in_err-done-clause-bin : goal.returns-in_err-done-clause-bin
+returns-in_err-done-clause-bin g c = c.make_room.ensures.bin
+
+pub returns-in_err-done-clause-room : goal.returns-in_err-done-clause-room
+returns-in_err-done-clause-room g c = c.make_room.ensures.room
+
+pub returns-clause-bin : goal.returns-clause-bin
+returns-clause-bin g c = c.make_room.ensures.bin
+
+pub returns-clause-room : goal.returns-clause-room
+returns-clause-room g c = c.make_room.ensures.room

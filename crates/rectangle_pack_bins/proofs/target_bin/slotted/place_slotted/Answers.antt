@@ -1,4 +1,5 @@
-use Rattle.rectangle_pack_sections.proofs.Std.{◌≡◌, [], length, refl, ap, ◌∙◌, AllocError}
+use Rattle.std.proofs.Common.{true≢false}
+use Rattle.rectangle_pack_sections.proofs.Std.{◌≡◌, ◌∙◌, [], IsSome, length, refl, sym, ap, AllocError}
 use Rattle.rectangle_pack_bins.specs.private.Checkout.{CanWriteBack, with_slots}
 use Rattle.rectangle_pack_bins.proofs.lemmas.bins.Trials.{IsNotedAnswer-refused, IsNotedAnswer-stuck_at_once, LeavesNotes-refused, with_slots-made}
 use Rattle.rectangle_pack_bins.proofs.target_bin.slotted.place_slotted.Goals as goal
@@ -51,3 +52,24 @@ returns-then-is_stuck_at_once-clause-bin g c = refl
 
 pub returns-then-is_stuck_at_once-clause-noted : goal.returns-then-is_stuck_at_once-clause-noted
 returns-then-is_stuck_at_once-clause-noted g c = refl
+
+pub returns-clause-noted : goal.returns-clause-noted
+returns-clause-noted g c = c.place_in.ensures.noted
+
+pub returns-clause-bin : goal.returns-clause-bin
+returns-clause-bin g c = c.place_in.ensures.bin
+
+pub returns-clause-room : goal.returns-clause-room
+returns-clause-room g c = c.place_in.ensures.room
+
+pub returns-clause-can_write_back : goal.returns-clause-can_write_back
+returns-clause-can_write_back g c = c.place_in.ensures.can_write_back
+
+pub unreachable-requires : goal.unreachable-requires
+unreachable-requires g c =
+    let made : IsSome c.if-is_none.slots = elim c.if-is_none.branch [
+      | then-is_none+else-is_stuck_at_once+in_ok-in_slots+in-Some-1 w ↦ rw w.slots-is refl
+      | then-is_none+else-is_stuck_at_once+in_ok-in_slots+in-None-1 w ↦ rw w.slots-is refl
+      | else-is_none w ↦ rw w.slots-is w.if-is_none.ensures
+    ] in
+    true≢false (sym (rw c.in-None.is at made))
