@@ -1,7 +1,8 @@
-use Rattle.std.proofs.Common.{rules, Ok, Err, IfSome, sym, subst, ◌∙◌, length}
+use Rattle.std.proofs.Common.{rules, Ok, Err, IfSome, sym, subst, ◌∙◌, length, refl, arith}
 use Rattle.std.specs.Io.Buffered.{reader_remaining}
 use Rattle.packrun_lines.specs.private.Obeying.{IsLineObeyed, StopsSo, outcome_of}
 use Rattle.packrun_lines.proofs.Transcripts.{Obeyed-none, Obeyed-more, Obeyed-at_end, Obeyed-stopped, Obeyed-failed, none_is, some_is, err_is}
+use Rattle.packrun_lines.specs.declared.stop.Stop.TheVariants.{IoFailed}
 use Rattle.packrun_lines.proofs.run.obey_each.Goals as goal
 
 pub loop-number-init : goal.loop-number-init
@@ -45,3 +46,18 @@ loop-number-preserved g c =
 pub returns-in_err-next_line : goal.returns-in_err-next_line
 returns-in_err-next_line g c =
     Obeyed-failed _ c.args.store.now _ _ c.from_residual.result c.in_err-next_line.field-0.0 c.in_err-next_line.ensures.failed c.from_residual.ensures.1
+
+pub loop-number-smaller : goal.loop-number-smaller
+loop-number-smaller g c = omega (arith, c.loop-number-test.true)
+
+pub returns : goal.returns
+returns g c =
+    let contents = g.W.Write.contents in
+    Obeyed-failed (reader_remaining g.R.Read.remaining c.args.input.now) c.args.store.now
+    (contents c.args.out.now) (contents c.loop-number.out) (Err IoFailed) IoFailed refl refl
+
+pub returns-in_ok-obey_line : goal.returns-in_ok-obey_line
+returns-in_ok-obey_line g c =
+    let contents = g.W.Write.contents in
+    Obeyed-failed (reader_remaining g.R.Read.remaining c.args.input.now) c.args.store.now
+    (contents c.args.out.now) (contents c.obey_line.new.out) (Err IoFailed) IoFailed refl refl

@@ -1,4 +1,4 @@
-use Rattle.rectangle_pack_sections.proofs.Std.{◌∷◌, [], arith, rules, map-id, length-append, YieldsList-end, YieldsList-from_vec}
+use Rattle.rectangle_pack_sections.proofs.Std.{◌∷◌, [], arith, map-id, length-append, YieldsList-end, YieldsList-from_vec, sym, append-nil, ◌∙◌}
 use Rattle.rectangle_pack.proofs.lemmas.session.Numbering.{numbered-more}
 use Rattle.rectangle_pack.proofs.session.outstanding.number_all.Goals as goal
 
@@ -16,6 +16,27 @@ loop-placement-preserved g c =
 
 pub returns : goal.returns
 returns g c =
-    let end = YieldsList-end (YieldsList-from_vec {s = c.into_iter-placement-iterator.result} c.args.placements.items (search rules) (search rules))
+    let gives = c.into_iter-placement-iterator.ensures.into_iter_gives in
+    let end = YieldsList-end (YieldsList-from_vec {s = c.into_iter-placement-iterator.result} c.args.placements.items gives.0
+    (gives.1 ∙ c.args.placements.ok.0))
     c.loop-placement.yielded c.loop-placement.placement-iterator c.loop-placement.yielded_by c.next.result c.next.new.self c.in-None.is c.next.ensures.steps in
     rw (← end.0, map-id) c.loop-placement.invariant.outstanding
+
+pub loop-placement-init : goal.loop-placement-init
+loop-placement-init g c =
+    record {
+      outstanding = sym (append-nil c.args.outstanding.now.items);
+      number = omega arith;
+      room = omega arith;
+      left = omega (arith, c.into_iter-placement-iterator.ensures.into_iter_gives.1);
+    }
+
+pub push_reserved-requires : goal.push_reserved-requires
+push_reserved-requires g c =
+    let inv = c.loop-placement.invariant in
+    omega (arith, inv.room, inv.left, c.requires.room, c.in-Some.ensures.steps.1)
+
+pub overflow_add-number : goal.overflow_add-number
+overflow_add-number g c =
+    let inv = c.loop-placement.invariant in
+    omega (arith, inv.number, inv.left, c.requires.fits, c.in-Some.ensures.steps.1)
