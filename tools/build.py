@@ -32,8 +32,8 @@ TARGET = "x86_64-unknown-linux-gnu"
 LEFT_ALONE, MEMORY_OF_A_JOB = 1e6, 3e6
 # The checker's allocator keeps what is freed for the next request.
 SETTINGS = {"MIMALLOC_PURGE_DELAY": "-1"}
-# The niceness of a proof that gives way to others.
-LAST = 19
+# The niceness of a proof that nothing waits for, and up to which one gets the processors that are left.
+LAST, HURRIED = 19, 5
 
 
 class NotProved(Exception):
@@ -231,17 +231,13 @@ class Build:
 
     def shares(self, ready: collections.abc.Sequence[str], running: collections.abc.Sequence[str]) -> list[tuple[str, int, int]]:
         """The crates that are ready, beside what is running, each with its niceness and its jobs. Those with more lines behind them
-        go before the others. A hurried proof gives way to none, and gets the processors that are left when each has one; that with
-        most lines behind it a quarter of all more, as it goes on when others have ended. Any other gives way, and gets one job."""
+        go before the others. Each gets one job, and each that is hurried the processors that are left when all have one."""
         side_by_side = [*ready, *running]
         longest = max([1, *(self.behind[name] for name in side_by_side)])
         left = max(1, self.jobs - len(side_by_side) + 1)
-        shares = []
-        for name in sorted(ready, key=self.behind.__getitem__, reverse=True):
-            most = min(self.jobs, left + self.jobs // 4) if self.behind[name] == longest else left
-            hurried = 3 * self.behind[name] > 2 * longest
-            shares.append((name, 0, most) if hurried else (name, LAST, 1))
-        return shares
+        first = sorted(ready, key=self.behind.__getitem__, reverse=True)
+        niceness = {name: LAST - LAST * self.behind[name] // longest for name in first}
+        return [(name, niceness[name], left if niceness[name] <= HURRIED else 1) for name in first]
 
     def run(self) -> None:
         """Makes each crate once those are made on which it stands."""

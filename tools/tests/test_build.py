@@ -30,24 +30,20 @@ class Shares(unittest.TestCase):
         self.assertEqual(build.lines_behind(self.crates), {"top": 20, "aside": 21, "left": 60, "right": 56, "low": 70})
 
     def test_hurried_proofs_get_what_others_leave(self) -> None:
+        self.assertEqual(self.shares(4, ["aside", "low"], []), {"low": 3, "aside": 1})
+        self.assertEqual(self.shares(4, ["left", "right"], ["aside"]), {"left": 2, "right": 2})
         self.assertEqual(self.shares(4, ["right"], ["left"]), {"right": 3})
         self.assertEqual(self.shares(4, ["top"], []), {"top": 4})
-
-    def test_the_longest_chain_gets_a_quarter_more(self) -> None:
-        self.assertEqual(self.shares(4, ["aside", "low"], []), {"low": 4, "aside": 1})
-        self.assertEqual(self.shares(4, ["left", "right"], ["aside"]), {"left": 3, "right": 2})
-        self.assertEqual(self.shares(8, ["left", "right"], ["aside"]), {"left": 8, "right": 6})
 
     def test_on_two_processors_only_a_proof_alone_gets_both(self) -> None:
         self.assertEqual(self.shares(2, ["aside", "low"], []), {"low": 1, "aside": 1})
         self.assertEqual(self.shares(2, ["top"], []), {"top": 2})
         self.assertEqual(self.shares(1, ["left", "right"], ["aside"]), {"left": 1, "right": 1})
 
-    def test_who_has_much_less_behind_gives_way(self) -> None:
+    def test_who_has_less_behind_gives_way(self) -> None:
         with mock.patch.object(build, "most_jobs", return_value=4):
-            its = build.Build(self.crates, pathlib.Path())
-        self.assertEqual([share[:2] for share in its.shares(["aside", "low"], [])], [("low", 0), ("aside", 19)])
-        self.assertEqual([share[:2] for share in its.shares(["right", "left"], [])], [("left", 0), ("right", 0)])
+            shares = build.Build(self.crates, pathlib.Path()).shares(["aside", "low"], [])
+        self.assertEqual([(name, niceness) for name, niceness, _ in shares], [("low", 0), ("aside", 14)])
 
 
 if __name__ == "__main__":
