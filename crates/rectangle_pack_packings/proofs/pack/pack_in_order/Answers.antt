@@ -5,6 +5,7 @@ use Rattle.rectangle_pack_packings.proofs.lemmas.packing.Ends.{undone-end}
 use Rattle.rectangle_pack_packings.specs.private.RollBack.{RollsBackTo}
 use Rattle.rectangle_pack_packings.proofs.pack.pack_in_order.Given.{Over}
 use Rattle.rectangle_pack_packings.proofs.pack.pack_in_order.Goals.{After-pack_noted-packed}
+use Rattle.rectangle_pack_packings.proofs.pack.pack_in_order.Goals.at as goal_at
 use Rattle.rectangle_pack_packings.proofs.pack.pack_in_order.Goals as goal
 
 -- the packing can be rolled back to the bins of before
@@ -19,13 +20,13 @@ returns g c = record {
       (bins_of c.args.target_bins.now.entries) c.pack_noted-packed.new.packing c.pack_noted-packed.result _ _ c.new-packing.result.tests _ c.args.tests.now _ c.args.undoes_refused
       (rw (c.new-packing.ensures.bins, c.replace-bins.ensures.value) at c.pack_noted-packed.ensures.packed)
       (rw (c.new-packing.ensures.bins, c.replace-bins.ensures.value) at c.pack_noted-packed.ensures.stopped)
-      c.pack_noted-packed.ensures.counted (back g (goal.at.returns g c).After-pack_noted-packed) c.new-packing.ensures.tests c.add_all.ensures
+      c.pack_noted-packed.ensures.counted (back g (goal_at.returns g c).After-pack_noted-packed) c.new-packing.ensures.tests c.add_all.ensures
       c.end_packing-bins.ensures;
 }
 
 pub end_packing-bins-requires-clause-back : goal.end_packing-bins-requires-clause-back
 end_packing-bins-requires-clause-back g c =
-    (bins_of c.args.target_bins.now.entries, back g (goal.at.end_packing-bins-requires-clause-back g c).After-pack_noted-packed)
+    (bins_of c.args.target_bins.now.entries, back g (goal_at.end_packing-bins-requires-clause-back g c).After-pack_noted-packed)
 
 pub new-packing-requires-clause-found : goal.new-packing-requires-clause-found
 new-packing-requires-clause-found g c = rw c.replace-bins.ensures.value c.requires.found

@@ -7,6 +7,7 @@ use Rattle.rectangle_pack_plans.specs.private.Pending.{LeadOn}
 use Rattle.rectangle_pack_plans.proofs.lemmas.cut_plan.Pending.{LeadOn-same, IsNext, IsNext-popped, LeadOn-leaf, LeadOn-start, LeadOn-end}
 use Rattle.rectangle_pack_plans.proofs.lemmas.cut_plan.Pending.{only_is_next, parts_are_next, planned_moved, still_within, weight-popped, weight-parted}
 use Rattle.rectangle_pack_plans.proofs.cut_plan.plan_of.Given.{Over}
+use Rattle.rectangle_pack_plans.proofs.cut_plan.plan_of.Goals.at as goal_at
 use Rattle.rectangle_pack_plans.proofs.cut_plan.plan_of.Goals as goal
 use Rattle.rectangle_pack_plans.proofs.cut_plan.plan_of.Goals.{In-Some}
 
@@ -33,11 +34,11 @@ loop-part-init g c =
     }
 
 pub overflow_add-end : goal.overflow_add-end
-overflow_add-end g c = omega (arith, (taken g (goal.at.overflow_add-end g c).In-Some).within, c.loop-part.auto.boxes)
+overflow_add-end g c = omega (arith, (taken g (goal_at.overflow_add-end g c).In-Some).within, c.loop-part.auto.boxes)
 
 pub loop-part-preserved-then-part-le1 : goal.loop-part-preserved-then-part-le1
 loop-part-preserved-then-part-le1 g c =
-    let next = taken g (goal.at.loop-part-preserved-then-part-le1 g c).In-Some in
+    let next = taken g (goal_at.loop-part-preserved-then-part-le1 g c).In-Some in
     record {
       within = next.within;
       leads = LeadOn-same _ _ _ _ _ _ _ _ refl (drop-drop c.in-Some.part.count c.loop-part.done c.loop-part.boxes)
@@ -46,27 +47,27 @@ loop-part-preserved-then-part-le1 g c =
     }
 
 pub slice_bounds-filling-end : goal.slice_bounds-filling-end
-slice_bounds-filling-end g c = omega (arith, (taken g (goal.at.slice_bounds-filling-end g c).In-Some).within)
+slice_bounds-filling-end g c = omega (arith, (taken g (goal_at.slice_bounds-filling-end g c).In-Some).within)
 
 pub cut_up-requires-clause-filled : goal.cut_up-requires-clause-filled
 cut_up-requires-clause-filled g c =
-    let next = taken g (goal.at.cut_up-requires-clause-filled g c).In-Some in
+    let next = taken g (goal_at.cut_up-requires-clause-filled g c).In-Some in
     subst (IsFilled c.in-Some.part.whole) (lent c.loop-part.done c.in-Some.part.count c.loop-part.boxes) next.pending.filled
 
 pub cut_up-requires-clause-ordered : goal.cut_up-requires-clause-ordered
 cut_up-requires-clause-ordered g c =
-    let next = taken g (goal.at.cut_up-requires-clause-ordered g c).In-Some in
+    let next = taken g (goal_at.cut_up-requires-clause-ordered g c).In-Some in
     subst (AreOrdered c.in-Some.part.ordered) (lent c.loop-part.done c.in-Some.part.count c.loop-part.boxes) next.pending.ordered
 
 pub returns-in_default-2 : goal.returns-in_default-2
 returns-in_default-2 g c =
-    let next = taken g (goal.at.returns-in_default-2 g c).In-Some in
+    let next = taken g (goal_at.returns-in_default-2 g c).In-Some in
     let none = rw c.in_default-2.is at (c.in_ok-planned.ensures {u = tt}) in
     λ from. none (subst (λ l. IsFromCuts l c.in-Some.part.whole) (lent c.loop-part.done c.in-Some.part.count c.loop-part.boxes) (next.pending.from_cuts from))
 
 pub loop-part-preserved : goal.loop-part-preserved
 loop-part-preserved g c =
-    let next = taken g (goal.at.loop-part-preserved g c).In-Some in
+    let next = taken g (goal_at.loop-part-preserved g c).In-Some in
     let part = c.in-Some.part in
     let done = c.loop-part.done in
     let boxes = c.loop-part.boxes in

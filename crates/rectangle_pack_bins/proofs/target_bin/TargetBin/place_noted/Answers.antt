@@ -7,6 +7,7 @@ use Rattle.rectangle_pack_lists.proofs.lemmas.trial.StepsByIndex.{IsNotedAnswer-
 use Rattle.rectangle_pack_bins.proofs.lemmas.bins.Trials.{IsNotedAnswer-refused, LeavesNotes-refused}
 use Rattle.rectangle_pack_bins.proofs.target_bin.TargetBin.place_noted.Given.{Over}
 use Rattle.rectangle_pack_bins.proofs.target_bin.TargetBin.place_noted.Goals.{After-from_residual}
+use Rattle.rectangle_pack_bins.proofs.target_bin.TargetBin.place_noted.Goals.at as goal_at
 use Rattle.rectangle_pack_bins.proofs.target_bin.TargetBin.place_noted.Goals as goal
 
 -- where memory is refused, the bin is as it was
@@ -46,12 +47,12 @@ invariant_of-self g c = rw c.in_err-done.ensures.tried.0 c.self.invariant
 pub returns-in_err-done-clause-answer : goal.returns-in_err-done-clause-answer
 returns-in_err-done-clause-answer g c =
     IsNotedAnswer-refused _ _ _ _ _ c.from_residual.result _ _ c.from_residual.ensures.0
-    (same g (goal.at.returns-in_err-done-clause-answer g c).After-from_residual) c.in_err-done.ensures.tried.1
+    (same g (goal_at.returns-in_err-done-clause-answer g c).After-from_residual) c.in_err-done.ensures.tried.1
 
 pub returns-in_err-done-clause-noted : goal.returns-in_err-done-clause-noted
 returns-in_err-done-clause-noted g c =
     LeavesNotes-refused c.from_residual.result _ c.args.self.now _ c.from_residual.ensures.0
-    (same g (goal.at.returns-in_err-done-clause-noted g c).After-from_residual)
+    (same g (goal_at.returns-in_err-done-clause-noted g c).After-from_residual)
 
 pub returns-in_err-done-clause-sound : goal.returns-in_err-done-clause-sound
 returns-in_err-done-clause-sound g c = rw (← c.self.view_is) c.self.invariant

@@ -5,6 +5,7 @@ use Rattle.rectangle_pack_sections.specs.Bins.{bins_of}
 use Rattle.rectangle_pack_packings.specs.private.RollBack.{RollsBackTo}
 use Rattle.rectangle_pack_packings.proofs.pack.attempt.try_packing.Given.{Over}
 use Rattle.rectangle_pack_packings.proofs.pack.attempt.try_packing.Goals.{After-pack_noted-packed, then-branch, else-branch, then-keeps, else-keeps, then-is_kept, else-is_kept}
+use Rattle.rectangle_pack_packings.proofs.pack.attempt.try_packing.Goals.at as goal_at
 use Rattle.rectangle_pack_packings.proofs.pack.attempt.try_packing.Goals as goal
 
 -- the packing can be rolled back to the bins of before
@@ -16,7 +17,7 @@ pub new-packing-requires-clause-found : goal.new-packing-requires-clause-found
 new-packing-requires-clause-found g c = rw (c.replace-before.ensures.value, c.as_slice.ensures.value) c.in_ok-order.ensures.found
 
 pub roll_back-requires : goal.roll_back-requires
-roll_back-requires g c = (bins_of c.args.bins.now.entries, back g (goal.at.roll_back-requires g c).After-pack_noted-packed)
+roll_back-requires g c = (bins_of c.args.bins.now.entries, back g (goal_at.roll_back-requires g c).After-pack_noted-packed)
 
 pub returns-in_err-packed-clause-stopped : goal.returns-in_err-packed-clause-stopped
 returns-in_err-packed-clause-stopped g c = elim c.if-is_kept.branch [
@@ -25,7 +26,7 @@ returns-in_err-packed-clause-stopped g c = elim c.if-is_kept.branch [
     | else-keeps k ↦ not-both _ (k.is_kept-is ∙ k.if-keeps.false) w.if-is_kept.true
   ]
   | else-is_kept w ↦
-      let start = w.roll_back.ensures.bins _ (back g (goal.at.returns-in_err-packed-clause-stopped g c).After-pack_noted-packed) in
+      let start = w.roll_back.ensures.bins _ (back g (goal_at.returns-in_err-packed-clause-stopped g c).After-pack_noted-packed) in
       OnErr-given {P = bins_of c.if-is_kept.after.0.entries ≡ bins_of c.args.bins.now.entries} _ (rw w.after-is start)
 ]
 
@@ -40,7 +41,7 @@ returns-clause-tried g c = elim c.if-branch.branch [
           | else-keeps k ↦ not-both _ (k.is_kept-is ∙ k.if-keeps.false) w.if-is_kept.true
         ]
         | else-is_kept w ↦
-            let start = w.roll_back.ensures.bins _ (back g (goal.at.returns-clause-tried g c).After-pack_noted-packed) in
+            let start = w.roll_back.ensures.bins _ (back g (goal_at.returns-clause-tried g c).After-pack_noted-packed) in
             elim c.if-keeps.branch [
               | then-keeps k ↦ not-both _ w.if-is_kept.false (k.is_kept-is ∙ rw (c.in_ok-packed.was, v.if-branch.true) at k.eq-is_kept.ensures)
               | else-keeps k ↦ rw (v.result-is, w.after-is, w.roll_back.ensures.placements) (_, done.0, counted, λ yes. not-both _ k.if-keeps.false yes)
@@ -54,7 +55,7 @@ returns-clause-tried g c = elim c.if-branch.branch [
           | else-keeps k ↦ not-both _ (k.is_kept-is ∙ k.if-keeps.false) w.if-is_kept.true
         ]
         | else-is_kept w ↦
-            let start = w.roll_back.ensures.bins _ (back g (goal.at.returns-clause-tried g c).After-pack_noted-packed) in
+            let start = w.roll_back.ensures.bins _ (back g (goal_at.returns-clause-tried g c).After-pack_noted-packed) in
             rw (v.result-is, w.after-is) (_, refused.0, start)
       ]
 ]
@@ -65,7 +66,7 @@ returns-in_err-packed-clause-undone g c = λ no. elim c.if-is_kept.branch [
     | then-keeps k ↦ not-both _ no k.if-keeps.true
     | else-keeps k ↦ not-both _ (k.is_kept-is ∙ k.if-keeps.false) w.if-is_kept.true
   ]
-  | else-is_kept w ↦ rw w.after-is (w.roll_back.ensures.bins _ (back g (goal.at.returns-in_err-packed-clause-undone g c).After-pack_noted-packed))
+  | else-is_kept w ↦ rw w.after-is (w.roll_back.ensures.bins _ (back g (goal_at.returns-in_err-packed-clause-undone g c).After-pack_noted-packed))
 ]
 
 pub returns-clause-undone : goal.returns-clause-undone
@@ -74,7 +75,7 @@ returns-clause-undone g c = λ no. elim c.if-is_kept.branch [
     | then-keeps k ↦ not-both _ no k.if-keeps.true
     | else-keeps k ↦ not-both _ (k.is_kept-is ∙ k.if-keeps.false) w.if-is_kept.true
   ]
-  | else-is_kept w ↦ rw w.after-is (w.roll_back.ensures.bins _ (back g (goal.at.returns-clause-undone g c).After-pack_noted-packed))
+  | else-is_kept w ↦ rw w.after-is (w.roll_back.ensures.bins _ (back g (goal_at.returns-clause-undone g c).After-pack_noted-packed))
 ]
 
 pub bin_order-requires-clause-bin_ids : goal.bin_order-requires-clause-bin_ids

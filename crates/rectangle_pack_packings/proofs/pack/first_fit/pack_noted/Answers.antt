@@ -10,6 +10,7 @@ use Rattle.rectangle_pack_rules.proofs.lemmas.packing.Groups.{packed-weaker, Has
 use Rattle.rectangle_pack_rules.proofs.lemmas.packing.InOrder.{AreInOrder, AreInOrder-from, done-ended, refused-ended, stopped-ended, placements-ended}
 use Rattle.rectangle_pack_packings.proofs.pack.first_fit.pack_noted.Given.{Over}
 use Rattle.rectangle_pack_packings.proofs.pack.first_fit.pack_noted.Goals.{After-place_groups}
+use Rattle.rectangle_pack_packings.proofs.pack.first_fit.pack_noted.Goals.at as goal_at
 use Rattle.rectangle_pack_packings.proofs.pack.first_fit.pack_noted.Goals as goal
 
 -- the order of groups
@@ -49,7 +50,7 @@ place_groups-requires-clause-in_range g c =
 
 pub returns-clause-packed : goal.returns-clause-packed
 returns-clause-packed g c =
-    let at = in_order g (goal.at.returns-clause-packed g c).After-place_groups in
+    let at = in_order g (goal_at.returns-clause-packed g c).After-place_groups in
     packed-weaker c.place_groups.result
     (λ p. done-ended _ _ _ _ _ _ _ _ g.met.BinId.Ord.total at c.args.packing.now.tests _ _ _ p.0 p.1 p.2 p.3)
     (λ q. refused-ended _ _ _ _ _ _ _ _ g.met.BinId.Ord.total at c.args.packing.now.tests _ _ q.0 q.1 q.2)
@@ -57,12 +58,12 @@ returns-clause-packed g c =
 
 pub returns-clause-stopped : goal.returns-clause-stopped
 returns-clause-stopped g c =
-    let at = in_order g (goal.at.returns-clause-stopped g c).After-place_groups in
+    let at = in_order g (goal_at.returns-clause-stopped g c).After-place_groups in
     on_err_weaker c.place_groups.result (λ h. stopped-ended _ _ _ _ _ _ _ _ g.met.BinId.Ord.total at c.args.packing.now.tests _ h) c.place_groups.ensures.stopped
 
 pub returns-clause-counted : goal.returns-clause-counted
 returns-clause-counted g c =
-    let at = in_order g (goal.at.returns-clause-counted g c).After-place_groups in
+    let at = in_order g (goal_at.returns-clause-counted g c).After-place_groups in
     packed-weaker c.place_groups.result (λ p. placements-ended _ _ _ _ _ _ _ _ at _ _ p.0 p.1 p.2) (λ q. tt) c.place_groups.ensures.packed
 
 pub returns-in_err-sizes-clause-packed : goal.returns-in_err-sizes-clause-packed

@@ -15,6 +15,7 @@ use Rattle.rectangle_pack_rules.proofs.lemmas.packing.Orders.{map-split_at}
 use Rattle.rectangle_pack_lists.proofs.lemmas.trial.StepsByIndex.{saturated-add}
 use Rattle.rectangle_pack_packings.proofs.pack.first_fit.place_groups.Given.{Over}
 use Rattle.rectangle_pack_packings.proofs.pack.first_fit.place_groups.Goals.{After-place_next}
+use Rattle.rectangle_pack_packings.proofs.pack.first_fit.place_groups.Goals.at as goal_at
 use Rattle.rectangle_pack_packings.proofs.pack.first_fit.place_groups.Goals as goal
 
 abbrev by : (g : Over) → g.row.R.Denot → Rules g.row.Id.Denot g.row.B.Denot
@@ -57,7 +58,7 @@ loop-group-init g c = record {
 
 pub returns-then-not-branch-clause-packed : goal.returns-then-not-branch-clause-packed
 returns-then-not-branch-clause-packed g c =
-    let at = (goal.at.returns-then-not-branch-clause-packed g c).After-place_next in
+    let at = (goal_at.returns-then-not-branch-clause-packed g c).After-place_next in
     let done = c.loop-group.invariant.done in
     let i = c.loop-group.group-index in
     let o = c.group-item.result in
@@ -74,7 +75,7 @@ returns-then-not-branch-clause-packed g c =
 
 pub loop-group-preserved : goal.loop-group-preserved
 loop-group-preserved g c =
-    let at = (goal.at.loop-group-preserved g c).After-place_next in
+    let at = (goal_at.loop-group-preserved g c).After-place_next in
     let done = c.loop-group.invariant.done in
     let i = c.loop-group.group-index in
     let o = c.group-item.result in
@@ -101,7 +102,7 @@ returns-in_err-reserve-clause-stopped g c = OnErr-given _ (adds-none _ _ _ _ c.a
 
 pub returns-in_err-place_next-clause-stopped : goal.returns-in_err-place_next-clause-stopped
 returns-in_err-place_next-clause-stopped g c =
-    let at = (goal.at.returns-in_err-place_next-clause-stopped g c).After-place_next in
+    let at = (goal_at.returns-in_err-place_next-clause-stopped g c).After-place_next in
     let done = c.loop-group.invariant.done in
     let i = c.loop-group.group-index in
     let o = c.group-item.result in

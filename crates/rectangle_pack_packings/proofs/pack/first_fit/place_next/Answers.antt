@@ -10,6 +10,7 @@ use Rattle.rectangle_pack_sections.proofs.lemmas.util.Results.{OnErr-given}
 use Rattle.rectangle_pack_rules.proofs.lemmas.packing.FitTests.{adds-none, adds-one}
 use Rattle.rectangle_pack_packings.proofs.pack.first_fit.place_next.Given.{Over}
 use Rattle.rectangle_pack_packings.proofs.pack.first_fit.place_next.Goals.{After-place_group}
+use Rattle.rectangle_pack_packings.proofs.pack.first_fit.place_next.Goals.at as goal_at
 use Rattle.rectangle_pack_packings.proofs.pack.first_fit.place_next.Goals as goal
 
 abbrev by : (g : Over) → g.row.R.Denot → Rules g.row.Id.Denot g.row.B.Denot
@@ -34,7 +35,7 @@ returns-in_err-excluded-clause-stopped g c = OnErr-given _ (adds-none _ _ _ _ c.
 
 pub returns-in-None-clause-placed : goal.returns-in-None-clause-placed
 returns-in-None-clause-placed g c = λ placed fresh kept.
-    let at = (goal.at.returns-in-None-clause-placed g c).After-place_group in
+    let at = (goal_at.returns-in-None-clause-placed g c).After-place_group in
     let refused = on-none _ _ _ c.in-None.is c.in_ok-place_group.ensures.placed in
     let same = excluded_as_found g.K.Ord.cmp g.B.Ord.cmp g.met.K.Ord.total c.args.exclusions.now placed c.args.homes.now
     c.in_ok-excluded.excluded _ c.args.group.now.name.now c.partners-partners.ensures.listed c.partners-partners.ensures.mutual kept
@@ -43,7 +44,7 @@ returns-in-None-clause-placed g c = λ placed fresh kept.
 
 pub returns-clause-placed : goal.returns-clause-placed
 returns-clause-placed g c = λ placed fresh kept.
-    let at = (goal.at.returns-clause-placed g c).After-place_group in
+    let at = (goal_at.returns-clause-placed g c).After-place_group in
     let all = c.args.exclusions.now in
     let same = excluded_as_found g.K.Ord.cmp g.B.Ord.cmp g.met.K.Ord.total all placed c.args.homes.now c.in_ok-excluded.excluded _
     c.args.group.now.name.now c.partners-partners.ensures.listed c.partners-partners.ensures.mutual kept c.in_ok-excluded.ensures in
@@ -53,7 +54,7 @@ returns-clause-placed g c = λ placed fresh kept.
 
 pub returns-in_err-keep-in-Some-clause-stopped : goal.returns-in_err-keep-in-Some-clause-stopped
 returns-in_err-keep-in-Some-clause-stopped g c =
-    let at = (goal.at.returns-in_err-keep-in-Some-clause-stopped g c).After-place_group in
+    let at = (goal_at.returns-in_err-keep-in-Some-clause-stopped g c).After-place_group in
     let here = on-some _ _ _ _ c.in-Some.is c.in_ok-place_group.ensures.placed in
     let old = bins_of c.args.packing.now.bins.kept in
     let names : List g.row.B.Denot = map (λ o. o.1) c.args.packing.now.bins.order in
@@ -72,7 +73,7 @@ returns-in_err-keep-in-Some-clause-placed g c = IfOk-from_err _ _ c.from_residua
 
 pub returns-in_err-place_group-clause-stopped : goal.returns-in_err-place_group-clause-stopped
 returns-in_err-place_group-clause-stopped g c =
-    let at = (goal.at.returns-in_err-place_group-clause-stopped g c).After-place_group in
+    let at = (goal_at.returns-in_err-place_group-clause-stopped g c).After-place_group in
     OnErr-given _ (adds-as-many _ _ _ _ _ c.args.packing.now.tests _ (counted g at) c.in_err-place_group.ensures.stopped)
 
 pub place_group-requires-clause-lengths : goal.place_group-requires-clause-lengths
