@@ -1,21 +1,14 @@
 -- What is written part by part is the whole line.
-use Rattle.std.proofs.Common.{◌≡◌, ℕ, List, [], ◌∷◌, ◌++◌, Option, Result, Ok, Err, OnOk, IsOk, IfErr, length, take, drop, take_all, length-drop, ◌-◌, arith, sym, ap, ◌∙◌, subst, append_assoc, append-nil, ◌+◌, ◌<◌, ◌≤◌, get_or, IsErrAnd, Some, None, IfSome}
+use Rattle.std.proofs.Common.{◌≡◌, ℕ, List, [], ◌∷◌, ◌++◌, Option, Result, Ok, Err, OnOk, IsOk, IfErr, length, take, take_all, ◌-◌, sym, ap, ◌∙◌, subst, append_assoc, ◌+◌, ◌<◌, ◌≤◌, get_or, IsErrAnd, Some, None, IfSome}
 use Rattle.std.specs.List.{flat_map}
 use Rattle.std.specs.Fmt.{◌++?◌}
 use Rattle.std.proofs.lemmas.List.{take_more, flat_map_more}
 use Rattle.std.specs.Io.KnownBytes.{Appends}
 use Rattle.std.proofs.KnownBytes.{Appends-trans}
-use Rattle.packrun_lines.specs.declared.stop.Stop.{Stop}
-use Rattle.packrun_lines.specs.declared.stop.Stop.TheVariants.{IoFailed}
-use Rattle.packrun_lines.specs.private.Printing.{Prints}
-use Rattle.packrun_lines.specs.Lines.{three_text, box_text}
-
--- what holds where a write succeeds holds where its answer is handed on, and any other stop is that it failed
-pub Prints-handed : {U F : Type 0} (a b : Option (List ℕ)) (r : Result (Unit {0}) Stop) (answer : Result U F) (text : List ℕ)
-    → OnOk r (IsOk answer) → IfErr r (λ stop. stop ≡ IoFailed) → OnOk answer (Appends a b text) → Prints a b r text
-Prints-handed a b (Ok _) (Ok _) text ok failed p = p
-Prints-handed a b (Ok _) (Err _) text ok failed p = absurd (cc ok)
-Prints-handed a b (Err stop) answer text ok failed p = failed
+use Rattle.packrun_words.specs.declared.stop.Stop.{Stop}
+use Rattle.packrun_words.specs.declared.stop.Stop.TheVariants.{IoFailed}
+use Rattle.packrun_words.specs.private.Printing.{Prints}
+use Rattle.packrun_words.proofs.Printing.{Prints-handed}
 
 -- a text that is printed behind another
 pub Prints-behind : (a b c : Option (List ℕ)) (r : Result (Unit {0}) Stop) (front text : List ℕ) → Appends a b front → Prints b c r text
@@ -67,11 +60,3 @@ pub Appends-word : (a b c : Option (List ℕ)) (front word : List ℕ) → Appen
     → Appends a c ((front ++ 32 ∷ word) ++ 32 ∷ [])
 Appends-word a b c front word p q =
     subst (λ (bytes : List ℕ). Appends a c bytes) (sym (append_assoc front (32 ∷ word) (32 ∷ []))) (Appends-spaced a b c front (word ++ 32 ∷ []) p q)
-
--- the sides are put at the end of a line, and the corner before them
-pub box_text-put : (corner sides first second : List ℕ) (middle start : ℕ) → length second ≡ 66
-    → drop middle first ≡ three_text sides 10 ++ [] → drop start second ≡ three_text corner 32 ++ drop middle first
-    → take (66 - start) (drop start second) ≡ box_text corner sides
-box_text-put corner sides first second middle start long last before =
-    take_all (66 - start) (drop start second) (omega (arith, length-drop start second, long))
-    ∙ before ∙ ap (λ bytes. three_text corner 32 ++ bytes) (last ∙ append-nil (three_text sides 10))

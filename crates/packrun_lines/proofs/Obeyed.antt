@@ -13,8 +13,8 @@ use Rattle.packrun_lines.specs.Lines.{packed_text, refusal_text, reply_text}
 use Rattle.packrun_lines.specs.private.Calls.{UnlessNoMemory}
 use Rattle.std.proofs.lemmas.Option.{none-some}
 use Rattle.packrun_lines.specs.private.Obeying.{IsObeyed}
-use Rattle.packrun_lines.specs.private.Printing.{Prints, PrintsAnswer}
-use Rattle.packrun_lines.specs.declared.stop.Stop.{Stop}
+use Rattle.packrun_words.specs.private.Printing.{Prints, PrintsAnswer}
+use Rattle.packrun_words.specs.declared.stop.Stop.{Stop}
 use Rattle.packrun_lines.proofs.Desk.{made-last}
 
 module _ (request : Request) (old new : Desk Name) (before after : Option (List ℕ)) (r : Result (Unit {0}) Stop) where

@@ -1,5 +1,5 @@
 -- Lines that are obeyed one after another, up to where they stop.
-use Rattle.std.proofs.Common.{◌≡◌, ◌≢◌, ℕ, ◌+◌, ◌<◌, inl, inr, nat_lt, true, false, List, [], ◌∷◌, ◌++◌, Option, Some, None, IfSome, IsErrAnd, IsErr, OnOk, Result, Ok, Err, length, refl, sym, ap, ◌∙◌, subst, arith, length-append, append_assoc, append-nil}
+use Rattle.std.proofs.Common.{◌≡◌, ◌≢◌, ℕ, ◌+◌, ◌<◌, inl, inr, nat_lt, true, false, List, [], ◌∷◌, ◌++◌, Option, Some, None, IfSome, IsErrAnd, Result, Ok, Err, length, refl, sym, ap, ◌∙◌, subst, arith, length-append, append_assoc, append-nil}
 use Rattle.std.specs.Io.KnownBytes.{Appends, Keeps}
 use Rattle.std.proofs.KnownBytes.{Appends-nil, Appends-trans}
 use Rattle.packrun_words.specs.Requests.{Request, Asks}
@@ -12,8 +12,8 @@ use Rattle.packrun_lines.specs.Transcripts.{AreAnswered, MayEnd, IsTranscript, P
 use Rattle.packrun_lines.specs.private.Obeying.{AreObeyed, IsLineObeyed, StopsSo, outcome_of}
 use Rattle.packrun_lines.specs.declared.outcome.Outcome.{Outcome}
 use Rattle.packrun_lines.specs.declared.outcome.Outcome.TheVariants.{Done, BadLine, NoMemory, IoFailed}
-use Rattle.packrun_lines.specs.declared.stop.Stop.{Stop}
-use Rattle.packrun_lines.specs.declared.stop.Stop.TheVariants as stop
+use Rattle.packrun_words.specs.declared.stop.Stop.{Stop}
+use Rattle.packrun_words.specs.declared.stop.Stop.TheVariants as stop
 
 -- one line more is answered
 pub AreAnswered-more : (lines : List (List ℕ)) (a b c : Desk Name) (text more line : List ℕ) (request : Request) → AreAnswered a lines text b
@@ -150,11 +150,6 @@ some_is n h = grind arith
 pub err_is : {T E : Type 0} (r : Result T E) (e : E) → IsErrAnd r (λ f. f ≡ e) → r ≡ Err e
 err_is (Ok x) e h = absurd h
 err_is (Err f) e h = ap Err h
-
--- an error has no value
-pub OnOk-failed : {T E : Type 0} (P : Type 0) (r : Result T E) → IsErr r → OnOk r P
-OnOk-failed P (Ok x) h = absurd (cc h)
-OnOk-failed P (Err e) h = tt
 
 -- a line could not be read, or its answer not be written
 pub Obeyed-failed : (known : Option (List ℕ)) (old : Desk Name) (before after : Option (List ℕ)) (r : Result (Unit {0}) Stop) (why : Stop) → why ≡ Stop.IoFailed

@@ -1,4 +1,3 @@
 -- Definitions that only the clauses of functions use that no user can call.
 pub mod Calls
 pub mod Obeying
-pub mod Printing

@@ -1,25 +1,16 @@
 //! What a run prints.
-ghost use Rattle.std.specs.Prelude.{◌≡◌, [], ◌∷◌, ◌++◌, IsOk, OnOk, IfErr, IfSome};
-ghost use Rattle.std.specs.Fmt.{decimal};
-ghost use Rattle.packrun_lines.specs.Lines.{box_text, cuboid_text, placement_text, packed_text, sections_text, sums_text, refusal_text, reply_text};
-ghost use Rattle.packrun_lines.specs.private.Printing.{Prints, PrintsAnswer};
+ghost use Rattle.std.specs.Prelude.{IfSome};
+ghost use Rattle.packrun_lines.specs.Lines.{cuboid_text, placement_text, packed_text, sections_text, sums_text, refusal_text, reply_text};
+ghost use Rattle.packrun_words.specs.private.Printing.{Prints, PrintsAnswer};
 
-use crate::digits::{LONGEST_NUMBER, LONGEST_THREE, put_number, put_three};
-use crate::stop::Stop;
+use packrun_words::print::{print_box, print_number, print_word, printed};
+use packrun_words::stop::Stop;
 use packrun_words::word::Word;
 use rectangle_pack::{BinSection, BinStats, Outstanding, RectanglePackError, SessionError};
 use std::alloc::Allocator;
 use std::fmt::Display;
 use std::io;
 use std::io::Write;
-
-// What a write answers, as a run ends by it.
-fn printed(answer: io::Result<()>) -> Result<(), Stop>
-    ensures done { OnOk result (IsOk answer) }
-    ensures failed { IfErr result (λ stop. stop ≡ Stop.IoFailed) }
-{
-    Ok(answer?)
-}
 
 // Prints the placements that a packing made, a line each, and how many they are.
 pub fn print_packed<A: Allocator, W: Write>(
@@ -64,23 +55,6 @@ fn print_placement<A: Allocator, W: Write>(
     )
 }
 
-// Prints the number and the space behind it.
-fn print_number<W: Write>(number: u64, out: &mut W) -> Result<(), Stop>
-    ensures { Prints (W.contents out.old) (W.contents out.new) result (decimal number ++ 32 ∷ []) }
-{
-    let mut line = [0; LONGEST_NUMBER];
-    let start = put_number(number, b' ', &mut line, LONGEST_NUMBER);
-    printed(out.write_all(&line[start..]))
-}
-
-// Prints the word and the space behind it.
-fn print_word<A: Allocator, W: Write>(word: &Word<A>, out: &mut W) -> Result<(), Stop>
-    ensures { Prints (W.contents out.old) (W.contents out.new) result (word.now ++ 32 ∷ []) }
-{
-    printed(out.write_all(word.as_bytes()))?;
-    printed(out.write_all(b" "))
-}
-
 // Prints the free sections, a line each, and how many there are.
 pub fn print_list<W: Write>(sections: &[BinSection], out: &mut W) -> Result<(), Stop>
     // Free sections are printed as a line for each, in the order of the bin's list, and how many
@@ -104,16 +78,6 @@ fn print_section<W: Write>(section: &BinSection, out: &mut W) -> Result<(), Stop
         [whd.width(), whd.height(), whd.depth()],
         out,
     )
-}
-
-// Prints the least corner of a box and its sides, to the end of the line.
-fn print_box<W: Write>(corner: [u32; 3], sides: [u32; 3], out: &mut W) -> Result<(), Stop>
-    ensures { Prints (W.contents out.old) (W.contents out.new) result (box_text corner sides) }
-{
-    let mut line = [0; 2 * LONGEST_THREE];
-    let middle = put_three(sides, b'\n', &mut line, 2 * LONGEST_THREE);
-    let start = put_three(corner, b' ', &mut line, middle);
-    printed(out.write_all(&line[start..]))
 }
 
 // Prints what is free and what is placed in a bin.

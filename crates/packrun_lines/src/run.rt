@@ -1,17 +1,16 @@
 //! Commands, a line each, from a reader to a writer.
-ghost use Rattle.std.specs.Prelude.{◌≡◌, ◌≢◌, [], IfOk, IfErr, IfSome, OnOk, length, nat_lt};
+ghost use Rattle.std.specs.Prelude.{◌≡◌, ◌≢◌, [], IfSome, OnOk};
 ghost use Rattle.std.specs.Io.Buffered.{reader_remaining, writer_buffer, writer_contents};
-ghost use Rattle.std.specs.Io.KnownBytes.{Appends, Keeps};
-ghost use Rattle.packrun_words.specs.private.Reading.{IsLineRead};
+ghost use Rattle.std.specs.Io.KnownBytes.{Appends};
 ghost use Rattle.packrun_lines.specs.Desk.{empty_desk};
 ghost use Rattle.packrun_lines.specs.private.Obeying.{IsLineObeyed, StopsSo, outcome_of};
 ghost use Rattle.packrun_lines.specs.Transcripts.{PrintsTranscript, last_line};
 
 use crate::outcome::Outcome;
-use crate::stop::Stop;
 use crate::store::Store;
 use packrun_words::command::{LONGEST_LINE, parse};
-use packrun_words::input::read_line;
+use packrun_words::input::next_line;
+use packrun_words::stop::Stop;
 use std::alloc::Allocator;
 use std::io;
 use std::io::{BufReader, BufWriter, Read, Write};
@@ -61,7 +60,7 @@ pub fn run_buffered<R: Read, W: Write + Drop, A: Allocator + Copy>(
     outcome
 }
 
-// Makes a buffer for the input, and obeys its lines.
+// Makes what the lines work on, and obeys them.
 fn obey_all<R: Read, W: Write, A: Allocator + Copy>(
     alloc: A,
     reader: &mut R,
@@ -70,25 +69,13 @@ fn obey_all<R: Read, W: Write, A: Allocator + Copy>(
     ensures { IfSome (R.remaining reader.old) (λ bytes. StopsSo (outcome_of result) bytes
         (empty_desk 0) (W.contents out.old) (W.contents out.new)) }
 {
-    match BufReader::new(alloc, reader) {
-        Ok(mut input) => obey_input(alloc, &mut input, out),
-        Err(_) => Err(Stop::NoMemory),
-    }
-}
-
-// Makes what the lines work on, and obeys them.
-fn obey_input<R: Read, W: Write, A: Allocator + Copy>(
-    alloc: A,
-    input: &mut BufReader<R, A>,
-    out: &mut W,
-) -> Result<(), Stop>
-    ensures { IfSome (reader_remaining R.remaining input.old) (λ bytes. StopsSo (outcome_of result)
-        bytes (empty_desk 0) (W.contents out.old) (W.contents out.new)) }
-{
+    let Ok(mut input) = BufReader::new(alloc, reader) else {
+        return Err(Stop::NoMemory);
+    };
     // With this room a line takes no memory, so an error of `read_line` is the reader's.
     let mut line = Vec::with_capacity(alloc, LONGEST_LINE + 1)?;
     let mut store = Store::new(alloc, 0);
-    let ended = obey_each(&mut store, input, &mut line, out);
+    let ended = obey_each(&mut store, &mut input, &mut line, out);
     store.close();
     ended
 }
@@ -111,42 +98,6 @@ fn obey_each<R: Read, W: Write, A: Allocator + Copy>(
         obey_line(store, number, line.as_slice(), out)?;
     }
     Err(Stop::IoFailed)
-}
-
-// Reads the next line, and adds its bytes to those that were read. Whether there was one.
-fn next_line<R: Read, W: Write, A: Allocator>(
-    input: &mut BufReader<R, A>,
-    line: &mut Vec<u8, A>,
-    total: &mut u64,
-    out: &mut W,
-) -> Result<bool, Stop>
-    ensures read { OnOk result (IsLineRead (reader_remaining R.remaining input.old) line.new.items
-        (reader_remaining R.remaining input.new)) }
-    ensures some { IfOk result (λ more. more ≡ nat_lt 0 (length line.new.items)) }
-    ensures printed { OnOk result (Keeps (W.contents out.old) (W.contents out.new)) }
-    ensures failed { IfErr result (λ stop. stop ≡ Stop.IoFailed) }
-{
-    flush_before_read(input, out)?;
-    read_line(input, line)?;
-    let count = line.len() as u64;
-    let Some(sum) = total.checked_add(count) else {
-        return Err(Stop::IoFailed);
-    };
-    *total = sum;
-    Ok(count > 0)
-}
-
-// Flushes what is printed, where the next line is not buffered to its end.
-fn flush_before_read<R: Read, W: Write, A: Allocator>(
-    input: &BufReader<R, A>,
-    out: &mut W,
-) -> io::Result<()>
-    ensures { OnOk result (Keeps (W.contents out.old) (W.contents out.new)) }
-{
-    if input.buffer().contains(&b'\n') {
-        return Ok(());
-    }
-    out.flush()
 }
 
 fn obey_line<W: Write, A: Allocator + Copy>(

@@ -1,5 +1,5 @@
 //! The session, and the boxes to place, that lines speak of.
-ghost use Rattle.std.specs.Prelude.{◌≡◌, ◌≢◌, ◌<◌, ◌++◌, IfOk, OnOk};
+ghost use Rattle.std.specs.Prelude.{◌≡◌, ◌≢◌, ◌<◌, IfOk};
 ghost use Rattle.std.specs.Option.{ForSome, option_map};
 ghost use Rattle.std.specs.Vec.{vec_len};
 ghost use Rattle.rectangle_pack.specs.Groups.{Excludes};
@@ -17,9 +17,9 @@ ghost use Rattle.packrun_lines.specs.private.Calls.{UnlessNoMemory, IsFound};
 
 use crate::packer::Packer;
 use crate::print::{print_list, print_packed, print_sums, refuse, report};
-use crate::stop::Stop;
 use packrun_words::command::{Command, Size};
-use packrun_words::word::Word;
+use packrun_words::stop::Stop;
+use packrun_words::word::{Word, push_words};
 use rectangle_pack::{BinStats, SessionError};
 use std::alloc::{AllocError, Allocator};
 use std::io::Write;
@@ -189,17 +189,4 @@ fn named_groups<A: Allocator + Copy>(
     let mut named = Vec::new(alloc);
     push_words(&mut named, alloc, groups)?;
     Ok(if named.is_empty() { None } else { Some(named) })
-}
-
-fn push_words<A: Allocator + Copy>(
-    words: &mut Vec<Word<A>, A>,
-    alloc: A,
-    names: SplitAsciiWhitespace<'_>,
-) -> Result<(), AllocError>
-    ensures { OnOk result (words.new.items ≡ words.old.items ++ words_left names.entry) }
-{
-    for name in names {
-        words.push(Word::new(alloc, name)?)?;
-    }
-    Ok(())
 }

@@ -1,5 +1,6 @@
 pub mod Names
 pub mod NextLines
+pub mod Printing
 pub mod ReadLines
 pub mod Requests
 pub mod Words

@@ -1,5 +1,5 @@
 -- What words do not say.
-use Rattle.std.proofs.Common.{◌≡◌, ℕ, ◌<◌, true, Option, Some, None, MatchOption, Result, Ok, Err, MatchResult, List, [], ◌∷◌, refl, sym, ap, subst, arith, codes}
+use Rattle.std.proofs.Common.{◌≡◌, ℕ, ◌<◌, true, Option, Some, None, MatchOption, Result, Ok, Err, MatchResult, List, ◌∷◌, refl, sym, ap, subst, arith, codes}
 use Rattle.std.specs.Option.{is_some}
 use Rattle.std.specs.Result.{is_ok}
 use Rattle.std.specs.Str.{IsUtf8}
@@ -8,7 +8,7 @@ use Rattle.std.proofs.lemmas.Str.Ascii.{IsAscii-from_all}
 use Rattle.std.proofs.lemmas.List.Elements.{All-weaker}
 use Rattle.packrun_words.specs.declared.command.Command.{Command}
 use Rattle.packrun_words.specs.Words.{may_stand, words_in}
-use Rattle.packrun_words.specs.Requests.{Request, Asks, Say, IsPlain}
+use Rattle.packrun_words.specs.Requests.{Request, Say, IsPlain}
 use Rattle.packrun_words.specs.Requests.Request.{Nothing, Bin, Rect, Exclude, Pack, Release, Sections, Coalesce, Sweep, Stats}
 use Rattle.packrun_words.specs.private.Verbs.{verb_of, Take, AreOf}
 use Rattle.packrun_words.specs.private.Commands.{IsNextRequest, IsNextSize, IsRead, IsReading, request_of}

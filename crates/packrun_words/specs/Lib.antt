@@ -1,4 +1,5 @@
 pub mod Input
+pub mod Numbers
 pub mod private
 pub mod Requests
 pub mod Words

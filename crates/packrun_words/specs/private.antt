@@ -1,4 +1,5 @@
 pub mod Commands
 pub mod Names
+pub mod Printing
 pub mod Reading
 pub mod Verbs

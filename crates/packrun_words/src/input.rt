@@ -1,12 +1,15 @@
 //! The lines of an input.
-ghost use Rattle.std.specs.Prelude.{◌≡◌, ◌≢◌, ◌<◌, ◌≤◌, ◌-◌, All, take, length, vec_len, IfOk, OnOk};
+ghost use Rattle.std.specs.Prelude.{◌≡◌, ◌≢◌, ◌<◌, ◌≤◌, ◌-◌, All, take, length, vec_len, nat_lt, IfOk, IfErr, OnOk};
 ghost use Rattle.std.specs.Io.{StartsWith};
+ghost use Rattle.std.specs.Io.Buffered.{reader_remaining};
+ghost use Rattle.std.specs.Io.KnownBytes.{Keeps};
 ghost use Rattle.packrun_words.specs.private.Reading.{IsLineRead, IsPartRead, has_ended};
 
 use crate::command::LONGEST_LINE;
+use crate::stop::Stop;
 use std::alloc::Allocator;
 use std::io;
-use std::io::{BufRead, ErrorKind};
+use std::io::{BufRead, BufReader, ErrorKind, Read, Write};
 
 /// Reads the next line into `line`, with its line feed, or the first 4097 bytes of one that is
 /// longer. Nothing is in `line` at the end of the input.
@@ -69,4 +72,40 @@ fn length_of_part(bytes: &[u8], most: usize) -> usize
         }
     }
     most
+}
+
+/// Reads the next line, and adds its bytes to those that were read. Whether there was one.
+pub fn next_line<R: Read, W: Write, A: Allocator>(
+    input: &mut BufReader<R, A>,
+    line: &mut Vec<u8, A>,
+    total: &mut u64,
+    out: &mut W,
+) -> Result<bool, Stop>
+    ensures read { OnOk result (IsLineRead (reader_remaining R.remaining input.old) line.new.items
+        (reader_remaining R.remaining input.new)) }
+    ensures some { IfOk result (λ more. more ≡ nat_lt 0 (length line.new.items)) }
+    ensures printed { OnOk result (Keeps (W.contents out.old) (W.contents out.new)) }
+    ensures failed { IfErr result (λ stop. stop ≡ Stop.IoFailed) }
+{
+    flush_before_read(input, out)?;
+    read_line(input, line)?;
+    let count = line.len() as u64;
+    let Some(sum) = total.checked_add(count) else {
+        return Err(Stop::IoFailed);
+    };
+    *total = sum;
+    Ok(count > 0)
+}
+
+// Flushes what is printed, where the next line is not buffered to its end.
+fn flush_before_read<R: Read, W: Write, A: Allocator>(
+    input: &BufReader<R, A>,
+    out: &mut W,
+) -> io::Result<()>
+    ensures { OnOk result (Keeps (W.contents out.old) (W.contents out.new)) }
+{
+    if input.buffer().contains(&b'\n') {
+        return Ok(());
+    }
+    out.flush()
 }

@@ -1,14 +1,16 @@
 //! The names of bins, boxes and groups.
-ghost use Rattle.std.specs.Prelude.{◌≡◌, ◌≤◌, Some, length, nat_eq, refl, IfOk};
+ghost use Rattle.std.specs.Prelude.{◌≡◌, ◌≤◌, ◌++◌, Some, length, nat_eq, refl, IfOk, OnOk};
 ghost use Rattle.std.specs.Ordering.{nat_cmp, ordering_then};
 ghost use Rattle.std.specs.Cmp.{partial_equiv_from_equiv};
 ghost use Rattle.std.specs.Cmp.Lexicographic.{pointwise, slice_cmp, nat_list_eq_equiv, nat_list_cmp_total, texts_po, texts_ties};
+ghost use Rattle.packrun_words.specs.private.Commands.{words_left};
 ghost use Rattle.packrun_words.specs.private.Names.{eight_from, padded};
 
 use std::alloc::{AllocError, Allocator};
 use std::cmp::Ordering;
 use std::marker::Model;
 use std::rc::RcStr;
+use std::str::SplitAsciiWhitespace;
 
 // The most bytes of a name that takes no memory.
 const SHORT: usize = 14;
@@ -190,4 +192,18 @@ fn last_eight(bytes: &[u8; SHORT]) -> u64
     u64::from_be_bytes([
         bytes[6], bytes[7], bytes[8], bytes[9], bytes[10], bytes[11], bytes[12], bytes[13],
     ])
+}
+
+/// Appends the words, in their order. Where memory is refused, some of them may be there.
+pub fn push_words<A: Allocator + Copy>(
+    words: &mut Vec<Word<A>, A>,
+    alloc: A,
+    names: SplitAsciiWhitespace<'_>,
+) -> Result<(), AllocError>
+    ensures { OnOk result (words.new.items ≡ words.old.items ++ words_left names.entry) }
+{
+    for name in names {
+        words.push(Word::new(alloc, name)?)?;
+    }
+    Ok(())
 }

@@ -9,8 +9,8 @@ use Rattle.packrun_lines.specs.Desk.{Desk}
 use Rattle.packrun_lines.specs.Transcripts.{AreAnswered, MayEnd}
 use Rattle.packrun_lines.specs.declared.outcome.Outcome.{Outcome}
 use Rattle.packrun_lines.specs.declared.outcome.Outcome.TheVariants as outcome
-use Rattle.packrun_lines.specs.declared.stop.Stop.{Stop}
-use Rattle.packrun_lines.specs.declared.stop.Stop.TheVariants.{BadLine, NoMemory, IoFailed}
+use Rattle.packrun_words.specs.declared.stop.Stop.{Stop}
+use Rattle.packrun_words.specs.declared.stop.Stop.TheVariants.{BadLine, NoMemory, IoFailed}
 
 -- how a run ends by what stopped its lines, or by nothing
 abbrev pub outcome_of : Result (Unit {0}) Stop → Outcome

@@ -1,7 +1,8 @@
 use Rattle.std.proofs.Common.{◌∷◌, [], ◌++◌, ◌≡◌, List, ℕ, subst}
 use Rattle.std.specs.Fmt.{decimal}
-use Rattle.packrun_lines.specs.Lines.{box_text, cuboid_text}
-use Rattle.packrun_lines.specs.private.Printing.{Prints}
+use Rattle.packrun_lines.specs.Lines.{cuboid_text}
+use Rattle.packrun_words.specs.Numbers.{box_text}
+use Rattle.packrun_words.specs.private.Printing.{Prints}
 use Rattle.packrun_lines.proofs.Lines.{Prints-spaced, Appends-word}
 use Rattle.packrun_lines.proofs.print.print_placement.Goals as goal
 

@@ -1,5 +1,5 @@
 use Rattle.std.proofs.Common.{append_assoc}
-use Rattle.packrun_lines.proofs.Lines.{Prints-handed}
+use Rattle.packrun_words.proofs.Printing.{Prints-handed}
 use Rattle.packrun_lines.proofs.print.print_sums.Goals as goal
 
 pub returns : goal.returns

@@ -1,5 +1,6 @@
 use Rattle.std.specs.Prelude.{codes}
-use Rattle.packrun_lines.proofs.Lines.{Prints-named, Prints-handed}
+use Rattle.packrun_lines.proofs.Lines.{Prints-named}
+use Rattle.packrun_words.proofs.Printing.{Prints-handed}
 use Rattle.std.proofs.Common.{Option, Some, None, IfSome, List, ℕ}
 use Rattle.packrun_lines.proofs.print.refuse.Goals as goal
 

@@ -1,8 +1,8 @@
-use Rattle.std.proofs.Common.{rules, Ok, Err, IfSome, sym, subst, ◌∙◌, length, refl, arith}
+use Rattle.std.proofs.Common.{Ok, Err, IfSome, sym, subst, ◌∙◌, length, refl, arith}
 use Rattle.std.specs.Io.Buffered.{reader_remaining}
 use Rattle.packrun_lines.specs.private.Obeying.{IsLineObeyed, StopsSo, outcome_of}
 use Rattle.packrun_lines.proofs.Transcripts.{Obeyed-none, Obeyed-more, Obeyed-at_end, Obeyed-stopped, Obeyed-failed, none_is, some_is, err_is}
-use Rattle.packrun_lines.specs.declared.stop.Stop.TheVariants.{IoFailed}
+use Rattle.packrun_words.specs.declared.stop.Stop.TheVariants.{IoFailed}
 use Rattle.packrun_lines.proofs.run.obey_each.Goals as goal
 
 pub loop-number-init : goal.loop-number-init

@@ -11,7 +11,6 @@ use Rattle.rectangle_pack_bins.proofs.lemmas.bins.Journals.{GoesBack-same}
 use Rattle.rectangle_pack_rules.proofs.lemmas.packing.FitTests.{adds-begun}
 use Rattle.rectangle_pack_lists.proofs.lemmas.trial.StepsByIndex.{saturated-add}
 use Rattle.rectangle_pack_packings.proofs.pack.first_fit.place_group.Given.{Over}
-use Rattle.rectangle_pack_packings.proofs.pack.first_fit.place_group.Goals.{After-next_bin}
 use Rattle.rectangle_pack_rules.proofs.lemmas.packing.Turns.{ArePassed-more}
 use Rattle.rectangle_pack_packings.proofs.lemmas.packing.PassedOver.{ArePassed-over, ArePassed-rest}
 use Rattle.rectangle_pack_packings.proofs.pack.first_fit.place_group.Goals as goal

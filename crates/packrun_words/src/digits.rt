@@ -1,7 +1,7 @@
 //! The numbers of a line, put together before they are written.
 ghost use Rattle.std.specs.Prelude.{◌≡◌, ◌+◌, ◌<◌, ◌≤◌, ◌∷◌, ◌++◌, length, drop};
 ghost use Rattle.std.specs.Fmt.{decimal};
-ghost use Rattle.packrun_lines.specs.Lines.{three_text};
+ghost use Rattle.packrun_words.specs.Numbers.{three_text};
 
 /// The most bytes of a number of 64 bits and what stands behind it.
 pub const LONGEST_NUMBER: usize = 21;

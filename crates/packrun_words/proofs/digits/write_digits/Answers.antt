@@ -3,7 +3,7 @@ use Rattle.std.proofs.Common.{append_assoc, arith}
 use Rattle.std.specs.Fmt.{decimal}
 use Rattle.std.proofs.lemmas.Fmt.{decimal_step, decimal_digit, decimal_nonempty}
 use Rattle.std.proofs.lemmas.List.{drop-set}
-use Rattle.packrun_lines.proofs.digits.write_digits.Goals as goal
+use Rattle.packrun_words.proofs.digits.write_digits.Goals as goal
 
 -- a byte that is written before a place stands in front of what was there
 written_before : (line : List ℕ) (at byte : ℕ) → 1 ≤ at → at ≤ length line → drop (at - 1) (set line (at - 1) byte) ≡ byte ∷ drop at line

@@ -2,7 +2,7 @@ use Rattle.std.proofs.Common.{◌≡◌, ◌∷◌, [], ◌++◌, Some, None, Li
 use Rattle.std.specs.Str.Iter.{split_ascii_whitespace_text}
 use Rattle.packrun_words.specs.private.Commands.{words_left}
 use Rattle.packrun_words.proofs.Words.{IsNextWord-of_step}
-use Rattle.packrun_lines.proofs.store.push_words.Goals as goal
+use Rattle.packrun_words.proofs.word.push_words.Goals as goal
 
 pub loop-name-preserved : goal.loop-name-preserved
 loop-name-preserved g c =

@@ -1,7 +1,7 @@
 use Rattle.std.proofs.Common.{ℕ, List, OnOk, subst, ◌∙◌}
 use Rattle.std.specs.Io.KnownBytes.{Appends}
-use Rattle.packrun_lines.proofs.Lines.{Prints-handed, box_text-put}
-use Rattle.packrun_lines.proofs.print.print_box.Goals as goal
+use Rattle.packrun_words.proofs.Printing.{Prints-handed, box_text-put}
+use Rattle.packrun_words.proofs.print.print_box.Goals as goal
 
 pub returns : goal.returns
 returns g c =

@@ -1,6 +1,6 @@
 use Rattle.std.proofs.Common.{◌-◌, arith, length-set}
 use Rattle.std.proofs.lemmas.Fmt.{length-decimal-le}
-use Rattle.packrun_lines.proofs.digits.put_number.Goals as goal
+use Rattle.packrun_words.proofs.digits.put_number.Goals as goal
 
 pub write_digits-requires : goal.write_digits-requires
 write_digits-requires c =

@@ -1,6 +1,6 @@
 //! What stops a run, and which errors of std stand for it.
 ghost use Rattle.std.specs.Prelude.{◌≡◌};
-ghost use Rattle.packrun_lines.specs.declared.stop.Stop.TheVariants.{NoMemory, IoFailed};
+ghost use Rattle.packrun_words.specs.declared.stop.Stop.TheVariants.{NoMemory, IoFailed};
 
 use std::alloc::{AllocError, AllocFailed};
 use std::io;

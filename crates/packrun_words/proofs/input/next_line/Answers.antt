@@ -1,7 +1,7 @@
-use Rattle.packrun_lines.proofs.Transcripts.{OnOk-failed}
+use Rattle.packrun_words.proofs.Printing.{OnOk-failed}
 use Rattle.std.proofs.lemmas.Result.{IfOk-from_err}
 use Rattle.std.proofs.Common.{refl}
-use Rattle.packrun_lines.proofs.run.next_line.Goals as goal
+use Rattle.packrun_words.proofs.input.next_line.Goals as goal
 
 pub returns-clause-failed : goal.returns-clause-failed
 returns-clause-failed g c = tt
