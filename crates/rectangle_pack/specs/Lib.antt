@@ -12,10 +12,10 @@ pub use Rattle.rectangle_pack_sections.specs.Covering
 pub use Rattle.rectangle_pack_sections.specs.CutTrees
 pub use Rattle.rectangle_pack_sections.specs.Texts
 pub use Rattle.rectangle_pack_sections.specs.Heuristics
-pub use Rattle.rectangle_pack_groups.specs.Clones
-pub use Rattle.rectangle_pack_groups.specs.Exclusions
-pub use Rattle.rectangle_pack_groups.specs.Groups
-pub use Rattle.rectangle_pack_groups.specs.Alike
+pub use Rattle.rectangle_pack_sections.specs.Clones
+pub use Rattle.rectangle_pack_sections.specs.Exclusions
+pub use Rattle.rectangle_pack_sections.specs.Groups
+pub use Rattle.rectangle_pack_sections.specs.Alike
 pub use Rattle.rectangle_pack_lists.specs.Numbers
 pub use Rattle.rectangle_pack_lists.specs.Steps
 pub use Rattle.rectangle_pack_lists.specs.Trials

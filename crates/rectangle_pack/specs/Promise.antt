@@ -5,7 +5,7 @@ use Rattle.std.specs.declared.vec.Vec.{Vec}
 use Rattle.std.specs.List.Sorted.{IsPermutation}
 use Rattle.std.specs.Map.{lookup, keys_of}
 use Rattle.std.specs.BTreeMap.{is_at}
-use Rattle.rectangle_pack_groups.specs.declared.grouped_rects_to_place.Group.{Group}
+use Rattle.rectangle_pack_sections.specs.declared.group.Group.{Group}
 use Rattle.rectangle_pack_rules.specs.declared.answer.Placement.{Placement}
 use Rattle.rectangle_pack.specs.declared.session.command.SessionError.TheVariants.{NotEnoughBinSpace}
 use Rattle.rectangle_pack.specs.declared.session.command.Reply.{Reply}
@@ -13,7 +13,7 @@ use Rattle.rectangle_pack.specs.declared.session.command.Reply.TheVariants.{Pack
 use Rattle.rectangle_pack.specs.declared.session.command.Command.{Command}
 use Rattle.rectangle_pack.specs.declared.session.command.Command.TheVariants.{Pack}
 use Rattle.rectangle_pack_sections.specs.Bins.{Bin}
-use Rattle.rectangle_pack_groups.specs.Groups.{Collection}
+use Rattle.rectangle_pack_sections.specs.Groups.{Collection}
 use Rattle.rectangle_pack_rules.specs.Packing.{Rules, DoesNotTake, PackingRefused, excludes_by, AreKeptApart}
 use Rattle.rectangle_pack_rules.specs.Placed.{ArePlacedWhole}
 use Rattle.rectangle_pack.specs.Session.{State, IsSession, numbered, IsTransition, IsRun}

@@ -6,7 +6,7 @@ use Rattle.std.specs.declared.cmp.Ordering.{Ordering}
 use Rattle.std.specs.declared.cmp.Ordering.TheVariants.{Equal}
 use Rattle.std.specs.Map.{lookup, set_value}
 use Rattle.std.specs.BTreeMap.{is_at, insert_entry}
-use Rattle.rectangle_pack_groups.specs.declared.grouped_rects_to_place.Group.{Group}
+use Rattle.rectangle_pack_sections.specs.declared.group.Group.{Group}
 use Rattle.rectangle_pack_rules.specs.declared.answer.Placement.{Placement}
 use Rattle.rectangle_pack.specs.declared.session.command.Outstanding.{Outstanding}
 use Rattle.rectangle_pack.specs.declared.session.command.Packed.{Packed as PackedNumbers}
@@ -22,7 +22,7 @@ use Rattle.rectangle_pack_sections.specs.Bins.{Bin, new_bin, whole}
 use Rattle.rectangle_pack_sections.specs.Covering.{CoverBin}
 use Rattle.rectangle_pack_sections.specs.CutTrees.{IsFromCuts}
 use Rattle.rectangle_pack_lists.specs.Joining.{IsJoined, IsSwept}
-use Rattle.rectangle_pack_groups.specs.Groups.{Collection, entries_of}
+use Rattle.rectangle_pack_sections.specs.Groups.{Collection, entries_of}
 use Rattle.rectangle_pack_rules.specs.Packing.{Rules, PackingDone, PackingRefused}
 
 -- a session: its bins by id, the outstanding placements in the order of numbers, and the number of the next placement

@@ -2,8 +2,8 @@
 use Rattle.std.specs.Prelude.{◌≡◌, ◌+◌, ◌<◌, ◌≤◌, ◌^◌, List, All, Result, Ok, Err, ⊤}
 use Rattle.std.specs.declared.cmp.Ordering.{Ordering}
 use Rattle.rectangle_pack_sections.specs.declared.box_size_heuristics.named.Heuristic.{Heuristic}
-use Rattle.rectangle_pack_groups.specs.declared.grouped_rects_to_place.Group.{Group}
-use Rattle.rectangle_pack_groups.specs.Groups.{Collection, entries_of}
+use Rattle.rectangle_pack_sections.specs.declared.group.Group.{Group}
+use Rattle.rectangle_pack_sections.specs.Groups.{Collection, entries_of}
 use Rattle.rectangle_pack_rules.specs.Best.{named_rules, use_of, IsRefusedWith, IsBestOf}
 use Rattle.rectangle_pack.specs.declared.session.command.Packed.{Packed}
 use Rattle.rectangle_pack.specs.declared.session.command.SessionError.{SessionError}

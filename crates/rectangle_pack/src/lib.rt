@@ -25,8 +25,9 @@ pub mod box_size_heuristics {
 /// Boxes in groups.
 pub mod grouped_rects_to_place {
     pub use rectangle_pack_groups::grouped_rects_to_place::{
-        Group, GroupedRectsToPlace, equal_pushes_leave_equal_collections, groups_are_ordered,
+        GroupedRectsToPlace, equal_pushes_leave_equal_collections, groups_are_ordered,
     };
+    pub use rectangle_pack_sections::group::Group;
 }
 
 /// Packing groups of boxes into bins.

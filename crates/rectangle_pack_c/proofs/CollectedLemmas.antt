@@ -16,7 +16,7 @@ use Rattle.rectangle_pack.specs.Packing.{Rules, AreAllPlaced, PackingDone, at_st
 use Rattle.rectangle_pack.specs.Alike.{AreCollectionsAlike}
 use Rattle.rectangle_pack_sections.proofs.lemmas.cuts.Counting.{count_yes, count_no}
 use Rattle.rectangle_pack_sections.proofs.lemmas.util.Maps.{lookup-inserted}
-use Rattle.rectangle_pack_groups.proofs.lemmas.util.Maps.{AreOptionsAlike, maps_alike}
+use Rattle.rectangle_pack_sections.proofs.lemmas.groups.Alike.{AreOptionsAlike, maps_alike}
 use Rattle.rectangle_pack_c.specs.declared.RpBox.{RpBox}
 use Rattle.rectangle_pack_c.specs.declared.collection.RpExclusion.{RpExclusion}
 use Rattle.rectangle_pack_c.specs.Arguments.{box_size}

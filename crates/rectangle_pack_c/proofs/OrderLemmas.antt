@@ -3,7 +3,7 @@ use Rattle.rectangle_pack_c.proofs.Std.{◌≡◌, ◌≢◌, ℕ, ◌<◌, Bool
 use Rattle.rectangle_pack_c.proofs.Std.{nat_cmp, is_eq, nat_cmp_total, exact_unsigned}
 use Rattle.rectangle_pack.specs.declared.grouped_rects_to_place.Group.{Group}
 use Rattle.rectangle_pack.specs.declared.grouped_rects_to_place.Group.TheVariants.{Ungrouped, Grouped}
-use Rattle.rectangle_pack_groups.proofs.lemmas.groups.GroupOrder.{groups_total}
+use Rattle.rectangle_pack_sections.proofs.lemmas.groups.GroupOrder.{groups_total}
 use Rattle.rectangle_pack_c.specs.Collections.{group_order}
 
 pub nat_greater : (a b : ℕ) → b < a → nat_cmp a b ≡ Greater

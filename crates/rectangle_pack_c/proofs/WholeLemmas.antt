@@ -8,7 +8,7 @@ use Rattle.rectangle_pack.specs.declared.pack.Placement.{Placement}
 use Rattle.rectangle_pack.specs.Boxes.{Size}
 use Rattle.rectangle_pack.specs.Placed.{ArePlacedWhole}
 use Rattle.rectangle_pack_sections.proofs.lemmas.util.Lists.{AllPairs-append, AllPairs-head, AllPairs-tail}
-use Rattle.rectangle_pack_groups.proofs.lemmas.util.Zips.{AllZip-back}
+use Rattle.rectangle_pack_sections.proofs.lemmas.util.Zips.{AllZip-back}
 use Rattle.rectangle_pack_c.specs.Collections.{group_order}
 use Rattle.rectangle_pack_c.proofs.OrderLemmas.{exact_group, group_same}
 

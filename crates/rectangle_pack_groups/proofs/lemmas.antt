@@ -1,4 +1,3 @@
 -- Lemmas by subject, each subject after those that it stands on.
-pub mod util
 pub mod multimap
 pub mod groups

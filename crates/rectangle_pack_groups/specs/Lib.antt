@@ -1,5 +1,1 @@
-pub mod Clones
-pub mod Exclusions
-pub mod Groups
-pub mod Alike
 pub mod private

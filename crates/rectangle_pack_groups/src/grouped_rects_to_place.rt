@@ -3,10 +3,10 @@ ghost use Rattle.std.specs.Prelude.{◌≡◌, ◌<◌, [], true, false, map, On
 ghost use Rattle.std.specs.Option.{ForSome};
 ghost use Rattle.std.specs.List.Sorted.{IsStrictlySortedBy};
 ghost use Rattle.std.specs.Map.{keys_of};
-ghost use Rattle.rectangle_pack_groups.specs.Clones.{ClonesEqual};
-ghost use Rattle.rectangle_pack_groups.specs.Exclusions.{are_excluded};
-ghost use Rattle.rectangle_pack_groups.specs.Groups.{Collection, PushesAlone, PushesInto, Excludes, MembersHaveSizes, lists_of};
-ghost use Rattle.rectangle_pack_groups.specs.declared.grouped_rects_to_place.Group.TheVariants.{Grouped};
+ghost use Rattle.rectangle_pack_sections.specs.Clones.{ClonesEqual};
+ghost use Rattle.rectangle_pack_sections.specs.Exclusions.{are_excluded};
+ghost use Rattle.rectangle_pack_sections.specs.Groups.{Collection, PushesAlone, PushesInto, Excludes, MembersHaveSizes, lists_of};
+ghost use Rattle.rectangle_pack_sections.specs.declared.group.Group.TheVariants.{Grouped};
 
 pub mod exclusions;
 mod laws;
@@ -17,19 +17,11 @@ use crate::grouped_rects_to_place::exclusions::Exclusions;
 use crate::grouped_rects_to_place::members::{add_member, put_alone, restore};
 use crate::grouped_rects_to_place::multimap::ascending;
 pub use laws::{equal_pushes_leave_equal_collections, groups_are_ordered};
+use rectangle_pack_sections::group::Group;
 use rectangle_pack_sections::rect_to_insert::RectToInsert;
 use std::alloc::{AllocError, Allocator, Global};
 use std::collections::BTreeMap;
 use std::marker::Model;
-
-/// A group of boxes that go into one bin together: a box of its own, or the boxes of a named group.
-#[derive(Debug, Clone, PartialEq, Eq, PartialOrd, Ord, Drop)]
-pub enum Group<GroupId, Id> {
-    /// The box of this id, alone.
-    Ungrouped(Id),
-    /// The boxes that were pushed into the group of this name.
-    Grouped(GroupId),
-}
 
 /// Boxes that are to be placed, each under its id and in one or more groups.
 #[derive(Drop)]
@@ -44,7 +36,7 @@ pub struct GroupedRectsToPlace<Id: Ord, GroupId: Ord, A: Allocator + Copy = Glob
 
 // Each group has an entry, and the id of each entry has a size.
 impl<Id: Ord, GroupId: Ord, A: Allocator + Copy> Model for GroupedRectsToPlace<Id, GroupId, A> {
-    ghost use Rattle.rectangle_pack_groups.specs.Groups.{Collection, MembersHaveSizes, lists_of};
+    ghost use Rattle.rectangle_pack_sections.specs.Groups.{Collection, MembersHaveSizes, lists_of};
 
     ghost Value = { Collection Id GroupId };
 

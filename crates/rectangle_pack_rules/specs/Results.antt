@@ -3,15 +3,15 @@ use Rattle.std.specs.Prelude.{◌≡◌, List, ◌⊎◌, Any, Contains}
 use Rattle.std.specs.List.{AllZip}
 use Rattle.std.specs.declared.cmp.Ordering.{Ordering}
 use Rattle.std.specs.declared.cmp.Ordering.TheVariants.{Equal}
-use Rattle.rectangle_pack_groups.specs.declared.grouped_rects_to_place.Group.{Group}
+use Rattle.rectangle_pack_sections.specs.declared.group.Group.{Group}
 use Rattle.rectangle_pack_rules.specs.declared.answer.Placement.{Placement}
 use Rattle.rectangle_pack_sections.specs.Boxes.{Size, Cuboid, Holds, IsPartOf}
 use Rattle.rectangle_pack_sections.specs.Bins.{Bin}
 use Rattle.rectangle_pack_sections.specs.Closures.{Answers}
 use Rattle.rectangle_pack_sections.specs.Choice.{IsFunction, IsPreorderOnCuts}
-use Rattle.rectangle_pack_groups.specs.Groups.{Collection}
+use Rattle.rectangle_pack_sections.specs.Groups.{Collection}
 use Rattle.rectangle_pack_rules.specs.Packing.{Rules, PackingDone, PackingRefused}
-use Rattle.rectangle_pack_groups.specs.Alike.{AreMapsAlike}
+use Rattle.rectangle_pack_sections.specs.Alike.{AreMapsAlike}
 
 -- what may be cut up in a packing into these bins: a free section, or a part of one (`IsPartOf`)
 abbrev pub MayBeCut : List Bin → Cuboid → Type 0

@@ -1,6 +1,6 @@
 //! What a packing answers.
 ghost use Rattle.std.specs.Prelude.{◌≡◌, ◌++◌, List, length, IfOk, OnOk};
-ghost use Rattle.rectangle_pack_groups.specs.Clones.{ClonesEqual};
+ghost use Rattle.rectangle_pack_sections.specs.Clones.{ClonesEqual};
 ghost use Rattle.rectangle_pack_rules.specs.declared.answer.Placement.{Placement};
 ghost use Rattle.rectangle_pack_rules.specs.Placed.{AreNamed, AreLastPlacements, placements_of, locations_of};
 

@@ -3,7 +3,7 @@ ghost use Rattle.std.specs.Prelude.{◌≡◌, ◌∷◌, [], List, false, All, 
 ghost use Rattle.std.specs.BTreeMap.{is_at};
 ghost use Rattle.std.specs.Bool.{OnTrue};
 ghost use Rattle.std.specs.List.{list_any};
-ghost use Rattle.rectangle_pack_groups.specs.Exclusions.{listed_at};
+ghost use Rattle.rectangle_pack_sections.specs.Exclusions.{listed_at};
 ghost use Rattle.rectangle_pack_rules.specs.private.Excluded.{are_in, went_to, AreHomesKept};
 
 use std::alloc::{AllocError, Allocator};

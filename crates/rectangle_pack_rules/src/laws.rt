@@ -8,18 +8,18 @@ ghost use Rattle.rectangle_pack_sections.specs.Bins.{Bin};
 ghost use Rattle.rectangle_pack_sections.specs.Heuristics.{rate_of};
 ghost use Rattle.rectangle_pack_sections.specs.Closures.{MayRateBy, MayCompare, answers};
 ghost use Rattle.rectangle_pack_sections.specs.Choice.{IsFunction, IsTotalPreorder};
-ghost use Rattle.rectangle_pack_groups.specs.Groups.{Collection};
-ghost use Rattle.rectangle_pack_groups.specs.Exclusions.{are_excluded};
+ghost use Rattle.rectangle_pack_sections.specs.Groups.{Collection};
+ghost use Rattle.rectangle_pack_sections.specs.Exclusions.{are_excluded};
 ghost use Rattle.rectangle_pack_rules.specs.Best.{named_rules};
 ghost use Rattle.rectangle_pack_rules.specs.Packing.{rules_by, excludes_by, excludes_none, AreKeptApart, PackingDone, PackingDoneBy, PackingRefused, PackingRefusedBy};
 ghost use Rattle.rectangle_pack_rules.specs.Placed.{AreLastPlacements, ArePlacedWhole};
 ghost use Rattle.rectangle_pack_rules.specs.KeptBins.{KeepsEachBin};
 ghost use Rattle.rectangle_pack_sections.specs.SmallestBox.{IsSmallestOrder};
 ghost use Rattle.rectangle_pack_rules.specs.Results.{ClosuresDecide, either_of, AreBinsAlike, ArePlacementsAlike, AreLocationsAlike, HaveOneResult};
-ghost use Rattle.rectangle_pack_groups.specs.Alike.{AreCollectionsAlike};
+ghost use Rattle.rectangle_pack_sections.specs.Alike.{AreCollectionsAlike};
 
-use rectangle_pack_groups::grouped_rects_to_place::Group;
 use rectangle_pack_sections::box_size_heuristics::Heuristic;
+use rectangle_pack_sections::group::Group;
 use rectangle_pack_sections::width_height_depth::WidthHeightDepth;
 use std::cmp::Ordering;
 

@@ -8,7 +8,7 @@ ghost use Rattle.std.specs.Map.{lookup, values_of};
 ghost use Rattle.std.specs.List.Sorted.{IsPermutation, IsSorted};
 ghost use Rattle.rectangle_pack_rules.specs.Orders.{IsGroupOrder, falling_then};
 ghost use Rattle.rectangle_pack_rules.specs.private.Orders.{keys_of_order, entries_at, members_of, HasSizes, SizesStandAt};
-ghost use Rattle.rectangle_pack_groups.specs.Groups.{HaveSizes, MembersHaveSizes, lists_of};
+ghost use Rattle.rectangle_pack_sections.specs.Groups.{HaveSizes, MembersHaveSizes, lists_of};
 ghost use Rattle.rectangle_pack_sections.specs.Boxes.{Size};
 ghost use Rattle.rectangle_pack_lists.specs.Numbers.{saturated};
 

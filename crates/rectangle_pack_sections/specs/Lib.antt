@@ -9,6 +9,10 @@ pub mod Keeping
 pub mod Bins
 pub mod Covering
 pub mod CutTrees
+pub mod Clones
+pub mod Exclusions
+pub mod Groups
+pub mod Alike
 pub mod Texts
 pub mod Heuristics
 pub mod private

@@ -1,2 +1,3 @@
 -- Definitions that only the clauses of functions below `rectangle_pack` use, or of its private ones.
 pub mod Spans
+pub mod Exclusions

@@ -3,7 +3,8 @@
 use super::refusing::Refusing;
 use super::shapes::named;
 use rectangle_pack_bins::target_bin::TargetBin;
-use rectangle_pack_groups::grouped_rects_to_place::{Group, GroupedRectsToPlace};
+use rectangle_pack_groups::grouped_rects_to_place::GroupedRectsToPlace;
+use rectangle_pack_sections::group::Group;
 use rectangle_pack_sections::rect_to_insert::RectToInsert;
 use std::alloc::{AllocError, Allocator};
 use std::collections::BTreeMap;

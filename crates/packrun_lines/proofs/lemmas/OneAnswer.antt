@@ -20,7 +20,7 @@ use Rattle.rectangle_pack.specs.Groups.{Collection, Excludes}
 use Rattle.rectangle_pack.specs.Exclusions.{are_these}
 use Rattle.rectangle_pack.specs.Joining.{IsJoined, IsSwept}
 use Rattle.rectangle_pack.specs.Session.{State, IsSession, AddsBin, Releases, Coalesces, Packs, reply_of}
-use Rattle.rectangle_pack_groups.proofs.lemmas.groups.GroupOrder.{groups_total}
+use Rattle.rectangle_pack_sections.proofs.lemmas.groups.GroupOrder.{groups_total}
 use Rattle.rectangle_pack_groups.proofs.lemmas.groups.OnePush.{alone_alike, into_alike}
 use Rattle.rectangle_pack_lists.proofs.lemmas.joining.Sweeps.{IsJoined-one, IsSwept-one}
 use Rattle.packrun_words.specs.Requests.{Request}

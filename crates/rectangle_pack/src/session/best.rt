@@ -1,16 +1,17 @@
 //! Packing a session with the best of several heuristics.
 ghost use Rattle.std.specs.Prelude.{◌≡◌, ◌∷◌, [], length, IsOk};
-ghost use Rattle.rectangle_pack_groups.specs.Clones.{ClonesEqual};
+ghost use Rattle.rectangle_pack_sections.specs.Clones.{ClonesEqual};
 ghost use Rattle.rectangle_pack.specs.Session.{IsSession};
 ghost use Rattle.rectangle_pack.specs.SessionBest.{PacksBest, PacksBestAsPromised};
 
 use crate::session::Session;
 use crate::session::command::{Packed, SessionError};
+use rectangle_pack_groups::grouped_rects_to_place::GroupedRectsToPlace;
 use rectangle_pack_groups::grouped_rects_to_place::multimap::number_after;
-use rectangle_pack_groups::grouped_rects_to_place::{Group, GroupedRectsToPlace};
 use rectangle_pack_packings::pack::best::best_of;
 use rectangle_pack_sections::box_size_heuristics::Heuristic;
 use rectangle_pack_sections::closures::Named;
+use rectangle_pack_sections::group::Group;
 use std::alloc::Allocator;
 
 impl<Id, BinId, A> Session<Id, BinId, A>

@@ -6,7 +6,7 @@ ghost use Rattle.rectangle_pack.specs.declared.session.command.Command.{Command}
 ghost use Rattle.rectangle_pack.specs.declared.session.command.Reply.{Reply};
 ghost use Rattle.rectangle_pack.specs.Session.{State, IsSession, IsTransition, IsRun};
 
-use rectangle_pack_groups::grouped_rects_to_place::Group;
+use rectangle_pack_sections::group::Group;
 use rectangle_pack_sections::width_height_depth::WidthHeightDepth;
 use std::alloc::Allocator;
 use std::cmp::Ordering;

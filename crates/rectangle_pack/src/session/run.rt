@@ -1,6 +1,6 @@
 //! Runs of commands over a session.
 ghost use Rattle.std.specs.Prelude.{◌≡◌};
-ghost use Rattle.rectangle_pack_groups.specs.Clones.{ClonesEqual};
+ghost use Rattle.rectangle_pack_sections.specs.Clones.{ClonesEqual};
 ghost use Rattle.rectangle_pack_sections.specs.Boxes.{Size};
 ghost use Rattle.rectangle_pack_sections.specs.Closures.{AreCallable, answers};
 ghost use Rattle.rectangle_pack_rules.specs.Packing.{rules_by};
@@ -9,8 +9,8 @@ ghost use Rattle.rectangle_pack.specs.Session.{IsSession, AddsBin, IsTransition,
 
 use crate::session::Session;
 use crate::session::command::{Command, Packed, Reply, SessionError};
-use rectangle_pack_groups::grouped_rects_to_place::Group;
 use rectangle_pack_sections::closures::{Closures, Policy};
+use rectangle_pack_sections::group::Group;
 use rectangle_pack_sections::width_height_depth::WidthHeightDepth;
 use std::alloc::{AllocError, Allocator};
 use std::cmp::Ordering;

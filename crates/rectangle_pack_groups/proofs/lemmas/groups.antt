@@ -1,3 +1,2 @@
--- Groups and pushes. GroupOrder: the order of groups is total. OnePush: equal pushes leave equal collections.
-pub mod GroupOrder
+-- Pushes. OnePush: equal pushes leave equal collections.
 pub mod OnePush

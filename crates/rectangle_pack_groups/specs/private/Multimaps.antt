@@ -9,7 +9,7 @@ use Rattle.std.specs.declared.vec.Vec.{Vec}
 use Rattle.std.specs.Ordering.{is_eq}
 use Rattle.std.specs.Map.{lookup, set_value}
 use Rattle.std.specs.BTreeMap.{is_at, insert_entry}
-use Rattle.rectangle_pack_groups.specs.Groups.{Appends}
+use Rattle.rectangle_pack_sections.specs.Groups.{Appends}
 
 -- the entries whose list has an item
 abbrev pub filled : {K X : Type 0} → List (K × List X) → List (K × List X)

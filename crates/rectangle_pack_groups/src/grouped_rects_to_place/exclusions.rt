@@ -3,11 +3,11 @@ ghost use Rattle.std.specs.Prelude.{◌≡◌, ◌||◌, List, [], true, false, 
 ghost use Rattle.std.specs.Ordering.{is_eq};
 ghost use Rattle.std.specs.List.{list_any};
 ghost use Rattle.std.specs.BTreeMap.{is_at};
-ghost use Rattle.rectangle_pack_groups.specs.Clones.{ClonesEqual};
-ghost use Rattle.rectangle_pack_groups.specs.Groups.{lists_of};
+ghost use Rattle.rectangle_pack_sections.specs.Clones.{ClonesEqual};
+ghost use Rattle.rectangle_pack_sections.specs.Groups.{lists_of};
 ghost use Rattle.rectangle_pack_groups.specs.private.Multimaps.{filled};
-ghost use Rattle.rectangle_pack_groups.specs.Exclusions.{listed_at, is_listed, are_excluded, are_these};
-ghost use Rattle.rectangle_pack_groups.specs.private.Exclusions.{AreMutual, AreNonempty};
+ghost use Rattle.rectangle_pack_sections.specs.Exclusions.{listed_at, is_listed, are_excluded, are_these};
+ghost use Rattle.rectangle_pack_sections.specs.private.Exclusions.{AreMutual, AreNonempty};
 
 use crate::grouped_rects_to_place::multimap::{append_at, forget_empty, make_room};
 use std::alloc::{AllocError, Allocator};
@@ -26,8 +26,8 @@ pub struct Exclusions<K: Ord, A: Allocator + Copy> {
 // Of two that are paired each is listed at the other, and no list is empty.
 impl<K: Ord, A: Allocator + Copy> Model for Exclusions<K, A> {
     ghost use Rattle.std.specs.Prelude.{List};
-    ghost use Rattle.rectangle_pack_groups.specs.Groups.{lists_of};
-    ghost use Rattle.rectangle_pack_groups.specs.private.Exclusions.{AreMutual, AreNonempty};
+    ghost use Rattle.rectangle_pack_sections.specs.Groups.{lists_of};
+    ghost use Rattle.rectangle_pack_sections.specs.private.Exclusions.{AreMutual, AreNonempty};
 
     ghost Value = { List (K × List K) };
 

@@ -3,11 +3,11 @@ ghost use Rattle.std.specs.Prelude.{◌≡◌, ◌<◌, ◌↔◌, List, true};
 ghost use Rattle.std.specs.declared.cmp.Ordering.TheVariants.{Less, Equal, Greater};
 ghost use Rattle.std.specs.List.Sorted.{IsStrictlySortedBy};
 ghost use Rattle.std.specs.Map.{keys_of};
-ghost use Rattle.rectangle_pack_groups.specs.Groups.{Collection, PushesAlone, PushesInto};
+ghost use Rattle.rectangle_pack_sections.specs.Groups.{Collection, PushesAlone, PushesInto};
 ghost use Rattle.rectangle_pack_sections.specs.Boxes.{Size};
-ghost use Rattle.rectangle_pack_groups.specs.Alike.{AreCollectionsAlike};
+ghost use Rattle.rectangle_pack_sections.specs.Alike.{AreCollectionsAlike};
 ghost use Rattle.std.specs.List.{AllZip};
-ghost use Rattle.rectangle_pack_groups.specs.declared.grouped_rects_to_place.Group.TheVariants.{Ungrouped, Grouped};
+ghost use Rattle.rectangle_pack_sections.specs.declared.group.Group.TheVariants.{Ungrouped, Grouped};
 
 use crate::grouped_rects_to_place::Group;
 

@@ -5,9 +5,9 @@ ghost use Rattle.std.specs.List.Sorted.{IsStrictlySortedBy};
 ghost use Rattle.std.specs.Map.{lookup, keys_of};
 ghost use Rattle.std.specs.Cmp.{IsTotalOrder};
 ghost use Rattle.std.specs.BTreeMap.{get, is_at, insert_entry, IsOrdered};
-ghost use Rattle.rectangle_pack_groups.specs.Clones.{ClonesEqual};
-ghost use Rattle.rectangle_pack_groups.specs.Groups.{MembersHaveSizes, SetsSize, lists_of};
-ghost use Rattle.rectangle_pack_groups.specs.private.Exclusions.{AreNonempty};
+ghost use Rattle.rectangle_pack_sections.specs.Clones.{ClonesEqual};
+ghost use Rattle.rectangle_pack_sections.specs.Groups.{MembersHaveSizes, SetsSize, lists_of};
+ghost use Rattle.rectangle_pack_sections.specs.private.Exclusions.{AreNonempty};
 ghost use Rattle.rectangle_pack_groups.specs.private.Multimaps.{CanTakeBack, PutsAlone, AppendsAtEach};
 
 use crate::grouped_rects_to_place::multimap::{add_each, forget_empty, take_back};

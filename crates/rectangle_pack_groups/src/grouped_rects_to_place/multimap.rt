@@ -5,8 +5,8 @@ ghost use Rattle.std.specs.Map.{keys_of, lookup, set_value, values_of};
 ghost use Rattle.std.specs.List.Sorted.{IsStrictlySortedBy};
 ghost use Rattle.std.specs.Cmp.{IsTotalOrder};
 ghost use Rattle.std.specs.Ordering.{is_eq};
-ghost use Rattle.rectangle_pack_groups.specs.Clones.{ClonesEqual};
-ghost use Rattle.rectangle_pack_groups.specs.Groups.{lists_of};
+ghost use Rattle.rectangle_pack_sections.specs.Clones.{ClonesEqual};
+ghost use Rattle.rectangle_pack_sections.specs.Groups.{lists_of};
 ghost use Rattle.rectangle_pack_groups.specs.private.Multimaps.{filled, times, items_of, HasRoom, AreAppended, IsAdded, TakesBack, CanTakeBack};
 
 use std::alloc::{AllocError, Allocator};

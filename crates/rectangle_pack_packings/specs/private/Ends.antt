@@ -6,8 +6,8 @@ use Rattle.rectangle_pack_rules.specs.declared.answer.RectanglePackError.{Rectan
 use Rattle.rectangle_pack_rules.specs.declared.answer.RectanglePackError.TheVariants.{NotEnoughBinSpace, OutOfMemory}
 use Rattle.rectangle_pack_packings.specs.declared.pack.packing.Packing.{Packing}
 use Rattle.rectangle_pack_sections.specs.Bins.{Bin, Held, bins_of}
-use Rattle.rectangle_pack_groups.specs.declared.grouped_rects_to_place.Group.{Group}
-use Rattle.rectangle_pack_groups.specs.Groups.{Collection}
+use Rattle.rectangle_pack_sections.specs.declared.group.Group.{Group}
+use Rattle.rectangle_pack_sections.specs.Groups.{Collection}
 use Rattle.rectangle_pack_rules.specs.Packing.{Rules, PackingRefused}
 use Rattle.rectangle_pack_rules.specs.PackAnswers.{AreCounted, IsCountedAnswer}
 use Rattle.rectangle_pack_rules.specs.Placed.{AreLastPlacements, placements_of, locations_of}

@@ -1,7 +1,7 @@
 //! A packing that is tried: kept, or rolled back.
 ghost use Rattle.std.specs.Prelude.{◌≡◌, List, length, IfOk, OnErr, MatchOption, true, false};
-ghost use Rattle.rectangle_pack_groups.specs.Clones.{ClonesEqual};
-ghost use Rattle.rectangle_pack_groups.specs.Groups.{entries_of};
+ghost use Rattle.rectangle_pack_sections.specs.Clones.{ClonesEqual};
+ghost use Rattle.rectangle_pack_sections.specs.Groups.{entries_of};
 ghost use Rattle.rectangle_pack_rules.specs.Packing.{PackingDone, PackingRefused, rules_by};
 ghost use Rattle.rectangle_pack_sections.specs.Bins.{bins_of, Bin};
 
@@ -9,9 +9,10 @@ use crate::pack::bin_order::bin_order;
 use crate::pack::first_fit::pack_noted;
 use crate::pack::packing::Packing;
 use rectangle_pack_bins::target_bin::TargetBin;
-use rectangle_pack_groups::grouped_rects_to_place::{Group, GroupedRectsToPlace};
+use rectangle_pack_groups::grouped_rects_to_place::GroupedRectsToPlace;
 use rectangle_pack_rules::answer::Placement;
 use rectangle_pack_sections::closures::Policy;
+use rectangle_pack_sections::group::Group;
 use std::alloc::{AllocError, Allocator};
 use std::collections::BTreeMap;
 use std::mem;

@@ -1,18 +1,19 @@
 //! The best of several packings: by which of some heuristics it uses the bins best.
 ghost use Rattle.std.specs.Prelude.{◌≡◌, List, All, IfOk, MatchOption, filter, map, nat_lt};
 ghost use Rattle.std.specs.Map.{keys_of};
-ghost use Rattle.rectangle_pack_groups.specs.Clones.{ClonesEqual};
+ghost use Rattle.rectangle_pack_sections.specs.Clones.{ClonesEqual};
 ghost use Rattle.rectangle_pack_rules.specs.Best.{IsBestOf, PacksWith, IsRefusedWith, use_of};
 ghost use Rattle.rectangle_pack_rules.specs.private.Cells.{cells_in};
 ghost use Rattle.rectangle_pack_sections.specs.Bins.{bins_of};
 
 use crate::pack::attempt::try_packing;
 use rectangle_pack_bins::target_bin::TargetBin;
-use rectangle_pack_groups::grouped_rects_to_place::{Group, GroupedRectsToPlace};
+use rectangle_pack_groups::grouped_rects_to_place::GroupedRectsToPlace;
 use rectangle_pack_rules::answer::Placement;
 use rectangle_pack_rules::uses::{Use, better_of, count_cells};
 use rectangle_pack_sections::box_size_heuristics::Heuristic;
 use rectangle_pack_sections::closures::Named;
+use rectangle_pack_sections::group::Group;
 use std::alloc::{AllocError, Allocator};
 use std::collections::BTreeMap;
 

@@ -4,7 +4,7 @@ ghost use Rattle.std.specs.BTreeMap.{get};
 ghost use Rattle.std.specs.Ordering.{eq_by_cmp};
 ghost use Rattle.std.specs.List.{IsDistinct};
 ghost use Rattle.std.specs.Map.{keys_of};
-ghost use Rattle.rectangle_pack_groups.specs.Clones.{ClonesEqual};
+ghost use Rattle.rectangle_pack_sections.specs.Clones.{ClonesEqual};
 ghost use Rattle.rectangle_pack_rules.specs.Orders.{IsBinOrder};
 ghost use Rattle.rectangle_pack_sections.specs.Bins.{bins_of};
 

@@ -1,6 +1,6 @@
 //! How a packing ends: kept, or rolled back.
 ghost use Rattle.std.specs.Prelude.{List};
-ghost use Rattle.rectangle_pack_groups.specs.Clones.{ClonesEqual};
+ghost use Rattle.rectangle_pack_sections.specs.Clones.{ClonesEqual};
 ghost use Rattle.rectangle_pack_sections.specs.Bins.{Bin};
 ghost use Rattle.rectangle_pack_packings.specs.private.Ends.{IsEnd};
 ghost use Rattle.rectangle_pack_packings.specs.private.RollBack.{RollsBackTo};

@@ -5,30 +5,31 @@ ghost use Rattle.std.specs.Bool.{OnTrue};
 ghost use Rattle.std.specs.List.{IsDistinct};
 ghost use Rattle.std.specs.Map.{keys_of};
 ghost use Rattle.std.specs.Vec.{vec_capacity};
-ghost use Rattle.rectangle_pack_groups.specs.Clones.{ClonesEqual};
+ghost use Rattle.rectangle_pack_sections.specs.Clones.{ClonesEqual};
 ghost use Rattle.rectangle_pack_rules.specs.declared.answer.Placement.{Placement};
 ghost use Rattle.std.specs.Ordering.{eq_by_cmp};
 ghost use Rattle.rectangle_pack_lists.specs.Numbers.{saturated};
 ghost use Rattle.rectangle_pack_rules.specs.Orders.{IsBinOrder};
 ghost use Rattle.rectangle_pack_rules.specs.Packing.{rules_by, excludes_by, at_start, Members, IsStuckIn, IsPlaced, IsRefused, AreAllPlaced, PackingDone, PackingRefused};
 ghost use Rattle.rectangle_pack_sections.specs.Bins.{bins_of};
-ghost use Rattle.rectangle_pack_groups.specs.Groups.{entries_of};
+ghost use Rattle.rectangle_pack_sections.specs.Groups.{entries_of};
 ghost use Rattle.rectangle_pack_rules.specs.PackAnswers.{AreCounted};
 ghost use Rattle.rectangle_pack_rules.specs.private.Excluded.{are_in, AreHomesKept};
 ghost use Rattle.rectangle_pack_rules.specs.private.Bounds.{AddsWithin};
 ghost use Rattle.rectangle_pack_rules.specs.private.Orders.{members_of, members_in, HasSizes, StopsAmong};
-ghost use Rattle.rectangle_pack_packings.specs.private.RollBack.{StaysUndoable};
+ghost use Rattle.rectangle_pack_packings.specs.private.RollBack.{GoesOn, StaysUndoable};
 
 use crate::pack::next_bin::next_bin;
 use crate::pack::packing::Packing;
 use rectangle_pack_bins::journal::note_trial;
 use rectangle_pack_groups::grouped_rects_to_place::exclusions::Exclusions;
-use rectangle_pack_groups::grouped_rects_to_place::{Group, GroupedRectsToPlace, exclusions_of};
+use rectangle_pack_groups::grouped_rects_to_place::{GroupedRectsToPlace, exclusions_of};
 use rectangle_pack_lists::fit_tests::bounded;
 use rectangle_pack_rules::answer::{Placement, name_all};
 use rectangle_pack_rules::homes::{ExcludedBins, Homes};
 use rectangle_pack_rules::order::{OrderedGroup, group_order};
 use rectangle_pack_sections::closures::Policy;
+use rectangle_pack_sections::group::Group;
 use rectangle_pack_sections::rect_to_insert::RectToInsert;
 use std::alloc::{AllocError, Allocator};
 
@@ -75,11 +76,7 @@ where
     ensures stopped { OnErr result
         (AddsWithin B.cmp (bins_of packing.old.bins.kept) (id.now ∷ []) (length sizes.now)
         packing.old.tests packing.new.tests) }
-    ensures back { StaysUndoable B.cmp packing.old packing.new }
-    ensures order { packing.new.bins.order ≡ packing.old.bins.order }
-    ensures journal_grows { vec_len packing.new.journal ≤ vec_len packing.old.journal + 1 }
-    ensures journal_room_stays { vec_capacity packing.new.journal ≡
-        vec_capacity packing.old.journal }
+    ensures goes_on { GoesOn B.cmp packing.old packing.new }
 {
     bounded(&packing.tests);
     let done = packing.bins.try_bin(
@@ -145,11 +142,7 @@ where
         (AddsWithin B.cmp (bins_of packing.old.bins.kept)
         (map (λ o. o.1) packing.old.bins.order) (length sizes.now)
         packing.old.tests packing.new.tests) }
-    ensures back { StaysUndoable B.cmp packing.old packing.new }
-    ensures order { packing.new.bins.order ≡ packing.old.bins.order }
-    ensures journal_grows { vec_len packing.new.journal ≤ vec_len packing.old.journal + 1 }
-    ensures journal_room_stays { vec_capacity packing.new.journal ≡
-        vec_capacity packing.old.journal }
+    ensures goes_on { GoesOn B.cmp packing.old packing.new }
 {
     bounded(&packing.tests);
     let mut from = 0;
@@ -218,11 +211,7 @@ where
         (map (λ o. o.1) packing.old.bins.order)
         (length (members_of sizes.now group.now).1.sizes)
         packing.old.tests packing.new.tests) }
-    ensures back { StaysUndoable B.cmp packing.old packing.new }
-    ensures order { packing.new.bins.order ≡ packing.old.bins.order }
-    ensures journal_grows { vec_len packing.new.journal ≤ vec_len packing.old.journal + 1 }
-    ensures journal_room_stays { vec_capacity packing.new.journal ≡
-        vec_capacity packing.old.journal }
+    ensures goes_on { GoesOn B.cmp packing.old packing.new }
 {
     bounded(&packing.tests);
     let (ids, members) = (group.ids.as_slice(), group.sizes_in(sizes));

@@ -6,7 +6,7 @@ use Rattle.std.specs.Option.{option_map}
 use Rattle.std.specs.List.{list_any}
 use Rattle.std.specs.Map.{lookup}
 use Rattle.std.specs.BTreeMap.{is_at}
-use Rattle.rectangle_pack_groups.specs.Exclusions.{listed_at}
+use Rattle.rectangle_pack_sections.specs.Exclusions.{listed_at}
 
 -- the id is among those that the references point to
 abbrev pub are_in : {B : Type 0} → (B → B → Ordering) → List (Bor B) → B → Bool

@@ -3,8 +3,8 @@
 use Rattle.rectangle_pack_sections.proofs.Std.{◌≡◌, ℕ, ◌+◌, ◌<◌, ◌^◌, List, [], ◌∷◌, length, get_or, All, refl, sym, subst, All-weaker, Ordering, IsTotalOrder, Option, Some, None}
 use Rattle.rectangle_pack_sections.proofs.Std.{All-nil, All-cons, All-head, MatchOption, Result, Ok, Err, IsErrAnd}
 use Rattle.rectangle_pack_sections.specs.declared.box_size_heuristics.named.Heuristic.{Heuristic}
-use Rattle.rectangle_pack_groups.specs.declared.grouped_rects_to_place.Group.{Group}
-use Rattle.rectangle_pack_groups.specs.Groups.{Collection, entries_of}
+use Rattle.rectangle_pack_sections.specs.declared.group.Group.{Group}
+use Rattle.rectangle_pack_sections.specs.Groups.{Collection, entries_of}
 use Rattle.rectangle_pack_sections.specs.Bins.{Bin}
 use Rattle.rectangle_pack_rules.specs.declared.uses.Use.{Use}
 use Rattle.rectangle_pack_rules.specs.Best.{named_rules, use_of, IsRefusedWith, IsBestOf}

@@ -5,7 +5,7 @@ use Rattle.rectangle_pack_sections.proofs.Std.{AllPairs, remove, Ordering, IsTot
 use Rattle.rectangle_pack_sections.proofs.Std.{insert_entry, split_at, keys-set_value, set_value_same, map-append, length-append, get_or_default, All-nil}
 use Rattle.rectangle_pack_sections.proofs.Std.{All-cons, All-head, All-tail, All-append, All-push, All-weaker, filter-append, remove-append_right}
 use Rattle.rectangle_pack_sections.proofs.Std.{all_pairs_push, all_pairs_remove, tied_itself}
-use Rattle.rectangle_pack_groups.specs.declared.grouped_rects_to_place.Group.{Group}
+use Rattle.rectangle_pack_sections.specs.declared.group.Group.{Group}
 use Rattle.rectangle_pack_rules.specs.declared.answer.Placement.{Placement}
 use Rattle.rectangle_pack.specs.declared.session.command.Outstanding.{Outstanding}
 use Rattle.rectangle_pack_sections.specs.Boxes.{Size, Cuboid, IsCellOf, IsInside, has_cells}
@@ -13,7 +13,7 @@ use Rattle.rectangle_pack_sections.specs.Bins.{Bin, Held, IsAccepted, whole, new
 use Rattle.rectangle_pack_sections.specs.Covering.{CoverBin}
 use Rattle.rectangle_pack_sections.specs.CutTrees.{IsFromCuts}
 use Rattle.rectangle_pack_rules.specs.KeptBins.{locations_in}
-use Rattle.rectangle_pack_groups.specs.Groups.{Collection}
+use Rattle.rectangle_pack_sections.specs.Groups.{Collection}
 use Rattle.rectangle_pack_rules.specs.Packing.{Rules, Members, Stage, AreAllPlaced, PackingDone, at_start, excludes_by}
 use Rattle.rectangle_pack.specs.Session.{State, outstanding_in, boxes_of, IsSession, IsOutstanding, numbered, GivesBack}
 use Rattle.rectangle_pack_sections.proofs.lemmas.util.Lists.{All-front, All-back, All-middle, All-without}

@@ -2,8 +2,8 @@
 use Rattle.rectangle_pack_sections.proofs.Std.{◌≡◌, ℕ, ◌+◌, ◌-◌, ◌<◌, ◌≤◌, ◌^◌, List, [], ◌++◌, refl, ap, sym, ◌∙◌, subst, arith, true, false, Bool, length}
 use Rattle.rectangle_pack_sections.proofs.Std.{MatchBool, map, sum, values_of, Option, Some, None, MatchOption, Result, Ok, IsErrAnd, Vec}
 use Rattle.rectangle_pack_sections.proofs.Std.{Ordering, IsTotalOrder}
-use Rattle.rectangle_pack_groups.specs.declared.grouped_rects_to_place.Group.{Group}
-use Rattle.rectangle_pack_groups.specs.Groups.{Collection, entries_of}
+use Rattle.rectangle_pack_sections.specs.declared.group.Group.{Group}
+use Rattle.rectangle_pack_sections.specs.Groups.{Collection, entries_of}
 use Rattle.rectangle_pack_sections.specs.Bins.{Bin}
 use Rattle.rectangle_pack_rules.specs.declared.answer.Placement.{Placement}
 use Rattle.rectangle_pack_rules.specs.Packing.{Rules, PackingDone, PackingRefused}

@@ -1,12 +1,12 @@
 -- What a session does keeps its promise.
 use Rattle.rectangle_pack_sections.proofs.Std.{◌≡◌, ℕ, ◌∙◌, arith, subst, map, Ordering, IsTotalOrder, IsPermutation-map}
-use Rattle.rectangle_pack_groups.specs.declared.grouped_rects_to_place.Group.{Group}
+use Rattle.rectangle_pack_sections.specs.declared.group.Group.{Group}
 use Rattle.rectangle_pack.specs.declared.session.command.Command.{Command}
 use Rattle.rectangle_pack.specs.declared.session.command.Reply.{Reply}
 use Rattle.rectangle_pack.specs.declared.session.command.Reply.TheVariants.{Packed, Refused}
 use Rattle.rectangle_pack.specs.declared.session.command.Packed.{Packed as PackedNumbers}
 use Rattle.rectangle_pack.specs.declared.session.command.SessionError.TheVariants.{NotEnoughBinSpace}
-use Rattle.rectangle_pack_groups.specs.Groups.{Collection}
+use Rattle.rectangle_pack_sections.specs.Groups.{Collection}
 use Rattle.rectangle_pack_rules.specs.Packing.{Rules, AreKeptApart, at_start}
 use Rattle.rectangle_pack.specs.Promise.{PlacesWhole, PacksAsPromised, KeepsPromise}
 use Rattle.rectangle_pack.specs.Session.{State, IsSession, IsKept, Packs, IsTransition}

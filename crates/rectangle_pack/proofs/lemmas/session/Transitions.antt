@@ -3,7 +3,7 @@ use Rattle.rectangle_pack_sections.proofs.Std.{◌≡◌, ℕ, ◌+◌, ◌<◌,
 use Rattle.rectangle_pack_sections.proofs.Std.{take, Some, None, Result, Ok, Err, Ordering, Equal, IsTotalOrder, IsErrAnd, lookup, set_value, is_at}
 use Rattle.rectangle_pack_sections.proofs.Std.{insert_entry, take_all, take_more, keys-set_value, tied_itself}
 use Rattle.rectangle_pack.specs.declared.session.command.Outstanding.{Outstanding}
-use Rattle.rectangle_pack_groups.specs.declared.grouped_rects_to_place.Group.{Group}
+use Rattle.rectangle_pack_sections.specs.declared.group.Group.{Group}
 use Rattle.rectangle_pack.specs.declared.session.command.Command.{Command}
 use Rattle.rectangle_pack.specs.declared.session.command.Command.TheVariants.{AddBin, Pack, Release, Coalesce, CoalesceAll}
 use Rattle.rectangle_pack.specs.declared.session.command.SessionError.{SessionError}
@@ -13,7 +13,7 @@ use Rattle.rectangle_pack.specs.declared.session.command.SessionError.TheVariant
 use Rattle.rectangle_pack.specs.declared.session.command.SessionError.TheVariants.{OutOfMemory}
 use Rattle.rectangle_pack_sections.specs.Boxes.{Size, Cuboid, IsInside}
 use Rattle.rectangle_pack_sections.specs.Bins.{Bin, Held, new_bin, bins_of}
-use Rattle.rectangle_pack_groups.specs.Groups.{Collection}
+use Rattle.rectangle_pack_sections.specs.Groups.{Collection}
 use Rattle.rectangle_pack_lists.specs.Joining.{IsJoined, IsSwept}
 use Rattle.rectangle_pack_rules.specs.Packing.{Rules}
 use Rattle.rectangle_pack.specs.Session.{State, outstanding_in, IsSession, IsOutstanding, GivesBack, AddsBin, Releases, Packs, Coalesces, IsTransition, IsRun}

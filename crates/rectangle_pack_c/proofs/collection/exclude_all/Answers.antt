@@ -1,7 +1,7 @@
 use Rattle.rectangle_pack_c.proofs.Std.{get_or, get_or_default, refl}
 use Rattle.rectangle_pack_c.specs.declared.collection.RpExclusion.{RpExclusion}
 use Rattle.rectangle_pack_c.proofs.LoopLemmas.{pairs_more}
-use Rattle.rectangle_pack_groups.proofs.lemmas.groups.GroupOrder.{same_order}
+use Rattle.rectangle_pack_sections.proofs.lemmas.groups.GroupOrder.{same_order}
 use Rattle.rectangle_pack_c.proofs.collection.exclude_all.Goals as goal
 
 pub loop-pair-preserved : goal.loop-pair-preserved

@@ -1,5 +1,5 @@
 use Rattle.rectangle_pack_c.proofs.Std.{◌∷◌, [], ◌∙◌, refl, sym}
-use Rattle.rectangle_pack_groups.proofs.lemmas.groups.GroupOrder.{same_order}
+use Rattle.rectangle_pack_sections.proofs.lemmas.groups.GroupOrder.{same_order}
 use Rattle.rectangle_pack_c.proofs.FaultLemmas.{all_asked}
 use Rattle.rectangle_pack_c.proofs.SessionLemmas.{packs_asked, promise_asked}
 use Rattle.rectangle_pack_c.proofs.collection.pack_asked.Goals as goal

@@ -1,6 +1,6 @@
 use Rattle.rectangle_pack_c.proofs.Std.{refl, subst, IsStrictlySortedBy, keys_of}
 use Rattle.rectangle_pack_c.proofs.LoopLemmas.{pushed}
-use Rattle.rectangle_pack_groups.proofs.lemmas.groups.GroupOrder.{same_order}
+use Rattle.rectangle_pack_sections.proofs.lemmas.groups.GroupOrder.{same_order}
 use Rattle.rectangle_pack_c.proofs.collection.push_box.Goals as goal
 
 pub returns-clause-pushed : goal.returns-clause-pushed

@@ -2,15 +2,15 @@
 use Rattle.rectangle_pack_sections.proofs.Std.{◌≡◌, ℕ, cond, List, [], ◌∷◌, refl, sym, ◌∙◌, ap, arith, length, zero, suc, All, Option, Some, None, IsSomeAnd}
 use Rattle.rectangle_pack_sections.proofs.Std.{unwrap_or, AllZip, IsStrictlySortedBy, Ordering, Less, Equal, Greater, is_eq, match_ordering, IsTotalOrder}
 use Rattle.rectangle_pack_sections.proofs.Std.{lookup, keys_of, is_at, insert_entry, tied_itself, All-head, All-tail}
-use Rattle.rectangle_pack_groups.specs.declared.grouped_rects_to_place.Group.{Group}
-use Rattle.rectangle_pack_groups.specs.declared.grouped_rects_to_place.Group.TheVariants.{Ungrouped, Grouped}
+use Rattle.rectangle_pack_sections.specs.declared.group.Group.{Group}
+use Rattle.rectangle_pack_sections.specs.declared.group.Group.TheVariants.{Ungrouped, Grouped}
 use Rattle.rectangle_pack_sections.specs.Boxes.{Size}
-use Rattle.rectangle_pack_groups.specs.Exclusions.{are_excluded}
-use Rattle.rectangle_pack_groups.specs.Groups.{Collection, SetsSize, PushesAlone, PushesInto, Appends, times_named}
-use Rattle.rectangle_pack_groups.specs.Alike.{AreMapsAlike, AreCollectionsAlike}
+use Rattle.rectangle_pack_sections.specs.Exclusions.{are_excluded}
+use Rattle.rectangle_pack_sections.specs.Groups.{Collection, SetsSize, PushesAlone, PushesInto, Appends, times_named}
+use Rattle.rectangle_pack_sections.specs.Alike.{AreMapsAlike, AreCollectionsAlike}
 use Rattle.rectangle_pack_sections.proofs.lemmas.util.Maps.{congr_right, same_keys}
-use Rattle.rectangle_pack_groups.proofs.lemmas.util.Maps.{AreOptionsAlike, lookup-alike, maps_alike}
-use Rattle.rectangle_pack_groups.proofs.lemmas.util.Zips.{AllZip-append, sums_alike}
+use Rattle.rectangle_pack_sections.proofs.lemmas.groups.Alike.{AreOptionsAlike, lookup-alike, maps_alike}
+use Rattle.rectangle_pack_sections.proofs.lemmas.util.Zips.{AllZip-append, sums_alike}
 
 -- the same entry, put into maps that agree
 insert-alike : {K X : Type 0} {cmp : K → K → Ordering} → IsTotalOrder cmp → (R : X → X → Type 0) (x y : K) (v w : X) → cmp x y ≡ Equal → R v w

@@ -6,7 +6,7 @@ use Rattle.rectangle_pack_sections.proofs.Std.{count_by_more_yes, count_by_more_
 use Rattle.rectangle_pack_sections.proofs.Std.{nil_from_length, lookup, is_at, Equal-is}
 use Rattle.rectangle_pack_groups.specs.private.Multimaps.{times, items_of, AreAppended, IsAdded}
 use Rattle.rectangle_pack_sections.proofs.lemmas.util.Maps.{lookup-equal}
-use Rattle.rectangle_pack_groups.proofs.lemmas.multimap.Vectors.{none_of}
+use Rattle.rectangle_pack_sections.proofs.lemmas.util.Maps.{none_of}
 
 module _ {K : Type 0} {cmp : K → K → Ordering} (o : IsTotalOrder cmp) (keys : List K) (i : ℕ) (k q : K) (inside : i < length keys)
     (at : k ≡ get_or keys i k) where

@@ -3,18 +3,15 @@ use Rattle.rectangle_pack_sections.proofs.Std.{◌≡◌, ◌↔◌, tied_itself
 use Rattle.rectangle_pack_sections.proofs.Std.{subst, arith, length-append, Option, Some, None, IfSome, IsSomeAnd, unwrap_or, Ordering, Equal, Vec, is_eq}
 use Rattle.rectangle_pack_sections.proofs.Std.{IsTotalOrder, Equal-is, option_map, list_any, IsStrictlySortedBy, lookup, keys_of, is_at, list_any-append}
 use Rattle.rectangle_pack_sections.proofs.Std.{eq_by_cmp_equiv, IsDistinct-from_sorted, All-values_from_lookup, IfSome-lookup_from_All, or_comm, or_assoc}
-use Rattle.rectangle_pack_sections.proofs.Std.{or-false, and_comm, or_self}
-use Rattle.rectangle_pack_groups.specs.Groups.{lists_of}
+use Rattle.rectangle_pack_sections.proofs.Std.{or-false, and_comm}
+use Rattle.rectangle_pack_sections.specs.Groups.{lists_of}
 use Rattle.rectangle_pack_groups.specs.private.Multimaps.{items_of}
-use Rattle.rectangle_pack_groups.specs.Exclusions.{listed_at, is_listed, are_excluded, are_these}
-use Rattle.rectangle_pack_groups.specs.private.Exclusions.{AreNonempty}
-use Rattle.rectangle_pack_groups.proofs.lemmas.multimap.Vectors.{lookup-lists, keys-lists}
-use Rattle.rectangle_pack_sections.proofs.lemmas.util.Maps.{lookup-equal, is_at-back}
-
--- tests that agree find the same
-pub list_any-alike : {X : Type 0} (p q : X → Bool) → ((x : X) → p x ≡ q x) → (xs : List X) → list_any p xs ≡ list_any q xs
-list_any-alike p q h [] = refl
-list_any-alike p q h (x ∷ xs) = rw (h x, list_any-alike p q h xs) refl
+use Rattle.rectangle_pack_sections.specs.Exclusions.{is_listed, are_excluded, are_these}
+use Rattle.rectangle_pack_sections.specs.private.Exclusions.{AreNonempty}
+use Rattle.rectangle_pack_groups.proofs.lemmas.multimap.Vectors.{keys-lists}
+use Rattle.rectangle_pack_sections.proofs.lemmas.groups.Lists.{lookup-lists}
+use Rattle.rectangle_pack_sections.proofs.lemmas.util.Maps.{is_at-back}
+use Rattle.rectangle_pack_sections.proofs.lemmas.groups.Excluded.{is_at-equal, excluded-alike}
 
 or-both : (p q t : Bool) → ((p || t) || (q || t)) ≡ ((p || q) || t)
 or-both true q t = refl
@@ -29,24 +26,7 @@ or-given true t h = refl
 or-given false false h = refl
 or-given false true h = h refl
 
--- a test that fails does not hold
-pub not-both : {P : Type 0} (t : Bool) → t ≡ false → t ≡ true → P
-not-both true fails holds = absurd cc
-not-both false fails holds = absurd cc
-
 module _ {K : Type 0} {cmp : K → K → Ordering} (o : IsTotalOrder cmp) where
-  -- equal keys equal the same keys
-  pub is_at-equal : (x y z : K) → cmp x y ≡ Equal → is_at (cmp x) z ≡ is_at (cmp y) z
-  is_at-equal x y z h = ap is_eq (o.congr x y z h)
-
-  pub listed-alike : (es : List (K × List K)) (x a y b : K) → cmp x a ≡ Equal → cmp y b ≡ Equal → is_listed cmp es x y ≡ is_listed cmp es a b
-  listed-alike es x a y b h k =
-      list_any-alike (is_at (cmp y)) (is_at (cmp b)) (λ z. is_at-equal y b z k) (listed_at cmp es x)
-      ∙ ap (λ (f : Option (List K)). list_any (is_at (cmp b)) (unwrap_or f [])) (lookup-equal o x a h es)
-
-  pub excluded-alike : (es : List (K × List K)) (x a y b : K) → cmp x a ≡ Equal → cmp y b ≡ Equal → are_excluded cmp es x y ≡ are_excluded cmp es a b
-  excluded-alike es x a y b h k = rw (listed-alike es x a y b h k, listed-alike es y b x a k h) refl
-
   pub excluded-back : (es : List (K × List K)) (x y : K) → are_excluded cmp es x y ≡ are_excluded cmp es y x
   excluded-back es x y = or_comm (is_listed cmp es x y) (is_listed cmp es y x)
 
@@ -63,12 +43,12 @@ module _ {K : Type 0} {cmp : K → K → Ordering} (o : IsTotalOrder cmp) where
   excluded-again es a b there x y = or-given (are_excluded cmp es x y) (are_these cmp a b x y) (by (is_at (cmp x) a) (is_at (cmp y) b) refl refl)
     where
       swapped : (p q : Bool) → is_at (cmp x) b ≡ p → is_at (cmp y) a ≡ q → (is_at (cmp x) b && is_at (cmp y) a) ≡ true → are_excluded cmp es x y ≡ true
-      swapped true true h k t = excluded-alike es x b y a ((Equal-is _).0 h) ((Equal-is _).0 k) ∙ excluded-back es b a ∙ there
+      swapped true true h k t = excluded-alike o es x b y a ((Equal-is _).0 h) ((Equal-is _).0 k) ∙ excluded-back es b a ∙ there
       swapped true false h k t = absurd (let e = rw (h, k) at t in cc)
       swapped false q h k t = absurd (let e = rw h at t in cc)
 
       by : (p q : Bool) → is_at (cmp x) a ≡ p → is_at (cmp y) b ≡ q → are_these cmp a b x y ≡ true → are_excluded cmp es x y ≡ true
-      by true true h k t = excluded-alike es x a y b ((Equal-is _).0 h) ((Equal-is _).0 k) ∙ there
+      by true true h k t = excluded-alike o es x a y b ((Equal-is _).0 h) ((Equal-is _).0 k) ∙ there
       by true false h k t = swapped (is_at (cmp x) b) (is_at (cmp y) a) refl refl (rw (h, k) at t)
       by false q h k t = swapped (is_at (cmp x) b) (is_at (cmp y) a) refl refl (rw h at t)
 
@@ -77,11 +57,6 @@ module _ {K : Type 0} {cmp : K → K → Ordering} (o : IsTotalOrder cmp) where
       → (x y : K) → are_excluded cmp new x y ≡ (are_excluded cmp old x y || are_these cmp a b x y)
   excluded-added old new a b h x y =
       rw (h x y, h y x, these-back a b y x) (or-both (is_listed cmp old x y) (is_listed cmp old y x) (are_these cmp a b x y))
-
-  -- where it is mutual, one direction tells
-  pub excluded-listed : (es : List (K × List K)) → ((x y : K) → is_listed cmp es x y ≡ is_listed cmp es y x) → (x y : K)
-      → are_excluded cmp es x y ≡ is_listed cmp es x y
-  excluded-listed es m x y = rw (← m x y) (or_self (is_listed cmp es x y))
 
   -- what is listed, by the vectors
   pub listed-items : {A : Type 0} (es : List (K × Vec K A)) (x y : K)
@@ -108,7 +83,7 @@ module _ {K : Type 0} {cmp : K → K → Ordering} (o : IsTotalOrder cmp) where
       rw (listed-items new x y, listed-items old x y, is_at-back o x key) (by (is_eq (cmp key x)) refl)
     where
       at : is_at (cmp y) item ≡ is_at (cmp y) partner
-      at = is_at-back o y item ∙ sym (is_at-equal partner item y same) ∙ is_at-back o partner y
+      at = is_at-back o y item ∙ sym (is_at-equal o partner item y same) ∙ is_at-back o partner y
 
       by : (b : Bool) → is_eq (cmp key x) ≡ b → list_any (is_at (cmp y)) (items_of (lookup (is_at (cmp x)) new))
           ≡ (list_any (is_at (cmp y)) (items_of (lookup (is_at (cmp x)) old)) || (is_eq (cmp key x) && is_at (cmp y) partner))

@@ -1,15 +1,16 @@
 -- Groups whose members have sizes, as lists are set, extended and forgotten.
-use Rattle.rectangle_pack_sections.proofs.Std.{◌≡◌, ℕ, ◌+◌, ◌<◌, List, [], ◌∷◌, length, refl, ap, sym, subst, ◌∙◌, arith, cond, true, false, Bool, rules}
+use Rattle.rectangle_pack_sections.proofs.Std.{◌≡◌, ℕ, ◌+◌, ◌<◌, List, [], ◌∷◌, length, refl, ap, sym, subst, ◌∙◌, arith, cond, true, false, rules}
 use Rattle.rectangle_pack_sections.proofs.Std.{zero, suc, IsSome, All, Contains, nat_lt, Option, Some, None, IfSome, IsSomeAnd, unwrap_or, map, count_by}
 use Rattle.rectangle_pack_sections.proofs.Std.{Result, Ok, Err, OnOk, OnErr, Ordering, Vec, IsTotalOrder, is_eq, is_err, lookup, values_of, keys_of, is_at}
 use Rattle.rectangle_pack_sections.proofs.Std.{insert_entry, All-weaker, All-contains, All-tail, All-head, All-cons, All-nil, All-append, All-values_from_lookup, Equal, length-append}
 use Rattle.rectangle_pack_sections.proofs.Std.{IfSome-lookup_from_All, All-values-insert_entry, IsStrictlySortedBy, IsDistinct-from_sorted, eq_by_cmp_equiv}
 use Rattle.rectangle_pack_groups.proofs.lemmas.multimap.Vectors.{lists_of-insert_entry}
-use Rattle.rectangle_pack_groups.specs.Groups.{lists_of, Appends, HaveSizes, MembersHaveSizes}
-use Rattle.rectangle_pack_groups.specs.private.Exclusions.{AreNonempty}
+use Rattle.rectangle_pack_sections.specs.Groups.{lists_of, Appends, HaveSizes, MembersHaveSizes}
+use Rattle.rectangle_pack_sections.specs.private.Exclusions.{AreNonempty}
 use Rattle.rectangle_pack_groups.specs.private.Multimaps.{filled, times, IsAdded, PutsAlone, AppendsAtEach, CanTakeBack}
 use Rattle.rectangle_pack_groups.proofs.lemmas.multimap.Append.{sum_by-map}
 use Rattle.rectangle_pack_sections.specs.Boxes.{Size}
+use Rattle.rectangle_pack_sections.proofs.lemmas.util.Maps.{IsSome-cond}
 
 -- no list is left out where each has an item
 pub filled-all : {K X : Type 0} (es : List (K × List X)) → All (λ ids. 0 < length ids) (values_of es) → filled es ≡ es
@@ -45,11 +46,6 @@ MembersHaveSizes-more cmp old new groups grows h =
 pub MembersHaveSizes-same : {Id G : Type 0} (cmp : Id → Id → Ordering) (old new : List (Id × Size)) (was now : List (G × List Id))
     → new ≡ old → now ≡ was → MembersHaveSizes cmp old was → MembersHaveSizes cmp new now
 MembersHaveSizes-same cmp old new was now e f h = rw (e, f) h
-
--- what is found stays found where a value is set
-pub IsSome-cond : {X : Type 0} (b : Bool) (v : X) (o : Option X) → IsSome o → IsSome (cond b (Some v) o)
-IsSome-cond true v o h = refl
-IsSome-cond false v o h = h
 
 -- a put of one item, seen as a list
 pub lists-alone : {K Id A : Type 0} (kcmp : K → K → Ordering) (cmp : Id → Id → Ordering) (old new : List (K × Vec Id A)) (key : K) (id : Id)

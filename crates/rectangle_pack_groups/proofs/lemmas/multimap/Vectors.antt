@@ -1,16 +1,12 @@
 -- Maps from keys to vectors, seen as maps from keys to lists.
 use Rattle.rectangle_pack_sections.proofs.Std.{◌≡◌, List, [], ◌∷◌, length, refl, ap, sym, ◌∙◌, cond, true, false, Bool, Option, Some, None, is_some, filter}
 use Rattle.rectangle_pack_sections.proofs.Std.{nat_lt, IsTotalOrder, Equal-is, Ordering, Less, Equal, Greater, Vec, option_map, lookup, set_value, keys_of}
-use Rattle.rectangle_pack_sections.proofs.Std.{match_ordering, is_eq, is_at, insert_entry, lookup-map_values, keys_of-map_values}
-use Rattle.rectangle_pack_groups.specs.Groups.{lists_of}
+use Rattle.rectangle_pack_sections.proofs.Std.{match_ordering, is_eq, is_at, insert_entry, keys_of-map_values}
+use Rattle.rectangle_pack_sections.specs.Groups.{lists_of}
 use Rattle.rectangle_pack_groups.specs.private.Multimaps.{filled, items_of}
-use Rattle.rectangle_pack_sections.proofs.lemmas.util.Maps.{lookup-equal, set_value-map_values, insert_entry-map_values, is_some-option_map}
+use Rattle.rectangle_pack_sections.proofs.lemmas.util.Maps.{lookup-equal, set_value-map_values, insert_entry-map_values, is_some-option_map, none_of}
+use Rattle.rectangle_pack_sections.proofs.lemmas.groups.Lists.{lookup-lists}
 use Rattle.rectangle_pack_sections.proofs.Std.{ℕ, ◌+◌, ◌++◌, arith, map, sum, values_of, sum_by-cons, All, All-head, unwrap_or, tied_itself}
-
--- what is not there is `None`
-pub none_of : {X : Type 0} (found : Option X) → is_some found ≡ false → found ≡ None
-none_of None h = refl
-none_of (Some x) h = absurd cc
 
 -- an insert, seen as lists
 pub lists_of-insert_entry : {K X A : Type 0} (cmp : K → K → Ordering) (es : List (K × Vec X A)) (k : K) (v : Vec X A)
@@ -48,10 +44,6 @@ lists_of-filter (e ∷ es) = at (nat_lt 0 (length e.1.items)) (lists_of-filter e
 -- the keys are those of the map
 pub keys-lists : {K X A : Type 0} (es : List (K × Vec X A)) → keys_of (lists_of es) ≡ keys_of es
 keys-lists es = keys_of-map_values (λ v. v.items) es
-
--- a list that a key has, by the vector that it has
-pub lookup-lists : {K X A : Type 0} (test : K → Bool) (es : List (K × Vec X A)) → lookup test (lists_of es) ≡ option_map (λ v. v.items) (lookup test es)
-lookup-lists test es = lookup-map_values (λ v. v.items) test es
 
 -- a key has a list where it has a vector
 pub known-lists : {K X A : Type 0} (test : K → Bool) (es : List (K × Vec X A)) → is_some (lookup test (lists_of es)) ≡ is_some (lookup test es)
@@ -109,10 +101,6 @@ entries_in-cons x xs = sum_by-cons (λ n. n) (length x.1.items) (map length (val
 pub entries_in-append : {K X A : Type 0} (xs ys : List (K × Vec X A)) → entries_in (xs ++ ys) ≡ entries_in xs + entries_in ys
 entries_in-append [] ys = omega arith
 entries_in-append {K} {X} {A} (x ∷ xs) ys = omega (arith, entries_in-append xs ys, entries_in-cons x (xs ++ ys), entries_in-cons x xs)
-
--- a list that a key has, by the vector that it has
-pub list-found : {K X A : Type 0} (test : K → Bool) (es : List (K × Vec X A)) (v : Vec X A) → lookup test es ≡ Some v → lookup test (lists_of es) ≡ Some v.items
-list-found {X = X} {A = A} test es v found = lookup-lists test es ∙ ap (option_map (λ (w : Vec X A). w.items)) found
 
 -- the item of a list of one
 pub one_item : {X : Type 0} (P : X → Type 0) (xs : List X) → length xs ≡ 1 → All P xs → (x : X) × P x × (xs ≡ x ∷ [])

@@ -3,8 +3,8 @@ use Rattle.rectangle_pack_sections.proofs.Std.{◌≡◌, ◌<◌, ◌≤◌, Li
 use Rattle.rectangle_pack_sections.proofs.Std.{All-append, All-cons, All-nil, All-push, All-weaker, append_assoc, cases_lt, IsTotalOrder}
 use Rattle.rectangle_pack_sections.specs.declared.box_size_heuristics.named.Heuristic.{Heuristic}
 use Rattle.rectangle_pack_sections.specs.Bins.{Bin}
-use Rattle.rectangle_pack_groups.specs.declared.grouped_rects_to_place.Group.{Group}
-use Rattle.rectangle_pack_groups.specs.Groups.{Collection}
+use Rattle.rectangle_pack_sections.specs.declared.group.Group.{Group}
+use Rattle.rectangle_pack_sections.specs.Groups.{Collection}
 use Rattle.rectangle_pack_rules.specs.declared.uses.Use.{Use}
 use Rattle.rectangle_pack_rules.specs.Best.{IsBetterUse, PacksWith, IsRefusedWith, IsBestOf}
 use Rattle.rectangle_pack_packings.proofs.lemmas.best.Whole.{one-use, not-refused}

@@ -7,8 +7,8 @@ use Rattle.rectangle_pack_sections.specs.Boxes.{Cuboid}
 use Rattle.rectangle_pack_sections.specs.Counting.{total_volume}
 use Rattle.rectangle_pack_sections.specs.Heuristics.{rate_of, named_answers}
 use Rattle.rectangle_pack_lists.specs.Numbers.{saturated}
-use Rattle.rectangle_pack_groups.specs.declared.grouped_rects_to_place.Group.{Group}
-use Rattle.rectangle_pack_groups.specs.Groups.{Collection}
+use Rattle.rectangle_pack_sections.specs.declared.group.Group.{Group}
+use Rattle.rectangle_pack_sections.specs.Groups.{Collection}
 use Rattle.rectangle_pack_rules.specs.declared.answer.Placement.{Placement}
 use Rattle.rectangle_pack_rules.specs.declared.answer.RectanglePackOk.{RectanglePackOk}
 use Rattle.rectangle_pack_rules.specs.declared.answer.RectanglePackError.{RectanglePackError}

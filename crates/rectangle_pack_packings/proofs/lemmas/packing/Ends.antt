@@ -1,8 +1,8 @@
 -- How a packing ends, and what it then answers.
 use Rattle.rectangle_pack_sections.proofs.Std.{◌≡◌, ℕ, ◌+◌, List, length, ap, ◌∙◌, Ordering, Bool, true, false, Result, Ok, Err, IfOk, OnErr, OnTrue}
 use Rattle.rectangle_pack_sections.proofs.Std.{MatchBool}
-use Rattle.rectangle_pack_groups.specs.declared.grouped_rects_to_place.Group.{Group}
-use Rattle.rectangle_pack_groups.specs.Groups.{Collection, entries_of}
+use Rattle.rectangle_pack_sections.specs.declared.group.Group.{Group}
+use Rattle.rectangle_pack_sections.specs.Groups.{Collection, entries_of}
 use Rattle.rectangle_pack_sections.specs.Bins.{Bin, Held, bins_of}
 use Rattle.rectangle_pack_lists.specs.Numbers.{saturated}
 use Rattle.rectangle_pack_rules.specs.declared.answer.RectanglePackOk.{RectanglePackOk}

@@ -1,6 +1,6 @@
 use Rattle.rectangle_pack_sections.proofs.Std.{refl}
 use Rattle.rectangle_pack_sections.specs.declared.box_size_heuristics.named.Heuristic.TheVariants.{Volume}
-use Rattle.rectangle_pack_groups.proofs.lemmas.groups.GroupOrder.{groups_total}
+use Rattle.rectangle_pack_sections.proofs.lemmas.groups.GroupOrder.{groups_total}
 use Rattle.rectangle_pack_sections.specs.Bins.{bins_of}
 use Rattle.rectangle_pack_packings.proofs.lemmas.best.Alone.{alone-listed}
 use Rattle.rectangle_pack_packings.proofs.lemmas.best.Whole.{best-named}

@@ -1,7 +1,7 @@
 use Rattle.rectangle_pack_sections.proofs.Std.{refl}
 use Rattle.rectangle_pack_rules.specs.Packing.{rules_by}
 use Rattle.rectangle_pack_rules.proofs.lemmas.determinism.Either.{HaveOneResult-either}
-use Rattle.rectangle_pack_groups.proofs.lemmas.groups.GroupOrder.{groups_total}
+use Rattle.rectangle_pack_sections.proofs.lemmas.groups.GroupOrder.{groups_total}
 use Rattle.rectangle_pack_rules.proofs.lemmas.determinism.OnePacking.{one_result}
 use Rattle.rectangle_pack_rules.proofs.laws.packing_has_one_result.Goals as goal
 

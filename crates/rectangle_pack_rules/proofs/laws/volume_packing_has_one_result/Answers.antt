@@ -2,7 +2,7 @@ use Rattle.rectangle_pack_sections.proofs.Std.{refl, values_of}
 use Rattle.rectangle_pack_sections.specs.Boxes.{volume_of}
 use Rattle.rectangle_pack_rules.specs.Packing.{rules_by}
 use Rattle.rectangle_pack_rules.proofs.lemmas.determinism.Either.{HaveOneResult-either, rates_decide}
-use Rattle.rectangle_pack_groups.proofs.lemmas.groups.GroupOrder.{groups_total}
+use Rattle.rectangle_pack_sections.proofs.lemmas.groups.GroupOrder.{groups_total}
 use Rattle.rectangle_pack_rules.proofs.lemmas.determinism.OnePacking.{one_result}
 use Rattle.rectangle_pack_rules.proofs.laws.volume_packing_has_one_result.Goals as goal
 

@@ -1,21 +1,21 @@
 -- What is allowed by some answers is allowed by more; so two packings, each by closures of its own, are packings by what either may answer.
 use Rattle.rectangle_pack_sections.proofs.Std.{◌≡◌, ℕ, Bool, true, false, List, [], ◌∷◌, inl, inr, ◌⊎◌, ⊎_elim, All, map, Option, Some, None}
 use Rattle.rectangle_pack_sections.proofs.Std.{IsSomeAnd, MatchBool, Ordering, Equal, lookup, is_at}
-use Rattle.rectangle_pack_groups.specs.declared.grouped_rects_to_place.Group.{Group}
+use Rattle.rectangle_pack_sections.specs.declared.group.Group.{Group}
 use Rattle.rectangle_pack_rules.specs.declared.answer.Placement.{Placement}
 use Rattle.rectangle_pack_sections.specs.Boxes.{Size, Cuboid, IsU32}
 use Rattle.rectangle_pack_sections.specs.Bins.{Bin}
 use Rattle.rectangle_pack_sections.specs.Closures.{Answers}
 use Rattle.rectangle_pack_sections.specs.Choice.{IsAllowedCut}
 use Rattle.rectangle_pack_sections.specs.Cuts.{cuts, sizes_of}
-use Rattle.rectangle_pack_groups.specs.Groups.{Collection}
+use Rattle.rectangle_pack_sections.specs.Groups.{Collection}
 use Rattle.rectangle_pack_rules.specs.Orders.{IsGroupKey, IsGroupOrder, IsBinOrder}
 use Rattle.rectangle_pack_lists.specs.Steps.{AreLeft, IsStep, IsDone, IsStuck}
 use Rattle.rectangle_pack_rules.specs.Packing.{Rules, rules_by, Members, Stage, at_start, excludes_by, IsStuckIn, DoesNotTake, IsPlaced, IsRefused, AreAllPlaced}
 use Rattle.rectangle_pack_rules.specs.Packing.{StopsAfter, PackingDoneBy, PackingRefusedBy}
 use Rattle.rectangle_pack_rules.specs.Results.{either_of, ClosuresDecide, HaveOneResult}
 use Rattle.rectangle_pack_sections.specs.SmallestBox.{IsSmallestOrder}
-use Rattle.rectangle_pack_groups.proofs.lemmas.util.Zips.{AllZip-weaker}
+use Rattle.rectangle_pack_sections.proofs.lemmas.util.Zips.{AllZip-weaker}
 use Rattle.rectangle_pack_sections.proofs.lemmas.cuts.SmallestBox.{smallest_is_preorder}
 use Rattle.rectangle_pack_sections.proofs.lemmas.cuts.Choices.{MayChoose-more, smallest_more}
 use Rattle.rectangle_pack_rules.proofs.lemmas.determinism.Preorders.{total_decides}

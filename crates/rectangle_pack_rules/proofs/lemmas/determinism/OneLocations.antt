@@ -7,9 +7,9 @@ use Rattle.rectangle_pack_rules.specs.Placed.{IsLastOf, AreLastPlacements}
 use Rattle.rectangle_pack_rules.specs.Results.{ArePlacementsAlike, AreLocationsAlike}
 use Rattle.rectangle_pack_sections.proofs.lemmas.util.Lists.{All-middle}
 use Rattle.rectangle_pack_sections.proofs.lemmas.util.Maps.{congr_right}
-use Rattle.rectangle_pack_groups.proofs.lemmas.util.Maps.{AreOptionsAlike, maps_alike}
+use Rattle.rectangle_pack_sections.proofs.lemmas.groups.Alike.{AreOptionsAlike, maps_alike}
 use Rattle.rectangle_pack_rules.proofs.lemmas.determinism.OneTrial.{split_last}
-use Rattle.rectangle_pack_groups.proofs.lemmas.util.Zips.{All-alike, AllZip-back}
+use Rattle.rectangle_pack_sections.proofs.lemmas.util.Zips.{All-alike, AllZip-back}
 use Rattle.rectangle_pack_rules.proofs.lemmas.determinism.OnePacking.{split_alike}
 
 module _ {Id B : Type 0} (cmp : Id → Id → Ordering) (bin_cmp : B → B → Ordering) (id_total : IsTotalOrder cmp) (bin_total : IsTotalOrder bin_cmp)

@@ -7,10 +7,10 @@ use Rattle.rectangle_pack_sections.proofs.Std.{sorted_far, sum_by-IsPermutation,
 use Rattle.rectangle_pack_sections.specs.Boxes.{Size}
 use Rattle.rectangle_pack_sections.specs.Bins.{Bin}
 use Rattle.rectangle_pack_sections.specs.Choice.{IsFunction}
-use Rattle.rectangle_pack_groups.specs.Alike.{AreMapsAlike}
+use Rattle.rectangle_pack_sections.specs.Alike.{AreMapsAlike}
 use Rattle.rectangle_pack_rules.specs.Results.{AreSameBins, AreBinsAlike}
-use Rattle.rectangle_pack_groups.proofs.lemmas.util.Maps.{lookup-same}
-use Rattle.rectangle_pack_groups.proofs.lemmas.util.Zips.{AllZip-mapped, AllZip-weaker, AllZip-join, AllZip-beside, sums_alike}
+use Rattle.rectangle_pack_sections.proofs.lemmas.groups.Alike.{lookup-same}
+use Rattle.rectangle_pack_sections.proofs.lemmas.util.Zips.{AllZip-mapped, AllZip-weaker, AllZip-join, AllZip-beside, sums_alike}
 use Rattle.rectangle_pack_lists.specs.Numbers.{saturated}
 use Rattle.rectangle_pack_rules.specs.Orders.{falling_then, rising_then, IsGroupKey, IsGroupOrder, IsBinOrder}
 use Rattle.rectangle_pack_sections.proofs.lemmas.util.Maps.{same_keys}

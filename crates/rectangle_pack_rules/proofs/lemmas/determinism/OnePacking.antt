@@ -3,26 +3,26 @@ use Rattle.rectangle_pack_sections.proofs.Std.{◌≡◌, ℕ, Bool, true, false
 use Rattle.rectangle_pack_sections.proofs.Std.{get_or, get_or-map, append-nil, inl, inr, All, Contains, map, Option, Some, None, IfSome, IsSomeAnd, MatchBool}
 use Rattle.rectangle_pack_sections.proofs.Std.{AllZip, each_same, Ordering, Equal, IsTotalOrder, lookup, values_of, is_at, All-head, All-tail, All-weaker}
 use Rattle.rectangle_pack_sections.proofs.Std.{All-contains_itself, All-values-set_value, IfSome-lookup_from_All}
-use Rattle.rectangle_pack_groups.specs.declared.grouped_rects_to_place.Group.{Group}
+use Rattle.rectangle_pack_sections.specs.declared.group.Group.{Group}
 use Rattle.rectangle_pack_rules.specs.declared.answer.Placement.{Placement}
 use Rattle.rectangle_pack_sections.specs.Boxes.{Size, Cuboid}
 use Rattle.rectangle_pack_sections.specs.Bins.{Bin}
-use Rattle.rectangle_pack_groups.specs.Exclusions.{are_excluded}
-use Rattle.rectangle_pack_groups.specs.Groups.{Collection}
+use Rattle.rectangle_pack_sections.specs.Exclusions.{are_excluded}
+use Rattle.rectangle_pack_sections.specs.Groups.{Collection}
 use Rattle.rectangle_pack_rules.specs.Orders.{IsGroupOrder, IsBinOrder}
 use Rattle.rectangle_pack_lists.specs.Steps.{IsDone, IsStuck}
 use Rattle.rectangle_pack_rules.specs.Packing.{Rules, Members, Stage, at_start, excludes_by, IsStuckIn, DoesNotTake, IsPlaced, IsRefused, AreAllPlaced}
 use Rattle.rectangle_pack_rules.specs.Packing.{AreGroups, PackingDone, PackingRefused}
 use Rattle.rectangle_pack_rules.specs.Results.{MayBeCut, MayBeRated, ClosuresDecide, AreSameBins, AreBinsAlike, ArePlacementsAlike, HaveOneResult}
-use Rattle.rectangle_pack_groups.specs.Alike.{AreMapsAlike, AreCollectionsAlike}
+use Rattle.rectangle_pack_sections.specs.Alike.{AreMapsAlike, AreCollectionsAlike}
 use Rattle.rectangle_pack_sections.proofs.lemmas.util.Lists.{All-middle}
-use Rattle.rectangle_pack_groups.proofs.lemmas.multimap.Mutual.{is_at-equal, excluded-alike}
+use Rattle.rectangle_pack_sections.proofs.lemmas.groups.Excluded.{is_at-equal, excluded-alike}
 use Rattle.rectangle_pack_sections.proofs.lemmas.cuts.Axes.{IsPartOf-refl}
-use Rattle.rectangle_pack_groups.proofs.lemmas.util.Maps.{AreOptionsAlike, found-alike, lookup-alike, lookup-same, set_value-alike}
+use Rattle.rectangle_pack_sections.proofs.lemmas.groups.Alike.{AreOptionsAlike, found-alike, lookup-alike, lookup-same, set_value-alike}
 use Rattle.rectangle_pack_sections.proofs.lemmas.util.Maps.{is_at-back, same_keys}
 use Rattle.rectangle_pack_lists.proofs.lemmas.trial.Steps.{IsDone-keeps}
 use Rattle.rectangle_pack_rules.proofs.lemmas.determinism.OneTrial.{split_first, one_trial, not_done_and_stuck, MayBeCut-part}
-use Rattle.rectangle_pack_groups.proofs.lemmas.util.Zips.{All-from_zip, All-alike, values_alike, AllZip-along, AllZip-append, AllZip-join}
+use Rattle.rectangle_pack_sections.proofs.lemmas.util.Zips.{All-from_zip, All-alike, values_alike, AllZip-along, AllZip-append, AllZip-join}
 use Rattle.rectangle_pack_rules.proofs.lemmas.determinism.OneOrder.{one_group_order, one_bin_order}
 
 -- alike as far as both lists go; a list that ends before the other is not at its order's end

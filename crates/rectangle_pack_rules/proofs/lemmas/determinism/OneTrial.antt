@@ -14,7 +14,7 @@ use Rattle.rectangle_pack_sections.proofs.lemmas.cuts.BestOfAPass.{Contains-midd
 use Rattle.rectangle_pack_lists.proofs.lemmas.trial.FallingRates.{ranked_once}
 use Rattle.rectangle_pack_sections.proofs.lemmas.cuts.Axes.{IsPartOf-trans}
 use Rattle.rectangle_pack_lists.proofs.lemmas.trial.Steps.{IsStep-keeps}
-use Rattle.rectangle_pack_groups.proofs.lemmas.util.Zips.{AllZip-beside, AllZip-weaker}
+use Rattle.rectangle_pack_sections.proofs.lemmas.util.Zips.{AllZip-beside, AllZip-weaker}
 
 -- a list is split once at the last element of a kind
 pub record SameSplit {X : Type 0} (b1 : List X) (x1 : X) (a1 b2 : List X) (x2 : X) (a2 : List X) : Type 0 where

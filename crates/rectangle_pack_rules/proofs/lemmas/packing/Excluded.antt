@@ -6,17 +6,17 @@ use Rattle.rectangle_pack_sections.proofs.Std.{All-weaker, get_or-map, get_or-re
 use Rattle.rectangle_pack_sections.proofs.Std.{AllPairs-cons, or_comm, tied_itself, or-false, and-or_distrib_right, or_parts, take-map, list_any_none, or-true}
 use Rattle.rectangle_pack_rules.specs.declared.order.OrderedGroup.{OrderedGroup}
 use Rattle.rectangle_pack_rules.specs.declared.answer.Placement.{Placement}
-use Rattle.rectangle_pack_groups.specs.Groups.{Collection}
-use Rattle.rectangle_pack_groups.specs.Exclusions.{listed_at, is_listed, are_excluded}
-use Rattle.rectangle_pack_groups.specs.private.Exclusions.{AreMutual}
+use Rattle.rectangle_pack_sections.specs.Groups.{Collection}
+use Rattle.rectangle_pack_sections.specs.Exclusions.{listed_at, is_listed, are_excluded}
+use Rattle.rectangle_pack_sections.specs.private.Exclusions.{AreMutual}
 use Rattle.rectangle_pack_rules.specs.private.Excluded.{are_in, went_to, AreHomesKept}
 use Rattle.rectangle_pack_rules.specs.Packing.{Rules, AreKeptApart, excludes_by, excludes_none, Members, Stage, AreAllPlaced, PackingDone, PackingDoneBy}
 use Rattle.rectangle_pack_rules.specs.Packing.{PackingRefused, PackingRefusedBy}
 use Rattle.rectangle_pack_sections.specs.Bins.{Bin}
-use Rattle.rectangle_pack_groups.specs.declared.grouped_rects_to_place.Group.{Group}
+use Rattle.rectangle_pack_sections.specs.declared.group.Group.{Group}
 use Rattle.rectangle_pack_sections.proofs.lemmas.util.Lists.{All-front, All-middle}
 use Rattle.rectangle_pack_sections.proofs.lemmas.util.Maps.{lookup-equal, is_at-back}
-use Rattle.rectangle_pack_groups.proofs.lemmas.multimap.Mutual.{list_any-alike, is_at-equal, excluded-listed}
+use Rattle.rectangle_pack_sections.proofs.lemmas.groups.Excluded.{list_any-alike, is_at-equal, excluded-listed}
 use Rattle.rectangle_pack_rules.proofs.lemmas.packing.Orders.{map-take_more, IsDistinct-apart}
 
 -- tests that agree on the elements find the same

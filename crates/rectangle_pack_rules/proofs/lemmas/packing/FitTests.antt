@@ -13,16 +13,16 @@ use Rattle.rectangle_pack_sections.specs.Bins.{Bin}
 use Rattle.rectangle_pack_lists.specs.Steps.{IsDone, IsStuck}
 use Rattle.rectangle_pack_rules.specs.Packing.{Rules, Members, Stage, at_start, excludes_by, DoesNotTake, IsPlaced, IsRefused, AreGroups, AreAllPlaced}
 use Rattle.rectangle_pack_rules.specs.Packing.{StopsAfter}
-use Rattle.rectangle_pack_groups.specs.Groups.{Collection, entries_of}
+use Rattle.rectangle_pack_sections.specs.Groups.{Collection, entries_of}
 use Rattle.rectangle_pack_rules.specs.Orders.{IsBinOrder}
 use Rattle.rectangle_pack_lists.specs.Numbers.{saturated}
 use Rattle.rectangle_pack_rules.specs.PackAnswers.{sections_in, AreCounted}
 use Rattle.rectangle_pack_rules.specs.private.Bounds.{free_sections_at, free_sections_of, AreWithin, AddsWithin}
 use Rattle.rectangle_pack_rules.specs.private.Orders.{entries_at, members_in}
-use Rattle.rectangle_pack_groups.specs.declared.grouped_rects_to_place.Group.{Group}
-use Rattle.rectangle_pack_groups.proofs.lemmas.multimap.Mutual.{is_at-equal}
+use Rattle.rectangle_pack_sections.specs.declared.group.Group.{Group}
+use Rattle.rectangle_pack_sections.proofs.lemmas.groups.Excluded.{is_at-equal}
 use Rattle.rectangle_pack_sections.proofs.lemmas.util.Maps.{lookup-equal, is_at-back, congr_right}
-use Rattle.rectangle_pack_groups.proofs.lemmas.util.Zips.{length-zip, AllZip-weaker}
+use Rattle.rectangle_pack_sections.proofs.lemmas.util.Zips.{length-zip, AllZip-weaker}
 use Rattle.rectangle_pack_rules.proofs.lemmas.packing.Placed.{lookup-placed}
 use Rattle.rectangle_pack_lists.proofs.lemmas.trial.StepsByIndex.{saturated-add, saturated-from}
 use Rattle.rectangle_pack_rules.proofs.lemmas.packing.Orders.{AllZip-more, IsDistinct-apart}

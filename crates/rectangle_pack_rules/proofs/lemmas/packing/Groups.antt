@@ -7,9 +7,9 @@ use Rattle.rectangle_pack_sections.proofs.Std.{split_at, take_more, take-append-
 use Rattle.rectangle_pack_sections.proofs.Std.{All-tail, All-weaker, sum-map, slice_range, ◌-◌, length-drop, length-take-le}
 use Rattle.rectangle_pack_rules.specs.declared.order.OrderedGroup.{OrderedGroup}
 use Rattle.rectangle_pack_sections.specs.Closures.{Answers}
-use Rattle.rectangle_pack_groups.specs.Groups.{Collection, lists_of}
+use Rattle.rectangle_pack_sections.specs.Groups.{Collection, lists_of}
 use Rattle.rectangle_pack_rules.specs.private.Orders.{keys_of_order, entries_at, SizesStandAt, members_of, members_in, HasSizes, StopsAmong}
-use Rattle.rectangle_pack_groups.specs.declared.grouped_rects_to_place.Group.{Group}
+use Rattle.rectangle_pack_sections.specs.declared.group.Group.{Group}
 use Rattle.rectangle_pack_rules.specs.declared.answer.Placement.{Placement}
 use Rattle.rectangle_pack_sections.specs.Bins.{Bin}
 use Rattle.rectangle_pack_rules.specs.Packing.{Rules, Members, Stage, at_start, IsPlaced, DoesNotTake, IsRefused, AreAllPlaced, AreGroups, StopsAfter}
@@ -19,7 +19,7 @@ use Rattle.rectangle_pack_lists.specs.Steps.{IsDone}
 use Rattle.rectangle_pack_rules.specs.Placed.{AreNamed, IsLastOf, AreLastPlacements}
 use Rattle.rectangle_pack_rules.proofs.lemmas.packing.Orders.{AllZip-more, AllZip-begins, SizesStandAt-part}
 use Rattle.rectangle_pack_sections.proofs.lemmas.util.Zips.{AllZip-equal}
-use Rattle.rectangle_pack_groups.proofs.lemmas.util.Zips.{length-zip}
+use Rattle.rectangle_pack_sections.proofs.lemmas.util.Zips.{length-zip}
 use Rattle.rectangle_pack_sections.proofs.lemmas.util.Maps.{is_at-back, congr_right}
 
 -- the names of an order, split at an index

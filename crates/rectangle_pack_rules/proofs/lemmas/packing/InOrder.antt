@@ -1,8 +1,8 @@
 -- What is said of the groups of an order, said of the collection.
 use Rattle.rectangle_pack_sections.proofs.Std.{◌≡◌, ℕ, ◌+◌, List, length, map, subst, sym, ◌∙◌, Some, All, Ordering, IsTotalOrder, IsDistinct, eq_by_cmp, keys_of}
 use Rattle.rectangle_pack_sections.proofs.Std.{sum_by, lookup, is_at, Vec}
-use Rattle.rectangle_pack_groups.specs.declared.grouped_rects_to_place.Group.{Group}
-use Rattle.rectangle_pack_groups.specs.Groups.{Collection, entries_of, lists_of}
+use Rattle.rectangle_pack_sections.specs.declared.group.Group.{Group}
+use Rattle.rectangle_pack_sections.specs.Groups.{Collection, entries_of, lists_of}
 use Rattle.rectangle_pack_rules.specs.declared.answer.Placement.{Placement}
 use Rattle.rectangle_pack_rules.specs.declared.order.OrderedGroup.{OrderedGroup}
 use Rattle.rectangle_pack_sections.specs.Bins.{Bin}
@@ -15,7 +15,7 @@ use Rattle.rectangle_pack_rules.specs.private.Bounds.{AddsWithin}
 use Rattle.rectangle_pack_rules.specs.private.Orders.{keys_of_order, entries_at, members_of, members_in, SizesStandAt, StopsAmong}
 use Rattle.rectangle_pack_rules.proofs.lemmas.packing.Groups.{AreGroups-order, AreGroups-length, AreAllPlaced-length, StopsAfter-among}
 use Rattle.rectangle_pack_rules.proofs.lemmas.packing.FitTests.{counted-done, counted-refused, counted-within}
-use Rattle.rectangle_pack_groups.proofs.lemmas.multimap.Vectors.{list-found}
+use Rattle.rectangle_pack_sections.proofs.lemmas.groups.Lists.{list-found}
 
 module _ {Id B G A : Type 0} (group_cmp : Group G Id → Group G Id → Ordering) (rules : Rules Id B) (all : Collection Id G) (old : List (B × Bin))
     (bin_order : List (ℕ × B)) (order : List (OrderedGroup (Group G Id) Id A)) (sizes : List Size)

@@ -6,7 +6,7 @@ use Rattle.rectangle_pack_rules.specs.KeptBins.{KeepsEachBin, locations_in}
 use Rattle.rectangle_pack_rules.specs.Packing.{Rules, Members, Stage, AreAllPlaced}
 use Rattle.rectangle_pack_sections.proofs.lemmas.cuts.Counting.{KeepCells-from_counts}
 use Rattle.rectangle_pack_rules.proofs.lemmas.packing.Frame.{IsFrame-recut, KeptBySteps-recut, changed-all}
-use Rattle.rectangle_pack_groups.proofs.lemmas.multimap.Vectors.{none_of}
+use Rattle.rectangle_pack_sections.proofs.lemmas.util.Maps.{none_of}
 use Rattle.rectangle_pack_sections.proofs.lemmas.util.Maps.{is_some-keys}
 use Rattle.rectangle_pack_rules.proofs.lemmas.packing.Placed.{keys-placed}
 

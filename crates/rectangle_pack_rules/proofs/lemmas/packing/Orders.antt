@@ -7,14 +7,14 @@ use Rattle.rectangle_pack_sections.proofs.Std.{All-permutation, cases_order, lt-
 use Rattle.rectangle_pack_sections.proofs.Std.{slice_range, BTreeMap, IsOrdered, btree_map_get_place, sum_by-cons, get_or, slice_get-get_or, sum, sum_by_push}
 use Rattle.rectangle_pack_sections.proofs.Std.{false, Bool, IsSome, Less, Equal, Greater, is_lt, ordering_then, IsTotalOrder, lookup, is_at, All-weaker}
 use Rattle.rectangle_pack_sections.proofs.Std.{take-append-drop, take_more, map-id, map-append, All-from_recursion, IsDistinct-head, IsDistinct, keys_of}
-use Rattle.rectangle_pack_groups.proofs.lemmas.util.Zips.{AllZip-mapped, length-zip, All-alike, AllZip-along, AllZip-back}
+use Rattle.rectangle_pack_sections.proofs.lemmas.util.Zips.{AllZip-mapped, length-zip, All-alike, AllZip-along, AllZip-back}
 use Rattle.rectangle_pack_sections.proofs.lemmas.util.Zips.{AllZip-equal}
 use Rattle.rectangle_pack_rules.specs.declared.order.OrderedGroup.{OrderedGroup}
-use Rattle.rectangle_pack_groups.specs.Groups.{lists_of}
+use Rattle.rectangle_pack_sections.specs.Groups.{lists_of}
 use Rattle.rectangle_pack_lists.specs.Numbers.{saturated}
 use Rattle.rectangle_pack_sections.specs.Boxes.{Size}
 use Rattle.rectangle_pack_rules.specs.private.Orders.{keys_of_order, entries_at, SizesStandAt}
-use Rattle.rectangle_pack_groups.proofs.lemmas.multimap.Sized.{IsSome-cond}
+use Rattle.rectangle_pack_sections.proofs.lemmas.util.Maps.{IsSome-cond}
 
 -- the first of keys that differ differs from each later one
 pub IsDistinct-apart : {K : Type 0} (e : K → K → Bool) (x : K) (xs : List K) → IsDistinct e (x ∷ xs) → All (λ y. e x y ≡ false) xs

@@ -2,18 +2,18 @@
 use Rattle.rectangle_pack_sections.proofs.Std.{◌≡◌, ℕ, List, [], ◌∷◌, refl, sym, ◌∙◌, subst, cond, true, false, Bool, inl, inr, Some, IsSome, map, All, AllZip}
 use Rattle.rectangle_pack_sections.proofs.Std.{Ordering, Equal, IsTotalOrder, Equal-is, is_eq, lookup, is_at, All-head, All-tail, All-permutation}
 use Rattle.rectangle_pack_sections.proofs.Std.{IsPermutation-map, IsPermutation-sym}
-use Rattle.rectangle_pack_groups.specs.declared.grouped_rects_to_place.Group.{Group}
+use Rattle.rectangle_pack_sections.specs.declared.group.Group.{Group}
 use Rattle.rectangle_pack_rules.specs.declared.answer.Placement.{Placement}
 use Rattle.rectangle_pack_sections.specs.Boxes.{Size, Cuboid, Holds}
 use Rattle.rectangle_pack_sections.specs.Bins.{Bin}
 use Rattle.rectangle_pack_sections.specs.Closures.{Answers}
-use Rattle.rectangle_pack_groups.specs.Groups.{Collection}
+use Rattle.rectangle_pack_sections.specs.Groups.{Collection}
 use Rattle.rectangle_pack_rules.specs.Orders.{IsBinOrder}
 use Rattle.rectangle_pack_rules.specs.Packing.{Rules, Members, Stage, at_start, excludes_by, DoesNotTake, IsRefused, AreAllPlaced, PackingRefused}
 use Rattle.rectangle_pack_lists.specs.Steps.{IsStuck}
 use Rattle.rectangle_pack_rules.proofs.lemmas.packing.Excluded.{excludes-alike}
 use Rattle.rectangle_pack_sections.proofs.lemmas.util.Maps.{lookup-equal, is_some-keys}
-use Rattle.rectangle_pack_groups.proofs.lemmas.util.Zips.{All-from_zip}
+use Rattle.rectangle_pack_sections.proofs.lemmas.util.Zips.{All-from_zip}
 use Rattle.rectangle_pack_rules.proofs.lemmas.packing.Placed.{keys-placed}
 
 module _ {Id B : Type 0} (rules : Rules Id B) (o : IsTotalOrder rules.bin_cmp) where

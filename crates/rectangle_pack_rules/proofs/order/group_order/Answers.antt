@@ -2,14 +2,14 @@ use Rattle.rectangle_pack_sections.proofs.Std.{IfOk-from_err, arith, ℕ, All, A
 use Rattle.rectangle_pack_sections.proofs.Std.{take_rest, deref_pair, All-weaker, All-push, iter_end, AllZip, slice_range, all_pairs_push, lookup, is_at}
 use Rattle.rectangle_pack_sections.proofs.Std.{All-permutation, sum_by-IsPermutation, sym, subst, List, eq_by_cmp, IsDistinct, keys_of, IsPermutation-map}
 use Rattle.rectangle_pack_sections.proofs.Std.{IsDistinct-from_sorted, IsDistinct-IsPermutation, All-nil, rest_more, ◌≤◌}
-use Rattle.rectangle_pack_groups.specs.Groups.{lists_of, HaveSizes}
+use Rattle.rectangle_pack_sections.specs.Groups.{lists_of, HaveSizes}
 use Rattle.rectangle_pack_rules.specs.declared.order.OrderedGroup.{OrderedGroup}
 use Rattle.rectangle_pack_rules.specs.private.Orders.{keys_of_order, entries_at, SizesStandAt}
 use Rattle.rectangle_pack_rules.proofs.lemmas.packing.Orders.{AllZip-more, items-turn, listed-zip, counted-zip, rise-names, SizesStandAt-more, SizesStandAt-last}
 use Rattle.rectangle_pack_rules.proofs.lemmas.packing.Orders.{AllZip-rated}
 use Rattle.rectangle_pack_sections.proofs.lemmas.util.Zips.{AllZip-equal}
-use Rattle.rectangle_pack_groups.proofs.lemmas.multimap.Vectors.{list-found}
-use Rattle.rectangle_pack_groups.proofs.lemmas.util.Zips.{AllZip-mapped, length-zip}
+use Rattle.rectangle_pack_sections.proofs.lemmas.groups.Lists.{list-found}
+use Rattle.rectangle_pack_sections.proofs.lemmas.util.Zips.{AllZip-mapped, length-zip}
 use Rattle.rectangle_pack_sections.proofs.lemmas.util.Maps.{is_at-back}
 use Rattle.rectangle_pack_rules.proofs.order.group_order.Given.{Over}
 use Rattle.rectangle_pack_rules.proofs.order.group_order.Goals as goal

@@ -1,5 +1,5 @@
 -- Look-ups and writes at keys that are equal, and in maps whose values are mapped.
-use Rattle.rectangle_pack_sections.proofs.Std.{◌≡◌, Bool, true, false, cond, List, [], ◌∷◌, refl, ◌∙◌, sym, ap, Option, Some, None, map, list_any}
+use Rattle.rectangle_pack_sections.proofs.Std.{◌≡◌, Bool, true, false, cond, List, [], ◌∷◌, refl, ◌∙◌, sym, ap, Option, Some, None, IsSome, map, list_any}
 use Rattle.rectangle_pack_sections.proofs.Std.{ordering_reverse, is_eq, match_ordering, is_some, option_map, Ordering, Less, Equal, Greater, IsTotalOrder}
 use Rattle.rectangle_pack_sections.proofs.Std.{eq_by_cmp_equiv, Equal-is, lookup, set_value, keys_of, is_at, insert_entry, lookup-set_value, is_some-lookup}
 
@@ -100,3 +100,13 @@ lookup-inserted {K} {X} {cmp} o (e ∷ es) k v absent q = by (cmp k e.0) refl ab
 -- what equals each of two equal keys is equal
 pub same_keys : {K : Type 0} {cmp : K → K → Ordering} → IsTotalOrder cmp → (a b x y : K) → cmp a b ≡ Equal → cmp a x ≡ Equal → cmp b y ≡ Equal → cmp x y ≡ Equal
 same_keys o a b x y h k l = sym (o.congr a x y k) ∙ o.congr a b y h ∙ l
+
+-- what is not there is `None`
+pub none_of : {X : Type 0} (found : Option X) → is_some found ≡ false → found ≡ None
+none_of None h = refl
+none_of (Some x) h = absurd cc
+
+-- what is found stays found where a value is set
+pub IsSome-cond : {X : Type 0} (b : Bool) (v : X) (o : Option X) → IsSome o → IsSome (cond b (Some v) o)
+IsSome-cond true v o h = refl
+IsSome-cond false v o h = h

@@ -1,7 +1,7 @@
 use Rattle.rectangle_pack_sections.proofs.Std.{subst, refl, ap, sym, ◌∙◌, is_at}
 use Rattle.rectangle_pack_sections.specs.Bins.{bins_of}
 use Rattle.rectangle_pack_bins.proofs.lemmas.bins.Journals.{is_some-bins_of}
-use Rattle.rectangle_pack_groups.proofs.lemmas.multimap.Vectors.{none_of}
+use Rattle.rectangle_pack_sections.proofs.lemmas.util.Maps.{none_of}
 use Rattle.rectangle_pack.proofs.lemmas.session.Keeps.{None-bins_of}
 use Rattle.rectangle_pack.proofs.lemmas.session.Packing.{state, IsSession-same}
 use Rattle.rectangle_pack.proofs.lemmas.session.Transitions.{added-inserted, memory_refused}

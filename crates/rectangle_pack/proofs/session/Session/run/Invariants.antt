@@ -1,5 +1,5 @@
 use Rattle.rectangle_pack_sections.proofs.Std.{take, ◌+◌, ◌≤◌, ◌-◌, length, vec_len, vec_capacity}
-use Rattle.rectangle_pack_groups.specs.contracts.grouped_rects_to_place.GroupOrd.TheImpl.{ghosts}
+use Rattle.rectangle_pack_sections.specs.contracts.group.GroupOrd.TheImpl.{ghosts}
 use Rattle.rectangle_pack_sections.specs.Closures.{answers}
 use Rattle.rectangle_pack.specs.Session.{IsRun, IsSession}
 use Rattle.rectangle_pack_rules.specs.Packing.{rules_by}

@@ -1,6 +1,6 @@
 use Rattle.rectangle_pack_sections.proofs.Std.{refl, on_ok_weaker}
-use Rattle.rectangle_pack_groups.specs.Groups.{lists_of, Collection}
-use Rattle.rectangle_pack_groups.proofs.lemmas.groups.GroupOrder.{groups_by_variants}
+use Rattle.rectangle_pack_sections.specs.Groups.{lists_of, Collection}
+use Rattle.rectangle_pack_sections.proofs.lemmas.groups.GroupOrder.{groups_by_variants}
 use Rattle.rectangle_pack_groups.proofs.grouped_rects_to_place.GroupedRectsToPlace.exclude.Goals as goal
 
 pub add-requires-clause-clones_equal : goal.add-requires-clause-clones_equal

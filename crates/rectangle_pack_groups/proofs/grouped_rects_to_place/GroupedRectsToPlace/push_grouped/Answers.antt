@@ -1,9 +1,9 @@
 use Rattle.rectangle_pack_sections.proofs.Std.{◌≡◌, refl, length, vec_len, length-map, IfOk-from_err}
-use Rattle.rectangle_pack_groups.specs.Groups.{lists_of}
+use Rattle.rectangle_pack_sections.specs.Groups.{lists_of}
 use Rattle.rectangle_pack_sections.proofs.lemmas.util.Results.{OnErr-given}
 use Rattle.rectangle_pack_groups.proofs.lemmas.multimap.Sized.{lists-added, lists-other, OnOk-both, OnErr-both}
-use Rattle.rectangle_pack_groups.proofs.lemmas.groups.GroupOrder.{groups_by_variants}
-use Rattle.rectangle_pack_groups.specs.declared.grouped_rects_to_place.Group.TheVariants.{Grouped}
+use Rattle.rectangle_pack_sections.proofs.lemmas.groups.GroupOrder.{groups_by_variants}
+use Rattle.rectangle_pack_sections.specs.declared.group.Group.TheVariants.{Grouped}
 use contract.BorrowLft.{⊑_meet, ⊑_static}
 use Rattle.rectangle_pack_groups.proofs.grouped_rects_to_place.GroupedRectsToPlace.push_grouped.Goals as goal
 

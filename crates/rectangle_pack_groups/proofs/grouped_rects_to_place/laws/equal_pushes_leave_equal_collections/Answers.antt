@@ -1,5 +1,5 @@
 use Rattle.rectangle_pack_sections.proofs.Std.{refl}
-use Rattle.rectangle_pack_groups.proofs.lemmas.groups.GroupOrder.{groups_total}
+use Rattle.rectangle_pack_sections.proofs.lemmas.groups.GroupOrder.{groups_total}
 use Rattle.rectangle_pack_groups.proofs.lemmas.groups.OnePush.{alone_alike, into_alike}
 use Rattle.rectangle_pack_groups.proofs.grouped_rects_to_place.laws.equal_pushes_leave_equal_collections.Goals as goal
 

@@ -1,5 +1,5 @@
 use Rattle.rectangle_pack_sections.proofs.Std.{refl, sym, ◌∙◌, lookup, is_at, IfOk-from_err}
-use Rattle.rectangle_pack_groups.specs.Groups.{lists_of}
+use Rattle.rectangle_pack_sections.specs.Groups.{lists_of}
 use Rattle.rectangle_pack_groups.specs.private.Multimaps.{times}
 use Rattle.rectangle_pack_sections.proofs.lemmas.util.Results.{OnErr-given}
 use Rattle.rectangle_pack_groups.proofs.lemmas.multimap.Sized.{filled-all, Appends-from_added, CanTakeBack-whole, on_ok, on_err}

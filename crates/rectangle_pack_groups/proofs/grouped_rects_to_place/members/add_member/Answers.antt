@@ -1,5 +1,5 @@
 use Rattle.rectangle_pack_sections.proofs.Std.{◌≡◌, ◌<◌, List, refl, sym, ◌∙◌, ap, subst, length, reverse, tied_itself, IfOk-from_err}
-use Rattle.rectangle_pack_groups.specs.Groups.{lists_of}
+use Rattle.rectangle_pack_sections.specs.Groups.{lists_of}
 use Rattle.rectangle_pack_groups.specs.private.Multimaps.{filled, TakesBack, AppendsAtEach}
 use Rattle.rectangle_pack_groups.proofs.lemmas.multimap.Vectors.{keys-lists}
 use Rattle.rectangle_pack_sections.proofs.lemmas.util.Results.{OnErr-given}

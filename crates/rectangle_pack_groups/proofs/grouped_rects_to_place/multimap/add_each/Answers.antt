@@ -1,7 +1,7 @@
 use Rattle.rectangle_pack_sections.proofs.Std.{◌∙◌, ap, sym, get, is_at, IfOk-from_err, on_ok_weaker, on_err_weaker}
-use Rattle.rectangle_pack_groups.specs.Groups.{lists_of}
+use Rattle.rectangle_pack_sections.specs.Groups.{lists_of}
 use Rattle.rectangle_pack_groups.specs.private.Multimaps.{times, filled}
-use Rattle.rectangle_pack_groups.proofs.lemmas.multimap.Vectors.{lookup-lists}
+use Rattle.rectangle_pack_sections.proofs.lemmas.groups.Lists.{lookup-lists}
 use Rattle.rectangle_pack_groups.proofs.lemmas.multimap.Append.{appended-named, appended-other}
 use Rattle.rectangle_pack_sections.proofs.lemmas.util.Results.{OnErr-given}
 use Rattle.rectangle_pack_groups.proofs.grouped_rects_to_place.multimap.add_each.Goals as goal

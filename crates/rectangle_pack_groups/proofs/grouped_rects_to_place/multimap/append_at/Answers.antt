@@ -1,6 +1,7 @@
 use Rattle.rectangle_pack_sections.proofs.Std.{rules, ◌≡◌, [], ◌∷◌, ◌++◌, sym, ◌∙◌, ap, Some, is_some, option_map, lookup, is_at, cond, Equal-is}
-use Rattle.rectangle_pack_groups.specs.Groups.{lists_of}
-use Rattle.rectangle_pack_groups.proofs.lemmas.multimap.Vectors.{lists_of-set_value, lookup-lists}
+use Rattle.rectangle_pack_sections.specs.Groups.{lists_of}
+use Rattle.rectangle_pack_groups.proofs.lemmas.multimap.Vectors.{lists_of-set_value}
+use Rattle.rectangle_pack_sections.proofs.lemmas.groups.Lists.{lookup-lists}
 use Rattle.rectangle_pack_sections.proofs.lemmas.util.Maps.{lookup-equal}
 use Rattle.rectangle_pack_groups.proofs.lemmas.multimap.Append.{appended-found}
 use Rattle.rectangle_pack_groups.proofs.lemmas.multimap.TakeBack.{TakesBack-appended}

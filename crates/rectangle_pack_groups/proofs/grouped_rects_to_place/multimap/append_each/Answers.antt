@@ -1,6 +1,6 @@
 use Rattle.rectangle_pack_sections.proofs.Std.{rules, ◌≡◌, [], ◌∷◌, ◌++◌, length, length-append, take, refl, ◌∙◌, ap, arith, Contains, All, reverse, get, is_eq}
 use Rattle.rectangle_pack_sections.proofs.Std.{tied_itself, All-contains_itself, subst, List, sym, take-length}
-use Rattle.rectangle_pack_groups.specs.Groups.{lists_of}
+use Rattle.rectangle_pack_sections.specs.Groups.{lists_of}
 use Rattle.rectangle_pack_groups.specs.private.Multimaps.{times, AreAppended, TakesBack}
 use Rattle.rectangle_pack_groups.proofs.lemmas.multimap.Sized.{on_ok}
 use Rattle.rectangle_pack_groups.proofs.lemmas.multimap.Append.{AreAppended-none, AreAppended-step, AreAppended-known, AreAppended-roomier, times-more_same}

@@ -1,5 +1,5 @@
 use Rattle.rectangle_pack_sections.proofs.Std.{◌≡◌, ◌+◌, ◌<◌, length, take, All, Contains, reverse, get, IsOrdered}
-use Rattle.rectangle_pack_groups.specs.Groups.{lists_of}
+use Rattle.rectangle_pack_sections.specs.Groups.{lists_of}
 use Rattle.rectangle_pack_groups.specs.private.Multimaps.{times, AreAppended, TakesBack}
 use Rattle.rectangle_pack_groups.proofs.grouped_rects_to_place.multimap.append_each.Given as goal
 

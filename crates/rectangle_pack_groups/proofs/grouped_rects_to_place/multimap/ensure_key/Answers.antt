@@ -1,5 +1,5 @@
 use Rattle.rectangle_pack_sections.proofs.Std.{◌≡◌, List, Vec, lookup, is_at, insert_entry, sym, ◌∙◌, ap, Equal-is, Equal, IfOk-from_err}
-use Rattle.rectangle_pack_groups.specs.Groups.{lists_of}
+use Rattle.rectangle_pack_sections.specs.Groups.{lists_of}
 use Rattle.rectangle_pack_groups.specs.private.Multimaps.{filled, items_of}
 use Rattle.rectangle_pack_groups.proofs.lemmas.multimap.Vectors.{filled-new_key, items-new_key, others-new_key, has-new_key}
 use Rattle.rectangle_pack_groups.proofs.grouped_rects_to_place.multimap.ensure_key.Goals as goal

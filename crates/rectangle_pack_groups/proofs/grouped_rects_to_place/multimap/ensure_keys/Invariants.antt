@@ -1,5 +1,5 @@
 use Rattle.rectangle_pack_sections.proofs.Std.{◌≡◌, ◌<◌, take, IsSome, get}
-use Rattle.rectangle_pack_groups.specs.Groups.{lists_of}
+use Rattle.rectangle_pack_sections.specs.Groups.{lists_of}
 use Rattle.rectangle_pack_groups.specs.private.Multimaps.{filled, times, items_of}
 use Rattle.rectangle_pack_groups.proofs.grouped_rects_to_place.multimap.ensure_keys.Given as goal
 

@@ -1,7 +1,8 @@
 use Rattle.rectangle_pack_sections.proofs.Std.{◌≡◌, sym, ◌∙◌, ap, subst, Some, option_map, lookup, is_at, set_value, set_value_same, on_ok_weaker}
-use Rattle.rectangle_pack_groups.specs.Groups.{lists_of}
+use Rattle.rectangle_pack_sections.specs.Groups.{lists_of}
 use Rattle.rectangle_pack_groups.specs.private.Multimaps.{HasRoom}
-use Rattle.rectangle_pack_groups.proofs.lemmas.multimap.Vectors.{lists_of-set_value, lookup-lists, items-same, known-same}
+use Rattle.rectangle_pack_groups.proofs.lemmas.multimap.Vectors.{lists_of-set_value, items-same, known-same}
+use Rattle.rectangle_pack_sections.proofs.lemmas.groups.Lists.{lookup-lists}
 use Rattle.rectangle_pack_groups.proofs.grouped_rects_to_place.multimap.reserve_at.Goals as goal
 
 pub returns : goal.returns

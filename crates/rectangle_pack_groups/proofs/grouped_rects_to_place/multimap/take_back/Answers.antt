@@ -1,6 +1,6 @@
 use Rattle.rectangle_pack_sections.proofs.Std.{◌≡◌, arith, take-length, sym, ◌∙◌, ap, is_some, lookup, is_at}
-use Rattle.rectangle_pack_groups.specs.Groups.{lists_of}
-use Rattle.rectangle_pack_groups.proofs.lemmas.multimap.Vectors.{lookup-lists}
+use Rattle.rectangle_pack_sections.specs.Groups.{lists_of}
+use Rattle.rectangle_pack_sections.proofs.lemmas.groups.Lists.{lookup-lists}
 use Rattle.rectangle_pack_sections.proofs.lemmas.util.Maps.{is_some-option_map}
 use Rattle.rectangle_pack_groups.proofs.lemmas.multimap.TakeBack.{reverse-take_last, TakesBack-known}
 use Rattle.rectangle_pack_groups.proofs.grouped_rects_to_place.multimap.take_back.Goals as goal

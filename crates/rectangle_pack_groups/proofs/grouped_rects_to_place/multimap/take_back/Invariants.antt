@@ -1,5 +1,5 @@
 use Rattle.rectangle_pack_sections.proofs.Std.{List, take, reverse}
-use Rattle.rectangle_pack_groups.specs.Groups.{lists_of}
+use Rattle.rectangle_pack_sections.specs.Groups.{lists_of}
 use Rattle.rectangle_pack_groups.specs.private.Multimaps.{TakesBack}
 use Rattle.rectangle_pack_groups.proofs.grouped_rects_to_place.multimap.take_back.Given as goal
 

@@ -1,6 +1,7 @@
 use Rattle.rectangle_pack_sections.proofs.Std.{◌≡◌, ◌-◌, [], ◌∷◌, ◌++◌, length, take, vec_len, refl, sym, ◌∙◌, ap, Some, option_map, lookup, is_at}
-use Rattle.rectangle_pack_groups.specs.Groups.{lists_of}
-use Rattle.rectangle_pack_groups.proofs.lemmas.multimap.Vectors.{lists_of-set_value, lookup-lists}
+use Rattle.rectangle_pack_sections.specs.Groups.{lists_of}
+use Rattle.rectangle_pack_groups.proofs.lemmas.multimap.Vectors.{lists_of-set_value}
+use Rattle.rectangle_pack_sections.proofs.lemmas.groups.Lists.{lookup-lists}
 use Rattle.rectangle_pack_groups.proofs.lemmas.multimap.TakeBack.{take-all_but_last}
 use Rattle.rectangle_pack_groups.proofs.grouped_rects_to_place.multimap.take_last.Goals as goal
 

@@ -1,6 +1,6 @@
 use Rattle.rectangle_pack_sections.proofs.Std.{refl, ◌≡◌, ◌∙◌, IfOk-from_err}
 use Rattle.rectangle_pack_sections.proofs.lemmas.util.Results.{OnErr-given}
-use Rattle.rectangle_pack_groups.proofs.lemmas.multimap.Mutual.{not-both}
+use Rattle.rectangle_pack_sections.proofs.lemmas.groups.Excluded.{not-both}
 use Rattle.rectangle_pack_sections.specs.Bins.{bins_of}
 use Rattle.rectangle_pack_packings.specs.private.RollBack.{RollsBackTo}
 use Rattle.rectangle_pack_packings.proofs.pack.attempt.try_packing.Given.{Over}

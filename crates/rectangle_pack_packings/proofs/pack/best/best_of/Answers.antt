@@ -1,7 +1,7 @@
 use Rattle.rectangle_pack_sections.proofs.Std.{refl, ◌∙◌, take, take_all, take_more, slice_index_or, All-nil, IfOk-from_err}
 use borrow.Author.Count.{falls}
 use Rattle.rectangle_pack_sections.specs.declared.box_size_heuristics.named.Heuristic.TheVariants.{Volume}
-use Rattle.rectangle_pack_groups.proofs.lemmas.groups.GroupOrder.{groups_total}
+use Rattle.rectangle_pack_sections.proofs.lemmas.groups.GroupOrder.{groups_total}
 use Rattle.rectangle_pack_sections.specs.Bins.{bins_of}
 use Rattle.rectangle_pack_packings.proofs.lemmas.best.Steps.{best-after_refused, best-after_done}
 use Rattle.rectangle_pack_packings.proofs.pack.best.best_of.Goals.{in-Some, in_default}

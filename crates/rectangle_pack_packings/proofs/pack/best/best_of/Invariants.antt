@@ -1,5 +1,5 @@
 use Rattle.rectangle_pack_sections.proofs.Std.{◌≡◌, take}
-use Rattle.rectangle_pack_groups.specs.contracts.grouped_rects_to_place.GroupOrd.TheImpl.{ghosts}
+use Rattle.rectangle_pack_sections.specs.contracts.group.GroupOrd.TheImpl.{ghosts}
 use Rattle.rectangle_pack_sections.specs.Bins.{bins_of}
 use Rattle.rectangle_pack_packings.proofs.lemmas.best.Steps.{IsBestSoFar}
 use Rattle.rectangle_pack_packings.proofs.pack.best.best_of.Given as goal

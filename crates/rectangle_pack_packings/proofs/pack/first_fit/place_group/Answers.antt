@@ -102,13 +102,13 @@ loop-index-preserved g c =
     let stuck = on-false _ _ _ c.if-branch.false c.in_ok-place_in_bin.ensures.placed in
     record {
       same = stuck.2 ∙ mid;
-      order = c.in_ok-place_in_bin.ensures.order ∙ (stays c.in-Some.ensures.same).2 ∙ c.loop-index.invariant.order;
+      order = c.in_ok-place_in_bin.ensures.goes_on.order ∙ (stays c.in-Some.ensures.same).2 ∙ c.loop-index.invariant.order;
       passed = ArePassed-more rules excluded order c.in-Some.index (next.2.0, c.in-Some.id.now) group old stuck.0 c.args.packing.now.tests
           c.next_bin.new.tests _ next.1 next.2.1 passed
           (DoesNotTake-stuck rules excluded old group c.in-Some.id.now (bins_of c.next_bin.new.bins.kept) stuck.0 allowed mid stuck.1) stuck.5;
       journal = stuck.4 ∙ c.loop-index.invariant.journal;
       placements = stuck.3 ∙ c.loop-index.invariant.placements;
-      back = λ start b. c.in_ok-place_in_bin.ensures.back start
+      back = λ start b. c.in_ok-place_in_bin.ensures.goes_on.back start
           (GoesBack-same g.B.Ord.cmp _ _ _ start (stays c.in-Some.ensures.same).1 (c.loop-index.invariant.back start b));
     }
 
@@ -128,43 +128,32 @@ returns-clause-placed g c =
       passed.2,
     )
 
-pub returns-clause-order : goal.returns-clause-order
-returns-clause-order g c = (stays c.in_default.ensures.same).2 ∙ c.loop-index.invariant.order
+pub returns-clause-goes_on : goal.returns-clause-goes_on
+returns-clause-goes_on g c = record {
+  back = λ start b. GoesBack-same g.B.Ord.cmp _ _ _ start (stays c.in_default.ensures.same).1 (c.loop-index.invariant.back start b);
+  order = (stays c.in_default.ensures.same).2 ∙ c.loop-index.invariant.order;
+  grows = rw c.loop-index.invariant.journal (no_longer (vec_len c.args.packing.now.journal));
+  room = ap vec_capacity c.loop-index.invariant.journal;
+}
 
 pub returns-in_err-place_in_bin-clause-placed : goal.returns-in_err-place_in_bin-clause-placed
 returns-in_err-place_in_bin-clause-placed g c = IfOk-from_err _ _ c.from_residual.ensures.0
 
-pub returns-in_err-place_in_bin-clause-back : goal.returns-in_err-place_in_bin-clause-back
-returns-in_err-place_in_bin-clause-back g c =
-    λ start b. c.in_err-place_in_bin.ensures.back start (GoesBack-same g.B.Ord.cmp _ _ _ start (stays c.in-Some.ensures.same).1 (c.loop-index.invariant.back start b))
+pub returns-in_err-place_in_bin-clause-goes_on : goal.returns-in_err-place_in_bin-clause-goes_on
+returns-in_err-place_in_bin-clause-goes_on g c = record {
+  back = λ start b. c.in_err-place_in_bin.ensures.goes_on.back start (GoesBack-same g.B.Ord.cmp _ _ _ start (stays c.in-Some.ensures.same).1 (c.loop-index.invariant.back start b));
+  order = c.in_err-place_in_bin.ensures.goes_on.order ∙ (stays c.in-Some.ensures.same).2 ∙ c.loop-index.invariant.order;
+  grows = rw (← c.loop-index.invariant.journal) c.in_err-place_in_bin.ensures.goes_on.grows;
+  room = c.in_err-place_in_bin.ensures.goes_on.room ∙ ap vec_capacity c.loop-index.invariant.journal;
+}
 
-pub returns-in_err-place_in_bin-clause-order : goal.returns-in_err-place_in_bin-clause-order
-returns-in_err-place_in_bin-clause-order g c =
-    c.in_err-place_in_bin.ensures.order ∙ (stays c.in-Some.ensures.same).2 ∙ c.loop-index.invariant.order
-
-pub returns-in_err-place_in_bin-clause-journal_grows : goal.returns-in_err-place_in_bin-clause-journal_grows
-returns-in_err-place_in_bin-clause-journal_grows g c = rw (← c.loop-index.invariant.journal) c.in_err-place_in_bin.ensures.journal_grows
-
-pub returns-in_err-place_in_bin-clause-journal_room_stays : goal.returns-in_err-place_in_bin-clause-journal_room_stays
-returns-in_err-place_in_bin-clause-journal_room_stays g c =
-    c.in_err-place_in_bin.ensures.journal_room_stays ∙ ap vec_capacity c.loop-index.invariant.journal
-
-pub returns-then-branch-clause-back : goal.returns-then-branch-clause-back
-returns-then-branch-clause-back g c =
-    λ start b. c.in_ok-place_in_bin.ensures.back start (GoesBack-same g.B.Ord.cmp _ _ _ start (stays c.in-Some.ensures.same).1 (c.loop-index.invariant.back start b))
-
-pub returns-then-branch-clause-order : goal.returns-then-branch-clause-order
-returns-then-branch-clause-order g c =
-    c.in_ok-place_in_bin.ensures.order ∙ (stays c.in-Some.ensures.same).2 ∙ c.loop-index.invariant.order
-
-pub returns-then-branch-clause-journal_grows : goal.returns-then-branch-clause-journal_grows
-returns-then-branch-clause-journal_grows g c = rw (← c.loop-index.invariant.journal) c.in_ok-place_in_bin.ensures.journal_grows
-
-pub returns-then-branch-clause-journal_room_stays : goal.returns-then-branch-clause-journal_room_stays
-returns-then-branch-clause-journal_room_stays g c = c.in_ok-place_in_bin.ensures.journal_room_stays ∙ ap vec_capacity c.loop-index.invariant.journal
-
-pub returns-clause-back : goal.returns-clause-back
-returns-clause-back g c = λ start b. GoesBack-same g.B.Ord.cmp _ _ _ start (stays c.in_default.ensures.same).1 (c.loop-index.invariant.back start b)
+pub returns-then-branch-clause-goes_on : goal.returns-then-branch-clause-goes_on
+returns-then-branch-clause-goes_on g c = record {
+  back = λ start b. c.in_ok-place_in_bin.ensures.goes_on.back start (GoesBack-same g.B.Ord.cmp _ _ _ start (stays c.in-Some.ensures.same).1 (c.loop-index.invariant.back start b));
+  order = c.in_ok-place_in_bin.ensures.goes_on.order ∙ (stays c.in-Some.ensures.same).2 ∙ c.loop-index.invariant.order;
+  grows = rw (← c.loop-index.invariant.journal) c.in_ok-place_in_bin.ensures.goes_on.grows;
+  room = c.in_ok-place_in_bin.ensures.goes_on.room ∙ ap vec_capacity c.loop-index.invariant.journal;
+}
 
 pub place_in_bin-requires-clause-journal_room : goal.place_in_bin-requires-clause-journal_room
 place_in_bin-requires-clause-journal_room g c = rw c.loop-index.invariant.journal c.requires.journal_room
@@ -180,12 +169,6 @@ returns-then-branch-clause-stopped g c = tt
 
 pub returns-clause-stopped : goal.returns-clause-stopped
 returns-clause-stopped g c = tt
-
-pub returns-clause-journal_grows : goal.returns-clause-journal_grows
-returns-clause-journal_grows g c = rw c.loop-index.invariant.journal (no_longer (vec_len c.args.packing.now.journal))
-
-pub returns-clause-journal_room_stays : goal.returns-clause-journal_room_stays
-returns-clause-journal_room_stays g c = ap vec_capacity c.loop-index.invariant.journal
 
 pub place_in_bin-requires-clause-ids : goal.place_in_bin-requires-clause-ids
 place_in_bin-requires-clause-ids g c = c.requires.ids

@@ -92,9 +92,9 @@ loop-group-preserved g c =
         placed.3,
         Named-more g.K.Ord.cmp g.B.Ord.cmp g.met.K.Ord.total c.args.groups.now i o done.0 placed.2.here c.loop-group-test.true c.group-item.is done.5,
       );
-      order = c.in_ok-place_next.ensures.order ∙ c.loop-group.invariant.order;
-      room = room-left _ _ _ _ _ _ c.loop-group.invariant.room c.in_ok-place_next.ensures.journal_grows c.in_ok-place_next.ensures.journal_room_stays;
-      back = λ start b. c.in_ok-place_next.ensures.back start (c.loop-group.invariant.back start b);
+      order = c.in_ok-place_next.ensures.goes_on.order ∙ c.loop-group.invariant.order;
+      room = room-left _ _ _ _ _ _ c.loop-group.invariant.room c.in_ok-place_next.ensures.goes_on.grows c.in_ok-place_next.ensures.goes_on.room;
+      back = λ start b. c.in_ok-place_next.ensures.goes_on.back start (c.loop-group.invariant.back start b);
     }
 
 pub returns-in_err-reserve-clause-stopped : goal.returns-in_err-reserve-clause-stopped
@@ -140,10 +140,10 @@ pub returns-in_err-place_next-clause-packed : goal.returns-in_err-place_next-cla
 returns-in_err-place_next-clause-packed g c = IfOk-from_err _ _ c.from_residual-in_err-place_next.ensures.0
 
 pub returns-in_err-place_next-clause-back : goal.returns-in_err-place_next-clause-back
-returns-in_err-place_next-clause-back g c = λ start b. c.in_err-place_next.ensures.back start (c.loop-group.invariant.back start b)
+returns-in_err-place_next-clause-back g c = λ start b. c.in_err-place_next.ensures.goes_on.back start (c.loop-group.invariant.back start b)
 
 pub returns-then-not-branch-clause-back : goal.returns-then-not-branch-clause-back
-returns-then-not-branch-clause-back g c = λ start b. c.in_ok-place_next.ensures.back start (c.loop-group.invariant.back start b)
+returns-then-not-branch-clause-back g c = λ start b. c.in_ok-place_next.ensures.goes_on.back start (c.loop-group.invariant.back start b)
 
 pub returns-clause-packed : goal.returns-clause-packed
 returns-clause-packed g c =

@@ -21,12 +21,14 @@ returns-in_err-done g c =
     record {
       placed = IfOk-from_err _ _ c.from_residual.ensures.0;
       stopped = OnErr-given _ (adds-none _ _ _ _ c.args.packing.now.tests _ (omega (arith, tried.3.1)));
-      back = λ start b. rw tried.2.own.written
-          (GoesBack-grown g.B.Ord.cmp c.args.packing.now.bins.own c.args.packing.now.journal.items c.args.id.now tried.0.own tried.1.own start
-          tried.2.own.found tried.4 tried.2.own.room b);
-      order = tried.2.order;
-      journal_grows = no_longer (vec_len c.args.packing.now.journal);
-      journal_room_stays = refl;
+      goes_on = record {
+        back = λ start b. rw tried.2.own.written
+            (GoesBack-grown g.B.Ord.cmp c.args.packing.now.bins.own c.args.packing.now.journal.items c.args.id.now tried.0.own tried.1.own start
+            tried.2.own.found tried.4 tried.2.own.room b);
+        order = tried.2.order;
+        grows = no_longer (vec_len c.args.packing.now.journal);
+        room = refl;
+      };
     }
 
 pub returns-then-not-done : goal.returns-then-not-done
@@ -47,12 +49,14 @@ returns-then-not-done g c =
         stuck.3,
       );
       stopped = tt;
-      back = λ start b. rw tried.2.own.written
-          (GoesBack-grown g.B.Ord.cmp c.args.packing.now.bins.own c.args.packing.now.journal.items c.args.id.now tried.0.own tried.1.own start
-          tried.2.own.found left tried.2.own.room b);
-      order = tried.2.order;
-      journal_grows = no_longer (vec_len c.args.packing.now.journal);
-      journal_room_stays = refl;
+      goes_on = record {
+        back = λ start b. rw tried.2.own.written
+            (GoesBack-grown g.B.Ord.cmp c.args.packing.now.bins.own c.args.packing.now.journal.items c.args.id.now tried.0.own tried.1.own start
+            tried.2.own.found left tried.2.own.room b);
+        order = tried.2.order;
+        grows = no_longer (vec_len c.args.packing.now.journal);
+        room = refl;
+      };
     }
 
 pub returns-in_err-name_all : goal.returns-in_err-name_all
@@ -67,10 +71,12 @@ returns-in_err-name_all g c =
       placed = IfOk-from_err _ _ c.from_residual-in_err-name_all.ensures.0;
       stopped = OnErr-given _ (adds-alone (by g c.args.policy.now) g.met.B.Ord.total group (bins_of now) c.args.id.now tried.0.now
           c.try_bin.new.buffers.locations.items tried.1.now.sections done.0 c.args.packing.now.tests _ there done.1 done.3);
-      back = λ start b. GoesBack-tried g.B.Ord.cmp _ _ _ _ _ _ tried.0.own tried.1.own start tried.2.own refl c.note_trial.ensures.journal rest leads b;
-      order = tried.2.order;
-      journal_grows = c.note_trial.ensures.grows;
-      journal_room_stays = c.note_trial.ensures.room_stays;
+      goes_on = record {
+        back = λ start b. GoesBack-tried g.B.Ord.cmp _ _ _ _ _ _ tried.0.own tried.1.own start tried.2.own refl c.note_trial.ensures.journal rest leads b;
+        order = tried.2.order;
+        grows = c.note_trial.ensures.grows;
+        room = c.note_trial.ensures.room_stays;
+      };
     }
 
 pub returns : goal.returns
@@ -91,10 +97,12 @@ returns g c =
         done.3,
       );
       stopped = tt;
-      back = λ start b. GoesBack-tried g.B.Ord.cmp _ _ _ _ _ _ tried.0.own tried.1.own start tried.2.own refl c.note_trial.ensures.journal rest leads b;
-      order = tried.2.order;
-      journal_grows = c.note_trial.ensures.grows;
-      journal_room_stays = c.note_trial.ensures.room_stays;
+      goes_on = record {
+        back = λ start b. GoesBack-tried g.B.Ord.cmp _ _ _ _ _ _ tried.0.own tried.1.own start tried.2.own refl c.note_trial.ensures.journal rest leads b;
+        order = tried.2.order;
+        grows = c.note_trial.ensures.grows;
+        room = c.note_trial.ensures.room_stays;
+      };
     }
 
 pub name_all-requires-clause-lengths : goal.name_all-requires-clause-lengths

@@ -81,29 +81,20 @@ place_group-requires-clause-lengths g c =
     HasSizes-length c.args.sizes.now c.args.group.now c.as_slice-ids.result.now _ c.as_slice-ids.ensures.value refl c.requires.in_range
     ∙ ap length (sym c.sizes_in-members.ensures)
 
-pub returns-in_err-excluded-clause-back : goal.returns-in_err-excluded-clause-back
-returns-in_err-excluded-clause-back g c = λ start b. b
+pub returns-in_err-excluded-clause-goes_on : goal.returns-in_err-excluded-clause-goes_on
+returns-in_err-excluded-clause-goes_on g c = record { back = λ start b. b; order = refl; grows = no_longer (vec_len c.args.packing.now.journal); room = refl }
 
-pub returns-in_err-excluded-clause-order : goal.returns-in_err-excluded-clause-order
-returns-in_err-excluded-clause-order g c = refl
+pub returns-in_err-place_group-clause-goes_on : goal.returns-in_err-place_group-clause-goes_on
+returns-in_err-place_group-clause-goes_on g c = c.in_err-place_group.ensures.goes_on
 
-pub returns-in_err-excluded-clause-journal_grows : goal.returns-in_err-excluded-clause-journal_grows
-returns-in_err-excluded-clause-journal_grows g c = no_longer (vec_len c.args.packing.now.journal)
+pub returns-in-None-clause-goes_on : goal.returns-in-None-clause-goes_on
+returns-in-None-clause-goes_on g c = c.in_ok-place_group.ensures.goes_on
 
-pub returns-in_err-excluded-clause-journal_room_stays : goal.returns-in_err-excluded-clause-journal_room_stays
-returns-in_err-excluded-clause-journal_room_stays g c = refl
+pub returns-in_err-keep-in-Some-clause-goes_on : goal.returns-in_err-keep-in-Some-clause-goes_on
+returns-in_err-keep-in-Some-clause-goes_on g c = c.in_ok-place_group.ensures.goes_on
 
-pub returns-in_err-place_group-clause-back : goal.returns-in_err-place_group-clause-back
-returns-in_err-place_group-clause-back g c = c.in_err-place_group.ensures.back
-
-pub returns-in-None-clause-back : goal.returns-in-None-clause-back
-returns-in-None-clause-back g c = c.in_ok-place_group.ensures.back
-
-pub returns-in_err-keep-in-Some-clause-back : goal.returns-in_err-keep-in-Some-clause-back
-returns-in_err-keep-in-Some-clause-back g c = c.in_ok-place_group.ensures.back
-
-pub returns-clause-back : goal.returns-clause-back
-returns-clause-back g c = c.in_ok-place_group.ensures.back
+pub returns-clause-goes_on : goal.returns-clause-goes_on
+returns-clause-goes_on g c = c.in_ok-place_group.ensures.goes_on
 
 pub place_group-requires-clause-ids : goal.place_group-requires-clause-ids
 place_group-requires-clause-ids g c = c.requires.ids
@@ -117,44 +108,8 @@ place_group-requires-clause-callable g c = c.requires.callable
 pub place_group-requires-clause-journal_room : goal.place_group-requires-clause-journal_room
 place_group-requires-clause-journal_room g c = c.requires.journal_room
 
-pub returns-in_err-place_group-clause-order : goal.returns-in_err-place_group-clause-order
-returns-in_err-place_group-clause-order g c = c.in_err-place_group.ensures.order
-
 pub returns-in-None-clause-stopped : goal.returns-in-None-clause-stopped
 returns-in-None-clause-stopped g c = tt
 
-pub returns-in-None-clause-order : goal.returns-in-None-clause-order
-returns-in-None-clause-order g c = c.in_ok-place_group.ensures.order
-
-pub returns-in-None-clause-journal_grows : goal.returns-in-None-clause-journal_grows
-returns-in-None-clause-journal_grows g c = c.in_ok-place_group.ensures.journal_grows
-
-pub returns-in-None-clause-journal_room_stays : goal.returns-in-None-clause-journal_room_stays
-returns-in-None-clause-journal_room_stays g c = c.in_ok-place_group.ensures.journal_room_stays
-
-pub returns-in_err-keep-in-Some-clause-order : goal.returns-in_err-keep-in-Some-clause-order
-returns-in_err-keep-in-Some-clause-order g c = c.in_ok-place_group.ensures.order
-
 pub returns-clause-stopped : goal.returns-clause-stopped
 returns-clause-stopped g c = tt
-
-pub returns-clause-order : goal.returns-clause-order
-returns-clause-order g c = c.in_ok-place_group.ensures.order
-
-pub returns-clause-journal_grows : goal.returns-clause-journal_grows
-returns-clause-journal_grows g c = c.in_ok-place_group.ensures.journal_grows
-
-pub returns-clause-journal_room_stays : goal.returns-clause-journal_room_stays
-returns-clause-journal_room_stays g c = c.in_ok-place_group.ensures.journal_room_stays
-
-pub returns-in_err-keep-in-Some-clause-journal_grows : goal.returns-in_err-keep-in-Some-clause-journal_grows
-returns-in_err-keep-in-Some-clause-journal_grows g c = c.in_ok-place_group.ensures.journal_grows
-
-pub returns-in_err-keep-in-Some-clause-journal_room_stays : goal.returns-in_err-keep-in-Some-clause-journal_room_stays
-returns-in_err-keep-in-Some-clause-journal_room_stays g c = c.in_ok-place_group.ensures.journal_room_stays
-
-pub returns-in_err-place_group-clause-journal_grows : goal.returns-in_err-place_group-clause-journal_grows
-returns-in_err-place_group-clause-journal_grows g c = c.in_err-place_group.ensures.journal_grows
-
-pub returns-in_err-place_group-clause-journal_room_stays : goal.returns-in_err-place_group-clause-journal_room_stays
-returns-in_err-place_group-clause-journal_room_stays g c = c.in_err-place_group.ensures.journal_room_stays

@@ -1,7 +1,8 @@
 use Rattle.rectangle_pack_sections.proofs.Std.{sym, ◌∙◌}
-use Rattle.rectangle_pack_groups.specs.Groups.{lists_of}
+use Rattle.rectangle_pack_sections.specs.Groups.{lists_of}
 use Rattle.rectangle_pack_groups.proofs.lemmas.multimap.Sized.{filled-all}
-use Rattle.rectangle_pack_groups.proofs.lemmas.multimap.Mutual.{excluded-again, excluded-added, these-back, not-both}
+use Rattle.rectangle_pack_groups.proofs.lemmas.multimap.Mutual.{excluded-again, excluded-added, these-back}
+use Rattle.rectangle_pack_sections.proofs.lemmas.groups.Excluded.{not-both}
 use Rattle.rectangle_pack_groups.proofs.grouped_rects_to_place.exclusions.Exclusions.add.Goals as goal
 
 pub returns-then-has-clause-ok : goal.returns-then-has-clause-ok

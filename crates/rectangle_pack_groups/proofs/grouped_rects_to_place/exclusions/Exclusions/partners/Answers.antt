@@ -1,5 +1,5 @@
 use Rattle.rectangle_pack_sections.proofs.Std.{◌≡◌, sym, ◌∙◌, ap, [], refl, Some, None, unwrap_or, option_map, lookup, is_at}
-use Rattle.rectangle_pack_groups.proofs.lemmas.multimap.Vectors.{lookup-lists, list-found}
+use Rattle.rectangle_pack_sections.proofs.lemmas.groups.Lists.{lookup-lists, list-found}
 use Rattle.rectangle_pack_groups.proofs.grouped_rects_to_place.exclusions.Exclusions.partners.Goals as goal
 
 pub returns-in-Some-clause-listed : goal.returns-in-Some-clause-listed

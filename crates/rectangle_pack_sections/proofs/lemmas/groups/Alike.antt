@@ -2,7 +2,7 @@
 use Rattle.rectangle_pack_sections.proofs.Std.{◌≡◌, Bool, true, false, cond, List, [], ◌∷◌, refl, ◌∙◌, sym, ap, Option, Some, None}
 use Rattle.rectangle_pack_sections.proofs.Std.{ordering_reverse, is_eq, Ordering, Less, Equal, Greater, IsTotalOrder}
 use Rattle.rectangle_pack_sections.proofs.Std.{Equal-is, lookup, set_value, keys_of, is_at}
-use Rattle.rectangle_pack_groups.specs.Alike.{AreMapsAlike}
+use Rattle.rectangle_pack_sections.specs.Alike.{AreMapsAlike}
 use Rattle.rectangle_pack_sections.proofs.lemmas.util.Maps.{congr_right}
 use Rattle.rectangle_pack_sections.proofs.Std.{All, IsStrictlySortedBy, tied_itself, lookup-none, none_below_head, sorted_tail, All-after_first, All-head}
 use Rattle.rectangle_pack_sections.proofs.Std.{All-tail}

@@ -1,8 +1,8 @@
 -- The order of groups is total, and a claim on two groups follows from its cases.
 use Rattle.rectangle_pack_sections.proofs.Std.{◌≡◌, refl, fun_ext, Ordering, Less, Equal, Greater, ordering_reverse, IsTotalOrder}
-use Rattle.rectangle_pack_groups.specs.Groups.{order_of_groups}
-use Rattle.rectangle_pack_groups.specs.declared.grouped_rects_to_place.Group.{Group}
-use Rattle.rectangle_pack_groups.specs.declared.grouped_rects_to_place.Group.TheVariants.{Ungrouped, Grouped}
+use Rattle.rectangle_pack_sections.specs.Groups.{order_of_groups}
+use Rattle.rectangle_pack_sections.specs.declared.group.Group.{Group}
+use Rattle.rectangle_pack_sections.specs.declared.group.Group.TheVariants.{Ungrouped, Grouped}
 
 module _ {Id G : Type 0} (R : Group G Id → Group G Id → Ordering) (P : Id → Id → Ordering) (Q : G → G → Ordering) (p : IsTotalOrder P) (q : IsTotalOrder Q)
     (alone : (a b : Id) → R (Ungrouped a) (Ungrouped b) ≡ P a b) (before : (a : Id) (b : G) → R (Ungrouped a) (Grouped b) ≡ Less)

@@ -7,9 +7,9 @@ use Rattle.std.specs.Map.{lookup, values_of}
 use Rattle.std.specs.Ordering.{is_eq}
 use Rattle.std.specs.BTreeMap.{is_at, insert_entry}
 use Rattle.rectangle_pack_sections.specs.Boxes.{Size}
-use Rattle.rectangle_pack_groups.specs.Exclusions.{are_excluded, are_these}
-use Rattle.rectangle_pack_groups.specs.declared.grouped_rects_to_place.Group.{Group}
-use Rattle.rectangle_pack_groups.specs.declared.grouped_rects_to_place.Group.TheVariants.{Ungrouped, Grouped}
+use Rattle.rectangle_pack_sections.specs.Exclusions.{are_excluded, are_these}
+use Rattle.rectangle_pack_sections.specs.declared.group.Group.{Group}
+use Rattle.rectangle_pack_sections.specs.declared.group.Group.TheVariants.{Ungrouped, Grouped}
 
 -- what is to be packed: the size of each id, the list of ids of each group, and the groups listed at a group as
 -- excluded with it

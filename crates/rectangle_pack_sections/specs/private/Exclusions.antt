@@ -2,7 +2,7 @@
 use Rattle.std.specs.Prelude.{◌≡◌, ◌<◌, All, length, List}
 use Rattle.std.specs.declared.cmp.Ordering.{Ordering}
 use Rattle.std.specs.Map.{values_of}
-use Rattle.rectangle_pack_groups.specs.Exclusions.{is_listed}
+use Rattle.rectangle_pack_sections.specs.Exclusions.{is_listed}
 
 -- where one is listed at another, the other is listed at it
 abbrev pub AreMutual : {K : Type 0} → (K → K → Ordering) → List (K × List K) → Type 0
