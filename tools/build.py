@@ -32,8 +32,8 @@ TARGET = "x86_64-unknown-linux-gnu"
 LEFT_ALONE, MEMORY_OF_A_JOB = 1e6, 3e6
 # The checker's allocator keeps what is freed for the next request.
 SETTINGS = {"MIMALLOC_PURGE_DELAY": "-1"}
-# The niceness of a proof that nothing waits for, and up to which one gets the processors that are left.
-LAST, HURRIED = 19, 5
+# With so much of the most lines behind it a proof is hurried.
+HURRIED = 0.7
 
 
 class NotProved(Exception):
@@ -180,7 +180,7 @@ class Build:
         words += ["--crate-type", "staticlib"] if crate.is_static else []
         return [*words, "-o", str(to)]
 
-    def call(self, crate: Crate, words: list[str], niceness: int = 0) -> None:
+    def call(self, crate: Crate, words: list[str]) -> None:
         """Runs a command in the crate's folder, and keeps what it says."""
         said = crate.proved / f"{crate.name}.log"
         with said.open("ab") as log:
@@ -189,12 +189,11 @@ class Build:
                     words, cwd=crate.folder, env={**SETTINGS, **os.environ}, stdin=subprocess.DEVNULL, stdout=log, stderr=log
                 )
                 self.running.append(ran)
-                os.setpriority(os.PRIO_PROCESS, ran.pid, os.getpriority(os.PRIO_PROCESS, 0) + niceness)
             status = ran.wait()
         if status:
             raise NotProved(f"{said.read_text(errors='replace')}{crate.name} is not built: {words[0]} ended with {status}")
 
-    def make(self, crate: Crate, jobs: int, niceness: int = 0) -> None:
+    def make(self, crate: Crate, jobs: int) -> None:
         """Proves and builds the crate, where that is not done yet."""
         self.sums[crate.name] = whole = self.sum_of(crate)
         stamp = crate.proved / f"{crate.name}.sum"
@@ -208,10 +207,10 @@ class Build:
         began = time.monotonic()
         if crate.is_program:
             part = crate.made.with_suffix(".o")
-            self.call(crate, self.words(crate, part, jobs), niceness)
-            self.call(crate, self.link(crate.made, part), niceness)
+            self.call(crate, self.words(crate, part, jobs))
+            self.call(crate, self.link(crate.made, part))
         else:
-            self.call(crate, self.words(crate, crate.made, jobs), niceness)
+            self.call(crate, self.words(crate, crate.made, jobs))
         if self.sum_of(crate) == whole:
             stamp.write_text(whole)
         now = time.monotonic()
@@ -229,15 +228,23 @@ class Build:
             for ran in self.running:
                 ran.terminate()
 
-    def shares(self, ready: collections.abc.Sequence[str], running: collections.abc.Sequence[str]) -> list[tuple[str, int, int]]:
-        """The crates that are ready, beside what is running, each with its niceness and its jobs. Those with more lines behind them
-        go before the others. Each gets one job, and each that is hurried the processors that are left when all have one."""
+    def shares(self, ready: collections.abc.Sequence[str], running: collections.abc.Sequence[str]) -> list[tuple[str, int]]:
+        """The crates that are ready, beside what is running, each with its jobs: all processors for one that is alone; else all but
+        one, or two, for that with the most lines behind it, half of them for each other that is hurried, and one for each of the rest.
+        These may be more than there are, so that none is idle when a proof ends or begins."""
         side_by_side = [*ready, *running]
         longest = max([1, *(self.behind[name] for name in side_by_side)])
-        left = max(1, self.jobs - len(side_by_side) + 1)
-        first = sorted(ready, key=self.behind.__getitem__, reverse=True)
-        niceness = {name: LAST - LAST * self.behind[name] // longest for name in first}
-        return [(name, niceness[name], left if niceness[name] <= HURRIED else 1) for name in first]
+        found = []
+        for name in sorted(ready, key=self.behind.__getitem__, reverse=True):
+            jobs = 1
+            if len(side_by_side) == 1:
+                jobs = self.jobs
+            elif self.behind[name] == longest:
+                jobs = min(self.jobs, max(2, self.jobs - 1))
+            elif self.behind[name] >= HURRIED * longest:
+                jobs = max(1, self.jobs // 2)
+            found.append((name, jobs))
+        return found
 
     def run(self) -> None:
         """Makes each crate once those are made on which it stands."""
@@ -247,8 +254,8 @@ class Build:
         with concurrent.futures.ThreadPoolExecutor(most_by_memory()) as pool:
             try:
                 while order.is_active():
-                    for name, niceness, jobs in self.shares(order.get_ready(), [*running.values()]):
-                        running[pool.submit(self.make, self.crates[name], jobs, niceness)] = name
+                    for name, jobs in self.shares(order.get_ready(), [*running.values()]):
+                        running[pool.submit(self.make, self.crates[name], jobs)] = name
                     done, _ = concurrent.futures.wait(running, return_when=concurrent.futures.FIRST_COMPLETED)
                     for it in done:
                         it.result()

@@ -24,26 +24,24 @@ class Shares(unittest.TestCase):
     def shares(self, jobs: int, ready: list[str], running: list[str]) -> dict[str, int]:
         """How many jobs each crate gets."""
         with mock.patch.object(build, "most_jobs", return_value=jobs):
-            return {name: its for name, _, its in build.Build(self.crates, pathlib.Path()).shares(ready, running)}
+            return dict(build.Build(self.crates, pathlib.Path()).shares(ready, running))
 
     def test_lines_behind_are_those_of_the_longest_chain(self) -> None:
         self.assertEqual(build.lines_behind(self.crates), {"top": 20, "aside": 21, "left": 60, "right": 56, "low": 70})
 
-    def test_hurried_proofs_get_what_others_leave(self) -> None:
-        self.assertEqual(self.shares(4, ["aside", "low"], []), {"low": 3, "aside": 1})
-        self.assertEqual(self.shares(4, ["left", "right"], ["aside"]), {"left": 2, "right": 2})
-        self.assertEqual(self.shares(4, ["right"], ["left"]), {"right": 3})
+    def test_a_proof_alone_gets_all_processors(self) -> None:
         self.assertEqual(self.shares(4, ["top"], []), {"top": 4})
-
-    def test_on_two_processors_only_a_proof_alone_gets_both(self) -> None:
-        self.assertEqual(self.shares(2, ["aside", "low"], []), {"low": 1, "aside": 1})
         self.assertEqual(self.shares(2, ["top"], []), {"top": 2})
-        self.assertEqual(self.shares(1, ["left", "right"], ["aside"]), {"left": 1, "right": 1})
 
-    def test_who_has_less_behind_gives_way(self) -> None:
-        with mock.patch.object(build, "most_jobs", return_value=4):
-            shares = build.Build(self.crates, pathlib.Path()).shares(["aside", "low"], [])
-        self.assertEqual([(name, niceness) for name, niceness, _ in shares], [("low", 0), ("aside", 14)])
+    def test_what_most_waits_for_gets_most(self) -> None:
+        self.assertEqual(self.shares(4, ["aside", "low"], []), {"low": 3, "aside": 1})
+        self.assertEqual(self.shares(4, ["left", "right"], ["aside"]), {"left": 3, "right": 2})
+        self.assertEqual(self.shares(4, ["right"], ["left"]), {"right": 2})
+
+    def test_few_processors_are_shared(self) -> None:
+        self.assertEqual(self.shares(2, ["aside", "low"], []), {"low": 2, "aside": 1})
+        self.assertEqual(self.shares(2, ["left", "right"], ["aside"]), {"left": 2, "right": 1})
+        self.assertEqual(self.shares(1, ["left", "right"], ["aside"]), {"left": 1, "right": 1})
 
 
 if __name__ == "__main__":
