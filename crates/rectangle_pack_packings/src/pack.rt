@@ -38,7 +38,6 @@ use rectangle_pack_sections::width_height_depth::WidthHeightDepth;
 use std::alloc::{AllocError, Allocator};
 use std::cmp::Ordering;
 use std::collections::BTreeMap;
-use std::mem;
 
 /// Packs all groups into the bins: each group whole into the first bin that takes all of its boxes.
 /// A bin is excluded for a group where a group that is excluded with it went there in this call.
@@ -391,7 +390,7 @@ where
         tests.new }
 {
     let entries = number_after(0, rects_to_place.groups()).unwrap_or(u64::MAX) as usize;
-    let bins = mem::replace(target_bins, BTreeMap::new(alloc));
+    let bins = std::mem::replace(target_bins, BTreeMap::new(alloc));
     let mut packing = Packing::new(bins, order, alloc);
     let packed = pack_noted(&mut packing, rects_to_place, entries, policy);
     add_all(tests, &packing.tests);

@@ -1,5 +1,5 @@
 -- A trial that is done, as a group that is placed.
-use Rattle.rectangle_pack_sections.proofs.Std.{◌≡◌, ℕ, List, [], ◌∷◌, refl, arith, false}
+use Rattle.rectangle_pack_sections.proofs.Std.{◌≡◌, ℕ, List, [], ◌∷◌, refl, ◌∙◌, ap, arith, false, vec_capacity, Ordering}
 use Rattle.rectangle_pack_sections.proofs.Std.{is_at}
 use Rattle.rectangle_pack_sections.specs.Boxes.{Cuboid}
 use Rattle.rectangle_pack_sections.specs.Bins.{Held, bins_of}
@@ -8,7 +8,10 @@ use Rattle.rectangle_pack_rules.specs.declared.answer.Placement.{Placement}
 use Rattle.rectangle_pack_rules.specs.Packing.{Rules, Members, IsPlaced}
 use Rattle.rectangle_pack_rules.specs.Placed.{AreNamed}
 use Rattle.rectangle_pack_bins.specs.private.Checkout.{IsTriedIn}
-use Rattle.rectangle_pack_bins.proofs.lemmas.bins.Journals.{bins_of-written, found-bins_of}
+use Rattle.rectangle_pack_bins.proofs.lemmas.bins.Journals.{bins_of-written, found-bins_of, GoesBack-same}
+use Rattle.rectangle_pack_bins.proofs.lemmas.bins.Checkout.{stays}
+use Rattle.rectangle_pack_packings.specs.declared.pack.packing.Packing.{Packing}
+use Rattle.rectangle_pack_packings.specs.private.RollBack.{GoesOn, StaysUndoable}
 
 -- a group whose trial is done in a bin is placed, where that bin is the only one
 pub IsPlaced-alone : {Id B : Type 0} (rules : Rules Id B) (group : Members Id) (now new : List (B × Held)) (here : B) (v w : Held) (locations : List Cuboid) (count : ℕ)
@@ -32,4 +35,14 @@ IsPlaced-alone rules group now new here v w locations count added tried rest don
   named = named;
   new_is = bins_of-written (is_at (rules.bin_cmp here)) now new w _ tried.written rest;
   tests_are = omega arith;
+}
+
+-- a packing that goes on from the bin that is found next goes on from where it was
+pub GoesOn-begun : {Id B A : Type 0} (cmp : B → B → Ordering) (old now next new : Packing Id B A) → GoesOn cmp next new → StaysUndoable cmp old now
+    → now.bins.order ≡ old.bins.order → now.journal ≡ old.journal → next.bins ≡ now.bins → next.journal ≡ now.journal → GoesOn cmp old new
+GoesOn-begun cmp old now next new on back order noted same kept = record {
+  back = λ start b. on.back start (rw kept (GoesBack-same cmp _ _ _ start (stays same).1 (back start b)));
+  order = on.order ∙ (stays same).2 ∙ order;
+  grows = rw (← noted, ← kept) on.grows;
+  room = on.room ∙ ap vec_capacity (kept ∙ noted);
 }

@@ -12,6 +12,7 @@ use Rattle.rectangle_pack_rules.proofs.lemmas.packing.FitTests.{adds-begun}
 use Rattle.rectangle_pack_lists.proofs.lemmas.trial.StepsByIndex.{saturated-add}
 use Rattle.rectangle_pack_packings.proofs.pack.first_fit.place_group.Given.{Over}
 use Rattle.rectangle_pack_rules.proofs.lemmas.packing.Turns.{ArePassed-more}
+use Rattle.rectangle_pack_packings.proofs.lemmas.packing.Tried.{GoesOn-begun}
 use Rattle.rectangle_pack_packings.proofs.lemmas.packing.PassedOver.{ArePassed-over, ArePassed-rest}
 use Rattle.rectangle_pack_packings.proofs.pack.first_fit.place_group.Goals as goal
 
@@ -140,20 +141,14 @@ pub returns-in_err-place_in_bin-clause-placed : goal.returns-in_err-place_in_bin
 returns-in_err-place_in_bin-clause-placed g c = IfOk-from_err _ _ c.from_residual.ensures.0
 
 pub returns-in_err-place_in_bin-clause-goes_on : goal.returns-in_err-place_in_bin-clause-goes_on
-returns-in_err-place_in_bin-clause-goes_on g c = record {
-  back = λ start b. c.in_err-place_in_bin.ensures.goes_on.back start (GoesBack-same g.B.Ord.cmp _ _ _ start (stays c.in-Some.ensures.same).1 (c.loop-index.invariant.back start b));
-  order = c.in_err-place_in_bin.ensures.goes_on.order ∙ (stays c.in-Some.ensures.same).2 ∙ c.loop-index.invariant.order;
-  grows = rw (← c.loop-index.invariant.journal) c.in_err-place_in_bin.ensures.goes_on.grows;
-  room = c.in_err-place_in_bin.ensures.goes_on.room ∙ ap vec_capacity c.loop-index.invariant.journal;
-}
+returns-in_err-place_in_bin-clause-goes_on g c =
+    GoesOn-begun g.B.Ord.cmp c.args.packing.now c.loop-index.packing _ _ c.in_err-place_in_bin.ensures.goes_on c.loop-index.invariant.back
+    c.loop-index.invariant.order c.loop-index.invariant.journal c.in-Some.ensures.same refl
 
 pub returns-then-branch-clause-goes_on : goal.returns-then-branch-clause-goes_on
-returns-then-branch-clause-goes_on g c = record {
-  back = λ start b. c.in_ok-place_in_bin.ensures.goes_on.back start (GoesBack-same g.B.Ord.cmp _ _ _ start (stays c.in-Some.ensures.same).1 (c.loop-index.invariant.back start b));
-  order = c.in_ok-place_in_bin.ensures.goes_on.order ∙ (stays c.in-Some.ensures.same).2 ∙ c.loop-index.invariant.order;
-  grows = rw (← c.loop-index.invariant.journal) c.in_ok-place_in_bin.ensures.goes_on.grows;
-  room = c.in_ok-place_in_bin.ensures.goes_on.room ∙ ap vec_capacity c.loop-index.invariant.journal;
-}
+returns-then-branch-clause-goes_on g c =
+    GoesOn-begun g.B.Ord.cmp c.args.packing.now c.loop-index.packing _ _ c.in_ok-place_in_bin.ensures.goes_on c.loop-index.invariant.back
+    c.loop-index.invariant.order c.loop-index.invariant.journal c.in-Some.ensures.same refl
 
 pub place_in_bin-requires-clause-journal_room : goal.place_in_bin-requires-clause-journal_room
 place_in_bin-requires-clause-journal_room g c = rw c.loop-index.invariant.journal c.requires.journal_room
