@@ -33,7 +33,7 @@ LEFT_ALONE, MEMORY_OF_A_JOB = 1e6, 3e6
 # The checker's allocator keeps what is freed for the next request.
 SETTINGS = {"MIMALLOC_PURGE_DELAY": "-1"}
 # With so much of the most lines behind it a proof is hurried.
-HURRIED = 0.7
+HURRIED = 0.5
 
 
 class NotProved(Exception):
@@ -229,18 +229,15 @@ class Build:
                 ran.terminate()
 
     def shares(self, ready: collections.abc.Sequence[str], running: collections.abc.Sequence[str]) -> list[tuple[str, int]]:
-        """The crates that are ready, beside what is running, each with its jobs: all processors for one that is alone; else all but
-        one, or two, for that with the most lines behind it, half of them for each other that is hurried, and one for each of the rest.
-        These may be more than there are, so that none is idle when a proof ends or begins."""
-        side_by_side = [*ready, *running]
-        longest = max([1, *(self.behind[name] for name in side_by_side)])
+        """The crates that are ready, beside what is running, each with its jobs: all processors for that with the most lines behind it,
+        half of them for each other that is hurried, and one for each of the rest. These may be more than there are, so that none is idle
+        when a proof ends or begins."""
+        longest = max([1, *(self.behind[name] for name in [*ready, *running])])
         found = []
         for name in sorted(ready, key=self.behind.__getitem__, reverse=True):
             jobs = 1
-            if len(side_by_side) == 1:
+            if self.behind[name] == longest:
                 jobs = self.jobs
-            elif self.behind[name] == longest:
-                jobs = min(self.jobs, max(2, self.jobs - 1))
             elif self.behind[name] >= HURRIED * longest:
                 jobs = max(1, self.jobs // 2)
             found.append((name, jobs))

@@ -6,12 +6,13 @@ reached.py --check PROGRAM: fails where the checker's front end or its definitio
 
 `main` is reached, and each item that one which is reached names. Of functions with one name all are that could be meant by their
 crates, `use` items and types. Types, impls, definitions and lemmas stay that something names which stays. Where one crate after another
-would wait for the one below, with none beside it, these are modules of the program's crate; for --check all are. Lines are left out or
-stay as they are, but for a `use` or a `derive` that loses names, and for paths that lead into modules. A copy that lacks something is
-refused when it is proved."""
+would wait for the one below, with none beside it, these are modules of the program's crate; for --check all are. Of the others, those
+above the lowest of which one stands on another are one crate. Lines are left out or stay as they are, but for a `use` or a `derive`
+that loses names, and for paths that lead into modules. A copy that lacks something is refused when it is proved."""
 from __future__ import annotations
 
 import functools
+import itertools
 import pathlib
 import re
 import shutil
@@ -305,10 +306,10 @@ class Copy:
         self.program = program
         self.reach = reach = Reach(program)
         filled = {crate_of(it) for it in reach.filled if CRATES in it.parents}
-        # The crates of which something stays, and the others; of the former those that are modules.
+        # The crates of which something stays, and the others; of the former those that are modules, each with its crate.
         self.crates = [name for name in reach.crates if name in filled]
         self.gone = set(reach.crates) - {*self.crates}
-        self.modules = self.crates[:-1] if as_one else without_others_beside(self.crates)
+        self.hosts = dict.fromkeys(self.crates[:-1], program) if as_one else hosts_of(self.crates)
         self.own = {it.item.name for pieces in reach.pieces.values() for it in pieces if it.item.kind in NAMED and not it.around}
         self.emptied = {it.stem for it in reach.code} - {it.stem for it in reach.filled}
 
@@ -321,16 +322,29 @@ class Copy:
         for path, text in self.reach.texts.items():
             if path.name == "Lib.antt" and crate_of(path) in self.crates or path in self.reach.filled:
                 left = "".join(it for it in text.splitlines(keepends=True) if self.line_stays(path, it))
-                yield self.place(path), self.renamed(path, left)
-        # Modules of `proofs` are declared by those of the code.
-        yield pathlib.Path("crates", self.program, "specs/Lib.antt"), "".join(f"pub mod {it}\n" for it in self.modules)
-        lines = [f"{name}: {' '.join(self.below(name))}\n" for name in self.crates if name not in self.modules]
+                yield self.place(path), self.renamed(path, left) + self.definitions_inside(path)
+        # A program has no definitions of its own. Modules of `proofs` are declared by those of the code.
+        yield pathlib.Path("crates", self.program, "specs/Lib.antt"), self.definitions_inside(CRATES / self.program / "specs/Lib.antt")
+        lines = [f"{name}: {' '.join(self.below(name))}\n" for name in self.crates if name not in self.hosts]
         yield pathlib.Path("crates.txt"), "".join(lines)
+
+    def host(self, crate: str) -> str:
+        """The crate of the copy that has what one has."""
+        return self.hosts.get(crate, crate)
+
+    def modules(self, crate: str) -> list[str]:
+        """The crates that are modules of this one."""
+        return [it for it in self.crates if self.hosts.get(it) == crate]
+
+    def definitions_inside(self, path: pathlib.Path) -> str:
+        """What a file says of the modules of its crate: they are declared where its definitions are."""
+        crate, *rest = path.relative_to(CRATES).parts
+        return "".join(f"pub mod {it}\n" for it in self.modules(crate) if rest == ["specs", "Lib.antt"])
 
     def below(self, crate: str) -> list[str]:
         """The crates of the copy on which one stands, with its modules."""
-        found = {it for name in ([crate, *self.modules] if crate == self.program else [crate]) for it in ORDER[name]}
-        return [it for it in self.crates if it in found and it not in self.modules]
+        found = {self.host(it) for name in [crate, *self.modules(crate)] for it in ORDER[name]}
+        return [it for it in self.crates if it in found and it != crate]
 
     def line_stays(self, path: pathlib.Path, line: str) -> bool:
         """Whether a line of antt stays: one that declares or passes on what is gone does not."""
@@ -404,10 +418,10 @@ class Copy:
     def place(self, path: pathlib.Path) -> pathlib.Path:
         """Where a file stands in the copy."""
         crate, folder, *rest = path.relative_to(CRATES).parts
-        if crate not in self.modules:
+        if crate not in self.hosts:
             return pathlib.Path("crates", crate, folder, *rest)
         inside = [f"{crate}{path.suffix}"] if rest in (["lib.rt"], ["Lib.antt"]) else [crate, *rest]
-        return pathlib.Path("crates", self.program, folder, *inside)
+        return pathlib.Path("crates", self.hosts[crate], folder, *inside)
 
     def renamed(self, path: pathlib.Path, text: str) -> str:
         """A text in which paths that lead into modules of the copy do so."""
@@ -415,7 +429,7 @@ class Copy:
 
         def module(found: re.Match[str]) -> str:
             crate, room, inside = found.groups()
-            return f"Rattle.{self.program}.{room}.{inside or ''}{crate}." if crate in self.modules else found[0]
+            return f"Rattle.{self.hosts[crate]}.{room}.{inside or ''}{crate}." if crate in self.hosts else found[0]
 
         def declared(found: re.Match[str]) -> str:
             # A type of the crate itself, or of one below it that it passes on.
@@ -428,19 +442,23 @@ class Copy:
 
         def code(found: re.Match[str]) -> str:
             crate, room = own if found[1] == "crate" else found[1], found[2] or ""
-            return f"crate::{room}{crate}::" if crate in self.modules else found[0]
+            if crate not in self.hosts:
+                return found[0]
+            host = self.hosts[crate]
+            return f"{'crate' if host == self.host(own) else host}::{room}{crate}::"
 
         text = re.sub(r"\bRattle\.(\w+)\.specs\.declared\.((?:[a-z]\w*\.)+)([A-Z]\w*)", declared, text)
         text = re.sub(r"\bRattle\.(\w+)\.(specs|proofs)\.((?:declared|contracts)\.)?", module, text)
         return re.sub(r"(?<![\w:])(\w+)::((?:specs|proofs)::)?", code, text) if path.suffix == ".rt" else text
 
     def root(self, path: pathlib.Path, text: str) -> str:
-        """The root of a crate as that of a module, or as it is; that of the program declares its modules."""
+        """The root of a crate as that of a module, or as it is, with its modules."""
         lines = text.splitlines(keepends=True)
-        if crate_of(path) in self.modules:
+        if crate_of(path) in self.hosts:
             return "".join(it for it in lines if not it.startswith("#!["))
         first = next(i for i, it in enumerate(lines) if not it.startswith(("//!", "#![")))
-        return "".join([*lines[:first], *(f"mod {it};\n" for it in self.modules if path == self.reach.main), *lines[first:]])
+        kind = "mod" if path == self.reach.main else "pub mod"
+        return "".join([*lines[:first], *(f"{kind} {it};\n" for it in self.modules(crate_of(path))), *lines[first:]])
 
 
 def first_of(item: Item, lines: list[str | None]) -> int:
@@ -464,6 +482,17 @@ def without_others_beside(crates: list[str]) -> list[str]:
     alone = [name for name in crates if [*level.values()].count(level[name]) == 1]
     lowest = next(i for i in range(level[crates[-1]], -1, -1) if i not in [level[it] for it in alone])
     return [name for name in alone[:-1] if level[name] > lowest]
+
+
+def hosts_of(crates: list[str]) -> dict[str, str]:
+    """Of crates, lower ones first, those that are modules in a copy, each with its crate. One more crate takes some 14 s of a processor
+    for what it brings in and passes on."""
+    hosts = dict.fromkeys(without_others_beside(crates), crates[-1])
+    together: list[list[str]] = []
+    for name in (it for it in crates[:-1] if it not in hosts and {*ORDER[it]} & {*crates}):
+        found = [it for it in together if {*it} & {*ORDER[name]}]
+        together = [*(it for it in together if it not in found), [*itertools.chain(*found), name]]
+    return hosts | {it: names[-1] for names in together for it in names[:-1]}
 
 
 def copy(program: str, to: pathlib.Path, as_one: bool = False) -> None:

@@ -34,8 +34,8 @@ class Shares(unittest.TestCase):
         self.assertEqual(self.shares(2, ["top"], []), {"top": 2})
 
     def test_what_most_waits_for_gets_most(self) -> None:
-        self.assertEqual(self.shares(4, ["aside", "low"], []), {"low": 3, "aside": 1})
-        self.assertEqual(self.shares(4, ["left", "right"], ["aside"]), {"left": 3, "right": 2})
+        self.assertEqual(self.shares(4, ["aside", "low"], []), {"low": 4, "aside": 1})
+        self.assertEqual(self.shares(4, ["left", "right"], ["aside"]), {"left": 4, "right": 2})
         self.assertEqual(self.shares(4, ["right"], ["left"]), {"right": 2})
 
     def test_few_processors_are_shared(self) -> None:

@@ -92,18 +92,70 @@ FILES = {
     "low/proofs/sizes/Size/half/Answers.antt": "use Rattle.low.proofs.lemmas.Halves.{half}\n",
     "low/proofs/sizes/Size/twice/Answers.antt": "use Rattle.low.proofs.lemmas.Doubles.{double}\n",
 }
+# Crates above a lowest one, of which `high` and `side` stand on `low`.
+LAYERS = {"base": [], "low": ["base"], "high": ["base", "low"], "side": ["low"], "top": ["base", "high", "low", "side"]}
+FILES_OF_LAYERS = {
+    "top/src/main.rt": "//! A program.\n\nuse base::one::one;\nuse high::four::four;\nuse low::two::two;\nuse side::three::three;\n\n"
+    "fn main(rt: HostRuntime) {\n    rt.exit(one() + four() + two() + three());\n}\n",
+    "high/src/lib.rt": "//! High.\n#![tactic(auto)]\n\npub mod four;\n",
+    "high/src/four.rt": "//! Four.\nghost use Rattle.low.specs.Two.{is_two};\n\nuse low::two::two;\n\n"
+    "pub fn four() -> u32\n    ensures { is_two result }\n{\n    two() + two()\n}\n",
+    "high/specs/Lib.antt": "pub use Rattle.low.specs.Two\n",
+    "side/src/lib.rt": "//! Side.\n#![tactic(auto)]\n\npub mod three;\n",
+    "side/src/three.rt": "//! Three.\nghost use Rattle.low.specs.Two.{is_two};\n\nuse low::two::two;\n\n"
+    "pub fn three() -> u32\n    ensures { is_two result }\n{\n    two() + 1\n}\n",
+    "side/specs/Lib.antt": "pub use Rattle.low.specs.Two\n",
+    "low/src/lib.rt": "//! Low.\n#![tactic(auto)]\n\npub mod two;\n",
+    "low/src/two.rt": "//! Two.\nghost use Rattle.low.specs.Two.{is_two};\n\nuse base::one::one;\nuse crate::two;\n\n"
+    "pub fn two() -> u32\n    ensures { is_two result }\n{\n    one() + one()\n}\n",
+    "low/specs/Lib.antt": "pub mod Two\n",
+    "low/specs/Two.antt": "pub is_two : Type 0\n",
+    "base/src/lib.rt": "//! Base.\n\npub mod one;\n",
+    "base/src/one.rt": "//! One.\n\npub fn one() -> u32 {\n    1\n}\n",
+}
+
+
+def copy_of(program: str, files: dict[str, str], order: dict[str, list[str]]) -> dict[str, str]:
+    """The files of the copy of a program, by their names."""
+    with tempfile.TemporaryDirectory() as folder:
+        crates = pathlib.Path(folder, "crates")
+        for name, text in files.items():
+            (crates / name).parent.mkdir(parents=True, exist_ok=True)
+            (crates / name).write_text(text)
+        with mock.patch.multiple(reached, CRATES=crates, ORDER=order):
+            return {str(path): text for path, text in reached.Copy(program).files()}
+
+
+class CopyOfLayers(unittest.TestCase):
+    def setUp(self) -> None:
+        self.copy = copy_of("top", FILES_OF_LAYERS, LAYERS)
+
+    def test_crates_that_stand_on_one_another_are_one(self) -> None:
+        self.assertEqual(self.copy["crates.txt"], "base: \nside: base\ntop: base side\n")
+        self.assertEqual(self.copy["crates/side/src/lib.rt"], "//! Side.\n#![tactic(auto)]\npub mod low;\npub mod high;\n\npub mod three;\n")
+        self.assertEqual(self.copy["crates/side/src/low.rt"], "//! Low.\n\npub mod two;\n")
+        self.assertEqual(self.copy["crates/side/specs/Lib.antt"], "pub use Rattle.side.specs.low.Two\npub mod low\npub mod high\n")
+        self.assertEqual(self.copy["crates/side/specs/low.antt"], "pub mod Two\n")
+        self.assertEqual(self.copy["crates/side/specs/high.antt"], "pub use Rattle.side.specs.low.Two\n")
+
+    def test_paths_lead_into_the_module_from_its_crate_and_from_others(self) -> None:
+        for name in ("high/four", "three"):
+            self.assertIn("ghost use Rattle.side.specs.low.Two.{is_two};\n\nuse crate::low::two::two;", self.copy[f"crates/side/src/{name}.rt"])
+        self.assertIn("use base::one::one;\nuse crate::low::two;", self.copy["crates/side/src/low/two.rt"])
+        uses = [it for it in self.copy["crates/top/src/main.rt"].splitlines() if it.startswith("use ")]
+        self.assertEqual(uses, ["use base::one::one;", "use side::high::four::four;", "use side::low::two::two;", "use side::three::three;"])
+
+    def test_the_last_is_the_crate(self) -> None:
+        order = {"low": [], "left": ["low"], "right": ["low"], "above": ["left"], "beside": ["left", "low"], "words": []}
+        with mock.patch.object(reached, "ORDER", order | {"prog": ["above", "beside", "right", "words"]}):
+            hosts = reached.hosts_of(["low", "left", "right", "above", "beside", "words", "prog"])
+            self.assertEqual(hosts, {"left": "beside", "above": "beside"})
+            self.assertEqual(reached.hosts_of(["low", "left", "right", "words", "prog"]), {})
 
 
 class CopyOfAProgram(unittest.TestCase):
     def setUp(self) -> None:
-        folder = tempfile.TemporaryDirectory()
-        self.addCleanup(folder.cleanup)
-        crates = pathlib.Path(folder.name, "crates")
-        for name, text in FILES.items():
-            (crates / name).parent.mkdir(parents=True, exist_ok=True)
-            (crates / name).write_text(text)
-        with mock.patch.multiple(reached, CRATES=crates, ORDER={"low": [], "prog": ["low"]}):
-            self.copy = {str(path): text for path, text in reached.Copy("prog").files()}
+        self.copy = copy_of("prog", FILES, {"low": [], "prog": ["low"]})
 
     def test_crates_below_are_modules(self) -> None:
         self.assertEqual(self.copy["crates/prog/src/main.rt"].splitlines()[2:5], ["mod low;", "", "use crate::low::sizes::{Size, largest};"])
