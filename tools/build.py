@@ -33,7 +33,7 @@ LEFT_ALONE, MEMORY_OF_A_JOB = 1e6, 3e6
 # The checker's allocator keeps what is freed for the next request.
 SETTINGS = {"MIMALLOC_PURGE_DELAY": "-1"}
 # With so much of the most lines behind it a proof is hurried.
-HURRIED = 0.5
+HURRIED = 0.7
 
 
 class NotProved(Exception):

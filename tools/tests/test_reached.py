@@ -132,7 +132,8 @@ class CopyOfLayers(unittest.TestCase):
 
     def test_crates_that_stand_on_one_another_are_one(self) -> None:
         self.assertEqual(self.copy["crates.txt"], "base: \nside: base\ntop: base side\n")
-        self.assertEqual(self.copy["crates/side/src/lib.rt"], "//! Side.\n#![tactic(auto)]\npub mod low;\npub mod high;\n\npub mod three;\n")
+        declares = "pub mod low;\npub mod high;\n\npub mod three;\n"
+        self.assertEqual(self.copy["crates/side/src/lib.rt"], f"//! Side.\n#![tactic(auto)]\n{declares}")
         self.assertEqual(self.copy["crates/side/src/low.rt"], "//! Low.\n\npub mod two;\n")
         self.assertEqual(self.copy["crates/side/specs/Lib.antt"], "pub use Rattle.side.specs.low.Two\npub mod low\npub mod high\n")
         self.assertEqual(self.copy["crates/side/specs/low.antt"], "pub mod Two\n")
@@ -140,10 +141,12 @@ class CopyOfLayers(unittest.TestCase):
 
     def test_paths_lead_into_the_module_from_its_crate_and_from_others(self) -> None:
         for name in ("high/four", "three"):
-            self.assertIn("ghost use Rattle.side.specs.low.Two.{is_two};\n\nuse crate::low::two::two;", self.copy[f"crates/side/src/{name}.rt"])
+            uses = "ghost use Rattle.side.specs.low.Two.{is_two};\n\nuse crate::low::two::two;"
+            self.assertIn(uses, self.copy[f"crates/side/src/{name}.rt"])
         self.assertIn("use base::one::one;\nuse crate::low::two;", self.copy["crates/side/src/low/two.rt"])
-        uses = [it for it in self.copy["crates/top/src/main.rt"].splitlines() if it.startswith("use ")]
-        self.assertEqual(uses, ["use base::one::one;", "use side::high::four::four;", "use side::low::two::two;", "use side::three::three;"])
+        main = [it for it in self.copy["crates/top/src/main.rt"].splitlines() if it.startswith("use ")]
+        inside = ["use side::high::four::four;", "use side::low::two::two;"]
+        self.assertEqual(main, ["use base::one::one;", *inside, "use side::three::three;"])
 
     def test_the_last_is_the_crate(self) -> None:
         order = {"low": [], "left": ["low"], "right": ["low"], "above": ["left"], "beside": ["left", "low"], "words": []}
