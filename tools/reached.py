@@ -485,8 +485,8 @@ def without_others_beside(crates: list[str]) -> list[str]:
 
 
 def hosts_of(crates: list[str]) -> dict[str, str]:
-    """Of crates, lower ones first, those that are modules in a copy, each with its crate. One more crate takes some 14 s of a processor
-    for what it brings in and passes on."""
+    """Of crates, lower ones first, those that are modules in a copy, each with its crate: the program, or, above the lowest, the last of
+    those of which one stands on another. One more crate takes some 14 s of a processor for what it brings in and passes on."""
     hosts = dict.fromkeys(without_others_beside(crates), crates[-1])
     together: list[list[str]] = []
     for name in (it for it in crates[:-1] if it not in hosts and {*ORDER[it]} & {*crates}):
@@ -496,7 +496,7 @@ def hosts_of(crates: list[str]) -> dict[str, str]:
 
 
 def copy(program: str, to: pathlib.Path, as_one: bool = False) -> None:
-    """Writes the copy, in place of an older one; as one crate, or with those that can be proved side by side."""
+    """Writes the copy, in place of an older one; as one crate, or as several, which take less time."""
     files = dict(Copy(program, as_one).files())
     shutil.rmtree(to / "crates", ignore_errors=True)
     for path, text in files.items():

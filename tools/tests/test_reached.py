@@ -247,6 +247,16 @@ class CopyOfPackrun(unittest.TestCase):
                         # What was looked at is gone from the lines: each stands after the one before.
                         self.assertIn(without_paths(line), lines, path)
 
+    def test_paths_start_in_the_crate_or_in_one_that_its_line_names(self) -> None:
+        start = re.compile(rf"\bRattle\.(\w+)\.|(?<![\w:])({'|'.join(reached.ORDER)})::")
+        for as_one in (False, True):
+            files = dict(reached.Copy("packrun", as_one).files())
+            lines = [it.partition(":") for it in files.pop(pathlib.Path("crates.txt")).splitlines()]
+            below = {name: {name, "std", *named.split()} for name, _, named in lines}
+            for path, text in files.items():
+                starts = {found[1] or found[2] for found in start.finditer(text)}
+                self.assertLessEqual(starts, below[path.parts[1]], path)
+
 
 def without_paths(line: str) -> str:
     """A line without what is written anew in the paths of a copy: the crate, or the module for it."""
