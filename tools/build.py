@@ -34,6 +34,8 @@ LEFT_ALONE, MEMORY_OF_A_JOB = 1e6, 3e6
 SETTINGS = {"MIMALLOC_PURGE_DELAY": "-1"}
 # With so much of the most lines behind it a proof is hurried.
 HURRIED = 0.7
+# The niceness of a proof with several jobs: those with one, which cannot take more than one processor, get more of the time.
+GIVES_WAY = 2
 
 
 class NotProved(Exception):
@@ -180,8 +182,8 @@ class Build:
         words += ["--crate-type", "staticlib"] if crate.is_static else []
         return [*words, "-o", str(to)]
 
-    def call(self, crate: Crate, words: list[str]) -> None:
-        """Runs a command in the crate's folder, and keeps what it says."""
+    def call(self, crate: Crate, words: list[str], niceness: int = 0) -> None:
+        """Runs a command in the crate's folder, so much nicer than this one, and keeps what it says."""
         said = crate.proved / f"{crate.name}.log"
         with said.open("ab") as log:
             with self.lock:
@@ -189,6 +191,7 @@ class Build:
                     words, cwd=crate.folder, env={**SETTINGS, **os.environ}, stdin=subprocess.DEVNULL, stdout=log, stderr=log
                 )
                 self.running.append(ran)
+                os.setpriority(os.PRIO_PROCESS, ran.pid, os.getpriority(os.PRIO_PROCESS, 0) + niceness)
             status = ran.wait()
         if status:
             raise NotProved(f"{said.read_text(errors='replace')}{crate.name} is not built: {words[0]} ended with {status}")
@@ -205,12 +208,13 @@ class Build:
         (crate.proved / f"{crate.name}.log").unlink(missing_ok=True)
         crate.made.parent.mkdir(exist_ok=True)
         began = time.monotonic()
+        niceness = GIVES_WAY if jobs > 1 else 0
         if crate.is_program:
             part = crate.made.with_suffix(".o")
-            self.call(crate, self.words(crate, part, jobs))
+            self.call(crate, self.words(crate, part, jobs), niceness)
             self.call(crate, self.link(crate.made, part))
         else:
-            self.call(crate, self.words(crate, crate.made, jobs))
+            self.call(crate, self.words(crate, crate.made, jobs), niceness)
         if self.sum_of(crate) == whole:
             stamp.write_text(whole)
         now = time.monotonic()

@@ -1,4 +1,6 @@
 """Tests of tools/build.py: which proofs share the processors, and how."""
+import contextlib
+import io
 import pathlib
 import tempfile
 import unittest
@@ -42,6 +44,18 @@ class Shares(unittest.TestCase):
         self.assertEqual(self.shares(2, ["aside", "low"], []), {"low": 2, "aside": 1})
         self.assertEqual(self.shares(2, ["left", "right"], ["aside"]), {"left": 2, "right": 1})
         self.assertEqual(self.shares(1, ["left", "right"], ["aside"]), {"left": 1, "right": 1})
+
+    def test_several_jobs_give_way_to_one(self) -> None:
+        top = self.crates["low"].top
+        (top / "KIT-ID").write_text("kit")
+        with mock.patch.object(build, "TOP", top), mock.patch.object(build.Build, "call") as call:
+            with contextlib.redirect_stdout(io.StringIO()):
+                its = build.Build(self.crates, top)
+                its.make(self.crates["aside"], 1)
+                its.make(self.crates["low"], 4)
+        niceness = {of.args[0].name: of.args[2] for of in call.call_args_list}
+        self.assertEqual(niceness["aside"], 0)
+        self.assertGreater(niceness["low"], 0)
 
 
 if __name__ == "__main__":
