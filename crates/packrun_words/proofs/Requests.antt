@@ -7,11 +7,15 @@ use Rattle.std.proofs.lemmas.Str.{IsUtf8-from_ascii}
 use Rattle.std.proofs.lemmas.Str.Ascii.{IsAscii-from_all}
 use Rattle.std.proofs.lemmas.List.Elements.{All-weaker}
 use Rattle.packrun_words.specs.declared.command.Command.{Command}
-use Rattle.packrun_words.specs.Words.{may_stand, words_in}
+use Rattle.packrun_words.specs.Words.{may_stand, words_in, Writes}
 use Rattle.packrun_words.specs.Requests.{Request, Say, IsPlain}
 use Rattle.packrun_words.specs.Requests.Request.{Nothing, Bin, Rect, Exclude, Pack, Release, Sections, Coalesce, Sweep, Stats}
 use Rattle.packrun_words.specs.private.Verbs.{verb_of, Take, AreOf}
-use Rattle.packrun_words.specs.private.Commands.{IsNextRequest, IsNextSize, IsRead, IsReading, request_of}
+use Rattle.packrun_words.specs.private.Commands.{IsNextRequest, IsNextSize, IsNumberBelow, IsRead, IsReading, request_of}
+
+-- a word that writes a number below a bound is one
+pub IsNumberBelow-written : (bound : ℕ) (word : List ℕ) (n : ℕ) → Writes bound word n → IsNumberBelow bound word
+IsNumberBelow-written bound word n (numeral, is, less) = (numeral, subst (λ m. m < bound) is less)
 
 is_ascii_where_it_may_stand : (b : ℕ) → may_stand b ≡ true → b < 128
 is_ascii_where_it_may_stand b h = grind arith

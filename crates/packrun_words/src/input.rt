@@ -74,7 +74,11 @@ fn length_of_part(bytes: &[u8], most: usize) -> usize
     most
 }
 
-/// Reads the next line, and adds its bytes to those that were read. Whether there was one.
+/// Reads the next line, and adds its bytes to those that were read. Whether there was one. What is
+/// printed is flushed first, where the line is not buffered to its end.
+///
+/// An error is `IoFailed`: the flush or the read failed, `line` had less room than the longest line
+/// and memory was refused, or more than 2^64 - 1 bytes were read.
 pub fn next_line<R: Read, W: Write, A: Allocator>(
     input: &mut BufReader<R, A>,
     line: &mut Vec<u8, A>,

@@ -11,7 +11,7 @@ use std::alloc::Allocator;
 use std::io;
 use std::io::Write;
 
-/// What a write answers, as a run ends by it.
+/// What a write answers, as a run ends by it: `IoFailed` where it failed, whatever the error.
 pub fn printed(answer: io::Result<()>) -> Result<(), Stop>
     ensures done { OnOk result (IsOk answer) }
     ensures failed { IfErr result (λ stop. stop ≡ Stop.IoFailed) }
@@ -19,7 +19,8 @@ pub fn printed(answer: io::Result<()>) -> Result<(), Stop>
     Ok(answer?)
 }
 
-/// Prints the number and the space behind it.
+/// Prints the number and the space behind it. An error is `IoFailed`: the write failed, and some of
+/// this may be printed.
 pub fn print_number<W: Write>(number: u64, out: &mut W) -> Result<(), Stop>
     ensures { Prints (W.contents out.old) (W.contents out.new) result (decimal number ++ 32 ∷ []) }
 {
@@ -28,7 +29,8 @@ pub fn print_number<W: Write>(number: u64, out: &mut W) -> Result<(), Stop>
     printed(out.write_all(&line[start..]))
 }
 
-/// Prints the word and the space behind it.
+/// Prints the word and the space behind it. An error is `IoFailed`: a write failed, and some of
+/// this may be printed.
 pub fn print_word<A: Allocator, W: Write>(word: &Word<A>, out: &mut W) -> Result<(), Stop>
     ensures { Prints (W.contents out.old) (W.contents out.new) result (word.now ++ 32 ∷ []) }
 {
@@ -36,7 +38,8 @@ pub fn print_word<A: Allocator, W: Write>(word: &Word<A>, out: &mut W) -> Result
     printed(out.write_all(b" "))
 }
 
-/// Prints the least corner of a box and its sides, to the end of the line.
+/// Prints the least corner of a box and its sides, to the end of the line. An error is `IoFailed`:
+/// the write failed, and some of this may be printed.
 pub fn print_box<W: Write>(corner: [u32; 3], sides: [u32; 3], out: &mut W) -> Result<(), Stop>
     ensures { Prints (W.contents out.old) (W.contents out.new) result (box_text corner sides) }
 {

@@ -1,14 +1,11 @@
-use Rattle.std.proofs.Common.{◌≡◌, ◌==◌, ◌^◌, ◌<◌, true, List, ◌∷◌, ℕ, Option, None, refl, sym, ap, subst, codes, get_or, drop, ◌∙◌}
-use Rattle.packrun_words.specs.Words.{Writes}
+use Rattle.std.proofs.Common.{◌≡◌, ◌==◌, ◌^◌, true, List, ◌∷◌, ℕ, Option, None, refl, sym, ap, subst, codes, get_or, drop, ◌∙◌}
 use Rattle.packrun_words.specs.Requests.{Request}
 use Rattle.packrun_words.specs.Requests.Request.{Nothing, Bin, Rect, Exclude, Pack, Release, Sections, Coalesce, Sweep, Stats}
 use Rattle.packrun_words.specs.declared.command.Command.{Command}
 use Rattle.packrun_words.specs.private.Verbs.{verb_of, Take}
 use Rattle.packrun_words.specs.private.Commands.{IsNextRequest, IsNumberBelow}
+use Rattle.packrun_words.proofs.Requests.{IsNumberBelow-written}
 use Rattle.packrun_words.proofs.command.next_coalesce.Goals as goal
-
-below : (word : List ℕ) (n : ℕ) → Writes (2 ^ 64) word n → IsNumberBelow (2 ^ 64) word
-below word n (numeral, is, less) = (numeral, subst (λ m. m < 2 ^ 64) is less)
 
 -- where there are no such words, there is no request; of all verbs only this one begins with a `c`
 none : (r : Option Command) → r ≡ None → (old new : List (List ℕ))
@@ -29,7 +26,8 @@ none r is old new never =
     says (Release number) rest verb t = absurd (cc verb)
     says (Sections name) rest verb t = absurd (cc verb)
     says (Coalesce name idx start end) rest verb (i, lo, hi, e, a, b, d) =
-        never name i lo hi rest e (below i idx a) (below lo start b) (below hi end d)
+        never name i lo hi rest e (IsNumberBelow-written (2 ^ 64) i idx a) (IsNumberBelow-written (2 ^ 64) lo start b)
+        (IsNumberBelow-written (2 ^ 64) hi end d)
     says (Sweep name) rest verb t = absurd (cc verb)
     says (Stats name) rest verb t = absurd (cc verb)
 

@@ -1,11 +1,8 @@
-use Rattle.std.proofs.Common.{◌≡◌, ◌^◌, ◌<◌, List, ◌∷◌, ℕ, Option, None, drop, sym, ap, subst, ◌∙◌}
-use Rattle.packrun_words.specs.Words.{Writes}
+use Rattle.std.proofs.Common.{◌≡◌, ◌^◌, List, ◌∷◌, ℕ, Option, None, drop, sym, ap, subst, ◌∙◌}
 use Rattle.packrun_words.specs.declared.command.Size.{Size}
 use Rattle.packrun_words.specs.private.Commands.{IsNextSize, IsNumberBelow}
+use Rattle.packrun_words.proofs.Requests.{IsNumberBelow-written}
 use Rattle.packrun_words.proofs.command.next_size.Goals as goal
-
-below : (word : List ℕ) (n : ℕ) → Writes (2 ^ 32) word n → IsNumberBelow (2 ^ 32) word
-below word n (numeral, is, less) = (numeral, subst (λ m. m < 2 ^ 32) is less)
 
 none : (r : Option Size) → r ≡ None → (old new : List (List ℕ))
     → ((w h d : List ℕ) (rest : List (List ℕ)) → old ≡ w ∷ h ∷ d ∷ rest
@@ -13,8 +10,8 @@ none : (r : Option Size) → r ≡ None → (old new : List (List ℕ))
     → IsNextSize old r new
 none r is old new never =
     subst (λ r. IsNextSize old r new) (sym is) λ w h d rest size e writes.
-    never w h d rest e (below w size.width writes.width_is) (below h size.height writes.height_is)
-    (below d size.depth writes.depth_is)
+    never w h d rest e (IsNumberBelow-written (2 ^ 32) w size.width writes.width_is) (IsNumberBelow-written (2 ^ 32) h size.height writes.height_is)
+    (IsNumberBelow-written (2 ^ 32) d size.depth writes.depth_is)
 
 pub returns-in_err-width : goal.returns-in_err-width
 returns-in_err-width c =

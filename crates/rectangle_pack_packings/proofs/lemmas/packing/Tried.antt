@@ -7,7 +7,7 @@ use Rattle.rectangle_pack_lists.specs.Steps.{IsDone}
 use Rattle.rectangle_pack_rules.specs.declared.answer.Placement.{Placement}
 use Rattle.rectangle_pack_rules.specs.Packing.{Rules, Members, IsPlaced}
 use Rattle.rectangle_pack_rules.specs.Placed.{AreNamed}
-use Rattle.rectangle_pack_bins.specs.private.Checkout.{IsTriedIn}
+use Rattle.rectangle_pack_bins.specs.private.Checkout.{BinsInUse, IsTriedIn}
 use Rattle.rectangle_pack_bins.proofs.lemmas.bins.Journals.{bins_of-written, found-bins_of, GoesBack-same}
 use Rattle.rectangle_pack_bins.proofs.lemmas.bins.Checkout.{stays}
 use Rattle.rectangle_pack_packings.specs.declared.pack.packing.Packing.{Packing}
@@ -37,11 +37,16 @@ IsPlaced-alone rules group now new here v w locations count added tried rest don
   tests_are = omega arith;
 }
 
+-- a packing whose bins stay can be rolled back as before
+pub StaysUndoable-same : {Id B A : Type 0} (cmp : B → B → Ordering) (old now : Packing Id B A) (bins : BinsInUse B) → StaysUndoable cmp old now
+    → bins ≡ now.bins → StaysUndoable cmp old (record now { bins = bins })
+StaysUndoable-same cmp old now bins back same start b = GoesBack-same cmp _ _ _ start (stays same).1 (back start b)
+
 -- a packing that goes on from the bin that is found next goes on from where it was
 pub GoesOn-begun : {Id B A : Type 0} (cmp : B → B → Ordering) (old now next new : Packing Id B A) → GoesOn cmp next new → StaysUndoable cmp old now
     → now.bins.order ≡ old.bins.order → now.journal ≡ old.journal → next.bins ≡ now.bins → next.journal ≡ now.journal → GoesOn cmp old new
 GoesOn-begun cmp old now next new on back order noted same kept = record {
-  back = λ start b. on.back start (rw kept (GoesBack-same cmp _ _ _ start (stays same).1 (back start b)));
+  back = λ start b. on.back start (rw kept (StaysUndoable-same cmp old now next.bins back same start b));
   order = on.order ∙ (stays same).2 ∙ order;
   grows = rw (← noted, ← kept) on.grows;
   room = on.room ∙ ap vec_capacity (kept ∙ noted);

@@ -7,12 +7,11 @@ use Rattle.rectangle_pack_bins.proofs.lemmas.bins.Checkout.{stays}
 use Rattle.rectangle_pack_rules.proofs.lemmas.packing.Groups.{IsPlaced-at, on-true, on-false}
 use Rattle.rectangle_pack_sections.proofs.lemmas.util.Results.{OnErr-given}
 use Rattle.rectangle_pack_rules.proofs.lemmas.packing.Cases.{saturated-none, saturated-none-more, no_longer, DoesNotTake-excluded, DoesNotTake-stuck}
-use Rattle.rectangle_pack_bins.proofs.lemmas.bins.Journals.{GoesBack-same}
 use Rattle.rectangle_pack_rules.proofs.lemmas.packing.FitTests.{adds-begun}
 use Rattle.rectangle_pack_lists.proofs.lemmas.trial.StepsByIndex.{saturated-add}
 use Rattle.rectangle_pack_packings.proofs.pack.first_fit.place_group.Given.{Over}
 use Rattle.rectangle_pack_rules.proofs.lemmas.packing.Turns.{ArePassed-more}
-use Rattle.rectangle_pack_packings.proofs.lemmas.packing.Tried.{GoesOn-begun}
+use Rattle.rectangle_pack_packings.proofs.lemmas.packing.Tried.{GoesOn-begun, StaysUndoable-same}
 use Rattle.rectangle_pack_packings.proofs.lemmas.packing.PassedOver.{ArePassed-over, ArePassed-rest}
 use Rattle.rectangle_pack_packings.proofs.pack.first_fit.place_group.Goals as goal
 
@@ -84,7 +83,7 @@ loop-index-preserved-then-has g c =
           next.1 next.2.1 passed (DoesNotTake-excluded rules excluded old group c.in-Some.id.now here) (saturated-none-more _ _ passed.2);
       journal = c.loop-index.invariant.journal;
       placements = c.loop-index.invariant.placements;
-      back = λ start b. GoesBack-same g.B.Ord.cmp _ _ _ start (stays c.in-Some.ensures.same).1 (c.loop-index.invariant.back start b);
+      back = StaysUndoable-same g.B.Ord.cmp c.args.packing.now c.loop-index.packing c.next_bin.new.bins c.loop-index.invariant.back c.in-Some.ensures.same;
     }
 
 pub loop-index-preserved : goal.loop-index-preserved
@@ -110,7 +109,7 @@ loop-index-preserved g c =
       journal = stuck.4 ∙ c.loop-index.invariant.journal;
       placements = stuck.3 ∙ c.loop-index.invariant.placements;
       back = λ start b. c.in_ok-place_in_bin.ensures.goes_on.back start
-          (GoesBack-same g.B.Ord.cmp _ _ _ start (stays c.in-Some.ensures.same).1 (c.loop-index.invariant.back start b));
+          (StaysUndoable-same g.B.Ord.cmp c.args.packing.now c.loop-index.packing c.next_bin.new.bins c.loop-index.invariant.back c.in-Some.ensures.same start b);
     }
 
 pub returns-clause-placed : goal.returns-clause-placed
@@ -131,7 +130,7 @@ returns-clause-placed g c =
 
 pub returns-clause-goes_on : goal.returns-clause-goes_on
 returns-clause-goes_on g c = record {
-  back = λ start b. GoesBack-same g.B.Ord.cmp _ _ _ start (stays c.in_default.ensures.same).1 (c.loop-index.invariant.back start b);
+  back = StaysUndoable-same g.B.Ord.cmp c.args.packing.now c.loop-index.packing c.next_bin.new.bins c.loop-index.invariant.back c.in_default.ensures.same;
   order = (stays c.in_default.ensures.same).2 ∙ c.loop-index.invariant.order;
   grows = rw c.loop-index.invariant.journal (no_longer (vec_len c.args.packing.now.journal));
   room = ap vec_capacity c.loop-index.invariant.journal;
