@@ -125,5 +125,5 @@ fn list_both<K: Ord + Clone + Drop, A: Allocator + Copy>(
 fn is_among<K: Ord>(keys: &[K], key: &K) -> bool
     ensures { result ≡ list_any (is_at (K.cmp key.now)) keys.now }
 {
-    keys.iter().any(|k| key == k)
+    keys.contains(key)
 }
