@@ -7,6 +7,7 @@ use packrun_words::print::{print_box, print_number, print_word, printed};
 use packrun_words::stop::Stop;
 use packrun_words::word::Word;
 use rectangle_pack::{BinSection, BinStats, Outstanding, RectanglePackError, SessionError};
+use rectangle_pack_sections::packed_location::section_at;
 use std::alloc::Allocator;
 use std::fmt::Display;
 use std::io;
@@ -48,11 +49,7 @@ fn print_placement<A: Allocator, W: Write>(
     print_number(*number, out)?;
     print_word(id, out)?;
     print_word(bin, out)?;
-    print_box(
-        [location.x(), location.y(), location.z()],
-        [location.width(), location.height(), location.depth()],
-        out,
-    )
+    print_section(&section_at(location), out)
 }
 
 // Prints the free sections, a line each, and how many there are.

@@ -4,8 +4,8 @@ ghost use Rattle.rectangle_pack_rules.specs.Best.{IsBetterUse, cells_placed_in, 
 ghost use Rattle.rectangle_pack_rules.specs.private.Cells.{cells_in};
 
 use crate::answer::Placement;
-use rectangle_pack_sections::bin_section::section_at;
 use rectangle_pack_sections::box_size_heuristics::Heuristic;
+use rectangle_pack_sections::packed_location::section_at;
 use std::alloc::{AllocError, Allocator};
 use std::collections::BTreeMap;
 

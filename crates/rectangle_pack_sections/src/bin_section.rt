@@ -17,7 +17,7 @@ use crate::bin_section::cutting::pieces_round;
 use crate::packed_location::PackedLocation;
 use crate::rect_to_insert::RectToInsert;
 use crate::span::spans;
-use crate::width_height_depth::{WidthHeightDepth, any_size};
+use crate::width_height_depth::WidthHeightDepth;
 pub use laws::{
     cell_test_is_membership, pieces_are_from_cuts, sections_are_ordered, sharing_is_symmetric,
     smallest_box_is_preorder,
@@ -347,14 +347,6 @@ pub fn has_cells(section: &BinSection) -> bool
 {
     let whd = section.whd;
     whd.width() > 0 && whd.height() > 0 && whd.depth() > 0
-}
-
-/// The box that stands at a location.
-pub fn section_at(location: &PackedLocation) -> BinSection
-    ensures { result ≡ location.now }
-{
-    let whd = any_size(location.width(), location.height(), location.depth());
-    BinSection::new(location.x(), location.y(), location.z(), whd)
 }
 
 fn sizes(sections: &[BinSection; 3]) -> [WidthHeightDepth; 3]

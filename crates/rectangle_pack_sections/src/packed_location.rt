@@ -1,6 +1,7 @@
 //! Where a box was placed.
 ghost use Rattle.std.specs.Prelude.{◌≡◌};
 
+use crate::bin_section::BinSection;
 use crate::width_height_depth::WidthHeightDepth;
 use std::marker::Model;
 
@@ -128,4 +129,11 @@ impl PackedLocation {
     {
         self.whd.depth()
     }
+}
+
+/// The box that stands at a location.
+pub fn section_at(location: &PackedLocation) -> BinSection
+    ensures { result ≡ location.now }
+{
+    BinSection::new(location.x, location.y, location.z, location.whd)
 }

@@ -9,7 +9,8 @@ use crate::session::Session;
 use crate::session::command::{Outstanding, SessionError};
 use rectangle_pack_bins::target_bin::TargetBin;
 use rectangle_pack_plans::cut_plan::{CutStep, plan_of};
-use rectangle_pack_sections::bin_section::{BinSection, has_cells, section_at};
+use rectangle_pack_sections::bin_section::{BinSection, has_cells};
+use rectangle_pack_sections::packed_location::section_at;
 use std::alloc::{AllocError, Allocator};
 
 // Puts a box at the end of the list, if it has cells.

@@ -6,7 +6,8 @@ ghost use Rattle.rectangle_pack.specs.Stats.{stats_in};
 
 use crate::session::Session;
 use crate::session::command::Outstanding;
-use rectangle_pack_sections::bin_section::{BinSection, section_at};
+use rectangle_pack_sections::bin_section::BinSection;
+use rectangle_pack_sections::packed_location::section_at;
 use std::alloc::Allocator;
 
 /// The statistics of a bin as it is: volumes, in cells, and counts. Each cell of the bin is free or
