@@ -270,7 +270,8 @@ impl BinSection {
         requires holds { Holds self.now incoming.now }
         ensures { result ≡ cuts self.now incoming.now }
     {
-        let (w, h, d) = (incoming.width(), incoming.height(), incoming.depth());
+        let size = WidthHeightDepth::from(*incoming);
+        let (w, h, d) = (size.width(), size.height(), size.depth());
         let (width, height, depth) = (self.whd.width(), self.whd.height(), self.whd.depth());
         let corner = (self.x, self.y, self.z);
         let end = (self.x + w, self.y + h, self.z + d);
@@ -335,10 +336,10 @@ pub fn holds(section: &BinSection, incoming: &RectToInsert) -> bool
     ensures { IsTrue result ↔ Holds section.now incoming.now }
 {
     // One branch for width and height, as a search asks this of every section.
-    let whd = section.whd;
-    let wider = incoming.width().saturating_sub(whd.width());
-    let taller = incoming.height().saturating_sub(whd.height());
-    u64::from(wider) + u64::from(taller) == 0 && incoming.depth() <= whd.depth()
+    let (size, whd) = (WidthHeightDepth::from(*incoming), section.whd);
+    let wider = size.width().saturating_sub(whd.width());
+    let taller = size.height().saturating_sub(whd.height());
+    u64::from(wider) + u64::from(taller) == 0 && size.depth() <= whd.depth()
 }
 
 /// Whether none of the section's sizes is 0.

@@ -9,4 +9,4 @@ returns c =
     rw (c.pieces_round.ensures, c.pieces_round-2.ensures, c.pieces_round-3.ensures)
     (rw (c.pieces_round-4.ensures, c.pieces_round-5.ensures, c.pieces_round-6.ensures)
     (rw (c.width-w.ensures, c.height-h.ensures, c.depth-d.ensures)
-    (rw (c.width-width.ensures, c.height-height.ensures, c.depth-depth.ensures, ← c.self.view_is) refl)))
+    (rw (c.from-size.ensures, c.width-width.ensures, c.height-height.ensures, c.depth-depth.ensures, ← c.self.view_is) refl)))
