@@ -47,6 +47,8 @@ COMPARES = ("PartialEq", "Eq", "PartialOrd", "Ord")
 COMPARED = {"Group", "Outcome", "Span", "Word"}
 NAMESAKES = {
     "FitTests::count",
+    *(f"PackedLocation::{part}" for part in ("x", "y", "z", "width", "height", "depth")),
+    *(f"RectToInsert::{part}" for part in ("width", "height", "depth")),
     "TargetBin::clone",
     "TargetBin::coalesce_all",
     "WidthHeightDepth::new",
@@ -126,6 +128,7 @@ def files_in(crate: str, folder: str, ending: str) -> list[pathlib.Path]:
     return sorted((CRATES / crate / folder).rglob(f"*{ending}"))
 
 
+@functools.cache
 def crate_of(path: pathlib.Path) -> str:
     return path.relative_to(CRATES).parts[0]
 
