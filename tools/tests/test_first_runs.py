@@ -1,0 +1,72 @@
+"""Tests of tools/first_runs.py: runs that take turns."""
+import pathlib
+import sys
+import tempfile
+import time
+import unittest
+
+import first_runs
+
+# Writes down when it goes on, until it has done so for so many seconds.
+COUNTS = """
+import sys, time
+left = float(sys.argv[1])
+while left > 0:
+    print(time.monotonic(), flush=True)
+    time.sleep(0.01)
+    left -= 0.01
+"""
+
+# Leaves that to a process in a session of its own.
+HANDS_ON = """
+import subprocess, sys
+subprocess.run([sys.executable, "-c", *sys.argv[1:]], start_new_session=True, check=True)
+"""
+
+
+class InTurn(unittest.TestCase):
+    def setUp(self) -> None:
+        folder = tempfile.TemporaryDirectory()
+        self.addCleanup(folder.cleanup)
+        self.top = pathlib.Path(folder.name)
+
+    def run_of(self, name: str, code: str, turn: float, *words: str) -> first_runs.Run:
+        folder = self.top / name
+        folder.mkdir()
+        (folder / "in").touch()
+        return first_runs.Run(name, [sys.executable, "-c", code, *words], turn, folder)
+
+    def times_of(self, run: first_runs.Run) -> list[float]:
+        return [float(line) for line in (run.folder / "out").read_text().splitlines()]
+
+    def test_one_goes_on_at_a_time(self) -> None:
+        one = self.run_of("one", COUNTS, 0.1, "0.5")
+        other = self.run_of("other", HANDS_ON, 0.2, COUNTS, "0.5")
+        began = time.monotonic()
+        ended = [*first_runs.in_turn([one, other])]
+        passed = time.monotonic() - began
+        self.assertEqual([run.status for run in ended], [0, 0])
+        self.assertLessEqual(one.seconds + other.seconds, passed)
+        for run in ended:
+            self.assertEqual(len(self.times_of(run)), 50)
+        # Each was stopped for a turn of the other one and more, while that went on.
+        for run, meanwhile in ((one, other), (other, one)):
+            times = self.times_of(run)
+            before, after = max(zip(times, times[1:]), key=lambda pair: pair[1] - pair[0])
+            self.assertGreaterEqual(after - before, meanwhile.turn)
+            self.assertTrue(any(before < at < after for at in self.times_of(meanwhile)))
+
+    def test_a_failure_is_told(self) -> None:
+        ended = [*first_runs.in_turn([self.run_of("fails", "raise SystemExit(3)", 0.1)])]
+        self.assertEqual([run.status for run in ended], [3])
+
+    def test_what_is_left_is_ended(self) -> None:
+        runs = [self.run_of("short", "", 0.1), self.run_of("long", "import time; time.sleep(60)", 0.1)]
+        turns = first_runs.in_turn(runs)
+        self.assertEqual(next(turns).name, "short")
+        turns.close()
+        self.assertIsNotNone(runs[1].process.returncode)
+
+
+if __name__ == "__main__":
+    unittest.main()
