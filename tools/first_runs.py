@@ -4,7 +4,7 @@
 first_runs.py COMMIT[=SECONDS] ..: clones each commit, proves and runs packrun there from nothing, and prints how long that took.
     For so many SECONDS one of the runs goes on, 5 where none are given, while the others are stopped; then the next one does. So
     what makes the machine slower from one minute to the next does so for all of them alike. The more seconds a longer run has, the
-    more of its time is beside that of the others: with main=4 bd321a3=8 both end at about the same time."""
+    more of its time is beside that of the others: with main=4 bd321a3=7 both end at about the same time."""
 from __future__ import annotations
 
 import collections.abc
@@ -18,6 +18,8 @@ import sys
 import tempfile
 import time
 
+from gate_times import status_of, taken_by_the_host
+
 TOP = pathlib.Path(__file__).resolve().parent.parent
 SECONDS = 5.0
 # How often a run that goes on is looked at, in seconds.
@@ -26,17 +28,12 @@ COMMANDS = b"bin a 100 100 1\nrect one 50 90 1\npack\n"
 ANSWER = b"ok\nok\n0 one a 0 0 0 50 90 1\npacked 1\n"
 
 
-def taken_by_the_host() -> float:
-    """The seconds that the host has given to other machines while a processor here had work."""
-    return int(pathlib.Path("/proc/stat").read_text().split()[8]) / os.sysconf("SC_CLK_TCK")
-
-
-def with_all_below(process: int) -> set[int]:
+def processes_of(process: int) -> set[int]:
     """The process and those that it began, and that these began. Some may be in a group of their own."""
     parents = {}
-    for path in pathlib.Path("/proc").glob("[0-9]*/stat"):
+    for pid in filter(str.isdigit, os.listdir("/proc")):
         with contextlib.suppress(OSError):
-            parents[int(path.parent.name)] = int(path.read_text().rpartition(")")[2].split()[1])
+            parents[int(pid)], _, _ = status_of(pid)
     found, more = {process}, True
     while more:
         more = {it for it, parent in parents.items() if parent in found} - found
@@ -47,7 +44,7 @@ def with_all_below(process: int) -> set[int]:
 def send(process: int, what: signal.Signals) -> None:
     """Sends a signal to the process and to all below it, also to those that begin meanwhile."""
     told: set[int] = set()
-    while more := with_all_below(process) - told:
+    while more := processes_of(process) - told:
         for it in more:
             with contextlib.suppress(ProcessLookupError):
                 os.kill(it, what)
@@ -100,7 +97,7 @@ class Run:
             self.process.wait()
 
 
-def in_turn(runs: collections.abc.Sequence[Run]) -> collections.abc.Iterator[Run]:
+def in_turn(runs: collections.abc.Sequence[Run]) -> collections.abc.Generator[Run, None, None]:
     """Each run once it has ended. The last one is not stopped any more."""
     try:
         for run in runs:
@@ -131,9 +128,10 @@ def main(words: collections.abc.Sequence[str]) -> int:
     if not words or words[0].startswith("-"):
         print(__doc__, file=sys.stderr)
         return 2
-    with tempfile.TemporaryDirectory(prefix="first-runs-") as top:
+    with contextlib.ExitStack() as stack:
+        top = stack.enter_context(tempfile.TemporaryDirectory(prefix="first-runs-"))
         runs = [first_run(word, pathlib.Path(top) / str(number)) for number, word in enumerate(words)]
-        for run in in_turn(runs):
+        for run in stack.enter_context(contextlib.closing(in_turn(runs))):
             print(
                 f"{run.name}: {run.seconds:.0f} s by the clock, user {run.user:.0f} s, system {run.system:.0f} s, "
                 f"taken by the host {run.taken:.0f} s, status {run.status}",

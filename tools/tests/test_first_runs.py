@@ -1,4 +1,5 @@
 """Tests of tools/first_runs.py: runs that take turns."""
+import itertools
 import pathlib
 import sys
 import tempfile
@@ -7,14 +8,15 @@ import unittest
 
 import first_runs
 
-# Writes down when it goes on, until it has done so for so many seconds.
+# Writes down when it goes on, until it and the other one, which writes to this file, have done so that often.
 COUNTS = """
-import sys, time
-left = float(sys.argv[1])
-while left > 0:
+import pathlib, sys, time
+other, often = pathlib.Path(sys.argv[1]), int(sys.argv[2])
+count = 0
+while count < often or not other.exists() or other.read_text().count("\\n") < often:
     print(time.monotonic(), flush=True)
-    time.sleep(0.01)
-    left -= 0.01
+    time.sleep(0.005)
+    count += 1
 """
 
 # Leaves that to a process in a session of its own.
@@ -40,21 +42,25 @@ class InTurn(unittest.TestCase):
         return [float(line) for line in (run.folder / "out").read_text().splitlines()]
 
     def test_one_goes_on_at_a_time(self) -> None:
-        one = self.run_of("one", COUNTS, 0.1, "0.5")
-        other = self.run_of("other", HANDS_ON, 0.2, COUNTS, "0.5")
+        # Either goes on for several turns while the other one does, however slowly they begin.
+        one = self.run_of("one", COUNTS, 0.05, str(self.top / "other" / "out"), "60")
+        other = self.run_of("other", HANDS_ON, 0.1, COUNTS, str(self.top / "one" / "out"), "60")
         began = time.monotonic()
         ended = [*first_runs.in_turn([one, other])]
         passed = time.monotonic() - began
         self.assertEqual([run.status for run in ended], [0, 0])
         self.assertLessEqual(one.seconds + other.seconds, passed)
-        for run in ended:
-            self.assertEqual(len(self.times_of(run)), 50)
-        # Each was stopped for a turn of the other one and more, while that went on.
         for run, meanwhile in ((one, other), (other, one)):
-            times = self.times_of(run)
-            before, after = max(zip(times, times[1:]), key=lambda pair: pair[1] - pair[0])
-            self.assertGreaterEqual(after - before, meanwhile.turn)
-            self.assertTrue(any(before < at < after for at in self.times_of(meanwhile)))
+            # Where the other one went on between two times, it did so for a whole turn, but for its last one.
+            others = self.times_of(meanwhile)
+            pauses = [
+                (before, after)
+                for before, after in itertools.pairwise(self.times_of(run))
+                if any(before < at < after for at in others) and not before < others[-1] < after
+            ]
+            self.assertTrue(pauses)
+            for before, after in pauses:
+                self.assertGreaterEqual(after - before, meanwhile.turn)
 
     def test_a_failure_is_told(self) -> None:
         ended = [*first_runs.in_turn([self.run_of("fails", "raise SystemExit(3)", 0.1)])]
