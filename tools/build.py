@@ -4,8 +4,8 @@
 build.py CRATE: proves the crates on which CRATE stands, side by side where neither stands on the other, then CRATE itself,
     and builds it: a program as crates/CRATE/out/CRATE, a static library as crates/CRATE/out/libCRATE.a. What it proved
     before is not proved again, as long as no file has changed of that crate and of those below it.
-build.py --reached PROGRAM: proves of all these only what the program reaches, which tools/reached.py copies to build/reached, and
-    builds that.
+build.py --reached PROGRAM: proves of all these only what the program reaches, which tools/reached.py copies to build/reached as one
+    crate, and builds that.
 
 `rattle build` does both: it builds nothing that it has not proved. `rt lib` and `rt run` take one crate after another, and
 keep what a proof after an edit can begin from, which a first build does not need and which makes it longer."""
@@ -30,8 +30,8 @@ REACHED = TOP / "build" / "reached"
 TARGET = "x86_64-unknown-linux-gnu"
 # In kB: the memory that is left alone, and what a proof or a further job of it is reckoned to take.
 LEFT_ALONE, MEMORY_OF_A_JOB = 1e6, 3e6
-# The checker's allocator keeps what is freed for the next request.
-SETTINGS = {"MIMALLOC_PURGE_DELAY": "-1"}
+# The checker's allocator keeps what is freed for the next request, and asks for large pages where the kernel has some.
+SETTINGS = {"MIMALLOC_PURGE_DELAY": "-1", "MIMALLOC_ALLOW_LARGE_OS_PAGES": "1"}
 # With so much of the most lines behind it a proof is hurried.
 HURRIED = 0.7
 # The niceness of a proof with several jobs: those with one, which cannot take more than one processor, get more of the time.
@@ -108,7 +108,7 @@ def with_all_below(name: str, crates: dict[str, Crate]) -> dict[str, Crate]:
 
 
 def what_it_reaches(program: str) -> dict[str, Crate]:
-    """The crates of a copy of what a program reaches."""
+    """The crate that is a copy of what a program reaches."""
     import reached  # Not above, as tools/release reads this file from another folder.
 
     reached.copy(program, REACHED)

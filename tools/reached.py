@@ -2,17 +2,15 @@
 """Copies what a program reaches of the crates below it, so that a first run proves that and no more.
 
 reached.py PROGRAM TO: writes TO/crates and TO/crates.txt, in place of what is there.
-reached.py --check PROGRAM: fails where the checker's front end or its definitions refuse the copy as one crate; it proves nothing.
+reached.py --check PROGRAM: fails where the checker's front end or its definitions refuse the copy; it proves nothing.
 
 `main` is reached, and each item that one which is reached names. Of functions with one name all are that could be meant by their
-crates, `use` items and types. Types, impls, definitions and lemmas stay that something names which stays. Where one crate after another
-would wait for the one below, with none beside it, these are modules of the program's crate; for --check all are. Of the others, those
-above the lowest of which one stands on another are one crate. Lines are left out or stay as they are, but for a `use` or a `derive`
-that loses names, and for paths that lead into modules. A copy that lacks something is refused when it is proved."""
+crates, `use` items and types. Types, impls, definitions and lemmas stay that something names which stays. The copy is one crate: those
+below the program are modules of it. Lines are left out or stay as they are, but for a `use` or a `derive` that loses names, and for
+paths that lead into modules. A copy that lacks something is refused when it is proved."""
 from __future__ import annotations
 
 import functools
-import itertools
 import pathlib
 import re
 import shutil
@@ -305,14 +303,14 @@ class Reach:
 class Copy:
     """The files of what is reached, each with the lines that stay."""
 
-    def __init__(self, program: str, as_one: bool = False) -> None:
+    def __init__(self, program: str) -> None:
         self.program = program
         self.reach = reach = Reach(program)
         filled = {crate_of(it) for it in reach.filled if CRATES in it.parents}
-        # The crates of which something stays, and the others; of the former those that are modules, each with its crate.
+        # The crates of which something stays, and the others; of the former those that are modules of the program's crate.
         self.crates = [name for name in reach.crates if name in filled]
         self.gone = set(reach.crates) - {*self.crates}
-        self.hosts = dict.fromkeys(self.crates[:-1], program) if as_one else hosts_of(self.crates)
+        self.modules = self.crates[:-1]
         self.own = {it.item.name for pieces in reach.pieces.values() for it in pieces if it.item.kind in NAMED and not it.around}
         self.emptied = {it.stem for it in reach.code} - {it.stem for it in reach.filled}
 
@@ -325,29 +323,10 @@ class Copy:
         for path, text in self.reach.texts.items():
             if path.name == "Lib.antt" and crate_of(path) in self.crates or path in self.reach.filled:
                 left = "".join(it for it in text.splitlines(keepends=True) if self.line_stays(path, it))
-                yield self.place(path), self.renamed(path, left) + self.definitions_inside(path)
+                yield self.place(path), self.renamed(path, left)
         # A program has no definitions of its own. Modules of `proofs` are declared by those of the code.
-        yield pathlib.Path("crates", self.program, "specs/Lib.antt"), self.definitions_inside(CRATES / self.program / "specs/Lib.antt")
-        lines = [f"{name}: {' '.join(self.below(name))}\n" for name in self.crates if name not in self.hosts]
-        yield pathlib.Path("crates.txt"), "".join(lines)
-
-    def host(self, crate: str) -> str:
-        """The crate of the copy that has what one has."""
-        return self.hosts.get(crate, crate)
-
-    def modules(self, crate: str) -> list[str]:
-        """The crates that are modules of this one."""
-        return [it for it in self.crates if self.hosts.get(it) == crate]
-
-    def definitions_inside(self, path: pathlib.Path) -> str:
-        """What a file says of the modules of its crate: they are declared where its definitions are."""
-        crate, *rest = path.relative_to(CRATES).parts
-        return "".join(f"pub mod {it}\n" for it in self.modules(crate) if rest == ["specs", "Lib.antt"])
-
-    def below(self, crate: str) -> list[str]:
-        """The crates of the copy on which one stands, with its modules."""
-        found = {self.host(it) for name in [crate, *self.modules(crate)] for it in ORDER[name]}
-        return [it for it in self.crates if it in found and it != crate]
+        yield pathlib.Path("crates", self.program, "specs/Lib.antt"), "".join(f"pub mod {it}\n" for it in self.modules)
+        yield pathlib.Path("crates.txt"), f"{self.program}:\n"
 
     def line_stays(self, path: pathlib.Path, line: str) -> bool:
         """Whether a line of antt stays: one that declares or passes on what is gone does not."""
@@ -421,10 +400,9 @@ class Copy:
     def place(self, path: pathlib.Path) -> pathlib.Path:
         """Where a file stands in the copy."""
         crate, folder, *rest = path.relative_to(CRATES).parts
-        if crate not in self.hosts:
-            return pathlib.Path("crates", crate, folder, *rest)
-        inside = [f"{crate}{path.suffix}"] if rest in (["lib.rt"], ["Lib.antt"]) else [crate, *rest]
-        return pathlib.Path("crates", self.hosts[crate], folder, *inside)
+        if crate in self.modules:
+            rest = [f"{crate}{path.suffix}"] if rest in (["lib.rt"], ["Lib.antt"]) else [crate, *rest]
+        return pathlib.Path("crates", self.program, folder, *rest)
 
     def renamed(self, path: pathlib.Path, text: str) -> str:
         """A text in which paths that lead into modules of the copy do so."""
@@ -432,7 +410,7 @@ class Copy:
 
         def module(found: re.Match[str]) -> str:
             crate, room, inside = found.groups()
-            return f"Rattle.{self.hosts[crate]}.{room}.{inside or ''}{crate}." if crate in self.hosts else found[0]
+            return f"Rattle.{self.program}.{room}.{inside or ''}{crate}." if crate in self.modules else found[0]
 
         def declared(found: re.Match[str]) -> str:
             # A type of the crate itself, or of one below it that it passes on.
@@ -445,23 +423,19 @@ class Copy:
 
         def code(found: re.Match[str]) -> str:
             crate, room = own if found[1] == "crate" else found[1], found[2] or ""
-            if crate not in self.hosts:
-                return found[0]
-            host = self.hosts[crate]
-            return f"{'crate' if host == self.host(own) else host}::{room}{crate}::"
+            return f"crate::{room}{crate}::" if crate in self.modules else found[0]
 
         text = re.sub(r"\bRattle\.(\w+)\.specs\.declared\.((?:[a-z]\w*\.)+)([A-Z]\w*)", declared, text)
         text = re.sub(r"\bRattle\.(\w+)\.(specs|proofs)\.((?:declared|contracts)\.)?", module, text)
         return re.sub(r"(?<![\w:])(\w+)::((?:specs|proofs)::)?", code, text) if path.suffix == ".rt" else text
 
     def root(self, path: pathlib.Path, text: str) -> str:
-        """The root of a crate as that of a module, or as it is, with its modules."""
+        """The root of a crate as that of a module, or that of the program, with the modules."""
         lines = text.splitlines(keepends=True)
-        if crate_of(path) in self.hosts:
+        if path != self.reach.main:
             return "".join(it for it in lines if not it.startswith("#!["))
         first = next(i for i, it in enumerate(lines) if not it.startswith(("//!", "#![")))
-        kind = "mod" if path == self.reach.main else "pub mod"
-        return "".join([*lines[:first], *(f"{kind} {it};\n" for it in self.modules(crate_of(path))), *lines[first:]])
+        return "".join([*lines[:first], *(f"mod {it};\n" for it in self.modules), *lines[first:]])
 
 
 def first_of(item: Item, lines: list[str | None]) -> int:
@@ -477,30 +451,9 @@ def take_out(item: Item, lines: list[str | None]) -> None:
         lines[at] = None
 
 
-def without_others_beside(crates: list[str]) -> list[str]:
-    """Of crates, lower ones first, those that one after another wait for all below, from the one below the last on down."""
-    level: dict[str, int] = {}
-    for name in crates:
-        level[name] = 1 + max((level[it] for it in ORDER[name] if it in level), default=0)
-    alone = [name for name in crates if [*level.values()].count(level[name]) == 1]
-    lowest = next(i for i in range(level[crates[-1]], -1, -1) if i not in [level[it] for it in alone])
-    return [name for name in alone[:-1] if level[name] > lowest]
-
-
-def hosts_of(crates: list[str]) -> dict[str, str]:
-    """Of crates, lower ones first, those that are modules in a copy, each with its crate: the program, or, above the lowest, the last of
-    those of which one stands on another. One more crate takes some 14 s of a processor for what it brings in and passes on."""
-    hosts = dict.fromkeys(without_others_beside(crates), crates[-1])
-    together: list[list[str]] = []
-    for name in (it for it in crates[:-1] if it not in hosts and {*ORDER[it]} & {*crates}):
-        found = [it for it in together if {*it} & {*ORDER[name]}]
-        together = [*(it for it in together if it not in found), [*itertools.chain(*found), name]]
-    return hosts | {it: names[-1] for names in together for it in names[:-1]}
-
-
-def copy(program: str, to: pathlib.Path, as_one: bool = False) -> None:
-    """Writes the copy, in place of an older one; as one crate, or as several, which take less time."""
-    files = dict(Copy(program, as_one).files())
+def copy(program: str, to: pathlib.Path) -> None:
+    """Writes the copy, in place of an older one."""
+    files = dict(Copy(program).files())
     shutil.rmtree(to / "crates", ignore_errors=True)
     for path, text in files.items():
         (to / path).parent.mkdir(parents=True, exist_ok=True)
@@ -508,14 +461,14 @@ def copy(program: str, to: pathlib.Path, as_one: bool = False) -> None:
 
 
 def check(program: str) -> int:
-    """What the checker says of the copy as one crate before it proves anything."""
+    """What the checker says of the copy before it proves anything."""
     said = subprocess.run(["rt", "doc"], capture_output=True, text=True, check=True)
     kit = pathlib.Path(said.stdout.strip()).parent
     words = ["rattle", "check", "--crate-name", program, "src/main.rt", "--extern", f"std={kit}/rlibs/std.rlib"]
     words += ["-L", f"dependency={kit}/rlibs", "--antt-project", f"{kit}/rattle/logic/antt-project.json"]
     words += ["--logic-built", f"{kit}/logic_built", "--only", ""]
     with tempfile.TemporaryDirectory() as folder:
-        copy(program, pathlib.Path(folder), as_one=True)
+        copy(program, pathlib.Path(folder))
         ran = subprocess.run(words, cwd=pathlib.Path(folder, "crates", program), capture_output=True, text=True, check=False)
     if ran.returncode:
         print(ran.stdout + ran.stderr, file=sys.stderr)

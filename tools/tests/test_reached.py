@@ -130,30 +130,24 @@ class CopyOfLayers(unittest.TestCase):
     def setUp(self) -> None:
         self.copy = copy_of("top", FILES_OF_LAYERS, LAYERS)
 
-    def test_crates_that_stand_on_one_another_are_one(self) -> None:
-        self.assertEqual(self.copy["crates.txt"], "base: \nside: base\ntop: base side\n")
-        declares = "pub mod low;\npub mod high;\n\npub mod three;\n"
-        self.assertEqual(self.copy["crates/side/src/lib.rt"], f"//! Side.\n#![tactic(auto)]\n{declares}")
-        self.assertEqual(self.copy["crates/side/src/low.rt"], "//! Low.\n\npub mod two;\n")
-        self.assertEqual(self.copy["crates/side/specs/Lib.antt"], "pub use Rattle.side.specs.low.Two\npub mod low\npub mod high\n")
-        self.assertEqual(self.copy["crates/side/specs/low.antt"], "pub mod Two\n")
-        self.assertEqual(self.copy["crates/side/specs/high.antt"], "pub use Rattle.side.specs.low.Two\n")
+    def test_all_are_one_crate(self) -> None:
+        self.assertEqual(self.copy["crates.txt"], "top:\n")
+        self.assertEqual({path.split("/")[1] for path in self.copy if path != "crates.txt"}, {"top"})
+        declares = "mod base;\nmod low;\nmod high;\nmod side;\n\n"
+        self.assertTrue(self.copy["crates/top/src/main.rt"].startswith(f"//! A program.\n{declares}use "))
+        self.assertEqual(self.copy["crates/top/src/low.rt"], "//! Low.\n\npub mod two;\n")
+        self.assertEqual(self.copy["crates/top/specs/Lib.antt"], "pub mod base\npub mod low\npub mod high\npub mod side\n")
+        self.assertEqual(self.copy["crates/top/specs/low.antt"], "pub mod Two\n")
+        self.assertEqual(self.copy["crates/top/specs/high.antt"], "pub use Rattle.top.specs.low.Two\n")
 
     def test_paths_lead_into_the_module_from_its_crate_and_from_others(self) -> None:
-        for name in ("high/four", "three"):
-            uses = "ghost use Rattle.side.specs.low.Two.{is_two};\n\nuse crate::low::two::two;"
-            self.assertIn(uses, self.copy[f"crates/side/src/{name}.rt"])
-        self.assertIn("use base::one::one;\nuse crate::low::two;", self.copy["crates/side/src/low/two.rt"])
+        for name in ("high/four", "side/three"):
+            uses = "ghost use Rattle.top.specs.low.Two.{is_two};\n\nuse crate::low::two::two;"
+            self.assertIn(uses, self.copy[f"crates/top/src/{name}.rt"])
+        self.assertIn("use crate::base::one::one;\nuse crate::low::two;", self.copy["crates/top/src/low/two.rt"])
         main = [it for it in self.copy["crates/top/src/main.rt"].splitlines() if it.startswith("use ")]
-        inside = ["use side::high::four::four;", "use side::low::two::two;"]
-        self.assertEqual(main, ["use base::one::one;", *inside, "use side::three::three;"])
-
-    def test_the_last_is_the_crate(self) -> None:
-        order = {"low": [], "left": ["low"], "right": ["low"], "above": ["left"], "beside": ["left", "low"], "words": []}
-        with mock.patch.object(reached, "ORDER", order | {"prog": ["above", "beside", "right", "words"]}):
-            hosts = reached.hosts_of(["low", "left", "right", "above", "beside", "words", "prog"])
-            self.assertEqual(hosts, {"left": "beside", "above": "beside"})
-            self.assertEqual(reached.hosts_of(["low", "left", "right", "words", "prog"]), {})
+        wanted = ("base::one::one", "high::four::four", "low::two::two", "side::three::three")
+        self.assertEqual(main, [f"use crate::{it};" for it in wanted])
 
 
 class CopyOfAProgram(unittest.TestCase):
@@ -165,14 +159,6 @@ class CopyOfAProgram(unittest.TestCase):
         self.assertEqual(self.copy["crates/prog/src/low.rt"].splitlines()[:3], ["//! Low.", "", "pub mod names;"])
         self.assertIn("use crate::low::names::short_name;", self.copy["crates/prog/src/low/sizes.rt"])
         self.assertEqual(self.copy["crates/prog/specs/Lib.antt"], "pub mod low\n")
-
-    def test_crates_with_others_beside_stay_crates(self) -> None:
-        order = {"a": [], "b": [], "c": ["a", "b"], "d": ["a", "c"], "prog": ["d"], "other": []}
-        with mock.patch.object(reached, "ORDER", order):
-            self.assertEqual(reached.without_others_beside(["a", "b", "c", "d", "prog"]), ["c", "d"])
-            self.assertEqual(reached.without_others_beside(["a", "c", "d", "prog"]), ["a", "c", "d"])
-            self.assertEqual(reached.without_others_beside(["a", "b", "prog"]), [])
-        self.assertEqual(self.copy["crates.txt"], "prog: \n")
 
     def test_functions_stay_that_are_reached(self) -> None:
         code = self.copy["crates/prog/src/low/sizes.rt"] + self.copy["crates/prog/src/low/names.rt"]
@@ -237,25 +223,22 @@ class CopyOfPackrun(unittest.TestCase):
         self.assertEqual(reached.COMPARED - reach.types.keys(), set())
 
     def test_lines_of_the_code_are_those_of_the_sources(self) -> None:
-        for as_one in (False, True):
-            copy = reached.Copy("packrun", as_one)
-            files = dict(copy.files())
-            for path in (it for it in copy.reach.code if copy.place(it) in files):
-                lines = iter([without_paths(line) for line in path.read_text().splitlines()])
-                for line in files[copy.place(path)].splitlines():
-                    if not re.match(r" *(?:$|(?:pub )?use |ghost use |(?:pub )?mod |#\[derive)", line):
-                        # What was looked at is gone from the lines: each stands after the one before.
-                        self.assertIn(without_paths(line), lines, path)
+        copy = reached.Copy("packrun")
+        files = dict(copy.files())
+        for path in (it for it in copy.reach.code if copy.place(it) in files):
+            lines = iter([without_paths(line) for line in path.read_text().splitlines()])
+            for line in files[copy.place(path)].splitlines():
+                if not re.match(r" *(?:$|(?:pub )?use |ghost use |(?:pub )?mod |#\[derive)", line):
+                    # What was looked at is gone from the lines: each stands after the one before.
+                    self.assertIn(without_paths(line), lines, path)
 
-    def test_paths_start_in_the_crate_or_in_one_that_its_line_names(self) -> None:
+    def test_paths_start_in_the_crate(self) -> None:
         start = re.compile(rf"\bRattle\.(\w+)\.|(?<![\w:])({'|'.join(reached.ORDER)})::")
-        for as_one in (False, True):
-            files = dict(reached.Copy("packrun", as_one).files())
-            lines = [it.partition(":") for it in files.pop(pathlib.Path("crates.txt")).splitlines()]
-            below = {name: {name, "std", *named.split()} for name, _, named in lines}
-            for path, text in files.items():
-                starts = {found[1] or found[2] for found in start.finditer(text)}
-                self.assertLessEqual(starts, below[path.parts[1]], path)
+        files = dict(reached.Copy("packrun").files())
+        self.assertEqual(files.pop(pathlib.Path("crates.txt")), "packrun:\n")
+        for path, text in files.items():
+            starts = {found[1] or found[2] for found in start.finditer(text)}
+            self.assertLessEqual(starts, {"packrun", "std"}, path)
 
 
 def without_paths(line: str) -> str:
