@@ -30,8 +30,8 @@ REACHED = TOP / "build" / "reached"
 TARGET = "x86_64-unknown-linux-gnu"
 # In kB: the memory that is left alone, and what a proof or a further job of it is reckoned to take.
 LEFT_ALONE, MEMORY_OF_A_JOB = 1e6, 3e6
-# The checker's allocator keeps what is freed for the next request, and asks for large pages where the kernel has some.
-SETTINGS = {"MIMALLOC_PURGE_DELAY": "-1", "MIMALLOC_ALLOW_LARGE_OS_PAGES": "1"}
+# The checker's allocator keeps what is freed for the next request.
+SETTINGS = {"MIMALLOC_PURGE_DELAY": "-1"}
 # With so much of the most lines behind it a proof is hurried.
 HURRIED = 0.7
 # The niceness of a proof with several jobs: those with one, which cannot take more than one processor, get more of the time.

@@ -4,7 +4,7 @@
 first_runs.py COMMIT[=SECONDS] ..: clones each commit, proves and runs packrun there from nothing, and prints how long that took.
     For so many SECONDS one of the runs goes on, 5 where none are given, while the others are stopped; then the next one does. So
     what makes the machine slower from one minute to the next does so for all of them alike. The more seconds a longer run has, the
-    more of its time is beside that of the others: with main=4 bd321a3=7 both end at about the same time."""
+    more of its time is beside that of the others: with main=4 bd321a3=9 both end at about the same time."""
 from __future__ import annotations
 
 import collections.abc
