@@ -56,6 +56,10 @@ pub mod rect_to_insert {
 pub mod target_bin {
     pub use rectangle_pack_bins::target_bin::{PushBinSectionError, TargetBin};
     pub use rectangle_pack_lists::fit_tests::FitTests;
+    pub use rectangle_pack_lists::laws::{
+        joining_has_one_result, joining_keeps_cells, joining_stays_within_the_list,
+        step_adds_at_most_two, sweep_leaves_no_face, trial_keeps_cells, trial_tests_are_bounded,
+    };
 }
 
 /// Sizes.
@@ -84,18 +88,14 @@ pub use pack::{
 };
 pub use packed_location::{PackedLocation, RotatedBy};
 pub use rect_to_insert::RectToInsert;
-pub use rectangle_pack_lists::laws::{
-    joining_has_one_result, joining_keeps_cells, joining_stays_within_the_list,
-    step_adds_at_most_two, sweep_leaves_no_face, trial_keeps_cells, trial_tests_are_bounded,
-};
-pub use rectangle_pack_plans::cut_plan::CutStep;
-pub use rectangle_pack_plans::cut_plan::laws::{
-    cuts_cover_bins, cuts_have_open_planes, open_planes_split_cuts, pinwheel_is_not_from_cuts,
-    plans_are_unique,
-};
-pub use rectangle_pack_sections::axis::Axis;
 pub use session::{
-    BinStats, Command, Outstanding, Packed, Reply, Session, SessionError, transitions_keep_sessions,
+    Axis, BinStats, Command, CutStep, Outstanding, Packed, Reply, Session, SessionError,
+    cuts_cover_bins, cuts_have_open_planes, open_planes_split_cuts, pinwheel_is_not_from_cuts,
+    plans_are_unique, transitions_keep_sessions,
 };
-pub use target_bin::{FitTests, PushBinSectionError, TargetBin};
+pub use target_bin::{
+    FitTests, PushBinSectionError, TargetBin, joining_has_one_result, joining_keeps_cells,
+    joining_stays_within_the_list, step_adds_at_most_two, sweep_leaves_no_face, trial_keeps_cells,
+    trial_tests_are_bounded,
+};
 pub use width_height_depth::{WidthHeightDepth, sizes_are_ordered};

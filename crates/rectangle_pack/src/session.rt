@@ -34,6 +34,12 @@ use rectangle_pack_bins::target_bin::{TargetBin, coalesce_all_in, was_coalesced}
 use rectangle_pack_groups::grouped_rects_to_place::GroupedRectsToPlace;
 use rectangle_pack_groups::grouped_rects_to_place::multimap::{ascending, number_after};
 use rectangle_pack_lists::corners::Corners;
+pub use rectangle_pack_plans::cut_plan::CutStep;
+pub use rectangle_pack_plans::cut_plan::laws::{
+    cuts_cover_bins, cuts_have_open_planes, open_planes_split_cuts, pinwheel_is_not_from_cuts,
+    plans_are_unique,
+};
+pub use rectangle_pack_sections::axis::Axis;
 use rectangle_pack_sections::closures::{Closures, Policy};
 use rectangle_pack_sections::group::Group;
 use rectangle_pack_sections::width_height_depth::WidthHeightDepth;
