@@ -160,7 +160,9 @@ where
 
 /// `pack_rects`, with its fit tests added to `tests`: for a group that is placed those of its
 /// trials in the bins up to its own, for a group that is refused those of its trials in all bins.
-/// In a bin that is excluded no trial is made. `OutOfMemory` adds some number of tests.
+/// In a bin that is excluded no trial is made. Counted is what a look at one section after another
+/// would test, as `FitTests` says, also where the code tests fewer. `OutOfMemory` adds some number
+/// of tests.
 ///
 /// With n entries in the groups it is never more than n tests for each free section of before and
 /// n * (n - 1) for each bin, also where memory is refused. The counter stays at the greatest

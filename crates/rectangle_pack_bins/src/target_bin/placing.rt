@@ -27,8 +27,10 @@ impl<A: Allocator + Copy> TargetBin<A> {
     ///
     /// The caller sees to it that the heuristic may be called on every size, and the comparison on
     /// every two triples of sizes with this heuristic. The counter grows by the fit tests of the
-    /// trial: for m members in a list of s sections by at most m * s + m * (m - 1). An error is
-    /// want of memory, and then the counter stays; without members no memory is taken.
+    /// trial: for m members in a list of s sections by at most m * s + m * (m - 1). It counts what a
+    /// look at one section after another would test, as `FitTests` says, also where the code tests
+    /// fewer. An error is want of memory, and then the counter stays; without members no memory is
+    /// taken.
     pub fn place_all<H, C>(
         &mut self,
         members: &[RectToInsert],
