@@ -201,16 +201,18 @@ class Pages(Case):
     def check_cuts(self, sheet: Any, cuts: Any, panels: list[tuple[int, ...]]) -> None:
         """Each cut is inside its part, and through none of the panels."""
         self.assertEqual(len(cuts), len(sheet["cuts"]))
-        for (axis, place, (at, size)), printed in zip(cuts, sheet["cuts"]):
-            part, index = printed["part"], "xy".index(axis)
-            self.assertEqual((axis, at[:2]), (printed["axis"], (10 * part["x"], 10 * part["y"])))
+        for cut, printed in zip(cuts, sheet["cuts"]):
+            (near, far), (at, size), part = cut.blade, cut.part, printed["part"]
+            index = "xy".index(cut.step.axis)
+            self.assertEqual((cut.step.axis, at[:2]), (printed["axis"], (10 * part["x"], 10 * part["y"])))
             self.assertEqual(size, (10 * part["width"], 10 * part["height"], 1))
-            self.assertTrue(at[index] < place < at[index] + size[index])
-            self.assertIn(place, [10 * it for it in printed["blade"]])
+            self.assertTrue(at[index] <= near < far <= at[index] + size[index])
+            blade = [10 * it for it in printed["blade"]]
+            self.assertEqual([near, far], [max(blade[0], at[index]), min(blade[1], at[index] + size[index])])
             other = 1 - index
             for it in panels:
                 beside = it[other] >= at[other] + size[other] or it[other] + it[3 + other] <= at[other]
-                self.assertTrue(beside or place <= it[index] or place >= it[index] + it[3 + index])
+                self.assertTrue(beside or far <= it[index] or near >= it[index] + it[3 + index])
 
     def test_in_whole_millimetres(self) -> None:
         _, scene = self.scene(f"{HEAD}a,1,10,10,\n", f"{SHEETS}s,,20,20,1\n", "--kerf", 3)

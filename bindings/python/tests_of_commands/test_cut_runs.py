@@ -11,11 +11,13 @@ import subprocess
 import sys
 import tempfile
 import unittest
-from collections.abc import Iterator, Sequence
+from collections.abc import Sequence
 from dataclasses import dataclass, field
 from fractions import Fraction
 from pathlib import Path
 from typing import Any
+
+from .cut_steps import NUMBER, Piece, Step, check_page, steps_in
 
 try:
     from rectangle_pack import commands
@@ -26,10 +28,6 @@ PYTHON = Path(__file__).resolve().parent.parent
 
 Size = tuple[Fraction, Fraction]
 
-NUMBER = r"(\d+(?:\.\d+)?)"
-STEP = re.compile(
-    rf" *(\d+)\. ([A-Z]+) {NUMBER} x {NUMBER}: (?:cut across ([xy]) at {NUMBER}|trim {NUMBER} off the (\w+)) -> (.*)")
-PART = re.compile(rf'(?:(panel|offcut) "(.*?)"|(waste)|([A-Z]+)) {NUMBER} x {NUMBER}( \(turned\))?(?:, |$)')
 HEADING = re.compile(rf"Sheet (\d+) of (\d+): (.*), {NUMBER} x {NUMBER} mm")
 UNCUT = re.compile(rf'Nothing is cut: the sheet is panel "(.*)" {NUMBER} x {NUMBER}( \(turned\))?')
 
@@ -54,6 +52,17 @@ class Run:
         return [path.read_text(encoding="utf-8") for path in paths]
 
 
+def run_cut(folder: Path, *words: object) -> Run:
+    """Runs the command in this process, for plans in a folder."""
+    texts = io.StringIO(), io.StringIO()
+    with contextlib.redirect_stdout(texts[0]), contextlib.redirect_stderr(texts[1]):
+        try:
+            status = commands.main(["cut", *map(str, words), "--out", str(folder)])
+        except SystemExit as end:
+            status = int(end.code or 0)
+    return Run(status, texts[0].getvalue(), texts[1].getvalue(), folder)
+
+
 class Case(unittest.TestCase):
     """A test with a folder of its own."""
 
@@ -68,15 +77,17 @@ class Case(unittest.TestCase):
         return path
 
     def cut(self, *words: object, out: str = "plan", pdf: bool = False) -> Run:
-        """Runs the command in this process."""
-        folder, texts = self.folder / out, (io.StringIO(), io.StringIO())
-        whole = ["cut", *map(str, words), "--out", str(folder), *([] if pdf else ["--no-pdf"])]
-        with contextlib.redirect_stdout(texts[0]), contextlib.redirect_stderr(texts[1]):
-            try:
-                status = commands.main(whole)
-            except SystemExit as end:
-                status = int(end.code or 0)
-        return Run(status, texts[0].getvalue(), texts[1].getvalue(), folder)
+        """Runs the command in this process. Its page says what its texts say."""
+        words = (*words, *([] if pdf else ["--no-pdf"]))
+        if "--page" in words:
+            return run_cut(self.folder / out, *words)
+        with tempfile.TemporaryDirectory() as aside:
+            page = Path(aside) / "page.html"
+            run = run_cut(self.folder / out, *words, "--page", page)
+            self.assertEqual(page.exists(), run.status == 0)
+            if page.exists():
+                check_page(self, page, run.folder)
+        return run
 
     def cut_tables(self, panels: str, stock: str, *words: object, offcuts: str = "", **named: Any) -> Run:
         """Runs the command on these tables."""
@@ -126,29 +137,21 @@ def _split(size: Size, axis: str, near: Fraction, far: Fraction) -> list[Size]:
     return [(it, size[1]) if axis == "x" else (size[0], it) for it in left]
 
 
-def _blade(step: re.Match[str], size: Size, kerf: Fraction) -> tuple[str, Fraction, Fraction]:
+def _blade(step: Step, size: Size, kerf: Fraction) -> tuple[str, Fraction, Fraction]:
     """The axis, and what the blade takes, from the part's left or lower edge."""
-    axis, at, trim, edge = step.group(5), step.group(6), step.group(7), step.group(8)
-    if axis:
-        near = Fraction(at)
-        assert 0 < near < (size[0] if axis == "x" else size[1]), "a cut beside the part"
-        return axis, near, near + kerf
-    axis = "x" if edge in ("left", "right") else "y"
-    if edge in ("left", "bottom"):
-        return axis, Fraction(trim) - kerf, Fraction(trim)
-    near = (size[0] if axis == "x" else size[1]) - Fraction(trim)
+    length = Fraction(step.length)
+    if step.where in ("x", "y"):
+        assert 0 < length < (size[0] if step.where == "x" else size[1]), "a cut beside the part"
+        return step.where, length, length + kerf
+    axis = "x" if step.where in ("left", "right") else "y"
+    if step.where in ("left", "bottom"):
+        return axis, length - kerf, length
+    near = (size[0] if axis == "x" else size[1]) - length
     return axis, near, near + kerf
 
 
-def _parts(text: str) -> Iterator[tuple[str, str, Size, bool]]:
-    """The parts that a step names: role, name, size, and whether it is turned."""
-    at = 0
-    while at < len(text):
-        part = PART.match(text, at)
-        assert part, f"not a list of parts: {text!r}"
-        role, size = part.group(1) or part.group(3) or "part", (Fraction(part.group(5)), Fraction(part.group(6)))
-        yield role, part.group(2) or part.group(4) or "", size, bool(part.group(7))
-        at = part.end()
+def _size(piece: Piece) -> Size:
+    return Fraction(piece.width), Fraction(piece.height)
 
 
 def saw(text: str, kerf: Fraction, size: Size) -> Sawn:
@@ -156,26 +159,26 @@ def saw(text: str, kerf: Fraction, size: Size) -> Sawn:
     heading = HEADING.fullmatch(text.splitlines()[0])
     assert heading and (Fraction(heading.group(4)), Fraction(heading.group(5))) == size, "another sheet"
     sawn, table = Sawn(heading.group(3), size), {"A": size}
-    steps = [step for line in text.splitlines() if (step := STEP.fullmatch(line))]
+    steps = steps_in(text.splitlines())
     for number, step in enumerate(steps, 1):
-        assert int(step.group(1)) == number, "steps are not numbered in order"
-        part = table.pop(step.group(2))
-        assert part == (Fraction(step.group(3)), Fraction(step.group(4))), "the part has another size"
+        assert int(step.number) == number, "steps are not numbered in order"
+        part = table.pop(step.piece.name)
+        assert part == _size(step.piece), "the part has another size"
         axis, near, far = _blade(step, part, kerf)
-        left, named = _split(part, axis, near, far), list(_parts(step.group(9)))
-        assert left == [it[2] for it in named], f"step {number} leaves {left}"
+        left = _split(part, axis, near, far)
+        assert left == [_size(it) for it in step.leaves], f"step {number} leaves {left}"
         sawn.cuts += 1
         sawn.length += part[1] if axis == "x" else part[0]
-        for role, name, its_size, is_turned in named:
-            if role == "part":
-                assert name not in table, "two parts with one letter"
-                table[name] = its_size
-            elif role == "panel":
-                sawn.panels.append((name, its_size, is_turned))
-            elif role == "offcut":
-                sawn.offcuts.append((name, its_size))
+        for it in step.leaves:
+            if it.role == "part":
+                assert it.name not in table, "two parts with one letter"
+                table[it.name] = _size(it)
+            elif it.role == "panel":
+                sawn.panels.append((it.name, _size(it), it.is_turned))
+            elif it.role == "offcut":
+                sawn.offcuts.append((it.name, _size(it)))
             else:
-                sawn.waste.append(its_size)
+                sawn.waste.append(_size(it))
     uncut = [line for line in map(UNCUT.fullmatch, text.splitlines()) if line]
     if not steps and uncut:
         sawn.panels.append((uncut[0].group(1), table.pop("A"), bool(uncut[0].group(4))))

@@ -82,6 +82,8 @@ class Saw(Case):
             self.assertEqual(far - near, kerf)
             self.assertTrue(near < end and far > start)
             self.assertEqual(cut["at"], near - start)
+            gone = {"left": far - start, "bottom": far - start, "right": end - near, "top": end - near, None: None}
+            self.assertEqual(cut["off"], gone[cut["trims"]])
             ends = [(start, min(near, end)), (max(far, start), end)]
             if cut["axis"] == "x":
                 left = [(low, y, high - low, height) for low, high in ends if high > low]
@@ -182,11 +184,32 @@ class ByHand(Case):
         self.assertIn('1. A 223.2 x 100: cut across x at 100 -> panel "a" 100 x 100, B 120 x 100\n', text)
 
     def test_a_blade_that_takes_the_end_of_a_part(self) -> None:
-        # 1 and 2 are less than the kerf: nothing is left behind the blade.
+        # 1 and 2 are less than the kerf: nothing is left behind the blade, so these are trims.
         [text] = self.sheets("a,1,100,50,keep\n", "s,,101,52,1\n", "--kerf", "3")
-        steps = [line for line in text.splitlines() if "cut across" in line and "->" in line]
-        self.assertEqual(len(steps), 2)
-        self.assertTrue(steps[1].endswith('-> panel "a" 100 x 50'), steps)
+        self.assertIn('2 off the top -> ', text)
+        self.assertIn('1 off the right -> ', text)
+        [last] = [line for line in text.splitlines() if line.startswith("2. ")]
+        self.assertTrue(last.endswith('-> panel "a" 100 x 50'), last)
+        self.assertNotIn(": cut across", text)
+
+    def test_a_strip_that_is_narrower_than_the_blade(self) -> None:
+        # Above the panel 5.9, 6 and 6.1 are left, of which the blade takes 3.
+        for height, step in (
+            ("55.9", 'trim 5.9 off the top -> panel "a" 100 x 50, waste 100 x 2.9'),
+            ("56", 'cut across y at 50 -> panel "a" 100 x 50, waste 100 x 3'),
+            ("56.1", 'cut across y at 50 -> panel "a" 100 x 50, waste 100 x 3.1'),
+        ):
+            [text] = self.sheets("a,1,100,50,keep\n", f"s,,100,{height},1\n", "--kerf", "3")
+            self.assertIn(f"1. A 100 x {height}: {step}\n", text)
+        # One that is worth keeping is no trim.
+        [text] = self.sheets("a,1,100,50,keep\n", "s,,100,55,1\n", "--kerf", "3", "--keep", "0x0")
+        self.assertIn('1. A 100 x 55: cut across y at 50 -> panel "a" 100 x 50, offcut "s 1-1" 100 x 2\n', text)
+
+    def test_a_trim_inside_of_the_sheet_is_counted_from_its_part(self) -> None:
+        # B begins at 103 of the sheet. Of its 41, 1 is more than the panel, and less than the blade.
+        [text] = self.sheets("a,1,100,100,keep\nb,1,40,100,keep\n", "s,,144,100,1\n", "--kerf", "3")
+        self.assertIn('1. A 144 x 100: cut across x at 100 -> panel "a" 100 x 100, B 41 x 100\n'
+                      '2. B 41 x 100: trim 1 off the right -> panel "b" 40 x 100\n', text)
 
     def test_a_trim_that_is_narrower_than_the_blade(self) -> None:
         [text] = self.sheets("a,1,100,50,keep\n", "s,,104,54,1\n", "--kerf", "3", "--trim", "2")

@@ -2,14 +2,15 @@
 from __future__ import annotations
 
 import base64
+import dataclasses
 import hashlib
 import json
 import re
 import shutil
 import subprocess
 import unittest
-from html.parser import HTMLParser
 
+from .parsed import Parsed
 from .test_view_tools import EXAMPLES, PARTS, TOP, ViewCase, cut_scene, example, replay, run, run_alone, table, with_everything
 
 from rectangle_pack.commands._common import Wrong
@@ -20,32 +21,6 @@ from rectangle_pack.commands.view import write_page
 
 # Attributes that make a browser fetch something.
 FETCHING = {"src", "href", "srcset", "action", "formaction", "poster", "background", "ping", "data", "manifest", "icon"}
-
-
-class Parsed(HTMLParser):
-    """The elements of a page, and the text in those that have no elements."""
-
-    def __init__(self, page: str) -> None:
-        super().__init__()
-        self.elements: list[tuple[str, dict[str, str]]] = []
-        self.texts: list[tuple[str, dict[str, str], str]] = []
-        self.feed(page)
-        self.close()
-
-    def handle_starttag(self, tag: str, attrs: list[tuple[str, str | None]]) -> None:
-        self.elements.append((tag, {name: value or "" for name, value in attrs}))
-
-    def handle_data(self, data: str) -> None:
-        if self.elements:
-            self.texts.append((*self.elements[-1], data))
-
-    def text(self, tag: str, **having: str) -> str:
-        """The text of the only element of this kind."""
-        found = [
-            text for name, attributes, text in self.texts
-            if name == tag and (having.items() <= attributes.items() if having else not attributes) and text.strip()]
-        assert len(found) == 1, (tag, having, len(found))
-        return found[0]
 
 
 def scenes() -> list[Scene]:
@@ -59,7 +34,8 @@ def scenes() -> list[Scene]:
 def settled(scene: Scene) -> object:
     """The scene with lists in place of all sequences, so that two can be compared."""
     return json.loads(json.dumps([
-        scene.title, scene.unit, scene.kerf, scene.facts, [vars(it) for it in scene.rooms], scene.cuts,
+        scene.title, scene.unit, scene.facts, [vars(it) for it in scene.rooms],
+        {name: [dataclasses.asdict(cut) for cut in cuts] for name, cuts in scene.cuts.items()},
         [{**vars(step), "placed": [vars(it) for it in step.placed]} for step in scene.steps]]))
 
 

@@ -3,10 +3,12 @@ from __future__ import annotations
 
 import re
 import unittest
+from decimal import Decimal
 
 from .test_view_tools import EXAMPLES, TOP, ViewCase, cells_of, run, table, unpacked
 
 from rectangle_pack.commands._scene import Item, Scene
+from rectangle_pack.commands._view._drawings import read_drawings
 from rectangle_pack.commands._view._overlaps import first_overlap
 
 
@@ -58,7 +60,7 @@ class Examples(unittest.TestCase):
         text = text_of("panels")
         *others, scene = table(text)
         self.assertEqual([dict(it.cuts) for it in others], [{}, {}])
-        self.assertEqual(scene.kerf, 0)
+        self.assertEqual({cut.step.kerf for cuts in scene.cuts.values() for cut in cuts}, {"0"})
         plans = [it.split("\n") for it in text.split("-- sheet ")[1:]]
         cut = [f"sheet-{number}" for number, *lines in plans if any(" cut " in it for it in lines)]
         self.assertEqual(list(scene.cuts), cut)
@@ -71,6 +73,21 @@ class Examples(unittest.TestCase):
             self.assertEqual(len(leaves - panels), sum("is an offcut" in line for line in lines))
             sizes = sorted(numbers(it) for it in rows("\n".join(lines), r"(\d+) x (\d+) +is "))
             self.assertEqual(sorted((size[0], size[1]) for _, size in leaves), sizes)
+
+    def test_cuts_say_what_the_lines_of_the_table_say(self) -> None:
+        """Each is counted from the edge of its part, in the unit that is asked for."""
+        for unit, decimals in (("mm", 0), ("0.01 mm", 2)):
+            scene = read_drawings(text_of("panels").encode(), "stdout", "panels", unit)[-1]
+            for number, *lines in (it.split("\n") for it in text_of("panels").split("-- sheet ")[1:]):
+                cuts, plan = scene.cuts.get(f"sheet-{number}", []), "\n".join(lines)
+                found = rows(plan, r"^ +\d+\. +(\d+) x (\d+) +cut (\d+) mm from (below|the left)$")
+                self.assertEqual([(it.step.piece.width, it.step.piece.height, it.step.at) for it in cuts],
+                                 [tuple(f"{Decimal(size).scaleb(-decimals).normalize():f}" for size in it[:3]) for it in found])
+                self.assertEqual([it.step.axis for it in cuts], ["y" if it[3] == "below" else "x" for it in found])
+                leaves = [piece for it in cuts for piece in it.step.leaves if piece.role != "part"]
+                ends = [(*(f"{Decimal(size).scaleb(-decimals).normalize():f}" for size in it[:2]), it[2])
+                        for it in rows(plan, r"^ +\d+\. +(\d+) x (\d+) +is (.*)$") if cuts]
+                self.assertEqual(sorted((it.width, it.height, it.name or "an offcut") for it in leaves), sorted(ends))
 
 
 class Rows(ViewCase):
@@ -118,6 +135,7 @@ class Rows(ViewCase):
             ("bin a 9 9 9\n18446744073709551616 x a 0 0 0 5 5 5\n", 2, "18446744073709551615"),
             (plan + "  2. 4 x 2  is x\n", 4, "has come to a part of 4 x 1"),
             (plan + "  2. 4 x 1  cut 4 mm from the left\n", 4, "not inside its part"),
+            (plan + "  2. 4 x 1  cut 0 mm from the left\n", 4, "not inside its part"),
             (plan + "  2. 4 x 1  is x\n  3. 4 x 3  is y\n  4. 1 x 1  is z\n", 6, "has ended"),
         ):
             with self.subTest(why=why):

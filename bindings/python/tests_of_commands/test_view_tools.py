@@ -20,13 +20,14 @@ except OSError as why:
     raise unittest.SkipTest(f"the shared library is not there: {why}") from None
 
 from rectangle_pack import Bin, Box, Session, commands
+from rectangle_pack.commands._sawing import FlatAxis, Piece, SawStep
 from rectangle_pack.commands._scene import Item, Part, PartCut, Room, Scene, Step
 from rectangle_pack.commands._view._drawings import read_drawings
 from rectangle_pack.commands._view._replay import replayed
 
 __all__ = [
-    "EXAMPLES", "PARTS", "PYTHON", "TOP", "Run", "ViewCase", "cells_of", "cut_scene", "example", "replay", "run", "run_alone",
-    "table", "unpacked", "with_everything",
+    "EXAMPLES", "PARTS", "PYTHON", "TOP", "Run", "ViewCase", "cells_of", "cut_scene", "example", "halves", "replay", "run",
+    "run_alone", "table", "unpacked", "with_everything",
 ]
 
 # The folder of the page's parts, as the package finds it.
@@ -89,33 +90,39 @@ def cells_of(part: Part) -> set[tuple[int, int, int]]:
     return {(i, j, k) for i in range(x, x + width) for j in range(y, y + height) for k in range(z, z + depth)}
 
 
-def unpacked(cuts: list[PartCut], whole: Part, kerf: int = 0) -> set[Part]:
+def halves(part: Part, axis: FlatAxis, near: int, far: int) -> tuple[Part, Part]:
+    """What is left of a part before the blade and behind it."""
+    (x, y, z), (width, height, depth) = part
+    if axis == "x":
+        return (part[0], (near - x, height, depth)), ((far, y, z), (x + width - far, height, depth))
+    return (part[0], (width, near - y, depth)), ((x, far, z), (width, y + height - far, depth))
+
+
+def unpacked(cuts: list[PartCut], whole: Part) -> set[Part]:
     """The parts that cuts leave. Each cut has to be inside a part that is there."""
     parts = {whole}
-    for axis, place, part in cuts:
-        i, (at, size) = "xyz".index(axis), part
-        assert part in parts and at[i] < place and place + kerf <= at[i] + size[i], (axis, place, part)
-        parts.remove(part)
-        for low, high in ((at[i], place), (place + kerf, at[i] + size[i])):
-            corner, sides = list(at), list(size)
-            corner[i], sides[i] = low, high - low
-            parts.add(((corner[0], corner[1], corner[2]), (sides[0], sides[1], sides[2])))
+    for cut in cuts:
+        (near, far), (at, size), i = cut.blade, cut.part, "xy".index(cut.step.axis)
+        assert cut.part in parts and at[i] <= near <= far <= at[i] + size[i], cut
+        parts.remove(cut.part)
+        parts |= {it for it in halves(cut.part, cut.step.axis, near, far) if 0 not in it[1]}
     return parts
 
 
 def _cuts_of(session: Session[str], name: str, size: tuple[int, int, int]) -> list[PartCut]:
-    """The cutting plan of a bin, each cut with its part."""
+    """The cutting plan of a bin, each cut with its part. The saw takes nothing away."""
     cuts: list[PartCut] = []
     waiting: list[Part] = [((0, 0, 0), size)]
     for step in session.cut_plan(name) or []:
-        at, sides = waiting.pop()
+        part = waiting.pop()
         if isinstance(step, rectangle_pack.Cut):
-            i = "xyz".index(step.axis)
-            cuts.append((step.axis, step.place, (at, sides)))
-            lower, upper, corner = list(sides), list(sides), list(at)
-            lower[i], upper[i], corner[i] = step.place - at[i], at[i] + sides[i] - step.place, step.place
-            waiting.append(((corner[0], corner[1], corner[2]), (upper[0], upper[1], upper[2])))
-            waiting.append((at, (lower[0], lower[1], lower[2])))
+            axis: FlatAxis = "x" if step.axis == "x" else "y"
+            leaves = halves(part, axis, step.place, step.place)
+            pieces = [Piece("part", "", str(width), str(height)) for _, (width, height, _) in (part, *leaves)]
+            at = str(step.place - part[0]["xy".index(axis)])
+            said = SawStep(len(cuts) + 1, pieces[0], axis, at, "0", pieces[1:])
+            cuts.append(PartCut(said, (step.place, step.place), part))
+            waiting += reversed(leaves)
     return cuts
 
 
@@ -133,7 +140,7 @@ def cut_scene() -> Scene:
         free = {name: [(it[:3], it[3:]) for it in session.free_sections(name)] for name in session.bins()}
     steps = [Step(f"{name}: panels", [it for it in items if it.bin == name], (), {name: free[name]}) for name in cuts]
     facts = [("sheets", "2"), ("waste", "31 %")]
-    return Scene("panels </script><!-- & 'all'", [Room(name, size) for name in cuts], steps, cuts, "mm", facts, 0)
+    return Scene("panels </script><!-- & 'all'", [Room(name, size) for name in cuts], steps, cuts, "mm", facts)
 
 
 def with_everything() -> Scene:
@@ -152,8 +159,14 @@ def with_everything() -> Scene:
         Step("pack", items[3:], [items[0].number], {"__proto__": [parts[1], parts[0]]}),
         Step("?", refused=True, answer=["refused: a", "b"], free={"__proto__": [parts[1], whole, parts[0]], "page": []}),
     ]
-    cuts = {"__proto__": [("x", 3, whole)]}
-    return Scene("a <title> & more", rooms, steps, cuts, "0.1 mm", [("waste", "<5 %")], 2)
+    pieces = [
+        Piece("part", "<A>", "0.7", "0.7"), Piece("panel", '<b> "one"', "0.3", "0.7", True), Piece("part", "", "0.2", "0.7")]
+    left = [Piece("waste", "", "0.2", "0.1"), Piece("offcut", "</script>", "0.2", "0.4")]
+    cuts = {"__proto__": [
+        PartCut(SawStep(1, pieces[0], "x", "0.3", "0.2", pieces[1:]), (3, 5), whole),
+        PartCut(SawStep(2, pieces[2], "y", "", "0.2", left, "bottom", "0.3"), (1, 3), ((5, 0, 0), (2, 7, 1))),
+    ]}
+    return Scene("a <title> & more", rooms, steps, cuts, "0.1 mm", [("waste", "<5 %")])
 
 
 class ViewCase(unittest.TestCase):

@@ -2,18 +2,19 @@
 from __future__ import annotations
 
 import dataclasses
+import re
 from collections.abc import Mapping, Sequence
 
-__all__ = ["Item", "Part", "PartCut", "Room", "Scene", "Step", "Triple"]
+from ._sawing import SawStep
+from ._scale import Scale
+
+__all__ = ["Item", "Part", "PartCut", "Room", "Scene", "Step", "Triple", "scale_of"]
 
 # A corner and a size, along x, y and z. A page that is flat has the depth 1.
 Triple = tuple[int, int, int]
 
 # A box of cells: its corner and its size.
 Part = tuple[Triple, Triple]
-
-# A straight cut through a whole part: its axis, its place as counted from the corner of the bin, and the part.
-PartCut = tuple[str, int, Part]
 
 
 @dataclasses.dataclass(frozen=True)
@@ -57,8 +58,18 @@ class Step:
 
 
 @dataclasses.dataclass(frozen=True)
+class PartCut:
+    """A straight cut through a whole part: what is written of it, and where it is drawn."""
+
+    step: SawStep
+    # From where to where the blade takes something of the part, counted from the corner of the bin, as the part is.
+    blade: tuple[int, int]
+    part: Part
+
+
+@dataclasses.dataclass(frozen=True)
 class Scene:
-    """Bins, steps, and for each bin that is sawn apart the cuts in order: axis, place, and the part that is cut."""
+    """Bins, steps, and for each bin that is sawn apart the cuts in order."""
 
     title: str
     rooms: Sequence[Room]
@@ -68,6 +79,9 @@ class Scene:
     unit: str = "cells"
     # What two things are to be said of the whole: ("waste", "12 %").
     facts: Sequence[tuple[str, str]] = ()
-    # How many cells a saw takes away, from the place of a cut on. Where this is not known, the page does not say how large the
-    # parts are that a cut leaves.
-    kerf: int | None = None
+
+
+def scale_of(unit: str) -> Scale:
+    """How lengths are told in a unit: where it is a part of one, as "0.1 mm", in mm."""
+    part = re.fullmatch(r"0\.(0*1) .+", unit)
+    return Scale(len(part[1]) if part else 0)

@@ -79,8 +79,8 @@ def add_to(commands: Any) -> None:
     it.add_argument("--json", action="store_true",
                     help="prints all that was decided as one JSON object: sums, used, offcuts_left, sheets (each with panels, "
                     "offcuts and cuts), files. Lengths are in mm, areas in square mm; at of a cut is counted from its part's "
-                    "edge, blade (its near and far side) and all else from the left lower corner of the sheet; line counts "
-                    "the head of a table as line 1")
+                    "edge, off is what a trim takes off, blade (its near and far side) and all else are counted from the left "
+                    "lower corner of the sheet; line counts the head of a table as line 1")
     it.add_argument("--page", type=Path, metavar="FILE", help="writes an HTML page on which to step through the cuts")
     it.set_defaults(run=run)
 

@@ -58,7 +58,8 @@ def add_to(commands: argparse._SubParsersAction[argparse.ArgumentParser]) -> Non
     it.add_argument("--unit", default="cells", help="what one cell is, as mm, or 0.1 mm where it is a tenth of one (cells)")
     it.add_argument("--json", action="store_true",
                     help="also print what the page shows, for programs, as JSON: page, and scenes with rooms, steps and cuts; "
-                    "at of a box is [x, y, z, w, h, d]")
+                    "at of a box is [x, y, z, w, h, d]; a cut has its step, with lengths as they are written, and the part and "
+                    "the sides of the blade as they are drawn")
     it.set_defaults(run=_run)
 
 

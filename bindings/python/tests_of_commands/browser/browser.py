@@ -104,15 +104,18 @@ class BrowserCase(ViewCase):
 
     def open(self, *scenes: Scene, size: tuple[int, int] = DESK, colours: str = "light", motion: str = "no-preference") -> None:
         """Opens the page of scenes in a window of this size, for a reader who prefers these colours and this motion."""
+        self.show(self.file("page.html", page_of(scenes[0].title, scenes)), size, colours, motion)
+
+    def show(self, page: Path, size: tuple[int, int] = DESK, colours: str = "light", motion: str = "no-preference") -> None:
+        """Opens a page that is written."""
         self.told("Emulation.setDeviceMetricsOverride", {
             "width": size[0], "height": size[1], "deviceScaleFactor": 1, "mobile": size == PHONE})
         self.told("Emulation.setTouchEmulationEnabled", {"enabled": size == PHONE})
         self.prefer(colours, motion)
-        path = self.file("page.html", page_of(scenes[0].title, scenes))
         # What was told before is of another page.
         self.told_of("browser")
         self.told_of("performance")
-        self.driver.get(path.as_uri())
+        self.driver.get(page.as_uri())
         self.settle()
         self.stage: list[float] = self.js(STAGE)
 
@@ -165,11 +168,11 @@ class BrowserCase(ViewCase):
         return found
 
     def wait_for(self, id: str, text: str) -> None:
-        """Waits until an element has a text: what is spoken comes a moment later."""
+        """Waits until an element has a text: what is spoken comes a moment later. All spaces count alike."""
         try:
-            WebDriverWait(self.driver, 5, 0.05).until(lambda _: self.text(id) == text)
+            WebDriverWait(self.driver, 5, 0.05).until(lambda _: self.text(id).replace("\u00a0", " ") == text)
         except WebDriverException:
-            self.assertEqual(self.text(id), text)
+            self.assertEqual(self.text(id).replace("\u00a0", " "), text)
 
     def rows(self) -> list[Row]:
         return [Row(number, name, bin, tuple(rest), now) for number, name, bin, *rest, now in self.js(ROWS)]

@@ -1,9 +1,9 @@
-"""The page in a browser: gone through step by step and cut by cut, searched, and its boxes pointed at."""
+"""The page in a browser: gone through step by step, searched, and its boxes pointed at."""
 from __future__ import annotations
 
 import unittest
 
-from ..test_view_tools import EXAMPLES, cut_scene, replay, with_everything
+from ..test_view_tools import EXAMPLES, replay
 from .browser import BrowserCase, Keys, Row, program, session, standing
 
 from rectangle_pack.commands._scene import Item, Room, Scene, Step
@@ -128,41 +128,6 @@ class Steps(BrowserCase):
             self.check_step(scene, len(scene.steps) - 1)
             self.keys("j", "+", "+", Keys.ARROW_LEFT, "v", "j", "l", "0")
             self.assert_quiet()
-
-
-class Cuts(BrowserCase):
-    def test_a_plan_is_gone_through_cut_by_cut(self) -> None:
-        for scene in (cut_scene(), program("panels")[2]):
-            self.open(scene)
-            whole = self.picture()
-            self.click("cutting")
-            cuts = [(name, *cut) for name, plan in scene.cuts.items() for cut in plan]
-            pictures = {whole}
-            for index, (name, axis, place, (_, size)) in enumerate(cuts[:14]):
-                self.assertEqual(self.text("place"), f"cut {index + 1} / {len(cuts)}")
-                pictures.add(self.picture())
-                said = f"across {axis} at {place} of {size[0]} × {size[1]} {scene.unit}."
-                parts = [[side for side in size[:2]] for _ in range(2)]
-                at = cuts[index][3][0]["xy".index(axis)]
-                parts[0]["xy".index(axis)] = place - at
-                parts[1]["xy".index(axis)] -= place - at
-                leaves = " It leaves {} × {} and {} × {}.".format(*parts[0], *parts[1])
-                number = [it[0] for it in cuts[:index + 1]].count(name)
-                self.wait_for("status", f"Cut {number} of {len(scene.cuts[name])} in {name}: {said}{leaves}")
-                self.keys("n")
-            self.assertEqual(len(pictures), 15)
-            self.keys(Keys.HOME)
-            self.wait_for("status", "Before the first cut.")
-            self.keys("c")
-            self.assertEqual(self.text("step-title"), "Step")
-            self.assert_quiet()
-
-    def test_a_saw_of_some_width(self) -> None:
-        scene = with_everything()
-        self.open(scene)
-        self.keys("c")
-        # A cell is 0.1 mm: the saw takes 0.2 mm from 0.3 on, of 0.7.
-        self.wait_for("status", "Cut 1 of 1 in __proto__: across x at 0.3 of 0.7 × 0.7 mm. It leaves 0.3 × 0.7 and 0.2 × 0.7.")
 
 
 class Find(BrowserCase):

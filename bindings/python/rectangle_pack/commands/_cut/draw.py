@@ -1,113 +1,23 @@
 """The drawing of a sheet, to scale, on a page of A4."""
 from __future__ import annotations
 
-from collections import Counter
-from collections.abc import Iterator, Sequence
-from dataclasses import dataclass
+from collections.abc import Iterator
 from decimal import Decimal
 
 from .label import Words, label
+from .layout import (
+    FACTS_AT, LEGEND_LINE, LEGEND_SIZE, LONG, MARGIN, MEASURES, SHORT, SWATCH, TITLE_AT, Layout, colour_of, entries_of,
+    offcut_key, scale_text,
+)
 from .page import Area, Disc, Lines, Oblong, Page, Shape, Stroke, Text, shortened, text_width
 from .plan import Cut, Part, Rect, SheetPlan
 from .result import Result, percent
+from .steps import piece_of, steps_of
 from .text import counted, heading, metres
 
 __all__ = ["page_of"]
 
 INK, FAINT, BLADE, KEPT, WASTE, HATCH = "#1d2429", "#5d686f", "#b3261e", "#1f6b3a", "#f1f1ee", "#c9cdca"
-COLOURS = ("#bfe0ee", "#ffe3a0", "#d3e6ab", "#f9cfc3", "#e2d6ec", "#bfe0d8", "#f7e3c0", "#cfdaff",
-           "#f2cfd1", "#dcdcd0", "#ffe7c9", "#c9e2ba")
-
-LONG, SHORT, MARGIN = 297.0, 210.0, 10.0
-# Where title and facts stand; how high are the head, the measures of the sheet, the gap below it, a line of the legend, and
-# what stands below that.
-TITLE_AT, FACTS_AT, HEAD, MEASURES, GAP, LEGEND_LINE, FOOT = 14.0, 20.0, 24.0, 8.0, 5.0, 4.6, 5.0
-# A column of the legend is at least so wide. Long entries are cut short where it would have more lines than these. It takes
-# at most this part of the page. Then the size of its text, and how much room the coloured number before that takes.
-COLUMN, LEGEND_LINES, LEGEND_PART, LEGEND_SIZE, SWATCH = 45.0, 8, 0.35, 2.8, 9.0
-
-# One of these, times a power of ten, is what one millimetre of paper stands for.
-SCALES = ("1", "1.2", "1.5", "1.8", "2", "2.5", "3", "3.5", "4", "5", "6", "7", "8", "9")
-
-
-@dataclass(frozen=True)
-class _Entry:
-    """A line of the legend."""
-
-    key: str
-    text: str
-    colour: str
-    is_offcut: bool = False
-
-
-def _entries(result: Result, plan: SheetPlan) -> list[_Entry]:
-    """Which panels are on the sheet, by the lines of the list, and then the offcuts."""
-    lengths, counts = result.job.lengths, Counter(part.laid.panel.key for part in plan.panels if part.laid)
-    panels = {part.laid.panel.key: part.laid.panel for part in plan.panels if part.laid}
-    entries = []
-    for key in sorted(counts):
-        text = f"{counts[key]} x {panels[key].title}, {lengths.size(panels[key].width, panels[key].height)}"
-        entries.append(_Entry(str(key), text, _colour(key)))
-    for number, part in enumerate(plan.offcuts, 1):
-        text = f"offcut {part.name}, {lengths.size(part.rect.width, part.rect.height)}"
-        entries.append(_Entry(_offcut_key(plan, number), text, "#ffffff", True))
-    return entries
-
-
-def _colour(key: int) -> str:
-    return COLOURS[(key - 1) % len(COLOURS)]
-
-
-def _offcut_key(plan: SheetPlan, number: int) -> str:
-    """The end of its name."""
-    return f"{plan.number}-{number}"
-
-
-class _Layout:
-    """Where things stand on a page of this size."""
-
-    def __init__(self, width: float, height: float, entries: Sequence[_Entry], size: tuple[Decimal, Decimal]) -> None:
-        self.width, self.height, self.entries = width, height, list(entries)
-        widest = max(text_width(entry.text, LEGEND_SIZE) for entry in entries) + SWATCH + 3.5
-        whole = width - 2 * MARGIN
-        self.columns = min(max(int(whole // widest), -(-len(entries) // LEGEND_LINES)), int(whole // COLUMN))
-        most = int(height * LEGEND_PART // LEGEND_LINE) * self.columns
-        self.hidden = max(len(self.entries) - most, 0)
-        if self.hidden:
-            self.hidden += 1
-            self.entries = self.entries[:most - 1]
-        self.lines = -(-(len(self.entries) + bool(self.hidden)) // self.columns)
-        below = GAP + self.lines * LEGEND_LINE + FOOT
-        room = (width - 2 * MARGIN - MEASURES, height - HEAD - MEASURES - below - MARGIN)
-        self.scale = _scale(max(float(size[0]) / room[0], float(size[1]) / room[1]))
-        # The sheet is in the middle between left and right, and the legend below it.
-        self.x = MARGIN + MEASURES + (room[0] - float(size[0] / self.scale)) / 2
-        self.y = HEAD + MEASURES
-        self.legend = self.y + float(size[1] / self.scale) + GAP
-        self.end = self.legend + self.lines * LEGEND_LINE + FOOT
-
-    def column(self, index: int) -> Area:
-        """The place of a line of the legend: columns are filled one after the other."""
-        width = (self.width - 2 * MARGIN) / self.columns
-        across, along = divmod(index, self.lines)
-        return Area(MARGIN + across * width, self.legend + along * LEGEND_LINE, width - 2, LEGEND_LINE)
-
-
-def _scale(least: float) -> Decimal:
-    """The least scale that is not below this one."""
-    for power in range(-3, 9):
-        for scale in SCALES:
-            found = Decimal(scale).scaleb(power)
-            if found >= Decimal(least):
-                return found
-    raise AssertionError("a sheet has at most 2**32 mm")
-
-
-def _scale_text(scale: Decimal) -> str:
-    """As it is written: 1:12, or 2.5:1 where the drawing is larger than the sheet."""
-    if scale >= 1:
-        return f"1:{scale.normalize():f}"
-    return f"{(1 / scale).quantize(Decimal('0.1')).normalize():f}:1"
 
 
 def _hatch(area: Area) -> Iterator[Stroke]:
@@ -125,9 +35,9 @@ class _Drawing:
 
     def __init__(self, result: Result, plan: SheetPlan) -> None:
         self.result, self.plan, self.lengths = result, plan, result.job.lengths
-        entries = _entries(result, plan)
+        entries = entries_of(result, plan)
         size = self.mm(plan.kind.width), self.mm(plan.kind.height)
-        several = [_Layout(*paper, entries, size) for paper in ((LONG, SHORT), (SHORT, LONG))]
+        several = [Layout(*paper, entries, size) for paper in ((LONG, SHORT), (SHORT, LONG))]
         # The larger drawing; where both are as large, the page lies as the sheet does.
         self.layout = min(several, key=lambda it: (it.scale, (it.width < it.height) != (size[0] < size[1])))
         self.shapes: list[Shape] = []
@@ -153,7 +63,7 @@ class _Drawing:
         title = shortened(heading(self.result, plan), width, 4.6, is_bold=True)
         self.shapes.append(Text(MARGIN, TITLE_AT, title, 4.6, INK, is_centred=False, is_bold=True))
         facts = [
-            f"scale {_scale_text(self.layout.scale)}", f"kerf {self.lengths.text(job.kerf)}",
+            f"scale {scale_text(self.layout.scale)}", f"kerf {self.lengths.text(job.kerf)}",
             f"trim {self.lengths.text(plan.kind.trim)}", counted(len(plan.panels), "panel"),
             f"waste {percent(plan.waste, plan.kind.area)} %",
             f"{counted(len(plan.cuts), 'cut')} of {metres(job, plan.cut_length)} together",
@@ -179,11 +89,10 @@ class _Drawing:
 
     def part(self, part: Part, fill: str, colour: str, key: str, name: tuple[str, str]) -> None:
         """A panel or an offcut, with its label."""
-        area, rect = self.area(part.rect), part.rect
-        title = f"{part.role} {part.name}, {self.lengths.size(rect.width, rect.height)}"
-        title += ", turned" if part.laid and part.laid.is_turned else ""
+        area, piece = self.area(part.rect), piece_of(self.result.job, part)
+        title = f"{piece.role} {piece.name}, {piece.size}{', turned' if piece.is_turned else ''}"
         self.shapes.append(Oblong(area, fill, colour, 0.15, part.role == "offcut", title))
-        words = Words(*name, self.lengths.text(rect.width), self.lengths.text(rect.height), key, colour)
+        words = Words(*name, piece.width, piece.height, key, colour)
         texts = label(words, area)
         self.shapes += texts
         self.taken += [text.area for text in texts]
@@ -195,20 +104,18 @@ class _Drawing:
             assert part.laid
             panel = part.laid.panel
             tail = part.name[len(panel.title):]
-            self.part(part, _colour(panel.key), INK, str(panel.key), (panel.title, tail))
+            self.part(part, colour_of(panel.key), INK, str(panel.key), (panel.title, tail))
         for number, part in enumerate(self.plan.offcuts, 1):
-            key = _offcut_key(self.plan, number)
+            key = offcut_key(self.plan, number)
             self.part(part, "#ffffff", KEPT, key, (f"offcut {part.name[:-len(key) - 1]}", f" {key}"))
 
     def blade(self, cut: Cut) -> Area:
         """What the blade takes, widened where it would not be seen."""
-        rect = cut.part.rect
+        rect, (near, far) = cut.part.rect, cut.blade
         if cut.axis == "x":
-            near, far = max(cut.near, rect.x), min(cut.far, rect.x + rect.width)
             it = self.area(Rect(near, rect.y, far - near, rect.height))
             wide = max(it.width, 0.2)
             return Area(it.x - (wide - it.width) / 2, it.y, wide, it.height)
-        near, far = max(cut.near, rect.y), min(cut.far, rect.y + rect.height)
         it = self.area(Rect(rect.x, near, rect.width, far - near))
         high = max(it.height, 0.2)
         return Area(it.x, it.y - (high - it.height) / 2, it.width, high)
@@ -217,8 +124,8 @@ class _Drawing:
         """The cuts, and their numbers where there is room for them."""
         for cut in self.plan.cuts:
             self.shapes.append(Oblong(self.blade(cut), BLADE))
-        for number, cut in enumerate(self.plan.cuts, 1):
-            self.number(str(number), self.blade(cut), cut.axis == "x")
+        for step, cut in zip(steps_of(self.result.job, self.plan), self.plan.cuts):
+            self.number(str(step.number), self.blade(cut), step.axis == "x")
 
     def number(self, text: str, blade: Area, is_upright: bool) -> None:
         """The number of a cut, somewhere on it: rather near its ends, and not on other texts."""
@@ -263,7 +170,7 @@ class _Drawing:
         self.legend()
         plan = self.plan
         description = f"{len(plan.panels)} panels, {len(plan.offcuts)} offcuts, {len(plan.cuts)} cuts."
-        what = "; ".join(entry.text for entry in _entries(self.result, plan))
+        what = "; ".join(entry.text for entry in entries_of(self.result, plan))
         title, layout = heading(self.result, plan), self.layout
         return Page(layout.width, layout.height, layout.end + MARGIN, title, f"{description} {what}", self.shapes)
 

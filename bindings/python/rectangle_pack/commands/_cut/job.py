@@ -4,7 +4,7 @@ from __future__ import annotations
 from collections.abc import Sequence
 from dataclasses import dataclass
 
-from .scale import Scale
+from .._scale import Scale
 
 __all__ = ["Batch", "Job", "Kind", "Laid", "Panel"]
 

@@ -5,8 +5,8 @@ from collections.abc import Sequence
 from typing import NamedTuple
 
 from ... import Bin, Box, Heuristic, pack
+from .._scale import MOST
 from .job import Kind, Laid
-from .scale import MOST
 
 __all__ = ["Filled", "Packed", "fill", "inflated", "room"]
 

@@ -3,18 +3,12 @@ from __future__ import annotations
 
 from collections.abc import Sequence
 from dataclasses import dataclass
-from typing import Literal
 
+from .._sawing import Edge, FlatAxis, Role
 from .job import Kind, Laid
 from .packing import Filled
 
-__all__ = ["Cut", "Edge", "FlatAxis", "Part", "Rect", "SheetPlan"]
-
-Role = Literal["part", "panel", "offcut", "waste"]
-
-Edge = Literal["", "left", "right", "bottom", "top"]
-
-FlatAxis = Literal["x", "y"]
+__all__ = ["Cut", "Part", "Rect", "SheetPlan"]
 
 
 @dataclass(frozen=True)
@@ -29,6 +23,10 @@ class Rect:
     @property
     def area(self) -> int:
         return self.width * self.height
+
+    def stretch(self, axis: FlatAxis) -> tuple[int, int]:
+        """Where it begins and ends along an axis."""
+        return (self.x, self.x + self.width) if axis == "x" else (self.y, self.y + self.height)
 
     def halves(self, axis: FlatAxis, size: int, kerf: int) -> tuple[Rect, Rect]:
         """What is left before the blade, of this size along the axis, and behind it: which may be nothing."""
@@ -60,7 +58,7 @@ class Cut:
     # Left or below, and right or above of the blade. None, where the blade takes all that was there.
     lower: Part | None
     upper: Part | None
-    # The edge of the sheet that it trims.
+    # The edge of the part that it trims: nothing is left there, or waste.
     trims: Edge = ""
 
     @property
@@ -70,7 +68,19 @@ class Cut:
     @property
     def at(self) -> int:
         """How far the near side of the blade is from the part's left or lower edge: so much of it is left there."""
-        return self.near - (self.part.rect.x if self.axis == "x" else self.part.rect.y)
+        return self.near - self.part.rect.stretch(self.axis)[0]
+
+    @property
+    def off(self) -> int:
+        """How much a trim takes off, the blade's width included."""
+        start, end = self.part.rect.stretch(self.axis)
+        return self.far - start if self.trims in ("left", "bottom") else end - self.near
+
+    @property
+    def blade(self) -> tuple[int, int]:
+        """From where to where the blade takes something of the part."""
+        start, end = self.part.rect.stretch(self.axis)
+        return max(self.near, start), min(self.far, end)
 
     @property
     def parts(self) -> list[Part]:

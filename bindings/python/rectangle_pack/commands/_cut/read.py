@@ -8,9 +8,9 @@ from decimal import Decimal, InvalidOperation
 from pathlib import Path
 
 from .._common import Wrong
+from .._scale import MOST, MOST_DECIMALS, Scale, decimals_of
 from .._tables import Row, read_table
 from .job import Job, Kind, Panel
-from .scale import MOST, MOST_DECIMALS, Scale, decimals_of
 
 __all__ = ["MOST_PANELS", "Sizes", "read_job", "sizes_of"]
 

@@ -95,7 +95,9 @@ class _Json:
     def cut(self, number: int, cut: Cut) -> dict[str, Any]:
         """A cut, and what it leaves."""
         return {
-            "number": number, "part": self.part(cut.part), "axis": cut.axis, "trims": cut.trims or None,
+            "number": number, "part": self.part(cut.part), "axis": cut.axis,
+            # The edge that is trimmed, and how much goes, the blade's width included.
+            "trims": cut.trims or None, "off": self.length(cut.off) if cut.trims else None,
             # From the part's left or lower edge to the blade, and the blade itself, from those of the sheet. Where a trim is
             # narrower than the blade, this begins before the edge.
             "at": self.signed(cut.at), "blade": [self.signed(cut.near), self.signed(cut.far)],

@@ -14,9 +14,10 @@ from collections.abc import Container, Iterator, Sequence
 from typing import NamedTuple
 
 from ... import Bin, Box, CutNode, CutTree, Heuristic, Section, Session
+from .._sawing import Edge, FlatAxis
 from .job import Job, Kind
 from .packing import Filled, inflated, room
-from .plan import Cut, Edge, FlatAxis, Part, Rect, SheetPlan
+from .plan import Cut, Part, Rect, SheetPlan
 
 __all__ = ["sawn"]
 
@@ -169,6 +170,14 @@ class _Saw:
         self.offcuts.append(Part("offcut", f"{self.kind.name} {self.number}-{len(self.offcuts) + 1}", rect))
         return self.offcuts[-1]
 
+    def edge(self, axis: FlatAxis, behind: Part | None) -> Edge:
+        """The edge that a cut trims: what is behind the blade is nothing, or waste that is narrower than the blade."""
+        if behind:
+            start, end = behind.rect.stretch(axis)
+            if behind.role != "waste" or end - start >= self.job.kerf:
+                return ""
+        return "right" if axis == "x" else "top"
+
     def trim(self, last: Part) -> None:
         """Trims the edges of the sheet, of which `last` is left then. Until then it bears its letter."""
         name = last.name if last.role == "part" else next(self.letters)
@@ -198,7 +207,7 @@ class _Saw:
             else:
                 upper = Part("part", next(self.letters), behind)
             near = before.x + before.width if axis == "x" else before.y + before.height
-            self.cuts.append(Cut(left, axis, near, near + kerf, lower, upper))
+            self.cuts.append(Cut(left, axis, near, near + kerf, lower, upper, self.edge(axis, upper)))
             parts.append((strip, lower))
             left = upper
         if not has_rest:

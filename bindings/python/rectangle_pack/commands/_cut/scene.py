@@ -1,9 +1,10 @@
 """The sheets of a run, as a page shows them."""
 from __future__ import annotations
 
-from .._scene import Item, Room, Scene, Step, Triple
-from .plan import Cut, Rect, SheetPlan
+from .._scene import Item, PartCut, Room, Scene, Step, Triple
+from .plan import Rect, SheetPlan
 from .result import Result, percent
+from .steps import steps_of
 from .text import metres
 
 __all__ = ["scene_of"]
@@ -15,17 +16,6 @@ def _box(rect: Rect) -> tuple[Triple, Triple]:
 
 def _name(plan: SheetPlan) -> str:
     return f"sheet {plan.number}: {plan.kind.name}"
-
-
-def _is_inside(cut: Cut) -> bool:
-    """Whether the near side of the blade is inside of the part."""
-    rect = cut.part.rect
-    return cut.near > (rect.x if cut.axis == "x" else rect.y)
-
-
-def _cut(cut: Cut) -> tuple[str, int, tuple[Triple, Triple]]:
-    """The near side of the blade; or its far side, where the near one is not inside of the part."""
-    return cut.axis, cut.near if _is_inside(cut) else cut.far, _box(cut.part.rect)
 
 
 def _step(plan: SheetPlan, first: int) -> Step:
@@ -52,8 +42,9 @@ def scene_of(result: Result, title: str) -> Scene:
         ("waste", f"{percent(result.waste, result.area)} %"), ("kerf", f"{job.lengths.text(job.kerf)} mm"),
         ("cuts", f"{result.cuts}, {metres(job, result.cut_length)}"),
     ]
-    kerf = job.kerf if all(_is_inside(cut) for plan in result.plans for cut in plan.cuts) else None
+    cuts = {
+        _name(plan): [PartCut(it, cut.blade, _box(cut.part.rect)) for it, cut in zip(steps_of(job, plan), plan.cuts)]
+        for plan in result.plans}
     return Scene(
-        title, [Room(_name(plan), (plan.kind.width, plan.kind.height, 1)) for plan in result.plans], steps,
-        {_name(plan): [_cut(cut) for cut in plan.cuts] for plan in result.plans},
-        "mm" if step == "1" else f"{step} mm", facts, kerf)
+        title, [Room(_name(plan), (plan.kind.width, plan.kind.height, 1)) for plan in result.plans], steps, cuts,
+        "mm" if step == "1" else f"{step} mm", facts)

@@ -4,8 +4,9 @@ from __future__ import annotations
 from collections.abc import Iterator
 
 from .job import Job
-from .plan import Cut, Part, SheetPlan
+from .plan import SheetPlan
 from .result import Result, percent
+from .steps import piece_of, steps_of
 
 __all__ = ["counted", "heading", "metres", "plan_text", "sums_text"]
 
@@ -32,31 +33,12 @@ def heading(result: Result, plan: SheetPlan) -> str:
     return f"Sheet {plan.number} of {len(result.plans)}: {what}{plan.kind.name}, {size} mm"
 
 
-def _part(job: Job, part: Part) -> str:
-    """A part and its size."""
-    size = job.lengths.size(part.rect.width, part.rect.height)
-    if part.role == "part":
-        return f"{part.name} {size}"
-    if part.role == "waste":
-        return f"waste {size}"
-    turned = " (turned)" if part.laid and part.laid.is_turned else ""
-    return f'{part.role} "{part.name}" {size}{turned}'
-
-
-def _what(job: Job, cut: Cut, trim: int) -> str:
-    """What is done: cut across x at 600"""
-    if cut.trims:
-        return f"trim {job.lengths.text(trim)} off the {cut.trims}"
-    return f"cut across {cut.axis} at {job.lengths.text(cut.at)}"
-
-
 def _cuts(job: Job, plan: SheetPlan) -> Iterator[str]:
     digits = len(str(len(plan.cuts)))
-    for number, cut in enumerate(plan.cuts, 1):
-        parts = ", ".join(_part(job, it) for it in cut.parts)
-        yield f"{number:{digits}}. {_part(job, cut.part)}: {_what(job, cut, plan.kind.trim)} -> {parts}"
+    for step in steps_of(job, plan):
+        yield f"{step.number:{digits}}. {step.text}"
     if not plan.cuts:
-        yield f"Nothing is cut: the sheet is {_part(job, plan.panels[0])}"
+        yield f"Nothing is cut: the sheet is {piece_of(job, plan.panels[0]).text}"
 
 
 def plan_text(result: Result, plan: SheetPlan) -> str:

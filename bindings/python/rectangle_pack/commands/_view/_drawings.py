@@ -6,7 +6,8 @@ from dataclasses import dataclass, field
 from pathlib import Path
 
 from .._common import Wrong
-from .._scene import Item, Part, PartCut, Room, Scene, Step
+from .._scale import Scale
+from .._scene import Item, Part, Room, Scene, Step, scale_of
 from ._overlaps import first_overlap
 from ._plans import Plan
 
@@ -25,7 +26,7 @@ class _Drawing:
     items: dict[int, Item] = field(default_factory=dict)
     lines: dict[int, int] = field(default_factory=dict)
     free: dict[str, list[Part]] = field(default_factory=dict)
-    cuts: dict[str, list[PartCut]] = field(default_factory=dict)
+    plans: dict[str, Plan] = field(default_factory=dict)
     plan: Plan | None = None
 
 
@@ -47,8 +48,9 @@ def _triples(numbers: list[int]) -> Part:
 class _Reader:
     """The drawings, as far as they are read. The last one takes the next row."""
 
-    def __init__(self) -> None:
+    def __init__(self, lengths: Scale) -> None:
         self.drawings = [_Drawing("")]
+        self.lengths = lengths
 
     def take(self, line: str, number: int) -> None:
         """Takes a line. One that is no row is for people."""
@@ -66,12 +68,11 @@ class _Reader:
         elif len(words) in (9, 10) and words[0].isascii() and words[0].isdigit():
             self._placement(drawing, words, number)
 
-    @staticmethod
-    def _begin_plan(drawing: _Drawing, name: str) -> None:
+    def _begin_plan(self, drawing: _Drawing, name: str) -> None:
         room = drawing.rooms.get(name)
-        drawing.plan = Plan(name, [((0, 0, 0), room.size)]) if room and room.size[2] == 1 else None
+        drawing.plan = Plan(name, self.lengths, [((0, 0, 0), room.size)]) if room and room.size[2] == 1 else None
         if drawing.plan:
-            drawing.cuts[name] = drawing.plan.cuts
+            drawing.plans[name] = drawing.plan
 
     @staticmethod
     def _bin(drawing: _Drawing, words: list[str]) -> None:
@@ -127,8 +128,8 @@ def _scene_of(drawing: _Drawing, title: str, unit: str) -> Scene:
     items = [drawing.items[number] for number in sorted(drawing.items)]
     steps = [Step(f"{it.name} in {it.bin}", [it]) for it in items] or [Step("no box")]
     steps[-1] = dataclasses.replace(steps[-1], free=drawing.free)
-    cuts = {name: plan for name, plan in drawing.cuts.items() if plan}
-    return Scene(drawing.title or title, list(drawing.rooms.values()), steps, cuts, unit, kerf=0 if cuts else None)
+    cuts = {name: plan.cuts for name, plan in drawing.plans.items() if plan.found}
+    return Scene(drawing.title or title, list(drawing.rooms.values()), steps, cuts, unit)
 
 
 def read_drawings(data: bytes, path: str | Path, title: str, unit: str) -> list[Scene]:
@@ -137,7 +138,7 @@ def read_drawings(data: bytes, path: str | Path, title: str, unit: str) -> list[
         text = data.decode("utf-8-sig")
     except UnicodeDecodeError:
         raise Wrong("is no text in UTF-8", path) from None
-    reader = _Reader()
+    reader = _Reader(scale_of(unit))
     for number, line in enumerate(text.split("\n"), 1):
         try:
             reader.take(line, number)

@@ -1,14 +1,15 @@
 """Scenes as JSON, for the page and for programs; and back.
 
-A scene is an object with `title`, `unit`, `kerf`, `facts`, `rooms`, `steps` and `cuts`, as in _scene.py. What is empty is left
-out. A part is a list of six numbers: corner and size. What is free in a bin is told as a change of what was told last of this
-bin: the indices that are gone, and the parts that follow. A number that is too great for a program that reads all numbers as
-floats is a text."""
+A scene is an object with `title`, `unit`, `facts`, `rooms`, `steps` and `cuts`, as in _scene.py. What is empty is left out. A
+part is a list of six numbers: corner and size. What is free in a bin is told as a change of what was told last of this bin: the
+indices that are gone, and the parts that follow. A number that is too great for a program that reads all numbers as floats is a
+text. So are the numbers of a cut, as they are written in its step."""
 from __future__ import annotations
 
 from collections.abc import Iterable, Sequence
 from typing import Any
 
+from .._sawing import Piece, SawStep
 from .._scene import Item, Part, PartCut, Room, Scene, Step
 
 __all__ = ["from_json", "to_json"]
@@ -96,9 +97,30 @@ def _steps_from_json(steps: Iterable[Json]) -> list[Step]:
     return made
 
 
+def _piece_to_json(it: Piece) -> Json:
+    return _filled({"role": it.role, "name": it.name, "width": it.width, "height": it.height, "turned": it.is_turned})
+
+
+def _piece_from_json(it: Json) -> Piece:
+    return Piece(it["role"], it.get("name", ""), it["width"], it["height"], it.get("turned", False))
+
+
 def _cut_to_json(cut: PartCut) -> Json:
-    axis, place, part = cut
-    return {"axis": axis, "place": place, "part": _flat(part)}
+    it = cut.step
+    step = _filled({
+        "number": it.number, "piece": _piece_to_json(it.piece), "axis": it.axis, "at": it.at, "kerf": it.kerf,
+        "leaves": [_piece_to_json(piece) for piece in it.leaves], "edge": it.edge, "off": it.off,
+    })
+    return {"step": step, "blade": [*cut.blade], "part": _flat(cut.part)}
+
+
+def _cut_from_json(cut: Json) -> PartCut:
+    it, (near, far) = cut["step"], cut["blade"]
+    leaves = [_piece_from_json(piece) for piece in it["leaves"]]
+    step = SawStep(
+        it["number"], _piece_from_json(it["piece"]), it["axis"], it.get("at", ""), it["kerf"], leaves, it.get("edge", ""),
+        it.get("off", ""))
+    return PartCut(step, (near, far), _part(cut["part"]))
 
 
 def _check(scene: Scene) -> None:
@@ -120,8 +142,7 @@ def _check(scene: Scene) -> None:
 def to_json(scene: Scene) -> Json:
     """The scene as JSON has it. Raises ValueError where it names a bin that is not there, or two things alike."""
     _check(scene)
-    kerf = {} if scene.kerf is None else {"kerf": scene.kerf}
-    return {"title": scene.title, "unit": scene.unit, **kerf, **_filled({
+    return {"title": scene.title, "unit": scene.unit, **_filled({
         "facts": [list(fact) for fact in scene.facts],
         "rooms": [_room_to_json(room) for room in scene.rooms],
         "steps": _steps_to_json(scene.steps),
@@ -131,8 +152,7 @@ def to_json(scene: Scene) -> Json:
 
 def from_json(value: Json) -> Scene:
     """The scene that to_json has made this of."""
-    cuts = {
-        name: [(cut["axis"], cut["place"], _part(cut["part"])) for cut in cuts] for name, cuts in value.get("cuts", {}).items()}
+    cuts = {name: [_cut_from_json(cut) for cut in cuts] for name, cuts in value.get("cuts", {}).items()}
     facts = [(what, how) for what, how in value.get("facts", ())]
     rooms = [_room_from_json(room) for room in value.get("rooms", ())]
-    return Scene(value["title"], rooms, _steps_from_json(value.get("steps", ())), cuts, value["unit"], facts, value.get("kerf"))
+    return Scene(value["title"], rooms, _steps_from_json(value.get("steps", ())), cuts, value["unit"], facts)

@@ -9,15 +9,15 @@
  *   from: number, to: number, volume: bigint}} Item
  * @typedef {Part & {room: Room, from: number, to: number}} Section
  * @typedef {{text: string, answer: string[], refused: boolean, note: string, placed: Item[], released: Item[]}} Step
- * @typedef {Part & {room: Room, axis: number, place: number, kerf: number, index: number, count: number}} Cut
+ * @typedef {Part & {room: Room, axis: number, blade: [number, number], step: SawStep, count: number}} Cut
  *
  * As the data has them:
  * @typedef {{number: number | string, name: string, bin: string, at: number[], group?: string, note?: string}} RawItem
  * @typedef {{gone?: number[], new?: number[][]}} RawChange
  * @typedef {{text: string, placed?: RawItem[], released?: (number | string)[], free?: Object<string, RawChange>,
  *   answer?: string[], refused?: boolean, note?: string}} RawStep
- * @typedef {{axis: "x" | "y" | "z", place: number, part: number[]}} RawCut
- * @typedef {{title: string, unit: string, kerf?: number, facts?: [string, string][], steps?: RawStep[],
+ * @typedef {{step: SawStep, blade: [number, number], part: number[]}} RawCut
+ * @typedef {{title: string, unit: string, facts?: [string, string][], steps?: RawStep[],
  *   cuts?: Object<string, RawCut[]>, rooms?: {name: string, size: number[], image?: string, since?: number}[]}} RawScene
  */
 
@@ -40,7 +40,6 @@ class Scene {
     const [, part, unit] = raw.unit.match(/^0[.](0*1) (.+)$/) || ["", "", raw.unit];
     this.unit = unit;
     this.decimals = part.length;
-    this.kerf = raw.kerf;
     this.facts = raw.facts || [];
     /** @type {Room[]} */
     this.rooms = (raw.rooms || []).map((room, index) => ({
@@ -139,11 +138,9 @@ class Scene {
 
   /** @param {Object<string, RawCut[]>} raws @returns {Cut[]} */
   readCuts(raws) {
-    return Object.entries(raws).flatMap(([name, cuts]) => cuts.map((raw, index) => {
-      const [part, axis] = [partOf(raw.part), "xyz".indexOf(raw.axis)];
-      const kerf = Math.min(this.kerf || 0, part.at[axis] + part.size[axis] - raw.place);
-      return { ...part, room: this.room(name), axis, place: raw.place, kerf, index, count: cuts.length };
-    }));
+    return Object.entries(raws).flatMap(([name, cuts]) => cuts.map(({ step, blade, part }) => (
+      { ...partOf(part), room: this.room(name), axis: "xy".indexOf(step.axis), blade, step, count: cuts.length }
+    )));
   }
 
   /** @param {number} step */
@@ -179,11 +176,13 @@ function byRoom(parts) {
 }
 
 /**
- * A length in words.
+ * A length in words, exactly.
  * @param {number} cells @param {Scene} scene
  */
-function lengthText(cells, scene) {
-  return scene.decimals ? String(Number((cells / 10 ** scene.decimals).toFixed(scene.decimals))) : String(cells);
+function lengthText(cells, { decimals }) {
+  const digits = String(cells).padStart(decimals + 1, "0");
+  const behind = digits.slice(digits.length - decimals).replace(/0+$/, "");
+  return decimals ? `${digits.slice(0, -decimals)}${behind && "."}${behind}` : digits;
 }
 
 /**
@@ -209,31 +208,4 @@ function filledText(room, items) {
   const placed = items.reduce((sum, item) => sum + item.volume, 0n);
   const percent = (100n * placed) / whole;
   return placed > 0n && percent === 0n ? "under 1 % filled" : `${percent} % filled`;
-}
-
-/**
- * The part of a box from one place to another on an axis.
- * @param {Part} part @param {number} axis @param {number} from @param {number} to @returns {Part}
- */
-function sliceOf(part, axis, from, to) {
-  const [at, size] = [/** @type {Triple} */ ([...part.at]), /** @type {Triple} */ ([...part.size])];
-  [at[axis], size[axis]] = [from, to - from];
-  return { at, size };
-}
-
-/** @param {Part} part @param {Part} other */
-function isInside(part, other) {
-  return [0, 1, 2].every((axis) => (
-    part.at[axis] >= other.at[axis] && part.at[axis] + part.size[axis] <= other.at[axis] + other.size[axis]
-  ));
-}
-
-/**
- * The part below a cut, what the saw takes away, and the part behind it.
- * @param {Cut} cut @returns {[Part, Part, Part]}
- */
-function partsOf(cut) {
-  const { axis, place, kerf } = cut;
-  const [start, end] = [cut.at[axis], cut.at[axis] + cut.size[axis]];
-  return [sliceOf(cut, axis, start, place), sliceOf(cut, axis, place, place + kerf), sliceOf(cut, axis, place + kerf, end)];
 }

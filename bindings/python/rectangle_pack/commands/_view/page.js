@@ -88,9 +88,9 @@ class Page {
 
   fillSteps() {
     const list = element("steps", HTMLSelectElement);
-    const texts = listTexts(this.scene, this.isCutting);
-    list.replaceChildren(...texts.map((text, index) => new Option(text, String(index))));
-    list.hidden = texts.length < 2;
+    list.replaceChildren(...listEntries(this.scene, this.isCutting));
+    [...list.options].forEach((option, index) => { option.value = String(index); });
+    list.hidden = list.length < 2;
     const slider = element("slider", HTMLInputElement);
     slider.min = this.isCutting ? "0" : "1";
     slider.max = String(this.isCutting ? this.scene.cuts.length : this.scene.steps.length);

@@ -91,31 +91,21 @@ function spokenStep(scene, index) {
   return `${said.join(". ")}.`.replace(/(^|\. )([a-z])/g, (_, before, letter) => before + letter.toUpperCase());
 }
 
-/** @param {Cut} cut @param {Scene} scene */
-function cutText(cut, scene) {
-  return `${"xyz"[cut.axis]} at ${lengthText(cut.place, scene)} of ${sizeText(cut.size, scene)}`;
-}
-
 /**
- * What a cut does, in words.
- * @param {Scene} scene @param {Cut} cut
- */
-function spokenCut(scene, cut) {
-  const [lower, , upper] = partsOf(cut);
-  const said = `Cut ${cut.index + 1} of ${cut.count} in ${cut.room.name}: across ${cutText(cut, scene)} ${scene.unit}.`;
-  if (scene.kerf === undefined) return said;
-  return `${said} It leaves ${sizeText(lower.size, scene)} and ${sizeText(upper.size, scene)}.`;
-}
-
-/**
- * The texts of all steps or cuts, for their list.
+ * The entries of all steps or cuts, for their list. Cuts stand below their bins.
  * @param {Scene} scene @param {boolean} isCutting
  */
-function listTexts(scene, isCutting) {
-  if (!isCutting) return scene.steps.map((step, index) => `${index + 1}. ${step.text}${step.refused ? " (refused)" : ""}`);
-  return ["before the first cut", ...scene.cuts.map((cut) => (
-    `${cut.index + 1}. ${cutText(cut, scene)}, ${cut.room.name}`
-  ))];
+function listEntries(scene, isCutting) {
+  if (!isCutting) {
+    return scene.steps.map(({ text, refused }, index) => new Option(`${index + 1}. ${text}${refused ? " (refused)" : ""}`));
+  }
+  const bins = [...byRoom(scene.cuts)].map(([room, cuts]) => {
+    const bin = document.createElement("optgroup");
+    bin.label = room.name;
+    bin.append(...cuts.map((cut) => new Option(briefText(cut.step))));
+    return bin;
+  });
+  return [new Option("before the first cut"), ...bins];
 }
 
 const MOST_GROUPS = 200;

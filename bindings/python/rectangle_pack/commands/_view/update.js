@@ -39,7 +39,7 @@ function updateStep(page) {
   element("cutting", HTMLButtonElement).setAttribute("aria-pressed", String(isCutting));
   any("step-title").textContent = isCutting ? "Cut" : scene.steps.length > 1 ? "Step" : "Packing";
   any("command").classList.toggle("refused", !isCutting && step !== undefined && step.refused);
-  fillOrHide("command", isCutting || !step ? "" : step.text);
+  fillOrHide("command", cut ? sawText(cut.step) : isCutting || !step ? "" : step.text);
   fillOrHide("answer", isCutting || !step ? "" : step.answer.join("\n"));
   fillOrHide("note", isCutting || !step ? "" : step.note);
   const list = element("steps", HTMLSelectElement);
@@ -104,7 +104,8 @@ function updateLayers(page) {
 function updateTable(page, standing, visible) {
   const { scene, view } = page;
   const after = scene.steps.length > 1 && !page.isCutting ? ` after step ${page.step + 1} of ${scene.steps.length}` : "";
-  any("caption").textContent = `${counted(standing.size, "box", "boxes")}${after}, sizes in ${scene.unit}`;
+  const places = page.isCutting ? "; X and Y count from the corner of the bin, and a cut from the edge of its part" : "";
+  any("caption").textContent = `${counted(standing.size, "box", "boxes")}${after}, sizes in ${scene.unit}${places}`;
   page.table.update(standing, visible, view, page.selected);
 }
 
