@@ -15,6 +15,7 @@ import collections.abc
 import concurrent.futures
 import dataclasses
 import fcntl
+import filecmp
 import graphlib
 import hashlib
 import os
@@ -162,6 +163,12 @@ def lines_behind(crates: dict[str, Crate]) -> dict[str, int]:
     return found
 
 
+def same_files(one: pathlib.Path, other: pathlib.Path) -> bool:
+    """Whether two folders have the same files."""
+    files = [{path.relative_to(top): path for path in top.rglob("*") if path.is_file()} for top in (one, other)]
+    return files[0].keys() == files[1].keys() and all(filecmp.cmp(files[0][it], files[1][it], shallow=False) for it in files[0])
+
+
 class Build:
     """One build, of these crates."""
 
@@ -256,22 +263,31 @@ class Build:
 
     def take(self, began: float, said: str) -> list[str]:
         """Takes over the libraries that `rt ci` proved, and answers their names. What it leaves of a library is what this tool has
-        `rattle build` make, and fits only those that it was proved over."""
+        `rattle build` make. It fits only what it was proved over, so what was proved over others is proved again."""
         taken: list[str] = []
+        changed: set[str] = set()
         for name in graphlib.TopologicalSorter({it.name: it.below for it in self.crates.values()}).static_order():
             crate = self.crates[name]
             told = self.told_by_ci(crate, began, said)
-            if told is None or not {*crate.below} <= {*taken}:
-                continue
-            crate.proved.mkdir(parents=True, exist_ok=True)
-            crate.stamp.unlink(missing_ok=True)
-            shutil.rmtree(crate.made, ignore_errors=True)
-            shutil.copytree(crate.left_by_ci, crate.made)
-            self.sums[name] = self.sum_of(crate)
-            crate.log.write_text(told)
-            crate.stamp.write_text(self.sums[name])
-            taken.append(name)
+            if told is not None and {*crate.below} <= {*taken}:
+                self.sums[name] = self.sum_of(crate)
+                if not self.is_proved(crate) or not same_files(crate.made, crate.left_by_ci):
+                    self.take_over(crate, told)
+                    changed.add(name)
+                taken.append(name)
+            elif {*crate.below} & changed:
+                crate.stamp.unlink(missing_ok=True)
+                changed.add(name)
         return taken
+
+    def take_over(self, crate: Crate, told: str) -> None:
+        """Copies what `rt ci` left of a library, of which it said this."""
+        crate.proved.mkdir(parents=True, exist_ok=True)
+        crate.stamp.unlink(missing_ok=True)
+        shutil.rmtree(crate.made, ignore_errors=True)
+        shutil.copytree(crate.left_by_ci, crate.made)
+        crate.log.write_text(told)
+        crate.stamp.write_text(self.sums[crate.name])
 
     def stop(self) -> None:
         """Ends what still runs."""

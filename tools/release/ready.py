@@ -130,7 +130,7 @@ def gate(release: Release) -> Gate:
     if not log.is_file():
         log.parent.mkdir(parents=True, exist_ok=True)
         part = log.with_suffix(".part")
-        print(f"the gate is run, which takes an hour and more; what it says goes to {part.relative_to(TOP)}", flush=True)
+        print(f"the gate is run, which takes up to an hour; what it says goes to {part.relative_to(TOP)}", flush=True)
         with kept(made), part.open("wb") as to:
             ran = subprocess.run([TOP / ".ci" / "run"], cwd=TOP, stdin=subprocess.DEVNULL, stdout=to, stderr=to, check=False)
         if ran.returncode:

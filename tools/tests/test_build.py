@@ -103,6 +103,14 @@ class Take(unittest.TestCase):
     def test_what_stands_on_a_library_that_is_left_is_left(self) -> None:
         self.assertEqual(self.taken("high"), [])
 
+    def test_what_was_proved_over_another_library_is_proved_again(self) -> None:
+        self.taken("low", "high")
+        self.taken("low")
+        self.assertTrue(self.crates["high"].stamp.exists())
+        self.write("crates/low/out/rlib/low.rlib/format", "another", self.BEGAN + 1)
+        self.taken("low")
+        self.assertFalse(self.crates["high"].stamp.exists())
+
     def test_a_source_that_is_newer_is_not_proved(self) -> None:
         self.write("crates/high/src/lib.rt", "other", self.BEGAN + 1)
         self.assertEqual(self.taken("low", "high"), ["low"])
