@@ -8,10 +8,11 @@ Each crate is copied with those that it stands on, and checked as it is and then
 `rt check` has kept in this clone is not proved again.
 
 An edit that takes a name away, as that of a branch, is refused by each proof that names it, whatever the body does. So what only
-names what is gone does not count; nor does a goal without a proof, where the function has answers to goals that are gone."""
+names what is gone does not count; nor does a goal without a proof that may be one whose answer has the name of before."""
 from __future__ import annotations
 
 import argparse
+import collections
 import collections.abc
 import concurrent.futures
 import dataclasses
@@ -32,9 +33,11 @@ PARTS = ("src", "specs", "proofs")
 ERROR = re.compile(r"(?:\./)?proofs/(\S+?)(?:/\w+)?\.antt:\d+:\d+: error: (.*)")
 GONE = re.compile(r"has no field|is not in scope|has no `|was not admitted|is not a field of|\(nearest: ")
 # An answer to a goal that is gone.
-GOAL_GONE = re.compile(r"module `\S+\.Goals(?:\.\S+)?` has no `")
+GOAL_GONE = re.compile(r"module `\S+\.Goals(?:\.\S+)?` has no `([^`]+)`")
 # A goal that nothing proves; then comes the function that has it, and others.
-OPEN = re.compile(r"(?:note: )?(src/\S+:\d+:\d+: it is not proved .*)")
+OPEN = re.compile(r"(?:note: )?(src/\S+:\d+:\d+: it is not proved .*\(`([^`]+)`\).*)")
+# Where in the body a goal is asked for, in its name.
+PLACE = re.compile(r"-(?:then|else|in|clause)[-_].*")
 FUNCTION = re.compile(r"fn (\S+): (?:not proved|no proof: (?!it calls)|proof)")
 # What antt cannot read, where it stands in the code.
 UNREAD = re.compile(r"(?:\./)?(?:src|specs)/\S+?:\d+:\d+: error: ")
@@ -92,25 +95,26 @@ class Refusal:
 
 def refusal_of(said: str) -> Refusal:
     """Reads what a check said."""
-    found, lost, open_goals = Refusal(), set(), []
+    found, open_goals = Refusal(), []
+    lost: collections.defaultdict[str, set[str]] = collections.defaultdict(set)
     # A line that is indented goes on with the one before.
     for line in re.sub(r"\n +", " ", said).splitlines():
         if error := ERROR.match(line):
             function = error[1].replace("/", "::")
             if GONE.search(error[2]):
                 found.gone.append(line)
-                lost |= {function} if GOAL_GONE.search(error[2]) else set()
+                lost[function] |= {PLACE.sub("", goal) for goal in GOAL_GONE.findall(error[2])}
             else:
                 found.add(function, line)
         elif goal := OPEN.match(line):
-            open_goals.append(goal[1])
+            open_goals.append((PLACE.sub("", goal[2]), goal[1]))
         elif at := FUNCTION.match(line):
             function = at[1].partition("::")[2]
-            if function not in lost:
-                for it in open_goals:
-                    found.add(function, it)
-            else:
-                found.gone += open_goals
+            for name, goal_line in open_goals:
+                if name in lost[function]:
+                    found.gone.append(goal_line)
+                else:
+                    found.add(function, goal_line)
             open_goals = []
     return found
 

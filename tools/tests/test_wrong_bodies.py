@@ -11,6 +11,7 @@ NO_FIELD = f"{ANSWERS}`returns`: record `Rattle.p.proofs.word.Word.new.Lts.View.
 NO_FIELD_IN_TWO_LINES = f"{ANSWERS}`returns`: record `Rattle.p.proofs.word.Word.new.Lts`\n  has no field `if-name` (nearest: .if-len)\n"
 NO_GOAL = f"{ANSWERS}`returns-then-a`: `goal.returns-then-a`: module `Rattle.p.proofs.word.Word.new.Goals`\n  has no `returns-then-a`\n"
 OPEN = "note: src/word.rt:57:13: it is not proved that what the function ensures holds when it returns (`returns-then-b`)\n"
+ASKED = "note: src/word.rt:56:54: it is not proved that what `pad` requires holds at this call (`pad-requires`); `search` gave up\n"
 OF_NEW = "fn p::word::Word::new: not proved\nfn p::word::push: no proof: it calls `p::word::Word::new`, which is not proved\n"
 OF_PUSH = "fn p::word::push: no proof: expected answers in ./proofs/word/push/Answers.antt\n"
 END = "logic=not-proved\n"
@@ -36,6 +37,7 @@ class Judged(unittest.TestCase):
     def test_a_goal_whose_answer_has_another_name_does_not_count(self) -> None:
         self.says(NO_GOAL + OPEN + OF_NEW, False, "refused for a name alone")
         self.says(NO_GOAL + OF_NEW + OPEN + OF_PUSH, True, "refused at word::push: ")
+        self.says(NO_GOAL + OPEN + ASKED + OF_NEW, True, "refused at word::Word::new: src/word.rt:56:54")
 
     def test_what_is_proved_or_cannot_be_read_is_not_refused(self) -> None:
         self.assertEqual(wrong_bodies.judged(0, "logic=proved\n")[0], False)
