@@ -6,6 +6,8 @@ build.py CRATE: proves the crates on which CRATE stands, side by side where neit
     before is not proved again, as long as no file has changed of that crate and of those below it.
 build.py --reached PROGRAM: proves of all these only what the program reaches, which tools/reached.py copies to build/reached as one
     crate, and builds that.
+build.py --take BEGAN SAID: takes over the libraries that `rt ci` has proved in this clone, so that they are not proved again. BEGAN is
+    a file written before it began, SAID has what it said.
 
 `rattle build` does both: it builds nothing that it has not proved. `rt lib` and `rt run` take one crate after another, and
 keep what a proof after an edit can begin from, which a first build does not need and which makes it longer."""
@@ -13,10 +15,13 @@ import collections.abc
 import concurrent.futures
 import dataclasses
 import fcntl
+import filecmp
 import graphlib
 import hashlib
 import os
 import pathlib
+import re
+import shutil
 import subprocess
 import sys
 import threading
@@ -57,8 +62,18 @@ class Crate:
 
     @property
     def proved(self) -> pathlib.Path:
-        """Where what is proved of it is kept: what was said, a sum of all that was read, and of a library what those above read."""
+        """Where what is proved of it is kept: its log and stamp, and of a library what those above read."""
         return self.top / "build" / "proved"
+
+    @property
+    def log(self) -> pathlib.Path:
+        """What was said when it was proved."""
+        return self.proved / f"{self.name}.log"
+
+    @property
+    def stamp(self) -> pathlib.Path:
+        """A sum of all that the proof read."""
+        return self.proved / f"{self.name}.sum"
 
     @property
     def is_program(self) -> bool:
@@ -77,6 +92,11 @@ class Crate:
         if self.is_static:
             return built / f"lib{self.name}.a"
         return self.proved / f"{self.name}.rlib"
+
+    @property
+    def left_by_ci(self) -> pathlib.Path:
+        """Where `rt ci` leaves what those above a library read."""
+        return self.folder / "out" / "rlib" / f"{self.name}.rlib"
 
     def sources(self) -> list[pathlib.Path]:
         """The files that a proof reads, in order."""
@@ -143,6 +163,12 @@ def lines_behind(crates: dict[str, Crate]) -> dict[str, int]:
     return found
 
 
+def same_files(one: pathlib.Path, other: pathlib.Path) -> bool:
+    """Whether two folders have the same files."""
+    files = [{path.relative_to(top): path for path in top.rglob("*") if path.is_file()} for top in (one, other)]
+    return files[0].keys() == files[1].keys() and all(filecmp.cmp(files[0][it], files[1][it], shallow=False) for it in files[0])
+
+
 class Build:
     """One build, of these crates."""
 
@@ -184,8 +210,7 @@ class Build:
 
     def call(self, crate: Crate, words: list[str], niceness: int = 0) -> None:
         """Runs a command in the crate's folder, so much nicer than this one, and keeps what it says."""
-        said = crate.proved / f"{crate.name}.log"
-        with said.open("ab") as log:
+        with crate.log.open("ab") as log:
             with self.lock:
                 ran = subprocess.Popen(
                     words, cwd=crate.folder, env={**SETTINGS, **os.environ}, stdin=subprocess.DEVNULL, stdout=log, stderr=log
@@ -194,18 +219,21 @@ class Build:
                 os.setpriority(os.PRIO_PROCESS, ran.pid, os.getpriority(os.PRIO_PROCESS, 0) + niceness)
             status = ran.wait()
         if status:
-            raise NotProved(f"{said.read_text(errors='replace')}{crate.name} is not built: {words[0]} ended with {status}")
+            raise NotProved(f"{crate.log.read_text(errors='replace')}{crate.name} is not built: {words[0]} ended with {status}")
+
+    def is_proved(self, crate: Crate) -> bool:
+        """Whether the crate is proved and built as it stands."""
+        return crate.made.exists() and crate.stamp.is_file() and crate.stamp.read_text() == self.sums[crate.name]
 
     def make(self, crate: Crate, jobs: int) -> None:
         """Proves and builds the crate, where that is not done yet."""
         self.sums[crate.name] = whole = self.sum_of(crate)
-        stamp = crate.proved / f"{crate.name}.sum"
-        if crate.made.exists() and stamp.is_file() and stamp.read_text() == whole:
+        if self.is_proved(crate):
             crate.made.touch()
             return
-        stamp.unlink(missing_ok=True)
+        crate.stamp.unlink(missing_ok=True)
         crate.proved.mkdir(parents=True, exist_ok=True)
-        (crate.proved / f"{crate.name}.log").unlink(missing_ok=True)
+        crate.log.unlink(missing_ok=True)
         crate.made.parent.mkdir(exist_ok=True)
         began = time.monotonic()
         niceness = GIVES_WAY if jobs > 1 else 0
@@ -216,7 +244,7 @@ class Build:
         else:
             self.call(crate, self.words(crate, crate.made, jobs), niceness)
         if self.sum_of(crate) == whole:
-            stamp.write_text(whole)
+            crate.stamp.write_text(whole)
         now = time.monotonic()
         print(f"{crate.name} is proved: it took {now - began:.0f} s, {now - self.began:.0f} s since the start", flush=True)
 
@@ -225,6 +253,41 @@ class Build:
         kit = self.kit
         words = [f"{kit}/bin/rattle-link", "--target", TARGET, "--toolchain", f"{kit}/toolchain", "-o", str(program)]
         return [*words, str(part), f"{kit}/c/libos_c.a", f"{kit}/c/liblibc_c.a"]
+
+    def told_by_ci(self, crate: Crate, began: float, said: str) -> str | None:
+        """What `rt ci`, which began then, said of a library that it proved as it stands, where what those above read is there."""
+        told = re.search(rf"(?ms)^== {crate.name}\n(.*?)^rt: {crate.name} proved$", said)
+        is_left = crate.left_by_ci.is_dir() and crate.left_by_ci.stat().st_mtime > began
+        is_as_it_stands = all(it.stat().st_mtime < began for it in crate.sources())
+        return told[1] if told and is_left and is_as_it_stands else None
+
+    def take(self, began: float, said: str) -> list[str]:
+        """Takes over the libraries that `rt ci` proved, and answers their names. What it leaves of a library is what this tool has
+        `rattle build` make. It fits only what it was proved over, so what was proved over others is proved again."""
+        taken: list[str] = []
+        changed: set[str] = set()
+        for name in graphlib.TopologicalSorter({it.name: it.below for it in self.crates.values()}).static_order():
+            crate = self.crates[name]
+            told = self.told_by_ci(crate, began, said)
+            if told is not None and {*crate.below} <= {*taken}:
+                self.sums[name] = self.sum_of(crate)
+                if not self.is_proved(crate) or not same_files(crate.made, crate.left_by_ci):
+                    self.take_over(crate, told)
+                    changed.add(name)
+                taken.append(name)
+            elif {*crate.below} & changed:
+                crate.stamp.unlink(missing_ok=True)
+                changed.add(name)
+        return taken
+
+    def take_over(self, crate: Crate, told: str) -> None:
+        """Copies what `rt ci` left of a library, of which it said this."""
+        crate.proved.mkdir(parents=True, exist_ok=True)
+        crate.stamp.unlink(missing_ok=True)
+        shutil.rmtree(crate.made, ignore_errors=True)
+        shutil.copytree(crate.left_by_ci, crate.made)
+        crate.log.write_text(told)
+        crate.stamp.write_text(self.sums[crate.name])
 
     def stop(self) -> None:
         """Ends what still runs."""
@@ -269,8 +332,9 @@ class Build:
 
 def main(words: collections.abc.Sequence[str]) -> int:
     crates = crates_of((TOP / "crates.txt").read_text())
+    takes = len(words) == 3 and words[0] == "--take"
     *options, name = words or [""]
-    if options not in ([], ["--reached"]) or name not in crates or (options and not crates[name].is_program):
+    if not takes and (options not in ([], ["--reached"]) or name not in crates or (options and not crates[name].is_program)):
         print(__doc__, file=sys.stderr)
         return 2
     PROVED.mkdir(parents=True, exist_ok=True)
@@ -278,7 +342,12 @@ def main(words: collections.abc.Sequence[str]) -> int:
         with (PROVED / "lock").open("w") as lock:
             # A second build waits, and then finds what the first one proved.
             fcntl.flock(lock, fcntl.LOCK_EX)
-            Build(what_it_reaches(name) if options else with_all_below(name, crates), toolchain()).run()
+            if takes:
+                began, said = map(pathlib.Path, words[1:])
+                taken = Build(crates, toolchain()).take(began.stat().st_mtime, said.read_text(errors="replace"))
+                print(f"taken over from rt ci: {', '.join(taken) or 'nothing'}")
+            else:
+                Build(what_it_reaches(name) if options else with_all_below(name, crates), toolchain()).run()
     except NotProved as why:
         print(why, file=sys.stderr)
         return 1

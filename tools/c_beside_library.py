@@ -177,13 +177,21 @@ def by_library(program: Path, lines: list[Line]) -> list[str]:
 
 @dataclasses.dataclass(frozen=True)
 class Program(build.Crate):
-    """A program that stands outside of the repository."""
+    """A program that stands outside of the repository, in a folder of its own, over what is proved in build/."""
 
     at: Path = Path()
 
     @property
     def folder(self) -> Path:
         return self.at
+
+    @property
+    def made(self) -> Path:
+        return self.at / "out" / self.name
+
+    @property
+    def log(self) -> Path:
+        return self.at / f"{self.name}.log"
 
 
 def built(room: Path) -> Path:
@@ -192,7 +200,7 @@ def built(room: Path) -> Path:
     below = build.with_all_below("rectangle_pack", crates)
     over = build.Build(below, build.toolchain())
     over.run()
-    program = Program("session_lines", "", ("rectangle_pack",), room)
+    program = Program("session_lines", "", ("rectangle_pack",), at=room)
     for name in ("src", "out"):
         (room / name).mkdir()
     shutil.copy(TOOLS / "session_lines.rt.in", room / "src" / "main.rt")

@@ -8,7 +8,7 @@ set -euo pipefail
 cd "$(dirname "${BASH_SOURCE[0]}")/.."
 minutes=${1:-1}
 work=build/fuzz
-flags=(-std=c99 -O2 -g -Wall -Wextra -Werror -fsanitize=fuzzer,address,undefined -fno-sanitize-recover=all)
+flags=(-std=c99 -O2 -g -Wall -Wextra -Werror "-fsanitize=fuzzer,address,undefined" -fno-sanitize-recover=all)
 # What is compared is seldom a part of the bytes, and to note it takes half of the time.
 flags+=(-fno-sanitize-coverage=trace-cmp)
 export ASAN_OPTIONS=quarantine_size_mb=16:malloc_context_size=3${ASAN_OPTIONS:+:$ASAN_OPTIONS}

@@ -99,10 +99,10 @@ def functions_proved() -> dict[str, int]:
     order = graphlib.TopologicalSorter({name: crate.below for name, crate in wanted.items()})
     build, counts, lacking = tool.Build(wanted, tool.toolchain()), {}, []
     for name in order.static_order():
-        crate, said = wanted[name], tool.PROVED / f"{name}.log"
-        build.sums[name], stamp = build.sum_of(crate), tool.PROVED / f"{name}.sum"
-        is_proved = crate.made.exists() and stamp.is_file() and stamp.read_text() == build.sums[name] and said.is_file()
-        count = is_proved and re.search(r"^logic=proved functions=(\d+)", said.read_text(), re.MULTILINE)
+        crate = wanted[name]
+        build.sums[name] = build.sum_of(crate)
+        is_proved = build.is_proved(crate) and crate.log.is_file()
+        count = is_proved and re.search(r"^logic=proved functions=(\d+)", crate.log.read_text(), re.MULTILINE)
         if count:
             counts[name] = int(count[1])
         else:
@@ -132,14 +132,16 @@ def gate(release: Release) -> Gate:
         part = log.with_suffix(".part")
         print(f"the gate is run, which takes up to an hour; what it says goes to {part.relative_to(TOP)}", flush=True)
         with kept(made), part.open("wb") as to:
-            subprocess.run([TOP / ".ci" / "run"], cwd=TOP, stdin=subprocess.DEVNULL, stdout=to, stderr=to, check=False)
+            ran = subprocess.run([TOP / ".ci" / "run"], cwd=TOP, stdin=subprocess.DEVNULL, stdout=to, stderr=to, check=False)
+        if ran.returncode:
+            last = (part.read_text(errors="replace").splitlines() or [""])[-1]
+            raise Refused(f"the gate did not pass: {last!r}. {part.relative_to(TOP)} has all that it said")
         part.rename(log)
     said = log.read_text(errors="replace")
-    lines = said.splitlines() or [""]
-    passed, edits = re.fullmatch(r"(\d+) passed, 0 failed", lines[-1]), re.search(r"must-fail edits: (\d+) refused", said)
+    passed, edits = re.search(r"(?m)^(\d+) passed, 0 failed$", said), re.findall(r"must-fail \S+\.edit: refused, as it must be", said)
     if not passed or not edits:
-        raise Refused(f"the gate did not pass: {lines[-1]!r}. Delete {log.relative_to(TOP)} to run it again")
-    return Gate(int(passed[1]), int(edits[1]))
+        raise Refused(f"{log.relative_to(TOP)} does not say what the gate proved. Delete it to run the gate again")
+    return Gate(int(passed[1]), len(edits))
 
 
 def release_of(version: str) -> Release:

@@ -1,6 +1,7 @@
-"""Tests of tools/build.py: which proofs share the processors, and how."""
+"""Tests of tools/build.py: which proofs share the processors, and how; what is taken over of proofs that the gate made."""
 import contextlib
 import io
+import os
 import pathlib
 import tempfile
 import unittest
@@ -56,6 +57,67 @@ class Shares(unittest.TestCase):
         niceness = {of.args[0].name: of.args[2] for of in call.call_args_list}
         self.assertEqual(niceness["aside"], 0)
         self.assertGreater(niceness["low"], 0)
+
+
+class Take(unittest.TestCase):
+    """What `rt ci` left of two libraries, of which the second stands on the first."""
+
+    BEGAN = 1000.0
+
+    def setUp(self) -> None:
+        folder = tempfile.TemporaryDirectory()
+        self.addCleanup(folder.cleanup)
+        self.top = pathlib.Path(folder.name)
+        (self.top / "KIT-ID").write_text("kit")
+        self.crates = build.crates_of("low:\nhigh: low\n", self.top)
+        for name in self.crates:
+            self.write(f"crates/{name}/src/lib.rt", "source", self.BEGAN - 1)
+            self.write(f"crates/{name}/out/rlib/{name}.rlib/format", f"left of {name}", self.BEGAN + 1)
+            os.utime(self.crates[name].left_by_ci, (self.BEGAN + 1, self.BEGAN + 1))
+
+    def write(self, name: str, text: str, changed: float) -> None:
+        path = self.top / name
+        path.parent.mkdir(parents=True, exist_ok=True)
+        path.write_text(text)
+        os.utime(path, (changed, changed))
+
+    def taken(self, *proved: str) -> list[str]:
+        """What is taken over where `rt ci` said that it proved these."""
+        said = "".join(f"== {name}\nlogic=proved functions=2\nrt: {name} proved\n" for name in proved)
+        with mock.patch.object(build, "TOP", self.top):
+            return build.Build(self.crates, self.top).take(self.BEGAN, said)
+
+    def test_what_is_proved_is_taken_over(self) -> None:
+        self.assertEqual(self.taken("low", "high"), ["low", "high"])
+        high = self.crates["high"]
+        self.assertEqual((high.made / "format").read_text(), "left of high")
+        self.assertEqual(high.log.read_text(), "logic=proved functions=2\n")
+        with mock.patch.object(build, "TOP", self.top), mock.patch.object(build.Build, "call") as call:
+            build.Build(self.crates, self.top).run()
+        call.assert_not_called()
+
+    def test_what_is_not_said_to_be_proved_is_left(self) -> None:
+        self.assertEqual(self.taken("low"), ["low"])
+        self.assertFalse(self.crates["high"].stamp.exists())
+
+    def test_what_stands_on_a_library_that_is_left_is_left(self) -> None:
+        self.assertEqual(self.taken("high"), [])
+
+    def test_what_was_proved_over_another_library_is_proved_again(self) -> None:
+        self.taken("low", "high")
+        self.taken("low")
+        self.assertTrue(self.crates["high"].stamp.exists())
+        self.write("crates/low/out/rlib/low.rlib/format", "another", self.BEGAN + 1)
+        self.taken("low")
+        self.assertFalse(self.crates["high"].stamp.exists())
+
+    def test_a_source_that_is_newer_is_not_proved(self) -> None:
+        self.write("crates/high/src/lib.rt", "other", self.BEGAN + 1)
+        self.assertEqual(self.taken("low", "high"), ["low"])
+
+    def test_what_an_older_check_left_is_left(self) -> None:
+        os.utime(self.crates["high"].left_by_ci, (self.BEGAN - 1, self.BEGAN - 1))
+        self.assertEqual(self.taken("low", "high"), ["low"])
 
 
 if __name__ == "__main__":

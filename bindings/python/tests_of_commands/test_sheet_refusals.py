@@ -1,11 +1,13 @@
 """What the command sheet refuses: each in one line that names the file, with nothing written."""
 from __future__ import annotations
 
+import contextlib
 import os
 import random
 import subprocess
 import sys
 import unittest
+from collections.abc import Iterator
 from pathlib import Path
 from unittest import mock
 
@@ -71,14 +73,30 @@ class Files(RefusalCase):
         (self.source / "gone.png").symlink_to("nowhere")
         self.check(WRONG, "IN/gone.png: cannot be read: No such file or directory")
 
-    @unittest.skipIf(os.geteuid() == 0, "root may read all")
     def test_what_may_not_be_read(self) -> None:
         self.write({"a": full(2, 2)})
         (self.source / "a.png").chmod(0)
-        self.check(WRONG, "IN/a.png: cannot be read: Permission denied")
+        with self.nobody():
+            self.check(WRONG, "IN/a.png: cannot be read: Permission denied")
         self.source.chmod(0)
         self.addCleanup(self.source.chmod, 0o700)
-        self.check(WRONG, "IN: cannot be read: Permission denied")
+        with self.nobody():
+            self.check(WRONG, "IN: cannot be read: Permission denied")
+
+    @contextlib.contextmanager
+    def nobody(self) -> Iterator[None]:
+        """Root, who may read all, is nobody for so long."""
+        if os.geteuid() != 0:
+            yield
+            return
+        self.folder.chmod(0o755)
+        os.seteuid(65534)
+        try:
+            if not os.access(self.folder, os.X_OK, effective_ids=True):
+                self.skipTest("root may read all, and nobody may not enter the folder for temporary files")
+            yield
+        finally:
+            os.seteuid(0)
 
     def test_a_name_that_is_no_text(self) -> None:
         self.source.mkdir()
