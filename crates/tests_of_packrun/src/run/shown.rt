@@ -3,7 +3,7 @@
 
 use crate::support::{BOTH, Over, run_over};
 use packrun_lines::outcome::Outcome;
-use std::alloc::Global;
+use std::alloc::{AllocError, Global};
 use std::cell::Cell;
 use std::io;
 use std::io::{Read, Write};
@@ -16,13 +16,22 @@ struct Counts {
     shown: usize,
 }
 
-// A screen that shows what was written once it is flushed.
-#[derive(Drop)]
-struct Screen<'a> {
-    counts: &'a Cell<Counts>,
+// They stay on the heap to the end of the program.
+fn no_counts(alloc: Global) -> Result<&'static Cell<Counts>, AllocError> {
+    let counts = Counts {
+        written: 0,
+        shown: 0,
+    };
+    Ok(Box::leak(Box::new(alloc, Cell::new(counts))?))
 }
 
-impl Write for Screen<'_> {
+// A screen that shows what was written once it is flushed.
+#[derive(Drop)]
+struct Screen {
+    counts: &'static Cell<Counts>,
+}
+
+impl Write for Screen {
     fn write(&mut self, buf: &[u8]) -> io::Result<usize> {
         let counts = self.counts.get();
         self.counts.set(Counts {
@@ -48,13 +57,13 @@ type Typed = (&'static str, usize);
 // Types one text after another, and ends the input behind the last. Where the screen does not show
 // just what the user waits for, the read fails.
 #[derive(Drop)]
-struct User<'a> {
+struct User {
     typed: &'static [Typed],
     all: usize,
-    counts: &'a Cell<Counts>,
+    counts: &'static Cell<Counts>,
 }
 
-impl Read for User<'_> {
+impl Read for User {
     fn read(&mut self, buf: &mut [u8]) -> io::Result<usize> {
         let (text, awaited) = self.typed.first().copied().unwrap_or(("", self.all));
         if self.counts.get().shown != awaited || text.len() > buf.len() {
@@ -89,16 +98,9 @@ fn shows(
     (typed, all): (&'static [Typed], usize),
     outcome: Outcome,
 ) {
-    let counts = Cell::new(Counts {
-        written: 0,
-        shown: 0,
-    });
-    let mut user = User {
-        typed,
-        all,
-        counts: &counts,
-    };
-    let mut screen = Screen { counts: &counts };
+    let counts = no_counts(alloc).expect(rt, "no memory for the counts");
+    let mut user = User { typed, all, counts };
+    let mut screen = Screen { counts };
     let ended = run_over(over, alloc, &mut user, &mut screen);
     assert_eq!(rt; ended, outcome);
     assert_eq!(rt; counts.get().written, all);
