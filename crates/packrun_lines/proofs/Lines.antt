@@ -1,5 +1,5 @@
 -- What is written part by part is the whole line.
-use Rattle.std.proofs.Common.{◌≡◌, ℕ, List, [], ◌∷◌, ◌++◌, Option, Result, length, take, take_all, sym, ap, ◌∙◌, subst, refl, append_assoc, append-nil, ◌≤◌}
+use Rattle.std.proofs.Common.{◌≡◌, ℕ, List, [], ◌∷◌, ◌++◌, Option, Result, length, take, take_all, sym, ap, ◌∙◌, subst, refl, append_assoc, ◌≤◌}
 use Rattle.std.specs.List.{flat_map}
 use Rattle.std.specs.Io.KnownBytes.{Appends}
 use Rattle.packrun_words.specs.declared.stop.Stop.{Stop}

@@ -1,10 +1,10 @@
 -- What is written part by part is the whole line; what could not be written leaves a beginning of it.
-use Rattle.std.proofs.Common.{◌≡◌, ℕ, List, [], ◌∷◌, ◌++◌, Option, Result, Ok, Err, OnOk, IsErr, IsErrAnd, length, take, drop, get_or, take_all, take-append-drop, ◌+◌, ◌<◌, ◌==◌, true, ne_eqb, length-drop, ◌-◌, arith, refl, sym, ap, subst, ◌∙◌, append-nil, append_assoc}
+use Rattle.std.proofs.Common.{◌≡◌, ℕ, List, [], ◌∷◌, ◌++◌, Option, Result, Ok, Err, OnOk, IsErr, IsErrAnd, length, take, drop, get_or, take_all, take-append-drop, ◌+◌, ◌<◌, ◌==◌, true, ne_eqb, length-drop, ◌-◌, arith, sym, ap, subst, ◌∙◌, append-nil, append_assoc}
 use Rattle.std.specs.List.{flat_map}
 use Rattle.std.proofs.lemmas.List.{take_more, drop_more, flat_map_more}
 use Rattle.std.proofs.lemmas.Grind.{flat_map-append}
 use Rattle.std.specs.Io.KnownBytes.{Appends, Keeps}
-use Rattle.std.proofs.KnownBytes.{Appends-nil, Appends-trans, Appends-kept}
+use Rattle.std.proofs.KnownBytes.{Appends-trans, Appends-kept}
 use Rattle.packrun_words.specs.Printing.{AppendsStart}
 use Rattle.packrun_words.specs.Numbers.{three_text, box_text}
 use Rattle.packrun_words.specs.declared.stop.Stop.{Stop}

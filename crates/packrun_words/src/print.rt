@@ -12,7 +12,7 @@ use std::io::{ErrorKind, Write};
 /// of this may be printed.
 pub fn print_parts<W: Write>(parts: &[&[u8]], out: &mut W) -> Result<(), Stop>
     // The parts are printed, one behind the other; or, where a write failed, a beginning of them.
-    //   [print_parts.failed_write_is_passed_over]
+    //   [print_parts.long_part_is_cut]
     ensures { Prints (W.contents out.old) (W.contents out.new) result (bytes_of_parts parts.now) }
 {
     for part in parts {

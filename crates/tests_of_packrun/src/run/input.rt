@@ -1,7 +1,7 @@
 //! How the input comes: lines of the greatest length, reads that are interrupted, and more than a
 //! million bytes.
 
-use crate::support::{BOTH, Over, prints, says};
+use crate::support::{BOTH, prints, says};
 use packrun_lines::outcome::Outcome;
 use std::alloc::{AllocError, Global};
 use std::io;
@@ -99,17 +99,37 @@ fn interrupted_reads(rt: HostRuntime) {
     }
 }
 
-// More than a million bytes, and as many lines: empty ones, and then a bad one.
+// Gives a line so many times, at each read once.
+#[derive(Drop)]
+struct Again<'a> {
+    line: &'a [u8],
+    times: u64,
+}
+
+impl Read for Again<'_> {
+    fn read(&mut self, buf: &mut [u8]) -> io::Result<usize> {
+        if self.times == 0 {
+            return Ok(0);
+        }
+        self.times -= 1;
+        let mut line = self.line;
+        line.read(buf)
+    }
+}
+
+// More than a million bytes: 245 lines of 4097, their line feeds counted, and then a bad line.
 #[test]
-fn many_lines(rt: HostRuntime) {
-    let empty = io::repeat(b'\n').take(1_000_001);
-    let mut reader = empty.chain(&b"bin"[..]);
-    let (printed, outcome) = ("line 1000002 is bad\n", Outcome::BadLine(1_000_002));
-    prints(
-        &rt,
-        rt.alloc(),
-        (Over::Buffer, &mut reader),
-        printed,
-        outcome,
-    );
+fn million_bytes(rt: HostRuntime) {
+    let mut line = Vec::new(rt.alloc());
+    push_spaces(&mut line, 4096).expect(&rt, "no memory for the line");
+    line.push(b'\n').expect(&rt, "no memory for the line");
+    for over in BOTH {
+        let blank = Again {
+            line: line.as_slice(),
+            times: 245,
+        };
+        let mut reader = blank.chain(&b"bin"[..]);
+        let (printed, outcome) = ("line 246 is bad\n", Outcome::BadLine(246));
+        prints(&rt, rt.alloc(), (over, &mut reader), printed, outcome);
+    }
 }

@@ -1,4 +1,4 @@
-use Rattle.std.proofs.Common.{[], ℕ, List, sym, ap, subst, take_all, append-nil}
+use Rattle.std.proofs.Common.{[], ℕ, List, subst, take_all, append-nil}
 use Rattle.std.specs.Borrow.{Bor}
 use Rattle.std.specs.Io.KnownBytes.{Appends}
 use Rattle.std.proofs.KnownBytes.{Appends-nil}
