@@ -7,10 +7,10 @@ use Rattle.rectangle_pack.specs.declared.session.command.SessionError.TheVariant
 use Rattle.rectangle_pack.specs.declared.session.command.SessionError.TheVariants.{OutOfMemory}
 use Rattle.packrun_words.specs.Requests.{Request}
 use Rattle.packrun_words.specs.Requests as asks
-use Rattle.packrun_lines.specs.Answers.{Name, name_cmp, Answers}
+use Rattle.packrun_lines.specs.Answers.{Name, name_cmp, Answers, found_text}
 use Rattle.packrun_lines.specs.Desk.{Desk, PacksBoxes, placements_made}
 use Rattle.packrun_lines.specs.Lines.{packed_text, refusal_text, reply_text}
-use Rattle.packrun_lines.specs.private.Calls.{UnlessNoMemory}
+use Rattle.packrun_lines.specs.private.Calls.{UnlessNoMemory, IsFound}
 use Rattle.std.proofs.lemmas.Option.{none-some}
 use Rattle.packrun_lines.specs.private.Obeying.{IsObeyed}
 use Rattle.packrun_words.specs.private.Printing.{Prints, PrintsAnswer}
@@ -26,7 +26,7 @@ module _ (request : Request) (old new : Desk Name) (before after : Option (List 
       by : (r : Result (Unit {0}) Stop) (answer : Option (List ℕ)) → ((text : List ℕ) → answer ≡ Some text → Answers request old text new)
           → PrintsAnswer before after r answer → IsObeyed request old before r new after
       by (Ok done) (Some text) says p = (text, says text refl, p)
-      by (Err stop) (Some text) says p = subst (λ (s : Stop). IsObeyed request old before (Err s) new after) (sym p) tt
+      by (Err stop) (Some text) says p = subst (λ (s : Stop). IsObeyed request old before (Err s) new after) (sym p.0) (text, says text refl, p.1)
       by r None says (is, kept) = subst (λ (s : Result (Unit {0}) Stop). IsObeyed request old before s new after) (sym is) kept
 
 -- what a call makes unless memory is refused, it makes where a text answers
@@ -64,3 +64,16 @@ module _ (old new : Desk Name) (before after : Option (List ℕ)) (r : Result (U
   IsObeyed-refused error named packed p =
       IsObeyed-printed asks.Pack old new before after r (refusal_text error named)
       (λ text is. (Err error, packed, refused_unnamed error old new packed _ named ∙ is)) p
+
+-- a question is answered by what is found
+pub found_is : {X : Type 0} (o : Option X) (x : X) → IsFound o (Ok x) → o ≡ Some x
+found_is None x h = absurd (cc h)
+found_is (Some y) x h = cc h
+
+-- or by a refusal, which has a text unless memory was refused
+pub found-refused : {X : Type 0} (text : X → List ℕ) (o : Option X) (error : SessionError) (name answer : List ℕ) → IsFound o (Err error) → refusal_text error name ≡ Some answer
+    → found_text text o name ≡ Some answer
+found-refused text None error name answer h is =
+    let same : error ≡ UnknownBin = cc h in
+    subst (λ e. refusal_text e name ≡ Some answer) same is
+found-refused text (Some y) error name answer h is = absurd (cc h)

@@ -4,12 +4,14 @@ use Rattle.std.specs.Io.KnownBytes.{Appends, Keeps}
 use Rattle.std.proofs.KnownBytes.{Appends-nil, Appends-trans}
 use Rattle.packrun_words.specs.Requests.{Request, Asks}
 use Rattle.packrun_words.specs.Input.{lines_of}
+use Rattle.packrun_words.specs.Printing.{AppendsStart}
 use Rattle.packrun_words.specs.private.Reading.{IsLineRead}
+use Rattle.packrun_words.proofs.Printing.{AppendsStart-behind, AppendsStart-longer, AppendsStart-all, AppendsStart-kept}
 use Rattle.packrun_words.proofs.NextLines.{lines_of-none, lines_of-some, Asks-first, IsBad-first}
 use Rattle.packrun_lines.specs.Answers.{Name, Answers}
 use Rattle.packrun_lines.specs.Desk.{Desk, empty_desk}
 use Rattle.packrun_lines.specs.Transcripts.{AreAnswered, MayEnd, IsTranscript, PrintsTranscript, last_line}
-use Rattle.packrun_lines.specs.private.Obeying.{AreObeyed, IsLineObeyed, StopsSo, outcome_of}
+use Rattle.packrun_lines.specs.private.Obeying.{AreObeyed, AreBegun, IsLineObeyed, StopsSo, outcome_of}
 use Rattle.packrun_lines.specs.declared.outcome.Outcome.{Outcome}
 use Rattle.packrun_lines.specs.declared.outcome.Outcome.TheVariants.{Done, BadLine, NoMemory, IoFailed}
 use Rattle.packrun_words.specs.declared.stop.Stop.{Stop}
@@ -44,6 +46,20 @@ Appends-keeping None b c text appends kept = tt
 Appends-keeping (Some x) None c text appends kept = absurd appends
 Appends-keeping (Some x) (Some y) None text appends kept = absurd kept
 Appends-keeping (Some x) (Some y) (Some z) text appends kept = kept ∙ appends
+
+-- of what is kept and then begun a beginning is printed
+AppendsStart-of_kept : (a b c : Option (List ℕ)) (text : List ℕ) → Keeps a b → AppendsStart b c text → AppendsStart a c text
+AppendsStart-of_kept a b c text kept (front, rest, is, appends) = (front, rest, is, Appends-kept a b c front kept appends)
+
+-- the only beginning of nothing is nothing
+Keeps-begun : (a b : Option (List ℕ)) → AppendsStart a b [] → Keeps a b
+Keeps-begun a b ([], rest, is, appends) = none a b appends
+  where
+    none : (a b : Option (List ℕ)) → Appends a b [] → Keeps a b
+    none None b p = tt
+    none (Some x) None p = absurd p
+    none (Some x) (Some y) p = p ∙ append-nil x
+Keeps-begun a b (x ∷ front, rest, is, appends) = absurd (cc is)
 
 -- where something was read, a line is left
 left_some : (rest next read : List ℕ) → IsLineRead (Some rest) read (Some next) → 0 < length read → 0 < length (lines_of rest)
@@ -99,16 +115,35 @@ module _ (bytes : List ℕ) (old : Desk Name) (before : Option (List ℕ)) where
       )
   stops-by rest read next n mid new a b c stop.NoMemory done is_read some kept kept_too =
       (lines_of rest, n, mid, AreObeyed-kept (lines_of rest) n mid b c (AreObeyed-kept (lines_of rest) n mid a b done kept) kept_too, inr (left_some rest next read is_read some))
-  stops-by rest read next n mid new a b c stop.IoFailed done is_read some kept nothing = tt
+  stops-by rest read next n mid new a b c stop.IoFailed done is_read some kept (request, asks, more, answers, begun) =
+      let (line, later, lines_are, first) = lines_of-some rest next read is_read some in
+      let (asked, later_is) = Asks-first read next line later first request asks in
+      record {
+        answered = done.answered ++ line ∷ [];
+        left = lines_of next;
+        lines_are = done.lines_are ∙ ap (λ ls. done.answered ++ ls) (lines_are ∙ ap (λ ls. line ∷ ls) later_is) ∙ sym (append_assoc done.answered (line ∷ []) (lines_of next));
+        text = done.text ++ more;
+        new = new;
+        answers = AreAnswered-more done.answered old mid new done.text more line request done.answers asked answers;
+        printed = AppendsStart-behind before a c done.text more done.printed (AppendsStart-of_kept a b c more kept begun);
+      }
+
+  stops-failed : (left : List (List ℕ)) (n : ℕ) (mid : Desk Name) (a b : Option (List ℕ)) → AreObeyed bytes old before left n mid a → Keeps a b
+      → StopsSo IoFailed bytes old before b
+  stops-failed left n mid a b done kept = record {
+    answered = done.answered;
+    left = left;
+    lines_are = done.lines_are;
+    text = done.text;
+    new = mid;
+    answers = done.answers;
+    printed = AppendsStart-all before b done.text (Appends-keeping before a b done.text done.printed kept);
+  }
 
 -- the first lines of what is known are obeyed, and these bytes are left
 abbrev pub Obeyed : (known : Option (List ℕ)) (old : Desk Name) (before now : Option (List ℕ)) (n : ℕ) (new : Desk Name) (after : Option (List ℕ)) → Type 0
 Obeyed known old before now n new after =
     IfSome known (λ bytes. (rest : List ℕ) × (now ≡ Some rest) × AreObeyed bytes old before (lines_of rest) n new after)
-
-pub Obeyed-none : (known : Option (List ℕ)) (old : Desk Name) (before : Option (List ℕ)) → Obeyed known old before known 1 old before
-Obeyed-none None old before = tt
-Obeyed-none (Some bytes) old before = (bytes, refl, AreObeyed-none bytes old before)
 
 pub Obeyed-more : (known : Option (List ℕ)) (old : Desk Name) (before now next : Option (List ℕ)) (read : List ℕ) (n : ℕ) (mid new : Desk Name) (a b c : Option (List ℕ))
     → Obeyed known old before now n mid a → IsLineRead now read next → 0 < length read → Keeps a b → IsLineObeyed n read mid b (Ok tt) new c
@@ -151,12 +186,13 @@ pub err_is : {T E : Type 0} (r : Result T E) (e : E) → IsErrAnd r (λ f. f ≡
 err_is (Ok x) e h = absurd h
 err_is (Err f) e h = ap Err h
 
--- a line could not be read, or its answer not be written
-pub Obeyed-failed : (known : Option (List ℕ)) (old : Desk Name) (before after : Option (List ℕ)) (r : Result (Unit {0}) Stop) (why : Stop) → why ≡ Stop.IoFailed
-    → IsErrAnd r (λ f. f ≡ why) → IfSome known (λ bytes. StopsSo (outcome_of r) bytes old before after)
-Obeyed-failed known old before after (Ok x) why io h = absurd h
-Obeyed-failed None old before after (Err f) why io h = tt
-Obeyed-failed (Some bytes) old before after (Err f) why io h = subst (λ s. StopsSo (outcome_of (Err s)) bytes old before after) (sym (h ∙ io)) tt
+-- a line could not be read
+pub Obeyed-failed : (known : Option (List ℕ)) (old : Desk Name) (before now : Option (List ℕ)) (n : ℕ) (mid : Desk Name) (a b : Option (List ℕ)) (r : Result (Unit {0}) Stop) (why : Stop)
+    → Obeyed known old before now n mid a → Keeps a b → why ≡ Stop.IoFailed → IsErrAnd r (λ f. f ≡ why) → IfSome known (λ bytes. StopsSo (outcome_of r) bytes old before b)
+Obeyed-failed known old before now n mid a b (Ok x) why obeyed kept io h = absurd h
+Obeyed-failed None old before now n mid a b (Err f) why obeyed kept io h = tt
+Obeyed-failed (Some bytes) old before now n mid a b (Err f) why (rest, is, done) kept io h =
+    subst (λ s. StopsSo (outcome_of (Err s)) bytes old before b) (sym (h ∙ io)) (stops-failed bytes old before (lines_of rest) n mid a b done kept)
 
 -- memory is refused before the first line
 pub stops-without_memory : (known : Option (List ℕ)) (old : Desk Name) (before : Option (List ℕ)) → IfSome known (λ bytes. StopsSo NoMemory bytes old before before)
@@ -183,23 +219,107 @@ module _ (bytes : List ℕ) (before a after : Option (List ℕ)) where
         Appends-trans before a after done.text (last_line end) done.printed last,
       )
 
-  transcript-stopped : (stopped : Outcome) → StopsSo stopped bytes (empty_desk 0) before a → Appends a after (last_line stopped) → PrintsTranscript before after stopped bytes
-  transcript-stopped Done (left, n, new, done, ends) last = transcript-of Done left n new done ends last
-  transcript-stopped (BadLine number) (left, n, new, done, ends) last = transcript-of (BadLine number) left n new done ends last
-  transcript-stopped NoMemory (left, n, new, done, ends) last = transcript-of NoMemory left n new done ends last
-  transcript-stopped IoFailed so last = tt
+  transcript-stopped : (stopped : Outcome) → StopsSo stopped bytes (empty_desk 0) before a → stopped ≢ IoFailed → Appends a after (last_line stopped)
+      → PrintsTranscript before after stopped bytes
+  transcript-stopped Done (left, n, new, done, ends) fine last = transcript-of Done left n new done ends last
+  transcript-stopped (BadLine number) (left, n, new, done, ends) fine last = transcript-of (BadLine number) left n new done ends last
+  transcript-stopped NoMemory (left, n, new, done, ends) fine last = transcript-of NoMemory left n new done ends last
+  transcript-stopped IoFailed so fine last = absurd (fine refl)
+
+  -- a beginning of a transcript: of some answers, of which some may be left unprinted, as where memory is refused behind them
+  begun-of : (done : AreBegun bytes (empty_desk 0) before after) → (left : List (List ℕ)) → done.left ≡ left → PrintsTranscript before after IoFailed bytes
+  begun-of done [] none = (
+    Done,
+    done.text ++ [],
+    record {
+      answered = done.answered;
+      left = done.left;
+      lines_are = done.lines_are;
+      text = done.text;
+      desk = done.new;
+      answers = done.answers;
+      ends = none;
+      printed_is = refl;
+    },
+    AppendsStart-longer before after done.text [] done.printed,
+  )
+  begun-of done (line ∷ later) some = (
+    NoMemory,
+    done.text ++ last_line NoMemory,
+    record {
+      answered = done.answered;
+      left = done.left;
+      lines_are = done.lines_are;
+      text = done.text;
+      desk = done.new;
+      answers = done.answers;
+      ends = inr (subst (λ (lines : List (List ℕ)). 0 < length lines) (sym some) (omega arith));
+      printed_is = refl;
+    },
+    AppendsStart-longer before after done.text (last_line NoMemory) done.printed,
+  )
+
+  -- or of all answers, and a beginning of the last line
+  begun-last : (end : Outcome) (left : List (List ℕ)) (n : ℕ) (new : Desk Name) → AreObeyed bytes (empty_desk 0) before left n new a → MayEnd n left end
+      → AppendsStart a after (last_line end) → PrintsTranscript before after IoFailed bytes
+  begun-last end left n new done ends last = (
+    end,
+    done.text ++ last_line end,
+    record {
+      answered = done.answered;
+      left = left;
+      lines_are = done.lines_are;
+      text = done.text;
+      desk = new;
+      answers = done.answers;
+      ends = subst (λ k. MayEnd k left end) done.number_is ends;
+      printed_is = refl;
+    },
+    AppendsStart-behind before a after done.text (last_line end) done.printed last,
+  )
+
+  begun-stopped : (stopped : Outcome) → StopsSo stopped bytes (empty_desk 0) before a → AppendsStart a after (last_line stopped) → PrintsTranscript before after IoFailed bytes
+  begun-stopped Done (left, n, new, done, ends) last = begun-last Done left n new done ends last
+  begun-stopped (BadLine number) (left, n, new, done, ends) last = begun-last (BadLine number) left n new done ends last
+  begun-stopped NoMemory (left, n, new, done, ends) last = begun-last NoMemory left n new done ends last
+  begun-stopped IoFailed done last =
+      let kept = Keeps-begun a after last in
+      let begun : AreBegun bytes (empty_desk 0) before after = record {
+        answered = done.answered;
+        left = done.left;
+        lines_are = done.lines_are;
+        text = done.text;
+        new = done.new;
+        answers = done.answers;
+        printed = AppendsStart-kept before a after done.text done.printed kept;
+      } in
+      begun-of begun done.left refl
 
 -- a run that ends as its lines stopped, or by a write that failed
 pub ends-as_stopped : (known before a after : Option (List ℕ)) (stopped end : Outcome) → IfSome known (λ bytes. StopsSo stopped bytes (empty_desk 0) before a)
-    → (end ≢ IoFailed → end ≡ stopped) → (end ≢ IoFailed → Appends a after (last_line end)) → IfSome known (PrintsTranscript before after end)
-ends-as_stopped None before a after stopped end so same last = tt
-ends-as_stopped (Some bytes) before a after stopped IoFailed so same last = tt
-ends-as_stopped (Some bytes) before a after stopped Done so same last =
-    let it = same (λ e. absurd (cc e)) in
-    transcript-stopped bytes before a after Done (subst (λ o. StopsSo o bytes (empty_desk 0) before a) (sym it) so) (last (λ e. absurd (cc e)))
-ends-as_stopped (Some bytes) before a after stopped (BadLine number) so same last =
-    let it = same (λ e. absurd (cc e)) in
-    transcript-stopped bytes before a after (BadLine number) (subst (λ o. StopsSo o bytes (empty_desk 0) before a) (sym it) so) (last (λ e. absurd (cc e)))
-ends-as_stopped (Some bytes) before a after stopped NoMemory so same last =
-    let it = same (λ e. absurd (cc e)) in
-    transcript-stopped bytes before a after NoMemory (subst (λ o. StopsSo o bytes (empty_desk 0) before a) (sym it) so) (last (λ e. absurd (cc e)))
+    → (end ≢ IoFailed → end ≡ stopped) → (end ≢ IoFailed → Appends a after (last_line end)) → AppendsStart a after (last_line stopped)
+    → IfSome known (PrintsTranscript before after end)
+ends-as_stopped None before a after stopped end so same last begun = tt
+ends-as_stopped (Some bytes) before a after stopped end so same last begun = by end same last
+  where
+    as_stopped : (end : Outcome) → end ≢ IoFailed → (end ≢ IoFailed → end ≡ stopped) → (end ≢ IoFailed → Appends a after (last_line end)) → PrintsTranscript before after end bytes
+    as_stopped end fine same last =
+        transcript-stopped bytes before a after end (subst (λ o. StopsSo o bytes (empty_desk 0) before a) (sym (same fine)) so) fine (last fine)
+
+    by : (end : Outcome) → (end ≢ IoFailed → end ≡ stopped) → (end ≢ IoFailed → Appends a after (last_line end)) → PrintsTranscript before after end bytes
+    by IoFailed same last = begun-stopped bytes before a after stopped so begun
+    by Done same last = as_stopped Done (λ e. absurd (cc e)) same last
+    by (BadLine number) same last = as_stopped (BadLine number) (λ e. absurd (cc e)) same last
+    by NoMemory same last = as_stopped NoMemory (λ e. absurd (cc e)) same last
+
+-- where what a run printed could not be flushed, a beginning of a transcript is printed
+pub transcript-unflushed : (known before a after : Option (List ℕ)) (outcome : Outcome) → IfSome known (PrintsTranscript before a outcome) → Keeps a after
+    → IfSome known (PrintsTranscript before after IoFailed)
+transcript-unflushed None before a after outcome p kept = tt
+transcript-unflushed (Some bytes) before a after IoFailed (end, printed, is, begun) kept = (end, printed, is, AppendsStart-kept before a after printed begun kept)
+transcript-unflushed (Some bytes) before a after Done (printed, is, appends) kept =
+    (Done, printed, is, AppendsStart-all before after printed (Appends-keeping before a after printed appends kept))
+transcript-unflushed (Some bytes) before a after (BadLine number) (printed, is, appends) kept =
+    (BadLine number, printed, is, AppendsStart-all before after printed (Appends-keeping before a after printed appends kept))
+transcript-unflushed (Some bytes) before a after NoMemory (printed, is, appends) kept =
+    (NoMemory, printed, is, AppendsStart-all before after printed (Appends-keeping before a after printed appends kept))

@@ -1,9 +1,10 @@
 -- What a run prints, line after line.
-use Rattle.std.specs.Prelude.{◌≡◌, ◌⊎◌, ℕ, ◌+◌, ◌<◌, List, [], ◌∷◌, ◌++◌, Option, length, codes, ⊤}
+use Rattle.std.specs.Prelude.{◌≡◌, ◌⊎◌, ℕ, ◌+◌, ◌<◌, List, [], ◌∷◌, ◌++◌, Option, length, codes}
 use Rattle.std.specs.Fmt.{decimal}
 use Rattle.std.specs.Io.KnownBytes.{Appends}
 use Rattle.packrun_words.specs.Requests.{Request, Asks, IsBad}
 use Rattle.packrun_words.specs.Input.{lines_of}
+use Rattle.packrun_words.specs.Printing.{AppendsStart}
 use Rattle.packrun_lines.specs.Answers.{Name, Answers}
 use Rattle.packrun_lines.specs.Desk.{Desk, empty_desk}
 use Rattle.packrun_lines.specs.declared.outcome.Outcome.{Outcome}
@@ -48,8 +49,10 @@ pub record IsTranscript (input : List ℕ) (printed : List ℕ) (outcome : Outco
   pub ends : MayEnd (1 + length answered) left outcome
   pub printed_is : printed ≡ text ++ last_line outcome
 
--- a transcript of the input is printed behind what was there before, and nothing else; where that is not known, nothing
--- is said of what is printed, and of a run that ends as `IoFailed` nothing at all
+-- a transcript of the input is printed behind what was there before, and nothing else; of a run that ends as `IoFailed` a
+-- beginning of one, which may be any that the input has. Where what was there is not known, nothing is said of what is printed
+-- Example: `ok` and a line feed of `ok`, `ok`, `packed 0`, where the read of the second line failed
 abbrev pub PrintsTranscript : (before after : Option (List ℕ)) → Outcome → (input : List ℕ) → Type 0
-PrintsTranscript before after IoFailed input = ⊤
+PrintsTranscript before after IoFailed input =
+    (end : Outcome) × (printed : List ℕ) × IsTranscript input printed end × AppendsStart before after printed
 PrintsTranscript before after outcome input = (printed : List ℕ) × IsTranscript input printed outcome × Appends before after printed

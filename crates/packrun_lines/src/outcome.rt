@@ -12,7 +12,8 @@ pub enum Outcome {
     BadLine(u64),
     /// Memory was refused. What earlier lines printed stands.
     NoMemory,
-    /// A read or a write failed, or the input has more than 2^64 - 1 bytes, or as many lines.
+    /// A read or a write failed, or the input has more than 2^64 - 1 bytes. What was printed before
+    /// stands.
     IoFailed,
 }
 

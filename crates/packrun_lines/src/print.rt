@@ -1,16 +1,16 @@
 //! What a run prints.
-ghost use Rattle.std.specs.Prelude.{IfSome};
+ghost use Rattle.std.specs.Prelude.{◌++◌, codes};
+ghost use Rattle.std.specs.Fmt.{decimal};
 ghost use Rattle.packrun_lines.specs.Lines.{cuboid_text, placement_text, packed_text, sections_text, sums_text, refusal_text, reply_text};
 ghost use Rattle.packrun_words.specs.private.Printing.{Prints, PrintsAnswer};
 
-use packrun_words::print::{print_box, print_number, print_word, printed};
+use packrun_words::digits::Digits;
+use packrun_words::print::{print_box, print_bytes, print_parts};
 use packrun_words::stop::Stop;
 use packrun_words::word::Word;
-use rectangle_pack::{BinSection, BinStats, Outstanding, RectanglePackError, SessionError};
+use rectangle_pack::{BinSection, BinStats, Outstanding, SessionError};
 use rectangle_pack_sections::packed_location::section_at;
 use std::alloc::Allocator;
-use std::fmt::Display;
-use std::io;
 use std::io::Write;
 
 // Prints the placements that a packing made, a line each, and how many they are.
@@ -26,8 +26,16 @@ pub fn print_packed<A: Allocator, W: Write>(
     for placement in placements {
         print_placement(placement, out)?;
     }
-    let count = placements.len();
-    printed(writeln!(out, "packed {count}"))
+    print_count(b"packed ", placements.len(), out)
+}
+
+// Prints the text and the count, to the end of the line.
+fn print_count<W: Write>(text: &[u8], count: usize, out: &mut W) -> Result<(), Stop>
+    ensures { Prints (W.contents out.old) (W.contents out.new) result
+        (text.now ++ decimal count ++ codes "\n") }
+{
+    let digits = Digits::new(count as u128);
+    print_parts(&[text, digits.as_bytes(), b"\n"], out)
 }
 
 // Prints number, names and box of the placement.
@@ -46,9 +54,9 @@ fn print_placement<A: Allocator, W: Write>(
         bin,
         location,
     } = placement;
-    print_number(*number, out)?;
-    print_word(id, out)?;
-    print_word(bin, out)?;
+    let number = Digits::new(u128::from(*number));
+    let (number, id, bin) = (number.as_bytes(), id.as_bytes(), bin.as_bytes());
+    print_parts(&[number, b" ", id, b" ", bin, b" "], out)?;
     print_section(&section_at(location), out)
 }
 
@@ -61,8 +69,7 @@ pub fn print_list<W: Write>(sections: &[BinSection], out: &mut W) -> Result<(), 
     for section in sections {
         print_section(section, out)?;
     }
-    let count = sections.len();
-    printed(writeln!(out, "sections {count}"))
+    print_count(b"sections ", sections.len(), out)
 }
 
 fn print_section<W: Write>(section: &BinSection, out: &mut W) -> Result<(), Stop>
@@ -83,60 +90,65 @@ pub fn print_sums<W: Write>(stats: BinStats, out: &mut W) -> Result<(), Stop>
     //   placements, volume of the bin. [print_sums.free_and_placed_are_swapped]
     ensures { Prints (W.contents out.old) (W.contents out.new) result (sums_text stats) }
 {
-    let BinStats {
-        bin_volume,
-        free_volume,
-        placed_volume,
-        free_sections,
-        placements,
-    } = stats;
-    printed(writeln!(
-        out,
-        "free {free_volume} in {free_sections}, placed {placed_volume} in {placements}, \
-         bin {bin_volume}"
-    ))
+    let bin = Digits::new(stats.bin_volume);
+    let free = Digits::new(stats.free_volume);
+    let placed = Digits::new(stats.placed_volume);
+    let sections = Digits::new(stats.free_sections as u128);
+    let placements = Digits::new(stats.placements as u128);
+    let parts = [
+        b"free ",
+        free.as_bytes(),
+        b" in ",
+        sections.as_bytes(),
+        b", placed ",
+        placed.as_bytes(),
+        b" in ",
+        placements.as_bytes(),
+        b", bin ",
+        bin.as_bytes(),
+        b"\n",
+    ];
+    print_parts(&parts, out)
 }
 
 // Prints `ok`, or why the session refused.
-pub fn report<W: Write, T: Display + Drop>(
+pub fn report<W: Write>(
     answer: Result<(), SessionError>,
-    named: T,
+    named: &[u8],
     out: &mut W,
 ) -> Result<(), Stop>
     // `ok` is printed where a line is done. [report.done_prints_nothing]
     // Where a line was refused, what is printed and answered is as `refuse` says.
-    ensures { IfSome (T.output named) (λ name.
-        PrintsAnswer (W.contents out.old) (W.contents out.new) result (reply_text answer name)) }
+    ensures { PrintsAnswer (W.contents out.old) (W.contents out.new) result
+        (reply_text answer named.now) }
 {
     match answer {
-        Ok(()) => printed(out.write_all(b"ok\n")),
+        Ok(()) => print_bytes(b"ok\n", out),
         Err(error) => refuse(error, named, out),
     }
 }
 
-// Prints why the session refused; `named` is the bin, or the number, of which the line speaks.
-// Refused memory ends the run.
-pub fn refuse<W: Write, T: Display + Drop>(
-    error: SessionError,
-    named: T,
-    out: &mut W,
-) -> Result<(), Stop>
+// Prints why the session refused; `named` is the bin, or the digits of the number, of which the
+// line speaks. Refused memory ends the run.
+pub fn refuse<W: Write>(error: SessionError, named: &[u8], out: &mut W) -> Result<(), Stop>
     // Why a line was refused is printed. [refuse.unknown_bin_exists]
     // Where memory was refused nothing is printed, and the answer says so; each other error of a
     //   print is that a write failed. [refuse.no_memory_is_a_failed_write]
-    ensures { IfSome (T.output named) (λ name.
-        PrintsAnswer (W.contents out.old) (W.contents out.new) result (refusal_text error name)) }
+    ensures { PrintsAnswer (W.contents out.old) (W.contents out.new) result
+        (refusal_text error named.now) }
 {
     match error {
-        SessionError::DuplicateBin => printed(writeln!(out, "refused: bin {named} exists")),
-        SessionError::UnknownBin => printed(writeln!(out, "refused: bin {named} is unknown")),
-        SessionError::UnknownPlacement => {
-            printed(writeln!(out, "refused: placement {named} is unknown"))
+        SessionError::DuplicateBin => { print_parts(&[b"refused: bin ", named, b" exists\n"], out) }
+        SessionError::UnknownBin => {
+            print_parts(&[b"refused: bin ", named, b" is unknown\n"], out)
         }
-        SessionError::NumbersUsedUp => printed(writeln!(out, "refused: numbers are used up")),
+        SessionError::UnknownPlacement => {
+            print_parts(&[b"refused: placement ", named, b" is unknown\n"], out)
+        }
+        SessionError::NumbersUsedUp => print_bytes(b"refused: numbers are used up\n", out),
         SessionError::NotEnoughBinSpace => {
-            let text = RectanglePackError::NotEnoughBinSpace;
-            printed(writeln!(out, "refused: {text}"))
+            let text = b"refused: Not enough space to place all of the rectangles.\n";
+            print_bytes(text, out)
         }
         SessionError::OutOfMemory => Err(Stop::NoMemory),
     }

@@ -1,26 +1,29 @@
 //! Commands, a line each, from a reader to a writer.
-ghost use Rattle.std.specs.Prelude.{◌≡◌, ◌≢◌, [], IfSome, OnOk};
+ghost use Rattle.std.specs.Prelude.{◌≡◌, ◌≢◌, [], IfSome};
 ghost use Rattle.std.specs.Io.Buffered.{reader_remaining, writer_buffer, writer_contents};
 ghost use Rattle.std.specs.Io.KnownBytes.{Appends};
 ghost use Rattle.packrun_lines.specs.Desk.{empty_desk};
 ghost use Rattle.packrun_lines.specs.private.Obeying.{IsLineObeyed, StopsSo, outcome_of};
 ghost use Rattle.packrun_lines.specs.Transcripts.{PrintsTranscript, last_line};
+ghost use Rattle.packrun_words.specs.Printing.{AppendsStart};
+ghost use Rattle.packrun_words.specs.private.Printing.{Prints};
 
 use crate::outcome::Outcome;
 use crate::store::Store;
 use packrun_words::command::{LONGEST_LINE, parse};
+use packrun_words::digits::Digits;
 use packrun_words::input::next_line;
+use packrun_words::print::{print_bytes, print_parts};
 use packrun_words::stop::Stop;
 use std::alloc::Allocator;
-use std::io;
 use std::io::{BufReader, BufWriter, Read, Write};
 
 /// Obeys the commands of `reader`, a line each, and prints to `writer`.
 ///
 /// The writer is written to piece by piece, and flushed before each read that may have to wait, and
 /// at the end: [`run_buffered`] takes a buffered one. Lines are numbered from 1, and placements
-/// from 0. What lines before the end printed stands. Where the last line of a run cannot be
-/// printed, the outcome is `IoFailed`.
+/// from 0. What lines before the end printed stands, also where a read or a write fails. Where the
+/// last line of a run cannot be printed, the outcome is `IoFailed`.
 pub fn run_lines<R: Read, W: Write, A: Allocator + Copy>(
     alloc: A,
     reader: &mut R,
@@ -30,8 +33,9 @@ pub fn run_lines<R: Read, W: Write, A: Allocator + Copy>(
     //   the transcript of the input, and nothing else. It ends at the end of the input, at the
     //   first bad line with its number, or for want of memory, before any of its lines: then some
     //   lines from the first are answered, none of the others is, and the last line says so. Where
-    //   the outcome is `IoFailed`, nothing is said. [obey_each.line_is_obeyed_twice,
-    //   obey_each.empty_line_has_no_number, obey_all.panics_without_memory]
+    //   the outcome is `IoFailed`, a beginning of a transcript of the input is printed, and nothing
+    //   else. [obey_each.line_is_obeyed_twice, obey_each.empty_line_has_no_number,
+    //   obey_each.unfinished_line_is_obeyed, obey_all.panics_without_memory]
     ensures transcript { IfSome (R.remaining reader.old)
         (PrintsTranscript (W.contents writer.old) (W.contents writer.new) result) }
 {
@@ -90,14 +94,13 @@ fn obey_each<R: Read, W: Write, A: Allocator + Copy>(
     ensures { IfSome (reader_remaining R.remaining input.old) (λ bytes. StopsSo (outcome_of result)
         bytes store.old (W.contents out.old) (W.contents out.new)) }
 {
-    let mut total = 0u64;
-    for number in 1..=u64::MAX {
-        if !next_line(input, line, &mut total, out)? {
-            return Ok(());
-        }
+    let (mut total, mut number) = (0u64, 0u64);
+    while next_line(input, line, &mut total, out)? {
+        // Each line has a byte, so there are no more lines than bytes.
+        number += 1;
         obey_line(store, number, line.as_slice(), out)?;
     }
-    Err(Stop::IoFailed)
+    Ok(())
 }
 
 fn obey_line<W: Write, A: Allocator + Copy>(
@@ -120,6 +123,8 @@ fn end<W: Write>(ended: Result<(), Stop>, out: &mut W) -> Outcome
     ensures outcome { result ≢ Outcome.IoFailed → result ≡ outcome_of ended }
     ensures printed { result ≢ Outcome.IoFailed →
         Appends (W.contents out.old) (W.contents out.new) (last_line result) }
+    ensures begun { AppendsStart (W.contents out.old) (W.contents out.new)
+        (last_line (outcome_of ended)) }
 {
     let outcome = outcome_of(ended);
     if outcome == Outcome::IoFailed || print_end(outcome, out).is_err() || out.flush().is_err() {
@@ -135,6 +140,9 @@ pub fn end_without_memory<W: Write>(writer: &mut W) -> Outcome
     // `Out of memory.` is printed, unless the outcome is `IoFailed`.
     ensures printed { result ≢ Outcome.IoFailed →
         Appends (W.contents writer.old) (W.contents writer.new) (last_line Outcome.NoMemory) }
+    // A beginning of it is printed, and nothing else, whatever the outcome.
+    ensures begun { AppendsStart (W.contents writer.old) (W.contents writer.new)
+        (last_line Outcome.NoMemory) }
 {
     end(Err(Stop::NoMemory), writer)
 }
@@ -151,12 +159,15 @@ fn outcome_of(ended: Result<(), Stop>) -> Outcome
 }
 
 // Prints the last line of a run that ends so.
-fn print_end<W: Write>(outcome: Outcome, out: &mut W) -> io::Result<()>
-    ensures { OnOk result (Appends (W.contents out.old) (W.contents out.new) (last_line outcome)) }
+fn print_end<W: Write>(outcome: Outcome, out: &mut W) -> Result<(), Stop>
+    ensures { Prints (W.contents out.old) (W.contents out.new) result (last_line outcome) }
 {
     match outcome {
         Outcome::Done | Outcome::IoFailed => Ok(()),
-        Outcome::BadLine(number) => writeln!(out, "line {number} is bad"),
-        Outcome::NoMemory => writeln!(out, "Out of memory."),
+        Outcome::BadLine(number) => {
+            let number = Digits::new(u128::from(number));
+            print_parts(&[b"line ", number.as_bytes(), b" is bad\n"], out)
+        }
+        Outcome::NoMemory => print_bytes(b"Out of memory.\n", out),
     }
 }

@@ -18,6 +18,7 @@ ghost use Rattle.packrun_lines.specs.private.Calls.{UnlessNoMemory, IsFound};
 use crate::packer::Packer;
 use crate::print::{print_list, print_packed, print_sums, refuse, report};
 use packrun_words::command::{Command, Size};
+use packrun_words::digits::Digits;
 use packrun_words::stop::Stop;
 use packrun_words::word::{Word, push_words};
 use rectangle_pack::{BinStats, SessionError};
@@ -67,16 +68,22 @@ impl<A: Allocator + Copy> Store<A> {
     {
         match command {
             Command::Nothing => Ok(()),
-            Command::Bin { name, size } => report(self.add_bin(name, size), name, out),
-            Command::Rect { id, size, groups } => report(self.push_rect(id, size, groups), id, out),
-            Command::Exclude { one, other } => report(self.exclude(one, other), one, out),
+            Command::Bin { name, size } => {
+                report(self.add_bin(name, size), name.as_bytes(), out)
+            }
+            Command::Rect { id, size, groups } => {
+                report(self.push_rect(id, size, groups), id.as_bytes(), out)
+            }
+            Command::Exclude { one, other } => {
+                report(self.exclude(one, other), one.as_bytes(), out)
+            }
             Command::Pack => self.pack(out),
-            Command::Release(number) => report(self.packer.release(number), number, out),
+            Command::Release(number) => self.release(number, out),
             Command::Sections { name } => self.print_sections(name, out),
             Command::Coalesce { name, idx, range } => {
-                report(self.coalesce(name, idx, range), name, out)
+                report(self.coalesce(name, idx, range), name.as_bytes(), out)
             }
-            Command::Sweep { name } => report(self.sweep(name), name, out),
+            Command::Sweep { name } => report(self.sweep(name), name.as_bytes(), out),
             Command::Stats { name } => self.print_stats(name, out),
         }
     }
@@ -143,8 +150,16 @@ impl<A: Allocator + Copy> Store<A> {
     {
         match self.packer.pack() {
             Ok(packed) => print_packed(self.packer.last_placements(packed.count), out),
-            Err(error) => refuse(error, "pack", out),
+            Err(error) => refuse(error, b"pack", out),
         }
+    }
+
+    fn release<W: Write>(&mut self, number: u64, out: &mut W) -> Result<(), Stop>
+        ensures { IsObeyed (asks.Release number) self.old (W.contents out.old) result self.new
+            (W.contents out.new) }
+    {
+        let digits = Digits::new(u128::from(number));
+        report(self.packer.release(number), digits.as_bytes(), out)
     }
 
     fn print_sections<W: Write>(&self, name: &str, out: &mut W) -> Result<(), Stop>
@@ -154,7 +169,7 @@ impl<A: Allocator + Copy> Store<A> {
         let bin = Word::new(self.alloc, name)?;
         match self.packer.sections(&bin) {
             Some(sections) => print_list(sections, out),
-            None => refuse(SessionError::UnknownBin, name, out),
+            None => refuse(SessionError::UnknownBin, name.as_bytes(), out),
         }
     }
 
@@ -172,7 +187,7 @@ impl<A: Allocator + Copy> Store<A> {
     {
         match self.stats(name) {
             Ok(stats) => print_sums(stats, out),
-            Err(error) => refuse(error, name, out),
+            Err(error) => refuse(error, name.as_bytes(), out),
         }
     }
 }

@@ -1,3 +1,4 @@
+pub mod Decimals
 pub mod Names
 pub mod NextLines
 pub mod Printing

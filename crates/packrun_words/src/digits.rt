@@ -3,8 +3,10 @@ ghost use Rattle.std.specs.Prelude.{◌≡◌, ◌+◌, ◌<◌, ◌≤◌, ◌�
 ghost use Rattle.std.specs.Fmt.{decimal};
 ghost use Rattle.packrun_words.specs.Numbers.{three_text};
 
-/// The most bytes of a number of 64 bits and what stands behind it.
-pub const LONGEST_NUMBER: usize = 21;
+use std::marker::Model;
+
+// The most digits of a number of 128 bits.
+const LONGEST_NUMBER: usize = 39;
 
 // The most bytes of a number of 32 bits and what stands behind it.
 const LONGEST_SIDE: usize = 11;
@@ -12,14 +14,56 @@ const LONGEST_SIDE: usize = 11;
 /// The most bytes of three numbers of 32 bits and what stands behind each.
 pub const LONGEST_THREE: usize = 3 * LONGEST_SIDE;
 
-/// Puts the number, and behind it this byte, before `end`. Where the number begins.
-pub fn put_number(number: u64, behind: u8, line: &mut [u8], end: usize) -> usize
+/// The decimal digits of a number.
+#[derive(Drop)]
+pub struct Digits {
+    bytes: [u8; LONGEST_NUMBER],
+    start: usize,
+}
+
+impl Model for Digits {
+    ghost use Rattle.std.specs.Prelude.{ℕ, List, ◌≤◌, drop, length};
+
+    ghost Value = { List ℕ };
+
+    ghost view = { λ d. drop d.start d.bytes };
+
+    ghost invariant = { λ d. d.start ≤ length d.bytes };
+}
+
+impl Digits {
+    /// The digits of this number.
+    pub fn new(number: u128) -> Digits
+        ensures { result ≡ decimal number }
+    {
+        let mut bytes = [0; LONGEST_NUMBER];
+        let start = put_number(number, &mut bytes, LONGEST_NUMBER);
+        Digits { bytes, start }
+    }
+
+    /// The digits as bytes.
+    pub fn as_bytes(&self) -> &[u8]
+        ensures { result.now ≡ self.now }
+    {
+        &self.bytes[self.start..]
+    }
+}
+
+// Puts the number before `end`. Where it begins.
+fn put_number(number: u128, line: &mut [u8], end: usize) -> usize
     requires room { LONGEST_NUMBER ≤ end }
     requires within { end ≤ length line.old }
-    ensures written { drop result line.new ≡ decimal number ++ behind ∷ drop end line.old }
+    ensures start { result ≤ end }
+    ensures written { drop result line.new ≡ decimal number ++ drop end line.old }
 {
-    line[end - 1] = behind;
-    write_digits(number, line, end - 1)
+    let mut rest = number;
+    let mut at = end;
+    while rest > u64::MAX as u128 {
+        at -= 1;
+        line[at] = b'0' + (rest % 10) as u8;
+        rest /= 10;
+    }
+    write_digits(rest as u64, line, at)
 }
 
 /// Puts three numbers before `end`, a space behind each but the last, and behind that this byte.

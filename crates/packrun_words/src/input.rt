@@ -1,9 +1,10 @@
 //! The lines of an input.
-ghost use Rattle.std.specs.Prelude.{◌≡◌, ◌≢◌, ◌<◌, ◌≤◌, ◌-◌, All, take, length, vec_len, nat_lt, IfOk, IfErr, OnOk};
+ghost use Rattle.std.specs.Prelude.{◌≡◌, ◌≢◌, ◌<◌, ◌≤◌, ◌+◌, ◌-◌, ◌^◌, All, take, length, vec_len, nat_lt, IfOk, IfErr, OnOk};
+ghost use Rattle.std.specs.IoError.{error_kind};
 ghost use Rattle.std.specs.Io.{StartsWith};
 ghost use Rattle.std.specs.Io.Buffered.{reader_remaining};
 ghost use Rattle.std.specs.Io.KnownBytes.{Keeps};
-ghost use Rattle.packrun_words.specs.private.Reading.{IsLineRead, IsPartRead, has_ended};
+ghost use Rattle.packrun_words.specs.private.Reading.{IsLineRead, IsPartRead, IsCounted, has_ended};
 
 use crate::command::LONGEST_LINE;
 use crate::stop::Stop;
@@ -14,13 +15,17 @@ use std::io::{BufRead, BufReader, ErrorKind, Read, Write};
 /// Reads the next line into `line`, with its line feed, or the first 4097 bytes of one that is
 /// longer. Nothing is in `line` at the end of the input.
 ///
-/// An error is the reader's, or `line` had less room and memory was refused.
+/// A read that a signal interrupts is tried again. An error is the reader's, or `line` had less room
+/// and memory was refused.
 pub fn read_line<B: BufRead, A: Allocator>(input: &mut B, line: &mut Vec<u8, A>) -> io::Result<()>
     // What is read is all up to the first line feed, itself among it, and at most 4097 bytes; fewer
     //   without a line feed only at the end of the input.
     //   [read_part.line_feed_after_4096_bytes_is_left]
-    ensures { OnOk result
+    ensures read { OnOk result
         (IsLineRead (B.remaining input.old) line.new.items (B.remaining input.new)) }
+    // An error is never that a read was interrupted: it is tried again, also within a line.
+    //   [read_part.interrupted_line_is_given_up]
+    ensures retried { IfErr result (λ error. error_kind error ≢ ErrorKind.Interrupted) }
 {
     line.clear();
     for _ in 0..u64::MAX {
@@ -28,7 +33,7 @@ pub fn read_line<B: BufRead, A: Allocator>(input: &mut B, line: &mut Vec<u8, A>)
             return Ok(());
         }
     }
-    Err(io::Error::from(ErrorKind::Interrupted))
+    Err(io::Error::from(ErrorKind::Other))
 }
 
 // Moves to the line what the reader has at hand of it. Whether the line has ended, or is too long.
@@ -37,6 +42,7 @@ fn read_part<B: BufRead, A: Allocator>(input: &mut B, line: &mut Vec<u8, A>) -> 
     ensures appends { StartsWith line.new.items line.old.items }
     ensures part { IfOk result (IsPartRead (B.remaining input.old) line.old.items line.new.items
         (B.remaining input.new)) }
+    ensures retried { IfErr result (λ error. error_kind error ≢ ErrorKind.Interrupted) }
 {
     let bytes = match input.fill_buf() {
         Ok(bytes) => bytes,
@@ -74,8 +80,8 @@ fn length_of_part(bytes: &[u8], most: usize) -> usize
     most
 }
 
-/// Reads the next line, and adds its bytes to those that were read. Whether there was one. What is
-/// printed is flushed first, where the line is not buffered to its end.
+/// Reads the next line, and adds its bytes to `total`, those that were read before. Whether there
+/// was one. What is printed is flushed first, where the line is not buffered to its end.
 ///
 /// An error is `IoFailed`: the flush or the read failed, `line` had less room than the longest line
 /// and memory was refused, or more than 2^64 - 1 bytes were read.
@@ -88,17 +94,31 @@ pub fn next_line<R: Read, W: Write, A: Allocator>(
     ensures read { OnOk result (IsLineRead (reader_remaining R.remaining input.old) line.new.items
         (reader_remaining R.remaining input.new)) }
     ensures some { IfOk result (λ more. more ≡ nat_lt 0 (length line.new.items)) }
-    ensures printed { OnOk result (Keeps (W.contents out.old) (W.contents out.new)) }
+    ensures counted { OnOk result (IsCounted total.old (length line.new.items) total.new) }
+    ensures kept { Keeps (W.contents out.old) (W.contents out.new) }
     ensures failed { IfErr result (λ stop. stop ≡ Stop.IoFailed) }
 {
     flush_before_read(input, out)?;
     read_line(input, line)?;
     let count = line.len() as u64;
-    let Some(sum) = total.checked_add(count) else {
+    count_bytes(total, count)?;
+    Ok(count > 0)
+}
+
+// Adds to the bytes that were read.
+fn count_bytes(total: &mut u64, more: u64) -> Result<(), Stop>
+    // The bytes of a line are added to those that were read before it.
+    ensures counted { OnOk result (IsCounted total.old more total.new) }
+    // An input is too long only where more than 2^64 - 1 bytes were read.
+    //   [count_bytes.million_is_too_many]
+    ensures too_many { IfErr result
+        (λ stop. (stop ≡ Stop.IoFailed) × (2 ^ 64 ≤ total.old + more)) }
+{
+    let Some(sum) = total.checked_add(more) else {
         return Err(Stop::IoFailed);
     };
     *total = sum;
-    Ok(count > 0)
+    Ok(())
 }
 
 // Flushes what is printed, where the next line is not buffered to its end.
@@ -106,7 +126,7 @@ fn flush_before_read<R: Read, W: Write, A: Allocator>(
     input: &BufReader<R, A>,
     out: &mut W,
 ) -> io::Result<()>
-    ensures { OnOk result (Keeps (W.contents out.old) (W.contents out.new)) }
+    ensures { Keeps (W.contents out.old) (W.contents out.new) }
 {
     if input.buffer().contains(&b'\n') {
         return Ok(());

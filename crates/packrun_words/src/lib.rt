@@ -3,7 +3,7 @@
 #![tactic(auto)]
 
 pub mod command;
-mod digits;
+pub mod digits;
 pub mod input;
 pub mod print;
 pub mod stop;

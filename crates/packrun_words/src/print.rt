@@ -1,50 +1,67 @@
-//! Numbers, words and boxes of the lines that a run prints.
-ghost use Rattle.std.specs.Prelude.{◌≡◌, [], ◌∷◌, ◌++◌, IsOk, OnOk, IfErr};
-ghost use Rattle.std.specs.Fmt.{decimal};
+//! Bytes, numbers and boxes of the lines that a run prints.
+ghost use Rattle.std.specs.Prelude.{◌≡◌, ◌≤◌, length, take, IfOk, IfErr};
+ghost use Rattle.std.specs.Io.KnownBytes.{Appends, Keeps};
 ghost use Rattle.packrun_words.specs.Numbers.{box_text};
-ghost use Rattle.packrun_words.specs.private.Printing.{Prints};
+ghost use Rattle.packrun_words.specs.private.Printing.{Prints, bytes_of_parts};
 
-use crate::digits::{LONGEST_NUMBER, LONGEST_THREE, put_number, put_three};
+use crate::digits::{LONGEST_THREE, put_three};
 use crate::stop::Stop;
-use crate::word::Word;
-use std::alloc::Allocator;
-use std::io;
-use std::io::Write;
+use std::io::{ErrorKind, Write};
 
-/// What a write answers, as a run ends by it: `IoFailed` where it failed, whatever the error.
-pub fn printed(answer: io::Result<()>) -> Result<(), Stop>
-    ensures done { OnOk result (IsOk answer) }
-    ensures failed { IfErr result (λ stop. stop ≡ Stop.IoFailed) }
+/// Prints the parts, one behind the other. An error is `IoFailed`: a write failed, and a beginning
+/// of this may be printed.
+pub fn print_parts<W: Write>(parts: &[&[u8]], out: &mut W) -> Result<(), Stop>
+    // The parts are printed, one behind the other; or, where a write failed, a beginning of them.
+    //   [print_parts.long_part_is_cut]
+    ensures { Prints (W.contents out.old) (W.contents out.new) result (bytes_of_parts parts.now) }
 {
-    Ok(answer?)
+    for part in parts {
+        print_bytes(part, out)?;
+    }
+    Ok(())
 }
 
-/// Prints the number and the space behind it. An error is `IoFailed`: the write failed, and some of
-/// this may be printed.
-pub fn print_number<W: Write>(number: u64, out: &mut W) -> Result<(), Stop>
-    ensures { Prints (W.contents out.old) (W.contents out.new) result (decimal number ++ 32 ∷ []) }
+/// Prints the bytes. An error is `IoFailed`: a write failed, and a beginning of them may be
+/// printed.
+pub fn print_bytes<W: Write>(bytes: &[u8], out: &mut W) -> Result<(), Stop>
+    // The bytes are printed, or, where a write failed, a beginning of them.
+    //   [print_some.interrupted_write_counts]
+    ensures { Prints (W.contents out.old) (W.contents out.new) result bytes.now }
 {
-    let mut line = [0; LONGEST_NUMBER];
-    let start = put_number(number, b' ', &mut line, LONGEST_NUMBER);
-    printed(out.write_all(&line[start..]))
+    let mut rest = bytes;
+    for _ in 0..u64::MAX {
+        if rest.is_empty() {
+            return Ok(());
+        }
+        let count = print_some(rest, out)?;
+        rest = &rest[count..];
+    }
+    Err(Stop::IoFailed)
 }
 
-/// Prints the word and the space behind it. An error is `IoFailed`: a write failed, and some of
-/// this may be printed.
-pub fn print_word<A: Allocator, W: Write>(word: &Word<A>, out: &mut W) -> Result<(), Stop>
-    ensures { Prints (W.contents out.old) (W.contents out.new) result (word.now ++ 32 ∷ []) }
+// Prints some of the bytes by one write. How many, none where a signal interrupts the write.
+fn print_some<W: Write>(bytes: &[u8], out: &mut W) -> Result<usize, Stop>
+    ensures within { IfOk result (λ count. count ≤ length bytes.now) }
+    ensures printed { IfOk result
+        (λ count. Appends (W.contents out.old) (W.contents out.new) (take count bytes.now)) }
+    ensures failed { IfErr result
+        (λ stop. (stop ≡ Stop.IoFailed) × Keeps (W.contents out.old) (W.contents out.new)) }
 {
-    printed(out.write_all(word.as_bytes()))?;
-    printed(out.write_all(b" "))
+    match out.write(bytes) {
+        Ok(0) => Err(Stop::IoFailed),
+        Ok(count) => Ok(count),
+        Err(error) if error.kind() == ErrorKind::Interrupted => Ok(0),
+        Err(_) => Err(Stop::IoFailed),
+    }
 }
 
 /// Prints the least corner of a box and its sides, to the end of the line. An error is `IoFailed`:
-/// the write failed, and some of this may be printed.
+/// a write failed, and a beginning of this may be printed.
 pub fn print_box<W: Write>(corner: [u32; 3], sides: [u32; 3], out: &mut W) -> Result<(), Stop>
     ensures { Prints (W.contents out.old) (W.contents out.new) result (box_text corner sides) }
 {
     let mut line = [0; 2 * LONGEST_THREE];
     let middle = put_three(sides, b'\n', &mut line, 2 * LONGEST_THREE);
     let start = put_three(corner, b' ', &mut line, middle);
-    printed(out.write_all(&line[start..]))
+    print_bytes(&line[start..], out)
 }

@@ -1,6 +1,7 @@
 //! Whole runs over memory, by the module that each shows: how lines are read (`command`), what the
 //! commands do (`store`), statuses (`outcome`), and runs in which reads, writes and requests for
-//! memory fail, or whose lines are drawn by chance (`run`).
+//! memory fail, by how the input comes and what is shown meanwhile, or whose lines are drawn by
+//! chance (`run`).
 #![tactic(auto)]
 
 #[cfg(test)]

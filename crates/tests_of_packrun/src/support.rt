@@ -1,7 +1,7 @@
 //! Readers and writers that fail, and runs over memory.
 
 use packrun_lines::outcome::Outcome;
-use packrun_lines::run::{end_without_memory, run_buffered};
+use packrun_lines::run::{end_without_memory, run_buffered, run_lines};
 use std::alloc::{Allocator, Global};
 use std::io;
 use std::io::{BufWriter, Cursor, Read, Write};
@@ -65,6 +65,27 @@ impl Write for Kept {
     }
 }
 
+// What a run prints to: a buffer over the writer, as the program has one, or the writer itself.
+#[derive(Clone, Copy)]
+pub(crate) enum Over {
+    Buffer,
+    Writer,
+}
+
+pub(crate) const BOTH: [Over; 2] = [Over::Buffer, Over::Writer];
+
+pub(crate) fn run_over<R: Read, W: Write, A: Allocator + Copy>(
+    over: Over,
+    alloc: A,
+    reader: &mut R,
+    writer: &mut W,
+) -> Outcome {
+    match over {
+        Over::Buffer => run(alloc, reader, writer),
+        Over::Writer => run_lines(alloc, reader, writer),
+    }
+}
+
 // A run as the program makes it, over a buffer.
 pub(crate) fn run<R: Read, W: Write, A: Allocator + Copy>(
     alloc: A,
@@ -94,28 +115,34 @@ pub(crate) fn ended_so(
     assert_eq!(rt; written, output.as_bytes(), "{output}");
 }
 
-// The input, read in pieces of so many bytes, prints this and ends so.
-pub(crate) fn prints(
+// What this reader gives prints this and ends so.
+pub(crate) fn prints<R: Read>(
     rt: &impl Abort,
     alloc: Global,
-    (bytes, piece): (&[u8], usize),
+    (over, reader): (Over, &mut R),
     output: &str,
     outcome: Outcome,
 ) {
-    let mut reader = Pieces {
+    let mut written = Vec::new(alloc);
+    let ended = run_over(over, alloc, reader, &mut written);
+    ended_so(rt, ended, written.as_slice(), (output, outcome));
+}
+
+fn in_pieces(bytes: &[u8], piece: usize) -> Pieces<'_> {
+    Pieces {
         bytes,
         piece,
         good_reads: u64::MAX,
-    };
-    let mut written = Vec::new(alloc);
-    let ended = run(alloc, &mut reader, &mut written);
-    ended_so(rt, ended, written.as_slice(), (output, outcome));
+    }
 }
 
 // The input, whole and in pieces, prints this and ends so.
 pub(crate) fn says(rt: &impl Abort, alloc: Global, input: &[u8], output: &str, outcome: Outcome) {
     for piece in [usize::MAX, 1, 2, 3, 7] {
-        prints(rt, alloc, (input, piece), output, outcome);
+        for over in BOTH {
+            let mut reader = in_pieces(input, piece);
+            prints(rt, alloc, (over, &mut reader), output, outcome);
+        }
     }
 }
 

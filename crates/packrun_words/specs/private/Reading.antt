@@ -1,5 +1,5 @@
 -- Lines that are read part by part.
-use Rattle.std.specs.Prelude.{◌≡◌, ◌≢◌, ℕ, ◌≤◌, ◌==◌, Bool, true, false, ◌||◌, OnSome, List, All, Option, length}
+use Rattle.std.specs.Prelude.{◌≡◌, ◌≢◌, ℕ, ◌+◌, ◌<◌, ◌≤◌, ◌^◌, ◌==◌, Bool, true, false, ◌||◌, OnSome, List, All, Option, length}
 use Rattle.std.specs.Io.{StopsAt, IsEmptyOrEndsWith, appended_bytes}
 use Rattle.std.specs.Io.KnownBytes.{Consumes, IsAtEnd}
 use Rattle.std.specs.Io.BufRead.{ends_with_byte}
@@ -24,3 +24,7 @@ pub record IsPartRead (old : Option (List ℕ)) (before after : List ℕ) (new :
   pub goes_on : ended ≡ false → All (λ b. b ≢ 10) (appended_bytes before after) × (length after ≤ 4096)
   pub ends : ended ≡ true → length after ≤ 4096 → IsEmptyOrEndsWith (appended_bytes before after) 10
   pub at_end : ended ≡ true → length after ≤ 4096 → length (appended_bytes before after) ≡ 0 → OnSome old (IsAtEnd new)
+
+-- so many more bytes were read, and all of them are fewer than 2^64
+abbrev pub IsCounted : (old more new : ℕ) → Type 0
+IsCounted old more new = (new ≡ old + more) × (new < 2 ^ 64)

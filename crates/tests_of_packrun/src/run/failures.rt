@@ -1,6 +1,6 @@
 //! Reads, writes and requests for memory of which each fails in turn.
 
-use crate::support::{Kept, Pieces, Text, ended_so, run};
+use crate::support::{BOTH, Kept, Over, Pieces, Text, ended_so, run_over};
 use packrun_lines::outcome::Outcome;
 use std::alloc::Global;
 use std::process::Abort;
@@ -46,10 +46,11 @@ const LONG_PRINTED: &str =
      4 0 0 5 4 1\nsections 1\nok\nfree 20 in 1, placed 16 in 1, bin 36\n\
      refused: bin the-atlas-of-a-book is unknown\n";
 
-// What a run over memory is given: how many requests for memory are granted, and the most bytes and
-// the good ones of reads, and of writes.
+// What a run over memory is given: what it prints to, how many requests for memory are granted, and
+// the most bytes and the good ones of reads, and of writes.
 #[derive(Clone, Copy)]
 struct Given {
+    over: Over,
     granted: u64,
     reads: (usize, u64),
     writes: (usize, u64),
@@ -57,6 +58,7 @@ struct Given {
 
 // Nothing fails, and each read and each write takes all that there is.
 const ALL: Given = Given {
+    over: Over::Buffer,
     granted: u64::MAX,
     reads: (usize::MAX, u64::MAX),
     writes: (usize::MAX, u64::MAX),
@@ -74,7 +76,7 @@ fn run_with(rt: &impl Abort, alloc: Global, lines: &str, given: Given) -> (Outco
     };
     let (piece, good_writes) = given.writes;
     let mut writer = Kept::new(piece, good_writes);
-    let outcome = run(refusing, &mut reader, &mut writer);
+    let outcome = run_over(given.over, refusing, &mut reader, &mut writer);
     gave_back(rt, refusing, outcome);
     (outcome, writer)
 }
@@ -131,14 +133,15 @@ fn printed_after(read: usize) -> usize {
 }
 
 // Each of so many reads fails in turn; the last of them finds the end.
-fn fails_at_each_read(rt: &impl Abort, alloc: Global, piece: usize, needed: u64) {
+fn fails_at_each_read(rt: &impl Abort, alloc: Global, over: Over, (piece, needed): (usize, u64)) {
+    let given = Given { over, ..ALL };
     for good in 0..needed {
         let reads = (piece, good);
         let count = printed_after(piece.saturating_mul(good as usize));
-        fails_after(rt, alloc, Given { reads, ..ALL }, count);
+        fails_after(rt, alloc, Given { reads, ..given }, count);
     }
     let reads = (piece, needed);
-    comes_out(rt, alloc, Given { reads, ..ALL });
+    comes_out(rt, alloc, Given { reads, ..given });
 }
 
 // The most bytes of a read, and how many reads the lines need, which have 98 bytes.
@@ -146,8 +149,10 @@ const READS: [(usize, u64); 4] = [(1, 99), (7, 15), (97, 3), (98, 2)];
 
 #[test]
 fn failing_reads(rt: HostRuntime) {
-    for (piece, needed) in &READS {
-        fails_at_each_read(&rt, rt.alloc(), *piece, *needed);
+    for over in BOTH {
+        for reads in &READS {
+            fails_at_each_read(&rt, rt.alloc(), over, *reads);
+        }
     }
 }
 
@@ -224,33 +229,44 @@ fn failing_writes(rt: HostRuntime) {
     }
 }
 
+// Without a buffer each byte that is printed is written in turn, whatever is read at once.
+fn fails_at_each_byte(rt: &impl Abort, alloc: Global, read: usize) {
+    let given = Given {
+        over: Over::Writer,
+        reads: (read, u64::MAX),
+        ..ALL
+    };
+    for good in 0..PRINTED.len() as u64 {
+        let writes = (1, good);
+        fails_after(rt, alloc, Given { writes, ..given }, good as usize);
+    }
+    let writes = (1, PRINTED.len() as u64);
+    comes_out(rt, alloc, Given { writes, ..given });
+}
+
+#[test]
+fn failing_bytes(rt: HostRuntime) {
+    for read in [98, 7, 1] {
+        fails_at_each_byte(&rt, rt.alloc(), read);
+    }
+}
+
 fn is_start(written: &[u8], whole: &[u8], length: u64) -> bool {
     written.len() as u64 == length && whole.starts_with(written)
 }
 
-// Where so many requests are granted, and so many bytes can be written, these are written.
-fn is_cut_after(
-    rt: &impl Abort,
-    alloc: Global,
-    lines: &str,
-    (granted, good): (u64, u64),
-    whole: &[u8],
-) {
-    let writes = (1, good);
-    let given = Given {
-        granted,
-        writes,
-        ..ALL
-    };
+// Where so many bytes can be written, these are written.
+fn is_cut_after(rt: &impl Abort, alloc: Global, lines: &str, given: Given, whole: &[u8]) {
     let (outcome, kept) = run_with(rt, alloc, lines, given);
     assert_eq!(rt; outcome, Outcome::IoFailed);
-    assert!(rt; is_start(kept.written(), whole, good));
+    assert!(rt; is_start(kept.written(), whole, given.writes.1));
 }
 
 // What is printed is cut off after each number of bytes that can be written.
-fn is_cut_off(rt: &impl Abort, alloc: Global, lines: &str, granted: u64, whole: &[u8]) {
+fn is_cut_off(rt: &impl Abort, alloc: Global, lines: &str, given: Given, whole: &[u8]) {
     for good in 0..whole.len() as u64 {
-        is_cut_after(rt, alloc, lines, (granted, good), whole);
+        let writes = (1, good);
+        is_cut_after(rt, alloc, lines, Given { writes, ..given }, whole);
     }
 }
 
@@ -262,24 +278,29 @@ fn ends_refused(written: &[u8], whole: &str) -> bool {
     }
 }
 
-// Whether these lines come to their end where so many requests are granted, and print all. Where a
-// request is refused, what was printed before stands, and the last line says so; where that cannot
-// be printed either, that is how the run ends.
-fn has_memory(rt: &impl Abort, alloc: Global, (lines, whole, last): Text, granted: u64) -> bool {
-    let (outcome, kept) = run_with(rt, alloc, lines, Given { granted, ..ALL });
+// Whether these lines come to their end with what is given, and print all. Where a request is
+// refused, what was printed before stands, and the last line says so; where that cannot be printed
+// either, that is how the run ends.
+fn has_memory(rt: &impl Abort, alloc: Global, (lines, whole, last): Text, given: Given) -> bool {
+    let (outcome, kept) = run_with(rt, alloc, lines, given);
     if outcome.status() != 3 {
         ended_so(rt, outcome, kept.written(), (whole, last));
         return true;
     }
     assert!(rt; ends_refused(kept.written(), whole));
-    is_cut_off(rt, alloc, lines, granted, kept.written());
+    is_cut_off(rt, alloc, lines, given, kept.written());
     false
 }
 
 // Each request is refused in turn, more than ten of them, until all are granted.
-fn refuses_each(rt: &impl Abort, alloc: Global, text: Text) {
+fn refuses_each(rt: &impl Abort, alloc: Global, over: Over, text: Text) {
     for granted in 0..200u64 {
-        if has_memory(rt, alloc, text, granted) {
+        let given = Given {
+            over,
+            granted,
+            ..ALL
+        };
+        if has_memory(rt, alloc, text, given) {
             assert!(rt; granted > 10);
             return;
         }
@@ -296,21 +317,25 @@ const TEXTS: [Text; 4] = [
 
 #[test]
 fn refused_memory(rt: HostRuntime) {
-    for text in &TEXTS {
-        refuses_each(&rt, rt.alloc(), *text);
+    for over in BOTH {
+        for text in &TEXTS {
+            refuses_each(&rt, rt.alloc(), over, *text);
+        }
     }
 }
 
 // Where the last line of a bad one cannot be printed, that is how the run ends.
 #[test]
 fn failing_last_line(rt: HostRuntime) {
-    let writes = (1, u64::MAX);
-    let (outcome, kept) = run_with(&rt, rt.alloc(), "bin", Given { writes, ..ALL });
-    ended_so(
-        &rt,
-        outcome,
-        kept.written(),
-        ("line 1 is bad\n", Outcome::BadLine(1)),
-    );
-    is_cut_off(&rt, rt.alloc(), "bin", u64::MAX, kept.written());
+    for over in BOTH {
+        let given = Given { over, ..ALL };
+        let (outcome, kept) = run_with(&rt, rt.alloc(), "bin", given);
+        ended_so(
+            &rt,
+            outcome,
+            kept.written(),
+            ("line 1 is bad\n", Outcome::BadLine(1)),
+        );
+        is_cut_off(&rt, rt.alloc(), "bin", given, kept.written());
+    }
 }

@@ -1,23 +1,46 @@
-use Rattle.std.proofs.Common.{◌∷◌, ◌++◌, subst}
+use Rattle.std.proofs.Common.{List, ℕ, [], ap, subst, ◌∙◌, ◌≡◌}
 use Rattle.std.specs.Fmt.{decimal}
-use Rattle.packrun_lines.specs.Lines.{cuboid_text}
+use Rattle.std.specs.Io.KnownBytes.{Appends}
+use Rattle.std.proofs.KnownBytes.{Appends-nil}
 use Rattle.rectangle_pack_sections.specs.Boxes.{Cuboid}
+use Rattle.packrun_lines.specs.Lines.{cuboid_text}
+use Rattle.packrun_words.specs.declared.stop.Stop.TheVariants.{IoFailed}
+use Rattle.packrun_words.specs.Printing.{AppendsStart}
 use Rattle.packrun_words.specs.private.Printing.{Prints}
-use Rattle.packrun_lines.proofs.Lines.{Prints-spaced, Appends-word}
+use Rattle.packrun_words.proofs.Printing.{Prints-behind, Prints-stopped}
+use Rattle.packrun_lines.proofs.Lines.{names_part, names_part-same, names_part-box}
 use Rattle.packrun_lines.proofs.print.print_placement.Goals as goal
+
+pub returns-in_err-print_parts : goal.returns-in_err-print_parts
+returns-in_err-print_parts g c =
+    let at = g.W.Write.contents c.args.out.now in
+    let mid = g.W.Write.contents c.print_parts.new.out in
+    let placement = c.args.placement.now in
+    let why = c.in_err-print_parts.field-0.0 in
+    let box = cuboid_text placement.location in
+    let names = names_part-same _ (decimal placement.number) _ placement.id _ placement.bin
+    (c.as_bytes-number.ensures ∙ c.new-number.ensures ∙ ap decimal c.from.ensures)
+    c.as_bytes-id.ensures c.as_bytes-bin.ensures in
+    let written = subst (λ (text : List ℕ). (why ≡ IoFailed) × AppendsStart at mid text) names c.in_err-print_parts.ensures in
+    subst (λ (text : List ℕ). Prints at mid c.from_residual.result text)
+    (names_part-box (decimal placement.number) placement.id placement.bin box)
+    (Prints-stopped at at mid c.from_residual.result why []
+    (names_part (decimal placement.number) placement.id placement.bin) box (Appends-nil at) written
+    c.from_residual.ensures.1)
 
 pub returns : goal.returns
 returns g c =
     let at = g.W.Write.contents c.args.out.now in
-    let placement = c.args.placement.now in
-    let number = g.W.Write.contents c.print_number.new.out in
-    let id = g.W.Write.contents c.print_word.new.out in
-    let bin = g.W.Write.contents c.print_word-2.new.out in
+    let mid = g.W.Write.contents c.print_parts.new.out in
     let end = g.W.Write.contents c.print_section.new.out in
+    let placement = c.args.placement.now in
     let box = cuboid_text placement.location in
-    let written = subst (λ (here : Cuboid). Prints bin end c.print_section.result (cuboid_text here)) c.section_at.ensures c.print_section.ensures in
-    let named = decimal placement.number ++ 32 ∷ placement.id in
-    let words = Appends-word at id bin named placement.bin
-    (Appends-word at number id (decimal placement.number) placement.id c.in_ok-print_number.ensures c.in_ok-print_word.ensures)
-    c.in_ok-print_word-2.ensures in
-    Prints-spaced at bin end c.print_section.result (named ++ 32 ∷ placement.bin) box words written
+    let names = names_part-same _ (decimal placement.number) _ placement.id _ placement.bin
+    (c.as_bytes-number.ensures ∙ c.new-number.ensures ∙ ap decimal c.from.ensures)
+    c.as_bytes-id.ensures c.as_bytes-bin.ensures in
+    let front = subst (λ (text : List ℕ). Appends at mid text) names c.in_ok-print_parts.ensures in
+    let written = subst (λ (here : Cuboid). Prints mid end c.print_section.result (cuboid_text here)) c.section_at.ensures c.print_section.ensures in
+    subst (λ (text : List ℕ). Prints at end c.print_section.result text)
+    (names_part-box (decimal placement.number) placement.id placement.bin box)
+    (Prints-behind at mid end c.print_section.result
+    (names_part (decimal placement.number) placement.id placement.bin) box front written)

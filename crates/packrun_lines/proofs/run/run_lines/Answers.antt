@@ -4,5 +4,5 @@ use Rattle.packrun_lines.proofs.run.run_lines.Goals as goal
 
 pub returns : goal.returns
 returns g c = record {
-  transcript = ends-as_stopped _ _ _ _ (outcome_of c.obey_all-ended.result) c.end.result c.obey_all-ended.ensures c.end.ensures.outcome c.end.ensures.printed;
+  transcript = ends-as_stopped _ _ _ _ (outcome_of c.obey_all-ended.result) c.end.result c.obey_all-ended.ensures c.end.ensures.outcome c.end.ensures.printed c.end.ensures.begun;
 }

@@ -1,22 +1,9 @@
 use Rattle.packrun_words.proofs.Printing.{OnOk-failed}
 use Rattle.std.proofs.lemmas.Result.{IfOk-from_err}
-use Rattle.std.proofs.Common.{refl}
 use Rattle.packrun_words.proofs.input.next_line.Goals as goal
 
 pub returns-clause-failed : goal.returns-clause-failed
 returns-clause-failed g c = tt
-
-pub returns-in_default-clause-failed : goal.returns-in_default-clause-failed
-returns-in_default-clause-failed g c = refl
-
-pub returns-in_default-clause-printed : goal.returns-in_default-clause-printed
-returns-in_default-clause-printed g c = tt
-
-pub returns-in_default-clause-read : goal.returns-in_default-clause-read
-returns-in_default-clause-read g c = tt
-
-pub returns-in_default-clause-some : goal.returns-in_default-clause-some
-returns-in_default-clause-some g c = tt
 
 pub returns-in_err-flush_before_read-clause-some : goal.returns-in_err-flush_before_read-clause-some
 returns-in_err-flush_before_read-clause-some g c = IfOk-from_err _ _ c.from_residual.ensures.0
@@ -27,11 +14,5 @@ returns-in_err-read_line-clause-some g c = IfOk-from_err _ _ c.from_residual-in_
 pub returns-in_err-flush_before_read-clause-read : goal.returns-in_err-flush_before_read-clause-read
 returns-in_err-flush_before_read-clause-read g c = OnOk-failed _ c.from_residual.result c.from_residual.ensures.0
 
-pub returns-in_err-flush_before_read-clause-printed : goal.returns-in_err-flush_before_read-clause-printed
-returns-in_err-flush_before_read-clause-printed g c = OnOk-failed _ c.from_residual.result c.from_residual.ensures.0
-
 pub returns-in_err-read_line-clause-read : goal.returns-in_err-read_line-clause-read
 returns-in_err-read_line-clause-read g c = OnOk-failed _ c.from_residual-in_err-read_line.result c.from_residual-in_err-read_line.ensures.0
-
-pub returns-in_err-read_line-clause-printed : goal.returns-in_err-read_line-clause-printed
-returns-in_err-read_line-clause-printed g c = OnOk-failed _ c.from_residual-in_err-read_line.result c.from_residual-in_err-read_line.ensures.0

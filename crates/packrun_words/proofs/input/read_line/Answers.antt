@@ -7,7 +7,10 @@ pub returns-then-branch : goal.returns-then-branch
 returns-then-branch g c =
     let step = c.in_ok-read_part.ensures in
     let part = subst (IsPartRead _ _ _ _) c.if-branch.true step.part in
-    IsLineRead-of _ _ _ c.loop.line.items c.read_part.new.line.items c.loop.invariant.0 c.loop.invariant.2 step.appends part
+    record {
+      read = IsLineRead-of _ _ _ c.loop.line.items c.read_part.new.line.items c.loop.invariant.0 c.loop.invariant.2 step.appends part;
+      retried = tt;
+    }
 
 pub loop-preserved : goal.loop-preserved
 loop-preserved g c =

@@ -1,0 +1,36 @@
+-- Digits that are written before a place, the last one first.
+use Rattle.std.proofs.Common.{◌≡◌, ◌<◌, ◌≤◌, ◌+◌, ◌-◌, ◌/◌, ◌%◌, ◌^◌, ◌⊎◌, inl, inr, ◌++◌, ◌∷◌, ℕ, List, [], length, length-append, drop, set, sym, ap, ◌∙◌, append_assoc, arith}
+use Rattle.std.specs.Fmt.{decimal}
+use Rattle.std.proofs.lemmas.Bool.{cases_lt}
+use Rattle.std.proofs.lemmas.Fmt.{decimal_step_wide, decimal_digit}
+use Rattle.std.proofs.lemmas.List.{drop-set}
+
+-- a byte that is written before a place stands in front of what was there
+pub written_before : (line : List ℕ) (at byte : ℕ) → 1 ≤ at → at ≤ length line → drop (at - 1) (set line (at - 1) byte) ≡ byte ∷ drop at line
+written_before line at byte some within =
+    let next : at - 1 + 1 ≡ at = omega arith in
+    drop-set line (at - 1) byte (omega arith) ∙ ap (λ k. byte ∷ drop k line) next
+
+-- the last digit of a number is written before those that were
+pub digit_more : (n : ℕ) (line : List ℕ) (at : ℕ) → 10 ≤ n → n < 10 ^ 64 → 1 ≤ at → at ≤ length line
+    → decimal (n / 10) ++ drop (at - 1) (set line (at - 1) (48 + n % 10)) ≡ decimal n ++ drop at line
+digit_more n line at many small some within =
+    ap (λ t. decimal (n / 10) ++ t) (written_before line at (48 + n % 10) some within)
+    ∙ sym (append_assoc (decimal (n / 10)) ((48 + n % 10) ∷ []) (drop at line))
+    ∙ ap (λ t. t ++ drop at line) (sym (decimal_step_wide n many small))
+
+-- which is one digit longer than what is left
+pub digit_fewer : (n : ℕ) → 10 ≤ n → n < 10 ^ 64 → length (decimal n) ≡ length (decimal (n / 10)) + 1
+digit_fewer n many small = omega (arith, ap length (decimal_step_wide n many small), length-append (decimal (n / 10)) ((48 + n % 10) ∷ []))
+
+-- a number has a digit
+decimal_some : (n : ℕ) → n < 10 ^ 64 → 1 ≤ length (decimal n)
+decimal_some n small = by (cases_lt n 10)
+  where
+    by : (n < 10) ⊎ (10 ≤ n) → 1 ≤ length (decimal n)
+    by (inl one) = omega (arith, ap length (decimal_digit n one))
+    by (inr many) = omega (arith, digit_fewer n many small)
+
+-- there is room for the next digit
+pub some_left : (number rest at end : ℕ) → rest < 10 ^ 64 → length (decimal number) ≤ end → length (decimal number) + at ≡ length (decimal rest) + end → 1 ≤ at
+some_left number rest at end small room left = omega (arith, decimal_some rest small)
