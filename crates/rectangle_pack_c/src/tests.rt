@@ -7,6 +7,8 @@ use std::alloc::Global;
 use std::test::Fail;
 
 mod collection;
+mod large;
+mod memory;
 mod reading;
 mod session;
 

@@ -38,6 +38,7 @@ mod many_bins;
 pub mod memory;
 mod placements;
 mod texts;
+mod units;
 
 use rectangle_pack::{
     FitTests, GroupedRectsToPlace, Placement, RectanglePackError, RectanglePackOk, TargetBin,

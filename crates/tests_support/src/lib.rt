@@ -12,3 +12,4 @@ pub mod names;
 pub mod refusing;
 pub mod sequences;
 pub mod shapes;
+pub mod units;

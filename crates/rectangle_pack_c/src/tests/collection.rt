@@ -32,7 +32,11 @@ fn answer(
 
 // What is answered to two strips of the groups 1 and 2, of which the first is in another group
 // too, with two groups that are excluded, in two sheets.
-fn two_strips(alloc: Global, member: RpMember, pair: RpExclusion) -> (u32, u32, [u32; 3]) {
+pub(super) fn two_strips(
+    alloc: Global,
+    member: RpMember,
+    pair: RpExclusion,
+) -> (u32, u32, [u32; 3]) {
     let boxes = [RpBox { group: 1, ..STRIP }, RpBox { group: 2, ..STRIP }];
     let (members, exclusions) = ([member], [pair]);
     let collection = RpCollection {

@@ -17,7 +17,7 @@ use crate::{RP_DONE, RP_SHORT_ARRAY, RP_UNKNOWN_BIN};
 use std::alloc::Global;
 use std::test::Fail;
 
-const UNSET: RpSection = RpSection {
+pub(super) const UNSET: RpSection = RpSection {
     x: 9,
     y: 9,
     z: 9,
@@ -33,7 +33,7 @@ const NOBODY: RpStanding = RpStanding {
     section: UNSET,
 };
 
-const NO_STEP: RpCutStep = RpCutStep { axis: 9, place: 9 };
+pub(super) const NO_STEP: RpCutStep = RpCutStep { axis: 9, place: 9 };
 
 // The numbers of a section: its corner and its sides.
 fn numbers(section: &RpSection) -> [u32; 6] {

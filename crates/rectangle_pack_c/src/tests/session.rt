@@ -16,7 +16,7 @@ use crate::{
 use std::alloc::Global;
 use std::test::Fail;
 
-const UNSET: RpOutstanding = RpOutstanding {
+pub(super) const UNSET: RpOutstanding = RpOutstanding {
     number: 99,
     placement: NOWHERE,
 };
@@ -76,7 +76,7 @@ fn stats(alloc: Global, session: &mut RpSession, bin: u32) -> (u32, [u64; 4], [u
 }
 
 // What is answered where the placement 0 is released and the sections of a bin are joined.
-fn release_and_join(alloc: Global, session: &mut RpSession, bin: u32) -> [u32; 2]
+pub(super) fn release_and_join(alloc: Global, session: &mut RpSession, bin: u32) -> [u32; 2]
     requires { IsSome session.old.state }
     ensures { IsSome session.new.state }
 {

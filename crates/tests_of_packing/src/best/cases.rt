@@ -72,6 +72,10 @@ const UPRIGHT_BY_VOLUME: (Heuristic, &[Placed]) =
     by!(Volume: (2, 0, [0, 0, 0, 3, 2, 1]), (1, 1, [0, 0, 0, 1, 3, 1]),
         (3, 0, [0, 2, 0, 3, 1, 1]));
 
+const COLUMN_BY_HEIGHT: (Heuristic, &[Placed]) =
+    by!(Height: (2, 0, [0, 0, 0, 1, 4, 1]), (3, 1, [0, 0, 0, 4, 3, 1]),
+        (1, 0, [1, 0, 0, 3, 2, 1]));
+
 /// All cases.
 pub fn cases() -> &'static [Case] {
     const CASES: &[Case] = &[
@@ -89,9 +93,10 @@ pub fn cases() -> &'static [Case] {
             Some(by!(Width: (2, 0, [0, 0, 0, 3, 2, 1]), (3, 0, [0, 2, 0, 3, 1, 1]),
                 (1, 1, [0, 0, 0, 1, 3, 1])))),
         // The others are refused.
-        case!(ONE_COLUMN, &[Volume, Height, Width] =>
-            Some(by!(Height: (2, 0, [0, 0, 0, 1, 4, 1]), (3, 1, [0, 0, 0, 4, 3, 1]),
-                (1, 0, [1, 0, 0, 3, 2, 1])))),
+        case!(ONE_COLUMN, &[Volume, Height, Width] => Some(COLUMN_BY_HEIGHT)),
+        // Of nine, the ninth.
+        case!(ONE_COLUMN, &[Volume, Width, Volume, Width, Volume, Width, Volume, Width, Height] =>
+            Some(COLUMN_BY_HEIGHT)),
         case!(TOO_MANY, &Heuristic::ALL => None),
         // One that is alone in the list. Where it is refused, two boxes find space before the third.
         case!(ONE_UPRIGHT, &[Volume] => Some(UPRIGHT_BY_VOLUME)),

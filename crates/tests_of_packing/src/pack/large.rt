@@ -1,11 +1,10 @@
-//! Packings past small sizes: fifty bins, fifty pairs of groups, and five hundred boxes.
+//! Packings past small sizes: fifty bins, and fifty pairs of groups.
 
-use super::{Answer, Bins, Rects, add_bin, pack_numbered, plenty};
+use super::{Answer, Bins, Rects, add_bin, pack_numbered};
 use rectangle_pack::{Group, Placement, RectToInsert, RectanglePackError};
-use std::alloc::{AllocError, Allocator, Global};
+use std::alloc::{AllocError, Global};
 use tests_support::all_match;
 use tests_support::boxes::push_units;
-use tests_support::refusing::Refusing;
 use tests_support::shapes::named;
 
 const COUNT: u32 = 50;
@@ -24,18 +23,18 @@ fn are_in_turn(placements: &[Placement<u32, u32>], count: u32, last: u32) -> boo
         placed.id == number && placed.bin == number.min(last))
 }
 
-// Packs so many boxes of one cell.
-fn pack_units<A: Allocator + Copy>(alloc: A, count: u32, bins: &mut Bins<A>) -> Answer<A> {
+// Packs as many boxes of one cell.
+fn pack_cells(alloc: Global, bins: &mut Bins<Global>) -> Answer<Global> {
     let mut rects = Rects::new(alloc);
-    match push_units(&mut rects, count) {
+    match push_units(&mut rects, COUNT) {
         Ok(()) => pack_numbered(alloc, &rects, bins),
         Err(_) => Err(RectanglePackError::OutOfMemory),
     }
 }
 
-// Whether as many boxes of one cell are placed, each in the bin of its number.
+// Whether each is placed in the bin of its number.
 fn fill_cells(alloc: Global, bins: &mut Bins<Global>) -> bool {
-    match pack_units(alloc, COUNT, bins) {
+    match pack_cells(alloc, bins) {
         Ok(packed) => are_in_turn(packed.placements(), COUNT, COUNT),
         Err(_) => false,
     }
@@ -102,33 +101,4 @@ fn fifty_pairs(rt: HostRuntime) {
     let mut rects = Rects::new(rt.alloc());
     assert!(rt; push_apart(rt.alloc(), &mut rects).is_ok() && are_excluded(&rects));
     assert!(rt; pack_apart(rt.alloc(), &rects));
-}
-
-// Whether no cell of the bin 0 is free.
-fn is_full<A: Allocator + Copy>(bins: &Bins<A>) -> bool {
-    match bins.get(&0) {
-        Some(bin) => bin.available_bin_sections().is_empty(),
-        None => false,
-    }
-}
-
-// Whether five hundred boxes of one cell are placed and fill the bin.
-fn fill<A: Allocator + Copy>(alloc: A, bins: &mut Bins<A>) -> bool {
-    match pack_units(alloc, 500, bins) {
-        Ok(packed) => packed.placements().len() == 500 && is_full(bins),
-        Err(_) => false,
-    }
-}
-
-// Whether they fill a new one.
-fn fill_new(alloc: Refusing) -> bool {
-    let mut bins = Bins::new(alloc);
-    add_bin(alloc, &mut bins, 0, [25, 20, 1]).is_ok() && fill(alloc, &mut bins)
-}
-
-// Boxes of one cell fill a bin. All memory is given back.
-#[test]
-fn five_hundred_boxes(rt: HostRuntime) {
-    let alloc = plenty(&rt, rt.alloc());
-    assert!(rt; fill_new(alloc) && alloc.taken() == 0);
 }

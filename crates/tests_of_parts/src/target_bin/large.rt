@@ -1,13 +1,16 @@
-//! Bins past small sizes: fifty free sections, and a trial of five hundred boxes.
+//! Bins past small sizes: fifty free sections, and trials of boxes of one cell that fill a bin.
 
 use super::Bin;
 use rectangle_pack::{FitTests, RectToInsert, TargetBin, contains_smallest_box, volume_heuristic};
 use std::alloc::AllocError;
-use std::process::Abort;
 use std::test::Fail;
 use tests_support::all_match;
 use tests_support::refusing::Refusing;
 use tests_support::shapes::section;
+use tests_support::units::{Units, cases};
+
+// Boxes to place.
+type Members = Vec<RectToInsert, Refusing>;
 
 // Whether the free sections of the bin are so many single cells, in a row.
 fn has_row(bin: &TargetBin, count: u32) -> bool {
@@ -47,30 +50,41 @@ fn fifty_sections(rt: HostRuntime) -> Result<(), Fail> {
     Ok(())
 }
 
-fn tries(rt: &impl Abort, bin: &mut Bin) -> Result<(), AllocError> {
-    let members = [RectToInsert::new(1, 1, 1); 500];
+// As many boxes of one cell as the bin has.
+fn push_members(members: &mut Members, units: &Units) -> Result<(), AllocError> {
+    for _cell in 0..units.cells() {
+        members.push(RectToInsert::new(1, 1, 1))?;
+    }
+    Ok(())
+}
+
+// Whether they are all placed, and no cell of the bin is free.
+fn fills(bin: &mut Bin, members: &Members) -> Result<bool, AllocError> {
     let mut tests = FitTests::new();
     let placed = bin.place_all(
-        &members,
+        members.as_slice(),
         &volume_heuristic,
         &contains_smallest_box,
         &mut tests,
     )?;
-    assert!(rt; matches!(&placed, Some(places) if places.len() == 500));
-    assert!(rt; bin.available_bin_sections().is_empty());
-    Ok(())
+    let are_placed = matches!(&placed, Some(places) if places.len() == members.len());
+    Ok(are_placed && bin.available_bin_sections().is_empty())
 }
 
-fn one_trial(rt: &impl Abort, alloc: Refusing) -> Result<(), AllocError> {
-    let mut bin = TargetBin::new(alloc, 25, 20, 1)?;
-    tries(rt, &mut bin)
+fn fills_new(alloc: Refusing, units: &Units) -> Result<bool, AllocError> {
+    let mut members = Members::new(alloc);
+    push_members(&mut members, units)?;
+    let mut bin = TargetBin::new(alloc, units.width, units.height, 1)?;
+    fills(&mut bin, &members)
 }
 
 // Boxes of one cell fill a bin. All memory is given back.
 #[test]
-fn five_hundred_boxes(rt: HostRuntime) -> Result<(), Fail> {
+fn units_fill_a_bin(rt: HostRuntime) -> Result<(), Fail> {
     let alloc = Refusing::new(rt.alloc(), u64::MAX)?;
-    one_trial(&rt, alloc)?;
+    for units in cases() {
+        assert!(rt; fills_new(alloc, units)?, "{} cells", units.cells());
+    }
     assert_eq!(rt; alloc.taken(), 0);
     Ok(())
 }

@@ -56,20 +56,29 @@ pub const JOINED: State = state!([Held { coalesced: true, ..NEW }], [], next 2);
 /// The same two sections, after a call that was accepted and joined nothing.
 pub const NOT_JOINED: State = state!([Held { coalesced: true, ..TWO_FREE }], [], next 2);
 
-// A bin that two boxes fill, and that is free again once both are released.
+// A bin that two boxes fill, and that is free again once both are released and the two sections are
+// joined. A released number is unknown.
 const TWO_RELEASES: &[Line] = &[
     ADD_BIN,
     PACK_P,
     PACK_Q,
     RELEASE_P,
     RELEASE_Q,
-    // An index past the end and an empty range join nothing.
+    JOIN,
+    line!(Order::Release(0), NotAsked => UNKNOWN, JOINED),
+];
+
+// An index past the end and an empty range join nothing.
+const NOTHING_JOINED: &[Line] = &[
+    ADD_BIN,
+    PACK_P,
+    PACK_Q,
+    RELEASE_P,
+    RELEASE_Q,
     line!(Order::Coalesce(BIN, 2, 0, 2), NotAsked => Reply::Done, NOT_JOINED),
     line!(Order::Coalesce(BIN, 1, 1, 0), NotAsked => Reply::Done, NOT_JOINED),
     line!(Order::Coalesce(OTHER, 0, 0, 2), NotAsked => NO_BIN, NOT_JOINED),
     JOIN,
-    // A released number is unknown.
-    line!(Order::Release(0), NotAsked => UNKNOWN, JOINED),
 ];
 
 const JOIN: Line = line!(Order::Coalesce(BIN, 1, 0, 2), NotAsked => Reply::Done, JOINED);
@@ -122,13 +131,18 @@ const EMPTY_BOX: &[Line] = &[
     line!(Order::Release(0), NotAsked => Reply::Done, state!([NEW], [], next 1)),
 ];
 
-fn two_boxes() -> &'static [Script] {
-    const TWO_BOXES: &[Script] = &[
-        script!(from 0, TWO_RELEASES, refused 3),
+fn two_releases() -> &'static [Script] {
+    const SCRIPTS: &[Script] = &[script!(from 0, TWO_RELEASES, refused 3)];
+    SCRIPTS
+}
+
+fn halves() -> &'static [Script] {
+    const HALVES: &[Script] = &[
+        script!(from 0, NOTHING_JOINED, refused 3),
         script!(from 0, HALVES_JOINED, refused 3),
         script!(from 0, HALVES_SWEPT, refused 3),
     ];
-    TWO_BOXES
+    HALVES
 }
 
 fn others() -> &'static [Script] {
@@ -141,7 +155,12 @@ fn others() -> &'static [Script] {
 
 #[test]
 fn two_boxes_that_fill_a_bin(rt: HostRuntime) -> Result<(), Fail> {
-    come_out(&rt, rt.alloc(), two_boxes())
+    come_out(&rt, rt.alloc(), two_releases())
+}
+
+#[test]
+fn joins_of_two_halves(rt: HostRuntime) -> Result<(), Fail> {
+    come_out(&rt, rt.alloc(), halves())
 }
 
 #[test]
