@@ -279,7 +279,7 @@ uint32_t rectangle_pack_session_pack(rp_session *session, const rp_box *boxes, s
      that are excluded are in different bins; and what was outstanding before stays where it is.
    - With RP_BEST no other heuristic makes a better use of the bins, and each with a smaller number makes a worse one, or finds
      no space. What stood in the bins before does not count.
-   - RP_OUT_OF_MEMORY does not come where there are neither boxes nor exclusions, unless RP_BEST is asked for.
+   - RP_OUT_OF_MEMORY does not come where there are neither boxes nor exclusions.
    - The order of groups and that of bins are those of rectangle_pack_collection, with the bins' ids for their indices.
    - RP_NOT_ENOUGH_SPACE comes only where for some group each bin is excluded or does not take all of its boxes, as the groups
      before it left the bins; with RP_BEST, by each heuristic. Another order might succeed, and so might

@@ -3,6 +3,8 @@
 //! level is unloaded, and the sprites of the next one go where its sprites were.
 #![tactic(auto)]
 
+ghost use Rattle.std.specs.Prelude.{◌<◌, length};
+
 use rectangle_pack::{
     GroupedRectsToPlace, Heuristic, Outstanding, PackedLocation, RectToInsert, Session,
     SessionError,
@@ -78,7 +80,9 @@ fn pack(
     atlas: &mut Atlas,
     sprites: &Sprites,
     heuristics: &[Heuristic],
-) -> Result<Heuristic, SessionError> {
+) -> Result<Heuristic, SessionError>
+    requires { 0 < length heuristics.now }
+{
     for page in 1..=MOST_PAGES {
         match atlas.pack_best(sprites, heuristics) {
             Err(SessionError::NotEnoughBinSpace) => add_page(atlas, page)?,
@@ -97,7 +101,9 @@ fn load(
     kinds: &[Kind],
     heuristics: &[Heuristic],
     alloc: Global,
-) -> Result<Heuristic, SessionError> {
+) -> Result<Heuristic, SessionError>
+    requires { 0 < length heuristics.now }
+{
     let mut sprites: Sprites = GroupedRectsToPlace::new(alloc);
     add_kinds(&mut sprites, kinds, alloc)?;
     pack(atlas, &sprites, heuristics)

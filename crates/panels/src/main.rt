@@ -3,6 +3,8 @@
 //! the saw.
 #![tactic(auto)]
 
+ghost use Rattle.std.specs.Prelude.{◌<◌, length};
+
 use rectangle_pack::{
     Axis, BinStats, CutStep, GroupedRectsToPlace, Heuristic, Outstanding, PackedLocation,
     RectToInsert, Session, SessionError, WidthHeightDepth, volume_heuristic,
@@ -268,7 +270,9 @@ fn cut_by(
     heuristics: &[Heuristic],
     order: &Order,
     cutting: &mut Cutting,
-) -> Result<Heuristic, SessionError> {
+) -> Result<Heuristic, SessionError>
+    requires { 0 < length heuristics.now }
+{
     add_sheets(cutting)?;
     let (best, _) = cutting.pack_best(order, heuristics)?;
     Ok(best)

@@ -16,8 +16,8 @@ module _ {Id B G : Type 0} (group_cmp : Group G Id → Group G Id → Ordering) 
   -- numbers: the packing with this heuristic is done and kept (`IsKept`), and this is the best of the list
   -- (`IsBestOf`), with the use that its placements make of the bins; what stood there before does not count.
   -- `NumbersUsedUp`: the next number and the entries add up to 2^64 or more; of all other answers they add up to less.
-  -- `NotEnoughBinSpace`: with each heuristic of the list the packing is refused (`IsRefusedWith`). `OutOfMemory`:
-  -- nothing more is said. On each of these the state is as it was. No other error comes
+  -- `NotEnoughBinSpace`: with each heuristic of the list, which is not empty, the packing is refused (`IsRefusedWith`).
+  -- `OutOfMemory`: nothing more is said. On each of these the state is as it was. No other error comes
   -- Example: p 4x10x1 and q 6x10x1 into a new bin 10x10x1, from number 2, by the best of [`Width`, `Height`]: `Width`,
   -- the first of two that make the use 1 bin, 100 cells. Number 2 is q and 3 is p, as by width the wider goes first
   abbrev pub PacksBest : List Heuristic → Collection Id G → State Id B → Result (Heuristic × Packed) SessionError → State Id B → Type 0
@@ -31,7 +31,7 @@ module _ {Id B G : Type 0} (group_cmp : Group G Id → Group G Id → Ordering) 
   PacksBest heuristics all old _ new = ⊥
 
   -- what the promise says of it. A heuristic and numbers: `PlacesWhole`. `NotEnoughBinSpace`: `NoBinTakes` with each
-  -- heuristic of the list. Of other errors nothing is said here
+  -- heuristic of the list, which is not empty. Of other errors nothing is said here
   abbrev pub PacksBestAsPromised : List Heuristic → Collection Id G → State Id B → Result (Heuristic × Packed) SessionError → State Id B → Type 0
   PacksBestAsPromised heuristics all old (Ok (best, numbers)) new = PlacesWhole group_cmp (named_rules cmp bin_cmp best) all old new
   PacksBestAsPromised heuristics all old (Err NotEnoughBinSpace) new =

@@ -16,9 +16,9 @@ pub mod bin_section {
 /// Heuristics, which rate a size.
 pub mod box_size_heuristics {
     pub use rectangle_pack_sections::box_size_heuristics::{
-        Heuristic, UnknownHeuristic, depth_heuristic, height_heuristic, longest_side_heuristic,
-        shortest_side_heuristic, side_area_heuristic, side_sum_heuristic, volume_heuristic,
-        width_heuristic,
+        Heuristic, UnknownHeuristic, all_lists_each_heuristic_once, depth_heuristic,
+        height_heuristic, longest_side_heuristic, shortest_side_heuristic, side_area_heuristic,
+        side_sum_heuristic, volume_heuristic, width_heuristic,
     };
 }
 
@@ -72,9 +72,9 @@ pub use bin_section::{
     pieces_are_from_cuts, sections_are_ordered, sharing_is_symmetric, smallest_box_is_preorder,
 };
 pub use box_size_heuristics::{
-    Heuristic, UnknownHeuristic, depth_heuristic, height_heuristic, longest_side_heuristic,
-    shortest_side_heuristic, side_area_heuristic, side_sum_heuristic, volume_heuristic,
-    width_heuristic,
+    Heuristic, UnknownHeuristic, all_lists_each_heuristic_once, depth_heuristic, height_heuristic,
+    longest_side_heuristic, shortest_side_heuristic, side_area_heuristic, side_sum_heuristic,
+    volume_heuristic, width_heuristic,
 };
 pub use grouped_rects_to_place::{
     Group, GroupedRectsToPlace, equal_pushes_leave_equal_collections, groups_are_ordered,

@@ -179,7 +179,7 @@ pub(crate) fn pack_asked(
         session.old result session.new }
     ensures promise { PacksBestAsPromised group_order nat_cmp nat_cmp (asked heuristic) rects.now
         session.old result session.new }
-    ensures no_groups { heuristic ≢ RP_BEST → rects.now.groups ≡ [] → IsOk result }
+    ensures no_groups { rects.now.groups ≡ [] → IsOk result }
     ensures always { IsSession nat_cmp session.new }
 {
     match heuristic_of(heuristic) {

@@ -260,7 +260,7 @@ fn pack_into<T: Written<Outstanding<u32, u32>>>(
     ensures refused { IfErr result (λ error.
         PacksCollection heuristic (all_boxes collection.now) collection.now.exclusions.now 0
         session.old (Refused error) session.new) }
-    ensures memory { heuristic ≢ RP_BEST → length collection.now.boxes.now ≡ 0 →
+    ensures memory { length collection.now.boxes.now ≡ 0 →
         length collection.now.exclusions.now ≡ 0 → result ≢ Err OutOfMemory }
     ensures always { IsSession nat_cmp session.new }
     ensures written { IfOk result

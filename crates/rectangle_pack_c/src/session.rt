@@ -283,8 +283,8 @@ pub extern "C" fn rectangle_pack_session_pack_collection(
     //   [exclude_all.a_box_is_excluded]
     ensures apart { result ≡ RP_DONE →
         StandApart (all_boxes collection.now) collection.now.exclusions.now placements.new }
-    // `RP_OUT_OF_MEMORY`: there is a box or an exclusion, or `RP_BEST` was asked for.
-    ensures memory { result ≡ RP_OUT_OF_MEMORY → heuristic ≢ RP_BEST →
+    // `RP_OUT_OF_MEMORY`: there is a box or an exclusion.
+    ensures memory { result ≡ RP_OUT_OF_MEMORY →
         0 < length collection.now.boxes.now + length collection.now.exclusions.now }
     ensures unchanged { result ≢ RP_DONE →
         (placements.new ≡ placements.old) × (chosen.new ≡ chosen.old) }

@@ -1,5 +1,5 @@
 //! Packing groups of boxes into bins.
-ghost use Rattle.std.specs.Prelude.{◌≡◌, ◌∷◌, [], length, All, map, IsOk, IsSome};
+ghost use Rattle.std.specs.Prelude.{◌≡◌, ◌<◌, ◌∷◌, [], length, All, map, IsOk, IsSome};
 ghost use Rattle.std.specs.BTreeMap.{get};
 ghost use Rattle.std.specs.List.{IsDistinct};
 ghost use Rattle.std.specs.Map.{keys_of};
@@ -219,13 +219,15 @@ where
 ///
 /// Each packing is rolled back before the next begins, and the best is made once more. So this takes
 /// at most the time of one packing more than there are entries in the list, and a count of cells
-/// after each. A heuristic that is alone in the list is packed with once, and then no memory is taken
-/// without groups. The caller sees to it that clones of ids equal their originals.
+/// after each. A heuristic that is alone in the list is packed with once. Without groups the first
+/// of the list is the best, and no memory is taken.
 ///
-/// `NotEnoughBinSpace` says that the packing is refused for space with each heuristic of the list;
-/// so an empty list is always refused. `OutOfMemory` says that a growth or a clone was refused in
-/// some packing, also where one with another heuristic was done before. On either error the bins are
-/// as they were: other than with `pack_rects`, no group stays placed.
+/// The caller sees to it that the list is not empty, and that clones of ids equal their originals.
+///
+/// `NotEnoughBinSpace` says that the packing is refused for space with each heuristic of the list.
+/// `OutOfMemory` says that a growth or a clone was refused in some packing, also where one with
+/// another heuristic was done before. On either error the bins are as they were: other than with
+/// `pack_rects`, no group stays placed.
 ///
 /// ```
 /// let mut rects: GroupedRectsToPlace<u32, u32> = GroupedRectsToPlace::new(alloc);
@@ -260,6 +262,8 @@ where
     A: Allocator + Copy,
     requires ids { ClonesEqual Id.is_clone Id.eq }
     requires bin_ids { ClonesEqual BinId.is_clone BinId.eq }
+    // There is a heuristic in the list.
+    requires some { 0 < length heuristics.now }
     // Done: the answer names a heuristic of the list, and all that `pack_rects` says of a packing
     //   that is done is so of one with this heuristic and `contains_smallest_box`.
     // Done: no packing that is done with a heuristic of the list places cells in fewer bins; of
@@ -269,15 +273,16 @@ where
     //   [best_of.first_that_is_done_is_kept]
     // `NotEnoughBinSpace`: with each heuristic of the list the packing is refused for space. The
     //   bins are as they were, the order of their lists included.
+    //   [pack_rects_best.last_heuristic_is_left_out]
     // `OutOfMemory`: the bins are as they were, the order of their lists included.
     ensures answer { let groups = ⟦<Group<GroupId, Id> as Ord>⟧.cmp in
         IsBestAnswer groups Id.cmp BinId.cmp rects_to_place.now
         (bins_of target_bins.old.entries) heuristics.now result
         (bins_of target_bins.new.entries) }
-    // With one heuristic in the list and without groups it succeeds.
-    ensures no_groups { length heuristics.now ≡ 1 → rects_to_place.now.groups ≡ [] → IsOk result }
+    // Without groups it succeeds.
+    ensures no_groups { rects_to_place.now.groups ≡ [] → IsOk result }
 {
-    if heuristics.len() == 1 {
+    if heuristics.len() == 1 || rects_to_place.groups().is_empty() {
         return pack_named(alloc, rects_to_place, target_bins, heuristics[0]);
     }
     let entries = number_after(0, rects_to_place.groups()).unwrap_or(u64::MAX) as usize;

@@ -75,7 +75,7 @@ module _ {Id B G : Type 0} (group_cmp : Group G Id → Group G Id → Ordering) 
 
   -- what is answered where the best of several is asked for, by cases. A heuristic and a packing: the packing is one
   -- with this heuristic (`IsPacked`), and this is the best of the list, with the use that the packing makes.
-  -- `NotEnoughBinSpace`: with each heuristic of the list the packing is refused, so always of an empty list.
+  -- `NotEnoughBinSpace`: with each heuristic of the list, which is not empty, the packing is refused.
   -- `OutOfMemory`: nothing more is said. On either error the bins are as they were
   abbrev pub IsBestAnswer : {A : Type 0} → List Heuristic → Result (Heuristic × RectanglePackOk Id B A) RectanglePackError → List (B × Bin) → Type 0
   IsBestAnswer heuristics (Ok (best, ok)) new =

@@ -2,6 +2,7 @@ pub mod Orders
 pub mod Placed
 pub mod KeptBins
 pub mod Packing
+pub mod PackingLaws
 pub mod PackAnswers
 pub mod Best
 pub mod Results

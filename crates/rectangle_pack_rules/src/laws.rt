@@ -1,19 +1,17 @@
 //! Laws of packings.
-ghost use Rattle.std.specs.Prelude.{ℕ, ◌≡◌, ◌↔◌, ◌∷◌, [], List, All, Some, false, map, reverse};
-ghost use Rattle.std.specs.BTreeMap.{is_at};
-ghost use Rattle.std.specs.Map.{lookup, values_of};
+ghost use Rattle.std.specs.Prelude.{ℕ, ◌≡◌, List};
+ghost use Rattle.std.specs.Map.{values_of};
 ghost use Rattle.rectangle_pack_rules.specs.declared.answer.Placement.{Placement};
-ghost use Rattle.rectangle_pack_sections.specs.Boxes.{Size, Cuboid, Holds, volume_of};
+ghost use Rattle.rectangle_pack_sections.specs.Boxes.{Size, Cuboid, volume_of};
 ghost use Rattle.rectangle_pack_sections.specs.Bins.{Bin};
 ghost use Rattle.rectangle_pack_sections.specs.Heuristics.{rate_of};
 ghost use Rattle.rectangle_pack_sections.specs.Closures.{MayRateBy, MayCompare, answers};
 ghost use Rattle.rectangle_pack_sections.specs.Choice.{IsFunction, IsTotalPreorder};
 ghost use Rattle.rectangle_pack_sections.specs.Groups.{Collection};
-ghost use Rattle.rectangle_pack_sections.specs.Exclusions.{are_excluded};
 ghost use Rattle.rectangle_pack_rules.specs.Best.{named_rules};
-ghost use Rattle.rectangle_pack_rules.specs.Packing.{rules_by, excludes_by, excludes_none, AreKeptApart, PackingDone, PackingDoneBy, PackingRefused, PackingRefusedBy};
-ghost use Rattle.rectangle_pack_rules.specs.Placed.{AreLastPlacements, ArePlacedWhole};
-ghost use Rattle.rectangle_pack_rules.specs.KeptBins.{KeepsEachBin};
+ghost use Rattle.rectangle_pack_rules.specs.Packing.{rules_by};
+ghost use Rattle.rectangle_pack_rules.specs.PackingLaws.{PackingsKeepApart, PackingsPlaceWhole, PackingsKeepCells, PackingsExcludeNone, RefusedBoxesAreHeldNowhere};
+ghost use Rattle.rectangle_pack_rules.specs.Placed.{AreLastPlacements};
 ghost use Rattle.rectangle_pack_sections.specs.SmallestBox.{IsSmallestOrder};
 ghost use Rattle.rectangle_pack_rules.specs.Results.{ClosuresDecide, either_of, AreBinsAlike, ArePlacementsAlike, AreLocationsAlike, HaveOneResult};
 ghost use Rattle.rectangle_pack_sections.specs.Alike.{AreCollectionsAlike};
@@ -32,20 +30,16 @@ pub fn excluded_groups_are_apart<Id: Ord, BinId: Ord, GroupId: Ord, H, C>(
 where
     H: Fn(WidthHeightDepth) -> u128,
     C: Fn([WidthHeightDepth; 3], [WidthHeightDepth; 3], &H) -> Ordering,
-    // In a packing that is done, two groups that are excluded have different bins.
-    ensures done { let groups = ⟦<Group<GroupId, Id> as Ord>⟧.cmp in
-        let rules = rules_by Id.cmp BinId.cmp (answers H.Fn C.Fn heuristic.now comparison.now) in
-        (all : Collection Id GroupId) (old new : List (BinId × Bin)) →
-        (placements : List (Placement Id BinId)) →
-        (done : PackingDone groups rules all old placements new) →
-        AreKeptApart groups BinId.cmp all.partners done.homes }
-    // In a packing that is refused for space, two groups that are excluded, of those that it
-    //   placed, have different bins.
-    ensures refused { let groups = ⟦<Group<GroupId, Id> as Ord>⟧.cmp in
-        let rules = rules_by Id.cmp BinId.cmp (answers H.Fn C.Fn heuristic.now comparison.now) in
-        (all : Collection Id GroupId) (old new : List (BinId × Bin)) →
-        (refused : PackingRefused groups rules all old new) →
-        AreKeptApart groups BinId.cmp all.partners refused.stops.homes }
+    // In a packing with these closures that is done, two groups that are excluded have different
+    //   bins.
+    // In one that is refused for space, two groups that are excluded, of those that it placed, have
+    //   different bins.
+    ensures closures { let groups = ⟦<Group<GroupId, Id> as Ord>⟧.cmp in
+        let may = answers H.Fn C.Fn heuristic.now comparison.now in
+        PackingsKeepApart groups (rules_by Id.cmp BinId.cmp may) }
+    // The same is so of packings with a heuristic that has a name, as `pack_rects_best` makes them.
+    ensures by_name { let groups = ⟦<Group<GroupId, Id> as Ord>⟧.cmp in
+        (named : Heuristic) → PackingsKeepApart groups (named_rules Id.cmp BinId.cmp named) }
 {}
 
 /// A law: a packing that is done places each group whole, in one bin: one placement for each entry,
@@ -57,22 +51,16 @@ pub fn groups_are_placed_whole<Id: Ord, BinId: Ord, GroupId: Ord, H, C>(
 where
     H: Fn(WidthHeightDepth) -> u128,
     C: Fn([WidthHeightDepth; 3], [WidthHeightDepth; 3], &H) -> Ordering,
-    // In a packing that is done, the placements are those of its groups one after another. Of each
-    //   group every entry is placed once, in the size of its id, and all in one bin.
-    ensures whole { let groups = ⟦<Group<GroupId, Id> as Ord>⟧.cmp in
-        let rules = rules_by Id.cmp BinId.cmp (answers H.Fn C.Fn heuristic.now comparison.now) in
-        (all : Collection Id GroupId) (old new : List (BinId × Bin)) →
-        (placements : List (Placement Id BinId)) →
-        (done : PackingDone groups rules all old placements new) →
-        ArePlacedWhole Id.cmp BinId.cmp groups all.sizes all.groups (reverse done.homes)
-        placements }
+    // In a packing with these closures that is done, the placements are those of its groups one
+    //   after another. Of each group every entry is placed once, in the size of its id, and all in
+    //   one bin.
     // The groups that are placed so are all groups of the packing's order, in that order.
-    ensures all_groups { let groups = ⟦<Group<GroupId, Id> as Ord>⟧.cmp in
-        let rules = rules_by Id.cmp BinId.cmp (answers H.Fn C.Fn heuristic.now comparison.now) in
-        (all : Collection Id GroupId) (old new : List (BinId × Bin)) →
-        (placements : List (Placement Id BinId)) →
-        (done : PackingDone groups rules all old placements new) →
-        map (λ h. h.0) (reverse done.homes) ≡ map (λ o. o.1) done.group_order }
+    ensures closures { let groups = ⟦<Group<GroupId, Id> as Ord>⟧.cmp in
+        let may = answers H.Fn C.Fn heuristic.now comparison.now in
+        PackingsPlaceWhole groups (rules_by Id.cmp BinId.cmp may) }
+    // The same is so of packings with a heuristic that has a name, as `pack_rects_best` makes them.
+    ensures by_name { let groups = ⟦<Group<GroupId, Id> as Ord>⟧.cmp in
+        (named : Heuristic) → PackingsPlaceWhole groups (named_rules Id.cmp BinId.cmp named) }
 {}
 
 /// A law: where two packings made equal placements, the locations that they answer by id are equal.
@@ -188,15 +176,16 @@ pub fn packing_keeps_cells<Id: Ord, BinId: Ord, GroupId: Ord, H, C>(heuristic: &
 where
     H: Fn(WidthHeightDepth) -> u128,
     C: Fn([WidthHeightDepth; 3], [WidthHeightDepth; 3], &H) -> Ordering,
-    // A packing is done. Then each bin whose free sections shared no cell is still there, in its
-    //   size. A cell was in a free section of it exactly where it now is in a free section or in a
-    //   box that was placed there, and no two of these share a cell. No bin is added.
-    ensures { let groups = ⟦<Group<GroupId, Id> as Ord>⟧.cmp in
-        let rules = rules_by Id.cmp BinId.cmp (answers H.Fn C.Fn heuristic.now comparison.now) in
-        (all : Collection Id GroupId) (old new : List (BinId × Bin)) →
-        (placements : List (Placement Id BinId)) →
-        PackingDone groups rules all old placements new →
-        KeepsEachBin BinId.cmp old placements new }
+    // A packing with these closures is done. Then each bin whose free sections shared no cell is
+    //   still there, in its size. A cell was in a free section of it exactly where it now is in a
+    //   free section or in a box that was placed there, and no two of these share a cell. No bin is
+    //   added.
+    ensures closures { let groups = ⟦<Group<GroupId, Id> as Ord>⟧.cmp in
+        let may = answers H.Fn C.Fn heuristic.now comparison.now in
+        PackingsKeepCells groups (rules_by Id.cmp BinId.cmp may) }
+    // The same is so of a packing with a heuristic that has a name, as `pack_rects_best` makes it.
+    ensures by_name { let groups = ⟦<Group<GroupId, Id> as Ord>⟧.cmp in
+        (named : Heuristic) → PackingsKeepCells groups (named_rules Id.cmp BinId.cmp named) }
 {}
 
 /// A law: where no two groups are excluded, a packing is one that excludes no bin, done or refused,
@@ -208,26 +197,17 @@ pub fn packing_without_exclusions<Id: Ord, BinId: Ord, GroupId: Ord, H, C>(
 where
     H: Fn(WidthHeightDepth) -> u128,
     C: Fn([WidthHeightDepth; 3], [WidthHeightDepth; 3], &H) -> Ordering,
-    // Where no two groups are excluded, a packing is done, with n fit tests, exactly where one that
-    //   excludes no bin is done with the same bins, placements and n fit tests.
-    ensures done { let groups = ⟦<Group<GroupId, Id> as Ord>⟧.cmp in
-        let rules = rules_by Id.cmp BinId.cmp (answers H.Fn C.Fn heuristic.now comparison.now) in
-        (all : Collection Id GroupId) →
-        ((a b : Group GroupId Id) → are_excluded groups all.partners a b ≡ false) →
-        (old new : List (BinId × Bin)) (placements : List (Placement Id BinId)) (n : ℕ) →
-        ((done : PackingDone groups rules all old placements new) × (done.tests ≡ n)) ↔
-        ((done : PackingDoneBy groups rules excludes_none all old placements new) ×
-        (done.tests ≡ n)) }
-    // Where no two groups are excluded, a packing is refused for space, with n fit tests, exactly
-    //   where one that excludes no bin is refused with the same bins and n fit tests.
-    ensures refused { let groups = ⟦<Group<GroupId, Id> as Ord>⟧.cmp in
-        let rules = rules_by Id.cmp BinId.cmp (answers H.Fn C.Fn heuristic.now comparison.now) in
-        (all : Collection Id GroupId) →
-        ((a b : Group GroupId Id) → are_excluded groups all.partners a b ≡ false) →
-        (old new : List (BinId × Bin)) (n : ℕ) →
-        ((refused : PackingRefused groups rules all old new) × (refused.tests ≡ n)) ↔
-        ((refused : PackingRefusedBy groups rules excludes_none all old new) ×
-        (refused.tests ≡ n)) }
+    // Where no two groups are excluded, a packing with these closures is done, with n fit tests,
+    //   exactly where one that excludes no bin is done with the same bins, placements and n fit
+    //   tests.
+    // Where no two groups are excluded, such a packing is refused for space, with n fit tests,
+    //   exactly where one that excludes no bin is refused with the same bins and n fit tests.
+    ensures closures { let groups = ⟦<Group<GroupId, Id> as Ord>⟧.cmp in
+        let may = answers H.Fn C.Fn heuristic.now comparison.now in
+        PackingsExcludeNone groups (rules_by Id.cmp BinId.cmp may) }
+    // The same is so of packings with a heuristic that has a name, as `pack_rects_best` makes them.
+    ensures by_name { let groups = ⟦<Group<GroupId, Id> as Ord>⟧.cmp in
+        (named : Heuristic) → PackingsExcludeNone groups (named_rules Id.cmp BinId.cmp named) }
 {}
 
 /// A law: a heuristic that has one answer on each size, and a comparison that is a total preorder
@@ -255,17 +235,16 @@ pub fn refused_box_is_held_nowhere<Id: Ord, BinId: Ord, GroupId: Ord, H, C>(
 where
     H: Fn(WidthHeightDepth) -> u128,
     C: Fn([WidthHeightDepth; 3], [WidthHeightDepth; 3], &H) -> Ordering,
-    // A packing is refused for space at a group with one entry. Then, as the groups before it left
-    //   the bins, no free section of a bin that is not excluded for the group holds its box.
-    ensures { let groups = ⟦<Group<GroupId, Id> as Ord>⟧.cmp in
-        let rules = rules_by Id.cmp BinId.cmp (answers H.Fn C.Fn heuristic.now comparison.now) in
-        (all : Collection Id GroupId) (old new : List (BinId × Bin)) →
-        (refused : PackingRefused groups rules all old new) →
-        let stops = refused.stops in
-        (size : Size) → stops.next.1.sizes ≡ size ∷ [] → (id : BinId) (bin : Bin) →
-        excludes_by groups BinId.cmp all.partners stops.homes stops.next.0 id ≡ false →
-        lookup (is_at (BinId.cmp id)) new ≡ Some bin →
-        All (λ s. ¬ Holds s size) bin.sections }
+    // A packing with these closures is refused for space at a group with one entry. Then, as the
+    //   groups before it left the bins, no free section of a bin that is not excluded for the group
+    //   holds its box.
+    ensures closures { let groups = ⟦<Group<GroupId, Id> as Ord>⟧.cmp in
+        let may = answers H.Fn C.Fn heuristic.now comparison.now in
+        RefusedBoxesAreHeldNowhere groups (rules_by Id.cmp BinId.cmp may) }
+    // The same is so of a packing with a heuristic that has a name, as `pack_rects_best` makes it.
+    ensures by_name { let groups = ⟦<Group<GroupId, Id> as Ord>⟧.cmp in
+        (named : Heuristic) →
+        RefusedBoxesAreHeldNowhere groups (named_rules Id.cmp BinId.cmp named) }
 {}
 
 /// A law: with `volume_heuristic` and `contains_smallest_box`, or closures that answer as they do,

@@ -3,9 +3,11 @@ ghost use Rattle.std.specs.Prelude.{◌≡◌, ◌+◌, ◌*◌, ◌^◌};
 ghost use Rattle.rectangle_pack_sections.specs.Boxes.{volume_of, longest_side, middle_side, shortest_side};
 ghost use Rattle.rectangle_pack_sections.specs.Heuristics.{in_turn};
 
+mod laws;
 pub mod named;
 
 use crate::width_height_depth::WidthHeightDepth;
+pub use laws::all_lists_each_heuristic_once;
 pub use named::{Heuristic, UnknownHeuristic};
 
 /// The volume of the box, in cells.

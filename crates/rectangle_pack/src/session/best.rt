@@ -1,5 +1,5 @@
 //! Packing a session with the best of several heuristics.
-ghost use Rattle.std.specs.Prelude.{◌≡◌, ◌∷◌, [], length, IsOk};
+ghost use Rattle.std.specs.Prelude.{◌≡◌, ◌<◌, ◌∷◌, [], length, IsOk};
 ghost use Rattle.rectangle_pack_sections.specs.Clones.{ClonesEqual};
 ghost use Rattle.rectangle_pack.specs.Session.{IsSession};
 ghost use Rattle.rectangle_pack.specs.SessionBest.{PacksBest, PacksBestAsPromised};
@@ -24,15 +24,16 @@ where
     /// bins best, by the rule of `pack_rects_best`: what stood in the bins before does not count.
     /// `contains_smallest_box` chooses the cuts. Answers this heuristic, and the numbers of the
     /// placements. Each packing that is tried is rolled back. A heuristic that is alone in the list
-    /// is packed with once, and then no memory is taken without groups.
+    /// is packed with once. Without groups the first of the list is the best, and no memory is taken.
     ///
-    /// The caller sees to it that clones of ids equal their originals.
+    /// The caller sees to it that the list is not empty, and that clones of ids equal their
+    /// originals.
     ///
     /// `NumbersUsedUp` says that the next number and the entries of the groups add up to more than
     /// the greatest `u64`; this is looked at first. `NotEnoughBinSpace` says that the packing is
-    /// refused for space with each heuristic of the list; so an empty list is always refused.
-    /// `OutOfMemory` says that a growth or a clone was refused in some packing, also where one with
-    /// another heuristic was done before. On each error the session is as it was.
+    /// refused for space with each heuristic of the list. `OutOfMemory` says that a growth or a
+    /// clone was refused in some packing, also where one with another heuristic was done before. On
+    /// each error the session is as it was.
     ///
     /// ```
     /// let mut session: Session<u32, &'static str> = Session::new(alloc, 0);
@@ -63,6 +64,8 @@ where
         GroupId: Ord + Clone + Drop,
         requires ids { ClonesEqual Id.is_clone Id.eq }
         requires bin_ids { ClonesEqual BinId.is_clone BinId.eq }
+        // There is a heuristic in the list.
+        requires some { 0 < length heuristics.now }
         // Packed: the answer names a heuristic of the list, and all that `packed` of
         //   `Session::pack` says where it is packed is so of a packing with this heuristic and
         //   `contains_smallest_box`.
@@ -72,6 +75,7 @@ where
         //   greatest `u64`. The session is as it was.
         // `NotEnoughBinSpace`: with each heuristic of the list the packing is refused for space.
         //   The session is as it was, the order of its lists included.
+        //   [pack_best.first_heuristic_alone_is_tried]
         // `OutOfMemory`: the numbers are not used up. The session is as it was.
         // No other error is answered.
         ensures packed { PacksBest ⟦<Group<GroupId, Id> as Ord>⟧.cmp Id.cmp BinId.cmp
@@ -83,11 +87,11 @@ where
         //   that bin.
         ensures promise { PacksBestAsPromised ⟦<Group<GroupId, Id> as Ord>⟧.cmp Id.cmp BinId.cmp
             heuristics.now groups.now self.old result self.new }
-        // With one heuristic in the list and without groups it succeeds.
-        ensures no_groups { length heuristics.now ≡ 1 → groups.now.groups ≡ [] → IsOk result }
+        // Without groups it succeeds.
+        ensures no_groups { groups.now.groups ≡ [] → IsOk result }
         ensures always { IsSession BinId.cmp self.new }
     {
-        if heuristics.len() == 1 {
+        if heuristics.len() == 1 || groups.groups().is_empty() {
             return self.pack_named(groups, heuristics[0]);
         }
         let first = self.next;

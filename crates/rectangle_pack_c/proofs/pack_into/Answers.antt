@@ -55,10 +55,10 @@ returns-clause-written g c =
     (rw (c.outstanding-known.ensures.outstanding, new_part _ _ _ (c.outstanding.ensures.outstanding ∙ are)) at c.write_all.ensures)
 
 pub returns-in_err-best-clause-memory : goal.returns-in_err-best-clause-memory
-returns-in_err-best-clause-memory g c = λ named empty none _.
+returns-in_err-best-clause-memory g c = λ empty none _.
     let all = c.in_ok-rects in
     let pairs = c.args.collection.now.exclusions.now in
     let known = (sound c.args.collection.now c.args.heuristic (length c.args.placements.now) c.requires.sound).known in
     let groups = no_groups pairs all.rects
     (subst (λ (bs : List RpBox). IsCollected bs pairs all.rects) (no_boxes c.args.collection.now known empty) all.ensures.collected) in
-    absurd (let done = rw c.in_err-best.was at (c.pack_asked.ensures.no_groups named groups) in cc)
+    absurd (let done = rw c.in_err-best.was at (c.pack_asked.ensures.no_groups groups) in cc)

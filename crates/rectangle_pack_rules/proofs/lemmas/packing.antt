@@ -1,5 +1,5 @@
 -- Packings. Read Orders and Groups first; Frame carries whatever each step keeps through a packing, and is the main lemma. Whole and Refused say what
--- is promised of groups, FitTests bounds the tests, InOrder joins these.
+-- is promised of groups, FitTests bounds the tests, InOrder joins these; Laws has the laws.
 pub mod Orders
 pub mod Placed
 pub mod Excluded
@@ -13,3 +13,4 @@ pub mod KeepsCells
 pub mod KeepsCuts
 pub mod Whole
 pub mod Refused
+pub mod Laws

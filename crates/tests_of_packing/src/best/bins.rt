@@ -59,6 +59,7 @@ fn packs_into(
     bins: &mut Bins,
     case: &Case,
 ) -> End {
+    assert!(rt; !case.heuristics.is_empty());
     let answer = pack_rects_best(alloc, rects, bins, case.heuristics);
     ends(rt, &answer, bins, case)
 }

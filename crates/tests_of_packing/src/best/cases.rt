@@ -101,10 +101,10 @@ pub fn cases() -> &'static [Case] {
         // One that is alone in the list. Where it is refused, two boxes find space before the third.
         case!(ONE_UPRIGHT, &[Volume] => Some(UPRIGHT_BY_VOLUME)),
         case!(ONE_COLUMN, &[Volume] => None),
-        // Without heuristics, and without boxes. For one that is alone no memory is asked for then.
-        case!(ONE_UPRIGHT, &[] => None, no memory),
-        case!(&[], &[Width, Volume] => Some(by!(Width:))),
+        // Without boxes the first of the list is the best, and no memory is asked for.
         case!(&[], &[Width] => Some(by!(Width:)), no memory),
+        case!(&[], &[Width, Volume] => Some(by!(Width:)), no memory),
+        case!(&[], &Heuristic::ALL => Some(by!(Volume:)), no memory),
     ];
     CASES
 }

@@ -76,6 +76,7 @@ fn is_right(
 }
 
 fn packs_into(rt: &impl Abort, session: &mut TestSession, rects: &Rects, case: &Case) -> End {
+    assert!(rt; !case.heuristics.is_empty());
     let answer = session.pack_best(rects, case.heuristics);
     assert!(rt; is_right(answer, session, case));
     match answer {
@@ -104,10 +105,10 @@ fn into_sessions(rt: HostRuntime) {
     }
 }
 
-// Numbers are looked at before the heuristics, and no memory is taken.
+// Numbers are looked at before anything is tried, and no memory is taken.
 fn refuses_past_the_end(rt: &impl Abort, alloc: Refusing, rects: &Rects) -> End {
     let mut session = TestSession::new(alloc, u64::MAX);
-    let answer = session.pack_best(rects, &[]);
+    let answer = session.pack_best(rects, &Heuristic::ALL);
     assert!(rt; matches!(answer, Err(SessionError::NumbersUsedUp)));
     End::Done
 }

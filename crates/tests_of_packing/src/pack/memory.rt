@@ -31,7 +31,7 @@ pub enum Run {
     Best(&'static best::Case),
     /// The same into a session.
     BestInSession(&'static best::Case),
-    /// The best of none into a session whose numbers are used up.
+    /// The best of all into a session whose numbers are used up.
     PastTheLastNumber,
 }
 

@@ -1,10 +1,15 @@
 //! Calls of a session that take no memory, while every request is refused.
+ghost use Rattle.std.specs.Prelude.{◌<◌, length};
 
 use super::numbers::USED_UP;
 use super::refusals::DUPLICATE;
-use super::{Held, Line, Memory, NEW, OTHER, Order, Script, State, UNKNOWN, come_out};
-use rectangle_pack::Reply;
+use super::{Held, Line, Memory, NEW, OTHER, Order, Script, State, TestSession, UNKNOWN, come_out};
+use rectangle_pack::Heuristic::{self, Volume, Width};
+use rectangle_pack::{Packed, Reply};
+use std::alloc::Global;
 use std::test::Fail;
+use tests_support::boxes::Rects;
+use tests_support::refusing::Refusing;
 
 // A bin, and a box without cells that is packed into it.
 const BIN: Held = Held { id: OTHER, ..NEW };
@@ -39,4 +44,37 @@ const SCRIPTS: &[Script] = &[
 #[test]
 fn calls_that_take_none(rt: HostRuntime) -> Result<(), Fail> {
     come_out(&rt, rt.alloc(), SCRIPTS)
+}
+
+// A session with a bin, and its allocator, which grants no request any more.
+fn with_a_bin(alloc: Global) -> Option<(Refusing, TestSession)> {
+    for granted in 0..9u64 {
+        let refusing = Refusing::new(alloc, granted).ok()?;
+        let mut session = TestSession::new(refusing, 7);
+        if session.add_bin(OTHER, 10, 10, 1).is_ok() {
+            return Some((refusing, session));
+        }
+    }
+    None
+}
+
+// Whether the best of several packings of nothing is done, and with which heuristic.
+fn packs_nothing(alloc: Global, heuristics: &[Heuristic], best: Heuristic) -> bool
+    requires { 0 < length heuristics.now }
+{
+    let Some((refusing, mut session)) = with_a_bin(alloc) else {
+        return false;
+    };
+    let nothing = Rects::new(refusing);
+    match session.pack_best(&nothing, heuristics) {
+        Ok(answer) => refusing.left() == 0 && answer == (best, Packed { first: 7, count: 0 }),
+        Err(_) => false,
+    }
+}
+
+#[test]
+fn best_packings_of_nothing(rt: HostRuntime) {
+    assert!(rt; packs_nothing(rt.alloc(), &[Width], Width));
+    assert!(rt; packs_nothing(rt.alloc(), &[Width, Volume], Width));
+    assert!(rt; packs_nothing(rt.alloc(), &Heuristic::ALL, Volume));
 }

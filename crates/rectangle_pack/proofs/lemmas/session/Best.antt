@@ -1,6 +1,7 @@
 -- What a session answers to a packing with one heuristic, and with the best of a list: that ends as the one did that was rolled back, and keeps
 -- the promise.
-use Rattle.rectangle_pack_sections.proofs.Std.{◌≡◌, ℕ, ◌+◌, ◌<◌, ◌^◌, List, [], ◌∷◌, length, get_or, All, refl, sym, subst, All-weaker, Ordering, IsTotalOrder, Option, Some, None}
+use Rattle.std.specs.Result.{IsOk}
+use Rattle.rectangle_pack_sections.proofs.Std.{◌≡◌, ℕ, ◌+◌, ◌<◌, ◌^◌, ◌⊎◌, inl, inr, List, [], ◌∷◌, length, get_or, All, refl, sym, subst, All-weaker, Ordering, IsTotalOrder, Option, Some, None}
 use Rattle.rectangle_pack_sections.proofs.Std.{All-nil, All-cons, All-head, MatchOption, Result, Ok, Err, IsErrAnd}
 use Rattle.rectangle_pack_sections.specs.declared.box_size_heuristics.named.Heuristic.{Heuristic}
 use Rattle.rectangle_pack_sections.specs.declared.group.Group.{Group}
@@ -21,6 +22,7 @@ use Rattle.rectangle_pack.proofs.lemmas.session.Transitions.{memory_refused}
 use Rattle.rectangle_pack.proofs.lemmas.session.Promise.{packs-promised}
 use Rattle.rectangle_pack.specs.SessionBest.{PacksBest, PacksBestAsPromised}
 use Rattle.rectangle_pack_packings.proofs.lemmas.best.Alone.{one-entry, alone-best, best-alone}
+use Rattle.rectangle_pack_packings.proofs.lemmas.best.Nothing.{first-listed}
 use Rattle.rectangle_pack_packings.proofs.lemmas.best.Whole.{use-same, not-refused}
 
 -- a packing with a heuristic is the best of the list that has it alone
@@ -51,12 +53,20 @@ module _ {Id B G : Type 0} (group_cmp : Group G Id → Group G Id → Ordering) 
   alone-refused (Ok x) error failed h = absurd failed
   alone-refused (Err e) error failed h = subst (λ r. PacksBest group_cmp cmp bin_cmp (heuristic ∷ []) all old (Err r) new) (sym failed) (alone-ended error h)
 
--- and a list of one has the answer of its entry
+-- and a list of one has the answer of its entry; without groups each list has that of its first
 module _ {Id B G : Type 0} (group_cmp : Group G Id → Group G Id → Ordering) (cmp : Id → Id → Ordering) (bin_cmp : B → B → Ordering)
     (all : Collection Id G) (heuristics : List Heuristic) (old : State Id B) where
-  pub alone-listed : (d : Heuristic) → length heuristics ≡ 1 → (result : Result (Heuristic × PackedNumbers) SessionError) (new : State Id B)
+  alone-listed : (d : Heuristic) → length heuristics ≡ 1 → (result : Result (Heuristic × PackedNumbers) SessionError) (new : State Id B)
       → PacksBest group_cmp cmp bin_cmp (get_or heuristics 0 d ∷ []) all old result new → PacksBest group_cmp cmp bin_cmp heuristics all old result new
   alone-listed d one result new h = subst (λ hs. PacksBest group_cmp cmp bin_cmp hs all old result new) (sym (one-entry heuristics d one)) h
+
+  pub first-answered : (d : Heuristic) → 0 < length heuristics → (length heuristics ≡ 1) ⊎ (all.groups ≡ [])
+      → (result : Result (Heuristic × PackedNumbers) SessionError) (new : State Id B) → (all.groups ≡ [] → IsOk result)
+      → PacksBest group_cmp cmp bin_cmp (get_or heuristics 0 d ∷ []) all old result new → PacksBest group_cmp cmp bin_cmp heuristics all old result new
+  first-answered d some (inl one) result new done h = alone-listed d one result new h
+  first-answered d some (inr none) (Ok (best, numbers)) new done (low, kept, alone) =
+      (low, kept, first-listed group_cmp cmp bin_cmp all old.bins none d heuristics some best kept.placements kept.counted alone)
+  first-answered d some (inr none) (Err error) new done h = absurd (let is = done none in cc)
 
 module _ {Id B G : Type 0} {group_cmp : Group G Id → Group G Id → Ordering} {cmp : Id → Id → Ordering} {bin_cmp : B → B → Ordering}
     (group_total : IsTotalOrder group_cmp) (total : IsTotalOrder cmp) (bin_total : IsTotalOrder bin_cmp)

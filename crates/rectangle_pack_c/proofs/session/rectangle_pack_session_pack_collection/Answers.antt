@@ -42,7 +42,7 @@ returns-in-Err-clause-packed c = λ _.
     c.in-Err.ensures.always
 
 pub returns-in-Err-clause-memory : goal.returns-in-Err-clause-memory
-returns-in-Err-clause-memory c = λ status named.
+returns-in-Err-clause-memory c = λ status.
     let error : c.in-Err.error ≡ OutOfMemory = is_memory c.in-Err.error (sym c.refusal.ensures ∙ status) in
     some_entry (length c.args.collection.now.boxes.now) (length c.args.collection.now.exclusions.now)
-    (λ empty none. c.in-Err.ensures.memory named empty none (ap (λ e. Err e) error))
+    (λ empty none. c.in-Err.ensures.memory empty none (ap (λ e. Err e) error))
