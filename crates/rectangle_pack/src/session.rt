@@ -383,10 +383,11 @@ where
     pub fn coalesce_all(&mut self, id: &BinId) -> Result<(), SessionError>
         // Done: the bin is there, its list is one that the rule of the sweep allows, as `swept` of
         //   `TargetBin::coalesce_all` says it, and it counts as coalesced. All else stays.
-        //   [join_all.goes_upward, at_faces.section_before_is_missed]
+        //   [join_slots.goes_upward, join_all_in.cuts_anew, at_faces.section_before_is_missed]
         // `UnknownBin`: there is no such bin. The session is as it was. No other error is answered.
         ensures swept { Coalesces BinId.cmp IsSwept id.now self.old (reply_of result) self.new }
-        // Afterwards no two free sections of that bin share a whole face. [join_all.does_nothing]
+        // Afterwards no two free sections of that bin share a whole face.
+        //   [join_slots.does_nothing]
         ensures no_face { IfSome (lookup (is_at (BinId.cmp id.now)) self.new.bins)
             (λ (b : Bin). ShareNoFace b.sections) }
         // What always holds of a session holds afterwards.

@@ -1,5 +1,6 @@
 //! Sections of a list, found by the number of a corner.
-ghost use Rattle.std.specs.Prelude.{◌≡◌, ◌≢◌, ◌<◌, ◌≤◌, ◌⊎◌, ◌↔◌, ℕ, length, All, Some, IfSome, IfNone, IsSomeAnd, IsTrue, slice_index_or};
+ghost use Rattle.std.specs.Prelude.{◌≡◌, ◌≢◌, ◌<◌, ◌≤◌, ◌⊎◌, ◌↔◌, ℕ, length, All, Some, IfSome, IfNone, IsOk, IsSomeAnd, IsTrue, slice_index_or};
+ghost use Rattle.std.specs.Vec.{vec_capacity};
 ghost use Rattle.std.specs.Bool.{OnTrue};
 ghost use Rattle.rectangle_pack_sections.specs.Boxes.{FitsU32};
 ghost use Rattle.rectangle_pack_lists.specs.declared.corners.Corner.TheVariants.{Near, Far};
@@ -181,8 +182,11 @@ impl<A: Allocator + Copy> Corners<A> {
         }
     }
 
-    /// Makes room for so many sections. An error is want of memory.
-    pub fn reserve(&mut self, sections: usize) -> Result<(), AllocError> {
+    /// Makes room for so many sections, where it lacks. An error is want of memory.
+    pub fn reserve(&mut self, sections: usize) -> Result<(), AllocError>
+        ensures succeeds { sections ≤ vec_capacity self.old.near →
+            sections ≤ vec_capacity self.old.far → IsOk result }
+    {
         self.near.clear();
         self.near.reserve(sections)?;
         self.far.clear();

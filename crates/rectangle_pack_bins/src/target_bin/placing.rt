@@ -43,7 +43,9 @@ impl<A: Allocator + Copy> TargetBin<A> {
         C: Fn([WidthHeightDepth; 3], [WidthHeightDepth; 3], &H) -> Ordering,
         requires callable { AreCallable H.Fn C.Fn heuristic.now comparison.now }
         // Locations: there is one for each member, in their order.
-        //   [run_trial.member_without_a_section_is_skipped]
+        //   [run_trial.member_without_a_section_is_skipped,
+        //   run_trial.later_member_without_a_section_is_skipped,
+        //   place_noted.first_member_alone_is_tried]
         // Locations: each member in turn stands at the corner of the newest section that held it,
         //   in its own size. [newest.first_section_is_taken]
         // Locations: the section of each member is taken out of the list. The pieces of an allowed
