@@ -62,7 +62,7 @@ impl<A: Allocator + Copy> Store<A> {
         // A request changes session and boxes as its definition says, and the text of its answer is
         //   printed, and nothing else. Where memory is refused, nothing is printed.
         //   [obey.another_placement_is_released, obey.line_is_swallowed,
-        //   obey.sweep_joins_one_section, print_sections.unknown_bin_is_empty]
+        //   print_sections.unknown_bin_exists, sweep.first_section_alone_is_joined]
         ensures { IsObeyed (request_of command.entry) self.old (W.contents out.old) result self.new
             (W.contents out.new) }
     {
