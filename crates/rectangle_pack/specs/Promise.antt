@@ -6,7 +6,7 @@ use Rattle.std.specs.List.Sorted.{IsPermutation}
 use Rattle.std.specs.Map.{lookup, keys_of}
 use Rattle.std.specs.BTreeMap.{is_at}
 use Rattle.rectangle_pack_sections.specs.declared.group.Group.{Group}
-use Rattle.rectangle_pack_rules.specs.declared.answer.Placement.{Placement}
+use Rattle.rectangle_pack_packing.specs.declared.answer.Placement.{Placement}
 use Rattle.rectangle_pack.specs.declared.session.command.SessionError.TheVariants.{NotEnoughBinSpace}
 use Rattle.rectangle_pack.specs.declared.session.command.Reply.{Reply}
 use Rattle.rectangle_pack.specs.declared.session.command.Reply.TheVariants.{Packed, Refused}
@@ -14,8 +14,8 @@ use Rattle.rectangle_pack.specs.declared.session.command.Command.{Command}
 use Rattle.rectangle_pack.specs.declared.session.command.Command.TheVariants.{Pack}
 use Rattle.rectangle_pack_sections.specs.Bins.{Bin}
 use Rattle.rectangle_pack_sections.specs.Groups.{Collection}
-use Rattle.rectangle_pack_rules.specs.Packing.{Rules, DoesNotTake, PackingRefused, excludes_by, AreKeptApart}
-use Rattle.rectangle_pack_rules.specs.Placed.{ArePlacedWhole}
+use Rattle.rectangle_pack_packing.specs.Packing.{Rules, DoesNotTake, PackingRefused, excludes_by, AreKeptApart}
+use Rattle.rectangle_pack_packing.specs.Placed.{ArePlacedWhole}
 use Rattle.rectangle_pack.specs.Session.{State, IsSession, numbered, IsTransition, IsRun}
 
 module _ {Id B G : Type 0} (group_cmp : Group G Id → Group G Id → Ordering) (rules : Rules Id B) where

@@ -7,7 +7,7 @@ use Rattle.std.specs.declared.cmp.Ordering.TheVariants.{Equal}
 use Rattle.std.specs.Map.{lookup, set_value}
 use Rattle.std.specs.BTreeMap.{is_at, insert_entry}
 use Rattle.rectangle_pack_sections.specs.declared.group.Group.{Group}
-use Rattle.rectangle_pack_rules.specs.declared.answer.Placement.{Placement}
+use Rattle.rectangle_pack_packing.specs.declared.answer.Placement.{Placement}
 use Rattle.rectangle_pack.specs.declared.session.command.Outstanding.{Outstanding}
 use Rattle.rectangle_pack.specs.declared.session.command.Packed.{Packed as PackedNumbers}
 use Rattle.rectangle_pack.specs.declared.session.command.SessionError.{SessionError}
@@ -23,7 +23,7 @@ use Rattle.rectangle_pack_sections.specs.Covering.{CoverBin}
 use Rattle.rectangle_pack_sections.specs.CutTrees.{IsFromCuts}
 use Rattle.rectangle_pack_lists.specs.Joining.{IsJoined, IsSwept}
 use Rattle.rectangle_pack_sections.specs.Groups.{Collection, entries_of}
-use Rattle.rectangle_pack_rules.specs.Packing.{Rules, PackingDone, PackingRefused}
+use Rattle.rectangle_pack_packing.specs.Packing.{Rules, PackingDone, PackingRefused}
 
 -- a session: its bins by id, the outstanding placements in the order of numbers, and the number of the next placement
 pub record State (Id B : Type 0) : Type 0 where

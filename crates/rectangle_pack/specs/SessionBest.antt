@@ -4,7 +4,7 @@ use Rattle.std.specs.declared.cmp.Ordering.{Ordering}
 use Rattle.rectangle_pack_sections.specs.declared.box_size_heuristics.named.Heuristic.{Heuristic}
 use Rattle.rectangle_pack_sections.specs.declared.group.Group.{Group}
 use Rattle.rectangle_pack_sections.specs.Groups.{Collection, entries_of}
-use Rattle.rectangle_pack_rules.specs.Best.{named_rules, use_of, IsRefusedWith, IsBestOf}
+use Rattle.rectangle_pack_packing.specs.Best.{named_rules, use_of, IsRefusedWith, IsBestOf}
 use Rattle.rectangle_pack.specs.declared.session.command.Packed.{Packed}
 use Rattle.rectangle_pack.specs.declared.session.command.SessionError.{SessionError}
 use Rattle.rectangle_pack.specs.declared.session.command.SessionError.TheVariants.{NumbersUsedUp, NotEnoughBinSpace, OutOfMemory}

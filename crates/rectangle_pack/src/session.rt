@@ -9,7 +9,7 @@ ghost use Rattle.rectangle_pack_sections.specs.Bins.{Bin, bins_of};
 ghost use Rattle.rectangle_pack_sections.specs.Boxes.{Size};
 ghost use Rattle.rectangle_pack_sections.specs.Closures.{AreCallable, answers};
 ghost use Rattle.rectangle_pack_lists.specs.Joining.{IsJoined, IsSwept, ShareNoFace};
-ghost use Rattle.rectangle_pack_rules.specs.Packing.{rules_by};
+ghost use Rattle.rectangle_pack_packing.specs.Packing.{rules_by};
 ghost use Rattle.rectangle_pack.specs.Promise.{PacksAsPromised};
 ghost use Rattle.rectangle_pack.specs.Session.{State, IsSession, AddsBin, Packs, Releases, Coalesces, reply_of, packed_reply};
 

@@ -8,7 +8,7 @@ use Rattle.rectangle_pack.specs.declared.pack.Placement.{Placement}
 use Rattle.rectangle_pack.specs.declared.session.command.Packed.{Packed}
 use Rattle.rectangle_pack.specs.declared.session.command.Reply.TheVariants.{Packed as Kept, Refused}
 use Rattle.rectangle_pack.specs.declared.session.command.SessionError.TheVariants.{NotEnoughBinSpace}
-use Rattle.rectangle_pack_rules.specs.declared.uses.Use.{Use}
+use Rattle.rectangle_pack_packing.specs.declared.uses.Use.{Use}
 use Rattle.rectangle_pack.specs.Best.{named_rules, use_of, IsBetterUse, PacksWith}
 use Rattle.rectangle_pack.specs.Bins.{Bin}
 use Rattle.rectangle_pack.specs.Closures.{Answers}
@@ -19,11 +19,11 @@ use Rattle.rectangle_pack.specs.Placed.{ArePlacedWhole}
 use Rattle.rectangle_pack.specs.Results.{HaveOneResult, AreSameBins, ArePlacementsAlike}
 use Rattle.rectangle_pack.specs.Promise.{NoBinTakes, PlacesWhole}
 use Rattle.rectangle_pack.specs.Session.{State, IsKept, numbered}
-use Rattle.rectangle_pack_rules.proofs.lemmas.determinism.OnePacking.{one_result}
-use Rattle.rectangle_pack_rules.proofs.lemmas.packing.Orders.{names-zip}
+use Rattle.rectangle_pack_packing.proofs.lemmas.determinism.OnePacking.{one_result}
+use Rattle.rectangle_pack_packing.proofs.lemmas.packing.Orders.{names-zip}
 use Rattle.rectangle_pack_sections.proofs.lemmas.cuts.SmallestBox.{smallest_is_preorder}
-use Rattle.rectangle_pack_rules.proofs.lemmas.determinism.Preorders.{total_decides}
-use Rattle.rectangle_pack_rules.proofs.lemmas.packing.Whole.{all_whole}
+use Rattle.rectangle_pack_packing.proofs.lemmas.determinism.Preorders.{total_decides}
+use Rattle.rectangle_pack_packing.proofs.lemmas.packing.Whole.{all_whole}
 use Rattle.rectangle_pack_c.specs.declared.RpBin.{RpBin}
 use Rattle.rectangle_pack_c.specs.declared.RpBox.{RpBox}
 use Rattle.rectangle_pack_c.specs.declared.RpPlacement.{RpPlacement}

@@ -20,9 +20,9 @@ use Rattle.rectangle_pack.specs.Placed.{ArePlacedWhole}
 use Rattle.rectangle_pack.specs.Session.{numbered}
 use Rattle.rectangle_pack_sections.proofs.lemmas.cuts.Counting.{apart_from_counts, filled_one}
 use Rattle.rectangle_pack_sections.proofs.lemmas.util.Lists.{AllPairs-head, AllPairs-tail}
-use Rattle.rectangle_pack_rules.proofs.lemmas.packing.Frame.{IsRecut, IsFrame-recut, KeptBySteps-recut, IsChanged, changed-all}
+use Rattle.rectangle_pack_packing.proofs.lemmas.packing.Frame.{IsRecut, IsFrame-recut, KeptBySteps-recut, IsChanged, changed-all}
 use Rattle.rectangle_pack_sections.proofs.lemmas.util.Maps.{is_some-keys, is_at-back}
-use Rattle.rectangle_pack_rules.proofs.lemmas.packing.Placed.{keys-placed, known-placed}
+use Rattle.rectangle_pack_packing.proofs.lemmas.packing.Placed.{keys-placed, known-placed}
 use Rattle.rectangle_pack.proofs.lemmas.session.Keeps.{some_of}
 use Rattle.rectangle_pack_c.specs.declared.RpBin.{RpBin}
 use Rattle.rectangle_pack_c.specs.declared.RpBox.{RpBox}

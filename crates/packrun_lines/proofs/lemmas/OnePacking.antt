@@ -24,8 +24,8 @@ use Rattle.rectangle_pack.specs.Packing.{Rules, rules_by, Members, Stage, AreAll
 use Rattle.rectangle_pack.specs.Results.{AreBinsAlike, ArePlacementsAlike, HaveOneResult}
 use Rattle.rectangle_pack.specs.Session.{State, Packs, IsKept, numbered}
 use Rattle.rectangle_pack_sections.proofs.lemmas.groups.GroupOrder.{groups_total}
-use Rattle.rectangle_pack_rules.proofs.lemmas.determinism.Either.{HaveOneResult-either, rates_decide}
-use Rattle.rectangle_pack_rules.proofs.lemmas.determinism.OnePacking.{one_result}
+use Rattle.rectangle_pack_packing.proofs.lemmas.determinism.Either.{HaveOneResult-either, rates_decide}
+use Rattle.rectangle_pack_packing.proofs.lemmas.determinism.OnePacking.{one_result}
 use Rattle.packrun_lines.specs.Desk.{group_order, volume_rules}
 
 -- what was joined is kept by a write that keeps it

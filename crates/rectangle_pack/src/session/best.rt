@@ -8,7 +8,7 @@ use crate::session::Session;
 use crate::session::command::{Packed, SessionError};
 use rectangle_pack_groups::grouped_rects_to_place::GroupedRectsToPlace;
 use rectangle_pack_groups::grouped_rects_to_place::multimap::number_after;
-use rectangle_pack_packings::pack::best::best_of;
+use rectangle_pack_packing::pack::best::best_of;
 use rectangle_pack_sections::box_size_heuristics::Heuristic;
 use rectangle_pack_sections::closures::Named;
 use rectangle_pack_sections::group::Group;

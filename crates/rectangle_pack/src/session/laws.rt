@@ -1,7 +1,7 @@
 //! The law of a session's transitions.
 ghost use Rattle.std.specs.Prelude.{◌≤◌, List};
 ghost use Rattle.rectangle_pack_sections.specs.Closures.{answers};
-ghost use Rattle.rectangle_pack_rules.specs.Packing.{rules_by};
+ghost use Rattle.rectangle_pack_packing.specs.Packing.{rules_by};
 ghost use Rattle.rectangle_pack.specs.declared.session.command.Command.{Command};
 ghost use Rattle.rectangle_pack.specs.declared.session.command.Reply.{Reply};
 ghost use Rattle.rectangle_pack.specs.Session.{State, IsSession, IsTransition, IsRun};

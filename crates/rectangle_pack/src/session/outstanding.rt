@@ -10,7 +10,7 @@ use crate::session::command::Outstanding;
 use crate::session::records::Records;
 use rectangle_pack_bins::target_bin::TargetBin;
 use rectangle_pack_lists::corners::Corners;
-use rectangle_pack_rules::answer::Placement;
+use rectangle_pack_packing::answer::Placement;
 use rectangle_pack_sections::bin_section::has_cells;
 use rectangle_pack_sections::packed_location::{PackedLocation, section_at};
 use std::alloc::{AllocError, Allocator};

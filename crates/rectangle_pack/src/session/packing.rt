@@ -1,10 +1,10 @@
 //! One packing of a session.
 ghost use Rattle.std.specs.Prelude.{◌≡◌, ◌+◌, ◌<◌, ◌^◌, ◌++◌, [], length, List, IfOk, OnErr, MatchBool, Ok, true};
 ghost use Rattle.rectangle_pack_sections.specs.Clones.{ClonesEqual};
-ghost use Rattle.rectangle_pack_rules.specs.declared.answer.Placement.{Placement};
+ghost use Rattle.rectangle_pack_packing.specs.declared.answer.Placement.{Placement};
 ghost use Rattle.rectangle_pack_sections.specs.Bins.{Bin, bins_of};
 ghost use Rattle.rectangle_pack_sections.specs.Groups.{entries_of};
-ghost use Rattle.rectangle_pack_rules.specs.Packing.{rules_by, PackingDone, PackingRefused};
+ghost use Rattle.rectangle_pack_packing.specs.Packing.{rules_by, PackingDone, PackingRefused};
 ghost use Rattle.rectangle_pack.specs.Session.{numbered};
 
 use crate::session::command::Outstanding;
@@ -12,8 +12,8 @@ use crate::session::outstanding::number_all;
 use crate::session::records::Records;
 use rectangle_pack_bins::target_bin::TargetBin;
 use rectangle_pack_groups::grouped_rects_to_place::GroupedRectsToPlace;
-use rectangle_pack_packings::pack::attempt::try_packing;
-use rectangle_pack_rules::answer::Placement;
+use rectangle_pack_packing::pack::attempt::try_packing;
+use rectangle_pack_packing::answer::Placement;
 use rectangle_pack_sections::closures::Policy;
 use rectangle_pack_sections::group::Group;
 use std::alloc::{AllocError, Allocator};

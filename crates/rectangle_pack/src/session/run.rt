@@ -3,7 +3,7 @@ ghost use Rattle.std.specs.Prelude.{◌≡◌};
 ghost use Rattle.rectangle_pack_sections.specs.Clones.{ClonesEqual};
 ghost use Rattle.rectangle_pack_sections.specs.Boxes.{Size};
 ghost use Rattle.rectangle_pack_sections.specs.Closures.{AreCallable, answers};
-ghost use Rattle.rectangle_pack_rules.specs.Packing.{rules_by};
+ghost use Rattle.rectangle_pack_packing.specs.Packing.{rules_by};
 ghost use Rattle.rectangle_pack.specs.Promise.{IsRunAnswer};
 ghost use Rattle.rectangle_pack.specs.Session.{IsSession, AddsBin, IsTransition, packed_reply, reply_of};
 

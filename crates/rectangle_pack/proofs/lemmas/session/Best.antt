@@ -7,8 +7,8 @@ use Rattle.rectangle_pack_sections.specs.declared.box_size_heuristics.named.Heur
 use Rattle.rectangle_pack_sections.specs.declared.group.Group.{Group}
 use Rattle.rectangle_pack_sections.specs.Groups.{Collection, entries_of}
 use Rattle.rectangle_pack_sections.specs.Bins.{Bin}
-use Rattle.rectangle_pack_rules.specs.declared.uses.Use.{Use}
-use Rattle.rectangle_pack_rules.specs.Best.{named_rules, use_of, IsRefusedWith, IsBestOf}
+use Rattle.rectangle_pack_packing.specs.declared.uses.Use.{Use}
+use Rattle.rectangle_pack_packing.specs.Best.{named_rules, use_of, IsRefusedWith, IsBestOf}
 use Rattle.rectangle_pack.specs.declared.session.command.Packed.{Packed as PackedNumbers}
 use Rattle.rectangle_pack.specs.declared.session.command.Reply.TheVariants.{Packed, Refused}
 use Rattle.rectangle_pack.specs.declared.session.command.SessionError.{SessionError}
@@ -21,9 +21,9 @@ use Rattle.rectangle_pack.proofs.lemmas.session.Packing.{state, unchanged}
 use Rattle.rectangle_pack.proofs.lemmas.session.Transitions.{memory_refused}
 use Rattle.rectangle_pack.proofs.lemmas.session.Promise.{packs-promised}
 use Rattle.rectangle_pack.specs.SessionBest.{PacksBest, PacksBestAsPromised}
-use Rattle.rectangle_pack_packings.proofs.lemmas.best.Alone.{one-entry, alone-best, best-alone}
-use Rattle.rectangle_pack_packings.proofs.lemmas.best.Nothing.{first-listed}
-use Rattle.rectangle_pack_packings.proofs.lemmas.best.Whole.{use-same, not-refused}
+use Rattle.rectangle_pack_packing.proofs.lemmas.best.Alone.{one-entry, alone-best, best-alone}
+use Rattle.rectangle_pack_packing.proofs.lemmas.best.Nothing.{first-listed}
+use Rattle.rectangle_pack_packing.proofs.lemmas.best.Whole.{use-same, not-refused}
 
 -- a packing with a heuristic is the best of the list that has it alone
 module _ {Id B G : Type 0} (group_cmp : Group G Id → Group G Id → Ordering) (cmp : Id → Id → Ordering) (bin_cmp : B → B → Ordering)

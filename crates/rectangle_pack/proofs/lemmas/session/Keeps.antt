@@ -6,24 +6,24 @@ use Rattle.rectangle_pack_sections.proofs.Std.{insert_entry, split_at, keys-set_
 use Rattle.rectangle_pack_sections.proofs.Std.{All-cons, All-head, All-tail, All-append, All-push, All-weaker, filter-append, remove-append_right}
 use Rattle.rectangle_pack_sections.proofs.Std.{all_pairs_push, all_pairs_remove, tied_itself}
 use Rattle.rectangle_pack_sections.specs.declared.group.Group.{Group}
-use Rattle.rectangle_pack_rules.specs.declared.answer.Placement.{Placement}
+use Rattle.rectangle_pack_packing.specs.declared.answer.Placement.{Placement}
 use Rattle.rectangle_pack.specs.declared.session.command.Outstanding.{Outstanding}
 use Rattle.rectangle_pack_sections.specs.Boxes.{Size, Cuboid, IsCellOf, IsInside, has_cells}
 use Rattle.rectangle_pack_sections.specs.Bins.{Bin, Held, IsAccepted, whole, new_bin, bins_of}
 use Rattle.rectangle_pack_sections.specs.Covering.{CoverBin}
 use Rattle.rectangle_pack_sections.specs.CutTrees.{IsFromCuts}
-use Rattle.rectangle_pack_rules.specs.KeptBins.{locations_in}
+use Rattle.rectangle_pack_packing.specs.KeptBins.{locations_in}
 use Rattle.rectangle_pack_sections.specs.Groups.{Collection}
-use Rattle.rectangle_pack_rules.specs.Packing.{Rules, Members, Stage, AreAllPlaced, PackingDone, at_start, excludes_by}
+use Rattle.rectangle_pack_packing.specs.Packing.{Rules, Members, Stage, AreAllPlaced, PackingDone, at_start, excludes_by}
 use Rattle.rectangle_pack.specs.Session.{State, outstanding_in, boxes_of, IsSession, IsOutstanding, numbered, GivesBack}
 use Rattle.rectangle_pack_sections.proofs.lemmas.util.Lists.{All-front, All-back, All-middle, All-without}
 use Rattle.rectangle_pack_sections.proofs.lemmas.cuts.Counting.{filled-append, filled-nil, filled_yes, filled_from_some}
 use Rattle.rectangle_pack_sections.proofs.lemmas.cuts.Trees.{IsFromCuts-leaf}
-use Rattle.rectangle_pack_rules.proofs.lemmas.packing.Frame.{IsRecut, changed-all}
+use Rattle.rectangle_pack_packing.proofs.lemmas.packing.Frame.{IsRecut, changed-all}
 use Rattle.rectangle_pack_bins.proofs.lemmas.bins.Journals.{lookup-bins_of, is_some-bins_of}
-use Rattle.rectangle_pack_rules.proofs.lemmas.packing.KeepsCuts.{KeepsCuts, KeepsBoxes, IsFrame-boxes, KeptBySteps-boxes}
+use Rattle.rectangle_pack_packing.proofs.lemmas.packing.KeepsCuts.{KeepsCuts, KeepsBoxes, IsFrame-boxes, KeptBySteps-boxes}
 use Rattle.rectangle_pack_sections.proofs.lemmas.util.Maps.{lookup-equal, lookup-written, is_some-keys, insert_entry-map_values}
-use Rattle.rectangle_pack_rules.proofs.lemmas.packing.Placed.{keys-placed, known-placed}
+use Rattle.rectangle_pack_packing.proofs.lemmas.packing.Placed.{keys-placed, known-placed}
 
 -- a value that is there
 pub some_of : {X : Type 0} (found : Option X) → IsSome found → (x : X) × (found ≡ Some x)

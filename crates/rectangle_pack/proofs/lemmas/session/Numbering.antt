@@ -2,7 +2,7 @@
 use Rattle.rectangle_pack_sections.proofs.Std.{◌≡◌, ℕ, ◌+◌, ◌<◌, ◌≤◌, get_or, inl, inr, cases_lt, List, [], ◌∷◌, ◌++◌, refl, ap, sym, ◌∙◌, arith, length}
 use Rattle.rectangle_pack_sections.proofs.Std.{append_assoc, All, AllPairs, IfSome, IfNone, Result, Ok, Err, ◌≢◌, IsSearchInRange, IsBinarySearchResult}
 use Rattle.rectangle_pack_sections.proofs.Std.{IsNonDecreasingBy, nat_cmp, ordering_index, result_ok, ranked, nat_tests}
-use Rattle.rectangle_pack_rules.specs.declared.answer.Placement.{Placement}
+use Rattle.rectangle_pack_packing.specs.declared.answer.Placement.{Placement}
 use Rattle.rectangle_pack.specs.declared.session.command.Outstanding.{Outstanding}
 use Rattle.rectangle_pack.specs.Session.{numbered}
 

@@ -5,8 +5,8 @@ use Rattle.rectangle_pack_sections.proofs.Std.{Ordering, IsTotalOrder}
 use Rattle.rectangle_pack_sections.specs.declared.group.Group.{Group}
 use Rattle.rectangle_pack_sections.specs.Groups.{Collection, entries_of}
 use Rattle.rectangle_pack_sections.specs.Bins.{Bin}
-use Rattle.rectangle_pack_rules.specs.declared.answer.Placement.{Placement}
-use Rattle.rectangle_pack_rules.specs.Packing.{Rules, PackingDone, PackingRefused}
+use Rattle.rectangle_pack_packing.specs.declared.answer.Placement.{Placement}
+use Rattle.rectangle_pack_packing.specs.Packing.{Rules, PackingDone, PackingRefused}
 use Rattle.rectangle_pack.specs.declared.session.command.Outstanding.{Outstanding}
 use Rattle.rectangle_pack.specs.declared.session.command.Packed.{Packed as PackedNumbers}
 use Rattle.rectangle_pack.specs.declared.session.command.Reply.TheVariants.{Packed, Refused}

@@ -7,14 +7,14 @@ use Rattle.rectangle_pack.specs.declared.session.command.Reply.TheVariants.{Pack
 use Rattle.rectangle_pack.specs.declared.session.command.Packed.{Packed as PackedNumbers}
 use Rattle.rectangle_pack.specs.declared.session.command.SessionError.TheVariants.{NotEnoughBinSpace}
 use Rattle.rectangle_pack_sections.specs.Groups.{Collection}
-use Rattle.rectangle_pack_rules.specs.Packing.{Rules, AreKeptApart, at_start}
+use Rattle.rectangle_pack_packing.specs.Packing.{Rules, AreKeptApart, at_start}
 use Rattle.rectangle_pack.specs.Promise.{PlacesWhole, PacksAsPromised, KeepsPromise}
 use Rattle.rectangle_pack.specs.Session.{State, IsSession, IsKept, Packs, IsTransition}
-use Rattle.rectangle_pack_rules.proofs.lemmas.packing.Excluded.{placed_apart, apart-reverse}
-use Rattle.rectangle_pack_rules.proofs.lemmas.packing.Orders.{names-zip}
-use Rattle.rectangle_pack_rules.proofs.lemmas.packing.Refused.{taken_nowhere}
+use Rattle.rectangle_pack_packing.proofs.lemmas.packing.Excluded.{placed_apart, apart-reverse}
+use Rattle.rectangle_pack_packing.proofs.lemmas.packing.Orders.{names-zip}
+use Rattle.rectangle_pack_packing.proofs.lemmas.packing.Refused.{taken_nowhere}
 use Rattle.rectangle_pack.proofs.lemmas.session.Transitions.{kept-transition}
-use Rattle.rectangle_pack_rules.proofs.lemmas.packing.Whole.{all_whole}
+use Rattle.rectangle_pack_packing.proofs.lemmas.packing.Whole.{all_whole}
 
 module _ {Id B G : Type 0} (group_cmp : Group G Id → Group G Id → Ordering) (rules : Rules Id B) (o : IsTotalOrder rules.bin_cmp) where
   placed-whole : (all : Collection Id G) (old new : State Id B) (numbers : PackedNumbers) → IsKept group_cmp rules all old numbers new

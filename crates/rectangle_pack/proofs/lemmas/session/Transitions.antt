@@ -15,9 +15,9 @@ use Rattle.rectangle_pack_sections.specs.Boxes.{Size, Cuboid, IsInside}
 use Rattle.rectangle_pack_sections.specs.Bins.{Bin, Held, new_bin, bins_of}
 use Rattle.rectangle_pack_sections.specs.Groups.{Collection}
 use Rattle.rectangle_pack_lists.specs.Joining.{IsJoined, IsSwept}
-use Rattle.rectangle_pack_rules.specs.Packing.{Rules}
+use Rattle.rectangle_pack_packing.specs.Packing.{Rules}
 use Rattle.rectangle_pack.specs.Session.{State, outstanding_in, IsSession, IsOutstanding, GivesBack, AddsBin, Releases, Packs, Coalesces, IsTransition, IsRun}
-use Rattle.rectangle_pack_rules.proofs.lemmas.packing.Frame.{IsRecut, IsFrame-recut}
+use Rattle.rectangle_pack_packing.proofs.lemmas.packing.Frame.{IsRecut, IsFrame-recut}
 use Rattle.rectangle_pack_lists.proofs.lemmas.joining.Joins.{IsJoined-cells, IsSwept-cells, IsJoined-keeps, IsSwept-keeps, join-inside}
 use Rattle.rectangle_pack_bins.proofs.lemmas.bins.Journals.{bins_of-written}
 use Rattle.rectangle_pack_sections.proofs.lemmas.util.Maps.{lookup-equal, lookup-inserted}

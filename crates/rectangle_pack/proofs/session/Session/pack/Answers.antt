@@ -1,5 +1,5 @@
 use Rattle.rectangle_pack_sections.specs.Closures.{answers}
-use Rattle.rectangle_pack_rules.specs.Packing.{rules_by}
+use Rattle.rectangle_pack_packing.specs.Packing.{rules_by}
 use Rattle.rectangle_pack.specs.Session.{packed_reply}
 use Rattle.rectangle_pack.proofs.lemmas.session.Promise.{packs-promised}
 use Rattle.rectangle_pack.proofs.session.Session.pack.Goals as goal

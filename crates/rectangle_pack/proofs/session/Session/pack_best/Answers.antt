@@ -2,7 +2,7 @@ use Rattle.rectangle_pack_sections.proofs.Std.{◌≡◌, ◌∙◌, ◌⊎◌, 
 use Rattle.rectangle_pack_sections.specs.declared.box_size_heuristics.named.Heuristic.TheVariants.{Volume}
 use Rattle.rectangle_pack_sections.specs.Bins.{bins_of}
 use Rattle.rectangle_pack_sections.proofs.lemmas.groups.GroupOrder.{groups_total}
-use Rattle.rectangle_pack_rules.proofs.lemmas.packing.Groups.{lists-some, lists-empty}
+use Rattle.rectangle_pack_packing.proofs.lemmas.packing.Groups.{lists-some, lists-empty}
 use Rattle.rectangle_pack.specs.declared.session.command.SessionError.TheVariants.{NotEnoughBinSpace}
 use Rattle.rectangle_pack.proofs.lemmas.session.Best.{best-found, none-found, first-answered, best-named, best-stopped, best-none, best-promised}
 use Rattle.rectangle_pack.proofs.lemmas.session.Packing.{next-fits, first-next, used_up, unchanged, IsSession-same}

@@ -1,6 +1,6 @@
 use Rattle.rectangle_pack_sections.proofs.Std.{◌<◌, ◌^◌, ◌-◌, refl, subst, arith}
 use Rattle.rectangle_pack_sections.specs.Bins.{bins_of}
-use Rattle.rectangle_pack_rules.specs.Packing.{rules_by}
+use Rattle.rectangle_pack_packing.specs.Packing.{rules_by}
 use Rattle.rectangle_pack.specs.Session.{IsSession}
 use Rattle.rectangle_pack.proofs.lemmas.session.Packing.{next-entries, next-fits, next-count, first-next, count-fits, IsSession-same, used_up, Packs-stopped}
 use Rattle.rectangle_pack.proofs.lemmas.session.Packing.{Packs-refused, Packs-kept, IsSession-refused, IsSession-kept, some-none, done-not}

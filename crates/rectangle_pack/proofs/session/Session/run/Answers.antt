@@ -1,7 +1,7 @@
 use Rattle.std.proofs.lemmas.Result.{err_from_is_err_and}
 use Rattle.rectangle_pack_sections.proofs.Std.{◌≡◌, ℕ, ◌+◌, ◌-◌, ◌<◌, ◌≤◌, arith, refl, subst}
 use Rattle.rectangle_pack_sections.specs.Closures.{answers}
-use Rattle.rectangle_pack_rules.specs.Packing.{rules_by}
+use Rattle.rectangle_pack_packing.specs.Packing.{rules_by}
 use Rattle.rectangle_pack.proofs.lemmas.session.Promise.{KeepsPromise-transition}
 use Rattle.rectangle_pack.proofs.lemmas.session.Transitions.{IsRun-more, IsRun-all}
 use Rattle.rectangle_pack.specs.Session.{IsSession}

@@ -2,7 +2,7 @@ use Rattle.rectangle_pack_sections.proofs.Std.{take, ◌+◌, ◌≤◌, ◌-◌
 use Rattle.rectangle_pack_sections.specs.contracts.group.GroupOrd.TheImpl.{ghosts}
 use Rattle.rectangle_pack_sections.specs.Closures.{answers}
 use Rattle.rectangle_pack.specs.Session.{IsRun, IsSession}
-use Rattle.rectangle_pack_rules.specs.Packing.{rules_by}
+use Rattle.rectangle_pack_packing.specs.Packing.{rules_by}
 use Rattle.rectangle_pack.specs.Promise.{KeepsPromise}
 use Rattle.rectangle_pack.proofs.session.Session.run.Given as goal
 

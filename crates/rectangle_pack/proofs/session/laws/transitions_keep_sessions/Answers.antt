@@ -1,5 +1,5 @@
 use Rattle.rectangle_pack_sections.specs.Closures.{answers}
-use Rattle.rectangle_pack_rules.specs.Packing.{rules_by}
+use Rattle.rectangle_pack_packing.specs.Packing.{rules_by}
 use Rattle.rectangle_pack.proofs.lemmas.session.Transitions.{kept-transition, kept-run}
 use Rattle.rectangle_pack.proofs.session.laws.transitions_keep_sessions.Goals as goal
 

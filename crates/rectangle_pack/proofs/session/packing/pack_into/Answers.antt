@@ -1,8 +1,8 @@
 use Rattle.rectangle_pack_sections.proofs.Std.{refl, sym, ap, ◌∙◌, length, vec_len, ◌≡◌, ◌<◌, ◌++◌, [], append-nil, map, sum, values_of, IfOk-from_err}
 use Rattle.rectangle_pack_sections.proofs.lemmas.util.Results.{OnErr-given}
-use Rattle.rectangle_pack_rules.proofs.lemmas.packing.Groups.{PackingDone-none, lists-some, lists-more, lists-empty}
+use Rattle.rectangle_pack_packing.proofs.lemmas.packing.Groups.{PackingDone-none, lists-some, lists-more, lists-empty}
 use Rattle.rectangle_pack_sections.specs.Bins.{bins_of}
-use Rattle.rectangle_pack_rules.specs.Packing.{rules_by}
+use Rattle.rectangle_pack_packing.specs.Packing.{rules_by}
 use Rattle.rectangle_pack.specs.Session.{numbered}
 use Rattle.rectangle_pack.proofs.lemmas.session.Packing.{tried-done, tried-refused}
 use Rattle.rectangle_pack.proofs.session.packing.pack_into.Goals as goal

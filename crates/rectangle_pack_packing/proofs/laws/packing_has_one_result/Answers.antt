@@ -1,0 +1,13 @@
+use Rattle.rectangle_pack_sections.proofs.Std.{refl}
+use Rattle.rectangle_pack_packing.specs.Packing.{rules_by}
+use Rattle.rectangle_pack_packing.proofs.lemmas.determinism.Either.{HaveOneResult-either}
+use Rattle.rectangle_pack_sections.proofs.lemmas.groups.GroupOrder.{groups_total}
+use Rattle.rectangle_pack_packing.proofs.lemmas.determinism.OnePacking.{one_result}
+use Rattle.rectangle_pack_packing.proofs.laws.packing_has_one_result.Goals as goal
+
+pub returns : goal.returns
+returns g c = λ all others bins other_bins alike bins_alike decide.
+    HaveOneResult-either _ g.Id.Ord.cmp g.BinId.Ord.cmp _ _ all others bins other_bins
+    (one_result _ (rules_by g.Id.Ord.cmp g.BinId.Ord.cmp _)
+    (groups_total _ g.Id.Ord.cmp g.GroupId.Ord.cmp g.met.Id.Ord.total g.met.GroupId.Ord.total (λ a b. refl) (λ a b. refl) (λ a b. refl) (λ a b. refl))
+    g.met.Id.Ord.total g.met.BinId.Ord.total all others bins other_bins alike bins_alike decide)

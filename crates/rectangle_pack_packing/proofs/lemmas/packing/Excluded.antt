@@ -1,0 +1,233 @@
+-- Which bins are excluded, by the bins that are kept for the groups that have partners.
+use Rattle.rectangle_pack_sections.proofs.Std.{◌≡◌, ◌↔◌, ℕ, suc, zero, ◌+◌, ◌-◌, ◌<◌, Bool, true, false, cond, ◌&&◌, ◌||◌, List, [], ◌∷◌, ◌++◌, length, take}
+use Rattle.rectangle_pack_sections.proofs.Std.{get_or, refl, sym, ◌∙◌, ap, subst, arith, Some, All, AllPairs, map, reverse, Ordering, Equal, Bor, is_eq}
+use Rattle.rectangle_pack_sections.proofs.Std.{eq_by_cmp, IsTotalOrder, Equal-is, list_any, IsDistinct, lookup, is_at, All-nil, All-cons, All-head, All-tail}
+use Rattle.rectangle_pack_sections.proofs.Std.{All-weaker, get_or-map, get_or-reverse, length-map, length-reverse, list_any_at, IsDistinct-tail, fun_ext}
+use Rattle.rectangle_pack_sections.proofs.Std.{AllPairs-cons, or_comm, tied_itself, or-false, and-or_distrib_right, or_parts, take-map, list_any_none, or-true}
+use Rattle.rectangle_pack_packing.specs.declared.order.OrderedGroup.{OrderedGroup}
+use Rattle.rectangle_pack_packing.specs.declared.answer.Placement.{Placement}
+use Rattle.rectangle_pack_sections.specs.Groups.{Collection}
+use Rattle.rectangle_pack_sections.specs.Exclusions.{listed_at, is_listed, are_excluded}
+use Rattle.rectangle_pack_sections.specs.private.Exclusions.{AreMutual}
+use Rattle.rectangle_pack_packing.specs.private.Excluded.{are_in, went_to, AreHomesKept}
+use Rattle.rectangle_pack_packing.specs.Packing.{Rules, AreKeptApart, excludes_by, excludes_none, Members, Stage, AreAllPlaced, PackingDone, PackingDoneBy}
+use Rattle.rectangle_pack_packing.specs.Packing.{PackingRefused, PackingRefusedBy}
+use Rattle.rectangle_pack_sections.specs.Bins.{Bin}
+use Rattle.rectangle_pack_sections.specs.declared.group.Group.{Group}
+use Rattle.rectangle_pack_sections.proofs.lemmas.util.Lists.{All-front, All-middle}
+use Rattle.rectangle_pack_sections.proofs.lemmas.util.Maps.{lookup-equal, is_at-back}
+use Rattle.rectangle_pack_sections.proofs.lemmas.groups.Excluded.{list_any-alike, is_at-equal, excluded-listed}
+use Rattle.rectangle_pack_packing.proofs.lemmas.packing.Orders.{map-take_more, IsDistinct-apart}
+
+-- tests that agree on the elements find the same
+list_any-on : {X : Type 0} (p q : X → Bool) (xs : List X) → All (λ x. p x ≡ q x) xs → list_any p xs ≡ list_any q xs
+list_any-on p q [] h = refl
+list_any-on p q (x ∷ xs) h = rw (All-head (λ x. p x ≡ q x) x xs h, list_any-on p q xs (All-tail (λ x. p x ≡ q x) x xs h)) refl
+
+or-swap : (a b c d : Bool) → ((a || b) || (c || d)) ≡ ((a || c) || (b || d))
+or-swap true b c d = refl
+or-swap false true true d = refl
+or-swap false true false d = refl
+or-swap false false c d = refl
+
+list_any-or : {X : Type 0} (p q : X → Bool) (xs : List X) → list_any (λ x. p x || q x) xs ≡ (list_any p xs || list_any q xs)
+list_any-or p q [] = refl
+list_any-or p q (x ∷ xs) = rw (list_any-or p q xs) (or-swap (p x) (q x) (list_any p xs) (list_any q xs))
+
+-- two searches, in either order
+list_any-swap : {X Y : Type 0} (f : X → Y → Bool) (xs : List X) (ys : List Y)
+    → list_any (λ x. list_any (f x) ys) xs ≡ list_any (λ y. list_any (λ x. f x y) xs) ys
+list_any-swap f [] ys = sym (list_any_none (λ y. false) ys (λ k d within. refl))
+list_any-swap f (x ∷ xs) ys = rw (list_any-swap f xs ys) (sym (list_any-or (f x) (λ y. list_any (λ x. f x y) xs) ys))
+
+list_any-and : {X : Type 0} (p : X → Bool) (c : Bool) (xs : List X) → list_any (λ x. p x && c) xs ≡ (list_any p xs && c)
+list_any-and p c [] = refl
+list_any-and p c (x ∷ xs) = rw (list_any-and p c xs) (sym (and-or_distrib_right (p x) (list_any p xs) c))
+
+some-found : {X : Type 0} (p : X → Bool) (xs : List X) → list_any p xs ≡ true → 0 < length xs
+some-found p [] h = absurd cc
+some-found p (x ∷ xs) h = omega arith
+
+-- a list that differs from its later elements differs at an element from those before it
+pub distinct-before : {K : Type 0} (e : K → K → Bool) (xs : List K) (i : ℕ) (x : K) → IsDistinct e xs → i < length xs → x ≡ get_or xs i x
+    → All (λ y. e y x ≡ false) (take i xs)
+distinct-before e [] i x h within is = absurd (omega arith)
+distinct-before e (y ∷ ys) zero x h within is = All-nil _
+distinct-before e (y ∷ ys) (suc i) x h within is =
+    let later : i < length ys = omega arith in
+    let apart : e y x ≡ false = rw is (IsDistinct-apart e y ys h i x later) in
+    All-cons (λ z. e z x ≡ false) y (take i ys) apart (distinct-before e ys i x (IsDistinct-tail e y ys h) later is)
+
+-- one more bin
+pub excluded-more : {B : Type 0} {bin_cmp : B → B → Ordering} → IsTotalOrder bin_cmp → (old new : List (Bor B)) (bin : Bor B) (found now : Bool) (id : B)
+    → are_in bin_cmp new id ≡ cond (is_at (bin_cmp bin.now) id) true (are_in bin_cmp old id) → are_in bin_cmp old id ≡ found → now ≡ is_at (bin_cmp id) bin.now
+    → are_in bin_cmp new id ≡ (found || now)
+excluded-more {B} {bin_cmp} o old new bin found now id updates was is =
+    updates ∙ rw (was, is, is_at-back o bin.now id) (by (is_at (bin_cmp id) bin.now))
+  where
+    by : (b : Bool) → cond b true found ≡ (found || b)
+    by true = sym (or-true found)
+    by false = sym (or-false found)
+
+module _ {K B : Type 0} (cmp : K → K → Ordering) (bin_cmp : B → B → Ordering) (o : IsTotalOrder cmp) where
+  -- who is listed has a list
+  listed_has_list : (partners : List (K × List K)) → AreMutual cmp partners → (q : K)
+      → All (λ p. 0 < length (listed_at cmp partners p)) (listed_at cmp partners q)
+  listed_has_list partners m q = λ k d within.
+      let xs = listed_at cmp partners q in
+      let p = get_or xs k d in
+      let there : is_listed cmp partners q p ≡ true = list_any_at (is_at (cmp p)) xs k d within (ap is_eq (tied_itself o p)) in
+      some-found (is_at (cmp q)) (listed_at cmp partners p) (sym (m q p) ∙ there)
+
+  -- so the bins of a group's partners are those that are excluded for it
+  excluded_by_partners : (partners : List (K × List K)) (homes : List (K × B)) (kept : List (Bor K × Bor B)) → AreMutual cmp partners
+      → AreHomesKept cmp bin_cmp partners homes kept → (q : K) (id : B)
+      → list_any (λ p. went_to cmp bin_cmp kept p id) (listed_at cmp partners q) ≡ excludes_by cmp bin_cmp partners homes q id
+  excluded_by_partners partners homes kept m known q id =
+      let xs = listed_at cmp partners q in
+      let f : K → K × B → Bool = λ p h. is_at (cmp p) h.0 && is_at (bin_cmp id) h.1 in
+      let has = listed_has_list partners m q in
+      let each : All (λ p. went_to cmp bin_cmp kept p id ≡ list_any (f p) homes) xs = λ k d within. sym (known.each (get_or xs k d) (has k d within) id) in
+      list_any-on (λ p. went_to cmp bin_cmp kept p id) (λ p. list_any (f p) homes) xs each
+      ∙ list_any-swap f xs homes
+      ∙ list_any-alike (λ h. list_any (λ p. f p h) xs) (λ h. are_excluded cmp partners q h.0 && is_at (bin_cmp id) h.1)
+      (λ h.
+      list_any-and (λ p. is_at (cmp p) h.0) (is_at (bin_cmp id) h.1) xs
+      ∙ ap (λ b. b && is_at (bin_cmp id) h.1) (list_any-alike (λ p. is_at (cmp p) h.0) (is_at (cmp h.0)) (λ p. is_at-back o p h.0) xs
+      ∙ sym (excluded-listed o partners m q h.0)))
+      homes
+
+  -- whatever list of them was read
+  pub excluded_as_found : (partners : List (K × List K)) (placed : List (K × B)) (homes : List (Bor K × Bor B)) (excluded : List (Bor B)) (own : List K) (q : K)
+      → own ≡ listed_at cmp partners q → AreMutual cmp partners → AreHomesKept cmp bin_cmp partners placed homes
+      → ((id : B) → are_in bin_cmp excluded id ≡ list_any (λ p. went_to cmp bin_cmp homes p id) own)
+      → are_in bin_cmp excluded ≡ excludes_by cmp bin_cmp partners placed q
+  excluded_as_found partners placed homes excluded own q listed m known found =
+      fun_ext (λ id.
+      found id ∙ ap (λ (ps : List K). list_any (λ p. went_to cmp bin_cmp homes p id) ps) listed
+      ∙ excluded_by_partners partners placed homes m known q id)
+
+  -- a group without partners need not be kept
+  pub AreHomesKept-alone : (partners : List (K × List K)) (homes : List (K × B)) (kept : List (Bor K × Bor B)) (name : K) (here : B)
+      → length (listed_at cmp partners name) ≡ 0 → AreHomesKept cmp bin_cmp partners homes kept → AreHomesKept cmp bin_cmp partners ((name, here) ∷ homes) kept
+  AreHomesKept-alone partners homes kept name here none known = record { each = λ group some id. by group some id (is_at (cmp group) name) refl }
+    where
+      by : (group : K) → 0 < length (listed_at cmp partners group) → (id : B) → (b : Bool) → is_at (cmp group) name ≡ b → ((b && is_at (bin_cmp id) here) || list_any
+          (λ h. is_at (cmp group) h.0 && is_at (bin_cmp id) h.1) homes) ≡ went_to cmp bin_cmp kept group id
+      by group some id true e =
+          let same : listed_at cmp partners group ≡ listed_at cmp partners name = rw (lookup-equal o group name ((Equal-is _).0 e) partners) refl in
+          absurd (omega (arith, ap length same))
+      by group some id false e = known.each group some id
+
+  -- one that has some is kept with its bin
+  pub AreHomesKept-kept : (partners : List (K × List K)) (homes : List (K × B)) (old new : List (Bor K × Bor B)) (name : K) (here : Bor B)
+      → ((group : K) → lookup (λ k. is_at (cmp group) k.now) new ≡ cond (is_at (cmp name) group) (Some here) (lookup (λ k. is_at (cmp group) k.now) old))
+      → All (λ h. is_at (cmp name) h.0 ≡ false) homes → AreHomesKept cmp bin_cmp partners homes old → AreHomesKept cmp bin_cmp partners ((name, here.now) ∷ homes) new
+  AreHomesKept-kept partners homes old new name here updates fresh known = record { each = λ group some id. by group some id (is_at (cmp group) name) refl }
+    where
+      f : K → B → K × B → Bool
+      f group id h = is_at (cmp group) h.0 && is_at (bin_cmp id) h.1
+
+      by : (group : K) → 0 < length (listed_at cmp partners group) → (id : B) → (b : Bool)
+          → is_at (cmp group) name ≡ b → ((b && is_at (bin_cmp id) here.now) || list_any (f group id) homes) ≡ went_to cmp bin_cmp new group id
+      by group some id true e =
+          let none : list_any (f group id) homes ≡ false = list_any_none (f group id) homes (All-weaker (λ h. is_at (cmp name) h.0 ≡ false) (λ h. f group id h ≡ false)
+          (λ h apart. rw (is_at-equal o group name h.0 ((Equal-is _).0 e), apart) refl) homes fresh) in
+          rw (updates group, is_at-back o name group, e, none) (or-false (is_at (bin_cmp id) here.now))
+      by group some id false e = rw (updates group, is_at-back o name group, e) (known.each group some id)
+
+  -- at first no group is kept
+  pub AreHomesKept-none : (partners : List (K × List K)) (kept : List (Bor K × Bor B)) → kept ≡ [] → AreHomesKept cmp bin_cmp partners [] kept
+  AreHomesKept-none partners kept none = record { each = λ group some id. ap (λ (es : List (Bor K × Bor B)). went_to cmp bin_cmp es group id) (sym none) }
+
+  -- the groups that were placed are those that an order named before
+  abbrev pub Named : {X Y : Type 0} → List (OrderedGroup K X Y) → List (K × B) → Type 0
+  Named order homes = (q : K) → All (λ n. is_at (cmp n) q ≡ false) (map (λ x. x.name.now) order) → All (λ h. is_at (cmp q) h.0 ≡ false) homes
+
+  -- and they are so with the next group
+  pub Named-more : {X Y : Type 0} (order : List (OrderedGroup K X Y)) (i : ℕ) (x : OrderedGroup K X Y) (homes : List (K × B)) (here : B)
+      → i < length order → x ≡ get_or order i x → Named (take i order) homes → Named (take (i + 1) order) ((x.name.now, here) ∷ homes)
+  Named-more {X} {Y} order i x homes here within is named q h =
+      let f : OrderedGroup K X Y → K = λ y. y.name.now in
+      let P : K → Type 0 = λ n. is_at (cmp n) q ≡ false in
+      let all : All P (map f (take i order) ++ f x ∷ []) = subst (All P) (map-take_more f order i x within is) h in
+      All-cons (λ h. is_at (cmp q) h.0 ≡ false) (f x, here) homes
+      (is_at-back o q (f x) ∙ All-middle P (map f (take i order) ++ f x ∷ []) (map f (take i order)) [] (f x) refl all)
+      (named q (All-front P (map f (take i order)) (f x ∷ []) all))
+
+  -- and a group that the order names once has not been placed
+  pub Named-fresh : {X Y : Type 0} (order : List (OrderedGroup K X Y)) (i : ℕ) (x : OrderedGroup K X Y) (homes : List (K × B))
+      → IsDistinct (eq_by_cmp cmp) (map (λ y. y.name.now) order) → i < length order → x ≡ get_or order i x → Named (take i order) homes
+      → All (λ h. is_at (cmp x.name.now) h.0 ≡ false) homes
+  Named-fresh {X} {Y} order i x homes distinct within is named =
+      let f : OrderedGroup K X Y → K = λ y. y.name.now in
+      let at : f x ≡ get_or (map f order) i (f x) = ap f is ∙ sym (get_or-map f order i x (f x) within) in
+      named (f x) (subst (All (λ n. is_at (cmp n) (f x) ≡ false)) (take-map f i order)
+      (distinct-before (eq_by_cmp cmp) (map f order) i (f x) distinct (rw length-map within) at))
+
+-- equal bins are excluded alike
+pub excludes-alike : {K B : Type 0} (cmp : K → K → Ordering) {bin_cmp : B → B → Ordering} → IsTotalOrder bin_cmp → (partners : List (K × List K)) (homes : List
+    (K × B)) (group : K) (x y : B) → bin_cmp x y ≡ Equal → excludes_by cmp bin_cmp partners homes group x ≡ excludes_by cmp bin_cmp partners homes group y
+excludes-alike cmp {bin_cmp} o partners homes group x y e =
+    list_any-alike (λ h. are_excluded cmp partners group h.0 && is_at (bin_cmp x) h.1) (λ h. are_excluded cmp partners group h.0 && is_at (bin_cmp y) h.1)
+    (λ h. ap (λ b. are_excluded cmp partners group h.0 && b) (is_at-equal o x y h.1 e)) homes
+
+-- where no two groups are excluded no bin is excluded
+excludes-without : {K B : Type 0} (cmp : K → K → Ordering) (bin_cmp : B → B → Ordering) (partners : List (K × List K))
+    → ((a b : K) → are_excluded cmp partners a b ≡ false) → excludes_by cmp bin_cmp partners ≡ excludes_none
+excludes-without {K} {B} cmp bin_cmp partners none =
+    fun_ext (λ homes.
+    fun_ext (λ group.
+    fun_ext (λ id. list_any_none {X = K × B} (λ h. are_excluded cmp partners group h.0 && is_at (bin_cmp id) h.1) homes
+    (λ k d within. rw (none group (get_or homes k d).0) refl))))
+
+-- what no search finds
+none-found : {X : Type 0} (p : X → Bool) (xs : List X) → list_any p xs ≡ false → All (λ x. p x ≡ false) xs
+none-found p [] h = All-nil _
+none-found p (x ∷ xs) h = let (here, later) = or_parts (p x) (list_any p xs) h in All-cons (λ x. p x ≡ false) x xs here (none-found p xs later)
+
+-- what holds of all pairs in both orders holds of them from the end on
+AllPairs-reverse : {X : Type 0} (R : X → X → Type 0) → ((a b : X) → R a b → R b a) → (xs : List X) → AllPairs R xs → AllPairs R (reverse xs)
+AllPairs-reverse R back xs h i j d lt within =
+    let long = length-reverse xs in
+    rw (get_or-reverse xs i d (omega arith), get_or-reverse xs j d (omega arith))
+    (back _ _ (h (length xs - 1 - j) (length xs - 1 - i) d (omega arith) (omega arith)))
+
+module _ {Id K B : Type 0} (group_cmp : K → K → Ordering) (rules : Rules Id B) (partners : List (K × List K)) where
+  abbrev Apart : K × B → K × B → Type 0
+  Apart a b = are_excluded group_cmp partners a.0 b.0 ≡ true → is_at (rules.bin_cmp a.1) b.1 ≡ false
+
+  -- groups that are excluded do not share a bin
+  pub placed_apart : (order : List B) (gs : List (K × Members Id)) (old : Stage K B) (placements : List (Placement Id B)) (new : Stage K B) (tests : ℕ)
+      → AreAllPlaced rules (excludes_by group_cmp rules.bin_cmp partners) order gs old placements new tests
+      → AreKeptApart group_cmp rules.bin_cmp partners old.homes → AreKeptApart group_cmp rules.bin_cmp partners new.homes
+  placed_apart order [] old placements new n h was = subst (λ (s : Stage K B). AllPairs Apart s.homes) (sym h.1) was
+  placed_apart order (g ∷ gs) old placements new n (first, next, one, rest, others, placed, later, joined, counted) was =
+      let p : K × B → Bool = λ h. are_excluded group_cmp partners g.0 h.0 && is_at (rules.bin_cmp placed.here) h.1 in
+      let each : All (Apart (g.0, placed.here)) old.homes = All-weaker (λ h. p h ≡ false) (Apart (g.0, placed.here)) (λ h none e. rw e at none) old.homes
+      (none-found p old.homes placed.allowed) in
+      placed_apart order gs (record { bins = next; homes = (g.0, placed.here) ∷ old.homes }) rest new others later
+      (AllPairs-cons Apart (g.0, placed.here) old.homes each was)
+
+  -- and so from the end on
+  pub apart-reverse : IsTotalOrder rules.bin_cmp → (homes : List (K × B)) → AreKeptApart group_cmp rules.bin_cmp partners homes
+      → AreKeptApart group_cmp rules.bin_cmp partners (reverse homes)
+  apart-reverse o homes h =
+      AllPairs-reverse Apart (λ a b apart e. is_at-back o b.1 a.1
+      ∙ apart (or_comm (is_listed group_cmp partners a.0 b.0) (is_listed group_cmp partners b.0 a.0) ∙ e)) homes h
+
+module _ {Id B G : Type 0} (group_cmp : Group G Id → Group G Id → Ordering) (rules : Rules Id B) (all : Collection Id G)
+    (none : (a b : Group G Id) → are_excluded group_cmp all.partners a b ≡ false) where
+  -- what is said of a packing by these excluded bins is said of one without
+  without : (P : (List (Group G Id × B) → Group G Id → B → Bool) → Type 0) → P (excludes_by group_cmp rules.bin_cmp all.partners) ↔ P excludes_none
+  without P = let e = excludes-without group_cmp rules.bin_cmp all.partners none in (subst P e, subst P (sym e))
+
+  pub done_without : (old new : List (B × Bin)) (placements : List (Placement Id B)) (n : ℕ)
+      → ((done : PackingDone group_cmp rules all old placements new) × (done.tests ≡ n))
+      ↔ ((done : PackingDoneBy group_cmp rules excludes_none all old placements new) × (done.tests ≡ n))
+  done_without old new placements n = without (λ excludes. (done : PackingDoneBy group_cmp rules excludes all old placements new) × (done.tests ≡ n))
+
+  pub refused_without : (old new : List (B × Bin)) (n : ℕ)
+      → ((refused : PackingRefused group_cmp rules all old new) × (refused.tests ≡ n))
+      ↔ ((refused : PackingRefusedBy group_cmp rules excludes_none all old new) × (refused.tests ≡ n))
+  refused_without old new n = without (λ excludes. (refused : PackingRefusedBy group_cmp rules excludes all old new) × (refused.tests ≡ n))

@@ -1,0 +1,60 @@
+-- One turn of the loops over bins and over groups.
+use Rattle.rectangle_pack_sections.proofs.Std.{◌≡◌, ℕ, ◌+◌, ◌<◌, Bool, List, [], ◌∷◌, ◌++◌, length, take, get_or, map, sum, sym, ◌∙◌, ap, subst}
+use Rattle.rectangle_pack_sections.proofs.Std.{AllZip, Bor, Ordering, sum_by_push}
+use Rattle.rectangle_pack_sections.specs.Bins.{Bin}
+use Rattle.rectangle_pack_lists.specs.Numbers.{saturated}
+use Rattle.rectangle_pack_packing.specs.declared.answer.Placement.{Placement}
+use Rattle.rectangle_pack_packing.specs.Packing.{Rules, Members, Stage, DoesNotTake, IsPlaced, AreAllPlaced}
+use Rattle.rectangle_pack_packing.specs.private.Excluded.{AreHomesKept}
+use Rattle.rectangle_pack_lists.proofs.lemmas.trial.StepsByIndex.{saturated-add}
+use Rattle.rectangle_pack_packing.proofs.lemmas.packing.Orders.{AllZip-next, map-take_more}
+use Rattle.rectangle_pack_packing.proofs.lemmas.packing.Groups.{IsPlaced-alike, AreAllPlaced-next}
+
+module _ {Id B : Type 0} (rules : Rules Id B) where
+  -- the bins of a beginning of an order do not take a group; their tests were added
+  abbrev pub ArePassed : (B → Bool) → List (ℕ × B) → Members Id → List (B × Bin) → ℕ → ℕ → Type 0
+  ArePassed excluded order group bins before after =
+      (counts : List ℕ) × AllZip (DoesNotTake rules excluded bins group) (map (λ o. o.1) order) counts × (after ≡ saturated (before + sum counts))
+
+  -- nor does the next bin
+  pub ArePassed-more : (excluded : B → Bool) (order : List (ℕ × B)) (i : ℕ) (o : ℕ × B) (group : Members Id) (bins : List (B × Bin))
+      (count before mid after : ℕ) → i < length order → o ≡ get_or order i o → ArePassed excluded (take i order) group bins before mid
+      → DoesNotTake rules excluded bins group o.1 count → after ≡ saturated (mid + count)
+      → ArePassed excluded (take (i + 1) order) group bins before after
+  ArePassed-more excluded order i o group bins count before mid after within is passed stuck added = (
+    passed.0 ++ count ∷ [],
+    AllZip-next (DoesNotTake rules excluded bins group) (λ x. x.1) order passed.0 i o count within is passed.1 stuck,
+    saturated-add before mid after (sum passed.0) count passed.2 added ∙ ap (λ n. saturated (before + n)) (sym (sum_by_push (λ x. x) passed.0 count)),
+  )
+
+  module _ {K : Type 0} where
+    -- the next group of an order is placed too
+    pub AreAllPlaced-turn : {G : Type 0} (excludes : List (K × B) → K → B → Bool) (f : G → K × Members Id) (groups : List G) (i : ℕ) (g : G)
+        (order names : List B) (old : Stage K B) (mid : List (B × Bin)) (homes : List (K × B)) (next : List (B × Bin))
+        (before added after : List (Placement Id B)) (tests one : ℕ) → i < length groups → g ≡ get_or groups i g → order ≡ names
+        → AreAllPlaced rules excludes names (map f (take i groups)) old before (record { bins = mid; homes = homes }) tests
+        → (p : IsPlaced rules (excludes homes (f g).0) order (f g).1 mid added next one) → after ≡ before ++ added
+        → AreAllPlaced rules excludes names (map f (take (i + 1) groups)) old after (record { bins = next; homes = ((f g).0, p.here) ∷ homes }) (tests + one)
+    AreAllPlaced-turn excludes f groups i g order names old mid homes next before added after tests one within is same done p joined =
+        rw (map-take_more f groups i g within is)
+        (AreAllPlaced-next rules excludes order names (map f (take i groups)) (f g) old mid homes next before added after tests one same done p joined)
+
+    -- a group that is placed has its bin kept, whichever list of its excluded bins and of its members was read
+    pub placed-kept : (cmp : K → K → Ordering) (all : List (K × List K)) (placed : List (K × B)) (homes : List (Bor K × Bor B)) (name : K)
+        (read excluded : B → Bool) (order : List B) (given own : Members Id) (old new : List (B × Bin)) (items next : List (Placement Id B))
+        (before after : ℕ) (here : B) → read ≡ excluded → given ≡ own
+        → ((added : List (Placement Id B)) × (count : ℕ) × (at : IsPlaced rules read order given old added new count) × (at.here ≡ here)
+        × (next ≡ items ++ added) × (after ≡ saturated (before + count)))
+        → AreHomesKept cmp rules.bin_cmp all ((name, here) ∷ placed) homes
+        → (added : List (Placement Id B)) × (count : ℕ) × (at : IsPlaced rules excluded order own old added new count)
+        × AreHomesKept cmp rules.bin_cmp all ((name, at.here) ∷ placed) homes
+        × (next ≡ items ++ added) × (after ≡ saturated (before + count))
+    placed-kept cmp all placed homes name read excluded order given own old new items next before after here same alike went kept =
+        let at = IsPlaced-alike rules read excluded order given own old went.0 new went.1 here same alike went.2 went.3 in (
+          went.0,
+          went.1,
+          at.0,
+          subst (λ (b : B). AreHomesKept cmp rules.bin_cmp all ((name, b) ∷ placed) homes) (sym at.1) kept,
+          went.4,
+          went.5,
+        )

@@ -1,0 +1,109 @@
+use Rattle.rectangle_pack_sections.proofs.Std.{refl, ◌≡◌, ◌∙◌, IfOk-from_err}
+use Rattle.rectangle_pack_sections.proofs.lemmas.util.Results.{OnErr-given}
+use Rattle.rectangle_pack_sections.proofs.lemmas.groups.Excluded.{not-both}
+use Rattle.rectangle_pack_sections.specs.Bins.{bins_of}
+use Rattle.rectangle_pack_packing.specs.private.RollBack.{RollsBackTo}
+use Rattle.rectangle_pack_packing.proofs.pack.attempt.try_packing.Given.{Over}
+use Rattle.rectangle_pack_packing.proofs.pack.attempt.try_packing.Goals.{After-pack_noted-packed, then-branch, else-branch, then-keeps, else-keeps, then-is_kept, else-is_kept}
+use Rattle.rectangle_pack_packing.proofs.pack.attempt.try_packing.Goals.at as goal_at
+use Rattle.rectangle_pack_packing.proofs.pack.attempt.try_packing.Goals as goal
+
+-- the packing can be rolled back to the bins of before
+back : (g : Over) (c : After-pack_noted-packed g) → RollsBackTo g.BinId.Ord.cmp c.pack_noted-packed.new.packing (bins_of c.args.bins.now.entries)
+back g c = c.pack_noted-packed.ensures.back (bins_of c.args.bins.now.entries)
+    (rw (c.new-packing.ensures.bins, c.new-packing.ensures.journal, c.replace-before.ensures.value) (record { undoes = refl }))
+
+pub new-packing-requires-clause-found : goal.new-packing-requires-clause-found
+new-packing-requires-clause-found g c = rw (c.replace-before.ensures.value, c.as_slice.ensures.value) c.in_ok-order.ensures.found
+
+pub roll_back-requires : goal.roll_back-requires
+roll_back-requires g c = (bins_of c.args.bins.now.entries, back g (goal_at.roll_back-requires g c).After-pack_noted-packed)
+
+pub returns-in_err-packed-clause-stopped : goal.returns-in_err-packed-clause-stopped
+returns-in_err-packed-clause-stopped g c = elim c.if-is_kept.branch [
+  | then-is_kept w ↦ elim c.if-keeps.branch [
+    | then-keeps k ↦ not-both _ (k.is_kept-is ∙ rw c.in_err-packed.was at k.eq-is_kept.ensures) w.if-is_kept.true
+    | else-keeps k ↦ not-both _ (k.is_kept-is ∙ k.if-keeps.false) w.if-is_kept.true
+  ]
+  | else-is_kept w ↦
+      let start = w.roll_back.ensures.bins _ (back g (goal_at.returns-in_err-packed-clause-stopped g c).After-pack_noted-packed) in
+      OnErr-given {P = bins_of c.if-is_kept.after.0.entries ≡ bins_of c.args.bins.now.entries} _ (rw w.after-is start)
+]
+
+pub returns-clause-tried : goal.returns-clause-tried
+returns-clause-tried g c = elim c.if-branch.branch [
+  | then-branch v ↦
+      let done = rw (v.if-branch.true, c.new-packing.ensures.bins, c.replace-before.ensures.value) at c.in_ok-packed.ensures.packed in
+      let counted = rw v.if-branch.true at c.in_ok-packed.ensures.counted in
+      elim c.if-is_kept.branch [
+        | then-is_kept w ↦ elim c.if-keeps.branch [
+          | then-keeps k ↦ rw (v.result-is, w.after-is, w.keep.ensures.placements, w.keep.ensures.bins) (_, done.0, counted, λ _. refl)
+          | else-keeps k ↦ not-both _ (k.is_kept-is ∙ k.if-keeps.false) w.if-is_kept.true
+        ]
+        | else-is_kept w ↦
+            let start = w.roll_back.ensures.bins _ (back g (goal_at.returns-clause-tried g c).After-pack_noted-packed) in
+            elim c.if-keeps.branch [
+              | then-keeps k ↦ not-both _ w.if-is_kept.false (k.is_kept-is ∙ rw (c.in_ok-packed.was, v.if-branch.true) at k.eq-is_kept.ensures)
+              | else-keeps k ↦ rw (v.result-is, w.after-is, w.roll_back.ensures.placements) (_, done.0, counted, λ yes. not-both _ k.if-keeps.false yes)
+            ]
+      ]
+  | else-branch v ↦
+      let refused = rw (v.if-branch.false, c.new-packing.ensures.bins, c.replace-before.ensures.value) at c.in_ok-packed.ensures.packed in
+      elim c.if-is_kept.branch [
+        | then-is_kept w ↦ elim c.if-keeps.branch [
+          | then-keeps k ↦ not-both _ (k.is_kept-is ∙ rw (c.in_ok-packed.was, v.if-branch.false) at k.eq-is_kept.ensures) w.if-is_kept.true
+          | else-keeps k ↦ not-both _ (k.is_kept-is ∙ k.if-keeps.false) w.if-is_kept.true
+        ]
+        | else-is_kept w ↦
+            let start = w.roll_back.ensures.bins _ (back g (goal_at.returns-clause-tried g c).After-pack_noted-packed) in
+            rw (v.result-is, w.after-is) (_, refused.0, start)
+      ]
+]
+
+pub returns-in_err-packed-clause-undone : goal.returns-in_err-packed-clause-undone
+returns-in_err-packed-clause-undone g c = λ no. elim c.if-is_kept.branch [
+  | then-is_kept w ↦ elim c.if-keeps.branch [
+    | then-keeps k ↦ not-both _ no k.if-keeps.true
+    | else-keeps k ↦ not-both _ (k.is_kept-is ∙ k.if-keeps.false) w.if-is_kept.true
+  ]
+  | else-is_kept w ↦ rw w.after-is (w.roll_back.ensures.bins _ (back g (goal_at.returns-in_err-packed-clause-undone g c).After-pack_noted-packed))
+]
+
+pub returns-clause-undone : goal.returns-clause-undone
+returns-clause-undone g c = λ no. elim c.if-is_kept.branch [
+  | then-is_kept w ↦ elim c.if-keeps.branch [
+    | then-keeps k ↦ not-both _ no k.if-keeps.true
+    | else-keeps k ↦ not-both _ (k.is_kept-is ∙ k.if-keeps.false) w.if-is_kept.true
+  ]
+  | else-is_kept w ↦ rw w.after-is (w.roll_back.ensures.bins _ (back g (goal_at.returns-clause-undone g c).After-pack_noted-packed))
+]
+
+pub bin_order-requires-clause-bin_ids : goal.bin_order-requires-clause-bin_ids
+bin_order-requires-clause-bin_ids g c = c.requires.bin_ids
+
+pub bin_order-requires-clause-callable : goal.bin_order-requires-clause-callable
+bin_order-requires-clause-callable g c = c.requires.callable
+
+pub pack_noted-packed-requires-clause-ids : goal.pack_noted-packed-requires-clause-ids
+pack_noted-packed-requires-clause-ids g c = c.requires.ids
+
+pub pack_noted-packed-requires-clause-bin_ids : goal.pack_noted-packed-requires-clause-bin_ids
+pack_noted-packed-requires-clause-bin_ids g c = c.requires.bin_ids
+
+pub pack_noted-packed-requires-clause-callable : goal.pack_noted-packed-requires-clause-callable
+pack_noted-packed-requires-clause-callable g c = c.requires.callable
+
+pub returns-clause-stopped : goal.returns-clause-stopped
+returns-clause-stopped g c = tt
+
+pub returns-in_err-order-clause-stopped : goal.returns-in_err-order-clause-stopped
+returns-in_err-order-clause-stopped g c = OnErr-given c.from_residual.result refl
+
+pub returns-in_err-order-clause-undone : goal.returns-in_err-order-clause-undone
+returns-in_err-order-clause-undone g c = λ not. refl
+
+pub returns-in_err-order-clause-tried : goal.returns-in_err-order-clause-tried
+returns-in_err-order-clause-tried g c = IfOk-from_err _ _ c.from_residual.ensures.0
+
+pub returns-in_err-packed-clause-tried : goal.returns-in_err-packed-clause-tried
+returns-in_err-packed-clause-tried g c = IfOk-from_err _ _ c.from_residual-in_err-packed.ensures.0

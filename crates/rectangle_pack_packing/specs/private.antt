@@ -1,0 +1,8 @@
+-- Definitions that only the clauses of functions below `rectangle_pack` use, or of its private ones.
+pub mod Bounds
+pub mod Cells
+pub mod Excluded
+pub mod Orders
+pub mod Ends
+pub mod PassedOver
+pub mod RollBack

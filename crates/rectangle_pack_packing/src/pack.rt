@@ -1,0 +1,407 @@
+//! Packing groups of boxes into bins.
+ghost use Rattle.std.specs.Prelude.{◌≡◌, ◌<◌, ◌∷◌, [], length, All, map, IsOk, IsSome};
+ghost use Rattle.std.specs.BTreeMap.{get};
+ghost use Rattle.std.specs.List.{IsDistinct};
+ghost use Rattle.std.specs.Map.{keys_of};
+ghost use Rattle.std.specs.Ordering.{eq_by_cmp};
+ghost use Rattle.rectangle_pack_sections.specs.Clones.{ClonesEqual};
+ghost use Rattle.rectangle_pack_sections.specs.Bins.{bins_of};
+ghost use Rattle.rectangle_pack_sections.specs.Closures.{AreCallable, answers};
+ghost use Rattle.rectangle_pack_packing.specs.Best.{IsBestAnswer};
+ghost use Rattle.rectangle_pack_packing.specs.Orders.{IsBinOrder};
+ghost use Rattle.rectangle_pack_packing.specs.Packing.{rules_by};
+ghost use Rattle.rectangle_pack_packing.specs.PackAnswers.{IsPackAnswer, IsCountedAnswer};
+ghost use Rattle.rectangle_pack_packing.specs.private.Ends.{IsUndoneAnswer};
+
+pub mod attempt;
+pub mod best;
+pub mod bin_order;
+mod ends;
+pub mod first_fit;
+mod next_bin;
+pub mod packing;
+
+use crate::answer::{RectanglePackError, RectanglePackOk, answer_of};
+use crate::pack::best::best_of;
+use crate::pack::bin_order::bin_order;
+use crate::pack::ends::end_packing;
+use crate::pack::first_fit::pack_noted;
+use crate::pack::packing::Packing;
+use rectangle_pack_bins::target_bin::TargetBin;
+use rectangle_pack_groups::grouped_rects_to_place::GroupedRectsToPlace;
+use rectangle_pack_groups::grouped_rects_to_place::multimap::number_after;
+use rectangle_pack_lists::fit_tests::{FitTests, add_all, bounded};
+use rectangle_pack_sections::box_size_heuristics::Heuristic;
+use rectangle_pack_sections::closures::{Closures, Named, Policy};
+use rectangle_pack_sections::group::Group;
+use rectangle_pack_sections::width_height_depth::WidthHeightDepth;
+use std::alloc::{AllocError, Allocator};
+use std::cmp::Ordering;
+use std::collections::BTreeMap;
+
+/// Packs all groups into the bins: each group whole into the first bin that takes all of its boxes.
+/// A bin is excluded for a group where a group that is excluded with it went there in this call.
+///
+/// Groups go in falling order of the sum of their boxes' rates, which stays at the greatest `u128`,
+/// and at equal sums in the order of groups. Bins are tried in rising order of the rate of their
+/// whole size, and at equal rates by id. Each of these rates is asked once a call. A box goes to
+/// the corner of the newest free section that holds it; of the six ways to cut up the rest of the
+/// section, `more_suitable_containers_fn` chooses one. Sizes and corners are counted in cells, and
+/// boxes are never turned. Without groups no memory is taken.
+///
+/// The caller sees to it that clones of ids equal their originals, and that `box_size_heuristic`
+/// may be called on every size, and `more_suitable_containers_fn` on every two triples of sizes.
+///
+/// `NotEnoughBinSpace` says that for some group each bin is excluded or does not take all of its
+/// boxes: the groups before it stay placed in the bins. `OutOfMemory` says that a growth or a clone
+/// was refused, which may come before it is known that there is no space: the bins are as they
+/// were.
+///
+/// ```
+/// let mut rects: GroupedRectsToPlace<u32, u32> = GroupedRectsToPlace::new(alloc);
+/// for (id, width, height) in [(7, 2, 3), (8, 4, 4)] {
+///     rects.push_rect(id, None, RectToInsert::new(width, height, 1))?;
+/// }
+/// ```
+///
+/// Both boxes go into one bin:
+///
+/// ```
+/// let mut bins = BTreeMap::new(alloc);
+/// bins.insert(1u32, TargetBin::new(alloc, 10, 10, 1)?)?;
+/// let packed = pack_rects(
+///     alloc,
+///     &rects,
+///     &mut bins,
+///     &volume_heuristic,
+///     &contains_smallest_box,
+/// )?;
+/// ```
+///
+/// The larger box goes first:
+///
+/// ```
+/// let ids = packed.placements().iter().map(|placed| placed.id);
+/// assert!(rt; ids.eq([8, 7]));
+/// ```
+///
+/// The other one stands beside it, in bin 1:
+///
+/// ```
+/// let (bin, location) = packed.packed_locations().get(&7).ok_or("not placed")?;
+/// let (x, y, z) = (location.x(), location.y(), location.z());
+/// assert_eq!(rt; (*bin, x, y, z), (1, 4, 0, 0));
+/// ```
+pub fn pack_rects<Id, BinId, GroupId, H, C, A>(
+    alloc: A,
+    rects_to_place: &GroupedRectsToPlace<Id, GroupId, A>,
+    target_bins: &mut BTreeMap<BinId, TargetBin<A>, A>,
+    box_size_heuristic: &H,
+    more_suitable_containers_fn: &C,
+) -> Result<RectanglePackOk<Id, BinId, A>, RectanglePackError>
+where
+    Id: Ord + Clone + Drop,
+    BinId: Ord + Clone + Drop,
+    GroupId: Ord + Clone + Drop,
+    H: Fn(WidthHeightDepth) -> u128,
+    C: Fn([WidthHeightDepth; 3], [WidthHeightDepth; 3], &H) -> Ordering,
+    A: Allocator + Copy,
+    requires ids { ClonesEqual Id.is_clone Id.eq }
+    // Clones of bin ids equal their originals.
+    requires bin_ids { ClonesEqual BinId.is_clone BinId.eq }
+    // The heuristic may be called on every size, those with sides of 0 among them, and the
+    //   comparison on every two triples of sizes with this heuristic.
+    requires callable { AreCallable H.Fn C.Fn box_size_heuristic.now
+        more_suitable_containers_fn.now }
+    // Done: all groups are placed, by falling key, and at equal keys in the order of groups. The
+    //   key of a group is the sum of one rate for each of its entries; it stays at the greatest
+    //   `u128`.
+    // Done: if there is a group, bins are tried by rising rate of their whole size, and at equal
+    //   rates by id. Each bin has one rate.
+    // Done: each group goes whole into one bin, which is not excluded for it and in which its trial
+    //   is done, as the groups before it left that bin. In each bin before that one in the order,
+    //   it is excluded or its trial is stuck. [try_bin.group_goes_on_into_the_next_bin]
+    // Done: a bin is excluded for a group exactly where a group that is excluded with it went there
+    //   earlier in the same packing. [place_next.exclusions_are_not_used]
+    // Done: in a trial each member in turn goes to the corner of the newest section that holds it.
+    //   [newest.first_section_is_taken]
+    // Done: that section is taken out of the list. The pieces of an allowed cut, as `pieces` of
+    //   `try_place` says it, stand at the end of the list, by falling rate, at equal rates in the
+    //   order right, above, behind; those without cells are left out.
+    //   [place_noted.sections_are_joined]
+    // Done: the list of the bin that takes a group becomes the list of that trial. All else in the
+    //   bins stays. [close.kept_packing_drops_its_slots]
+    // Done: there is one placement for each entry of each group, group after group. It has an id
+    //   that equals the entry's, the bin of the group, and the location of the entry in that trial.
+    // Done: each id that was placed is found with the bin and the location of its last placement.
+    //   No other id is found, and the ids are in strictly rising order.
+    // `NotEnoughBinSpace`: the groups before some group are placed so, and for that group each bin
+    //   is excluded or its trial is stuck there. The bins are as the groups before it left them.
+    //   No placement is answered. [pack_rects.is_always_refused]
+    // `OutOfMemory`: the bins are as they were, the order of their lists included.
+    //   [undo_one.undone_section_goes_last]
+    ensures answer { let groups = ⟦<Group<GroupId, Id> as Ord>⟧.cmp in
+        let may = answers H.Fn C.Fn box_size_heuristic.now more_suitable_containers_fn.now in
+        IsPackAnswer groups (rules_by Id.cmp BinId.cmp may) rects_to_place.now
+        (bins_of target_bins.old.entries) result (bins_of target_bins.new.entries) }
+    // Without groups it succeeds.
+    ensures no_groups { rects_to_place.now.groups ≡ [] → IsOk result }
+{
+    let mut tests = FitTests::new();
+    pack_rects_counted(
+        alloc,
+        rects_to_place,
+        target_bins,
+        box_size_heuristic,
+        more_suitable_containers_fn,
+        &mut tests,
+    )
+}
+
+/// `pack_rects`, with its fit tests added to `tests`: for a group that is placed those of its
+/// trials in the bins up to its own, for a group that is refused those of its trials in all bins.
+/// In a bin that is excluded no trial is made. Counted is what a look at one section after another
+/// would test, as `FitTests` says, also where the code tests fewer. `OutOfMemory` adds some number
+/// of tests.
+///
+/// With n entries in the groups it is never more than n tests for each free section of before and
+/// n * (n - 1) for each bin, also where memory is refused. The counter stays at the greatest
+/// `u128`. Conditions and errors are those of `pack_rects`.
+pub fn pack_rects_counted<Id, BinId, GroupId, H, C, A>(
+    alloc: A,
+    rects_to_place: &GroupedRectsToPlace<Id, GroupId, A>,
+    target_bins: &mut BTreeMap<BinId, TargetBin<A>, A>,
+    box_size_heuristic: &H,
+    more_suitable_containers_fn: &C,
+    tests: &mut FitTests,
+) -> Result<RectanglePackOk<Id, BinId, A>, RectanglePackError>
+where
+    Id: Ord + Clone + Drop,
+    BinId: Ord + Clone + Drop,
+    GroupId: Ord + Clone + Drop,
+    H: Fn(WidthHeightDepth) -> u128,
+    C: Fn([WidthHeightDepth; 3], [WidthHeightDepth; 3], &H) -> Ordering,
+    A: Allocator + Copy,
+    requires ids { ClonesEqual Id.is_clone Id.eq }
+    requires bin_ids { ClonesEqual BinId.is_clone BinId.eq }
+    requires callable { AreCallable H.Fn C.Fn box_size_heuristic.now
+        more_suitable_containers_fn.now }
+    // Done, `NotEnoughBinSpace` and `OutOfMemory` say of the answer and of the bins what they say
+    //   in `pack_rects`. [next_bin.one_bin_only_is_tried]
+    // Done or `NotEnoughBinSpace`: exactly the fit tests of this packing are added to the counter,
+    //   which stays at the greatest `u128`. They are those of the trials of each group, in the bins
+    //   up to its own, or in all bins where it is refused; in an excluded bin there are none.
+    //   [pack_in_order.tests_are_not_counted]
+    // In a trial, a member that is placed counts one test for its section and one for each section
+    //   after it in the list; a member that is stuck counts one for each section.
+    //   [last_of.tests_are_one_short]
+    // With n entries in the groups, the fit tests are at most n for each free section of before,
+    //   and n * (n - 1) for each bin. `OutOfMemory` adds at most so many.
+    ensures answer { let groups = ⟦<Group<GroupId, Id> as Ord>⟧.cmp in
+        let may = answers H.Fn C.Fn box_size_heuristic.now more_suitable_containers_fn.now in
+        IsCountedAnswer groups (rules_by Id.cmp BinId.cmp may) rects_to_place.now
+        (bins_of target_bins.old.entries) tests.old result (bins_of target_bins.new.entries)
+        tests.new }
+    ensures no_groups { rects_to_place.now.groups ≡ [] → IsOk result }
+{
+    let policy = Closures {
+        heuristic: box_size_heuristic,
+        comparison: more_suitable_containers_fn,
+    };
+    pack_by(alloc, rects_to_place, target_bins, &policy, false, tests)
+}
+
+/// Packs all groups into the bins, with each heuristic of a list in turn, and keeps the packing that
+/// uses the fewest bins: those in which it places cells. Of several that use as few it keeps the one
+/// that places the fewest cells in the last of these bins, in the order of ids, and of several such
+/// the one whose heuristic comes first in the list. Answers this heuristic and what the packing
+/// placed: what `pack_rects` would place with it and `contains_smallest_box`.
+///
+/// Each packing is rolled back before the next begins, and the best is made once more. So this takes
+/// at most the time of one packing more than there are entries in the list, and a count of cells
+/// after each. A heuristic that is alone in the list is packed with once. Without groups the first
+/// of the list is the best, and no memory is taken.
+///
+/// The caller sees to it that the list is not empty, and that clones of ids equal their originals.
+///
+/// `NotEnoughBinSpace` says that the packing is refused for space with each heuristic of the list.
+/// `OutOfMemory` says that a growth or a clone was refused in some packing, also where one with
+/// another heuristic was done before. On either error the bins are as they were: other than with
+/// `pack_rects`, no group stays placed.
+///
+/// ```
+/// let mut rects: GroupedRectsToPlace<u32, u32> = GroupedRectsToPlace::new(alloc);
+/// for (id, width, height) in [(1, 6, 2), (2, 3, 3), (3, 2, 5), (4, 1, 5)] {
+///     rects.push_rect(id, None, RectToInsert::new(width, height, 1))?;
+/// }
+/// ```
+///
+/// The bin is six cells wide and seven high:
+///
+/// ```
+/// let mut bins = BTreeMap::new(alloc);
+/// bins.insert(0u32, TargetBin::new(alloc, 6, 7, 1)?)?;
+/// let (best, packed) = pack_rects_best(alloc, &rects, &mut bins, &Heuristic::ALL)?;
+/// ```
+///
+/// By volume there would be no space for all four. By width there is:
+///
+/// ```
+/// assert_eq!(rt; (best, packed.placements().len()), (Heuristic::Width, 4));
+/// ```
+pub fn pack_rects_best<Id, BinId, GroupId, A>(
+    alloc: A,
+    rects_to_place: &GroupedRectsToPlace<Id, GroupId, A>,
+    target_bins: &mut BTreeMap<BinId, TargetBin<A>, A>,
+    heuristics: &[Heuristic],
+) -> Result<(Heuristic, RectanglePackOk<Id, BinId, A>), RectanglePackError>
+where
+    Id: Ord + Clone + Drop,
+    BinId: Ord + Clone + Drop,
+    GroupId: Ord + Clone + Drop,
+    A: Allocator + Copy,
+    requires ids { ClonesEqual Id.is_clone Id.eq }
+    requires bin_ids { ClonesEqual BinId.is_clone BinId.eq }
+    // There is a heuristic in the list.
+    requires some { 0 < length heuristics.now }
+    // Done: the answer names a heuristic of the list, and all that `pack_rects` says of a packing
+    //   that is done is so of one with this heuristic and `contains_smallest_box`.
+    // Done: no packing that is done with a heuristic of the list places cells in fewer bins; of
+    //   those that place cells in as many, none places fewer cells in the last of these bins, in
+    //   the order of ids; and each with a heuristic that stands before the one of the answer is
+    //   worse. Cells in one bin are counted up to the greatest `u128`.
+    //   [best_of.first_that_is_done_is_kept]
+    // `NotEnoughBinSpace`: with each heuristic of the list the packing is refused for space. The
+    //   bins are as they were, the order of their lists included.
+    //   [pack_rects_best.last_heuristic_is_left_out]
+    // `OutOfMemory`: the bins are as they were, the order of their lists included.
+    ensures answer { let groups = ⟦<Group<GroupId, Id> as Ord>⟧.cmp in
+        IsBestAnswer groups Id.cmp BinId.cmp rects_to_place.now
+        (bins_of target_bins.old.entries) heuristics.now result
+        (bins_of target_bins.new.entries) }
+    // Without groups it succeeds.
+    ensures no_groups { rects_to_place.now.groups ≡ [] → IsOk result }
+{
+    if heuristics.len() == 1 || rects_to_place.groups().is_empty() {
+        return pack_named(alloc, rects_to_place, target_bins, heuristics[0]);
+    }
+    let entries = number_after(0, rects_to_place.groups()).unwrap_or(u64::MAX) as usize;
+    match best_of(alloc, rects_to_place, target_bins, entries, heuristics) {
+        Ok(Some((best, _))) => pack_named(alloc, rects_to_place, target_bins, best),
+        Ok(None) => Err(RectanglePackError::NotEnoughBinSpace),
+        Err(_) => Err(RectanglePackError::OutOfMemory),
+    }
+}
+
+// Packs all groups into the bins with this heuristic.
+fn pack_named<Id, BinId, GroupId, A>(
+    alloc: A,
+    rects_to_place: &GroupedRectsToPlace<Id, GroupId, A>,
+    target_bins: &mut BTreeMap<BinId, TargetBin<A>, A>,
+    heuristic: Heuristic,
+) -> Result<(Heuristic, RectanglePackOk<Id, BinId, A>), RectanglePackError>
+where
+    Id: Ord + Clone + Drop,
+    BinId: Ord + Clone + Drop,
+    GroupId: Ord + Clone + Drop,
+    A: Allocator + Copy,
+    requires ids { ClonesEqual Id.is_clone Id.eq }
+    requires bin_ids { ClonesEqual BinId.is_clone BinId.eq }
+    ensures answer { IsBestAnswer ⟦<Group<GroupId, Id> as Ord>⟧.cmp Id.cmp BinId.cmp
+        rects_to_place.now (bins_of target_bins.old.entries) (heuristic ∷ []) result
+        (bins_of target_bins.new.entries) }
+    ensures no_groups { rects_to_place.now.groups ≡ [] → IsOk result }
+{
+    let packed = pack_by(
+        alloc,
+        rects_to_place,
+        target_bins,
+        &Named(heuristic),
+        true,
+        &mut FitTests::new(),
+    )?;
+    Ok((heuristic, packed))
+}
+
+// Packs all groups into the bins by a policy. Where it is refused for space, `undoes_refused` says
+// whether what was placed is undone.
+fn pack_by<Id, BinId, GroupId, R, A>(
+    alloc: A,
+    rects_to_place: &GroupedRectsToPlace<Id, GroupId, A>,
+    target_bins: &mut BTreeMap<BinId, TargetBin<A>, A>,
+    policy: &R,
+    undoes_refused: bool,
+    tests: &mut FitTests,
+) -> Result<RectanglePackOk<Id, BinId, A>, RectanglePackError>
+where
+    Id: Ord + Clone + Drop,
+    BinId: Ord + Clone + Drop,
+    GroupId: Ord + Clone + Drop,
+    R: Policy,
+    A: Allocator + Copy,
+    requires ids { ClonesEqual Id.is_clone Id.eq }
+    requires bin_ids { ClonesEqual BinId.is_clone BinId.eq }
+    requires callable { R.is_callable policy.now }
+    ensures answer { IsUndoneAnswer ⟦<Group<GroupId, Id> as Ord>⟧.cmp
+        (rules_by Id.cmp BinId.cmp (R.may policy.now)) undoes_refused rects_to_place.now
+        (bins_of target_bins.old.entries) tests.old result (bins_of target_bins.new.entries)
+        tests.new }
+    ensures no_groups { rects_to_place.now.groups ≡ [] → IsOk result }
+{
+    bounded(tests);
+    if rects_to_place.groups().is_empty() {
+        return Ok(answer_of(BTreeMap::new(alloc), Vec::new(alloc)));
+    }
+    let Ok(order) = bin_order(alloc, target_bins, policy) else {
+        return Err(RectanglePackError::OutOfMemory);
+    };
+    pack_in_order(
+        alloc,
+        rects_to_place,
+        target_bins,
+        order.as_slice(),
+        policy,
+        undoes_refused,
+        tests,
+    )
+}
+
+// Packs all groups into the bins, which are tried in this order.
+fn pack_in_order<Id, BinId, GroupId, R, A>(
+    alloc: A,
+    rects_to_place: &GroupedRectsToPlace<Id, GroupId, A>,
+    target_bins: &mut BTreeMap<BinId, TargetBin<A>, A>,
+    order: &[(u128, BinId)],
+    policy: &R,
+    undoes_refused: bool,
+    tests: &mut FitTests,
+) -> Result<RectanglePackOk<Id, BinId, A>, RectanglePackError>
+where
+    Id: Ord + Clone + Drop,
+    BinId: Ord + Clone + Drop,
+    GroupId: Ord + Clone + Drop,
+    R: Policy,
+    A: Allocator + Copy,
+    requires ids { ClonesEqual Id.is_clone Id.eq }
+    requires bin_ids { ClonesEqual BinId.is_clone BinId.eq }
+    requires callable { R.is_callable policy.now }
+    requires order { IsBinOrder (R.may policy.now).rate BinId.cmp
+        (bins_of target_bins.old.entries) order.now }
+    requires found { All (λ o. IsSome (get BinId.cmp target_bins.old o.1)) order.now }
+    requires distinct { IsDistinct (eq_by_cmp BinId.cmp) (map (λ o. o.1) order.now) }
+    requires distinct_bins { IsDistinct (eq_by_cmp BinId.cmp)
+        (keys_of (bins_of target_bins.old.entries)) }
+    ensures answer { IsUndoneAnswer ⟦<Group<GroupId, Id> as Ord>⟧.cmp
+        (rules_by Id.cmp BinId.cmp (R.may policy.now)) undoes_refused rects_to_place.now
+        (bins_of target_bins.old.entries) tests.old result (bins_of target_bins.new.entries)
+        tests.new }
+{
+    let entries = number_after(0, rects_to_place.groups()).unwrap_or(u64::MAX) as usize;
+    let bins = std::mem::replace(target_bins, BTreeMap::new(alloc));
+    let mut packing = Packing::new(bins, order, alloc);
+    let packed = pack_noted(&mut packing, rects_to_place, entries, policy);
+    add_all(tests, &packing.tests);
+    let (bins, answer) = end_packing(alloc, packing, packed, undoes_refused);
+    *target_bins = bins;
+    answer
+}

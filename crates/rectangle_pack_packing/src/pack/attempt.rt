@@ -1,0 +1,69 @@
+//! A packing that is tried: kept, or rolled back.
+ghost use Rattle.std.specs.Prelude.{◌≡◌, List, length, IfOk, OnErr, MatchOption, true, false};
+ghost use Rattle.rectangle_pack_sections.specs.Clones.{ClonesEqual};
+ghost use Rattle.rectangle_pack_sections.specs.Groups.{entries_of};
+ghost use Rattle.rectangle_pack_packing.specs.Packing.{PackingDone, PackingRefused, rules_by};
+ghost use Rattle.rectangle_pack_sections.specs.Bins.{bins_of, Bin};
+
+use crate::answer::Placement;
+use crate::pack::bin_order::bin_order;
+use crate::pack::first_fit::pack_noted;
+use crate::pack::packing::Packing;
+use rectangle_pack_bins::target_bin::TargetBin;
+use rectangle_pack_groups::grouped_rects_to_place::GroupedRectsToPlace;
+use rectangle_pack_sections::closures::Policy;
+use rectangle_pack_sections::group::Group;
+use std::alloc::{AllocError, Allocator};
+use std::collections::BTreeMap;
+use std::mem;
+
+/// Packs all groups, in which there are so many entries: what it placed, or `None` where it is
+/// refused for space. Only where it is done and `keeps` asks for it, the packing is kept; else it
+/// is rolled back.
+pub fn try_packing<Id, BinId, GroupId, R, A>(
+    alloc: A,
+    groups: &GroupedRectsToPlace<Id, GroupId, A>,
+    bins: &mut BTreeMap<BinId, TargetBin<A>, A>,
+    entries: usize,
+    policy: &R,
+    keeps: bool,
+) -> Result<Option<Vec<Placement<Id, BinId>, A>>, AllocError>
+where
+    Id: Ord + Clone + Drop,
+    BinId: Ord + Clone + Drop,
+    GroupId: Ord + Clone + Drop,
+    R: Policy,
+    A: Allocator + Copy,
+    requires ids { ClonesEqual Id.is_clone Id.eq }
+    requires bin_ids { ClonesEqual BinId.is_clone BinId.eq }
+    requires callable { R.is_callable policy.now }
+    ensures tried { IfOk result
+        (λ placed.
+        let order = ⟦<Group<GroupId, Id> as Ord>⟧.cmp in
+        let by = rules_by Id.cmp BinId.cmp (R.may policy.now) in
+        let old = bins_of bins.old.entries in
+        let new = bins_of bins.new.entries in
+        MatchOption placed
+        ((left : List (BinId × Bin)) ×
+        PackingRefused order by groups.now old left × (new ≡ old))
+        (λ placements.
+        (packed : List (BinId × Bin)) ×
+        PackingDone order by groups.now old placements.items packed ×
+        (length placements.items ≡ entries_of groups.now) ×
+        (keeps ≡ true → new ≡ packed))) }
+    ensures undone { keeps ≡ false → bins_of bins.new.entries ≡ bins_of bins.old.entries }
+    ensures stopped { OnErr result (bins_of bins.new.entries ≡ bins_of bins.old.entries) }
+{
+    let order = bin_order(alloc, bins, policy)?;
+    let before = mem::replace(bins, BTreeMap::new(alloc));
+    let mut packing = Packing::new(before, order.as_slice(), alloc);
+    let packed = pack_noted(&mut packing, groups, entries, policy);
+    let is_kept = keeps && packed == Ok(true);
+    let (after, placements) = if is_kept {
+        packing.keep()
+    } else {
+        packing.roll_back()
+    };
+    *bins = after;
+    Ok(if packed? { Some(placements) } else { None })
+}

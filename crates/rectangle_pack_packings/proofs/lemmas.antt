@@ -1,3 +1,0 @@
--- Lemmas by subject, each subject after those that it stands on.
-pub mod packing
-pub mod best

@@ -1,4 +1,0 @@
--- Definitions that only the clauses of functions below `rectangle_pack` use, or of its private ones.
-pub mod Ends
-pub mod PassedOver
-pub mod RollBack

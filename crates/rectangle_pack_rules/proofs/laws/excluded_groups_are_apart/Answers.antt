@@ -1,8 +1,0 @@
-use Rattle.rectangle_pack_rules.proofs.lemmas.packing.Laws.{keep_apart}
-use Rattle.rectangle_pack_rules.proofs.laws.excluded_groups_are_apart.Goals as goal
-
-pub returns-clause-closures : goal.returns-clause-closures
-returns-clause-closures g c = keep_apart _ _
-
-pub returns-clause-by_name : goal.returns-clause-by_name
-returns-clause-by_name g c = λ named. keep_apart _ _

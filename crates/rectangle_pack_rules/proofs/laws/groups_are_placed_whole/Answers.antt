@@ -1,8 +1,0 @@
-use Rattle.rectangle_pack_rules.proofs.lemmas.packing.Laws.{place_whole}
-use Rattle.rectangle_pack_rules.proofs.laws.groups_are_placed_whole.Goals as goal
-
-pub returns-clause-closures : goal.returns-clause-closures
-returns-clause-closures g c = place_whole _ _
-
-pub returns-clause-by_name : goal.returns-clause-by_name
-returns-clause-by_name g c = λ named. place_whole _ _

@@ -1,5 +1,0 @@
--- Definitions that only the clauses of functions below `rectangle_pack` use, or of its private ones.
-pub mod Bounds
-pub mod Cells
-pub mod Excluded
-pub mod Orders
