@@ -1,9 +1,10 @@
 -- Digits that are written before a place, the last one first.
-use Rattle.std.proofs.Common.{◌≡◌, ◌<◌, ◌≤◌, ◌+◌, ◌-◌, ◌/◌, ◌%◌, ◌^◌, ◌⊎◌, inl, inr, ◌++◌, ◌∷◌, ℕ, List, [], length, length-append, drop, set, sym, ap, ◌∙◌, append_assoc, arith}
+use Rattle.std.proofs.Common.{◌≡◌, ◌<◌, ◌≤◌, ◌+◌, ◌-◌, ◌/◌, ◌%◌, ◌^◌, ◌⊎◌, inl, inr, ◌++◌, ◌∷◌, ℕ, List, [], length, length-append, length-set, drop, set, refl, sym, ap, ◌∙◌, append_assoc, arith}
 use Rattle.std.specs.Fmt.{decimal}
 use Rattle.std.proofs.lemmas.Bool.{cases_lt}
 use Rattle.std.proofs.lemmas.Fmt.{decimal_step_wide, decimal_digit}
 use Rattle.std.proofs.lemmas.List.{drop-set}
+use Rattle.packrun_words.specs.private.Spelling.{IsSpelling}
 
 -- a byte that is written before a place stands in front of what was there
 pub written_before : (line : List ℕ) (at byte : ℕ) → 1 ≤ at → at ≤ length line → drop (at - 1) (set line (at - 1) byte) ≡ byte ∷ drop at line
@@ -31,6 +32,28 @@ decimal_some n small = by (cases_lt n 10)
     by (inl one) = omega (arith, ap length (decimal_digit n one))
     by (inr many) = omega (arith, digit_fewer n many small)
 
--- there is room for the next digit
-pub some_left : (number rest at end : ℕ) → rest < 10 ^ 64 → length (decimal number) ≤ end → length (decimal number) + at ≡ length (decimal rest) + end → 1 ≤ at
-some_left number rest at end small room left = omega (arith, decimal_some rest small)
+-- nothing is written yet
+pub IsSpelling-begun : (number : ℕ) (old : List ℕ) (end : ℕ) → number < 10 ^ 64 → length (decimal number) ≤ end → end ≤ length old → IsSpelling number old end number old end
+IsSpelling-begun number old end small room within = record {
+  written = refl;
+  places = refl;
+  room = room;
+  some = omega (arith, decimal_some number small, room);
+  within = within;
+  small = small;
+}
+
+-- the last digit of the rest is written
+pub IsSpelling-more : (number : ℕ) (old : List ℕ) (end rest : ℕ) (line : List ℕ) (at : ℕ) → 10 ≤ rest → IsSpelling number old end rest line at
+    → IsSpelling number old end (rest / 10) (set line (at - 1) (48 + rest % 10)) (at - 1)
+IsSpelling-more number old end rest line at many h =
+    let fewer = digit_fewer rest many h.small in
+    let small : rest / 10 < 10 ^ 64 = omega (arith, h.small) in
+    record {
+      written = digit_more rest line at many h.small h.some h.within ∙ h.written;
+      places = omega (arith, h.some, fewer, h.places);
+      room = h.room;
+      some = omega (arith, decimal_some (rest / 10) small, h.some, fewer, h.places, h.room);
+      within = omega (arith, length-set line (at - 1) (48 + rest % 10), h.within);
+      small = small;
+    }

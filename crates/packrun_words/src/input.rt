@@ -28,6 +28,7 @@ pub fn read_line<B: BufRead, A: Allocator>(input: &mut B, line: &mut Vec<u8, A>)
     ensures retried { IfErr result (λ error. error_kind error ≢ ErrorKind.Interrupted) }
 {
     line.clear();
+    // Counted, since reads could be interrupted for ever, and each loop has to end.
     for _ in 0..u64::MAX {
         if read_part(input, line)? {
             return Ok(());

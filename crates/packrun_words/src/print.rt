@@ -29,6 +29,7 @@ pub fn print_bytes<W: Write>(bytes: &[u8], out: &mut W) -> Result<(), Stop>
     ensures { Prints (W.contents out.old) (W.contents out.new) result bytes.now }
 {
     let mut rest = bytes;
+    // Counted, since writes could be interrupted for ever, and each loop has to end.
     for _ in 0..u64::MAX {
         if rest.is_empty() {
             return Ok(());

@@ -194,7 +194,8 @@ fn last_eight(bytes: &[u8; SHORT]) -> u64
     ])
 }
 
-/// Appends the words, in their order. An error is want of memory; some of them may then be there.
+/// Appends the words, in their order. Fails only when memory is refused; some of them may then be
+/// there.
 pub fn push_words<A: Allocator + Copy>(
     words: &mut Vec<Word<A>, A>,
     alloc: A,
