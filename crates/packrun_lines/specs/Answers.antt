@@ -12,9 +12,9 @@ use Rattle.rectangle_pack.specs.Boxes.{Size}
 use Rattle.rectangle_pack.specs.Groups.{Excludes}
 use Rattle.rectangle_pack.specs.Joining.{IsJoined, IsSwept}
 use Rattle.rectangle_pack.specs.Session.{AddsBin, Releases, Coalesces}
-use Rattle.packrun_words.specs.Requests.{Request}
-use Rattle.packrun_words.specs.Requests.Request.{Nothing, Bin, Rect, Exclude, Pack, Release, Sections, Coalesce, Sweep, Stats}
-use Rattle.packrun_words.specs.declared.command.Size.{Size as Sides}
+use Rattle.packrun_lines.specs.Requests.{Request}
+use Rattle.packrun_lines.specs.Requests.Request.{Nothing, Bin, Rect, Exclude, Pack, Release, Sections, Coalesce, Sweep, Stats}
+use Rattle.packrun_lines.specs.declared.command.Size.{Size as Sides}
 use Rattle.rectangle_pack.specs.Stats.{stats_in}
 use Rattle.packrun_lines.specs.Desk.{Desk, ChangesSession, ChangesBoxes, TakesBox, PacksBoxes, group_order, placements_made, sections_in}
 use Rattle.packrun_lines.specs.Lines.{packed_text, sections_text, sums_text, refusal_text, reply_text}

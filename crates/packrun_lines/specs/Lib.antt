@@ -1,6 +1,11 @@
 pub mod Answers
 pub mod Desk
+pub mod Input
 pub mod Lines
+pub mod Numbers
+pub mod Printing
 pub mod private
+pub mod Requests
 pub mod Statuses
 pub mod Transcripts
+pub mod Words

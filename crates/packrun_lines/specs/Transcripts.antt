@@ -2,9 +2,9 @@
 use Rattle.std.specs.Prelude.{◌≡◌, ◌⊎◌, ℕ, ◌+◌, ◌<◌, List, [], ◌∷◌, ◌++◌, Option, length, codes}
 use Rattle.std.specs.Fmt.{decimal}
 use Rattle.std.specs.Io.KnownBytes.{Appends}
-use Rattle.packrun_words.specs.Requests.{Request, Asks, IsBad}
-use Rattle.packrun_words.specs.Input.{lines_of}
-use Rattle.packrun_words.specs.Printing.{AppendsStart}
+use Rattle.packrun_lines.specs.Requests.{Request, Asks, IsBad}
+use Rattle.packrun_lines.specs.Input.{lines_of}
+use Rattle.packrun_lines.specs.Printing.{AppendsStart}
 use Rattle.packrun_lines.specs.Answers.{Name, Answers}
 use Rattle.packrun_lines.specs.Desk.{Desk, empty_desk}
 use Rattle.packrun_lines.specs.declared.outcome.Outcome.{Outcome}

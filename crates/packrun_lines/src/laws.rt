@@ -4,7 +4,7 @@ ghost use Rattle.rectangle_pack.specs.declared.session.command.Packed.{Packed};
 ghost use Rattle.rectangle_pack.specs.declared.session.command.SessionError.{SessionError};
 ghost use Rattle.rectangle_pack.specs.Promise.{PacksAsPromised};
 ghost use Rattle.rectangle_pack.specs.Session.{IsSession, packed_reply};
-ghost use Rattle.packrun_words.specs.Requests.{Request};
+ghost use Rattle.packrun_lines.specs.Requests.{Request};
 ghost use Rattle.packrun_lines.specs.Answers.{Name, name_cmp, Answers};
 ghost use Rattle.packrun_lines.specs.Desk.{Desk, PacksBoxes, empty_desk, group_order, volume_rules};
 ghost use Rattle.packrun_lines.specs.Transcripts.{AreAnswered, IsTranscript, PrintsTranscript};

@@ -13,7 +13,7 @@ ghost use Rattle.rectangle_pack.specs.declared.session.command.SessionError.TheV
 ghost use Rattle.rectangle_pack.specs.Stats.{stats_in};
 ghost use Rattle.packrun_lines.specs.Desk.{empty_desk, ChangesSession, ChangesBoxes, TakesBox, PacksBoxes, group_order, volume_rules, sections_in, no_boxes};
 
-use packrun_words::command;
+use crate::command;
 use rectangle_pack::{
     BinSection, BinStats, Group, GroupedRectsToPlace, Outstanding, Packed, RectToInsert, Session,
     SessionError, contains_smallest_box, volume_heuristic,

@@ -5,16 +5,16 @@ ghost use Rattle.std.specs.Io.KnownBytes.{Appends};
 ghost use Rattle.packrun_lines.specs.Desk.{empty_desk};
 ghost use Rattle.packrun_lines.specs.private.Obeying.{IsLineObeyed, StopsSo, outcome_of};
 ghost use Rattle.packrun_lines.specs.Transcripts.{PrintsTranscript, last_line};
-ghost use Rattle.packrun_words.specs.Printing.{AppendsStart};
-ghost use Rattle.packrun_words.specs.private.Printing.{Prints};
+ghost use Rattle.packrun_lines.specs.Printing.{AppendsStart};
+ghost use Rattle.packrun_lines.specs.private.Printing.{Prints};
 
+use crate::bytes::{print_bytes, print_parts};
+use crate::command::{LONGEST_LINE, parse};
+use crate::digits::Digits;
+use crate::input::next_line;
 use crate::outcome::Outcome;
+use crate::stop::Stop;
 use crate::store::Store;
-use packrun_words::command::{LONGEST_LINE, parse};
-use packrun_words::digits::Digits;
-use packrun_words::input::next_line;
-use packrun_words::print::{print_bytes, print_parts};
-use packrun_words::stop::Stop;
 use std::alloc::Allocator;
 use std::io::{BufReader, BufWriter, Read, Write};
 

@@ -4,9 +4,9 @@ mod exclusions;
 mod stats;
 
 use crate::support::{Text, all_say};
+use packrun_lines::command::parse;
 use packrun_lines::outcome::Outcome;
 use packrun_lines::store::Store;
-use packrun_words::command::parse;
 use std::alloc::Global;
 use std::process::Abort;
 

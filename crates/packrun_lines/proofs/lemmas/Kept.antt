@@ -11,8 +11,8 @@ use Rattle.rectangle_pack.specs.declared.session.command.Packed.{Packed}
 use Rattle.rectangle_pack.specs.Groups.{Collection, Excludes}
 use Rattle.rectangle_pack.specs.Session.{State, IsSession, IsTransition, reply_of, packed_reply}
 use Rattle.rectangle_pack.proofs.lemmas.session.Transitions.{kept-transition}
-use Rattle.packrun_words.specs.Requests.{Request}
-use Rattle.packrun_words.specs.Requests as asks
+use Rattle.packrun_lines.specs.Requests.{Request}
+use Rattle.packrun_lines.specs.Requests as asks
 use Rattle.packrun_lines.specs.Answers.{Name, name_cmp, Answers, size_of, groups_of}
 use Rattle.packrun_lines.specs.Desk.{Desk, ChangesBoxes, TakesBox, PacksBoxes, group_order, volume_rules}
 use Rattle.packrun_lines.specs.Transcripts.{AreAnswered}

@@ -23,8 +23,8 @@ use Rattle.rectangle_pack.specs.Session.{State, IsSession, AddsBin, Releases, Co
 use Rattle.rectangle_pack_sections.proofs.lemmas.groups.GroupOrder.{groups_total}
 use Rattle.rectangle_pack_groups.proofs.lemmas.groups.OnePush.{alone_alike, into_alike}
 use Rattle.rectangle_pack_lists.proofs.lemmas.joining.Sweeps.{IsJoined-one, IsSwept-one}
-use Rattle.packrun_words.specs.Requests.{Request}
-use Rattle.packrun_words.specs.Requests as asks
+use Rattle.packrun_lines.specs.Requests.{Request}
+use Rattle.packrun_lines.specs.Requests as asks
 use Rattle.packrun_lines.specs.Answers.{Name, name_cmp, Answers, Replies, size_of, groups_of, pack_text, found_text}
 use Rattle.rectangle_pack.specs.Stats.{stats_in}
 use Rattle.packrun_lines.specs.Desk.{Desk, ChangesSession, ChangesBoxes, TakesBox, PacksBoxes, group_order, volume_rules, no_boxes, placements_made, sections_in}

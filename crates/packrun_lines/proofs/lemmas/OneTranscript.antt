@@ -2,14 +2,14 @@
 use Rattle.std.proofs.Common.{◌≡◌, ◌≢◌, ℕ, ◌+◌, List, [], ◌∷◌, ◌++◌, Option, Some, None, length, refl, ap, sym, ◌∙◌, subst, arith, append_assoc}
 use Rattle.std.specs.Io.KnownBytes.{Appends}
 use Rattle.rectangle_pack.specs.Session.{IsSession}
-use Rattle.packrun_words.specs.Requests.{Request, Asks}
+use Rattle.packrun_lines.specs.Requests.{Request, Asks}
 use Rattle.packrun_lines.specs.Answers.{Name, name_cmp, Answers}
 use Rattle.packrun_lines.specs.Desk.{Desk, empty_desk}
 use Rattle.packrun_lines.specs.Transcripts.{AreAnswered, MayEnd, IsTranscript, PrintsTranscript, last_line}
 use Rattle.packrun_lines.specs.declared.outcome.Outcome.{Outcome}
 use Rattle.packrun_lines.specs.declared.outcome.Outcome.TheVariants.{Done, BadLine, NoMemory, IoFailed}
 use Rattle.packrun_lines.proofs.lemmas.Kept.{Answers-kept, IsSession-empty}
-use Rattle.packrun_lines.proofs.lemmas.Requests.{Asks-one}
+use Rattle.packrun_lines.proofs.lemmas.OneRequest.{Asks-one}
 use Rattle.packrun_lines.proofs.lemmas.OneAnswer.{AreDesksAlike, Answers-one}
 
 -- a run does not end before a line that asks for something

@@ -2,16 +2,16 @@
 use Rattle.std.specs.Prelude.{◌≡◌, ℕ, ◌+◌, List, ◌++◌, Option, Result, Ok, Err, length}
 use Rattle.std.specs.Io.BufRead.{strip_last}
 use Rattle.std.specs.Io.KnownBytes.{Appends, Keeps}
-use Rattle.packrun_words.specs.Requests.{Request, Asks, IsBad}
-use Rattle.packrun_words.specs.Input.{lines_of}
-use Rattle.packrun_words.specs.Printing.{AppendsStart}
+use Rattle.packrun_lines.specs.Requests.{Request, Asks, IsBad}
+use Rattle.packrun_lines.specs.Input.{lines_of}
+use Rattle.packrun_lines.specs.Printing.{AppendsStart}
 use Rattle.packrun_lines.specs.Answers.{Name, Answers}
 use Rattle.packrun_lines.specs.Desk.{Desk}
 use Rattle.packrun_lines.specs.Transcripts.{AreAnswered, MayEnd}
 use Rattle.packrun_lines.specs.declared.outcome.Outcome.{Outcome}
 use Rattle.packrun_lines.specs.declared.outcome.Outcome.TheVariants as outcome
-use Rattle.packrun_words.specs.declared.stop.Stop.{Stop}
-use Rattle.packrun_words.specs.declared.stop.Stop.TheVariants.{BadLine, NoMemory, IoFailed}
+use Rattle.packrun_lines.specs.declared.stop.Stop.{Stop}
+use Rattle.packrun_lines.specs.declared.stop.Stop.TheVariants.{BadLine, NoMemory, IoFailed}
 
 -- how a run ends by what stopped its lines, or by nothing
 abbrev pub outcome_of : Result (Unit {0}) Stop → Outcome

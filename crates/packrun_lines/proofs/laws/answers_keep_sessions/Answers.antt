@@ -3,7 +3,7 @@ use Rattle.packrun_lines.specs.Answers.{name_cmp}
 use Rattle.std.proofs.Common.{subst}
 use Rattle.packrun_lines.specs.Desk.{empty_desk}
 use Rattle.packrun_lines.specs.Transcripts.{AreAnswered}
-use Rattle.packrun_lines.proofs.Desk.{PacksBoxes-promised}
+use Rattle.packrun_lines.proofs.lemmas.Desk.{PacksBoxes-promised}
 use Rattle.packrun_lines.proofs.lemmas.Kept.{Answers-kept, AreAnswered-kept, AreAnswered-split, IsSession-empty}
 use Rattle.packrun_lines.proofs.laws.answers_keep_sessions.Goals as goal
 

@@ -4,9 +4,9 @@ use Rattle.std.specs.List.{flat_map}
 use Rattle.std.specs.Prelude.{codes}
 use Rattle.std.proofs.KnownBytes.{Appends-nil}
 use Rattle.packrun_lines.specs.Lines.{placement_text}
-use Rattle.packrun_words.specs.private.Printing.{Prints}
-use Rattle.packrun_words.proofs.Printing.{Appends-item, Prints-item_stopped}
-use Rattle.packrun_lines.proofs.Lines.{Prints-list}
+use Rattle.packrun_lines.specs.private.Printing.{Prints}
+use Rattle.packrun_lines.proofs.lemmas.Printing.{Appends-item, Prints-item_stopped}
+use Rattle.packrun_lines.proofs.lemmas.Lines.{Prints-list}
 use Rattle.packrun_lines.proofs.print.print_packed.Goals as goal
 
 pub loop-placement-init : goal.loop-placement-init

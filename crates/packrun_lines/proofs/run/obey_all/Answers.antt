@@ -1,7 +1,7 @@
 use Rattle.std.proofs.Common.{IfSome, sym, subst}
 use Rattle.packrun_lines.specs.Desk.{empty_desk}
 use Rattle.packrun_lines.specs.private.Obeying.{StopsSo, outcome_of}
-use Rattle.packrun_lines.proofs.Transcripts.{stops-without_memory, err_is}
+use Rattle.packrun_lines.proofs.lemmas.Transcripts.{stops-without_memory, err_is}
 use Rattle.packrun_lines.proofs.run.obey_all.Goals as goal
 
 pub returns-in_default : goal.returns-in_default

@@ -1,7 +1,7 @@
 use Rattle.std.proofs.Common.{◌+◌, Ok, Err, IfSome, sym, subst, ◌∙◌, length, arith}
 use Rattle.std.specs.Io.Buffered.{reader_remaining}
 use Rattle.packrun_lines.specs.private.Obeying.{IsLineObeyed, StopsSo, outcome_of}
-use Rattle.packrun_lines.proofs.Transcripts.{Obeyed-more, Obeyed-at_end, Obeyed-stopped, Obeyed-failed, none_is, some_is, err_is}
+use Rattle.packrun_lines.proofs.lemmas.Transcripts.{Obeyed-more, Obeyed-at_end, Obeyed-stopped, Obeyed-failed, none_is, some_is, err_is}
 use Rattle.packrun_lines.proofs.run.obey_each.Goals as goal
 
 pub returns : goal.returns

@@ -1,5 +1,5 @@
 use Rattle.std.proofs.KnownBytes.{Keeps-refl}
-use Rattle.packrun_lines.proofs.Transcripts.{transcript-unflushed}
+use Rattle.packrun_lines.proofs.lemmas.Transcripts.{transcript-unflushed}
 use Rattle.packrun_lines.proofs.run.run_buffered.Goals as goal
 use Rattle.packrun_lines.proofs.run.run_buffered.Goals.{then-eq-via-then-eq, then-eq-via-else-eq+then-is_err}
 

@@ -1,5 +1,5 @@
 use Rattle.packrun_lines.specs.private.Obeying.{outcome_of}
-use Rattle.packrun_lines.proofs.Transcripts.{ends-as_stopped}
+use Rattle.packrun_lines.proofs.lemmas.Transcripts.{ends-as_stopped}
 use Rattle.packrun_lines.proofs.run.run_lines.Goals as goal
 
 pub returns : goal.returns

@@ -1,5 +1,5 @@
 use Rattle.std.proofs.Common.{refl}
-use Rattle.packrun_lines.proofs.Desk.{Excludes-ordered}
+use Rattle.packrun_lines.proofs.lemmas.Desk.{Excludes-ordered}
 use Rattle.packrun_lines.proofs.packer.Packer.exclude.Goals as goal
 
 pub returns-clause-excluded : goal.returns-clause-excluded

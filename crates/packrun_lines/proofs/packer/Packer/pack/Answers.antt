@@ -1,7 +1,7 @@
 use Rattle.std.proofs.Common.{Ok, refl}
 use Rattle.rectangle_pack_sections.proofs.lemmas.cuts.Choices.{smallest_more}
 use Rattle.packrun_lines.specs.Desk.{Desk}
-use Rattle.packrun_lines.proofs.Desk.{PacksBoxes-done, PacksBoxes-refused, PacksBoxes-promised}
+use Rattle.packrun_lines.proofs.lemmas.Desk.{PacksBoxes-done, PacksBoxes-refused, PacksBoxes-promised}
 use Rattle.packrun_lines.proofs.packer.Packer.pack.Goals as goal
 
 pub returns-in_err-packed-clause-packed : goal.returns-in_err-packed-clause-packed

@@ -1,5 +1,5 @@
 use Rattle.std.proofs.Common.{refl, ap}
-use Rattle.packrun_lines.proofs.Desk.{TakesBox-pushed}
+use Rattle.packrun_lines.proofs.lemmas.Desk.{TakesBox-pushed}
 use Rattle.rectangle_pack.proofs.lemmas.session.Transitions.{memory_refused}
 use Rattle.packrun_lines.proofs.packer.Packer.push_rect.Goals as goal
 

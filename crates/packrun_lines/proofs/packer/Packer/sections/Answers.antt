@@ -1,5 +1,5 @@
 use Rattle.std.proofs.Common.{None, Some, ap, ◌∙◌}
-use Rattle.packrun_lines.proofs.Desk.{sections-found}
+use Rattle.packrun_lines.proofs.lemmas.Desk.{sections-found}
 use Rattle.packrun_lines.proofs.packer.Packer.sections.Goals as goal
 
 pub returns-in_err-bin : goal.returns-in_err-bin

@@ -1,9 +1,9 @@
 use Rattle.std.proofs.Common.{List, ℕ, subst}
-use Rattle.packrun_words.specs.Requests as asks
+use Rattle.packrun_lines.specs.Requests as asks
 use Rattle.packrun_lines.specs.Lines.{reply_text}
-use Rattle.packrun_words.specs.private.Printing.{PrintsAnswer}
-use Rattle.packrun_lines.proofs.Obeyed.{IsObeyed-printed, replied}
-use Rattle.packrun_words.specs.private.Commands.{words_left}
+use Rattle.packrun_lines.specs.private.Printing.{PrintsAnswer}
+use Rattle.packrun_lines.proofs.lemmas.Obeyed.{IsObeyed-printed, replied}
+use Rattle.packrun_lines.specs.private.Commands.{words_left}
 use Rattle.packrun_lines.proofs.store.Store.obey.Goals as goal
 
 pub returns-in-Bin : goal.returns-in-Bin

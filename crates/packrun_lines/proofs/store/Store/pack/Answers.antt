@@ -1,6 +1,6 @@
 use Rattle.std.specs.Prelude.{codes}
-use Rattle.packrun_lines.proofs.Desk.{made-few}
-use Rattle.packrun_lines.proofs.Obeyed.{IsObeyed-packed, IsObeyed-refused}
+use Rattle.packrun_lines.proofs.lemmas.Desk.{made-few}
+use Rattle.packrun_lines.proofs.lemmas.Obeyed.{IsObeyed-packed, IsObeyed-refused}
 use Rattle.packrun_lines.proofs.store.Store.pack.Goals as goal
 use Rattle.packrun_lines.proofs.store.Store.pack.Goals.{in-Ok, in-Err}
 

@@ -1,13 +1,13 @@
 use Rattle.std.proofs.Common.{List, ℕ, Some, None, sym, ap, subst, ◌≡◌, ◌∙◌, refl}
 use Rattle.std.proofs.KnownBytes.{Keeps-refl}
-use Rattle.packrun_words.specs.Requests as asks
+use Rattle.packrun_lines.specs.Requests as asks
 use Rattle.packrun_lines.specs.Answers.{name_cmp, found_text}
 use Rattle.packrun_lines.specs.Desk.{sections_in}
 use Rattle.packrun_lines.specs.Lines.{sections_text, refusal_text}
-use Rattle.packrun_words.specs.private.Printing.{PrintsAnswer}
+use Rattle.packrun_lines.specs.private.Printing.{PrintsAnswer}
 use Rattle.rectangle_pack.specs.declared.session.command.SessionError.TheVariants.{UnknownBin}
-use Rattle.packrun_lines.proofs.Obeyed.{IsObeyed-printed}
-use Rattle.packrun_lines.proofs.Transcripts.{err_is}
+use Rattle.packrun_lines.proofs.lemmas.Obeyed.{IsObeyed-printed}
+use Rattle.packrun_lines.proofs.lemmas.Transcripts.{err_is}
 use Rattle.packrun_lines.proofs.store.Store.print_sections.Goals as goal
 
 pub returns-in_err-bin : goal.returns-in_err-bin

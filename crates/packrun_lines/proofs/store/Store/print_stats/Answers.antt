@@ -1,10 +1,10 @@
 use Rattle.std.proofs.Common.{List, ℕ, Some, Err, ap, refl, subst, ◌∙◌}
 use Rattle.rectangle_pack.specs.Stats.{stats_in}
-use Rattle.packrun_words.specs.Requests as asks
-use Rattle.packrun_words.specs.private.Printing.{PrintsAnswer}
+use Rattle.packrun_lines.specs.Requests as asks
+use Rattle.packrun_lines.specs.private.Printing.{PrintsAnswer}
 use Rattle.packrun_lines.specs.Answers.{name_cmp, found_text}
 use Rattle.packrun_lines.specs.Lines.{sums_text, refusal_text}
-use Rattle.packrun_lines.proofs.Obeyed.{IsObeyed-printed, found_is, found-refused, replied}
+use Rattle.packrun_lines.proofs.lemmas.Obeyed.{IsObeyed-printed, found_is, found-refused, replied}
 use Rattle.packrun_lines.proofs.store.Store.print_stats.Goals as goal
 
 pub returns-in-Ok : goal.returns-in-Ok

@@ -1,9 +1,9 @@
 use Rattle.std.proofs.Common.{List, ℕ, ap, subst, ◌∙◌}
 use Rattle.std.specs.Fmt.{decimal}
-use Rattle.packrun_words.specs.Requests as asks
-use Rattle.packrun_words.specs.private.Printing.{PrintsAnswer}
+use Rattle.packrun_lines.specs.Requests as asks
+use Rattle.packrun_lines.specs.private.Printing.{PrintsAnswer}
 use Rattle.packrun_lines.specs.Lines.{reply_text}
-use Rattle.packrun_lines.proofs.Obeyed.{IsObeyed-printed}
+use Rattle.packrun_lines.proofs.lemmas.Obeyed.{IsObeyed-printed}
 use Rattle.packrun_lines.proofs.store.Store.release.Goals as goal
 
 pub returns : goal.returns
