@@ -15,8 +15,8 @@ use std::io::{BufRead, BufReader, ErrorKind, Read, Write};
 /// Reads the next line into `line`, with its line feed, or the first 4097 bytes of one that is
 /// longer. Nothing is in `line` at the end of the input.
 ///
-/// A read that a signal interrupts is tried again. An error is the reader's, or `line` had less room
-/// and memory was refused.
+/// A read that a signal interrupts is tried again. An error is the reader's, or `line` had less
+/// room and memory was refused.
 pub fn read_line<B: BufRead, A: Allocator>(input: &mut B, line: &mut Vec<u8, A>) -> io::Result<()>
     // What is read is all up to the first line feed, itself among it, and at most 4097 bytes; fewer
     //   without a line feed only at the end of the input.

@@ -6,8 +6,6 @@ pub mod command;
 mod digits;
 mod input;
 pub mod laws;
-pub mod outcome;
-mod packer;
 mod print;
 pub mod run;
 pub mod stop;

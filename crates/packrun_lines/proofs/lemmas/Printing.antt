@@ -5,6 +5,7 @@ use Rattle.std.proofs.lemmas.List.{take_more, drop_more, flat_map_more}
 use Rattle.std.proofs.lemmas.Grind.{flat_map-append}
 use Rattle.std.specs.Io.KnownBytes.{Appends, Keeps}
 use Rattle.std.proofs.KnownBytes.{Appends-trans, Appends-kept}
+use Rattle.packrun_lines.specs.Ends.{Ended}
 use Rattle.packrun_lines.specs.Printing.{AppendsStart}
 use Rattle.packrun_lines.specs.Numbers.{three_text, box_text}
 use Rattle.packrun_lines.specs.declared.stop.Stop.{Stop}
@@ -35,13 +36,13 @@ pub AppendsStart-kept : (a b c : Option (List ℕ)) (text : List ℕ) → Append
 AppendsStart-kept a b c text (front, rest, is, appends) kept = (front, rest, is, Appends-kept a b c front appends kept)
 
 -- a text that is printed behind another
-pub Prints-behind : (a b c : Option (List ℕ)) (r : Result (Unit {0}) Stop) (front text : List ℕ) → Appends a b front → Prints b c r text
+pub Prints-behind : (a b c : Option (List ℕ)) (r : Ended) (front text : List ℕ) → Appends a b front → Prints b c r text
     → Prints a c r (front ++ text)
 Prints-behind a b c (Ok _) front text p q = Appends-trans a b c front text p q
 Prints-behind a b c (Err stop) front text p q = (q.0, AppendsStart-behind a b c front text p q.1)
 
 -- where a text could not be printed behind another, nor could both with what follows
-pub Prints-stopped : (a b c : Option (List ℕ)) (r : Result (Unit {0}) Stop) (why : Stop) (front text later : List ℕ) → Appends a b front
+pub Prints-stopped : (a b c : Option (List ℕ)) (r : Ended) (why : Stop) (front text later : List ℕ) → Appends a b front
     → (why ≡ IoFailed) × AppendsStart b c text → IsErrAnd r (λ stop. stop ≡ why) → Prints a c r (front ++ (text ++ later))
 Prints-stopped a b c (Ok _) why front text later p q is = absurd is
 Prints-stopped a b c (Err stop) why front text later p q is =
@@ -64,7 +65,7 @@ printed-all bytes front [] a b is before none = subst (λ (t : List ℕ). Append
 printed-all bytes front (x ∷ rest) a b is before none = absurd (cc (none, ne_eqb (length (x ∷ rest)) 0 (λ e. absurd (omega (arith, e)))))
 
 -- where a write failed, a beginning is printed
-pub printed-stopped : (bytes front rest : List ℕ) (a b c : Option (List ℕ)) (r : Result (Unit {0}) Stop) (why : Stop) → bytes ≡ front ++ rest → Appends a b front
+pub printed-stopped : (bytes front rest : List ℕ) (a b c : Option (List ℕ)) (r : Ended) (why : Stop) → bytes ≡ front ++ rest → Appends a b front
     → (why ≡ IoFailed) × Keeps b c → IsErrAnd r (λ stop. stop ≡ why) → Prints a c r bytes
 printed-stopped bytes front rest a b c (Ok _) why is before q failed = absurd failed
 printed-stopped bytes front rest a b c (Err stop) why is before q failed = (failed ∙ q.0, (front, rest, is, Appends-kept a b c front before q.1))
@@ -78,7 +79,7 @@ Appends-item text items i item a b c within read p q =
     (subst (Appends a c) (flat_map_more text [] (take i items) item) (Appends-trans a b c _ (text item) p q))
 
 -- where the text of an item could not be printed, nor could that of the list, and what follows
-pub Prints-item_stopped : {T : Type 0} (text : T → List ℕ) (items : List T) (i : ℕ) (item : T) (later : List ℕ) (a b c : Option (List ℕ)) (r : Result (Unit {0}) Stop) (why : Stop)
+pub Prints-item_stopped : {T : Type 0} (text : T → List ℕ) (items : List T) (i : ℕ) (item : T) (later : List ℕ) (a b c : Option (List ℕ)) (r : Ended) (why : Stop)
     → i < length items → item ≡ get_or items i item → Appends a b (flat_map text (take i items)) → (why ≡ IoFailed) × AppendsStart b c (text item)
     → IsErrAnd r (λ stop. stop ≡ why) → Prints a c r (flat_map text items ++ later)
 Prints-item_stopped text items i item later a b c r why within read p q is =

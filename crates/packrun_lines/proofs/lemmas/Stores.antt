@@ -1,12 +1,12 @@
--- What the calls of the library say of a session and of boxes, in the words of a desk.
+-- What the calls of the library say of a session and of boxes, in the words of a store.
 use Rattle.std.proofs.Common.{◌≡◌, ℕ, suc, ◌+◌, ◌-◌, ◌≤◌, List, [], ◌∷◌, length, length-append, drop, arith, Option, Some, None, Result, Ok, Err, IsErrAnd, MatchOption, option_map, refl, ap, sym, ◌∙◌, subst}
-use Rattle.std.specs.Cmp.{IsTotalOrder}
 use Rattle.std.specs.List.Sorted.{IsStrictlySortedBy}
 use Rattle.std.specs.Map.{lookup, keys_of}
 use Rattle.std.specs.BTreeMap.{is_at}
 use Rattle.std.specs.declared.cmp.Ordering.{Ordering}
 use Rattle.std.specs.declared.cmp.Ordering.TheVariants.{Less, Greater}
 use Rattle.std.specs.declared.vec.Vec.{Vec}
+use Rattle.std.proofs.lemmas.Cmp.{nat_list_cmp_total}
 use Rattle.rectangle_pack.specs.declared.grouped_rects_to_place.Group.{Group}
 use Rattle.rectangle_pack.specs.declared.grouped_rects_to_place.Group.TheVariants.{Ungrouped, Grouped}
 use Rattle.rectangle_pack.specs.declared.pack.Placement.{Placement}
@@ -28,7 +28,7 @@ use Rattle.rectangle_pack.proofs.lemmas.session.Promise.{packs-promised}
 use Rattle.rectangle_pack_packing.proofs.lemmas.determinism.Either.{Includes, PackingDone-more, PackingRefused-more}
 use Rattle.rectangle_pack_bins.proofs.lemmas.bins.Journals.{lookup-bins_of}
 use Rattle.rectangle_pack_sections.proofs.lemmas.groups.GroupOrder.{same_order}
-use Rattle.packrun_lines.specs.Desk.{Desk, no_boxes, group_order, volume_rules, TakesBox, PacksBoxes, placements_made, sections_in}
+use Rattle.packrun_lines.specs.Store.{Name, name_cmp, Store, no_boxes, group_order, volume_rules, TakesBox, PacksBoxes, placements_made, sections_in}
 
 -- a packing of a session by some answers is one by more
 module _ {Id B G : Type 0} (group_cmp : Group G Id → Group G Id → Ordering) (cmp : Id → Id → Ordering) (bin_cmp : B → B → Ordering)
@@ -57,66 +57,66 @@ module _ {Id B G : Type 0} (group_cmp : Group G Id → Group G Id → Ordering) 
   Packs-more all old (Refused OutOfMemory) new h = h
   Packs-more all old reply new h = absurd h
 
-module _ {Name : Type 0} (cmp : Name → Name → Ordering) (R : Group Name Name → Group Name Name → Ordering)
-    (alone : (a b : Name) → R (Ungrouped a) (Ungrouped b) ≡ cmp a b) (before : (a b : Name) → R (Ungrouped a) (Grouped b) ≡ Less)
-    (behind : (a b : Name) → R (Grouped a) (Ungrouped b) ≡ Greater) (named : (a b : Name) → R (Grouped a) (Grouped b) ≡ cmp a b) where
-  same : R ≡ group_order cmp
-  same = same_order cmp cmp R alone before behind named
+module _ (R : Group Name Name → Group Name Name → Ordering)
+    (alone : (a b : Name) → R (Ungrouped a) (Ungrouped b) ≡ name_cmp a b) (before : (a b : Name) → R (Ungrouped a) (Grouped b) ≡ Less)
+    (behind : (a b : Name) → R (Grouped a) (Ungrouped b) ≡ Greater) (named : (a b : Name) → R (Grouped a) (Grouped b) ≡ name_cmp a b) where
+  same : R ≡ group_order
+  same = same_order name_cmp name_cmp R alone before behind named
 
   -- a box is taken in
   pub TakesBox-pushed : {A : Type 0} (name : Name) (size : Size) (groups : Option (Vec Name A)) (old new : Collection Name Name)
-      → MatchOption groups (PushesAlone cmp R old new name size) (λ names. PushesInto cmp R old new name names.items size)
-      → IsStrictlySortedBy R (keys_of new.groups) → TakesBox cmp name size (option_map (λ names. names.items) groups) old new
-  TakesBox-pushed name size None old new h sorted = subst (λ S. PushesAlone cmp S old new name size) same h
+      → MatchOption groups (PushesAlone name_cmp R old new name size) (λ names. PushesInto name_cmp R old new name names.items size)
+      → IsStrictlySortedBy R (keys_of new.groups) → TakesBox name size (option_map (λ names. names.items) groups) old new
+  TakesBox-pushed name size None old new h sorted = subst (λ S. PushesAlone name_cmp S old new name size) same h
   TakesBox-pushed name size (Some names) old new h sorted =
-      subst (λ S. PushesInto cmp S old new name names.items size × IsStrictlySortedBy S (keys_of new.groups)) same (h, sorted)
+      subst (λ S. PushesInto name_cmp S old new name names.items size × IsStrictlySortedBy S (keys_of new.groups)) same (h, sorted)
 
   -- two groups are excluded
-  pub Excludes-ordered : (old new : Collection Name Name) (a b : Group Name Name) → Excludes R old new a b → Excludes (group_order cmp) old new a b
+  pub Excludes-ordered : (old new : Collection Name Name) (a b : Group Name Name) → Excludes R old new a b → Excludes group_order old new a b
   Excludes-ordered old new a b h = subst (λ S. Excludes S old new a b) same h
 
-  module _ (may : Answers) (old : Desk Name) where
+  module _ (may : Answers) (old : Store) where
     -- boxes are packed by closures that answer as volumes do
     Packs-volume : Includes may (named_answers Volume) → (reply : Reply) (new : State Name Name)
-        → Packs R (rules_by cmp cmp may) old.boxes old.session reply new → Packs (group_order cmp) (volume_rules cmp) old.boxes old.session reply new
-    Packs-volume includes reply new h = subst (λ S. Packs S (volume_rules cmp) old.boxes old.session reply new) same
-        (Packs-more R cmp cmp may (named_answers Volume) includes old.boxes old.session reply new h)
+        → Packs R (rules_by name_cmp name_cmp may) old.boxes old.session reply new → Packs group_order volume_rules old.boxes old.session reply new
+    Packs-volume includes reply new h = subst (λ S. Packs S volume_rules old.boxes old.session reply new) same
+        (Packs-more R name_cmp name_cmp may (named_answers Volume) includes old.boxes old.session reply new h)
 
-    pub PacksBoxes-done : (numbers : PackedNumbers) (packed : State Name Name) (new : Desk Name)
-        → Packs R (rules_by cmp cmp may) old.boxes old.session (Packed numbers) packed
-        → Includes may (named_answers Volume) → new.session ≡ packed → new.boxes ≡ no_boxes → PacksBoxes cmp old (Ok numbers) new
+    pub PacksBoxes-done : (numbers : PackedNumbers) (packed : State Name Name) (new : Store)
+        → Packs R (rules_by name_cmp name_cmp may) old.boxes old.session (Packed numbers) packed
+        → Includes may (named_answers Volume) → new.session ≡ packed → new.boxes ≡ no_boxes → PacksBoxes old (Ok numbers) new
     PacksBoxes-done numbers packed new h includes session boxes = (
-      subst (λ s. Packs (group_order cmp) (volume_rules cmp) old.boxes old.session (Packed numbers) s) (sym session)
+      subst (λ s. Packs group_order volume_rules old.boxes old.session (Packed numbers) s) (sym session)
           (Packs-volume includes (Packed numbers) packed h),
       boxes,
     )
 
-    pub PacksBoxes-refused : (error : SessionError) (new : State Name Name) → Packs R (rules_by cmp cmp may) old.boxes old.session (Refused error) new
+    pub PacksBoxes-refused : (error : SessionError) (new : State Name Name) → Packs R (rules_by name_cmp name_cmp may) old.boxes old.session (Refused error) new
         → Includes may (named_answers Volume) → (result : Result PackedNumbers SessionError) → IsErrAnd result (λ e. e ≡ error)
-        → PacksBoxes cmp old result (record old { session = new })
+        → PacksBoxes old result (record old { session = new })
     PacksBoxes-refused error new h includes (Ok numbers) failed = absurd failed
     PacksBoxes-refused error new h includes (Err e) failed = (
-      subst (λ e. Packs (group_order cmp) (volume_rules cmp) old.boxes old.session (Refused e) new) (sym failed)
+      subst (λ e. Packs group_order volume_rules old.boxes old.session (Refused e) new) (sym failed)
           (Packs-volume includes (Refused error) new h),
       refl,
     )
 
 -- and what the headline says of packings holds of them
-pub PacksBoxes-promised : {Name : Type 0} (cmp : Name → Name → Ordering) → IsTotalOrder cmp → (old : Desk Name) (result : Result PackedNumbers SessionError)
-    (new : Desk Name) → PacksBoxes cmp old result new
-    → PacksAsPromised (group_order cmp) (volume_rules cmp) old.boxes old.session (packed_reply result) new.session
-PacksBoxes-promised cmp total old (Ok numbers) new h =
-    packs-promised (group_order cmp) (volume_rules cmp) total old.boxes old.session (Packed numbers) new.session h.0
-PacksBoxes-promised cmp total old (Err error) new h =
-    packs-promised (group_order cmp) (volume_rules cmp) total old.boxes old.session (Refused error) new.session h.0
+pub PacksBoxes-promised : (old : Store) (result : Result PackedNumbers SessionError)
+    (new : Store) → PacksBoxes old result new
+    → PacksAsPromised group_order volume_rules old.boxes old.session (packed_reply result) new.session
+PacksBoxes-promised old (Ok numbers) new h =
+    packs-promised group_order volume_rules nat_list_cmp_total old.boxes old.session (Packed numbers) new.session h.0
+PacksBoxes-promised old (Err error) new h =
+    packs-promised group_order volume_rules nat_list_cmp_total old.boxes old.session (Refused error) new.session h.0
 
 length-numbered : {Id B : Type 0} (n : ℕ) (ps : List (Placement Id B)) → length (numbered n ps) ≡ length ps
 length-numbered n [] = refl
 length-numbered n (p ∷ ps) = ap suc (length-numbered (n + 1) ps)
 
 -- the placements that a packing made are the last ones, as many as it answers
-module _ {Name : Type 0} (cmp : Name → Name → Ordering) (old : Desk Name) (numbers : PackedNumbers) (new : Desk Name)
-    (packed : PacksBoxes cmp old (Ok numbers) new) where
+module _ (old : Store) (numbers : PackedNumbers) (new : Store)
+    (packed : PacksBoxes old (Ok numbers) new) where
   made-length : length new.session.outstanding ≡ length old.session.outstanding + numbers.count
   made-length =
       let kept = packed.0.1 in
@@ -132,13 +132,13 @@ module _ {Name : Type 0} (cmp : Name → Name → Ordering) (old : Desk Name) (n
       ap (λ n. drop n new.session.outstanding) at
 
 -- the free sections of a bin that a look-up finds
-pub sections-found : {Name : Type 0} (cmp : Name → Name → Ordering) (name : Name) (entries : List (Name × Held)) (state : State Name Name)
-    → bins_of entries ≡ state.bins → (found : Option Held) → found ≡ lookup (is_at (cmp name)) entries
-    → option_map (λ (h : Held). h.bin.sections) found ≡ sections_in cmp state name
-sections-found cmp name entries state same found is =
-    by found (ap (lookup (is_at (cmp name))) (sym same) ∙ lookup-bins_of (is_at (cmp name)) entries ∙ ap (option_map (λ (h : Held). h.bin)) (sym is))
+pub sections-found : (name : Name) (entries : List (Name × Held)) (state : State Name Name)
+    → bins_of entries ≡ state.bins → (found : Option Held) → found ≡ lookup (is_at (name_cmp name)) entries
+    → option_map (λ (h : Held). h.bin.sections) found ≡ sections_in state name
+sections-found name entries state same found is =
+    by found (ap (lookup (is_at (name_cmp name))) (sym same) ∙ lookup-bins_of (is_at (name_cmp name)) entries ∙ ap (option_map (λ (h : Held). h.bin)) (sym is))
   where
-    by : (held : Option Held) → lookup (is_at (cmp name)) state.bins ≡ option_map (λ (h : Held). h.bin) held
-        → option_map (λ (h : Held). h.bin.sections) held ≡ sections_in cmp state name
+    by : (held : Option Held) → lookup (is_at (name_cmp name)) state.bins ≡ option_map (λ (h : Held). h.bin) held
+        → option_map (λ (h : Held). h.bin.sections) held ≡ sections_in state name
     by None there = sym (ap (option_map (λ (b : Bin). b.sections)) there)
     by (Some h) there = sym (ap (option_map (λ (b : Bin). b.sections)) there)
