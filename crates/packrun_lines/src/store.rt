@@ -45,7 +45,7 @@ impl<A: Allocator + Copy> Model for Store<A> {
     // A store is seen as a session, and the boxes that its next packing places.
     ghost Value = { Store };
 
-    // These are its own two.
+    // These are the session and the boxes of its fields.
     ghost view = { λ s. record { session = s.session; boxes = s.rects } };
 
     // What always holds of a session holds of that of each store, so each cell of a bin is in
