@@ -42,7 +42,7 @@ ASKS = {
 # What does not show in names alone: the types of which a program compares values, and what has the name of something reached. The
 # checker refuses the copy where one more type is compared, or one of these is reached after all.
 COMPARES = ("PartialEq", "Eq", "PartialOrd", "Ord")
-COMPARED = {"Group", "Outcome", "Span", "Word"}
+COMPARED = {"Group", "Span", "Stop", "Word"}
 NAMESAKES = {
     "FitTests::count",
     *(f"PackedLocation::{part}" for part in ("x", "y", "z", "width", "height", "depth")),

@@ -8,11 +8,11 @@ from collections.abc import Callable, Iterable, Mapping
 TOP = pathlib.Path(__file__).resolve().parents[2]
 CRATES = TOP / "crates"
 DOCS = TOP / "docs"
-# The library's root; the library for C; the program, and the crates of it that say what it does.
+# The library's root; the library for C; the program, and the crate of it that says what it does.
 ROOT = "rectangle_pack"
 FOR_C = "rectangle_pack_c"
 MAIN = "packrun"
-PROGRAM = ("packrun_words", "packrun_lines")
+PROGRAM = ("packrun_lines",)
 
 # The crates, lower ones first, each with those that it stands on; and those of the library.
 CRATE = re.compile(r"(?m)^(\w+)(?: staticlib)?:(.*)$")

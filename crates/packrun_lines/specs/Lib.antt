@@ -1,6 +1,11 @@
 pub mod Answers
-pub mod Desk
+pub mod Ends
+pub mod Input
 pub mod Lines
+pub mod Numbers
+pub mod Printing
 pub mod private
-pub mod Statuses
+pub mod Requests
+pub mod Store
 pub mod Transcripts
+pub mod Words

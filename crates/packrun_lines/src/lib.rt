@@ -1,9 +1,13 @@
 //! The lines of `packrun`: what a line says, what is done, and what is printed.
 #![tactic(auto)]
 
+mod bytes;
+pub mod command;
+mod digits;
+mod input;
 pub mod laws;
-pub mod outcome;
-mod packer;
 mod print;
 pub mod run;
+pub mod stop;
 pub mod store;
+mod word;

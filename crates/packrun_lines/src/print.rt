@@ -2,12 +2,12 @@
 ghost use Rattle.std.specs.Prelude.{◌++◌, codes};
 ghost use Rattle.std.specs.Fmt.{decimal};
 ghost use Rattle.packrun_lines.specs.Lines.{cuboid_text, placement_text, packed_text, sections_text, sums_text, refusal_text, reply_text};
-ghost use Rattle.packrun_words.specs.private.Printing.{Prints, PrintsAnswer};
+ghost use Rattle.packrun_lines.specs.private.Printing.{Prints, PrintsAnswer};
 
-use packrun_words::digits::Digits;
-use packrun_words::print::{print_box, print_bytes, print_parts};
-use packrun_words::stop::Stop;
-use packrun_words::word::Word;
+use crate::bytes::{print_box, print_bytes, print_parts};
+use crate::digits::Digits;
+use crate::stop::Stop;
+use crate::word::Word;
 use rectangle_pack::{BinSection, BinStats, Outstanding, SessionError};
 use rectangle_pack_sections::packed_location::section_at;
 use std::alloc::Allocator;

@@ -1,20 +1,20 @@
 //! Commands, a line each, from a reader to a writer.
 ghost use Rattle.std.specs.Prelude.{◌≡◌, ◌≢◌, [], IfSome};
+ghost use Rattle.std.specs.Io.BufRead.{strip_last};
 ghost use Rattle.std.specs.Io.Buffered.{reader_remaining, writer_buffer, writer_contents};
 ghost use Rattle.std.specs.Io.KnownBytes.{Appends};
-ghost use Rattle.packrun_lines.specs.Desk.{empty_desk};
-ghost use Rattle.packrun_lines.specs.private.Obeying.{IsLineObeyed, StopsSo, outcome_of};
+ghost use Rattle.packrun_lines.specs.Store.{empty_store};
+ghost use Rattle.packrun_lines.specs.private.Obeying.{IsLineObeyed, StopsSo};
 ghost use Rattle.packrun_lines.specs.Transcripts.{PrintsTranscript, last_line};
-ghost use Rattle.packrun_words.specs.Printing.{AppendsStart};
-ghost use Rattle.packrun_words.specs.private.Printing.{Prints};
+ghost use Rattle.packrun_lines.specs.Printing.{AppendsStart};
+ghost use Rattle.packrun_lines.specs.private.Printing.{Prints};
 
-use crate::outcome::Outcome;
+use crate::bytes::{print_bytes, print_parts};
+use crate::command::{LONGEST_LINE, parse};
+use crate::digits::Digits;
+use crate::input::next_line;
+use crate::stop::Stop;
 use crate::store::Store;
-use packrun_words::command::{LONGEST_LINE, parse};
-use packrun_words::digits::Digits;
-use packrun_words::input::next_line;
-use packrun_words::print::{print_bytes, print_parts};
-use packrun_words::stop::Stop;
 use std::alloc::Allocator;
 use std::io::{BufReader, BufWriter, Read, Write};
 
@@ -23,17 +23,17 @@ use std::io::{BufReader, BufWriter, Read, Write};
 /// The writer is written to piece by piece, and flushed before each read that may have to wait, and
 /// at the end: [`run_buffered`] takes a buffered one. Lines are numbered from 1, and placements
 /// from 0. What lines before the end printed stands, also where a read or a write fails. Where the
-/// last line of a run cannot be printed, the outcome is `IoFailed`.
+/// last line of a run cannot be printed, it ends as `IoFailed`.
 pub fn run_lines<R: Read, W: Write, A: Allocator + Copy>(
     alloc: A,
     reader: &mut R,
     writer: &mut W,
-) -> Outcome
+) -> Result<(), Stop>
     // For every reader whose bytes are known and every writer whose bytes are: what is printed is
     //   the transcript of the input, and nothing else. It ends at the end of the input, at the
     //   first bad line with its number, or for want of memory, before any of its lines: then some
     //   lines from the first are answered, none of the others is, and the last line says so. Where
-    //   the outcome is `IoFailed`, a beginning of a transcript of the input is printed, and nothing
+    //   it ends as `IoFailed`, a beginning of a transcript of the input is printed, and nothing
     //   else. [obey_each.line_is_obeyed_twice, obey_each.empty_line_has_no_number,
     //   obey_each.unfinished_line_is_obeyed, obey_all.panics_without_memory]
     ensures transcript { IfSome (R.remaining reader.old)
@@ -44,24 +44,24 @@ pub fn run_lines<R: Read, W: Write, A: Allocator + Copy>(
 }
 
 /// Obeys the commands of `reader`, as [`run_lines`] does, and prints to a buffered writer. Nothing
-/// is left in its buffer, unless the outcome is `IoFailed`.
+/// is left in its buffer, unless the run ends as `IoFailed`.
 pub fn run_buffered<R: Read, W: Write + Drop, A: Allocator + Copy>(
     alloc: A,
     reader: &mut R,
     out: &mut BufWriter<W, A>,
-) -> Outcome
+) -> Result<(), Stop>
     // The same over a buffer, which `main` calls.
     ensures transcript { IfSome (R.remaining reader.old) (PrintsTranscript
         (writer_contents W.contents out.old) (writer_contents W.contents out.new) result) }
-    // Nothing is left in the buffer, unless the outcome is `IoFailed`.
+    // Nothing is left in the buffer, unless the run ends as `IoFailed`.
     //   [run_buffered.nothing_is_flushed]
-    ensures flushed { result ≢ Outcome.IoFailed → writer_buffer out.new ≡ [] }
+    ensures flushed { result ≢ Err Stop.IoFailed → writer_buffer out.new ≡ [] }
 {
-    let outcome = run_lines(alloc, reader, out);
-    if outcome == Outcome::IoFailed || out.flush().is_err() {
-        return Outcome::IoFailed;
+    let ended = run_lines(alloc, reader, out);
+    if ended == Err(Stop::IoFailed) || out.flush().is_err() {
+        return Err(Stop::IoFailed);
     }
-    outcome
+    ended
 }
 
 // Makes what the lines work on, and obeys them.
@@ -70,8 +70,8 @@ fn obey_all<R: Read, W: Write, A: Allocator + Copy>(
     reader: &mut R,
     out: &mut W,
 ) -> Result<(), Stop>
-    ensures { IfSome (R.remaining reader.old) (λ bytes. StopsSo (outcome_of result) bytes
-        (empty_desk 0) (W.contents out.old) (W.contents out.new)) }
+    ensures { IfSome (R.remaining reader.old) (λ bytes. StopsSo result bytes (empty_store 0)
+        (W.contents out.old) (W.contents out.new)) }
 {
     let Ok(mut input) = BufReader::new(alloc, reader) else {
         return Err(Stop::NoMemory);
@@ -91,8 +91,8 @@ fn obey_each<R: Read, W: Write, A: Allocator + Copy>(
     line: &mut Vec<u8, A>,
     out: &mut W,
 ) -> Result<(), Stop>
-    ensures { IfSome (reader_remaining R.remaining input.old) (λ bytes. StopsSo (outcome_of result)
-        bytes store.old (W.contents out.old) (W.contents out.new)) }
+    ensures { IfSome (reader_remaining R.remaining input.old) (λ bytes. StopsSo result bytes
+        store.old (W.contents out.old) (W.contents out.new)) }
 {
     let (mut total, mut number) = (0u64, 0u64);
     while next_line(input, line, &mut total, out)? {
@@ -109,8 +109,8 @@ fn obey_line<W: Write, A: Allocator + Copy>(
     line: &[u8],
     out: &mut W,
 ) -> Result<(), Stop>
-    ensures { IsLineObeyed number line.now store.old (W.contents out.old) result store.new
-        (W.contents out.new) }
+    ensures { IsLineObeyed number (strip_last 10 line.now) store.old (W.contents out.old) result
+        store.new (W.contents out.new) }
 {
     match parse(line) {
         Some(command) => store.obey(command, out),
@@ -119,55 +119,42 @@ fn obey_line<W: Write, A: Allocator + Copy>(
 }
 
 // Prints the last line, where the end has one, and flushes. How the run ends.
-fn end<W: Write>(ended: Result<(), Stop>, out: &mut W) -> Outcome
-    ensures outcome { result ≢ Outcome.IoFailed → result ≡ outcome_of ended }
-    ensures printed { result ≢ Outcome.IoFailed →
+fn end<W: Write>(ended: Result<(), Stop>, out: &mut W) -> Result<(), Stop>
+    ensures ended { result ≢ Err Stop.IoFailed → result ≡ ended }
+    ensures printed { result ≢ Err Stop.IoFailed →
         Appends (W.contents out.old) (W.contents out.new) (last_line result) }
-    ensures begun { AppendsStart (W.contents out.old) (W.contents out.new)
-        (last_line (outcome_of ended)) }
+    ensures begun { AppendsStart (W.contents out.old) (W.contents out.new) (last_line ended) }
 {
-    let outcome = outcome_of(ended);
-    if outcome == Outcome::IoFailed || print_end(outcome, out).is_err() || out.flush().is_err() {
-        return Outcome::IoFailed;
+    if ended == Err(Stop::IoFailed) || print_end(ended, out).is_err() || out.flush().is_err() {
+        return Err(Stop::IoFailed);
     }
-    outcome
+    ended
 }
 
 /// Ends a run for which there is no memory at all, not even for a buffer: prints the last line.
-pub fn end_without_memory<W: Write>(writer: &mut W) -> Outcome
-    // The outcome is `NoMemory`, or `IoFailed`.
-    ensures outcome { result ≢ Outcome.IoFailed → result ≡ Outcome.NoMemory }
-    // `Out of memory.` is printed, unless the outcome is `IoFailed`.
-    ensures printed { result ≢ Outcome.IoFailed →
-        Appends (W.contents writer.old) (W.contents writer.new) (last_line Outcome.NoMemory) }
-    // A beginning of it is printed, and nothing else, whatever the outcome.
+pub fn end_without_memory<W: Write>(writer: &mut W) -> Result<(), Stop>
+    // The run ends as `NoMemory`, or as `IoFailed`.
+    ensures ended { result ≢ Err Stop.IoFailed → result ≡ Err Stop.NoMemory }
+    // `Out of memory.` is printed, unless the run ends as `IoFailed`.
+    ensures printed { result ≢ Err Stop.IoFailed → Appends (W.contents writer.old)
+        (W.contents writer.new) (last_line (Err Stop.NoMemory)) }
+    // A beginning of it is printed, and nothing else, however the run ends.
     ensures begun { AppendsStart (W.contents writer.old) (W.contents writer.new)
-        (last_line Outcome.NoMemory) }
+        (last_line (Err Stop.NoMemory)) }
 {
     end(Err(Stop::NoMemory), writer)
 }
 
-fn outcome_of(ended: Result<(), Stop>) -> Outcome
-    ensures { result ≡ outcome_of ended }
+// Prints the last line of a run that ends so.
+fn print_end<W: Write>(ended: Result<(), Stop>, out: &mut W) -> Result<(), Stop>
+    ensures { Prints (W.contents out.old) (W.contents out.new) result (last_line ended) }
 {
     match ended {
-        Ok(()) => Outcome::Done,
-        Err(Stop::BadLine(number)) => Outcome::BadLine(number),
-        Err(Stop::NoMemory) => Outcome::NoMemory,
-        Err(Stop::IoFailed) => Outcome::IoFailed,
-    }
-}
-
-// Prints the last line of a run that ends so.
-fn print_end<W: Write>(outcome: Outcome, out: &mut W) -> Result<(), Stop>
-    ensures { Prints (W.contents out.old) (W.contents out.new) result (last_line outcome) }
-{
-    match outcome {
-        Outcome::Done | Outcome::IoFailed => Ok(()),
-        Outcome::BadLine(number) => {
+        Ok(()) | Err(Stop::IoFailed) => Ok(()),
+        Err(Stop::BadLine(number)) => {
             let number = Digits::new(u128::from(number));
             print_parts(&[b"line ", number.as_bytes(), b" is bad\n"], out)
         }
-        Outcome::NoMemory => print_bytes(b"Out of memory.\n", out),
+        Err(Stop::NoMemory) => print_bytes(b"Out of memory.\n", out),
     }
 }

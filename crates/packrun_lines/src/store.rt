@@ -1,27 +1,29 @@
 //! The session, and the boxes to place, that lines speak of.
-ghost use Rattle.std.specs.Prelude.{◌≡◌, ◌≢◌, ◌<◌, IfOk};
-ghost use Rattle.std.specs.Option.{ForSome, option_map};
+ghost use Rattle.std.specs.Prelude.{◌≡◌, ◌≢◌, ◌-◌, ◌<◌, ◌≤◌, IfOk, length, drop};
+ghost use Rattle.std.specs.Option.{ForSome, option_copied, option_map};
 ghost use Rattle.std.specs.Vec.{vec_len};
 ghost use Rattle.rectangle_pack.specs.Groups.{Excludes};
 ghost use Rattle.rectangle_pack.specs.Joining.{IsJoined, IsSwept};
-ghost use Rattle.rectangle_pack.specs.Session.{AddsBin, Coalesces};
+ghost use Rattle.rectangle_pack.specs.Promise.{PacksAsPromised};
+ghost use Rattle.rectangle_pack.specs.Session.{AddsBin, Coalesces, Releases, packed_reply};
 ghost use Rattle.rectangle_pack.specs.declared.grouped_rects_to_place.Group.TheVariants.{Grouped};
-ghost use Rattle.packrun_words.specs.private.Commands.{request_of, words_left};
-ghost use Rattle.packrun_words.specs.Requests as asks;
-ghost use Rattle.packrun_words.specs.private.Verbs.{NamesTwo};
-ghost use Rattle.packrun_lines.specs.Answers.{name_cmp, size_of, groups_of};
-ghost use Rattle.rectangle_pack.specs.Stats.{stats_in};
-ghost use Rattle.packrun_lines.specs.Desk.{empty_desk, ChangesSession, ChangesBoxes, TakesBox, group_order};
+ghost use Rattle.packrun_lines.specs.Answers.{size_of, groups_of};
+ghost use Rattle.packrun_lines.specs.Requests as asks;
+ghost use Rattle.packrun_lines.specs.Store.{name_cmp, group_order, volume_rules, no_boxes, empty_store, sections_in, ChangesSession, ChangesBoxes, TakesBox, PacksBoxes};
+ghost use Rattle.packrun_lines.specs.private.Calls.{UnlessNoMemory};
+ghost use Rattle.packrun_lines.specs.private.Commands.{request_of, words_left};
 ghost use Rattle.packrun_lines.specs.private.Obeying.{IsObeyed};
-ghost use Rattle.packrun_lines.specs.private.Calls.{UnlessNoMemory, IsFound};
+ghost use Rattle.packrun_lines.specs.private.Verbs.{NamesTwo};
 
-use crate::packer::Packer;
+use crate::command::{Command, Size};
+use crate::digits::Digits;
 use crate::print::{print_list, print_packed, print_sums, refuse, report};
-use packrun_words::command::{Command, Size};
-use packrun_words::digits::Digits;
-use packrun_words::stop::Stop;
-use packrun_words::word::{Word, push_words};
-use rectangle_pack::{BinStats, SessionError};
+use crate::stop::Stop;
+use crate::word::{Word, push_words};
+use rectangle_pack::{
+    BinSection, Group, GroupedRectsToPlace, Outstanding, Packed, RectToInsert, Session,
+    SessionError, contains_smallest_box, volume_heuristic,
+};
 use std::alloc::{AllocError, Allocator};
 use std::io::Write;
 use std::marker::Model;
@@ -32,28 +34,39 @@ use std::str::SplitAsciiWhitespace;
 #[derive(Drop)]
 pub struct Store<A: Allocator + Copy> {
     alloc: A,
-    packer: Packer<Word<A>, A>,
+    session: Session<Word<A>, Word<A>, A>,
+    rects: GroupedRectsToPlace<Word<A>, Word<A>, A>,
 }
 
 impl<A: Allocator + Copy> Model for Store<A> {
-    ghost use Rattle.packrun_lines.specs.Answers.{Name};
-    ghost use Rattle.packrun_lines.specs.Desk.{Desk};
+    ghost use Rattle.rectangle_pack.specs.Session.{IsSession};
+    ghost use Rattle.packrun_lines.specs.Store.{Store, name_cmp};
 
-    ghost Value = { Desk Name };
+    // A store is seen as a session, and the boxes that its next packing places.
+    ghost Value = { Store };
 
-    ghost view = { λ s. s.packer };
+    // These are the session and the boxes of its fields.
+    ghost view = { λ s. record { session = s.session; boxes = s.rects } };
+
+    // What always holds of a session holds of that of each store, so each cell of a bin is in
+    //   exactly one free section or outstanding placement.
+    ghost invariant = { λ s. IsSession name_cmp s.session };
 }
 
 impl<A: Allocator + Copy> Store<A> {
     /// No bins and no boxes. The first placement gets the number `first`.
     pub fn new(alloc: A, first: u64) -> Store<A>
-        ensures { result ≡ empty_desk first }
+        ensures { result ≡ empty_store first }
     {
         Store {
             alloc,
-            packer: Packer::new(alloc, first),
+            session: Session::new(alloc, first),
+            rects: GroupedRectsToPlace::new(alloc),
         }
     }
+
+    /// Ends the session, and gives its memory back.
+    pub fn close(self) {}
 
     /// Does what the command says and prints the lines of its answer.
     pub fn obey<W: Write>(&mut self, command: Command<'_>, out: &mut W) -> Result<(), Stop>
@@ -77,8 +90,11 @@ impl<A: Allocator + Copy> Store<A> {
             Command::Exclude { one, other } => {
                 report(self.exclude(one, other), one.as_bytes(), out)
             }
-            Command::Pack => self.pack(out),
-            Command::Release(number) => self.release(number, out),
+            Command::Pack => self.print_packing(out),
+            Command::Release(number) => {
+                let digits = Digits::new(u128::from(number));
+                report(self.release(number), digits.as_bytes(), out)
+            }
             Command::Sections { name } => self.print_sections(name, out),
             Command::Coalesce { name, idx, range } => {
                 report(self.coalesce(name, idx, range), name.as_bytes(), out)
@@ -88,78 +104,134 @@ impl<A: Allocator + Copy> Store<A> {
         }
     }
 
-    /// Ends the session, and gives its memory back.
-    pub fn close(self) {
-        self.packer.close();
-    }
-
     fn add_bin(&mut self, name: &str, size: Size) -> Result<(), SessionError>
-        ensures { UnlessNoMemory result (ChangesSession (AddsBin name_cmp name.now (size_of size))
-            self.old result self.new) }
+        // The session goes on as `Session::add_bin` says, and the boxes to place stay; or memory is
+        //   refused, and nothing is changed. [add_bin.sides_change_places]
+        ensures added { UnlessNoMemory (ChangesSession (AddsBin name_cmp name.now (size_of size)))
+            self.old result self.new }
     {
-        let id = Word::new(self.alloc, name)?;
-        self.packer.add_bin(id, size)
+        let name = Word::new(self.alloc, name)?;
+        self.session
+            .add_bin(name, size.width, size.height, size.depth)
     }
 
+    // Takes in a box, which is in the groups of these names, or alone.
     fn push_rect(
         &mut self,
         id: &str,
         size: Size,
         groups: SplitAsciiWhitespace<'_>,
     ) -> Result<(), SessionError>
-        ensures { let named = groups_of (words_left groups.entry) in
-            UnlessNoMemory result (ChangesBoxes (TakesBox name_cmp id.now (size_of size) named)
-            self.old result self.new) }
+        // The boxes to place go on as `GroupedRectsToPlace::push_rect` says, and the session stays.
+        //   Where memory is refused, nothing is changed.
+        ensures pushed { let named = groups_of (words_left groups.entry) in
+            ChangesBoxes (TakesBox id.now (size_of size) named) self.old result self.new }
     {
         let id = Word::new(self.alloc, id)?;
         let named = named_groups(self.alloc, groups)?;
-        self.packer.push_rect(id, named, size)
+        let rect = RectToInsert::new(size.width, size.height, size.depth);
+        self.rects.push_rect(id, named, rect)?;
+        // Proof hint: groups are sorted and unique.
+        let _ = self.rects.groups();
+        Ok(())
     }
 
+    // Keeps the two groups out of one bin.
     fn exclude(&mut self, one: &str, other: &str) -> Result<(), SessionError>
-        requires { one.now ≢ other.now }
-        ensures { UnlessNoMemory result (ChangesBoxes (λ before after.
-            Excludes (group_order name_cmp) before after (Grouped one.now) (Grouped other.now))
-            self.old result self.new) }
+        // The two groups are not equal.
+        requires different { one.now ≢ other.now }
+        // The boxes to place go on as `GroupedRectsToPlace::exclude` says, and the session stays.
+        //   Where memory is refused, nothing is changed. [exclude.box_alone_is_excluded]
+        ensures excluded { ChangesBoxes
+            (λ old new. Excludes group_order old new (Grouped one.now) (Grouped other.now))
+            self.old result self.new }
     {
-        let one = Word::new(self.alloc, one)?;
-        let other = Word::new(self.alloc, other)?;
-        self.packer.exclude(one, other)
+        let one = Group::Grouped(Word::new(self.alloc, one)?);
+        let other = Group::Grouped(Word::new(self.alloc, other)?);
+        Ok(self.rects.exclude(one, other)?)
     }
 
-    fn coalesce(&mut self, name: &str, idx: usize, range: Range<usize>) -> Result<(), SessionError>
-        ensures { let joins = IsJoined idx range.start range.end in
-            UnlessNoMemory result (ChangesSession (Coalesces name_cmp joins name.now)
-            self.old result self.new) }
+    // Places the boxes. Boxes are kept where they are refused, so that a bin can be added and the
+    // packing tried again.
+    fn pack(&mut self) -> Result<Packed, SessionError>
+        // The boxes are packed as `Session::pack` does it by volume and `contains_smallest_box`,
+        //   and are forgotten where that is done; else they are kept. [pack.wide_boxes_go_first,
+        //   pack.refused_boxes_are_forgotten, forget_rects.boxes_are_kept]
+        ensures packed { PacksBoxes self.old result self.new }
+        // The packing is as promised.
+        ensures promise { PacksAsPromised group_order volume_rules
+            self.old.boxes self.old.session (packed_reply result) self.new.session }
     {
-        let bin = Word::new(self.alloc, name)?;
-        self.packer.coalesce(&bin, idx, range)
+        let packed = self
+            .session
+            .pack(&self.rects, &volume_heuristic, &contains_smallest_box)?;
+        self.forget_rects();
+        Ok(packed)
     }
 
-    fn sweep(&mut self, name: &str) -> Result<(), SessionError>
-        ensures { UnlessNoMemory result (ChangesSession (Coalesces name_cmp IsSwept name.now)
-            self.old result self.new) }
+    fn forget_rects(&mut self)
+        ensures session { self.new.session ≡ self.old.session }
+        ensures boxes { self.new.boxes ≡ no_boxes }
     {
-        let bin = Word::new(self.alloc, name)?;
-        self.packer.sweep(&bin)
+        self.rects = GroupedRectsToPlace::new(self.alloc);
     }
 
-    fn pack<W: Write>(&mut self, out: &mut W) -> Result<(), Stop>
+    // The last `count` placements, as which a packing left those that it made.
+    fn last_placements(&self, count: u64) -> &[Outstanding<Word<A>, Word<A>>]
+        // As many are asked for as are outstanding, or fewer.
+        requires { count ≤ length self.now.session.outstanding }
+        // The last placements, as many as are asked for. [last_placements.first_ones]
+        ensures { let placements = self.now.session.outstanding in
+            result.now ≡ drop (length placements - count) placements }
+    {
+        let placements = self.session.outstanding();
+        &placements[placements.len() - count as usize..]
+    }
+
+    fn print_packing<W: Write>(&mut self, out: &mut W) -> Result<(), Stop>
         ensures { IsObeyed asks.Pack self.old (W.contents out.old) result self.new
             (W.contents out.new) }
     {
-        match self.packer.pack() {
-            Ok(packed) => print_packed(self.packer.last_placements(packed.count), out),
+        match self.pack() {
+            Ok(packed) => print_packed(self.last_placements(packed.count), out),
             Err(error) => refuse(error, b"pack", out),
         }
     }
 
-    fn release<W: Write>(&mut self, number: u64, out: &mut W) -> Result<(), Stop>
-        ensures { IsObeyed (asks.Release number) self.old (W.contents out.old) result self.new
-            (W.contents out.new) }
+    fn release(&mut self, number: u64) -> Result<(), SessionError>
+        // The session goes on as `Session::release` says, and the boxes to place stay.
+        ensures released { ChangesSession (Releases name_cmp number) self.old result self.new }
     {
-        let digits = Digits::new(u128::from(number));
-        report(self.packer.release(number), digits.as_bytes(), out)
+        self.session.release(number)
+    }
+
+    fn coalesce(&mut self, name: &str, idx: usize, range: Range<usize>) -> Result<(), SessionError>
+        // The session goes on as `Session::coalesce` says, and the boxes to place stay; or memory
+        //   is refused, and nothing is changed.
+        ensures joined { let joins = IsJoined idx range.start range.end in
+            UnlessNoMemory (ChangesSession (Coalesces name_cmp joins name.now))
+            self.old result self.new }
+    {
+        let bin = Word::new(self.alloc, name)?;
+        self.session.coalesce(&bin, idx, range)
+    }
+
+    fn sweep(&mut self, name: &str) -> Result<(), SessionError>
+        // The session goes on as `Session::coalesce_all` says, and the boxes to place stay; or
+        //   memory is refused, and nothing is changed.
+        ensures swept { UnlessNoMemory (ChangesSession (Coalesces name_cmp IsSwept name.now))
+            self.old result self.new }
+    {
+        let bin = Word::new(self.alloc, name)?;
+        self.session.coalesce_all(&bin)
+    }
+
+    // What is free in the bin.
+    fn sections(&self, bin: &Word<A>) -> Option<&[BinSection]>
+        ensures { option_copied result ≡ sections_in self.now.session bin.now }
+    {
+        let bin = self.session.bins().get(bin)?;
+        Some(bin.available_bin_sections().as_slice())
     }
 
     fn print_sections<W: Write>(&self, name: &str, out: &mut W) -> Result<(), Stop>
@@ -167,28 +239,21 @@ impl<A: Allocator + Copy> Store<A> {
             (W.contents out.new) }
     {
         let bin = Word::new(self.alloc, name)?;
-        match self.packer.sections(&bin) {
+        match self.sections(&bin) {
             Some(sections) => print_list(sections, out),
             None => refuse(SessionError::UnknownBin, name.as_bytes(), out),
         }
-    }
-
-    fn stats(&self, name: &str) -> Result<BinStats, SessionError>
-        ensures { UnlessNoMemory result
-            (IsFound (stats_in name_cmp self.now.session name.now) result) }
-    {
-        let bin = Word::new(self.alloc, name)?;
-        self.packer.stats(&bin)
     }
 
     fn print_stats<W: Write>(&self, name: &str, out: &mut W) -> Result<(), Stop>
         ensures { IsObeyed (asks.Stats name.now) self.now (W.contents out.old) result self.now
             (W.contents out.new) }
     {
-        match self.stats(name) {
-            Ok(stats) => print_sums(stats, out),
-            Err(error) => refuse(error, name.as_bytes(), out),
-        }
+        let bin = Word::new(self.alloc, name)?;
+        let Some(stats) = self.session.stats(&bin) else {
+            return refuse(SessionError::UnknownBin, name.as_bytes(), out);
+        };
+        print_sums(stats, out)
     }
 }
 

@@ -1,32 +1,32 @@
 //! How lines are read.
 
 use crate::support::{Text, all_say, says};
-use packrun_lines::outcome::Outcome;
+use packrun_lines::stop::Stop;
 
 const GOOD: [Text; 9] = [
-    ("", "", Outcome::Done),
-    ("\n \t\r\n", "", Outcome::Done),
-    ("pack", "packed 0\n", Outcome::Done),
+    ("", "", Ok(())),
+    ("\n \t\r\n", "", Ok(())),
+    ("pack", "packed 0\n", Ok(())),
     (
         "\t bin\ra 007 2 1 \r\nrect\tb 7 02 1\r\n\rpack\t",
         "ok\nok\n0 b a 0 0 0 7 2 1\npacked 1\n",
-        Outcome::Done,
+        Ok(()),
     ),
     (
         "bin !\"~ 1 1 1\nbin !\"~ 2 2 2\nbin pack 1 1 1\nbin PACK 0 0 0\n",
         "ok\nrefused: bin !\"~ exists\nok\nok\n",
-        Outcome::Done,
+        Ok(()),
     ),
     (
         "bin a 4294967295 1 1\nrect bin 04294967295 1 1\npack\n",
         "ok\nok\n0 bin a 0 0 0 4294967295 1 1\npacked 1\n",
-        Outcome::Done,
+        Ok(()),
     ),
     (
         "bin z 0 5 1\nrect e 0 5 1\npack\nrelease 0\nsections z\nrect e 0 5 1\npack\n",
         "ok\nok\n0 e z 0 0 0 0 5 1\npacked 1\nok\nsections 0\nok\n\
          refused: Not enough space to place all of the rectangles.\n",
-        Outcome::Done,
+        Ok(()),
     ),
     (
         "release 18446744073709551615\nrelease 018446744073709551615\nrelease 000\n\
@@ -35,13 +35,13 @@ const GOOD: [Text; 9] = [
          refused: placement 18446744073709551615 is unknown\n\
          refused: placement 0 is unknown\nrefused: bin a is unknown\n\
          refused: bin a is unknown\n",
-        Outcome::Done,
+        Ok(()),
     ),
     // Lines without words are counted.
     (
         "bin a 007 2 1\n\nbin b 1 1\nbin c 1 1 1\n",
         "ok\nline 3 is bad\n",
-        Outcome::BadLine(3),
+        Err(Stop::BadLine(3)),
     ),
 ];
 
@@ -102,7 +102,7 @@ const BAD: [&str; 47] = [
 
 #[test]
 fn bad_lines(rt: HostRuntime) {
-    let (alloc, printed, outcome) = (rt.alloc(), "line 1 is bad\n", Outcome::BadLine(1));
+    let (alloc, printed, outcome) = (rt.alloc(), "line 1 is bad\n", Err(Stop::BadLine(1)));
     for line in &BAD {
         says(&rt, alloc, line.as_bytes(), printed, outcome);
     }

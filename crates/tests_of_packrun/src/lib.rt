@@ -1,5 +1,5 @@
 //! Whole runs over memory, by the module that each shows: how lines are read (`command`), what the
-//! commands do (`store`), statuses (`outcome`), and runs in which reads, writes and requests for
+//! commands do (`store`), statuses (`stop`), and runs in which reads, writes and requests for
 //! memory fail, by how the input comes and what is shown meanwhile, or whose lines are drawn by
 //! chance (`run`).
 #![tactic(auto)]
@@ -7,9 +7,9 @@
 #[cfg(test)]
 mod command;
 #[cfg(test)]
-mod outcome;
-#[cfg(test)]
 mod run;
+#[cfg(test)]
+mod stop;
 #[cfg(test)]
 mod store;
 #[cfg(test)]

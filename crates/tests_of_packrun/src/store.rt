@@ -4,9 +4,9 @@ mod exclusions;
 mod stats;
 
 use crate::support::{Text, all_say};
-use packrun_lines::outcome::Outcome;
+use packrun_lines::command::parse;
+use packrun_lines::stop::Stop;
 use packrun_lines::store::Store;
-use packrun_words::command::parse;
 use std::alloc::Global;
 use std::process::Abort;
 
@@ -15,14 +15,14 @@ const TEXTS: [Text; 9] = [
     (
         "bin a 100 100 1\nrect one 50 90 1\npack\n",
         "ok\nok\n0 one a 0 0 0 50 90 1\npacked 1\n",
-        Outcome::Done,
+        Ok(()),
     ),
     // The newest section is tried first.
     (
         "bin a 100 100 1\nrect one 60 95 1\nrect two 40 10 1\nrect three 1 1 1\npack\n",
         "ok\nok\nok\nok\n0 one a 0 0 0 60 95 1\n1 two a 60 0 0 40 10 1\n\
          2 three a 60 10 0 1 1 1\npacked 3\n",
-        Outcome::Done,
+        Ok(()),
     ),
     // A group, a box alone, and two bins.
     (
@@ -30,14 +30,14 @@ const TEXTS: [Text; 9] = [
          rect three 30 30 255\npack\n",
         "ok\nok\nok\nok\nok\n0 three A 0 0 0 30 30 255\n1 one A 30 0 0 10 20 255\n\
          2 two A 0 30 0 5 50 255\npacked 3\n",
-        Outcome::Done,
+        Ok(()),
     ),
     // Numbers go on from packing to packing, and each packing begins with an empty collection.
     (
         "pack\nbin a 10 10 1\nrect p 4 10 1\npack\nrect q 6 10 1\npack\npack\n",
         "packed 0\nok\nok\n0 p a 0 0 0 4 10 1\npacked 1\nok\n1 q a 4 0 0 6 10 1\npacked 1\n\
          packed 0\n",
-        Outcome::Done,
+        Ok(()),
     ),
     // The boxes of a refused packing are kept, and none stays in a bin: the bin that is added is
     // the smaller one, and is tried first.
@@ -47,7 +47,7 @@ const TEXTS: [Text; 9] = [
         "ok\nrefused: bin a exists\nok\nok\n\
          refused: Not enough space to place all of the rectangles.\nok\n0 one a 0 0 0 4 4 1\n\
          1 two b 0 0 0 2 2 1\npacked 2\nline 8 is bad\n",
-        Outcome::BadLine(8),
+        Err(Stop::BadLine(8)),
     ),
     // What is given back is free again, in the order in which it was given, until it is joined; its
     // number is unknown.
@@ -57,7 +57,7 @@ const TEXTS: [Text; 9] = [
         "ok\nok\n0 p a 0 0 0 4 10 1\npacked 1\nok\n1 q a 4 0 0 6 10 1\npacked 1\nok\nok\n\
          0 0 0 4 10 1\n4 0 0 6 10 1\nsections 2\nok\n0 0 0 10 10 1\nsections 1\n\
          refused: placement 0 is unknown\n",
-        Outcome::Done,
+        Ok(()),
     ),
     // A sweep joins all that was given back; an index past the end and an empty range join nothing.
     (
@@ -67,13 +67,13 @@ const TEXTS: [Text; 9] = [
         "ok\nok\nok\n0 q a 0 0 0 6 10 1\n1 p a 6 0 0 4 10 1\npacked 2\nok\nok\nok\nok\n\
          0 0 0 6 10 1\n6 0 0 4 10 1\nsections 2\nok\n0 0 0 10 10 1\nsections 1\n\
          refused: bin b is unknown\nrefused: bin b is unknown\n",
-        Outcome::Done,
+        Ok(()),
     ),
     // A box goes once into each group that its line names, as often as it is named.
     (
         "bin a 8 8 1\nrect one 4 4 1 0 1\npack\n",
         "ok\nok\n0 one a 0 0 0 4 4 1\n1 one a 4 0 0 4 4 1\npacked 2\n",
-        Outcome::Done,
+        Ok(()),
     ),
     // Boxes of one size come in the order of their names' bytes, short and long.
     (
@@ -83,7 +83,7 @@ const TEXTS: [Text; 9] = [
          1 aaaaaaaaaaaaaa c 1 0 0 1 1 1\n2 aaaaaaaaaaaaaaa c 2 0 0 1 1 1\n\
          3 aaaaaaaaaaaaaab c 3 0 0 1 1 1\n4 aaaaaaaaaaaaab c 4 0 0 1 1 1\n\
          5 b c 5 0 0 1 1 1\npacked 6\n",
-        Outcome::Done,
+        Ok(()),
     ),
 ];
 

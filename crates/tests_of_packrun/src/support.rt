@@ -1,11 +1,14 @@
 //! Readers and writers that fail, and runs over memory.
 
-use packrun_lines::outcome::Outcome;
 use packrun_lines::run::{end_without_memory, run_buffered, run_lines};
+use packrun_lines::stop::Stop;
 use std::alloc::{Allocator, Global};
 use std::io;
 use std::io::{BufWriter, Cursor, Read, Write};
 use std::process::Abort;
+
+// How a run ends.
+pub(crate) type Ended = Result<(), Stop>;
 
 // Gives its bytes in pieces, and fails once so many reads were good.
 #[derive(Drop)]
@@ -79,7 +82,7 @@ pub(crate) fn run_over<R: Read, W: Write, A: Allocator + Copy>(
     alloc: A,
     reader: &mut R,
     writer: &mut W,
-) -> Outcome {
+) -> Ended {
     match over {
         Over::Buffer => run(alloc, reader, writer),
         Over::Writer => run_lines(alloc, reader, writer),
@@ -91,7 +94,7 @@ pub(crate) fn run<R: Read, W: Write, A: Allocator + Copy>(
     alloc: A,
     reader: &mut R,
     writer: &mut W,
-) -> Outcome {
+) -> Ended {
     let Ok(mut out) = BufWriter::new(alloc, &mut *writer) else {
         return end_without_memory(writer);
     };
@@ -102,14 +105,14 @@ pub(crate) fn run<R: Read, W: Write, A: Allocator + Copy>(
 }
 
 // What a run reads, what it prints, and how it ends.
-pub(crate) type Text = (&'static str, &'static str, Outcome);
+pub(crate) type Text = (&'static str, &'static str, Ended);
 
 // A run ended so, and this is what it wrote.
 pub(crate) fn ended_so(
     rt: &impl Abort,
-    ended: Outcome,
+    ended: Ended,
     written: &[u8],
-    (output, outcome): (&str, Outcome),
+    (output, outcome): (&str, Ended),
 ) {
     assert_eq!(rt; ended, outcome, "{output}");
     assert_eq!(rt; written, output.as_bytes(), "{output}");
@@ -121,7 +124,7 @@ pub(crate) fn prints<R: Read>(
     alloc: Global,
     (over, reader): (Over, &mut R),
     output: &str,
-    outcome: Outcome,
+    outcome: Ended,
 ) {
     let mut written = Vec::new(alloc);
     let ended = run_over(over, alloc, reader, &mut written);
@@ -137,7 +140,7 @@ fn in_pieces(bytes: &[u8], piece: usize) -> Pieces<'_> {
 }
 
 // The input, whole and in pieces, prints this and ends so.
-pub(crate) fn says(rt: &impl Abort, alloc: Global, input: &[u8], output: &str, outcome: Outcome) {
+pub(crate) fn says(rt: &impl Abort, alloc: Global, input: &[u8], output: &str, outcome: Ended) {
     for piece in [usize::MAX, 1, 2, 3, 7] {
         for over in BOTH {
             let mut reader = in_pieces(input, piece);

@@ -1,26 +1,26 @@
 //! Worked runs, of which each is a transcript as its definition says: a run prints one, which is
 //! proved, and these bytes are what it prints.
-ghost use Rattle.std.specs.Prelude.{[], Some};
+ghost use Rattle.std.specs.Prelude.{[], Some, Ok, Err};
 ghost use Rattle.packrun_lines.specs.Transcripts.{IsTranscript, PrintsTranscript};
-ghost use Rattle.packrun_lines.specs.declared.outcome.Outcome.TheVariants.{Done, BadLine};
+ghost use Rattle.packrun_lines.specs.declared.stop.Stop.TheVariants.{BadLine};
 
-use packrun_lines::outcome::Outcome;
 use packrun_lines::run::run_lines;
+use packrun_lines::stop::Stop;
 use std::alloc::Global;
 use std::process::Abort;
 
 // This is the transcript of these lines, to the end of the input.
 fn is_whole(_lines: &[u8], _printed: &[u8])
-    requires { IsTranscript _lines.now _printed.now Done }
+    requires { IsTranscript _lines.now _printed.now (Ok tt) }
 {}
 
 // This is the transcript of these lines, up to the bad one of this number.
 fn ends_at_bad_line(_lines: &[u8], _printed: &[u8], _number: u64)
-    requires { IsTranscript _lines.now _printed.now (BadLine _number) }
+    requires { IsTranscript _lines.now _printed.now (Err (BadLine _number)) }
 {}
 
 // What a run of these lines printed, and how it ended.
-fn run(alloc: Global, lines: &[u8]) -> (Vec<u8>, Outcome)
+fn run(alloc: Global, lines: &[u8]) -> (Vec<u8>, Result<(), Stop>)
     ensures { PrintsTranscript (Some []) (Some result.0.items) result.1 lines.now }
 {
     let mut reader = lines;
@@ -31,14 +31,14 @@ fn run(alloc: Global, lines: &[u8]) -> (Vec<u8>, Outcome)
 
 fn transcribes(rt: &impl Abort, alloc: Global, lines: &str, printed: &str) {
     let (written, outcome) = run(alloc, lines.as_bytes());
-    assert_eq!(rt; outcome, Outcome::Done);
+    assert_eq!(rt; outcome, Ok(()));
     assert_eq!(rt; written.as_slice(), printed.as_bytes());
     is_whole(lines.as_bytes(), printed.as_bytes());
 }
 
 fn transcribes_up_to(rt: &impl Abort, alloc: Global, number: u64, lines: &str, printed: &str) {
     let (written, outcome) = run(alloc, lines.as_bytes());
-    assert_eq!(rt; outcome, Outcome::BadLine(number));
+    assert_eq!(rt; outcome, Err(Stop::BadLine(number)));
     assert_eq!(rt; written.as_slice(), printed.as_bytes());
     ends_at_bad_line(lines.as_bytes(), printed.as_bytes(), number);
 }

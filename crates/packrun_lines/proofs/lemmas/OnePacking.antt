@@ -10,15 +10,17 @@ use Rattle.std.proofs.lemmas.Map.Lookups.{CmpEqualImpliesEq}
 use Rattle.std.proofs.lemmas.List.Elements.{length_all_zip}
 use Rattle.rectangle_pack_sections.proofs.Std.{tied_itself}
 use Rattle.rectangle_pack.specs.declared.box_size_heuristics.Heuristic.TheVariants.{Volume}
+use Rattle.rectangle_pack.specs.declared.grouped_rects_to_place.Group.{Group}
 use Rattle.rectangle_pack.specs.declared.pack.Placement.{Placement}
 use Rattle.rectangle_pack.specs.declared.session.command.Packed.{Packed as PackedNumbers}
 use Rattle.rectangle_pack.specs.declared.session.command.Reply.{Reply}
 use Rattle.rectangle_pack.specs.declared.session.command.Reply.TheVariants.{Packed, Refused}
 use Rattle.rectangle_pack.specs.declared.session.command.SessionError.TheVariants.{NumbersUsedUp, NotEnoughBinSpace, OutOfMemory}
 use Rattle.rectangle_pack.specs.Alike.{AreCollectionsAlike}
+use Rattle.rectangle_pack.specs.Best.{named_rules}
 use Rattle.rectangle_pack.specs.Bins.{Bin}
 use Rattle.rectangle_pack.specs.Boxes.{Size}
-use Rattle.rectangle_pack.specs.Groups.{Collection, entries_of}
+use Rattle.rectangle_pack.specs.Groups.{Collection, entries_of, order_of_groups}
 use Rattle.rectangle_pack.specs.Heuristics.{rate_of, named_answers}
 use Rattle.rectangle_pack.specs.Packing.{Rules, rules_by, Members, Stage, AreAllPlaced, at_start, excludes_by}
 use Rattle.rectangle_pack.specs.Results.{AreBinsAlike, ArePlacementsAlike, HaveOneResult}
@@ -26,7 +28,6 @@ use Rattle.rectangle_pack.specs.Session.{State, Packs, IsKept, numbered}
 use Rattle.rectangle_pack_sections.proofs.lemmas.groups.GroupOrder.{groups_total}
 use Rattle.rectangle_pack_packing.proofs.lemmas.determinism.Either.{HaveOneResult-either, rates_decide}
 use Rattle.rectangle_pack_packing.proofs.lemmas.determinism.OnePacking.{one_result}
-use Rattle.packrun_lines.specs.Desk.{group_order, volume_rules}
 
 -- what was joined is kept by a write that keeps it
 written : {K X A : Type 0} (f : X → A) (test : K → Bool) (es : List (K × X)) (v w : X) → f w ≡ f v → lookup test es ≡ Some v
@@ -63,6 +64,12 @@ lengths R S (x ∷ xs) (y ∷ ys) h =
 lengths R S xs ys h = absurd h
 
 module _ {Name : Type 0} (cmp : Name → Name → Ordering) (total : IsTotalOrder cmp) (exact : CmpEqualImpliesEq cmp) where
+  abbrev pub groups : Group Name Name → Group Name Name → Ordering
+  groups = order_of_groups cmp cmp
+
+  abbrev pub volumes : Rules Name Name
+  volumes = named_rules cmp cmp Volume
+
   -- bins that are alike are the same, where the same ones were coalesced
   bins-same : (xs ys : List (Name × Bin)) → AreBinsAlike cmp xs ys → coalesced_of xs ≡ coalesced_of ys → xs ≡ ys
   bins-same [] [] alike same = refl
@@ -88,33 +95,33 @@ module _ {Name : Type 0} (cmp : Name → Name → Ordering) (total : IsTotalOrde
   placements-same ps qs alike = absurd alike
 
   -- packings by volumes have one result
-  volumes_decide : (all others : Collection Name Name) (bins : List (Name × Bin)) → AreCollectionsAlike (group_order cmp) cmp all others
-      → HaveOneResult (group_order cmp) (volume_rules cmp) (volume_rules cmp) all others bins bins
+  volumes_decide : (all others : Collection Name Name) (bins : List (Name × Bin)) → AreCollectionsAlike groups cmp all others
+      → HaveOneResult groups volumes volumes all others bins bins
   volumes_decide all others bins alike =
       let may = named_answers Volume in
       let rates : Size → ℕ → Type 0 = λ size rate. rate ≡ rate_of Volume size in
-      HaveOneResult-either (group_order cmp) cmp cmp may may all others bins bins
-      (one_result (group_order cmp) (rules_by cmp cmp _)
-      (groups_total (group_order cmp) cmp cmp total total (λ a b. refl) (λ a b. refl) (λ a b. refl) (λ a b. refl)) total total all others bins bins alike
+      HaveOneResult-either groups cmp cmp may may all others bins bins
+      (one_result groups (rules_by cmp cmp _)
+      (groups_total groups cmp cmp total total (λ a b. refl) (λ a b. refl) (λ a b. refl) (λ a b. refl)) total total all others bins bins alike
       (bins-alike bins)
       (rates_decide (rate_of Volume) may may rates rates (λ size rate says. says) (λ size rate says. says) (λ size rate u says. says) (λ size rate u says. says)
       (λ a b r says. (says.0.small, says.1.small)) (λ a b r says. (says.0.small, says.1.small)) (λ a b r says. says.2) (λ a b r says. says.2)
       (values_of all.sizes) (values_of bins)))
 
-  module _ (all others : Collection Name Name) (alike : AreCollectionsAlike (group_order cmp) cmp all others) (old : State Name Name) where
+  module _ (all others : Collection Name Name) (alike : AreCollectionsAlike groups cmp all others) (old : State Name Name) where
     entries : entries_of all ≡ entries_of others
-    entries = ap sum (lengths (λ g h. group_order cmp g h ≡ Equal) (λ x y. cmp x y ≡ Equal) all.groups others.groups alike.groups)
+    entries = ap sum (lengths (λ g h. groups g h ≡ Equal) (λ x y. cmp x y ≡ Equal) all.groups others.groups alike.groups)
 
-    one : HaveOneResult (group_order cmp) (volume_rules cmp) (volume_rules cmp) all others old.bins old.bins
+    one : HaveOneResult groups volumes volumes all others old.bins old.bins
     one = volumes_decide all others old.bins alike
 
-    coalesced-done : (some : Collection Name Name) (new : State Name Name) (numbers : PackedNumbers) → (kept : IsKept (group_order cmp) (volume_rules cmp) some old numbers new)
+    coalesced-done : (some : Collection Name Name) (new : State Name Name) (numbers : PackedNumbers) → (kept : IsKept groups volumes some old numbers new)
         → coalesced_of new.bins ≡ coalesced_of old.bins
-    coalesced-done some new numbers kept = coalesced-placed (volume_rules cmp) (excludes_by (group_order cmp) cmp some.partners) _ kept.done.groups (at_start old.bins)
+    coalesced-done some new numbers kept = coalesced-placed volumes (excludes_by groups cmp some.partners) _ kept.done.groups (at_start old.bins)
         kept.placements _ kept.done.tests kept.done.placed
 
-    done-one : (numbers other_numbers : PackedNumbers) (new other : State Name Name) → IsKept (group_order cmp) (volume_rules cmp) all old numbers new
-        → IsKept (group_order cmp) (volume_rules cmp) others old other_numbers other → (numbers ≡ other_numbers) × (new ≡ other)
+    done-one : (numbers other_numbers : PackedNumbers) (new other : State Name Name) → IsKept groups volumes all old numbers new
+        → IsKept groups volumes others old other_numbers other → (numbers ≡ other_numbers) × (new ≡ other)
     done-one numbers other_numbers new other kept other_kept =
         let result = one.done kept.placements other_kept.placements new.bins other.bins kept.done other_kept.done in
         let bins : new.bins ≡ other.bins = bins-same new.bins other.bins result.0
@@ -126,8 +133,8 @@ module _ {Name : Type 0} (cmp : Name → Name → Ordering) (total : IsTotalOrde
         let count : numbers.count ≡ other_numbers.count = kept.count ∙ entries ∙ sym other_kept.count in
         (λ i. record { first = first i; count = count i }, λ i. record { bins = bins i; outstanding = outstanding i; next = next i })
 
-    pub Packs-one : (reply other_reply : Reply) (new other : State Name Name) → Packs (group_order cmp) (volume_rules cmp) all old reply new
-        → Packs (group_order cmp) (volume_rules cmp) others old other_reply other → reply ≢ Refused OutOfMemory → other_reply ≢ Refused OutOfMemory
+    pub Packs-one : (reply other_reply : Reply) (new other : State Name Name) → Packs groups volumes all old reply new
+        → Packs groups volumes others old other_reply other → reply ≢ Refused OutOfMemory → other_reply ≢ Refused OutOfMemory
         → (reply ≡ other_reply) × (new ≡ other)
     Packs-one (Packed numbers) (Packed other_numbers) new other a b m n =
         let same = done-one numbers other_numbers new other a.1 b.1 in (ap (λ k. Packed k) same.0, same.1)

@@ -1,8 +1,8 @@
 //! Runs of lines that are drawn by chance, from a fixed seed, and what they print, counted.
 
 use super::counting::is_right;
-use crate::support::run;
-use packrun_lines::outcome::Outcome;
+use crate::support::{Ended, run};
+use packrun_lines::stop::Stop;
 use std::alloc::{AllocError, Global};
 use std::process::Abort;
 use std::str;
@@ -160,11 +160,11 @@ fn write_lines(input: &mut Vec<u8>, dice: &mut Dice) -> Result<(), AllocError> {
 }
 
 // How lines end that end so.
-fn end_of(input: &[u8]) -> Outcome {
+fn end_of(input: &[u8]) -> Ended {
     if input.ends_with(b"\n\n") {
-        Outcome::Done
+        Ok(())
     } else {
-        Outcome::BadLine(END as u64)
+        Err(Stop::BadLine(END as u64))
     }
 }
 

@@ -1,7 +1,7 @@
 //! Reads, writes and requests for memory of which each fails in turn.
 
-use crate::support::{BOTH, Kept, Over, Pieces, Text, ended_so, run_over};
-use packrun_lines::outcome::Outcome;
+use crate::support::{BOTH, Ended, Kept, Over, Pieces, Text, ended_so, run_over};
+use packrun_lines::stop::Stop;
 use std::alloc::Global;
 use std::process::Abort;
 use tests_support::refusing::Refusing;
@@ -66,7 +66,7 @@ const ALL: Given = Given {
 
 // How these lines end, and what they print. All memory is given back, and a run that goes on to its
 // end was refused none.
-fn run_with(rt: &impl Abort, alloc: Global, lines: &str, given: Given) -> (Outcome, Kept) {
+fn run_with(rt: &impl Abort, alloc: Global, lines: &str, given: Given) -> (Ended, Kept) {
     let refusing = Refusing::new(alloc, given.granted).expect(rt, "no memory for the counts");
     let (piece, good_reads) = given.reads;
     let mut reader = Pieces {
@@ -81,17 +81,17 @@ fn run_with(rt: &impl Abort, alloc: Global, lines: &str, given: Given) -> (Outco
     (outcome, writer)
 }
 
-fn gave_back(rt: &impl Abort, refusing: Refusing, outcome: Outcome) {
+fn gave_back(rt: &impl Abort, refusing: Refusing, outcome: Ended) {
     assert_eq!(rt; refusing.taken(), 0);
     assert!(rt; is_said(outcome, refusing.refused()));
 }
 
 // Whether a run may end so where so many requests were refused.
-fn is_said(outcome: Outcome, refused: u64) -> bool {
+fn is_said(outcome: Ended, refused: u64) -> bool {
     match outcome {
-        Outcome::NoMemory => refused > 0,
+        Err(Stop::NoMemory) => refused > 0,
         // The last line was not printed, or nothing was refused.
-        Outcome::IoFailed => true,
+        Err(Stop::IoFailed) => true,
         _ => refused == 0,
     }
 }
@@ -103,7 +103,7 @@ fn fails_after(rt: &impl Abort, alloc: Global, given: Given, count: usize) {
         rt,
         outcome,
         kept.written(),
-        (start(PRINTED, count), Outcome::IoFailed),
+        (start(PRINTED, count), Err(Stop::IoFailed)),
     );
 }
 
@@ -113,7 +113,12 @@ fn start(text: &str, count: usize) -> &str {
 
 fn comes_out(rt: &impl Abort, alloc: Global, given: Given) {
     let (outcome, kept) = run_with(rt, alloc, LINES, given);
-    ended_so(rt, outcome, kept.written(), (PRINTED, Outcome::BadLine(7)));
+    ended_so(
+        rt,
+        outcome,
+        kept.written(),
+        (PRINTED, Err(Stop::BadLine(7))),
+    );
 }
 
 // How many bytes are printed where each of the first lines is done: the first comes to its end at
@@ -258,7 +263,7 @@ fn is_start(written: &[u8], whole: &[u8], length: u64) -> bool {
 // Where so many bytes can be written, these are written.
 fn is_cut_after(rt: &impl Abort, alloc: Global, lines: &str, given: Given, whole: &[u8]) {
     let (outcome, kept) = run_with(rt, alloc, lines, given);
-    assert_eq!(rt; outcome, Outcome::IoFailed);
+    assert_eq!(rt; outcome, Err(Stop::IoFailed));
     assert!(rt; is_start(kept.written(), whole, given.writes.1));
 }
 
@@ -283,7 +288,7 @@ fn ends_refused(written: &[u8], whole: &str) -> bool {
 // either, that is how the run ends.
 fn has_memory(rt: &impl Abort, alloc: Global, (lines, whole, last): Text, given: Given) -> bool {
     let (outcome, kept) = run_with(rt, alloc, lines, given);
-    if outcome.status() != 3 {
+    if outcome != Err(Stop::NoMemory) {
         ended_so(rt, outcome, kept.written(), (whole, last));
         return true;
     }
@@ -309,10 +314,10 @@ fn refuses_each(rt: &impl Abort, alloc: Global, over: Over, text: Text) {
 }
 
 const TEXTS: [Text; 4] = [
-    (LINES, PRINTED, Outcome::BadLine(7)),
-    (JOINED, JOINED_PRINTED, Outcome::Done),
-    (GROUPED, GROUPED_PRINTED, Outcome::Done),
-    (LONG, LONG_PRINTED, Outcome::Done),
+    (LINES, PRINTED, Err(Stop::BadLine(7))),
+    (JOINED, JOINED_PRINTED, Ok(())),
+    (GROUPED, GROUPED_PRINTED, Ok(())),
+    (LONG, LONG_PRINTED, Ok(())),
 ];
 
 #[test]
@@ -334,7 +339,7 @@ fn failing_last_line(rt: HostRuntime) {
             &rt,
             outcome,
             kept.written(),
-            ("line 1 is bad\n", Outcome::BadLine(1)),
+            ("line 1 is bad\n", Err(Stop::BadLine(1))),
         );
         is_cut_off(&rt, rt.alloc(), "bin", given, kept.written());
     }

@@ -1,8 +1,8 @@
 //! How the input comes: lines of the greatest length, reads that are interrupted, and more than a
 //! million bytes.
 
-use crate::support::{BOTH, prints, says};
-use packrun_lines::outcome::Outcome;
+use crate::support::{BOTH, Ended, prints, says};
+use packrun_lines::stop::Stop;
 use std::alloc::{AllocError, Global};
 use std::io;
 use std::io::Read;
@@ -33,7 +33,7 @@ fn padded_says(
     alloc: Global,
     (before, behind, last): (usize, usize, &[u8]),
     output: &str,
-    outcome: Outcome,
+    outcome: Ended,
 ) {
     let input = padded(alloc, before, behind, last).expect(rt, "no memory for the line");
     says(rt, alloc, input.as_slice(), output, outcome);
@@ -44,9 +44,9 @@ fn padded_says(
 fn longest_lines(rt: HostRuntime) {
     for (before, behind) in [(0, 4092), (4092, 0), (2000, 2092)] {
         let lines = (before, behind, &b"\npack\n"[..]);
-        padded_says(&rt, rt.alloc(), lines, PACKED, Outcome::Done);
+        padded_says(&rt, rt.alloc(), lines, PACKED, Ok(()));
         let last = (before, behind, &b""[..]);
-        padded_says(&rt, rt.alloc(), last, "packed 0\n", Outcome::Done);
+        padded_says(&rt, rt.alloc(), last, "packed 0\n", Ok(()));
     }
 }
 
@@ -61,7 +61,7 @@ fn longer_lines(rt: HostRuntime) {
                 rt.alloc(),
                 lines,
                 "line 1 is bad\n",
-                Outcome::BadLine(1),
+                Err(Stop::BadLine(1)),
             );
         }
     }
@@ -95,7 +95,7 @@ fn interrupted_reads(rt: HostRuntime) {
             again: false,
         };
         let printed = "ok\nok\n0 one a 0 0 0 4 4 1\npacked 1\npacked 0\n";
-        prints(&rt, rt.alloc(), (over, &mut reader), printed, Outcome::Done);
+        prints(&rt, rt.alloc(), (over, &mut reader), printed, Ok(()));
     }
 }
 
@@ -129,7 +129,7 @@ fn million_bytes(rt: HostRuntime) {
             times: 245,
         };
         let mut reader = blank.chain(&b"bin"[..]);
-        let (printed, outcome) = ("line 246 is bad\n", Outcome::BadLine(246));
+        let (printed, outcome) = ("line 246 is bad\n", Err(Stop::BadLine(246)));
         prints(&rt, rt.alloc(), (over, &mut reader), printed, outcome);
     }
 }

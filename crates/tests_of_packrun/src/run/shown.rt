@@ -1,8 +1,8 @@
 //! What is shown while the input comes: each answer before the read that waits for the next line,
 //! and the last line when the run ends.
 
-use crate::support::{BOTH, Over, run_over};
-use packrun_lines::outcome::Outcome;
+use crate::support::{BOTH, Ended, Over, run_over};
+use packrun_lines::stop::Stop;
 use std::alloc::{AllocError, Global};
 use std::cell::Cell;
 use std::io;
@@ -96,7 +96,7 @@ fn shows(
     alloc: Global,
     over: Over,
     (typed, all): (&'static [Typed], usize),
-    outcome: Outcome,
+    outcome: Ended,
 ) {
     let counts = no_counts(alloc).expect(rt, "no memory for the counts");
     let mut user = User { typed, all, counts };
@@ -112,7 +112,7 @@ fn shows(
 #[test]
 fn answers(rt: HostRuntime) {
     for over in BOTH {
-        shows(&rt, rt.alloc(), over, (&TYPED, 30), Outcome::Done);
-        shows(&rt, rt.alloc(), over, (&BAD, 23), Outcome::BadLine(2));
+        shows(&rt, rt.alloc(), over, (&TYPED, 30), Ok(()));
+        shows(&rt, rt.alloc(), over, (&BAD, 23), Err(Stop::BadLine(2)));
     }
 }

@@ -1,9 +1,7 @@
-use Rattle.std.proofs.lemmas.Cmp.{nat_list_cmp_total}
-use Rattle.packrun_lines.specs.Answers.{name_cmp}
 use Rattle.std.proofs.Common.{subst}
-use Rattle.packrun_lines.specs.Desk.{empty_desk}
+use Rattle.packrun_lines.specs.Store.{empty_store}
 use Rattle.packrun_lines.specs.Transcripts.{AreAnswered}
-use Rattle.packrun_lines.proofs.Desk.{PacksBoxes-promised}
+use Rattle.packrun_lines.proofs.lemmas.Stores.{PacksBoxes-promised}
 use Rattle.packrun_lines.proofs.lemmas.Kept.{Answers-kept, AreAnswered-kept, AreAnswered-split, IsSession-empty}
 use Rattle.packrun_lines.proofs.laws.answers_keep_sessions.Goals as goal
 
@@ -14,13 +12,13 @@ pub returns-clause-lines : goal.returns-clause-lines
 returns-clause-lines c = AreAnswered-kept
 
 pub returns-clause-begun : goal.returns-clause-begun
-returns-clause-begun c = λ lines new text answers. AreAnswered-kept lines (empty_desk 0) new text answers (IsSession-empty 0)
+returns-clause-begun c = λ lines new text answers. AreAnswered-kept lines (empty_store 0) new text answers (IsSession-empty 0)
 
 pub returns-clause-transcript : goal.returns-clause-transcript
-returns-clause-transcript c = λ input printed outcome whole before behind splits.
-    let (text, later, between, front, back, is) = AreAnswered-split before behind (empty_desk 0) whole.desk whole.text
-    (subst (λ lines. AreAnswered (empty_desk 0) lines whole.text whole.desk) splits whole.answers) in
-    (text, later, between, front, back, is, AreAnswered-kept before (empty_desk 0) between text front (IsSession-empty 0))
+returns-clause-transcript c = λ input printed ended whole before behind splits.
+    let (text, later, between, front, back, is) = AreAnswered-split before behind (empty_store 0) whole.store whole.text
+    (subst (λ lines. AreAnswered (empty_store 0) lines whole.text whole.store) splits whole.answers) in
+    (text, later, between, front, back, is, AreAnswered-kept before (empty_store 0) between text front (IsSession-empty 0))
 
 pub returns-clause-packings : goal.returns-clause-packings
-returns-clause-packings c = λ old new answer packs. PacksBoxes-promised name_cmp nat_list_cmp_total old answer new packs
+returns-clause-packings c = λ old new answer packs. PacksBoxes-promised old answer new packs

@@ -4,11 +4,11 @@ use Rattle.std.specs.Io.KnownBytes.{Appends}
 use Rattle.std.proofs.KnownBytes.{Appends-nil}
 use Rattle.rectangle_pack_sections.specs.Boxes.{Cuboid}
 use Rattle.packrun_lines.specs.Lines.{cuboid_text}
-use Rattle.packrun_words.specs.declared.stop.Stop.TheVariants.{IoFailed}
-use Rattle.packrun_words.specs.Printing.{AppendsStart}
-use Rattle.packrun_words.specs.private.Printing.{Prints}
-use Rattle.packrun_words.proofs.Printing.{Prints-behind, Prints-stopped}
-use Rattle.packrun_lines.proofs.Lines.{names_part, names_part-same, names_part-box}
+use Rattle.packrun_lines.specs.declared.stop.Stop.TheVariants.{IoFailed}
+use Rattle.packrun_lines.specs.Printing.{AppendsStart}
+use Rattle.packrun_lines.specs.private.Printing.{Prints}
+use Rattle.packrun_lines.proofs.lemmas.Printing.{Prints-behind, Prints-stopped}
+use Rattle.packrun_lines.proofs.lemmas.Lines.{names_part, names_part-same, names_part-box}
 use Rattle.packrun_lines.proofs.print.print_placement.Goals as goal
 
 pub returns-in_err-print_parts : goal.returns-in_err-print_parts

@@ -1,6 +1,6 @@
 use Rattle.std.proofs.Common.{◌+◌, ◌-◌, ◌^◌, ◌≤◌}
 use Rattle.std.specs.Io.Buffered.{reader_remaining}
-use Rattle.packrun_lines.proofs.Transcripts.{Obeyed}
+use Rattle.packrun_lines.proofs.lemmas.Transcripts.{Obeyed}
 use Rattle.packrun_lines.proofs.run.obey_each.Given as goal
 
 -- each line has a byte

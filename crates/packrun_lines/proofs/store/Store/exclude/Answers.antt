@@ -1,14 +1,10 @@
-use Rattle.std.proofs.Common.{◌≡◌, Bool, true, false, refl, sym, ◌∙◌}
-use Rattle.std.specs.Str.{bytes_eq}
-use Rattle.std.proofs.lemmas.Slice.Eq.{bytes_eq-Decides}
+use Rattle.std.proofs.Common.{refl}
+use Rattle.rectangle_pack.specs.declared.grouped_rects_to_place.Group.TheVariants.{Grouped}
+use Rattle.packrun_lines.proofs.lemmas.Stores.{Excludes-ordered}
 use Rattle.packrun_lines.proofs.store.Store.exclude.Goals as goal
 
-not_true : (b : Bool) → (b ≡ true → ⊥) → b ≡ false
-not_true true h = absurd (h refl)
-not_true false h = refl
-
-pub exclude-requires-clause-different : goal.exclude-requires-clause-different
-exclude-requires-clause-different g c =
-    let a = c.in_ok-one.one in
-    let b = c.in_ok-other.other in
-    not_true (bytes_eq a b) (λ e. c.requires (sym c.in_ok-one.ensures ∙ (bytes_eq-Decides a b).0 e ∙ c.in_ok-other.ensures))
+pub returns : goal.returns
+returns g c =
+    let done = Excludes-ordered _ (λ a b. refl) (λ a b. refl) (λ a b. refl) (λ a b. refl) c.self.inside.rects c.exclude.new.self
+    (Grouped c.in_ok-new.field-0) (Grouped c.in_ok-new-2.field-0) c.in_ok-exclude.ensures.ok in
+    record { excluded = rw (← c.self.view_is) (rw (c.in_ok-new.ensures, c.in_ok-new-2.ensures) at done, refl) }

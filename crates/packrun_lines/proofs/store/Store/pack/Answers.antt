@@ -1,22 +1,33 @@
-use Rattle.std.specs.Prelude.{codes}
-use Rattle.packrun_lines.proofs.Desk.{made-few}
-use Rattle.packrun_lines.proofs.Obeyed.{IsObeyed-packed, IsObeyed-refused}
+use Rattle.std.proofs.Common.{Ok, refl}
+use Rattle.rectangle_pack_sections.proofs.lemmas.cuts.Choices.{smallest_more}
+use Rattle.packrun_lines.specs.Store.{Store}
+use Rattle.packrun_lines.proofs.lemmas.Stores.{PacksBoxes-done, PacksBoxes-refused, PacksBoxes-promised}
 use Rattle.packrun_lines.proofs.store.Store.pack.Goals as goal
-use Rattle.packrun_lines.proofs.store.Store.pack.Goals.{in-Ok, in-Err}
 
-pub last_placements-requires : goal.last_placements-requires
-last_placements-requires g c = made-few _ _ c.in-Ok.packed c.pack.new.self c.in-Ok.ensures.packed
+pub returns-in_err-packed-clause-packed : goal.returns-in_err-packed-clause-packed
+returns-in_err-packed-clause-packed g c =
+    let old : Store = record { session = c.self.inside.session; boxes = c.self.inside.rects } in
+    rw (← c.self.view_is)
+    (PacksBoxes-refused _ (λ a b. refl) (λ a b. refl) (λ a b. refl) (λ a b. refl) _ old _ _ c.in_err-packed.ensures.packed
+    (record {
+      rate = λ size rate says. says.says.1;
+      prefer = λ a b r says. (says.first_three, says.second_three, smallest_more _ _ (λ size rate rates. rates.1) a b r says.says.2);
+    }) c.from_residual.result c.from_residual.ensures.1)
 
-pub returns : goal.returns
-returns g c =
-    let old = c.self.inside.packer in
-    let new = c.pack.new.self in
-    let before = g.W.Write.contents c.args.out.now in
-    elim c.match-pack.branch [
-      | in-Ok w ↦ rw (w.result-is, w.out-is, ← c.self.view_is)
-          (IsObeyed-packed old new before (g.W.Write.contents w.print_packed.new.out) w.print_packed.result w.in-Ok.packed w.in-Ok.ensures.packed
-          w.last_placements.result.now w.last_placements.ensures w.print_packed.ensures)
-      | in-Err w ↦ rw (w.result-is, w.out-is, ← c.self.view_is)
-          (IsObeyed-refused old new before (g.W.Write.contents w.refuse.new.out) w.refuse.result w.in-Err.error (codes "pack") w.in-Err.ensures.packed
-          w.refuse.ensures)
-    ]
+pub returns-in_err-packed-clause-promise : goal.returns-in_err-packed-clause-promise
+returns-in_err-packed-clause-promise g c =
+    PacksBoxes-promised c.args.self.now c.from_residual.result _ (returns-in_err-packed-clause-packed g c)
+
+pub returns-clause-packed : goal.returns-clause-packed
+returns-clause-packed g c =
+    let old : Store = record { session = c.self.inside.session; boxes = c.self.inside.rects } in
+    rw (← c.self.view_is)
+    (PacksBoxes-done _ (λ a b. refl) (λ a b. refl) (λ a b. refl) (λ a b. refl) _ old c.in_ok-packed.packed _ _ c.in_ok-packed.ensures.packed
+    (record {
+      rate = λ size rate says. says.says.1;
+      prefer = λ a b r says. (says.first_three, says.second_three, smallest_more _ _ (λ size rate rates. rates.1) a b r says.says.2);
+    }) c.forget_rects.ensures.session c.forget_rects.ensures.boxes)
+
+pub returns-clause-promise : goal.returns-clause-promise
+returns-clause-promise g c =
+    PacksBoxes-promised c.args.self.now (Ok c.in_ok-packed.packed) c.forget_rects.new.self (returns-clause-packed g c)

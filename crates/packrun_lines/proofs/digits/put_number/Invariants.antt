@@ -1,0 +1,8 @@
+use Rattle.packrun_lines.specs.private.Spelling.{IsSpelling}
+use Rattle.packrun_lines.proofs.digits.put_number.Given as goal
+
+abbrev pub invariant-loop-rest : goal.invariant-loop-rest
+invariant-loop-rest l = IsSpelling l.number l.fn.line l.end l.rest l.line l.at
+
+abbrev pub decreases-loop-rest : goal.decreases-loop-rest
+decreases-loop-rest l = l.rest

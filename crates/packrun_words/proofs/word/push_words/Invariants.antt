@@ -1,6 +1,0 @@
-use Rattle.std.proofs.Common.{◌≡◌, ◌++◌}
-use Rattle.packrun_words.specs.private.Commands.{words_left}
-use Rattle.packrun_words.proofs.word.push_words.Given as goal
-
-abbrev pub invariant-loop-name : goal.invariant-loop-name
-invariant-loop-name g l = l.words.items ++ words_left l.name-iterator ≡ l.initial.words.items ++ words_left l.initial.names

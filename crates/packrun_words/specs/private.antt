@@ -1,5 +1,0 @@
-pub mod Commands
-pub mod Names
-pub mod Printing
-pub mod Reading
-pub mod Verbs
