@@ -181,7 +181,7 @@ impl<A: Allocator + Copy> Corners<A> {
         }
     }
 
-    /// Makes room for so many sections, where it lacks. An error is want of memory.
+    /// Makes room for `sections` sections, where it lacks. Fails only when memory is refused.
     pub fn reserve(&mut self, sections: usize) -> Result<(), AllocError>
         ensures succeeds { sections ≤ room_of self.old → IsOk result }
     {

@@ -194,7 +194,7 @@ where
     //   after it in the list; a member that is stuck counts one for each section.
     //   [last_of.tests_are_one_short]
     // With n entries in the groups, the fit tests are at most n for each free section of before,
-    //   and n * (n - 1) for each bin. `OutOfMemory` adds at most so many.
+    //   and n * (n - 1) for each bin. `OutOfMemory` adds at most that number.
     ensures answer { let groups = ⟦<Group<GroupId, Id> as Ord>⟧.cmp in
         let may = answers H.Fn C.Fn box_size_heuristic.now more_suitable_containers_fn.now in
         IsCountedAnswer groups (rules_by Id.cmp BinId.cmp may) rects_to_place.now

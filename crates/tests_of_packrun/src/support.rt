@@ -7,7 +7,7 @@ use std::io;
 use std::io::{BufWriter, Cursor, Read, Write};
 use std::process::Abort;
 
-// Gives its bytes in pieces, and fails once so many reads were good.
+// Gives its bytes in pieces, and fails once `good_reads` reads were good.
 #[derive(Drop)]
 pub(crate) struct Pieces<'a> {
     pub bytes: &'a [u8],
@@ -26,7 +26,7 @@ impl Read for Pieces<'_> {
     }
 }
 
-// Keeps what is written, in pieces, and fails once so many writes were good.
+// Keeps what is written, in pieces, and fails once `good_writes` writes were good.
 #[derive(Drop)]
 pub(crate) struct Kept {
     bytes: Cursor<[u8; 512]>,

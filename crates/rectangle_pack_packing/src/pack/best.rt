@@ -95,7 +95,7 @@ where
 
 /// The heuristic of the list with which a packing of these groups makes the best use of the bins,
 /// the first of those with which it is as good, and this use; `None` where with each the packing is
-/// refused for space. The bins stay as they are. Room is made for so many entries of the groups.
+/// refused for space. The bins stay as they are. Room is made for `entries` entries.
 pub fn best_of<Id, BinId, GroupId, A>(
     alloc: A,
     rects_to_place: &GroupedRectsToPlace<Id, GroupId, A>,
