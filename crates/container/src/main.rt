@@ -78,7 +78,7 @@ fn load(rt: &HostRuntime, loading: &mut Loading) -> io::Result<()> {
     pack(rt, loading, &crates)
 }
 
-// Prints how many litres so many of these are.
+// Prints how many litres `count` of these are.
 fn print_volume(rt: &HostRuntime, count: usize, what: &str, litres: u128) -> io::Result<()> {
     println!(rt; "    {count:>2} {what}: {litres} l")
 }

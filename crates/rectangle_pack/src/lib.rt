@@ -32,7 +32,6 @@ pub mod grouped_rects_to_place {
 
 /// Packing groups of boxes into bins.
 pub mod pack {
-    pub use rectangle_pack_packing::pack::{pack_rects, pack_rects_best, pack_rects_counted};
     pub use rectangle_pack_packing::answer::{Placement, RectanglePackError, RectanglePackOk};
     pub use rectangle_pack_packing::laws::{
         excluded_groups_are_apart, groups_are_placed_whole, locations_follow_placements,
@@ -40,6 +39,7 @@ pub mod pack {
         packing_without_exclusions, preorders_decide, refused_box_is_held_nowhere,
         volume_packing_has_one_result,
     };
+    pub use rectangle_pack_packing::pack::{pack_rects, pack_rects_best, pack_rects_counted};
 }
 
 /// Where a box was placed.

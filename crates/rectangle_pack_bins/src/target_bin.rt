@@ -90,7 +90,7 @@ impl<A: Allocator + Copy> Model for TargetBin<A> {
 
 impl<A: Allocator + Copy> TargetBin<A> {
     /// A bin of this size, in cells, with one free section, which is all of it; any size will do.
-    /// An error is want of memory.
+    /// Fails only when memory is refused.
     pub fn new(alloc: A, width: u32, height: u32, depth: u32) -> Result<Self, AllocError>
         // Where it succeeds, the bin has this size and one free section, which is all of it, and
         //   does not count as coalesced. [without_sections.new_bin_counts_as_coalesced]
@@ -133,7 +133,7 @@ impl<A: Allocator + Copy> TargetBin<A> {
         &self.available_bin_sections
     }
 
-    /// An equal bin, with a list of its own. An error is want of memory.
+    /// An equal bin, with a list of its own. Fails only when memory is refused.
     pub fn clone(&self) -> Result<Self, AllocError>
         // Where it succeeds, the new bin has the same size, the same list of free sections, and
         //   counts as coalesced where the old one does.
@@ -171,8 +171,8 @@ impl<A: Allocator + Copy> TargetBin<A> {
     }
 
     /// Puts those of the three sections that are not empty at the end of the list, in this order.
-    /// An error is want of memory, where the list has no room for three more, and leaves the bin as
-    /// it was.
+    /// Fails only when memory is refused, where the list has no room for three more, and leaves the
+    /// bin as it was.
     ///
     /// The caller sees to it that the bin accepts each of those and that no two of them share a
     /// cell.
@@ -197,8 +197,8 @@ impl<A: Allocator + Copy> TargetBin<A> {
     }
 
     /// Gives a section back: puts it at the end of the list where the bin accepts it. An error
-    /// leaves the bin as it was, and is want of memory only where the list has no room for one
-    /// more; an empty section inside the bin is accepted.
+    /// leaves the bin as it was, and is `OutOfMemory` only where the list has no room for one more;
+    /// an empty section inside the bin is accepted.
     ///
     /// ```
     /// let mut bin = TargetBin::new(alloc, 10, 10, 1)?;
@@ -255,9 +255,9 @@ impl<A: Allocator + Copy> TargetBin<A> {
         }
     }
 
-    /// Puts a section at the end of the list. The caller sees to it that the bin accepts it. An
-    /// error is want of memory, where the list has no room for one more, and leaves the bin as it
-    /// was.
+    /// Puts a section at the end of the list. The caller sees to it that the bin accepts it. Fails
+    /// only when memory is refused, where the list has no room for one more, and leaves the bin as
+    /// it was.
     pub fn push_available_bin_section_unchecked(
         &mut self,
         bin_section: BinSection,

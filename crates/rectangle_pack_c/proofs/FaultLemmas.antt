@@ -1,6 +1,7 @@
 -- What holds of arguments that have no fault.
-use Rattle.rectangle_pack_c.proofs.Std.{◌≡◌, ◌≢◌, ◌⊎◌, inl, inr, ℕ, ◌+◌, ◌<◌, ◌==◌, Bool, true, false, cond, ◌&&◌, ◌||◌, List, [], ◌∷◌, ◌++◌, length, refl, ap, arith, All, map}
-use Rattle.rectangle_pack_c.proofs.Std.{All-nil, All-cons, All-head, All-weaker, list_any, nat_tests, length-append, length-map, not, nat_le, nat_lt, ◌^◌, append-nil, ◌∙◌}
+use Rattle.rectangle_pack_c.proofs.Std.{◌≡◌, ◌≢◌, ◌⊎◌, inl, inr, ℕ, ◌+◌, ◌<◌, ◌==◌, Bool, true, false, cond, ◌&&◌, List, [], ◌∷◌, ◌++◌, length, refl, ap, arith, All, map}
+use Rattle.rectangle_pack_c.proofs.Std.{All-head, All-weaker, list_any, nat_tests, length-append, length-map, not, nat_le, nat_lt, ◌^◌, append-nil, ◌∙◌}
+use Rattle.rectangle_pack_sections.proofs.lemmas.util.Searches.{none_pass}
 use Rattle.rectangle_pack_c.specs.declared.RpBox.{RpBox}
 use Rattle.rectangle_pack_c.specs.declared.collection.RpMember.{RpMember}
 use Rattle.rectangle_pack_c.specs.declared.collection.RpExclusion.{RpExclusion}
@@ -12,15 +13,6 @@ use Rattle.rectangle_pack_c.specs.Heuristics.{asked, all_heuristics}
 past : (t : Bool) (status rest : ℕ) → status ≢ 0 → cond t status rest ≡ 0 → (t ≡ false) × (rest ≡ 0)
 past true status rest some e = absurd (some e)
 past false status rest some e = (refl, e)
-
-none_pass : {X : Type 0} (test : X → Bool) (xs : List X) → list_any test xs ≡ false → All (λ x. test x ≡ false) xs
-none_pass test [] e = All-nil _
-none_pass test (x ∷ xs) e = by (test x) refl e (none_pass test xs)
-  where
-    by : (t : Bool) → test x ≡ t → (t || list_any test xs) ≡ false → (list_any test xs ≡ false → All (λ y. test y ≡ false) xs)
-        → All (λ y. test y ≡ false) (x ∷ xs)
-    by true t h later = absurd cc
-    by false t h later = All-cons (λ y. test y ≡ false) x xs t (later h)
 
 -- there is a place for each box, and an index; a heuristic is asked for; each member has a box; and no group is excluded with itself
 pub record IsSound (c : RpCollection) (heuristic places : ℕ) : Type 0 where

@@ -1,5 +1,5 @@
 -- Steps of the proofs about handles: what an unboxed value and a handle own, taken apart and put together. Assumes `Logic`.
-use Rattle.rectangle_pack_c.proofs.Std.{◌≡◌, ℕ, List, [], ◌∷◌, ◌++◌, refl, subst, Ghosts, Al, handle_tells, box_owns, and_tt, Option, None, Some, IsSome}
+use Rattle.rectangle_pack_c.proofs.Std.{◌≡◌, ℕ, List, [], ◌∷◌, ◌++◌, refl, subst, Ghosts, Al, handle_tells, box_owns, and_tt, Option, None, Some}
 use Rattle.rectangle_pack_c.proofs.Std.{Global}
 use mathlib.Core.Bool.{◌&&◌, true}
 use lib.Dec.{T}
@@ -71,11 +71,6 @@ module _ (R Z : RattleType) (laws : Laws Z) (g : Ghosts Z.Denot) where
         feq_i t (List Val) (v ∷ []) (v ∷ []) refl $ fjoin t $
         fpack t (Valss (RawPtr ∷ Z ∷ [])) (within (shape (unboxed.the_type R Z g)) (block_ptr b o, (a, tt)) (v ∷ []))
         (vptr b o ∷ [], (h ∷ [], tt)) $ fjoin t $ s)
-
--- the value of an option that has one
-pub value_of : {X : Type 0} (o : Option X) → IsSome o → (x : X) × (o ≡ Some x)
-value_of None h = absurd cc
-value_of (Some x) h = (x, refl)
 
 abbrev pub Held : RattleType
 Held = held.the_row

@@ -23,7 +23,7 @@ use Rattle.rectangle_pack_sections.proofs.lemmas.util.Lists.{AllPairs-head, AllP
 use Rattle.rectangle_pack_packing.proofs.lemmas.packing.Frame.{IsRecut, IsFrame-recut, KeptBySteps-recut, IsChanged, changed-all}
 use Rattle.rectangle_pack_sections.proofs.lemmas.util.Maps.{is_some-keys, is_at-back}
 use Rattle.rectangle_pack_packing.proofs.lemmas.packing.Placed.{keys-placed, known-placed}
-use Rattle.rectangle_pack.proofs.lemmas.session.Keeps.{some_of}
+use Rattle.rectangle_pack_sections.proofs.lemmas.util.Searches.{some_of}
 use Rattle.rectangle_pack_c.specs.declared.RpBin.{RpBin}
 use Rattle.rectangle_pack_c.specs.declared.RpBox.{RpBox}
 use Rattle.rectangle_pack_c.specs.declared.RpPlacement.{RpPlacement}

@@ -145,7 +145,7 @@ pub(crate) fn fault(collection: &RpCollection<'_>, heuristic: u32, placement_cou
     RP_DONE
 }
 
-// Whether a member names none of so many boxes.
+// Whether a member names none of the boxes, whose number is `boxes`.
 fn name_no_box(members: &[RpMember], boxes: usize) -> bool
     ensures { result ≡ list_any (λ m. nat_le boxes m.index) members.now }
 {
@@ -159,7 +159,7 @@ fn are_equal(exclusions: &[RpExclusion]) -> bool
     exclusions.iter().any(|pair| pair.one == pair.other)
 }
 
-// Whether there are so many boxes and members together, and fewer than 2^32.
+// Whether boxes and members together are `placement_count`, and fewer than 2^32.
 fn are_as_many(collection: &RpCollection<'_>, placement_count: usize) -> bool
     ensures { result ≡ are_as_many collection.now placement_count }
 {

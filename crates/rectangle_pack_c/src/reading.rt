@@ -54,7 +54,7 @@ pub struct RpCutStep {
     /// The axis that the cut stands across: 0 for x, 1 for y, 2 for z. Where the part is not cut,
     /// `RP_LEAF`.
     pub axis: u32,
-    /// So many cells from the bin's corner the cut stands, or 0.
+    /// How many cells from the bin's corner the cut stands, or 0.
     pub place: u32,
 }
 

@@ -1,11 +1,10 @@
 //! Sections of a list, found by the number of a corner.
 ghost use Rattle.std.specs.Prelude.{◌≡◌, ◌≢◌, ◌<◌, ◌≤◌, ◌⊎◌, ◌↔◌, ℕ, length, All, Some, IfSome, IfNone, IsOk, IsSomeAnd, IsTrue, slice_index_or};
-ghost use Rattle.std.specs.Vec.{vec_capacity};
 ghost use Rattle.std.specs.Bool.{OnTrue};
 ghost use Rattle.rectangle_pack_sections.specs.Boxes.{FitsU32};
 ghost use Rattle.rectangle_pack_lists.specs.declared.corners.Corner.TheVariants.{Near, Far};
 ghost use Rattle.rectangle_pack_lists.specs.declared.corners.Name.{Name};
-ghost use Rattle.rectangle_pack_lists.specs.private.Corners.{number_of, corner_number, neighbour_number, IsFull, Rise, AreNamed, IsRenamed, IsBeside, IsLeastBeside, IsAtFace};
+ghost use Rattle.rectangle_pack_lists.specs.private.Corners.{number_of, corner_number, neighbour_number, IsFull, Rise, AreNamed, IsRenamed, IsBeside, IsLeastBeside, IsAtFace, room_of};
 
 use crate::coalesce::shares_face;
 use rectangle_pack_sections::axis::Axis;
@@ -182,10 +181,9 @@ impl<A: Allocator + Copy> Corners<A> {
         }
     }
 
-    /// Makes room for so many sections, where it lacks. An error is want of memory.
+    /// Makes room for `sections` sections, where it lacks. Fails only when memory is refused.
     pub fn reserve(&mut self, sections: usize) -> Result<(), AllocError>
-        ensures succeeds { sections ≤ vec_capacity self.old.near →
-            sections ≤ vec_capacity self.old.far → IsOk result }
+        ensures succeeds { sections ≤ room_of self.old → IsOk result }
     {
         self.near.clear();
         self.near.reserve(sections)?;

@@ -19,9 +19,9 @@ use Rattle.rectangle_pack_packing.specs.Packing.{Rules, rules_by, PackingDone, P
 use Rattle.rectangle_pack_packing.specs.PackAnswers.{IsPacked}
 use Rattle.rectangle_pack_packing.specs.Placed.{placements_of}
 
--- what packings are compared by: the use of a packing that places so many cells in each bin that gets some, listed in
--- the order of ids. It says how many bins these are, and how many cells are in the last of them, which is 0 where there
--- is none
+-- what packings are compared by: the use of a packing that places `counts` cells in the bins that get some, in the
+-- order of ids. It says how many bins these are, and how many cells are in the last of them, which is 0 where there is
+-- none
 abbrev pub use_by : List ℕ → Use
 use_by counts = record { bins = length counts; last = slice_index_or counts (length counts - 1) 0 }
 

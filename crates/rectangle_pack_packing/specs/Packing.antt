@@ -63,7 +63,7 @@ pub record AreGroups {Id K : Type 0} (cmp : Id → Id → Ordering) (group_cmp :
       × AllZip (λ id size. lookup (is_at (cmp id)) sizes ≡ Some size) group.1.ids group.1.sizes) order groups
 
 module _ {Id B : Type 0} (rules : Rules Id B) where
-  -- the bin of this id is in the map, and the group's trial is stuck in its list, with so many fit tests
+  -- the bin of this id is in the map, and the group's trial is stuck in its list, with `tests` fit tests
   abbrev pub IsStuckIn : List (B × Bin) → Members Id → B → ℕ → Type 0
   IsStuckIn bins group id tests =
       IsSomeAnd (lookup (is_at (rules.bin_cmp id)) bins) (λ (bin : Bin). IsStuck rules.may bin.sections group.sizes tests)

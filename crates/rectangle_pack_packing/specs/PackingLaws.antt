@@ -41,7 +41,7 @@ module _ {Id B G : Type 0} (group_cmp : Group G Id → Group G Id → Ordering) 
         → (refused : PackingRefused group_cmp rules all old new)
         → AreKeptApart group_cmp rules.bin_cmp all.partners refused.stops.homes
 
-  -- where no two groups are excluded, a packing with so many fit tests is one that excludes no bin (`excludes_none`),
+  -- where no two groups are excluded, a packing with n fit tests is one that excludes no bin (`excludes_none`),
   -- and the other way round, whether it is done or refused
   pub record PackingsExcludeNone : Type 0 where
     pub done : (all : Collection Id G) → ((a b : Group G Id) → are_excluded group_cmp all.partners a b ≡ false)

@@ -1,5 +1,5 @@
 //! Packing groups of boxes into bins.
-ghost use Rattle.std.specs.Prelude.{◌≡◌, ◌<◌, ◌∷◌, [], length, All, map, IsOk, IsSome};
+ghost use Rattle.std.specs.Prelude.{◌≡◌, [], All, map, IsOk, IsSome};
 ghost use Rattle.std.specs.BTreeMap.{get};
 ghost use Rattle.std.specs.List.{IsDistinct};
 ghost use Rattle.std.specs.Map.{keys_of};
@@ -7,7 +7,6 @@ ghost use Rattle.std.specs.Ordering.{eq_by_cmp};
 ghost use Rattle.rectangle_pack_sections.specs.Clones.{ClonesEqual};
 ghost use Rattle.rectangle_pack_sections.specs.Bins.{bins_of};
 ghost use Rattle.rectangle_pack_sections.specs.Closures.{AreCallable, answers};
-ghost use Rattle.rectangle_pack_packing.specs.Best.{IsBestAnswer};
 ghost use Rattle.rectangle_pack_packing.specs.Orders.{IsBinOrder};
 ghost use Rattle.rectangle_pack_packing.specs.Packing.{rules_by};
 ghost use Rattle.rectangle_pack_packing.specs.PackAnswers.{IsPackAnswer, IsCountedAnswer};
@@ -22,17 +21,16 @@ mod next_bin;
 pub mod packing;
 
 use crate::answer::{RectanglePackError, RectanglePackOk, answer_of};
-use crate::pack::best::best_of;
 use crate::pack::bin_order::bin_order;
 use crate::pack::ends::end_packing;
 use crate::pack::first_fit::pack_noted;
 use crate::pack::packing::Packing;
+pub use best::pack_rects_best;
 use rectangle_pack_bins::target_bin::TargetBin;
 use rectangle_pack_groups::grouped_rects_to_place::GroupedRectsToPlace;
 use rectangle_pack_groups::grouped_rects_to_place::multimap::number_after;
 use rectangle_pack_lists::fit_tests::{FitTests, add_all, bounded};
-use rectangle_pack_sections::box_size_heuristics::Heuristic;
-use rectangle_pack_sections::closures::{Closures, Named, Policy};
+use rectangle_pack_sections::closures::{Closures, Policy};
 use rectangle_pack_sections::group::Group;
 use rectangle_pack_sections::width_height_depth::WidthHeightDepth;
 use std::alloc::{AllocError, Allocator};
@@ -196,7 +194,7 @@ where
     //   after it in the list; a member that is stuck counts one for each section.
     //   [last_of.tests_are_one_short]
     // With n entries in the groups, the fit tests are at most n for each free section of before,
-    //   and n * (n - 1) for each bin. `OutOfMemory` adds at most so many.
+    //   and n * (n - 1) for each bin. `OutOfMemory` adds at most that number.
     ensures answer { let groups = ⟦<Group<GroupId, Id> as Ord>⟧.cmp in
         let may = answers H.Fn C.Fn box_size_heuristic.now more_suitable_containers_fn.now in
         IsCountedAnswer groups (rules_by Id.cmp BinId.cmp may) rects_to_place.now
@@ -209,118 +207,6 @@ where
         comparison: more_suitable_containers_fn,
     };
     pack_by(alloc, rects_to_place, target_bins, &policy, false, tests)
-}
-
-/// Packs all groups into the bins, with each heuristic of a list in turn, and keeps the packing that
-/// uses the fewest bins: those in which it places cells. Of several that use as few it keeps the one
-/// that places the fewest cells in the last of these bins, in the order of ids, and of several such
-/// the one whose heuristic comes first in the list. Answers this heuristic and what the packing
-/// placed: what `pack_rects` would place with it and `contains_smallest_box`.
-///
-/// Each packing is rolled back before the next begins, and the best is made once more. So this takes
-/// at most the time of one packing more than there are entries in the list, and a count of cells
-/// after each. A heuristic that is alone in the list is packed with once. Without groups the first
-/// of the list is the best, and no memory is taken.
-///
-/// The caller sees to it that the list is not empty, and that clones of ids equal their originals.
-///
-/// `NotEnoughBinSpace` says that the packing is refused for space with each heuristic of the list.
-/// `OutOfMemory` says that a growth or a clone was refused in some packing, also where one with
-/// another heuristic was done before. On either error the bins are as they were: other than with
-/// `pack_rects`, no group stays placed.
-///
-/// ```
-/// let mut rects: GroupedRectsToPlace<u32, u32> = GroupedRectsToPlace::new(alloc);
-/// for (id, width, height) in [(1, 6, 2), (2, 3, 3), (3, 2, 5), (4, 1, 5)] {
-///     rects.push_rect(id, None, RectToInsert::new(width, height, 1))?;
-/// }
-/// ```
-///
-/// The bin is six cells wide and seven high:
-///
-/// ```
-/// let mut bins = BTreeMap::new(alloc);
-/// bins.insert(0u32, TargetBin::new(alloc, 6, 7, 1)?)?;
-/// let (best, packed) = pack_rects_best(alloc, &rects, &mut bins, &Heuristic::ALL)?;
-/// ```
-///
-/// By volume there would be no space for all four. By width there is:
-///
-/// ```
-/// assert_eq!(rt; (best, packed.placements().len()), (Heuristic::Width, 4));
-/// ```
-pub fn pack_rects_best<Id, BinId, GroupId, A>(
-    alloc: A,
-    rects_to_place: &GroupedRectsToPlace<Id, GroupId, A>,
-    target_bins: &mut BTreeMap<BinId, TargetBin<A>, A>,
-    heuristics: &[Heuristic],
-) -> Result<(Heuristic, RectanglePackOk<Id, BinId, A>), RectanglePackError>
-where
-    Id: Ord + Clone + Drop,
-    BinId: Ord + Clone + Drop,
-    GroupId: Ord + Clone + Drop,
-    A: Allocator + Copy,
-    requires ids { ClonesEqual Id.is_clone Id.eq }
-    requires bin_ids { ClonesEqual BinId.is_clone BinId.eq }
-    // There is a heuristic in the list.
-    requires some { 0 < length heuristics.now }
-    // Done: the answer names a heuristic of the list, and all that `pack_rects` says of a packing
-    //   that is done is so of one with this heuristic and `contains_smallest_box`.
-    // Done: no packing that is done with a heuristic of the list places cells in fewer bins; of
-    //   those that place cells in as many, none places fewer cells in the last of these bins, in
-    //   the order of ids; and each with a heuristic that stands before the one of the answer is
-    //   worse. Cells in one bin are counted up to the greatest `u128`.
-    //   [best_of.first_that_is_done_is_kept]
-    // `NotEnoughBinSpace`: with each heuristic of the list the packing is refused for space. The
-    //   bins are as they were, the order of their lists included.
-    //   [pack_rects_best.last_heuristic_is_left_out]
-    // `OutOfMemory`: the bins are as they were, the order of their lists included.
-    ensures answer { let groups = ⟦<Group<GroupId, Id> as Ord>⟧.cmp in
-        IsBestAnswer groups Id.cmp BinId.cmp rects_to_place.now
-        (bins_of target_bins.old.entries) heuristics.now result
-        (bins_of target_bins.new.entries) }
-    // Without groups it succeeds.
-    ensures no_groups { rects_to_place.now.groups ≡ [] → IsOk result }
-{
-    if heuristics.len() == 1 || rects_to_place.groups().is_empty() {
-        return pack_named(alloc, rects_to_place, target_bins, heuristics[0]);
-    }
-    let entries = number_after(0, rects_to_place.groups()).unwrap_or(u64::MAX) as usize;
-    match best_of(alloc, rects_to_place, target_bins, entries, heuristics) {
-        Ok(Some((best, _))) => pack_named(alloc, rects_to_place, target_bins, best),
-        Ok(None) => Err(RectanglePackError::NotEnoughBinSpace),
-        Err(_) => Err(RectanglePackError::OutOfMemory),
-    }
-}
-
-// Packs all groups into the bins with this heuristic.
-fn pack_named<Id, BinId, GroupId, A>(
-    alloc: A,
-    rects_to_place: &GroupedRectsToPlace<Id, GroupId, A>,
-    target_bins: &mut BTreeMap<BinId, TargetBin<A>, A>,
-    heuristic: Heuristic,
-) -> Result<(Heuristic, RectanglePackOk<Id, BinId, A>), RectanglePackError>
-where
-    Id: Ord + Clone + Drop,
-    BinId: Ord + Clone + Drop,
-    GroupId: Ord + Clone + Drop,
-    A: Allocator + Copy,
-    requires ids { ClonesEqual Id.is_clone Id.eq }
-    requires bin_ids { ClonesEqual BinId.is_clone BinId.eq }
-    ensures answer { IsBestAnswer ⟦<Group<GroupId, Id> as Ord>⟧.cmp Id.cmp BinId.cmp
-        rects_to_place.now (bins_of target_bins.old.entries) (heuristic ∷ []) result
-        (bins_of target_bins.new.entries) }
-    ensures no_groups { rects_to_place.now.groups ≡ [] → IsOk result }
-{
-    let packed = pack_by(
-        alloc,
-        rects_to_place,
-        target_bins,
-        &Named(heuristic),
-        true,
-        &mut FitTests::new(),
-    )?;
-    Ok((heuristic, packed))
 }
 
 // Packs all groups into the bins by a policy. Where it is refused for space, `undoes_refused` says

@@ -19,7 +19,7 @@ pub struct Use {
 }
 
 impl Use {
-    /// The use of so many cells in each bin that gets some, in the order of ids.
+    /// The use of `counts`, the cells in each bin that gets some, in the order of ids.
     pub fn by(counts: &[u128]) -> Self
         ensures { result ≡ use_by counts.now }
     {

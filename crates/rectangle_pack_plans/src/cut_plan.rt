@@ -32,7 +32,7 @@ pub enum CutStep {
     Cut {
         /// The axis that the cut stands across.
         axis: Axis,
-        /// Where it stands: so many cells from the corner of the bin, not of the part.
+        /// Where it stands: how many cells from the corner of the bin, not of the part.
         place: u32,
     },
     /// The part is one box, or has no cells.

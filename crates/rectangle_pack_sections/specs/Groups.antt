@@ -50,7 +50,7 @@ order_of_groups cmp names (Grouped a) (Grouped b) = names a b
 abbrev pub times_named : {Id G : Type 0} → (Group G Id → Group G Id → Ordering) → List G → Group G Id → ℕ
 times_named group_cmp named group = count_by (λ n. is_eq (group_cmp group (Grouped n))) named
 
--- the list is `before`, followed by the id so many times
+-- the list is `before`, followed by the id `times` times
 abbrev pub Appends : {Id : Type 0} → (Id → Id → Ordering) → List Id → Id → ℕ → List Id → Type 0
 Appends {Id} cmp before id times list = (tail : List Id) × (list ≡ before ++ tail) × (length tail ≡ times) × All (λ x. cmp id x ≡ Equal) tail
 

@@ -6,7 +6,7 @@ ghost use Rattle.rectangle_pack_sections.specs.private.Spans.{span_of, spans_of,
 use crate::axis::Axis;
 use crate::bin_section::BinSection;
 
-/// The places from `start` on, so many as `length` says.
+/// `length` places, from `start` on.
 #[derive(Clone, Copy, PartialEq)]
 pub struct Span {
     pub start: u32,

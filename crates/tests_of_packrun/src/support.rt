@@ -10,7 +10,7 @@ use std::process::Abort;
 // How a run ends.
 pub(crate) type Ended = Result<(), Stop>;
 
-// Gives its bytes in pieces, and fails once so many reads were good.
+// Gives its bytes in pieces, and fails once `good_reads` reads were good.
 #[derive(Drop)]
 pub(crate) struct Pieces<'a> {
     pub bytes: &'a [u8],
@@ -29,7 +29,7 @@ impl Read for Pieces<'_> {
     }
 }
 
-// Keeps what is written, in pieces, and fails once so many writes were good.
+// Keeps what is written, in pieces, and fails once `good_writes` writes were good.
 #[derive(Drop)]
 pub(crate) struct Kept {
     bytes: Cursor<[u8; 512]>,

@@ -240,7 +240,7 @@ fn push_into_five(
     Ok(())
 }
 
-// Whether the group has so many members.
+// Whether the group has `count` members.
 fn has_members(rects: &GroupedRectsToPlace<u32, u32>, group: u32, count: usize) -> bool {
     match rects.groups().get(&Group::Grouped(group)) {
         Some(members) => members.len() == count,

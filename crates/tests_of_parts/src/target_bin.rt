@@ -75,7 +75,7 @@ pub enum Pushed {
     Overlaps([u32; 6]),
 }
 
-/// What a trial answers: the places, or `None`, with so many fit tests, which are at most so many.
+/// What a trial answers: the places, or `None`, with `count` fit tests, which are at most `most`.
 #[derive(Clone, Copy)]
 pub struct Tried {
     pub places: Option<&'static [[u32; 6]]>,
@@ -313,8 +313,8 @@ fn run(refusing: Refusing, script: &Script) -> Came {
     }
 }
 
-// Whether a run may come out so, for which so many requests were granted. It gives back all that it
-// takes, and comes out where no request was refused, and only there. Without memory there is no
+// Whether a run may come out so, for which `granted` requests were granted. It gives back all that
+// it takes, and comes out where no request was refused, and only there. Without memory there is no
 // bin, and the last run has used up what was granted.
 fn may_come(came: Came, granted: u64, refusing: Refusing) -> bool {
     let is_out = matches!(came, Came::Out);

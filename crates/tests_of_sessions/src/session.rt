@@ -176,7 +176,7 @@ pub struct Script {
     /// The number of its first placement.
     pub first: u64,
     pub lines: &'static [Line],
-    /// At least so many of the calls are refused memory, one where each request is refused in turn.
+    /// How many calls at least are refused memory, one where each request is refused in turn.
     pub refusals: usize,
 }
 

@@ -58,7 +58,7 @@ pub fn push_boxes<A: Allocator + Copy>(
     Ok(())
 }
 
-/// Pushes so many boxes of one cell, each alone under its number, from 0 on.
+/// Pushes `count` boxes of one cell, each alone under its number, from 0 on.
 pub fn push_units<A: Allocator + Copy>(
     rects: &mut GroupedRectsToPlace<u32, u32, A>,
     count: u32,

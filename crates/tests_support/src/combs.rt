@@ -58,7 +58,7 @@ pub fn index_of(number: u32) -> u32 {
 /// hundred is gone: 50, 149, 248, .., 941. A box of one cell asks one.
 pub const TESTS: u128 = 5045;
 
-// Whether no box went into the section of this index, of so many that were placed.
+// Whether none of the `placed` boxes went into the section of this index.
 fn is_left(index: u32, placed: u32) -> bool {
     for number in 0..placed {
         if index_of(number) == index {

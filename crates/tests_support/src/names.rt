@@ -20,7 +20,7 @@ pub struct Clones {
 }
 
 impl Clones {
-    /// So many of them. `AllocError` where there is no memory for the count.
+    /// `left` of them. `AllocError` where there is no memory for the count.
     pub fn new(alloc: Global, left: u64) -> Result<Clones, AllocError> {
         let left = Box::new(alloc, Cell::new(left))?;
         Ok(Clones {
@@ -28,7 +28,7 @@ impl Clones {
         })
     }
 
-    /// From now on so many are left.
+    /// From now on `left` are left.
     pub fn set(&self, left: u64) {
         self.left.set(left);
     }

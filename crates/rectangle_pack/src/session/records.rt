@@ -51,7 +51,7 @@ impl<T: Drop, A: Allocator> Records<T, A> {
         &self.all.as_slice()[self.gone..]
     }
 
-    // Makes room for so many more. An error is want of memory, and leaves the list.
+    // Makes room for `additional` more. Fails only when memory is refused, and leaves the list.
     pub(crate) fn reserve(&mut self, additional: usize) -> Result<(), AllocError>
         ensures items { self.new.items ≡ self.old.items }
         ensures ok { OnOk result (additional ≤ self.new.spare) }

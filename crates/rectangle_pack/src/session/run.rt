@@ -31,8 +31,8 @@ where
     /// each group in one bin; space is refused only where, for some group, each bin is excluded or
     /// its trial gets stuck there.
     ///
-    /// The conditions are those of `pack`. `AllocError` is want of memory for the replies; then no
-    /// command was done.
+    /// The conditions are those of `pack`. Fails only when memory for the replies is refused; then
+    /// no command was done.
     pub fn run<GroupId, H, C>(
         &mut self,
         commands: &[Command<Id, BinId, GroupId, A>],

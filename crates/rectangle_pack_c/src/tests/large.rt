@@ -61,8 +61,8 @@ const UNIT: RpBox = RpBox {
     group: 0,
 };
 
-// Whether so many placements are in the bins in the order of the boxes, which fill one bin after
-// another.
+// Whether the placements are in the bins in the order of the boxes, of which `cells` fill each bin,
+// one after another.
 fn are_in_turn(placements: &[RpPlacement], cells: usize) -> bool {
     for (i, placement) in placements.iter().enumerate() {
         if placement.bin as usize != i / cells.max(1) {
@@ -211,7 +211,7 @@ fn packs(alloc: Global, opened: &mut Opened, case: &Case) -> Result<bool, AllocE
     Ok(status == RP_DONE && are_numbered(placements.as_slice(), case.cells))
 }
 
-// Whether the plan of each bin has so many steps as it is to have.
+// Whether the plan of each bin has as many steps as it is to have.
 fn plans(alloc: Global, opened: &mut Opened, case: &Case) -> Result<bool, AllocError> {
     let mut steps = vec![in alloc; NO_STEP; case.steps]?;
     for bin in 0..case.bins {
@@ -235,7 +235,7 @@ fn releases(alloc: Global, opened: &mut Opened) -> bool {
     true
 }
 
-// Whether each bin has so many free sections.
+// Whether each bin has `wanted` free sections.
 fn are_free(
     alloc: Global,
     opened: &mut Opened,

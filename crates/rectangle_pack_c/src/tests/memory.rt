@@ -40,7 +40,7 @@ fn are_packed(alloc: Global) -> bool {
     (boxes, collection) == (RP_DONE, RP_DONE)
 }
 
-// Whether both are done so many times.
+// Whether both are done, `times` times.
 fn come_and_go(alloc: Global, times: u32) -> bool {
     for _time in 0..times {
         if !session_comes_and_goes(alloc) || !are_packed(alloc) {

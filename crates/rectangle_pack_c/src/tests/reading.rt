@@ -47,7 +47,7 @@ fn numbers(section: &RpSection) -> [u32; 6] {
     ]
 }
 
-// What is answered where the free sections of a bin go to an array of so many entries, at most
+// What is answered where the free sections of a bin go to an array of `room` entries, at most
 // three: the status, the count, and the first two.
 fn sections(
     alloc: Global,
@@ -65,7 +65,7 @@ fn sections(
     (status, count, [numbers(&told[0]), numbers(&told[1])])
 }
 
-// What is answered where the outstanding placements go to an array of so many entries, at most two:
+// What is answered where the outstanding placements go to an array of `room` entries, at most two:
 // the status, the count, and the first: its number, box and bin, and where it stands.
 fn outstanding(
     alloc: Global,
@@ -84,7 +84,7 @@ fn outstanding(
     (status, count, (first.number, at, numbers(&first.section)))
 }
 
-// What is answered where the ids of the bins go to an array of so many entries, at most two: the
+// What is answered where the ids of the bins go to an array of `room` entries, at most two: the
 // status, the count, and the two entries.
 fn bins(alloc: Global, session: &mut RpSession, room: usize) -> (u32, usize, [u32; 2])
     requires { IsSome session.old.state }
@@ -97,7 +97,7 @@ fn bins(alloc: Global, session: &mut RpSession, room: usize) -> (u32, usize, [u3
     (status, count, ids)
 }
 
-// What is answered where the plan of a bin goes to an array of so many steps, at most four: the
+// What is answered where the plan of a bin goes to an array of `room` steps, at most four: the
 // status, the count, and the axes and places of the first three.
 fn plan(
     alloc: Global,

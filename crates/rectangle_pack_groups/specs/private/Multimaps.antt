@@ -23,11 +23,11 @@ times cmp keys key = count_by (λ k. is_eq (cmp key k)) keys
 abbrev pub items_of : {X A : Type 0} → Option (Vec X A) → List X
 items_of found = unwrap_or (option_map (λ v. v.items) found) []
 
--- a vector is found, with room for so many more items
+-- a vector is found, with room for `more` items more
 abbrev pub HasRoom : {X A : Type 0} → Option (Vec X A) → ℕ → Type 0
 HasRoom found more = IsSomeAnd found (λ v. vec_len v + more ≤ vec_capacity v)
 
--- a vector is the one of before, followed by so many of the items
+-- a vector is the one of before, followed by `count` of the items
 pub record IsAppended {X A : Type 0} (items : List X) (count : ℕ) (before after : Vec X A) : Type 0 where
   pub tail : List X
   pub joined : after.items ≡ before.items ++ tail
@@ -38,7 +38,7 @@ pub record IsAppended {X A : Type 0} (items : List X) (count : ℕ) (before afte
 abbrev pub AreAppended : {X A : Type 0} → List X → ℕ → Option (Vec X A) → Option (Vec X A) → Type 0
 AreAppended items count before after = MatchOption before (after ≡ None) (λ v. IsSomeAnd after (IsAppended items count v))
 
--- a list is found: the one of before, or the empty one, followed by so many of the items
+-- a list is found: the one of before, or the empty one, followed by `count` of the items
 abbrev pub IsAdded : {X : Type 0} → List X → ℕ → Option (List X) → Option (List X) → Type 0
 IsAdded {X} items count before after =
     IsSomeAnd after (λ list. (tail : List X) × (list ≡ unwrap_or before [] ++ tail) × (length tail ≡ count) × All (Contains items) tail)

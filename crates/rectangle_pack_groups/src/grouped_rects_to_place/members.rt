@@ -124,7 +124,7 @@ pub(crate) fn restore<K: Ord + Drop, V: Drop, A: Allocator + Copy>(
     }
 }
 
-// So many clones of the id.
+// `count` clones of the id.
 fn clones<Id: Ord + Clone + Drop, A: Allocator + Copy>(
     alloc: A,
     id: &Id,

@@ -1,12 +1,14 @@
 -- Sections in slots, while a sweep lasts that finds them by the number of a corner. Each stands in a slot of its own.
 -- One that is joined to another leaves its slot without cells; the list is that of the sections with cells. Examples
 -- are of the slots 0 to 2 with A (0,0,0) 2x4x1, B (5,0,0) 3x4x1 and C (2,0,0) 3x4x1.
-use Rattle.std.specs.Prelude.{ℕ, ◌≡◌, ◌≢◌, ◌+◌, ◌*◌, ◌<◌, ◌≤◌, true, List, length, take, filter, Contains, AllPairs, Option, IfSome, IsSomeAnd}
+use Rattle.std.specs.Prelude.{ℕ, ◌≡◌, ◌≢◌, ◌+◌, ◌*◌, ◌<◌, ◌≤◌, min, true, List, length, take, filter, Contains, AllPairs, Option, IfSome, IsSomeAnd}
+use Rattle.std.specs.Vec.{vec_capacity}
 use Rattle.rectangle_pack_sections.specs.declared.axis.Axis.{Axis}
 use Rattle.rectangle_pack_sections.specs.declared.axis.Axis.TheVariants.{X, Y, Z}
 use Rattle.rectangle_pack_sections.specs.Boxes.{Cuboid, start, end, has_cells}
 use Rattle.rectangle_pack_lists.specs.declared.corners.Corner.{Corner}
 use Rattle.rectangle_pack_lists.specs.declared.corners.Corner.TheVariants.{Near, Far}
+use Rattle.rectangle_pack_lists.specs.declared.corners.Corners.{Corners}
 use Rattle.rectangle_pack_lists.specs.declared.corners.Name.{Name}
 use Rattle.rectangle_pack_lists.specs.Joining.{SharesFace, IsJoined, entry}
 use Rattle.rectangle_pack_lists.specs.private.Settling.{Settled, Around}
@@ -46,6 +48,10 @@ place slots slot = length (full (take slot slots))
 pub record IsFull (slots : List Cuboid) (slot : ℕ) : Type 0 where
   pub within : slot < length slots
   pub cells : has_cells (entry slots slot) ≡ true
+
+-- how many sections can be named without a growth: each of them under its near corner and its far one
+abbrev pub room_of : {A : Type 0} → Corners A → ℕ
+room_of corners = min (vec_capacity corners.near) (vec_capacity corners.far)
 
 -- the numbers rise
 abbrev pub Rise : List Name → Type 0

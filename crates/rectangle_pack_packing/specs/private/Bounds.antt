@@ -16,8 +16,8 @@ free_sections_at bin_cmp bins id = unwrap_or (option_map (λ (b : Bin). length b
 abbrev pub free_sections_of : {B : Type 0} → (B → B → Ordering) → List (B × Bin) → List B → ℕ
 free_sections_of bin_cmp bins order = sum_by (free_sections_at bin_cmp bins) order
 
--- so many fit tests are no more than groups with so many entries may make in these bins: with n entries n for each free
--- section and n · (n - 1) for each bin
+-- `tests` fit tests are no more than groups with `entries` entries may make in these bins: with n entries n for each
+-- free section and n · (n - 1) for each bin
 pub record AreWithin {B : Type 0} (bin_cmp : B → B → Ordering) (bins : List (B × Bin)) (order : List B) (entries tests : ℕ) : Type 0 where
   pub most : tests + length order * entries ≤ entries * free_sections_of bin_cmp bins order + length order * (entries * entries)
 

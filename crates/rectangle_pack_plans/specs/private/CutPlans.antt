@@ -44,7 +44,7 @@ IsClosedOn a whole boxes = (q : ℕ) → ¬ IsOpenPlane a q whole boxes
 abbrev pub AreClosed : ℕ → Cuboid → List Cuboid → Type 0
 AreClosed n whole boxes = (a : Axis) → axis_rank a < n → IsClosedOn a whole boxes
 
--- the first open plane on the axis a is at the place. So many boxes are below it, more than none and less than all, and
+-- the first open plane on the axis a is at the place. `below` boxes are below it, more than none and less than all, and
 -- they stand in front of those above it
 -- Example: on y, of A, B, C, D, E: 1, with 2 boxes below it. C is the first that starts where all earlier ones have
 -- ended

@@ -41,7 +41,7 @@ pub record IsPeeled (p : Part) (filling fillings : List Cuboid) (parts : List Pa
   pub lighter : sum_by weight parts < weight p
 
 -- once the cut that comes before the part is in the plan, and behind it the steps `text`, the parts may stand for it, and
--- weigh less; the steps are the plan of the first so many (`planned`) of its boxes, and the parts have the others
+-- weigh less; the steps are the plan of the first `planned` of its boxes, and the parts have the others
 pub record IsCutUp (p : Part) (filling fillings : List Cuboid) (parts : List Part) (planned : ℕ) (text : List CutStep) : Type 0 where
   pub within : planned ≤ length fillings
   pub goes_on : (boxes : List Cuboid) (whole : Cuboid) (ps : List Part) (left : List Cuboid) (steps : List CutStep)

@@ -82,7 +82,7 @@ fn reach(whole: &BinSection, axis: Axis, first: &[BinSection], second: &[BinSect
     place
 }
 
-// Whether so many boxes at either end already leave no plane on the axis open. Puts them in order
+// Whether `count` boxes at either end already leave no plane on the axis open. Puts them in order
 // on it, and then back in order on the axis on which all boxes are in order, if any.
 fn is_blocked(
     whole: &BinSection,
@@ -109,7 +109,7 @@ fn is_blocked(
     blocked
 }
 
-// So many boxes at either end are looked at first, and four times as many each time.
+// How many boxes at either end are looked at first; four times as many each time after that.
 const FEW: usize = 16;
 
 // Whether the boxes at both ends already leave no plane on the axis open. They stay in order on the

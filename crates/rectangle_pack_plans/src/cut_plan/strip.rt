@@ -114,7 +114,7 @@ fn end_sum(section: &BinSection) -> u64 {
     sum
 }
 
-// Strips are looked for among so many boxes at least: fewer are soon put in order anew.
+// Among how many boxes at least strips are looked for: fewer are soon put in order anew.
 const MANY: usize = 1000;
 
 // Where one of the boxes is a strip, puts them in order, so that strips that can be cut off one after

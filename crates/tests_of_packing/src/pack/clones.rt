@@ -55,7 +55,7 @@ fn packs(rt: &impl Abort, alloc: Refusing, rects: &Rects, bins: &mut Bins) -> bo
     answer.is_ok()
 }
 
-// Packs the case into these bins. Whether so many clones were enough.
+// Packs the case into these bins. Whether `count` clones were enough.
 fn packs_with(
     rt: &impl Abort,
     alloc: Refusing,
@@ -69,7 +69,7 @@ fn packs_with(
     is_pushed && packs(rt, alloc, &rects, bins)
 }
 
-// Whether so many clones were enough for a packing.
+// Whether `count` clones were enough for a packing.
 fn is_packed(rt: &impl Abort, alloc: Refusing, clones: Clones, count: u64) -> bool {
     let mut bins = Bins::new(alloc);
     clones.set(u64::MAX);

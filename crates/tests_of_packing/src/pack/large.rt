@@ -16,7 +16,7 @@ fn add_cells(alloc: Global, bins: &mut Bins<Global>) -> Result<(), AllocError> {
     Ok(())
 }
 
-// Whether so many boxes are placed in the order of their numbers, each in the bin of its number,
+// Whether `count` boxes are placed in the order of their numbers, each in the bin of its number,
 // but those of greater numbers in the last bin.
 fn are_in_turn(placements: &[Placement<u32, u32>], count: u32, last: u32) -> bool {
     all_match!(placements.iter(), 0..count, placed, number =>

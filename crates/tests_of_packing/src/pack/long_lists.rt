@@ -45,7 +45,7 @@ fn are_in_place(placements: &[Placement<u32, u32>]) -> bool {
     all_match!(placements.iter(), 0..BOXES, placed, number => is_in_place(placed, number))
 }
 
-// Whether the bin has the sections that so many boxes left.
+// Whether the bin has the sections that `placed` boxes left.
 fn has_left_in<A: Allocator + Copy>(bins: &Bins<A>, placed: u32) -> bool {
     match bins.get(&0) {
         Some(bin) => has_left(bin, placed),
@@ -53,7 +53,7 @@ fn has_left_in<A: Allocator + Copy>(bins: &Bins<A>, placed: u32) -> bool {
     }
 }
 
-// Whether the answer is as it has to be, after so many tests: where a box finds no space, those
+// Whether the answer is as it has to be, after `tests` tests: where a box finds no space, those
 // before it stay; where memory is refused, all sections do.
 fn is_right<A: Allocator + Copy>(
     answer: &Answer<A>,

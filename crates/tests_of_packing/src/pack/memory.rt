@@ -48,8 +48,8 @@ fn end(rt: &impl Abort, alloc: Refusing, run: Run) -> End {
     }
 }
 
-// The end of a run for which so many requests are granted. It gives back all that it takes, and is
-// done where no request was refused, and only there.
+// The end of a run for which `granted` requests are granted. It gives back all that it takes, and
+// is done where no request was refused, and only there.
 fn end_of(rt: &impl Abort, alloc: Global, granted: u64, run: Run) -> End {
     let refusing = Refusing::new(alloc, granted).expect(rt, "no memory for the counts");
     let end = end(rt, refusing, run);

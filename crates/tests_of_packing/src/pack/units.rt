@@ -1,10 +1,7 @@
 //! Boxes of one cell that fill their bins, packed by volume, and by the best of nine heuristics.
 
 use super::{Answer, add_bin, pack_numbered, plenty};
-use rectangle_pack::Heuristic::{
-    self, Depth, Height, LongestSide, ShortestSide, SideArea, SideSum, Volume, Width,
-};
-use rectangle_pack::{Placement, RectanglePackError, pack_rects_best};
+use rectangle_pack::{Heuristic, Placement, RectanglePackError, pack_rects_best};
 use std::alloc::AllocError;
 use tests_support::all_match;
 use tests_support::boxes::{Bins, Rects, push_units};
@@ -13,17 +10,8 @@ use tests_support::units::{Units, cases};
 
 // All that have a name, and the first once more.
 fn nine() -> [Heuristic; 9] {
-    [
-        Volume,
-        Height,
-        Width,
-        Depth,
-        SideSum,
-        LongestSide,
-        ShortestSide,
-        SideArea,
-        Volume,
-    ]
+    let [a, b, c, d, e, f, g, h] = Heuristic::ALL;
+    [a, b, c, d, e, f, g, h, a]
 }
 
 // How boxes are packed.
@@ -38,7 +26,7 @@ enum By {
 // With each heuristic the packing is the same, so the first is the best.
 fn pack_best(alloc: Refusing, rects: &Rects, bins: &mut Bins) -> Answer<Refusing> {
     match pack_rects_best(alloc, rects, bins, &nine()) {
-        Ok((Volume, packed)) => Ok(packed),
+        Ok((Heuristic::Volume, packed)) => Ok(packed),
         Ok(_) => Err(RectanglePackError::NotEnoughBinSpace),
         Err(error) => Err(error),
     }

@@ -353,7 +353,7 @@ fn replies_are_right(
     Ok(done == commands.len())
 }
 
-/// Whether the first so many of these lines print this. A reply begins with no digit, unlike the
+/// Whether the first `count` of these lines print this. A reply begins with no digit, unlike the
 /// lines of numbers before it; a line without words has none.
 pub fn is_right(
     alloc: Global,

@@ -86,7 +86,7 @@ fn gave_back(rt: &impl Abort, refusing: Refusing, outcome: Ended) {
     assert!(rt; is_said(outcome, refusing.refused()));
 }
 
-// Whether a run may end so where so many requests were refused.
+// Whether a run may end so where `refused` requests were refused.
 fn is_said(outcome: Ended, refused: u64) -> bool {
     match outcome {
         Err(Stop::NoMemory) => refused > 0,
@@ -96,7 +96,7 @@ fn is_said(outcome: Ended, refused: u64) -> bool {
     }
 }
 
-// These lines fail so, once they have printed so many bytes of the whole.
+// These lines fail so, once they have printed `count` bytes of the whole.
 fn fails_after(rt: &impl Abort, alloc: Global, given: Given, count: usize) {
     let (outcome, kept) = run_with(rt, alloc, LINES, given);
     ended_so(
@@ -125,7 +125,7 @@ fn comes_out(rt: &impl Abort, alloc: Global, given: Given) {
 // byte 16, and prints 3 bytes. The last line ends with the input.
 const DONE: [(usize, usize); 6] = [(16, 3), (33, 6), (50, 9), (67, 12), (72, 90), (84, 112)];
 
-// How many bytes are printed once so many were read: all that the lines print that came to their
+// How many bytes are printed once `read` were read: all that the lines print that came to their
 // end.
 fn printed_after(read: usize) -> usize {
     let mut printed = 0usize;
@@ -137,7 +137,7 @@ fn printed_after(read: usize) -> usize {
     printed
 }
 
-// Each of so many reads fails in turn; the last of them finds the end.
+// Each of the `needed` reads fails in turn; the last of them finds the end.
 fn fails_at_each_read(rt: &impl Abort, alloc: Global, over: Over, (piece, needed): (usize, u64)) {
     let given = Given { over, ..ALL };
     for good in 0..needed {
@@ -170,7 +170,7 @@ struct Writes {
     ends: &'static [usize],
 }
 
-// How many bytes are printed after so many good writes.
+// How many bytes are printed after `good` good writes.
 fn written_by(writes: &Writes, good: u64) -> usize {
     let mut left = good as usize;
     let mut written = 0usize;
@@ -185,7 +185,7 @@ fn written_by(writes: &Writes, good: u64) -> usize {
     written
 }
 
-// Each of so many writes fails in turn, that of the last line too.
+// Each of the writes that are needed fails in turn, that of the last line too.
 fn fails_at_each_write(rt: &impl Abort, alloc: Global, row: &Writes) {
     let given = Given {
         reads: (row.read, u64::MAX),
@@ -260,7 +260,7 @@ fn is_start(written: &[u8], whole: &[u8], length: u64) -> bool {
     written.len() as u64 == length && whole.starts_with(written)
 }
 
-// Where so many bytes can be written, these are written.
+// As many bytes as can be written are written.
 fn is_cut_after(rt: &impl Abort, alloc: Global, lines: &str, given: Given, whole: &[u8]) {
     let (outcome, kept) = run_with(rt, alloc, lines, given);
     assert_eq!(rt; outcome, Err(Stop::IoFailed));

@@ -17,7 +17,7 @@ fn push_spaces(line: &mut Vec<u8>, count: usize) -> Result<(), AllocError> {
     Ok(())
 }
 
-// A `pack` among spaces, so many before it and so many behind it, and then this.
+// A `pack` among spaces, `before` before it and `behind` behind it, and then `last`.
 fn padded(alloc: Global, before: usize, behind: usize, last: &[u8]) -> Result<Vec<u8>, AllocError> {
     let mut line = Vec::new(alloc);
     push_spaces(&mut line, before)?;
@@ -99,7 +99,7 @@ fn interrupted_reads(rt: HostRuntime) {
     }
 }
 
-// Gives a line so many times, at each read once.
+// Gives a line `times` times, at each read once.
 #[derive(Drop)]
 struct Again<'a> {
     line: &'a [u8],

@@ -164,7 +164,7 @@ fn pushes(
     End::Refused
 }
 
-// A push for which so many clones are left. Only the collection before it takes more.
+// A push for which `count` clones are left. Only the collection before it takes more.
 fn end_of_push(
     rt: &impl Abort,
     alloc: Refusing,
@@ -203,7 +203,7 @@ fn excludes(rt: &impl Abort, all: &mut Rects, clones: Clones) -> End {
     if is_done { End::Done } else { End::Refused }
 }
 
-// An exclusion for which so many clones are left. Only what is before it takes more.
+// An exclusion for which `count` clones are left. Only what is before it takes more.
 fn end_of_exclusion(
     rt: &impl Abort,
     alloc: Refusing,
@@ -236,7 +236,8 @@ fn end_in_new(
     }
 }
 
-// A push, or else an exclusion, under so many requests and clones. All memory is given back.
+// A push, or else an exclusion, under `requests` requests and `count` clones. All memory is given
+// back.
 fn end(
     rt: &impl Abort,
     alloc: Global,

@@ -12,7 +12,7 @@ use tests_support::units::{Units, cases};
 // Boxes to place.
 type Members = Vec<RectToInsert, Refusing>;
 
-// Whether the free sections of the bin are so many single cells, in a row.
+// Whether the free sections of the bin are `count` single cells, in a row.
 fn has_row(bin: &TargetBin, count: u32) -> bool {
     all_match!(bin.available_bin_sections().iter(), 0..count, free, x =>
         *free == section(x, 0, 0, 1, 1, 1))

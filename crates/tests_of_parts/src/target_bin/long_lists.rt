@@ -24,7 +24,7 @@ fn members(alloc: Global) -> Result<Vec<RectToInsert>, AllocError> {
     Ok(members)
 }
 
-// Whether a trial of these takes so many tests, and is done or leaves all sections.
+// Whether a trial of these takes `wanted` tests, and is done or leaves all sections.
 fn tries(
     bin: &mut TargetBin,
     members: &[RectToInsert],

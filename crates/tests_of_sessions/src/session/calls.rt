@@ -97,7 +97,7 @@ fn call_all(plenty: Refusing, scarce: Refusing, script: &Script) -> (usize, Came
     call_lines(&mut session, plenty, script)
 }
 
-// Whether the calls may come out so, for which so many requests were granted. All of these are
+// Whether the calls may come out so, for which `granted` requests were granted. All of these are
 // used, if there are not more than any script makes, and all memory is given back. A call says that
 // memory was refused where it was, and only there.
 fn may_come(came: Came, granted: u64, plenty: Refusing, scarce: Refusing) -> bool {
@@ -107,7 +107,7 @@ fn may_come(came: Came, granted: u64, plenty: Refusing, scarce: Refusing) -> boo
         && scarce.taken() == 0
 }
 
-// How the calls come out with so many requests granted, and at which line.
+// How the calls come out with `granted` requests granted, and at which line.
 fn call_granted(
     alloc: Global,
     plenty: Refusing,
@@ -131,7 +131,7 @@ fn is_allowed(memory: Memory, was_refused: bool) -> bool {
     }
 }
 
-// Whether the lines were refused memory that are to be, and at least so many of them.
+// Whether the lines were refused memory that are to be, and at least `refusals` of them.
 fn are_allowed(lines: &[Line], were_refused: &[bool], refusals: usize) -> bool {
     if lines.len() > were_refused.len() {
         return false;
@@ -163,7 +163,7 @@ fn refuse_each(
     Ok((MOST_REQUESTS, 0, Came::Wrong))
 }
 
-// With so many requests granted, the calls came out.
+// With `granted` requests granted, the calls came out.
 fn check_out(rt: &impl Abort, granted: u64, line: usize, came: Came) {
     assert!(rt;
         matches!(came, Came::Out),

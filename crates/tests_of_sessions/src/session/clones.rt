@@ -65,7 +65,7 @@ fn is_in(session: &NameSession, state: &State) -> bool {
         && session.next_number() == state.placed.len() as u64
 }
 
-// Packs the boxes where so many clones are left.
+// Packs the boxes where `count` clones are left.
 fn pack(
     session: &mut NameSession,
     alloc: Refusing,

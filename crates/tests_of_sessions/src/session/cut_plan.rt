@@ -250,7 +250,7 @@ fn play_all(alloc: Refusing, script: &[Step]) -> (usize, Came) {
     play_each(&mut session, alloc, script)
 }
 
-/// The same with so many requests granted. All that it takes is to be given back, and memory said
+/// The same with `granted` requests granted. All that it takes is to be given back, and memory said
 /// to be refused where it was, and only there.
 pub fn play_granted(
     rt: &impl Abort,

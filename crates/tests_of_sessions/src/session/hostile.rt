@@ -18,7 +18,7 @@ const ONE_GROUP: u32 = 1;
 
 const OTHER_GROUP: u32 = 2;
 
-// Boxes that are packed, from this number on, so many entries.
+// Boxes that are packed: `count` entries, from the number `first` on.
 macro_rules! places {
     ($($id:tt: $size:tt $(in $groups:tt)?),* => $first:literal, $count:literal) => {
         (Order::Pack(box_list!($($id: $size $(in $groups)?),*)), packed!($first, $count))

@@ -35,7 +35,7 @@ fn pack(session: &mut TestSession, alloc: Refusing, boxes: Boxes) -> Reply {
     }
 }
 
-/// Whether so many boxes are packed, under the numbers from this one on.
+/// Whether these boxes are packed, under the numbers from `first` on.
 pub fn packs(session: &mut TestSession, alloc: Refusing, boxes: Boxes, first: u64) -> bool {
     let count = u64::from(boxes.count);
     pack(session, alloc, boxes) == Reply::Packed(Packed { first, count })
@@ -107,7 +107,7 @@ fn fills_and_empties(session: &mut TestSession, alloc: Refusing) -> bool {
         && is_empty(session)
 }
 
-// Whether these are so many free sections, from the first on, in their order.
+// Whether these are the first `count` free sections, in their order.
 fn are_first(sections: &[BinSection], count: u32) -> bool {
     let mut x: u32 = 0;
     for section in sections {

@@ -7,7 +7,7 @@ use rectangle_pack::{Outstanding, Reply, SessionError};
 use std::test::Fail;
 use tests_support::refusing::Refusing;
 
-// So many boxes of one cell fill a bin of one row; each stands at its number.
+// How many boxes of one cell fill a bin of one row; each stands at its number.
 const COUNT: u32 = 101;
 
 const ROW: Boxes = Boxes {
@@ -123,7 +123,7 @@ fn oldest_and_next_in_turn(rt: HostRuntime) {
     }
 }
 
-// So many are released from the first on, and as many are packed at once.
+// How many are released from the first on; as many are packed at once.
 const SOME: Boxes = Boxes { count: 50, ..ROW };
 
 #[test]

@@ -103,7 +103,7 @@ fn may_come(came: Came, plenty: Refusing, scarce: Refusing, left: Refusing) -> b
         && left.taken() == 0
 }
 
-// How the run comes out with so many requests granted.
+// How the run comes out with `granted` requests granted.
 fn run_granted(alloc: Global, plenty: Refusing, granted: u64, script: &Script) -> Made<Came> {
     let scarce = Refusing::new(alloc, granted)?;
     let left = Refusing::new(alloc, granted.saturating_sub(1))?;

@@ -43,7 +43,7 @@ fn push_sweeps(commands: &mut Commands, units: &Units) -> Made<()> {
     Ok(())
 }
 
-// Whether so many commands are done.
+// Whether `count` commands are done.
 fn are_done(replies: &[Reply], count: u32) -> bool {
     all_match!(replies.iter(), 0..count, reply, _command => *reply == Reply::Done)
 }
@@ -131,7 +131,7 @@ fn is_cut_apart(session: &TestSession, bin: u32, units: &Units) -> bool {
     }
 }
 
-// Whether this bin has so many free sections.
+// Whether this bin has `count` free sections.
 fn has_free(session: &TestSession, bin: u32, count: u32) -> bool {
     match session.bins().get(&bin) {
         Some(bin) => bin.available_bin_sections().len() == count as usize,

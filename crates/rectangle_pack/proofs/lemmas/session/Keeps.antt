@@ -1,6 +1,6 @@
 -- What a session's calls keep: the boxes of each bin, the bins of the outstanding placements, and the order of numbers.
 use Rattle.rectangle_pack_sections.proofs.Std.{◌≡◌, ℕ, suc, ◌+◌, ◌-◌, ◌<◌, List, [], ◌∷◌, ◌++◌, refl, ap, sym, ◌∙◌, subst, cond, true, false, Bool, arith}
-use Rattle.rectangle_pack_sections.proofs.Std.{length, append-nil, append_assoc, get_or, take, drop, Option, Some, None, IsSome, MatchBool, map, filter, All}
+use Rattle.rectangle_pack_sections.proofs.Std.{length, append-nil, append_assoc, get_or, take, drop, Some, None, IsSome, MatchBool, map, filter, All}
 use Rattle.rectangle_pack_sections.proofs.Std.{AllPairs, remove, Ordering, IsTotalOrder, Equal-is, is_eq, option_map, lookup, set_value, keys_of, is_at}
 use Rattle.rectangle_pack_sections.proofs.Std.{insert_entry, split_at, keys-set_value, set_value_same, map-append, length-append, get_or_default, All-nil}
 use Rattle.rectangle_pack_sections.proofs.Std.{All-cons, All-head, All-tail, All-append, All-push, All-weaker, filter-append, remove-append_right}
@@ -23,12 +23,8 @@ use Rattle.rectangle_pack_packing.proofs.lemmas.packing.Frame.{IsRecut, changed-
 use Rattle.rectangle_pack_bins.proofs.lemmas.bins.Journals.{lookup-bins_of, is_some-bins_of}
 use Rattle.rectangle_pack_packing.proofs.lemmas.packing.KeepsCuts.{KeepsCuts, KeepsBoxes, IsFrame-boxes, KeptBySteps-boxes}
 use Rattle.rectangle_pack_sections.proofs.lemmas.util.Maps.{lookup-equal, lookup-written, is_some-keys, insert_entry-map_values}
+use Rattle.rectangle_pack_sections.proofs.lemmas.util.Searches.{some_of}
 use Rattle.rectangle_pack_packing.proofs.lemmas.packing.Placed.{keys-placed, known-placed}
-
--- a value that is there
-pub some_of : {X : Type 0} (found : Option X) → IsSome found → (x : X) × (found ≡ Some x)
-some_of None h = absurd cc
-some_of (Some x) h = (x, refl)
 
 -- the bin of this id in the new state was there in the old one, in its size, and not coalesced where it is not now; its boxes
 -- keep what they keep in a session

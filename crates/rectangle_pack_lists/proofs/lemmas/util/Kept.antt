@@ -1,6 +1,6 @@
 -- The elements of a list that pass a test, and where an element stands among them.
 use Rattle.rectangle_pack_sections.proofs.Std.{arith, ℕ, zero, suc, ◌≡◌, ◌+◌, ◌-◌, ◌<◌, ◌≤◌, inl, inr, Bool, true, false, cond, List, [], ◌∷◌, ◌++◌, length}
-use Rattle.rectangle_pack_sections.proofs.Std.{take, drop, get_or, set, remove, filter, refl, sym, ap, ◌∙◌, cases_Bool, filter-append, length-append, All, All-head, All-tail}
+use Rattle.rectangle_pack_sections.proofs.Std.{take, drop, get_or, set, remove, filter, refl, sym, ap, ◌∙◌, cases_Bool, filter-append, length-append}
 use Rattle.rectangle_pack_sections.proofs.Std.{length-set, length-take, set-get_or, take-set-le, take-take, get_or-take, length-remove, remove-append_right}
 use Rattle.rectangle_pack_sections.proofs.Std.{get_or-append_seam, set-append_seam}
 use Rattle.std.proofs.lemmas.List.{set_split}
@@ -105,9 +105,3 @@ module _ {X : Type 0} (p : X → Bool) where
         let (i, at, here, is) = ranked_at xs d (suc k) (rw fails at below) in
         (suc i, omega arith, here, ap length (cond-false (p x) (x ∷ filter p (take i xs)) (filter p (take i xs)) fails) ∙ is)
   ]
-
-  -- where all pass, all are kept
-  pub kept-all : (xs : List X) → All (λ x. p x ≡ true) xs → filter p xs ≡ xs
-  kept-all [] all = refl
-  kept-all (x ∷ xs) all =
-      cond-true (p x) _ _ (All-head (λ x. p x ≡ true) x xs all) ∙ ap (λ l. x ∷ l) (kept-all xs (All-tail (λ x. p x ≡ true) x xs all))

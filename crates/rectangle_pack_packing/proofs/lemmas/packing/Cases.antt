@@ -46,7 +46,7 @@ module _ {Id B : Type 0} (rules : Rules Id B) (excluded : B → Bool) (bins : Li
       → DoesNotTake rules excluded bins group id count
   DoesNotTake-stuck same count e alike stuck = rw (e, ← alike) stuck
 
--- what is within the tests of so many entries is within those of as many
+-- what is within the tests of `entries` entries is within those of as many
 pub adds-as-many : {B : Type 0} (bin_cmp : B → B → Ordering) (bins : List (B × Bin)) (order : List B) (entries others before after : ℕ)
     → entries ≡ others → AddsWithin bin_cmp bins order entries before after → AddsWithin bin_cmp bins order others before after
 adds-as-many bin_cmp bins order entries others before after same h = rw (← same) h

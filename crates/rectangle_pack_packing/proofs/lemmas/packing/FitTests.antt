@@ -52,7 +52,7 @@ AreWithin-more bin_cmp bins order some all n le h =
     by k f e d n h = omega (arith, h, mul-le-mul_left k (square d))
 
 module _ {Id B : Type 0} (rules : Rules Id B) (o : IsTotalOrder rules.bin_cmp) where
-  -- so many tests in the bin of this id are no more than m members may make there
+  -- n tests in the bin of this id are no more than m members may make there
   abbrev IsShare : ℕ → List (B × Bin) → B → ℕ → Type 0
   IsShare m bins id n = n + m ≤ m * free_sections_at rules.bin_cmp bins id + m * m
 
@@ -184,7 +184,7 @@ module _ {Id B : Type 0} (rules : Rules Id B) (o : IsTotalOrder rules.bin_cmp) w
       off = seen false
 
   module _ {K : Type 0} (excludes : List (K × B) → K → B → Bool) where
-    -- as many tests as so many members may make, for so many sections in a number of bins, and no more sections after them
+    -- n tests are no more than e members may make for f sections in k bins, and f' sections no more than they leave
     record Bounded (k f f' e n : ℕ) : Type 0 where
       pub tests : n + k * e ≤ e * f + k * (e * e)
       pub grown : f' ≤ f + 2 * e

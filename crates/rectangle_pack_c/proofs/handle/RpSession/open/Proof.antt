@@ -18,8 +18,9 @@ use denote.Steps.{nothing, heard}
 use denote.Triple.Walked.{Stays, stay_dropped, walk_of, says, ends_at}
 use Rattle.std.specs.contracts.impls.GlobalAllocator.TheImpl as heap
 use Rattle.std.proofs.alloc.Global.TheLaws as global_laws
+use Rattle.rectangle_pack_sections.proofs.lemmas.util.Searches.{some_of}
 use Rattle.rectangle_pack_c.specs.Handle.{session_row}
-use Rattle.rectangle_pack_c.proofs.HandleSteps.{two, unboxed_fits, unboxed_in, value_of, Held, Heap, held_out}
+use Rattle.rectangle_pack_c.proofs.HandleSteps.{two, unboxed_fits, unboxed_in, Held, Heap, held_out}
 use Rattle.rectangle_pack_c.specs.contracts.handle.RpSession.open.{ended, clauses}
 use Rattle.rectangle_pack_c.specs.contracts.handle.RpSession.open.Key.{name as #self}
 use Rattle.rectangle_pack_c.proofs.handle.RpSession.open.Statement.{statement}
@@ -33,7 +34,7 @@ open_spec 𝓤 𝓛 𝓜 𝓡 wired =
     let κs = z.0.0 in let d = z.0.3.0 in let a = d.alloc in
     let Post : Val → SProp 𝓤 = (walk_of 𝓛 ended stays c).post z in let Run : List Val → SProp 𝓤 = λ ws. WpFn 𝓤 H 𝓣.C 𝓣.Λ fn ws Post in
     qed 𝓛 ((‵ ftrue ⊛ ‵ (owns (types_at ended.signature.params κs) z.0.3 z.0.4)) ∷ raw (fact 𝓤 (IsSome d.state)) ∷ []) ∵
-    move ! (1 ∷ []) $ heard ! _ (λ some. let (x, is) = value_of d.state some in
+    move ! (1 ∷ []) $ heard ! _ (λ some. let (x, is) = some_of d.state some in
     split ! $ move ! (1 ∷ []) $ fsplit ! $ held_out ! d x is z.0.4.0 (λ b o h e ws fits.
     let w = two (vptr b o) h in let typed = unboxed_fits session_row Heap global_laws.the_row_laws heap.ghosts b o h fits in
     suffices ! (Run (w ∷ [])) (subst (λ (us : List Val). ent 𝓤 (Run (w ∷ [])) (Run us)) (sym (λ i. ws i ++ [])) (id⊢ 𝓤 (Run (w ∷ [])))) $

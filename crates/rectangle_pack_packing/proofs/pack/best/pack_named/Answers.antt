@@ -1,7 +1,7 @@
 use Rattle.std.proofs.lemmas.Result.{err_from_is_err_and}
 use Rattle.rectangle_pack_sections.specs.Bins.{bins_of}
 use Rattle.rectangle_pack_packing.proofs.lemmas.best.Alone.{alone-packed, alone-failed}
-use Rattle.rectangle_pack_packing.proofs.pack.pack_named.Goals as goal
+use Rattle.rectangle_pack_packing.proofs.pack.best.pack_named.Goals as goal
 
 pub returns-clause-answer : goal.returns-clause-answer
 returns-clause-answer g c =

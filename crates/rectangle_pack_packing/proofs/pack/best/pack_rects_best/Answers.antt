@@ -5,9 +5,9 @@ use Rattle.rectangle_pack_sections.specs.Bins.{bins_of}
 use Rattle.rectangle_pack_packing.proofs.lemmas.packing.Groups.{lists-empty, lists-some}
 use Rattle.rectangle_pack_packing.proofs.lemmas.best.Nothing.{first-answered}
 use Rattle.rectangle_pack_packing.proofs.lemmas.best.Whole.{best-named}
-use Rattle.rectangle_pack_packing.proofs.pack.pack_rects_best.Goals.{then-heuristics-eq1-via-then-heuristics-eq1}
-use Rattle.rectangle_pack_packing.proofs.pack.pack_rects_best.Goals.{then-heuristics-eq1-via-else-heuristics-eq1+then-is_empty}
-use Rattle.rectangle_pack_packing.proofs.pack.pack_rects_best.Goals as goal
+use Rattle.rectangle_pack_packing.proofs.pack.best.pack_rects_best.Goals.{then-heuristics-eq1-via-then-heuristics-eq1}
+use Rattle.rectangle_pack_packing.proofs.pack.best.pack_rects_best.Goals.{then-heuristics-eq1-via-else-heuristics-eq1+then-is_empty}
+use Rattle.rectangle_pack_packing.proofs.pack.best.pack_rects_best.Goals as goal
 
 pub returns-then-heuristics-eq1-clause-answer : goal.returns-then-heuristics-eq1-clause-answer
 returns-then-heuristics-eq1-clause-answer g c =
