@@ -1,2 +1,1 @@
 pub mod Pushes
-pub mod private

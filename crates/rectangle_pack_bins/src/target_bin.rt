@@ -8,13 +8,13 @@ ghost use Rattle.rectangle_pack_sections.specs.Counting.{AreAllApart, times_fill
 ghost use Rattle.rectangle_pack_lists.specs.Joining.{IsJoined, IsSwept, ShareNoFace};
 ghost use Rattle.rectangle_pack_sections.specs.Keeping.{KeepCells};
 
+pub mod lending;
 mod placing;
-pub(crate) mod slotted;
 
 use rectangle_pack_lists::coalesce::{join_all, join_all_in, join_at};
 use rectangle_pack_lists::corners::Corners;
 pub use rectangle_pack_lists::fit_tests::FitTests;
-use rectangle_pack_lists::trial::plain::push_pieces;
+use rectangle_pack_lists::free_list::plain::push_pieces;
 use rectangle_pack_sections::bin_section::{BinSection, is_inside};
 use rectangle_pack_sections::width_height_depth::{WidthHeightDepth, any_size};
 use std::alloc::{AllocError, Allocator, Global};

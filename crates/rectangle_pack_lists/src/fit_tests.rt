@@ -1,5 +1,5 @@
 //! Counts of fit tests.
-ghost use Rattle.std.specs.Prelude.{◌≡◌, ◌+◌, ◌<◌, ◌^◌};
+ghost use Rattle.std.specs.Prelude.{◌≡◌, ◌+◌};
 ghost use Rattle.rectangle_pack_lists.specs.Numbers.{saturated};
 
 use std::marker::Model;
@@ -44,23 +44,9 @@ impl FitTests {
     }
 }
 
-/// For the proof alone: the count is read, which says that it is of 128 bits.
-pub fn bounded(tests: &FitTests)
-    ensures { tests.now < 2 ^ 128 }
-{
-    let _count = tests.count;
-}
-
-/// Counts so many tests more.
-pub fn add(tests: &mut FitTests, more: usize)
+/// Counts `more` tests more.
+pub fn add(tests: &mut FitTests, more: u128)
     ensures { tests.new ≡ saturated (tests.old + more) }
 {
-    tests.count = tests.count.saturating_add(more as u128);
-}
-
-/// Adds those of another count.
-pub fn add_all(tests: &mut FitTests, other: &FitTests)
-    ensures { tests.new ≡ saturated (tests.old + other.now) }
-{
-    tests.count = tests.count.saturating_add(other.count);
+    tests.count = tests.count.saturating_add(more);
 }

@@ -1,10 +1,11 @@
-//! Lists of free sections: trials in them, and joins. A layer of `rectangle_pack`, which passes on what
-//! is for its users.
+//! Lists of free sections: trials in them, and joins. A layer of `rectangle_pack`, which passes on
+//! what is for its users.
 #![tactic(auto)]
 
 pub mod coalesce;
 pub mod corners;
 pub mod fit_tests;
+pub mod free_list;
+pub mod gap_list;
 pub mod laws;
-pub mod section_slots;
 pub mod trial;

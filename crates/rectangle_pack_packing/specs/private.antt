@@ -3,6 +3,8 @@ pub mod Bounds
 pub mod Cells
 pub mod Excluded
 pub mod Orders
-pub mod Ends
+pub mod SummaryTrees
+pub mod BinsAtWork
+pub mod BinsOut
 pub mod PassedOver
-pub mod RollBack
+pub mod Ends

@@ -4,6 +4,7 @@
 #![tactic(auto)]
 
 pub mod answer;
+pub mod bins_at_work;
 pub mod homes;
 pub mod laws;
 pub mod order;

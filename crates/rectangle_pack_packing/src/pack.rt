@@ -29,7 +29,8 @@ pub use best::pack_rects_best;
 use rectangle_pack_bins::target_bin::TargetBin;
 use rectangle_pack_groups::grouped_rects_to_place::GroupedRectsToPlace;
 use rectangle_pack_groups::grouped_rects_to_place::multimap::number_after;
-use rectangle_pack_lists::fit_tests::{FitTests, add_all, bounded};
+use rectangle_pack_lists::fit_tests::{FitTests, add};
+use rectangle_pack_lists::free_list::End;
 use rectangle_pack_sections::closures::{Closures, Policy};
 use rectangle_pack_sections::group::Group;
 use rectangle_pack_sections::width_height_depth::WidthHeightDepth;
@@ -118,7 +119,7 @@ where
     //   rates by id. Each bin has one rate.
     // Done: each group goes whole into one bin, which is not excluded for it and in which its trial
     //   is done, as the groups before it left that bin. In each bin before that one in the order,
-    //   it is excluded or its trial is stuck. [try_bin.group_goes_on_into_the_next_bin]
+    //   it is excluded or its trial is stuck. [run_trial.group_goes_on_into_the_next_bin]
     // Done: a bin is excluded for a group exactly where a group that is excluded with it went there
     //   earlier in the same packing. [place_next.exclusions_are_not_used]
     // Done: in a trial each member in turn goes to the corner of the newest section that holds it.
@@ -126,9 +127,9 @@ where
     // Done: that section is taken out of the list. The pieces of an allowed cut, as `pieces` of
     //   `try_place` says it, stand at the end of the list, by falling rate, at equal rates in the
     //   order right, above, behind; those without cells are left out.
-    //   [place_noted.sections_are_joined]
+    //   [into_sections.sections_are_joined]
     // Done: the list of the bin that takes a group becomes the list of that trial. All else in the
-    //   bins stays. [close.kept_packing_drops_its_slots]
+    //   bins stays. [end.kept_packing_is_undone]
     // Done: there is one placement for each entry of each group, group after group. It has an id
     //   that equals the entry's, the bin of the group, and the location of the entry in that trial.
     // Done: each id that was placed is found with the bin and the location of its last placement.
@@ -206,17 +207,24 @@ where
         heuristic: box_size_heuristic,
         comparison: more_suitable_containers_fn,
     };
-    pack_by(alloc, rects_to_place, target_bins, &policy, false, tests)
+    pack_by(
+        alloc,
+        rects_to_place,
+        target_bins,
+        &policy,
+        End::Keep,
+        tests,
+    )
 }
 
-// Packs all groups into the bins by a policy. Where it is refused for space, `undoes_refused` says
-// whether what was placed is undone.
+// Packs all groups into the bins by a policy. Where it is refused for space, `refused` says what
+// becomes of what was placed.
 fn pack_by<Id, BinId, GroupId, R, A>(
     alloc: A,
     rects_to_place: &GroupedRectsToPlace<Id, GroupId, A>,
     target_bins: &mut BTreeMap<BinId, TargetBin<A>, A>,
     policy: &R,
-    undoes_refused: bool,
+    refused: End,
     tests: &mut FitTests,
 ) -> Result<RectanglePackOk<Id, BinId, A>, RectanglePackError>
 where
@@ -229,12 +237,13 @@ where
     requires bin_ids { ClonesEqual BinId.is_clone BinId.eq }
     requires callable { R.is_callable policy.now }
     ensures answer { IsUndoneAnswer ⟦<Group<GroupId, Id> as Ord>⟧.cmp
-        (rules_by Id.cmp BinId.cmp (R.may policy.now)) undoes_refused rects_to_place.now
+        (rules_by Id.cmp BinId.cmp (R.may policy.now)) refused rects_to_place.now
         (bins_of target_bins.old.entries) tests.old result (bins_of target_bins.new.entries)
         tests.new }
     ensures no_groups { rects_to_place.now.groups ≡ [] → IsOk result }
 {
-    bounded(tests);
+    // Only the proof asks for it: a count is less than 2^128.
+    let _count = tests.count();
     if rects_to_place.groups().is_empty() {
         return Ok(answer_of(BTreeMap::new(alloc), Vec::new(alloc)));
     }
@@ -247,7 +256,7 @@ where
         target_bins,
         order.as_slice(),
         policy,
-        undoes_refused,
+        refused,
         tests,
     )
 }
@@ -259,7 +268,7 @@ fn pack_in_order<Id, BinId, GroupId, R, A>(
     target_bins: &mut BTreeMap<BinId, TargetBin<A>, A>,
     order: &[(u128, BinId)],
     policy: &R,
-    undoes_refused: bool,
+    refused: End,
     tests: &mut FitTests,
 ) -> Result<RectanglePackOk<Id, BinId, A>, RectanglePackError>
 where
@@ -278,7 +287,7 @@ where
     requires distinct_bins { IsDistinct (eq_by_cmp BinId.cmp)
         (keys_of (bins_of target_bins.old.entries)) }
     ensures answer { IsUndoneAnswer ⟦<Group<GroupId, Id> as Ord>⟧.cmp
-        (rules_by Id.cmp BinId.cmp (R.may policy.now)) undoes_refused rects_to_place.now
+        (rules_by Id.cmp BinId.cmp (R.may policy.now)) refused rects_to_place.now
         (bins_of target_bins.old.entries) tests.old result (bins_of target_bins.new.entries)
         tests.new }
 {
@@ -286,8 +295,14 @@ where
     let bins = std::mem::replace(target_bins, BTreeMap::new(alloc));
     let mut packing = Packing::new(bins, order, alloc);
     let packed = pack_noted(&mut packing, rects_to_place, entries, policy);
-    add_all(tests, &packing.tests);
-    let (bins, answer) = end_packing(alloc, packing, packed, undoes_refused);
+    let counted = packing.tests.count();
+    let (bins, answer) = end_packing(alloc, packing, packed, refused);
     *target_bins = bins;
+    let made = match answer {
+        Ok(_) => counted,
+        Err(RectanglePackError::NotEnoughBinSpace) => counted,
+        Err(RectanglePackError::OutOfMemory) => 0,
+    };
+    add(tests, made);
     answer
 }

@@ -26,7 +26,7 @@ use Rattle.rectangle_pack.specs.Promise.{PacksAsPromised}
 use Rattle.rectangle_pack.specs.Session.{State, Packs, numbered, packed_reply}
 use Rattle.rectangle_pack.proofs.lemmas.session.Promise.{packs-promised}
 use Rattle.rectangle_pack_packing.proofs.lemmas.determinism.Either.{Includes, PackingDone-more, PackingRefused-more}
-use Rattle.rectangle_pack_bins.proofs.lemmas.bins.Journals.{lookup-bins_of}
+use Rattle.rectangle_pack_bins.proofs.lemmas.bins.Maps.{lookup-bins_of}
 use Rattle.rectangle_pack_sections.proofs.lemmas.groups.GroupOrder.{same_order}
 use Rattle.packrun_lines.specs.Store.{Name, name_cmp, Store, no_boxes, group_order, volume_rules, TakesBox, PacksBoxes, placements_made, sections_in}
 

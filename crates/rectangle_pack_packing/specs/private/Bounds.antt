@@ -1,12 +1,11 @@
--- What bounds the fit tests of a packing that has not ended.
-use Rattle.std.specs.Prelude.{◌≡◌, ℕ, ◌+◌, ◌*◌, ◌≤◌, List, length, unwrap_or}
+-- What bounds the fit tests of a packing.
+use Rattle.std.specs.Prelude.{ℕ, ◌+◌, ◌*◌, ◌≤◌, List, length, unwrap_or}
 use Rattle.std.specs.declared.cmp.Ordering.{Ordering}
 use Rattle.std.specs.List.{sum_by}
 use Rattle.std.specs.Option.{option_map}
 use Rattle.std.specs.Map.{lookup}
 use Rattle.std.specs.BTreeMap.{is_at}
 use Rattle.rectangle_pack_sections.specs.Bins.{Bin}
-use Rattle.rectangle_pack_lists.specs.Numbers.{saturated}
 
 -- how many free sections the bin of this id has
 abbrev pub free_sections_at : {B : Type 0} → (B → B → Ordering) → List (B × Bin) → B → ℕ
@@ -20,9 +19,3 @@ free_sections_of bin_cmp bins order = sum_by (free_sections_at bin_cmp bins) ord
 -- free section and n · (n - 1) for each bin
 pub record AreWithin {B : Type 0} (bin_cmp : B → B → Ordering) (bins : List (B × Bin)) (order : List B) (entries tests : ℕ) : Type 0 where
   pub most : tests + length order * entries ≤ entries * free_sections_of bin_cmp bins order + length order * (entries * entries)
-
--- some number of tests within that bound (`AreWithin`) was added to a count
-pub record AddsWithin {B : Type 0} (bin_cmp : B → B → Ordering) (bins : List (B × Bin)) (order : List B) (entries before after : ℕ) : Type 0 where
-  pub tests : ℕ
-  pub within : AreWithin bin_cmp bins order entries tests
-  pub added : after ≡ saturated (before + tests)

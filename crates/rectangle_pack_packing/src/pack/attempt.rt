@@ -1,4 +1,4 @@
-//! A packing that is tried: kept, or rolled back.
+//! A packing that is tried: kept, or undone.
 ghost use Rattle.std.specs.Prelude.{◌≡◌, List, length, IfOk, OnErr, MatchOption, true, false};
 ghost use Rattle.rectangle_pack_sections.specs.Clones.{ClonesEqual};
 ghost use Rattle.rectangle_pack_sections.specs.Groups.{entries_of};
@@ -11,15 +11,16 @@ use crate::pack::first_fit::pack_noted;
 use crate::pack::packing::Packing;
 use rectangle_pack_bins::target_bin::TargetBin;
 use rectangle_pack_groups::grouped_rects_to_place::GroupedRectsToPlace;
+use rectangle_pack_lists::free_list::End;
 use rectangle_pack_sections::closures::Policy;
 use rectangle_pack_sections::group::Group;
 use std::alloc::{AllocError, Allocator};
 use std::collections::BTreeMap;
 use std::mem;
 
-/// Packs all groups, in which there are so many entries: what it placed, or `None` where it is
+/// Packs all groups, in which there are `entries` entries: what it placed, or `None` where it is
 /// refused for space. Only where it is done and `keeps` asks for it, the packing is kept; else it
-/// is rolled back.
+/// is undone.
 pub fn try_packing<Id, BinId, GroupId, R, A>(
     alloc: A,
     groups: &GroupedRectsToPlace<Id, GroupId, A>,
@@ -59,11 +60,7 @@ where
     let mut packing = Packing::new(before, order.as_slice(), alloc);
     let packed = pack_noted(&mut packing, groups, entries, policy);
     let is_kept = keeps && packed == Ok(true);
-    let (after, placements) = if is_kept {
-        packing.keep()
-    } else {
-        packing.roll_back()
-    };
+    let (after, placements) = packing.end(if is_kept { End::Keep } else { End::Undo });
     *bins = after;
     Ok(if packed? { Some(placements) } else { None })
 }

@@ -14,6 +14,7 @@ use rectangle_pack_bins::target_bin::TargetBin;
 use rectangle_pack_groups::grouped_rects_to_place::GroupedRectsToPlace;
 use rectangle_pack_groups::grouped_rects_to_place::multimap::number_after;
 use rectangle_pack_lists::fit_tests::FitTests;
+use rectangle_pack_lists::free_list::End;
 use rectangle_pack_sections::box_size_heuristics::Heuristic;
 use rectangle_pack_sections::closures::Named;
 use rectangle_pack_sections::group::Group;
@@ -237,7 +238,7 @@ where
         rects_to_place,
         target_bins,
         &policy,
-        true,
+        End::Undo,
         &mut FitTests::new(),
     )?;
     Ok((heuristic, packed))

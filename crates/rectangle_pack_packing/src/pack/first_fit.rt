@@ -1,33 +1,28 @@
 //! One packing: group after group into the first bin that takes it.
-ghost use Rattle.std.specs.Prelude.{ℕ, ◌≡◌, ◌<◌, ◌+◌, ◌≤◌, ◌∷◌, ◌++◌, [], length, vec_len, List, false, IfOk, OnErr, All, MatchBool, MatchOption, map, slice_index_or};
+ghost use Rattle.std.specs.Prelude.{ℕ, ◌≡◌, ◌<◌, ◌+◌, ◌∷◌, ◌++◌, [], length, List, false, IfOk, All, MatchBool, MatchOption, map, slice_index_or};
 ghost use Rattle.std.specs.BTreeMap.{is_at};
 ghost use Rattle.std.specs.Bool.{OnTrue};
 ghost use Rattle.std.specs.List.{IsDistinct};
 ghost use Rattle.std.specs.Map.{keys_of};
-ghost use Rattle.std.specs.Vec.{vec_capacity};
 ghost use Rattle.rectangle_pack_sections.specs.Clones.{ClonesEqual};
 ghost use Rattle.rectangle_pack_packing.specs.declared.answer.Placement.{Placement};
 ghost use Rattle.std.specs.Ordering.{eq_by_cmp};
 ghost use Rattle.rectangle_pack_lists.specs.Numbers.{saturated};
 ghost use Rattle.rectangle_pack_packing.specs.Orders.{IsBinOrder};
 ghost use Rattle.rectangle_pack_packing.specs.Packing.{rules_by, excludes_by, at_start, Members, IsStuckIn, IsPlaced, IsRefused, AreAllPlaced, PackingDone, PackingRefused};
-ghost use Rattle.rectangle_pack_sections.specs.Bins.{bins_of};
 ghost use Rattle.rectangle_pack_sections.specs.Groups.{entries_of};
 ghost use Rattle.rectangle_pack_packing.specs.PackAnswers.{AreCounted};
 ghost use Rattle.rectangle_pack_packing.specs.private.Excluded.{are_in, AreHomesKept};
-ghost use Rattle.rectangle_pack_packing.specs.private.Bounds.{AddsWithin};
-ghost use Rattle.rectangle_pack_packing.specs.private.Orders.{members_of, members_in, HasSizes, StopsAmong};
-ghost use Rattle.rectangle_pack_packing.specs.private.RollBack.{GoesOn, StaysUndoable};
+ghost use Rattle.rectangle_pack_packing.specs.private.Orders.{members_of, HasSizes, StopsAmong};
 
 use crate::answer::{Placement, name_all};
 use crate::homes::{ExcludedBins, Homes};
 use crate::order::{OrderedGroup, group_order};
 use crate::pack::next_bin::next_bin;
 use crate::pack::packing::Packing;
-use rectangle_pack_bins::journal::note_trial;
 use rectangle_pack_groups::grouped_rects_to_place::exclusions::Exclusions;
 use rectangle_pack_groups::grouped_rects_to_place::{GroupedRectsToPlace, exclusions_of};
-use rectangle_pack_lists::fit_tests::bounded;
+use rectangle_pack_lists::fit_tests::add;
 use rectangle_pack_sections::closures::Policy;
 use rectangle_pack_sections::group::Group;
 use rectangle_pack_sections::rect_to_insert::RectToInsert;
@@ -55,13 +50,12 @@ where
     requires in_order { index < length packing.old.bins.order }
     requires at_index { (rate : ℕ) ×
         ((rate, id.now) ≡ slice_index_or packing.old.bins.order index (rate, id.now)) }
-    requires journal_room { vec_len packing.old.journal < vec_capacity packing.old.journal }
     ensures placed { IfOk result
         (λ done.
         let by = rules_by Id.cmp B.cmp (R.may policy.now) in
         let group : Members Id = record { ids = ids.now; sizes = sizes.now } in
-        let old = bins_of packing.old.bins.kept in
-        let new = bins_of packing.new.bins.kept in
+        let old = packing.old.bins.now in
+        let new = packing.new.bins.now in
         MatchBool done
         ((added : List (Placement Id B)) × (count : ℕ) ×
         IsPlaced by (λ other. false) (id.now ∷ []) group old added new count ×
@@ -71,36 +65,23 @@ where
         IsStuckIn by old group id.now count ×
         (new ≡ old) ×
         (packing.new.placements.items ≡ packing.old.placements.items) ×
-        (packing.new.journal ≡ packing.old.journal) ×
         (packing.new.tests ≡ saturated (packing.old.tests + count)))) }
-    ensures stopped { OnErr result
-        (AddsWithin B.cmp (bins_of packing.old.bins.kept) (id.now ∷ []) (length sizes.now)
-        packing.old.tests packing.new.tests) }
-    ensures goes_on { GoesOn B.cmp packing.old packing.new }
+    ensures start { packing.new.bins.start ≡ packing.old.bins.start }
+    ensures order { packing.new.bins.order ≡ packing.old.bins.order }
 {
-    bounded(&packing.tests);
-    let done = packing.bins.try_bin(
-        index,
-        sizes,
-        policy,
-        &mut packing.tests,
-        &mut packing.buffers,
-    )?;
-    if !done {
-        return Ok(false);
+    let trial = packing
+        .bins
+        .run_trial(index, sizes, policy, &mut packing.locations)?;
+    add(&mut packing.tests, trial.tests);
+    if trial.is_done {
+        let locations = packing.locations.as_slice();
+        name_all(&mut packing.placements, ids, id, locations)?;
     }
-    note_trial(&mut packing.journal, id, &mut packing.buffers.notes);
-    name_all(
-        &mut packing.placements,
-        ids,
-        id,
-        packing.buffers.locations.as_slice(),
-    )?;
-    Ok(true)
+    Ok(trial.is_done)
 }
 
 // Puts a group into the first bin of the order that is not excluded and whose trial is done; the
-// id of that bin. The bins up to there, excluded ones too, are checked out, where there is room.
+// id of that bin.
 fn place_group<'b, Id, B, R, A>(
     packing: &mut Packing<'b, Id, B, A>,
     ids: &[Id],
@@ -117,15 +98,14 @@ where
     requires bin_ids { ClonesEqual B.is_clone B.eq }
     requires callable { R.is_callable policy.now }
     requires lengths { length ids.now ≡ length sizes.now }
-    requires journal_room { vec_len packing.old.journal < vec_capacity packing.old.journal }
     ensures placed { IfOk result
         (λ placed.
         let by = rules_by Id.cmp B.cmp (R.may policy.now) in
         let excludes = are_in B.cmp excluded.now in
         let names = map (λ o. o.1) packing.old.bins.order in
         let group : Members Id = record { ids = ids.now; sizes = sizes.now } in
-        let old = bins_of packing.old.bins.kept in
-        let new = bins_of packing.new.bins.kept in
+        let old = packing.old.bins.now in
+        let new = packing.new.bins.now in
         MatchOption placed
         ((count : ℕ) ×
         IsRefused by excludes names group old count ×
@@ -138,16 +118,12 @@ where
         (at.here ≡ here.now) ×
         (packing.new.placements.items ≡ packing.old.placements.items ++ added) ×
         (packing.new.tests ≡ saturated (packing.old.tests + count)))) }
-    ensures stopped { OnErr result
-        (AddsWithin B.cmp (bins_of packing.old.bins.kept)
-        (map (λ o. o.1) packing.old.bins.order) (length sizes.now)
-        packing.old.tests packing.new.tests) }
-    ensures goes_on { GoesOn B.cmp packing.old packing.new }
+    ensures start { packing.new.bins.start ≡ packing.old.bins.start }
+    ensures order { packing.new.bins.order ≡ packing.old.bins.order }
 {
-    bounded(&packing.tests);
     let mut from = 0;
     while let Some((index, id)) = next_bin(
-        &mut packing.bins,
+        &packing.bins,
         from,
         sizes,
         excluded,
@@ -184,7 +160,6 @@ where
     requires bin_ids { ClonesEqual B.is_clone B.eq }
     requires callable { R.is_callable policy.now }
     requires in_range { HasSizes sizes.now group.now }
-    requires journal_room { vec_len packing.old.journal < vec_capacity packing.old.journal }
     ensures placed { IfOk result
         (λ done.
         (placed : List (K × B)) →
@@ -194,8 +169,8 @@ where
         let excludes = excludes_by K.cmp B.cmp exclusions.now placed group.now.name.now in
         let names = map (λ o. o.1) packing.old.bins.order in
         let (name, members) = members_of sizes.now group.now in
-        let old = bins_of packing.old.bins.kept in
-        let new = bins_of packing.new.bins.kept in
+        let old = packing.old.bins.now in
+        let new = packing.new.bins.now in
         MatchBool done
         ((added : List (Placement Id B)) × (count : ℕ) ×
         (at : IsPlaced by excludes names members old added new count) ×
@@ -206,14 +181,9 @@ where
         IsRefused by excludes names members old count ×
         (new ≡ old) ×
         (packing.new.tests ≡ saturated (packing.old.tests + count)))) }
-    ensures stopped { OnErr result
-        (AddsWithin B.cmp (bins_of packing.old.bins.kept)
-        (map (λ o. o.1) packing.old.bins.order)
-        (length (members_of sizes.now group.now).1.sizes)
-        packing.old.tests packing.new.tests) }
-    ensures goes_on { GoesOn B.cmp packing.old packing.new }
+    ensures start { packing.new.bins.start ≡ packing.old.bins.start }
+    ensures order { packing.new.bins.order ≡ packing.old.bins.order }
 {
-    bounded(&packing.tests);
     let (ids, members) = (group.ids.as_slice(), group.sizes_in(sizes));
     let partners = exclusions.partners(group.name);
     let excluded = homes.excluded_bins(partners)?;
@@ -246,14 +216,15 @@ where
     requires in_range { All (HasSizes sizes.now) groups.now }
     requires distinct_groups { IsDistinct (eq_by_cmp K.cmp) (map (λ o. o.name.now) groups.now) }
     requires no_placements { packing.old.placements.items ≡ [] }
+    requires no_tests { packing.old.tests ≡ 0 }
     ensures packed { IfOk result
         (λ done.
         let by = rules_by Id.cmp B.cmp (R.may policy.now) in
         let excludes = excludes_by K.cmp B.cmp exclusions.now in
         let names = map (λ o. o.1) packing.old.bins.order in
         let members = map (members_of sizes.now) groups.now in
-        let old = bins_of packing.old.bins.kept in
-        let new = bins_of packing.new.bins.kept in
+        let old = packing.old.bins.now in
+        let new = packing.new.bins.now in
         MatchBool done
         ((homes : List (K × B)) × (count : ℕ) ×
         AreAllPlaced by excludes names members (at_start old) packing.new.placements.items
@@ -262,15 +233,10 @@ where
         ((count : ℕ) ×
         StopsAmong by excludes names members old new count ×
         (packing.new.tests ≡ saturated (packing.old.tests + count)))) }
-    ensures stopped { OnErr result
-        (AddsWithin B.cmp (bins_of packing.old.bins.kept) (map (λ o. o.1) packing.old.bins.order)
-        (members_in (map (members_of sizes.now) groups.now)) packing.old.tests packing.new.tests) }
-    ensures back { StaysUndoable B.cmp packing.old packing.new }
+    ensures start { packing.new.bins.start ≡ packing.old.bins.start }
 {
-    bounded(&packing.tests);
-    packing.bins.make_room(groups.len(), sizes.len())?;
-    packing.journal.reserve(groups.len())?;
-    let mut homes = Homes::new(*packing.journal.allocator());
+    packing.bins.make_ready(groups.len(), sizes.len())?;
+    let mut homes = Homes::new(*packing.locations.allocator());
     for group in groups {
         if !place_next(packing, group, sizes, exclusions, &mut homes, policy)? {
             return Ok(false);
@@ -279,8 +245,8 @@ where
     Ok(true)
 }
 
-/// Packs all groups, in which there are so many entries; whether each was placed. However it ends,
-/// the packing can be kept, or rolled back to what it could be rolled back to before.
+/// Packs all groups, in which there are `entries` entries; whether each was placed. However it ends,
+/// what it did can be kept or undone.
 pub fn pack_noted<Id, BinId, GroupId, R, A>(
     packing: &mut Packing<'_, Id, BinId, A>,
     rects_to_place: &GroupedRectsToPlace<Id, GroupId, A>,
@@ -296,37 +262,33 @@ where
     requires ids { ClonesEqual Id.is_clone Id.eq }
     requires bin_ids { ClonesEqual BinId.is_clone BinId.eq }
     requires callable { R.is_callable policy.now }
-    requires order { IsBinOrder (R.may policy.now).rate BinId.cmp (bins_of packing.old.bins.kept)
+    requires order { IsBinOrder (R.may policy.now).rate BinId.cmp packing.old.bins.now
         packing.old.bins.order }
     requires distinct { IsDistinct (eq_by_cmp BinId.cmp)
-        (keys_of (bins_of packing.old.bins.kept)) }
+        (keys_of packing.old.bins.now) }
     requires no_placements { packing.old.placements.items ≡ [] }
+    requires no_tests { packing.old.tests ≡ 0 }
     ensures packed { IfOk result
         (λ done.
         let groups = ⟦<Group<GroupId, Id> as Ord>⟧.cmp in
         let by = rules_by Id.cmp BinId.cmp (R.may policy.now) in
-        let old = bins_of packing.old.bins.kept in
-        let new = bins_of packing.new.bins.kept in
+        let old = packing.old.bins.now in
+        let new = packing.new.bins.now in
         MatchBool done
         ((packed : PackingDone groups by rects_to_place.now old
         packing.new.placements.items new) ×
         AreCounted rects_to_place.now old packed.tests packing.old.tests packing.new.tests)
         ((refused : PackingRefused groups by rects_to_place.now old new) ×
         AreCounted rects_to_place.now old refused.tests packing.old.tests packing.new.tests)) }
-    ensures stopped { OnErr result
-        ((tests : ℕ) ×
-        AreCounted rects_to_place.now (bins_of packing.old.bins.kept) tests packing.old.tests
-        packing.new.tests) }
-    ensures back { StaysUndoable BinId.cmp packing.old packing.new }
+    ensures start { packing.new.bins.start ≡ packing.old.bins.start }
     ensures counted { IfOk result
         (λ done.
         OnTrue done
         (length packing.new.placements.items ≡ entries_of rects_to_place.now)) }
 {
-    bounded(&packing.tests);
     let rects = rects_to_place.rects();
     let lists = rects_to_place.groups();
-    let alloc = *packing.journal.allocator();
+    let alloc = *packing.locations.allocator();
     let mut sizes = Vec::with_capacity(alloc, entries)?;
     let groups = group_order(alloc, rects, lists, policy, &mut sizes)?;
     packing.placements.reserve(entries)?;

@@ -2,9 +2,10 @@
 ghost use Rattle.std.specs.Prelude.{ℕ, ◌≡◌, ◌<◌, ◌+◌, ◌≤◌, length, MatchOption, IfSome, ◌-◌, ◌^◌, drop, map, slice_index_or, take};
 ghost use Rattle.rectangle_pack_packing.specs.private.PassedOver.{ArePassedOver};
 
+use crate::bins_at_work::BinsAtWork;
+use crate::bins_at_work::summary_tree::Passed;
 use crate::homes::ExcludedBins;
-use rectangle_pack_bins::checkout::PackingBins;
-use rectangle_pack_lists::fit_tests::{FitTests, add, bounded};
+use rectangle_pack_lists::fit_tests::{FitTests, add};
 use rectangle_pack_sections::rect_to_insert::RectToInsert;
 use std::alloc::Allocator;
 
@@ -12,46 +13,44 @@ use std::alloc::Allocator;
 // first member of a group for which no bin is excluded. Their tests are counted; the index of the
 // next bin.
 fn pass_over<'b, B: Ord, A: Allocator + Copy>(
-    bins: &PackingBins<'b, B, A>,
+    bins: &BinsAtWork<'b, B, A>,
     from: usize,
     sizes: &[RectToInsert],
     excluded: &ExcludedBins<'b, B, A>,
     tests: &mut FitTests,
 ) -> usize
     ensures from { from ≤ result }
-    ensures passed { ArePassedOver B.cmp excluded.now bins.now.kept sizes.now
+    ensures passed { ArePassedOver B.cmp excluded.now bins.now.now sizes.now
         (map (λ o. o.1) (take (result - from) (drop from bins.now.order))) tests.old tests.new }
 {
-    bounded(tests);
-    match sizes.first() {
-        Some(first) if excluded.is_empty() => {
-            let passed = bins.next_bin(from, first);
-            add(tests, passed.tests);
-            passed.index
-        }
-        _ => from,
-    }
+    let passed = match sizes.first() {
+        Some(first) if excluded.is_empty() => bins.pass_over(from, first),
+        _ => Passed {
+            index: from,
+            tests: 0,
+        },
+    };
+    add(tests, passed.tests as u128);
+    passed.index
 }
 
-// The next bin for a group, from this index on, and its index; those before it are passed over. It
-// is checked out, where there is room.
+// The next bin for a group, from this index on, and its index; those before it are passed over.
 pub(crate) fn next_bin<'b, B: Ord, A: Allocator + Copy>(
-    bins: &mut PackingBins<'b, B, A>,
+    bins: &BinsAtWork<'b, B, A>,
     from: usize,
     sizes: &[RectToInsert],
     excluded: &ExcludedBins<'b, B, A>,
     tests: &mut FitTests,
 ) -> Option<(usize, &'b B)>
-    ensures same { bins.new ≡ bins.old }
     ensures next { MatchOption result
-        (ArePassedOver B.cmp excluded.now bins.old.kept sizes.now
-        (map (λ o. o.1) (drop from bins.old.order)) tests.old tests.new)
+        (ArePassedOver B.cmp excluded.now bins.now.now sizes.now
+        (map (λ o. o.1) (drop from bins.now.order)) tests.old tests.new)
         (λ next.
-        (from ≤ next.0) × (next.0 < length bins.old.order) ×
+        (from ≤ next.0) × (next.0 < length bins.now.order) ×
         ((rate : ℕ) ×
-        ((rate, next.1.now) ≡ slice_index_or bins.old.order next.0 (rate, next.1.now))) ×
-        ArePassedOver B.cmp excluded.now bins.old.kept sizes.now
-        (map (λ o. o.1) (take (next.0 - from) (drop from bins.old.order))) tests.old tests.new) }
+        ((rate, next.1.now) ≡ slice_index_or bins.now.order next.0 (rate, next.1.now))) ×
+        ArePassedOver B.cmp excluded.now bins.now.now sizes.now
+        (map (λ o. o.1) (take (next.0 - from) (drop from bins.now.order))) tests.old tests.new) }
     ensures small { IfSome result (λ next. next.0 + 1 < 2 ^ 64) }
 {
     let order = bins.order();
@@ -60,6 +59,5 @@ pub(crate) fn next_bin<'b, B: Ord, A: Allocator + Copy>(
         return None;
     }
     let (_, id) = &order[index];
-    bins.check_out(index);
     Some((index, id))
 }

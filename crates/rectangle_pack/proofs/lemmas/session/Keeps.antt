@@ -20,7 +20,7 @@ use Rattle.rectangle_pack_sections.proofs.lemmas.util.Lists.{All-front, All-back
 use Rattle.rectangle_pack_sections.proofs.lemmas.cuts.Counting.{filled-append, filled-nil, filled_yes, filled_from_some}
 use Rattle.rectangle_pack_sections.proofs.lemmas.cuts.Trees.{IsFromCuts-leaf}
 use Rattle.rectangle_pack_packing.proofs.lemmas.packing.Frame.{IsRecut, changed-all}
-use Rattle.rectangle_pack_bins.proofs.lemmas.bins.Journals.{lookup-bins_of, is_some-bins_of}
+use Rattle.rectangle_pack_bins.proofs.lemmas.bins.Maps.{lookup-bins_of, is_some-bins_of}
 use Rattle.rectangle_pack_packing.proofs.lemmas.packing.KeepsCuts.{KeepsCuts, KeepsBoxes, IsFrame-boxes, KeptBySteps-boxes}
 use Rattle.rectangle_pack_sections.proofs.lemmas.util.Maps.{lookup-equal, lookup-written, is_some-keys, insert_entry-map_values}
 use Rattle.rectangle_pack_sections.proofs.lemmas.util.Searches.{some_of}

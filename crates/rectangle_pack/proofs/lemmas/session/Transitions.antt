@@ -19,7 +19,7 @@ use Rattle.rectangle_pack_packing.specs.Packing.{Rules}
 use Rattle.rectangle_pack.specs.Session.{State, outstanding_in, IsSession, IsOutstanding, GivesBack, AddsBin, Releases, Packs, Coalesces, IsTransition, IsRun}
 use Rattle.rectangle_pack_packing.proofs.lemmas.packing.Frame.{IsRecut, IsFrame-recut}
 use Rattle.rectangle_pack_lists.proofs.lemmas.joining.Joins.{IsJoined-cells, IsSwept-cells, IsJoined-keeps, IsSwept-keeps, join-inside}
-use Rattle.rectangle_pack_bins.proofs.lemmas.bins.Journals.{bins_of-written}
+use Rattle.rectangle_pack_bins.proofs.lemmas.bins.Maps.{bins_of-written}
 use Rattle.rectangle_pack_sections.proofs.lemmas.util.Maps.{lookup-equal, lookup-inserted}
 use Rattle.rectangle_pack.proofs.lemmas.session.Keeps.{Some-bins_of, None-bins_of, bins_of-insert_entry, IsSession-carried, AreCarried-written, known-kept}
 use Rattle.rectangle_pack.proofs.lemmas.session.Keeps.{IsSession-added, IsSession-released, IsSession-done}

@@ -2,7 +2,7 @@ use Rattle.rectangle_pack_c.proofs.Std.{◌≡◌, List, map, arith, sym, ap, �
 use Rattle.std.proofs.Common.{Bor}
 use Rattle.std.specs.Map.Iter.{deref_pair}
 use Rattle.std.proofs.lemmas.Map.Iter.{iter_turn, iter_end}
-use Rattle.rectangle_pack_bins.proofs.lemmas.bins.Journals.{keys-bins}
+use Rattle.rectangle_pack_bins.proofs.lemmas.bins.Maps.{keys-bins}
 use Rattle.rectangle_pack_c.proofs.LoopLemmas.{told_next}
 use Rattle.rectangle_pack_c.proofs.reading.tell_bins.Goals as goal
 

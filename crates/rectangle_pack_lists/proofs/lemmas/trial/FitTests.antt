@@ -1,13 +1,12 @@
 -- How many fit tests a trial makes at most.
-use Rattle.rectangle_pack_sections.proofs.Std.{◌≡◌, ℕ, zero, suc, ◌+◌, ◌-◌, ◌*◌, ◌≤◌, Bool, List, [], ◌∷◌, length, ap, arith, inl, inr, length-append, Result}
+use Rattle.rectangle_pack_sections.proofs.Std.{◌≡◌, ℕ, zero, suc, ◌+◌, ◌-◌, ◌*◌, ◌≤◌, List, [], ◌∷◌, length, ap, arith, inl, inr, length-append, Result}
 use Rattle.rectangle_pack_sections.proofs.Std.{Ok, Err, Option, Some, None, mul-le-mul_left, Vec}
 use Rattle.rectangle_pack_sections.specs.Boxes.{Size, Cuboid}
 use Rattle.rectangle_pack_sections.specs.Bins.{Bin}
 use Rattle.rectangle_pack_lists.specs.Steps.{IsStep, IsDone, IsStuck}
 use Rattle.rectangle_pack_sections.specs.Closures.{Answers}
 use Rattle.rectangle_pack_lists.specs.Trials.{IsTrialAnswer, most_tests}
-use Rattle.rectangle_pack_lists.specs.private.TrialNotes.{IsTried}
-use Rattle.rectangle_pack_lists.proofs.lemmas.trial.Steps.{length-step, trial_passes}
+use Rattle.rectangle_pack_lists.proofs.lemmas.trial.Steps.{length-step}
 
 pub square : (m : ℕ) → m ≤ m * m
 square zero = omega arith
@@ -55,7 +54,7 @@ module _ (may : Answers) where
   counted-le old ms counted (Ok (Some locations)) new counter (n, done, same, is) =
       omega (arith, is, done-most old.sections ms locations.items new.sections n done)
   counted-le old ms counted (Ok None) new counter (n, stuck, same, is) =
-      omega (arith, is, stuck-most old.sections ms n stuck)
+      omega (arith, is, stuck-most old.sections ms n stuck.0)
   counted-le old ms counted (Err error) new counter (same, is) = omega (arith, is)
 
   -- and a trial that is done makes the list longer by at most two a member
@@ -67,9 +66,3 @@ module _ (may : Answers) where
       let a = length-step may sections m l next one step in
       let b = grown-le next ms ls last others done in
       omega arith
-
-  pub grown-tried : {E : Type 0} (sections : List Cuboid) (ms : List Size) (counted : ℕ) (r : Result Bool E) (ls last : List Cuboid) (counter : ℕ)
-      → IsTried may sections ms counted r ls last counter → length last ≤ length sections + 2 * length ms
-  grown-tried sections ms counted r ls last counter tried =
-      trial_passes may (λ (l : List Cuboid). length l ≤ length sections + 2 * length ms) sections ms counted r ls last counter tried
-      (λ n is h. grown-le sections ms ls last n is) (omega arith)

@@ -1,6 +1,6 @@
 -- What a step and a trial keep.
 use Rattle.rectangle_pack_sections.proofs.Std.{◌≡◌, ℕ, ◌+◌, ◌≤◌, Bool, true, false, List, [], ◌∷◌, ◌++◌, length, arith, refl, ap, sym, subst, ◌∙◌}
-use Rattle.rectangle_pack_sections.proofs.Std.{length-append, All, map, Result, Ok, Err, AllZip, zip, IsPermutation, All-head, All-tail, All-append, All-filter}
+use Rattle.rectangle_pack_sections.proofs.Std.{length-append, All, map, Result, Ok, Err, Some, None, if◌then◌else◌, AllZip, zip, IsPermutation, All-head, All-tail, All-append, All-filter}
 use Rattle.rectangle_pack_sections.proofs.Std.{All-same, All-weaker, length-filter, count_by-le-length, IsPermutation-map, All-permutation, length_permutation}
 use Rattle.rectangle_pack_sections.specs.Closures.{Answers}
 use Rattle.rectangle_pack_sections.specs.Boxes.{Size, Cuboid, Cell, FitsU32, IsInside, IsPartOf, has_cells}
@@ -10,7 +10,9 @@ use Rattle.rectangle_pack_sections.specs.CutTrees.{times_in, HaveSameBoxes}
 use Rattle.rectangle_pack_sections.specs.Counting.{times_filled, AreAllApart}
 use Rattle.rectangle_pack_sections.specs.Keeping.{KeepCells}
 use Rattle.rectangle_pack_lists.specs.Steps.{AreLeft, IsStep, IsDone}
-use Rattle.rectangle_pack_lists.specs.private.TrialNotes.{IsTried}
+use Rattle.rectangle_pack_lists.specs.Trials.{IsTrial}
+use Rattle.rectangle_pack_lists.specs.declared.trial.Trial.{Trial}
+use Rattle.rectangle_pack_lists.specs.private.FreeLists.{IsTried}
 use Rattle.rectangle_pack_sections.proofs.lemmas.util.Lists.{All-front, All-back}
 use Rattle.rectangle_pack_sections.proofs.lemmas.cuts.Counting.{filled-append, filled-cons, filled-nil, apart_from_counts, counts_from_apart}
 use Rattle.rectangle_pack_sections.proofs.lemmas.cuts.Counting.{KeepCells-from_counts, filled-filter, filled-permutation}
@@ -128,20 +130,31 @@ module _ (may : Answers) where
   }
 
   -- what a trial that is done keeps, every trial keeps: one that is stuck or out of memory leaves the list
-  pub trial_passes : {E : Type 0} (P : List Cuboid → Type 0) (sections : List Cuboid) (ms : List Size) (counted : ℕ) (r : Result Bool E)
-      (ls last : List Cuboid) (counter : ℕ)
-      → IsTried may sections ms counted r ls last counter
+  pub IsTrial-passes : (P : List Cuboid → Type 0) (sections : List Cuboid) (ms : List Size) (done : Bool) (ls last : List Cuboid) (n : ℕ)
+      → IsTrial may sections ms (if done then Some ls else None) last n
+      → ((m : ℕ) → IsDone may sections ms ls last m → P sections → P last) → P sections → P last
+  IsTrial-passes P sections ms true ls last n trial passes h = passes n trial h
+  IsTrial-passes P sections ms false ls last n trial passes h = subst P (sym trial.1) h
+
+  pub trial_passes : {E : Type 0} (P : List Cuboid → Type 0) (sections : List Cuboid) (ms : List Size) (r : Result Trial E) (ls last : List Cuboid)
+      → IsTried may sections ms r ls last
       → ((n : ℕ) → IsDone may sections ms ls last n → P sections → P last) → P sections → P last
-  trial_passes P sections ms counted (Ok true) ls last counter (n, done, is) passes h = passes n done h
-  trial_passes P sections ms counted (Ok false) ls last counter (n, stuck, same, is) passes h = subst P (sym same) h
-  trial_passes P sections ms counted (Err error) ls last counter (same, is) passes h = subst P (sym same) h
+  trial_passes P sections ms (Ok trial) ls last tried passes h = IsTrial-passes P sections ms trial.is_done ls last trial.tests tried passes h
+  trial_passes P sections ms (Err error) ls last tried passes h = subst P (sym tried) h
 
   -- a trial leaves a sound list sound
-  pub IsSound-tried : {E : Type 0} (size : Size) (sections : List Cuboid) (ms : List Size) (counted : ℕ) (r : Result Bool E)
-      (ls last : List Cuboid) (counter : ℕ)
-      → IsTried may sections ms counted r ls last counter → IsSound size sections → IsSound size last
-  IsSound-tried size sections ms counted r ls last counter tried =
-      trial_passes (IsSound size) sections ms counted r ls last counter tried (λ n. IsSound-done size sections ms ls last n)
+  pub IsSound-tried : {E : Type 0} (size : Size) (sections : List Cuboid) (ms : List Size) (r : Result Trial E) (ls last : List Cuboid)
+      → IsTried may sections ms r ls last → IsSound size sections → IsSound size last
+  IsSound-tried size sections ms r ls last tried =
+      trial_passes (IsSound size) sections ms r ls last tried (λ n. IsSound-done size sections ms ls last n)
+
+  -- nor does it lead beyond numbers of 32 bits
+  pub fits-tried : {E : Type 0} (sections : List Cuboid) (ms : List Size) (r : Result Trial E) (ls last : List Cuboid)
+      → IsTried may sections ms r ls last → All FitsU32 sections → All FitsU32 last
+  fits-tried sections ms r ls last tried =
+      trial_passes (All FitsU32) sections ms r ls last tried
+      (λ n done. IsDone-keeps FitsU32 sections ms ls last n
+      (λ b s ends fits. record { fits_x = omega arith; fits_y = omega arith; fits_z = omega arith }) done)
 
   -- a trial that is done keeps the cells
   pub KeepCells-done : (sections : List Cuboid) (ms : List Size) (ls last : List Cuboid) (n : ℕ) → AreAllApart sections → IsDone may sections ms ls last n

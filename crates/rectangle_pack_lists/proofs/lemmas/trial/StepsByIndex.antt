@@ -1,20 +1,15 @@
--- Steps by index, and the undoing of noted steps.
-use Rattle.rectangle_pack_sections.proofs.Std.{◌≡◌, ◌↔◌, ℕ, suc, ◌+◌, ◌-◌, ◌<◌, ◌≤◌, List, [], ◌∷◌, ◌++◌, length, get_or, take, drop, arith, refl, ap, sym, ◌∙◌}
-use Rattle.rectangle_pack_sections.proofs.Std.{subst, length-drop, add-one, inl, inr, All, remove, map, filter, Bool, true, false, Result, Ok, Err, IfOk}
-use Rattle.rectangle_pack_sections.proofs.Std.{OnTrue, AllWithin, HoldsAt, split_at, get_or-drop, take_more, zero}
-use Rattle.std.specs.Result.{IsErr}
+-- Steps by index, and the members of a trial one after another.
+use Rattle.rectangle_pack_sections.proofs.Std.{◌≡◌, ℕ, suc, ◌+◌, ◌-◌, ◌<◌, List, [], ◌∷◌, ◌++◌, length, get_or, take, drop, arith, refl, ap, sym}
+use Rattle.rectangle_pack_sections.proofs.Std.{subst, length-drop, add-one, inl, inr, All, remove, map, filter}
+use Rattle.rectangle_pack_sections.proofs.Std.{AllWithin, HoldsAt, split_at, get_or-drop, take_more, ◌∙◌, Result, Ok, Err}
+use Rattle.std.proofs.Common.{IsErr}
 use Rattle.rectangle_pack_sections.specs.Closures.{Answers}
-use Rattle.rectangle_pack_lists.specs.Numbers.{saturated}
-use Rattle.rectangle_pack_lists.specs.declared.trial.Note.{Note}
 use Rattle.rectangle_pack_sections.specs.Boxes.{Size, Cuboid, Holds, has_cells}
-use Rattle.rectangle_pack_sections.specs.Bins.{Bin, Held}
 use Rattle.rectangle_pack_sections.specs.Cuts.{placed}
 use Rattle.rectangle_pack_sections.specs.Choice.{IsAllowedCut}
-use Rattle.rectangle_pack_lists.specs.Steps.{IsStep, IsDone, IsStuck, AreLeft}
-use Rattle.rectangle_pack_lists.specs.private.FallingRates.{by_falling_rate}
-use Rattle.rectangle_pack_lists.specs.private.TrialNotes.{IsTried, IsNotedAnswer, LeavesNotes}
-use Rattle.rectangle_pack_lists.proofs.lemmas.trial.FallingRates.{AreRanked-by_falling_rate}
-use Rattle.rectangle_pack_lists.specs.private.Notes.{before_note, before_notes, CanUndo, CanUndoOne, LeadsBack}
+use Rattle.rectangle_pack_lists.specs.declared.trial.Trial.{Trial}
+use Rattle.rectangle_pack_lists.specs.private.FreeLists.{IsTried}
+use Rattle.rectangle_pack_lists.specs.Steps.{IsStep, IsDone, IsStuck, AreLeft, AreRanked}
 
 All-from_within_end : {X : Type 0} (P : X → Type 0) (xs : List X) (low : ℕ) → AllWithin P xs low (length xs) → All P (drop low xs)
 All-from_within_end P xs low h k d within =
@@ -42,25 +37,6 @@ IsStep-at may sections member i s cut left next within read held newest allowed 
   next_is = same;
   tests_are = let n = length-drop (suc i) sections in omega arith;
 }
-
--- the last noted step is undone first
-before_notes-push : (notes : List Note) (note : Note) (sections : List Cuboid)
-    → before_notes (notes ++ note ∷ []) sections ≡ before_notes notes (before_note note sections)
-before_notes-push [] note sections = refl
-before_notes-push (n ∷ notes) note sections = ap (before_note n) (before_notes-push notes note sections)
-
-CanUndo-push : (room : ℕ) (notes : List Note) (note : Note) (sections : List Cuboid)
-    → CanUndo room (notes ++ note ∷ []) sections ↔ (CanUndoOne room note sections × CanUndo room notes (before_note note sections))
-CanUndo-push room [] note sections = (λ h. (h.0, tt), λ h. (h.0, tt))
-CanUndo-push room (n ∷ notes) note sections =
-    let (pop, push) = CanUndo-push room notes note sections in
-    let e = before_notes-push notes note sections in
-    (λ h. ((pop h.1).0, (rw e at h.0, (pop h.1).1)), λ h. (rw e h.1.0, push (h.0, h.1.1)))
-
-pub CanUndo-more : (room more : ℕ) (notes : List Note) (sections : List Cuboid) → room ≤ more → CanUndo room notes sections → CanUndo more notes sections
-CanUndo-more room more [] sections le h = tt
-CanUndo-more room more (n ∷ notes) sections le h =
-    (record { kept = h.0.kept; index = h.0.index; fits = omega arith }, CanUndo-more room more notes sections le h.1)
 
 -- one more member is placed
 IsDone-push : (may : Answers) (sections : List Cuboid) (ms : List Size) (ls mid : List Cuboid) (n : ℕ) (m : Size) (l : Cuboid) (next : List Cuboid) (one : ℕ)
@@ -95,24 +71,6 @@ pub IsStuck-at : (may : Answers) (sections : List Cuboid) (ms : List Size) (i : 
 IsStuck-at may sections ms i m ls mid n within read done none =
     rw (split_at ms i m within, ← read) (IsStuck-after may sections (take i ms) ls mid n m (drop (suc i) ms) done none)
 
-pub saturated-add : (t s u a b : ℕ) → s ≡ saturated (t + a) → u ≡ saturated (s + b) → u ≡ saturated (t + (a + b))
-saturated-add t s u a b first second = omega arith
-
--- one more noted step
-pub LeadsBack-noted : (room more : ℕ) (notes : List Note) (note : Note) (mid next start : List Cuboid)
-    → before_note note next ≡ mid → room ≤ more → CanUndoOne more note next → LeadsBack room mid notes start → LeadsBack more next (notes ++ note ∷ []) start
-LeadsBack-noted room more notes note mid next start one le can back = record {
-  before = before_notes-push notes note next ∙ ap (before_notes notes) one ∙ back.before;
-  can = (CanUndo-push more notes note next).1 (can, subst (CanUndo more notes) (sym one) (CanUndo-more room more notes mid le back.can));
-}
-
--- the last noted step is undone, and then the others
-pub LeadsBack-popped : (room more : ℕ) (sections : List Cuboid) (notes : List Note) (note : Note) (start : List Cuboid) → room ≤ more
-    → LeadsBack room sections (notes ++ note ∷ []) start → CanUndoOne room note sections × LeadsBack more (before_note note sections) notes start
-LeadsBack-popped room more sections notes note start le back =
-    let (one, others) = (CanUndo-push room notes note sections).0 back.can in
-    (one, record { before = sym (before_notes-push notes note sections) ∙ back.before; can = CanUndo-more room more notes _ le others })
-
 -- a list of three, by its elements
 pub three_of : {X : Type 0} (xs : List X) (a b c : X) → length xs ≡ 3 → a ≡ get_or xs 0 a → b ≡ get_or xs 1 b → c ≡ get_or xs 2 c → xs ≡ a ∷ b ∷ c ∷ []
 three_of [] a b c n x y z = absurd (omega arith)
@@ -122,51 +80,22 @@ three_of (p ∷ q ∷ r ∷ []) a b c n x y z = rw (x, y, z) refl
 three_of (p ∷ q ∷ r ∷ s ∷ xs) a b c n x y z = absurd (omega arith)
 
 -- what is left of a cut, for rates of its three pieces
-pub AreLeft-three : (MayRate : Size → ℕ → Type 0) (cut : List Cuboid) (a b c : Cuboid) (i j k : ℕ)
-    → cut ≡ a ∷ b ∷ c ∷ [] → MayRate a.whd i → MayRate b.whd j → MayRate c.whd k
-    → AreLeft MayRate cut (filter has_cells (map (λ p. p.1) (by_falling_rate ((i, a) ∷ (j, b) ∷ (k, c) ∷ []))))
-AreLeft-three MayRate cut a b c i j k same x y z = rw same (record {
+pub AreLeft-three : (MayRate : Size → ℕ → Type 0) (cut : List Cuboid) (a b c : Cuboid) (i j k : ℕ) (ranked : List (ℕ × Cuboid))
+    → cut ≡ a ∷ b ∷ c ∷ [] → MayRate a.whd i → MayRate b.whd j → MayRate c.whd k → AreRanked ((i, a) ∷ (j, b) ∷ (k, c) ∷ []) ranked
+    → AreLeft MayRate cut (filter has_cells (map (λ p. p.1) ranked))
+AreLeft-three MayRate cut a b c i j k ranked same x y z are_ranked = rw same (record {
   rates = i ∷ j ∷ k ∷ [];
   rated = (x, (y, (z, tt)));
-  ranked = by_falling_rate ((i, a) ∷ (j, b) ∷ (k, c) ∷ []);
-  are_ranked = AreRanked-by_falling_rate ((i, a) ∷ (j, b) ∷ (k, c) ∷ []);
+  ranked = ranked;
+  are_ranked = are_ranked;
   are = refl;
 })
 
--- a count that began at none, added
-pub saturated-from : (t z s u n : ℕ) → z ≡ 0 → s ≡ saturated (z + n) → u ≡ saturated (t + s) → u ≡ saturated (t + n)
-saturated-from t z s u n none first second = omega arith
-
 -- a trial that is refused memory before its first step leaves the list
-pub IsTried-refused : {E : Type 0} (may : Answers) (sections : List Cuboid) (ms : List Size) (i : ℕ) (ls last : List Cuboid) (n before after : ℕ)
-    (r : Result Bool E) (locations now : List Cuboid)
-    → IsErr r → i ≡ 0 → IsDone may sections (take i ms) ls last n → now ≡ last → before ≡ saturated (before + 0) → after ≡ saturated (before + n)
-    → IsTried may sections ms before r locations now after
-IsTried-refused may sections ms i ls last n before after (Ok done) locations now error first steps same small is = absurd cc
-IsTried-refused may sections ms i ls last n before after (Err e) locations now error first steps same small is =
+pub IsTried-refused : {E : Type 0} (may : Answers) (sections : List Cuboid) (ms : List Size) (i : ℕ) (ls last : List Cuboid) (n : ℕ)
+    (r : Result Trial E) (locations now : List Cuboid)
+    → IsErr r → i ≡ 0 → IsDone may sections (take i ms) ls last n → now ≡ last → IsTried may sections ms r locations now
+IsTried-refused may sections ms i ls last n (Ok trial) locations now error first steps same = absurd cc
+IsTried-refused may sections ms i ls last n (Err e) locations now error first steps same =
     let none : IsDone may sections [] ls last n = rw first at steps in
-    (same ∙ none.1, (let e = none.2 in omega arith))
-
--- what has no less than nothing before it is first
-pub is_first : (i : ℕ) → ((0 < i) → ⊥) → i ≡ 0
-is_first zero h = refl
-is_first (suc i) h = absurd (h (omega arith))
-
--- what a trial in the list of a bin answers
-pub IsNotedAnswer-tried : {E : Type 0} (may : Answers) (old : Bin) (ms : List Size) (counted : ℕ) (r : Result Bool E) (ls last : List Cuboid) (counter : ℕ)
-    → IsTried may old.sections ms counted r ls last counter → IsNotedAnswer may old ms counted r ls (record old { sections = last }) counter
-IsNotedAnswer-tried may old ms counted (Ok true) ls last counter (n, done, is) = (n, done, refl, is)
-IsNotedAnswer-tried may old ms counted (Ok false) ls last counter (n, stuck, same, is) =
-    (n, stuck, ap (λ (s : List Cuboid). record old { sections = s }) same, is)
-IsNotedAnswer-tried may old ms counted (Err error) ls last counter (same, is) = (ap (λ (s : List Cuboid). record old { sections = s }) same, is)
-
--- and which notes it leaves
-pub LeavesNotes-tried : {E : Type 0} (may : Answers) (old : Held) (room : ℕ) (ms : List Size) (counted : ℕ) (r : Result Bool E) (notes : List Note)
-    (ls last : List Cuboid) (counter : ℕ)
-    → IsTried may old.bin.sections ms counted r ls last counter → IfOk r (λ done. OnTrue done (LeadsBack room last notes old.bin.sections))
-    → LeavesNotes r notes old (record { bin = record old.bin { sections = last }; room = room })
-LeavesNotes-tried may old room ms counted (Ok true) notes ls last counter tried back = (refl, back)
-LeavesNotes-tried may old room ms counted (Ok false) notes ls last counter (n, stuck, same, is) back =
-    ap (λ (s : List Cuboid). record old.bin { sections = s }) same
-LeavesNotes-tried may old room ms counted (Err error) notes ls last counter (same, is) back =
-    ap (λ (s : List Cuboid). record old.bin { sections = s }) same
+    same ∙ none.1

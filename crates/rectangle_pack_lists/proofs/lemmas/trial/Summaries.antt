@@ -1,13 +1,13 @@
--- Summaries of stretches of slots.
+-- Summaries of stretches of places.
 use Rattle.rectangle_pack_sections.proofs.Std.{◌≡◌, ◌≤◌, ◌<◌, ◌+◌, ◌*◌, ◌^◌, ◌≢◌, ℕ, List, [], ◌∷◌, ◌++◌, length, take, drop, set, get_or, refl, arith, inl}
 use Rattle.rectangle_pack_sections.proofs.Std.{inr, length-append, length-drop, append-nil, Option, Some, None, lt_of_mul-lt-mul_right, length-set}
 use Rattle.rectangle_pack_sections.proofs.Std.{get_or-append_seam, take-add, cases_order, drop-drop, get_or-drop, get_or_append_left, get_or-set_same}
 use Rattle.rectangle_pack_sections.proofs.Std.{get_or-set_other, get_or-take, take_all, length-take-le, All, All-append, All-cons, All-nil, All-weaker, ◌⊎◌}
 use Rattle.rectangle_pack_sections.specs.Boxes.{Cuboid, Size, Holds}
-use Rattle.rectangle_pack_lists.specs.private.Slots.{sections_of, NoneHolds}
-use Rattle.rectangle_pack_lists.specs.private.Summaries.{IsWithin, Bounds, Sums, RulesOut, SumAll, AreSummed, HaveSlots, of_section, joined}
-use Rattle.rectangle_pack_lists.specs.declared.section_slots.summary.Summary.{Summary}
-use Rattle.rectangle_pack_lists.proofs.lemmas.trial.Slots.{sections_of-append, length-sections_of}
+use Rattle.rectangle_pack_lists.specs.private.Places.{sections_of, NoneHolds}
+use Rattle.rectangle_pack_lists.specs.private.Summaries.{IsWithin, Bounds, Sums, RulesOut, SumAll, HavePlaces, of_section, joined}
+use Rattle.rectangle_pack_lists.specs.declared.gap_list.summary.Summary.{Summary}
+use Rattle.rectangle_pack_lists.proofs.lemmas.trial.Places.{sections_of-append, length-sections_of}
 use Rattle.rectangle_pack_lists.proofs.lemmas.util.Stretches.{stretch-ends, stretch-append, stretch-set, stretch-take}
 
 -- a section within one of two summaries is within both joined
@@ -30,13 +30,13 @@ Bounds-more s sections x p =
     let within : IsWithin whd x = record { wide = omega arith; high = omega arith; deep = omega arith; middle = omega arith; volume = omega arith } in
     Bounds-join s whd sections (x ∷ []) p (record { count = refl; within = All-cons (IsWithin whd) x [] within (All-nil _) })
 
--- the slots of two stretches
+-- the places of two stretches
 Sums-join : (a b : Summary) (s t : List (Option Cuboid)) → Sums a s → Sums b t → Sums (joined a b) (s ++ t)
 Sums-join a b s t p q = rw (sections_of-append s t) (Bounds-join a b (sections_of s) (sections_of t) p q)
 
--- one slot more, with a section
-pub Sums-more : (s : Summary) (slots : List (Option Cuboid)) (x : Cuboid) → Sums s slots → Sums (joined s (of_section x.whd)) (slots ++ Some x ∷ [])
-Sums-more s slots x p = rw (sections_of-append slots (Some x ∷ [])) (Bounds-more s (sections_of slots) x p)
+-- one place more, with a section
+pub Sums-more : (s : Summary) (places : List (Option Cuboid)) (x : Cuboid) → Sums s places → Sums (joined s (of_section x.whd)) (places ++ Some x ∷ [])
+Sums-more s places x p = rw (sections_of-append places (Some x ∷ [])) (Bounds-more s (sections_of places) x p)
 
 -- a size that both rule out together, each rules out
 pub RulesOut-joined : (a b : Summary) (size : Size) → RulesOut (joined a b) size → RulesOut a size × RulesOut b size
@@ -46,21 +46,21 @@ RulesOut-joined a b size out = (λ x within. out x (within-joined a b x (inl wit
 pub none-bounded : (s : Summary) (sections : List Cuboid) (size : Size) → Bounds s sections → RulesOut s size → All (λ x. ¬ Holds x size) sections
 none-bounded s sections size p out = All-weaker (IsWithin s) (λ x. ¬ Holds x size) out sections p.within
 
--- one slot more, an empty one
-pub Sums-empty : (s : Summary) (slots : List (Option Cuboid)) → Sums s slots → Sums s (slots ++ None ∷ [])
-Sums-empty s slots p =
-    let e = sections_of-append slots (None ∷ []) in
+-- one place more, a gap
+pub Sums-empty : (s : Summary) (places : List (Option Cuboid)) → Sums s places → Sums s (places ++ None ∷ [])
+Sums-empty s places p =
+    let e = sections_of-append places (None ∷ []) in
     record {
-      count = rw e (omega (arith, p.count, length-append (sections_of slots) []));
+      count = rw e (omega (arith, p.count, length-append (sections_of places) []));
       within = rw e (simp append-nil p.within);
     }
 
 -- no section of a stretch holds a size that no section within its summary does
-pub none-held : (s : Summary) (slots : List (Option Cuboid)) (size : Size)
-    → Sums s slots → RulesOut s size → NoneHolds slots size s.count
-none-held s slots size p out = record { none = none-bounded s (sections_of slots) size p out; tests_are = p.count }
+pub none-held : (s : Summary) (places : List (Option Cuboid)) (size : Size)
+    → Sums s places → RulesOut s size → NoneHolds places size s.count
+none-held s places size p out = record { none = none-bounded s (sections_of places) size p out; tests_are = p.count }
 
--- a slot more, which completes no stretch
+-- a place more, which completes no stretch
 pub SumAll-same : (w : ℕ) (s : List (Option Cuboid)) (ss : List Summary) (x : Option Cuboid)
     → length s + 1 < length ss * w + w → SumAll w s ss → SumAll w (s ++ x ∷ []) ss
 SumAll-same w s ss x h p = record {
@@ -69,7 +69,7 @@ SumAll-same w s ss x h p = record {
   each = λ k d lt. rw (stretch-append w (k * w) s (x ∷ []) (omega (arith, stretch-ends w k (length ss) lt, p.whole))) (p.each k d lt);
 }
 
--- a slot more, which completes a stretch
+-- a place more, which completes a stretch
 pub SumAll-more : (w : ℕ) (s : List (Option Cuboid)) (ss : List Summary) (x : Option Cuboid) (new : Summary)
     → length s + 1 ≡ length ss * w + w → Sums new (drop (length ss * w) (s ++ x ∷ [])) → SumAll w s ss → SumAll w (s ++ x ∷ []) (ss ++ new ∷ [])
 SumAll-more w s ss x new h n p =
@@ -88,7 +88,7 @@ SumAll-more w s ss x new h n p =
       ];
     }
 
--- a slot that is written, in no whole stretch
+-- a place that is written, in no whole stretch
 pub SumAll-out : (w : ℕ) (s : List (Option Cuboid)) (ss : List Summary) (i : ℕ) (v : Option Cuboid)
     → length ss * w ≤ i → SumAll w s ss → SumAll w (set s i v) ss
 SumAll-out w s ss i v h p = record {
@@ -97,7 +97,7 @@ SumAll-out w s ss i v h p = record {
   each = λ k d lt. rw (stretch-set w (k * w) i s v (inr (omega (arith, stretch-ends w k (length ss) lt)))) (p.each k d lt);
 }
 
--- a slot that is written, with its stretch summed anew
+-- a place that is written, with its stretch summed anew
 pub SumAll-in : (w : ℕ) (s : List (Option Cuboid)) (ss : List Summary) (i q : ℕ) (v : Option Cuboid) (new : Summary)
     → q * w ≤ i → i < q * w + w → q < length ss → Sums new (take w (drop (q * w) (set s i v))) → SumAll w s ss → SumAll w (set s i v) (set ss q new)
 SumAll-in w s ss i q v new from to in' n p = record {
@@ -116,7 +116,7 @@ SumAll-in w s ss i q v new from to in' n p = record {
   ];
 }
 
--- the first slots, with the summaries of their stretches
+-- the first places, with the summaries of their stretches
 pub SumAll-take : (w : ℕ) (s : List (Option Cuboid)) (ss : List Summary) (m q : ℕ)
     → q * w ≤ m → m < q * w + w → m ≤ length s → SumAll w s ss → SumAll w (take m s) (take q ss)
 SumAll-take w s ss m q from to in' p =
@@ -132,34 +132,22 @@ SumAll-take w s ss m q from to in' p =
           rw (get_or-take q ss k d below, first) (p.each k d (omega (arith, lt_of_mul-lt-mul_right w less)));
     }
 
--- without slots there is nothing to sum
-SumAll-empty : (w : ℕ) → 0 < w → SumAll w [] []
-SumAll-empty w h = record { whole = omega arith; rest = omega arith; each = λ k d lt. absurd (omega arith) }
-
-pub AreSummed-empty : (slots : List (Option Cuboid)) (blocks rows : List Summary) → slots ≡ [] → blocks ≡ [] → rows ≡ [] → AreSummed 8 64 slots blocks rows
-AreSummed-empty slots blocks rows a b c = rw (a, b, c) (record { in_blocks = SumAll-empty 8 (omega arith); in_rows = SumAll-empty 64 (omega arith) })
-
--- the same slots, blocks and rows
-pub AreSummed-same : (slots slots' : List (Option Cuboid)) (blocks blocks' rows rows' : List Summary)
-    → slots' ≡ slots → blocks' ≡ blocks → rows' ≡ rows → AreSummed 8 64 slots blocks rows → AreSummed 8 64 slots' blocks' rows'
-AreSummed-same slots slots' blocks blocks' rows rows' a b c summed = rw (a, b, c) summed
-
--- the slots of a block more
-pub Sums-block : (summary : Summary) (slots : List (Option Cuboid)) (blocks : List Summary) (i : ℕ) (d : Summary)
-    → i < length blocks → SumAll 8 slots blocks → Sums summary (take (i * 8) slots) → Sums (joined summary (get_or blocks i d)) (take ((i + 1) * 8) slots)
-Sums-block summary slots blocks i d h p so_far =
+-- the places of a block more
+pub Sums-block : (summary : Summary) (places : List (Option Cuboid)) (blocks : List Summary) (i : ℕ) (d : Summary)
+    → i < length blocks → SumAll 8 places blocks → Sums summary (take (i * 8) places) → Sums (joined summary (get_or blocks i d)) (take ((i + 1) * 8) places)
+Sums-block summary places blocks i d h p so_far =
     let more : (i + 1) * 8 ≡ i * 8 + 8 = omega arith in
-    rw (more, take-add (i * 8) 8 slots) (Sums-join summary (get_or blocks i d) (take (i * 8) slots) (take 8 (drop (i * 8) slots)) so_far (p.each i d h))
+    rw (more, take-add (i * 8) 8 places) (Sums-join summary (get_or blocks i d) (take (i * 8) places) (take 8 (drop (i * 8) places)) so_far (p.each i d h))
 
--- and their number is below that of all slots
-pub count-block : (summary : Summary) (blocks : List Summary) (i : ℕ) (d : Summary) → i < length blocks → HaveSlots blocks
-    → ((slots : List (Option Cuboid)) → SumAll 8 slots blocks → Sums summary (take (i * 8) slots)) → summary.count + (get_or blocks i d).count < 2 ^ 64
-count-block summary blocks i d h (slots, few, p) so_far =
-    let more = Sums-block summary slots blocks i d h p (so_far slots p) in
-    let short = length-take-le ((i + 1) * 8) slots (omega (arith, p.whole)) in
-    omega (arith, more.count, length-sections_of (take ((i + 1) * 8) slots), short, few, p.whole)
+-- and their number is below that of all places
+pub count-block : (summary : Summary) (blocks : List Summary) (i : ℕ) (d : Summary) → i < length blocks → HavePlaces blocks
+    → ((places : List (Option Cuboid)) → SumAll 8 places blocks → Sums summary (take (i * 8) places)) → summary.count + (get_or blocks i d).count < 2 ^ 64
+count-block summary blocks i d h (places, few, p) so_far =
+    let more = Sums-block summary places blocks i d h p (so_far places p) in
+    let short = length-take-le ((i + 1) * 8) places (omega (arith, p.whole)) in
+    omega (arith, more.count, length-sections_of (take ((i + 1) * 8) places), short, few, p.whole)
 
--- the slots without those of the first blocks
+-- the places without those of the first blocks
 SumAll-drop : (s : List (Option Cuboid)) (ss : List Summary) (q : ℕ) → q ≤ length ss → SumAll 8 s ss → SumAll 8 (drop (q * 8) s) (drop q ss)
 SumAll-drop s ss q h p =
     let short = length-drop q ss in
@@ -172,25 +160,38 @@ SumAll-drop s ss q h p =
           rw (get_or-drop q ss k d, drop-drop (k * 8) (q * 8) s, place) (p.each (q + k) d (omega (arith, short)));
     }
 
--- the slots of so many blocks from a block on
+-- the places of so many blocks from a block on
 SumAll-stretch : (s : List (Option Cuboid)) (ss : List Summary) (q n : ℕ)
     → q + n ≤ length ss → SumAll 8 s ss → SumAll 8 (take (n * 8) (drop (q * 8) s)) (take n (drop q ss))
 SumAll-stretch s ss q n h p =
     let short : n * 8 ≤ length (drop (q * 8) s) = omega (arith, p.whole, length-drop (q * 8) s) in
     SumAll-take 8 (drop (q * 8) s) (drop q ss) (n * 8) n (omega arith) (omega arith) short (SumAll-drop s ss q (omega arith) p)
 
-pub HaveSlots-stretch : (ss : List Summary) (q n : ℕ) → q + n ≤ length ss → HaveSlots ss → HaveSlots (take n (drop q ss))
-HaveSlots-stretch ss q n h (s, few, p) =
+pub HavePlaces-stretch : (ss : List Summary) (q n : ℕ) → q + n ≤ length ss → HavePlaces ss → HavePlaces (take n (drop q ss))
+HavePlaces-stretch ss q n h (s, few, p) =
     let fewer = length-take-le (n * 8) (drop (q * 8) s) (omega (arith, p.whole, length-drop (q * 8) s)) in
     (take (n * 8) (drop (q * 8) s), omega (arith, fewer, p.whole), SumAll-stretch s ss q n h p)
 
--- what sums the slots of the eight blocks of a row sums the row
+-- what sums the places of the eight blocks of a row sums the row
 pub Sums-row : (s : List (Option Cuboid)) (blocks : List Summary) (r : ℕ) (new : Summary) → r * 8 + 8 ≤ length blocks → SumAll 8 s blocks
-    → ((slots : List (Option Cuboid)) → length slots ≡ length (take 8 (drop (r * 8) blocks)) * 8
-    → SumAll 8 slots (take 8 (drop (r * 8) blocks)) → Sums new slots)
+    → ((places : List (Option Cuboid)) → length places ≡ length (take 8 (drop (r * 8) blocks)) * 8
+    → SumAll 8 places (take 8 (drop (r * 8) blocks)) → Sums new places)
     → Sums new (take 64 (drop (r * 64) s))
 Sums-row s blocks r new h p sums =
     let place : r * 8 * 8 ≡ r * 64 = omega arith in
     let eight = length-take-le 8 (drop (r * 8) blocks) (omega (arith, length-drop (r * 8) blocks)) in
     let long = length-take-le 64 (drop (r * 64) s) (omega (arith, p.whole, length-drop (r * 64) s)) in
     sums (take 64 (drop (r * 64) s)) (omega (arith, eight, long)) (rw place at (SumAll-stretch s blocks (r * 8) 8 h p))
+
+-- of the stretches that are summed so far, one more
+pub summed-more : (w : ℕ) (s : List (Option Cuboid)) (ss : List Summary) (n : ℕ) (new : Summary)
+    → length ss ≡ n → Sums new (take w (drop (n * w) s))
+    → ((k : ℕ) (d : Summary) → k < n → Sums (get_or ss k d) (take w (drop (k * w) s)))
+    → (k : ℕ) (d : Summary) → k < n + 1 → Sums (get_or (ss ++ new ∷ []) k d) (take w (drop (k * w) s))
+summed-more w s ss n new count here each k d lt = elim (cases_order k n) [
+  | inl e ↦ rw (e, ← count) (rw (get_or-append_seam ss new [] d, count) here)
+  | inr (inl below) ↦
+      let within : k < length ss = omega arith in
+      rw (get_or_append_left ss (new ∷ []) d k within) (each k d below)
+  | inr (inr above) ↦ absurd (omega arith)
+]

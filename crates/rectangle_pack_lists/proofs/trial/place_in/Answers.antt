@@ -1,7 +1,6 @@
-use Rattle.rectangle_pack_sections.proofs.Std.{rules, ◌≡◌, List, [], ◌∷◌, sym, subst, filter, map}
+use Rattle.rectangle_pack_sections.proofs.Std.{rules, List, [], ◌∷◌, sym, subst, filter}
 use Rattle.rectangle_pack_sections.specs.Boxes.{Cuboid, has_cells}
-use Rattle.rectangle_pack_lists.specs.Steps.{AreLeft}
-use Rattle.rectangle_pack_lists.specs.private.FallingRates.{by_falling_rate}
+use Rattle.rectangle_pack_lists.specs.Steps.{AreLeft, AreRanked}
 use Rattle.rectangle_pack_sections.proofs.lemmas.cuts.Pieces.{length-chosen}
 use Rattle.rectangle_pack_lists.proofs.lemmas.trial.StepsByIndex.{AreLeft-three, three_of}
 use Rattle.rectangle_pack_lists.proofs.trial.place_in.Goals as goal
@@ -16,7 +15,9 @@ returns-clause-pieces g c =
     let three = three_of cut right above behind (length-chosen c.args.section.now c.args.member.now cut allowed) c.index-place-0.is
     c.index-place-1.is c.index-place-2.is in
     let rate = (g.R.Policy.may c.args.policy.now).rate in
-    let left = AreLeft-three rate cut right above behind c.rate.result c.rate-2.result c.rate-3.result three (search rules) (search rules) (search rules) in
-    let same : c.by_falling_rate-pieces.result ≡ map (λ p. p.1)
-    (by_falling_rate ((c.rate.result, right) ∷ (c.rate-2.result, above) ∷ (c.rate-3.result, behind) ∷ [])) = search rules in
+    let (ranked, are_ranked, same) = c.by_falling_rate-pieces.ensures in
+    let as_read : AreRanked ((c.rate.result, right) ∷ (c.rate-2.result, above) ∷ (c.rate-3.result, behind) ∷ []) ranked =
+    rw (c.index-place-0.is, c.index-place-1.is, c.index-place-2.is) are_ranked in
+    let left = AreLeft-three rate cut right above behind c.rate.result c.rate-2.result c.rate-3.result ranked three (search rules) (search rules)
+    (search rules) as_read in
     (cut, allowed, subst (λ (bs : List Cuboid). AreLeft rate cut (filter has_cells bs)) (sym same) left)

@@ -1,9 +1,10 @@
 -- The best of a list that has one heuristic.
-use Rattle.rectangle_pack_sections.proofs.Std.{◌≡◌, ℕ, List, [], ◌∷◌, ◌++◌, length, get_or, refl, sym, subst, arith, true, All-nil, All-cons, Ordering, Result, Ok, Err}
+use Rattle.rectangle_pack_sections.proofs.Std.{◌≡◌, ℕ, List, [], ◌∷◌, ◌++◌, length, get_or, refl, sym, subst, arith, All-nil, All-cons, Ordering, Result, Ok, Err}
 use Rattle.rectangle_pack_sections.specs.declared.box_size_heuristics.named.Heuristic.{Heuristic}
 use Rattle.rectangle_pack_sections.specs.Bins.{Bin}
 use Rattle.rectangle_pack_sections.specs.declared.group.Group.{Group}
 use Rattle.rectangle_pack_sections.specs.Groups.{Collection}
+use Rattle.rectangle_pack_lists.specs.declared.free_list.End.TheVariants.{Undo}
 use Rattle.rectangle_pack_packing.specs.declared.answer.RectanglePackOk.{RectanglePackOk}
 use Rattle.rectangle_pack_packing.specs.declared.answer.RectanglePackError.{RectanglePackError}
 use Rattle.rectangle_pack_packing.specs.declared.answer.RectanglePackError.TheVariants.{NotEnoughBinSpace, OutOfMemory}
@@ -38,7 +39,7 @@ module _ {Id B G : Type 0} (group_cmp : Group G Id → Group G Id → Ordering) 
 
   -- so what a packing with it answers, where it is undone if it is refused, is the answer for the list
   module _ (A : Type 0) (new : List (B × Bin)) (before after : ℕ) where
-    pub alone-packed : (ok : RectanglePackOk Id B A) → IsUndoneAnswer group_cmp (named_rules cmp bin_cmp heuristic) true all old before (Ok ok) new after
+    pub alone-packed : (ok : RectanglePackOk Id B A) → IsUndoneAnswer group_cmp (named_rules cmp bin_cmp heuristic) Undo all old before (Ok ok) new after
         → IsBestAnswer group_cmp cmp bin_cmp all old (heuristic ∷ []) (Ok (heuristic, ok)) new
     alone-packed ok (packed, counted) = (
       packed,
@@ -47,7 +48,7 @@ module _ {Id B G : Type 0} (group_cmp : Group G Id → Group G Id → Ordering) 
     )
 
     pub alone-failed : (error : RectanglePackError)
-        → IsUndoneAnswer {A = A} group_cmp (named_rules cmp bin_cmp heuristic) true all old before (Err error) new after
+        → IsUndoneAnswer {A = A} group_cmp (named_rules cmp bin_cmp heuristic) Undo all old before (Err error) new after
         → IsBestAnswer group_cmp cmp bin_cmp all old {A = A} (heuristic ∷ []) (Err error) new
     alone-failed NotEnoughBinSpace (left, refused, counted, same) =
         (All-cons (IsRefusedWith group_cmp cmp bin_cmp all old) heuristic [] (record { left = left; refused = refused }) (All-nil _), same)

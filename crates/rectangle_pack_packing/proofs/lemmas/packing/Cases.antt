@@ -1,9 +1,8 @@
 -- What follows from an answer by its case.
-use Rattle.rectangle_pack_sections.proofs.Std.{◌≡◌, ℕ, ◌+◌, ◌<◌, ◌≤◌, ◌^◌, Bool, true, false, List, refl, Ordering, Option, Some, None, MatchOption, arith}
+use Rattle.rectangle_pack_sections.proofs.Std.{◌≡◌, ℕ, ◌+◌, ◌≤◌, Bool, true, false, List, refl, Option, Some, None, MatchOption, arith}
 use Rattle.rectangle_pack_sections.specs.Bins.{Bin}
 use Rattle.rectangle_pack_sections.specs.Boxes.{Size}
 use Rattle.rectangle_pack_packing.specs.Packing.{Rules, Members, IsStuckIn, DoesNotTake}
-use Rattle.rectangle_pack_packing.specs.private.Bounds.{AddsWithin}
 use Rattle.rectangle_pack_lists.specs.Numbers.{saturated}
 
 -- the one or the other
@@ -14,12 +13,21 @@ on-none P Q (Some x) e h = absurd cc
 pub on-some : {A : Type 0} (P : Type 0) (Q : A → Type 0) (o : Option A) (x : A) → o ≡ Some x → MatchOption o P Q → Q x
 on-some P Q o x e h = rw e at h
 
--- a count that no test was added to
-pub saturated-none : (n : ℕ) → n < 2 ^ 128 → n ≡ saturated (n + 0)
-saturated-none n h = omega (arith, h)
+-- none added to a count that tests were added to before
+pub saturated-none : (before mid : ℕ) → mid ≡ saturated before → mid ≡ saturated (mid + 0)
+saturated-none before mid h = omega (arith, h)
 
-pub saturated-none-more : (before mid : ℕ) → mid ≡ saturated before → mid ≡ saturated (mid + 0)
-saturated-none-more before mid h = omega (arith, h)
+-- a count that tests were added to twice
+pub saturated-add : (t s u a b : ℕ) → s ≡ saturated (t + a) → u ≡ saturated (s + b) → u ≡ saturated (t + (a + b))
+saturated-add t s u a b first second = omega arith
+
+-- what is added later is added with them
+pub saturated-later : (t s a : ℕ) → s ≡ saturated (t + a) → (later : ℕ) → saturated (s + later) ≡ saturated (t + (a + later))
+saturated-later t s a first later = omega arith
+
+-- and one that tests were added to which had been counted from none on
+pub saturated-from : (t z s u n : ℕ) → z ≡ 0 → s ≡ saturated (z + n) → u ≡ saturated (t + s) → u ≡ saturated (t + n)
+saturated-from t z s u n none first second = omega arith
 
 -- a part begins before it ends, and ends where as many as there are do
 pub begins_before : (start long : ℕ) → start ≤ start + long
@@ -27,10 +35,6 @@ begins_before start long = omega arith
 
 pub ends_within : (start long count all : ℕ) → long ≡ count → start + count ≤ all → start + long ≤ all
 ends_within start long count all same h = omega (arith, same, h)
-
--- what stays as long is no longer than with one more
-pub no_longer : (n : ℕ) → n ≤ n + 1
-no_longer n = omega arith
 
 -- members by their parts
 pub members-alike : {Id : Type 0} (m : Members Id) (ids : List Id) (sizes : List Size) → ids ≡ m.ids → sizes ≡ m.sizes → record { ids = ids; sizes = sizes } ≡ m
@@ -45,8 +49,3 @@ module _ {Id B : Type 0} (rules : Rules Id B) (excluded : B → Bool) (bins : Li
   pub DoesNotTake-stuck : (same : List (B × Bin)) (count : ℕ) → excluded id ≡ false → same ≡ bins → IsStuckIn rules same group id count
       → DoesNotTake rules excluded bins group id count
   DoesNotTake-stuck same count e alike stuck = rw (e, ← alike) stuck
-
--- what is within the tests of `entries` entries is within those of as many
-pub adds-as-many : {B : Type 0} (bin_cmp : B → B → Ordering) (bins : List (B × Bin)) (order : List B) (entries others before after : ℕ)
-    → entries ≡ others → AddsWithin bin_cmp bins order entries before after → AddsWithin bin_cmp bins order others before after
-adds-as-many bin_cmp bins order entries others before after same h = rw (← same) h

@@ -1,12 +1,12 @@
 -- How many fit tests a packing makes at most.
-use Rattle.rectangle_pack_sections.proofs.Std.{◌≡◌, ℕ, zero, suc, ◌+◌, ◌-◌, ◌*◌, ◌<◌, ◌≤◌, Bool, true, false, cond, List, [], ◌∷◌, ◌++◌, take, drop, get_or}
+use Rattle.rectangle_pack_sections.proofs.Std.{◌≡◌, ℕ, zero, suc, ◌+◌, ◌-◌, ◌*◌, ◌≤◌, Bool, true, false, cond, List, [], ◌∷◌, ◌++◌}
 use Rattle.rectangle_pack_sections.proofs.Std.{append-nil, length, refl, sym, ◌∙◌, ap, arith, length-append, Option, Some, None}
 use Rattle.rectangle_pack_sections.proofs.Std.{IsSomeAnd, MatchBool, map, sum, unwrap_or, Ordering, Equal, length-map, IsTotalOrder, Equal-is, is_eq, eq_by_cmp}
 use Rattle.rectangle_pack_sections.proofs.Std.{option_map, AllZip, sum_by, IsDistinct, AllByRecursion, lookup, keys_of, is_at, mul-le-mul_left, sum_by-cons}
 use Rattle.rectangle_pack_sections.proofs.Std.{sum_by-append, IsDistinct-head, IsDistinct-tail, sum_by-IsPermutation, IsPermutation-map, length_permutation}
 use Rattle.rectangle_pack_sections.proofs.Std.{IsDistinct-cons, IsDistinct-IsPermutation, append_assoc, tied_itself, All-weaker, sum_by_push, All, All-head}
 use Rattle.rectangle_pack_sections.proofs.Std.{All-tail}
-use Rattle.rectangle_pack_packing.proofs.lemmas.packing.Groups.{AreGroups-length, names-split}
+use Rattle.rectangle_pack_packing.proofs.lemmas.packing.Groups.{AreGroups-length}
 use Rattle.rectangle_pack_packing.specs.declared.answer.Placement.{Placement}
 use Rattle.rectangle_pack_sections.specs.Boxes.{Size, Cuboid}
 use Rattle.rectangle_pack_sections.specs.Bins.{Bin}
@@ -17,22 +17,16 @@ use Rattle.rectangle_pack_sections.specs.Groups.{Collection, entries_of}
 use Rattle.rectangle_pack_packing.specs.Orders.{IsBinOrder}
 use Rattle.rectangle_pack_lists.specs.Numbers.{saturated}
 use Rattle.rectangle_pack_packing.specs.PackAnswers.{sections_in, AreCounted}
-use Rattle.rectangle_pack_packing.specs.private.Bounds.{free_sections_at, free_sections_of, AreWithin, AddsWithin}
+use Rattle.rectangle_pack_packing.specs.private.Bounds.{free_sections_at, free_sections_of, AreWithin}
 use Rattle.rectangle_pack_packing.specs.private.Orders.{entries_at, members_in}
 use Rattle.rectangle_pack_sections.specs.declared.group.Group.{Group}
 use Rattle.rectangle_pack_sections.proofs.lemmas.groups.Excluded.{is_at-equal}
 use Rattle.rectangle_pack_sections.proofs.lemmas.util.Maps.{lookup-equal, is_at-back, congr_right}
 use Rattle.rectangle_pack_sections.proofs.lemmas.util.Zips.{length-zip, AllZip-weaker}
 use Rattle.rectangle_pack_packing.proofs.lemmas.packing.Placed.{lookup-placed}
-use Rattle.rectangle_pack_lists.proofs.lemmas.trial.StepsByIndex.{saturated-add, saturated-from}
+use Rattle.rectangle_pack_packing.proofs.lemmas.packing.Cases.{saturated-from}
 use Rattle.rectangle_pack_packing.proofs.lemmas.packing.Orders.{AllZip-more, IsDistinct-apart}
 use Rattle.rectangle_pack_lists.proofs.lemmas.trial.FitTests.{square, done-le, stuck-le, grown-le}
-
--- no test is within every bound
-pub adds-none : {B : Type 0} (bin_cmp : B → B → Ordering) (bins : List (B × Bin)) (order : List B) (entries before after : ℕ)
-    → after ≡ saturated (before + 0) → AddsWithin bin_cmp bins order entries before after
-adds-none bin_cmp bins order entries before after small =
-    record { tests = 0; within = record { most = omega (arith, mul-le-mul_left (length order) (square entries)) }; added = small }
 
 -- functions that agree on the elements have the same sum
 sum_by-same : {X : Type 0} (f g : X → ℕ) (xs : List X) → All (λ x. f x ≡ g x) xs → sum_by f xs ≡ sum_by g xs
@@ -42,7 +36,7 @@ sum_by-same f g (x ∷ xs) h =
     omega (arith, All-head (λ x. f x ≡ g x) x xs h, rest, sum_by-cons f x xs, sum_by-cons g x xs)
 
 -- of more entries than were tried there are as few tests
-pub AreWithin-more : {B : Type 0} (bin_cmp : B → B → Ordering) (bins : List (B × Bin)) (order : List B) (some all n : ℕ) → some ≤ all
+AreWithin-more : {B : Type 0} (bin_cmp : B → B → Ordering) (bins : List (B × Bin)) (order : List B) (some all n : ℕ) → some ≤ all
     → AreWithin bin_cmp bins order some n → AreWithin bin_cmp bins order all n
 AreWithin-more bin_cmp bins order some all n le h =
     let e : all ≡ some + (all - some) = omega arith in
@@ -96,45 +90,11 @@ module _ {Id B : Type 0} (rules : Rules Id B) (o : IsTotalOrder rules.bin_cmp) w
         rw (splits, ← append_assoc before (here ∷ []) after, ← sum_by_push (λ k. k) counts count)
         (shares-le m bins (before ++ here ∷ []) after (counts ++ count ∷ []) (AllZip-more (IsShare m bins) before counts here count shares share))
 
-  -- the same of one bin, with the tests counted
-  pub adds-alone : (g : Members Id) (bins : List (B × Bin)) (here : B) (bin : Bin) (ls last : List Cuboid) (count before after : ℕ)
-      → lookup (is_at (rules.bin_cmp here)) bins ≡ Some bin → IsDone rules.may bin.sections g.sizes ls last count → after ≡ saturated (before + count)
-      → AddsWithin rules.bin_cmp bins (here ∷ []) (length g.sizes) before after
-  adds-alone g bins here bin ls last count before after found done added =
-      let le = tried-le (λ id. false) g bins [] [] tt (here ∷ []) here [] bin ls last count refl found done in
-      record { tests = count; within = record { most = omega (arith, le.most) }; added = added }
-
-  -- and of an order with keys, at an index
-  pub adds-begun : (excluded : B → Bool) (order : List (ℕ × B)) (i : ℕ) (x : ℕ × B) (g : Members Id) (bins mid_bins : List (B × Bin)) (counts : List ℕ)
-      (before mid after : ℕ) → i < length order → x ≡ get_or order i x → mid_bins ≡ bins
-      → AllZip (DoesNotTake rules excluded bins g) (map (λ (x : ℕ × B). x.1) (take i order)) counts → mid ≡ saturated (before + sum counts)
-      → AddsWithin rules.bin_cmp mid_bins (x.1 ∷ []) (length g.sizes) mid after
-      → AddsWithin rules.bin_cmp bins (map (λ (x : ℕ × B). x.1) order) (length g.sizes) before after
-  adds-begun excluded order i x g bins mid_bins counts before mid after within is same passed added last =
-      let m = length g.sizes in
-      let names : List B = map (λ (x : ℕ × B). x.1) (take i order) in
-      let rest : List B = map (λ (x : ℕ × B). x.1) (drop (suc i) order) in
-      let one = rw same at last.within in
-      let share : IsShare m bins x.1 last.tests = omega (arith, one.most, ap (λ n. m * n) (sum_by-cons (free_sections_at rules.bin_cmp bins) x.1 [])) in
-      let all = AllZip-more (IsShare m bins) names counts x.1 last.tests (shares excluded g bins names counts passed) share in
-      record {
-        tests = sum counts + last.tests;
-        within = rw (names-split order i x within is, ← append_assoc names (x.1 ∷ []) rest, ← sum_by_push (λ k. k) counts last.tests)
-            (shares-le m bins (names ++ x.1 ∷ []) rest (counts ++ last.tests ∷ []) all);
-        added = saturated-add before mid after (sum counts) last.tests added last.added;
-      }
-
   -- so a group that is placed
   placed-le : (excluded : B → Bool) (order : List B) (g : Members Id) (old : List (B × Bin)) (ps : List (Placement Id B)) (new : List (B × Bin)) (n : ℕ)
       → IsPlaced rules excluded order g old ps new n → AreWithin rules.bin_cmp old order (length g.sizes) n
   placed-le excluded order g old ps new n p = rw p.tests_are
       (tried-le excluded g old p.before p.counts p.passed order p.here p.after p.bin p.locations p.last p.count p.order_is p.found p.done)
-
-  -- with the tests counted
-  pub adds-one : (excluded : B → Bool) (order : List B) (g : Members Id) (old : List (B × Bin)) (ps : List (Placement Id B)) (new : List (B × Bin))
-      (n before after : ℕ) → IsPlaced rules excluded order g old ps new n → after ≡ saturated (before + n)
-      → AddsWithin rules.bin_cmp old order (length g.sizes) before after
-  adds-one excluded order g old ps new n before after p added = record { tests = n; within = placed-le excluded order g old ps new n p; added = added }
 
   -- and one that is refused
   refused-le : (excluded : B → Bool) (order : List B) (g : Members Id) (bins : List (B × Bin)) (n : ℕ) → IsRefused rules excluded order g bins n
@@ -220,13 +180,6 @@ module _ {Id B : Type 0} (rules : Rules Id B) (o : IsTotalOrder rules.bin_cmp) w
           some = omega (arith, head.some, tail.some);
         })
 
-    -- a beginning of groups has no more members than all
-    begins-within : (bins : List (B × Bin)) (names : List B) (all gs later : List (K × Members Id)) (n : ℕ) → all ≡ gs ++ later
-        → AreWithin rules.bin_cmp bins names (members_in gs) n → AreWithin rules.bin_cmp bins names (members_in all) n
-    begins-within bins names all gs later n splits h =
-        AreWithin-more rules.bin_cmp bins names (members_in gs) (members_in all) n
-        (omega (arith, ap members_in splits, sum_by-append (λ (g : K × Members Id). length g.1.sizes) gs later)) h
-
     module _ (order : List B) (gs : List (K × Members Id)) (old : Stage K B) (ps : List (Placement Id B)) (new : Stage K B) (n : ℕ)
         (d : IsDistinct (eq_by_cmp rules.bin_cmp) order) (placed : AreAllPlaced rules excludes order gs old ps new n) where
       -- groups that are placed
@@ -238,17 +191,6 @@ module _ {Id B : Type 0} (rules : Rules Id B) (o : IsTotalOrder rules.bin_cmp) w
           → AreWithin rules.bin_cmp old.bins order (members_in (gs ++ g ∷ [])) (n + one)
       more-within g one last = rw (sum_by_push (λ (m : K × Members Id). length m.1.sizes) gs g)
           (record { most = joined-le (length order) _ _ (members_in gs) (length g.1.sizes) n one (all-le order gs old ps new n d placed) last.most })
-
-      -- the same of a beginning of groups, with the tests counted
-      pub adds-more : (all : List (K × Members Id)) (g : K × Members Id) (later : List (K × Members Id)) (before mid after : ℕ)
-          → all ≡ gs ++ g ∷ later → mid ≡ saturated (before + n) → AddsWithin rules.bin_cmp new.bins order (length g.1.sizes) mid after
-          → AddsWithin rules.bin_cmp old.bins order (members_in all) before after
-      adds-more all g later before mid after splits first last = record {
-        tests = n + last.tests;
-        within = begins-within old.bins order all (gs ++ g ∷ []) later _ (splits ∙ sym (append_assoc gs (g ∷ []) later))
-            (more-within g last.tests last.within);
-        added = saturated-add before mid after n last.tests first last.added;
-      }
 
     module _ (group_cmp : K → K → Ordering) (sizes : List (Id × Size)) (lists : List (K × List Id)) where
       -- the groups of a beginning of an order have no more members than the order's lists
@@ -357,7 +299,7 @@ module _ {Id B G : Type 0} (group_cmp : Group G Id → Group G Id → Ordering) 
   names = map (λ (u : ℕ × B). u.1) order
 
   -- as many tests as the entries of a collection may make
-  pub counted-within : AreWithin rules.bin_cmp old names (sum_by (entries_at group_cmp all.groups) group_order) n → after ≡ saturated (before + n)
+  counted-within : AreWithin rules.bin_cmp old names (sum_by (entries_at group_cmp all.groups) group_order) n → after ≡ saturated (before + n)
       → AreCounted all old n before after
   counted-within h added =
       let b = ordered-from rules o old order d by_bins in

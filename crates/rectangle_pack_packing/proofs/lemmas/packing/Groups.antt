@@ -23,7 +23,7 @@ use Rattle.rectangle_pack_sections.proofs.lemmas.util.Zips.{length-zip}
 use Rattle.rectangle_pack_sections.proofs.lemmas.util.Maps.{is_at-back, congr_right}
 
 -- the names of an order, split at an index
-pub names-split : {B : Type 0} (order : List (ℕ × B)) (i : ℕ) (o : ℕ × B) → i < length order → o ≡ get_or order i o
+names-split : {B : Type 0} (order : List (ℕ × B)) (i : ℕ) (o : ℕ × B) → i < length order → o ≡ get_or order i o
     → map (λ (x : ℕ × B). x.1) order ≡ map (λ (x : ℕ × B). x.1) (take i order) ++ o.1 ∷ map (λ (x : ℕ × B). x.1) (drop (suc i) order)
 names-split {B} order i o within is =
     let split : order ≡ take i order ++ o ∷ drop (suc i) order = subst

@@ -11,10 +11,9 @@ use Rattle.rectangle_pack_lists.specs.Numbers.{saturated}
 use Rattle.rectangle_pack_packing.specs.Orders.{IsBinOrder, IsGroupOrder}
 use Rattle.rectangle_pack_packing.specs.Packing.{Rules, excludes_by, at_start, AreAllPlaced, AreGroups, PackingDone, PackingRefused}
 use Rattle.rectangle_pack_packing.specs.PackAnswers.{AreCounted}
-use Rattle.rectangle_pack_packing.specs.private.Bounds.{AddsWithin}
-use Rattle.rectangle_pack_packing.specs.private.Orders.{keys_of_order, entries_at, members_of, members_in, SizesStandAt, StopsAmong}
+use Rattle.rectangle_pack_packing.specs.private.Orders.{keys_of_order, entries_at, members_of, SizesStandAt, StopsAmong}
 use Rattle.rectangle_pack_packing.proofs.lemmas.packing.Groups.{AreGroups-order, AreGroups-length, AreAllPlaced-length, StopsAfter-among}
-use Rattle.rectangle_pack_packing.proofs.lemmas.packing.FitTests.{counted-done, counted-refused, counted-within}
+use Rattle.rectangle_pack_packing.proofs.lemmas.packing.FitTests.{counted-done, counted-refused}
 use Rattle.rectangle_pack_sections.proofs.lemmas.groups.Lists.{list-found}
 
 module _ {Id B G A : Type 0} (group_cmp : Group G Id → Group G Id → Ordering) (rules : Rules Id B) (all : Collection Id G) (old : List (B × Bin))
@@ -91,16 +90,6 @@ module _ {Id B G A : Type 0} (group_cmp : Group G Id → Group G Id → Ordering
             stops = after_it;
           },
           counted-refused group_cmp rules o all old h.distinct (keys_of_order order) h.entries bin_order h.by_bins n before after new after_it added,
-        )
-
-    -- memory is refused
-    pub stopped-ended : AddsWithin rules.bin_cmp old (map (λ (x : ℕ × B). x.1) bin_order) (members_in (map (members_of sizes) order)) before after
-        → (tests : ℕ) × AreCounted all old tests before after
-    stopped-ended adds =
-        let many = AreGroups-length rules.id_cmp group_cmp all.sizes all.groups (keys_of_order order) (map (members_of sizes) order) h.listed in (
-          adds.tests,
-          counted-within group_cmp rules o all old h.distinct (keys_of_order order) h.entries bin_order h.by_bins adds.tests before after
-              (rw many adds.within) adds.added,
         )
 
   -- there is a placement for each entry

@@ -1,29 +1,20 @@
 -- Bins that a group passes over: they do not take it.
 use Rattle.rectangle_pack_sections.proofs.Std.{◌≡◌, ◌≤◌, ◌+◌, ◌-◌, ℕ, List, [], ◌∷◌, ◌++◌, take, drop, map, sum, refl, sym, ap, ◌∙◌, arith, inl}
-use Rattle.rectangle_pack_sections.proofs.Std.{AllZip, Bor, is_at, take-add, take-append-drop, map-append, sum_by-append, Some, Ordering}
+use Rattle.rectangle_pack_sections.proofs.Std.{AllZip, Bor, take-add, take-append-drop, map-append, sum_by-append, Some, Ordering}
 use Rattle.std.specs.List.{slice_get}
 use Rattle.rectangle_pack_sections.specs.Boxes.{Size}
-use Rattle.rectangle_pack_sections.specs.Bins.{Bin, Held, bins_of}
+use Rattle.rectangle_pack_sections.specs.Bins.{Bin}
 use Rattle.rectangle_pack_lists.specs.Numbers.{saturated}
-use Rattle.rectangle_pack_lists.proofs.lemmas.trial.StepsByIndex.{saturated-add}
 use Rattle.rectangle_pack_packing.specs.Packing.{Rules, Members, DoesNotTake, IsStuckIn}
 use Rattle.rectangle_pack_packing.specs.private.Excluded.{are_in}
 use Rattle.rectangle_pack_packing.proofs.lemmas.packing.Cases.{DoesNotTake-stuck}
-use Rattle.rectangle_pack_packing.proofs.lemmas.packing.Turns.{ArePassed}
-use Rattle.rectangle_pack_bins.proofs.lemmas.bins.Journals.{found-bins_of}
-use Rattle.rectangle_pack_bins.specs.private.OpenBins.{BinHoldsNone, BinsHoldNone}
+use Rattle.rectangle_pack_packing.proofs.lemmas.packing.Turns.{ArePassed, WerePassed}
+use Rattle.rectangle_pack_sections.proofs.lemmas.util.Zips.{AllZip-append}
+use Rattle.rectangle_pack_packing.specs.private.BinsOut.{BinHoldsNone, BinsHoldNone}
 use Rattle.rectangle_pack_packing.specs.private.PassedOver.{IsPassedOver, ArePassedOver}
 
--- a relation of the elements of two lists, side by side, and of two others
-AllZip-both : {X Y : Type 0} (R : X → Y → Type 0) (xs : List X) (ys : List Y) (us : List X) (vs : List Y)
-    → AllZip R xs ys → AllZip R us vs → AllZip R (xs ++ us) (ys ++ vs)
-AllZip-both R [] [] us vs p q = q
-AllZip-both R (x ∷ xs) [] us vs p q = absurd p
-AllZip-both R [] (y ∷ ys) us vs p q = absurd p
-AllZip-both R (x ∷ xs) (y ∷ ys) us vs p q = (p.0, AllZip-both R xs ys us vs p.1 q)
-
 -- bins no section of which holds the first of some members are passed over, where none is excluded
-pub ArePassedOver-held : {B : Type 0} (cmp : B → B → Ordering) (excluded : List (Bor B)) (bins : List (B × Held)) (members : List Size) (first : Size)
+pub ArePassedOver-held : {B : Type 0} (cmp : B → B → Ordering) (excluded : List (Bor B)) (bins : List (B × Bin)) (members : List Size) (first : Size)
     (ids : List B) (tests before after : ℕ) → excluded ≡ [] → slice_get members 0 ≡ Some first → BinsHoldNone cmp bins first ids tests
     → after ≡ saturated (before + tests) → ArePassedOver cmp excluded bins members ids before after
 ArePassedOver-held {B} cmp excluded bins members first ids tests before after none is held added = record {
@@ -44,18 +35,25 @@ ArePassedOver-held {B} cmp excluded bins members first ids tests before after no
         let (others, members_are) = begins members is in
         (record { allowed = rw none refl; first = first; others = others; members_are = members_are; none = h.0 }, from ids counts h.1)
 
-module _ {Id B : Type 0} (rules : Rules Id B) (excluded : List (Bor B)) (bins : List (B × Held)) (group : Members Id) where
+-- and where no bin is passed over, no test is added
+pub ArePassedOver-none : {B : Type 0} (cmp : B → B → Ordering) (excluded : List (Bor B)) (bins : List (B × Bin)) (members : List Size) (order : List (ℕ × B))
+    (from index tests before after : ℕ) → index ≡ from → tests ≡ 0 → after ≡ saturated (before + tests)
+    → ArePassedOver cmp excluded bins members (map (λ o. o.1) (take (index - from) (drop from order))) before after
+ArePassedOver-none cmp excluded bins members order from index tests before after stays none added =
+    let here : index - from ≡ 0 = omega arith in
+    rw here (record { counts = []; each = tt; added = rw none at added })
+
+module _ {Id B : Type 0} (rules : Rules Id B) (excluded : List (Bor B)) (bins : List (B × Bin)) (group : Members Id) where
   -- a bin that is passed over does not take the group
   DoesNotTake-over : (id : B) (count : ℕ) → IsPassedOver rules.bin_cmp excluded bins group.sizes id count
-      → DoesNotTake rules (are_in rules.bin_cmp excluded) (bins_of bins) group id count
+      → DoesNotTake rules (are_in rules.bin_cmp excluded) bins group id count
   DoesNotTake-over id count over =
-      let found = found-bins_of (is_at (rules.bin_cmp id)) bins (bins_of bins) over.none.held refl over.none.found in
-      let stuck : IsStuckIn rules (bins_of bins) group id count = rw (found, over.members_are) (inl (over.none.none, over.none.tests_are)) in
-      DoesNotTake-stuck rules (are_in rules.bin_cmp excluded) (bins_of bins) group id (bins_of bins) count over.allowed refl stuck
+      let stuck : IsStuckIn rules bins group id count = rw (over.none.found, over.members_are) (inl (over.none.none, over.none.tests_are)) in
+      DoesNotTake-stuck rules (are_in rules.bin_cmp excluded) bins group id bins count over.allowed refl stuck
 
   -- nor do several
   each-over : (ids : List B) (counts : List ℕ) → AllZip (IsPassedOver rules.bin_cmp excluded bins group.sizes) ids counts
-      → AllZip (DoesNotTake rules (are_in rules.bin_cmp excluded) (bins_of bins) group) ids counts
+      → AllZip (DoesNotTake rules (are_in rules.bin_cmp excluded) bins group) ids counts
   each-over [] [] over = tt
   each-over (id ∷ ids) [] over = absurd over
   each-over [] (count ∷ counts) over = absurd over
@@ -63,20 +61,20 @@ module _ {Id B : Type 0} (rules : Rules Id B) (excluded : List (Bor B)) (bins : 
 
   -- bins of the order that do not take the group, and those after them that are passed over
   both-over : (first second : List (ℕ × B)) (before mid after : ℕ)
-      → ArePassed rules (are_in rules.bin_cmp excluded) first group (bins_of bins) before mid
+      → WerePassed rules (are_in rules.bin_cmp excluded) first group bins before mid
       → ArePassedOver rules.bin_cmp excluded bins group.sizes (map (λ o. o.1) second) mid after
-      → ArePassed rules (are_in rules.bin_cmp excluded) (first ++ second) group (bins_of bins) before after
+      → ArePassed rules (are_in rules.bin_cmp excluded) (first ++ second) group bins before after
   both-over first second before mid after passed over = (
     passed.0 ++ over.counts,
     rw (map-append (λ (o : ℕ × B). o.1) first second)
-        (AllZip-both _ _ passed.0 _ over.counts passed.1 (each-over (map (λ o. o.1) second) over.counts over.each)),
-    saturated-add before mid after (sum passed.0) (sum over.counts) passed.2 over.added
+        (AllZip-append _ _ passed.0 _ over.counts passed.1 (each-over (map (λ o. o.1) second) over.counts over.each)),
+    over.added ∙ passed.2 (sum over.counts)
         ∙ ap (λ n. saturated (before + n)) (sym (sum_by-append (λ x. x) passed.0 over.counts)),
   )
 
   -- so far, and up to a later index
-  pub ArePassed-over : (old : List (B × Bin)) (order here : List (ℕ × B)) (from to before mid after : ℕ) → bins_of bins ≡ old → here ≡ order → from ≤ to
-      → ArePassed rules (are_in rules.bin_cmp excluded) (take from order) group old before mid
+  pub ArePassed-over : (old : List (B × Bin)) (order here : List (ℕ × B)) (from to before mid after : ℕ) → bins ≡ old → here ≡ order → from ≤ to
+      → WerePassed rules (are_in rules.bin_cmp excluded) (take from order) group old before mid
       → ArePassedOver rules.bin_cmp excluded bins group.sizes (map (λ o. o.1) (take (to - from) (drop from here))) mid after
       → ArePassed rules (are_in rules.bin_cmp excluded) (take to order) group old before after
   ArePassed-over old order here from to before mid after same alike le passed over =
@@ -86,8 +84,8 @@ module _ {Id B : Type 0} (rules : Rules Id B) (excluded : List (Bor B)) (bins : 
       rw (← parts, ← same) (both-over (take from order) (take (to - from) (drop from order)) before mid after (rw (← same) at passed) (rw alike at over))
 
   -- and up to the end
-  pub ArePassed-rest : (old : List (B × Bin)) (order here : List (ℕ × B)) (from before mid after : ℕ) → bins_of bins ≡ old → here ≡ order
-      → ArePassed rules (are_in rules.bin_cmp excluded) (take from order) group old before mid
+  pub ArePassed-rest : (old : List (B × Bin)) (order here : List (ℕ × B)) (from before mid after : ℕ) → bins ≡ old → here ≡ order
+      → WerePassed rules (are_in rules.bin_cmp excluded) (take from order) group old before mid
       → ArePassedOver rules.bin_cmp excluded bins group.sizes (map (λ o. o.1) (drop from here)) mid after
       → ArePassed rules (are_in rules.bin_cmp excluded) order group old before after
   ArePassed-rest old order here from before mid after same alike passed over =

@@ -6,7 +6,7 @@ use Rattle.rectangle_pack_lists.specs.Numbers.{saturated}
 use Rattle.rectangle_pack_packing.specs.declared.answer.Placement.{Placement}
 use Rattle.rectangle_pack_packing.specs.Packing.{Rules, Members, Stage, DoesNotTake, IsPlaced, AreAllPlaced}
 use Rattle.rectangle_pack_packing.specs.private.Excluded.{AreHomesKept}
-use Rattle.rectangle_pack_lists.proofs.lemmas.trial.StepsByIndex.{saturated-add}
+use Rattle.rectangle_pack_packing.proofs.lemmas.packing.Cases.{saturated-add, saturated-later}
 use Rattle.rectangle_pack_packing.proofs.lemmas.packing.Orders.{AllZip-next, map-take_more}
 use Rattle.rectangle_pack_packing.proofs.lemmas.packing.Groups.{IsPlaced-alike, AreAllPlaced-next}
 
@@ -16,16 +16,24 @@ module _ {Id B : Type 0} (rules : Rules Id B) where
   ArePassed excluded order group bins before after =
       (counts : List ℕ) × AllZip (DoesNotTake rules excluded bins group) (map (λ o. o.1) order) counts × (after ≡ saturated (before + sum counts))
 
+  -- nor do these, and their tests were added as far as later ones show it: a count that is past the greatest one, to which none was added, stays too
+  abbrev pub WerePassed : (B → Bool) → List (ℕ × B) → Members Id → List (B × Bin) → ℕ → ℕ → Type 0
+  WerePassed excluded order group bins before after =
+      (counts : List ℕ) × AllZip (DoesNotTake rules excluded bins group) (map (λ o. o.1) order) counts
+      × ((later : ℕ) → saturated (after + later) ≡ saturated (before + (sum counts + later)))
+
   -- nor does the next bin
   pub ArePassed-more : (excluded : B → Bool) (order : List (ℕ × B)) (i : ℕ) (o : ℕ × B) (group : Members Id) (bins : List (B × Bin))
       (count before mid after : ℕ) → i < length order → o ≡ get_or order i o → ArePassed excluded (take i order) group bins before mid
       → DoesNotTake rules excluded bins group o.1 count → after ≡ saturated (mid + count)
-      → ArePassed excluded (take (i + 1) order) group bins before after
-  ArePassed-more excluded order i o group bins count before mid after within is passed stuck added = (
-    passed.0 ++ count ∷ [],
-    AllZip-next (DoesNotTake rules excluded bins group) (λ x. x.1) order passed.0 i o count within is passed.1 stuck,
-    saturated-add before mid after (sum passed.0) count passed.2 added ∙ ap (λ n. saturated (before + n)) (sym (sum_by_push (λ x. x) passed.0 count)),
-  )
+      → WerePassed excluded (take (i + 1) order) group bins before after
+  ArePassed-more excluded order i o group bins count before mid after within is passed stuck added =
+      let all : after ≡ saturated (before + sum (passed.0 ++ count ∷ [])) =
+      saturated-add before mid after (sum passed.0) count passed.2 added ∙ ap (λ n. saturated (before + n)) (sym (sum_by_push (λ x. x) passed.0 count)) in (
+        passed.0 ++ count ∷ [],
+        AllZip-next (DoesNotTake rules excluded bins group) (λ x. x.1) order passed.0 i o count within is passed.1 stuck,
+        saturated-later before after (sum (passed.0 ++ count ∷ [])) all,
+      )
 
   module _ {K : Type 0} where
     -- the next group of an order is placed too

@@ -18,11 +18,11 @@ returns-then-is_empty-clause-answer g c =
         counted = ap length placed ∙ sym (ap (λ gs. sum (map length (values_of gs))) none);
         last = AreLastPlacements-nothing g.Id.Ord.cmp g.BinId.Ord.cmp _ _ c.new.result.entries c.new.ensures.ordered placed c.answer_of.ensures.locations c.new.ensures.empty;
       },
-      record { most = omega (arith, done.1); added = rw done.1 (omega arith) },
+      record { most = omega (arith, done.1); added = rw done.1 (omega (arith, c.count-count.ensures, c.count-count.type_inv)) },
     )
 
 pub returns-in_default-clause-answer : goal.returns-in_default-clause-answer
-returns-in_default-clause-answer g c = (refl, counted-none _ _ c.args.tests.now (omega arith))
+returns-in_default-clause-answer g c = (refl, counted-none _ _ c.args.tests.now (omega (arith, c.count-count.ensures, c.count-count.type_inv)))
 
 pub returns-in_default-clause-no_groups : goal.returns-in_default-clause-no_groups
 returns-in_default-clause-no_groups g c = λ none. absurd (lists-some _ _ c.is_empty.ensures c.if-is_empty.false (c.groups.ensures.entries ∙ none))

@@ -1,6 +1,6 @@
 use Rattle.rectangle_pack_sections.proofs.Std.{subst, refl, ap, sym, ◌∙◌, is_at}
 use Rattle.rectangle_pack_sections.specs.Bins.{bins_of}
-use Rattle.rectangle_pack_bins.proofs.lemmas.bins.Journals.{is_some-bins_of}
+use Rattle.rectangle_pack_bins.proofs.lemmas.bins.Maps.{is_some-bins_of}
 use Rattle.rectangle_pack_sections.proofs.lemmas.util.Maps.{none_of}
 use Rattle.rectangle_pack.proofs.lemmas.session.Keeps.{None-bins_of}
 use Rattle.rectangle_pack.proofs.lemmas.session.Packing.{state, IsSession-same}

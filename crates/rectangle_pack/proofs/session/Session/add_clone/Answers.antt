@@ -1,6 +1,6 @@
 use Rattle.rectangle_pack_sections.proofs.Std.{refl, sym, ◌∙◌, is_at, Equal-is}
 use Rattle.rectangle_pack_sections.proofs.lemmas.util.Maps.{none_of}
-use Rattle.rectangle_pack_bins.proofs.lemmas.bins.Journals.{is_some-bins_of}
+use Rattle.rectangle_pack_bins.proofs.lemmas.bins.Maps.{is_some-bins_of}
 use Rattle.rectangle_pack.proofs.lemmas.session.Keeps.{None-bins_of}
 use Rattle.rectangle_pack.proofs.lemmas.session.Transitions.{AddsBin-equal, memory_refused}
 use Rattle.rectangle_pack.proofs.session.Session.add_clone.Goals as goal

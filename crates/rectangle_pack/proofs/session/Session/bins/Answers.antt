@@ -1,5 +1,5 @@
 use Rattle.rectangle_pack_sections.proofs.Std.{List, refl, sym, subst, IsStrictlySortedBy}
-use Rattle.rectangle_pack_bins.proofs.lemmas.bins.Journals.{keys-bins}
+use Rattle.rectangle_pack_bins.proofs.lemmas.bins.Maps.{keys-bins}
 use Rattle.rectangle_pack.specs.Session.{IsSession}
 use Rattle.rectangle_pack.proofs.session.Session.bins.Goals as goal
 

@@ -3,7 +3,7 @@ use Rattle.rectangle_pack_sections.specs.Boxes.{has_cells}
 use Rattle.rectangle_pack_sections.specs.Bins.{bins_of}
 use Rattle.rectangle_pack.specs.Session.{GivesBack}
 use Rattle.rectangle_pack_sections.proofs.lemmas.util.Results.{OnErr-given}
-use Rattle.rectangle_pack_bins.proofs.lemmas.bins.Journals.{bins_of-written}
+use Rattle.rectangle_pack_bins.proofs.lemmas.bins.Maps.{bins_of-written}
 use Rattle.rectangle_pack.proofs.lemmas.session.Keeps.{Some-bins_of}
 use Rattle.rectangle_pack.proofs.session.outstanding.give_back.Goals as goal
 

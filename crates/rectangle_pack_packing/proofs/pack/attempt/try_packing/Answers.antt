@@ -2,22 +2,18 @@ use Rattle.rectangle_pack_sections.proofs.Std.{refl, ◌≡◌, ◌∙◌, IfOk-
 use Rattle.rectangle_pack_sections.proofs.lemmas.util.Results.{OnErr-given}
 use Rattle.rectangle_pack_sections.proofs.lemmas.groups.Excluded.{not-both}
 use Rattle.rectangle_pack_sections.specs.Bins.{bins_of}
-use Rattle.rectangle_pack_packing.specs.private.RollBack.{RollsBackTo}
 use Rattle.rectangle_pack_packing.proofs.pack.attempt.try_packing.Given.{Over}
-use Rattle.rectangle_pack_packing.proofs.pack.attempt.try_packing.Goals.{After-pack_noted-packed, then-branch, else-branch, then-keeps, else-keeps, then-is_kept, else-is_kept}
+use Rattle.rectangle_pack_packing.proofs.pack.attempt.try_packing.Goals.{After-pack_noted-packed, then-branch, else-branch}
+use Rattle.rectangle_pack_packing.proofs.pack.attempt.try_packing.Goals.{then-keeps, else-keeps, then-is_kept, else-is_kept}
 use Rattle.rectangle_pack_packing.proofs.pack.attempt.try_packing.Goals.at as goal_at
 use Rattle.rectangle_pack_packing.proofs.pack.attempt.try_packing.Goals as goal
 
--- the packing can be rolled back to the bins of before
-back : (g : Over) (c : After-pack_noted-packed g) → RollsBackTo g.BinId.Ord.cmp c.pack_noted-packed.new.packing (bins_of c.args.bins.now.entries)
-back g c = c.pack_noted-packed.ensures.back (bins_of c.args.bins.now.entries)
-    (rw (c.new-packing.ensures.bins, c.new-packing.ensures.journal, c.replace-before.ensures.value) (record { undoes = refl }))
+-- the packing began with the bins of before
+start : (g : Over) (c : After-pack_noted-packed g) → c.pack_noted-packed.new.packing.bins.start ≡ bins_of c.args.bins.now.entries
+start g c = c.pack_noted-packed.ensures.start ∙ rw c.replace-before.ensures.value at c.new-packing.ensures.start
 
 pub new-packing-requires-clause-found : goal.new-packing-requires-clause-found
 new-packing-requires-clause-found g c = rw (c.replace-before.ensures.value, c.as_slice.ensures.value) c.in_ok-order.ensures.found
-
-pub roll_back-requires : goal.roll_back-requires
-roll_back-requires g c = (bins_of c.args.bins.now.entries, back g (goal_at.roll_back-requires g c).After-pack_noted-packed)
 
 pub returns-in_err-packed-clause-stopped : goal.returns-in_err-packed-clause-stopped
 returns-in_err-packed-clause-stopped g c = elim c.if-is_kept.branch [
@@ -26,37 +22,37 @@ returns-in_err-packed-clause-stopped g c = elim c.if-is_kept.branch [
     | else-keeps k ↦ not-both _ (k.is_kept-is ∙ k.if-keeps.false) w.if-is_kept.true
   ]
   | else-is_kept w ↦
-      let start = w.roll_back.ensures.bins _ (back g (goal_at.returns-in_err-packed-clause-stopped g c).After-pack_noted-packed) in
-      OnErr-given {P = bins_of c.if-is_kept.after.0.entries ≡ bins_of c.args.bins.now.entries} _ (rw w.after-is start)
+      let same = start g (goal_at.returns-in_err-packed-clause-stopped g c).After-pack_noted-packed in
+      OnErr-given _ (rw w.end-is at c.end-after.ensures.bins ∙ same)
 ]
 
 pub returns-clause-tried : goal.returns-clause-tried
 returns-clause-tried g c = elim c.if-branch.branch [
   | then-branch v ↦
-      let done = rw (v.if-branch.true, c.new-packing.ensures.bins, c.replace-before.ensures.value) at c.in_ok-packed.ensures.packed in
+      let done = rw (v.if-branch.true, c.new-packing.ensures.now, c.replace-before.ensures.value) at c.in_ok-packed.ensures.packed in
       let counted = rw v.if-branch.true at c.in_ok-packed.ensures.counted in
       elim c.if-is_kept.branch [
-        | then-is_kept w ↦ elim c.if-keeps.branch [
-          | then-keeps k ↦ rw (v.result-is, w.after-is, w.keep.ensures.placements, w.keep.ensures.bins) (_, done.0, counted, λ _. refl)
-          | else-keeps k ↦ not-both _ (k.is_kept-is ∙ k.if-keeps.false) w.if-is_kept.true
-        ]
-        | else-is_kept w ↦
-            let start = w.roll_back.ensures.bins _ (back g (goal_at.returns-clause-tried g c).After-pack_noted-packed) in
-            elim c.if-keeps.branch [
-              | then-keeps k ↦ not-both _ w.if-is_kept.false (k.is_kept-is ∙ rw (c.in_ok-packed.was, v.if-branch.true) at k.eq-is_kept.ensures)
-              | else-keeps k ↦ rw (v.result-is, w.after-is, w.roll_back.ensures.placements) (_, done.0, counted, λ yes. not-both _ k.if-keeps.false yes)
-            ]
+        | then-is_kept w ↦ rw (v.result-is, c.end-after.ensures.placements) (_, done.0, counted, λ yes. rw w.end-is at c.end-after.ensures.bins)
+        | else-is_kept w ↦ rw (v.result-is, c.end-after.ensures.placements) (
+          _,
+          done.0,
+          counted,
+          λ yes. elim c.if-keeps.branch [
+            | then-keeps k ↦ not-both _ w.if-is_kept.false (k.is_kept-is ∙ rw (c.in_ok-packed.was, v.if-branch.true) at k.eq-is_kept.ensures)
+            | else-keeps k ↦ not-both _ k.if-keeps.false yes
+          ],
+        )
       ]
   | else-branch v ↦
-      let refused = rw (v.if-branch.false, c.new-packing.ensures.bins, c.replace-before.ensures.value) at c.in_ok-packed.ensures.packed in
+      let refused = rw (v.if-branch.false, c.new-packing.ensures.now, c.replace-before.ensures.value) at c.in_ok-packed.ensures.packed in
       elim c.if-is_kept.branch [
         | then-is_kept w ↦ elim c.if-keeps.branch [
           | then-keeps k ↦ not-both _ (k.is_kept-is ∙ rw (c.in_ok-packed.was, v.if-branch.false) at k.eq-is_kept.ensures) w.if-is_kept.true
           | else-keeps k ↦ not-both _ (k.is_kept-is ∙ k.if-keeps.false) w.if-is_kept.true
         ]
         | else-is_kept w ↦
-            let start = w.roll_back.ensures.bins _ (back g (goal_at.returns-clause-tried g c).After-pack_noted-packed) in
-            rw (v.result-is, w.after-is) (_, refused.0, start)
+            let same = start g (goal_at.returns-clause-tried g c).After-pack_noted-packed in
+            rw v.result-is (_, refused.0, rw w.end-is at c.end-after.ensures.bins ∙ same)
       ]
 ]
 
@@ -66,7 +62,8 @@ returns-in_err-packed-clause-undone g c = λ no. elim c.if-is_kept.branch [
     | then-keeps k ↦ not-both _ no k.if-keeps.true
     | else-keeps k ↦ not-both _ (k.is_kept-is ∙ k.if-keeps.false) w.if-is_kept.true
   ]
-  | else-is_kept w ↦ rw w.after-is (w.roll_back.ensures.bins _ (back g (goal_at.returns-in_err-packed-clause-undone g c).After-pack_noted-packed))
+  | else-is_kept w ↦
+      rw w.end-is at c.end-after.ensures.bins ∙ start g (goal_at.returns-in_err-packed-clause-undone g c).After-pack_noted-packed
 ]
 
 pub returns-clause-undone : goal.returns-clause-undone
@@ -75,7 +72,7 @@ returns-clause-undone g c = λ no. elim c.if-is_kept.branch [
     | then-keeps k ↦ not-both _ no k.if-keeps.true
     | else-keeps k ↦ not-both _ (k.is_kept-is ∙ k.if-keeps.false) w.if-is_kept.true
   ]
-  | else-is_kept w ↦ rw w.after-is (w.roll_back.ensures.bins _ (back g (goal_at.returns-clause-undone g c).After-pack_noted-packed))
+  | else-is_kept w ↦ rw w.end-is at c.end-after.ensures.bins ∙ start g (goal_at.returns-clause-undone g c).After-pack_noted-packed
 ]
 
 pub bin_order-requires-clause-bin_ids : goal.bin_order-requires-clause-bin_ids

@@ -1,6 +1,6 @@
 use Rattle.rectangle_pack_sections.proofs.Std.{ap, ◌∙◌, filter, map, nat_lt, keys_of, fun_ext}
 use Rattle.rectangle_pack_packing.specs.Best.{use_by}
-use Rattle.rectangle_pack_bins.proofs.lemmas.bins.Journals.{keys-bins}
+use Rattle.rectangle_pack_bins.proofs.lemmas.bins.Maps.{keys-bins}
 use Rattle.rectangle_pack_packing.proofs.pack.best.use_made.Goals as goal
 
 pub returns : goal.returns

@@ -4,7 +4,7 @@ use Rattle.rectangle_pack_packing.specs.Orders.{IsBinOrder}
 use Rattle.rectangle_pack_sections.specs.Bins.{bins_of, Held}
 use Rattle.rectangle_pack_packing.specs.Packing.{rules_by}
 use Rattle.rectangle_pack_packing.proofs.lemmas.packing.FitTests.{order-differs}
-use Rattle.rectangle_pack_bins.proofs.lemmas.bins.Journals.{keys-bins}
+use Rattle.rectangle_pack_bins.proofs.lemmas.bins.Maps.{keys-bins}
 use Rattle.rectangle_pack_packing.proofs.lemmas.packing.Orders.{AllZip-more, AllZip-map_left, found-zip}
 use Rattle.rectangle_pack_packing.proofs.pack.bin_order.bin_order.Goals as goal
 

@@ -1,13 +1,9 @@
-use Rattle.rectangle_pack_sections.proofs.Std.{◌∙◌, on_err_weaker, Ordering, IfOk-from_err}
+use Rattle.rectangle_pack_sections.proofs.Std.{refl, ◌∙◌, Ordering, IfOk-from_err}
 use Rattle.rectangle_pack_sections.specs.declared.group.Group.{Group}
 use Rattle.rectangle_pack_sections.specs.contracts.group.GroupOrd.TheImpl.{ghosts}
 use Rattle.rectangle_pack_packing.specs.Packing.{Rules, rules_by}
-use Rattle.rectangle_pack_sections.specs.Bins.{bins_of}
-use Rattle.rectangle_pack_sections.proofs.lemmas.util.Results.{OnErr-given}
-use Rattle.rectangle_pack_packing.proofs.lemmas.packing.FitTests.{counted-none}
-use Rattle.rectangle_pack_packing.proofs.lemmas.packing.Cases.{saturated-none}
 use Rattle.rectangle_pack_packing.proofs.lemmas.packing.Groups.{packed-weaker, HasSizes-order}
-use Rattle.rectangle_pack_packing.proofs.lemmas.packing.InOrder.{AreInOrder, AreInOrder-from, done-ended, refused-ended, stopped-ended, placements-ended}
+use Rattle.rectangle_pack_packing.proofs.lemmas.packing.InOrder.{AreInOrder, AreInOrder-from, done-ended, refused-ended, placements-ended}
 use Rattle.rectangle_pack_packing.proofs.pack.first_fit.pack_noted.Given.{Over}
 use Rattle.rectangle_pack_packing.proofs.pack.first_fit.pack_noted.Goals.{After-place_groups}
 use Rattle.rectangle_pack_packing.proofs.pack.first_fit.pack_noted.Goals.at as goal_at
@@ -24,24 +20,15 @@ by g rules = rules_by g.Id.Ord.cmp g.BinId.Ord.cmp (g.R.Policy.may rules)
 
 -- the groups and the bins are in order
 in_order : (g : Over) (c : After-place_groups g)
-    → AreInOrder (group_cmp g) (by g c.args.policy.now) c.args.rects_to_place.now (bins_of c.args.packing.now.bins.kept) c.args.packing.now.bins.order
+    → AreInOrder (group_cmp g) (by g c.args.policy.now) c.args.rects_to_place.now c.args.packing.now.bins.now c.args.packing.now.bins.order
     c.as_slice.result.now c.as_slice-2.result.now c.exclusions_of.result.now
 in_order g c =
     rw (c.as_slice.ensures.value, c.as_slice-2.ensures.value)
-    (AreInOrder-from (group_cmp g) (by g c.args.policy.now) c.args.rects_to_place.now (bins_of c.args.packing.now.bins.kept) c.args.packing.now.bins.order
+    (AreInOrder-from (group_cmp g) (by g c.args.policy.now) c.args.rects_to_place.now c.args.packing.now.bins.now c.args.packing.now.bins.order
     c.in_ok-groups.groups.items c.group_order.new.sizes.items c.exclusions_of.result.now c.groups-lists.result.now.entries c.groups-lists.ensures.entries
     (rw (← c.rects-rects.ensures.entries, ← c.groups-lists.ensures.entries) c.in_ok-groups.ensures.order) c.requires.order c.requires.distinct
     c.in_ok-groups.ensures.listed (rw (← c.rects-rects.ensures.entries) c.in_ok-groups.ensures.sizes)
     (rw (← c.groups-lists.ensures.entries) c.in_ok-groups.ensures.counted) c.exclusions_of.ensures)
-
-pub returns-in_err-sizes-clause-stopped : goal.returns-in_err-sizes-clause-stopped
-returns-in_err-sizes-clause-stopped g c = OnErr-given _ (counted-none _ _ c.args.packing.now.tests (saturated-none _ c.bounded.ensures))
-
-pub returns-in_err-groups-clause-stopped : goal.returns-in_err-groups-clause-stopped
-returns-in_err-groups-clause-stopped g c = OnErr-given _ (counted-none _ _ c.args.packing.now.tests (saturated-none _ c.bounded.ensures))
-
-pub returns-in_err-reserve-clause-stopped : goal.returns-in_err-reserve-clause-stopped
-returns-in_err-reserve-clause-stopped g c = OnErr-given _ (counted-none _ _ c.args.packing.now.tests (saturated-none _ c.bounded.ensures))
 
 pub place_groups-requires-clause-in_range : goal.place_groups-requires-clause-in_range
 place_groups-requires-clause-in_range g c =
@@ -56,11 +43,6 @@ returns-clause-packed g c =
     (λ q. refused-ended _ _ _ _ _ _ _ _ g.met.BinId.Ord.total at c.args.packing.now.tests _ _ q.0 q.1 q.2)
     c.place_groups.ensures.packed
 
-pub returns-clause-stopped : goal.returns-clause-stopped
-returns-clause-stopped g c =
-    let at = in_order g (goal_at.returns-clause-stopped g c).After-place_groups in
-    on_err_weaker c.place_groups.result (λ h. stopped-ended _ _ _ _ _ _ _ _ g.met.BinId.Ord.total at c.args.packing.now.tests _ h) c.place_groups.ensures.stopped
-
 pub returns-clause-counted : goal.returns-clause-counted
 returns-clause-counted g c =
     let at = in_order g (goal_at.returns-clause-counted g c).After-place_groups in
@@ -72,29 +54,17 @@ returns-in_err-sizes-clause-packed g c = IfOk-from_err _ _ c.from_residual.ensur
 pub returns-in_err-sizes-clause-counted : goal.returns-in_err-sizes-clause-counted
 returns-in_err-sizes-clause-counted g c = IfOk-from_err _ _ c.from_residual.ensures.0
 
-pub returns-in_err-sizes-clause-back : goal.returns-in_err-sizes-clause-back
-returns-in_err-sizes-clause-back g c = λ start b. b
-
 pub returns-in_err-groups-clause-packed : goal.returns-in_err-groups-clause-packed
 returns-in_err-groups-clause-packed g c = IfOk-from_err _ _ c.from_residual-in_err-groups.ensures.0
 
 pub returns-in_err-groups-clause-counted : goal.returns-in_err-groups-clause-counted
 returns-in_err-groups-clause-counted g c = IfOk-from_err _ _ c.from_residual-in_err-groups.ensures.0
 
-pub returns-in_err-groups-clause-back : goal.returns-in_err-groups-clause-back
-returns-in_err-groups-clause-back g c = λ start b. b
-
 pub returns-in_err-reserve-clause-packed : goal.returns-in_err-reserve-clause-packed
 returns-in_err-reserve-clause-packed g c = IfOk-from_err _ _ c.from_residual-in_err-reserve.ensures.0
 
 pub returns-in_err-reserve-clause-counted : goal.returns-in_err-reserve-clause-counted
 returns-in_err-reserve-clause-counted g c = IfOk-from_err _ _ c.from_residual-in_err-reserve.ensures.0
-
-pub returns-in_err-reserve-clause-back : goal.returns-in_err-reserve-clause-back
-returns-in_err-reserve-clause-back g c = λ start b. b
-
-pub returns-clause-back : goal.returns-clause-back
-returns-clause-back g c = c.place_groups.ensures.back
 
 pub place_groups-requires-clause-no_placements : goal.place_groups-requires-clause-no_placements
 place_groups-requires-clause-no_placements g c = c.in_ok-reserve.ensures.items ∙ c.requires.no_placements
@@ -113,3 +83,18 @@ place_groups-requires-clause-bin_ids g c = c.requires.bin_ids
 
 pub place_groups-requires-clause-callable : goal.place_groups-requires-clause-callable
 place_groups-requires-clause-callable g c = c.requires.callable
+
+pub returns-in_err-sizes-clause-start : goal.returns-in_err-sizes-clause-start
+returns-in_err-sizes-clause-start g c = refl
+
+pub returns-in_err-groups-clause-start : goal.returns-in_err-groups-clause-start
+returns-in_err-groups-clause-start g c = refl
+
+pub returns-in_err-reserve-clause-start : goal.returns-in_err-reserve-clause-start
+returns-in_err-reserve-clause-start g c = refl
+
+pub returns-clause-start : goal.returns-clause-start
+returns-clause-start g c = c.place_groups.ensures.start
+
+pub place_groups-requires-clause-no_tests : goal.place_groups-requires-clause-no_tests
+place_groups-requires-clause-no_tests g c = c.requires.no_tests

@@ -1,8 +1,28 @@
-use Rattle.rectangle_pack_sections.proofs.Std.{sym}
-use Rattle.rectangle_pack_packing.proofs.lemmas.packing.PassedOver.{ArePassedOver-held}
+use Rattle.rectangle_pack_sections.proofs.Std.{ap, sym, arith}
+use Rattle.rectangle_pack_packing.specs.declared.bins_at_work.summary_tree.Passed.{Passed}
+use Rattle.rectangle_pack_packing.proofs.lemmas.packing.PassedOver.{ArePassedOver-held, ArePassedOver-none}
 use Rattle.rectangle_pack_packing.proofs.pack.next_bin.pass_over.Goals as goal
+use Rattle.rectangle_pack_packing.proofs.pack.next_bin.pass_over.Goals.{in-Some, in_default-2, in_default}
 
-pub returns-in-Some-clause-passed : goal.returns-in-Some-clause-passed
-returns-in-Some-clause-passed g c =
-    ArePassedOver-held g.B.Ord.cmp c.args.excluded.now c.args.bins.now.kept c.args.sizes.now c.in-Some.first.now _ c.next_bin-passed.result.tests
-    c.args.tests.now c.add.new.tests c.if-is_empty.ensures (sym c.in-Some.ensures.value) c.next_bin-passed.ensures.none c.add.ensures
+pub returns-clause-from : goal.returns-clause-from
+returns-clause-from g c =
+    elim c.match-first.branch [
+      | in-Some w ↦ rw w.passed-is w.pass_over-passed.ensures.from
+      | in_default-2 w ↦ rw w.passed-is (omega arith)
+      | in_default w ↦ rw w.passed-is (omega arith)
+    ]
+
+pub returns-clause-passed : goal.returns-clause-passed
+returns-clause-passed g c =
+    elim c.match-first.branch [
+      | in-Some w ↦ rw w.passed-is
+          (ArePassedOver-held g.B.Ord.cmp c.args.excluded.now c.args.bins.now.now c.args.sizes.now w.in-Some.first.now _ w.pass_over-passed.result.tests
+          c.args.tests.now c.add.new.tests w.if-is_empty.ensures (sym w.in-Some.ensures.value) w.pass_over-passed.ensures.none
+          (rw w.passed-is at c.add.ensures))
+      | in_default-2 w ↦ ArePassedOver-none g.B.Ord.cmp c.args.excluded.now c.args.bins.now.now c.args.sizes.now c.args.bins.now.order c.args.from
+          c.match-first.passed.index c.match-first.passed.tests c.args.tests.now c.add.new.tests (ap (λ (p : Passed). p.index) w.passed-is)
+          (ap (λ (p : Passed). p.tests) w.passed-is) c.add.ensures
+      | in_default w ↦ ArePassedOver-none g.B.Ord.cmp c.args.excluded.now c.args.bins.now.now c.args.sizes.now c.args.bins.now.order c.args.from
+          c.match-first.passed.index c.match-first.passed.tests c.args.tests.now c.add.new.tests (ap (λ (p : Passed). p.index) w.passed-is)
+          (ap (λ (p : Passed). p.tests) w.passed-is) c.add.ensures
+    ]

@@ -1,5 +1,0 @@
--- Definitions that only the clauses of functions below `rectangle_pack` use, or of its private ones.
-pub mod Checkout
-pub mod Journals
-pub mod OpenBins
-pub mod SummaryTrees

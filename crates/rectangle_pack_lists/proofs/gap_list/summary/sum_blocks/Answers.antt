@@ -1,0 +1,42 @@
+use Rattle.rectangle_pack_sections.proofs.Std.{arith, ap, length, ◌≡◌, ◌+◌, ◌-◌, ◌*◌, ◌/◌, ◌∙◌}
+use Rattle.rectangle_pack_lists.proofs.lemmas.trial.Places.{stretch-places_of, length-places_of}
+use Rattle.rectangle_pack_lists.proofs.lemmas.trial.Summaries.{summed-more}
+use Rattle.rectangle_pack_lists.proofs.lemmas.trial.Rooms.{room-for-one, counted-more}
+use Rattle.rectangle_pack_lists.proofs.gap_list.summary.sum_blocks.Goals as goal
+
+pub push_reserved-requires : goal.push_reserved-requires
+push_reserved-requires g c =
+    let now = c.loop-block.invariant in
+    room-for-one _ c.loop-block.block _ _ _ (c.loop-block.blocks.ok.0 ∙ now.count) c.loop-block-test.true c.requires.room now.room
+
+pub loop-block-init : goal.loop-block-init
+loop-block-init g c = record {
+  count = ap length c.in_ok-blocks.ensures.items;
+  room = c.in_ok-blocks.ensures.capacity;
+  each = λ k d none. absurd (omega arith);
+}
+
+pub loop-block-preserved : goal.loop-block-preserved
+loop-block-preserved g c =
+    let now = c.loop-block.invariant in
+    let block = c.loop-block.block in
+    let first = block * 8 in
+    let more = c.push_reserved.ensures.items in
+    let same : first + 8 - first ≡ 8 = omega arith in
+    let here = rw (same, ← stretch-places_of 8 first c.args.sections.now c.args.gaps.now) at c.of.ensures in
+    record {
+      count = counted-more _ _ c.of.result block now.count more;
+      room = rw c.push_reserved.ensures.capacity now.room;
+      each = rw more (summed-more 8 _ _ block c.of.result now.count here now.each);
+    }
+
+pub returns-clause-sums : goal.returns-clause-sums
+returns-clause-sums g c =
+    let now = c.loop-block.invariant in
+    let all = length-places_of c.args.sections.now c.args.gaps.now in
+    let count : c.loop-block.block ≡ length c.args.sections.now / 8 = omega arith in
+    record {
+      whole = omega (arith, now.count, count, all);
+      rest = omega (arith, now.count, count, all);
+      each = λ k d lt. now.each k d (omega (arith, now.count));
+    }

@@ -1,0 +1,134 @@
+-- Lists of sections without a gap: each place has a section.
+use Rattle.std.proofs.Common.{insert}
+use Rattle.std.proofs.Math.Seq.{drop-append-add}
+use Rattle.std.proofs.lemmas.List.{drop-map, map-set}
+use Rattle.rectangle_pack_sections.proofs.Std.{◌≡◌, ◌≤◌, ◌<◌, ◌+◌, ◌-◌, ℕ, suc, Bool, true, false, List, [], ◌∷◌, length, take, drop, set, get_or, refl, sym, ap, subst, ◌∙◌, arith}
+use Rattle.rectangle_pack_sections.proofs.Std.{Option, Some, None, IsSome, if◌then◌else◌, All, AllWithin, HoldsAt, map, split_at, All-map, All-head, All-tail}
+use Rattle.rectangle_pack_sections.proofs.Std.{length-append, length-map, length-drop, length-take-le, map-append, take-map, get_or-map, get_or-drop, get_or-append_seam}
+use Rattle.rectangle_pack_sections.specs.Boxes.{Cuboid, Size, Holds}
+use Rattle.rectangle_pack_sections.specs.Closures.{Answers}
+use Rattle.rectangle_pack_lists.specs.Steps.{IsStep}
+use Rattle.rectangle_pack_lists.specs.declared.free_list.Note.{Note}
+use Rattle.rectangle_pack_lists.specs.private.Notes.{before_note, CanUndoOne}
+use Rattle.rectangle_pack_lists.specs.private.Places.{sections_of, IsLastHolding, NoneHolds}
+
+abbrev full : List Cuboid → List (Option Cuboid)
+full xs = map (λ s. Some s) xs
+
+-- its sections
+pub sections_of-plain : (xs : List Cuboid) → sections_of (full xs) ≡ xs
+sections_of-plain [] = refl
+sections_of-plain (x ∷ xs) = ap (λ l. x ∷ l) (sections_of-plain xs)
+
+no-gap : (xs : List Cuboid) → All (λ p. IsSome p) (full xs)
+no-gap xs = All-map (λ p. IsSome p) (λ s. Some s) xs (λ k d within. refl)
+
+-- places without a gap are those of their sections
+pub plain-again : (places : List (Option Cuboid)) → All (λ p. IsSome p) places → full (sections_of places) ≡ places
+plain-again [] all = refl
+plain-again (None ∷ places) all = let none = All-head (λ p. IsSome p) None places all in absurd (cc none)
+plain-again (Some s ∷ places) all = ap (λ l. Some s ∷ l) (plain-again places (All-tail (λ p. IsSome p) (Some s) places all))
+
+pub length-plain : (places : List (Option Cuboid)) (sections : List Cuboid) → All (λ p. IsSome p) places → sections ≡ sections_of places
+    → length sections ≡ length places
+length-plain places sections all same =
+    omega (arith, ap length (plain-again places all), length-map (sections_of places) (λ s. Some s), ap length same)
+
+-- the last of its sections that holds a size
+last-at : (d : Cuboid) (xs : List Cuboid) (size : Size) (i : ℕ) → i < length xs → HoldsAt (λ s. Holds s size) xs i
+    → AllWithin (λ s. ¬ Holds s size) xs (i + 1) (length xs) → IsLastHolding (full xs) size i (length xs - i)
+last-at d xs size i within held newest =
+    let behind : sections_of (full (drop (suc i) xs)) ≡ drop (suc i) xs = sections_of-plain (drop (suc i) xs) in
+    let long = length-drop (suc i) xs in
+    record {
+      before = full (take i xs);
+      section = get_or xs i d;
+      after = full (drop (suc i) xs);
+      splits = ap (λ l. full l) (split_at xs i d within) ∙ map-append (λ s. Some s) (take i xs) (get_or xs i d ∷ drop (suc i) xs);
+      place_is = omega (arith, length-map (take i xs) (λ s. Some s), length-take-le i xs (omega arith));
+      held = held d;
+      newest = subst (All (λ s. ¬ Holds s size)) (sym behind)
+          (λ k e short. rw get_or-drop (newest (suc i + k) e (omega arith) (omega arith)));
+      tests_are = omega (arith, ap length behind);
+    }
+
+pub IsLastHolding-plain : (xs : List Cuboid) (size : Size) (i : ℕ) → i < length xs → HoldsAt (λ s. Holds s size) xs i
+    → AllWithin (λ s. ¬ Holds s size) xs (i + 1) (length xs) → IsLastHolding (full xs) size i (length xs - i)
+IsLastHolding-plain [] size i within held newest = absurd (omega arith)
+IsLastHolding-plain (x ∷ xs) size i within held newest = last-at x (x ∷ xs) size i within held newest
+
+pub NoneHolds-plain : (xs : List Cuboid) (size : Size) → All (λ s. ¬ Holds s size) xs → NoneHolds (full xs) size (length xs)
+NoneHolds-plain xs size none = record {
+  none = subst (All (λ s. ¬ Holds s size)) (sym (sections_of-plain xs)) none;
+  tests_are = ap length (sym (sections_of-plain xs));
+}
+
+module _ (xs : List Cuboid) (size : Size) (i tests : ℕ) (last : IsLastHolding (full xs) size i tests) where
+  pub plain-within : i < length xs
+  plain-within =
+      omega (arith, last.place_is, ap length last.splits, length-map xs (λ s. Some s), length-append last.before (Some last.section ∷ last.after))
+
+  -- the section there
+  plain-is : (d : Cuboid) → get_or xs i d ≡ last.section
+  plain-is d =
+      let there : get_or (full xs) i (Some d) ≡ Some last.section =
+      ap (λ l. get_or l i (Some d)) last.splits ∙ rw last.place_is (get_or-append_seam last.before (Some last.section) last.after (Some d)) in
+      let here : get_or (full xs) i (Some d) ≡ Some (get_or xs i d) = get_or-map (λ s. Some s) xs i d (Some d) plain-within in
+      cc
+
+  -- and those behind it
+  plain-after : sections_of last.after ≡ drop (i + 1) xs
+  plain-after =
+      let rest : full (drop (i + 1) xs) ≡ last.after =
+      sym (drop-map (λ s. Some s) (i + 1) xs) ∙ ap (drop (i + 1)) last.splits
+      ∙ rw last.place_is (drop-append-add last.before (Some last.section ∷ last.after) 1) in
+      ap sections_of (sym rest) ∙ sections_of-plain (drop (i + 1) xs)
+
+  pub plain-holds : HoldsAt (λ s. Holds s size) xs i
+  plain-holds d = subst (λ (s : Cuboid). Holds s size) (sym (plain-is d)) last.held
+
+  pub plain-newest : AllWithin (λ s. ¬ Holds s size) xs (i + 1) (length xs)
+  plain-newest k d from short =
+      let ends : i + 1 + (k - (i + 1)) ≡ k = omega arith in
+      let long = length-drop (i + 1) xs in
+      let all : All (λ s. ¬ Holds s size) (drop (i + 1) xs) = subst (All (λ s. ¬ Holds s size)) plain-after last.newest in
+      let read : get_or (drop (i + 1) xs) (k - (i + 1)) d ≡ get_or xs k d = get_or-drop (i + 1) xs (k - (i + 1)) d ∙ ap (λ n. get_or xs n d) ends in
+      subst (λ (s : Cuboid). ¬ Holds s size) read (all (k - (i + 1)) d (omega arith))
+
+  pub plain-tests : length xs - i ≡ tests
+  plain-tests = omega (arith, last.tests_are, ap length plain-after, length-drop (i + 1) xs, plain-within)
+
+  -- a step of its sections is one of its places
+  pub IsStep-plain : (may : Answers) (location : Cuboid) (next : List Cuboid) → IsStep may xs size location next (length xs - i)
+      → IsStep may (sections_of (full xs)) size location (sections_of (full next)) tests
+  IsStep-plain may location next step = rw (sections_of-plain xs, sections_of-plain next, ← plain-tests) step
+
+-- a note is undone among the sections as among their places
+undone-if : (gap : Bool) (set_back put_back : List (Option Cuboid)) (x y : List Cuboid) → set_back ≡ full x → put_back ≡ full y
+    → (if gap then set_back else put_back) ≡ full (if gap then x else y)
+undone-if true set_back put_back x y p q = p
+undone-if false set_back put_back x y p q = q
+
+full-insert : (xs : List Cuboid) (i : ℕ) (s : Cuboid) → insert (full xs) i (Some s) ≡ full (insert xs i s)
+full-insert xs i s =
+    rw (take-map (λ s. Some s) i xs, drop-map (λ s. Some s) i xs) (sym (map-append (λ s. Some s) (take i xs) (s ∷ drop i xs)))
+
+pub before_note-plain : (note : Note) (xs : List Cuboid)
+    → before_note note (full xs) ≡ full (if note.leaves_gap then set (take note.kept xs) note.place note.section else insert (take note.kept xs) note.place note.section)
+before_note-plain note xs =
+    let kept : take note.kept (full xs) ≡ full (take note.kept xs) = take-map (λ s. Some s) note.kept xs in
+    undone-if note.leaves_gap _ _ _ _
+    (rw kept (sym (map-set (λ s. Some s) (take note.kept xs) note.place note.section)))
+    (rw kept (full-insert (take note.kept xs) note.place note.section))
+
+-- where the list closed up, the section goes in again
+pub before_note-closed_up : (note : Note) (xs before : List Cuboid) → note.leaves_gap ≡ false
+    → insert (take note.kept xs) note.place note.section ≡ before → before_note note (full xs) ≡ full before
+before_note-closed_up note xs before closed same = before_note-plain note xs ∙ rw closed (ap (λ l. full l) same)
+
+pub CanUndoOne-plain : (room : ℕ) (note : Note) (xs : List Cuboid) → note.leaves_gap ≡ false → note.kept ≤ length xs
+    → note.place ≤ note.kept → note.kept < room → CanUndoOne room note (full xs)
+CanUndoOne-plain room note xs closed kept place more = record {
+  kept = omega (arith, length-map xs (λ s. Some s));
+  back = rw closed (place, more, no-gap xs);
+}

@@ -1,0 +1,302 @@
+//! A list of free sections while a packing lasts: what is done to it is noted, and can be undone.
+ghost use Rattle.std.specs.Prelude.{ℕ, ◌≡◌, ◌≤◌, ◌<◌, ◌+◌, ◌*◌, ◌^◌, ◌++◌, ◌∷◌, [], Some, List, length, map, take, drop, All, IfSome, MatchOption, OnOk};
+ghost use Rattle.std.specs.Vec.{vec_capacity};
+ghost use Rattle.rectangle_pack_sections.specs.Boxes.{FitsU32};
+ghost use Rattle.rectangle_pack_lists.specs.Steps.{IsStep};
+ghost use Rattle.rectangle_pack_lists.specs.private.FreeLists.{now_of, left_of, places_in, room_in, steps_in};
+ghost use Rattle.rectangle_pack_lists.specs.private.Notes.{before_note, before_notes, CanUndoOne};
+ghost use Rattle.rectangle_pack_lists.specs.private.Places.{sections_of, IsLastHolding, NoneHolds};
+ghost use Rattle.rectangle_pack_lists.specs.private.Summaries.{Bounds};
+
+pub mod plain;
+
+use crate::free_list::plain::{newest, place_at, undo_one};
+use crate::gap_list::summary::Summary;
+use crate::gap_list::{GapList, Search};
+use rectangle_pack_sections::bin_section::BinSection;
+use rectangle_pack_sections::closures::Policy;
+use rectangle_pack_sections::packed_location::PackedLocation;
+use rectangle_pack_sections::rect_to_insert::RectToInsert;
+use std::alloc::{AllocError, Allocator};
+use std::marker::Model;
+
+// From how many sections, with the members to come, a list with an index is quicker than a plain one.
+const LONG: usize = 1000;
+
+// How many sections may get an index for each box that is packed.
+const SECTIONS_A_BOX: usize = 16;
+
+// How many sections are summed anew after each trial that is done, at most.
+const FEW: usize = 64;
+
+/// What is done with the steps in a list at the end.
+#[derive(Clone, Copy, PartialEq)]
+pub enum End {
+    Keep,
+    Undo,
+}
+
+/// What a step did to a list: which section it took out, at which place, how many places there were
+/// before the pieces were pushed, and whether the section left a gap.
+#[derive(Clone, Copy)]
+pub struct Note {
+    pub place: usize,
+    pub section: BinSection,
+    pub kept: usize,
+    pub leaves_gap: bool,
+}
+
+// The sections: a plain list, or one with gaps, where it is long.
+#[derive(Drop)]
+enum Sections<A: Allocator + Copy> {
+    Plain(Vec<BinSection, A>),
+    Gapped(GapList<A>),
+}
+
+/// The free sections of a bin, in which a packing of `boxes` boxes makes trials. Each step is noted,
+/// and can be undone.
+#[derive(Drop)]
+pub struct FreeList<A: Allocator + Copy> {
+    sections: Sections<A>,
+    notes: Vec<Note, A>,
+    boxes: usize,
+}
+
+impl<A: Allocator + Copy> Model for FreeList<A> {
+    ghost use Rattle.std.specs.Prelude.{◌-◌, length, min};
+    ghost use Rattle.std.specs.Vec.{vec_capacity};
+    ghost use Rattle.rectangle_pack_lists.specs.private.FreeLists.{AtWork, places_in, room_in, steps_in};
+    ghost use Rattle.rectangle_pack_lists.specs.private.Notes.{CanUndo};
+
+    ghost Value = { AtWork };
+
+    ghost view = { λ l.
+        record {
+          places = places_in l.sections;
+          notes = l.notes.items;
+          room = room_in l.sections;
+          steps = min (steps_in l.sections) (vec_capacity l.notes - length l.notes.items);
+        } };
+
+    // Each step that is noted can be undone.
+    ghost invariant = { λ l. CanUndo (room_in l.sections) l.notes.items (places_in l.sections) };
+}
+
+impl<A: Allocator + Copy> FreeList<A> {
+    /// These sections, in a packing of `boxes` boxes. Takes no memory.
+    pub fn new(sections: Vec<BinSection, A>, boxes: usize) -> Self
+        ensures places { result.places ≡ map (λ s. Some s) sections.items }
+        ensures notes { result.notes ≡ [] }
+        ensures room { result.room ≡ vec_capacity sections }
+    {
+        let notes = Vec::new(*sections.allocator());
+        FreeList {
+            sections: Sections::Plain(sections),
+            notes,
+            boxes,
+        }
+    }
+
+    // How many steps are noted.
+    pub(crate) fn steps(&self) -> usize
+        ensures { result ≡ length self.now.notes }
+    {
+        self.notes.len()
+    }
+
+    // Looks for the newest section that holds a member.
+    pub(crate) fn find(&self, member: &RectToInsert) -> Search
+        ensures { MatchOption result.place
+            (NoneHolds self.now.places member.now result.tests)
+            (λ place. IsLastHolding self.now.places member.now place result.tests) }
+    {
+        match &self.sections {
+            Sections::Plain(sections) => match newest(sections.as_slice(), member) {
+                Some(place) => Search {
+                    place: Some(place),
+                    tests: sections.len() - place,
+                },
+                None => Search {
+                    place: None,
+                    tests: sections.len(),
+                },
+            },
+            Sections::Gapped(list) => list.last_holding(member),
+        }
+    }
+
+    // Makes room for `steps` steps more, and sets an index beside a long list. Fails only when
+    // memory is refused.
+    pub(crate) fn reserve(&mut self, steps: usize) -> Result<(), AllocError>
+        requires small { steps * 3 < 2 ^ 64 }
+        ensures ok { OnOk result (steps ≤ self.new.steps) }
+        ensures places { self.new.places ≡ self.old.places }
+        ensures notes { self.new.notes ≡ self.old.notes }
+        ensures room { self.old.room ≤ self.new.room }
+    {
+        self.notes.reserve(steps)?;
+        self.sections.reserve(steps, self.boxes)
+    }
+
+    // Places a member into the section at this place, and notes the step. Takes no memory.
+    pub(crate) fn place<R: Policy>(
+        &mut self,
+        place: usize,
+        member: &RectToInsert,
+        policy: &R,
+    ) -> PackedLocation
+        requires callable { R.is_callable policy.now }
+        requires fits { All FitsU32 (now_of self.old) }
+        requires newest { (tests : ℕ) × IsLastHolding self.old.places member.now place tests }
+        requires steps { 0 < self.old.steps }
+        ensures step { (tests : ℕ) →
+            IsLastHolding self.old.places member.now place tests →
+            IsStep (R.may policy.now) (now_of self.old) member.now result (now_of self.new) tests }
+        ensures noted { (note : Note) × (self.new.notes ≡ self.old.notes ++ note ∷ []) ×
+            (before_note note self.new.places ≡ self.old.places) }
+        ensures room { self.old.room ≤ self.new.room }
+        ensures steps { self.old.steps ≤ self.new.steps + 1 }
+    {
+        let (location, note) = self.sections.place(place, member, policy);
+        self.notes.push_reserved(note);
+        location
+    }
+
+    // Undoes the noted steps but for the first `kept`, from the last. Takes no memory.
+    pub(crate) fn undo_to(&mut self, kept: usize)
+        requires { kept ≤ length self.old.notes }
+        ensures places { self.new.places ≡
+            before_notes (drop kept self.old.notes) self.old.places }
+        ensures notes { self.new.notes ≡ take kept self.old.notes }
+        ensures room { self.old.room ≤ self.new.room }
+    {
+        while self.notes.len() > kept {
+            self.undo();
+        }
+    }
+
+    // Undoes the last noted step. Takes no memory.
+    fn undo(&mut self)
+        requires { 0 < length self.old.notes }
+        ensures undone { (notes : List Note) (note : Note) →
+            self.old.notes ≡ notes ++ note ∷ [] →
+            (self.new.notes ≡ notes) × (self.new.places ≡ before_note note self.old.places) }
+        ensures room { self.old.room ≤ self.new.room }
+    {
+        if let Some(note) = self.notes.pop() {
+            self.sections.undo(note);
+        }
+    }
+
+    /// Bounds of its sections, where they are few and no index stands beside them.
+    pub fn summary(&self) -> Option<Summary>
+        ensures { IfSome result (λ s. Bounds s (now_of self.now)) }
+    {
+        match &self.sections {
+            Sections::Plain(sections) if sections.len() <= FEW => {
+                Some(Summary::of_sections(sections.as_slice()))
+            }
+            _ => None,
+        }
+    }
+
+    /// The sections at the end, closed up. Takes no memory.
+    pub fn into_sections(self, end: End) -> Vec<BinSection, A>
+        ensures items { result.items ≡ left_of end self }
+        ensures room { self.room ≤ vec_capacity result }
+    {
+        let mut list = self;
+        if end == End::Undo {
+            list.undo_to(0);
+        }
+        let FreeList { sections, .. } = list;
+        sections.into_sections()
+    }
+}
+
+// Whether an index is worth it beside a list of `sections` sections, for a trial of `steps` members
+// in a packing of `boxes` boxes.
+fn is_worth_it(sections: usize, steps: usize, boxes: usize) -> bool {
+    sections.saturating_add(steps) >= LONG && sections / SECTIONS_A_BOX <= boxes
+}
+
+impl<A: Allocator + Copy> Sections<A> {
+    // Makes room for `steps` steps more, and sets an index beside a plain list where it is worth it.
+    // Fails only when memory is refused.
+    fn reserve(&mut self, steps: usize, boxes: usize) -> Result<(), AllocError>
+        requires small { steps * 3 < 2 ^ 64 }
+        ensures ok { OnOk result (steps ≤ steps_in self.new) }
+        ensures places { places_in self.new ≡ places_in self.old }
+        ensures room { room_in self.old ≤ room_in self.new }
+    {
+        match self {
+            Sections::Gapped(list) => list.reserve(steps * 3),
+            Sections::Plain(sections) if !is_worth_it(sections.len(), steps, boxes) => {
+                sections.reserve(steps * 2)
+            }
+            Sections::Plain(sections) => {
+                *self = Sections::Gapped(GapList::over(sections, steps * 3)?);
+                Ok(())
+            }
+        }
+    }
+
+    // Takes the section at this place out, and pushes what is left of it round a member.
+    fn place<R: Policy>(
+        &mut self,
+        place: usize,
+        member: &RectToInsert,
+        policy: &R,
+    ) -> (PackedLocation, Note)
+        requires callable { R.is_callable policy.now }
+        requires fits { All FitsU32 (sections_of (places_in self.old)) }
+        requires newest { (tests : ℕ) ×
+            IsLastHolding (places_in self.old) member.now place tests }
+        requires steps { 0 < steps_in self.old }
+        ensures step { (tests : ℕ) →
+            IsLastHolding (places_in self.old) member.now place tests →
+            IsStep (R.may policy.now) (sections_of (places_in self.old)) member.now result.0
+            (sections_of (places_in self.new)) tests }
+        ensures before { before_note result.1 (places_in self.new) ≡ places_in self.old }
+        ensures can_undo { CanUndoOne (room_in self.new) result.1 (places_in self.new) }
+        ensures room { room_in self.old ≤ room_in self.new }
+        ensures steps { steps_in self.old ≤ steps_in self.new + 1 }
+    {
+        match self {
+            Sections::Plain(sections) => place_at(sections, place, member, policy),
+            Sections::Gapped(list) => list.place_at(place, member, policy),
+        }
+    }
+
+    // Takes the pieces of a step off, and puts its section back. Takes no memory.
+    fn undo(&mut self, note: Note)
+        requires { CanUndoOne (room_in self.old) note (places_in self.old) }
+        ensures places { places_in self.new ≡ before_note note (places_in self.old) }
+        ensures room { room_in self.old ≤ room_in self.new }
+    {
+        match self {
+            Sections::Plain(sections) => undo_one(sections, note),
+            Sections::Gapped(list) if note.leaves_gap => list.undo_one(note),
+            Sections::Gapped(list) => {
+                // The index was set after this step, so no gap stands in the list any more.
+                let mut sections = list.take_sections();
+                undo_one(&mut sections, note);
+                *self = Sections::Plain(sections);
+            }
+        }
+    }
+
+    // The sections alone, closed up. Takes no memory.
+    fn into_sections(self) -> Vec<BinSection, A>
+        ensures items { result.items ≡ sections_of (places_in self) }
+        ensures room { vec_capacity result ≡ room_in self }
+    {
+        match self {
+            Sections::Plain(sections) => sections,
+            Sections::Gapped(list) => {
+                let mut list = list;
+                list.take_sections()
+            }
+        }
+    }
+}
