@@ -7,10 +7,8 @@ use std::marker::Model;
 /// How many fit tests a look at one section after another makes, from the newest on: a member that
 /// is placed costs one for its section and one for each newer one, and a member that finds no
 /// section costs one for each section of the list. The count is exactly this, whatever the code
-/// does. In a long list the search passes over sections together that are all too small: it counts
-/// each of them and tests none. Before a long list is set up for this search, the code may look
-/// whether any section holds the first member: it tests sections and does not count them. The count
-/// stays at the greatest `u128`.
+/// does: in a long list the search passes over sections together that are all too small, counts each
+/// of them and tests none. The count stays at the greatest `u128`.
 #[derive(Debug, PartialEq, Drop)]
 pub struct FitTests {
     count: u128,
