@@ -1,12 +1,13 @@
 //! One trial, in a list of free sections, which is undone where it is stuck.
-ghost use Rattle.std.specs.Prelude.{ℕ, ◌≡◌, ◌≤◌, ◌∷◌, [], List, length, All, IsOk, map, filter};
+ghost use Rattle.std.specs.Prelude.{ℕ, ◌≡◌, ◌≤◌, ◌∷◌, [], List, length, All, IsOk, IfSome, false, map, filter};
 ghost use Rattle.rectangle_pack_sections.specs.Boxes.{Cuboid, Holds, FitsU32, has_cells};
 ghost use Rattle.rectangle_pack_sections.specs.Choice.{IsAllowedCut};
 ghost use Rattle.rectangle_pack_sections.specs.Cuts.{placed};
 ghost use Rattle.rectangle_pack_lists.specs.Steps.{AreLeft, AreRanked};
-ghost use Rattle.rectangle_pack_lists.specs.private.FreeLists.{IsTried, now_of, start_of};
+ghost use Rattle.rectangle_pack_lists.specs.private.FreeLists.{IsTried, IsStuckAtOnce, now_of, start_of};
 
 use crate::free_list::FreeList;
+use crate::free_list::plain::newest;
 use rectangle_pack_sections::bin_section::BinSection;
 use rectangle_pack_sections::closures::Policy;
 use rectangle_pack_sections::packed_location::PackedLocation;
@@ -74,46 +75,66 @@ pub struct Trial {
     pub tests: u128,
 }
 
-/// One trial. Its locations are left in `locations`, whose room is used for one trial after another.
-/// A stuck trial is undone, and the room that was made stays. Room for all steps is made once the
-/// first member has found a section, so a trial that is stuck at once takes no memory. Fails only
-/// when memory is refused.
-pub fn run_trial<R: Policy, A: Allocator + Copy>(
-    list: &mut FreeList<A>,
-    members: &[RectToInsert],
-    policy: &R,
-    locations: &mut Vec<PackedLocation, A>,
-) -> Result<Trial, AllocError>
-    requires callable { R.is_callable policy.now }
-    requires fits { All FitsU32 (now_of list.old) }
-    ensures tried { IsTried (R.may policy.now) (now_of list.old) members.now result
-        locations.new.items (now_of list.new) }
-    ensures start { start_of list.new ≡ start_of list.old }
-    ensures room { list.old.room ≤ list.new.room }
-    ensures no_members { length members.now ≡ 0 → IsOk result }
+/// A trial in these sections that is stuck at its first member, since none of them holds it; `None`
+/// where one of them does, and without members. Nothing is changed, and no memory is taken.
+pub fn stuck_at_once(sections: &[BinSection], members: &[RectToInsert]) -> Option<Trial>
+    ensures { IfSome result
+        (λ trial.
+        (trial.is_done ≡ false) ×
+        IsStuckAtOnce sections.now members.now trial.tests) }
 {
-    locations.clear();
-    let kept = list.steps();
-    let mut tests = 0;
-    for (i, member) in members.iter().enumerate() {
-        let found = list.find(member);
-        tests += found.tests as u128;
-        let Some(place) = found.place else {
-            list.undo_to(kept);
-            return Ok(Trial {
-                is_done: false,
-                tests,
-            });
-        };
-        if i == 0 {
-            list.reserve(members.len())?;
-            locations.reserve(members.len())?;
-        }
-        let location = list.place(place, member, policy);
-        locations.push_reserved(location);
+    let first = members.first()?;
+    match newest(sections, first) {
+        Some(_) => None,
+        None => Some(Trial {
+            is_done: false,
+            tests: sections.len() as u128,
+        }),
     }
-    Ok(Trial {
-        is_done: true,
-        tests,
-    })
+}
+
+impl<A: Allocator + Copy> FreeList<A> {
+    /// One trial. Its locations are left in `locations`, whose room is used for one trial after
+    /// another. A stuck trial is undone, and the room that was made stays. Room for all steps is
+    /// made once the first member has found a section, so a trial that is stuck at once takes no
+    /// memory. Fails only when memory is refused.
+    pub fn run_trial<R: Policy>(
+        &mut self,
+        members: &[RectToInsert],
+        policy: &R,
+        locations: &mut Vec<PackedLocation, A>,
+    ) -> Result<Trial, AllocError>
+        requires callable { R.is_callable policy.now }
+        requires fits { All FitsU32 (now_of self.old) }
+        ensures tried { IsTried (R.may policy.now) (now_of self.old) members.now result
+            locations.new.items (now_of self.new) }
+        ensures start { start_of self.new ≡ start_of self.old }
+        ensures room { self.old.room ≤ self.new.room }
+        ensures no_members { length members.now ≡ 0 → IsOk result }
+    {
+        locations.clear();
+        let kept = self.steps();
+        let mut tests = 0;
+        for (i, member) in members.iter().enumerate() {
+            let found = self.find(member);
+            tests += found.tests as u128;
+            let Some(place) = found.place else {
+                self.undo_to(kept);
+                return Ok(Trial {
+                    is_done: false,
+                    tests,
+                });
+            };
+            if i == 0 {
+                self.reserve(members.len())?;
+                locations.reserve(members.len())?;
+            }
+            let location = self.place(place, member, policy);
+            locations.push_reserved(location);
+        }
+        Ok(Trial {
+            is_done: true,
+            tests,
+        })
+    }
 }

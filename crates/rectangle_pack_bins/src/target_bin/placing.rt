@@ -7,7 +7,7 @@ use crate::target_bin::lending::{put_sections, take_sections};
 use crate::target_bin::{FitTests, TargetBin};
 use rectangle_pack_lists::fit_tests::add;
 use rectangle_pack_lists::free_list::{End, FreeList};
-use rectangle_pack_lists::trial::{Trial, run_trial};
+use rectangle_pack_lists::trial::Trial;
 use rectangle_pack_sections::closures::Closures;
 use rectangle_pack_sections::packed_location::PackedLocation;
 use rectangle_pack_sections::rect_to_insert::RectToInsert;
@@ -69,7 +69,7 @@ impl<A: Allocator + Copy> TargetBin<A> {
         };
         let mut locations = Vec::new(*self.available_bin_sections.allocator());
         let mut list = FreeList::new(take_sections(self), members.len());
-        let trial = run_trial(&mut list, members, &policy, &mut locations);
+        let trial = list.run_trial(members, &policy, &mut locations);
         // A stuck trial was undone.
         put_sections(self, list.into_sections(End::Keep));
         let Trial {

@@ -1,5 +1,5 @@
 -- A list of free sections while a packing lasts, and one trial in it.
-use Rattle.std.specs.Prelude.{ℕ, ◌≡◌, ◌-◌, ◌/◌, List, length, map, Option, Some, None, Result, Ok, Err, if◌then◌else◌}
+use Rattle.std.specs.Prelude.{ℕ, ◌≡◌, ◌-◌, ◌/◌, ◌∷◌, List, length, map, All, Option, Some, None, Result, Ok, Err, if◌then◌else◌}
 use Rattle.std.specs.Vec.{vec_capacity}
 use Rattle.rectangle_pack_lists.specs.declared.free_list.End.{End}
 use Rattle.rectangle_pack_lists.specs.declared.free_list.End.TheVariants.{Keep, Undo}
@@ -7,7 +7,7 @@ use Rattle.rectangle_pack_lists.specs.declared.free_list.Note.{Note}
 use Rattle.rectangle_pack_lists.specs.declared.free_list.Sections.{Sections}
 use Rattle.rectangle_pack_lists.specs.declared.free_list.Sections.TheVariants.{Plain, Gapped}
 use Rattle.rectangle_pack_lists.specs.declared.trial.Trial.{Trial}
-use Rattle.rectangle_pack_sections.specs.Boxes.{Size, Cuboid}
+use Rattle.rectangle_pack_sections.specs.Boxes.{Size, Cuboid, Holds}
 use Rattle.rectangle_pack_sections.specs.Closures.{Answers}
 use Rattle.rectangle_pack_lists.specs.Trials.{IsTrial}
 use Rattle.rectangle_pack_lists.specs.private.Notes.{before_notes}
@@ -55,3 +55,11 @@ abbrev pub IsTried : {E : Type 0} → Answers → List Cuboid → List Size → 
 IsTried may old members (Ok trial) locations new =
     IsTrial may old members (if trial.is_done then Some locations else None) new trial.tests
 IsTried may old members (Err error) locations new = new ≡ old
+
+-- a trial is stuck at its first member: no section holds it, and there is one test for each section
+pub record IsStuckAtOnce (sections : List Cuboid) (members : List Size) (tests : ℕ) : Type 0 where
+  pub first : Size
+  pub others : List Size
+  pub members_are : members ≡ first ∷ others
+  pub none : All (λ s. ¬ Holds s first) sections
+  pub tests_are : tests ≡ length sections

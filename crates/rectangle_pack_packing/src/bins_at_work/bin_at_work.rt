@@ -8,7 +8,7 @@ use rectangle_pack_bins::target_bin::TargetBin;
 use rectangle_pack_bins::target_bin::lending::{put_sections, take_sections};
 use rectangle_pack_lists::free_list::{End, FreeList};
 use rectangle_pack_lists::gap_list::summary::Summary;
-use rectangle_pack_lists::trial::{Trial, run_trial};
+use rectangle_pack_lists::trial::Trial;
 use rectangle_pack_sections::closures::Policy;
 use rectangle_pack_sections::packed_location::PackedLocation;
 use rectangle_pack_sections::rect_to_insert::RectToInsert;
@@ -68,7 +68,7 @@ impl<A: Allocator + Copy> BinAtWork<A> {
         ensures start { self.new.start ≡ self.old.start }
         ensures now { self.new.now ≡ record self.old.now { sections = self.new.now.sections } }
     {
-        run_trial(&mut self.list, members, policy, locations)
+        self.list.run_trial(members, policy, locations)
     }
 
     // Bounds of its sections as they are now, where they are few.

@@ -10,8 +10,8 @@ use Rattle.rectangle_pack_lists.specs.private.Places.{IsLastHolding, sections_of
 use Rattle.rectangle_pack_lists.proofs.lemmas.trial.StepsByIndex.{IsDone-more, IsStuck-at, IsTried-refused}
 use Rattle.rectangle_pack_lists.proofs.lemmas.trial.Steps.{IsStep-fits}
 use Rattle.rectangle_pack_lists.proofs.lemmas.trial.Undone.{IsSince-none, IsSince-same, IsSince-more, IsSince-longer, IsSince-start, IsSince-undone}
-use Rattle.rectangle_pack_lists.proofs.trial.run_trial.Goals as goal
-use Rattle.rectangle_pack_lists.proofs.trial.run_trial.Goals.{then-i-eq0+in_ok-reserve+in_ok-reserve-2, else-i-eq0}
+use Rattle.rectangle_pack_lists.proofs.trial.FreeList.run_trial.Goals as goal
+use Rattle.rectangle_pack_lists.proofs.trial.FreeList.run_trial.Goals.{then-i-eq0+in_ok-reserve+in_ok-reserve-2, else-i-eq0}
 
 -- the tests of one member more
 more_tests : (i tests one : ℕ) → tests ≤ i * 18446744073709551615 → one < 18446744073709551616 → tests + one ≤ (i + 1) * 18446744073709551615

@@ -3,7 +3,7 @@ use Rattle.rectangle_pack_sections.specs.Boxes.{FitsU32}
 use Rattle.rectangle_pack_lists.specs.Steps.{IsDone}
 use Rattle.rectangle_pack_lists.specs.private.FreeLists.{now_of}
 use Rattle.rectangle_pack_lists.proofs.lemmas.trial.Undone.{IsSince}
-use Rattle.rectangle_pack_lists.proofs.trial.run_trial.Given as goal
+use Rattle.rectangle_pack_lists.proofs.trial.FreeList.run_trial.Given as goal
 
 abbrev pub invariant-loop-i : goal.invariant-loop-i
 invariant-loop-i g l = record {
