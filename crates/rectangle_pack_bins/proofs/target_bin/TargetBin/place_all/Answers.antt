@@ -26,13 +26,13 @@ put_sections-requires g c =
 
 -- the bin has the list that the trial leaves
 bin_is : (g : Over) (c : After-put_sections g)
-    → c.put_sections.new.bin.bin ≡ record c.args.self.now.bin { sections = now_of c.run_trial-trial.new.list }
+    → c.put_sections.new.bin.bin ≡ record c.args.self.now.bin { sections = now_of c.run_trial-trial.new.self }
 bin_is g c = rw (c.put_sections.ensures.bin, c.take_sections.ensures.bin, c.into_sections.ensures.items) refl
 
 pub returns-in_err-is_done-clause-answer : goal.returns-in_err-is_done-clause-answer
 returns-in_err-is_done-clause-answer g c =
     let at = goal_at.returns-in_err-is_done-clause-answer g c in
-    let same : now_of c.run_trial-trial.new.list ≡ c.args.self.now.bin.sections = c.in_err-is_done.ensures.tried ∙ now_is g at.After-new-list in
+    let same : now_of c.run_trial-trial.new.self ≡ c.args.self.now.bin.sections = c.in_err-is_done.ensures.tried ∙ now_is g at.After-new-list in
     IsTrialAnswer-refused _ c.args.self.now.bin _ _ _ c.from_residual.result c.from_residual.ensures.0 (bin_is g at.After-put_sections ∙ rw same refl)
 
 -- what is answered, by whether the trial is done
@@ -47,7 +47,7 @@ answered : (g : Over) (c : Joined-is_done g)
     c.args.tests.now (Ok c.if-is_done.result) c.put_sections.new.bin.bin c.add.new.tests
 answered g c =
     let same : now_of c.new-list.result ≡ c.args.self.now.bin.sections = rw c.new-list.ensures.places (sections_of-full _ ∙ c.take_sections.ensures.items) in
-    let bin : c.put_sections.new.bin.bin ≡ record c.args.self.now.bin { sections = now_of c.run_trial-trial.new.list } =
+    let bin : c.put_sections.new.bin.bin ≡ record c.args.self.now.bin { sections = now_of c.run_trial-trial.new.self } =
     rw (c.put_sections.ensures.bin, c.take_sections.ensures.bin, c.into_sections.ensures.items) refl in (
       c.in_ok-is_done.field-0.tests,
       rw bin (IsTrial-answered _ c.args.self.now.bin.sections c.args.members.now c.in_ok-is_done.field-0.is_done c.run_trial-trial.new.locations c.if-is_done.result

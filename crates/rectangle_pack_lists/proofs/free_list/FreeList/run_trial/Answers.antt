@@ -10,8 +10,8 @@ use Rattle.rectangle_pack_lists.specs.private.Places.{IsLastHolding, sections_of
 use Rattle.rectangle_pack_lists.proofs.lemmas.trial.StepsByIndex.{IsDone-more, IsStuck-at, IsTried-refused}
 use Rattle.rectangle_pack_lists.proofs.lemmas.trial.Steps.{IsStep-fits}
 use Rattle.rectangle_pack_lists.proofs.lemmas.trial.Undone.{IsSince-none, IsSince-same, IsSince-more, IsSince-longer, IsSince-start, IsSince-undone}
-use Rattle.rectangle_pack_lists.proofs.trial.FreeList.run_trial.Goals as goal
-use Rattle.rectangle_pack_lists.proofs.trial.FreeList.run_trial.Goals.{then-i-eq0+in_ok-reserve+in_ok-reserve-2, else-i-eq0}
+use Rattle.rectangle_pack_lists.proofs.free_list.FreeList.run_trial.Goals as goal
+use Rattle.rectangle_pack_lists.proofs.free_list.FreeList.run_trial.Goals.{then-i-eq0+in_ok-reserve+in_ok-reserve-2, else-i-eq0}
 
 -- the tests of one member more
 more_tests : (i tests one : ℕ) → tests ≤ i * 18446744073709551615 → one < 18446744073709551616 → tests + one ≤ (i + 1) * 18446744073709551615
@@ -77,7 +77,7 @@ loop-i-init g c = record {
   done = (c.clear.ensures.items, refl, refl);
   most = le_refl 0;
   fits = c.requires.fits;
-  since = IsSince-none c.args.list.now;
+  since = IsSince-none c.args.self.now;
   kept = c.steps-kept.ensures;
   steps = λ some. absurd (lt_irrefl 0 some);
   room = le_refl _;
@@ -92,12 +92,12 @@ overflow_add-tests g c = record {
 }
 
 pub undo_to-requires : goal.undo_to-requires
-undo_to-requires g c = rw c.loop-i.invariant.kept (IsSince-longer c.args.list.now c.loop-i.list c.loop-i.invariant.since)
+undo_to-requires g c = rw c.loop-i.invariant.kept (IsSince-longer c.args.self.now c.loop-i.self c.loop-i.invariant.since)
 
 pub returns-in_default-clause-tried : goal.returns-in_default-clause-tried
 returns-in_default-clause-tried g c =
     let none = rw c.in_default.is at c.find-found.ensures in
-    let undone = IsSince-undone c.args.list.now c.loop-i.list c.undo_to.new.self c.steps-kept.result c.loop-i.invariant.since c.loop-i.invariant.kept
+    let undone = IsSince-undone c.args.self.now c.loop-i.self c.undo_to.new.self c.steps-kept.result c.loop-i.invariant.since c.loop-i.invariant.kept
     c.undo_to.ensures.places c.undo_to.ensures.notes in (
       rw none.tests_are (IsStuck-at _ _ c.args.members.now c.loop-i.i c.index-members-i.result _ _ _ c.loop-i-test.true c.index-members-i.is
           c.loop-i.invariant.done none.none),
@@ -106,8 +106,8 @@ returns-in_default-clause-tried g c =
 
 pub returns-in_default-clause-start : goal.returns-in_default-clause-start
 returns-in_default-clause-start g c =
-    let then = c.args.list.now in
-    let undone = IsSince-undone then c.loop-i.list c.undo_to.new.self c.steps-kept.result c.loop-i.invariant.since c.loop-i.invariant.kept
+    let then = c.args.self.now in
+    let undone = IsSince-undone then c.loop-i.self c.undo_to.new.self c.steps-kept.result c.loop-i.invariant.since c.loop-i.invariant.kept
     c.undo_to.ensures.places c.undo_to.ensures.notes in
     IsSince-start then c.undo_to.new.self (IsSince-same then then c.undo_to.new.self (IsSince-none then) undone.0 undone.1)
 
@@ -116,13 +116,13 @@ returns-in_default-clause-room g c = le_trans c.loop-i.invariant.room c.undo_to.
 
 pub returns-in_err-reserve-clause-tried : goal.returns-in_err-reserve-clause-tried
 returns-in_err-reserve-clause-tried g c =
-    IsTried-refused _ _ c.args.members.now c.loop-i.i _ (now_of c.loop-i.list) _ c.from_residual.result _ _ c.from_residual.ensures.0 c.if-i-eq0.true
+    IsTried-refused _ _ c.args.members.now c.loop-i.i _ (now_of c.loop-i.self) _ c.from_residual.result _ _ c.from_residual.ensures.0 c.if-i-eq0.true
     c.loop-i.invariant.done (ap sections_of c.in_err-reserve.ensures.places)
 
 pub returns-in_err-reserve-clause-start : goal.returns-in_err-reserve-clause-start
 returns-in_err-reserve-clause-start g c =
-    IsSince-start c.args.list.now c.reserve.new.self
-    (IsSince-same c.args.list.now c.loop-i.list c.reserve.new.self c.loop-i.invariant.since c.in_err-reserve.ensures.places c.in_err-reserve.ensures.notes)
+    IsSince-start c.args.self.now c.reserve.new.self
+    (IsSince-same c.args.self.now c.loop-i.self c.reserve.new.self c.loop-i.invariant.since c.in_err-reserve.ensures.places c.in_err-reserve.ensures.notes)
 
 pub returns-in_err-reserve-clause-room : goal.returns-in_err-reserve-clause-room
 returns-in_err-reserve-clause-room g c = le_trans c.loop-i.invariant.room c.in_err-reserve.ensures.room
@@ -132,14 +132,14 @@ returns-in_err-reserve-clause-no_members g c = λ none. absurd (has_none c.loop-
 
 pub returns-in_err-reserve-2-clause-tried : goal.returns-in_err-reserve-2-clause-tried
 returns-in_err-reserve-2-clause-tried g c =
-    IsTried-refused _ _ c.args.members.now c.loop-i.i _ (now_of c.loop-i.list) _ c.from_residual-in_err-reserve-2.result _ _
+    IsTried-refused _ _ c.args.members.now c.loop-i.i _ (now_of c.loop-i.self) _ c.from_residual-in_err-reserve-2.result _ _
     c.from_residual-in_err-reserve-2.ensures.0 c.if-i-eq0.true
     c.loop-i.invariant.done (ap sections_of c.in_ok-reserve.ensures.places)
 
 pub returns-in_err-reserve-2-clause-start : goal.returns-in_err-reserve-2-clause-start
 returns-in_err-reserve-2-clause-start g c =
-    IsSince-start c.args.list.now c.reserve.new.self
-    (IsSince-same c.args.list.now c.loop-i.list c.reserve.new.self c.loop-i.invariant.since c.in_ok-reserve.ensures.places c.in_ok-reserve.ensures.notes)
+    IsSince-start c.args.self.now c.reserve.new.self
+    (IsSince-same c.args.self.now c.loop-i.self c.reserve.new.self c.loop-i.invariant.since c.in_ok-reserve.ensures.places c.in_ok-reserve.ensures.notes)
 
 pub returns-in_err-reserve-2-clause-room : goal.returns-in_err-reserve-2-clause-room
 returns-in_err-reserve-2-clause-room g c = le_trans c.loop-i.invariant.room c.in_ok-reserve.ensures.room
@@ -152,24 +152,24 @@ place-location-requires-clause-callable g c = c.requires.callable
 
 pub place-location-requires-clause-fits : goal.place-location-requires-clause-fits
 place-location-requires-clause-fits g c =
-    let same : c.if-i-eq0.list.places ≡ c.loop-i.list.places = elim c.if-i-eq0.branch [
-      | then-i-eq0+in_ok-reserve+in_ok-reserve-2 w ↦ rw w.list-is w.in_ok-reserve.ensures.places
-      | else-i-eq0 w ↦ rw w.list-is refl
+    let same : c.if-i-eq0.self.places ≡ c.loop-i.self.places = elim c.if-i-eq0.branch [
+      | then-i-eq0+in_ok-reserve+in_ok-reserve-2 w ↦ rw w.self-is w.in_ok-reserve.ensures.places
+      | else-i-eq0 w ↦ rw w.self-is refl
     ] in
     subst (λ (ps : List (Option Cuboid)). All FitsU32 (sections_of ps)) (sym same) c.loop-i.invariant.fits
 
 pub place-location-requires-clause-newest : goal.place-location-requires-clause-newest
 place-location-requires-clause-newest g c =
-    let same : c.if-i-eq0.list.places ≡ c.loop-i.list.places = elim c.if-i-eq0.branch [
-      | then-i-eq0+in_ok-reserve+in_ok-reserve-2 w ↦ rw w.list-is w.in_ok-reserve.ensures.places
-      | else-i-eq0 w ↦ rw w.list-is refl
+    let same : c.if-i-eq0.self.places ≡ c.loop-i.self.places = elim c.if-i-eq0.branch [
+      | then-i-eq0+in_ok-reserve+in_ok-reserve-2 w ↦ rw w.self-is w.in_ok-reserve.ensures.places
+      | else-i-eq0 w ↦ rw w.self-is refl
     ] in
     (c.find-found.result.tests, rw same (rw c.in-Some.is at c.find-found.ensures))
 
 pub place-location-requires-clause-steps : goal.place-location-requires-clause-steps
 place-location-requires-clause-steps g c = some_left c.loop-i.i _ _ c.loop-i-test.true (elim c.if-i-eq0.branch [
-  | then-i-eq0+in_ok-reserve+in_ok-reserve-2 w ↦ rw w.list-is (no_fewer _ _ _ w.in_ok-reserve.ensures.ok)
-  | else-i-eq0 w ↦ rw w.list-is (c.loop-i.invariant.steps (not_first _ w.if-i-eq0.false))
+  | then-i-eq0+in_ok-reserve+in_ok-reserve-2 w ↦ rw w.self-is (no_fewer _ _ _ w.in_ok-reserve.ensures.ok)
+  | else-i-eq0 w ↦ rw w.self-is (c.loop-i.invariant.steps (not_first _ w.if-i-eq0.false))
 ])
 
 pub push_reserved-requires : goal.push_reserved-requires
@@ -186,10 +186,10 @@ pub loop-i-preserved : goal.loop-i-preserved
 loop-i-preserved g c =
     let now = c.loop-i.invariant in
     let tests = c.find-found.result.tests in
-    let ready : IsReady (length c.args.members.now) c.loop-i.i c.loop-i.list c.if-i-eq0.list c.loop-i.locations.items c.if-i-eq0.locations.items
+    let ready : IsReady (length c.args.members.now) c.loop-i.i c.loop-i.self c.if-i-eq0.self c.loop-i.locations.items c.if-i-eq0.locations.items
     (vec_len c.loop-i.locations) (vec_len c.if-i-eq0.locations) (vec_capacity c.if-i-eq0.locations) =
     elim c.if-i-eq0.branch [
-      | then-i-eq0+in_ok-reserve+in_ok-reserve-2 w ↦ rw (w.list-is, w.locations-is) (record {
+      | then-i-eq0+in_ok-reserve+in_ok-reserve-2 w ↦ rw (w.self-is, w.locations-is) (record {
         places = w.in_ok-reserve.ensures.places;
         notes = w.in_ok-reserve.ensures.notes;
         list_room = w.in_ok-reserve.ensures.room;
@@ -198,7 +198,7 @@ loop-i-preserved g c =
         location_count = w.in_ok-reserve-2.ensures.len;
         location_room = room_for _ _ _ w.in_ok-reserve-2.ensures.ok;
       })
-      | else-i-eq0 w ↦ rw (w.list-is, w.locations-is) (record {
+      | else-i-eq0 w ↦ rw (w.self-is, w.locations-is) (record {
         places = refl;
         notes = refl;
         list_room = le_refl _;
@@ -209,7 +209,7 @@ loop-i-preserved g c =
       })
     ] in
     let found = rw c.in-Some.is at c.find-found.ensures in
-    let step = step_from _ c.loop-i.list.places c.if-i-eq0.list.places c.index-members-i.result _ c.place-location.result _ tests ready.places found
+    let step = step_from _ c.loop-i.self.places c.if-i-eq0.self.places c.index-members-i.result _ c.place-location.result _ tests ready.places found
     c.place-location.ensures.step in
     record {
       done = IsDone-more _ _ c.args.members.now c.loop-i.i c.index-members-i.result c.loop-i.locations.items _ _ _ c.push_reserved.new.self.items _ _
@@ -217,8 +217,8 @@ loop-i-preserved g c =
           (pushed c.loop-i.locations.items c.if-i-eq0.locations.items c.push_reserved.new.self.items _ c.push_reserved.ensures.items ready.locations);
       most = more_tests c.loop-i.i _ _ now.most c.find-found.type_inv.1.1.1.0.1;
       fits = IsStep-fits _ _ _ _ _ _ step now.fits;
-      since = IsSince-more c.args.list.now c.if-i-eq0.list c.place-location.new.self
-          (IsSince-same c.args.list.now c.loop-i.list c.if-i-eq0.list now.since ready.places ready.notes) c.place-location.ensures.noted;
+      since = IsSince-more c.args.self.now c.if-i-eq0.self c.place-location.new.self
+          (IsSince-same c.args.self.now c.loop-i.self c.if-i-eq0.self now.since ready.places ready.notes) c.place-location.ensures.noted;
       kept = now.kept;
       steps = λ _. steps_behind c.loop-i.i _ _ _ ready.steps c.place-location.ensures.steps;
       room = le_trans (le_trans now.room ready.list_room) c.place-location.ensures.room;
@@ -235,7 +235,7 @@ returns-clause-tried g c =
     rw e at c.loop-i.invariant.done
 
 pub returns-clause-start : goal.returns-clause-start
-returns-clause-start g c = IsSince-start c.args.list.now c.loop-i.list c.loop-i.invariant.since
+returns-clause-start g c = IsSince-start c.args.self.now c.loop-i.self c.loop-i.invariant.since
 
 pub returns-clause-room : goal.returns-clause-room
 returns-clause-room g c = c.loop-i.invariant.room
