@@ -3,14 +3,16 @@ ghost use Rattle.std.specs.Prelude.{ℕ, ◌≡◌, ◌≤◌, ◌<◌, ◌+◌,
 ghost use Rattle.std.specs.Vec.{vec_capacity};
 ghost use Rattle.rectangle_pack_sections.specs.Boxes.{FitsU32};
 ghost use Rattle.rectangle_pack_lists.specs.Steps.{IsStep};
-ghost use Rattle.rectangle_pack_lists.specs.private.FreeLists.{now_of, left_of, places_in, room_in, steps_in};
-ghost use Rattle.rectangle_pack_lists.specs.private.Notes.{before_note, before_notes, CanUndoOne};
+ghost use Rattle.rectangle_pack_lists.specs.private.FreeLists.{now_of, left_of, places_in, notes_in, room_in, steps_in};
+ghost use Rattle.rectangle_pack_lists.specs.private.Notes.{Note, IsNoted, CanUndo, before_note, before_notes};
 ghost use Rattle.rectangle_pack_lists.specs.private.Places.{sections_of, IsLastHolding, NoneHolds};
 ghost use Rattle.rectangle_pack_lists.specs.private.Summaries.{Bounds};
 
 pub mod plain;
+pub mod steps;
 
-use crate::free_list::plain::{newest, place_at, undo_one};
+use crate::free_list::plain::{Taken, newest, place_at, undo_one};
+use crate::free_list::steps::Steps;
 use crate::gap_list::summary::Summary;
 use crate::gap_list::{GapList, Search};
 use rectangle_pack_sections::bin_section::BinSection;
@@ -36,21 +38,12 @@ pub enum End {
     Undo,
 }
 
-/// What a step did to a list: which section it took out, at which place, how many places there were
-/// before the pieces were pushed, and whether the section left a gap.
-#[derive(Clone, Copy)]
-pub struct Note {
-    pub place: usize,
-    pub section: BinSection,
-    pub kept: usize,
-    pub leaves_gap: bool,
-}
-
 // The sections: a plain list, or one with gaps, where it is long.
 #[derive(Drop)]
 enum Sections<A: Allocator + Copy> {
     Plain(Vec<BinSection, A>),
-    Gapped(GapList<A>),
+    // And its steps.
+    Gapped(GapList<A>, Steps<A>),
 }
 
 /// The free sections of a bin, in which a packing of `boxes` boxes makes trials. Each step is noted,
@@ -58,14 +51,13 @@ enum Sections<A: Allocator + Copy> {
 #[derive(Drop)]
 pub struct FreeList<A: Allocator + Copy> {
     sections: Sections<A>,
-    notes: Vec<Note, A>,
+    // The steps in the plain list. Where there is an index, it was set after them.
+    taken: Vec<Taken, A>,
     boxes: usize,
 }
 
 impl<A: Allocator + Copy> Model for FreeList<A> {
-    ghost use Rattle.std.specs.Prelude.{◌-◌, length, min};
-    ghost use Rattle.std.specs.Vec.{vec_capacity};
-    ghost use Rattle.rectangle_pack_lists.specs.private.FreeLists.{AtWork, places_in, room_in, steps_in};
+    ghost use Rattle.rectangle_pack_lists.specs.private.FreeLists.{AtWork, places_in, notes_in, room_in, steps_in};
     ghost use Rattle.rectangle_pack_lists.specs.private.Notes.{CanUndo};
 
     ghost Value = { AtWork };
@@ -73,13 +65,14 @@ impl<A: Allocator + Copy> Model for FreeList<A> {
     ghost view = { λ l.
         record {
           places = places_in l.sections;
-          notes = l.notes.items;
+          notes = notes_in l.taken.items l.sections;
           room = room_in l.sections;
-          steps = min (steps_in l.sections) (vec_capacity l.notes - length l.notes.items);
+          steps = steps_in l.taken l.sections;
         } };
 
     // Each step that is noted can be undone.
-    ghost invariant = { λ l. CanUndo (room_in l.sections) l.notes.items (places_in l.sections) };
+    ghost invariant = { λ l.
+        CanUndo (room_in l.sections) (notes_in l.taken.items l.sections) (places_in l.sections) };
 }
 
 impl<A: Allocator + Copy> FreeList<A> {
@@ -89,10 +82,10 @@ impl<A: Allocator + Copy> FreeList<A> {
         ensures notes { result.notes ≡ [] }
         ensures room { result.room ≡ vec_capacity sections }
     {
-        let notes = Vec::new(*sections.allocator());
+        let taken = Vec::new(*sections.allocator());
         FreeList {
             sections: Sections::Plain(sections),
-            notes,
+            taken,
             boxes,
         }
     }
@@ -101,7 +94,10 @@ impl<A: Allocator + Copy> FreeList<A> {
     pub(crate) fn steps(&self) -> usize
         ensures { result ≡ length self.now.notes }
     {
-        self.notes.len()
+        match &self.sections {
+            Sections::Plain(_) => self.taken.len(),
+            Sections::Gapped(_, steps) => self.taken.len() + steps.len(),
+        }
     }
 
     // Looks for the newest section that holds a member.
@@ -121,7 +117,7 @@ impl<A: Allocator + Copy> FreeList<A> {
                     tests: sections.len(),
                 },
             },
-            Sections::Gapped(list) => list.last_holding(member),
+            Sections::Gapped(list, _) => list.last_holding(member),
         }
     }
 
@@ -134,8 +130,7 @@ impl<A: Allocator + Copy> FreeList<A> {
         ensures notes { self.new.notes ≡ self.old.notes }
         ensures room { self.old.room ≤ self.new.room }
     {
-        self.notes.reserve(steps)?;
-        self.sections.reserve(steps, self.boxes)
+        self.sections.reserve(&mut self.taken, steps, self.boxes)
     }
 
     // Places a member into the section at this place, and notes the step. Takes no memory.
@@ -152,14 +147,12 @@ impl<A: Allocator + Copy> FreeList<A> {
         ensures step { (tests : ℕ) →
             IsLastHolding self.old.places member.now place tests →
             IsStep (R.may policy.now) (now_of self.old) member.now result (now_of self.new) tests }
-        ensures noted { (note : Note) × (self.new.notes ≡ self.old.notes ++ note ∷ []) ×
-            (before_note note self.new.places ≡ self.old.places) }
+        ensures noted { IsNoted self.new.room self.old.notes self.new.notes self.old.places
+            self.new.places }
         ensures room { self.old.room ≤ self.new.room }
         ensures steps { self.old.steps ≤ self.new.steps + 1 }
     {
-        let (location, note) = self.sections.place(place, member, policy);
-        self.notes.push_reserved(note);
-        location
+        self.sections.place(&mut self.taken, place, member, policy)
     }
 
     // Undoes the noted steps but for the first `kept`, from the last. Takes no memory.
@@ -170,7 +163,7 @@ impl<A: Allocator + Copy> FreeList<A> {
         ensures notes { self.new.notes ≡ take kept self.old.notes }
         ensures room { self.old.room ≤ self.new.room }
     {
-        while self.notes.len() > kept {
+        while self.steps() > kept {
             self.undo();
         }
     }
@@ -178,14 +171,11 @@ impl<A: Allocator + Copy> FreeList<A> {
     // Undoes the last noted step. Takes no memory.
     fn undo(&mut self)
         requires { 0 < length self.old.notes }
-        ensures undone { (notes : List Note) (note : Note) →
-            self.old.notes ≡ notes ++ note ∷ [] →
-            (self.new.notes ≡ notes) × (self.new.places ≡ before_note note self.old.places) }
+        ensures undone { IsNoted self.old.room self.new.notes self.old.notes self.new.places
+            self.old.places }
         ensures room { self.old.room ≤ self.new.room }
     {
-        if let Some(note) = self.notes.pop() {
-            self.sections.undo(note);
-        }
+        self.sections.undo(&mut self.taken);
     }
 
     /// Bounds of its sections, where they are few and no index stands beside them.
@@ -223,19 +213,31 @@ fn is_worth_it(sections: usize, steps: usize, boxes: usize) -> bool {
 impl<A: Allocator + Copy> Sections<A> {
     // Makes room for `steps` steps more, and sets an index beside a plain list where it is worth it.
     // Fails only when memory is refused.
-    fn reserve(&mut self, steps: usize, boxes: usize) -> Result<(), AllocError>
+    fn reserve(
+        &mut self,
+        taken: &mut Vec<Taken, A>,
+        steps: usize,
+        boxes: usize,
+    ) -> Result<(), AllocError>
         requires small { steps * 3 < 2 ^ 64 }
-        ensures ok { OnOk result (steps ≤ steps_in self.new) }
+        ensures ok { OnOk result (steps ≤ steps_in taken.new self.new) }
         ensures places { places_in self.new ≡ places_in self.old }
+        ensures notes { notes_in taken.new.items self.new ≡ notes_in taken.old.items self.old }
         ensures room { room_in self.old ≤ room_in self.new }
     {
         match self {
-            Sections::Gapped(list) => list.reserve(steps * 3),
+            Sections::Gapped(list, made) => {
+                list.reserve(steps * 3)?;
+                made.reserve(steps)
+            }
             Sections::Plain(sections) if !is_worth_it(sections.len(), steps, boxes) => {
+                taken.reserve(steps)?;
                 sections.reserve(steps * 2)
             }
             Sections::Plain(sections) => {
-                *self = Sections::Gapped(GapList::over(sections, steps * 3)?);
+                let mut made = Steps::new(*sections.allocator());
+                made.reserve(steps)?;
+                *self = Sections::Gapped(GapList::over(sections, steps * 3)?, made);
                 Ok(())
             }
         }
@@ -244,44 +246,65 @@ impl<A: Allocator + Copy> Sections<A> {
     // Takes the section at this place out, and pushes what is left of it round a member.
     fn place<R: Policy>(
         &mut self,
+        taken: &mut Vec<Taken, A>,
         place: usize,
         member: &RectToInsert,
         policy: &R,
-    ) -> (PackedLocation, Note)
+    ) -> PackedLocation
         requires callable { R.is_callable policy.now }
         requires fits { All FitsU32 (sections_of (places_in self.old)) }
         requires newest { (tests : ℕ) ×
             IsLastHolding (places_in self.old) member.now place tests }
-        requires steps { 0 < steps_in self.old }
+        requires steps { 0 < steps_in taken.old self.old }
+        requires can_undo { CanUndo (room_in self.old) (notes_in taken.old.items self.old)
+            (places_in self.old) }
         ensures step { (tests : ℕ) →
             IsLastHolding (places_in self.old) member.now place tests →
-            IsStep (R.may policy.now) (sections_of (places_in self.old)) member.now result.0
+            IsStep (R.may policy.now) (sections_of (places_in self.old)) member.now result
             (sections_of (places_in self.new)) tests }
-        ensures before { before_note result.1 (places_in self.new) ≡ places_in self.old }
-        ensures can_undo { CanUndoOne (room_in self.new) result.1 (places_in self.new) }
+        ensures noted { IsNoted (room_in self.new) (notes_in taken.old.items self.old)
+            (notes_in taken.new.items self.new) (places_in self.old) (places_in self.new) }
         ensures room { room_in self.old ≤ room_in self.new }
-        ensures steps { steps_in self.old ≤ steps_in self.new + 1 }
+        ensures steps { steps_in taken.old self.old ≤ steps_in taken.new self.new + 1 }
     {
         match self {
-            Sections::Plain(sections) => place_at(sections, place, member, policy),
-            Sections::Gapped(list) => list.place_at(place, member, policy),
+            Sections::Plain(sections) => {
+                let (location, note) = place_at(sections, place, member, policy);
+                taken.push_reserved(note);
+                location
+            }
+            Sections::Gapped(list, steps) => {
+                let (location, pushed) = list.place_at(place, member, policy);
+                steps.push_reserved(place, pushed);
+                location
+            }
         }
     }
 
-    // Takes the pieces of a step off, and puts its section back. Takes no memory.
-    fn undo(&mut self, note: Note)
-        requires { CanUndoOne (room_in self.old) note (places_in self.old) }
-        ensures places { places_in self.new ≡ before_note note (places_in self.old) }
+    // Undoes the last noted step. Takes no memory.
+    fn undo(&mut self, taken: &mut Vec<Taken, A>)
+        requires some { 0 < length (notes_in taken.old.items self.old) }
+        requires can_undo { CanUndo (room_in self.old) (notes_in taken.old.items self.old)
+            (places_in self.old) }
+        ensures undone { IsNoted (room_in self.old) (notes_in taken.new.items self.new)
+            (notes_in taken.old.items self.old) (places_in self.new) (places_in self.old) }
         ensures room { room_in self.old ≤ room_in self.new }
     {
         match self {
-            Sections::Plain(sections) => undo_one(sections, note),
-            Sections::Gapped(list) if note.leaves_gap => list.undo_one(note),
-            Sections::Gapped(list) => {
-                // The index was set after this step, so no gap stands in the list any more.
-                let mut sections = list.take_sections();
-                undo_one(&mut sections, note);
-                *self = Sections::Plain(sections);
+            Sections::Plain(sections) => {
+                if let Some(note) = taken.pop() {
+                    undo_one(sections, note);
+                }
+            }
+            Sections::Gapped(list, steps) => {
+                if let Some((place, pushed)) = steps.pop() {
+                    list.undo_one(place, pushed);
+                } else if let Some(note) = taken.pop() {
+                    // The index was set after this step, so no gap stands in the list any more.
+                    let mut sections = list.take_sections();
+                    undo_one(&mut sections, note);
+                    *self = Sections::Plain(sections);
+                }
             }
         }
     }
@@ -293,7 +316,7 @@ impl<A: Allocator + Copy> Sections<A> {
     {
         match self {
             Sections::Plain(sections) => sections,
-            Sections::Gapped(list) => {
+            Sections::Gapped(list, _) => {
                 let mut list = list;
                 list.take_sections()
             }

@@ -1,15 +1,16 @@
 //! Lists of sections with gaps, in which the last section that holds a box is found without a look at
 //! each.
 ghost use Rattle.std.specs.Prelude.{ℕ, ◌≡◌, ◌+◌, ◌-◌, ◌<◌, ◌≤◌, ◌++◌, ◌∷◌, [], true, map, filter, All, length, take, drop, set, slice_index_or, IfOk, OnErr, OnOk, IfSome, IsSome, MatchOption, if◌then◌else◌, None, Some};
+ghost use Rattle.std.specs.List.{SameBelow};
 ghost use Rattle.std.specs.Vec.{vec_capacity};
 ghost use Rattle.rectangle_pack_sections.specs.Boxes.{FitsU32, has_cells};
+ghost use Rattle.rectangle_pack_lists.specs.Joining.{entry};
 ghost use Rattle.rectangle_pack_lists.specs.Steps.{IsStep};
-ghost use Rattle.rectangle_pack_lists.specs.private.Notes.{before_note};
+ghost use Rattle.rectangle_pack_lists.specs.private.Notes.{before_note, gap_note};
 ghost use Rattle.rectangle_pack_lists.specs.private.Places.{places_of, sections_of, IsLastHolding, NoneHolds};
 
 pub mod summary;
 
-use crate::free_list::Note;
 use crate::gap_list::summary::{
     BLOCK, ROW, Summary, count_if_too_small, sum_block_anew, sum_blocks, sum_last_block,
     sum_last_row, sum_row_anew, sum_rows,
@@ -48,6 +49,7 @@ impl<A: Allocator + Copy> Model for GapList<A> {
     ghost view = { λ l.
         record {
           all = places_of l.sections.items l.gaps.items;
+          under = l.sections.items;
           room = min (min (vec_capacity l.sections) (vec_capacity l.gaps))
               (min (vec_capacity l.blocks * 8 + 7) (vec_capacity l.rows * 64 + 63));
           capacity = vec_capacity l.sections;
@@ -123,6 +125,7 @@ impl<A: Allocator + Copy> GapList<A> {
     pub(crate) fn reserve(&mut self, extra: usize) -> Result<(), AllocError>
         ensures ok { OnOk result (length self.old.all + extra ≤ self.new.room) }
         ensures all { self.new.all ≡ self.old.all }
+        ensures under { self.new.under ≡ self.old.under }
         ensures capacity { self.old.capacity ≤ self.new.capacity }
     {
         self.sections.reserve(extra)?;
@@ -135,7 +138,8 @@ impl<A: Allocator + Copy> GapList<A> {
 
     // How many places there are, gaps too.
     pub(crate) fn places(&self) -> usize
-        ensures { result ≡ length self.now.all }
+        ensures all { result ≡ length self.now.all }
+        ensures under { result ≡ length self.now.under }
     {
         self.sections.len()
     }
@@ -145,6 +149,7 @@ impl<A: Allocator + Copy> GapList<A> {
     pub(crate) fn push_reserved(&mut self, section: BinSection)
         requires { length self.old.all < self.old.room }
         ensures all { self.new.all ≡ self.old.all ++ Some section ∷ [] }
+        ensures under { self.new.under ≡ self.old.under ++ section ∷ [] }
         ensures room { self.new.room ≡ self.old.room }
         ensures capacity { self.new.capacity ≡ self.old.capacity }
     {
@@ -216,32 +221,25 @@ impl<A: Allocator + Copy> GapList<A> {
         requires full { IsSome (slice_index_or self.old.all place None) }
         ensures section { slice_index_or self.old.all place None ≡ Some result }
         ensures all { self.new.all ≡ set self.old.all place None }
+        ensures under { self.new.under ≡ self.old.under }
+        ensures entry { entry self.old.under place ≡ result }
         ensures room { self.new.room ≡ self.old.room }
         ensures capacity { self.new.capacity ≡ self.old.capacity }
     {
         let section = self.sections[place];
-        self.put(place, section, true);
+        self.mark(place, true);
         section
     }
 
-    // Puts a section at a place, as before it was taken out. Takes no memory.
-    pub(crate) fn restore(&mut self, place: usize, section: BinSection)
+    // Says of a place whether it is a gap.
+    fn mark(&mut self, place: usize, is_gap: bool)
         requires { place < length self.old.all }
-        ensures all { self.new.all ≡ set self.old.all place (Some section) }
+        ensures all { self.new.all ≡ set self.old.all place
+            (if is_gap then None else Some (entry self.old.under place)) }
+        ensures under { self.new.under ≡ self.old.under }
         ensures room { self.new.room ≡ self.old.room }
         ensures capacity { self.new.capacity ≡ self.old.capacity }
     {
-        self.put(place, section, false);
-    }
-
-    fn put(&mut self, place: usize, section: BinSection, is_gap: bool)
-        requires { place < length self.old.all }
-        ensures all { self.new.all ≡
-            set self.old.all place (if is_gap then None else Some section) }
-        ensures room { self.new.room ≡ self.old.room }
-        ensures capacity { self.new.capacity ≡ self.old.capacity }
-    {
-        self.sections[place] = section;
         self.gaps[place] = is_gap;
         sum_block_anew(
             &mut self.blocks,
@@ -256,6 +254,7 @@ impl<A: Allocator + Copy> GapList<A> {
     pub(crate) fn truncate(&mut self, places: usize)
         requires { places ≤ length self.old.all }
         ensures all { self.new.all ≡ take places self.old.all }
+        ensures under { self.new.under ≡ take places self.old.under }
         ensures room { self.new.room ≡ self.old.room }
         ensures capacity { self.new.capacity ≡ self.old.capacity }
     {
@@ -279,13 +278,14 @@ impl<A: Allocator + Copy> GapList<A> {
         sections
     }
 
-    // Takes the section at this place out, and pushes what is left of it round a member.
+    // Takes the section at this place out, and pushes what is left of it round a member. Answers its
+    // location, and how many pieces were pushed.
     pub(crate) fn place_at<R: Policy>(
         &mut self,
         place: usize,
         member: &RectToInsert,
         policy: &R,
-    ) -> (PackedLocation, Note)
+    ) -> (PackedLocation, u8)
         requires callable { R.is_callable policy.now }
         requires newest { (tests : ℕ) × IsLastHolding self.old.all member.now place tests }
         requires fits { All FitsU32 (sections_of self.old.all) }
@@ -296,34 +296,29 @@ impl<A: Allocator + Copy> GapList<A> {
         ensures step { (tests : ℕ) → IsLastHolding self.old.all member.now place tests →
             IsStep (R.may policy.now) (sections_of self.old.all) member.now result.0
             (sections_of self.new.all) tests }
-        ensures before { before_note result.1 self.new.all ≡ self.old.all }
-        ensures gap { result.1.leaves_gap ≡ true }
-        ensures kept { result.1.kept ≤ length self.new.all }
-        ensures place { result.1.place < result.1.kept }
+        ensures before { before_note (gap_note self.new.under (place, result.1)) self.new.all ≡
+            self.old.all }
+        ensures under { SameBelow self.old.under self.new.under (length self.old.all) }
+        ensures place { place + result.1 < length self.new.all }
     {
         let kept = self.places();
         let section = self.take(place);
         let (location, pieces) = place_in(&section, member, policy);
         self.push_pieces(pieces);
-        let note = Note {
-            place,
-            section,
-            kept,
-            leaves_gap: true,
-        };
-        (location, note)
+        let pushed = self.places() - kept;
+        (location, pushed as u8)
     }
 
-    // Takes the pieces of a step off, and puts its section back into its gap. Takes no memory.
-    pub(crate) fn undo_one(&mut self, note: Note)
-        requires kept { note.kept ≤ length self.old.all }
-        requires place { note.place < note.kept }
-        ensures all { self.new.all ≡
-            set (take note.kept self.old.all) note.place (Some note.section) }
+    // Takes the pieces of a step off, and its section is back in its gap. Takes no memory.
+    pub(crate) fn undo_one(&mut self, place: usize, pushed: u8)
+        requires { place + pushed < length self.old.all }
+        ensures all { self.new.all ≡ before_note (gap_note self.old.under (place, pushed)) self.old.all }
+        ensures under { SameBelow self.old.under self.new.under (length self.new.all) }
         ensures capacity { self.new.capacity ≡ self.old.capacity }
     {
-        self.truncate(note.kept);
-        self.restore(note.place, note.section);
+        let kept = self.places() - usize::from(pushed);
+        self.truncate(kept);
+        self.mark(place, false);
     }
 
     // Pushes a piece that has cells, where there is room.
@@ -331,6 +326,7 @@ impl<A: Allocator + Copy> GapList<A> {
         requires { length self.old.all < self.old.room }
         ensures all { self.new.all ≡
             self.old.all ++ map (λ s. Some s) (filter has_cells (piece ∷ [])) }
+        ensures under { self.new.under ≡ self.old.under ++ filter has_cells (piece ∷ []) }
         ensures room { self.new.room ≡ self.old.room }
         ensures capacity { self.new.capacity ≡ self.old.capacity }
     {
@@ -343,6 +339,7 @@ impl<A: Allocator + Copy> GapList<A> {
     fn push_pieces(&mut self, pieces: [BinSection; 3])
         requires { length self.old.all + 3 ≤ self.old.room }
         ensures all { self.new.all ≡ self.old.all ++ map (λ s. Some s) (filter has_cells pieces) }
+        ensures under { self.new.under ≡ self.old.under ++ filter has_cells pieces }
         ensures room { self.new.room ≡ self.old.room }
         ensures capacity { self.new.capacity ≡ self.old.capacity }
         ensures no_longer { length self.new.all ≤ length self.old.all + 3 }

@@ -1,12 +1,10 @@
 -- Steps and trials. Read Steps first: what a step keeps, and the main lemma, what a trial keeps. StepsByIndex and PlaceSteps
--- tie the plain list and the list with gaps to it, Plain on its places, Notes and Undone are on undoing; Places and Summaries are for the search,
 -- FallingRates for the order of the pieces. FitTests bounds the tests of a trial.
 pub mod FallingRates
 pub mod Steps
 pub mod StepsByIndex
 pub mod FitTests
 pub mod Notes
-pub mod Undone
 pub mod Plain
 pub mod Places
 pub mod Rooms

@@ -1,33 +1,43 @@
 -- A list of free sections while a packing lasts, and one trial in it.
-use Rattle.std.specs.Prelude.{ℕ, ◌≡◌, ◌-◌, ◌/◌, ◌∷◌, List, length, map, All, Option, Some, None, Result, Ok, Err, if◌then◌else◌}
+use Rattle.std.specs.Prelude.{ℕ, ◌≡◌, ◌-◌, ◌/◌, [], ◌∷◌, ◌++◌, List, length, map, min, All, Option, Some, None, Result, Ok, Err, Vec, if◌then◌else◌}
 use Rattle.std.specs.Vec.{vec_capacity}
 use Rattle.rectangle_pack_lists.specs.declared.free_list.End.{End}
 use Rattle.rectangle_pack_lists.specs.declared.free_list.End.TheVariants.{Keep, Undo}
-use Rattle.rectangle_pack_lists.specs.declared.free_list.Note.{Note}
+use Rattle.rectangle_pack_lists.specs.declared.free_list.plain.Taken.{Taken}
 use Rattle.rectangle_pack_lists.specs.declared.free_list.Sections.{Sections}
 use Rattle.rectangle_pack_lists.specs.declared.free_list.Sections.TheVariants.{Plain, Gapped}
 use Rattle.rectangle_pack_lists.specs.declared.trial.Trial.{Trial}
 use Rattle.rectangle_pack_sections.specs.Boxes.{Size, Cuboid, Holds}
 use Rattle.rectangle_pack_sections.specs.Closures.{Answers}
 use Rattle.rectangle_pack_lists.specs.Trials.{IsTrial}
-use Rattle.rectangle_pack_lists.specs.private.Notes.{before_notes}
+use Rattle.rectangle_pack_lists.specs.private.Notes.{Note, plain_note, gap_note, before_notes}
 use Rattle.rectangle_pack_lists.specs.private.Places.{sections_of}
 
 -- the places of the sections: all sections of a plain list, or those of a list with gaps
 abbrev pub places_in : {A : Type 0} → Sections A → List (Option Cuboid)
 places_in (Plain sections) = map (λ s. Some s) sections.items
-places_in (Gapped list) = list.all
+places_in (Gapped list steps) = list.all
+
+-- the notes of the steps since an index was set
+abbrev pub gaps_in : {A : Type 0} → Sections A → List Note
+gaps_in (Plain sections) = []
+gaps_in (Gapped list steps) = map (gap_note list.under) steps.all
+
+-- the notes of all steps: first those without an index, of which is known what each took
+abbrev pub notes_in : {A : Type 0} → List Taken → Sections A → List Note
+notes_in taken sections = map plain_note taken ++ gaps_in sections
 
 -- for how many sections the list has room
 abbrev pub room_in : {A : Type 0} → Sections A → ℕ
 room_in (Plain sections) = vec_capacity sections
-room_in (Gapped list) = list.capacity
+room_in (Gapped list steps) = list.capacity
 
 -- for how many steps there is room. In a plain list a step takes one section out and pushes three at most; in a list
 -- with gaps the place of the one that it takes out stays
-abbrev pub steps_in : {A : Type 0} → Sections A → ℕ
-steps_in (Plain sections) = (vec_capacity sections - length sections.items) / 2
-steps_in (Gapped list) = (list.room - length list.all) / 3
+abbrev pub steps_in : {A : Type 0} → Vec Taken A → Sections A → ℕ
+steps_in taken (Plain sections) =
+    min ((vec_capacity sections - length sections.items) / 2) (vec_capacity taken - length taken.items)
+steps_in taken (Gapped list steps) = min ((list.room - length list.all) / 3) steps.room
 
 -- a list at work: its places, the notes of the steps that can be undone, for how many sections it has room, and for how
 -- many steps more

@@ -2,9 +2,11 @@
 use Rattle.std.specs.Prelude.{◌≡◌, ℕ, ◌+◌, Bool, true, false, List, [], ◌∷◌, ◌++◌, length, All, Option, Some, None}
 use Rattle.rectangle_pack_sections.specs.Boxes.{Cuboid, Size, Holds}
 
--- the places in order, for how many an index has room too, and for how many sections the list has room
+-- the places in order, the section that stands at each, in a gap the one that was taken out; for how many places an index
+-- has room too, and for how many sections the list has room
 pub record Places : Type 0 where
   pub all : List (Option Cuboid)
+  pub under : List Cuboid
   pub room : ℕ
   pub capacity : ℕ
 

@@ -1,17 +1,25 @@
 //! The plain list of free sections: one after another, and closed up where one is taken out.
-ghost use Rattle.std.specs.Prelude.{◌≡◌, ◌<◌, ◌≤◌, ◌+◌, ◌-◌, ◌++◌, ◌∷◌, [], length, All, IfNone, IfSome, vec_len, filter, insert, set, take, false, MatchBool, if◌then◌else◌};
+ghost use Rattle.std.specs.Prelude.{◌≡◌, ◌<◌, ◌≤◌, ◌+◌, ◌-◌, ◌++◌, ◌∷◌, [], length, All, IfNone, IfSome, vec_len, filter, insert, take};
 ghost use Rattle.std.specs.Vec.{vec_capacity};
 ghost use Rattle.std.specs.List.{HoldsAt, AllWithin};
 ghost use Rattle.rectangle_pack_sections.specs.Boxes.{Holds, FitsU32, has_cells};
 ghost use Rattle.rectangle_pack_lists.specs.Steps.{IsStep};
 
-use crate::free_list::Note;
 use crate::trial::place_in;
 use rectangle_pack_sections::bin_section::{BinSection, has_cells, holds};
 use rectangle_pack_sections::closures::Policy;
 use rectangle_pack_sections::packed_location::PackedLocation;
 use rectangle_pack_sections::rect_to_insert::RectToInsert;
 use std::alloc::Allocator;
+
+/// What a step did to a plain list: which section it took out, at which place, and how many pieces
+/// it pushed.
+#[derive(Clone, Copy)]
+pub(crate) struct Taken {
+    pub place: usize,
+    pub section: BinSection,
+    pub pushed: usize,
+}
 
 // The index of the last section that holds a member. Never inlined: among a caller's values the
 // loop would lack registers.
@@ -60,58 +68,53 @@ pub fn push_pieces<A: Allocator>(sections: &mut Vec<BinSection, A>, pieces: [Bin
 // Takes a section out of the list and pushes what is left of it round a member.
 pub(crate) fn place_at<A, R>(
     sections: &mut Vec<BinSection, A>,
-    index: usize,
+    place: usize,
     member: &RectToInsert,
     policy: &R,
-) -> (PackedLocation, Note)
+) -> (PackedLocation, Taken)
 where
     A: Allocator,
     R: Policy,
     requires callable { R.is_callable policy.now }
-    requires index { index < length sections.old.items }
-    requires holds { HoldsAt (λ s. Holds s member.now) sections.old.items index }
-    requires newest { AllWithin (λ s. ¬ Holds s member.now) sections.old.items (index + 1)
+    requires place { place < length sections.old.items }
+    requires holds { HoldsAt (λ s. Holds s member.now) sections.old.items place }
+    requires newest { AllWithin (λ s. ¬ Holds s member.now) sections.old.items (place + 1)
         (length sections.old.items) }
     requires fits { All FitsU32 sections.old.items }
     requires room { vec_len sections.old + 2 ≤ vec_capacity sections.old }
     ensures capacity { vec_capacity sections.old ≤ vec_capacity sections.new }
     ensures step { IsStep (R.may policy.now) sections.old.items member.now result.0
-        sections.new.items (length sections.old.items - index) }
-    ensures before { insert (take result.1.kept sections.new.items) result.1.place result.1.section ≡
-        sections.old.items }
-    ensures closed_up { result.1.leaves_gap ≡ false }
-    ensures kept { result.1.kept ≤ length sections.new.items }
-    ensures place { result.1.place ≤ result.1.kept }
-    ensures room { result.1.kept < vec_capacity sections.new }
+        sections.new.items (length sections.old.items - place) }
+    ensures before { insert (take (length sections.new.items - result.1.pushed) sections.new.items)
+        result.1.place result.1.section ≡ sections.old.items }
+    ensures place { result.1.place + result.1.pushed ≤ length sections.new.items }
+    ensures room { length sections.new.items < vec_capacity sections.new + result.1.pushed }
 {
-    let section = sections.remove(index);
+    let section = sections.remove(place);
     let (location, pieces) = place_in(&section, member, policy);
     let kept = sections.len();
     push_pieces(sections, pieces);
-    let note = Note {
-        place: index,
-        section,
-        kept,
-        leaves_gap: false,
-    };
-    (location, note)
+    let pushed = sections.len() - kept;
+    (
+        location,
+        Taken {
+            place,
+            section,
+            pushed,
+        },
+    )
 }
 
-// Takes the pieces of a step off, and puts its section back: over its gap, or in at its place.
-pub(crate) fn undo_one<A: Allocator>(sections: &mut Vec<BinSection, A>, note: Note)
-    requires kept { note.kept ≤ length sections.old.items }
-    requires place { MatchBool note.leaves_gap (note.place < note.kept)
-        ((note.place ≤ note.kept) × (note.kept < vec_capacity sections.old)) }
+// Takes the pieces of a step off, and puts its section in again at its place.
+pub(crate) fn undo_one<A: Allocator>(sections: &mut Vec<BinSection, A>, taken: Taken)
+    requires place { taken.place + taken.pushed ≤ length sections.old.items }
+    requires room { length sections.old.items < vec_capacity sections.old + taken.pushed }
     ensures items { sections.new.items ≡
-        (if note.leaves_gap then set (take note.kept sections.old.items) note.place note.section
-        else insert (take note.kept sections.old.items) note.place note.section) }
+        insert (take (length sections.old.items - taken.pushed) sections.old.items) taken.place
+        taken.section }
     ensures capacity { vec_capacity sections.old ≤ vec_capacity sections.new }
 {
-    sections.truncate(note.kept);
-    if note.leaves_gap {
-        sections[note.place] = note.section;
-    } else {
-        // There is room for it, so it is not refused.
-        let _ = sections.insert(note.place, note.section);
-    }
+    sections.truncate(sections.len() - taken.pushed);
+    // There is room for it, so it is not refused.
+    let _ = sections.insert(taken.place, taken.section);
 }

@@ -1,83 +1,191 @@
--- The undoing of noted steps.
-use Rattle.rectangle_pack_sections.proofs.Std.{◌≡◌, ◌↔◌, ℕ, ◌+◌, ◌<◌, ◌≤◌, List, [], ◌∷◌, ◌++◌, refl, ap}
-use Rattle.rectangle_pack_sections.proofs.Std.{Option, Bool, true, false, MatchBool, IsSome, All, length, take, drop, arith, sym, append-nil, append_assoc, length-append, take-append_seam, drop-append_seam, ◌∙◌}
+-- Noted steps, and the undoing of them.
+use Rattle.std.specs.List.{SameBelow}
+use Rattle.std.specs.Option.{option_to_list, option_zip}
+use Rattle.std.proofs.Common.{le_refl}
+use Rattle.rectangle_pack_sections.proofs.Std.{◌≡◌, ◌↔◌, ℕ, ◌+◌, ◌-◌, ◌<◌, ◌≤◌, List, [], ◌∷◌, ◌++◌, refl, ap, arith, sym, ◌∙◌, zip, map, map-append, nil_from_length}
+use Rattle.rectangle_pack_sections.proofs.Std.{Option, Some, None, Bool, true, false, MatchBool, MatchOption, length, take, drop}
+use Rattle.rectangle_pack_sections.proofs.Std.{append-nil, append_assoc, length-append, length-set, length-take, take-append_seam, drop-append_seam}
 use Rattle.rectangle_pack_sections.specs.Boxes.{Cuboid}
-use Rattle.rectangle_pack_lists.specs.declared.free_list.Note.{Note}
-use Rattle.rectangle_pack_lists.specs.private.Notes.{before_note, before_notes, CanUndo, CanUndoOne}
+use Rattle.rectangle_pack_lists.specs.declared.free_list.plain.Taken.{Taken}
+use Rattle.rectangle_pack_lists.specs.private.FreeLists.{AtWork, start_of}
+use Rattle.rectangle_pack_lists.specs.private.Notes.{Note, plain_note, gap_note, before_note, before_notes, CanUndo, CanUndoOne, IsNoted}
+use Rattle.rectangle_pack_lists.specs.private.Places.{sections_of}
 
--- the last noted step is undone first
-pub before_notes-push : (notes : List Note) (note : Note) (places : List (Option Cuboid))
-    → before_notes (notes ++ note ∷ []) places ≡ before_notes notes (before_note note places)
-before_notes-push [] note places = refl
-before_notes-push (n ∷ notes) note places = ap (before_note n) (before_notes-push notes note places)
+-- the notes behind are undone first
+pub before_notes-append : (notes more : List Note) (places : List (Option Cuboid))
+    → before_notes (notes ++ more) places ≡ before_notes notes (before_notes more places)
+before_notes-append [] more places = refl
+before_notes-append (note ∷ notes) more places = ap (before_note note) (before_notes-append notes more places)
 
-pub CanUndo-push : (room : ℕ) (notes : List Note) (note : Note) (places : List (Option Cuboid))
-    → CanUndo room (notes ++ note ∷ []) places ↔ (CanUndoOne room note places × CanUndo room notes (before_note note places))
-CanUndo-push room [] note places = (λ h. (h.0, tt), λ h. (h.0, tt))
-CanUndo-push room (n ∷ notes) note places =
-    let (pop, push) = CanUndo-push room notes note places in
-    let e = before_notes-push notes note places in
-    (λ h. ((pop h.1).0, (rw e at h.0, (pop h.1).1)), λ h. (rw e h.1.0, push (h.0, h.1.1)))
+pub CanUndo-append : (room : ℕ) (notes more : List Note) (places : List (Option Cuboid))
+    → CanUndo room (notes ++ more) places ↔ (CanUndo room more places × CanUndo room notes (before_notes more places))
+CanUndo-append room [] more places = (λ h. (h, tt), λ h. h.0)
+CanUndo-append room (n ∷ notes) more places =
+    let (split, join) = CanUndo-append room notes more places in
+    let e = before_notes-append notes more places in
+    (λ h. ((split h.1).0, (rw e at h.0, (split h.1).1)), λ h. (rw e h.1.0, join (h.0, h.1.1)))
 
 -- with more room a step that can be undone still can
-more-back : (room more place kept : ℕ) (gap : Bool) (places : List (Option Cuboid)) → room ≤ more
-    → MatchBool gap (place < kept) ((place ≤ kept) × (kept < room) × All (λ p. IsSome p) places)
-    → MatchBool gap (place < kept) ((place ≤ kept) × (kept < more) × All (λ p. IsSome p) places)
-more-back room more place kept true places le back = back
-more-back room more place kept false places le (within, fits, full) = (within, omega arith, full)
+more-back : (room more : ℕ) (gap : Bool) (place pushed long : ℕ) (full : Type 0) → room ≤ more
+    → MatchBool gap (place + pushed < long) ((place + pushed ≤ long) × (long < room + pushed) × full)
+    → MatchBool gap (place + pushed < long) ((place + pushed ≤ long) × (long < more + pushed) × full)
+more-back room more true place pushed long full le back = back
+more-back room more false place pushed long full le (within, fits, all) = (within, omega arith, all)
 
 pub CanUndo-more : (room more : ℕ) (notes : List Note) (places : List (Option Cuboid)) → room ≤ more → CanUndo room notes places → CanUndo more notes places
 CanUndo-more room more [] places le can = tt
-CanUndo-more room more (note ∷ notes) places le can = (
-  record { kept = can.0.kept; back = more-back room more note.place note.kept note.leaves_gap (before_notes notes places) le can.0.back },
-  CanUndo-more room more notes places le can.1,
-)
-
--- the last of some notes
-last_note : (notes : List Note) → 0 < length notes → (others : List Note) × (note : Note) × (notes ≡ others ++ note ∷ [])
-last_note [] some = absurd (omega arith)
-last_note (note ∷ []) some = ([], note, refl)
-last_note (note ∷ next ∷ notes) some =
-    let (others, last, is) = last_note (next ∷ notes) (omega arith) in
-    (note ∷ others, last, ap (λ l. note ∷ l) is)
-
--- where some notes are left, and the places are now as the steps of the others found them
-pub record IsUndoneTo (notes left : List Note) (places now : List (Option Cuboid)) : Type 0 where
-  pub undone : List Note
-  pub notes_are : notes ≡ left ++ undone
-  pub now_is : now ≡ before_notes undone places
-
-pub IsUndoneTo-none : (notes : List Note) (places : List (Option Cuboid)) → IsUndoneTo notes notes places places
-IsUndoneTo-none notes places = record { undone = []; notes_are = sym (append-nil notes); now_is = refl }
-
-pub IsUndoneTo-more : (notes left left' : List Note) (places now now' : List (Option Cuboid)) → IsUndoneTo notes left places now → 0 < length left
-    → ((others : List Note) (note : Note) → left ≡ others ++ note ∷ [] → (left' ≡ others) × (now' ≡ before_note note now))
-    → IsUndoneTo notes left' places now' × (length left ≡ length left' + 1)
-IsUndoneTo-more notes left left' places now now' to some undo =
-    let (others, note, is) = last_note left some in
-    let (fewer, back) = undo others note is in (
-      record {
-        undone = note ∷ to.undone;
-        notes_are = to.notes_are ∙ ap (λ l. l ++ to.undone) is ∙ rw fewer (append_assoc others (note ∷ []) to.undone);
-        now_is = back ∙ ap (before_note note) to.now_is;
-      },
-      omega (arith, ap length is, length-append others (note ∷ []), ap length fewer),
-    )
-
-pub IsUndoneTo-done : (notes left : List Note) (places now : List (Option Cuboid)) (kept : ℕ) → IsUndoneTo notes left places now → length left ≡ kept
-    → (now ≡ before_notes (drop kept notes) places) × (left ≡ take kept notes)
-IsUndoneTo-done notes left places now kept to long = (
-  to.now_is ∙ rw (← long, to.notes_are, drop-append_seam left to.undone) refl,
-  rw (← long, to.notes_are) (sym (take-append_seam left to.undone)),
-)
+CanUndo-more room more (note ∷ notes) places le can =
+    (more-back room more note.leaves_gap note.place note.pushed _ _ le can.0, CanUndo-more room more notes places le can.1)
 
 -- a step more is noted
-pub CanUndo-noted : (room more : ℕ) (notes next : List Note) (note : Note) (places now : List (Option Cuboid)) → next ≡ notes ++ note ∷ []
-    → before_note note now ≡ places → room ≤ more → CanUndoOne more note now → CanUndo room notes places → CanUndo more next now
-CanUndo-noted room more notes next note places now is back le one can =
-    rw is ((CanUndo-push more notes note now).1 (one, rw back (CanUndo-more room more notes places le can)))
+pub CanUndo-noted : (room more : ℕ) (notes next : List Note) (places now : List (Option Cuboid)) → IsNoted more notes next places now → room ≤ more
+    → CanUndo room notes places → CanUndo more next now
+CanUndo-noted room more notes next places now noted le can =
+    rw noted.more ((CanUndo-append more notes (noted.note ∷ []) now).1 ((noted.can, tt), rw noted.back (CanUndo-more room more notes places le can)))
 
 -- the last noted step is undone
-pub CanUndo-popped : (room : ℕ) (notes others : List Note) (note : Note) (places : List (Option Cuboid)) → notes ≡ others ++ note ∷ []
-    → CanUndo room notes places → CanUndoOne room note places × CanUndo room others (before_note note places)
-CanUndo-popped room notes others note places is can = (CanUndo-push room others note places).0 (rw is at can)
+pub CanUndo-undone : (room more : ℕ) (notes next : List Note) (places now : List (Option Cuboid)) → IsNoted room notes next places now → room ≤ more
+    → CanUndo room next now → CanUndo more notes places
+CanUndo-undone room more notes next places now noted le can =
+    let all = (CanUndo-append room notes (noted.note ∷ []) now).0 (rw noted.more at can) in
+    CanUndo-more room more notes places le (rw noted.back at all.1)
+
+-- so the last of all can be undone, and then the others
+CanUndo-last : (room : ℕ) (notes next : List Note) (note : Note) (places : List (Option Cuboid)) → next ≡ notes ++ note ∷ []
+    → CanUndo room next places → CanUndoOne room note places × CanUndo room notes (before_note note places)
+CanUndo-last room notes next note places is can =
+    let all = (CanUndo-append room notes (note ∷ []) places).0 (rw is at can) in
+    (all.0.0, all.1)
+
+-- no step that leaves a gap takes a place away
+length-before : (under : List Cuboid) (steps : List (ℕ × ℕ)) (places : List (Option Cuboid))
+    → length (before_notes (map (gap_note under) steps) places) ≤ length places
+length-before under [] places = le_refl _
+length-before under (s ∷ steps) places =
+    let now = before_notes (map (gap_note under) steps) places in
+    let kept = take (length now - s.1) now in
+    omega (arith, length-set kept s.0 (Some (gap_note under s).section), length-take (length now - s.1) now, length-before under steps places)
+
+-- the notes of gaps stay, where the sections under the places stay
+stay : (room : ℕ) (under next : List Cuboid) (steps : List (ℕ × ℕ)) (places : List (Option Cuboid)) → SameBelow under next (length places)
+    → CanUndo room (map (gap_note under) steps) places → map (gap_note next) steps ≡ map (gap_note under) steps
+stay room under next [] places same can = refl
+stay room under next (s ∷ steps) places same can =
+    let within : s.0 < length places = omega (arith, can.0, length-before under steps places) in
+    rw (same s.0 _ within, stay room under next steps places same can.1) refl
+
+pub gaps-same : (room : ℕ) (taken : List Note) (under next : List Cuboid) (steps : List (ℕ × ℕ)) (places : List (Option Cuboid))
+    → SameBelow under next (length places) → CanUndo room (taken ++ map (gap_note under) steps) places
+    → map (gap_note next) steps ≡ map (gap_note under) steps
+gaps-same room taken under next steps places same can =
+    stay room under next steps places same ((CanUndo-append room taken (map (gap_note under) steps) places).0 can).0
+
+-- one step more in a list with an index
+gaps-more : (taken : List Note) (under next : List Cuboid) (steps more : List (ℕ × ℕ)) (step : ℕ × ℕ) → more ≡ steps ++ step ∷ []
+    → map (gap_note next) steps ≡ map (gap_note under) steps
+    → taken ++ map (gap_note next) more ≡ (taken ++ map (gap_note under) steps) ++ gap_note next step ∷ []
+gaps-more taken under next steps more step is same =
+    rw (is, map-append (gap_note next) steps (step ∷ []), same) (sym (append_assoc taken (map (gap_note under) steps) (gap_note next step ∷ [])))
+
+pub IsNoted-gap : (room : ℕ) (taken : List Note) (under next : List Cuboid) (steps more : List (ℕ × ℕ)) (step : ℕ × ℕ) (places now : List (Option Cuboid))
+    → more ≡ steps ++ step ∷ [] → map (gap_note next) steps ≡ map (gap_note under) steps → before_note (gap_note next step) now ≡ places
+    → step.0 + step.1 < length now → IsNoted room (taken ++ map (gap_note under) steps) (taken ++ map (gap_note next) more) places now
+IsNoted-gap room taken under next steps more step places now is same back within =
+    record { note = gap_note next step; more = gaps-more taken under next steps more step is same; back = back; can = within }
+
+-- the last one can be undone, and then the others
+pub gap-last : (room : ℕ) (taken : List Note) (under : List Cuboid) (steps more : List (ℕ × ℕ)) (step : ℕ × ℕ) (places : List (Option Cuboid))
+    → more ≡ steps ++ step ∷ [] → CanUndo room (taken ++ map (gap_note under) more) places
+    → (step.0 + step.1 < length places) × CanUndo room (taken ++ map (gap_note under) steps) (before_note (gap_note under step) places)
+gap-last room taken under steps more step places is can =
+    CanUndo-last room (taken ++ map (gap_note under) steps) _ (gap_note under step) places (gaps-more taken under under steps more step is refl) can
+
+-- one step more in a plain list
+plain-more : (taken next : List Taken) (step : Taken) → next ≡ taken ++ step ∷ []
+    → map plain_note next ++ [] ≡ (map plain_note taken ++ []) ++ plain_note step ∷ []
+plain-more taken next step is =
+    append-nil (map plain_note next) ∙ ap (map plain_note) is ∙ map-append plain_note taken (step ∷ [])
+    ∙ ap (λ notes. notes ++ plain_note step ∷ []) (sym (append-nil (map plain_note taken)))
+
+pub IsNoted-plain : (room : ℕ) (taken next : List Taken) (step : Taken) (places now : List (Option Cuboid)) → next ≡ taken ++ step ∷ []
+    → before_note (plain_note step) now ≡ places → CanUndoOne room (plain_note step) now
+    → IsNoted room (map plain_note taken ++ []) (map plain_note next ++ []) places now
+IsNoted-plain room taken next step places now is back can =
+    record { note = plain_note step; more = plain-more taken next step is; back = back; can = can }
+
+pub plain-last : (room : ℕ) (taken next : List Taken) (step : Taken) (places : List (Option Cuboid)) → next ≡ taken ++ step ∷ []
+    → CanUndo room (map plain_note next ++ []) places → CanUndoOne room (plain_note step) places
+plain-last room taken next step places is can = (CanUndo-last room _ _ (plain_note step) places (plain-more taken next step is) can).0
+
+-- two lists grow together
+pub zip-more : (ps qs : List ℕ) (p q : ℕ) → length qs ≡ length ps → zip (ps ++ p ∷ []) (qs ++ q ∷ []) ≡ zip ps qs ++ (p, q) ∷ []
+zip-more [] [] p q long = refl
+zip-more [] (y ∷ qs) p q long = absurd (omega arith)
+zip-more (x ∷ ps) [] p q long = absurd (omega arith)
+zip-more (x ∷ ps) (y ∷ qs) p q long = ap (λ l. (x, y) ∷ l) (zip-more ps qs p q (omega arith))
+
+-- and shrink together
+pub zip-popped : (ps qs ps' qs' : List ℕ) (p q : Option ℕ) (n n' m m' : ℕ) → length qs ≡ length ps → n ≡ length ps → m ≡ length qs
+    → ps ≡ ps' ++ option_to_list p → qs ≡ qs' ++ option_to_list q
+    → MatchOption p ((n ≡ 0) × (n' ≡ 0)) (λ _. n' + 1 ≡ n) → MatchOption q ((m ≡ 0) × (m' ≡ 0)) (λ _. m' + 1 ≡ m)
+    → MatchOption (option_zip p q) ((zip ps qs ≡ []) × (zip ps' qs' ≡ [])) (λ s. zip ps qs ≡ zip ps' qs' ++ s ∷ [])
+zip-popped ps qs ps' qs' None q n n' m m' long counted also a b none others =
+    let first : ps ≡ [] = nil_from_length ps (sym counted ∙ none.0) in
+    let rest : ps' ≡ [] = sym (append-nil ps') ∙ sym a ∙ first in
+    (rw first refl, rw rest refl)
+zip-popped ps qs ps' qs' (Some p) None n n' m m' long counted also a b one none = absurd (omega (arith, none.0))
+zip-popped ps qs ps' qs' (Some p) (Some q) n n' m m' long counted also a b one other =
+    rw (a, b) (zip-more ps' qs' p q (omega (arith, ap length a, ap length b, length-append ps' (p ∷ []), length-append qs' (q ∷ []))))
+
+-- each step since then is noted, and these steps undone leave the places of then
+pub record IsSince (then now : AtWork) : Type 0 where
+  pub made : List Note
+  pub noted : now.notes ≡ then.notes ++ made
+  pub back : before_notes made now.places ≡ then.places
+
+pub IsSince-none : (list : AtWork) → IsSince list list
+IsSince-none list = record { made = []; noted = sym (append-nil list.notes); back = refl }
+
+-- whatever room is made
+pub IsSince-same : (then now next : AtWork) → IsSince then now → next.places ≡ now.places → next.notes ≡ now.notes → IsSince then next
+IsSince-same then now next since places notes = record {
+  made = since.made;
+  noted = notes ∙ since.noted;
+  back = ap (before_notes since.made) places ∙ since.back;
+}
+
+-- and one step more
+pub IsSince-more : (then now next : AtWork) (room : ℕ) → IsSince then now → IsNoted room now.notes next.notes now.places next.places → IsSince then next
+IsSince-more then now next room since step = record {
+  made = since.made ++ step.note ∷ [];
+  noted = step.more ∙ ap (λ (notes : List Note). notes ++ step.note ∷ []) since.noted ∙ append_assoc then.notes since.made (step.note ∷ []);
+  back = before_notes-append since.made (step.note ∷ []) next.places ∙ ap (before_notes since.made) step.back ∙ since.back;
+}
+
+-- or since one step before
+pub IsSince-earlier : (before then now : AtWork) (room : ℕ) → IsSince then now → IsNoted room before.notes then.notes before.places then.places
+    → IsSince before now
+IsSince-earlier before then now room since step = record {
+  made = step.note ∷ since.made;
+  noted = since.noted ∙ ap (λ (notes : List Note). notes ++ since.made) step.more ∙ append_assoc before.notes (step.note ∷ []) since.made;
+  back = ap (before_note step.note) since.back ∙ step.back;
+}
+
+pub IsSince-longer : (then now : AtWork) → IsSince then now → length then.notes ≤ length now.notes
+IsSince-longer then now since = omega (arith, ap length since.noted, length-append then.notes since.made)
+
+-- so the sections before all noted steps stay
+pub IsSince-start : (then now : AtWork) → IsSince then now → start_of now ≡ start_of then
+IsSince-start then now since =
+    ap sections_of (
+    ap (λ (notes : List Note). before_notes notes now.places) since.noted ∙ before_notes-append then.notes since.made now.places
+    ∙ ap (before_notes then.notes) since.back
+    )
+
+-- the list of then, by how many steps were noted
+pub IsSince-kept : (then now : AtWork) (kept : ℕ) → IsSince then now → kept ≡ length then.notes
+    → (before_notes (drop kept now.notes) now.places ≡ then.places) × (take kept now.notes ≡ then.notes)
+IsSince-kept then now kept since count = (
+  rw (count, since.noted, drop-append_seam then.notes since.made) since.back,
+  rw (count, since.noted) (take-append_seam then.notes since.made),
+)

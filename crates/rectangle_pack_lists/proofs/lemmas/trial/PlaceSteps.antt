@@ -1,5 +1,6 @@
 -- Steps in lists with gaps.
-use Rattle.rectangle_pack_sections.proofs.Std.{arith, length-append, ◌≡◌, ◌≤◌, ◌<◌, ℕ, List, [], ◌∷◌, ◌++◌, length, take, set, get_or, refl, ap, subst, ◌∙◌, Option, Some, None, IsSome, All}
+use Rattle.std.specs.List.{SameBelow}
+use Rattle.rectangle_pack_sections.proofs.Std.{◌+◌, ◌-◌, get_or_append_left, arith, length-append, ◌≡◌, ◌<◌, ℕ, List, [], ◌∷◌, ◌++◌, length, take, set, get_or, refl, ap, subst, ◌∙◌, Option, Some, None, IsSome, All}
 use Rattle.rectangle_pack_sections.proofs.Std.{map, set-get_or, set-set, length-set, take-append_seam, get_or-append_seam, set-append_seam}
 use Rattle.rectangle_pack_sections.specs.Boxes.{Size, Cuboid, Holds, FitsU32}
 use Rattle.rectangle_pack_sections.specs.Choice.{IsAllowedCut}
@@ -10,16 +11,24 @@ use Rattle.rectangle_pack_lists.specs.private.Places.{sections_of, IsLastHolding
 use Rattle.rectangle_pack_sections.proofs.lemmas.util.Lists.{All-middle}
 use Rattle.rectangle_pack_lists.proofs.lemmas.trial.Places.{sections_of-append}
 
--- a step that is noted is undone, whatever was pushed
-pub before-taken : (s pushed : List (Option Cuboid)) (i : ℕ) (x : Cuboid) → get_or s i None ≡ Some x
-    → set (take (length s) (set s i None ++ pushed)) i (Some x) ≡ s
-before-taken s pushed i x e =
-    let kept : take (length s) (set s i None ++ pushed) ≡ set s i None = rw (← length-set s i None) (take-append_seam (set s i None) pushed) in
-    rw (kept, set-set s i None (Some x), ← e) (set-get_or s i None)
+-- a step that leaves a gap, by the places and the sections under them before and after
+module _ (s next pushed : List (Option Cuboid)) (i n m : ℕ) (is : next ≡ set s i None ++ pushed) (all : n ≡ length next) (kept : m ≡ length s) where
+  long : length next ≡ length s + length pushed
+  long = omega (arith, ap length is, length-append (set s i None) pushed, length-set s i None)
 
--- and no fewer places are left, whatever was pushed
-pub no_fewer-taken : (s taken next pushed : List (Option Cuboid)) (i kept : ℕ) → kept ≡ length s → taken ≡ set s i None → next ≡ taken ++ pushed → kept ≤ length next
-no_fewer-taken s taken next pushed i kept all same more = omega (arith, ap length more, length-append taken pushed, ap length same, length-set s i None)
+  -- it is undone, whatever was pushed
+  pub before-taken : (x content : Cuboid) → get_or s i None ≡ Some x → content ≡ x → set (take (length next - (n - m)) next) i (Some content) ≡ s
+  before-taken x content read same =
+      let few : length next - (n - m) ≡ length (set s i None) = omega (arith, long, length-set s i None) in
+      rw (few, is, take-append_seam (set s i None) pushed, set-set s i None (Some content), same, ← read) (set-get_or s i None)
+
+  -- its gap is before what was pushed
+  pub taken-within : i < length s → i + (n - m) < length next
+  taken-within within = omega (arith, long)
+
+-- and the sections stay, whatever is pushed
+pub under-same : (under taken next more : List Cuboid) (n m : ℕ) → taken ≡ under → next ≡ taken ++ more → n ≡ m → n ≡ length under → SameBelow under next m
+under-same under taken next more n m same is counted long k d below = rw (is, same) (get_or_append_left under more d k (omega arith))
 
 -- the sections of places that are no gaps
 pub sections_of-full : (xs : List Cuboid) → sections_of (map (λ s. Some s) xs) ≡ xs

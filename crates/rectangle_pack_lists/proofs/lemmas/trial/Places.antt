@@ -5,6 +5,7 @@ use Rattle.rectangle_pack_sections.proofs.Std.{◌≡◌, ◌≤◌, ◌<◌, �
 use Rattle.rectangle_pack_sections.proofs.Std.{length-append, length-drop, ◌∙◌, Option, Some, None, drop-cons, take-append-drop, drop-drop, length-take-le}
 use Rattle.rectangle_pack_sections.proofs.Std.{IsSome, Bool, true, false, zero, set, map, if◌then◌else◌, take_more, nil_from_length, All-nil, All-append, All-cons, append_assoc, length-take}
 use Rattle.rectangle_pack_sections.specs.Boxes.{Cuboid, Size, Holds}
+use Rattle.rectangle_pack_lists.specs.Joining.{entry}
 use Rattle.rectangle_pack_lists.specs.private.Places.{places_of, sections_of, IsLastHolding, NoneHolds}
 
 -- there are as many places as sections, gaps too
@@ -50,17 +51,17 @@ places_of-push (y ∷ s) [] x long = absurd (omega arith)
 places_of-push (y ∷ s) (true ∷ g) x long = ap (λ l. None ∷ l) (places_of-push s g x (omega arith))
 places_of-push (y ∷ s) (false ∷ g) x long = ap (λ l. Some y ∷ l) (places_of-push s g x (omega arith))
 
--- a place that is written
-pub set-places_of : (s : List Cuboid) (g : List Bool) (i : ℕ) (x : Cuboid) (b : Bool) → length g ≡ length s
-    → places_of (set s i x) (set g i b) ≡ set (places_of s g) i (if b then None else Some x)
-set-places_of [] g i x b long = refl
-set-places_of (y ∷ s) [] i x b long = absurd (omega arith)
-set-places_of (y ∷ s) (true ∷ g) zero x true long = refl
-set-places_of (y ∷ s) (true ∷ g) zero x false long = refl
-set-places_of (y ∷ s) (false ∷ g) zero x true long = refl
-set-places_of (y ∷ s) (false ∷ g) zero x false long = refl
-set-places_of (y ∷ s) (true ∷ g) (suc i) x b long = ap (λ l. None ∷ l) (set-places_of s g i x b (omega arith))
-set-places_of (y ∷ s) (false ∷ g) (suc i) x b long = ap (λ l. Some y ∷ l) (set-places_of s g i x b (omega arith))
+-- a place that is marked, as a gap or not
+pub mark-places_of : (s : List Cuboid) (g : List Bool) (i : ℕ) (b : Bool) → length g ≡ length s
+    → places_of s (set g i b) ≡ set (places_of s g) i (if b then None else Some (entry s i))
+mark-places_of [] g i b long = refl
+mark-places_of (y ∷ s) [] i b long = absurd (omega arith)
+mark-places_of (y ∷ s) (true ∷ g) zero true long = refl
+mark-places_of (y ∷ s) (true ∷ g) zero false long = refl
+mark-places_of (y ∷ s) (false ∷ g) zero true long = refl
+mark-places_of (y ∷ s) (false ∷ g) zero false long = refl
+mark-places_of (y ∷ s) (true ∷ g) (suc i) b long = ap (λ l. None ∷ l) (mark-places_of s g i b (omega arith))
+mark-places_of (y ∷ s) (false ∷ g) (suc i) b long = ap (λ l. Some y ∷ l) (mark-places_of s g i b (omega arith))
 
 -- what a place is: a gap, or its section
 pub place-gap : (s : List Cuboid) (g : List Bool) (i : ℕ) (b : Bool) (d : Option Cuboid) → length g ≡ length s → i < length s

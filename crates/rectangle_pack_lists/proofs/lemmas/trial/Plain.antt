@@ -1,15 +1,15 @@
 -- Lists of sections without a gap: each place has a section.
 use Rattle.std.proofs.Common.{insert}
 use Rattle.std.proofs.Math.Seq.{drop-append-add}
-use Rattle.std.proofs.lemmas.List.{drop-map, map-set}
-use Rattle.rectangle_pack_sections.proofs.Std.{◌≡◌, ◌≤◌, ◌<◌, ◌+◌, ◌-◌, ℕ, suc, Bool, true, false, List, [], ◌∷◌, length, take, drop, set, get_or, refl, sym, ap, subst, ◌∙◌, arith}
-use Rattle.rectangle_pack_sections.proofs.Std.{Option, Some, None, IsSome, if◌then◌else◌, All, AllWithin, HoldsAt, map, split_at, All-map, All-head, All-tail}
+use Rattle.std.proofs.lemmas.List.{drop-map}
+use Rattle.rectangle_pack_sections.proofs.Std.{◌≡◌, ◌≤◌, ◌<◌, ◌+◌, ◌-◌, ℕ, suc, List, [], ◌∷◌, length, take, drop, get_or, refl, sym, ap, subst, ◌∙◌, arith}
+use Rattle.rectangle_pack_sections.proofs.Std.{Option, Some, None, IsSome, All, AllWithin, HoldsAt, map, split_at, All-map, All-head, All-tail}
 use Rattle.rectangle_pack_sections.proofs.Std.{length-append, length-map, length-drop, length-take-le, map-append, take-map, get_or-map, get_or-drop, get_or-append_seam}
 use Rattle.rectangle_pack_sections.specs.Boxes.{Cuboid, Size, Holds}
 use Rattle.rectangle_pack_sections.specs.Closures.{Answers}
 use Rattle.rectangle_pack_lists.specs.Steps.{IsStep}
-use Rattle.rectangle_pack_lists.specs.declared.free_list.Note.{Note}
-use Rattle.rectangle_pack_lists.specs.private.Notes.{before_note, CanUndoOne}
+use Rattle.rectangle_pack_lists.specs.declared.free_list.plain.Taken.{Taken}
+use Rattle.rectangle_pack_lists.specs.private.Notes.{plain_note, before_note, CanUndoOne}
 use Rattle.rectangle_pack_lists.specs.private.Places.{sections_of, IsLastHolding, NoneHolds}
 
 abbrev full : List Cuboid → List (Option Cuboid)
@@ -28,11 +28,6 @@ pub plain-again : (places : List (Option Cuboid)) → All (λ p. IsSome p) place
 plain-again [] all = refl
 plain-again (None ∷ places) all = let none = All-head (λ p. IsSome p) None places all in absurd (cc none)
 plain-again (Some s ∷ places) all = ap (λ l. Some s ∷ l) (plain-again places (All-tail (λ p. IsSome p) (Some s) places all))
-
-pub length-plain : (places : List (Option Cuboid)) (sections : List Cuboid) → All (λ p. IsSome p) places → sections ≡ sections_of places
-    → length sections ≡ length places
-length-plain places sections all same =
-    omega (arith, ap length (plain-again places all), length-map (sections_of places) (λ s. Some s), ap length same)
 
 -- the last of its sections that holds a size
 last-at : (d : Cuboid) (xs : List Cuboid) (size : Size) (i : ℕ) → i < length xs → HoldsAt (λ s. Holds s size) xs i
@@ -103,32 +98,26 @@ module _ (xs : List Cuboid) (size : Size) (i tests : ℕ) (last : IsLastHolding 
       → IsStep may (sections_of (full xs)) size location (sections_of (full next)) tests
   IsStep-plain may location next step = rw (sections_of-plain xs, sections_of-plain next, ← plain-tests) step
 
--- a note is undone among the sections as among their places
-undone-if : (gap : Bool) (set_back put_back : List (Option Cuboid)) (x y : List Cuboid) → set_back ≡ full x → put_back ≡ full y
-    → (if gap then set_back else put_back) ≡ full (if gap then x else y)
-undone-if true set_back put_back x y p q = p
-undone-if false set_back put_back x y p q = q
-
 full-insert : (xs : List Cuboid) (i : ℕ) (s : Cuboid) → insert (full xs) i (Some s) ≡ full (insert xs i s)
 full-insert xs i s =
     rw (take-map (λ s. Some s) i xs, drop-map (λ s. Some s) i xs) (sym (map-append (λ s. Some s) (take i xs) (s ∷ drop i xs)))
 
-pub before_note-plain : (note : Note) (xs : List Cuboid)
-    → before_note note (full xs) ≡ full (if note.leaves_gap then set (take note.kept xs) note.place note.section else insert (take note.kept xs) note.place note.section)
-before_note-plain note xs =
-    let kept : take note.kept (full xs) ≡ full (take note.kept xs) = take-map (λ s. Some s) note.kept xs in
-    undone-if note.leaves_gap _ _ _ _
-    (rw kept (sym (map-set (λ s. Some s) (take note.kept xs) note.place note.section)))
-    (rw kept (full-insert (take note.kept xs) note.place note.section))
+-- a note is undone among the sections as among their places
+pub before_note-plain : (step : Taken) (xs before : List Cuboid) → insert (take (length xs - step.pushed) xs) step.place step.section ≡ before
+    → before_note (plain_note step) (full xs) ≡ full before
+before_note-plain step xs before is =
+    let kept : take (length (full xs) - step.pushed) (full xs) ≡ full (take (length xs - step.pushed) xs) =
+    ap (λ n. take (n - step.pushed) (full xs)) (length-map xs (λ s. Some s)) ∙ take-map (λ s. Some s) (length xs - step.pushed) xs in
+    ap (λ l. insert l step.place (Some step.section)) kept ∙ full-insert (take (length xs - step.pushed) xs) step.place step.section ∙ ap (λ l. full l) is
 
--- where the list closed up, the section goes in again
-pub before_note-closed_up : (note : Note) (xs before : List Cuboid) → note.leaves_gap ≡ false
-    → insert (take note.kept xs) note.place note.section ≡ before → before_note note (full xs) ≡ full before
-before_note-closed_up note xs before closed same = before_note-plain note xs ∙ rw closed (ap (λ l. full l) same)
+pub CanUndoOne-plain : (room : ℕ) (step : Taken) (xs : List Cuboid) → step.place + step.pushed ≤ length xs → length xs < room + step.pushed
+    → CanUndoOne room (plain_note step) (full xs)
+CanUndoOne-plain room step xs place more = (omega (arith, length-map xs (λ s. Some s)), omega (arith, length-map xs (λ s. Some s)), no-gap xs)
 
-pub CanUndoOne-plain : (room : ℕ) (note : Note) (xs : List Cuboid) → note.leaves_gap ≡ false → note.kept ≤ length xs
-    → note.place ≤ note.kept → note.kept < room → CanUndoOne room note (full xs)
-CanUndoOne-plain room note xs closed kept place more = record {
-  kept = omega (arith, length-map xs (λ s. Some s));
-  back = rw closed (place, more, no-gap xs);
-}
+-- a step that can be undone without a gap: none stands in the list, and its section fits in
+pub plain-undone : (room : ℕ) (places : List (Option Cuboid)) (xs : List Cuboid) (step : Taken) → xs ≡ sections_of places
+    → CanUndoOne room (plain_note step) places → (full xs ≡ places) × (step.place + step.pushed ≤ length xs) × (length xs < room + step.pushed)
+plain-undone room places xs step is (place, more, all) =
+    let same : full xs ≡ places = ap (λ l. full l) is ∙ plain-again places all in
+    let long : length xs ≡ length places = omega (arith, ap length same, length-map xs (λ s. Some s)) in
+    (same, omega arith, omega arith)

@@ -9,7 +9,7 @@ use Rattle.rectangle_pack_lists.specs.private.FreeLists.{AtWork, now_of}
 use Rattle.rectangle_pack_lists.specs.private.Places.{IsLastHolding, sections_of}
 use Rattle.rectangle_pack_lists.proofs.lemmas.trial.StepsByIndex.{IsDone-more, IsStuck-at, IsTried-refused}
 use Rattle.rectangle_pack_lists.proofs.lemmas.trial.Steps.{IsStep-fits}
-use Rattle.rectangle_pack_lists.proofs.lemmas.trial.Undone.{IsSince-none, IsSince-same, IsSince-more, IsSince-longer, IsSince-start, IsSince-undone}
+use Rattle.rectangle_pack_lists.proofs.lemmas.trial.Notes.{IsSince-none, IsSince-same, IsSince-more, IsSince-longer, IsSince-start, IsSince-kept}
 use Rattle.rectangle_pack_lists.proofs.free_list.FreeList.run_trial.Goals as goal
 use Rattle.rectangle_pack_lists.proofs.free_list.FreeList.run_trial.Goals.{then-i-eq0+in_ok-reserve+in_ok-reserve-2, else-i-eq0}
 
@@ -97,19 +97,18 @@ undo_to-requires g c = rw c.loop-i.invariant.kept (IsSince-longer c.args.self.no
 pub returns-in_default-clause-tried : goal.returns-in_default-clause-tried
 returns-in_default-clause-tried g c =
     let none = rw c.in_default.is at c.find-found.ensures in
-    let undone = IsSince-undone c.args.self.now c.loop-i.self c.undo_to.new.self c.steps-kept.result c.loop-i.invariant.since c.loop-i.invariant.kept
-    c.undo_to.ensures.places c.undo_to.ensures.notes in (
+    let undone = IsSince-kept c.args.self.now c.loop-i.self c.steps-kept.result c.loop-i.invariant.since c.loop-i.invariant.kept in (
       rw none.tests_are (IsStuck-at _ _ c.args.members.now c.loop-i.i c.index-members-i.result _ _ _ c.loop-i-test.true c.index-members-i.is
           c.loop-i.invariant.done none.none),
-      ap sections_of undone.0,
+      ap sections_of (c.undo_to.ensures.places ∙ undone.0),
     )
 
 pub returns-in_default-clause-start : goal.returns-in_default-clause-start
 returns-in_default-clause-start g c =
     let then = c.args.self.now in
-    let undone = IsSince-undone then c.loop-i.self c.undo_to.new.self c.steps-kept.result c.loop-i.invariant.since c.loop-i.invariant.kept
-    c.undo_to.ensures.places c.undo_to.ensures.notes in
-    IsSince-start then c.undo_to.new.self (IsSince-same then then c.undo_to.new.self (IsSince-none then) undone.0 undone.1)
+    let undone = IsSince-kept then c.loop-i.self c.steps-kept.result c.loop-i.invariant.since c.loop-i.invariant.kept in
+    IsSince-start then c.undo_to.new.self
+    (IsSince-same then then c.undo_to.new.self (IsSince-none then) (c.undo_to.ensures.places ∙ undone.0) (c.undo_to.ensures.notes ∙ undone.1))
 
 pub returns-in_default-clause-room : goal.returns-in_default-clause-room
 returns-in_default-clause-room g c = le_trans c.loop-i.invariant.room c.undo_to.ensures.room
@@ -217,7 +216,7 @@ loop-i-preserved g c =
           (pushed c.loop-i.locations.items c.if-i-eq0.locations.items c.push_reserved.new.self.items _ c.push_reserved.ensures.items ready.locations);
       most = more_tests c.loop-i.i _ _ now.most c.find-found.type_inv.1.1.1.0.1;
       fits = IsStep-fits _ _ _ _ _ _ step now.fits;
-      since = IsSince-more c.args.self.now c.if-i-eq0.self c.place-location.new.self
+      since = IsSince-more c.args.self.now c.if-i-eq0.self c.place-location.new.self _
           (IsSince-same c.args.self.now c.loop-i.self c.if-i-eq0.self now.since ready.places ready.notes) c.place-location.ensures.noted;
       kept = now.kept;
       steps = λ _. steps_behind c.loop-i.i _ _ _ ready.steps c.place-location.ensures.steps;

@@ -2,7 +2,7 @@ use Rattle.rectangle_pack_sections.proofs.Std.{◌≡◌, ◌≤◌, ◌<◌, �
 use Rattle.rectangle_pack_sections.specs.Boxes.{FitsU32}
 use Rattle.rectangle_pack_lists.specs.Steps.{IsDone}
 use Rattle.rectangle_pack_lists.specs.private.FreeLists.{now_of}
-use Rattle.rectangle_pack_lists.proofs.lemmas.trial.Undone.{IsSince}
+use Rattle.rectangle_pack_lists.proofs.lemmas.trial.Notes.{IsSince}
 use Rattle.rectangle_pack_lists.proofs.free_list.FreeList.run_trial.Given as goal
 
 abbrev pub invariant-loop-i : goal.invariant-loop-i

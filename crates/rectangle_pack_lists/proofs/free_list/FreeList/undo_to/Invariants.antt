@@ -1,10 +1,10 @@
 use Rattle.rectangle_pack_sections.proofs.Std.{◌≤◌, length}
-use Rattle.rectangle_pack_lists.proofs.lemmas.trial.Notes.{IsUndoneTo}
+use Rattle.rectangle_pack_lists.proofs.lemmas.trial.Notes.{IsSince}
 use Rattle.rectangle_pack_lists.proofs.free_list.FreeList.undo_to.Given as goal
 
 abbrev pub invariant-loop-self : goal.invariant-loop-self
 invariant-loop-self g l = record {
-  to : IsUndoneTo l.fn.self.notes l.self.notes l.fn.self.places l.self.places;
+  since : IsSince l.self l.fn.self;
   kept : l.kept ≤ length l.self.notes;
   room : l.fn.self.room ≤ l.self.room;
 }

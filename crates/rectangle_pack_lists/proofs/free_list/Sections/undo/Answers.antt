@@ -1,28 +1,45 @@
-use Rattle.rectangle_pack_sections.proofs.Std.{◌≡◌, ◌≤◌, ◌∙◌, ℕ, arith, ap, sym, List, length, Option, Some, IsSome, All, map}
-use Rattle.rectangle_pack_sections.specs.Boxes.{Cuboid}
-use Rattle.rectangle_pack_lists.specs.private.FreeLists.{places_in}
-use Rattle.rectangle_pack_lists.specs.private.Notes.{before_note}
-use Rattle.rectangle_pack_lists.specs.private.Places.{sections_of}
-use Rattle.rectangle_pack_lists.proofs.lemmas.trial.Plain.{plain-again, length-plain, before_note-plain}
+use Rattle.rectangle_pack_sections.proofs.Std.{◌∙◌, ap, sym, map}
+use Rattle.rectangle_pack_lists.specs.private.Notes.{plain_note, before_note}
+use Rattle.rectangle_pack_lists.proofs.lemmas.trial.Notes.{IsNoted-plain, IsNoted-gap, gaps-same, gap-last, plain-last}
+use Rattle.rectangle_pack_lists.proofs.lemmas.trial.Plain.{sections_of-plain, plain-undone, before_note-plain}
 use Rattle.rectangle_pack_lists.proofs.free_list.Sections.undo.Goals as goal
 
-as_many : (places : List (Option Cuboid)) (sections : List Cuboid) (kept : ℕ) → All (λ p. IsSome p) places → sections ≡ sections_of places
-    → kept ≤ length places → kept ≤ length sections
-as_many places sections kept all same le = omega (arith, length-plain places sections all same)
+pub undo_one-requires : goal.undo_one-requires
+undo_one-requires g c =
+    let one = plain-last _ c.pop.new.self.items _ c.in-Some.note _ c.in-Some.ensures.items (rw c.in-Plain.is at c.requires.can_undo) in
+    let (same, place, room) = plain-undone _ _ c.in-Plain.sections.items c.in-Some.note (sym (sections_of-plain c.in-Plain.sections.items)) one in
+    record { place = place; room = room }
 
-pub undo_one-requires-in-Gapped-2-clause-kept : goal.undo_one-requires-in-Gapped-2-clause-kept
-undo_one-requires-in-Gapped-2-clause-kept g c =
-    let (place, room, all) = rw (c.in-Gapped.is, c.if-note.false) at c.requires.back in
-    as_many c.in-Gapped.list.all _ _ all c.take_sections-sections.ensures.items (rw c.in-Gapped.is at c.requires.kept)
+pub returns-in-Some-clause-undone : goal.returns-in-Some-clause-undone
+returns-in-Some-clause-undone g c =
+    rw c.in-Plain.is (IsNoted-plain _ c.pop.new.self.items _ c.in-Some.note _ _ c.in-Some.ensures.items (before_note-plain c.in-Some.note c.in-Plain.sections.items _ (sym c.undo_one.ensures.items))
+    (plain-last _ c.pop.new.self.items _ c.in-Some.note _ c.in-Some.ensures.items (rw c.in-Plain.is at c.requires.can_undo)))
 
-pub returns-in-Plain-clause-places : goal.returns-in-Plain-clause-places
-returns-in-Plain-clause-places g c =
-    ap (map (λ s. Some s)) c.undo_one.ensures.items ∙ sym (before_note-plain c.args.note c.in-Plain.sections.items)
-    ∙ ap (λ l. before_note c.args.note (places_in l)) (sym c.in-Plain.is)
+pub undo_one-requires-in-Some-pop : goal.undo_one-requires-in-Some-pop
+undo_one-requires-in-Some-pop g c =
+    (gap-last _ (map plain_note c.args.taken.now.items) c.in-Gapped.list.under _ _ _ c.in-Gapped.list.all c.in-Some-pop.ensures
+    (rw c.in-Gapped.is at c.requires.can_undo)).0
 
-pub returns-in-Gapped-2-clause-places : goal.returns-in-Gapped-2-clause-places
-returns-in-Gapped-2-clause-places g c =
-    let (place, room, all) = rw (c.in-Gapped.is, c.if-note.false) at c.requires.back in
-    ap (map (λ s. Some s)) c.undo_one-in-Gapped-2.ensures.items ∙ sym (before_note-plain c.args.note c.take_sections-sections.result.items)
-    ∙ ap (before_note c.args.note) (ap (map (λ s. Some s)) c.take_sections-sections.ensures.items ∙ plain-again c.in-Gapped.list.all all)
-    ∙ ap (λ l. before_note c.args.note (places_in l)) (sym c.in-Gapped.is)
+pub returns-in-Some-pop-clause-undone : goal.returns-in-Some-pop-clause-undone
+returns-in-Some-pop-clause-undone g c =
+    let taken = map plain_note c.args.taken.now.items in
+    let list = c.in-Gapped.list in
+    let now = c.undo_one-in-Some-pop.new.self in
+    let (within, others) = gap-last _ taken list.under _ _ _ list.all c.in-Some-pop.ensures (rw c.in-Gapped.is at c.requires.can_undo) in
+    let same = gaps-same list.capacity taken list.under now.under c.pop-in-Gapped.new.self.all now.all c.undo_one-in-Some-pop.ensures.under (rw c.undo_one-in-Some-pop.ensures.all others) in
+    rw c.in-Gapped.is (IsNoted-gap _ taken now.under list.under _ _ _ now.all list.all c.in-Some-pop.ensures (sym same) (sym c.undo_one-in-Some-pop.ensures.all) within)
+
+pub undo_one-requires-in-Some-pop-2 : goal.undo_one-requires-in-Some-pop-2
+undo_one-requires-in-Some-pop-2 g c =
+    let one = plain-last _ c.pop-in_default-pop.new.self.items _ c.in-Some-pop-2.note _ c.in-Some-pop-2.ensures.items
+    (rw (c.in-Gapped.is, c.in_default-pop.ensures.0) at c.requires.can_undo) in
+    let (same, place, room) = plain-undone _ c.in-Gapped.list.all _ c.in-Some-pop-2.note c.take_sections-sections.ensures.items one in
+    record { place = place; room = rw c.take_sections-sections.ensures.capacity room }
+
+pub returns-in-Some-pop-2-clause-undone : goal.returns-in-Some-pop-2-clause-undone
+returns-in-Some-pop-2-clause-undone g c =
+    let one = plain-last _ c.pop-in_default-pop.new.self.items _ c.in-Some-pop-2.note _ c.in-Some-pop-2.ensures.items
+    (rw (c.in-Gapped.is, c.in_default-pop.ensures.0) at c.requires.can_undo) in
+    let (same, place, room) = plain-undone _ c.in-Gapped.list.all _ c.in-Some-pop-2.note c.take_sections-sections.ensures.items one in
+    rw (c.in-Gapped.is, c.in_default-pop.ensures.0) (IsNoted-plain _ c.pop-in_default-pop.new.self.items _ c.in-Some-pop-2.note _ _ c.in-Some-pop-2.ensures.items
+    (ap (before_note (plain_note c.in-Some-pop-2.note)) (sym same) ∙ before_note-plain c.in-Some-pop-2.note c.take_sections-sections.result.items _ (sym c.undo_one-in-Some-pop-2.ensures.items)) one)

@@ -1,5 +1,5 @@
-use Rattle.rectangle_pack_sections.proofs.Std.{◌∙◌, length-set, refl}
-use Rattle.rectangle_pack_lists.proofs.lemmas.trial.PlaceSteps.{before-taken, last-place, last-full, last-fits, last-holds, no_fewer-taken, IsStep-in_places}
+use Rattle.rectangle_pack_sections.proofs.Std.{◌∙◌, length-set}
+use Rattle.rectangle_pack_lists.proofs.lemmas.trial.PlaceSteps.{before-taken, last-place, last-full, last-fits, last-holds, taken-within, under-same, IsStep-in_places}
 use Rattle.rectangle_pack_lists.proofs.gap_list.GapList.place_at.Goals as goal
 
 pub take-section-requires-clause-within : goal.take-section-requires-clause-within
@@ -26,8 +26,15 @@ returns-clause-step g c tests at =
 
 pub returns-clause-before : goal.returns-clause-before
 returns-clause-before g c =
-    rw (c.push_pieces.ensures.all, c.take-section.ensures.all, c.places-kept.ensures)
-    (before-taken c.args.self.now.all _ c.args.place c.take-section.result c.take-section.ensures.section)
+    let (tests, at) = c.requires.newest in
+    let same = under-same c.args.self.now.under _ _ _ _ _ c.take-section.ensures.under c.push_pieces.ensures.under c.places-kept.ensures.all c.places-kept.ensures.under in
+    before-taken c.args.self.now.all c.push_pieces.new.self.all _ c.args.place _ _
+    (rw c.take-section.ensures.all at c.push_pieces.ensures.all) c.places.ensures.all c.places-kept.ensures.all c.take-section.result _
+    c.take-section.ensures.section (same c.args.place _ (last-place _ _ _ tests at) ∙ c.take-section.ensures.entry)
+
+pub returns-clause-under : goal.returns-clause-under
+returns-clause-under g c =
+    under-same c.args.self.now.under _ _ _ _ _ c.take-section.ensures.under c.push_pieces.ensures.under c.places-kept.ensures.all c.places-kept.ensures.under
 
 pub place_in-location-requires-clause-callable : goal.place_in-location-requires-clause-callable
 place_in-location-requires-clause-callable g c = c.requires.callable
@@ -44,14 +51,8 @@ returns-clause-no_longer g c = rw (c.take-section.ensures.all, length-set) at c.
 pub returns-clause-capacity : goal.returns-clause-capacity
 returns-clause-capacity g c = c.push_pieces.ensures.capacity ∙ c.take-section.ensures.capacity
 
-pub returns-clause-gap : goal.returns-clause-gap
-returns-clause-gap g c = refl
-
-pub returns-clause-kept : goal.returns-clause-kept
-returns-clause-kept g c =
-    no_fewer-taken c.args.self.now.all _ _ _ c.args.place _ c.places-kept.ensures c.take-section.ensures.all c.push_pieces.ensures.all
-
 pub returns-clause-place : goal.returns-clause-place
 returns-clause-place g c =
     let (tests, at) = c.requires.newest in
-    rw c.places-kept.ensures (last-place _ _ _ tests at)
+    taken-within c.args.self.now.all c.push_pieces.new.self.all _ c.args.place _ _ (rw c.take-section.ensures.all at c.push_pieces.ensures.all)
+    c.places.ensures.all c.places-kept.ensures.all (last-place _ _ _ tests at)

@@ -3,5 +3,5 @@ use Rattle.rectangle_pack_lists.specs.private.Places.{Places}
 use Rattle.rectangle_pack_lists.proofs.lemmas.trial.Places.{counted}
 use Rattle.rectangle_pack_lists.proofs.gap_list.GapList.places.Goals as goal
 
-pub returns : goal.returns
-returns g c = c.len.ensures ∙ c.self.inside.sections.ok.0 ∙ counted _ _ _ (ap (λ (v : Places). v.all) c.self.view_is)
+pub returns-clause-all : goal.returns-clause-all
+returns-clause-all g c = c.len.ensures ∙ c.self.inside.sections.ok.0 ∙ counted _ _ _ (ap (λ (v : Places). v.all) c.self.view_is)
