@@ -1,7 +1,6 @@
 use Rattle.rectangle_pack_sections.proofs.Std.{List, length, suc, ◌-◌, ◌≡◌, ◌∙◌, arith, subst}
 use Rattle.rectangle_pack_sections.specs.Boxes.{Cuboid}
 use Rattle.rectangle_pack_lists.specs.Joining.{IsJoined, IsSweptBelow}
-use Rattle.rectangle_pack_lists.proofs.lemmas.joining.Sweeps.{IsSweptBelow-none}
 use Rattle.rectangle_pack_lists.proofs.coalesce.join_all.Goals as goal
 
 pub loop-idx-preserved : goal.loop-idx-preserved
@@ -16,12 +15,3 @@ loop-idx-preserved g c =
       fit = c.join_at.ensures.fit;
       rest = λ new left. c.loop-idx.invariant.rest new (subst (λ n. IsSweptBelow n now new) one (next, joined, left));
     }
-
-pub join_at-requires : goal.join_at-requires
-join_at-requires g c = c.loop-idx.invariant.fit
-
-pub returns-clause-swept : goal.returns-clause-swept
-returns-clause-swept g c = c.loop-idx.invariant.rest c.loop-idx.sections.items (IsSweptBelow-none _ c.loop-idx.sections.items c.loop-idx-test.false)
-
-pub returns-clause-fit : goal.returns-clause-fit
-returns-clause-fit g c = c.loop-idx.invariant.fit

@@ -6,7 +6,7 @@ use Rattle.rectangle_pack_sections.proofs.lemmas.cuts.Counting.{filter_all}
 use Rattle.rectangle_pack_lists.specs.Joining.{IsSwept}
 use Rattle.rectangle_pack_lists.specs.private.Corners.{full, AreNamed}
 use Rattle.rectangle_pack_lists.specs.declared.corners.Corner.{Corner}
-use Rattle.rectangle_pack_lists.specs.declared.corners.Corner.TheVariants.{Near, Far}
+use Rattle.rectangle_pack_lists.specs.declared.corners.Corner.TheVariants.{Near}
 use Rattle.rectangle_pack_lists.specs.declared.corners.Name.{Name}
 use Rattle.rectangle_pack_lists.proofs.lemmas.util.Reads.{written_back}
 use Rattle.rectangle_pack_lists.proofs.coalesce.join_all_in.Goals as goal
@@ -31,30 +31,8 @@ returns g c =
       fit = subst (All FitsU32) (sym closed) (All-filter has_cells FitsU32 slots c.join_slots.ensures.fit);
     }
 
-pub name_slots-requires : goal.name_slots-requires
-name_slots-requires g c =
-    subst (All FitsU32) (sym c.as_slice-else-not-have_cells.ensures.value) c.requires
-
-pub join_all-requires : goal.join_all-requires
-join_all-requires g c = c.requires
-
-pub returns-then-not-have_cells-clause-swept : goal.returns-then-not-have_cells-clause-swept
-returns-then-not-have_cells-clause-swept g c = c.join_all.ensures.swept
-
-pub returns-then-not-have_cells-clause-fit : goal.returns-then-not-have_cells-clause-fit
-returns-then-not-have_cells-clause-fit g c = c.join_all.ensures.fit
-
-pub join_slots-requires-clause-fit : goal.join_slots-requires-clause-fit
-join_slots-requires-clause-fit g c = subst (All FitsU32) (sym c.as_mut_slice.ensures.value)
-    c.requires
-
 pub join_slots-requires-clause-near : goal.join_slots-requires-clause-near
 join_slots-requires-clause-near g c =
     named_same Near _ _ _ _ c.as_slice-else-not-have_cells.ensures.value
     c.as_mut_slice.ensures.value
     (OnTrue_at c.if-not-name_slots.false c.name_slots.ensures.near)
-
-pub join_slots-requires-clause-far : goal.join_slots-requires-clause-far
-join_slots-requires-clause-far g c =
-    named_same Far _ _ _ _ c.as_slice-else-not-have_cells.ensures.value c.as_mut_slice.ensures.value
-    (OnTrue_at c.if-not-name_slots.false c.name_slots.ensures.far)

@@ -11,11 +11,6 @@ loop-slot-init g c = record {
   far = c.requires.far;
 }
 
-pub join_slot-requires-clause-full : goal.join_slot-requires-clause-full
-join_slot-requires-clause-full g c =
-    let within = c.loop-slot.invariant.swept.within in
-    IsFull-read c.loop-slot.sections (c.loop-slot.slot - 1) _ c.has_cells.result (omega arith) c.has_cells.ensures c.if-has_cells.true
-
 pub loop-slot-preserved-then-has_cells : goal.loop-slot-preserved-then-has_cells
 loop-slot-preserved-then-has_cells g c =
     let within = c.loop-slot.invariant.swept.within in

@@ -1,4 +1,4 @@
-use Rattle.rectangle_pack_sections.proofs.Std.{◌≡◌, ◌≤◌, ◌-◌, ℕ, arith, rules, length, List, None, Bool, sym, drop}
+use Rattle.rectangle_pack_sections.proofs.Std.{◌≤◌, ◌-◌, ℕ, arith, rules, length, List, None, Bool, sym, drop}
 use Rattle.rectangle_pack_sections.specs.Boxes.{Cuboid, Size}
 use Rattle.rectangle_pack_lists.specs.private.Places.{places_of, NoneHolds}
 use Rattle.rectangle_pack_lists.proofs.lemmas.trial.Places.{length-places_of, within-places, place-gap, place-section}
@@ -58,11 +58,6 @@ loop-end-preserved c =
       within = omega arith;
       none = NoneHolds-empty (places_of sections gaps) c.loop-end.end c.loop-end-test.true inside _ _ now.none _ (sym here);
     }
-
-pub returns-clause-found : goal.returns-clause-found
-returns-clause-found c =
-    let none : c.loop-end.end ≡ 0 = omega arith in
-    rw none at c.loop-end.invariant.none
 
 pub returns-clause-most : goal.returns-clause-most
 returns-clause-most c = omega (arith, tests_most c.args.sections.now c.args.gaps.now c.loop-end.end _ _ c.loop-end.invariant.none)

@@ -16,6 +16,3 @@ returns-clause-cells g c = rw (← c.self.view_is) (IsSwept-KeepCells c.self.ins
 
 pub returns-clause-no_longer : goal.returns-clause-no_longer
 returns-clause-no_longer g c = rw (← c.self.view_is) (IsSwept-shorter _ _ _ c.join_all.ensures.swept)
-
-pub returns-clause-swept : goal.returns-clause-swept
-returns-clause-swept g c = rw (← c.self.view_is) c.join_all.ensures.swept

@@ -1,30 +1,21 @@
 use Rattle.std.proofs.Common.{le_refl, le_trans, lt_irrefl}
-use Rattle.rectangle_pack_sections.proofs.Std.{ℕ, ◌<◌, ◌≤◌, ◌≢◌, ◌*◌, ◌^◌, arith, refl, subst}
-use Rattle.rectangle_pack_sections.proofs.Std.{◌≡◌, ◌+◌, ◌∙◌, ◌++◌, ◌∷◌, [], ap, sym}
-use Rattle.rectangle_pack_sections.proofs.Std.{List, length, take, take_all, All, Option, vec_len, vec_capacity}
-use Rattle.rectangle_pack_sections.specs.Boxes.{Size, Cuboid, FitsU32}
+use Rattle.rectangle_pack_sections.proofs.Std.{ℕ, ◌<◌, ◌≤◌, ◌≢◌, ◌*◌, arith, refl, subst}
+use Rattle.rectangle_pack_sections.proofs.Std.{◌≡◌, ◌+◌, ◌∙◌, ◌++◌, ◌∷◌, [], ap}
+use Rattle.rectangle_pack_sections.proofs.Std.{List, length, Option, vec_len, vec_capacity}
+use Rattle.rectangle_pack_sections.specs.Boxes.{Size, Cuboid}
 use Rattle.rectangle_pack_sections.specs.Closures.{Answers}
 use Rattle.rectangle_pack_lists.specs.Steps.{IsStep}
 use Rattle.rectangle_pack_lists.specs.private.FreeLists.{AtWork, now_of}
 use Rattle.rectangle_pack_lists.specs.private.Places.{IsLastHolding, sections_of}
 use Rattle.rectangle_pack_lists.proofs.lemmas.trial.StepsByIndex.{IsDone-more, IsStuck-at, IsTried-refused}
 use Rattle.rectangle_pack_lists.proofs.lemmas.trial.Steps.{IsStep-fits}
-use Rattle.rectangle_pack_lists.proofs.lemmas.trial.Notes.{IsSince-none, IsSince-same, IsSince-more, IsSince-longer, IsSince-start, IsSince-kept}
+use Rattle.rectangle_pack_lists.proofs.lemmas.trial.Notes.{IsSince-none, IsSince-same, IsSince-more, IsSince-start, IsSince-kept}
 use Rattle.rectangle_pack_lists.proofs.free_list.FreeList.run_trial.Goals as goal
 use Rattle.rectangle_pack_lists.proofs.free_list.FreeList.run_trial.Goals.{then-i-eq0+in_ok-reserve+in_ok-reserve-2, else-i-eq0}
 
 -- the tests of one member more
 more_tests : (i tests one : ℕ) → tests ≤ i * 18446744073709551615 → one < 18446744073709551616 → tests + one ≤ (i + 1) * 18446744073709551615
 more_tests i tests one most few = omega arith
-
--- of members that have room, the tests of one more fit
-tests_fit : (i count tests one : ℕ) → i < count → count * 16 < 2 ^ 63 → tests ≤ i * 18446744073709551615 → one < 18446744073709551616
-    → tests + one < 2 ^ 128
-tests_fit i count tests one within fits most few = omega arith
-
--- steps for all that are left
-some_left : (i count steps : ℕ) → i < count → count ≤ steps + i → 0 < steps
-some_left i count steps within made = omega arith
 
 no_fewer : (count steps i : ℕ) → count ≤ steps → count ≤ steps + i
 no_fewer count steps i made = omega arith
@@ -38,9 +29,6 @@ room_for len count room made = omega arith
 not_first : (i : ℕ) → i ≢ 0 → 0 < i
 not_first i other = omega arith
 
-one_room : (i count before len room : ℕ) → before ≡ i → len ≡ before → i < count → count ≤ room → len < room
-one_room i count before len room counted same within made = omega arith
-
 one_more : (i before now after : ℕ) → before ≡ i → now ≡ before → after ≡ now + 1 → after ≡ i + 1
 one_more i before now after counted same more = omega arith
 
@@ -49,10 +37,6 @@ room_kept count room after made same = omega arith
 
 pushed : (before now after : List Cuboid) (l : Cuboid) → after ≡ now ++ l ∷ [] → now ≡ before → after ≡ before ++ l ∷ []
 pushed before now after l more same = more ∙ ap (λ (ls : List Cuboid). ls ++ l ∷ []) same
-
--- a list with a member is not empty
-has_none : (i count : ℕ) → i < count → count ≡ 0 → ⊥
-has_none i count within none = omega arith
 
 -- before a step there is room for all members that are left, and nothing else has changed
 record IsReady (count i : ℕ) (old now : AtWork) (before after : List Cuboid) (len_before len room : ℕ) : Type 0 where
@@ -85,15 +69,6 @@ loop-i-init g c = record {
   location_room = λ some. absurd (lt_irrefl 0 some);
 }
 
--- what one search counts is a number of 64 bits, by its type
-pub overflow_add-tests : goal.overflow_add-tests
-overflow_add-tests g c = record {
-  fits = tests_fit c.loop-i.i _ _ _ c.loop-i-test.true c.well_formed.1.0.1 c.loop-i.invariant.most c.find-found.type_inv.1.1.1.0.1;
-}
-
-pub undo_to-requires : goal.undo_to-requires
-undo_to-requires g c = rw c.loop-i.invariant.kept (IsSince-longer c.args.self.now c.loop-i.self c.loop-i.invariant.since)
-
 pub returns-in_default-clause-tried : goal.returns-in_default-clause-tried
 returns-in_default-clause-tried g c =
     let none = rw c.in_default.is at c.find-found.ensures in
@@ -110,24 +85,10 @@ returns-in_default-clause-start g c =
     IsSince-start then c.undo_to.new.self
     (IsSince-same then then c.undo_to.new.self (IsSince-none then) (c.undo_to.ensures.places ∙ undone.0) (c.undo_to.ensures.notes ∙ undone.1))
 
-pub returns-in_default-clause-room : goal.returns-in_default-clause-room
-returns-in_default-clause-room g c = le_trans c.loop-i.invariant.room c.undo_to.ensures.room
-
-pub returns-in_err-reserve-clause-tried : goal.returns-in_err-reserve-clause-tried
-returns-in_err-reserve-clause-tried g c =
-    IsTried-refused _ _ c.args.members.now c.loop-i.i _ (now_of c.loop-i.self) _ c.from_residual.result _ _ c.from_residual.ensures.0 c.if-i-eq0.true
-    c.loop-i.invariant.done (ap sections_of c.in_err-reserve.ensures.places)
-
 pub returns-in_err-reserve-clause-start : goal.returns-in_err-reserve-clause-start
 returns-in_err-reserve-clause-start g c =
     IsSince-start c.args.self.now c.reserve.new.self
     (IsSince-same c.args.self.now c.loop-i.self c.reserve.new.self c.loop-i.invariant.since c.in_err-reserve.ensures.places c.in_err-reserve.ensures.notes)
-
-pub returns-in_err-reserve-clause-room : goal.returns-in_err-reserve-clause-room
-returns-in_err-reserve-clause-room g c = le_trans c.loop-i.invariant.room c.in_err-reserve.ensures.room
-
-pub returns-in_err-reserve-clause-no_members : goal.returns-in_err-reserve-clause-no_members
-returns-in_err-reserve-clause-no_members g c = λ none. absurd (has_none c.loop-i.i _ c.loop-i-test.true none)
 
 pub returns-in_err-reserve-2-clause-tried : goal.returns-in_err-reserve-2-clause-tried
 returns-in_err-reserve-2-clause-tried g c =
@@ -139,47 +100,6 @@ pub returns-in_err-reserve-2-clause-start : goal.returns-in_err-reserve-2-clause
 returns-in_err-reserve-2-clause-start g c =
     IsSince-start c.args.self.now c.reserve.new.self
     (IsSince-same c.args.self.now c.loop-i.self c.reserve.new.self c.loop-i.invariant.since c.in_ok-reserve.ensures.places c.in_ok-reserve.ensures.notes)
-
-pub returns-in_err-reserve-2-clause-room : goal.returns-in_err-reserve-2-clause-room
-returns-in_err-reserve-2-clause-room g c = le_trans c.loop-i.invariant.room c.in_ok-reserve.ensures.room
-
-pub returns-in_err-reserve-2-clause-no_members : goal.returns-in_err-reserve-2-clause-no_members
-returns-in_err-reserve-2-clause-no_members g c = λ none. absurd (has_none c.loop-i.i _ c.loop-i-test.true none)
-
-pub place-location-requires-clause-callable : goal.place-location-requires-clause-callable
-place-location-requires-clause-callable g c = c.requires.callable
-
-pub place-location-requires-clause-fits : goal.place-location-requires-clause-fits
-place-location-requires-clause-fits g c =
-    let same : c.if-i-eq0.self.places ≡ c.loop-i.self.places = elim c.if-i-eq0.branch [
-      | then-i-eq0+in_ok-reserve+in_ok-reserve-2 w ↦ rw w.self-is w.in_ok-reserve.ensures.places
-      | else-i-eq0 w ↦ rw w.self-is refl
-    ] in
-    subst (λ (ps : List (Option Cuboid)). All FitsU32 (sections_of ps)) (sym same) c.loop-i.invariant.fits
-
-pub place-location-requires-clause-newest : goal.place-location-requires-clause-newest
-place-location-requires-clause-newest g c =
-    let same : c.if-i-eq0.self.places ≡ c.loop-i.self.places = elim c.if-i-eq0.branch [
-      | then-i-eq0+in_ok-reserve+in_ok-reserve-2 w ↦ rw w.self-is w.in_ok-reserve.ensures.places
-      | else-i-eq0 w ↦ rw w.self-is refl
-    ] in
-    (c.find-found.result.tests, rw same (rw c.in-Some.is at c.find-found.ensures))
-
-pub place-location-requires-clause-steps : goal.place-location-requires-clause-steps
-place-location-requires-clause-steps g c = some_left c.loop-i.i _ _ c.loop-i-test.true (elim c.if-i-eq0.branch [
-  | then-i-eq0+in_ok-reserve+in_ok-reserve-2 w ↦ rw w.self-is (no_fewer _ _ _ w.in_ok-reserve.ensures.ok)
-  | else-i-eq0 w ↦ rw w.self-is (c.loop-i.invariant.steps (not_first _ w.if-i-eq0.false))
-])
-
-pub push_reserved-requires : goal.push_reserved-requires
-push_reserved-requires g c = elim c.if-i-eq0.branch [
-  | then-i-eq0+in_ok-reserve+in_ok-reserve-2 w ↦
-      rw w.locations-is (one_room _ _ _ _ _ c.loop-i.invariant.location_count w.in_ok-reserve-2.ensures.len c.loop-i-test.true
-      (room_for _ _ _ w.in_ok-reserve-2.ensures.ok))
-  | else-i-eq0 w ↦
-      rw w.locations-is (one_room _ _ _ _ _ c.loop-i.invariant.location_count refl c.loop-i-test.true
-      (c.loop-i.invariant.location_room (not_first _ w.if-i-eq0.false)))
-]
 
 pub loop-i-preserved : goal.loop-i-preserved
 loop-i-preserved g c =
@@ -227,14 +147,5 @@ loop-i-preserved g c =
           c.push_reserved.ensures.capacity;
     }
 
-pub returns-clause-tried : goal.returns-clause-tried
-returns-clause-tried g c =
-    let e : take c.loop-i.i c.args.members.now ≡ c.args.members.now = take_all c.loop-i.i
-    c.args.members.now c.loop-i-test.false in
-    rw e at c.loop-i.invariant.done
-
 pub returns-clause-start : goal.returns-clause-start
 returns-clause-start g c = IsSince-start c.args.self.now c.loop-i.self c.loop-i.invariant.since
-
-pub returns-clause-room : goal.returns-clause-room
-returns-clause-room g c = c.loop-i.invariant.room

@@ -2,9 +2,8 @@ use borrow.Author.Rules.{scaled_fits≤}
 use Rattle.std.proofs.Common.{le_refl, le_of_lt, Fits, Fits-le, w64}
 use Rattle.rectangle_pack_sections.proofs.Std.{ℕ, arith, ap, ◌≡◌, ◌≤◌, ◌<◌, ◌+◌, ◌-◌, ◌*◌, ◌/◌, ◌^◌}
 use Rattle.rectangle_pack_sections.proofs.Std.{subst, sym, ◌∙◌}
-use Rattle.rectangle_pack_sections.proofs.Std.{List, Option, length, drop}
-use Rattle.rectangle_pack_sections.specs.Boxes.{Cuboid, Size}
-use Rattle.rectangle_pack_lists.specs.private.Places.{Places, places_of, NoneHolds}
+use Rattle.rectangle_pack_sections.proofs.Std.{List, length}
+use Rattle.rectangle_pack_lists.specs.private.Places.{Places, places_of}
 use Rattle.rectangle_pack_lists.proofs.lemmas.trial.Places.{NoneHolds-past, NoneHolds-most, NoneHolds-skip, IsLastHolding-in, length-stretch, block-within, stretch-places_of, length-places_of, within-places}
 use Rattle.rectangle_pack_lists.proofs.gap_list.GapList.last_holding.Goals as goal
 
@@ -28,9 +27,6 @@ more_fit tests more begin end long places len cap a b c d same within small = om
 in_block : (begin end at long : ℕ) → begin ≤ end → at < long → long ≤ end - begin → begin + at < end
 in_block begin end at long a b c = omega arith
 
-block_before : (end : ℕ) → 0 < end → (end - 1) / 8 * 8 < end
-block_before end some = omega arith
-
 -- an end within a list is within a view of it
 in_deref : {X : Type 0} (view list : List X) (end : ℕ) → view ≡ list → end ≤ length list → end ≤ length view
 in_deref view list end same within = rw same within
@@ -40,14 +36,6 @@ le_before a b n below within = omega arith
 
 le_from_same : (a b : ℕ) → a ≡ b → a ≤ b
 le_from_same a b same = omega arith
-
--- where none is left, none of all holds the size
-none_left : (places all : List (Option Cuboid)) (end : ℕ) (size : Size) (n : ℕ) → places ≡ all
-    → end ≤ 0
-    → NoneHolds (drop end places) size n → NoneHolds all size n
-none_left places all end size n same done none =
-    let first : end ≡ 0 = omega arith in
-    rw (← same) (rw first at none)
 
 pub overflow_add-tests : goal.overflow_add-tests
 overflow_add-tests g c =
@@ -113,22 +101,9 @@ loop-end-init g c =
     let all = c.len-end.ensures ∙ c.self.inside.sections.ok.0 in
     record { within = le_from_same _ _ all; none = NoneHolds-past places _ c.args.member.now (le_from_same _ _ (length-places_of _ _ ∙ sym all)) }
 
-pub too_small_before-requires-clause-from : goal.too_small_before-requires-clause-from
-too_small_before-requires-clause-from g c = c.loop-end-test.true
-
 pub too_small_before-requires-clause-to : goal.too_small_before-requires-clause-to
 too_small_before-requires-clause-to g c =
     subst (λ (v : Places). c.loop-end.end ≤ length v.all) c.self.view_is (within-places _ _ c.loop-end.end c.loop-end.invariant.within)
-
-pub loop-end-smaller-in-Some : goal.loop-end-smaller-in-Some
-loop-end-smaller-in-Some g c = c.in-Some.ensures.begin
-
-pub overflow_sub-begin : goal.overflow_sub-begin
-overflow_sub-begin g c = c.loop-end-test.true
-
-pub overflow_mul-begin : goal.overflow_mul-begin
-overflow_mul-begin g c =
-    Fits-le (block-within c.loop-end.end _ (le_refl _)) c.loop-end.auto.end-fits
 
 pub offset_bounds-deref-begin : goal.offset_bounds-deref-begin
 offset_bounds-deref-begin g c =
@@ -136,20 +111,9 @@ offset_bounds-deref-begin g c =
     (block-within c.loop-end.end _ (in_deref _ _ _ c.deref.ensures.value c.loop-end.invariant.within))
     c.deref.type_inv.1
 
-pub slice_bounds-last_of-count : goal.slice_bounds-last_of-count
-slice_bounds-last_of-count g c = block-within c.loop-end.end _ (le_refl _)
-
 pub overflow_add-result : goal.overflow_add-result
 overflow_add-result g c =
     let at = rw c.in-Some-place.is at c.last_of-found.ensures.place in
     below_fits _ _ (in_block _ _ _ _ (block-within _ _ (le_refl _)) at
     (length-stretch c.deref.result.now _ c.loop-end.end))
     c.loop-end.auto.end-fits
-
-pub loop-end-smaller : goal.loop-end-smaller
-loop-end-smaller g c = block_before c.loop-end.end c.loop-end-test.true
-
-pub returns : goal.returns
-returns g c = record {
-  found = none_left _ _ c.loop-end.end _ _ (ap (λ (v : Places). v.all) c.self.view_is) c.loop-end-test.false c.loop-end.invariant.none;
-}

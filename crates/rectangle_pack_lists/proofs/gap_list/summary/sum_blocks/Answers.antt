@@ -1,20 +1,8 @@
-use Rattle.rectangle_pack_sections.proofs.Std.{arith, ap, length, ◌≡◌, ◌+◌, ◌-◌, ◌*◌, ◌/◌, ◌∙◌}
+use Rattle.rectangle_pack_sections.proofs.Std.{arith, length, ◌≡◌, ◌+◌, ◌-◌, ◌*◌, ◌/◌}
 use Rattle.rectangle_pack_lists.proofs.lemmas.trial.Places.{stretch-places_of, length-places_of}
 use Rattle.rectangle_pack_lists.proofs.lemmas.trial.Summaries.{summed-more}
-use Rattle.rectangle_pack_lists.proofs.lemmas.trial.Rooms.{room-for-one, counted-more}
+use Rattle.rectangle_pack_lists.proofs.lemmas.trial.Rooms.{counted-more}
 use Rattle.rectangle_pack_lists.proofs.gap_list.summary.sum_blocks.Goals as goal
-
-pub push_reserved-requires : goal.push_reserved-requires
-push_reserved-requires g c =
-    let now = c.loop-block.invariant in
-    room-for-one _ c.loop-block.block _ _ _ (c.loop-block.blocks.ok.0 ∙ now.count) c.loop-block-test.true c.requires.room now.room
-
-pub loop-block-init : goal.loop-block-init
-loop-block-init g c = record {
-  count = ap length c.in_ok-blocks.ensures.items;
-  room = c.in_ok-blocks.ensures.capacity;
-  each = λ k d none. absurd (omega arith);
-}
 
 pub loop-block-preserved : goal.loop-block-preserved
 loop-block-preserved g c =

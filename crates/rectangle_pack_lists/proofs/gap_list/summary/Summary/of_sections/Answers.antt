@@ -1,13 +1,6 @@
-use Rattle.rectangle_pack_sections.proofs.Std.{arith, take, ap, take_more, length-take-le}
-use Rattle.rectangle_pack_lists.specs.declared.gap_list.summary.Summary.{Summary}
+use Rattle.rectangle_pack_sections.proofs.Std.{take, take_more}
 use Rattle.rectangle_pack_lists.proofs.lemmas.trial.Summaries.{Bounds-more}
 use Rattle.rectangle_pack_lists.proofs.gap_list.summary.Summary.of_sections.Goals as goal
-
-pub join-summary-requires : goal.join-summary-requires
-join-summary-requires c =
-    let seen = length-take-le c.loop-section.section-index c.args.sections.now (omega arith) in
-    let one = ap (λ (s : Summary). s.count) c.of_section.ensures in
-    omega (arith, seen, one, c.loop-section.invariant.count)
 
 pub loop-section-preserved : goal.loop-section-preserved
 loop-section-preserved c =
