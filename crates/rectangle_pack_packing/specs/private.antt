@@ -5,6 +5,5 @@ pub mod Excluded
 pub mod Orders
 pub mod SummaryTrees
 pub mod BinsAtWork
-pub mod BinsOut
 pub mod PassedOver
 pub mod Ends

@@ -1,26 +1,24 @@
-//! The bins of a packing. While it lasts, a bin is out of its map from when a group first reaches
-//! it: with many bins and groups, looking each up by its id for each group would take most of the
-//! time.
-ghost use Rattle.std.specs.Prelude.{ℕ, ◌≡◌, ◌+◌, ◌-◌, ◌<◌, ◌≤◌, length, IsSome, OnOk, OnErr, All, map, take, drop, slice_index_or};
+//! The bins of a packing. A bin is only looked at in its map, as long as no section of it holds the
+//! first member of a group; from the first trial that goes further it is out of the map: with many
+//! bins and groups, looking each up by its id for each group would take most of the time.
+ghost use Rattle.std.specs.Prelude.{ℕ, None, ◌≡◌, ◌≢◌, ◌-◌, ◌<◌, ◌≤◌, length, false, IfSome, IsSome, OnOk, OnErr, MatchBool, All, map, take, drop, slice_index_or};
 ghost use Rattle.std.specs.BTreeMap.{get};
 ghost use Rattle.std.specs.List.{IsDistinct};
 ghost use Rattle.std.specs.Ordering.{eq_by_cmp};
 ghost use Rattle.rectangle_pack_sections.specs.Bins.{Bin, bins_of};
-ghost use Rattle.rectangle_pack_lists.specs.private.FreeLists.{IsTried};
-ghost use Rattle.rectangle_pack_packing.specs.private.BinsAtWork.{left_of, IsTriedIn};
-ghost use Rattle.rectangle_pack_packing.specs.private.BinsOut.{BinsHoldNone};
+ghost use Rattle.rectangle_pack_lists.specs.declared.free_list.End.{End};
+ghost use Rattle.rectangle_pack_lists.specs.private.FreeLists.{IsTried, IsStuckAtOnce, now_of};
+ghost use Rattle.rectangle_pack_lists.specs.private.Summaries.{Bounds};
+ghost use Rattle.rectangle_pack_packing.specs.private.BinsAtWork.{left_of, left_at, IsBinAt, IsTriedIn, BinsHoldNone};
 
-mod bin_at_work;
-mod bins_out;
 pub mod summary_tree;
 
-use crate::bins_at_work::bin_at_work::BinAtWork;
-use crate::bins_at_work::bins_out::BinsOut;
-use crate::bins_at_work::summary_tree::Passed;
+use crate::bins_at_work::summary_tree::{Passed, SummaryTree};
 use rectangle_pack_bins::target_bin::TargetBin;
-use rectangle_pack_bins::target_bin::lending::stand_in;
-use rectangle_pack_lists::free_list::End;
-use rectangle_pack_lists::trial::Trial;
+use rectangle_pack_bins::target_bin::lending::{put_sections, stand_in, take_sections};
+use rectangle_pack_lists::free_list::{End, FreeList};
+use rectangle_pack_lists::gap_list::summary::Summary;
+use rectangle_pack_lists::trial::{Trial, stuck_at_once};
 use rectangle_pack_sections::closures::Policy;
 use rectangle_pack_sections::packed_location::PackedLocation;
 use rectangle_pack_sections::rect_to_insert::RectToInsert;
@@ -33,28 +31,35 @@ use std::mem;
 // From how many bins on summaries of them are kept.
 const MANY: usize = 16;
 
-/// The bins of a packing. Those at the beginning of the order may be out of the map; there a bin
-/// without sections stands for each meanwhile.
+// How many sections a bin has at most that is summed in its map.
+const FEW: usize = 64;
+
+/// The bins of a packing. Some are out of the map; there a bin without sections stands for each
+/// meanwhile.
 #[derive(Drop)]
 pub struct BinsAtWork<'b, B: Ord, A: Allocator + Copy> {
     bins: BTreeMap<B, TargetBin<A>, A>,
     order: &'b [(u128, B)],
-    out: BinsOut<A>,
+    // For each index of the order, up to the last whose bin is out: that bin where it is out.
+    out: Vec<Option<BinAtWork<A>>, A>,
+    summaries: SummaryTree<A>,
     // How many boxes the packing has.
     boxes: usize,
     alloc: A,
 }
 
 impl<'b, B: Ord, A: Allocator + Copy> Model for BinsAtWork<'b, B, A> {
-    ghost use Rattle.std.specs.Prelude.{length};
     ghost use Rattle.rectangle_pack_sections.specs.Bins.{bins_of};
-    ghost use Rattle.rectangle_pack_packing.specs.private.BinsAtWork.{BinsInUse, in_use, CanCheckIn};
+    ghost use Rattle.rectangle_pack_lists.specs.declared.free_list.End.TheVariants.{Keep};
+    ghost use Rattle.rectangle_pack_packing.specs.private.BinsAtWork.{BinsInUse, in_use, checked_in, AreSummed, CanCheckIn};
 
     ghost Value = { BinsInUse B };
 
-    ghost view = { λ b. in_use B.cmp b.order.now b.out.all (bins_of b.bins.entries) };
+    ghost view = { λ b. in_use B.cmp b.order.now b.out.items (bins_of b.bins.entries) };
 
-    ghost invariant = { λ b. CanCheckIn B.cmp b.order.now b.out.all (bins_of b.bins.entries) };
+    ghost invariant = { λ b. CanCheckIn B.cmp b.order.now b.out.items (bins_of b.bins.entries) ×
+        AreSummed B.cmp b.order.now
+        (checked_in B.cmp Keep b.order.now b.out.items (bins_of b.bins.entries)) b.summaries };
 }
 
 impl<'b, B: Ord, A: Allocator + Copy> BinsAtWork<'b, B, A> {
@@ -69,7 +74,8 @@ impl<'b, B: Ord, A: Allocator + Copy> BinsAtWork<'b, B, A> {
         BinsAtWork {
             bins,
             order,
-            out: BinsOut::new(alloc),
+            out: Vec::new(alloc),
+            summaries: SummaryTree::new(alloc),
             boxes: 0,
             alloc,
         }
@@ -89,7 +95,7 @@ impl<'b, B: Ord, A: Allocator + Copy> BinsAtWork<'b, B, A> {
     {
         self.boxes = boxes;
         if groups > 1 && self.order.len() >= MANY {
-            self.out.make_summaries(self.order.len())?;
+            self.summaries.make_room(self.order.len())?;
         }
         Ok(())
     }
@@ -102,11 +108,11 @@ impl<'b, B: Ord, A: Allocator + Copy> BinsAtWork<'b, B, A> {
             (map (λ o. o.1) (take (result.index - from) (drop from self.now.order)))
             result.tests }
     {
-        self.out.next(from, &WidthHeightDepth::from(*first))
+        self.summaries.next(from, &WidthHeightDepth::from(*first))
     }
 
-    /// One trial in the bin at this index, which is out of its map then. Fails only when memory is
-    /// refused, and leaves the bins as they were.
+    /// One trial in the bin at this index, which is out of its map after one that is not stuck at
+    /// its first member. Fails only when memory is refused, and leaves the bins as they were.
     pub fn run_trial<R: Policy>(
         &mut self,
         index: usize,
@@ -125,38 +131,67 @@ impl<'b, B: Ord, A: Allocator + Copy> BinsAtWork<'b, B, A> {
         ensures start { self.new.start ≡ self.old.start }
         ensures order { self.new.order ≡ self.old.order }
     {
-        self.check_out_to(index)?;
-        self.out.run_trial(index, sizes, policy, locations)
+        if let Some(trial) = self.look(index, sizes) {
+            return Ok(trial);
+        }
+        self.check_out(index)?;
+        let bin = self.out[index].as_mut().unwrap();
+        let trial = bin.list.run_trial(sizes, policy, locations)?;
+        sum_anew(&mut self.summaries, index, &bin.list, trial.is_done);
+        Ok(trial)
     }
 
-    // Checks the bins out up to this index. Fails only when memory is refused.
-    fn check_out_to(&mut self, index: usize) -> Result<(), AllocError>
+    // Whether the bin at this index is out of its map.
+    fn is_out(&self, index: usize) -> bool
+        ensures { MatchBool result (IsSome (slice_index_or self.now.out index None))
+            (slice_index_or self.now.out index None ≡ None) }
+    {
+        index < self.out.len() && self.out[index].is_some()
+    }
+
+    // The trial in the bin at this index, where that is in its map and the trial is stuck at its
+    // first member. The bin is summed, where it was not. Takes no memory.
+    fn look(&mut self, index: usize, sizes: &[RectToInsert]) -> Option<Trial>
         requires { index < length self.old.order }
-        ensures now { self.new.now ≡ self.old.now }
-        ensures start { self.new.start ≡ self.old.start }
+        ensures same { self.new ≡ self.old }
+        ensures stuck { IfSome result
+            (λ trial.
+            (trial.is_done ≡ false) ×
+            (bin : Bin) ×
+            IsBinAt B.cmp self.old.order self.old.now index bin ×
+            IsStuckAtOnce bin.sections sizes.now trial.tests) }
+    {
+        if self.is_out(index) {
+            return None;
+        }
+        let order = self.order;
+        let (_, id) = &order[index];
+        let sections = self.bins.get(id).unwrap().available_bin_sections().as_slice();
+        let trial = stuck_at_once(sections, sizes)?;
+        if self.summaries.lacks(index) && sections.len() <= FEW {
+            self.summaries.put(index, Some(Summary::of_sections(sections)));
+        }
+        Some(trial)
+    }
+
+    // Checks the bin at this index out, where it is in its map. Fails only when memory is refused.
+    fn check_out(&mut self, index: usize) -> Result<(), AllocError>
+        requires { index < length self.old.order }
+        ensures left { (end : End) → left_of end self.new ≡ left_of end self.old }
         ensures order { self.new.order ≡ self.old.order }
-        ensures out { OnOk result (index < self.new.out) }
+        ensures out { OnOk result (IsSome (slice_index_or self.new.out index None)) }
     {
         while self.out.len() <= index {
-            self.check_out()?;
+            self.out.push(None)?;
         }
-        Ok(())
-    }
-
-    // Checks the next bin out. Fails only when memory is refused.
-    fn check_out(&mut self) -> Result<(), AllocError>
-        requires { self.old.out < length self.old.order }
-        ensures now { self.new.now ≡ self.old.now }
-        ensures start { self.new.start ≡ self.old.start }
-        ensures order { self.new.order ≡ self.old.order }
-        ensures out { OnOk result (self.new.out ≡ self.old.out + 1) }
-    {
-        self.out.reserve_one()?;
+        if self.out[index].is_some() {
+            return Ok(());
+        }
         let order = self.order;
-        let (_, id) = &order[self.out.len()];
+        let (_, id) = &order[index];
         let bin = self.bins.get_mut(id).unwrap();
         let bin = mem::replace(bin, stand_in(self.alloc));
-        self.out.push_reserved(BinAtWork::new(bin, self.boxes));
+        self.out[index] = Some(BinAtWork::new(bin, self.boxes));
         Ok(())
     }
 
@@ -167,14 +202,85 @@ impl<'b, B: Ord, A: Allocator + Copy> BinsAtWork<'b, B, A> {
         let BinsAtWork {
             mut bins,
             order,
-            out,
+            mut out,
             ..
         } = self;
-        let mut out = out.into_bins();
-        while let Some(bin) = out.pop() {
-            let (_, id) = &order[out.len()];
-            *bins.get_mut(id).unwrap() = bin.end(end);
+        while let Some(held) = out.pop() {
+            if let Some(bin) = held {
+                let (_, id) = &order[out.len()];
+                *bins.get_mut(id).unwrap() = bin.end(end);
+            }
         }
         bins
+    }
+}
+
+// Writes the summary of the bin at this index, which has this list, where there is room for it, and
+// either the list has changed or none is known.
+fn sum_anew<A: Allocator + Copy>(
+    summaries: &mut SummaryTree<A>,
+    index: usize,
+    list: &FreeList<A>,
+    is_changed: bool,
+)
+    ensures here { (is_changed ≡ false →
+        IfSome (slice_index_or summaries.old index None) (λ s. Bounds s (now_of list.now))) →
+        IfSome (slice_index_or summaries.new index None) (λ s. Bounds s (now_of list.now)) }
+    ensures elsewhere { (i : ℕ) → i ≢ index →
+        slice_index_or summaries.new i None ≡ slice_index_or summaries.old i None }
+{
+    if index < summaries.len() && (is_changed || summaries.lacks(index)) {
+        summaries.put(index, list.summary());
+    }
+}
+
+// A bin that is out of its map, and its free sections, which are out of it while the packing works
+// on them.
+#[derive(Drop)]
+struct BinAtWork<A: Allocator + Copy> {
+    bin: TargetBin<A>,
+    list: FreeList<A>,
+}
+
+impl<A: Allocator + Copy> Model for BinAtWork<A> {
+    ghost use Rattle.rectangle_pack_lists.specs.private.FreeLists.{now_of, start_of};
+    ghost use Rattle.std.specs.Prelude.{All};
+    ghost use Rattle.rectangle_pack_sections.specs.Bins.{IsSound};
+    ghost use Rattle.rectangle_pack_sections.specs.Boxes.{FitsU32};
+    ghost use Rattle.rectangle_pack_packing.specs.private.BinsAtWork.{AtWork};
+
+    ghost Value = { AtWork };
+
+    ghost view = { λ b.
+        record {
+          start = record b.bin.bin { sections = start_of b.list };
+          now = record b.bin.bin { sections = now_of b.list };
+        } };
+
+    // The sections are sound, now and at the start.
+    ghost invariant = { λ b. IsSound b.bin.bin.size (start_of b.list) ×
+        IsSound b.bin.bin.size (now_of b.list) × All FitsU32 (now_of b.list) };
+}
+
+impl<A: Allocator + Copy> BinAtWork<A> {
+    // The bin as it is, in a packing of `boxes` boxes. Takes no memory.
+    fn new(bin: TargetBin<A>, boxes: usize) -> Self
+        ensures { result ≡ record { start = bin.bin; now = bin.bin } }
+    {
+        let mut bin = bin;
+        let sections = take_sections(&mut bin);
+        BinAtWork {
+            bin,
+            list: FreeList::new(sections, boxes),
+        }
+    }
+
+    // The bin at the end. Takes no memory.
+    fn end(self, end: End) -> TargetBin<A>
+        ensures { result.bin ≡ left_at end self }
+    {
+        let BinAtWork { mut bin, list } = self;
+        put_sections(&mut bin, list.into_sections(end));
+        bin
     }
 }

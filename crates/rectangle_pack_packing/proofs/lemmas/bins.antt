@@ -1,5 +1,3 @@
--- The bins of a packing: SummaryTrees and BinsOut are for bins that are passed over, BinsAtWork for those that are out of
--- their map.
+-- The bins of a packing: SummaryTrees is for bins that are passed over, BinsAtWork for those that are out of their map.
 pub mod SummaryTrees
-pub mod BinsOut
 pub mod BinsAtWork

@@ -7,7 +7,7 @@ use Rattle.rectangle_pack_sections.specs.Boxes.{Size}
 use Rattle.rectangle_pack_sections.specs.Bins.{Bin}
 use Rattle.rectangle_pack_lists.specs.Numbers.{saturated}
 use Rattle.rectangle_pack_packing.specs.private.Excluded.{are_in}
-use Rattle.rectangle_pack_packing.specs.private.BinsOut.{BinHoldsNone}
+use Rattle.rectangle_pack_packing.specs.private.BinsAtWork.{BinHoldsNone}
 
 -- the bin of this id is not excluded for a group, and none of its sections holds the first member; so many sections stand in it
 pub record IsPassedOver {B : Type 0} (cmp : B → B → Ordering) (excluded : List (Bor B)) (bins : List (B × Bin)) (members : List Size) (id : B) (tests : ℕ)

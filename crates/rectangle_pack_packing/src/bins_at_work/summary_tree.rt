@@ -1,6 +1,7 @@
 //! The summaries of the bins of a packing, in a tree: the search for the next bin that may hold a
 //! box.
-ghost use Rattle.std.specs.Prelude.{◌≡◌, ◌+◌, ◌*◌, ◌-◌, ◌/◌, ◌<◌, ◌≤◌, ◌^◌, ℕ, None, All, IfSome, length, take, drop, set};
+ghost use Rattle.std.specs.Prelude.{◌≡◌, ◌+◌, ◌*◌, ◌-◌, ◌/◌, ◌<◌, ◌≤◌, ◌^◌, ◌≢◌, ℕ, None, IfSome, length, take, drop, set, slice_index_or};
+ghost use Rattle.std.specs.Bool.{OnTrue};
 ghost use Rattle.rectangle_pack_packing.specs.private.SummaryTrees.{IsAbove, IsTree, IsStretch, RuleOut};
 
 use rectangle_pack_lists::gap_list::summary::Summary;
@@ -83,7 +84,7 @@ impl Stretch {
 impl<A: Allocator + Copy> SummaryTree<A> {
     // A tree of no bins. Takes no memory.
     pub(crate) fn new(alloc: A) -> Self
-        ensures { length result ≡ 0 }
+        ensures { (i : ℕ) → slice_index_or result i None ≡ None }
     {
         SummaryTree {
             nodes: Vec::new(alloc),
@@ -92,14 +93,15 @@ impl<A: Allocator + Copy> SummaryTree<A> {
 
     // How many bins there is room for.
     pub(crate) fn len(&self) -> usize
-        ensures { result ≡ length self.now }
+        ensures bins { result ≡ length self.now }
+        ensures small { result + result < 2 ^ 64 }
     {
         self.nodes.len() / 2
     }
 
     // Makes room for `bins` bins, of which nothing is known. Fails only when memory is refused.
     pub(crate) fn make_room(&mut self, bins: usize) -> Result<(), AllocError>
-        ensures { All (λ s. s ≡ None) self.new }
+        ensures { (i : ℕ) → slice_index_or self.new i None ≡ None }
     {
         self.nodes.clear();
         let nodes = bins.checked_mul(2).ok_or(AllocError)?;
@@ -107,22 +109,29 @@ impl<A: Allocator + Copy> SummaryTree<A> {
         Ok(())
     }
 
+    // Whether there is room for a summary of the bin at this index, and none is known.
+    pub(crate) fn lacks(&self, index: usize) -> bool
+        ensures { OnTrue result (index < length self.now) }
+    {
+        index < self.len() && self.nodes[self.len() + index].is_none()
+    }
+
     // Writes the summary of the bin at this index. Takes no memory.
     pub(crate) fn put(&mut self, index: usize, summary: Option<Summary>)
         requires { index < length self.old }
-        ensures { self.new ≡ set self.old index summary }
+        ensures here { slice_index_or self.new index None ≡ summary }
+        ensures elsewhere { (i : ℕ) → i ≢ index →
+            slice_index_or self.new i None ≡ slice_index_or self.old i None }
     {
         let leaf = self.nodes.len() / 2 + index;
         write(&mut self.nodes, leaf, summary);
     }
 
-    // Passes over bins from this index on, up to an end, as long as the summaries show that none of
-    // their sections holds the size.
-    pub(crate) fn next(&self, from: usize, end: usize, size: &WidthHeightDepth) -> Passed
-        requires from { from ≤ end }
-        requires end { end ≤ length self.now }
+    // Passes over bins from this index on, as long as the summaries show that none of their sections
+    // holds the size.
+    pub(crate) fn next(&self, from: usize, size: &WidthHeightDepth) -> Passed
         ensures from { from ≤ result.index }
-        ensures end { result.index ≤ end }
+        ensures end { from < result.index → result.index ≤ length self.now }
         ensures passed { RuleOut (take (result.index - from) (drop from self.now)) size.now
             result.tests }
     {
@@ -130,12 +139,16 @@ impl<A: Allocator + Copy> SummaryTree<A> {
             index: from,
             tests: 0,
         };
+        let end = self.len();
+        if from >= end {
+            return passed;
+        }
         let mut stretch = Stretch {
-            node: self.nodes.len() / 2 + from,
+            node: end + from,
             width: 1,
         };
         while passed.index < end {
-            match self.pass(&passed, &stretch, end, size) {
+            match self.pass(&passed, &stretch, size) {
                 Some(next) => {
                     passed = next;
                     stretch = stretch.after();
@@ -151,29 +164,22 @@ impl<A: Allocator + Copy> SummaryTree<A> {
         passed
     }
 
-    // Passes over the stretch too, where it does not go beyond the end and its summary shows that
-    // no section there holds the size.
+    // Passes over the stretch too, where it does not go beyond the last bin and its summary shows
+    // that no section there holds the size.
     #[inline(always)]
-    fn pass(
-        &self,
-        passed: &Passed,
-        stretch: &Stretch,
-        end: usize,
-        size: &WidthHeightDepth,
-    ) -> Option<Passed>
+    fn pass(&self, passed: &Passed, stretch: &Stretch, size: &WidthHeightDepth) -> Option<Passed>
         requires at { IsStretch (length self.now + passed.now.index) stretch.now.node
             stretch.now.width }
-        requires before { passed.now.index < end }
-        requires end { end ≤ length self.now }
+        requires before { passed.now.index < length self.now }
         ensures index { IfSome result (λ p. p.index ≡ passed.now.index + stretch.now.width) }
-        ensures end { IfSome result (λ p. p.index ≤ end) }
+        ensures end { IfSome result (λ p. p.index ≤ length self.now) }
         ensures passed { (from : ℕ) → from ≤ passed.now.index →
             RuleOut (take (passed.now.index - from) (drop from self.now)) size.now
             passed.now.tests →
             IfSome result
             (λ p. RuleOut (take (p.index - from) (drop from self.now)) size.now p.tests) }
     {
-        if end - passed.index < stretch.width {
+        if self.len() - passed.index < stretch.width {
             return None;
         }
         let summary = self.nodes[stretch.node]?;

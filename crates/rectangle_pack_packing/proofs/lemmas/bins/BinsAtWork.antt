@@ -1,37 +1,35 @@
--- Bins that are checked out of their map, and checked in.
-use Rattle.rectangle_pack_sections.proofs.Std.{◌≡◌, ◌≤◌, ℕ, suc, zero, ◌<◌, List, [], ◌∷◌, ◌++◌, length, refl, ap, sym, ◌∙◌, true, false, Bool, arith, get_or}
-use Rattle.rectangle_pack_sections.proofs.Std.{Option, Some, None, IsSome, All, map, set, Ordering, is_eq, eq_by_cmp, IsTotalOrder, Equal-is, IsDistinct}
+-- Bins that are checked out of their map, and checked in, and the summaries of bins.
+use Rattle.rectangle_pack_sections.proofs.Std.{◌≡◌, ◌≢◌, ◌≤◌, ℕ, suc, zero, ◌<◌, List, [], ◌∷◌, ◌++◌, length, refl, ap, sym, ◌∙◌, true, false, Bool, arith, get_or}
+use Rattle.rectangle_pack_sections.proofs.Std.{Option, Some, None, IsSome, IfSome, map, set, Ordering, is_eq, eq_by_cmp, IsTotalOrder, Equal-is, IsDistinct}
 use Rattle.rectangle_pack_sections.proofs.Std.{AllByRecursion, lookup, set_value, keys_of, is_at, keys-set_value, IsDistinct-head, IsDistinct-tail}
-use Rattle.rectangle_pack_sections.proofs.Std.{set_value_same, inl, inr, cases_Bool, set-get_or, length-append, take, drop, ◌+◌, sum_by, sum_by-cons, All-head, All-tail}
-use Rattle.rectangle_pack_sections.specs.Boxes.{Size, Holds}
+use Rattle.rectangle_pack_sections.proofs.Std.{set_value_same, inl, inr, cases_Bool, cases_order, cases_eq, set-get_or, take, drop, ◌+◌, sum_by-cons, get_or_default}
+use Rattle.rectangle_pack_sections.proofs.Std.{Ok}
+use Rattle.rectangle_pack_sections.specs.Boxes.{Size, Cuboid}
 use Rattle.rectangle_pack_sections.specs.Bins.{Bin}
-use Rattle.rectangle_pack_lists.proofs.lemmas.util.Stretches.{drop-head, drop-some}
-use Rattle.rectangle_pack_packing.specs.private.BinsOut.{OutHoldNone, BinsHoldNone}
-use Rattle.rectangle_pack_packing.specs.private.BinsAtWork.{AtWork, left_at, checked_in, BinsInUse, in_use, left_of, CanCheckIn, IsTriedIn}
+use Rattle.rectangle_pack_sections.specs.Closures.{Answers}
 use Rattle.rectangle_pack_lists.specs.declared.free_list.End.{End}
 use Rattle.rectangle_pack_lists.specs.declared.free_list.End.TheVariants.{Keep, Undo}
-use Rattle.rectangle_pack_sections.proofs.lemmas.util.Maps.{is_at-back, is_some-keys, set_value-twice, lookup-set_here}
+use Rattle.rectangle_pack_lists.specs.declared.gap_list.summary.Summary.{Summary}
+use Rattle.rectangle_pack_lists.specs.declared.trial.Trial.{Trial}
+use Rattle.rectangle_pack_lists.specs.private.FreeLists.{IsTried, IsStuckAtOnce}
+use Rattle.rectangle_pack_lists.specs.private.Summaries.{Bounds}
+use Rattle.rectangle_pack_lists.proofs.lemmas.trial.Summaries.{none-bounded}
+use Rattle.rectangle_pack_lists.proofs.lemmas.util.Stretches.{drop-head, drop-some}
+use Rattle.rectangle_pack_packing.specs.private.BinsAtWork.{AtWork, left_at, put_back, checked_in, BinsInUse, in_use, left_of, CanCheckIn}
+use Rattle.rectangle_pack_packing.specs.private.BinsAtWork.{IsBinAt, AreSummed, IsTriedIn, BinsHoldNone}
+use Rattle.rectangle_pack_packing.specs.private.SummaryTrees.{RuleOut}
+use Rattle.rectangle_pack_sections.proofs.lemmas.util.Maps.{is_at-back, is_some-keys, set_value-twice, lookup-set_here, lookup-written}
 
 -- a bin that was not changed goes back as it was
 left_at-new : (end : End) (bin : Bin) → left_at end (record { start = bin; now = bin }) ≡ bin
 left_at-new Keep bin = refl
 left_at-new Undo bin = refl
 
--- one more is within a bound that is past those before it
-pub within-pushed : {X : Type 0} (xs : List X) (x : X) (n : ℕ) → length xs < n → length (xs ++ x ∷ []) ≤ n
-within-pushed xs x n past = omega (arith, past, length-append xs (x ∷ []))
-
 -- what is left of the bins that are in use
-pub left_of-in_use : {B : Type 0} (cmp : B → B → Ordering) (end : End) (order : List (ℕ × B)) (out : List AtWork) (es : List (B × Bin))
+pub left_of-in_use : {B : Type 0} (cmp : B → B → Ordering) (end : End) (order : List (ℕ × B)) (out : List (Option AtWork)) (es : List (B × Bin))
     → left_of end (in_use cmp order out es) ≡ checked_in cmp end order out es
 left_of-in_use cmp Keep order out es = refl
 left_of-in_use cmp Undo order out es = refl
-
--- where none is out, none is to be checked in
-pub checked_in-none : {B : Type 0} (cmp : B → B → Ordering) (end : End) (order : List (ℕ × B)) (out : List AtWork) (es : List (B × Bin))
-    → length out ≡ 0 → checked_in cmp end order out es ≡ es
-checked_in-none cmp end order [] es none = refl
-checked_in-none cmp end order (a ∷ out) es none = absurd (omega (arith, none))
 
 -- the parts of bins in use
 pub parts : {B : Type 0} {new old : BinsInUse B} → new ≡ old → (new.now ≡ old.now) × (new.start ≡ old.start) × (new.order ≡ old.order) × (new.out ≡ old.out)
@@ -42,13 +40,44 @@ parts {B} same = (
   ap (λ (b : BinsInUse B). b.out) same,
 )
 
-pub CanCheckIn-none : {B : Type 0} (cmp : B → B → Ordering) (order : List (ℕ × B)) (out : List AtWork) (es : List (B × Bin)) → out ≡ []
-    → All (λ o. IsSome (lookup (is_at (cmp o.1)) es)) order → IsDistinct (eq_by_cmp cmp) (map (λ (o : ℕ × B). o.1) order) → CanCheckIn cmp order out es
-CanCheckIn-none cmp order out es none found distinct = record { found = found; distinct = distinct; within = rw none (omega arith) }
+-- where none is out, none is to be checked in
+pub checked_in-none : {B : Type 0} (cmp : B → B → Ordering) (end : End) (order : List (ℕ × B)) (out : List (Option AtWork)) (es : List (B × Bin))
+    → length out ≡ 0 → checked_in cmp end order out es ≡ es
+checked_in-none cmp end [] out es none = refl
+checked_in-none cmp end (x ∷ order) [] es none = refl
+checked_in-none cmp end (x ∷ order) (a ∷ out) es none = absurd (omega (arith, none))
 
--- bins can be checked in where values alone were written in the map, and there are no more of them than ids
-pub CanCheckIn-written : {B : Type 0} {cmp : B → B → Ordering} {order : List (ℕ × B)} {out : List AtWork} {es : List (B × Bin)} (later : List AtWork)
-    (fs : List (B × Bin))
+-- nor at a place at which nothing stands
+pub checked_in-place : {B : Type 0} (cmp : B → B → Ordering) (end : End) (order : List (ℕ × B)) (out : List (Option AtWork)) (es : List (B × Bin))
+    → checked_in cmp end order (out ++ None ∷ []) es ≡ checked_in cmp end order out es
+checked_in-place cmp end [] out es = refl
+checked_in-place cmp end (x ∷ order) [] es = checked_in-none cmp end order [] es refl
+checked_in-place cmp end (x ∷ order) (a ∷ out) es = ap (put_back cmp end x.1 a) (checked_in-place cmp end order out es)
+
+-- what stands last is checked in first
+pub checked_in-last : {B : Type 0} (cmp : B → B → Ordering) (end : End) (order : List (ℕ × B)) (out : List (Option AtWork)) (es : List (B × Bin))
+    (held : Option AtWork) (o : ℕ × B) → length out < length order → o ≡ get_or order (length out) o
+    → checked_in cmp end order out (put_back cmp end o.1 held es) ≡ checked_in cmp end order (out ++ held ∷ []) es
+checked_in-last cmp end [] out es held o within is = absurd (omega arith)
+checked_in-last cmp end (x ∷ order) [] es held o within is = rw (is, checked_in-none cmp end order [] es refl) refl
+checked_in-last cmp end (x ∷ order) (a ∷ out) es held o within is =
+    ap (put_back cmp end x.1 a) (checked_in-last cmp end order out es held o (omega arith) is)
+
+-- a bin that is out stands within the list
+pub is_out-within : (out : List (Option AtWork)) (i : ℕ) → IsSome (get_or out i None) → i < length out
+is_out-within [] i some = absurd cc
+is_out-within (a ∷ out) zero some = omega arith
+is_out-within (a ∷ out) (suc i) some = omega (arith, is_out-within out i some)
+
+-- the entry at an index
+pub entry_at : {X : Type 0} (xs : List X) (i : ℕ) → i < length xs → (x : X) × (x ≡ get_or xs i x)
+entry_at [] i within = absurd (omega (arith, within))
+entry_at (x ∷ xs) zero within = (x, refl)
+entry_at (x ∷ xs) (suc i) within = entry_at xs i (omega (arith, within))
+
+-- bins can be checked in where values alone were written in the map, and what is out stands at indices of the order
+pub CanCheckIn-written : {B : Type 0} {cmp : B → B → Ordering} {order : List (ℕ × B)} {out : List (Option AtWork)} {es : List (B × Bin)}
+    (later : List (Option AtWork)) (fs : List (B × Bin))
     → keys_of fs ≡ keys_of es → length later ≤ length order → CanCheckIn cmp order out es → CanCheckIn cmp order later fs
 CanCheckIn-written {cmp = cmp} {order = order} {es = es} later fs keys within can = record {
   found = λ k d low. is_some-keys (is_at (cmp (get_or order k d).1)) fs es keys ∙ can.found k d low;
@@ -56,14 +85,57 @@ CanCheckIn-written {cmp = cmp} {order = order} {es = es} later fs keys within ca
   within = within;
 }
 
--- one more bin is the last one written
-pub checked_in-push : {B : Type 0} (cmp : B → B → Ordering) (end : End) (order : List (ℕ × B)) (out : List AtWork) (es : List (B × Bin)) (h : AtWork) (o : ℕ × B)
-    → length out < length order → o ≡ get_or order (length out) o
-    → checked_in cmp end order (out ++ h ∷ []) es ≡ set_value (is_at (cmp o.1)) (checked_in cmp end order out es) (left_at end h)
-checked_in-push cmp end [] out es h o within is = absurd (omega arith)
-checked_in-push cmp end (x ∷ order) [] es h o within is = rw is refl
-checked_in-push cmp end (x ∷ order) (a ∷ out) es h o within is =
-    checked_in-push cmp end order out (set_value (is_at (cmp x.1)) es (left_at end a)) h o (omega arith) is
+-- a trial that is stuck at its first member leaves the bin
+pub IsTriedIn-stuck : {B : Type 0} (cmp : B → B → Ordering) (id : B) (bins : List (B × Bin)) (bin : Bin) → lookup (is_at (cmp id)) bins ≡ Some bin
+    → IsTriedIn cmp id bins bin bin bins
+IsTriedIn-stuck cmp id bins bin found = record { found = found; rest = refl; written = sym (set_value_same (is_at (cmp id)) bins bin found) }
+
+pub IsTried-stuck : (E : Type 0) (may : Answers) (sections : List Cuboid) (members : List Size) (trial : Trial) (locations : List Cuboid)
+    → trial.is_done ≡ false → IsStuckAtOnce sections members trial.tests → IsTried {E = E} may sections members (Ok trial) locations sections
+IsTried-stuck E may sections members trial locations not_done stuck = rw (not_done, stuck.members_are) (inl (stuck.none, stuck.tests_are), refl)
+
+-- where no summary is known, none is wrong
+pub AreSummed-unknown : {B : Type 0} (cmp : B → B → Ordering) (order : List (ℕ × B)) (bins : List (B × Bin)) (summaries : List (Option Summary))
+    → ((i : ℕ) → get_or summaries i None ≡ None) → AreSummed cmp order bins summaries
+AreSummed-unknown cmp order bins summaries none = λ i. rw (none i) tt
+
+weaker : {X : Type 0} {P Q : X → Type 0} (found : Option X) → ((x : X) → P x → Q x) → IfSome found P → IfSome found Q
+weaker None f p = tt
+weaker (Some x) f p = f x p
+
+-- bins whose summaries rule a size out hold it nowhere
+pub BinsHoldNone-ruled : {B : Type 0} (cmp : B → B → Ordering) (order : List (ℕ × B)) (bins : List (B × Bin)) (summaries : List (Option Summary)) (size : Size)
+    (n from tests : ℕ) (here : List (Option Summary)) (ids : List (ℕ × B)) → AreSummed cmp order bins summaries
+    → (0 < n → from + n ≤ length summaries) → drop from summaries ≡ here → drop from order ≡ ids → RuleOut (take n here) size tests
+    → BinsHoldNone cmp bins size (map (λ (x : ℕ × B). x.1) (take n ids)) tests
+BinsHoldNone-ruled cmp order bins summaries size zero from tests here ids summed within s at out = record { counts = []; each = tt; tests_are = out }
+BinsHoldNone-ruled cmp order bins summaries size (suc n) from tests [] ids summed within s at out =
+    absurd (drop-some summaries from n s (within (omega arith)))
+BinsHoldNone-ruled cmp order bins summaries size (suc n) from tests (None ∷ here) ids summed within s at out = absurd out
+BinsHoldNone-ruled cmp order bins summaries size (suc n) from tests (Some summary ∷ here) [] summed within s at out =
+    let its = drop-head summaries from (Some summary) here s in
+    let known : get_or summaries from None ≡ Some summary = get_or_default summaries from None (Some summary) its.0 ∙ sym its.1 in
+    let this = rw known at (summed from) in
+    absurd (drop-some order from 0 at (omega (arith, this.1.within)))
+BinsHoldNone-ruled cmp order bins summaries size (suc n) from tests (Some summary ∷ here) (o ∷ ids) summed within s at out =
+    let its = drop-head summaries from (Some summary) here s in
+    let known : get_or summaries from None ≡ Some summary = get_or_default summaries from None (Some summary) its.0 ∙ sym its.1 in
+    let this = rw known at (summed from) in
+    let head = drop-head order from o ids at in
+    let rest = BinsHoldNone-ruled cmp order bins summaries size n (suc from) out.1 here ids summed (λ some. omega (arith, within (omega arith))) its.2 head.2 out.2 in
+    record {
+      counts = summary.count ∷ rest.counts;
+      each = (
+        record {
+          bin = this.0;
+          found = this.1.found o head.1;
+          none = none-bounded summary this.0.sections size this.2 out.0;
+          tests_are = this.2.count;
+        },
+        rest.each,
+      );
+      tests_are = omega (arith, out.3, rest.tests_are, sum_by-cons (λ k. k) summary.count rest.counts);
+    }
 
 module _ {B : Type 0} {cmp : B → B → Ordering} (total : IsTotalOrder cmp) where
   -- the ids of the order differ
@@ -95,27 +167,17 @@ module _ {B : Type 0} {cmp : B → B → Ordering} (total : IsTotalOrder cmp) wh
     | inr off ↦ simp (off, lookup-elsewhere a b apart es v)
   ]
 
-  -- no bin that is out has this id
-  abbrev pub IsNotOut : B → List (ℕ × B) → List AtWork → Type 0
-  IsNotOut id order [] = Unit {0}
-  IsNotOut id [] (h ∷ out) = Unit {0}
-  IsNotOut id (o ∷ order) (h ∷ out) = (is_at (cmp o.1) id ≡ false) × IsNotOut id order out
+  -- what is checked in, and a write at another id, in either order
+  put_back-swap : (end : End) (a b : B) → is_at (cmp a) b ≡ false → (held : Option AtWork) (es : List (B × Bin)) (w : Bin)
+      → put_back cmp end a held (set_value (is_at (cmp b)) es w) ≡ set_value (is_at (cmp b)) (put_back cmp end a held es) w
+  put_back-swap end a b apart None es w = refl
+  put_back-swap end a b apart (Some h) es w = set_value-swap a b apart es w (left_at end h)
 
-  -- then what is written at the id is written in the map
-  pub checked_in-written : (end : End) (id : B) (order : List (ℕ × B)) (out : List AtWork) (es : List (B × Bin)) (w : Bin) → IsNotOut id order out
-      → checked_in cmp end order out (set_value (is_at (cmp id)) es w) ≡ set_value (is_at (cmp id)) (checked_in cmp end order out es) w
-  checked_in-written end id order [] es w h = refl
-  checked_in-written end id [] (a ∷ out) es w h = refl
-  checked_in-written end id (o ∷ order) (a ∷ out) es w h =
-      rw (set_value-swap o.1 id h.0 es w (left_at end a)) (checked_in-written end id order out (set_value (is_at (cmp o.1)) es (left_at end a)) w h.1)
-
-  -- and what is found there is found in the map
-  pub lookup-checked_in : (end : End) (id : B) (order : List (ℕ × B)) (out : List AtWork) (es : List (B × Bin)) → IsNotOut id order out
-      → lookup (is_at (cmp id)) (checked_in cmp end order out es) ≡ lookup (is_at (cmp id)) es
-  lookup-checked_in end id order [] es h = refl
-  lookup-checked_in end id [] (a ∷ out) es h = refl
-  lookup-checked_in end id (o ∷ order) (a ∷ out) es h =
-      lookup-checked_in end id order out (set_value (is_at (cmp o.1)) es (left_at end a)) h.1 ∙ lookup-elsewhere o.1 id h.0 es (left_at end a)
+  -- a write at the same id is all that is left
+  put_back-twice : (end : End) (a : B) (held : Option AtWork) (es : List (B × Bin)) (w : Bin)
+      → set_value (is_at (cmp a)) es w ≡ set_value (is_at (cmp a)) (put_back cmp end a held es) w
+  put_back-twice end a None es w = refl
+  put_back-twice end a (Some h) es w = sym (set_value-twice (is_at (cmp a)) es (left_at end h) w)
 
   apart-at : (id : B) (order : List (ℕ × B)) (i : ℕ) (o : ℕ × B) → AllByRecursion (λ y. eq_by_cmp cmp id y ≡ false) (map (λ (x : ℕ × B). x.1) order)
       → i < length order → o ≡ get_or order i o → is_at (cmp id) o.1 ≡ false
@@ -123,45 +185,53 @@ module _ {B : Type 0} {cmp : B → B → Ordering} (total : IsTotalOrder cmp) wh
   apart-at id (x ∷ order) zero o apart within is = rw is apart.0
   apart-at id (x ∷ order) (suc i) o apart within is = apart-at id order i o apart.1 (omega arith) is
 
-  -- of an order of distinct ids, the bins from here on are not out
-  pub IsNotOut-later : (order : List (ℕ × B)) (out : List AtWork) (i : ℕ) (o : ℕ × B) → Differ order → length out ≤ i → i < length order → o ≡ get_or order i o
-      → IsNotOut o.1 order out
-  IsNotOut-later order [] i o distinct le within is = tt
-  IsNotOut-later [] (a ∷ out) i o distinct le within is = tt
-  IsNotOut-later (x ∷ order) (a ∷ out) zero o distinct le within is = absurd (omega arith)
-  IsNotOut-later (x ∷ order) (a ∷ out) (suc i) o distinct le within is = (
-    apart-at x.1 order i o (IsDistinct-head _ _ _ distinct) (omega arith) is,
-    IsNotOut-later order out i o (IsDistinct-tail _ _ _ distinct) (omega arith) (omega arith) is,
-  )
+  -- ids at two indices differ
+  differ-at : (order : List (ℕ × B)) (i j : ℕ) (o p : ℕ × B) → Differ order → i < j → j < length order → o ≡ get_or order i o → p ≡ get_or order j p
+      → is_at (cmp o.1) p.1 ≡ false
+  differ-at [] i j o p distinct before within is there = absurd (omega arith)
+  differ-at (x ∷ order) i zero o p distinct before within is there = absurd (omega arith)
+  differ-at (x ∷ order) zero (suc j) o p distinct before within is there = rw is (apart-at x.1 order j p (IsDistinct-head _ _ _ distinct) (omega arith) there)
+  differ-at (x ∷ order) (suc i) (suc j) o p distinct before within is there =
+      differ-at order i j o p (IsDistinct-tail _ _ _ distinct) (omega arith) (omega arith) is there
 
-  -- nor is one whose id is not among those of the order
-  IsNotOut-apart : (id : B) (order : List (ℕ × B)) (out : List AtWork) → AllByRecursion (λ y. eq_by_cmp cmp id y ≡ false) (map (λ (x : ℕ × B). x.1) order)
-      → IsNotOut id order out
-  IsNotOut-apart id order [] apart = tt
-  IsNotOut-apart id [] (a ∷ out) apart = tt
-  IsNotOut-apart id (o ∷ order) (a ∷ out) apart = (is_at-back total o.1 id ∙ apart.0, IsNotOut-apart id order out apart.1)
+  -- what is written at an id that is not in the order is written in the map
+  checked_in-apart : (end : End) (id : B) (order : List (ℕ × B)) (out : List (Option AtWork)) (es : List (B × Bin)) (w : Bin)
+      → AllByRecursion (λ y. eq_by_cmp cmp id y ≡ false) (map (λ (x : ℕ × B). x.1) order)
+      → checked_in cmp end order out (set_value (is_at (cmp id)) es w) ≡ set_value (is_at (cmp id)) (checked_in cmp end order out es) w
+  checked_in-apart end id [] out es w apart = refl
+  checked_in-apart end id (x ∷ order) [] es w apart = refl
+  checked_in-apart end id (x ∷ order) (a ∷ out) es w apart =
+      ap (put_back cmp end x.1 a) (checked_in-apart end id order out es w apart.1) ∙ put_back-swap end x.1 id (is_at-back total x.1 id ∙ apart.0) a _ w
 
-  -- the next bin is checked out, and another is written under its id: with all bins checked in, the map stays
-  pub checked_in-out : (end : End) (order : List (ℕ × B)) (out : List AtWork) (es : List (B × Bin)) (o : ℕ × B) (bin other : Bin)
-      → Differ order → length out < length order → o ≡ get_or order (length out) o
-      → lookup (is_at (cmp o.1)) es ≡ Some bin
-      → checked_in cmp end order (out ++ record { start = bin; now = bin } ∷ []) (set_value (is_at (cmp o.1)) es other) ≡ checked_in cmp end order out es
-  checked_in-out end order out es o bin other distinct within is found =
-      let place = IsNotOut-later order out (length out) o distinct (omega arith) within is in
-      let test = is_at (cmp o.1) in
-      checked_in-push cmp end order out (set_value test es other) (record { start = bin; now = bin }) o within is
-      ∙ ap (λ h. set_value test (checked_in cmp end order out (set_value test es other)) h) (left_at-new end bin)
-      ∙ ap (λ es. set_value test es bin) (checked_in-written end o.1 order out es other place)
-      ∙ set_value-twice test (checked_in cmp end order out es) other bin
-      ∙ set_value_same test (checked_in cmp end order out es) bin (lookup-checked_in end o.1 order out es place ∙ found)
+  -- and so is what is written at the id of an index where no bin is out
+  checked_in-written : (end : End) (order : List (ℕ × B)) (out : List (Option AtWork)) (es : List (B × Bin)) (i : ℕ) (o : ℕ × B) (w : Bin)
+      → Differ order → i < length order → o ≡ get_or order i o → get_or out i None ≡ None
+      → checked_in cmp end order out (set_value (is_at (cmp o.1)) es w) ≡ set_value (is_at (cmp o.1)) (checked_in cmp end order out es) w
+  checked_in-written end [] out es i o w distinct within is none = refl
+  checked_in-written end (x ∷ order) [] es i o w distinct within is none = refl
+  checked_in-written end (x ∷ order) (a ∷ out) es zero o w distinct within is none =
+      rw (none, is) (checked_in-apart end x.1 order out es w (IsDistinct-head _ _ _ distinct))
+  checked_in-written end (x ∷ order) (a ∷ out) es (suc i) o w distinct within is none =
+      ap (put_back cmp end x.1 a) (checked_in-written end order out es i o w (IsDistinct-tail _ _ _ distinct) (omega arith) is none)
+      ∙ put_back-swap end x.1 o.1 (apart-at x.1 order i o (IsDistinct-head _ _ _ distinct) (omega arith) is) a _ w
 
-  -- the last one is checked in
-  pub checked_in-last : (end : End) (order : List (ℕ × B)) (out : List AtWork) (es : List (B × Bin)) (o : ℕ × B) (last : AtWork)
-      → Differ order → length out < length order → o ≡ get_or order (length out) o
-      → checked_in cmp end order out (set_value (is_at (cmp o.1)) es (left_at end last)) ≡ checked_in cmp end order (out ++ last ∷ []) es
-  checked_in-last end order out es o last distinct within is =
-      checked_in-written end o.1 order out es (left_at end last) (IsNotOut-later order out (length out) o distinct (omega arith) within is)
-      ∙ sym (checked_in-push cmp end order out es last o within is)
+  -- a bin that stands in the list is written at its id
+  pub checked_in-set : (end : End) (order : List (ℕ × B)) (out : List (Option AtWork)) (es : List (B × Bin)) (i : ℕ) (o : ℕ × B) (w : AtWork)
+      → Differ order → i < length out → i < length order → o ≡ get_or order i o
+      → checked_in cmp end order (set out i (Some w)) es ≡ set_value (is_at (cmp o.1)) (checked_in cmp end order out es) (left_at end w)
+  checked_in-set end [] out es i o w distinct within in_order is = absurd (omega arith)
+  checked_in-set end (x ∷ order) [] es i o w distinct within in_order is = absurd (omega arith)
+  checked_in-set end (x ∷ order) (a ∷ out) es zero o w distinct within in_order is =
+      rw is (put_back-twice end x.1 a (checked_in cmp end order out es) (left_at end w))
+  checked_in-set end (x ∷ order) (a ∷ out) es (suc i) o w distinct within in_order is =
+      ap (put_back cmp end x.1 a) (checked_in-set end order out es i o w (IsDistinct-tail _ _ _ distinct) (omega arith) (omega arith) is)
+      ∙ put_back-swap end x.1 o.1 (apart-at x.1 order i o (IsDistinct-head _ _ _ distinct) (omega arith) is) a _ (left_at end w)
+
+  keys-checked_in : (end : End) (order : List (ℕ × B)) (out : List (Option AtWork)) (es : List (B × Bin)) → keys_of (checked_in cmp end order out es) ≡ keys_of es
+  keys-checked_in end [] out es = refl
+  keys-checked_in end (x ∷ order) [] es = refl
+  keys-checked_in end (x ∷ order) (None ∷ out) es = keys-checked_in end order out es
+  keys-checked_in end (x ∷ order) (Some a ∷ out) es = keys-set_value (is_at (cmp x.1)) _ (left_at end a) ∙ keys-checked_in end order out es
 
   found-written : (test : B → Bool) (es : List (B × Bin)) (w : Bin) → IsSome (lookup test es) → lookup test (set_value test es w) ≡ Some w
   found-written test es w there = at (lookup test es) refl there
@@ -170,98 +240,104 @@ module _ {B : Type 0} {cmp : B → B → Ordering} (total : IsTotalOrder cmp) wh
       at None is some = absurd cc
       at (Some v) is some = lookup-set_here test es v w is
 
-  -- what is written in the list of bins that are out is written at the bin's id
-  pub checked_in-set : (end : End) (order : List (ℕ × B)) (out : List AtWork) (es : List (B × Bin)) (i : ℕ) (o : ℕ × B) (w : AtWork)
-      → Differ order → i < length out → i < length order → o ≡ get_or order i o
-      → checked_in cmp end order (set out i w) es ≡ set_value (is_at (cmp o.1)) (checked_in cmp end order out es) (left_at end w)
-  checked_in-set end [] out es i o w distinct within in_order is = absurd (omega arith)
-  checked_in-set end (x ∷ order) [] es i o w distinct within in_order is = absurd (omega arith)
-  checked_in-set end (x ∷ order) (a ∷ out) es zero o w distinct within in_order is =
-      let place = IsNotOut-apart x.1 order out (IsDistinct-head _ _ _ distinct) in
-      rw is (ap (checked_in cmp end order out) (sym (set_value-twice (is_at (cmp x.1)) es (left_at end a) (left_at end w)))
-      ∙ checked_in-written end x.1 order out (set_value (is_at (cmp x.1)) es (left_at end a)) (left_at end w) place)
-  checked_in-set end (x ∷ order) (a ∷ out) es (suc i) o w distinct within in_order is =
-      checked_in-set end order out (set_value (is_at (cmp x.1)) es (left_at end a)) i o w
-      (IsDistinct-tail _ _ _ distinct) (omega arith) (omega arith) is
+  module _ (order : List (ℕ × B)) (out : List (Option AtWork)) (es : List (B × Bin)) (i : ℕ) (o : ℕ × B) (can : CanCheckIn cmp order out es)
+      (in_order : i < length order) (is : o ≡ get_or order i o) where
+    -- the id has a bin, with all bins checked in
+    there : (end : End) → IsSome (lookup (is_at (cmp o.1)) (checked_in cmp end order out es))
+    there end = is_some-keys (is_at (cmp o.1)) _ es (keys-checked_in end order out es) ∙ rw is (can.found i o in_order)
 
-  keys-checked_in : (end : End) (order : List (ℕ × B)) (out : List AtWork) (es : List (B × Bin)) → keys_of (checked_in cmp end order out es) ≡ keys_of es
-  keys-checked_in end order [] es = refl
-  keys-checked_in end [] (a ∷ out) es = refl
-  keys-checked_in end (x ∷ order) (a ∷ out) es = keys-checked_in end order out _ ∙ keys-set_value (is_at (cmp x.1)) es (left_at end a)
-
-  module _ (order : List (ℕ × B)) (out : List AtWork) (es : List (B × Bin)) (i : ℕ) (o : ℕ × B) (distinct : Differ order) (in_order : i < length order)
-      (is : o ≡ get_or order i o) where
-    -- a bin that is out is at its id in the map with all bins checked in
-    checked_in-found : (end : End) (v : AtWork) → i < length out → v ≡ get_or out i v → IsSome (lookup (is_at (cmp o.1)) es)
-        → lookup (is_at (cmp o.1)) (checked_in cmp end order out es) ≡ Some (left_at end v)
-    checked_in-found end v within is_open there =
+    -- a bin that is in its map is found there
+    found-in_map : (end : End) (bin : Bin) → get_or out i None ≡ None → lookup (is_at (cmp o.1)) es ≡ Some bin
+        → lookup (is_at (cmp o.1)) (checked_in cmp end order out es) ≡ Some bin
+    found-in_map end bin none found =
         let test = is_at (cmp o.1) in
-        let all = checked_in cmp end order out es in
-        let same : set out i v ≡ out = rw is_open (set-get_or out i v) in
-        ap (λ l. lookup test (checked_in cmp end order l es)) (sym same)
-        ∙ ap (lookup test) (checked_in-set end order out es i o v distinct within in_order is)
-        ∙ found-written test all (left_at end v) (is_some-keys test all es (keys-checked_in end order out es) ∙ there)
+        let same = ap (checked_in cmp end order out) (sym (set_value_same test es bin found)) ∙ checked_in-written end order out es i o bin can.distinct in_order is none in
+        ap (lookup test) same ∙ found-written test _ bin (there end)
 
-    -- a bin that is out is tried
-    pub IsTriedIn-out : (v w : AtWork) → i < length out → v ≡ get_or out i v → IsSome (lookup (is_at (cmp o.1)) es)
-        → w.now ≡ record v.now { sections = w.now.sections }
-        → IsTriedIn cmp o.1 (checked_in cmp Keep order out es) v.now w.now (checked_in cmp Keep order (set out i w) es)
-    IsTriedIn-out v w within is_out there rest = record {
-      found = checked_in-found Keep v within is_out there;
-      rest = rest;
-      written = checked_in-set Keep order out es i o w distinct within in_order is;
+    pub IsBinAt-in_map : (bin : Bin) → get_or out i None ≡ None → lookup (is_at (cmp o.1)) es ≡ Some bin
+        → IsBinAt cmp order (checked_in cmp Keep order out es) i bin
+    IsBinAt-in_map bin none found = record {
+      within = in_order;
+      found = λ p at.
+          let one : p ≡ o = at ∙ get_or_default order i p o in_order ∙ sym is in
+          rw one (found-in_map Keep bin none found);
     }
 
-    -- a bin that is out is written, and its start stays
-    pub start-stays : (v w : AtWork) → i < length out → v ≡ get_or out i v → w.start ≡ v.start
-        → checked_in cmp Undo order (set out i w) es ≡ checked_in cmp Undo order out es
-    start-stays v w within is_out same =
-        checked_in-set Undo order out es i o w distinct within in_order is
-        ∙ ap (set_value (is_at (cmp o.1)) (checked_in cmp Undo order out es)) same
-        ∙ sym (checked_in-set Undo order out es i o v distinct within in_order is)
-        ∙ ap (λ l. checked_in cmp Undo order l es) (rw is_out (set-get_or out i v))
+    -- the bin is checked out, and another stands for it in the map: with all bins checked in, the map stays
+    pub checked_in-out : (end : End) (bin other : Bin) → i < length out → get_or out i None ≡ None → lookup (is_at (cmp o.1)) es ≡ Some bin
+        → checked_in cmp end order (set out i (Some (record { start = bin; now = bin }))) (set_value (is_at (cmp o.1)) es other) ≡ checked_in cmp end order out es
+    checked_in-out end bin other within none found =
+        let test = is_at (cmp o.1) in
+        let all = checked_in cmp end order out es in
+        checked_in-set end order out (set_value test es other) i o (record { start = bin; now = bin }) can.distinct within in_order is
+        ∙ ap (set_value test (checked_in cmp end order out (set_value test es other))) (left_at-new end bin)
+        ∙ ap (λ m. set_value test m bin) (checked_in-written end order out es i o other can.distinct in_order is none)
+        ∙ set_value-twice test all other bin
+        ∙ set_value_same test all bin (found-in_map end bin none found)
 
-    -- and where its sections stay too, all stays
-    pub now-stays : (v w : AtWork) → i < length out → v ≡ get_or out i v → w.now ≡ v.now
-        → checked_in cmp Keep order (set out i w) es ≡ checked_in cmp Keep order out es
-    now-stays v w within is_out same =
-        checked_in-set Keep order out es i o w distinct within in_order is
-        ∙ ap (set_value (is_at (cmp o.1)) (checked_in cmp Keep order out es)) same
-        ∙ sym (checked_in-set Keep order out es i o v distinct within in_order is)
-        ∙ ap (λ l. checked_in cmp Keep order l es) (rw is_out (set-get_or out i v))
+    module _ (v w : AtWork) (is_out : get_or out i None ≡ Some v) where
+      within : i < length out
+      within = is_out-within out i (rw is_out refl)
 
-  -- what no section of bins that are out holds, none of the bins of their ids holds, with all bins checked in
-  pub BinsHoldNone-out : (order : List (ℕ × B)) (out : List AtWork) (es : List (B × Bin)) (size : Size) (n from tests : ℕ) (ids : List (ℕ × B)) (bins : List AtWork)
-      → CanCheckIn cmp order out es → (0 < n → from + n ≤ length out) → drop from order ≡ ids → drop from out ≡ bins → OutHoldNone (take n bins) size tests
-      → BinsHoldNone cmp (checked_in cmp Keep order out es) size (map (λ (x : ℕ × B). x.1) (take n ids)) tests
-  BinsHoldNone-out order out es size zero from tests ids bins can within at b none = record { counts = []; each = tt; tests_are = none.1 }
-  BinsHoldNone-out order out es size (suc n) from tests [] bins can within at b none =
-      absurd (drop-some order from n at (omega (arith, within (omega arith), can.within)))
-  BinsHoldNone-out order out es size (suc n) from tests (o ∷ ids) [] can within at b none = absurd (drop-some out from n b (within (omega arith)))
-  BinsHoldNone-out order out es size (suc n) from tests (o ∷ ids) (bin ∷ bins) can within at b none =
-      let its = drop-head order from o ids at in
-      let this = drop-head out from bin bins b in
-      let there : IsSome (lookup (is_at (cmp o.1)) es) = rw (← its.1) at (can.found from o its.0) in
-      let AtWork-none : AtWork → Type 0 = λ o. All (λ s. ¬ Holds s size) o.now.sections in
-      let others = sum_by (λ (o : AtWork). length o.now.sections) (take n bins) in
-      let rest = BinsHoldNone-out order out es size n (suc from) others ids bins can (λ some. omega (arith, within (omega arith))) its.2 this.2
-      (All-tail AtWork-none bin (take n bins) none.0, refl) in
-      record {
-        counts = length bin.now.sections ∷ rest.counts;
-        each = (
-          record {
-            bin = bin.now;
-            found = checked_in-found order out es from o can.distinct its.0 its.1 Keep bin this.0 this.1 there;
-            none = All-head AtWork-none bin (take n bins) none.0;
-            tests_are = refl;
-          },
-          rest.each,
-        );
-        tests_are = omega (
-          arith,
-          none.1,
-          rest.tests_are,
-          sum_by-cons (λ (o : AtWork). length o.now.sections) bin (take n bins),
-          sum_by-cons (λ k. k) (length bin.now.sections) rest.counts,
-        );
+      -- a bin that is out is found
+      found-out : (end : End) → lookup (is_at (cmp o.1)) (checked_in cmp end order out es) ≡ Some (left_at end v)
+      found-out end =
+          let same : set out i (Some v) ≡ out = rw (← is_out) (set-get_or out i None) in
+          ap (λ l. lookup (is_at (cmp o.1)) (checked_in cmp end order l es)) (sym same)
+          ∙ ap (lookup (is_at (cmp o.1))) (checked_in-set end order out es i o v can.distinct within in_order is)
+          ∙ found-written (is_at (cmp o.1)) _ (left_at end v) (there end)
+
+      -- and tried
+      pub IsTriedIn-out : w.now ≡ record v.now { sections = w.now.sections }
+          → IsTriedIn cmp o.1 (checked_in cmp Keep order out es) v.now w.now (checked_in cmp Keep order (set out i (Some w)) es)
+      IsTriedIn-out rest = record {
+        found = found-out Keep;
+        rest = rest;
+        written = checked_in-set Keep order out es i o w can.distinct within in_order is;
       }
+
+      -- where it is written as it was, all stays
+      pub checked_in-stays : (end : End) → left_at end w ≡ left_at end v → checked_in cmp end order (set out i (Some w)) es ≡ checked_in cmp end order out es
+      checked_in-stays end same =
+          checked_in-set end order out es i o w can.distinct within in_order is
+          ∙ ap (set_value (is_at (cmp o.1)) (checked_in cmp end order out es)) same
+          ∙ set_value_same (is_at (cmp o.1)) (checked_in cmp end order out es) (left_at end v) (found-out end)
+
+  -- a bin was tried. Where its summary, if it was right, is right for its sections now, all summaries are
+  pub AreSummed-tried : (order : List (ℕ × B)) (old new : List (B × Bin)) (k : ℕ) (o : ℕ × B) (before after : Bin) (summaries later : List (Option Summary))
+      → Differ order → k < length order → o ≡ get_or order k o → AreSummed cmp order old summaries → IsTriedIn cmp o.1 old before after new
+      → (IfSome (get_or summaries k None) (λ s. Bounds s before.sections) → IfSome (get_or later k None) (λ s. Bounds s after.sections))
+      → ((i : ℕ) → i ≢ k → get_or later i None ≡ get_or summaries i None) → AreSummed cmp order new later
+  AreSummed-tried order old new k o before after summaries later distinct in_order is summed tried here elsewhere = λ i. elim (cases_eq i k) [
+    | inl e ↦ rw e (weaker (get_or later k None) (λ s bounds. (
+      after,
+      record {
+        within = in_order;
+        found = λ p at.
+            let one : p ≡ o = at ∙ get_or_default order k p o in_order ∙ sym is in
+            rw (one, tried.written) (lookup-set_here (is_at (cmp o.1)) old before after tried.found);
+      },
+      bounds,
+    )) (here known))
+    | inr apart ↦ rw (elsewhere i apart) (weaker (get_or summaries i None) (λ s this. (
+      this.0,
+      record {
+        within = this.1.within;
+        found = λ p at. rw tried.written (lookup-elsewhere o.1 p.1 (apart_at i p apart this.1.within at) old after) ∙ this.1.found p at;
+      },
+      this.2,
+    )) (summed i))
+  ]
+    where
+      known : IfSome (get_or summaries k None) (λ s. Bounds s before.sections)
+      known = weaker (get_or summaries k None) (λ s this.
+          let found : Some this.0 ≡ Some before = sym (this.1.found o is) ∙ tried.found in
+          let same : this.0 ≡ before = cc in
+          rw (← same) this.2) (summed k)
+
+      apart_at : (i : ℕ) (p : ℕ × B) → i ≢ k → i < length order → p ≡ get_or order i p → is_at (cmp o.1) p.1 ≡ false
+      apart_at i p apart within at = elim (cases_order i k) [
+        | inl e ↦ absurd (apart e)
+        | inr (inl below) ↦ is_at-back total o.1 p.1 ∙ differ-at order i k p o distinct below in_order at is
+        | inr (inr above) ↦ differ-at order k i o p distinct above within is at
+      ]

@@ -1,8 +1,9 @@
 -- The tree of the summaries of bins: what a summary above a stretch of it says of each bin there.
 use Rattle.std.proofs.Math.Nat.{pow-suc}
+use Rattle.std.proofs.lemmas.List.{get_or_past}
 use Rattle.rectangle_pack_sections.proofs.Std.{◌≡◌, ◌≤◌, ◌<◌, ◌+◌, ◌*◌, ◌-◌, ◌/◌, ◌^◌, ℕ, zero, suc, List, [], ◌∷◌, ◌++◌, length, take, drop, set, get_or, refl, sym, ap, ◌∙◌, arith}
 use Rattle.rectangle_pack_sections.proofs.Std.{Option, Some, None, length-set, length-drop, take-add, drop-drop, drop-cons, get_or-set_other}
-use Rattle.rectangle_pack_sections.proofs.Std.{mul-le-mul_left, All, drop-set-add, get_or-drop, get_or_default, get_or-set_same, cases_eq, inl, inr}
+use Rattle.rectangle_pack_sections.proofs.Std.{mul-le-mul_left, All, drop-set-add, get_or-drop, get_or_default, get_or-set_same, cases_eq, cases_order, inl, inr}
 use Rattle.rectangle_pack_sections.specs.Boxes.{Size}
 use Rattle.rectangle_pack_lists.specs.declared.gap_list.summary.Summary.{Summary}
 use Rattle.rectangle_pack_lists.specs.private.Summaries.{RulesOut, joined}
@@ -104,13 +105,13 @@ IsTreeBut-leaf nodes leaf new tree low high = record {
       ) (tree.above n some inside (omega arith));
 }
 
--- without nodes nothing is known
-pub unknown-none : (nodes : List (Option Summary)) → nodes ≡ [] → All (λ s. s ≡ None) (drop (length nodes / 2) nodes)
-unknown-none nodes none = λ k d low. absurd (omega (arith, low, ap length none, length-drop (length nodes / 2) nodes))
-
--- and where nothing is known at all, nothing of the bins
-pub unknown-drop : (nodes : List (Option Summary)) → All (λ s. s ≡ None) nodes → All (λ s. s ≡ None) (drop (length nodes / 2) nodes)
-unknown-drop nodes none = λ k d low. get_or-drop (length nodes / 2) nodes k d ∙ none (length nodes / 2 + k) d (omega (arith, low, length-drop (length nodes / 2) nodes))
+-- where no node is known, none is at any index
+pub unknown-at : (nodes : List (Option Summary)) → All (λ s. s ≡ None) nodes → (i : ℕ) → node_at nodes i ≡ None
+unknown-at nodes none i = elim (cases_order i (length nodes)) [
+  | inl e ↦ get_or_past nodes i None (omega (arith, e))
+  | inr (inl below) ↦ none i None below
+  | inr (inr above) ↦ get_or_past nodes i None (omega arith)
+]
 
 positive : (n w p : ℕ) → p ≡ n * w → 0 < p → 0 < n
 positive zero w p is some = absurd (omega (arith, is))

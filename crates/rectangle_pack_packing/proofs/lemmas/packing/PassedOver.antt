@@ -10,7 +10,7 @@ use Rattle.rectangle_pack_packing.specs.private.Excluded.{are_in}
 use Rattle.rectangle_pack_packing.proofs.lemmas.packing.Cases.{DoesNotTake-stuck}
 use Rattle.rectangle_pack_packing.proofs.lemmas.packing.Turns.{ArePassed, WerePassed}
 use Rattle.rectangle_pack_sections.proofs.lemmas.util.Zips.{AllZip-append}
-use Rattle.rectangle_pack_packing.specs.private.BinsOut.{BinHoldsNone, BinsHoldNone}
+use Rattle.rectangle_pack_packing.specs.private.BinsAtWork.{BinHoldsNone, BinsHoldNone}
 use Rattle.rectangle_pack_packing.specs.private.PassedOver.{IsPassedOver, ArePassedOver}
 
 -- bins no section of which holds the first of some members are passed over, where none is excluded

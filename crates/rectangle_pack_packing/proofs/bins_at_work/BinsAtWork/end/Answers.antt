@@ -1,12 +1,12 @@
 use Rattle.std.proofs.Common.{le_of_lt}
 use Rattle.rectangle_pack_sections.proofs.Std.{◌≡◌, ◌<◌, ◌≤◌, ◌++◌, ◌∷◌, [], List, length, get_or}
 use Rattle.rectangle_pack_sections.proofs.Std.{refl, sym, ap, ◌∙◌, arith, IsSome, is_some, lookup, is_at, length-append}
-use Rattle.rectangle_pack_sections.proofs.Std.{keys-set_value}
+use Rattle.rectangle_pack_sections.proofs.Std.{keys-set_value, Some}
 use Rattle.rectangle_pack_sections.specs.Bins.{bins_of}
 use Rattle.rectangle_pack_sections.proofs.lemmas.util.Maps.{is_some-option_map}
 use Rattle.rectangle_pack_bins.proofs.lemmas.bins.Maps.{is_some-bins_of, bins_of-written}
 use Rattle.rectangle_pack_packing.specs.private.BinsAtWork.{checked_in}
-use Rattle.rectangle_pack_packing.proofs.lemmas.bins.BinsAtWork.{CanCheckIn-written, checked_in-none, left_of-in_use, checked_in-last}
+use Rattle.rectangle_pack_packing.proofs.lemmas.bins.BinsAtWork.{CanCheckIn-written, checked_in-none, left_of-in_use, checked_in-last, checked_in-place}
 use Rattle.rectangle_pack_packing.proofs.bins_at_work.BinsAtWork.end.Goals as goal
 
 -- the id of the last bin is in the order
@@ -15,8 +15,8 @@ next_in_order : {X Y : Type 0} (out rest : List X) (last : X) (order : List Y)
 next_in_order out rest last order is within =
     omega (arith, within, ap length is, length-append rest (last ∷ []))
 
-pub loop-bin-init : goal.loop-bin-init
-loop-bin-init g c = record { same = refl; can = rw c.into_bins-out.ensures c.self.invariant }
+pub loop-held-init : goal.loop-held-init
+loop-held-init g c = record { same = refl; can = c.self.invariant.0 }
 
 pub unwrap-requires : goal.unwrap-requires
 unwrap-requires g c =
@@ -24,34 +24,45 @@ unwrap-requires g c =
     let rest = c.pop.new.self.items in
     let order = c.self.inside.order.now in
     let is : o ≡ get_or order (length rest) o = rw (← c.len.ensures ∙ c.pop.new.self.ok.0) c.index-order-len.is in
-    let next = next_in_order _ rest c.in-Some.bin order c.in-Some.ensures.items c.loop-bin.invariant.can.within in
+    let next = next_in_order _ rest c.in-Some.held order c.in-Some.ensures.items c.loop-held.invariant.can.within in
     let test = is_at (g.B.Ord.cmp o.1) in
-    let there : IsSome (lookup test (bins_of c.loop-bin.bins.entries)) = rw is (c.loop-bin.invariant.can.found (length rest) o next) in
-    sym (is_some-option_map _ c.get_mut.result) ∙ ap is_some c.get_mut.ensures.value ∙ sym (is_some-bins_of test c.loop-bin.bins.entries) ∙ there
+    let there : IsSome (lookup test (bins_of c.loop-held.bins.entries)) = rw is (c.loop-held.invariant.can.found (length rest) o next) in
+    sym (is_some-option_map _ c.get_mut.result) ∙ ap is_some c.get_mut.ensures.value ∙ sym (is_some-bins_of test c.loop-held.bins.entries) ∙ there
 
-pub loop-bin-preserved : goal.loop-bin-preserved
-loop-bin-preserved g c =
+pub loop-held-preserved : goal.loop-held-preserved
+loop-held-preserved g c =
+    let order = c.self.inside.order.now in
+    let rest = c.pop.new.self.items in
+    let es = bins_of c.loop-held.bins.entries in
+    let kept = c.loop-held.invariant in
+    let next = next_in_order _ rest c.in-Some.held order c.in-Some.ensures.items kept.can.within in
+    let items = rw c.in_default-held.is at c.in-Some.ensures.items in
+    record {
+      same = sym (checked_in-place g.B.Ord.cmp c.args.end order rest es) ∙ rw (← items) kept.same;
+      can = CanCheckIn-written rest es refl (le_of_lt next) kept.can;
+    }
+
+pub loop-held-preserved-in-Some-held : goal.loop-held-preserved-in-Some-held
+loop-held-preserved-in-Some-held g c =
     let o = c.index-order-len.result in
     let order = c.self.inside.order.now in
     let rest = c.pop.new.self.items in
-    let es = c.loop-bin.bins.entries in
+    let es = c.loop-held.bins.entries in
+    let kept = c.loop-held.invariant in
     let is : o ≡ get_or order (length rest) o = rw (← c.len.ensures ∙ c.pop.new.self.ok.0) c.index-order-len.is in
-    let next = next_in_order _ rest c.in-Some.bin order c.in-Some.ensures.items c.loop-bin.invariant.can.within in
+    let next = next_in_order _ rest c.in-Some.held order c.in-Some.ensures.items kept.can.within in
+    let items = rw c.in-Some-held.is at c.in-Some.ensures.items in
     let test = is_at (g.B.Ord.cmp o.1) in
     let written = bins_of-written test es _ c.end.result _ (c.get_mut.follows.holds c.end.result).0 c.end.ensures in
     record {
-      same = rw written
-          (checked_in-last g.met.B.Ord.total c.args.end order rest (bins_of es) o c.in-Some.bin c.loop-bin.invariant.can.distinct next is
-          ∙ rw (← c.in-Some.ensures.items) c.loop-bin.invariant.same);
-      can = rw written (CanCheckIn-written rest _ (keys-set_value test (bins_of es) _) (le_of_lt next) c.loop-bin.invariant.can);
+      same = rw written (checked_in-last g.B.Ord.cmp c.args.end order rest (bins_of es) (Some c.in-Some-held.bin) o next is ∙ rw (← items) kept.same);
+      can = rw written (CanCheckIn-written rest _ (keys-set_value test (bins_of es) _) (le_of_lt next) kept.can);
     }
 
 pub returns : goal.returns
 returns g c =
-    let cmp = g.B.Ord.cmp in
     let order = c.self.inside.order.now in
-    let none : length c.loop-bin.out.items ≡ 0 = omega (arith, c.in_default.ensures.cases.0, c.loop-bin.out.ok.0) in
+    let none : length c.loop-held.out.items ≡ 0 = omega (arith, c.in_default.ensures.cases.0, c.loop-held.out.ok.0) in
     rw (← c.self.view_is)
-    (sym (checked_in-none cmp c.args.end order c.loop-bin.out.items (bins_of c.loop-bin.bins.entries) none)
-    ∙ c.loop-bin.invariant.same ∙ ap (λ out. checked_in cmp c.args.end order out (bins_of c.self.inside.bins.entries)) c.into_bins-out.ensures
-    ∙ sym (left_of-in_use cmp c.args.end order c.self.inside.out.all (bins_of c.self.inside.bins.entries)))
+    (sym (checked_in-none g.B.Ord.cmp c.args.end order c.loop-held.out.items (bins_of c.loop-held.bins.entries) none)
+    ∙ c.loop-held.invariant.same ∙ sym (left_of-in_use g.B.Ord.cmp c.args.end order c.self.inside.out.items (bins_of c.self.inside.bins.entries)))

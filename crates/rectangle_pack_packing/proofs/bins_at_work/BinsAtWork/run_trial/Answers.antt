@@ -1,63 +1,152 @@
-use Rattle.rectangle_pack_sections.proofs.Std.{◌≡◌, ◌<◌, ℕ, zero, suc, List, [], ◌∷◌, length, get_or, ◌∙◌, refl, arith, IsSome, lookup, is_at, Result, Ok, Err, OnOk, OnErr, AllocError}
-use Rattle.rectangle_pack_sections.specs.Boxes.{Size, Cuboid}
-use Rattle.rectangle_pack_sections.specs.Bins.{bins_of}
-use Rattle.rectangle_pack_sections.specs.Closures.{Answers}
-use Rattle.rectangle_pack_lists.specs.declared.trial.Trial.{Trial}
-use Rattle.rectangle_pack_lists.specs.private.FreeLists.{IsTried}
-use Rattle.rectangle_pack_packing.proofs.lemmas.bins.BinsAtWork.{parts, IsTriedIn-out, start-stays, now-stays}
+use Rattle.rectangle_pack_sections.proofs.Std.{◌≡◌, ◌<◌, ◌∙◌, ap, sym, refl, arith, get_or, length, lookup, is_at, IsSome, is_some, None, Some, set, length-set}
+use Rattle.rectangle_pack_sections.proofs.Std.{option_copied_mut, get_or_default, Result, Ok, Err, OnErr, AllocError, All, false}
+use Rattle.rectangle_pack_sections.specs.Boxes.{FitsU32}
+use Rattle.rectangle_pack_sections.specs.Bins.{Bin, bins_of, IsSound}
+use Rattle.rectangle_pack_lists.specs.declared.free_list.End.{End}
+use Rattle.rectangle_pack_lists.specs.declared.free_list.End.TheVariants.{Keep, Undo}
+use Rattle.rectangle_pack_lists.specs.private.FreeLists.{now_of, start_of}
+use Rattle.rectangle_pack_lists.proofs.lemmas.trial.Steps.{IsSound-tried, fits-tried}
+use Rattle.rectangle_pack_packing.specs.private.BinsAtWork.{AtWork, checked_in, left_of, left_at, BinsInUse}
+use Rattle.rectangle_pack_packing.proofs.lemmas.bins.BinsAtWork.{parts, left_of-in_use, is_out-within, entry_at, CanCheckIn-written, IsTriedIn-stuck, IsTried-stuck}
+use Rattle.rectangle_pack_packing.proofs.lemmas.bins.BinsAtWork.{IsTriedIn-out, checked_in-stays, AreSummed-tried}
+use Rattle.rectangle_pack_packing.proofs.bins_at_work.BinsAtWork.run_trial.Given.{Over}
+use Rattle.rectangle_pack_packing.proofs.bins_at_work.BinsAtWork.run_trial.Goals.{After-run_trial}
+use Rattle.rectangle_pack_packing.proofs.bins_at_work.BinsAtWork.run_trial.Goals.at as goal_at
 use Rattle.rectangle_pack_packing.proofs.bins_at_work.BinsAtWork.run_trial.Goals as goal
 
--- the entry at an index
-entry_at : {X : Type 0} (xs : List X) (i : ℕ) → i < length xs → (x : X) × (x ≡ get_or xs i x)
-entry_at [] i within = absurd (omega (arith, within))
-entry_at (x ∷ xs) zero within = (x, refl)
-entry_at (x ∷ xs) (suc i) within = entry_at xs i (omega (arith, within))
+on_err : {X E : Type 0} {P : Type 0} (r : Result X E) → P → OnErr r P
+on_err (Ok x) p = tt
+on_err (Err e) p = p
 
-ok_given : {E : Type 0} {P : Type 0} (r : Result Trial E) → P → OnOk r P
-ok_given (Ok trial) p = p
-ok_given (Err e) p = tt
+pub returns-in-Some-clause-tried : goal.returns-in-Some-clause-tried
+returns-in-Some-clause-tried g c = λ o is.
+    let stuck = c.in-Some.ensures.stuck in (
+      stuck.1,
+      stuck.1,
+      rw c.look.ensures.same (IsTriedIn-stuck g.B.Ord.cmp o.1 c.args.self.now.now stuck.1 (stuck.2.found o is)),
+      IsTried-stuck AllocError (g.R.Policy.may c.args.policy.now) stuck.1.sections c.args.sizes.now c.in-Some.trial c.args.locations.now.items stuck.0 stuck.3,
+    )
 
--- where memory is refused the list is as it was
-err_leaves : {E : Type 0} {P : Type 0} (may : Answers) (old new : List Cuboid) (ms : List Size) (r : Result Trial E) (ls : List Cuboid)
-    → IsTried may old ms r ls new → (new ≡ old → P) → OnErr r P
-err_leaves may old new ms (Ok trial) ls tried p = tt
-err_leaves may old new ms (Err e) ls tried p = p tried
+pub returns-in_err-check_out-clause-err : goal.returns-in_err-check_out-clause-err
+returns-in_err-check_out-clause-err g c = on_err c.from_residual.result (c.check_out.ensures.left Keep ∙ (parts c.look.ensures.same).0)
 
-pub returns-clause-tried : goal.returns-clause-tried
-returns-clause-tried g c = ok_given c.run_trial.result (λ o is.
-    let t = c.run_trial.ensures.tried in
+pub returns-in_err-check_out-clause-start : goal.returns-in_err-check_out-clause-start
+returns-in_err-check_out-clause-start g c = c.check_out.ensures.left Undo ∙ (parts c.look.ensures.same).1
+
+pub index_mut-requires : goal.index_mut-requires
+index_mut-requires g c =
+    let some : IsSome (get_or c.self.inside.out.items c.args.index None) = rw (parts c.self.view_is).3 c.in_ok-check_out.ensures.out in
+    omega (arith, is_out-within c.self.inside.out.items c.args.index some, c.self.inside.out.ok.0)
+
+pub unwrap-bin-requires : goal.unwrap-bin-requires
+unwrap-bin-requires g c =
+    let out = c.self.inside.out.items in
+    let some : IsSome (get_or out c.args.index None) = rw (parts c.self.view_is).3 c.in_ok-check_out.ensures.out in
+    c.as_mut.ensures.variant ∙ ap is_some (c.index_mut.ensures.value
+    ∙ sym (get_or_default out c.args.index None c.index_mut.result.now (is_out-within out c.args.index some))) ∙ some
+
+-- the bin before the trial
+abbrev before : (g : Over) → After-run_trial g → AtWork
+before g c = record {
+  start = record c.bin.inside.bin.bin { sections = start_of c.bin.inside.list };
+  now = record c.bin.inside.bin.bin { sections = now_of c.bin.inside.list };
+}
+
+-- and after it
+abbrev after : (g : Over) → After-run_trial g → AtWork
+after g c = record {
+  start = record c.bin.inside.bin.bin { sections = start_of c.run_trial.new.self };
+  now = record c.bin.inside.bin.bin { sections = now_of c.run_trial.new.self };
+}
+
+-- its sections stay sound
+sound : (g : Over) (c : After-run_trial g) → IsSound c.bin.inside.bin.bin.size (start_of c.run_trial.new.self)
+    × IsSound c.bin.inside.bin.bin.size (now_of c.run_trial.new.self) × All FitsU32 (now_of c.run_trial.new.self)
+sound g c =
+    let may = g.R.Policy.may c.args.policy.now in
+    let tried = c.run_trial.ensures.tried in (
+      rw c.run_trial.ensures.start c.bin.invariant.0,
+      IsSound-tried may {E = AllocError} _ _ _ _ _ _ tried c.bin.invariant.1,
+      fits-tried may {E = AllocError} _ _ _ _ _ tried c.bin.invariant.2,
+    )
+
+in_order : (g : Over) (c : After-run_trial g) → c.args.index < length c.self.inside.order.now
+in_order g c = rw ((parts c.self.view_is).2, c.in_ok-check_out.ensures.order, c.look.ensures.same) c.requires.in_order
+
+-- it stands in the list
+held : (g : Over) (c : After-run_trial g) → get_or c.self.inside.out.items c.args.index None ≡ Some (before g c)
+held g c =
+    let out = c.self.inside.out.items in
+    let some : IsSome (get_or out c.args.index None) = rw (parts c.self.view_is).3 c.in_ok-check_out.ensures.out in
+    get_or_default out c.args.index None c.index_mut.result.now (is_out-within out c.args.index some) ∙ sym c.index_mut.ensures.value
+    ∙ sym c.as_mut.ensures.value ∙ ap option_copied_mut c.unwrap-bin.ensures ∙ ap (λ b. Some b) (sym c.bin.view_is)
+
+-- the bins are as they were at first
+left : (g : Over) (c : After-run_trial g) (end : End)
+    → checked_in g.B.Ord.cmp end c.self.inside.order.now c.self.inside.out.items (bins_of c.self.inside.bins.entries) ≡ left_of end c.args.self.now
+left g c end =
+    sym (left_of-in_use g.B.Ord.cmp end c.self.inside.order.now c.self.inside.out.items (bins_of c.self.inside.bins.entries))
+    ∙ ap (left_of end) c.self.view_is ∙ c.in_ok-check_out.ensures.left end ∙ ap (left_of end) c.look.ensures.same
+
+-- and where the trial leaves the bin, they stay
+stays : (g : Over) (c : After-run_trial g) (end : End) → left_at end (after g c) ≡ left_at end (before g c)
+    → checked_in g.B.Ord.cmp end c.self.inside.order.now (set c.self.inside.out.items c.args.index (Some (after g c))) (bins_of c.self.inside.bins.entries)
+    ≡ checked_in g.B.Ord.cmp end c.self.inside.order.now c.self.inside.out.items (bins_of c.self.inside.bins.entries)
+stays g c end same =
+    let (o, is) = entry_at c.self.inside.order.now c.args.index (in_order g c) in
+    checked_in-stays g.met.B.Ord.total c.self.inside.order.now c.self.inside.out.items (bins_of c.self.inside.bins.entries) c.args.index o
+    c.self.invariant.0 (in_order g c) is (before g c) (after g c) (held g c) end same
+
+pub invariant_of-bin : goal.invariant_of-bin
+invariant_of-bin g c = sound g (goal_at.invariant_of-bin g c).After-run_trial
+
+pub invariant_of-bin-2 : goal.invariant_of-bin-2
+invariant_of-bin-2 g c = sound g (goal_at.invariant_of-bin-2 g c).After-run_trial
+
+pub invariant_of-self : goal.invariant_of-self
+invariant_of-self g c =
+    let at = (goal_at.invariant_of-self g c).After-run_trial in (
+      CanCheckIn-written _ _ refl (rw (length-set c.self.inside.out.items c.args.index (Some (after g at))) c.self.invariant.0.within) c.self.invariant.0,
+      rw (stays g at Keep (rw c.in_err-trial.ensures.tried refl)) c.self.invariant.1,
+    )
+
+pub invariant_of-self-2 : goal.invariant_of-self-2
+invariant_of-self-2 g c =
+    let at = (goal_at.invariant_of-self-2 g c).After-run_trial in
     let order = c.self.inside.order.now in
-    let entries = bins_of c.self.inside.bins.entries in
-    let same : order ≡ c.args.self.now.order = (parts c.self.view_is).2 ∙ c.check_out_to.ensures.order in
-    let in_order : c.args.index < length order = rw same c.requires.in_order in
-    let at : o ≡ get_or order c.args.index o = rw same is in
-    let within : c.args.index < length c.self.inside.out.all = rw (parts c.self.view_is).3 c.in_ok-check_out_to.ensures.out in
-    let there : IsSome (lookup (is_at (g.B.Ord.cmp o.1)) entries) = rw at (c.self.invariant.found c.args.index o in_order) in
-    let tried = IsTriedIn-out g.met.B.Ord.total order c.self.inside.out.all entries c.args.index o c.self.invariant.distinct in_order at t.0 t.1 within t.2
-    there t.6 in
-    (t.0.now, t.1.now, rw (← c.check_out_to.ensures.now, ← (parts c.self.view_is).0, t.3) tried, t.4))
+    let (o, is) = entry_at order c.args.index (in_order g at) in (
+      CanCheckIn-written _ _ refl (rw (length-set c.self.inside.out.items c.args.index (Some (after g at))) c.self.invariant.0.within) c.self.invariant.0,
+      AreSummed-tried g.met.B.Ord.total order _ _ c.args.index o (before g at).now (after g at).now c.self.inside.summaries c.sum_anew.new.summaries
+          c.self.invariant.0.distinct (in_order g at) is c.self.invariant.1
+          (IsTriedIn-out g.met.B.Ord.total order c.self.inside.out.items (bins_of c.self.inside.bins.entries) c.args.index o c.self.invariant.0 (in_order g at) is
+          (before g at) (after g at) (held g at) refl)
+          (λ known. c.sum_anew.ensures.here (λ not_done. rw (rw not_done at c.in_ok-trial.ensures.tried).1 known)) c.sum_anew.ensures.elsewhere,
+    )
 
-pub returns-clause-err : goal.returns-clause-err
-returns-clause-err g c =
-    let t = c.run_trial.ensures.tried in
-    let order = c.self.inside.order.now in
-    let entries = bins_of c.self.inside.bins.entries in
-    let same : order ≡ c.args.self.now.order = (parts c.self.view_is).2 ∙ c.check_out_to.ensures.order in
-    let in_order : c.args.index < length order = rw same c.requires.in_order in
-    let (o, at) = entry_at order c.args.index in_order in
-    let within : c.args.index < length c.self.inside.out.all = rw (parts c.self.view_is).3 c.in_ok-check_out_to.ensures.out in
-    err_leaves _ t.0.now.sections t.1.now.sections _ c.run_trial.result _ t.4 (λ left.
-    rw t.3 (now-stays g.met.B.Ord.total order c.self.inside.out.all entries c.args.index o c.self.invariant.distinct in_order at t.0 t.1 within t.2
-    (t.6 ∙ rw left refl)) ∙ (parts c.self.view_is).0 ∙ c.check_out_to.ensures.now)
+pub returns-in_err-trial-clause-err : goal.returns-in_err-trial-clause-err
+returns-in_err-trial-clause-err g c =
+    let at = (goal_at.returns-in_err-trial-clause-err g c).After-run_trial in
+    on_err c.from_residual-in_err-trial.result (stays g at Keep (rw c.in_err-trial.ensures.tried refl) ∙ left g at Keep)
+
+pub returns-in_err-trial-clause-start : goal.returns-in_err-trial-clause-start
+returns-in_err-trial-clause-start g c =
+    let at = (goal_at.returns-in_err-trial-clause-start g c).After-run_trial in
+    stays g at Undo (rw c.run_trial.ensures.start refl) ∙ left g at Undo
 
 pub returns-clause-start : goal.returns-clause-start
 returns-clause-start g c =
-    let t = c.run_trial.ensures.tried in
-    let order = c.self.inside.order.now in
-    let entries = bins_of c.self.inside.bins.entries in
-    let same : order ≡ c.args.self.now.order = (parts c.self.view_is).2 ∙ c.check_out_to.ensures.order in
-    let in_order : c.args.index < length order = rw same c.requires.in_order in
-    let (o, at) = entry_at order c.args.index in_order in
-    let within : c.args.index < length c.self.inside.out.all = rw (parts c.self.view_is).3 c.in_ok-check_out_to.ensures.out in
-    rw t.3 (start-stays g.met.B.Ord.total order c.self.inside.out.all entries c.args.index o c.self.invariant.distinct in_order at t.0 t.1 within t.2 t.5)
-    ∙ (parts c.self.view_is).1 ∙ c.check_out_to.ensures.start
+    let at = (goal_at.returns-clause-start g c).After-run_trial in
+    stays g at Undo (rw c.run_trial.ensures.start refl) ∙ left g at Undo
+
+pub returns-clause-tried : goal.returns-clause-tried
+returns-clause-tried g c = λ o is.
+    let at = (goal_at.returns-clause-tried g c).After-run_trial in
+    let same = (parts c.self.view_is).2 ∙ c.in_ok-check_out.ensures.order ∙ (parts c.look.ensures.same).2 in
+    let there : o ≡ get_or c.self.inside.order.now c.args.index o = rw same is in (
+      (before g at).now,
+      (after g at).now,
+      rw (← left g at Keep)
+          (IsTriedIn-out g.met.B.Ord.total c.self.inside.order.now c.self.inside.out.items (bins_of c.self.inside.bins.entries) c.args.index o c.self.invariant.0
+          (in_order g at) there (before g at) (after g at) (held g at) refl),
+      c.in_ok-trial.ensures.tried,
+    )

@@ -1,6 +1,6 @@
-use Rattle.rectangle_pack_sections.proofs.Std.{◌≡◌, ◌+◌, ◌/◌, ◌∙◌, List, [], length, All}
+use Rattle.rectangle_pack_sections.proofs.Std.{◌≡◌, ◌+◌, ◌/◌, ◌∙◌, List, [], length, All, get_or-drop}
 use Rattle.rectangle_pack_sections.proofs.Std.{Option, None, true, refl, arith}
-use Rattle.rectangle_pack_packing.proofs.lemmas.bins.SummaryTrees.{unknown-drop, unknown-none}
+use Rattle.rectangle_pack_packing.proofs.lemmas.bins.SummaryTrees.{unknown-at}
 use Rattle.rectangle_pack_lists.specs.declared.gap_list.summary.Summary.{Summary}
 use Rattle.rectangle_pack_packing.specs.private.SummaryTrees.{IsTree}
 use Rattle.rectangle_pack_packing.proofs.bins_at_work.summary_tree.SummaryTree.make_room.Goals as goal
@@ -24,17 +24,17 @@ invariant_of-self-in_err-resize g c =
     rw (c.in_err-resize.ensures.items, c.clear.ensures.items) IsTree-none
 
 pub returns-in_err-resize : goal.returns-in_err-resize
-returns-in_err-resize g c =
-    unknown-none c.resize.new.self.items (c.in_err-resize.ensures.items ∙ c.clear.ensures.items)
+returns-in_err-resize g c = λ i. rw (c.in_err-resize.ensures.items, c.clear.ensures.items) refl
 
 pub returns-in_err-nodes : goal.returns-in_err-nodes
-returns-in_err-nodes g c = unknown-none c.clear.new.self.items c.clear.ensures.items
+returns-in_err-nodes g c = λ i. rw c.clear.ensures.items refl
 
 pub returns : goal.returns
 returns g c =
-    let all : All (λ s. s ≡ None) c.resize.new.self.items =
+    let nodes = c.resize.new.self.items in
+    let all : All (λ s. s ≡ None) nodes =
     λ k d low. c.in_ok-resize.ensures.by_index.1 k d refl (omega (arith, c.clear.ensures.len)) (omega (arith, low, c.in_ok-resize.ensures.len, c.resize.new.self.ok.0)) in
-    unknown-drop c.resize.new.self.items all
+    λ i. get_or-drop (length nodes / 2) nodes i None ∙ unknown-at nodes all (length nodes / 2 + i)
 
 pub invariant_of-self-2 : goal.invariant_of-self-2
 invariant_of-self-2 g c =

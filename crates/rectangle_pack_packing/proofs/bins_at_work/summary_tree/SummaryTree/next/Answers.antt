@@ -2,20 +2,10 @@ use Rattle.std.proofs.Common.{◌<◌, ◌≤◌, ℕ, length, arith, refl}
 use Rattle.std.proofs.Common.{le_refl, add_assoc, sub-eq-zero_of_le}
 use Rattle.std.proofs.Common.{le-mul_of_pos_right, mul-le-mul_left, pow_pos}
 use Rattle.rectangle_pack_packing.specs.private.SummaryTrees.{IsStretch}
-use Rattle.rectangle_pack_packing.proofs.lemmas.bins.SummaryTrees.{half_of}
 use Rattle.rectangle_pack_packing.proofs.bins_at_work.summary_tree.SummaryTree.next.Goals as goal
 
 some_wide : (place node width : ℕ) → IsStretch place node width → 0 < width
 some_wide place node width at = omega (arith, at.width_is, pow_pos at.height)
-
-pub pass-requires-clause-at : goal.pass-requires-clause-at
-pass-requires-clause-at g c = c.loop-passed.invariant.at
-
-pub pass-requires-clause-before : goal.pass-requires-clause-before
-pass-requires-clause-before g c = c.loop-passed-test.true
-
-pub pass-requires-clause-end : goal.pass-requires-clause-end
-pass-requires-clause-end g c = c.requires.end
 
 pub loop-passed-preserved-in-Some : goal.loop-passed-preserved-in-Some
 loop-passed-preserved-in-Some g c =
@@ -24,7 +14,7 @@ loop-passed-preserved-in-Some g c =
     let width = c.loop-passed.stretch.width in
     record {
       from = omega (arith, kept.from, c.in-Some.ensures.index);
-      end = c.in-Some.ensures.end;
+      end = omega (arith, c.in-Some.ensures.end, c.len-end.ensures.bins);
       at = rw (c.in-Some.ensures.index, ← add_assoc (length c.args.self.now) now.index width)
           (c.after-stretch.ensures.after _ kept.at);
       out = c.in-Some.ensures.passed c.args.from kept.from kept.out;
@@ -36,75 +26,36 @@ loop-passed-preserved g c =
     let at = c.first_half-stretch.ensures.first _ kept.at in
     record { from = kept.from; end = kept.end; at = at; out = kept.out }
 
-pub returns-after-loop-passed-clause-from : goal.returns-after-loop-passed-clause-from
-returns-after-loop-passed-clause-from g c = c.loop-passed.invariant.from
-
-pub returns-after-loop-passed-clause-end : goal.returns-after-loop-passed-clause-end
-returns-after-loop-passed-clause-end g c = c.loop-passed.invariant.end
-
-pub returns-after-loop-passed-clause-passed : goal.returns-after-loop-passed-clause-passed
-returns-after-loop-passed-clause-passed g c = c.loop-passed.invariant.out
-
-pub returns-then-stretch-eq1-clause-from : goal.returns-then-stretch-eq1-clause-from
-returns-then-stretch-eq1-clause-from g c = c.loop-passed.invariant.from
-
-pub returns-then-stretch-eq1-clause-end : goal.returns-then-stretch-eq1-clause-end
-returns-then-stretch-eq1-clause-end g c = c.loop-passed.invariant.end
-
-pub returns-then-stretch-eq1-clause-passed : goal.returns-then-stretch-eq1-clause-passed
-returns-then-stretch-eq1-clause-passed g c = c.loop-passed.invariant.out
-
-pub overflow_add-stretch : goal.overflow_add-stretch
-overflow_add-stretch g c =
-    let nodes = c.self.inside.nodes in
-    let half = half_of nodes.items _ c.self.view_is c.self.invariant in
-    record { fits = omega (arith, half, nodes.ok.0, c.len.ensures, c.len.type_inv) }
-
 pub loop-passed-init : goal.loop-passed-init
 loop-passed-init g c =
-    let nodes = c.self.inside.nodes in
-    let half = half_of nodes.items _ c.self.view_is c.self.invariant in
     record {
       from = le_refl c.args.from;
-      end = c.requires.from;
+      end = omega (arith, c.if-from-end.false);
       at = record {
         height = 0;
         width_is = refl;
-        place_is = omega (arith, half, nodes.ok.0, c.len.ensures);
+        place_is = omega (arith, c.len-end.ensures.bins);
       };
       out = rw (sub-eq-zero_of_le (le_refl c.args.from)) refl;
     }
 
 pub after-stretch-requires-clause-next : goal.after-stretch-requires-clause-next
 after-stretch-requires-clause-next g c =
-    let nodes = c.self.inside.nodes in
-    let half = half_of nodes.items _ c.self.view_is c.self.invariant in
     let at = c.loop-passed.invariant.at in
     let node = c.loop-passed.stretch.node in
     let low = le-mul_of_pos_right node (some_wide _ node _ at) in
-    omega (arith, low, at.place_is, half, nodes.ok.0, c.len.ensures, c.len.type_inv)
+    omega (arith, low, at.place_is, c.len-end.ensures.bins, c.len-end.ensures.small)
 
 pub after-stretch-requires-clause-wide : goal.after-stretch-requires-clause-wide
 after-stretch-requires-clause-wide g c =
-    let nodes = c.self.inside.nodes in
-    let half = half_of nodes.items _ c.self.view_is c.self.invariant in
     let at = c.loop-passed.invariant.at in
-    omega (
-      arith,
-      at.place_is,
-      c.in-Some.ensures.index,
-      c.in-Some.ensures.end,
-      half,
-      nodes.ok.0,
-      c.len.ensures,
-      c.len.type_inv,
-    )
+    omega (arith, at.place_is, c.in-Some.ensures.index, c.in-Some.ensures.end, c.len-end.ensures.bins, c.len-end.ensures.small)
 
 pub loop-passed-smaller-in-Some : goal.loop-passed-smaller-in-Some
 loop-passed-smaller-in-Some g c =
     let some = some_wide _ _ _ c.loop-passed.invariant.at in
     let wide = c.after-stretch.ensures.width in
-    omega (arith, some, wide, c.in-Some.ensures.index, c.in-Some.ensures.end)
+    omega (arith, some, wide, c.in-Some.ensures.index, c.in-Some.ensures.end, c.len-end.ensures.bins)
 
 pub first_half-stretch-requires-clause-wide : goal.first_half-stretch-requires-clause-wide
 first_half-stretch-requires-clause-wide g c =
@@ -113,14 +64,12 @@ first_half-stretch-requires-clause-wide g c =
 
 pub first_half-stretch-requires-clause-node : goal.first_half-stretch-requires-clause-node
 first_half-stretch-requires-clause-node g c =
-    let nodes = c.self.inside.nodes in
-    let half = half_of nodes.items _ c.self.view_is c.self.invariant in
     let at = c.loop-passed.invariant.at in
     let node = c.loop-passed.stretch.node in
     let some = some_wide _ node _ at in
     let two : 2 ≤ c.loop-passed.stretch.width = omega (arith, some, c.if-stretch-eq1.false) in
     let low = mul-le-mul_left node two in
-    omega (arith, low, at.place_is, half, nodes.ok.0, c.len.ensures, c.len.type_inv)
+    omega (arith, low, at.place_is, c.len-end.ensures.bins, c.len-end.ensures.small)
 
 pub loop-passed-smaller : goal.loop-passed-smaller
 loop-passed-smaller g c = omega (arith, c.first_half-stretch.ensures.width)

@@ -12,47 +12,8 @@ returns-clause-passed g c = λ from le before.
     let added : c.in_ok-checked_add.field-0 ≡ c.args.passed.now.tests + s.count =
     omega (arith, c.in_ok-checked_add.ensures.1, c.count.ensures) in
     RuleOut-pass nodes c.args.self.now c.args.size.now from c.args.passed.now.index c.args.stretch.now.node c.args.stretch.now.width c.args.passed.now.tests
-    c.in_ok-checked_add.field-0 s _ c.self.invariant (sym c.self.view_is) le (omega (arith, c.requires.end, c.requires.before, c.if-end-passed.false)) c.requires.at is
+    c.in_ok-checked_add.field-0 s _ c.self.invariant (sym c.self.view_is) le (omega (arith, c.requires.before, c.if-len-passed.false)) c.requires.at is
     c.if-may_hold.ensures added before
-
-pub returns-in_err-checked_add-clause-end : goal.returns-in_err-checked_add-clause-end
-returns-in_err-checked_add-clause-end g c = rw (c.from_residual-in_err-checked_add.ensures) tt
-
-pub returns-in_err-checked_add-clause-index : goal.returns-in_err-checked_add-clause-index
-returns-in_err-checked_add-clause-index g c = rw (c.from_residual-in_err-checked_add.ensures) tt
-
-pub returns-in_err-checked_add-clause-passed : goal.returns-in_err-checked_add-clause-passed
-returns-in_err-checked_add-clause-passed g c = λ from low out. rw (c.from_residual-in_err-checked_add.ensures) tt
-
-pub returns-in_err-summary-clause-end : goal.returns-in_err-summary-clause-end
-returns-in_err-summary-clause-end g c = rw (c.from_residual.ensures) tt
-
-pub returns-in_err-summary-clause-index : goal.returns-in_err-summary-clause-index
-returns-in_err-summary-clause-index g c = rw (c.from_residual.ensures) tt
-
-pub returns-in_err-summary-clause-passed : goal.returns-in_err-summary-clause-passed
-returns-in_err-summary-clause-passed g c = λ from low out. rw (c.from_residual.ensures) tt
-
-pub returns-then-end-passed-clause-end : goal.returns-then-end-passed-clause-end
-returns-then-end-passed-clause-end g c = tt
-
-pub returns-then-end-passed-clause-index : goal.returns-then-end-passed-clause-index
-returns-then-end-passed-clause-index g c = tt
-
-pub returns-then-end-passed-clause-passed : goal.returns-then-end-passed-clause-passed
-returns-then-end-passed-clause-passed g c = λ from low out. tt
-
-pub returns-then-may_hold-clause-end : goal.returns-then-may_hold-clause-end
-returns-then-may_hold-clause-end g c = tt
-
-pub returns-then-may_hold-clause-index : goal.returns-then-may_hold-clause-index
-returns-then-may_hold-clause-index g c = tt
-
-pub returns-then-may_hold-clause-passed : goal.returns-then-may_hold-clause-passed
-returns-then-may_hold-clause-passed g c = λ from low out. tt
-
-pub returns-clause-index : goal.returns-clause-index
-returns-clause-index g c = refl
 
 pub index-requires : goal.index-requires
 index-requires g c =
@@ -63,4 +24,4 @@ index-requires g c =
     let half = ap length c.self.view_is in
     let some : 0 < width = omega (arith, at.width_is, pow_pos at.height) in
     let low = le-mul_of_pos_right c.args.stretch.now.node some in
-    omega (arith, low, at.place_is, c.requires.before, c.requires.end, half, long, nodes.ok.0)
+    omega (arith, low, at.place_is, c.requires.before, half, long, nodes.ok.0)

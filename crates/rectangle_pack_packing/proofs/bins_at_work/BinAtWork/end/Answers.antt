@@ -6,7 +6,7 @@ use Rattle.rectangle_pack_lists.specs.declared.free_list.End.TheVariants.{Keep, 
 use Rattle.rectangle_pack_lists.specs.private.FreeLists.{left_of, now_of, start_of}
 use Rattle.rectangle_pack_lists.specs.private.FreeLists as lists
 use Rattle.rectangle_pack_packing.specs.private.BinsAtWork.{left_at, AtWork}
-use Rattle.rectangle_pack_packing.proofs.bins_at_work.bin_at_work.BinAtWork.end.Goals as goal
+use Rattle.rectangle_pack_packing.proofs.bins_at_work.BinAtWork.end.Goals as goal
 
 -- the sections of the list are sound, whatever the end
 sound : (end : End) (size : Size) (work : lists.AtWork) → IsSound size (start_of work) → IsSound size (now_of work) → IsSound size (left_of end work)

@@ -3,10 +3,10 @@ use Rattle.rectangle_pack_sections.specs.Bins.{Bin, IsSound}
 use Rattle.rectangle_pack_lists.specs.private.FreeLists.{now_of, start_of}
 use Rattle.rectangle_pack_lists.specs.private.Places.{sections_of}
 use Rattle.rectangle_pack_lists.proofs.lemmas.trial.PlaceSteps.{sections_of-full}
-use Rattle.rectangle_pack_packing.proofs.bins_at_work.bin_at_work.BinAtWork.new.Given.{Over}
-use Rattle.rectangle_pack_packing.proofs.bins_at_work.bin_at_work.BinAtWork.new.Goals.{After-new}
-use Rattle.rectangle_pack_packing.proofs.bins_at_work.bin_at_work.BinAtWork.new.Goals.at as goal_at
-use Rattle.rectangle_pack_packing.proofs.bins_at_work.bin_at_work.BinAtWork.new.Goals as goal
+use Rattle.rectangle_pack_packing.proofs.bins_at_work.BinAtWork.new.Given.{Over}
+use Rattle.rectangle_pack_packing.proofs.bins_at_work.BinAtWork.new.Goals.{After-new}
+use Rattle.rectangle_pack_packing.proofs.bins_at_work.BinAtWork.new.Goals.at as goal_at
+use Rattle.rectangle_pack_packing.proofs.bins_at_work.BinAtWork.new.Goals as goal
 
 -- the list has the bin's sections, now and at the start
 now_is : (g : Over) (c : After-new g) → now_of c.new.result ≡ c.args.bin.bin.sections
