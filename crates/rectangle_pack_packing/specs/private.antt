@@ -7,4 +7,5 @@ pub mod SummaryTrees
 pub mod BinsAtWork
 pub mod BinsOut
 pub mod PassedOver
+pub mod OnItsWay
 pub mod Ends

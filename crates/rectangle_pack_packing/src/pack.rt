@@ -15,15 +15,11 @@ ghost use Rattle.rectangle_pack_packing.specs.private.Ends.{IsUndoneAnswer};
 pub mod attempt;
 pub mod best;
 pub mod bin_order;
-mod ends;
-pub mod first_fit;
-mod next_bin;
 pub mod packing;
 
 use crate::answer::{RectanglePackError, RectanglePackOk, answer_of};
+use crate::pack::attempt::end_packing;
 use crate::pack::bin_order::bin_order;
-use crate::pack::ends::end_packing;
-use crate::pack::first_fit::pack_noted;
 use crate::pack::packing::Packing;
 pub use best::pack_rects_best;
 use rectangle_pack_bins::target_bin::TargetBin;
@@ -293,9 +289,9 @@ where
 {
     let entries = number_after(0, rects_to_place.groups()).unwrap_or(u64::MAX) as usize;
     let bins = std::mem::replace(target_bins, BTreeMap::new(alloc));
-    let mut packing = Packing::new(bins, order, alloc);
-    let packed = pack_noted(&mut packing, rects_to_place, entries, policy);
-    let counted = packing.tests.count();
+    let mut packing = Packing::new(bins, order, policy, alloc);
+    let packed = packing.place_all(rects_to_place, entries);
+    let counted = packing.count();
     let (bins, answer) = end_packing(alloc, packing, packed, refused);
     *target_bins = bins;
     let made = match answer {
