@@ -246,10 +246,10 @@ where
         // Packed: every entry of every group is placed once, in the size of its id, and each group
         //   in one bin.
         // Packed: two groups of this packing that are excluded are in different bins.
-        //   [place_next.exclusions_are_not_used]
+        //   [place_groups.first_groups_exclusions_are_used]
         // `NotEnoughBinSpace`: for some group, each bin of the session is excluded or the group's
         //   trial is stuck there, as the groups before it left that bin.
-        //   [next_bin.one_bin_only_is_tried]
+        //   [place_group.one_bin_only_is_tried]
         ensures promise { let order = ⟦<Group<GroupId, Id> as Ord>⟧.cmp in
             let may = answers H.Fn C.Fn heuristic.now comparison.now in
             PacksAsPromised order (rules_by Id.cmp BinId.cmp may) groups.now

@@ -113,17 +113,13 @@ module _ {Id B : Type 0} (rules : Rules Id B) where
         × AreAllPlaced order gs (record { bins = next; homes = (g.0, placed.here) ∷ old.homes }) later new others
         × (placements ≡ first ++ later) × (tests ≡ one + others)
 
-    -- the groups at the beginning of the group order are placed (`AreAllPlaced`), and the next group is refused in the
-    -- bins as these left them (`IsRefused`); `taken` names them all, the refused one last. The tests are those of all
-    -- these groups
-    pub record StopsAfter (group_cmp : K → K → Ordering) (sizes : List (Id × Size)) (lists : List (K × List Id))
-        (group_order : List (ℕ × K)) (order : List B) (old new : List (B × Bin)) (tests : ℕ) : Type 0 where
-      pub taken : List (ℕ × K)
-      pub later : List (ℕ × K)
-      pub order_is : group_order ≡ taken ++ later
+    -- the groups at the beginning are placed (`AreAllPlaced`), and the next group is refused in the bins as these left
+    -- them (`IsRefused`). The tests are those of all these groups
+    pub record StopsAfter (order : List B) (groups : List (K × Members Id)) (old new : List (B × Bin)) (tests : ℕ) : Type 0 where
       pub beginning : List (K × Members Id)
       pub next : K × Members Id
-      pub listed : AreGroups rules.id_cmp group_cmp sizes lists taken (beginning ++ next ∷ [])
+      pub later : List (K × Members Id)
+      pub groups_are : groups ≡ beginning ++ next ∷ later
       pub placements : List (Placement Id B)
       pub homes : List (K × B)
       pub first : ℕ
@@ -154,10 +150,12 @@ module _ {Id B G : Type 0} (group_cmp : Group G Id → Group G Id → Ordering) 
       (all : Collection Id G) (old new : List (B × Bin)) : Type 0 where
     pub group_order : List (ℕ × Group G Id)
     pub bin_order : List (ℕ × B)
+    pub groups : List (Group G Id × Members Id)
     pub by_groups : IsGroupOrder rules.may.rate group_cmp rules.id_cmp all.sizes all.groups group_order
     pub by_bins : IsBinOrder rules.may.rate rules.bin_cmp old bin_order
+    pub listed : AreGroups rules.id_cmp group_cmp all.sizes all.groups group_order groups
     pub tests : ℕ
-    pub stops : StopsAfter rules excludes group_cmp all.sizes all.groups group_order (map (λ o. o.1) bin_order) old new tests
+    pub stops : StopsAfter rules excludes (map (λ o. o.1) bin_order) groups old new tests
 
   -- a packing is done (`PackingDoneBy`), where the collection's excluded pairs exclude bins (`excludes_by`)
   -- Example: into the bins P and Q, 10x10x1, the groups A of p 4x4x1 and B of q 4x4x1, which are excluded. Keys are

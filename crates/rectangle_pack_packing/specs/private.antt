@@ -6,4 +6,5 @@ pub mod Orders
 pub mod SummaryTrees
 pub mod BinsAtWork
 pub mod PassedOver
+pub mod OnItsWay
 pub mod Ends

@@ -1,11 +1,9 @@
 //! The bins of groups that were placed, and which bins these exclude for a group.
-ghost use Rattle.std.specs.Prelude.{◌≡◌, ◌∷◌, [], List, false, All, IfOk, OnOk};
-ghost use Rattle.std.specs.BTreeMap.{is_at};
+ghost use Rattle.std.specs.Prelude.{◌≡◌, [], false, IfOk, OnOk};
 ghost use Rattle.std.specs.Bool.{OnTrue};
-ghost use Rattle.std.specs.List.{list_any};
-ghost use Rattle.rectangle_pack_sections.specs.Exclusions.{listed_at};
-ghost use Rattle.rectangle_pack_packing.specs.private.Excluded.{are_in, went_to, AreHomesKept};
+ghost use Rattle.rectangle_pack_packing.specs.private.Excluded.{are_in, went_to, bars, IsHomeKept};
 
+use rectangle_pack_groups::grouped_rects_to_place::exclusions::Exclusions;
 use std::alloc::{AllocError, Allocator};
 use std::collections::{BTreeMap, BTreeSet};
 use std::marker::Model;
@@ -49,63 +47,64 @@ impl<'b, B: Ord, A: Allocator + Copy> ExcludedBins<'b, B, A> {
 }
 
 /// The homes of groups: the bin of each group that was placed and is excluded with others.
-pub struct Homes<'a, 'b, K: Ord, B, A: Allocator + Copy> {
+pub struct Homes<'a, 'b, K: Ord, B: Ord, A: Allocator + Copy> {
+    exclusions: &'a Exclusions<K, A>,
     bins: BTreeMap<&'a K, &'b B, A>,
     alloc: A,
 }
 
-impl<'a, 'b, K: Ord, B, A: Allocator + Copy> Model for Homes<'a, 'b, K, B, A> {
-    ghost use Rattle.std.specs.Prelude.{List};
-    ghost use Rattle.std.specs.Borrow.{Bor};
+impl<'a, 'b, K: Ord, B: Ord, A: Allocator + Copy> Model for Homes<'a, 'b, K, B, A> {
+    ghost use Rattle.rectangle_pack_packing.specs.private.Excluded.{KeptHomes};
 
-    ghost Value = { List (Bor K × Bor B) };
+    ghost Value = { KeptHomes K B };
 
-    ghost view = { λ h. h.bins.entries };
+    ghost view = { λ h. record { partners = h.exclusions.now; bins = h.bins.entries } };
 }
 
 // Written out, as above.
-impl<'a, 'b, K: Ord, B, A: Allocator + Copy> Drop for Homes<'a, 'b, K, B, A> {
+impl<'a, 'b, K: Ord, B: Ord, A: Allocator + Copy> Drop for Homes<'a, 'b, K, B, A> {
     fn drop(self) {
-        let Homes { bins, alloc: _ } = self;
+        let Homes {
+            exclusions: _,
+            bins,
+            alloc: _,
+        } = self;
         drop(bins);
     }
 }
 
 impl<'a, 'b, K: Ord, B: Ord, A: Allocator + Copy> Homes<'a, 'b, K, B, A> {
     /// No homes. Takes no memory.
-    pub fn new(alloc: A) -> Self
-        ensures { result ≡ [] }
+    pub fn new(exclusions: &'a Exclusions<K, A>, alloc: A) -> Self
+        ensures { result ≡ record { partners = exclusions.now; bins = [] } }
     {
         Homes {
+            exclusions,
             bins: BTreeMap::new(alloc),
             alloc,
         }
     }
 
-    /// Keeps the bin of a group for those that are excluded with it, where there are any.
-    pub fn keep(&mut self, name: &'a K, here: &'b B, partners: &[K]) -> Result<(), AllocError>
-        ensures { OnOk result
-            ((all : List (K × List K)) (placed : List (K × B)) →
-            partners.now ≡ listed_at K.cmp all name.now →
-            All (λ home. is_at (K.cmp name.now) home.0 ≡ false) placed →
-            AreHomesKept K.cmp B.cmp all placed self.old →
-            AreHomesKept K.cmp B.cmp all ((name.now, here.now) ∷ placed) self.new) }
+    /// Keeps the bin of a group for those that are excluded with it, where there are any. Fails only
+    /// when memory is refused.
+    pub fn keep(&mut self, group: &'a K, here: &'b B) -> Result<(), AllocError>
+        requires fresh { (id : B) → went_to K.cmp B.cmp self.old.bins group.now id ≡ false }
+        ensures { OnOk result (IsHomeKept K.cmp B.cmp self.old group.now here.now self.new) }
     {
-        if !partners.is_empty() {
-            self.bins.insert(name, here)?;
+        if !self.exclusions.partners(group).is_empty() {
+            self.bins.insert(group, here)?;
         }
         Ok(())
     }
 
-    /// The homes of these groups, of those that have one.
-    pub fn excluded_bins(&self, partners: &'a [K]) -> Result<ExcludedBins<'b, B, A>, AllocError>
+    /// The homes of the groups that are excluded with this one, of those that have one. Fails only
+    /// when memory is refused.
+    pub fn excluded_bins(&self, group: &K) -> Result<ExcludedBins<'b, B, A>, AllocError>
         ensures { IfOk result
-            (λ s.
-            (id : B) → are_in B.cmp s id ≡
-            list_any (λ p. went_to K.cmp B.cmp self.now p id) partners.now) }
+            (λ s. (id : B) → are_in B.cmp s id ≡ bars K.cmp B.cmp self.now group.now id) }
     {
         let mut ids = BTreeSet::new(self.alloc);
-        for partner in partners {
+        for partner in self.exclusions.partners(group) {
             if let Some(id) = self.bins.get(&partner) {
                 ids.insert(*id)?;
             }

@@ -15,15 +15,11 @@ ghost use Rattle.rectangle_pack_packing.specs.private.Ends.{IsUndoneAnswer};
 pub mod attempt;
 pub mod best;
 pub mod bin_order;
-mod ends;
-pub mod first_fit;
-mod next_bin;
 pub mod packing;
 
 use crate::answer::{RectanglePackError, RectanglePackOk, answer_of};
+use crate::pack::attempt::end_packing;
 use crate::pack::bin_order::bin_order;
-use crate::pack::ends::end_packing;
-use crate::pack::first_fit::pack_noted;
 use crate::pack::packing::Packing;
 pub use best::pack_rects_best;
 use rectangle_pack_bins::target_bin::TargetBin;
@@ -121,7 +117,7 @@ where
     //   is done, as the groups before it left that bin. In each bin before that one in the order,
     //   it is excluded or its trial is stuck. [run_trial.group_goes_on_into_the_next_bin]
     // Done: a bin is excluded for a group exactly where a group that is excluded with it went there
-    //   earlier in the same packing. [place_next.exclusions_are_not_used]
+    //   earlier in the same packing. [place_groups.first_groups_exclusions_are_used]
     // Done: in a trial each member in turn goes to the corner of the newest section that holds it.
     //   [newest.first_section_is_taken]
     // Done: that section is taken out of the list. The pieces of an allowed cut, as `pieces` of
@@ -186,7 +182,7 @@ where
     requires callable { AreCallable H.Fn C.Fn box_size_heuristic.now
         more_suitable_containers_fn.now }
     // Done, `NotEnoughBinSpace` and `OutOfMemory` say of the answer and of the bins what they say
-    //   in `pack_rects`. [next_bin.one_bin_only_is_tried]
+    //   in `pack_rects`. [place_group.one_bin_only_is_tried]
     // Done or `NotEnoughBinSpace`: exactly the fit tests of this packing are added to the counter,
     //   which stays at the greatest `u128`. They are those of the trials of each group, in the bins
     //   up to its own, or in all bins where it is refused; in an excluded bin there are none.
@@ -293,9 +289,9 @@ where
 {
     let entries = number_after(0, rects_to_place.groups()).unwrap_or(u64::MAX) as usize;
     let bins = std::mem::replace(target_bins, BTreeMap::new(alloc));
-    let mut packing = Packing::new(bins, order, alloc);
-    let packed = pack_noted(&mut packing, rects_to_place, entries, policy);
-    let counted = packing.tests.count();
+    let mut packing = Packing::new(bins, order, policy, alloc);
+    let packed = packing.place_all(rects_to_place, entries);
+    let counted = packing.count();
     let (bins, answer) = end_packing(alloc, packing, packed, refused);
     *target_bins = bins;
     let made = match answer {

@@ -52,7 +52,7 @@ where
         // After each command what always holds of a session holds.
         //   [give_back.no_section_is_given_back]
         // Each packing keeps what the clause `promise` of `Session::pack` says.
-        //   [next_bin.one_bin_only_is_tried]
+        //   [place_group.one_bin_only_is_tried]
         // An error leaves the session as it was.
         ensures promise { let order = ⟦<Group<GroupId, Id> as Ord>⟧.cmp in
             let may = answers H.Fn C.Fn heuristic.now comparison.now in

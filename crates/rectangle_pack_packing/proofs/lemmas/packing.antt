@@ -1,6 +1,5 @@
 -- Packings. Read Orders and Groups first; Frame carries whatever each step keeps through a packing, and is the main lemma. Whole and Refused say what
--- is promised of groups, FitTests bounds the tests, InOrder joins these; Laws has the laws. Tried makes a placed group of a done
--- trial, PassedOver says that bins that are passed over do not take a group, Ends what a packing answers.
+-- is promised of groups, FitTests bounds the tests, InOrder joins these; Laws has the laws. PassedOver says that bins that are passed over do not take a group, Ends what a packing answers.
 pub mod Orders
 pub mod Placed
 pub mod Excluded
@@ -15,6 +14,5 @@ pub mod KeepsCuts
 pub mod Whole
 pub mod Refused
 pub mod Laws
-pub mod Tried
 pub mod PassedOver
 pub mod Ends

@@ -4,7 +4,6 @@ use Rattle.std.specs.declared.cmp.Ordering.{Ordering}
 use Rattle.rectangle_pack_packing.specs.declared.answer.RectanglePackOk.{RectanglePackOk}
 use Rattle.rectangle_pack_packing.specs.declared.answer.RectanglePackError.{RectanglePackError}
 use Rattle.rectangle_pack_packing.specs.declared.answer.RectanglePackError.TheVariants.{NotEnoughBinSpace, OutOfMemory}
-use Rattle.rectangle_pack_packing.specs.declared.pack.packing.Packing.{Packing}
 use Rattle.rectangle_pack_sections.specs.Bins.{Bin}
 use Rattle.rectangle_pack_sections.specs.declared.group.Group.{Group}
 use Rattle.rectangle_pack_sections.specs.Groups.{Collection}
@@ -14,13 +13,14 @@ use Rattle.rectangle_pack_packing.specs.Placed.{AreLastPlacements, placements_of
 use Rattle.rectangle_pack_lists.specs.declared.free_list.End.{End}
 use Rattle.rectangle_pack_lists.specs.declared.free_list.End.TheVariants.{Keep, Undo}
 use Rattle.rectangle_pack_packing.specs.private.BinsAtWork.{left_of}
+use Rattle.rectangle_pack_packing.specs.private.OnItsWay.{OnItsWay}
 
 -- what a packing answers, and the bins with it: those it has where it is done, those of the start where memory was
 -- refused, and where it is refused for space what `refused` leaves
-abbrev pub IsEnd : {Id B A E : Type 0} → (Id → Id → Ordering) → (B → B → Ordering) → Packing Id B A → Result Bool E → End → List (B × Bin)
+abbrev pub IsEnd : {Id B R A E : Type 0} → (Id → Id → Ordering) → (B → B → Ordering) → OnItsWay Id B R → Result Bool E → End → List (B × Bin)
     → Result (RectanglePackOk Id B A) RectanglePackError → Type 0
 IsEnd cmp bin_cmp packing packed refused bins (Ok ok) =
-    (packed ≡ Ok true) × (bins ≡ packing.bins.now) × (placements_of ok ≡ packing.placements.items)
+    (packed ≡ Ok true) × (bins ≡ packing.bins.now) × (placements_of ok ≡ packing.placements)
     × AreLastPlacements cmp bin_cmp (placements_of ok) (locations_of ok)
 IsEnd cmp bin_cmp packing packed refused bins (Err NotEnoughBinSpace) = (packed ≡ Ok false) × (bins ≡ left_of refused packing.bins)
 IsEnd cmp bin_cmp packing packed refused bins (Err OutOfMemory) = bins ≡ packing.bins.start

@@ -5,10 +5,8 @@ use Rattle.std.specs.Map.{lookup}
 use Rattle.std.specs.List.{AllZip, sum_by}
 use Rattle.std.specs.BTreeMap.{is_at}
 use Rattle.rectangle_pack_packing.specs.declared.order.OrderedGroup.{OrderedGroup}
-use Rattle.rectangle_pack_packing.specs.declared.answer.Placement.{Placement}
-use Rattle.rectangle_pack_sections.specs.Bins.{Bin}
 use Rattle.rectangle_pack_sections.specs.Boxes.{Size}
-use Rattle.rectangle_pack_packing.specs.Packing.{Rules, Members, at_start, AreAllPlaced, IsRefused}
+use Rattle.rectangle_pack_packing.specs.Packing.{Members}
 
 -- an order of references, as keys and what they point to
 abbrev pub keys_of_order : {K Id A : Type 0} → List (OrderedGroup K Id A) → List (ℕ × K)
@@ -41,18 +39,3 @@ HasSizes all o = o.start + length o.ids.now.items ≤ length all
 -- Example: of groups of 2 and 3: 5
 abbrev pub members_in : {Id K : Type 0} → List (K × Members Id) → ℕ
 members_in {Id} {K} gs = sum_by (λ (g : K × Members Id). length g.1.sizes) gs
-
--- groups at the beginning of the order are placed, and the next one is refused
-pub record StopsAmong {Id B K : Type 0} (rules : Rules Id B) (excludes : List (K × B) → K → B → Bool) (order : List B)
-    (groups : List (K × Members Id)) (old new : List (B × Bin)) (tests : ℕ) : Type 0 where
-  pub beginning : List (K × Members Id)
-  pub next : K × Members Id
-  pub later : List (K × Members Id)
-  pub groups_are : groups ≡ beginning ++ next ∷ later
-  pub placements : List (Placement Id B)
-  pub homes : List (K × B)
-  pub first : ℕ
-  pub placed : AreAllPlaced rules excludes order beginning (at_start old) placements (record { bins = new; homes = homes }) first
-  pub count : ℕ
-  pub refused : IsRefused rules (excludes homes next.0) order next.1 new count
-  pub tests_are : tests ≡ first + count

@@ -176,17 +176,13 @@ module _ {Id B : Type 0} (cmp : Id → Id → Ordering) (bin_cmp : B → B → O
       count,
     )
 
-    stops_more : (group_cmp : K → K → Ordering) (sizes : List (Id × Size)) (lists : List (K × List Id)) (group_order : List (ℕ × K)) (order : List B)
-        (old new : List (B × Bin)) (n : ℕ)
-        → StopsAfter Less excludes group_cmp sizes lists group_order order old new n
-        → StopsAfter More excludes group_cmp sizes lists group_order order old new n
-    stops_more group_cmp sizes lists group_order order old new n h = record {
-      taken = h.taken;
-      later = h.later;
-      order_is = h.order_is;
+    stops_more : (order : List B) (groups : List (K × Members Id)) (old new : List (B × Bin)) (n : ℕ)
+        → StopsAfter Less excludes order groups old new n → StopsAfter More excludes order groups old new n
+    stops_more order groups old new n h = record {
       beginning = h.beginning;
       next = h.next;
-      listed = h.listed;
+      later = h.later;
+      groups_are = h.groups_are;
       placements = h.placements;
       homes = h.homes;
       first = h.first;
@@ -219,10 +215,12 @@ module _ {Id B : Type 0} (cmp : Id → Id → Ordering) (bin_cmp : B → B → O
     PackingRefused-more all old new h = record {
       group_order = h.group_order;
       bin_order = h.bin_order;
+      groups = h.groups;
       by_groups = groups_more may more includes group_cmp cmp all.sizes all.groups h.group_order h.by_groups;
       by_bins = bins_more may more includes bin_cmp old h.bin_order h.by_bins;
+      listed = h.listed;
       tests = h.tests;
-      stops = stops_more excludes group_cmp all.sizes all.groups h.group_order (map (λ o. o.1) h.bin_order) old new h.tests h.stops;
+      stops = stops_more excludes (map (λ o. o.1) h.bin_order) h.groups old new h.tests h.stops;
     }
 
 -- each of two may answer what either may

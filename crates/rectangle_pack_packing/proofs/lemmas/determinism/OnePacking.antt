@@ -25,13 +25,6 @@ use Rattle.rectangle_pack_packing.proofs.lemmas.determinism.OneTrial.{split_firs
 use Rattle.rectangle_pack_sections.proofs.lemmas.util.Zips.{All-from_zip, All-alike, values_alike, AllZip-along, AllZip-append, AllZip-join}
 use Rattle.rectangle_pack_packing.proofs.lemmas.determinism.OneOrder.{one_group_order, one_bin_order}
 
--- alike as far as both lists go; a list that ends before the other is not at its order's end
-abbrev Agree : {X : Type 0} → (X → X → Type 0) → Type 0 → Type 0 → List X → List X → Type 0
-Agree R End1 End2 [] [] = Unit {0}
-Agree R End1 End2 [] (y ∷ ys) = ¬ End1
-Agree R End1 End2 (x ∷ xs) [] = ¬ End2
-Agree R End1 End2 (x ∷ xs) (y ∷ ys) = R x y × Agree R End1 End2 xs ys
-
 -- equal ids with the same sizes, under names that are equal
 record AreGroupsAlike {Id K : Type 0} (group_cmp : K → K → Ordering) (cmp : Id → Id → Ordering) (g h : K × Members Id) : Type 0 where
   pub name : group_cmp g.0 h.0 ≡ Equal
@@ -50,23 +43,21 @@ module _ {Id K : Type 0} (group_cmp : K → K → Ordering) (cmp : Id → Id →
       sym (each_same xs ys (AllZip-join (λ x y. cmp x y ≡ Equal) P Q (λ x y. y ≡ x)
       (λ i j x y t e g. let s : Some x ≡ Some y = sym e ∙ lookup-same total i j t sizes1 sizes2 sizes ∙ g in cc) ids1 ids2 xs ys alike h k))
 
-  -- orders that are alike name groups that agree
-  one_groups : (f1 l1 f2 l2 : List (ℕ × K)) (g1 g2 : List (K × Members Id)) → AllZip (λ a b. group_cmp a.1 b.1 ≡ Equal) (f1 ++ l1) (f2 ++ l2)
-      → AreGroups cmp group_cmp sizes1 lists1 f1 g1 → AreGroups cmp group_cmp sizes2 lists2 f2 g2
-      → Agree (AreGroupsAlike group_cmp cmp) (l1 ≡ []) (l2 ≡ []) g1 g2
-  one_groups [] l1 f2 l2 (a ∷ g1) g2 h p q = absurd p.each
-  one_groups (x ∷ f1) l1 f2 l2 [] g2 h p q = absurd p.each
-  one_groups f1 l1 [] l2 g1 (b ∷ g2) h p q = absurd q.each
-  one_groups f1 l1 (y ∷ f2) l2 g1 [] h p q = absurd q.each
-  one_groups [] l1 [] l2 [] [] h p q = tt
-  one_groups [] l1 (y ∷ f2) l2 [] (b ∷ g2) h p q = λ none. rw none at h
-  one_groups (x ∷ f1) l1 [] l2 (a ∷ g1) [] h p q = λ none. rw none at h
-  one_groups (x ∷ f1) l1 (y ∷ f2) l2 (a ∷ g1) (b ∷ g2) h p q =
+  -- an entry of an order names the group
+  abbrev Names : List (Id × Size) → List (K × List Id) → ℕ × K → K × Members Id → Type 0
+  Names sizes lists entry group = (group.0 ≡ entry.1) × (lookup (is_at (group_cmp entry.1)) lists ≡ Some group.1.ids)
+      × AllZip (λ id size. lookup (is_at (cmp id)) sizes ≡ Some size) group.1.ids group.1.sizes
+
+  -- orders that are alike name groups that are alike
+  one_groups : (order1 order2 : List (ℕ × K)) (g1 g2 : List (K × Members Id)) → AllZip (λ a b. group_cmp a.1 b.1 ≡ Equal) order1 order2
+      → AreGroups cmp group_cmp sizes1 lists1 order1 g1 → AreGroups cmp group_cmp sizes2 lists2 order2 g2 → AllZip (AreGroupsAlike group_cmp cmp) g1 g2
+  one_groups order1 order2 g1 g2 h p q =
       let Alike : List Id → List Id → Type 0 = λ u v. AllZip (λ i j. cmp i j ≡ Equal) u v in
-      let ids : Alike a.1.ids b.1.ids = rw (p.each.0.1, q.each.0.1) at (lookup-alike group_total Alike x.1 y.1 h.0 lists1 lists2 lists) in (
-        record { name = rw (p.each.0.0, q.each.0.0) h.0; ids = ids; sizes = one_sizes a.1.ids b.1.ids a.1.sizes b.1.sizes ids p.each.0.2 q.each.0.2 },
-        one_groups f1 l1 f2 l2 g1 g2 h.1 (record { each = p.each.1 }) (record { each = q.each.1 }),
-      )
+      AllZip-join (λ (x : ℕ × K) (y : ℕ × K). group_cmp x.1 y.1 ≡ Equal) (Names sizes1 lists1) (Names sizes2 lists2) (AreGroupsAlike group_cmp cmp)
+      (λ x y a b same k l.
+      let ids : Alike a.1.ids b.1.ids = rw (k.1, l.1) at (lookup-alike group_total Alike x.1 y.1 same lists1 lists2 lists) in
+      record { name = rw (k.0, l.0) same; ids = ids; sizes = one_sizes a.1.ids b.1.ids a.1.sizes b.1.sizes ids k.2 l.2 })
+      order1 order2 g1 g2 h p.each q.each
 
 -- a list that is split, and one alike: the other is split alike
 pub record SplitAlike {X : Type 0} (R : X → X → Type 0) (before : List X) (here : X) (after ys : List X) : Type 0 where
@@ -121,10 +112,10 @@ record AreStagesAlike {K B : Type 0} (group_cmp : K → K → Ordering) (bin_cmp
 abbrev BarAlike : {B : Type 0} → (B → B → Ordering) → (B → Bool) → (B → Bool) → Type 0
 BarAlike {B} bin_cmp excluded1 excluded2 = (a b : B) → bin_cmp a b ≡ Equal → excluded1 a ≡ excluded2 b
 
--- a packing stops where its order of groups is at its end, or at a group that is refused
-abbrev Stops : {Id B K : Type 0} → Rules Id B → (List (K × B) → K → B → Bool) → List B → Type 0 → Stage K B → List (K × Members Id) → Type 0
-Stops rules bars order End s [] = End
-Stops rules bars order End s (g ∷ gs) = (n : ℕ) × IsRefused rules (bars s.homes g.0) order g.1 s.bins n
+-- a packing stops behind the last group, or at a group that is refused
+abbrev Stops : {Id B K : Type 0} → Rules Id B → (List (K × B) → K → B → Bool) → List B → Stage K B → List (K × Members Id) → Type 0
+Stops rules bars order s [] = Unit {0}
+Stops rules bars order s (g ∷ gs) = (n : ℕ) × IsRefused rules (bars s.homes g.0) order g.1 s.bins n
 
 module _ {Id B : Type 0} (rules : Rules Id B) (boxes : List Size) (bins : List Bin)
     (decide : ClosuresDecide boxes bins rules.may) (id_total : IsTotalOrder rules.id_cmp) (bin_total : IsTotalOrder rules.bin_cmp) where
@@ -266,30 +257,30 @@ module _ {Id B : Type 0} (rules : Rules Id B) (boxes : List Size) (bins : List B
       not_refused_and_placed qs n i j r q = placed_here q (All-middle (Passes bar2 h.1 t.bins) order2 q.before q.after q.here q.order_is
           (all_passed order1 order2 r.counts order r.passed))
 
-    -- two packings of groups that agree place equally many groups, and place them alike
-    one_run : (End1 End2 : Type 0) (b1 b2 l1 l2 : List (K × Members Id)) (s t m n : Stage K B) (ps qs : List (Placement Id B)) (i j : ℕ)
+    -- two packings of groups that are alike place equally many groups, and place them alike
+    one_run : (b1 b2 l1 l2 : List (K × Members Id)) (s t m n : Stage K B) (ps qs : List (Placement Id B)) (i j : ℕ)
         → All (MayBeCutIn bins) (values_of s.bins) → All (AreAmong boxes) (b1 ++ l1)
         → (0 < length (b1 ++ l1) → 0 < length (b2 ++ l2) → AllZip Equals order1 order2) → AreStagesAlike group_cmp rules.bin_cmp s t
-        → Agree (AreGroupsAlike group_cmp rules.id_cmp) End1 End2 (b1 ++ l1) (b2 ++ l2)
-        → AreAllPlaced rules bars1 order1 b1 s ps m i → Stops rules bars1 order1 End1 m l1
-        → AreAllPlaced rules bars2 order2 b2 t qs n j → Stops rules bars2 order2 End2 n l2
+        → AllZip (AreGroupsAlike group_cmp rules.id_cmp) (b1 ++ l1) (b2 ++ l2)
+        → AreAllPlaced rules bars1 order1 b1 s ps m i → Stops rules bars1 order1 m l1
+        → AreAllPlaced rules bars2 order2 b2 t qs n j → Stops rules bars2 order2 n l2
         → AreBinsAlike rules.bin_cmp m.bins n.bins × ArePlacementsAlike rules.id_cmp rules.bin_cmp ps qs
-        × Agree (AreGroupsAlike group_cmp rules.id_cmp) End1 End2 l1 l2
-    one_run E F [] [] l1 l2 s t m n ps qs i j u among order alike agree p p_stops q q_stops = (rw (p.1, q.1) alike.bins, rw (p.0, q.0) tt, agree)
-    one_run E F [] (b ∷ b2) [] l2 s t m n ps qs i j u among order alike agree p p_stops q q_stops = absurd (agree p_stops)
-    one_run E F [] (b ∷ b2) (g ∷ l1) l2 s t m n ps qs i j u among order alike agree p (i', r) (first, next, one, others, more, q, rest, e, c) q_stops =
-        absurd (not_refused_and_placed g b s t (order (omega arith) (omega arith)) agree.0 alike u (All-head (AreAmong boxes) g l1 among) first next i' one
+        × AllZip (AreGroupsAlike group_cmp rules.id_cmp) l1 l2
+    one_run [] [] l1 l2 s t m n ps qs i j u among order alike groups p p_stops q q_stops = (rw (p.1, q.1) alike.bins, rw (p.0, q.0) tt, groups)
+    one_run [] (b ∷ b2) [] l2 s t m n ps qs i j u among order alike groups p p_stops q q_stops = absurd groups
+    one_run [] (b ∷ b2) (g ∷ l1) l2 s t m n ps qs i j u among order alike groups p (i', r) (first, next, one, others, more, q, rest, e, c) q_stops =
+        absurd (not_refused_and_placed g b s t (order (omega arith) (omega arith)) groups.0 alike u (All-head (AreAmong boxes) g l1 among) first next i' one
         (rw p.1 at r) q)
-    one_run E F (a ∷ b1) [] l1 [] s t m n ps qs i j u among order alike agree p p_stops q q_stops = absurd (agree q_stops)
-    one_run E F (a ∷ b1) [] l1 (g ∷ l2) s t m n ps qs i j u among order alike agree (first, next, one, others, more, p, rest, e, c) p_stops q (j', r) =
-        absurd (not_placed_and_refused a g s t (order (omega arith) (omega arith)) agree.0 alike u (All-head (AreAmong boxes) a (b1 ++ l1) among) first next
+    one_run (a ∷ b1) [] l1 [] s t m n ps qs i j u among order alike groups p p_stops q q_stops = absurd groups
+    one_run (a ∷ b1) [] l1 (g ∷ l2) s t m n ps qs i j u among order alike groups (first, next, one, others, more, p, rest, e, c) p_stops q (j', r) =
+        absurd (not_placed_and_refused a g s t (order (omega arith) (omega arith)) groups.0 alike u (All-head (AreAmong boxes) a (b1 ++ l1) among) first next
         one j' p (rw q.1 at r))
-    one_run E F (a ∷ b1) (b ∷ b2) l1 l2 s t m n ps qs i j u among order alike agree (first1, next1, i1, others1, i2, p, rest1, e1, c1) p_stops
+    one_run (a ∷ b1) (b ∷ b2) l1 l2 s t m n ps qs i j u among order alike groups (first1, next1, i1, others1, i2, p, rest1, e1, c1) p_stops
         (first2, next2, j1, others2, j2, q, rest2, e2, c2) q_stops =
         let bins_alike = order (omega arith) (omega arith) in
-        let one = one_placed a b s t bins_alike agree.0 alike u (All-head (AreAmong boxes) a (b1 ++ l1) among) first1 first2 next1 next2 i1 j1 p q in
-        let others = one_run E F b1 b2 l1 l2 _ _ m n others1 others2 i2 j2 (placed_met (bars1 s.homes a.0) order1 a.1 s.bins next1 first1 i1 p u)
-        (All-tail (AreAmong boxes) a (b1 ++ l1) among) (λ some more. bins_alike) one.0 agree.1 rest1 p_stops rest2 q_stops in
+        let one = one_placed a b s t bins_alike groups.0 alike u (All-head (AreAmong boxes) a (b1 ++ l1) among) first1 first2 next1 next2 i1 j1 p q in
+        let others = one_run b1 b2 l1 l2 _ _ m n others1 others2 i2 j2 (placed_met (bars1 s.homes a.0) order1 a.1 s.bins next1 first1 i1 p u)
+        (All-tail (AreAmong boxes) a (b1 ++ l1) among) (λ some more. bins_alike) one.0 groups.1 rest1 p_stops rest2 q_stops in
         (others.0, rw (e1, e2) (AllZip-append _ first1 first2 others1 others2 one.1 others.1), others.2)
 
 -- the sizes that look-ups find are among those of the boxes
@@ -321,44 +312,42 @@ bins_met bins =
 -- a packing as far as it goes: `rest` is empty where it is done, and starts with the refused group where it is not
 record Run {Id B G : Type 0} (group_cmp : Group G Id → Group G Id → Ordering) (rules : Rules Id B) (all : Collection Id G) (old : List (B × Bin))
     (placements : List (Placement Id B)) (new : List (B × Bin)) (rest : List (Group G Id × Members Id)) : Type 0 where
-  pub taken : List (ℕ × Group G Id)
-  pub later : List (ℕ × Group G Id)
+  pub group_order : List (ℕ × Group G Id)
   pub bin_order : List (ℕ × B)
   pub groups : List (Group G Id × Members Id)
-  pub by_groups : IsGroupOrder rules.may.rate group_cmp rules.id_cmp all.sizes all.groups (taken ++ later)
+  pub by_groups : IsGroupOrder rules.may.rate group_cmp rules.id_cmp all.sizes all.groups group_order
   pub by_bins : 0 < length (groups ++ rest) → IsBinOrder rules.may.rate rules.bin_cmp old bin_order
-  pub listed : AreGroups rules.id_cmp group_cmp all.sizes all.groups taken (groups ++ rest)
+  pub listed : AreGroups rules.id_cmp group_cmp all.sizes all.groups group_order (groups ++ rest)
   pub homes : List (Group G Id × B)
   pub tests : ℕ
   pub placed : AreAllPlaced rules (excludes_by group_cmp rules.bin_cmp all.partners) (map (λ o. o.1) bin_order) groups (at_start old) placements
       (record { bins = new; homes = homes }) tests
-  pub stops : Stops rules (excludes_by group_cmp rules.bin_cmp all.partners) (map (λ o. o.1) bin_order) (later ≡ []) (record { bins = new; homes = homes }) rest
+  pub stops : Stops rules (excludes_by group_cmp rules.bin_cmp all.partners) (map (λ o. o.1) bin_order) (record { bins = new; homes = homes }) rest
 
 module _ {Id B G : Type 0} {group_cmp : Group G Id → Group G Id → Ordering} {rules : Rules Id B} {all : Collection Id G} {old new : List (B × Bin)} where
   abbrev run_done : {placements : List (Placement Id B)} → PackingDone group_cmp rules all old placements new → Run group_cmp rules all old placements new []
   run_done p = record {
-    taken = p.group_order;
-    later = [];
+    group_order = p.group_order;
     bin_order = p.bin_order;
     groups = p.groups;
-    by_groups = rw (append-nil p.group_order) p.by_groups;
+    by_groups = p.by_groups;
     by_bins = rw (append-nil p.groups) p.by_bins;
     listed = rw (append-nil p.groups) p.listed;
     homes = p.homes;
     tests = p.tests;
     placed = p.placed;
-    stops = refl;
+    stops = tt;
   }
 
-  abbrev run_refused : (p : PackingRefused group_cmp rules all old new) → Run group_cmp rules all old p.stops.placements new (p.stops.next ∷ [])
+  abbrev run_refused : (p : PackingRefused group_cmp rules all old new)
+      → Run group_cmp rules all old p.stops.placements new (p.stops.next ∷ p.stops.later)
   run_refused p = record {
-    taken = p.stops.taken;
-    later = p.stops.later;
+    group_order = p.group_order;
     bin_order = p.bin_order;
     groups = p.stops.beginning;
-    by_groups = rw (← p.stops.order_is) p.by_groups;
+    by_groups = p.by_groups;
     by_bins = λ some. p.by_bins;
-    listed = p.stops.listed;
+    listed = rw (← p.stops.groups_are) p.listed;
     homes = p.stops.homes;
     tests = p.stops.first;
     placed = p.stops.placed;
@@ -385,21 +374,21 @@ module _ {Id B G : Type 0} (group_cmp : Group G Id → Group G Id → Ordering) 
   one_packing : (ps qs : List (Placement Id B)) (m n : List (B × Bin)) (rest1 rest2 : List (Group G Id × Members Id))
       → (p : Run group_cmp rules all1 old1 ps m rest1) → (q : Run group_cmp rules all2 old2 qs n rest2)
       → AreBinsAlike rules.bin_cmp m n × ArePlacementsAlike rules.id_cmp rules.bin_cmp ps qs
-      × Agree (AreGroupsAlike group_cmp rules.id_cmp) (p.later ≡ []) (q.later ≡ []) rest1 rest2
+      × AllZip (AreGroupsAlike group_cmp rules.id_cmp) rest1 rest2
   one_packing ps qs m n rest1 rest2 p q =
       let boxes = values_of all1.sizes in
       let bins = values_of old1 in
       let order = one_group_order (MayBeRated boxes bins) rules.may.rate decide.rates group_cmp rules.id_cmp group_total id_total all1.sizes all2.sizes
-      all1.groups all2.groups (p.taken ++ p.later) (q.taken ++ q.later) (boxes_rated boxes bins) all.sizes all.groups p.by_groups q.by_groups in
+      all1.groups all2.groups p.group_order q.group_order (boxes_rated boxes bins) all.sizes all.groups p.by_groups q.by_groups in
       one_run rules boxes bins decide id_total bin_total group_cmp (excludes_by group_cmp rules.bin_cmp all1.partners)
-      (excludes_by group_cmp rules.bin_cmp all2.partners) bar_alike (map (λ o. o.1) p.bin_order) (map (λ o. o.1) q.bin_order) (p.later ≡ [])
-      (q.later ≡ []) p.groups q.groups rest1 rest2 (at_start old1) (at_start old2) _ _ ps qs p.tests q.tests (bins_met bins)
-      (named_among group_cmp rules.id_cmp all1.sizes all1.groups p.taken (p.groups ++ rest1) p.listed)
+      (excludes_by group_cmp rules.bin_cmp all2.partners) bar_alike (map (λ o. o.1) p.bin_order) (map (λ o. o.1) q.bin_order)
+      p.groups q.groups rest1 rest2 (at_start old1) (at_start old2) _ _ ps qs p.tests q.tests (bins_met bins)
+      (named_among group_cmp rules.id_cmp all1.sizes all1.groups p.group_order (p.groups ++ rest1) p.listed)
       (λ some more. one_bin_order (MayBeRated boxes bins) rules.may.rate decide.rates rules.bin_cmp bin_total old1 old2 p.bin_order q.bin_order
       (bins_rated boxes old1) old (p.by_bins some) (q.by_bins more))
       (record { bins = old; homes = tt })
-      (one_groups group_cmp rules.id_cmp group_total id_total all1.sizes all2.sizes all.sizes all1.groups all2.groups all.groups p.taken p.later q.taken
-      q.later (p.groups ++ rest1) (q.groups ++ rest2) order p.listed q.listed)
+      (one_groups group_cmp rules.id_cmp group_total id_total all1.sizes all2.sizes all.sizes all1.groups all2.groups all.groups p.group_order q.group_order
+      (p.groups ++ rest1) (q.groups ++ rest2) order p.listed q.listed)
       p.placed p.stops q.placed q.stops
 
 -- so packings of inputs that are alike have one result
@@ -412,6 +401,6 @@ one_result group_cmp rules group_total total bin_total all other old others alik
     record {
       done = λ ps qs m n p q. (let r = one ps qs m n [] [] (run_done p) (run_done q) in (r.0, r.1));
       refused = λ m n p q. (one _ _ m n _ _ (run_refused p) (run_refused q)).0;
-      not_done_and_refused = λ ps m n p q. (one ps _ m n [] _ (run_done p) (run_refused q)).2 refl;
-      not_refused_and_done = λ qs m n p q. (one _ qs m n _ [] (run_refused p) (run_done q)).2 refl;
+      not_done_and_refused = λ ps m n p q. (one ps _ m n [] _ (run_done p) (run_refused q)).2;
+      not_refused_and_done = λ qs m n p q. (one _ qs m n _ [] (run_refused p) (run_done q)).2;
     }

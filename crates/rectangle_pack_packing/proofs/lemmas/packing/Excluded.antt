@@ -1,7 +1,7 @@
--- Which bins are excluded, by the bins that are kept for the groups that have partners.
+-- Which bins are excluded, by the homes that are kept.
 use Rattle.rectangle_pack_sections.proofs.Std.{◌≡◌, ◌↔◌, ℕ, suc, zero, ◌+◌, ◌-◌, ◌<◌, Bool, true, false, cond, ◌&&◌, ◌||◌, List, [], ◌∷◌, ◌++◌, length, take}
 use Rattle.rectangle_pack_sections.proofs.Std.{get_or, refl, sym, ◌∙◌, ap, subst, arith, Some, All, AllPairs, map, reverse, Ordering, Equal, Bor, is_eq}
-use Rattle.rectangle_pack_sections.proofs.Std.{eq_by_cmp, IsTotalOrder, Equal-is, list_any, IsDistinct, lookup, is_at, All-nil, All-cons, All-head, All-tail}
+use Rattle.rectangle_pack_sections.proofs.Std.{eq_by_cmp, IsTotalOrder, Equal-is, list_any, IsDistinct, lookup, is_at, unwrap_or, option_map, All-nil, All-cons, All-head, All-tail}
 use Rattle.rectangle_pack_sections.proofs.Std.{All-weaker, get_or-map, get_or-reverse, length-map, length-reverse, list_any_at, IsDistinct-tail, fun_ext}
 use Rattle.rectangle_pack_sections.proofs.Std.{AllPairs-cons, or_comm, tied_itself, or-false, and-or_distrib_right, or_parts, take-map, list_any_none, or-true}
 use Rattle.rectangle_pack_packing.specs.declared.order.OrderedGroup.{OrderedGroup}
@@ -9,7 +9,7 @@ use Rattle.rectangle_pack_packing.specs.declared.answer.Placement.{Placement}
 use Rattle.rectangle_pack_sections.specs.Groups.{Collection}
 use Rattle.rectangle_pack_sections.specs.Exclusions.{listed_at, is_listed, are_excluded}
 use Rattle.rectangle_pack_sections.specs.private.Exclusions.{AreMutual}
-use Rattle.rectangle_pack_packing.specs.private.Excluded.{are_in, went_to, AreHomesKept}
+use Rattle.rectangle_pack_packing.specs.private.Excluded.{are_in, went_to, bars, KeptHomes, IsHomeKept}
 use Rattle.rectangle_pack_packing.specs.Packing.{Rules, AreKeptApart, excludes_by, excludes_none, Members, Stage, AreAllPlaced, PackingDone, PackingDoneBy}
 use Rattle.rectangle_pack_packing.specs.Packing.{PackingRefused, PackingRefusedBy}
 use Rattle.rectangle_pack_sections.specs.Bins.{Bin}
@@ -34,19 +34,9 @@ list_any-or : {X : Type 0} (p q : X → Bool) (xs : List X) → list_any (λ x. 
 list_any-or p q [] = refl
 list_any-or p q (x ∷ xs) = rw (list_any-or p q xs) (or-swap (p x) (q x) (list_any p xs) (list_any q xs))
 
--- two searches, in either order
-list_any-swap : {X Y : Type 0} (f : X → Y → Bool) (xs : List X) (ys : List Y)
-    → list_any (λ x. list_any (f x) ys) xs ≡ list_any (λ y. list_any (λ x. f x y) xs) ys
-list_any-swap f [] ys = sym (list_any_none (λ y. false) ys (λ k d within. refl))
-list_any-swap f (x ∷ xs) ys = rw (list_any-swap f xs ys) (sym (list_any-or (f x) (λ y. list_any (λ x. f x y) xs) ys))
-
 list_any-and : {X : Type 0} (p : X → Bool) (c : Bool) (xs : List X) → list_any (λ x. p x && c) xs ≡ (list_any p xs && c)
 list_any-and p c [] = refl
 list_any-and p c (x ∷ xs) = rw (list_any-and p c xs) (sym (and-or_distrib_right (p x) (list_any p xs) c))
-
-some-found : {X : Type 0} (p : X → Bool) (xs : List X) → list_any p xs ≡ true → 0 < length xs
-some-found p [] h = absurd cc
-some-found p (x ∷ xs) h = omega arith
 
 -- a list that differs from its later elements differs at an element from those before it
 pub distinct-before : {K : Type 0} (e : K → K → Bool) (xs : List K) (i : ℕ) (x : K) → IsDistinct e xs → i < length xs → x ≡ get_or xs i x
@@ -69,96 +59,90 @@ excluded-more {B} {bin_cmp} o old new bin found now id updates was is =
     by true = sym (or-true found)
     by false = sym (or-false found)
 
+-- a list without elements
+none_long : {X : Type 0} (xs : List X) → length xs ≡ 0 → xs ≡ []
+none_long [] none = refl
+none_long (x ∷ xs) none = absurd (omega (arith, none))
+
 module _ {K B : Type 0} (cmp : K → K → Ordering) (bin_cmp : B → B → Ordering) (o : IsTotalOrder cmp) where
-  -- who is listed has a list
-  listed_has_list : (partners : List (K × List K)) → AreMutual cmp partners → (q : K)
-      → All (λ p. 0 < length (listed_at cmp partners p)) (listed_at cmp partners q)
-  listed_has_list partners m q = λ k d within.
-      let xs = listed_at cmp partners q in
-      let p = get_or xs k d in
-      let there : is_listed cmp partners q p ≡ true = list_any_at (is_at (cmp p)) xs k d within (ap is_eq (tied_itself o p)) in
-      some-found (is_at (cmp q)) (listed_at cmp partners p) (sym (m q p) ∙ there)
-
-  -- so the bins of a group's partners are those that are excluded for it
-  excluded_by_partners : (partners : List (K × List K)) (homes : List (K × B)) (kept : List (Bor K × Bor B)) → AreMutual cmp partners
-      → AreHomesKept cmp bin_cmp partners homes kept → (q : K) (id : B)
-      → list_any (λ p. went_to cmp bin_cmp kept p id) (listed_at cmp partners q) ≡ excludes_by cmp bin_cmp partners homes q id
-  excluded_by_partners partners homes kept m known q id =
-      let xs = listed_at cmp partners q in
-      let f : K → K × B → Bool = λ p h. is_at (cmp p) h.0 && is_at (bin_cmp id) h.1 in
-      let has = listed_has_list partners m q in
-      let each : All (λ p. went_to cmp bin_cmp kept p id ≡ list_any (f p) homes) xs = λ k d within. sym (known.each (get_or xs k d) (has k d within) id) in
-      list_any-on (λ p. went_to cmp bin_cmp kept p id) (λ p. list_any (f p) homes) xs each
-      ∙ list_any-swap f xs homes
-      ∙ list_any-alike (λ h. list_any (λ p. f p h) xs) (λ h. are_excluded cmp partners q h.0 && is_at (bin_cmp id) h.1)
-      (λ h.
-      list_any-and (λ p. is_at (cmp p) h.0) (is_at (bin_cmp id) h.1) xs
-      ∙ ap (λ b. b && is_at (bin_cmp id) h.1) (list_any-alike (λ p. is_at (cmp p) h.0) (is_at (cmp h.0)) (λ p. is_at-back o p h.0) xs
-      ∙ sym (excluded-listed o partners m q h.0)))
-      homes
-
-  -- whatever list of them was read
-  pub excluded_as_found : (partners : List (K × List K)) (placed : List (K × B)) (homes : List (Bor K × Bor B)) (excluded : List (Bor B)) (own : List K) (q : K)
-      → own ≡ listed_at cmp partners q → AreMutual cmp partners → AreHomesKept cmp bin_cmp partners placed homes
-      → ((id : B) → are_in bin_cmp excluded id ≡ list_any (λ p. went_to cmp bin_cmp homes p id) own)
-      → are_in bin_cmp excluded ≡ excludes_by cmp bin_cmp partners placed q
-  excluded_as_found partners placed homes excluded own q listed m known found =
-      fun_ext (λ id.
-      found id ∙ ap (λ (ps : List K). list_any (λ p. went_to cmp bin_cmp homes p id) ps) listed
-      ∙ excluded_by_partners partners placed homes m known q id)
-
-  -- a group without partners need not be kept
-  pub AreHomesKept-alone : (partners : List (K × List K)) (homes : List (K × B)) (kept : List (Bor K × Bor B)) (name : K) (here : B)
-      → length (listed_at cmp partners name) ≡ 0 → AreHomesKept cmp bin_cmp partners homes kept → AreHomesKept cmp bin_cmp partners ((name, here) ∷ homes) kept
-  AreHomesKept-alone partners homes kept name here none known = record { each = λ group some id. by group some id (is_at (cmp group) name) refl }
+  -- the home of a group without partners need not be kept
+  pub IsHomeKept-alone : (homes : KeptHomes K B) (group : K) (here : B) → AreMutual cmp homes.partners → length (listed_at cmp homes.partners group) ≡ 0
+      → IsHomeKept cmp bin_cmp homes group here homes
+  IsHomeKept-alone homes group here m none = record {
+    partners = refl;
+    barred = λ q id. rw (apart q) refl;
+    others = λ q apart id. refl;
+  }
     where
-      by : (group : K) → 0 < length (listed_at cmp partners group) → (id : B) → (b : Bool) → is_at (cmp group) name ≡ b → ((b && is_at (bin_cmp id) here) || list_any
-          (λ h. is_at (cmp group) h.0 && is_at (bin_cmp id) h.1) homes) ≡ went_to cmp bin_cmp kept group id
-      by group some id true e =
-          let same : listed_at cmp partners group ≡ listed_at cmp partners name = rw (lookup-equal o group name ((Equal-is _).0 e) partners) refl in
-          absurd (omega (arith, ap length same))
-      by group some id false e = known.each group some id
+      apart : (q : K) → are_excluded cmp homes.partners q group ≡ false
+      apart q = excluded-listed o homes.partners m q group ∙ m q group ∙ ap (λ xs. list_any (is_at (cmp q)) xs) (none_long _ none)
 
-  -- one that has some is kept with its bin
-  pub AreHomesKept-kept : (partners : List (K × List K)) (homes : List (K × B)) (old new : List (Bor K × Bor B)) (name : K) (here : Bor B)
-      → ((group : K) → lookup (λ k. is_at (cmp group) k.now) new ≡ cond (is_at (cmp name) group) (Some here) (lookup (λ k. is_at (cmp group) k.now) old))
-      → All (λ h. is_at (cmp name) h.0 ≡ false) homes → AreHomesKept cmp bin_cmp partners homes old → AreHomesKept cmp bin_cmp partners ((name, here.now) ∷ homes) new
-  AreHomesKept-kept partners homes old new name here updates fresh known = record { each = λ group some id. by group some id (is_at (cmp group) name) refl }
+  -- that of another group is, where it had none
+  pub IsHomeKept-kept : (partners : List (K × List K)) (group : K) (here : Bor B) (old new : List (Bor K × Bor B)) → AreMutual cmp partners
+      → ((q : K) → lookup (λ k. is_at (cmp q) k.now) new ≡ cond (is_at (cmp group) q) (Some here) (lookup (λ k. is_at (cmp q) k.now) old))
+      → ((id : B) → went_to cmp bin_cmp old group id ≡ false)
+      → IsHomeKept cmp bin_cmp (record { partners = partners; bins = old }) group here.now (record { partners = partners; bins = new })
+  IsHomeKept-kept partners group here old new m updates fresh =
+      record { partners = refl; barred = barred; others = λ q apart id. rw (updates q, apart) refl }
     where
-      f : K → B → K × B → Bool
-      f group id h = is_at (cmp group) h.0 && is_at (bin_cmp id) h.1
+      more : (p : K) (id : B) (b : Bool) → is_at (cmp p) group ≡ b
+          → went_to cmp bin_cmp new p id ≡ ((b && is_at (bin_cmp id) here.now) || went_to cmp bin_cmp old p id)
+      more p id true e =
+          let tests : (λ (k : Bor K). is_at (cmp p) k.now) ≡ (λ (k : Bor K). is_at (cmp group) k.now) =
+          fun_ext (λ k. is_at-equal o p group k.now ((Equal-is _).0 e)) in
+          let none : went_to cmp bin_cmp old p id ≡ false =
+          ap (λ (t : Bor K → Bool). unwrap_or (option_map (λ b. is_at (bin_cmp id) b.now) (lookup t old)) false) tests ∙ fresh id in
+          rw (none, updates p, is_at-back o group p, e) (sym (or-false (is_at (bin_cmp id) here.now)))
+      more p id false e = rw (updates p, is_at-back o group p, e) refl
 
-      by : (group : K) → 0 < length (listed_at cmp partners group) → (id : B) → (b : Bool)
-          → is_at (cmp group) name ≡ b → ((b && is_at (bin_cmp id) here.now) || list_any (f group id) homes) ≡ went_to cmp bin_cmp new group id
-      by group some id true e =
-          let none : list_any (f group id) homes ≡ false = list_any_none (f group id) homes (All-weaker (λ h. is_at (cmp name) h.0 ≡ false) (λ h. f group id h ≡ false)
-          (λ h apart. rw (is_at-equal o group name h.0 ((Equal-is _).0 e), apart) refl) homes fresh) in
-          rw (updates group, is_at-back o name group, e, none) (or-false (is_at (bin_cmp id) here.now))
-      by group some id false e = rw (updates group, is_at-back o name group, e) (known.each group some id)
+      barred : (q : K) (id : B) → list_any (λ p. went_to cmp bin_cmp new p id) (listed_at cmp partners q)
+          ≡ ((are_excluded cmp partners q group && is_at (bin_cmp id) here.now) || list_any (λ p. went_to cmp bin_cmp old p id) (listed_at cmp partners q))
+      barred q id =
+          let xs = listed_at cmp partners q in
+          let c = is_at (bin_cmp id) here.now in
+          let listed : list_any (λ p. is_at (cmp p) group) xs ≡ are_excluded cmp partners q group =
+          list_any-alike (λ p. is_at (cmp p) group) (is_at (cmp group)) (λ p. is_at-back o p group) xs ∙ sym (excluded-listed o partners m q group) in
+          list_any-alike (λ p. went_to cmp bin_cmp new p id) (λ p. (is_at (cmp p) group && c) || went_to cmp bin_cmp old p id)
+          (λ p. more p id (is_at (cmp p) group) refl) xs
+          ∙ list_any-or (λ p. is_at (cmp p) group && c) (λ p. went_to cmp bin_cmp old p id) xs
+          ∙ ap (λ b. b || list_any (λ p. went_to cmp bin_cmp old p id) xs)
+          (list_any-and (λ p. is_at (cmp p) group) c xs ∙ ap (λ b. b && c) listed)
 
-  -- at first no group is kept
-  pub AreHomesKept-none : (partners : List (K × List K)) (kept : List (Bor K × Bor B)) → kept ≡ [] → AreHomesKept cmp bin_cmp partners [] kept
-  AreHomesKept-none partners kept none = record { each = λ group some id. ap (λ (es : List (Bor K × Bor B)). went_to cmp bin_cmp es group id) (sym none) }
+  -- at first no bin is barred
+  pub bars-none : (partners : List (K × List K)) (homes : KeptHomes K B) → homes ≡ record { partners = partners; bins = [] }
+      → bars cmp bin_cmp homes ≡ excludes_by cmp bin_cmp partners []
+  bars-none partners homes none =
+      fun_ext (λ q. fun_ext (λ id. rw none (list_any_none (λ p. false) (listed_at cmp partners q) (λ k d within. refl))))
 
-  -- the groups that were placed are those that an order named before
-  abbrev pub Named : {X Y : Type 0} → List (OrderedGroup K X Y) → List (K × B) → Type 0
-  Named order homes = (q : K) → All (λ n. is_at (cmp n) q ≡ false) (map (λ x. x.name.now) order) → All (λ h. is_at (cmp q) h.0 ≡ false) homes
+  -- with each home that is kept, the bins that are barred are those that are excluded
+  pub bars-more : (partners : List (K × List K)) (placed : List (K × B)) (old new : KeptHomes K B) (group : K) (here there : B) → old.partners ≡ partners
+      → there ≡ here → IsHomeKept cmp bin_cmp old group here new → bars cmp bin_cmp old ≡ excludes_by cmp bin_cmp partners placed
+      → bars cmp bin_cmp new ≡ excludes_by cmp bin_cmp partners ((group, there) ∷ placed)
+  bars-more partners placed old new group here there same at kept is =
+      fun_ext (λ q. fun_ext (λ id.
+      kept.barred q id
+      ∙ ap (λ (ps : List (K × List K)). (are_excluded cmp ps q group && is_at (bin_cmp id) here) || bars cmp bin_cmp old q id) same
+      ∙ ap (λ (b : B). (are_excluded cmp partners q group && is_at (bin_cmp id) b) || bars cmp bin_cmp old q id) (sym at)
+      ∙ ap (λ (f : K → B → Bool). (are_excluded cmp partners q group && is_at (bin_cmp id) there) || f q id) is))
+
+  -- the groups that have homes are among those that an order named before
+  abbrev pub Named : {X Y : Type 0} → List (OrderedGroup K X Y) → KeptHomes K B → Type 0
+  Named order homes = (q : K) → All (λ n. is_at (cmp n) q ≡ false) (map (λ x. x.name.now) order) → (id : B) → went_to cmp bin_cmp homes.bins q id ≡ false
 
   -- and they are so with the next group
-  pub Named-more : {X Y : Type 0} (order : List (OrderedGroup K X Y)) (i : ℕ) (x : OrderedGroup K X Y) (homes : List (K × B)) (here : B)
-      → i < length order → x ≡ get_or order i x → Named (take i order) homes → Named (take (i + 1) order) ((x.name.now, here) ∷ homes)
-  Named-more {X} {Y} order i x homes here within is named q h =
+  pub Named-more : {X Y : Type 0} (order : List (OrderedGroup K X Y)) (i : ℕ) (x : OrderedGroup K X Y) (old new : KeptHomes K B) (here : B)
+      → i < length order → x ≡ get_or order i x → IsHomeKept cmp bin_cmp old x.name.now here new → Named (take i order) old → Named (take (i + 1) order) new
+  Named-more {X} {Y} order i x old new here within is kept named q h id =
       let f : OrderedGroup K X Y → K = λ y. y.name.now in
       let P : K → Type 0 = λ n. is_at (cmp n) q ≡ false in
       let all : All P (map f (take i order) ++ f x ∷ []) = subst (All P) (map-take_more f order i x within is) h in
-      All-cons (λ h. is_at (cmp q) h.0 ≡ false) (f x, here) homes
-      (is_at-back o q (f x) ∙ All-middle P (map f (take i order) ++ f x ∷ []) (map f (take i order)) [] (f x) refl all)
-      (named q (All-front P (map f (take i order)) (f x ∷ []) all))
+      kept.others q (All-middle P (map f (take i order) ++ f x ∷ []) (map f (take i order)) [] (f x) refl all) id
+      ∙ named q (All-front P (map f (take i order)) (f x ∷ []) all) id
 
-  -- and a group that the order names once has not been placed
-  pub Named-fresh : {X Y : Type 0} (order : List (OrderedGroup K X Y)) (i : ℕ) (x : OrderedGroup K X Y) (homes : List (K × B))
+  -- and a group that the order names once has none yet
+  pub Named-fresh : {X Y : Type 0} (order : List (OrderedGroup K X Y)) (i : ℕ) (x : OrderedGroup K X Y) (homes : KeptHomes K B)
       → IsDistinct (eq_by_cmp cmp) (map (λ y. y.name.now) order) → i < length order → x ≡ get_or order i x → Named (take i order) homes
-      → All (λ h. is_at (cmp x.name.now) h.0 ≡ false) homes
+      → (id : B) → went_to cmp bin_cmp homes.bins x.name.now id ≡ false
   Named-fresh {X} {Y} order i x homes distinct within is named =
       let f : OrderedGroup K X Y → K = λ y. y.name.now in
       let at : f x ≡ get_or (map f order) i (f x) = ap f is ∙ sym (get_or-map f order i x (f x) within) in

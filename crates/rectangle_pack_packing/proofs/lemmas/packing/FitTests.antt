@@ -24,7 +24,6 @@ use Rattle.rectangle_pack_sections.proofs.lemmas.groups.Excluded.{is_at-equal}
 use Rattle.rectangle_pack_sections.proofs.lemmas.util.Maps.{lookup-equal, is_at-back, congr_right}
 use Rattle.rectangle_pack_sections.proofs.lemmas.util.Zips.{length-zip, AllZip-weaker}
 use Rattle.rectangle_pack_packing.proofs.lemmas.packing.Placed.{lookup-placed}
-use Rattle.rectangle_pack_packing.proofs.lemmas.packing.Cases.{saturated-from}
 use Rattle.rectangle_pack_packing.proofs.lemmas.packing.Orders.{AllZip-more, IsDistinct-apart}
 use Rattle.rectangle_pack_lists.proofs.lemmas.trial.FitTests.{square, done-le, stuck-le, grown-le}
 
@@ -193,14 +192,14 @@ module _ {Id B : Type 0} (rules : Rules Id B) (o : IsTotalOrder rules.bin_cmp) w
           (record { most = joined-le (length order) _ _ (members_in gs) (length g.1.sizes) n one (all-le order gs old ps new n d placed) last.most })
 
     module _ (group_cmp : K → K → Ordering) (sizes : List (Id × Size)) (lists : List (K × List Id)) where
-      -- the groups of a beginning of an order have no more members than the order's lists
-      listed-within : (bins : List (B × Bin)) (names : List B) (order taken later : List (ℕ × K)) (gs : List (K × Members Id)) (n : ℕ) → order ≡ taken ++ later
-          → AreGroups rules.id_cmp group_cmp sizes lists taken gs → AreWithin rules.bin_cmp bins names (members_in gs) n
+      -- some groups of an order have no more members than the order's lists
+      listed-within : (bins : List (B × Bin)) (names : List B) (order : List (ℕ × K)) (gs some later : List (K × Members Id)) (n : ℕ) → gs ≡ some ++ later
+          → AreGroups rules.id_cmp group_cmp sizes lists order gs → AreWithin rules.bin_cmp bins names (members_in some) n
           → AreWithin rules.bin_cmp bins names (sum_by (entries_at group_cmp lists) order) n
-      listed-within bins names order taken later gs n splits listed h =
-          let own = AreGroups-length rules.id_cmp group_cmp sizes lists taken gs listed in
-          let all = sum_by-append (entries_at group_cmp lists) taken later in
-          AreWithin-more rules.bin_cmp bins names (members_in gs) _ n (omega (arith, own, all, ap (sum_by (entries_at group_cmp lists)) splits)) h
+      listed-within bins names order gs some later n splits listed h =
+          let own = AreGroups-length rules.id_cmp group_cmp sizes lists order gs listed in
+          let all = sum_by-append (λ (g : K × Members Id). length g.1.sizes) some later in
+          AreWithin-more rules.bin_cmp bins names (members_in some) _ n (omega (arith, own, all, ap members_in splits)) h
 
   -- these names equal the keys of a map, one after another
   abbrev AreNames : List (B × Bin) → List (ℕ × B) → Type 0
@@ -279,12 +278,9 @@ module _ {Id B : Type 0} (rules : Rules Id B) (o : IsTotalOrder rules.bin_cmp) w
   order-differs bins order d p = (ordered-from bins order d p).distinct
 
 -- a count that began at none, added to another
-pub AreCounted-added : {Id B G : Type 0} (all : Collection Id G) (old : List (B × Bin)) (tests none made before after : ℕ) → none ≡ 0
-    → AreCounted all old tests none made → after ≡ saturated (before + made) → AreCounted all old tests before after
-AreCounted-added all old tests none made before after empty h added = record {
-  most = h.most;
-  added = saturated-from before none made after tests empty h.added added;
-}
+pub AreCounted-added : {Id B G : Type 0} (all : Collection Id G) (old : List (B × Bin)) (tests made before after : ℕ)
+    → AreCounted all old tests 0 made → after ≡ saturated (before + made) → AreCounted all old tests before after
+AreCounted-added all old tests made before after h added = record { most = h.most; added = omega (arith, h.added, added) }
 
 -- where no test was made
 pub counted-none : {Id B G : Type 0} (all : Collection Id G) (old : List (B × Bin)) (before : ℕ) → before ≡ saturated (before + 0)
@@ -315,19 +311,21 @@ module _ {Id B G : Type 0} (group_cmp : Group G Id → Group G Id → Ordering) 
       → AreAllPlaced rules (excludes_by group_cmp rules.bin_cmp all.partners) names gs (at_start old) placements new n
       → after ≡ saturated (before + n) → AreCounted all old n before after
   counted-done gs placements new listed placed = counted-within
-      (listed-within rules o (excludes_by group_cmp rules.bin_cmp all.partners) group_cmp all.sizes all.groups old names group_order group_order [] gs n
-      (sym (append-nil group_order)) listed
+      (listed-within rules o (excludes_by group_cmp rules.bin_cmp all.partners) group_cmp all.sizes all.groups old names group_order gs gs [] n
+      (sym (append-nil gs)) listed
       (all-within rules o (excludes_by group_cmp rules.bin_cmp all.partners) names gs (at_start old) placements new n
       (ordered-from rules o old order d by_bins).distinct placed))
 
   -- and one that is refused
-  pub counted-refused : (new : List (B × Bin))
-      → StopsAfter rules (excludes_by group_cmp rules.bin_cmp all.partners) group_cmp all.sizes all.groups group_order names old new n
+  pub counted-refused : (gs : List (Group G Id × Members Id)) (new : List (B × Bin))
+      → AreGroups rules.id_cmp group_cmp all.sizes all.groups group_order gs
+      → StopsAfter rules (excludes_by group_cmp rules.bin_cmp all.partners) names gs old new n
       → after ≡ saturated (before + n) → AreCounted all old n before after
-  counted-refused new s =
+  counted-refused gs new listed s =
       let excludes = excludes_by group_cmp rules.bin_cmp all.partners in
       let last = refused-le rules o (excludes s.homes s.next.0) names s.next.1 new s.count s.refused in
       counted-within (rw s.tests_are
-      (listed-within rules o excludes group_cmp all.sizes all.groups old names group_order s.taken s.later (s.beginning ++ s.next ∷ []) _ s.order_is s.listed
+      (listed-within rules o excludes group_cmp all.sizes all.groups old names group_order gs (s.beginning ++ s.next ∷ []) s.later _
+      (s.groups_are ∙ sym (append_assoc s.beginning (s.next ∷ []) s.later)) listed
       (more-within rules o excludes names s.beginning (at_start old) s.placements (record { bins = new; homes = s.homes }) s.first
       (ordered-from rules o old order d by_bins).distinct s.placed s.next s.count last)))

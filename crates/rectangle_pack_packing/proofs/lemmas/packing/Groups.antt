@@ -4,11 +4,11 @@ use Rattle.rectangle_pack_sections.proofs.Std.{false, Bool, arith, get_or, appen
 use Rattle.rectangle_pack_sections.proofs.Std.{Result, Ok, Err, IfOk, MatchBool, MatchOption, Ordering, Equal, is_eq, IsTotalOrder, Equal-is}
 use Rattle.rectangle_pack_sections.proofs.Std.{AllZip, sum_by, sum_by-cons, length-append, lookup, keys_of, IsStrictlySortedBy, is_at}
 use Rattle.rectangle_pack_sections.proofs.Std.{split_at, take_more, take-append-drop, map-append, length-map, Vec, All-push, All-nil, All-head}
-use Rattle.rectangle_pack_sections.proofs.Std.{All-tail, All-weaker, sum-map, slice_range, ◌-◌, length-drop, length-take-le}
+use Rattle.rectangle_pack_sections.proofs.Std.{All-tail, All-weaker, sum-map, slice_range, ◌-◌, length-drop, length-take-le, set_value, set_value_same}
 use Rattle.rectangle_pack_packing.specs.declared.order.OrderedGroup.{OrderedGroup}
 use Rattle.rectangle_pack_sections.specs.Closures.{Answers}
 use Rattle.rectangle_pack_sections.specs.Groups.{Collection, lists_of}
-use Rattle.rectangle_pack_packing.specs.private.Orders.{keys_of_order, entries_at, SizesStandAt, members_of, members_in, HasSizes, StopsAmong}
+use Rattle.rectangle_pack_packing.specs.private.Orders.{keys_of_order, entries_at, SizesStandAt, members_of, members_in, HasSizes}
 use Rattle.rectangle_pack_sections.specs.declared.group.Group.{Group}
 use Rattle.rectangle_pack_packing.specs.declared.answer.Placement.{Placement}
 use Rattle.rectangle_pack_sections.specs.Bins.{Bin}
@@ -16,6 +16,7 @@ use Rattle.rectangle_pack_packing.specs.Packing.{Rules, Members, Stage, at_start
 use Rattle.rectangle_pack_packing.specs.Packing.{PackingDone}
 use Rattle.rectangle_pack_sections.specs.Boxes.{Size, Cuboid}
 use Rattle.rectangle_pack_lists.specs.Steps.{IsDone}
+use Rattle.rectangle_pack_packing.specs.private.BinsAtWork.{IsTriedIn}
 use Rattle.rectangle_pack_packing.specs.Placed.{AreNamed, IsLastOf, AreLastPlacements}
 use Rattle.rectangle_pack_packing.proofs.lemmas.packing.Orders.{AllZip-more, AllZip-begins, SizesStandAt-part}
 use Rattle.rectangle_pack_sections.proofs.lemmas.util.Zips.{AllZip-equal}
@@ -45,6 +46,13 @@ pub IsDone-length : (may : Answers) (sections : List Cuboid) (ms : List Size) (l
     → length ms ≡ length ls
 IsDone-length may sections ms ls last n done = ap length (sym (IsDone-sizes may sections ms ls last n done)) ∙ length-map ls (λ l. l.whd)
 
+-- where the trial leaves the bin's list, it leaves all bins
+pub IsTriedIn-same : {B : Type 0} (cmp : B → B → Ordering) (id : B) (old : List (B × Bin)) (before after : Bin) (new : List (B × Bin))
+    → IsTriedIn cmp id old before after new → after.sections ≡ before.sections → new ≡ old
+IsTriedIn-same cmp id old before after new tried same =
+    let kept : after ≡ before = tried.rest ∙ ap (λ l. record before { sections = l }) same in
+    tried.written ∙ ap (set_value (is_at (cmp id)) old) kept ∙ set_value_same (is_at (cmp id)) old before tried.found
+
 -- one more name
 pub AreNamed-more : {Id B : Type 0} (cmp : Id → Id → Ordering) (bin_cmp : B → B → Ordering) (ids : List Id) (here : B) (locations : List Cuboid) (i : ℕ)
     (x id : Id) (bin : B) (e : Cuboid) (added : List (Placement Id B))
@@ -63,57 +71,35 @@ abbrev pub AreSizesOf : {Id : Type 0} → (Id → Id → Ordering) → List (Id 
 AreSizesOf cmp sizes ids found = AllZip (λ id size. lookup (is_at (cmp id)) sizes ≡ Some size) ids found
 
 module _ {Id B : Type 0} (rules : Rules Id B) where
-  -- what is split of one element
-  only : (here x : B) (before after : List B) (counts : List ℕ) (R : B → ℕ → Type 0) → here ∷ [] ≡ before ++ x ∷ after → AllZip R before counts
-      → (x ≡ here) × (sum counts ≡ 0)
-  only here x [] after [] R e h = (cc, refl)
-  only here x [] after (n ∷ counts) R e h = absurd h
-  only here x (b ∷ []) after counts R e h = absurd cc
-  only here x (b ∷ (b' ∷ before)) after counts R e h = absurd cc
-
-  -- so it is placed in that bin of an order, where no bin before it takes the group
-  pub IsPlaced-at : (excluded : B → Bool) (order : List (ℕ × B)) (i : ℕ) (o : ℕ × B) (group : Members Id) (old mid new : List (B × Bin))
-      (counts : List ℕ) (count : ℕ) (added : List (Placement Id B))
+  -- a group whose trial is done in a bin of an order is placed there, where no bin before it takes the group
+  pub IsPlaced-at : (excluded : B → Bool) (order : List (ℕ × B)) (i : ℕ) (o : ℕ × B) (group : Members Id) (old mid new : List (B × Bin)) (v w : Bin)
+      (locations : List Cuboid) (counts : List ℕ) (count : ℕ) (added : List (Placement Id B))
       → i < length order → o ≡ get_or order i o → mid ≡ old
       → AllZip (DoesNotTake rules excluded old group) (map (λ (x : ℕ × B). x.1) (take i order)) counts → excluded o.1 ≡ false
-      → IsPlaced rules (λ id. false) (o.1 ∷ []) group mid added new count
+      → IsTriedIn rules.bin_cmp o.1 mid v w new → IsDone rules.may v.sections group.sizes locations w.sections count
+      → AreNamed rules.id_cmp rules.bin_cmp group.ids o.1 locations added
       → (p : IsPlaced rules excluded (map (λ (x : ℕ × B). x.1) order) group old added new (sum counts + count)) × (p.here ≡ o.1)
-  IsPlaced-at excluded order i o group old mid new counts count added within is same passed allowed q =
-      let (here, none) = only o.1 q.here q.before q.after q.counts _ q.order_is q.passed in (
-        record {
-          before = map (λ (x : ℕ × B). x.1) (take i order);
-          here = q.here;
-          after = map (λ (x : ℕ × B). x.1) (drop (suc i) order);
-          order_is = rw here (names-split order i o within is);
-          counts = counts;
-          passed = passed;
-          allowed = rw here allowed;
-          bin = q.bin;
-          found = rw (← same) q.found;
-          last = q.last;
-          locations = q.locations;
-          count = q.count;
-          done = q.done;
-          named = q.named;
-          new_is = rw (← same) q.new_is;
-          tests_are = omega (arith, none, q.tests_are);
-        },
-        here,
-      )
-
-  -- with equal excluded bins and members, the group goes to the same bin
-  pub IsPlaced-alike : (a b : B → Bool) (order : List B) (group same_group : Members Id) (old : List (B × Bin)) (added : List (Placement Id B))
-      (new : List (B × Bin)) (count : ℕ) (here : B) → a ≡ b → group ≡ same_group → (p : IsPlaced rules a order group old added new count) → p.here ≡ here
-      → (q : IsPlaced rules b order same_group old added new count) × (q.here ≡ here)
-  IsPlaced-alike a b order group same_group old added new count here same alike p is =
-      let P : (B → Bool) → Members Id → Type 0 = λ (x : B → Bool) (m : Members Id). (q : IsPlaced rules x order m old added new count) × (q.here ≡ here) in
-      subst (P b) alike (subst (λ (x : B → Bool). P x group) same (p, is))
-
-  -- or nowhere
-  pub IsRefused-alike : (a b : B → Bool) (order : List B) (group same_group : Members Id) (bins : List (B × Bin)) (count : ℕ) → a ≡ b → group ≡ same_group
-      → IsRefused rules a order group bins count → IsRefused rules b order same_group bins count
-  IsRefused-alike a b order group same_group bins count same alike r =
-      subst (λ (m : Members Id). IsRefused rules b order m bins count) alike (subst (λ (x : B → Bool). IsRefused rules x order group bins count) same r)
+  IsPlaced-at excluded order i o group old mid new v w locations counts count added within is same passed allowed tried done named = (
+    record {
+      before = map (λ (x : ℕ × B). x.1) (take i order);
+      here = o.1;
+      after = map (λ (x : ℕ × B). x.1) (drop (suc i) order);
+      order_is = names-split order i o within is;
+      counts = counts;
+      passed = passed;
+      allowed = allowed;
+      bin = v;
+      found = rw (← same) tried.found;
+      last = w.sections;
+      locations = locations;
+      count = count;
+      done = done;
+      named = named;
+      new_is = rw (← same, ← tried.rest) tried.written;
+      tests_are = refl;
+    },
+    refl,
+  )
 
   module _ {K : Type 0} (excludes : List (K × B) → K → B → Bool) where
     -- one more group is placed
@@ -154,13 +140,13 @@ module _ {Id B : Type 0} (rules : Rules Id B) where
         (subst (P order) (sym joined) (AreAllPlaced-push order gs g old mid homes next before added tests one before_it p))
 
   -- a packing stops at a group that is refused
-  pub StopsAmong-at : {K : Type 0} (excludes : List (K × B) → K → B → Bool) (order : List B) (groups gs : List (K × Members Id)) (next : K × Members Id)
+  pub StopsAfter-at : {K : Type 0} (excludes : List (K × B) → K → B → Bool) (order : List B) (groups gs : List (K × Members Id)) (next : K × Members Id)
       (later : List (K × Members Id)) (names : List B) (old new mid : List (B × Bin)) (homes : List (K × B)) (placements : List (Placement Id B))
       (first count : ℕ) → groups ≡ gs ++ next ∷ later
       → AreAllPlaced rules excludes order gs (at_start old) placements (record { bins = mid; homes = homes }) first
       → names ≡ order → new ≡ mid → IsRefused rules (excludes homes next.0) names next.1 mid count
-      → StopsAmong rules excludes order groups old new (first + count)
-  StopsAmong-at excludes order groups gs next later names old new mid homes placements first count splits placed same_order same refused =
+      → StopsAfter rules excludes order groups old new (first + count)
+  StopsAfter-at excludes order groups gs next later names old new mid homes placements first count splits placed same_order same refused =
       record {
         beginning = gs;
         next = next;
@@ -173,30 +159,6 @@ module _ {Id B : Type 0} (rules : Rules Id B) where
         count = count;
         refused = rw (← same_order, same) refused;
         tests_are = refl;
-      }
-
-  -- so it stops after this group, where the order names these groups
-  pub StopsAfter-among : {K : Type 0} (excludes : List (K × B) → K → B → Bool) (group_cmp : K → K → Ordering) (sizes : List (Id × Size))
-      (lists : List (K × List Id)) (order : List (ℕ × K)) (groups : List (K × Members Id)) (bin_order : List B) (old new : List (B × Bin)) (tests : ℕ)
-      → AreGroups rules.id_cmp group_cmp sizes lists order groups → StopsAmong rules excludes bin_order groups old new tests
-      → StopsAfter rules excludes group_cmp sizes lists order bin_order old new tests
-  StopsAfter-among excludes group_cmp sizes lists order groups bin_order old new tests h s =
-      let taken = s.beginning ++ s.next ∷ [] in
-      let splits : groups ≡ taken ++ s.later = s.groups_are ∙ sym (append_assoc s.beginning (s.next ∷ []) s.later) in
-      record {
-        taken = take (length taken) order;
-        later = drop (length taken) order;
-        order_is = sym (take-append-drop (length taken) order);
-        beginning = s.beginning;
-        next = s.next;
-        listed = record { each = AllZip-begins _ order taken s.later (rw splits at h.each) };
-        placements = s.placements;
-        homes = s.homes;
-        first = s.first;
-        placed = s.placed;
-        count = s.count;
-        refused = s.refused;
-        tests_are = s.tests_are;
       }
 
 module _ {Id K A : Type 0} (cmp : Id → Id → Ordering) (sizes : List (Id × Size)) (all : List Size) where
@@ -224,21 +186,6 @@ HasSizes-length all o ids long same counted within =
     let cut : o.start + long - o.start ≡ long = omega arith in
     let end : long ≤ length (drop o.start all) = omega (arith, length-drop o.start all) in
     ap length same ∙ sym counted ∙ sym (ap (λ n. length (take n (drop o.start all))) cut ∙ length-take-le long (drop o.start all) end)
-
--- the one or the other
-pub on-true : (P Q : Type 0) (b : Bool) → b ≡ true → MatchBool b P Q → P
-on-true P Q true e h = h
-on-true P Q false e h = absurd cc
-
-pub on-false : (P Q : Type 0) (b : Bool) → b ≡ false → MatchBool b P Q → Q
-on-false P Q false e h = h
-on-false P Q true e h = absurd cc
-
--- other facts on the two answers
-pub packed-weaker : {E P Q P' Q' : Type 0} (r : Result Bool E) → (P → P') → (Q → Q') → IfOk r (λ d. MatchBool d P Q) → IfOk r (λ d. MatchBool d P' Q')
-packed-weaker (Ok true) f g h = f h
-packed-weaker (Ok false) f g h = g h
-packed-weaker (Err e) f g h = tt
 
 -- a map that is not empty has lists
 pub lists-some : {K X A : Type 0} (es : List (K × Vec X A)) (b : Bool) → (IsTrue b ↔ (length es ≡ 0)) → b ≡ false → lists_of es ≡ [] → ⊥

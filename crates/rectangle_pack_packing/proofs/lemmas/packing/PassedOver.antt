@@ -1,6 +1,6 @@
 -- Bins that a group passes over: they do not take it.
 use Rattle.rectangle_pack_sections.proofs.Std.{◌≡◌, ◌≤◌, ◌+◌, ◌-◌, ℕ, List, [], ◌∷◌, ◌++◌, take, drop, map, sum, refl, sym, ap, ◌∙◌, arith, inl}
-use Rattle.rectangle_pack_sections.proofs.Std.{AllZip, Bor, take-add, take-append-drop, map-append, sum_by-append, Some, Ordering}
+use Rattle.rectangle_pack_sections.proofs.Std.{AllZip, Bor, take-add, map-append, sum_by-append, Some, Ordering}
 use Rattle.std.specs.List.{slice_get}
 use Rattle.rectangle_pack_sections.specs.Boxes.{Size}
 use Rattle.rectangle_pack_sections.specs.Bins.{Bin}
@@ -15,12 +15,12 @@ use Rattle.rectangle_pack_packing.specs.private.PassedOver.{IsPassedOver, ArePas
 
 -- bins no section of which holds the first of some members are passed over, where none is excluded
 pub ArePassedOver-held : {B : Type 0} (cmp : B → B → Ordering) (excluded : List (Bor B)) (bins : List (B × Bin)) (members : List Size) (first : Size)
-    (ids : List B) (tests before after : ℕ) → excluded ≡ [] → slice_get members 0 ≡ Some first → BinsHoldNone cmp bins first ids tests
-    → after ≡ saturated (before + tests) → ArePassedOver cmp excluded bins members ids before after
-ArePassedOver-held {B} cmp excluded bins members first ids tests before after none is held added = record {
+    (ids : List B) (tests : ℕ) → excluded ≡ [] → slice_get members 0 ≡ Some first → BinsHoldNone cmp bins first ids tests
+    → ArePassedOver cmp excluded bins members ids tests
+ArePassedOver-held {B} cmp excluded bins members first ids tests none is held = record {
   counts = held.counts;
   each = from ids held.counts held.each;
-  added = rw (← held.tests_are) added;
+  tests_are = held.tests_are;
 }
   where
     begins : (ms : List Size) → slice_get ms 0 ≡ Some first → (others : List Size) × (ms ≡ first ∷ others)
@@ -35,13 +35,12 @@ ArePassedOver-held {B} cmp excluded bins members first ids tests before after no
         let (others, members_are) = begins members is in
         (record { allowed = rw none refl; first = first; others = others; members_are = members_are; none = h.0 }, from ids counts h.1)
 
--- and where no bin is passed over, no test is added
+-- and where no bin is passed over, there is no test
 pub ArePassedOver-none : {B : Type 0} (cmp : B → B → Ordering) (excluded : List (Bor B)) (bins : List (B × Bin)) (members : List Size) (order : List (ℕ × B))
-    (from index tests before after : ℕ) → index ≡ from → tests ≡ 0 → after ≡ saturated (before + tests)
-    → ArePassedOver cmp excluded bins members (map (λ o. o.1) (take (index - from) (drop from order))) before after
-ArePassedOver-none cmp excluded bins members order from index tests before after stays none added =
-    let here : index - from ≡ 0 = omega arith in
-    rw here (record { counts = []; each = tt; added = rw none at added })
+    (from : ℕ) → ArePassedOver cmp excluded bins members (map (λ o. o.1) (take (from - from) (drop from order))) 0
+ArePassedOver-none cmp excluded bins members order from =
+    let here : from - from ≡ 0 = omega arith in
+    rw here (record { counts = []; each = tt; tests_are = refl })
 
 module _ {Id B : Type 0} (rules : Rules Id B) (excluded : List (Bor B)) (bins : List (B × Bin)) (group : Members Id) where
   -- a bin that is passed over does not take the group
@@ -60,34 +59,26 @@ module _ {Id B : Type 0} (rules : Rules Id B) (excluded : List (Bor B)) (bins : 
   each-over (id ∷ ids) (count ∷ counts) over = (DoesNotTake-over id count over.0, each-over ids counts over.1)
 
   -- bins of the order that do not take the group, and those after them that are passed over
-  both-over : (first second : List (ℕ × B)) (before mid after : ℕ)
+  both-over : (first second : List (ℕ × B)) (tests before mid after : ℕ)
       → WerePassed rules (are_in rules.bin_cmp excluded) first group bins before mid
-      → ArePassedOver rules.bin_cmp excluded bins group.sizes (map (λ o. o.1) second) mid after
+      → ArePassedOver rules.bin_cmp excluded bins group.sizes (map (λ o. o.1) second) tests → after ≡ saturated (mid + tests)
       → ArePassed rules (are_in rules.bin_cmp excluded) (first ++ second) group bins before after
-  both-over first second before mid after passed over = (
+  both-over first second tests before mid after passed over added = (
     passed.0 ++ over.counts,
     rw (map-append (λ (o : ℕ × B). o.1) first second)
         (AllZip-append _ _ passed.0 _ over.counts passed.1 (each-over (map (λ o. o.1) second) over.counts over.each)),
-    over.added ∙ passed.2 (sum over.counts)
+    rw over.tests_are at added ∙ passed.2 (sum over.counts)
         ∙ ap (λ n. saturated (before + n)) (sym (sum_by-append (λ x. x) passed.0 over.counts)),
   )
 
   -- so far, and up to a later index
-  pub ArePassed-over : (old : List (B × Bin)) (order here : List (ℕ × B)) (from to before mid after : ℕ) → bins ≡ old → here ≡ order → from ≤ to
+  pub ArePassed-over : (old : List (B × Bin)) (order here : List (ℕ × B)) (from to tests before mid after : ℕ) → bins ≡ old → here ≡ order → from ≤ to
       → WerePassed rules (are_in rules.bin_cmp excluded) (take from order) group old before mid
-      → ArePassedOver rules.bin_cmp excluded bins group.sizes (map (λ o. o.1) (take (to - from) (drop from here))) mid after
+      → ArePassedOver rules.bin_cmp excluded bins group.sizes (map (λ o. o.1) (take (to - from) (drop from here))) tests → after ≡ saturated (mid + tests)
       → ArePassed rules (are_in rules.bin_cmp excluded) (take to order) group old before after
-  ArePassed-over old order here from to before mid after same alike le passed over =
+  ArePassed-over old order here from to tests before mid after same alike le passed over added =
       let whole : from + (to - from) ≡ to = omega arith in
       let parts : take from order ++ take (to - from) (drop from order) ≡ take to order =
       sym (take-add from (to - from) order) ∙ ap (λ n. take n order) whole in
-      rw (← parts, ← same) (both-over (take from order) (take (to - from) (drop from order)) before mid after (rw (← same) at passed) (rw alike at over))
-
-  -- and up to the end
-  pub ArePassed-rest : (old : List (B × Bin)) (order here : List (ℕ × B)) (from before mid after : ℕ) → bins ≡ old → here ≡ order
-      → WerePassed rules (are_in rules.bin_cmp excluded) (take from order) group old before mid
-      → ArePassedOver rules.bin_cmp excluded bins group.sizes (map (λ o. o.1) (drop from here)) mid after
-      → ArePassed rules (are_in rules.bin_cmp excluded) order group old before after
-  ArePassed-rest old order here from before mid after same alike passed over =
-      rw (← same) (rw (take-append-drop from order) at
-      (both-over (take from order) (drop from order) before mid after (rw (← same) at passed) (rw alike at over)))
+      rw (← parts, ← same) (both-over (take from order) (take (to - from) (drop from order)) tests before mid after (rw (← same) at passed) (rw alike at over)
+      added)

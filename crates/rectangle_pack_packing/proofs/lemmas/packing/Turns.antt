@@ -1,14 +1,14 @@
 -- One turn of the loops over bins and over groups.
 use Rattle.rectangle_pack_sections.proofs.Std.{◌≡◌, ℕ, ◌+◌, ◌<◌, Bool, List, [], ◌∷◌, ◌++◌, length, take, get_or, map, sum, sym, ◌∙◌, ap, subst}
-use Rattle.rectangle_pack_sections.proofs.Std.{AllZip, Bor, Ordering, sum_by_push}
+use Rattle.rectangle_pack_sections.proofs.Std.{AllZip, Bor, Option, Result, sum_by_push}
 use Rattle.rectangle_pack_sections.specs.Bins.{Bin}
 use Rattle.rectangle_pack_lists.specs.Numbers.{saturated}
 use Rattle.rectangle_pack_packing.specs.declared.answer.Placement.{Placement}
 use Rattle.rectangle_pack_packing.specs.Packing.{Rules, Members, Stage, DoesNotTake, IsPlaced, AreAllPlaced}
-use Rattle.rectangle_pack_packing.specs.private.Excluded.{AreHomesKept}
+use Rattle.rectangle_pack_packing.specs.private.OnItsWay.{OnItsWay, IsGroupTried}
 use Rattle.rectangle_pack_packing.proofs.lemmas.packing.Cases.{saturated-add, saturated-later}
 use Rattle.rectangle_pack_packing.proofs.lemmas.packing.Orders.{AllZip-next, map-take_more}
-use Rattle.rectangle_pack_packing.proofs.lemmas.packing.Groups.{IsPlaced-alike, AreAllPlaced-next}
+use Rattle.rectangle_pack_packing.proofs.lemmas.packing.Groups.{AreAllPlaced-next}
 
 module _ {Id B : Type 0} (rules : Rules Id B) where
   -- the bins of a beginning of an order do not take a group; their tests were added
@@ -47,22 +47,8 @@ module _ {Id B : Type 0} (rules : Rules Id B) where
         rw (map-take_more f groups i g within is)
         (AreAllPlaced-next rules excludes order names (map f (take i groups)) (f g) old mid homes next before added after tests one same done p joined)
 
-    -- a group that is placed has its bin kept, whichever list of its excluded bins and of its members was read
-    pub placed-kept : (cmp : K → K → Ordering) (all : List (K × List K)) (placed : List (K × B)) (homes : List (Bor K × Bor B)) (name : K)
-        (read excluded : B → Bool) (order : List B) (given own : Members Id) (old new : List (B × Bin)) (items next : List (Placement Id B))
-        (before after : ℕ) (here : B) → read ≡ excluded → given ≡ own
-        → ((added : List (Placement Id B)) × (count : ℕ) × (at : IsPlaced rules read order given old added new count) × (at.here ≡ here)
-        × (next ≡ items ++ added) × (after ≡ saturated (before + count)))
-        → AreHomesKept cmp rules.bin_cmp all ((name, here) ∷ placed) homes
-        → (added : List (Placement Id B)) × (count : ℕ) × (at : IsPlaced rules excluded order own old added new count)
-        × AreHomesKept cmp rules.bin_cmp all ((name, at.here) ∷ placed) homes
-        × (next ≡ items ++ added) × (after ≡ saturated (before + count))
-    placed-kept cmp all placed homes name read excluded order given own old new items next before after here same alike went kept =
-        let at = IsPlaced-alike rules read excluded order given own old went.0 new went.1 here same alike went.2 went.3 in (
-          went.0,
-          went.1,
-          at.0,
-          subst (λ (b : B). AreHomesKept cmp rules.bin_cmp all ((name, b) ∷ placed) homes) (sym at.1) kept,
-          went.4,
-          went.5,
-        )
+-- a group is tried alike by an equal policy, with equal excluded bins and members
+pub tried-alike : {Id B R E : Type 0} (rules : R → Rules Id B) (p q : R) (read excluded : B → Bool) (given own : Members Id) (old new : OnItsWay Id B R)
+    (result : Result (Option (Bor B)) E) → p ≡ q → read ≡ excluded → given ≡ own → IsGroupTried (rules p) read given old result new
+    → IsGroupTried (rules q) excluded own old result new
+tried-alike rules p q read excluded given own old new result policy same alike h = rw (← policy, ← same, ← alike) h

@@ -10,11 +10,9 @@ pub returns : goal.returns
 returns g c = record {
   answer =
       undone-end _ (rules_by g.Id.Ord.cmp g.BinId.Ord.cmp (g.R.Policy.may c.args.policy.now)) c.args.rects_to_place.now
-      (bins_of c.args.target_bins.now.entries) c.pack_noted-packed.new.packing c.pack_noted-packed.result _ _ c.new-packing.result.tests _ _
-      c.args.tests.now _ c.args.refused
-      (rw (c.new-packing.ensures.now, c.replace-bins.ensures.value) at c.pack_noted-packed.ensures.packed)
-      c.pack_noted-packed.ensures.counted (c.pack_noted-packed.ensures.start ∙ rw c.replace-bins.ensures.value at c.new-packing.ensures.start)
-      c.new-packing.ensures.tests (elim c.match-answer.branch [
+      (bins_of c.args.target_bins.now.entries) c.place_all-packed.new.self c.place_all-packed.result _ _ _ c.args.tests.now _ c.args.refused
+      (rw (c.new-packing.ensures.now, c.new-packing.ensures.policy, c.replace-bins.ensures.value) at c.place_all-packed.ensures.packed)
+      (c.place_all-packed.ensures.start ∙ rw c.replace-bins.ensures.value at c.new-packing.ensures.start) (elim c.match-answer.branch [
         | in-Err-OutOfMemory w ↦ let error = rw w.in-Err-OutOfMemory.is at w.in-Err-OutOfMemory.field-0-is in
             rw (w.in-Err-OutOfMemory.is ∙ ap (λ (e : RectanglePackError). Err e) error) w.made-is
         | in-Err-NotEnoughBinSpace w ↦ let error = rw w.in-Err-NotEnoughBinSpace.is at w.in-Err-NotEnoughBinSpace.field-0-is in
@@ -26,8 +24,9 @@ returns g c = record {
 pub new-packing-requires-clause-found : goal.new-packing-requires-clause-found
 new-packing-requires-clause-found g c = rw c.replace-bins.ensures.value c.requires.found
 
-pub pack_noted-packed-requires-clause-order : goal.pack_noted-packed-requires-clause-order
-pack_noted-packed-requires-clause-order g c = rw (c.new-packing.ensures.now, c.new-packing.ensures.order, c.replace-bins.ensures.value) c.requires.order
+pub place_all-packed-requires-clause-order : goal.place_all-packed-requires-clause-order
+place_all-packed-requires-clause-order g c =
+    rw (c.new-packing.ensures.now, c.new-packing.ensures.order, c.new-packing.ensures.policy, c.replace-bins.ensures.value) c.requires.order
 
-pub pack_noted-packed-requires-clause-distinct : goal.pack_noted-packed-requires-clause-distinct
-pack_noted-packed-requires-clause-distinct g c = rw (c.new-packing.ensures.now, c.replace-bins.ensures.value) c.requires.distinct_bins
+pub place_all-packed-requires-clause-distinct : goal.place_all-packed-requires-clause-distinct
+place_all-packed-requires-clause-distinct g c = rw (c.new-packing.ensures.now, c.replace-bins.ensures.value) c.requires.distinct_bins
