@@ -19,32 +19,12 @@ module _ {Id G : Type 0} (all : Collection Id G) (lists : List (Group G Id × Li
   pub next-entries : next ≡ first + entries_of all
   next-entries = subst (λ (gs : List (Group G Id × List Id)). next ≡ first + sum (map length (values_of gs))) same is
 
-  pub next-count : next - first ≡ entries_of all
-  next-count = omega (arith, next-entries)
-
   pub next-fits : next < 2 ^ 64 → first + entries_of all < 2 ^ 64
   next-fits fits = omega (arith, next-entries, fits)
-
--- no number is below the first
-pub first-next : (first next entries : ℕ) → next ≡ first + entries → first ≤ next
-first-next first next entries is = omega arith
 
 -- the state of these bins, placements and next number
 abbrev pub state : {Id B : Type 0} → List (B × Bin) → List (Outstanding Id B) → ℕ → State Id B
 state bins outstanding next = record { bins = bins; outstanding = outstanding; next = next }
-
-module _ {Id B : Type 0} (bin_cmp : B → B → Ordering) where
-  -- a session stays one where its bins and its placements are as they were
-  pub IsSession-same : {bins now : List (B × Bin)} {outstanding later : List (Outstanding Id B)} (next : ℕ) → now ≡ bins → later ≡ outstanding
-      → IsSession bin_cmp (state bins outstanding next) → IsSession bin_cmp (state now later next)
-  IsSession-same next same_bins same_outstanding h = rw (same_bins, same_outstanding) h
-
--- the numbers are used up
-pub used_up : {Id B G : Type 0} (all : Collection Id G) (was old : State Id B) → was ≡ old → (lists : List (Group G Id × List Id)) → lists ≡ all.groups
-    → 2 ^ 64 ≤ was.next + sum (map length (values_of lists)) → 2 ^ 64 ≤ old.next + entries_of all
-used_up {Id} {B} {G} all was old is lists same many =
-    subst (λ (s : State Id B). 2 ^ 64 ≤ s.next + entries_of all) is
-    (subst (λ (gs : List (Group G Id × List Id)). 2 ^ 64 ≤ was.next + sum (map length (values_of gs))) same many)
 
 -- what is left as it was
 pub unchanged : {Id B : Type 0} (bins now : List (B × Bin)) (outstanding later : List (Outstanding Id B)) (next : ℕ) → now ≡ bins → later ≡ outstanding
