@@ -17,14 +17,12 @@ mod cut_plan;
 mod joining;
 mod laws;
 mod outstanding;
-mod packing;
 mod records;
 mod run;
 mod stats;
 
 use crate::session::bins::put_bin;
-use crate::session::outstanding::{give_back, position_of};
-use crate::session::packing::pack_into;
+use crate::session::outstanding::{give_back, number_all, position_of};
 use crate::session::records::Records;
 pub use command::{Command, Outstanding, Packed, Reply, SessionError};
 pub use laws::transitions_keep_sessions;
@@ -32,6 +30,7 @@ use rectangle_pack_bins::target_bin::TargetBin;
 use rectangle_pack_groups::grouped_rects_to_place::GroupedRectsToPlace;
 use rectangle_pack_groups::grouped_rects_to_place::multimap::{ascending, number_after};
 use rectangle_pack_lists::corners::Corners;
+use rectangle_pack_packing::pack::attempt::try_packing;
 pub use rectangle_pack_plans::cut_plan::CutStep;
 pub use rectangle_pack_plans::cut_plan::laws::{
     cuts_cover_bins, cuts_have_open_planes, open_planes_split_cuts, pinwheel_is_not_from_cuts,
@@ -266,6 +265,7 @@ where
         self.pack_by(groups, &policy)
     }
 
+    // One packing by this policy, which is kept where it is done, and undone where it is not.
     pub(crate) fn pack_by<GroupId, R>(
         &mut self,
         groups: &GroupedRectsToPlace<Id, GroupId, A>,
@@ -288,17 +288,17 @@ where
             return Err(SessionError::NumbersUsedUp);
         };
         let count = next - first;
-        let kept = pack_into(
-            groups,
-            &mut self.bins,
-            &mut self.outstanding,
-            first,
-            count,
-            policy,
-        )?;
-        if !kept {
-            return Err(SessionError::NotEnoughBinSpace);
+        if groups.groups().is_empty() {
+            return Ok(Packed { first, count });
         }
+        let entries = count as usize;
+        self.outstanding.reserve(entries)?;
+        let alloc = *self.outstanding.allocator();
+        let bins = &mut self.bins;
+        let Some(placements) = try_packing(alloc, groups, bins, entries, policy, true)? else {
+            return Err(SessionError::NotEnoughBinSpace);
+        };
+        number_all(&mut self.outstanding, placements, first);
         self.next = next;
         Ok(Packed { first, count })
     }

@@ -12,7 +12,7 @@ use Rattle.rectangle_pack_packing.specs.Best.{named_rules, use_of, IsRefusedWith
 use Rattle.rectangle_pack.specs.declared.session.command.Packed.{Packed as PackedNumbers}
 use Rattle.rectangle_pack.specs.declared.session.command.Reply.TheVariants.{Packed, Refused}
 use Rattle.rectangle_pack.specs.declared.session.command.SessionError.{SessionError}
-use Rattle.rectangle_pack.specs.declared.session.command.SessionError.TheVariants.{DuplicateBin, UnknownBin, UnknownPlacement, NumbersUsedUp, NotEnoughBinSpace}
+use Rattle.rectangle_pack.specs.declared.session.command.SessionError.TheVariants.{NumbersUsedUp, NotEnoughBinSpace}
 use Rattle.rectangle_pack.specs.declared.session.command.SessionError.TheVariants.{OutOfMemory}
 use Rattle.rectangle_pack.specs.Promise.{NoBinTakes}
 use Rattle.rectangle_pack.specs.Session.{State, Packs}
@@ -39,13 +39,11 @@ module _ {Id B G : Type 0} (group_cmp : Group G Id → Group G Id → Ordering) 
 
   alone-ended : (error : SessionError) → Packs group_cmp (named_rules cmp bin_cmp heuristic) all old (Refused error) new
       → PacksBest group_cmp cmp bin_cmp (heuristic ∷ []) all old (Err error) new
-  alone-ended DuplicateBin h = absurd h
-  alone-ended UnknownBin h = absurd h
-  alone-ended UnknownPlacement h = absurd h
   alone-ended NumbersUsedUp h = h
   alone-ended NotEnoughBinSpace (low, left, refused, same) =
       (low, All-cons (IsRefusedWith group_cmp cmp bin_cmp all old.bins) heuristic [] (record { left = left; refused = refused }) (All-nil _), same)
   alone-ended OutOfMemory (low, some, same) = (low, same)
+  alone-ended error h = absurd h
 
   pub alone-refused : (result : Result (Heuristic × PackedNumbers) SessionError) (error : SessionError) → IsErrAnd result (λ e. e ≡ error)
       → Packs group_cmp (named_rules cmp bin_cmp heuristic) all old (Refused error) new
@@ -85,13 +83,11 @@ module _ {Id B G : Type 0} {group_cmp : Group G Id → Group G Id → Ordering} 
       let is = best-alone group_cmp cmp bin_cmp all old.bins best one _ alone in
       let packed : Packs group_cmp (named_rules cmp bin_cmp one) all old (Packed numbers) new = (low, done) in
       rw is (kept numbers new (rw is at packed))
-  ended (Err DuplicateBin) new h = absurd h
-  ended (Err UnknownBin) new h = absurd h
-  ended (Err UnknownPlacement) new h = absurd h
   ended (Err NumbersUsedUp) new h = h
   ended (Err NotEnoughBinSpace) new (low, refused, same) =
       absurd (not-refused group_total total bin_total all old.bins best made b.done (All-head (IsRefusedWith group_cmp cmp bin_cmp all old.bins) best [] refused))
   ended (Err OutOfMemory) new h = h
+  ended (Err error) new h = absurd h
 
   pub best-named : (now : State Id B) → now ≡ old → (asked : State Id B) → old ≡ asked → (result : Result (Heuristic × PackedNumbers) SessionError)
       → (new : State Id B) → PacksBest group_cmp cmp bin_cmp (best ∷ []) all now result new
@@ -138,8 +134,4 @@ module _ {Id B G : Type 0} (group_cmp : Group G Id → Group G Id → Ordering) 
       All-weaker (IsRefusedWith group_cmp cmp bin_cmp all old.bins) (λ g. NoBinTakes group_cmp (named_rules cmp bin_cmp g) all old.bins)
       (λ g r. packs-promised group_cmp (named_rules cmp bin_cmp g) bin_total all old (Refused NotEnoughBinSpace) old (h.0, r.left, r.refused, refl))
       heuristics h.1
-  best-promised heuristics old (Err DuplicateBin) new h = tt
-  best-promised heuristics old (Err UnknownBin) new h = tt
-  best-promised heuristics old (Err UnknownPlacement) new h = tt
-  best-promised heuristics old (Err NumbersUsedUp) new h = tt
-  best-promised heuristics old (Err OutOfMemory) new h = tt
+  best-promised heuristics old (Err error) new h = tt

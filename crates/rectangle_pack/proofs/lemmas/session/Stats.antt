@@ -78,16 +78,6 @@ module _ {Id B : Type 0} (bin_cmp : B → B → Ordering) (outstanding : List (O
       × (length (outstanding_in bin_cmp (take (i + 1) outstanding) q) ≡ length first + length box)
   added-more = (ap total_volume outstanding_in-more ∙ total_volume-append first box, ap length outstanding_in-more ∙ length-append first box)
 
--- one section more is gathered after those before, if it has cells
-pub gathered-next : (sections : List Cuboid) (i : ℕ) (s : Cuboid) (start boxes new : List Cuboid) → i < length sections → s ≡ get_or sections i s
-    → boxes ≡ start ++ filter has_cells (take i sections) → new ≡ boxes ++ filter has_cells (s ∷ [])
-    → new ≡ start ++ filter has_cells (take (i + 1) sections)
-gathered-next sections i s start boxes new within is before now =
-    let first = take i sections in
-    let more : take (i + 1) sections ≡ first ++ s ∷ [] = take_more sections i s within ∙ ap (λ (x : Cuboid). first ++ x ∷ []) (sym is) in
-    now ∙ ap (λ l. l ++ filter has_cells (s ∷ [])) before ∙ append_assoc start (filter has_cells first) (filter has_cells (s ∷ []))
-    ∙ ap (λ l. start ++ l) (sym (filter-append has_cells first (s ∷ [])) ∙ ap (filter has_cells) (sym more))
-
 -- each of two parts of a volume that fits has one that fits: the free sections, and what stands in the bin
 pub free-fits : (now sections : List Cuboid) (placed whole volume : ℕ) → now ≡ sections → total_volume sections + placed ≡ whole → volume ≡ whole
     → volume < 2 ^ 128 → total_volume now < 2 ^ 128

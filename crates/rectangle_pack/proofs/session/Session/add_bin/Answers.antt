@@ -1,32 +1,19 @@
-use Rattle.rectangle_pack_sections.proofs.Std.{subst, refl, ap, sym, ◌∙◌, is_at}
+use Rattle.rectangle_pack_sections.proofs.Std.{refl, ap, sym, ◌∙◌, is_at}
 use Rattle.rectangle_pack_sections.specs.Bins.{bins_of}
 use Rattle.rectangle_pack_bins.proofs.lemmas.bins.Maps.{is_some-bins_of}
 use Rattle.rectangle_pack_sections.proofs.lemmas.util.Maps.{none_of}
 use Rattle.rectangle_pack.proofs.lemmas.session.Keeps.{None-bins_of}
-use Rattle.rectangle_pack.proofs.lemmas.session.Packing.{state, IsSession-same}
+use Rattle.rectangle_pack.proofs.lemmas.session.Packing.{state}
 use Rattle.rectangle_pack.proofs.lemmas.session.Transitions.{added-inserted, memory_refused}
-use Rattle.rectangle_pack.specs.Session.{IsSession}
 use Rattle.rectangle_pack.proofs.session.Session.add_bin.Goals as goal
 
 pub returns-then-contains_key-clause-added : goal.returns-then-contains_key-clause-added
 returns-then-contains_key-clause-added g c = rw (← c.self.view_is)
     (is_some-bins_of (is_at (g.BinId.Ord.cmp c.args.id)) c.self.inside.bins.entries ∙ sym c.contains_key.ensures ∙ c.if-contains_key.true, refl)
 
-pub returns-then-contains_key-clause-always : goal.returns-then-contains_key-clause-always
-returns-then-contains_key-clause-always g c = subst (λ s. IsSession g.BinId.Ord.cmp s) c.self.view_is c.self.invariant
-
 pub returns-in_err-bin-clause-added : goal.returns-in_err-bin-clause-added
 returns-in_err-bin-clause-added g c = rw (memory_refused c.from_residual.result c.from_residual.ensures.1, ← c.self.view_is)
     (None-bins_of (is_at (g.BinId.Ord.cmp c.args.id)) c.self.inside.bins.entries (none_of _ (sym c.contains_key.ensures ∙ c.if-contains_key.false)), refl)
-
-pub returns-in_err-bin-clause-always : goal.returns-in_err-bin-clause-always
-returns-in_err-bin-clause-always g c = subst (λ s. IsSession g.BinId.Ord.cmp s) c.self.view_is c.self.invariant
-
-pub invariant_of-self : goal.invariant_of-self
-invariant_of-self g c = IsSession-same g.BinId.Ord.cmp c.self.inside.next (ap bins_of c.in_err-put_bin.ensures.err) refl c.self.invariant
-
-pub returns-in_err-put_bin-clause-always : goal.returns-in_err-put_bin-clause-always
-returns-in_err-put_bin-clause-always g c = invariant_of-self g c
 
 pub returns-in_err-put_bin-clause-added : goal.returns-in_err-put_bin-clause-added
 returns-in_err-put_bin-clause-added g c =

@@ -23,9 +23,3 @@ returns-clause-joined g c =
 
 pub returns-clause-always : goal.returns-clause-always
 returns-clause-always g c = invariant_of-self-2 g c
-
-pub invariant_of-self : goal.invariant_of-self
-invariant_of-self g c = rw c.get_mut.follows.holds-at-none c.self.invariant
-
-pub returns-in_default-clause-always : goal.returns-in_default-clause-always
-returns-in_default-clause-always g c = invariant_of-self g c

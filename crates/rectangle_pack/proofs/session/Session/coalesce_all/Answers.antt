@@ -36,9 +36,3 @@ returns-clause-no_face g c =
     let found = ap (lookup test) (c.get_mut.follows.holds w).0
     ∙ lookup-set_here test c.self.inside.bins.entries c.in-Some.bin.now w (sym c.in-Some.ensures.value) in
     rw (Some-bins_of test (c.get_mut.follows.lender w).entries w found) c.coalesce_all_in.ensures.no_face
-
-pub invariant_of-self : goal.invariant_of-self
-invariant_of-self g c = rw c.get_mut.follows.holds-at-none c.self.invariant
-
-pub returns-in_default-clause-always : goal.returns-in_default-clause-always
-returns-in_default-clause-always g c = invariant_of-self g c

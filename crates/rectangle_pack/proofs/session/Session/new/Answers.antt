@@ -1,8 +1,5 @@
-use Rattle.rectangle_pack_sections.proofs.Std.{refl, rules, All-nil}
+use Rattle.rectangle_pack_sections.proofs.Std.{rules, All-nil}
 use Rattle.rectangle_pack.proofs.session.Session.new.Goals as goal
-
-pub returns : goal.returns
-returns g c = rw (c.new.ensures.empty, c.new-2.ensures.items) refl
 
 pub invariant_of-result : goal.invariant_of-result
 invariant_of-result g c = rw (c.new.ensures.empty, c.new-2.ensures.items) record {

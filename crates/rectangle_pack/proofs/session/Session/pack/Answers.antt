@@ -8,12 +8,3 @@ pub returns-clause-promise : goal.returns-clause-promise
 returns-clause-promise g c =
     packs-promised _ (rules_by g.Id.Ord.cmp g.BinId.Ord.cmp (answers g.H.Fn g.C.Fn c.args.heuristic.now c.args.comparison.now)) g.met.BinId.Ord.total
     c.args.groups.now _ (packed_reply c.pack_by.result) _ c.pack_by.ensures.packed
-
-pub returns-clause-packed : goal.returns-clause-packed
-returns-clause-packed g c = c.pack_by.ensures.packed
-
-pub returns-clause-no_groups : goal.returns-clause-no_groups
-returns-clause-no_groups g c = c.pack_by.ensures.no_groups
-
-pub returns-clause-always : goal.returns-clause-always
-returns-clause-always g c = c.pack_by.ensures.always

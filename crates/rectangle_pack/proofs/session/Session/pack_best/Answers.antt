@@ -1,12 +1,11 @@
-use Rattle.rectangle_pack_sections.proofs.Std.{◌≡◌, ◌∙◌, ◌⊎◌, [], inl, inr, length, refl, sym, arith, subst, Err}
+use Rattle.rectangle_pack_sections.proofs.Std.{◌≡◌, ◌∙◌, ◌⊎◌, [], inl, inr, length, refl, sym, arith, Err}
 use Rattle.rectangle_pack_sections.specs.declared.box_size_heuristics.named.Heuristic.TheVariants.{Volume}
 use Rattle.rectangle_pack_sections.specs.Bins.{bins_of}
 use Rattle.rectangle_pack_sections.proofs.lemmas.groups.GroupOrder.{groups_total}
 use Rattle.rectangle_pack_packing.proofs.lemmas.packing.Groups.{lists-some, lists-empty}
 use Rattle.rectangle_pack.specs.declared.session.command.SessionError.TheVariants.{NotEnoughBinSpace}
 use Rattle.rectangle_pack.proofs.lemmas.session.Best.{best-found, none-found, first-answered, best-named, best-stopped, best-none, best-promised}
-use Rattle.rectangle_pack.proofs.lemmas.session.Packing.{next-fits, first-next, used_up, unchanged, IsSession-same}
-use Rattle.rectangle_pack.specs.Session.{IsSession}
+use Rattle.rectangle_pack.proofs.lemmas.session.Packing.{next-fits, unchanged}
 use Rattle.rectangle_pack.proofs.session.Session.pack_best.Goals.{then-heuristics-eq1-via-then-heuristics-eq1}
 use Rattle.rectangle_pack.proofs.session.Session.pack_best.Goals.{then-heuristics-eq1-via-else-heuristics-eq1+then-is_empty}
 use Rattle.rectangle_pack.proofs.session.Session.pack_best.Goals as goal
@@ -26,9 +25,6 @@ returns-then-heuristics-eq1-clause-promise g c =
     best-promised _ g.Id.Ord.cmp g.met.BinId.Ord.total c.args.groups.now c.args.heuristics.now c.args.self.now c.pack_named.result c.pack_named.new.self
     (returns-then-heuristics-eq1-clause-packed g c)
 
-pub returns-then-heuristics-eq1-clause-no_groups : goal.returns-then-heuristics-eq1-clause-no_groups
-returns-then-heuristics-eq1-clause-no_groups g c = c.pack_named.ensures.no_groups
-
 pub returns-clause-packed : goal.returns-clause-packed
 returns-clause-packed g c =
     let bins = bins_of c.self.inside.bins.entries in
@@ -44,9 +40,6 @@ returns-clause-promise g c =
     best-promised _ g.Id.Ord.cmp g.met.BinId.Ord.total c.args.groups.now c.args.heuristics.now c.args.self.now c.pack_named-2.result c.pack_named-2.new.self
     (returns-clause-packed g c)
 
-pub returns-clause-no_groups : goal.returns-clause-no_groups
-returns-clause-no_groups g c = c.pack_named-2.ensures.no_groups
-
 pub returns-in_default-best-clause-packed : goal.returns-in_default-best-clause-packed
 returns-in_default-best-clause-packed g c =
     let fits = next-fits c.args.groups.now _ c.groups-2.ensures.entries c.self.inside.next c.in-Some.next c.in-Some.ensures (omega arith) in
@@ -61,66 +54,11 @@ returns-in_default-best-clause-promise g c =
     best-promised _ g.Id.Ord.cmp g.met.BinId.Ord.total c.args.groups.now c.args.heuristics.now c.args.self.now (Err NotEnoughBinSpace) _
     (returns-in_default-best-clause-packed g c)
 
-pub returns-in_default-clause-packed : goal.returns-in_default-clause-packed
-returns-in_default-clause-packed g c = (used_up c.args.groups.now _ c.args.self.now c.self.view_is _ c.groups-2.ensures.entries c.in_default.ensures, refl)
-
-pub returns-in_default-clause-promise : goal.returns-in_default-clause-promise
-returns-in_default-clause-promise g c = tt
-
-pub returns-in_default-clause-always : goal.returns-in_default-clause-always
-returns-in_default-clause-always g c = subst (λ s. IsSession g.BinId.Ord.cmp s) c.self.view_is c.self.invariant
-
-pub overflow_sub-entries : goal.overflow_sub-entries
-overflow_sub-entries g c = first-next _ _ _ c.in-Some.ensures
-
-pub best_of-requires-clause-ids : goal.best_of-requires-clause-ids
-best_of-requires-clause-ids g c = c.requires.ids
-
-pub best_of-requires-clause-bin_ids : goal.best_of-requires-clause-bin_ids
-best_of-requires-clause-bin_ids g c = c.requires.bin_ids
-
-pub invariant_of-self : goal.invariant_of-self
-invariant_of-self g c = IsSession-same g.BinId.Ord.cmp c.self.inside.next c.in_err-best.ensures.same refl c.self.invariant
-
-pub returns-in_err-best-clause-always : goal.returns-in_err-best-clause-always
-returns-in_err-best-clause-always g c = invariant_of-self g c
-
-pub invariant_of-self-in_default-best : goal.invariant_of-self-in_default-best
-invariant_of-self-in_default-best g c = IsSession-same g.BinId.Ord.cmp c.self.inside.next c.in_ok-best.ensures.same refl c.self.invariant
-
-pub returns-in_default-best-clause-always : goal.returns-in_default-best-clause-always
-returns-in_default-best-clause-always g c = invariant_of-self-in_default-best g c
-
-pub invariant_of-self-2 : goal.invariant_of-self-2
-invariant_of-self-2 g c = IsSession-same g.BinId.Ord.cmp c.self.inside.next c.in_ok-best.ensures.same refl c.self.invariant
-
 pub returns-in_err-best-clause-packed : goal.returns-in_err-best-clause-packed
 returns-in_err-best-clause-packed g c =
     let fits = next-fits c.args.groups.now _ c.groups-2.ensures.entries c.self.inside.next c.in-Some.next c.in-Some.ensures (omega arith) in
     best-stopped _ g.Id.Ord.cmp g.BinId.Ord.cmp c.args.groups.now c.args.heuristics.now _ _ c.self.inside.outstanding.items c.self.inside.next
     c.in_err-best.ensures.same c.args.self.now c.self.view_is fits c.from_residual.result c.from_residual.ensures.1
-
-pub returns-in_err-best-clause-promise : goal.returns-in_err-best-clause-promise
-returns-in_err-best-clause-promise g c =
-    best-promised _ g.Id.Ord.cmp g.met.BinId.Ord.total c.args.groups.now c.args.heuristics.now c.args.self.now _ _ (returns-in_err-best-clause-packed g c)
-
-pub pack_named-requires-clause-ids : goal.pack_named-requires-clause-ids
-pack_named-requires-clause-ids g c = c.requires.ids
-
-pub pack_named-requires-clause-bin_ids : goal.pack_named-requires-clause-bin_ids
-pack_named-requires-clause-bin_ids g c = c.requires.bin_ids
-
-pub pack_named-requires-2-clause-ids : goal.pack_named-requires-2-clause-ids
-pack_named-requires-2-clause-ids g c = c.requires.ids
-
-pub pack_named-requires-2-clause-bin_ids : goal.pack_named-requires-2-clause-bin_ids
-pack_named-requires-2-clause-bin_ids g c = c.requires.bin_ids
-
-pub returns-then-heuristics-eq1-clause-always : goal.returns-then-heuristics-eq1-clause-always
-returns-then-heuristics-eq1-clause-always g c = c.pack_named.ensures.always
-
-pub returns-clause-always : goal.returns-clause-always
-returns-clause-always g c = c.pack_named-2.ensures.always
 
 pub returns-in_default-clause-no_groups : goal.returns-in_default-clause-no_groups
 returns-in_default-clause-no_groups g c = λ none. absurd (lists-some _ _ c.is_empty.ensures c.if-is_empty.false (c.groups.ensures.entries ∙ none))

@@ -1,7 +1,6 @@
-use Rattle.rectangle_pack_sections.proofs.Std.{subst, refl, ap}
+use Rattle.rectangle_pack_sections.proofs.Std.{refl, ap}
 use Rattle.rectangle_pack.proofs.lemmas.session.Keeps.{IsSession-found, outstanding_at}
 use Rattle.rectangle_pack.proofs.lemmas.session.Transitions.{released-removed, memory_refused}
-use Rattle.rectangle_pack.specs.Session.{IsSession}
 use Rattle.rectangle_pack.proofs.session.Session.release.Goals as goal
 
 pub give_back-requires : goal.give_back-requires
@@ -42,25 +41,7 @@ returns-clause-released g c =
 pub returns-clause-always : goal.returns-clause-always
 returns-clause-always g c = invariant_of-self-2 g c
 
-pub position_of-requires : goal.position_of-requires
-position_of-requires g c = rw c.as_slice-outstanding.ensures.value record { rising = c.self.invariant.rising }
-
-pub bounds-outstanding-index : goal.bounds-outstanding-index
-bounds-outstanding-index g c = c.in-Some.ensures.some.0
-
-pub remove-requires : goal.remove-requires
-remove-requires g c = let some = rw c.as_slice-outstanding.ensures.value at c.in-Some.ensures.some in some.0
-
-pub invariant_of-self : goal.invariant_of-self
-invariant_of-self g c = rw c.in_err-give_back.ensures.err.1 c.self.invariant
-
-pub returns-in_err-give_back-clause-always : goal.returns-in_err-give_back-clause-always
-returns-in_err-give_back-clause-always g c = invariant_of-self g c
-
 pub returns-in_default-clause-released : goal.returns-in_default-clause-released
 returns-in_default-clause-released g c =
     let none = rw c.as_slice-outstanding.ensures.value at c.in_default.ensures.none in
     rw (← c.self.view_is) (none, refl)
-
-pub returns-in_default-clause-always : goal.returns-in_default-clause-always
-returns-in_default-clause-always g c = subst (λ s. IsSession g.BinId.Ord.cmp s) c.self.view_is c.self.invariant

@@ -30,18 +30,6 @@ loop-command-init g c =
     let replies = c.in_ok-replies.ensures in
     record { ran = rw replies.items refl; always = subst (λ s. IsSession g.BinId.Ord.cmp s) c.self.view_is c.self.invariant; room = has_all _ _ _ replies.len replies.capacity }
 
-pub obey-requires-clause-ids : goal.obey-requires-clause-ids
-obey-requires-clause-ids g c = c.requires.ids
-
-pub obey-requires-clause-bin_ids : goal.obey-requires-clause-bin_ids
-obey-requires-clause-bin_ids g c = c.requires.bin_ids
-
-pub obey-requires-clause-callable : goal.obey-requires-clause-callable
-obey-requires-clause-callable g c = c.requires.callable
-
-pub push_reserved-requires : goal.push_reserved-requires
-push_reserved-requires g c = has_room _ _ _ _ c.loop-command.invariant.room c.loop-command-test.true
-
 pub loop-command-preserved : goal.loop-command-preserved
 loop-command-preserved g c =
     let before = c.loop-command.invariant in
@@ -59,6 +47,3 @@ pub returns-clause-promise : goal.returns-clause-promise
 returns-clause-promise g c =
     IsRun-all _ c.args.commands.now c.loop-command.command-index c.args.self.now c.loop-command.self c.loop-command.replies.items
     c.loop-command-test.false c.loop-command.invariant.ran
-
-pub returns-clause-always : goal.returns-clause-always
-returns-clause-always g c = c.loop-command.invariant.always

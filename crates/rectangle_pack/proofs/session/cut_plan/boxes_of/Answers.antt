@@ -1,13 +1,7 @@
-use Rattle.rectangle_pack_sections.proofs.Std.{◌≡◌, sym, ap, ◌∙◌, ◌++◌, filter, filter-append, IfOk-from_err}
+use Rattle.rectangle_pack_sections.proofs.Std.{◌≡◌, sym, ap, ◌∙◌, ◌++◌, filter, filter-append}
 use Rattle.rectangle_pack_sections.specs.Boxes.{has_cells}
 use Rattle.rectangle_pack.specs.Session.{outstanding_in}
 use Rattle.rectangle_pack.proofs.session.cut_plan.boxes_of.Goals as goal
-
-pub returns-in_err-gather_free : goal.returns-in_err-gather_free
-returns-in_err-gather_free g c = IfOk-from_err _ _ c.from_residual.ensures.0
-
-pub returns-in_err-gather_outstanding : goal.returns-in_err-gather_outstanding
-returns-in_err-gather_outstanding g c = IfOk-from_err _ _ c.from_residual-in_err-gather_outstanding.ensures.0
 
 pub returns : goal.returns
 returns g c =

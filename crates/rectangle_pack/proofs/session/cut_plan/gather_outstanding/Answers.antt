@@ -1,4 +1,4 @@
-use Rattle.rectangle_pack_sections.proofs.Std.{◌≡◌, IfOk-from_err, arith, append-nil, refl, sym, ap, ◌∙◌, ◌++◌, take, true, false, filter, take-length}
+use Rattle.rectangle_pack_sections.proofs.Std.{◌≡◌, arith, append-nil, refl, sym, ap, ◌∙◌, ◌++◌, take, true, false, filter, take-length}
 use Rattle.rectangle_pack_sections.specs.Boxes.{has_cells}
 use Rattle.rectangle_pack.specs.Session.{outstanding_in}
 use Rattle.rectangle_pack.proofs.lemmas.session.Stats.{gathered-more}
@@ -25,9 +25,3 @@ returns g c =
     let all : take c.loop-placement.placement-index outstanding ≡ outstanding = ap
     (λ n. take n outstanding) (omega (arith, c.loop-placement.auto.placement-index-end, c.loop-placement-test.false)) ∙ take-length outstanding in
     c.loop-placement.invariant ∙ ap (λ rs. c.args.boxes.now.items ++ filter has_cells (outstanding_in g.B.Ord.cmp rs c.args.id.now)) all
-
-pub loop-placement-init : goal.loop-placement-init
-loop-placement-init g c = sym (append-nil c.args.boxes.now.items)
-
-pub returns-in_err-gather : goal.returns-in_err-gather
-returns-in_err-gather g c = IfOk-from_err _ _ c.from_residual.ensures.0

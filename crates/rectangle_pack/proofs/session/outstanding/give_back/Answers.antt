@@ -31,9 +31,6 @@ returns-then-not-has_cells g c =
     let empty = rw c.section_at-section.ensures at (sym c.has_cells.ensures ∙ c.if-not-has_cells.true) in
     record { ok = rw empty refl; err = tt }
 
-pub push_available_bin_section_unchecked-requires : goal.push_available_bin_section_unchecked-requires
-push_available_bin_section_unchecked-requires g c = rw c.section_at-section.ensures (rw (← c.in-Some.ensures.value) at c.requires.accepted.1)
-
 pub returns-in_err-reserve-in-Some-clause-err : goal.returns-in_err-reserve-in-Some-clause-err
 returns-in_err-reserve-in-Some-clause-err g c =
     let test = is_at (g.B.Ord.cmp c.args.id.now) in
