@@ -1,12 +1,6 @@
 use Rattle.rectangle_pack_sections.proofs.Std.{arith, ◌≤◌, ◌-◌, length, drop, length-drop, take_all}
 use Rattle.rectangle_pack_packing.proofs.pack.next_bin.next_bin.Goals as goal
 
-pub offset_bounds-order-index : goal.offset_bounds-order-index
-offset_bounds-order-index g c = omega (arith, c.if-index-order.false)
-
-pub bounds-order-index : goal.bounds-order-index
-bounds-order-index g c = c.if-index-order.false
-
 pub returns-then-index-order-clause-next : goal.returns-then-index-order-clause-next
 returns-then-index-order-clause-next g c =
     let left = drop c.args.from c.args.bins.now.order in

@@ -1,16 +1,8 @@
-use Rattle.rectangle_pack_sections.proofs.Std.{ap, sym, arith}
+use Rattle.rectangle_pack_sections.proofs.Std.{ap, sym}
 use Rattle.rectangle_pack_packing.specs.declared.bins_at_work.summary_tree.Passed.{Passed}
 use Rattle.rectangle_pack_packing.proofs.lemmas.packing.PassedOver.{ArePassedOver-held, ArePassedOver-none}
 use Rattle.rectangle_pack_packing.proofs.pack.next_bin.pass_over.Goals as goal
 use Rattle.rectangle_pack_packing.proofs.pack.next_bin.pass_over.Goals.{in-Some, in_default-2, in_default}
-
-pub returns-clause-from : goal.returns-clause-from
-returns-clause-from g c =
-    elim c.match-first.branch [
-      | in-Some w ↦ rw w.passed-is w.pass_over-passed.ensures.from
-      | in_default-2 w ↦ rw w.passed-is (omega arith)
-      | in_default w ↦ rw w.passed-is (omega arith)
-    ]
 
 pub returns-clause-passed : goal.returns-clause-passed
 returns-clause-passed g c =
