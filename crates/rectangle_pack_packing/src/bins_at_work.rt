@@ -1,6 +1,6 @@
-//! The bins of a packing. A bin is only looked at in its map, as long as no section of it holds the
-//! first member of a group; from the first trial that goes further it is out of the map: with many
-//! bins and groups, looking each up by its id for each group would take most of the time.
+//! The bins of a packing. A bin stays in its map until it holds the first member of a group that is
+//! tried in it. From then on it is out of the map: with many bins and groups, looking each up by its
+//! id for each group would take most of the time.
 ghost use Rattle.std.specs.Prelude.{ℕ, None, ◌≡◌, ◌≢◌, ◌-◌, ◌<◌, ◌≤◌, length, false, IfSome, IsSome, OnOk, OnErr, MatchBool, All, map, take, drop, slice_index_or};
 ghost use Rattle.std.specs.BTreeMap.{get};
 ghost use Rattle.std.specs.List.{IsDistinct};
@@ -31,7 +31,7 @@ use std::mem;
 // From how many bins on summaries of them are kept.
 const MANY: usize = 16;
 
-// How many sections a bin has at most that is summed in its map.
+// Up to how many sections a bin is summed while it is in its map.
 const FEW: usize = 64;
 
 /// The bins of a packing. Some are out of the map; there a bin without sections stands for each
@@ -40,7 +40,7 @@ const FEW: usize = 64;
 pub struct BinsAtWork<'b, B: Ord, A: Allocator + Copy> {
     bins: BTreeMap<B, TargetBin<A>, A>,
     order: &'b [(u128, B)],
-    // For each index of the order, up to the last whose bin is out: that bin where it is out.
+    // For each index of the order, up to the last whose bin is out: that bin, where it is out.
     out: Vec<Option<BinAtWork<A>>, A>,
     summaries: SummaryTree<A>,
     // How many boxes the packing has.
@@ -111,8 +111,8 @@ impl<'b, B: Ord, A: Allocator + Copy> BinsAtWork<'b, B, A> {
         self.summaries.next(from, &WidthHeightDepth::from(*first))
     }
 
-    /// One trial in the bin at this index, which is out of its map after one that is not stuck at
-    /// its first member. Fails only when memory is refused, and leaves the bins as they were.
+    /// One trial in the bin at this index. A bin that holds the first member is out of its map from
+    /// then on. Fails only when memory is refused, and leaves the bins as they were.
     pub fn run_trial<R: Policy>(
         &mut self,
         index: usize,
@@ -166,10 +166,12 @@ impl<'b, B: Ord, A: Allocator + Copy> BinsAtWork<'b, B, A> {
         }
         let order = self.order;
         let (_, id) = &order[index];
-        let sections = self.bins.get(id).unwrap().available_bin_sections().as_slice();
+        let bin = self.bins.get(id).unwrap();
+        let sections = bin.available_bin_sections().as_slice();
         let trial = stuck_at_once(sections, sizes)?;
         if self.summaries.lacks(index) && sections.len() <= FEW {
-            self.summaries.put(index, Some(Summary::of_sections(sections)));
+            let summary = Summary::of_sections(sections);
+            self.summaries.put(index, Some(summary));
         }
         Some(trial)
     }

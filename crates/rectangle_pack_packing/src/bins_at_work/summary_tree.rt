@@ -123,7 +123,7 @@ impl<A: Allocator + Copy> SummaryTree<A> {
         ensures elsewhere { (i : ℕ) → i ≢ index →
             slice_index_or self.new i None ≡ slice_index_or self.old i None }
     {
-        let leaf = self.nodes.len() / 2 + index;
+        let leaf = self.len() + index;
         write(&mut self.nodes, leaf, summary);
     }
 

@@ -1,11 +1,13 @@
 -- Bins that are checked out of their map, and checked in, and the summaries of bins.
 use Rattle.rectangle_pack_sections.proofs.Std.{◌≡◌, ◌≢◌, ◌≤◌, ℕ, suc, zero, ◌<◌, List, [], ◌∷◌, ◌++◌, length, refl, ap, sym, ◌∙◌, true, false, Bool, arith, get_or}
 use Rattle.rectangle_pack_sections.proofs.Std.{Option, Some, None, IsSome, IfSome, map, set, Ordering, is_eq, eq_by_cmp, IsTotalOrder, Equal-is, IsDistinct}
-use Rattle.rectangle_pack_sections.proofs.Std.{AllByRecursion, lookup, set_value, keys_of, is_at, keys-set_value, IsDistinct-head, IsDistinct-tail}
-use Rattle.rectangle_pack_sections.proofs.Std.{set_value_same, inl, inr, cases_Bool, cases_order, cases_eq, set-get_or, take, drop, ◌+◌, sum_by-cons, get_or_default}
-use Rattle.rectangle_pack_sections.proofs.Std.{Ok}
+use Rattle.rectangle_pack_sections.proofs.Std.{lookup, set_value, keys_of, is_at, keys-set_value, IsDistinct-tail}
+use Rattle.rectangle_pack_sections.proofs.Std.{set_value_same, inl, inr, cases_Bool, cases_order, cases_eq, set-get_or, take, drop, ◌+◌, sum_by-cons, get_or_default, drop-cons}
+use Rattle.rectangle_pack_sections.proofs.Std.{Ok, get_or-map, length-map}
+use Rattle.std.proofs.lemmas.Map.Keys.{apart_from_distinct}
 use Rattle.rectangle_pack_sections.specs.Boxes.{Size, Cuboid}
-use Rattle.rectangle_pack_sections.specs.Bins.{Bin}
+use Rattle.rectangle_pack_sections.specs.Bins.{Bin, Held, bins_of}
+use Rattle.rectangle_pack_bins.proofs.lemmas.bins.Maps.{is_some-bins_of}
 use Rattle.rectangle_pack_sections.specs.Closures.{Answers}
 use Rattle.rectangle_pack_lists.specs.declared.free_list.End.{End}
 use Rattle.rectangle_pack_lists.specs.declared.free_list.End.TheVariants.{Keep, Undo}
@@ -99,43 +101,47 @@ pub AreSummed-unknown : {B : Type 0} (cmp : B → B → Ordering) (order : List 
     → ((i : ℕ) → get_or summaries i None ≡ None) → AreSummed cmp order bins summaries
 AreSummed-unknown cmp order bins summaries none = λ i. rw (none i) tt
 
+IsSome-none : {X : Type 0} (found : Option X) → IsSome found → found ≡ None → ⊥
+IsSome-none None some none = absurd cc
+IsSome-none (Some x) some none = absurd cc
+
 weaker : {X : Type 0} {P Q : X → Type 0} (found : Option X) → ((x : X) → P x → Q x) → IfSome found P → IfSome found Q
 weaker None f p = tt
 weaker (Some x) f p = f x p
 
 -- bins whose summaries rule a size out hold it nowhere
 pub BinsHoldNone-ruled : {B : Type 0} (cmp : B → B → Ordering) (order : List (ℕ × B)) (bins : List (B × Bin)) (summaries : List (Option Summary)) (size : Size)
-    (n from tests : ℕ) (here : List (Option Summary)) (ids : List (ℕ × B)) → AreSummed cmp order bins summaries
-    → (0 < n → from + n ≤ length summaries) → drop from summaries ≡ here → drop from order ≡ ids → RuleOut (take n here) size tests
-    → BinsHoldNone cmp bins size (map (λ (x : ℕ × B). x.1) (take n ids)) tests
-BinsHoldNone-ruled cmp order bins summaries size zero from tests here ids summed within s at out = record { counts = []; each = tt; tests_are = out }
-BinsHoldNone-ruled cmp order bins summaries size (suc n) from tests [] ids summed within s at out =
-    absurd (drop-some summaries from n s (within (omega arith)))
-BinsHoldNone-ruled cmp order bins summaries size (suc n) from tests (None ∷ here) ids summed within s at out = absurd out
-BinsHoldNone-ruled cmp order bins summaries size (suc n) from tests (Some summary ∷ here) [] summed within s at out =
+    (n from tests : ℕ) (here : List (Option Summary)) → AreSummed cmp order bins summaries → (0 < n → from + n ≤ length summaries)
+    → drop from summaries ≡ here → RuleOut (take n here) size tests
+    → BinsHoldNone cmp bins size (map (λ (x : ℕ × B). x.1) (take n (drop from order))) tests
+BinsHoldNone-ruled cmp order bins summaries size zero from tests here summed within s out = record { counts = []; each = tt; tests_are = out }
+BinsHoldNone-ruled cmp order bins summaries size (suc n) from tests [] summed within s out = absurd (drop-some summaries from n s (within (omega arith)))
+BinsHoldNone-ruled cmp order bins summaries size (suc n) from tests (None ∷ here) summed within s out = absurd out
+BinsHoldNone-ruled cmp order bins summaries size (suc n) from tests (Some summary ∷ here) summed within s out =
     let its = drop-head summaries from (Some summary) here s in
     let known : get_or summaries from None ≡ Some summary = get_or_default summaries from None (Some summary) its.0 ∙ sym its.1 in
     let this = rw known at (summed from) in
-    absurd (drop-some order from 0 at (omega (arith, this.1.within)))
-BinsHoldNone-ruled cmp order bins summaries size (suc n) from tests (Some summary ∷ here) (o ∷ ids) summed within s at out =
-    let its = drop-head summaries from (Some summary) here s in
-    let known : get_or summaries from None ≡ Some summary = get_or_default summaries from None (Some summary) its.0 ∙ sym its.1 in
-    let this = rw known at (summed from) in
-    let head = drop-head order from o ids at in
-    let rest = BinsHoldNone-ruled cmp order bins summaries size n (suc from) out.1 here ids summed (λ some. omega (arith, within (omega arith))) its.2 head.2 out.2 in
-    record {
+    let (o, is) = entry_at order from this.1.within in
+    let head : drop from order ≡ o ∷ drop (suc from) order = drop-cons order from o this.1.within ∙ ap (λ x. x ∷ drop (suc from) order) (sym is) in
+    let rest = BinsHoldNone-ruled cmp order bins summaries size n (suc from) out.1 here summed (λ some. omega (arith, within (omega arith))) its.2 out.2 in
+    rw head (record {
       counts = summary.count ∷ rest.counts;
       each = (
         record {
           bin = this.0;
-          found = this.1.found o head.1;
+          found = this.1.found o is;
           none = none-bounded summary this.0.sections size this.2 out.0;
           tests_are = this.2.count;
         },
         rest.each,
       );
       tests_are = omega (arith, out.3, rest.tests_are, sum_by-cons (λ k. k) summary.count rest.counts);
-    }
+    })
+
+-- the id at an index has a bin in the map
+pub is_in_map : {B : Type 0} (cmp : B → B → Ordering) (order : List (ℕ × B)) (out : List (Option AtWork)) (es : List (B × Held)) (i : ℕ) (o : ℕ × B)
+    → CanCheckIn cmp order out (bins_of es) → i < length order → o ≡ get_or order i o → IsSome (lookup (is_at (cmp o.1)) es)
+is_in_map cmp order out es i o can within is = sym (is_some-bins_of (is_at (cmp o.1)) es) ∙ rw is (can.found i o within)
 
 module _ {B : Type 0} {cmp : B → B → Ordering} (total : IsTotalOrder cmp) where
   -- the ids of the order differ
@@ -158,15 +164,6 @@ module _ {B : Type 0} {cmp : B → B → Ordering} (total : IsTotalOrder cmp) wh
     ]
   ]
 
-  -- a look-up at another key than the one that was written
-  lookup-elsewhere : {X : Type 0} (a b : B) → is_at (cmp a) b ≡ false → (es : List (B × X)) (v : X)
-      → lookup (is_at (cmp b)) (set_value (is_at (cmp a)) es v) ≡ lookup (is_at (cmp b)) es
-  lookup-elsewhere a b apart [] v = refl
-  lookup-elsewhere a b apart (e ∷ es) v = elim (cases_Bool (is_at (cmp a) e.0)) [
-    | inl here ↦ simp (here, differs a b e.0 apart here)
-    | inr off ↦ simp (off, lookup-elsewhere a b apart es v)
-  ]
-
   -- what is checked in, and a write at another id, in either order
   put_back-swap : (end : End) (a b : B) → is_at (cmp a) b ≡ false → (held : Option AtWork) (es : List (B × Bin)) (w : Bin)
       → put_back cmp end a held (set_value (is_at (cmp b)) es w) ≡ set_value (is_at (cmp b)) (put_back cmp end a held es) w
@@ -179,41 +176,40 @@ module _ {B : Type 0} {cmp : B → B → Ordering} (total : IsTotalOrder cmp) wh
   put_back-twice end a None es w = refl
   put_back-twice end a (Some h) es w = sym (set_value-twice (is_at (cmp a)) es (left_at end h) w)
 
-  apart-at : (id : B) (order : List (ℕ × B)) (i : ℕ) (o : ℕ × B) → AllByRecursion (λ y. eq_by_cmp cmp id y ≡ false) (map (λ (x : ℕ × B). x.1) order)
-      → i < length order → o ≡ get_or order i o → is_at (cmp id) o.1 ≡ false
-  apart-at id [] i o apart within is = absurd (omega arith)
-  apart-at id (x ∷ order) zero o apart within is = rw is apart.0
-  apart-at id (x ∷ order) (suc i) o apart within is = apart-at id order i o apart.1 (omega arith) is
-
   -- ids at two indices differ
   differ-at : (order : List (ℕ × B)) (i j : ℕ) (o p : ℕ × B) → Differ order → i < j → j < length order → o ≡ get_or order i o → p ≡ get_or order j p
       → is_at (cmp o.1) p.1 ≡ false
-  differ-at [] i j o p distinct before within is there = absurd (omega arith)
-  differ-at (x ∷ order) i zero o p distinct before within is there = absurd (omega arith)
-  differ-at (x ∷ order) zero (suc j) o p distinct before within is there = rw is (apart-at x.1 order j p (IsDistinct-head _ _ _ distinct) (omega arith) there)
-  differ-at (x ∷ order) (suc i) (suc j) o p distinct before within is there =
-      differ-at order i j o p (IsDistinct-tail _ _ _ distinct) (omega arith) (omega arith) is there
+  differ-at order i j o p distinct before within is there =
+      let id : ℕ × B → B = λ x. x.1 in
+      let one : get_or (map id order) i o.1 ≡ o.1 = get_or-map id order i o o.1 (omega arith) ∙ ap id (sym is) in
+      let other : get_or (map id order) j o.1 ≡ p.1 = get_or-map id order j p o.1 within ∙ ap id (sym there) in
+      rw (one, other) at (apart_from_distinct (eq_by_cmp cmp) (map id order) i j o.1 distinct before (rw (length-map order id) within))
 
-  -- what is written at an id that is not in the order is written in the map
+  differ : (order : List (ℕ × B)) (i j : ℕ) (o p : ℕ × B) → Differ order → i ≢ j → i < length order → j < length order → o ≡ get_or order i o
+      → p ≡ get_or order j p → is_at (cmp o.1) p.1 ≡ false
+  differ order i j o p distinct apart low high is there = elim (cases_order i j) [
+    | inl e ↦ absurd (apart e)
+    | inr (inl below) ↦ differ-at order i j o p distinct below high is there
+    | inr (inr above) ↦ is_at-back total o.1 p.1 ∙ differ-at order j i p o distinct above low there is
+  ]
+
+  -- what is written at an id from which those of all bins that are out differ is written in the map
   checked_in-apart : (end : End) (id : B) (order : List (ℕ × B)) (out : List (Option AtWork)) (es : List (B × Bin)) (w : Bin)
-      → AllByRecursion (λ y. eq_by_cmp cmp id y ≡ false) (map (λ (x : ℕ × B). x.1) order)
+      → ((k : ℕ) (p : ℕ × B) → k < length order → p ≡ get_or order k p → IsSome (get_or out k None) → is_at (cmp p.1) id ≡ false)
       → checked_in cmp end order out (set_value (is_at (cmp id)) es w) ≡ set_value (is_at (cmp id)) (checked_in cmp end order out es) w
   checked_in-apart end id [] out es w apart = refl
   checked_in-apart end id (x ∷ order) [] es w apart = refl
-  checked_in-apart end id (x ∷ order) (a ∷ out) es w apart =
-      ap (put_back cmp end x.1 a) (checked_in-apart end id order out es w apart.1) ∙ put_back-swap end x.1 id (is_at-back total x.1 id ∙ apart.0) a _ w
+  checked_in-apart end id (x ∷ order) (None ∷ out) es w apart = checked_in-apart end id order out es w (λ k p low is. apart (suc k) p (omega arith) is)
+  checked_in-apart end id (x ∷ order) (Some a ∷ out) es w apart =
+      ap (put_back cmp end x.1 (Some a)) (checked_in-apart end id order out es w (λ k p low is. apart (suc k) p (omega arith) is))
+      ∙ put_back-swap end x.1 id (apart 0 x (omega arith) refl refl) (Some a) _ w
 
   -- and so is what is written at the id of an index where no bin is out
   checked_in-written : (end : End) (order : List (ℕ × B)) (out : List (Option AtWork)) (es : List (B × Bin)) (i : ℕ) (o : ℕ × B) (w : Bin)
       → Differ order → i < length order → o ≡ get_or order i o → get_or out i None ≡ None
       → checked_in cmp end order out (set_value (is_at (cmp o.1)) es w) ≡ set_value (is_at (cmp o.1)) (checked_in cmp end order out es) w
-  checked_in-written end [] out es i o w distinct within is none = refl
-  checked_in-written end (x ∷ order) [] es i o w distinct within is none = refl
-  checked_in-written end (x ∷ order) (a ∷ out) es zero o w distinct within is none =
-      rw (none, is) (checked_in-apart end x.1 order out es w (IsDistinct-head _ _ _ distinct))
-  checked_in-written end (x ∷ order) (a ∷ out) es (suc i) o w distinct within is none =
-      ap (put_back cmp end x.1 a) (checked_in-written end order out es i o w (IsDistinct-tail _ _ _ distinct) (omega arith) is none)
-      ∙ put_back-swap end x.1 o.1 (apart-at x.1 order i o (IsDistinct-head _ _ _ distinct) (omega arith) is) a _ w
+  checked_in-written end order out es i o w distinct within is none = checked_in-apart end o.1 order out es w (λ k p low at some.
+      differ order k i p o distinct (λ e. absurd (IsSome-none _ some (rw e none))) low within at is)
 
   -- a bin that stands in the list is written at its id
   pub checked_in-set : (end : End) (order : List (ℕ × B)) (out : List (Option AtWork)) (es : List (B × Bin)) (i : ℕ) (o : ℕ × B) (w : AtWork)
@@ -225,7 +221,7 @@ module _ {B : Type 0} {cmp : B → B → Ordering} (total : IsTotalOrder cmp) wh
       rw is (put_back-twice end x.1 a (checked_in cmp end order out es) (left_at end w))
   checked_in-set end (x ∷ order) (a ∷ out) es (suc i) o w distinct within in_order is =
       ap (put_back cmp end x.1 a) (checked_in-set end order out es i o w (IsDistinct-tail _ _ _ distinct) (omega arith) (omega arith) is)
-      ∙ put_back-swap end x.1 o.1 (apart-at x.1 order i o (IsDistinct-head _ _ _ distinct) (omega arith) is) a _ (left_at end w)
+      ∙ put_back-swap end x.1 o.1 (differ-at (x ∷ order) 0 (suc i) x o distinct (omega arith) (omega arith) refl is) a _ (left_at end w)
 
   keys-checked_in : (end : End) (order : List (ℕ × B)) (out : List (Option AtWork)) (es : List (B × Bin)) → keys_of (checked_in cmp end order out es) ≡ keys_of es
   keys-checked_in end [] out es = refl
@@ -323,7 +319,7 @@ module _ {B : Type 0} {cmp : B → B → Ordering} (total : IsTotalOrder cmp) wh
       this.0,
       record {
         within = this.1.within;
-        found = λ p at. rw tried.written (lookup-elsewhere o.1 p.1 (apart_at i p apart this.1.within at) old after) ∙ this.1.found p at;
+        found = λ p at. rw (tried.written, lookup-written total o.1 old before after p.1 tried.found, differ order k i o p distinct (λ e. apart (sym e)) in_order this.1.within is at) (this.1.found p at);
       },
       this.2,
     )) (summed i))
@@ -334,10 +330,3 @@ module _ {B : Type 0} {cmp : B → B → Ordering} (total : IsTotalOrder cmp) wh
           let found : Some this.0 ≡ Some before = sym (this.1.found o is) ∙ tried.found in
           let same : this.0 ≡ before = cc in
           rw (← same) this.2) (summed k)
-
-      apart_at : (i : ℕ) (p : ℕ × B) → i ≢ k → i < length order → p ≡ get_or order i p → is_at (cmp o.1) p.1 ≡ false
-      apart_at i p apart within at = elim (cases_order i k) [
-        | inl e ↦ absurd (apart e)
-        | inr (inl below) ↦ is_at-back total o.1 p.1 ∙ differ-at order i k p o distinct below in_order at is
-        | inr (inr above) ↦ differ-at order k i o p distinct above within is at
-      ]

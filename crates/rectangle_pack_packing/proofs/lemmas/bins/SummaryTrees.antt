@@ -3,7 +3,7 @@ use Rattle.std.proofs.Math.Nat.{pow-suc}
 use Rattle.std.proofs.lemmas.List.{get_or_past}
 use Rattle.rectangle_pack_sections.proofs.Std.{◌≡◌, ◌≤◌, ◌<◌, ◌+◌, ◌*◌, ◌-◌, ◌/◌, ◌^◌, ℕ, zero, suc, List, [], ◌∷◌, ◌++◌, length, take, drop, set, get_or, refl, sym, ap, ◌∙◌, arith}
 use Rattle.rectangle_pack_sections.proofs.Std.{Option, Some, None, length-set, length-drop, take-add, drop-drop, drop-cons, get_or-set_other}
-use Rattle.rectangle_pack_sections.proofs.Std.{mul-le-mul_left, All, drop-set-add, get_or-drop, get_or_default, get_or-set_same, cases_eq, cases_order, inl, inr}
+use Rattle.rectangle_pack_sections.proofs.Std.{mul-le-mul_left, All, drop-set-add, get_or_default, get_or-set_same, cases_eq, cases_order, inl, inr}
 use Rattle.rectangle_pack_sections.specs.Boxes.{Size}
 use Rattle.rectangle_pack_lists.specs.declared.gap_list.summary.Summary.{Summary}
 use Rattle.rectangle_pack_lists.specs.private.Summaries.{RulesOut, joined}

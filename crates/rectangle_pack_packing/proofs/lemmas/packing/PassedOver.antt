@@ -1,6 +1,6 @@
 -- Bins that a group passes over: they do not take it.
 use Rattle.rectangle_pack_sections.proofs.Std.{◌≡◌, ◌≤◌, ◌+◌, ◌-◌, ℕ, List, [], ◌∷◌, ◌++◌, take, drop, map, sum, refl, sym, ap, ◌∙◌, arith, inl}
-use Rattle.rectangle_pack_sections.proofs.Std.{AllZip, Bor, take-add, map-append, sum_by-append, Some, Ordering}
+use Rattle.rectangle_pack_sections.proofs.Std.{Bor, take-add, map-append, sum_by-append, Some, Ordering}
 use Rattle.std.specs.List.{slice_get}
 use Rattle.rectangle_pack_sections.specs.Boxes.{Size}
 use Rattle.rectangle_pack_sections.specs.Bins.{Bin}
@@ -9,31 +9,26 @@ use Rattle.rectangle_pack_packing.specs.Packing.{Rules, Members, DoesNotTake, Is
 use Rattle.rectangle_pack_packing.specs.private.Excluded.{are_in}
 use Rattle.rectangle_pack_packing.proofs.lemmas.packing.Cases.{DoesNotTake-stuck}
 use Rattle.rectangle_pack_packing.proofs.lemmas.packing.Turns.{ArePassed, WerePassed}
-use Rattle.rectangle_pack_sections.proofs.lemmas.util.Zips.{AllZip-append}
+use Rattle.rectangle_pack_sections.proofs.lemmas.util.Zips.{AllZip-append, AllZip-weaker}
 use Rattle.rectangle_pack_packing.specs.private.BinsAtWork.{BinHoldsNone, BinsHoldNone}
 use Rattle.rectangle_pack_packing.specs.private.PassedOver.{IsPassedOver, ArePassedOver}
+
+begins : (ms : List Size) (first : Size) → slice_get ms 0 ≡ Some first → (others : List Size) × (ms ≡ first ∷ others)
+begins [] first e = absurd cc
+begins (m ∷ ms) first e = (ms, cc)
 
 -- bins no section of which holds the first of some members are passed over, where none is excluded
 pub ArePassedOver-held : {B : Type 0} (cmp : B → B → Ordering) (excluded : List (Bor B)) (bins : List (B × Bin)) (members : List Size) (first : Size)
     (ids : List B) (tests : ℕ) → excluded ≡ [] → slice_get members 0 ≡ Some first → BinsHoldNone cmp bins first ids tests
     → ArePassedOver cmp excluded bins members ids tests
-ArePassedOver-held {B} cmp excluded bins members first ids tests none is held = record {
-  counts = held.counts;
-  each = from ids held.counts held.each;
-  tests_are = held.tests_are;
-}
-  where
-    begins : (ms : List Size) → slice_get ms 0 ≡ Some first → (others : List Size) × (ms ≡ first ∷ others)
-    begins [] e = absurd cc
-    begins (m ∷ ms) e = (ms, cc)
-
-    from : (ids : List B) (counts : List ℕ) → AllZip (BinHoldsNone cmp bins first) ids counts → AllZip (IsPassedOver cmp excluded bins members) ids counts
-    from [] [] h = tt
-    from (id ∷ ids) [] h = absurd h
-    from [] (count ∷ counts) h = absurd h
-    from (id ∷ ids) (count ∷ counts) h =
-        let (others, members_are) = begins members is in
-        (record { allowed = rw none refl; first = first; others = others; members_are = members_are; none = h.0 }, from ids counts h.1)
+ArePassedOver-held cmp excluded bins members first ids tests none is held =
+    let (others, members_are) = begins members first is in
+    record {
+      counts = held.counts;
+      each = AllZip-weaker (BinHoldsNone cmp bins first) (IsPassedOver cmp excluded bins members)
+          (λ id count one. record { allowed = rw none refl; first = first; others = others; members_are = members_are; none = one }) ids held.counts held.each;
+      tests_are = held.tests_are;
+    }
 
 -- and where no bin is passed over, there is no test
 pub ArePassedOver-none : {B : Type 0} (cmp : B → B → Ordering) (excluded : List (Bor B)) (bins : List (B × Bin)) (members : List Size) (order : List (ℕ × B))
@@ -50,14 +45,6 @@ module _ {Id B : Type 0} (rules : Rules Id B) (excluded : List (Bor B)) (bins : 
       let stuck : IsStuckIn rules bins group id count = rw (over.none.found, over.members_are) (inl (over.none.none, over.none.tests_are)) in
       DoesNotTake-stuck rules (are_in rules.bin_cmp excluded) bins group id bins count over.allowed refl stuck
 
-  -- nor do several
-  each-over : (ids : List B) (counts : List ℕ) → AllZip (IsPassedOver rules.bin_cmp excluded bins group.sizes) ids counts
-      → AllZip (DoesNotTake rules (are_in rules.bin_cmp excluded) bins group) ids counts
-  each-over [] [] over = tt
-  each-over (id ∷ ids) [] over = absurd over
-  each-over [] (count ∷ counts) over = absurd over
-  each-over (id ∷ ids) (count ∷ counts) over = (DoesNotTake-over id count over.0, each-over ids counts over.1)
-
   -- bins of the order that do not take the group, and those after them that are passed over
   both-over : (first second : List (ℕ × B)) (tests before mid after : ℕ)
       → WerePassed rules (are_in rules.bin_cmp excluded) first group bins before mid
@@ -66,7 +53,7 @@ module _ {Id B : Type 0} (rules : Rules Id B) (excluded : List (Bor B)) (bins : 
   both-over first second tests before mid after passed over added = (
     passed.0 ++ over.counts,
     rw (map-append (λ (o : ℕ × B). o.1) first second)
-        (AllZip-append _ _ passed.0 _ over.counts passed.1 (each-over (map (λ o. o.1) second) over.counts over.each)),
+        (AllZip-append _ _ passed.0 _ over.counts passed.1 (AllZip-weaker _ _ DoesNotTake-over (map (λ o. o.1) second) over.counts over.each)),
     rw over.tests_are at added ∙ passed.2 (sum over.counts)
         ∙ ap (λ n. saturated (before + n)) (sym (sum_by-append (λ x. x) passed.0 over.counts)),
   )

@@ -1,11 +1,11 @@
 use Rattle.rectangle_pack_sections.proofs.Std.{◌≡◌, refl}
-use Rattle.rectangle_pack_sections.specs.Boxes.{Size, Cuboid}
-use Rattle.rectangle_pack_sections.specs.Bins.{Bin, Held, IsSound}
+use Rattle.rectangle_pack_sections.specs.Boxes.{Size}
+use Rattle.rectangle_pack_sections.specs.Bins.{Bin, IsSound}
 use Rattle.rectangle_pack_lists.specs.declared.free_list.End.{End}
 use Rattle.rectangle_pack_lists.specs.declared.free_list.End.TheVariants.{Keep, Undo}
 use Rattle.rectangle_pack_lists.specs.private.FreeLists.{left_of, now_of, start_of}
 use Rattle.rectangle_pack_lists.specs.private.FreeLists as lists
-use Rattle.rectangle_pack_packing.specs.private.BinsAtWork.{left_at, AtWork}
+use Rattle.rectangle_pack_packing.specs.private.BinsAtWork.{left_at}
 use Rattle.rectangle_pack_packing.proofs.bins_at_work.BinAtWork.end.Goals as goal
 
 -- the sections of the list are sound, whatever the end

@@ -1,7 +1,5 @@
-use Rattle.rectangle_pack_sections.proofs.Std.{◌≡◌, ap, ◌∙◌, refl, List, Some, map}
-use Rattle.rectangle_pack_sections.specs.Bins.{Bin, IsSound}
+use Rattle.rectangle_pack_sections.proofs.Std.{◌≡◌, ◌∙◌, refl}
 use Rattle.rectangle_pack_lists.specs.private.FreeLists.{now_of, start_of}
-use Rattle.rectangle_pack_lists.specs.private.Places.{sections_of}
 use Rattle.rectangle_pack_lists.proofs.lemmas.trial.PlaceSteps.{sections_of-full}
 use Rattle.rectangle_pack_packing.proofs.bins_at_work.BinAtWork.new.Given.{Over}
 use Rattle.rectangle_pack_packing.proofs.bins_at_work.BinAtWork.new.Goals.{After-new}

@@ -1,12 +1,12 @@
-use Rattle.rectangle_pack_sections.proofs.Std.{◌≡◌, ◌<◌, ◌∙◌, ap, sym, refl, arith, get_or, length, lookup, is_at, IsSome, is_some, None, Some, set, set_value}
-use Rattle.rectangle_pack_sections.proofs.Std.{option_copied_mut, keys-set_value, length-set, length-append, get_or-set_same, get_or_default, keys_of, ◌∷◌, []}
-use Rattle.rectangle_pack_sections.specs.Bins.{Bin, bins_of}
+use Rattle.rectangle_pack_sections.proofs.Std.{◌≡◌, ◌<◌, ◌∙◌, ap, sym, refl, arith, get_or, length, lookup, is_at, is_some, None, Some, set, set_value}
+use Rattle.rectangle_pack_sections.proofs.Std.{option_copied_mut, keys-set_value, length-set, length-append, get_or_default, keys_of, ◌∷◌, []}
+use Rattle.rectangle_pack_sections.specs.Bins.{bins_of}
 use Rattle.rectangle_pack_sections.proofs.lemmas.util.Maps.{is_some-option_map, none_of}
 use Rattle.rectangle_pack_lists.specs.declared.free_list.End.{End}
 use Rattle.rectangle_pack_lists.specs.declared.free_list.End.TheVariants.{Keep}
-use Rattle.rectangle_pack_bins.proofs.lemmas.bins.Maps.{is_some-bins_of, bins_of-written, found-bins_of}
-use Rattle.rectangle_pack_packing.specs.private.BinsAtWork.{checked_in, left_of, CanCheckIn, AreSummed}
-use Rattle.rectangle_pack_packing.proofs.lemmas.bins.BinsAtWork.{parts, left_of-in_use, checked_in-place, CanCheckIn-written, checked_in-out}
+use Rattle.rectangle_pack_bins.proofs.lemmas.bins.Maps.{bins_of-written, found-bins_of}
+use Rattle.rectangle_pack_packing.specs.private.BinsAtWork.{checked_in, left_of}
+use Rattle.rectangle_pack_packing.proofs.lemmas.bins.BinsAtWork.{parts, left_of-in_use, checked_in-place, CanCheckIn-written, checked_in-out, is_in_map}
 use Rattle.rectangle_pack_packing.proofs.bins_at_work.BinsAtWork.check_out.Given.{Over}
 use Rattle.rectangle_pack_packing.proofs.bins_at_work.BinsAtWork.check_out.Goals.{After-new}
 use Rattle.rectangle_pack_packing.proofs.bins_at_work.BinsAtWork.check_out.Goals.at as goal_at
@@ -33,23 +33,11 @@ loop-self-preserved g c =
       summed = kept.summed;
     }
 
-pub returns-then-is_some-clause-out : goal.returns-then-is_some-clause-out
-returns-then-is_some-clause-out g c =
-    let out = c.loop-self.self-inside.out in
-    let at = get_or_default out.items c.args.index None c.index.result.now (omega (arith, c.loop-self-test.false, c.len.ensures, out.ok.0)) in
-    rw (at, ← c.index.ensures) (sym c.if-is_some.ensures)
-
-pub bounds-order-index : goal.bounds-order-index
-bounds-order-index g c = rw c.loop-self.invariant.order c.requires
-
 pub unwrap-bin-requires : goal.unwrap-bin-requires
 unwrap-bin-requires g c =
-    let o = c.index-order-index.result in
-    let es = c.loop-self.self-inside.bins.entries in
-    let test = is_at (g.B.Ord.cmp o.1) in
-    let in_order : c.args.index < length c.loop-self.self-inside.order.now = rw c.loop-self.invariant.order c.requires in
-    let there : IsSome (lookup test (bins_of es)) = rw c.index-order-index.is (c.loop-self.invariant.can.found c.args.index o in_order) in
-    sym (is_some-option_map _ c.get_mut.result) ∙ ap is_some c.get_mut.ensures.value ∙ sym (is_some-bins_of test es) ∙ there
+    sym (is_some-option_map _ c.get_mut.result) ∙ ap is_some c.get_mut.ensures.value ∙ is_in_map g.B.Ord.cmp c.loop-self.self-inside.order.now
+    c.loop-self.self-inside.out.items c.loop-self.self-inside.bins.entries c.args.index c.index-order-index.result c.loop-self.invariant.can
+    (rw c.loop-self.invariant.order c.requires) c.index-order-index.is
 
 -- the bins in the map, with the one that stands in
 standing : (g : Over) (c : After-new g)
@@ -62,7 +50,7 @@ standing g c =
 -- with all bins checked in, the map stays
 same : (g : Over) (c : After-new g) (end : End)
     → checked_in g.B.Ord.cmp end c.loop-self.self-inside.order.now (set c.loop-self.self-inside.out.items c.args.index (Some c.new.result))
-        (bins_of (c.get_mut.follows.lender c.replace-bin.new.dest).entries)
+    (bins_of (c.get_mut.follows.lender c.replace-bin.new.dest).entries)
     ≡ left_of end c.args.self.now
 same g c end =
     let o = c.index-order-index.result in
@@ -92,9 +80,3 @@ pub returns-clause-left : goal.returns-clause-left
 returns-clause-left g c = λ end.
     left_of-in_use g.B.Ord.cmp end c.loop-self.self-inside.order.now (set c.loop-self.self-inside.out.items c.args.index (Some c.new.result))
     (bins_of (c.get_mut.follows.lender c.replace-bin.new.dest).entries) ∙ same g (goal_at.returns-clause-left g c).After-new end
-
-pub returns-clause-out : goal.returns-clause-out
-returns-clause-out g c =
-    let out = c.loop-self.self-inside.out in
-    let low : c.args.index < length out.items = omega (arith, c.loop-self-test.false, c.len.ensures, out.ok.0) in
-    rw (get_or-set_same out.items c.args.index (Some c.new.result) None low) refl

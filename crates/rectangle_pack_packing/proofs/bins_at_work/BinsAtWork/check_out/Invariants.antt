@@ -1,4 +1,4 @@
-use Rattle.rectangle_pack_sections.proofs.Std.{◌≡◌, ◌≤◌, ◌-◌, ◌+◌, length, vec_len}
+use Rattle.rectangle_pack_sections.proofs.Std.{◌≡◌, ◌-◌, ◌+◌, vec_len}
 use Rattle.rectangle_pack_sections.specs.Bins.{bins_of}
 use Rattle.rectangle_pack_lists.specs.declared.free_list.End.{End}
 use Rattle.rectangle_pack_packing.specs.private.BinsAtWork.{checked_in, left_of, CanCheckIn, AreSummed}

@@ -1,12 +1,11 @@
 use Rattle.std.proofs.Common.{le_of_lt}
 use Rattle.rectangle_pack_sections.proofs.Std.{◌≡◌, ◌<◌, ◌≤◌, ◌++◌, ◌∷◌, [], List, length, get_or}
-use Rattle.rectangle_pack_sections.proofs.Std.{refl, sym, ap, ◌∙◌, arith, IsSome, is_some, lookup, is_at, length-append}
+use Rattle.rectangle_pack_sections.proofs.Std.{refl, sym, ap, ◌∙◌, arith, is_some, is_at, length-append}
 use Rattle.rectangle_pack_sections.proofs.Std.{keys-set_value, Some}
 use Rattle.rectangle_pack_sections.specs.Bins.{bins_of}
 use Rattle.rectangle_pack_sections.proofs.lemmas.util.Maps.{is_some-option_map}
-use Rattle.rectangle_pack_bins.proofs.lemmas.bins.Maps.{is_some-bins_of, bins_of-written}
-use Rattle.rectangle_pack_packing.specs.private.BinsAtWork.{checked_in}
-use Rattle.rectangle_pack_packing.proofs.lemmas.bins.BinsAtWork.{CanCheckIn-written, checked_in-none, left_of-in_use, checked_in-last, checked_in-place}
+use Rattle.rectangle_pack_bins.proofs.lemmas.bins.Maps.{bins_of-written}
+use Rattle.rectangle_pack_packing.proofs.lemmas.bins.BinsAtWork.{CanCheckIn-written, checked_in-none, left_of-in_use, checked_in-last, checked_in-place, is_in_map}
 use Rattle.rectangle_pack_packing.proofs.bins_at_work.BinsAtWork.end.Goals as goal
 
 -- the id of the last bin is in the order
@@ -15,19 +14,14 @@ next_in_order : {X Y : Type 0} (out rest : List X) (last : X) (order : List Y)
 next_in_order out rest last order is within =
     omega (arith, within, ap length is, length-append rest (last ∷ []))
 
-pub loop-held-init : goal.loop-held-init
-loop-held-init g c = record { same = refl; can = c.self.invariant.0 }
-
 pub unwrap-requires : goal.unwrap-requires
 unwrap-requires g c =
-    let o = c.index-order-len.result in
     let rest = c.pop.new.self.items in
     let order = c.self.inside.order.now in
-    let is : o ≡ get_or order (length rest) o = rw (← c.len.ensures ∙ c.pop.new.self.ok.0) c.index-order-len.is in
-    let next = next_in_order _ rest c.in-Some.held order c.in-Some.ensures.items c.loop-held.invariant.can.within in
-    let test = is_at (g.B.Ord.cmp o.1) in
-    let there : IsSome (lookup test (bins_of c.loop-held.bins.entries)) = rw is (c.loop-held.invariant.can.found (length rest) o next) in
-    sym (is_some-option_map _ c.get_mut.result) ∙ ap is_some c.get_mut.ensures.value ∙ sym (is_some-bins_of test c.loop-held.bins.entries) ∙ there
+    let can = c.loop-held.invariant.can in
+    sym (is_some-option_map _ c.get_mut.result) ∙ ap is_some c.get_mut.ensures.value
+    ∙ is_in_map g.B.Ord.cmp order c.loop-held.out.items c.loop-held.bins.entries (length rest) c.index-order-len.result can
+    (next_in_order _ rest c.in-Some.held order c.in-Some.ensures.items can.within) (rw (← c.len.ensures ∙ c.pop.new.self.ok.0) c.index-order-len.is)
 
 pub loop-held-preserved : goal.loop-held-preserved
 loop-held-preserved g c =

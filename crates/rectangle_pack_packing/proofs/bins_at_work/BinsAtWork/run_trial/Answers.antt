@@ -1,12 +1,12 @@
-use Rattle.rectangle_pack_sections.proofs.Std.{◌≡◌, ◌<◌, ◌∙◌, ap, sym, refl, arith, get_or, length, lookup, is_at, IsSome, is_some, None, Some, set, length-set}
-use Rattle.rectangle_pack_sections.proofs.Std.{option_copied_mut, get_or_default, Result, Ok, Err, OnErr, AllocError, All, false}
+use Rattle.rectangle_pack_sections.proofs.Std.{ℕ, ◌≡◌, ◌<◌, ◌∙◌, ap, sym, refl, arith, get_or, length, IsSome, is_some, None, Some, set, length-set}
+use Rattle.rectangle_pack_sections.proofs.Std.{option_copied_mut, get_or_default, Result, Ok, Err, OnErr, AllocError, All}
 use Rattle.rectangle_pack_sections.specs.Boxes.{FitsU32}
-use Rattle.rectangle_pack_sections.specs.Bins.{Bin, bins_of, IsSound}
+use Rattle.rectangle_pack_sections.specs.Bins.{bins_of, IsSound}
 use Rattle.rectangle_pack_lists.specs.declared.free_list.End.{End}
 use Rattle.rectangle_pack_lists.specs.declared.free_list.End.TheVariants.{Keep, Undo}
 use Rattle.rectangle_pack_lists.specs.private.FreeLists.{now_of, start_of}
 use Rattle.rectangle_pack_lists.proofs.lemmas.trial.Steps.{IsSound-tried, fits-tried}
-use Rattle.rectangle_pack_packing.specs.private.BinsAtWork.{AtWork, checked_in, left_of, left_at, BinsInUse}
+use Rattle.rectangle_pack_packing.specs.private.BinsAtWork.{AtWork, checked_in, left_of, left_at, IsTriedIn}
 use Rattle.rectangle_pack_packing.proofs.lemmas.bins.BinsAtWork.{parts, left_of-in_use, is_out-within, entry_at, CanCheckIn-written, IsTriedIn-stuck, IsTried-stuck}
 use Rattle.rectangle_pack_packing.proofs.lemmas.bins.BinsAtWork.{IsTriedIn-out, checked_in-stays, AreSummed-tried}
 use Rattle.rectangle_pack_packing.proofs.bins_at_work.BinsAtWork.run_trial.Given.{Over}
@@ -97,6 +97,14 @@ stays g c end same =
     checked_in-stays g.met.B.Ord.total c.self.inside.order.now c.self.inside.out.items (bins_of c.self.inside.bins.entries) c.args.index o
     c.self.invariant.0 (in_order g c) is (before g c) (after g c) (held g c) end same
 
+-- the bin was tried
+tried : (g : Over) (c : After-run_trial g) (o : ℕ × g.row.B.Denot) → o ≡ get_or c.self.inside.order.now c.args.index o
+    → IsTriedIn g.B.Ord.cmp o.1 (checked_in g.B.Ord.cmp Keep c.self.inside.order.now c.self.inside.out.items (bins_of c.self.inside.bins.entries)) (before g c).now
+    (after g c).now (checked_in g.B.Ord.cmp Keep c.self.inside.order.now (set c.self.inside.out.items c.args.index (Some (after g c))) (bins_of c.self.inside.bins.entries))
+tried g c o is =
+    IsTriedIn-out g.met.B.Ord.total c.self.inside.order.now c.self.inside.out.items (bins_of c.self.inside.bins.entries) c.args.index o c.self.invariant.0
+    (in_order g c) is (before g c) (after g c) (held g c) refl
+
 pub invariant_of-bin : goal.invariant_of-bin
 invariant_of-bin g c = sound g (goal_at.invariant_of-bin g c).After-run_trial
 
@@ -117,9 +125,7 @@ invariant_of-self-2 g c =
     let (o, is) = entry_at order c.args.index (in_order g at) in (
       CanCheckIn-written _ _ refl (rw (length-set c.self.inside.out.items c.args.index (Some (after g at))) c.self.invariant.0.within) c.self.invariant.0,
       AreSummed-tried g.met.B.Ord.total order _ _ c.args.index o (before g at).now (after g at).now c.self.inside.summaries c.sum_anew.new.summaries
-          c.self.invariant.0.distinct (in_order g at) is c.self.invariant.1
-          (IsTriedIn-out g.met.B.Ord.total order c.self.inside.out.items (bins_of c.self.inside.bins.entries) c.args.index o c.self.invariant.0 (in_order g at) is
-          (before g at) (after g at) (held g at) refl)
+          c.self.invariant.0.distinct (in_order g at) is c.self.invariant.1 (tried g at o is)
           (λ known. c.sum_anew.ensures.here (λ not_done. rw (rw not_done at c.in_ok-trial.ensures.tried).1 known)) c.sum_anew.ensures.elsewhere,
     )
 
@@ -145,8 +151,6 @@ returns-clause-tried g c = λ o is.
     let there : o ≡ get_or c.self.inside.order.now c.args.index o = rw same is in (
       (before g at).now,
       (after g at).now,
-      rw (← left g at Keep)
-          (IsTriedIn-out g.met.B.Ord.total c.self.inside.order.now c.self.inside.out.items (bins_of c.self.inside.bins.entries) c.args.index o c.self.invariant.0
-          (in_order g at) there (before g at) (after g at) (held g at) refl),
+      rw (← left g at Keep) (tried g at o there),
       c.in_ok-trial.ensures.tried,
     )

@@ -20,12 +20,6 @@ loop-passed-preserved-in-Some g c =
       out = c.in-Some.ensures.passed c.args.from kept.from kept.out;
     }
 
-pub loop-passed-preserved : goal.loop-passed-preserved
-loop-passed-preserved g c =
-    let kept = c.loop-passed.invariant in
-    let at = c.first_half-stretch.ensures.first _ kept.at in
-    record { from = kept.from; end = kept.end; at = at; out = kept.out }
-
 pub loop-passed-init : goal.loop-passed-init
 loop-passed-init g c =
     record {
@@ -57,11 +51,6 @@ loop-passed-smaller-in-Some g c =
     let wide = c.after-stretch.ensures.width in
     omega (arith, some, wide, c.in-Some.ensures.index, c.in-Some.ensures.end, c.len-end.ensures.bins)
 
-pub first_half-stretch-requires-clause-wide : goal.first_half-stretch-requires-clause-wide
-first_half-stretch-requires-clause-wide g c =
-    let some = some_wide _ _ _ c.loop-passed.invariant.at in
-    omega (arith, some, c.if-stretch-eq1.false)
-
 pub first_half-stretch-requires-clause-node : goal.first_half-stretch-requires-clause-node
 first_half-stretch-requires-clause-node g c =
     let at = c.loop-passed.invariant.at in
@@ -70,6 +59,3 @@ first_half-stretch-requires-clause-node g c =
     let two : 2 ≤ c.loop-passed.stretch.width = omega (arith, some, c.if-stretch-eq1.false) in
     let low = mul-le-mul_left node two in
     omega (arith, low, at.place_is, c.len-end.ensures.bins, c.len-end.ensures.small)
-
-pub loop-passed-smaller : goal.loop-passed-smaller
-loop-passed-smaller g c = omega (arith, c.first_half-stretch.ensures.width)

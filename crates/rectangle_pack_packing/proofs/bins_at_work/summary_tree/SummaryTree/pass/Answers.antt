@@ -1,7 +1,7 @@
 use Rattle.rectangle_pack_sections.proofs.Std.{◌≡◌, ◌<◌, ◌+◌, ◌/◌, ◌∙◌, sym, ap, arith}
 use Rattle.rectangle_pack_sections.proofs.Std.{length, length-drop}
 use Rattle.rectangle_pack_packing.proofs.lemmas.bins.SummaryTrees.{RuleOut-pass}
-use Rattle.std.proofs.Common.{refl, pow_pos, le-mul_of_pos_right}
+use Rattle.std.proofs.Common.{pow_pos, le-mul_of_pos_right}
 use Rattle.rectangle_pack_packing.proofs.bins_at_work.summary_tree.SummaryTree.pass.Goals as goal
 
 pub returns-clause-passed : goal.returns-clause-passed
