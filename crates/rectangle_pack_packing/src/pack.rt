@@ -213,8 +213,8 @@ where
     )
 }
 
-// Packs all groups into the bins by a policy. Where it is refused for space, `refused` says what
-// becomes of what was placed.
+// Packs all groups into the bins by a policy. Errors are those of `pack_rects_counted`; but where it
+// is refused for space, `refused` says what becomes of what was placed.
 fn pack_by<Id, BinId, GroupId, R, A>(
     alloc: A,
     rects_to_place: &GroupedRectsToPlace<Id, GroupId, A>,
@@ -257,7 +257,7 @@ where
     )
 }
 
-// Packs all groups into the bins, which are tried in this order.
+// The same, with the order in which bins are tried.
 fn pack_in_order<Id, BinId, GroupId, R, A>(
     alloc: A,
     rects_to_place: &GroupedRectsToPlace<Id, GroupId, A>,

@@ -20,7 +20,7 @@ use std::mem;
 
 /// Packs all groups, in which there are `entries` entries: what it placed, or `None` where it is
 /// refused for space. Only where it is done and `keeps` asks for it, the packing is kept; else it
-/// is undone.
+/// is undone. Fails only when memory is refused.
 pub fn try_packing<Id, BinId, GroupId, R, A>(
     alloc: A,
     groups: &GroupedRectsToPlace<Id, GroupId, A>,

@@ -21,7 +21,7 @@ use rectangle_pack_sections::group::Group;
 use std::alloc::{AllocError, Allocator};
 use std::collections::BTreeMap;
 
-// The counts of the bins that get cells, in the order of ids.
+// The counts of the bins that get cells, in the order of ids. Fails only when memory is refused.
 fn counts_by_id<'a, B: Ord, A: Allocator + Copy>(
     alloc: A,
     bins: &'a BTreeMap<B, TargetBin<A>, A>,
@@ -42,7 +42,7 @@ fn counts_by_id<'a, B: Ord, A: Allocator + Copy>(
     Ok(counts)
 }
 
-// What use these placements make of the bins.
+// What use these placements make of the bins. Fails only when memory is refused.
 fn use_made<'a, Id, B: Ord, A: Allocator + Copy>(
     alloc: A,
     bins: &'a BTreeMap<B, TargetBin<A>, A>,
@@ -56,8 +56,8 @@ fn use_made<'a, Id, B: Ord, A: Allocator + Copy>(
     Ok(Use::by(counts.as_slice()))
 }
 
-// What use a packing with this heuristic makes of the bins, or `None` where it is refused. The bins
-// stay as they are.
+// What use a packing with this heuristic makes of the bins, or `None` where it is refused for space.
+// Fails only when memory is refused. The bins stay as they are.
 fn try_with<Id, BinId, GroupId, A>(
     alloc: A,
     rects_to_place: &GroupedRectsToPlace<Id, GroupId, A>,
@@ -213,7 +213,8 @@ where
     }
 }
 
-// Packs all groups into the bins with this heuristic.
+// Packs all groups into the bins with this heuristic. Errors are those of `pack_rects_best`: on
+// either the bins are as they were.
 fn pack_named<Id, BinId, GroupId, A>(
     alloc: A,
     rects_to_place: &GroupedRectsToPlace<Id, GroupId, A>,

@@ -1,9 +1,9 @@
 -- Which bins are excluded, by the homes that are kept.
 use Rattle.rectangle_pack_sections.proofs.Std.{◌≡◌, ◌↔◌, ℕ, suc, zero, ◌+◌, ◌-◌, ◌<◌, Bool, true, false, cond, ◌&&◌, ◌||◌, List, [], ◌∷◌, ◌++◌, length, take}
-use Rattle.rectangle_pack_sections.proofs.Std.{get_or, refl, sym, ◌∙◌, ap, subst, arith, Some, All, AllPairs, map, reverse, Ordering, Equal, Bor, is_eq}
+use Rattle.rectangle_pack_sections.proofs.Std.{get_or, refl, sym, ◌∙◌, ap, subst, arith, Some, All, AllPairs, map, reverse, Ordering, Equal, Bor}
 use Rattle.rectangle_pack_sections.proofs.Std.{eq_by_cmp, IsTotalOrder, Equal-is, list_any, IsDistinct, lookup, is_at, unwrap_or, option_map, All-nil, All-cons, All-head, All-tail}
-use Rattle.rectangle_pack_sections.proofs.Std.{All-weaker, get_or-map, get_or-reverse, length-map, length-reverse, list_any_at, IsDistinct-tail, fun_ext}
-use Rattle.rectangle_pack_sections.proofs.Std.{AllPairs-cons, or_comm, tied_itself, or-false, and-or_distrib_right, or_parts, take-map, list_any_none, or-true}
+use Rattle.rectangle_pack_sections.proofs.Std.{All-weaker, get_or-map, get_or-reverse, length-map, length-reverse, IsDistinct-tail, fun_ext}
+use Rattle.rectangle_pack_sections.proofs.Std.{AllPairs-cons, or_comm, or-false, and-or_distrib_right, take-map, list_any_none, or-true}
 use Rattle.rectangle_pack_packing.specs.declared.order.OrderedGroup.{OrderedGroup}
 use Rattle.rectangle_pack_packing.specs.declared.answer.Placement.{Placement}
 use Rattle.rectangle_pack_sections.specs.Groups.{Collection}
@@ -15,7 +15,8 @@ use Rattle.rectangle_pack_packing.specs.Packing.{PackingRefused, PackingRefusedB
 use Rattle.rectangle_pack_sections.specs.Bins.{Bin}
 use Rattle.rectangle_pack_sections.specs.declared.group.Group.{Group}
 use Rattle.rectangle_pack_sections.proofs.lemmas.util.Lists.{All-front, All-middle}
-use Rattle.rectangle_pack_sections.proofs.lemmas.util.Maps.{lookup-equal, is_at-back}
+use Rattle.rectangle_pack_sections.proofs.lemmas.util.Searches.{none_pass}
+use Rattle.rectangle_pack_sections.proofs.lemmas.util.Maps.{is_at-back}
 use Rattle.rectangle_pack_sections.proofs.lemmas.groups.Excluded.{list_any-alike, is_at-equal, excluded-listed}
 use Rattle.rectangle_pack_packing.proofs.lemmas.packing.Orders.{map-take_more, IsDistinct-apart}
 
@@ -165,11 +166,6 @@ excludes-without {K} {B} cmp bin_cmp partners none =
     fun_ext (λ id. list_any_none {X = K × B} (λ h. are_excluded cmp partners group h.0 && is_at (bin_cmp id) h.1) homes
     (λ k d within. rw (none group (get_or homes k d).0) refl))))
 
--- what no search finds
-none-found : {X : Type 0} (p : X → Bool) (xs : List X) → list_any p xs ≡ false → All (λ x. p x ≡ false) xs
-none-found p [] h = All-nil _
-none-found p (x ∷ xs) h = let (here, later) = or_parts (p x) (list_any p xs) h in All-cons (λ x. p x ≡ false) x xs here (none-found p xs later)
-
 -- what holds of all pairs in both orders holds of them from the end on
 AllPairs-reverse : {X : Type 0} (R : X → X → Type 0) → ((a b : X) → R a b → R b a) → (xs : List X) → AllPairs R xs → AllPairs R (reverse xs)
 AllPairs-reverse R back xs h i j d lt within =
@@ -189,7 +185,7 @@ module _ {Id K B : Type 0} (group_cmp : K → K → Ordering) (rules : Rules Id 
   placed_apart order (g ∷ gs) old placements new n (first, next, one, rest, others, placed, later, joined, counted) was =
       let p : K × B → Bool = λ h. are_excluded group_cmp partners g.0 h.0 && is_at (rules.bin_cmp placed.here) h.1 in
       let each : All (Apart (g.0, placed.here)) old.homes = All-weaker (λ h. p h ≡ false) (Apart (g.0, placed.here)) (λ h none e. rw e at none) old.homes
-      (none-found p old.homes placed.allowed) in
+      (none_pass p old.homes placed.allowed) in
       placed_apart order gs (record { bins = next; homes = (g.0, placed.here) ∷ old.homes }) rest new others later
       (AllPairs-cons Apart (g.0, placed.here) old.homes each was)
 

@@ -1,9 +1,9 @@
 -- Groups that are placed, one after another.
 use Rattle.rectangle_pack_sections.proofs.Std.{◌≡◌, ℕ, suc, ◌+◌, ◌<◌, ◌≤◌, List, [], ◌∷◌, ◌++◌, length, take, drop, refl, ap, sym, ◌∙◌, subst, cond, true}
 use Rattle.rectangle_pack_sections.proofs.Std.{false, Bool, arith, get_or, append_assoc, append-nil, Option, Some, None, map, sum, All, IsTrue, ◌↔◌}
-use Rattle.rectangle_pack_sections.proofs.Std.{Result, Ok, Err, IfOk, MatchBool, MatchOption, Ordering, Equal, is_eq, IsTotalOrder, Equal-is}
+use Rattle.rectangle_pack_sections.proofs.Std.{MatchOption, Ordering, Equal, is_eq, IsTotalOrder, Equal-is}
 use Rattle.rectangle_pack_sections.proofs.Std.{AllZip, sum_by, sum_by-cons, length-append, lookup, keys_of, IsStrictlySortedBy, is_at}
-use Rattle.rectangle_pack_sections.proofs.Std.{split_at, take_more, take-append-drop, map-append, length-map, Vec, All-push, All-nil, All-head}
+use Rattle.rectangle_pack_sections.proofs.Std.{split_at, take_more, map-append, length-map, Vec, All-push, All-nil, All-head}
 use Rattle.rectangle_pack_sections.proofs.Std.{All-tail, All-weaker, sum-map, slice_range, ◌-◌, length-drop, length-take-le, set_value, set_value_same}
 use Rattle.rectangle_pack_packing.specs.declared.order.OrderedGroup.{OrderedGroup}
 use Rattle.rectangle_pack_sections.specs.Closures.{Answers}
@@ -18,7 +18,7 @@ use Rattle.rectangle_pack_sections.specs.Boxes.{Size, Cuboid}
 use Rattle.rectangle_pack_lists.specs.Steps.{IsDone}
 use Rattle.rectangle_pack_packing.specs.private.BinsAtWork.{IsTriedIn}
 use Rattle.rectangle_pack_packing.specs.Placed.{AreNamed, IsLastOf, AreLastPlacements}
-use Rattle.rectangle_pack_packing.proofs.lemmas.packing.Orders.{AllZip-more, AllZip-begins, SizesStandAt-part}
+use Rattle.rectangle_pack_packing.proofs.lemmas.packing.Orders.{AllZip-more, SizesStandAt-part}
 use Rattle.rectangle_pack_sections.proofs.lemmas.util.Zips.{AllZip-equal}
 use Rattle.rectangle_pack_sections.proofs.lemmas.util.Zips.{length-zip}
 use Rattle.rectangle_pack_sections.proofs.lemmas.util.Maps.{is_at-back, congr_right}
@@ -103,7 +103,7 @@ module _ {Id B : Type 0} (rules : Rules Id B) where
 
   module _ {K : Type 0} (excludes : List (K × B) → K → B → Bool) where
     -- one more group is placed
-    AreAllPlaced-push : (order : List B) (gs : List (K × Members Id)) (g : K × Members Id) (old : Stage K B) (mid : List (B × Bin)) (homes : List (K × B))
+    pub AreAllPlaced-push : (order : List B) (gs : List (K × Members Id)) (g : K × Members Id) (old : Stage K B) (mid : List (B × Bin)) (homes : List (K × B))
         (next : List (B × Bin)) (placements added : List (Placement Id B)) (tests one : ℕ)
         → AreAllPlaced rules excludes order gs old placements (record { bins = mid; homes = homes }) tests
         → (p : IsPlaced rules (excludes homes g.0) order g.1 mid added next one)
@@ -125,19 +125,6 @@ module _ {Id B : Type 0} (rules : Rules Id B) where
       rw joined (append_assoc first rest added),
       omega arith,
     )
-
-    -- with all placements, where the order is equal
-    pub AreAllPlaced-next : (order names : List B) (gs : List (K × Members Id)) (g : K × Members Id) (old : Stage K B) (mid : List (B × Bin))
-        (homes : List (K × B)) (next : List (B × Bin)) (before added after : List (Placement Id B)) (tests one : ℕ)
-        → order ≡ names → AreAllPlaced rules excludes names gs old before (record { bins = mid; homes = homes }) tests
-        → (p : IsPlaced rules (excludes homes g.0) order g.1 mid added next one) → after ≡ before ++ added
-        → AreAllPlaced rules excludes names (gs ++ g ∷ []) old after (record { bins = next; homes = (g.0, p.here) ∷ homes }) (tests + one)
-    AreAllPlaced-next order names gs g old mid homes next before added after tests one same done p joined =
-        let P : List B → List (Placement Id B) → Type 0 = λ (ns : List B) (ps : List (Placement Id B)).
-        AreAllPlaced rules excludes ns (gs ++ g ∷ []) old ps (record { bins = next; homes = (g.0, p.here) ∷ homes }) (tests + one) in
-        let before_it = subst (λ (ns : List B). AreAllPlaced rules excludes ns gs old before (record { bins = mid; homes = homes }) tests) (sym same) done in
-        subst (λ (ns : List B). P ns after) same
-        (subst (P order) (sym joined) (AreAllPlaced-push order gs g old mid homes next before added tests one before_it p))
 
   -- a packing stops at a group that is refused
   pub StopsAfter-at : {K : Type 0} (excludes : List (K × B) → K → B → Bool) (order : List B) (groups gs : List (K × Members Id)) (next : K × Members Id)

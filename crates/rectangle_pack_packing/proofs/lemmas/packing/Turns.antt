@@ -1,6 +1,6 @@
 -- One turn of the loops over bins and over groups.
-use Rattle.rectangle_pack_sections.proofs.Std.{◌≡◌, ℕ, ◌+◌, ◌<◌, Bool, List, [], ◌∷◌, ◌++◌, length, take, get_or, map, sum, sym, ◌∙◌, ap, subst}
-use Rattle.rectangle_pack_sections.proofs.Std.{AllZip, Bor, Option, Result, sum_by_push}
+use Rattle.rectangle_pack_sections.proofs.Std.{◌≡◌, ℕ, ◌+◌, ◌<◌, Bool, List, [], ◌∷◌, ◌++◌, length, take, get_or, map, sum, sym, ◌∙◌, ap}
+use Rattle.rectangle_pack_sections.proofs.Std.{AllZip, Bor, Option, Result, subst, sum_by_push}
 use Rattle.rectangle_pack_sections.specs.Bins.{Bin}
 use Rattle.rectangle_pack_lists.specs.Numbers.{saturated}
 use Rattle.rectangle_pack_packing.specs.declared.answer.Placement.{Placement}
@@ -8,7 +8,7 @@ use Rattle.rectangle_pack_packing.specs.Packing.{Rules, Members, Stage, DoesNotT
 use Rattle.rectangle_pack_packing.specs.private.OnItsWay.{OnItsWay, IsGroupTried}
 use Rattle.rectangle_pack_packing.proofs.lemmas.packing.Cases.{saturated-add, saturated-later}
 use Rattle.rectangle_pack_packing.proofs.lemmas.packing.Orders.{AllZip-next, map-take_more}
-use Rattle.rectangle_pack_packing.proofs.lemmas.packing.Groups.{AreAllPlaced-next}
+use Rattle.rectangle_pack_packing.proofs.lemmas.packing.Groups.{AreAllPlaced-push}
 
 module _ {Id B : Type 0} (rules : Rules Id B) where
   -- the bins of a beginning of an order do not take a group; their tests were added
@@ -35,17 +35,20 @@ module _ {Id B : Type 0} (rules : Rules Id B) where
         saturated-later before after (sum (passed.0 ++ count ∷ [])) all,
       )
 
-  module _ {K : Type 0} where
-    -- the next group of an order is placed too
-    pub AreAllPlaced-turn : {G : Type 0} (excludes : List (K × B) → K → B → Bool) (f : G → K × Members Id) (groups : List G) (i : ℕ) (g : G)
-        (order names : List B) (old : Stage K B) (mid : List (B × Bin)) (homes : List (K × B)) (next : List (B × Bin))
-        (before added after : List (Placement Id B)) (tests one : ℕ) → i < length groups → g ≡ get_or groups i g → order ≡ names
-        → AreAllPlaced rules excludes names (map f (take i groups)) old before (record { bins = mid; homes = homes }) tests
-        → (p : IsPlaced rules (excludes homes (f g).0) order (f g).1 mid added next one) → after ≡ before ++ added
-        → AreAllPlaced rules excludes names (map f (take (i + 1) groups)) old after (record { bins = next; homes = ((f g).0, p.here) ∷ homes }) (tests + one)
-    AreAllPlaced-turn excludes f groups i g order names old mid homes next before added after tests one within is same done p joined =
-        rw (map-take_more f groups i g within is)
-        (AreAllPlaced-next rules excludes order names (map f (take i groups)) (f g) old mid homes next before added after tests one same done p joined)
+  -- the next group of an order is placed too
+  pub AreAllPlaced-turn : {K G : Type 0} (excludes : List (K × B) → K → B → Bool) (f : G → K × Members Id) (groups : List G) (i : ℕ) (g : G)
+      (order names : List B) (old : Stage K B) (mid : List (B × Bin)) (homes : List (K × B)) (next : List (B × Bin))
+      (before added after : List (Placement Id B)) (tests one : ℕ) → i < length groups → g ≡ get_or groups i g → order ≡ names
+      → AreAllPlaced rules excludes names (map f (take i groups)) old before (record { bins = mid; homes = homes }) tests
+      → (p : IsPlaced rules (excludes homes (f g).0) order (f g).1 mid added next one) → after ≡ before ++ added
+      → AreAllPlaced rules excludes names (map f (take (i + 1) groups)) old after (record { bins = next; homes = ((f g).0, p.here) ∷ homes }) (tests + one)
+  AreAllPlaced-turn {K} excludes f groups i g order names old mid homes next before added after tests one within is same done p joined =
+      let begun = subst (λ (ns : List B). AreAllPlaced rules excludes ns (map f (take i groups)) old before (record { bins = mid; homes = homes }) tests)
+      (sym same) done in
+      rw (map-take_more f groups i g within is)
+      (subst (λ (ns : List B). AreAllPlaced rules excludes ns (map f (take i groups) ++ f g ∷ []) old after
+      (record { bins = next; homes = ((f g).0, p.here) ∷ homes }) (tests + one)) same
+      (rw joined (AreAllPlaced-push rules excludes order (map f (take i groups)) (f g) old mid homes next before added tests one begun p)))
 
 -- a group is tried alike by an equal policy, with equal excluded bins and members
 pub tried-alike : {Id B R E : Type 0} (rules : R → Rules Id B) (p q : R) (read excluded : B → Bool) (given own : Members Id) (old new : OnItsWay Id B R)

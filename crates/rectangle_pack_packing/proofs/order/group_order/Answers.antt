@@ -1,4 +1,4 @@
-use Rattle.rectangle_pack_sections.proofs.Std.{IfOk-from_err, arith, ℕ, All, AllPairs, [], ◌∷◌, length-append, ◌≡◌, ◌<◌, ◌++◌, drop, length, refl, ap, ◌∙◌, drop-append_seam, map, Some, map_push}
+use Rattle.rectangle_pack_sections.proofs.Std.{arith, ℕ, All, AllPairs, [], ◌∷◌, length-append, ◌≡◌, ◌<◌, ◌++◌, drop, length, refl, ap, ◌∙◌, drop-append_seam, map, Some, map_push}
 use Rattle.rectangle_pack_sections.proofs.Std.{take_rest, deref_pair, All-weaker, All-push, iter_end, AllZip, slice_range, all_pairs_push, lookup, is_at}
 use Rattle.rectangle_pack_sections.proofs.Std.{All-permutation, sum_by-IsPermutation, sym, subst, List, eq_by_cmp, IsDistinct, keys_of, IsPermutation-map}
 use Rattle.rectangle_pack_sections.proofs.Std.{IsDistinct-from_sorted, IsDistinct-IsPermutation, All-nil, rest_more, ◌≤◌}
@@ -144,12 +144,6 @@ slice_bounds-group_key-start g c = slice_bounds-group_key-count g c
 pub slice_bounds-group_key-end : goal.slice_bounds-group_key-end
 slice_bounds-group_key-end g c = let all : length c.deref.result.now ≤ length c.deref.result.now = omega arith in all
 
-pub next-requires : goal.next-requires
-next-requires g c = tt
-
-pub group_key-key-requires : goal.group_key-key-requires
-group_key-key-requires g c = c.requires.callable
-
 pub loop-group-smaller : goal.loop-group-smaller
 loop-group-smaller g c = omega (arith, ap length (rest_more deref_pair _ _ _ _ c.in-Some.is c.next.ensures.steps))
 
@@ -157,30 +151,3 @@ pub loop-group-init : goal.loop-group-init
 loop-group-init g c =
     let none = c.in_ok-order.ensures.items in
     record { listed = rw none tt; sized = rw none (All-nil _); rising = rw none (λ i j d less within. absurd (omega arith)); begun = rw none (All-nil _) }
-
-pub returns-in_err-order : goal.returns-in_err-order
-returns-in_err-order g c = record {
-  order = IfOk-from_err _ _ c.from_residual.ensures.0;
-  listed = IfOk-from_err _ _ c.from_residual.ensures.0;
-  sizes = IfOk-from_err _ _ c.from_residual.ensures.0;
-  distinct = IfOk-from_err _ _ c.from_residual.ensures.0;
-  counted = IfOk-from_err _ _ c.from_residual.ensures.0;
-}
-
-pub returns-in_err-add_sizes : goal.returns-in_err-add_sizes
-returns-in_err-add_sizes g c = record {
-  order = IfOk-from_err _ _ c.from_residual-in_err-add_sizes.ensures.0;
-  listed = IfOk-from_err _ _ c.from_residual-in_err-add_sizes.ensures.0;
-  sizes = IfOk-from_err _ _ c.from_residual-in_err-add_sizes.ensures.0;
-  distinct = IfOk-from_err _ _ c.from_residual-in_err-add_sizes.ensures.0;
-  counted = IfOk-from_err _ _ c.from_residual-in_err-add_sizes.ensures.0;
-}
-
-pub returns-in_err-push : goal.returns-in_err-push
-returns-in_err-push g c = record {
-  order = IfOk-from_err _ _ c.from_residual-in_err-push.ensures.0;
-  listed = IfOk-from_err _ _ c.from_residual-in_err-push.ensures.0;
-  sizes = IfOk-from_err _ _ c.from_residual-in_err-push.ensures.0;
-  distinct = IfOk-from_err _ _ c.from_residual-in_err-push.ensures.0;
-  counted = IfOk-from_err _ _ c.from_residual-in_err-push.ensures.0;
-}

@@ -29,12 +29,3 @@ returns-in_default-clause-no_groups g c = λ none. absurd (lists-some _ _ c.is_e
 
 pub returns-clause-no_groups : goal.returns-clause-no_groups
 returns-clause-no_groups g c = λ none. absurd (lists-some _ _ c.is_empty.ensures c.if-is_empty.false (c.groups.ensures.entries ∙ none))
-
-pub pack_in_order-requires-clause-found : goal.pack_in_order-requires-clause-found
-pack_in_order-requires-clause-found g c = rw c.as_slice.ensures.value c.in-Ok.ensures.found
-
-pub pack_in_order-requires-clause-distinct : goal.pack_in_order-requires-clause-distinct
-pack_in_order-requires-clause-distinct g c = rw c.as_slice.ensures.value c.in-Ok.ensures.ids
-
-pub pack_in_order-requires-clause-order : goal.pack_in_order-requires-clause-order
-pack_in_order-requires-clause-order g c = rw c.as_slice.ensures.value c.in-Ok.ensures.order

@@ -21,12 +21,6 @@ returns g c = record {
       ]) c.add.ensures c.end_packing-bins.ensures;
 }
 
-pub new-packing-requires-clause-found : goal.new-packing-requires-clause-found
-new-packing-requires-clause-found g c = rw c.replace-bins.ensures.value c.requires.found
-
 pub place_all-packed-requires-clause-order : goal.place_all-packed-requires-clause-order
 place_all-packed-requires-clause-order g c =
     rw (c.new-packing.ensures.now, c.new-packing.ensures.order, c.new-packing.ensures.policy, c.replace-bins.ensures.value) c.requires.order
-
-pub place_all-packed-requires-clause-distinct : goal.place_all-packed-requires-clause-distinct
-place_all-packed-requires-clause-distinct g c = rw (c.new-packing.ensures.now, c.replace-bins.ensures.value) c.requires.distinct_bins

@@ -1,6 +1,6 @@
 use Rattle.rectangle_pack_sections.proofs.Std.{◌≡◌, ◌||◌, Bool, false, refl, sym, ◌∙◌, ap, take, ◌+◌, unwrap_or, option_map, option_copied, is_at, list_any}
 use Rattle.rectangle_pack_sections.proofs.Std.{Bor, list_any_more, or-false, take_all}
-use Rattle.rectangle_pack_packing.specs.private.Excluded.{are_in, went_to, KeptHomes, bars}
+use Rattle.rectangle_pack_packing.specs.private.Excluded.{are_in, went_to, KeptHomes}
 use Rattle.rectangle_pack_packing.proofs.lemmas.packing.Excluded.{excluded-more}
 use Rattle.rectangle_pack_packing.proofs.homes.Homes.excluded_bins.Goals.{in-Some+in_ok-insert, in_default}
 use Rattle.rectangle_pack_packing.proofs.homes.Homes.excluded_bins.Goals as goal

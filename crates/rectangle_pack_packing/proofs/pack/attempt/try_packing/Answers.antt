@@ -1,4 +1,4 @@
-use Rattle.rectangle_pack_sections.proofs.Std.{refl, ◌≡◌, ◌∙◌, IfOk-from_err}
+use Rattle.rectangle_pack_sections.proofs.Std.{◌≡◌, ◌∙◌}
 use Rattle.rectangle_pack_sections.proofs.lemmas.util.Results.{OnErr-given}
 use Rattle.rectangle_pack_sections.proofs.lemmas.groups.Excluded.{not-both}
 use Rattle.rectangle_pack_sections.specs.Bins.{bins_of}
@@ -73,15 +73,3 @@ returns-clause-undone g c = λ no. elim c.if-is_kept.branch [
   ]
   | else-is_kept w ↦ rw w.end-is at c.end-after.ensures.bins ∙ start g (goal_at.returns-clause-undone g c).After-place_all-packed
 ]
-
-pub returns-in_err-order-clause-stopped : goal.returns-in_err-order-clause-stopped
-returns-in_err-order-clause-stopped g c = OnErr-given c.from_residual.result refl
-
-pub returns-in_err-order-clause-undone : goal.returns-in_err-order-clause-undone
-returns-in_err-order-clause-undone g c = λ not. refl
-
-pub returns-in_err-order-clause-tried : goal.returns-in_err-order-clause-tried
-returns-in_err-order-clause-tried g c = IfOk-from_err _ _ c.from_residual.ensures.0
-
-pub returns-in_err-packed-clause-tried : goal.returns-in_err-packed-clause-tried
-returns-in_err-packed-clause-tried g c = IfOk-from_err _ _ c.from_residual-in_err-packed.ensures.0

@@ -3,9 +3,6 @@ use Rattle.rectangle_pack_packing.specs.private.Cells.{cells_in}
 use Rattle.rectangle_pack_packing.proofs.lemmas.best.Fillings.{counts-with, counts-without}
 use Rattle.rectangle_pack_packing.proofs.pack.best.counts_by_id.Goals as goal
 
-pub loop-id-init : goal.loop-id-init
-loop-id-init g c = c.new-counts.ensures.items
-
 pub loop-id-preserved-in-Continue-1 : goal.loop-id-preserved-in-Continue-1
 loop-id-preserved-in-Continue-1 g c =
     let count = cells_in g.B.Ord.cmp c.args.cells.now.entries in

@@ -1,4 +1,4 @@
-use Rattle.rectangle_pack_sections.proofs.Std.{refl, ◌∙◌, IfOk-from_err}
+use Rattle.rectangle_pack_sections.proofs.Std.{refl, ◌∙◌}
 use Rattle.rectangle_pack_packing.proofs.pack.best.try_with.Goals as goal
 
 pub returns-in_ok-use_made-in-Some-clause-tried : goal.returns-in_ok-use_made-in-Some-clause-tried
@@ -10,12 +10,6 @@ returns-in_ok-use_made-in-Some-clause-tried g c =
       done = done.1;
       use_is = c.in_ok-use_made-in-Some.ensures ∙ rw (c.as_slice.ensures.value, c.in_ok-placements.ensures.undone refl) refl;
     }
-
-pub returns-in_err-placements-clause-tried : goal.returns-in_err-placements-clause-tried
-returns-in_err-placements-clause-tried g c = IfOk-from_err _ _ c.from_residual.ensures.0
-
-pub returns-in_err-use_made-in-Some-clause-tried : goal.returns-in_err-use_made-in-Some-clause-tried
-returns-in_err-use_made-in-Some-clause-tried g c = IfOk-from_err _ _ c.from_residual-in_err-use_made-in-Some.ensures.0
 
 pub returns-in-None-clause-tried : goal.returns-in-None-clause-tried
 returns-in-None-clause-tried g c =

@@ -1,5 +1,5 @@
 use Rattle.rectangle_pack_sections.proofs.Std.{◌≡◌, ℕ, List, subst, sym, ◌∙◌, true, map, IsSome, lookup, keys_of, IsDistinct, eq_by_cmp, IsDistinct-from_sorted}
-use Rattle.rectangle_pack_sections.proofs.Std.{IfOk-from_err, is_at, All-permutation, Equal-is, deref_pair, Equal, map_push, iter_end}
+use Rattle.rectangle_pack_sections.proofs.Std.{is_at, All-permutation, Equal-is, deref_pair, Equal, map_push, iter_end}
 use Rattle.rectangle_pack_packing.specs.Orders.{IsBinOrder}
 use Rattle.rectangle_pack_sections.specs.Bins.{bins_of, Held}
 use Rattle.rectangle_pack_packing.specs.Packing.{rules_by}
@@ -40,27 +40,3 @@ returns g c =
       ids = order-differs (rules_by cmp cmp may) g.met.B.Ord.total (bins_of bins) _ distinct order;
       distinct = distinct;
     }
-
-pub returns-in_err-order : goal.returns-in_err-order
-returns-in_err-order g c = record {
-  order = IfOk-from_err _ _ c.from_residual.ensures.0;
-  found = IfOk-from_err _ _ c.from_residual.ensures.0;
-  ids = IfOk-from_err _ _ c.from_residual.ensures.0;
-  distinct = IfOk-from_err _ _ c.from_residual.ensures.0;
-}
-
-pub returns-in_err-clone : goal.returns-in_err-clone
-returns-in_err-clone g c = record {
-  order = IfOk-from_err _ _ c.from_residual-in_err-clone.ensures.0;
-  found = IfOk-from_err _ _ c.from_residual-in_err-clone.ensures.0;
-  ids = IfOk-from_err _ _ c.from_residual-in_err-clone.ensures.0;
-  distinct = IfOk-from_err _ _ c.from_residual-in_err-clone.ensures.0;
-}
-
-pub returns-in_err-push : goal.returns-in_err-push
-returns-in_err-push g c = record {
-  order = IfOk-from_err _ _ c.from_residual-in_err-push.ensures.0;
-  found = IfOk-from_err _ _ c.from_residual-in_err-push.ensures.0;
-  ids = IfOk-from_err _ _ c.from_residual-in_err-push.ensures.0;
-  distinct = IfOk-from_err _ _ c.from_residual-in_err-push.ensures.0;
-}

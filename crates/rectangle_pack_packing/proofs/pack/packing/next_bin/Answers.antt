@@ -1,5 +1,5 @@
-use Rattle.rectangle_pack_sections.proofs.Std.{sym, arith}
-use Rattle.rectangle_pack_packing.proofs.lemmas.packing.PassedOver.{ArePassedOver-held, ArePassedOver-none}
+use Rattle.rectangle_pack_sections.proofs.Std.{sym}
+use Rattle.rectangle_pack_packing.proofs.lemmas.packing.PassedOver.{ArePassedOver-held}
 use Rattle.rectangle_pack_packing.proofs.pack.packing.next_bin.Goals as goal
 
 pub returns-in-Some-clause-passed : goal.returns-in-Some-clause-passed

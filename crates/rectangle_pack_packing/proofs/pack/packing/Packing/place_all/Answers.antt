@@ -1,4 +1,4 @@
-use Rattle.rectangle_pack_sections.proofs.Std.{refl, ◌∙◌, ap, Ordering}
+use Rattle.rectangle_pack_sections.proofs.Std.{◌∙◌, Ordering}
 use Rattle.rectangle_pack_sections.specs.declared.group.Group.{Group}
 use Rattle.rectangle_pack_sections.specs.contracts.group.GroupOrd.TheImpl.{ghosts}
 use Rattle.rectangle_pack_packing.specs.Packing.{Rules, rules_by}
@@ -21,16 +21,16 @@ by g policy = rules_by g.Id.Ord.cmp g.B.Ord.cmp (g.R.Policy.may policy)
 -- the groups and the bins are in order
 in_order : (g : Over) (c : After-place_groups g)
     → AreInOrder (group_cmp g) (by g c.self.inside.policy.now) c.args.rects_to_place.now c.self.inside.bins.now c.self.inside.bins.order
-    c.as_slice.result.now c.as_slice-2.result.now c.exclusions_of-exclusions.result.now
+    c.as_slice.result.now c.as_slice-2.result.now
 in_order g c =
     rw (c.as_slice.ensures.value, c.as_slice-2.ensures.value)
     (AreInOrder-from (group_cmp g) (by g c.self.inside.policy.now) c.args.rects_to_place.now c.self.inside.bins.now c.self.inside.bins.order
-    c.in_ok-groups.groups.items c.group_order.new.sizes.items c.exclusions_of-exclusions.result.now c.groups-lists.result.now.entries
+    c.in_ok-groups.groups.items c.group_order.new.sizes.items c.groups-lists.result.now.entries
     c.groups-lists.ensures.entries
     (rw (← c.rects-rects.ensures.entries, ← c.groups-lists.ensures.entries) c.in_ok-groups.ensures.order) (rw (← c.self.view_is) at c.requires.order)
     (rw (← c.self.view_is) at c.requires.distinct)
     c.in_ok-groups.ensures.listed (rw (← c.rects-rects.ensures.entries) c.in_ok-groups.ensures.sizes)
-    (rw (← c.groups-lists.ensures.entries) c.in_ok-groups.ensures.counted) c.exclusions_of-exclusions.ensures)
+    (rw (← c.groups-lists.ensures.entries) c.in_ok-groups.ensures.counted))
 
 pub place_groups-requires : goal.place_groups-requires
 place_groups-requires g c = record {
@@ -48,9 +48,9 @@ returns-clause-packed g c =
     let at = (goal_at.returns-clause-packed g c).After-place_groups in
     rw (← c.self.view_is)
     (packing-tried (group_cmp g) (by g c.self.inside.policy.now) c.args.rects_to_place.now c.as_slice.result.now c.as_slice-2.result.now
-    c.exclusions_of-exclusions.result.now g.met.B.Ord.total
+    g.met.B.Ord.total
     (record { bins = c.self.inside.bins; policy = c.self.inside.policy.now; placements = c.reserve.new.self.items; tests = c.self.inside.tests })
-    c.place_groups.new.self c.place_groups.result (in_order g at) c.place_groups.ensures.packed)
+    c.place_groups.new.self c.place_groups.result (in_order g at) (rw c.exclusions_of-exclusions.ensures at c.place_groups.ensures.packed))
 
 pub returns-clause-start : goal.returns-clause-start
 returns-clause-start g c = rw (← c.self.view_is) c.place_groups.ensures.same.start

@@ -1,4 +1,4 @@
-use Rattle.rectangle_pack_sections.proofs.Std.{◌≡◌, ◌≤◌, ◌<◌, ◌++◌, ◌+◌, ◌-◌, ℕ, List, arith, [], false, true, refl, sym, ap, ◌∙◌, sum, length, take, take_all, append-nil, subst}
+use Rattle.rectangle_pack_sections.proofs.Std.{◌≡◌, ◌++◌, ◌+◌, arith, [], refl, sym, ap, ◌∙◌, sum, length, take, take_all, append-nil, subst}
 use Rattle.rectangle_pack_lists.specs.Steps.{IsDone, IsStuck}
 use Rattle.rectangle_pack_packing.specs.Packing.{Rules, rules_by, Members}
 use Rattle.rectangle_pack_packing.specs.private.Excluded.{are_in}

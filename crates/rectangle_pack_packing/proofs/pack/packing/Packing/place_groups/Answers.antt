@@ -1,4 +1,4 @@
-use Rattle.rectangle_pack_sections.proofs.Std.{◌≡◌, ◌∷◌, [], List, ◌+◌, Bool, Ok, take, drop, refl, sym, ap, ◌∙◌, arith, take_all, length, map, All-nil, fun_ext}
+use Rattle.rectangle_pack_sections.proofs.Std.{◌∷◌, [], List, ◌+◌, Bool, take, drop, refl, sym, ap, ◌∙◌, take_all, length, map, fun_ext}
 use Rattle.rectangle_pack_packing.specs.Packing.{Rules, rules_by, excludes_by, at_start, Members}
 use Rattle.rectangle_pack_packing.specs.declared.order.OrderedGroup.{OrderedGroup}
 use Rattle.rectangle_pack_packing.specs.private.Excluded.{are_in}
