@@ -1,8 +1,8 @@
 -- What a line prints, as bytes: 32 is a space, 10 a line feed.
-use Rattle.std.specs.Prelude.{ℕ, List, [], ◌∷◌, ◌++◌, Option, Some, None, Result, Ok, Err, length, codes}
+use Rattle.std.specs.Prelude.{ℕ, List, ◌∷◌, ◌++◌, Option, Some, None, Result, Ok, Err, length, codes}
 use Rattle.std.specs.List.{flat_map}
 use Rattle.std.specs.Fmt.{decimal}
-use Rattle.packrun_lines.specs.Numbers.{box_text}
+use Rattle.packrun_lines.specs.Numbers.{three_text}
 use Rattle.rectangle_pack.specs.Boxes.{Cuboid}
 use Rattle.rectangle_pack.specs.declared.session.command.Outstanding.{Outstanding}
 use Rattle.rectangle_pack.specs.declared.session.command.SessionError.{SessionError}
@@ -10,10 +10,10 @@ use Rattle.rectangle_pack.specs.declared.session.command.SessionError.TheVariant
 use Rattle.rectangle_pack.specs.declared.session.command.SessionError.TheVariants.{OutOfMemory}
 use Rattle.rectangle_pack.specs.declared.session.stats.BinStats.{BinStats}
 
--- the line of a free section, and the end of the line of a placement
--- Example: as `box_text`
+-- the line of a free section, and the end of the line of a placement: the least corner and the sides
+-- Example: (0,3,0) 5x2x1: `0 3 0 5 2 1` and a line feed
 abbrev pub cuboid_text : Cuboid → List ℕ
-cuboid_text c = box_text (c.x ∷ c.y ∷ c.z ∷ []) (c.whd.width ∷ c.whd.height ∷ c.whd.depth ∷ [])
+cuboid_text c = three_text c.x c.y c.z 32 ++ three_text c.whd.width c.whd.height c.whd.depth 10
 
 -- the line of a placement, whose names are lists of bytes
 -- Example: `4 one a 0 3 0 5 2 1` and a line feed

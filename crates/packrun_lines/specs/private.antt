@@ -5,5 +5,4 @@ pub mod Names
 pub mod Obeying
 pub mod Printing
 pub mod Reading
-pub mod Spelling
 pub mod Verbs

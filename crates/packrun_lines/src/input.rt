@@ -55,7 +55,8 @@ fn read_part<B: BufRead, A: Allocator>(input: &mut B, line: &mut Vec<u8, A>) -> 
     let ended = has_ended(part);
     line.extend_from_slice(part)?;
     input.consume(count);
-    Ok(ended || line.len() > LONGEST_LINE)
+    let too_long = line.len() > LONGEST_LINE;
+    Ok(ended | too_long)
 }
 
 // Whether a line ends with this part of it: with a line feed, or where there is nothing more.

@@ -3,7 +3,6 @@
 
 mod bytes;
 pub mod command;
-mod digits;
 mod input;
 pub mod laws;
 mod print;

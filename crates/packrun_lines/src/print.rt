@@ -4,8 +4,7 @@ ghost use Rattle.std.specs.Fmt.{decimal};
 ghost use Rattle.packrun_lines.specs.Lines.{cuboid_text, placement_text, packed_text, sections_text, sums_text, refusal_text, reply_text};
 ghost use Rattle.packrun_lines.specs.private.Printing.{Prints, PrintsAnswer};
 
-use crate::bytes::{print_box, print_bytes, print_parts};
-use crate::digits::Digits;
+use crate::bytes::{Digits, LONGEST_THREE, print_bytes, print_parts, put_three};
 use crate::stop::Stop;
 use crate::word::Word;
 use rectangle_pack::{BinSection, BinStats, Outstanding, SessionError};
@@ -76,12 +75,12 @@ fn print_section<W: Write>(section: &BinSection, out: &mut W) -> Result<(), Stop
     // The line of a free section is its corner and its sides.
     ensures { Prints (W.contents out.old) (W.contents out.new) result (cuboid_text section.now) }
 {
-    let whd = section.whd();
-    print_box(
-        [section.x(), section.y(), section.z()],
-        [whd.width(), whd.height(), whd.depth()],
-        out,
-    )
+    let (x, y, z, whd) = (section.x(), section.y(), section.z(), section.whd());
+    let (width, height, depth) = (whd.width(), whd.height(), whd.depth());
+    let mut line = [0; 2 * LONGEST_THREE];
+    let middle = put_three(width, height, depth, b'\n', &mut line, 2 * LONGEST_THREE);
+    let start = put_three(x, y, z, b' ', &mut line, middle);
+    print_bytes(&line[start..], out)
 }
 
 // Prints what is free and what is placed in a bin.

@@ -1,17 +1,15 @@
 //! Commands, a line each, from a reader to a writer.
 ghost use Rattle.std.specs.Prelude.{◌≡◌, ◌≢◌, [], IfSome};
-ghost use Rattle.std.specs.Io.BufRead.{strip_last};
 ghost use Rattle.std.specs.Io.Buffered.{reader_remaining, writer_buffer, writer_contents};
 ghost use Rattle.std.specs.Io.KnownBytes.{Appends};
 ghost use Rattle.packrun_lines.specs.Store.{empty_store};
-ghost use Rattle.packrun_lines.specs.private.Obeying.{IsLineObeyed, StopsSo};
+ghost use Rattle.packrun_lines.specs.private.Obeying.{StopsSo};
 ghost use Rattle.packrun_lines.specs.Transcripts.{PrintsTranscript, last_line};
 ghost use Rattle.packrun_lines.specs.Printing.{AppendsStart};
 ghost use Rattle.packrun_lines.specs.private.Printing.{Prints};
 
-use crate::bytes::{print_bytes, print_parts};
+use crate::bytes::{Digits, print_bytes, print_parts};
 use crate::command::{LONGEST_LINE, parse};
-use crate::digits::Digits;
 use crate::input::next_line;
 use crate::stop::Stop;
 use crate::store::Store;
@@ -57,7 +55,8 @@ pub fn run_buffered<R: Read, W: Write + Drop, A: Allocator + Copy>(
     //   [run_buffered.nothing_is_flushed]
     ensures flushed { result ≢ Err Stop.IoFailed → writer_buffer out.new ≡ [] }
 {
-    let ended = run_lines(alloc, reader, out);
+    let ended = obey_all(alloc, reader, out);
+    let ended = end(ended, out);
     if ended == Err(Stop::IoFailed) || out.flush().is_err() {
         return Err(Stop::IoFailed);
     }
@@ -98,24 +97,12 @@ fn obey_each<R: Read, W: Write, A: Allocator + Copy>(
     while next_line(input, line, &mut total, out)? {
         // Each line has a byte, so there are no more lines than bytes.
         number += 1;
-        obey_line(store, number, line.as_slice(), out)?;
+        let Some(command) = parse(line.as_slice()) else {
+            return Err(Stop::BadLine(number));
+        };
+        store.obey(command, out)?;
     }
     Ok(())
-}
-
-fn obey_line<W: Write, A: Allocator + Copy>(
-    store: &mut Store<A>,
-    number: u64,
-    line: &[u8],
-    out: &mut W,
-) -> Result<(), Stop>
-    ensures { IsLineObeyed number (strip_last 10 line.now) store.old (W.contents out.old) result
-        store.new (W.contents out.new) }
-{
-    match parse(line) {
-        Some(command) => store.obey(command, out),
-        None => Err(Stop::BadLine(number)),
-    }
 }
 
 // Prints the last line, where the end has one, and flushes. How the run ends.

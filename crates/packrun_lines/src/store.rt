@@ -4,25 +4,24 @@ ghost use Rattle.std.specs.Option.{ForSome, option_copied, option_map};
 ghost use Rattle.std.specs.Vec.{vec_len};
 ghost use Rattle.rectangle_pack.specs.Groups.{Excludes};
 ghost use Rattle.rectangle_pack.specs.Joining.{IsJoined, IsSwept};
-ghost use Rattle.rectangle_pack.specs.Promise.{PacksAsPromised};
-ghost use Rattle.rectangle_pack.specs.Session.{AddsBin, Coalesces, Releases, packed_reply};
+ghost use Rattle.rectangle_pack.specs.Session.{AddsBin, Coalesces, Releases};
 ghost use Rattle.rectangle_pack.specs.declared.grouped_rects_to_place.Group.TheVariants.{Grouped};
 ghost use Rattle.packrun_lines.specs.Answers.{size_of, groups_of};
 ghost use Rattle.packrun_lines.specs.Requests as asks;
-ghost use Rattle.packrun_lines.specs.Store.{name_cmp, group_order, volume_rules, no_boxes, empty_store, sections_in, ChangesSession, ChangesBoxes, TakesBox, PacksBoxes};
+ghost use Rattle.packrun_lines.specs.Store.{name_cmp, group_order, no_boxes, empty_store, sections_in, ChangesSession, ChangesBoxes, TakesBox};
 ghost use Rattle.packrun_lines.specs.private.Calls.{UnlessNoMemory};
 ghost use Rattle.packrun_lines.specs.private.Commands.{request_of, words_left};
-ghost use Rattle.packrun_lines.specs.private.Obeying.{IsObeyed};
+ghost use Rattle.packrun_lines.specs.private.Obeying.{IsObeyed, IsPackObeyed};
 ghost use Rattle.packrun_lines.specs.private.Verbs.{NamesTwo};
 
+use crate::bytes::Digits;
 use crate::command::{Command, Size};
-use crate::digits::Digits;
 use crate::print::{print_list, print_packed, print_sums, refuse, report};
 use crate::stop::Stop;
 use crate::word::{Word, push_words};
 use rectangle_pack::{
-    BinSection, Group, GroupedRectsToPlace, Outstanding, Packed, RectToInsert, Session,
-    SessionError, contains_smallest_box, volume_heuristic,
+    BinSection, Group, GroupedRectsToPlace, Outstanding, RectToInsert, Session, SessionError,
+    contains_smallest_box, volume_heuristic,
 };
 use std::alloc::{AllocError, Allocator};
 use std::io::Write;
@@ -90,7 +89,7 @@ impl<A: Allocator + Copy> Store<A> {
             Command::Exclude { one, other } => {
                 report(self.exclude(one, other), one.as_bytes(), out)
             }
-            Command::Pack => self.print_packing(out),
+            Command::Pack => self.pack(out),
             Command::Release(number) => {
                 let digits = Digits::new(u128::from(number));
                 report(self.release(number), digits.as_bytes(), out)
@@ -151,22 +150,27 @@ impl<A: Allocator + Copy> Store<A> {
         Ok(self.rects.exclude(one, other)?)
     }
 
-    // Places the boxes. Boxes are kept where they are refused, so that a bin can be added and the
-    // packing tried again.
-    fn pack(&mut self) -> Result<Packed, SessionError>
+    // Places the boxes, and prints the answer. Boxes are kept where they are refused, so that a bin
+    // can be added and the packing tried again.
+    fn pack<W: Write>(&mut self, out: &mut W) -> Result<(), Stop>
         // The boxes are packed as `Session::pack` does it by volume and `contains_smallest_box`,
         //   and are forgotten where that is done; else they are kept. [pack.wide_boxes_go_first,
         //   pack.refused_boxes_are_forgotten, forget_rects.boxes_are_kept]
-        ensures packed { PacksBoxes self.old result self.new }
         // The packing is as promised.
-        ensures promise { PacksAsPromised group_order volume_rules
-            self.old.boxes self.old.session (packed_reply result) self.new.session }
+        // What it placed is printed, or why it was refused; nothing where memory was.
+        ensures packed { IsPackObeyed self.old (W.contents out.old) result self.new
+            (W.contents out.new) }
     {
         let packed = self
             .session
-            .pack(&self.rects, &volume_heuristic, &contains_smallest_box)?;
-        self.forget_rects();
-        Ok(packed)
+            .pack(&self.rects, &volume_heuristic, &contains_smallest_box);
+        match packed {
+            Ok(packed) => {
+                self.forget_rects();
+                print_packed(self.last_placements(packed.count), out)
+            }
+            Err(error) => refuse(error, b"", out),
+        }
     }
 
     fn forget_rects(&mut self)
@@ -186,16 +190,6 @@ impl<A: Allocator + Copy> Store<A> {
     {
         let placements = self.session.outstanding();
         &placements[placements.len() - count as usize..]
-    }
-
-    fn print_packing<W: Write>(&mut self, out: &mut W) -> Result<(), Stop>
-        ensures { IsObeyed asks.Pack self.old (W.contents out.old) result self.new
-            (W.contents out.new) }
-    {
-        match self.pack() {
-            Ok(packed) => print_packed(self.last_placements(packed.count), out),
-            Err(error) => refuse(error, b"pack", out),
-        }
     }
 
     fn release(&mut self, number: u64) -> Result<(), SessionError>

@@ -4,7 +4,16 @@ use Rattle.std.specs.Fmt.{decimal}
 use Rattle.std.proofs.lemmas.Bool.{cases_lt}
 use Rattle.std.proofs.lemmas.Fmt.{decimal_step_wide, decimal_digit}
 use Rattle.std.proofs.lemmas.List.{drop-set}
-use Rattle.packrun_lines.specs.private.Spelling.{IsSpelling}
+
+-- a number is being written before `end`: from a place on its last digits stand in the line, and those of the rest of
+-- the number are to stand before them, where there is room
+pub record IsSpelling (number : ℕ) (old : List ℕ) (end rest : ℕ) (line : List ℕ) (at : ℕ) : Type 0 where
+  pub written : decimal rest ++ drop at line ≡ decimal number ++ drop end old
+  pub places : length (decimal number) + at ≡ length (decimal rest) + end
+  pub room : length (decimal number) ≤ end
+  pub some : 1 ≤ at
+  pub within : at ≤ length line
+  pub small : rest < 10 ^ 64
 
 -- a byte that is written before a place stands in front of what was there
 pub written_before : (line : List ℕ) (at byte : ℕ) → 1 ≤ at → at ≤ length line → drop (at - 1) (set line (at - 1) byte) ≡ byte ∷ drop at line

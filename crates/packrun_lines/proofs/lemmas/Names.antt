@@ -13,23 +13,11 @@ length-padded zero xs = refl
 length-padded (suc k) [] = ap suc (length-padded k [])
 length-padded (suc k) (x ∷ xs) = ap suc (length-padded k xs)
 
-take-padded : (k : ℕ) (xs : List ℕ) → length xs ≤ k → take (length xs) (padded k xs) ≡ xs
-take-padded zero [] h = refl
-take-padded zero (x ∷ xs) h = absurd (omega arith)
-take-padded (suc k) [] h = refl
-take-padded (suc k) (x ∷ xs) h = ap (λ l. x ∷ l) (take-padded k xs (omega arith))
-
 pub append-padded : (k : ℕ) (xs : List ℕ) → length xs ≤ k → xs ++ drop (length xs) (replicate k 0) ≡ padded k xs
 append-padded zero [] h = refl
 append-padded zero (x ∷ xs) h = absurd (omega arith)
 append-padded (suc k) [] h = ap (λ l. 0 ∷ l) (append-padded k [] (omega arith))
 append-padded (suc k) (x ∷ xs) h = ap (λ l. x ∷ l) (append-padded k xs (omega arith))
-
-pub take-of_padded : (bytes name : List ℕ) → length name ≤ 14 → bytes ≡ padded 14 name → take (length name) bytes ≡ name
-take-of_padded bytes name short e = ap (take (length name)) e ∙ take-padded 14 name short
-
-pub IsPadded-of_padded : (bytes name : List ℕ) → length name ≤ 14 → bytes ≡ padded 14 name → IsPadded (length name) bytes
-IsPadded-of_padded bytes name short e = (short, e ∙ ap (padded 14) (sym (take-of_padded bytes name short e)))
 
 -- ---- the order of padded names
 

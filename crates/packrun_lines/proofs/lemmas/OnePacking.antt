@@ -149,9 +149,7 @@ module _ {Name : Type 0} (cmp : Name → Name → Ordering) (total : IsTotalOrde
     Packs-one (Refused NotEnoughBinSpace) (Refused NumbersUsedUp) new other a b m n = let e = entries in absurd (omega (arith, a.0, b.0))
     Packs-one (Refused NotEnoughBinSpace) (Refused NotEnoughBinSpace) new other a b m n = (refl, a.3 ∙ sym b.3)
     Packs-one (Refused OutOfMemory) r new other a b m n = absurd (m refl)
-    Packs-one (Packed numbers) (Refused OutOfMemory) new other a b m n = absurd (n refl)
-    Packs-one (Refused NumbersUsedUp) (Refused OutOfMemory) new other a b m n = absurd (n refl)
-    Packs-one (Refused NotEnoughBinSpace) (Refused OutOfMemory) new other a b m n = absurd (n refl)
+    Packs-one r (Refused OutOfMemory) new other a b m n = absurd (n refl)
     Packs-one (Packed numbers) r new other a b m n = absurd b
     Packs-one (Refused NumbersUsedUp) r new other a b m n = absurd b
     Packs-one (Refused NotEnoughBinSpace) r new other a b m n = absurd b

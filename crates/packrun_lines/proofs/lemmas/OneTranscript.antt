@@ -112,10 +112,8 @@ IsTranscript-begins input printed other ended stopped whole memory =
 -- what is printed by a run that ends so
 transcript_of : (before after : Option (List ℕ)) (ended : Ended) (input : List ℕ) → ended ≢ Err IoFailed → PrintsTranscript before after ended input
     → (printed : List ℕ) × IsTranscript input printed ended × Appends before after printed
-transcript_of before after (Ok done) input written p = p
-transcript_of before after (Err (BadLine number)) input written p = p
-transcript_of before after (Err NoMemory) input written p = p
 transcript_of before after (Err IoFailed) input written p = absurd (written refl)
+transcript_of before after ended input written p = p
 
 one_after : (before printed : List ℕ) (after other : Option (List ℕ)) → Appends (Some before) after printed → Appends (Some before) other printed → after ≡ other
 one_after before printed (Some x) (Some y) a b = ap (λ bytes. Some bytes) (a ∙ sym b)

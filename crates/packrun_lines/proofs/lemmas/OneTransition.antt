@@ -75,8 +75,7 @@ module _ {Id B : Type 0} {bin_cmp : B → B → Ordering} (exact : CmpEqualImpli
   AddsBin-one id size old Done (Refused DuplicateBin) new other a b m n = absurd (cc (rw a.0 at b.0))
   AddsBin-one id size old (Refused DuplicateBin) Done new other a b m n = absurd (cc (rw b.0 at a.0))
   AddsBin-one id size old (Refused DuplicateBin) (Refused DuplicateBin) new other a b m n = (refl, a.1 ∙ sym b.1)
-  AddsBin-one id size old Done (Refused OutOfMemory) new other a b m n = absurd (n refl)
-  AddsBin-one id size old (Refused DuplicateBin) (Refused OutOfMemory) new other a b m n = absurd (n refl)
+  AddsBin-one id size old r (Refused OutOfMemory) new other a b m n = absurd (n refl)
   AddsBin-one id size old Done r new other a b m n = absurd b
   AddsBin-one id size old (Refused DuplicateBin) r new other a b m n = absurd b
   AddsBin-one id size old (Refused OutOfMemory) r new other a b m n = absurd (m refl)
@@ -95,8 +94,7 @@ module _ {Id B : Type 0} {bin_cmp : B → B → Ordering} (exact : CmpEqualImpli
   Releases-one number old h Done (Refused UnknownPlacement) new other a b m n = absurd (not_outstanding number old.outstanding a.0 b.0)
   Releases-one number old h (Refused UnknownPlacement) Done new other a b m n = absurd (not_outstanding number old.outstanding b.0 a.0)
   Releases-one number old h (Refused UnknownPlacement) (Refused UnknownPlacement) new other a b m n = (refl, a.1 ∙ sym b.1)
-  Releases-one number old h Done (Refused OutOfMemory) new other a b m n = absurd (n refl)
-  Releases-one number old h (Refused UnknownPlacement) (Refused OutOfMemory) new other a b m n = absurd (n refl)
+  Releases-one number old h r (Refused OutOfMemory) new other a b m n = absurd (n refl)
   Releases-one number old h Done r new other a b m n = absurd b
   Releases-one number old h (Refused UnknownPlacement) r new other a b m n = absurd b
   Releases-one number old h (Refused OutOfMemory) r new other a b m n = absurd (m refl)

@@ -1,5 +1,5 @@
 -- What is written part by part is the whole line; what could not be written leaves a beginning of it.
-use Rattle.std.proofs.Common.{◌≡◌, ℕ, List, [], ◌∷◌, ◌++◌, Option, Result, Ok, Err, OnOk, IsErr, IsErrAnd, length, take, drop, get_or, take_all, take-append-drop, ◌+◌, ◌<◌, ◌==◌, true, ne_eqb, length-drop, ◌-◌, arith, sym, ap, subst, ◌∙◌, append-nil, append_assoc}
+use Rattle.std.proofs.Common.{◌≡◌, ℕ, List, [], ◌∷◌, ◌++◌, Option, Ok, Err, IsErrAnd, length, take, drop, get_or, take_all, take-append-drop, ◌+◌, ◌<◌, ◌==◌, true, ne_eqb, length-drop, ◌-◌, arith, sym, ap, subst, ◌∙◌, append-nil, append_assoc}
 use Rattle.std.specs.List.{flat_map}
 use Rattle.std.proofs.lemmas.List.{take_more, drop_more, flat_map_more}
 use Rattle.std.proofs.lemmas.Grind.{flat_map-append}
@@ -7,15 +7,9 @@ use Rattle.std.specs.Io.KnownBytes.{Appends, Keeps}
 use Rattle.std.proofs.KnownBytes.{Appends-trans, Appends-kept}
 use Rattle.packrun_lines.specs.Ends.{Ended}
 use Rattle.packrun_lines.specs.Printing.{AppendsStart}
-use Rattle.packrun_lines.specs.Numbers.{three_text, box_text}
 use Rattle.packrun_lines.specs.declared.stop.Stop.{Stop}
 use Rattle.packrun_lines.specs.declared.stop.Stop.TheVariants.{IoFailed}
 use Rattle.packrun_lines.specs.private.Printing.{Prints}
-
--- an error has no value
-pub OnOk-failed : {T E : Type 0} (P : Type 0) (r : Result T E) → IsErr r → OnOk r P
-OnOk-failed P (Ok x) h = absurd (cc h)
-OnOk-failed P (Err e) h = tt
 
 -- a beginning of a text behind another is a beginning of both
 pub AppendsStart-behind : (a b c : Option (List ℕ)) (before text : List ℕ) → Appends a b before → AppendsStart b c text → AppendsStart a c (before ++ text)
@@ -92,9 +86,9 @@ Prints-item_stopped text items i item later a b c r why within read p q is =
     subst (Prints a c r) (sym whole) (Prints-stopped a b c r why front (text item) (rest ++ later) p q is)
 
 -- the sides are put at the end of a line, and the corner before them
-pub box_text-put : (corner sides first second : List ℕ) (middle start : ℕ) → length second ≡ 66
-    → drop middle first ≡ three_text sides 10 ++ [] → drop start second ≡ three_text corner 32 ++ drop middle first
-    → take (66 - start) (drop start second) ≡ box_text corner sides
-box_text-put corner sides first second middle start long last before =
+pub put-twice : (corner sides first second : List ℕ) (middle start : ℕ) → length second ≡ 66
+    → drop middle first ≡ sides ++ [] → drop start second ≡ corner ++ drop middle first
+    → take (66 - start) (drop start second) ≡ corner ++ sides
+put-twice corner sides first second middle start long last before =
     take_all (66 - start) (drop start second) (omega (arith, length-drop start second, long))
-    ∙ before ∙ ap (λ bytes. three_text corner 32 ++ bytes) (last ∙ append-nil (three_text sides 10))
+    ∙ before ∙ ap (λ bytes. corner ++ bytes) (last ∙ append-nil sides)

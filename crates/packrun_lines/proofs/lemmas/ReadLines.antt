@@ -51,14 +51,6 @@ module _ (a b : Option (List ℕ)) (shown before after : List ℕ) (count : ℕ)
         at_end = λ yes fits none. at_end (no_more none);
       }
 
-pub or-first : (first second : Bool) → first ≡ true → true ≡ (first || second)
-or-first true second h = refl
-or-first false second h = absurd (cc h)
-
-pub or-second : (first second : Bool) → first ≡ false → second ≡ (first || second)
-or-second true second h = absurd (cc h)
-or-second false second h = refl
-
 -- a line whose last part ends with a line feed ends with it
 ends_with-last : (got part : List ℕ) → length part ≢ 0 → get_or part (length part - 1) 0 ≡ 10 → ends_with_byte 10 (got ++ part) ≡ true
 ends_with-last got part some last =

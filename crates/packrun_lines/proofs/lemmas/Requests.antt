@@ -39,14 +39,7 @@ no-bin r is_none old later new name old_is none = subst (λ r. IsNextRequest (co
     says : (request : Request) (rest : List (List ℕ)) → codes "bin" ≡ verb_of request → ¬ Take old request rest
     says Nothing rest verb t = t
     says (Bin n size) rest verb (w, h, d, e, writes) = none w h d rest size (cc (old_is, e)) writes
-    says (Rect id size groups) rest verb t = absurd (cc verb)
-    says (Exclude one other) rest verb t = absurd (cc verb)
-    says Pack rest verb t = absurd (cc verb)
-    says (Release number) rest verb t = absurd (cc verb)
-    says (Sections n) rest verb t = absurd (cc verb)
-    says (Coalesce n idx start end) rest verb t = absurd (cc verb)
-    says (Sweep n) rest verb t = absurd (cc verb)
-    says (Stats n) rest verb t = absurd (cc verb)
+    says request rest verb t = absurd (cc verb)
 
 -- no size, so no box
 pub no-box : (r : Option Command) → r ≡ None → (old later new : List (List ℕ)) (id : List ℕ) → old ≡ id ∷ later → IsNextSize later None new → IsRead (codes "rect") old r
@@ -54,15 +47,8 @@ no-box r is_none old later new id old_is none = subst (λ r. IsRead (codes "rect
   where
     says : (request : Request) → ¬ AreOf (codes "rect") old request
     says Nothing (_, t) = t
-    says (Bin n size) (verb, t) = absurd (cc verb)
     says (Rect i size groups) (verb, (w, h, d, e, writes, _)) = none w h d groups size (cc (old_is, e)) writes
-    says (Exclude one other) (verb, t) = absurd (cc verb)
-    says Pack (verb, t) = absurd (cc verb)
-    says (Release number) (verb, t) = absurd (cc verb)
-    says (Sections n) (verb, t) = absurd (cc verb)
-    says (Coalesce n idx start end) (verb, t) = absurd (cc verb)
-    says (Sweep n) (verb, t) = absurd (cc verb)
-    says (Stats n) (verb, t) = absurd (cc verb)
+    says request (verb, t) = absurd (cc verb)
 
 -- words that are of a request say it, and the other way round
 pub Say-of : (verb : List ℕ) (words : List (List ℕ)) (request : Request) → AreOf verb words request → Say (verb ∷ words) request

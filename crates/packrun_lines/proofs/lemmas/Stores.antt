@@ -1,5 +1,5 @@
 -- What the calls of the library say of a session and of boxes, in the words of a store.
-use Rattle.std.proofs.Common.{◌≡◌, ℕ, suc, ◌+◌, ◌-◌, ◌≤◌, List, [], ◌∷◌, length, length-append, drop, arith, Option, Some, None, Result, Ok, Err, IsErrAnd, MatchOption, option_map, refl, ap, sym, ◌∙◌, subst}
+use Rattle.std.proofs.Common.{◌≡◌, ℕ, suc, ◌+◌, ◌-◌, ◌≤◌, List, [], ◌∷◌, length, length-append, drop, arith, Option, Some, None, Result, Ok, Err, MatchOption, option_map, refl, ap, sym, ◌∙◌, subst}
 use Rattle.std.specs.List.Sorted.{IsStrictlySortedBy}
 use Rattle.std.specs.Map.{lookup, keys_of}
 use Rattle.std.specs.BTreeMap.{is_at}
@@ -92,14 +92,8 @@ module _ (R : Group Name Name → Group Name Name → Ordering)
     )
 
     pub PacksBoxes-refused : (error : SessionError) (new : State Name Name) → Packs R (rules_by name_cmp name_cmp may) old.boxes old.session (Refused error) new
-        → Includes may (named_answers Volume) → (result : Result PackedNumbers SessionError) → IsErrAnd result (λ e. e ≡ error)
-        → PacksBoxes old result (record old { session = new })
-    PacksBoxes-refused error new h includes (Ok numbers) failed = absurd failed
-    PacksBoxes-refused error new h includes (Err e) failed = (
-      subst (λ e. Packs group_order volume_rules old.boxes old.session (Refused e) new) (sym failed)
-          (Packs-volume includes (Refused error) new h),
-      refl,
-    )
+        → Includes may (named_answers Volume) → PacksBoxes old (Err error) (record old { session = new })
+    PacksBoxes-refused error new h includes = (Packs-volume includes (Refused error) new h, refl)
 
 -- and what the headline says of packings holds of them
 pub PacksBoxes-promised : (old : Store) (result : Result PackedNumbers SessionError)

@@ -7,10 +7,10 @@ use Rattle.packrun_lines.specs.Answers.{Answers}
 use Rattle.packrun_lines.specs.Ends.{Ended}
 use Rattle.packrun_lines.specs.Input.{lines_of}
 use Rattle.packrun_lines.specs.Printing.{AppendsStart}
-use Rattle.packrun_lines.specs.Requests.{Request, Asks}
+use Rattle.packrun_lines.specs.Requests.{Request, Asks, IsBad}
 use Rattle.packrun_lines.specs.Store.{Store, empty_store}
 use Rattle.packrun_lines.specs.Transcripts.{AreAnswered, MayEnd, IsTranscript, PrintsTranscript, last_line}
-use Rattle.packrun_lines.specs.private.Obeying.{AreFirstAnswered, AreObeyed, IsLineObeyed, StopsSo}
+use Rattle.packrun_lines.specs.private.Obeying.{AreFirstAnswered, AreObeyed, IsObeyed, StopsSo}
 use Rattle.packrun_lines.specs.private.Reading.{IsLineRead}
 use Rattle.packrun_lines.specs.declared.stop.Stop.{Stop}
 use Rattle.packrun_lines.specs.declared.stop.Stop.TheVariants.{BadLine, NoMemory, IoFailed}
@@ -72,23 +72,21 @@ module _ (bytes : List ℕ) (old : Store) (before : Option (List ℕ)) where
   AreObeyed-kept new left n a b (text, done, printed) kept = (text, done, Appends-kept before a b text printed kept)
 
   AreObeyed-more : (rest read next : List ℕ) (n : ℕ) (mid new : Store) (a b : Option (List ℕ)) → AreObeyed bytes old before mid (lines_of rest) n a
-      → IsLineRead (Some rest) read (Some next) → 0 < length read → IsLineObeyed n (strip_last 10 read) mid a (Ok tt) new b
-      → AreObeyed bytes old before new (lines_of next) (n + 1) b
-  AreObeyed-more rest read next n mid new a b (text, done, printed) is_read some (request, asks, (more, answers, appends)) = (
+      → IsLineRead (Some rest) read (Some next) → 0 < length read → (request : Request) → Asks (strip_last 10 read) request
+      → IsObeyed request mid a (Ok tt) new b → AreObeyed bytes old before new (lines_of next) (n + 1) b
+  AreObeyed-more rest read next n mid new a b (text, done, printed) is_read some request asks (more, answers, appends) = (
     text ++ more,
     answered-more rest read next n mid new text more request done is_read some asks answers,
     Appends-trans before a b text more printed appends,
   )
 
   stops-by : (rest read next : List ℕ) (n : ℕ) (mid new : Store) (a b : Option (List ℕ)) (why : Stop) → AreObeyed bytes old before mid (lines_of rest) n a
-      → IsLineRead (Some rest) read (Some next) → 0 < length read → IsLineObeyed n (strip_last 10 read) mid a (Err why) new b
-      → StopsSo (Err why) bytes old before b
-  stops-by rest read next n mid new a b (BadLine number) done is_read some (number_is, bad, kept) =
-      let (line, later, lines_are, first) = lines_of-some rest next read is_read some in
-      (mid, lines_of rest, n, AreObeyed-kept mid (lines_of rest) n a b done kept, (number_is, line, later, lines_are, IsBad-first read next line later first bad))
-  stops-by rest read next n mid new a b NoMemory done is_read some (request, asks, kept) =
+      → IsLineRead (Some rest) read (Some next) → 0 < length read → (request : Request) → Asks (strip_last 10 read) request
+      → IsObeyed request mid a (Err why) new b → StopsSo (Err why) bytes old before b
+  stops-by rest read next n mid new a b (BadLine number) done is_read some request asks (more, answers, (is, begun)) = absurd (cc is)
+  stops-by rest read next n mid new a b NoMemory done is_read some request asks kept =
       (mid, lines_of rest, n, AreObeyed-kept mid (lines_of rest) n a b done kept, inr (left_some rest next read is_read some))
-  stops-by rest read next n mid new a b IoFailed (text, done, printed) is_read some (request, asks, (more, answers, (_, begun))) = record {
+  stops-by rest read next n mid new a b IoFailed (text, done, printed) is_read some request asks (more, answers, (_, begun)) = record {
     left = lines_of next;
     number = n + 1;
     new = new;
@@ -96,6 +94,12 @@ module _ (bytes : List ℕ) (old : Store) (before : Option (List ℕ)) where
     first = answered-more rest read next n mid new text more request done is_read some asks answers;
     printed = AppendsStart-behind before a b text more printed begun;
   }
+
+  stops-bad : (rest read next : List ℕ) (n : ℕ) (mid : Store) (a : Option (List ℕ)) → AreObeyed bytes old before mid (lines_of rest) n a
+      → IsLineRead (Some rest) read (Some next) → 0 < length read → IsBad (strip_last 10 read) → StopsSo (Err (BadLine n)) bytes old before a
+  stops-bad rest read next n mid a done is_read some bad =
+      let (line, later, lines_are, first) = lines_of-some rest next read is_read some in
+      (mid, lines_of rest, n, done, (refl, line, later, lines_are, IsBad-first read next line later first bad))
 
   stops-failed : (new : Store) (left : List (List ℕ)) (n : ℕ) (a : Option (List ℕ)) → AreObeyed bytes old before new left n a → StopsSo (Err IoFailed) bytes old before a
   stops-failed new left n a (text, done, printed) =
@@ -125,10 +129,10 @@ module _ (known : Option (List ℕ)) (old : Store) (before now next : Option (Li
           so bytes now next (AreObeyed-kept bytes old before mid (lines_of now) n a b here kept) is_read refl
 
   pub Obeyed-more : (new : Store) (c : Option (List ℕ)) → Obeyed known old before now n mid a → IsLineRead now read next → Keeps a b → 0 < length read
-      → IsLineObeyed n (strip_last 10 read) mid b (Ok tt) new c → Obeyed known old before next (n + 1) new c
-  Obeyed-more new c obeyed is_read kept some line =
+      → (request : Request) → Asks (strip_last 10 read) request → IsObeyed request mid b (Ok tt) new c → Obeyed known old before next (n + 1) new c
+  Obeyed-more new c obeyed is_read kept some request asks line =
       Obeyed-read (λ bytes. (rest : List ℕ) × (next ≡ Some rest) × AreObeyed bytes old before new (lines_of rest) (n + 1) c) obeyed is_read kept
-      (λ bytes rest left done is_read is. (left, is, AreObeyed-more bytes old before rest read left n mid new b c done is_read some line))
+      (λ bytes rest left done is_read is. (left, is, AreObeyed-more bytes old before rest read left n mid new b c done is_read some request asks line))
 
   pub Obeyed-at_end : Obeyed known old before now n mid a → IsLineRead now read next → Keeps a b → length read ≡ 0
       → IfSome known (λ bytes. StopsSo (Ok tt) bytes old before b)
@@ -137,10 +141,16 @@ module _ (known : Option (List ℕ)) (old : Store) (before now next : Option (Li
       (λ bytes rest left done is_read is. (mid, lines_of rest, n, done, lines_of-none rest left read is_read none))
 
   pub Obeyed-stopped : (new : Store) (c : Option (List ℕ)) (why : Stop) → Obeyed known old before now n mid a → IsLineRead now read next → Keeps a b → 0 < length read
-      → IsLineObeyed n (strip_last 10 read) mid b (Err why) new c → IfSome known (λ bytes. StopsSo (Err why) bytes old before c)
-  Obeyed-stopped new c why obeyed is_read kept some line =
+      → (request : Request) → Asks (strip_last 10 read) request → IsObeyed request mid b (Err why) new c → IfSome known (λ bytes. StopsSo (Err why) bytes old before c)
+  Obeyed-stopped new c why obeyed is_read kept some request asks line =
       Obeyed-read (λ bytes. StopsSo (Err why) bytes old before c) obeyed is_read kept
-      (λ bytes rest left done is_read is. stops-by bytes old before rest read left n mid new b c why done is_read some line)
+      (λ bytes rest left done is_read is. stops-by bytes old before rest read left n mid new b c why done is_read some request asks line)
+
+  pub Obeyed-bad : Obeyed known old before now n mid a → IsLineRead now read next → Keeps a b → 0 < length read → IsBad (strip_last 10 read)
+      → IfSome known (λ bytes. StopsSo (Err (BadLine n)) bytes old before b)
+  Obeyed-bad obeyed is_read kept some bad =
+      Obeyed-read (λ bytes. StopsSo (Err (BadLine n)) bytes old before b) obeyed is_read kept
+      (λ bytes rest left done is_read is. stops-bad bytes old before rest read left n mid b done is_read some bad)
 
 -- what a test of a length says
 pub none_is : (n : ℕ) → nat_lt 0 n ≡ false → n ≡ 0
@@ -188,10 +198,8 @@ module _ (bytes : List ℕ) (before a after : Option (List ℕ)) where
 
   transcript-stopped : (stopped : Ended) → StopsSo stopped bytes (empty_store 0) before a → stopped ≢ Err IoFailed → Appends a after (last_line stopped)
       → PrintsTranscript before after stopped bytes
-  transcript-stopped (Ok done) (new, left, n, obeyed, ends) fine last = transcript-of (Ok done) new left n obeyed ends last
-  transcript-stopped (Err (BadLine number)) (new, left, n, obeyed, ends) fine last = transcript-of (Err (BadLine number)) new left n obeyed ends last
-  transcript-stopped (Err NoMemory) (new, left, n, obeyed, ends) fine last = transcript-of (Err NoMemory) new left n obeyed ends last
   transcript-stopped (Err IoFailed) so fine last = absurd (fine refl)
+  transcript-stopped stopped (new, left, n, obeyed, ends) fine last = transcript-of stopped new left n obeyed ends last
 
   -- a beginning of a transcript: of some answers, of which some may be left unprinted, as where memory is refused behind them
   begun-of : (text : List ℕ) (new : Store) (left : List (List ℕ)) (n : ℕ) → AreFirstAnswered bytes (empty_store 0) text new left n → AppendsStart before after text
@@ -212,11 +220,9 @@ module _ (bytes : List ℕ) (before a after : Option (List ℕ)) where
       (ended, text ++ last_line ended, transcript-ended ended text new left n done ends, AppendsStart-behind before a after text (last_line ended) printed last)
 
   begun-stopped : (stopped : Ended) → StopsSo stopped bytes (empty_store 0) before a → AppendsStart a after (last_line stopped) → PrintsTranscript before after (Err IoFailed) bytes
-  begun-stopped (Ok done) (new, left, n, obeyed, ends) last = begun-last (Ok done) new left n obeyed ends last
-  begun-stopped (Err (BadLine number)) (new, left, n, obeyed, ends) last = begun-last (Err (BadLine number)) new left n obeyed ends last
-  begun-stopped (Err NoMemory) (new, left, n, obeyed, ends) last = begun-last (Err NoMemory) new left n obeyed ends last
   begun-stopped (Err IoFailed) begun last =
       begun-of begun.text begun.new begun.left begun.number begun.first (AppendsStart-kept before a after begun.text begun.printed (Keeps-begun a after last))
+  begun-stopped stopped (new, left, n, obeyed, ends) last = begun-last stopped new left n obeyed ends last
 
 -- a run that ends as its lines stopped, or by a write that failed
 pub ends-as_stopped : (known before a after : Option (List ℕ)) (stopped ended : Ended) → IfSome known (λ bytes. StopsSo stopped bytes (empty_store 0) before a)
@@ -232,21 +238,18 @@ ends-as_stopped (Some bytes) before a after stopped ended so same last begun = b
 
     by : (ended : Ended) → (ended ≢ Err IoFailed → ended ≡ stopped) → (ended ≢ Err IoFailed → Appends a after (last_line ended)) → PrintsTranscript before after ended bytes
     by (Err IoFailed) same last = begun-stopped bytes before a after stopped so begun
-    by (Ok done) same last = as_stopped (Ok done) (λ e. absurd (cc e)) same last
-    by (Err (BadLine number)) same last = as_stopped (Err (BadLine number)) (λ e. absurd (cc e)) same last
-    by (Err NoMemory) same last = as_stopped (Err NoMemory) (λ e. absurd (cc e)) same last
+    by ended same last = as_stopped ended (λ e. absurd (cc e)) same last
 
--- where what a run printed could not be flushed, a beginning of a transcript is printed
-pub transcript-unflushed : (known before a after : Option (List ℕ)) (ended : Ended) → IfSome known (PrintsTranscript before a ended) → Keeps a after
+-- what a run printed stays printed where it is kept
+pub transcript-kept : (known before a after : Option (List ℕ)) (ended : Ended) → IfSome known (PrintsTranscript before a ended) → Keeps a after
+    → IfSome known (PrintsTranscript before after ended)
+transcript-kept None before a after ended p kept = tt
+transcript-kept (Some bytes) before a after (Err IoFailed) (end, printed, is, begun) kept = (end, printed, is, AppendsStart-kept before a after printed begun kept)
+transcript-kept (Some bytes) before a after ended p kept = (p.0, p.1, Appends-kept before a after p.0 p.2 kept)
+
+-- and where it could not be flushed, a beginning of a transcript is printed
+pub transcript-unflushed : (known before after : Option (List ℕ)) (ended : Ended) → IfSome known (PrintsTranscript before after ended)
     → IfSome known (PrintsTranscript before after (Err IoFailed))
-transcript-unflushed None before a after ended p kept = tt
-transcript-unflushed (Some bytes) before a after ended p kept = by ended p
-  where
-    begun : (ended : Ended) → (printed : List ℕ) × IsTranscript bytes printed ended × Appends before a printed → PrintsTranscript before after (Err IoFailed) bytes
-    begun ended (printed, is, appends) = (ended, printed, is, AppendsStart-all before after printed (Appends-kept before a after printed appends kept))
-
-    by : (ended : Ended) → PrintsTranscript before a ended bytes → PrintsTranscript before after (Err IoFailed) bytes
-    by (Err IoFailed) (end, printed, is, begun) = (end, printed, is, AppendsStart-kept before a after printed begun kept)
-    by (Ok done) p = begun (Ok done) p
-    by (Err (BadLine number)) p = begun (Err (BadLine number)) p
-    by (Err NoMemory) p = begun (Err NoMemory) p
+transcript-unflushed None before after ended p = tt
+transcript-unflushed (Some bytes) before after (Err IoFailed) p = p
+transcript-unflushed (Some bytes) before after ended p = (ended, p.0, p.1, AppendsStart-all before after p.0 p.2)

@@ -1,15 +1,19 @@
 -- How lines are obeyed, one after another.
-use Rattle.std.specs.Prelude.{◌≡◌, ℕ, ◌+◌, List, ◌++◌, Option, Err, length}
+use Rattle.std.specs.Prelude.{◌≡◌, ℕ, ◌+◌, List, ◌++◌, Option, Result, Err, length}
 use Rattle.std.specs.Io.KnownBytes.{Appends, Keeps}
-use Rattle.packrun_lines.specs.Answers.{Answers}
+use Rattle.rectangle_pack.specs.declared.session.command.Packed.{Packed}
+use Rattle.rectangle_pack.specs.declared.session.command.SessionError.{SessionError}
+use Rattle.rectangle_pack.specs.Promise.{PacksAsPromised}
+use Rattle.rectangle_pack.specs.Session.{packed_reply}
+use Rattle.packrun_lines.specs.Answers.{Answers, pack_text}
 use Rattle.packrun_lines.specs.Ends.{Ended}
 use Rattle.packrun_lines.specs.Input.{lines_of}
 use Rattle.packrun_lines.specs.Printing.{AppendsStart}
-use Rattle.packrun_lines.specs.Requests.{Request, Asks, IsBad}
-use Rattle.packrun_lines.specs.Store.{Store}
+use Rattle.packrun_lines.specs.Requests.{Request}
+use Rattle.packrun_lines.specs.Store.{Store, PacksBoxes, group_order, volume_rules}
 use Rattle.packrun_lines.specs.Transcripts.{AreAnswered, MayEnd}
-use Rattle.packrun_lines.specs.private.Printing.{Prints}
-use Rattle.packrun_lines.specs.declared.stop.Stop.TheVariants.{BadLine, NoMemory, IoFailed}
+use Rattle.packrun_lines.specs.private.Printing.{Prints, PrintsAnswer}
+use Rattle.packrun_lines.specs.declared.stop.Stop.TheVariants.{NoMemory, IoFailed}
 
 -- a request is answered, and its text printed, or a beginning of it where a write failed; or memory is refused, and
 -- nothing is printed
@@ -17,10 +21,13 @@ abbrev pub IsObeyed : Request → Store → Option (List ℕ) → Ended → Stor
 IsObeyed request old before (Err NoMemory) new after = Keeps before after
 IsObeyed request old before ended new after = (text : List ℕ) × Answers request old text new × Prints before after ended text
 
--- the line with this number is obeyed as what it asks for; or it is bad, and nothing is printed
-abbrev pub IsLineObeyed : ℕ → List ℕ → Store → Option (List ℕ) → Ended → Store → Option (List ℕ) → Type 0
-IsLineObeyed n line old before (Err (BadLine number)) new after = (number ≡ n) × IsBad line × Keeps before after
-IsLineObeyed n line old before ended new after = (request : Request) × Asks line request × IsObeyed request old before ended new after
+-- the boxes to place are packed, as is promised of packings, and the text of the answer is printed; or memory is refused,
+-- and nothing is printed
+pub record IsPackObeyed (old : Store) (before : Option (List ℕ)) (ended : Ended) (new : Store) (after : Option (List ℕ)) : Type 0 where
+  pub answer : Result Packed SessionError
+  pub packs : PacksBoxes old answer new
+  pub promised : PacksAsPromised group_order volume_rules old.boxes old.session (packed_reply answer) new.session
+  pub prints : PrintsAnswer before after ended (pack_text old answer new)
 
 -- the first lines of an input are answered on a store by this text; the others are left, of which the first has this number
 pub record AreFirstAnswered (input : List ℕ) (old : Store) (text : List ℕ) (new : Store) (left : List (List ℕ)) (number : ℕ) : Type 0 where

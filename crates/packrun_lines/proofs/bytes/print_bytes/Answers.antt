@@ -1,10 +1,6 @@
-use Rattle.std.proofs.Common.{[], refl, sym, ◌∙◌}
-use Rattle.std.proofs.KnownBytes.{Appends-nil}
+use Rattle.std.proofs.Common.{refl, sym, ◌∙◌}
 use Rattle.packrun_lines.proofs.lemmas.Printing.{printed-more, printed-all, printed-stopped}
 use Rattle.packrun_lines.proofs.bytes.print_bytes.Goals as goal
-
-pub loop-init : goal.loop-init
-loop-init g c = ([], refl, Appends-nil (g.W.Write.contents c.args.out.now))
 
 pub loop-preserved : goal.loop-preserved
 loop-preserved g c =

@@ -1,14 +1,10 @@
 use Rattle.std.proofs.Common.{[], ℕ, List, subst, take_all, append-nil}
 use Rattle.std.specs.Borrow.{Bor}
 use Rattle.std.specs.Io.KnownBytes.{Appends}
-use Rattle.std.proofs.KnownBytes.{Appends-nil}
 use Rattle.std.proofs.lemmas.List.{get_or_default}
 use Rattle.packrun_lines.specs.private.Printing.{Prints, bytes_of_parts}
 use Rattle.packrun_lines.proofs.lemmas.Printing.{Appends-item, Prints-item_stopped}
 use Rattle.packrun_lines.proofs.bytes.print_parts.Goals as goal
-
-pub loop-part-init : goal.loop-part-init
-loop-part-init g c = Appends-nil (g.W.Write.contents c.args.out.now)
 
 pub loop-part-preserved : goal.loop-part-preserved
 loop-part-preserved g c =

@@ -1,6 +1,6 @@
 use Rattle.std.proofs.Common.{◌≡◌, ◌==◌, ◌^◌, true, List, ◌∷◌, ℕ, Option, None, refl, sym, ap, subst, codes, get_or, drop, ◌∙◌}
 use Rattle.packrun_lines.specs.Requests.{Request}
-use Rattle.packrun_lines.specs.Requests.Request.{Nothing, Bin, Rect, Exclude, Pack, Release, Sections, Coalesce, Sweep, Stats}
+use Rattle.packrun_lines.specs.Requests.Request.{Nothing, Coalesce}
 use Rattle.packrun_lines.specs.declared.command.Command.{Command}
 use Rattle.packrun_lines.specs.private.Verbs.{verb_of, Take}
 use Rattle.packrun_lines.specs.private.Commands.{IsNextRequest, IsNumberBelow}
@@ -19,17 +19,10 @@ none r is old new never =
     says : (request : Request) (rest : List (List ℕ)) → (get_or (verb_of request) 0 0 == 99) ≡ true
         → ¬ Take old request rest
     says Nothing rest verb t = t
-    says (Bin name size) rest verb t = absurd (cc verb)
-    says (Rect id size groups) rest verb t = absurd (cc verb)
-    says (Exclude one other) rest verb t = absurd (cc verb)
-    says Pack rest verb t = absurd (cc verb)
-    says (Release number) rest verb t = absurd (cc verb)
-    says (Sections name) rest verb t = absurd (cc verb)
     says (Coalesce name idx start end) rest verb (i, lo, hi, e, a, b, d) =
         never name i lo hi rest e (IsNumberBelow-written (2 ^ 64) i idx a) (IsNumberBelow-written (2 ^ 64) lo start b)
         (IsNumberBelow-written (2 ^ 64) hi end d)
-    says (Sweep name) rest verb t = absurd (cc verb)
-    says (Stats name) rest verb t = absurd (cc verb)
+    says request rest verb t = absurd (cc verb)
 
 pub returns-in_err-idx : goal.returns-in_err-idx
 returns-in_err-idx c =

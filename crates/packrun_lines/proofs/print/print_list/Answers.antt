@@ -1,12 +1,8 @@
 use Rattle.std.proofs.Common.{codes}
-use Rattle.std.proofs.KnownBytes.{Appends-nil}
 use Rattle.packrun_lines.specs.Lines.{cuboid_text}
 use Rattle.packrun_lines.proofs.lemmas.Lines.{Prints-list, Prints-list_stopped}
 use Rattle.packrun_lines.proofs.lemmas.Printing.{Appends-item}
 use Rattle.packrun_lines.proofs.print.print_list.Goals as goal
-
-pub loop-section-init : goal.loop-section-init
-loop-section-init g c = Appends-nil (g.W.Write.contents c.args.out.now)
 
 pub loop-section-preserved : goal.loop-section-preserved
 loop-section-preserved g c =

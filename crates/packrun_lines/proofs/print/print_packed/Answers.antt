@@ -1,12 +1,8 @@
 use Rattle.std.proofs.Common.{codes}
-use Rattle.std.proofs.KnownBytes.{Appends-nil}
 use Rattle.packrun_lines.specs.Lines.{placement_text}
 use Rattle.packrun_lines.proofs.lemmas.Lines.{Prints-list, Prints-list_stopped}
 use Rattle.packrun_lines.proofs.lemmas.Printing.{Appends-item}
 use Rattle.packrun_lines.proofs.print.print_packed.Goals as goal
-
-pub loop-placement-init : goal.loop-placement-init
-loop-placement-init g c = Appends-nil (g.W.Write.contents c.args.out.now)
 
 pub loop-placement-preserved : goal.loop-placement-preserved
 loop-placement-preserved g c =

@@ -8,7 +8,7 @@ use Rattle.packrun_lines.specs.Answers.{size_of, groups_of}
 use Rattle.packrun_lines.specs.Requests as asks
 use Rattle.packrun_lines.specs.Store.{name_cmp, group_order, ChangesSession, ChangesBoxes, TakesBox}
 use Rattle.packrun_lines.specs.private.Commands.{words_left}
-use Rattle.packrun_lines.proofs.lemmas.Obeyed.{IsObeyed-replied, replied}
+use Rattle.packrun_lines.proofs.lemmas.Obeyed.{IsObeyed-replied, IsObeyed-packed, replied}
 use Rattle.packrun_lines.proofs.store.Store.obey.Goals as goal
 
 pub returns-in-Bin : goal.returns-in-Bin
@@ -52,3 +52,6 @@ returns-in-Sweep g c =
     rw c.in-Sweep.is
     (IsObeyed-replied (asks.Sweep c.in-Sweep.name.now) _ _ _ _ _ changes c.sweep.result _ _ c.as_bytes-in-Sweep.ensures.value
     (λ text h. h) (λ text is. replied changes _ _ _ _ text c.sweep.ensures.swept is) c.report-in-Sweep.ensures)
+
+pub returns-in-Pack : goal.returns-in-Pack
+returns-in-Pack g c = rw c.in-Pack.is (IsObeyed-packed _ _ _ _ _ c.pack.ensures.packed)

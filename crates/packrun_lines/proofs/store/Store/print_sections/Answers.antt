@@ -1,16 +1,11 @@
 use Rattle.std.proofs.Common.{List, ℕ, Some, None, subst, refl, ◌≡◌}
-use Rattle.std.proofs.KnownBytes.{Keeps-refl}
 use Rattle.rectangle_pack.specs.declared.session.command.SessionError.TheVariants.{UnknownBin}
 use Rattle.packrun_lines.specs.Lines.{sections_text, refusal_text}
 use Rattle.packrun_lines.specs.Requests as asks
 use Rattle.packrun_lines.specs.Store.{sections_in}
 use Rattle.packrun_lines.specs.private.Printing.{PrintsAnswer}
 use Rattle.packrun_lines.proofs.lemmas.Obeyed.{IsObeyed-found}
-use Rattle.packrun_lines.proofs.lemmas.Transcripts.{err_is}
 use Rattle.packrun_lines.proofs.store.Store.print_sections.Goals as goal
-
-pub returns-in_err-bin : goal.returns-in_err-bin
-returns-in_err-bin g c = rw (err_is _ _ c.from_residual.ensures.1) (Keeps-refl _)
 
 pub returns-in-Some : goal.returns-in-Some
 returns-in-Some g c =

@@ -1,5 +1,5 @@
-use Rattle.packrun_lines.specs.private.Spelling.{IsSpelling}
-use Rattle.packrun_lines.proofs.digits.put_number.Given as goal
+use Rattle.packrun_lines.proofs.lemmas.Decimals.{IsSpelling}
+use Rattle.packrun_lines.proofs.bytes.write_digits.Given as goal
 
 abbrev pub invariant-loop-rest : goal.invariant-loop-rest
 invariant-loop-rest l = IsSpelling l.number l.fn.line l.end l.rest l.line l.at

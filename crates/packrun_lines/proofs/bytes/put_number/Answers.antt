@@ -1,7 +1,7 @@
 use Rattle.std.proofs.Common.{◌<◌, ◌^◌, arith}
 use Rattle.std.proofs.lemmas.Fmt.{length-decimal-le_wide}
 use Rattle.packrun_lines.proofs.lemmas.Decimals.{IsSpelling-begun, IsSpelling-more}
-use Rattle.packrun_lines.proofs.digits.put_number.Goals as goal
+use Rattle.packrun_lines.proofs.bytes.put_number.Goals as goal
 
 pub loop-rest-init : goal.loop-rest-init
 loop-rest-init c =
@@ -9,14 +9,5 @@ loop-rest-init c =
     let short = length-decimal-le_wide 39 c.args.number (omega arith) (omega (arith, c.ranges.number.fits)) small in
     IsSpelling-begun c.args.number c.args.line.now c.args.end small (omega (arith, short, c.requires.room)) c.requires.within
 
-pub overflow_sub-at : goal.overflow_sub-at
-overflow_sub-at c = c.loop-rest.invariant.some
-
-pub bounds-line-at : goal.bounds-line-at
-bounds-line-at c = omega (arith, c.loop-rest.invariant.some, c.loop-rest.invariant.within)
-
 pub loop-rest-preserved : goal.loop-rest-preserved
 loop-rest-preserved c = IsSpelling-more _ _ _ c.loop-rest.rest c.loop-rest.line c.loop-rest.at (omega (arith, c.loop-rest-test.true)) c.loop-rest.invariant
-
-pub write_digits-requires-clause-room : goal.write_digits-requires-clause-room
-write_digits-requires-clause-room c = omega (arith, c.loop-rest.invariant.room, c.loop-rest.invariant.places)

@@ -1,7 +1,7 @@
 use Rattle.std.proofs.Common.{ℕ, ◌^◌, ◌-◌, ◌<◌, ◌≤◌, arith, length, length-set}
 use Rattle.std.specs.Fmt.{decimal}
 use Rattle.std.proofs.lemmas.Fmt.{length-decimal-le}
-use Rattle.packrun_lines.proofs.digits.put_side.Goals as goal
+use Rattle.packrun_lines.proofs.bytes.put_side.Goals as goal
 
 short : (n : ℕ) → n < 2 ^ 32 → length (decimal n) ≤ 10
 short n fits = length-decimal-le 10 n (omega arith) (omega (arith, fits)) (omega (arith, fits))

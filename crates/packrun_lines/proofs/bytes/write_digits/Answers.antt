@@ -1,28 +1,13 @@
 use Rattle.std.proofs.Common.{◌+◌, ◌++◌, length, drop, sym, ap, ◌∙◌, arith}
 use Rattle.std.proofs.lemmas.Fmt.{decimal_digit}
 use Rattle.packrun_lines.proofs.lemmas.Decimals.{written_before, IsSpelling-begun, IsSpelling-more}
-use Rattle.packrun_lines.proofs.digits.write_digits.Goals as goal
+use Rattle.packrun_lines.proofs.bytes.write_digits.Goals as goal
 
 pub loop-rest-init : goal.loop-rest-init
 loop-rest-init c = IsSpelling-begun c.args.number c.args.line.now c.args.end (omega (arith, c.ranges.number.fits)) c.requires.room c.requires.within
 
-pub overflow_sub-at : goal.overflow_sub-at
-overflow_sub-at c = c.loop-rest.invariant.some
-
-pub bounds-line-at : goal.bounds-line-at
-bounds-line-at c = omega (arith, c.loop-rest.invariant.some, c.loop-rest.invariant.within)
-
 pub loop-rest-preserved : goal.loop-rest-preserved
 loop-rest-preserved c = IsSpelling-more _ _ _ c.loop-rest.rest c.loop-rest.line c.loop-rest.at c.loop-rest-test.true c.loop-rest.invariant
-
-pub overflow_sub-line : goal.overflow_sub-line
-overflow_sub-line c = c.loop-rest.invariant.some
-
-pub bounds-line-at-2 : goal.bounds-line-at-2
-bounds-line-at-2 c = omega (arith, c.loop-rest.invariant.some, c.loop-rest.invariant.within)
-
-pub overflow_sub-result : goal.overflow_sub-result
-overflow_sub-result c = c.loop-rest.invariant.some
 
 pub returns-clause-start : goal.returns-clause-start
 returns-clause-start c =
