@@ -1,4 +1,3 @@
-use Rattle.rectangle_pack_sections.proofs.Std.{refl}
 use Rattle.rectangle_pack_bins.proofs.lemmas.bins.SoundBins.{IsSound-remove}
 use Rattle.rectangle_pack_bins.proofs.target_bin.TargetBin.remove_filled_section.Goals as goal
 
