@@ -6,6 +6,7 @@ use Rattle.rectangle_pack_sections.specs.Boxes.{Size}
 use Rattle.rectangle_pack_sections.specs.Bins.{Bin}
 use Rattle.rectangle_pack_lists.specs.Numbers.{saturated}
 use Rattle.rectangle_pack_packing.specs.Packing.{Rules, Members, DoesNotTake, IsStuckIn}
+use Rattle.rectangle_pack_packing.specs.declared.bins_at_work.summary_tree.Passed.{Passed}
 use Rattle.rectangle_pack_packing.specs.private.Excluded.{are_in}
 use Rattle.rectangle_pack_packing.proofs.lemmas.packing.Cases.{DoesNotTake-stuck}
 use Rattle.rectangle_pack_packing.proofs.lemmas.packing.Turns.{ArePassed, WerePassed}
@@ -32,10 +33,10 @@ ArePassedOver-held cmp excluded bins members first ids tests before after none i
 
 -- and where no bin is passed over, no test is added
 pub ArePassedOver-none : {B : Type 0} (cmp : B → B → Ordering) (excluded : List (Bor B)) (bins : List (B × Bin)) (members : List Size) (order : List (ℕ × B))
-    (from index tests before after : ℕ) → index ≡ from → tests ≡ 0 → after ≡ saturated (before + tests)
-    → ArePassedOver cmp excluded bins members (map (λ o. o.1) (take (index - from) (drop from order))) before after
-ArePassedOver-none cmp excluded bins members order from index tests before after stays none added =
-    let here : index - from ≡ 0 = omega arith in
+    (from : ℕ) (passed : Passed) (before after : ℕ) → passed ≡ record { index = from; tests = 0 } → after ≡ saturated (before + passed.tests)
+    → ArePassedOver cmp excluded bins members (map (λ o. o.1) (take (passed.index - from) (drop from order))) before after
+ArePassedOver-none cmp excluded bins members order from passed before after none added =
+    let here : passed.index - from ≡ 0 = rw none (omega arith) in
     rw here (record { counts = []; each = tt; added = rw none at added })
 
 module _ {Id B : Type 0} (rules : Rules Id B) (excluded : List (Bor B)) (bins : List (B × Bin)) (group : Members Id) where
