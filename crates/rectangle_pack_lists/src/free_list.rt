@@ -166,6 +166,10 @@ impl<A: Allocator + Copy> FreeList<A> {
         while self.steps() > kept {
             self.undo();
         }
+        if self.taken.is_empty() {
+            // A stuck trial leaves no room for notes behind in each bin that it was tried in.
+            self.taken = Vec::new(*self.taken.allocator());
+        }
     }
 
     // Undoes the last noted step. Takes no memory.

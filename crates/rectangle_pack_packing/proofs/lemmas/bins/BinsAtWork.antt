@@ -101,10 +101,6 @@ pub AreSummed-unknown : {B : Type 0} (cmp : B → B → Ordering) (order : List 
     → ((i : ℕ) → get_or summaries i None ≡ None) → AreSummed cmp order bins summaries
 AreSummed-unknown cmp order bins summaries none = λ i. rw (none i) tt
 
-IsSome-none : {X : Type 0} (found : Option X) → IsSome found → found ≡ None → ⊥
-IsSome-none None some none = absurd cc
-IsSome-none (Some x) some none = absurd cc
-
 weaker : {X : Type 0} {P Q : X → Type 0} (found : Option X) → ((x : X) → P x → Q x) → IfSome found P → IfSome found Q
 weaker None f p = tt
 weaker (Some x) f p = f x p
@@ -209,7 +205,7 @@ module _ {B : Type 0} {cmp : B → B → Ordering} (total : IsTotalOrder cmp) wh
       → Differ order → i < length order → o ≡ get_or order i o → get_or out i None ≡ None
       → checked_in cmp end order out (set_value (is_at (cmp o.1)) es w) ≡ set_value (is_at (cmp o.1)) (checked_in cmp end order out es) w
   checked_in-written end order out es i o w distinct within is none = checked_in-apart end o.1 order out es w (λ k p low at some.
-      differ order k i p o distinct (λ e. absurd (IsSome-none _ some (rw e none))) low within at is)
+      differ order k i p o distinct (λ e. let bad : false ≡ true = rw (e, none) at some in absurd cc) low within at is)
 
   -- a bin that stands in the list is written at its id
   pub checked_in-set : (end : End) (order : List (ℕ × B)) (out : List (Option AtWork)) (es : List (B × Bin)) (i : ℕ) (o : ℕ × B) (w : AtWork)
