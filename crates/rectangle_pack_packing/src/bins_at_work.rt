@@ -176,6 +176,21 @@ impl<'b, B: Ord, A: Allocator + Copy> BinsAtWork<'b, B, A> {
         Some(trial)
     }
 
+    // Makes room for the bin at this index among those that are out. Fails only when memory is
+    // refused.
+    fn make_room(&mut self, index: usize) -> Result<(), AllocError>
+        requires { index < length self.old.order }
+        ensures { self.new ≡ self.old }
+    {
+        let places = self.out.len();
+        if index >= self.out.capacity() {
+            // By an eighth, not by twice: a place is large, and few may be taken.
+            let more = index.saturating_sub(places).max(places / 8);
+            self.out.reserve_exact(more.saturating_add(1))?;
+        }
+        Ok(())
+    }
+
     // Checks the bin at this index out, where it is in its map. Fails only when memory is refused.
     fn check_out(&mut self, index: usize) -> Result<(), AllocError>
         requires { index < length self.old.order }
@@ -183,6 +198,7 @@ impl<'b, B: Ord, A: Allocator + Copy> BinsAtWork<'b, B, A> {
         ensures order { self.new.order ≡ self.old.order }
         ensures out { OnOk result (IsSome (slice_index_or self.new.out index None)) }
     {
+        self.make_room(index)?;
         while self.out.len() <= index {
             self.out.push(None)?;
         }
