@@ -1,9 +1,9 @@
--- Packings. Read Orders and Groups first; Frame carries whatever each step keeps through a packing, and is the main lemma. Whole and Refused say what
--- is promised of groups, FitTests bounds the tests, InOrder joins these; Laws has the laws. PassedOver says that bins that are passed over do not take a group, Ends what a packing answers.
+-- Packings. Read Orders and Groups first; Turns has one turn of each loop of a packing. Frame carries whatever each step keeps through a packing, and is
+-- the main lemma. Whole and Refused say what is promised of groups, FitTests bounds the tests, InOrder joins these; Laws has the laws. PassedOver says
+-- that bins that are passed over do not take a group, Ends what a packing answers.
 pub mod Orders
 pub mod Placed
 pub mod Excluded
-pub mod Cases
 pub mod Groups
 pub mod Turns
 pub mod FitTests

@@ -7,8 +7,7 @@ use Rattle.rectangle_pack_sections.specs.Bins.{Bin}
 use Rattle.rectangle_pack_lists.specs.Numbers.{saturated}
 use Rattle.rectangle_pack_packing.specs.Packing.{Rules, Members, DoesNotTake, IsStuckIn}
 use Rattle.rectangle_pack_packing.specs.private.Excluded.{are_in}
-use Rattle.rectangle_pack_packing.proofs.lemmas.packing.Cases.{DoesNotTake-stuck}
-use Rattle.rectangle_pack_packing.proofs.lemmas.packing.Turns.{ArePassed, WerePassed}
+use Rattle.rectangle_pack_packing.proofs.lemmas.packing.Turns.{ArePassed, WerePassed, DoesNotTake-stuck}
 use Rattle.rectangle_pack_sections.proofs.lemmas.util.Zips.{AllZip-append, AllZip-weaker}
 use Rattle.rectangle_pack_packing.specs.private.BinsAtWork.{BinHoldsNone, BinsHoldNone}
 use Rattle.rectangle_pack_packing.specs.private.PassedOver.{IsPassedOver, ArePassedOver}

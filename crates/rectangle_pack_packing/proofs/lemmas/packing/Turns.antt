@@ -1,14 +1,39 @@
 -- One turn of the loops over bins and over groups.
-use Rattle.rectangle_pack_sections.proofs.Std.{◌≡◌, ℕ, ◌+◌, ◌<◌, Bool, List, [], ◌∷◌, ◌++◌, length, take, get_or, map, sum, sym, ◌∙◌, ap}
+use Rattle.rectangle_pack_sections.proofs.Std.{◌≡◌, ℕ, ◌+◌, ◌<◌, Bool, true, false, List, [], ◌∷◌, ◌++◌, length, take, get_or, map, sum, refl, sym, ◌∙◌, ap, arith}
 use Rattle.rectangle_pack_sections.proofs.Std.{AllZip, Bor, Option, Result, subst, sum_by_push}
 use Rattle.rectangle_pack_sections.specs.Bins.{Bin}
 use Rattle.rectangle_pack_lists.specs.Numbers.{saturated}
 use Rattle.rectangle_pack_packing.specs.declared.answer.Placement.{Placement}
-use Rattle.rectangle_pack_packing.specs.Packing.{Rules, Members, Stage, DoesNotTake, IsPlaced, AreAllPlaced}
+use Rattle.rectangle_pack_packing.specs.Packing.{Rules, Members, Stage, IsStuckIn, DoesNotTake, IsPlaced, AreAllPlaced}
 use Rattle.rectangle_pack_packing.specs.private.OnItsWay.{OnItsWay, IsGroupTried}
-use Rattle.rectangle_pack_packing.proofs.lemmas.packing.Cases.{saturated-add, saturated-later}
 use Rattle.rectangle_pack_packing.proofs.lemmas.packing.Orders.{AllZip-next, map-take_more}
 use Rattle.rectangle_pack_packing.proofs.lemmas.packing.Groups.{AreAllPlaced-push}
+
+-- none added to a count that tests were added to before
+pub saturated-none : (before mid : ℕ) → mid ≡ saturated before → mid ≡ saturated (mid + 0)
+saturated-none before mid h = omega (arith, h)
+
+-- a count that tests were added to twice
+pub saturated-add : (t s u a b : ℕ) → s ≡ saturated (t + a) → u ≡ saturated (s + b) → u ≡ saturated (t + (a + b))
+saturated-add t s u a b first second = omega arith
+
+-- the same from none on
+pub saturated-sum : (s u a b : ℕ) → s ≡ saturated a → u ≡ saturated (s + b) → u ≡ saturated (a + b)
+saturated-sum s u a b first second = omega arith
+
+-- what is added later is added with them
+pub saturated-later : (t s a : ℕ) → s ≡ saturated (t + a) → (later : ℕ) → saturated (s + later) ≡ saturated (t + (a + later))
+saturated-later t s a first later = omega arith
+
+module _ {Id B : Type 0} (rules : Rules Id B) (excluded : B → Bool) (bins : List (B × Bin)) (group : Members Id) (id : B) where
+  -- a bin that is excluded does not take a group, and no test is made
+  pub DoesNotTake-excluded : excluded id ≡ true → DoesNotTake rules excluded bins group id 0
+  DoesNotTake-excluded e = rw e refl
+
+  -- nor does one in which its trial is stuck
+  pub DoesNotTake-stuck : (same : List (B × Bin)) (count : ℕ) → excluded id ≡ false → same ≡ bins → IsStuckIn rules same group id count
+      → DoesNotTake rules excluded bins group id count
+  DoesNotTake-stuck same count e alike stuck = rw (e, ← alike) stuck
 
 module _ {Id B : Type 0} (rules : Rules Id B) where
   -- the bins of a beginning of an order do not take a group; their tests were added

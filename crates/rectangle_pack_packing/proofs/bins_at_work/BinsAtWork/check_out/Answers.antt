@@ -14,10 +14,10 @@ use Rattle.rectangle_pack_packing.proofs.bins_at_work.BinsAtWork.check_out.Goals
 
 pub loop-self-init : goal.loop-self-init
 loop-self-init g c = record {
-  left = λ end. sym (left_of-in_use g.B.Ord.cmp end c.self.inside.order.now c.self.inside.out.items (bins_of c.self.inside.bins.entries)) ∙ ap (left_of end) c.self.view_is;
-  order = (parts c.self.view_is).2;
+  left = λ end. sym (left_of-in_use g.B.Ord.cmp end c.self.inside.order.now c.self.inside.out.items (bins_of c.self.inside.bins.entries)) ∙ ap (left_of end) (c.self.view_is ∙ c.make_room.ensures);
+  order = (parts (c.self.view_is ∙ c.make_room.ensures)).2;
   can = c.self.invariant.0;
-  summed = rw (← (parts c.self.view_is).0) c.self.invariant.1;
+  summed = rw (← (parts (c.self.view_is ∙ c.make_room.ensures)).0) c.self.invariant.1;
 }
 
 pub loop-self-preserved : goal.loop-self-preserved

@@ -1,12 +1,9 @@
-use Rattle.rectangle_pack_sections.proofs.Std.{◌+◌, ap, ◌∙◌, slice_range}
-use Rattle.rectangle_pack_packing.proofs.lemmas.packing.Cases.{begins_before, ends_within}
+use Rattle.rectangle_pack_sections.proofs.Std.{◌≡◌, ◌+◌, ◌≤◌, ℕ, ap, ◌∙◌, arith, slice_range}
 use Rattle.rectangle_pack_packing.proofs.order.OrderedGroup.sizes_in.Goals as goal
 
-pub slice_bounds-result-count : goal.slice_bounds-result-count
-slice_bounds-result-count g c = begins_before c.args.self.now.start c.len.result
-
-pub slice_bounds-result-start : goal.slice_bounds-result-start
-slice_bounds-result-start g c = begins_before c.args.self.now.start c.len.result
+-- a part ends where as many as there are do
+ends_within : (start long count all : ℕ) → long ≡ count → start + count ≤ all → start + long ≤ all
+ends_within start long count all same h = omega (arith, same, h)
 
 pub slice_bounds-result-end : goal.slice_bounds-result-end
 slice_bounds-result-end g c =

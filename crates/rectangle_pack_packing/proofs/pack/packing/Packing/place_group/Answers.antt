@@ -4,7 +4,7 @@ use Rattle.rectangle_pack_packing.specs.Packing.{Rules, rules_by, Members}
 use Rattle.rectangle_pack_packing.specs.private.Excluded.{are_in}
 use Rattle.rectangle_pack_packing.specs.private.OnItsWay.{OnItsWay}
 use Rattle.rectangle_pack_packing.proofs.lemmas.packing.Groups.{IsPlaced-at, IsDone-length, IsTriedIn-same}
-use Rattle.rectangle_pack_packing.proofs.lemmas.packing.Cases.{saturated-none, saturated-add, DoesNotTake-excluded, DoesNotTake-stuck}
+use Rattle.rectangle_pack_packing.proofs.lemmas.packing.Turns.{saturated-none, saturated-add, DoesNotTake-excluded, DoesNotTake-stuck}
 use Rattle.rectangle_pack_packing.proofs.lemmas.packing.Turns.{ArePassed, ArePassed-more}
 use Rattle.rectangle_pack_packing.proofs.lemmas.packing.PassedOver.{ArePassed-over}
 use Rattle.rectangle_pack_packing.proofs.pack.packing.Packing.place_group.Given.{Over}

@@ -5,9 +5,8 @@ use Rattle.rectangle_pack_packing.specs.private.Excluded.{are_in}
 use Rattle.rectangle_pack_packing.specs.private.OnItsWay.{names_of, IsGroupTried, OnItsWay}
 use Rattle.rectangle_pack_packing.specs.private.Orders.{members_of}
 use Rattle.rectangle_pack_packing.proofs.lemmas.packing.Excluded.{bars-none, bars-more, Named-more, Named-fresh}
-use Rattle.rectangle_pack_packing.proofs.lemmas.packing.Cases.{saturated-sum}
 use Rattle.rectangle_pack_packing.proofs.lemmas.packing.Groups.{StopsAfter-at, HasSizes-length}
-use Rattle.rectangle_pack_packing.proofs.lemmas.packing.Turns.{AreAllPlaced-turn, tried-alike}
+use Rattle.rectangle_pack_packing.proofs.lemmas.packing.Turns.{saturated-sum, AreAllPlaced-turn, tried-alike}
 use Rattle.rectangle_pack_packing.proofs.lemmas.packing.Orders.{map-split_at}
 use Rattle.rectangle_pack_packing.proofs.pack.packing.Packing.place_groups.Given.{Over}
 use Rattle.rectangle_pack_packing.proofs.pack.packing.Packing.place_groups.Goals.{After-place_group}
