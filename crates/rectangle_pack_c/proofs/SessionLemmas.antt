@@ -198,38 +198,25 @@ module _ (heuristic : ℕ) (boxes : List RpBox) (exclusions : List RpExclusion) 
 -- of a packing by volume alone that heuristic is chosen
 pub by_volume : (boxes : List RpBox) (exclusions : List RpExclusion) (chosen : ℕ) (old new : State ℕ ℕ) (reply : Reply)
     → PacksCollection 0 boxes exclusions chosen old reply new → PacksCollection 0 boxes exclusions 0 old reply new
-by_volume boxes exclusions chosen old new Done h = h
 by_volume boxes exclusions chosen old new (Packed numbers) (all, best, collected, number, packed, promised) =
     let is : best ≡ Volume = only_one packed.2.before best Volume packed.2.after packed.2.listed in
     (all, best, collected, rw is refl, packed, promised)
-by_volume boxes exclusions chosen old new (Refused NotEnoughBinSpace) h = h
 by_volume boxes exclusions chosen old new (Refused OutOfMemory) h = h
-by_volume boxes exclusions chosen old new (Refused DuplicateBin) h = h
-by_volume boxes exclusions chosen old new (Refused UnknownBin) h = h
-by_volume boxes exclusions chosen old new (Refused UnknownPlacement) h = h
-by_volume boxes exclusions chosen old new (Refused NumbersUsedUp) h = h
+by_volume boxes exclusions chosen old new reply h = h
 
 -- of a packing that is refused no heuristic is chosen
 pub none_chosen : (heuristic : ℕ) (boxes : List RpBox) (exclusions : List RpExclusion) (chosen other : ℕ) (old new : State ℕ ℕ) (error : SessionError)
     → PacksCollection heuristic boxes exclusions chosen old (Refused error) new → PacksCollection heuristic boxes exclusions other old (Refused error) new
-none_chosen heuristic boxes exclusions chosen other old new NotEnoughBinSpace h = h
 none_chosen heuristic boxes exclusions chosen other old new OutOfMemory h = h
-none_chosen heuristic boxes exclusions chosen other old new DuplicateBin h = h
-none_chosen heuristic boxes exclusions chosen other old new UnknownBin h = h
-none_chosen heuristic boxes exclusions chosen other old new UnknownPlacement h = h
-none_chosen heuristic boxes exclusions chosen other old new NumbersUsedUp h = h
+none_chosen heuristic boxes exclusions chosen other old new error h = h
 
 -- a packing that is refused, by cases on the error
 pub refused_so : (heuristic : ℕ) (boxes : List RpBox) (exclusions : List RpExclusion) (all : Collection ℕ ℕ) → IsCollected boxes exclusions all
     → (error : SessionError) (old new : State ℕ ℕ) → PacksBest group_order nat_cmp nat_cmp (asked heuristic) all old (Err error) new
     → PacksBestAsPromised group_order nat_cmp nat_cmp (asked heuristic) all old (Err error) new
     → PacksCollection heuristic boxes exclusions 0 old (Refused error) new
-refused_so heuristic boxes exclusions all collected NotEnoughBinSpace old new packs promise = (all, collected, packs, promise)
 refused_so heuristic boxes exclusions all collected OutOfMemory old new packs promise = packs.1
-refused_so heuristic boxes exclusions all collected DuplicateBin old new packs promise = (all, collected, packs, promise)
-refused_so heuristic boxes exclusions all collected UnknownBin old new packs promise = (all, collected, packs, promise)
-refused_so heuristic boxes exclusions all collected UnknownPlacement old new packs promise = (all, collected, packs, promise)
-refused_so heuristic boxes exclusions all collected NumbersUsedUp old new packs promise = (all, collected, packs, promise)
+refused_so heuristic boxes exclusions all collected error old new packs promise = (all, collected, packs, promise)
 
 -- a session changes by volume as the collection of boxes alone says
 pub changes_by_volume : (c : RpCollection) (boxes : List RpBox) (chosen : ℕ) (old : Option (State ℕ ℕ)) (status : ℕ) (new : Option (State ℕ ℕ))
@@ -250,12 +237,8 @@ changes_by_volume c boxes chosen old status new are none h = record {
 
 -- the status of want of memory is that of no other refusal
 pub is_memory : (error : SessionError) → reply_status (Refused error) ≡ 2 → error ≡ OutOfMemory
-is_memory NotEnoughBinSpace e = absurd (omega (arith, e))
 is_memory OutOfMemory e = refl
-is_memory DuplicateBin e = absurd (omega (arith, e))
-is_memory UnknownBin e = absurd (omega (arith, e))
-is_memory UnknownPlacement e = absurd (omega (arith, e))
-is_memory NumbersUsedUp e = absurd (omega (arith, e))
+is_memory error e = absurd (omega (arith, e))
 
 pub some_entry : (m n : ℕ) → (m ≡ 0 → n ≡ 0 → ⊥) → 0 < m + n
 some_entry zero zero none = absurd (none refl refl)

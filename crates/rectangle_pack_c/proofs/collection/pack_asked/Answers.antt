@@ -25,9 +25,3 @@ returns-in-None-clause-promise c =
     let best = c.pack_best-in-None in
     promise_asked _ (same_order _ _ _ (λ a b. refl) (λ a b. refl) (λ a b. refl) (λ a b. refl)) c.args.heuristic c.all.result
     (all_asked c.args.heuristic c.requires.known c.in-None.ensures ∙ sym c.all.ensures) c.args.rects.now c.args.session.now best.new.self best.result best.ensures.promise
-
-pub returns-in-Some-clause-no_groups : goal.returns-in-Some-clause-no_groups
-returns-in-Some-clause-no_groups c = c.pack_best.ensures.no_groups
-
-pub returns-in-None-clause-no_groups : goal.returns-in-None-clause-no_groups
-returns-in-None-clause-no_groups c = c.pack_best-in-None.ensures.no_groups
