@@ -7,10 +7,6 @@ use Rattle.rectangle_pack_sections.specs.Closures.{Answers}
 use Rattle.std.specs.Option.{option_map}
 use Rattle.rectangle_pack_lists.specs.Trials.{IsTrial, IsTrialAnswer}
 
--- a count that stays has not grown by more than this
-pub grows_not : (n counted most : ℕ) → n ≡ counted → n ≤ counted + most
-grows_not n counted most same = omega arith
-
 -- what a trial answers, by whether it is done
 pub IsTrial-answered : {A : Type 0} (may : Answers) (old : List Cuboid) (ms : List Size) (done : Bool) (locations : Vec Cuboid A)
     (answer : Option (Vec Cuboid A)) (last : List Cuboid) (n : ℕ)
