@@ -1,6 +1,6 @@
 -- Trials in one bin.
 use Rattle.std.specs.Result.{IsErr}
-use Rattle.rectangle_pack_sections.proofs.Std.{◌≡◌, ◌≤◌, ℕ, ◌+◌, List, arith, Bool, true, false, Option, Some, None, Result, Ok, Err, Vec, refl, if◌then◌else◌}
+use Rattle.rectangle_pack_sections.proofs.Std.{◌≡◌, ℕ, List, Bool, true, false, Option, Some, None, Result, Ok, Err, Vec, refl, if◌then◌else◌}
 use Rattle.rectangle_pack_sections.specs.Boxes.{Size, Cuboid}
 use Rattle.rectangle_pack_sections.specs.Bins.{Bin}
 use Rattle.rectangle_pack_sections.specs.Closures.{Answers}
