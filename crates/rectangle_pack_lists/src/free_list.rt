@@ -1,10 +1,10 @@
 //! A list of free sections while a packing lasts: what is done to it is noted, and can be undone.
-ghost use Rattle.std.specs.Prelude.{ℕ, ◌≡◌, ◌≤◌, ◌<◌, ◌+◌, ◌*◌, ◌^◌, ◌++◌, ◌∷◌, [], Some, List, length, map, take, drop, All, IfSome, MatchOption, OnOk};
+ghost use Rattle.std.specs.Prelude.{ℕ, ◌≡◌, ◌≤◌, ◌<◌, ◌+◌, ◌*◌, ◌^◌, [], Some, length, map, take, drop, All, IfSome, MatchOption, OnOk};
 ghost use Rattle.std.specs.Vec.{vec_capacity};
 ghost use Rattle.rectangle_pack_sections.specs.Boxes.{FitsU32};
 ghost use Rattle.rectangle_pack_lists.specs.Steps.{IsStep};
 ghost use Rattle.rectangle_pack_lists.specs.private.FreeLists.{now_of, left_of, places_in, notes_in, room_in, steps_in};
-ghost use Rattle.rectangle_pack_lists.specs.private.Notes.{Note, IsNoted, CanUndo, before_note, before_notes};
+ghost use Rattle.rectangle_pack_lists.specs.private.Notes.{IsNoted, CanUndo, before_notes};
 ghost use Rattle.rectangle_pack_lists.specs.private.Places.{sections_of, IsLastHolding, NoneHolds};
 ghost use Rattle.rectangle_pack_lists.specs.private.Summaries.{Bounds};
 
@@ -42,7 +42,7 @@ pub enum End {
 #[derive(Drop)]
 enum Sections<A: Allocator + Copy> {
     Plain(Vec<BinSection, A>),
-    // And its steps.
+    // With the steps that were made since the index was set.
     Gapped(GapList<A>, Steps<A>),
 }
 

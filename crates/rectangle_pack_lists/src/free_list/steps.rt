@@ -1,5 +1,5 @@
 //! The steps in a list with an index, in nine bytes each.
-ghost use Rattle.std.specs.Prelude.{ℕ, ◌≡◌, ◌≤◌, ◌<◌, ◌+◌, ◌^◌, ◌++◌, ◌∷◌, [], length, MatchOption, OnOk};
+ghost use Rattle.std.specs.Prelude.{◌≡◌, ◌≤◌, ◌<◌, ◌+◌, ◌^◌, ◌++◌, ◌∷◌, [], length, MatchOption, OnOk};
 
 use std::alloc::{AllocError, Allocator};
 use std::marker::Model;

@@ -1,15 +1,11 @@
 -- Trials in one bin.
 use Rattle.std.specs.Result.{IsErr}
-use Rattle.rectangle_pack_sections.proofs.Std.{◌≡◌, ◌≤◌, ℕ, ◌+◌, List, arith, Bool, true, false, Option, Some, None, Result, Ok, Err, Vec, refl, if◌then◌else◌}
+use Rattle.rectangle_pack_sections.proofs.Std.{◌≡◌, ℕ, List, Bool, true, false, Option, Some, None, Result, Ok, Err, Vec, refl, if◌then◌else◌}
 use Rattle.rectangle_pack_sections.specs.Boxes.{Size, Cuboid}
 use Rattle.rectangle_pack_sections.specs.Bins.{Bin}
 use Rattle.rectangle_pack_sections.specs.Closures.{Answers}
 use Rattle.std.specs.Option.{option_map}
 use Rattle.rectangle_pack_lists.specs.Trials.{IsTrial, IsTrialAnswer}
-
--- a count that stays has not grown by more than this
-pub grows_not : (n counted most : ℕ) → n ≡ counted → n ≤ counted + most
-grows_not n counted most same = omega arith
 
 -- what a trial answers, by whether it is done
 pub IsTrial-answered : {A : Type 0} (may : Answers) (old : List Cuboid) (ms : List Size) (done : Bool) (locations : Vec Cuboid A)

@@ -1,6 +1,6 @@
 -- Slots that are named under the numbers of corners.
 use Rattle.rectangle_pack_sections.proofs.Std.{arith, ℕ, zero, suc, ◌≡◌, ◌≢◌, ◌+◌, ◌-◌, ◌<◌, ◌≤◌, inl, inr, Bool, true, false, List, [], ◌∷◌, ◌++◌, length, get_or, set, Contains-append_left}
-use Rattle.rectangle_pack_sections.proofs.Std.{refl, ap, sym, subst, ◌∙◌, take, take-append_seam, Some, None, All, Contains, cases_lt, cases_eq, cases_order, length-set}
+use Rattle.rectangle_pack_sections.proofs.Std.{refl, ap, sym, subst, ◌∙◌, Some, None, All, Contains, cases_lt, cases_eq, cases_order, length-set}
 use Rattle.rectangle_pack_sections.proofs.Std.{get_or-set_same, get_or-set_other, get_or_default, nat_cmp, Result, Ok, Err, IfSome, IfNone, result_ok, ranked}
 use Rattle.rectangle_pack_sections.proofs.Std.{IsSearchInRange, IsBinarySearchResult, IsNonDecreasingBy, ordering_index, nat_tests}
 use Rattle.std.specs.List.{AllAdjacentBelow, IsAllAdjacentAnswer}
@@ -172,11 +172,3 @@ module _ (corner : Corner) (slots : List Cuboid) (names : List Name) (named : Ar
           ]
         ];
       }
-
--- names that are renamed in a slice, and then are the front of the list again
-pub IsRenamed-in_slice : (number given slot room : ℕ) (items slice names rest : List Name) → given ≡ number → slice ≡ items → length slice ≡ room → length names ≡ length slice
-    → IsRenamed given slot slice names → IsRenamed number slot items (take room (names ++ rest))
-IsRenamed-in_slice number given slot room items slice names rest is same long kept renamed =
-    let whole : take room (names ++ rest) ≡ names = ap (λ n. take n (names ++ rest)) (sym (kept ∙ long)) ∙ take-append_seam names rest in
-    subst (λ l. IsRenamed number slot items l) (sym whole)
-    (subst (λ l. IsRenamed number slot l names) same (subst (λ n. IsRenamed n slot slice names) is renamed))

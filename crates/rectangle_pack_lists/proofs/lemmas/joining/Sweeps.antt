@@ -134,8 +134,3 @@ IsJoined-within other same (Joins {old = old} {new = new} {idx = idx} {lo = lo} 
       least = λ k below near. first.least k below (IsNeighbour-within old idx lo other hi k (sym same) near);
     } in
     Joins at j here (subst (λ n. IsJoined (joined_index idx j) lo (n - 1) (joined_list old idx j) new) same next)
-
--- with no entry left the list stays
-pub IsSweptBelow-none : (n : ℕ) (sections : List Cuboid) → n ≤ 0 → IsSweptBelow n sections sections
-IsSweptBelow-none zero sections none = refl
-IsSweptBelow-none (suc n) sections none = absurd (omega arith)

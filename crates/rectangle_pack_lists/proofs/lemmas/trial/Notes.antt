@@ -171,9 +171,6 @@ IsSince-earlier before then now room since step = record {
   back = ap (before_note step.note) since.back ∙ step.back;
 }
 
-pub IsSince-longer : (then now : AtWork) → IsSince then now → length then.notes ≤ length now.notes
-IsSince-longer then now since = omega (arith, ap length since.noted, length-append then.notes since.made)
-
 -- so the sections before all noted steps stay
 pub IsSince-start : (then now : AtWork) → IsSince then now → start_of now ≡ start_of then
 IsSince-start then now since =

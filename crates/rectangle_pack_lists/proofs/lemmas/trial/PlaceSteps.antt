@@ -1,6 +1,6 @@
 -- Steps in lists with gaps.
 use Rattle.std.specs.List.{SameBelow}
-use Rattle.rectangle_pack_sections.proofs.Std.{◌+◌, ◌-◌, get_or_append_left, arith, length-append, ◌≡◌, ◌<◌, ℕ, List, [], ◌∷◌, ◌++◌, length, take, set, get_or, refl, ap, subst, ◌∙◌, Option, Some, None, IsSome, All}
+use Rattle.rectangle_pack_sections.proofs.Std.{◌+◌, ◌-◌, get_or_append_left, arith, length-append, ◌≡◌, ◌<◌, ℕ, List, [], ◌∷◌, ◌++◌, length, take, set, get_or, refl, ap, subst, ◌∙◌, Option, Some, None, All}
 use Rattle.rectangle_pack_sections.proofs.Std.{map, set-get_or, set-set, length-set, take-append_seam, get_or-append_seam, set-append_seam}
 use Rattle.rectangle_pack_sections.specs.Boxes.{Size, Cuboid, Holds, FitsU32}
 use Rattle.rectangle_pack_sections.specs.Choice.{IsAllowedCut}
@@ -43,9 +43,6 @@ module _ (places : List (Option Cuboid)) (size : Size) (i tests : ℕ) (at : IsL
   last-is : get_or places i None ≡ Some at.section
   last-is = ap (λ l. get_or l i None) at.splits ∙ rw at.place_is (get_or-append_seam at.before (Some at.section) at.after None)
 
-  pub last-full : IsSome (get_or places i None)
-  last-full = rw last-is refl
-
   -- a section that is read at the last place whose section holds a size is the one that splits the sections
   last-splits : (s : Cuboid) → get_or places i None ≡ Some s → (at.section ≡ s) × (sections_of places ≡ sections_of at.before ++ s ∷ sections_of at.after)
   last-splits s found =
@@ -56,10 +53,6 @@ module _ (places : List (Option Cuboid)) (size : Size) (i tests : ℕ) (at : IsL
   -- so it fits where all sections do
   pub last-fits : (s : Cuboid) → get_or places i None ≡ Some s → All FitsU32 (sections_of places) → FitsU32 s
   last-fits s found = All-middle FitsU32 (sections_of places) _ _ s (last-splits s found).1
-
-  -- and it holds the size
-  pub last-holds : (s : Cuboid) → get_or places i None ≡ Some s → Holds s size
-  last-holds s found = subst (λ (x : Cuboid). Holds x size) (last-splits s found).0 at.held
 
 -- a step that leaves a gap
 pub IsStep-in_places : (may : Answers) (places : List (Option Cuboid)) (member : Size) (i tests : ℕ) (s : Cuboid) (cut left : List Cuboid)

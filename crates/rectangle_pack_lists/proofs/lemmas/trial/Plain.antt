@@ -10,15 +10,11 @@ use Rattle.rectangle_pack_sections.specs.Closures.{Answers}
 use Rattle.rectangle_pack_lists.specs.Steps.{IsStep}
 use Rattle.rectangle_pack_lists.specs.declared.free_list.plain.Taken.{Taken}
 use Rattle.rectangle_pack_lists.specs.private.Notes.{plain_note, before_note, CanUndoOne}
+use Rattle.rectangle_pack_lists.proofs.lemmas.trial.PlaceSteps.{sections_of-full}
 use Rattle.rectangle_pack_lists.specs.private.Places.{sections_of, IsLastHolding, NoneHolds}
 
 abbrev full : List Cuboid → List (Option Cuboid)
 full xs = map (λ s. Some s) xs
-
--- its sections
-pub sections_of-plain : (xs : List Cuboid) → sections_of (full xs) ≡ xs
-sections_of-plain [] = refl
-sections_of-plain (x ∷ xs) = ap (λ l. x ∷ l) (sections_of-plain xs)
 
 no-gap : (xs : List Cuboid) → All (λ p. IsSome p) (full xs)
 no-gap xs = All-map (λ p. IsSome p) (λ s. Some s) xs (λ k d within. refl)
@@ -33,7 +29,7 @@ plain-again (Some s ∷ places) all = ap (λ l. Some s ∷ l) (plain-again place
 last-at : (d : Cuboid) (xs : List Cuboid) (size : Size) (i : ℕ) → i < length xs → HoldsAt (λ s. Holds s size) xs i
     → AllWithin (λ s. ¬ Holds s size) xs (i + 1) (length xs) → IsLastHolding (full xs) size i (length xs - i)
 last-at d xs size i within held newest =
-    let behind : sections_of (full (drop (suc i) xs)) ≡ drop (suc i) xs = sections_of-plain (drop (suc i) xs) in
+    let behind : sections_of (full (drop (suc i) xs)) ≡ drop (suc i) xs = sections_of-full (drop (suc i) xs) in
     let long = length-drop (suc i) xs in
     record {
       before = full (take i xs);
@@ -54,8 +50,8 @@ IsLastHolding-plain (x ∷ xs) size i within held newest = last-at x (x ∷ xs) 
 
 pub NoneHolds-plain : (xs : List Cuboid) (size : Size) → All (λ s. ¬ Holds s size) xs → NoneHolds (full xs) size (length xs)
 NoneHolds-plain xs size none = record {
-  none = subst (All (λ s. ¬ Holds s size)) (sym (sections_of-plain xs)) none;
-  tests_are = ap length (sym (sections_of-plain xs));
+  none = subst (All (λ s. ¬ Holds s size)) (sym (sections_of-full xs)) none;
+  tests_are = ap length (sym (sections_of-full xs));
 }
 
 module _ (xs : List Cuboid) (size : Size) (i tests : ℕ) (last : IsLastHolding (full xs) size i tests) where
@@ -77,7 +73,7 @@ module _ (xs : List Cuboid) (size : Size) (i tests : ℕ) (last : IsLastHolding 
       let rest : full (drop (i + 1) xs) ≡ last.after =
       sym (drop-map (λ s. Some s) (i + 1) xs) ∙ ap (drop (i + 1)) last.splits
       ∙ rw last.place_is (drop-append-add last.before (Some last.section ∷ last.after) 1) in
-      ap sections_of (sym rest) ∙ sections_of-plain (drop (i + 1) xs)
+      ap sections_of (sym rest) ∙ sections_of-full (drop (i + 1) xs)
 
   pub plain-holds : HoldsAt (λ s. Holds s size) xs i
   plain-holds d = subst (λ (s : Cuboid). Holds s size) (sym (plain-is d)) last.held
@@ -96,7 +92,7 @@ module _ (xs : List Cuboid) (size : Size) (i tests : ℕ) (last : IsLastHolding 
   -- a step of its sections is one of its places
   pub IsStep-plain : (may : Answers) (location : Cuboid) (next : List Cuboid) → IsStep may xs size location next (length xs - i)
       → IsStep may (sections_of (full xs)) size location (sections_of (full next)) tests
-  IsStep-plain may location next step = rw (sections_of-plain xs, sections_of-plain next, ← plain-tests) step
+  IsStep-plain may location next step = rw (sections_of-full xs, sections_of-full next, ← plain-tests) step
 
 full-insert : (xs : List Cuboid) (i : ℕ) (s : Cuboid) → insert (full xs) i (Some s) ≡ full (insert xs i s)
 full-insert xs i s =

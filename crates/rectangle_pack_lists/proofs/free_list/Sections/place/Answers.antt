@@ -6,7 +6,8 @@ use Rattle.rectangle_pack_lists.specs.private.Places.{sections_of}
 use Rattle.rectangle_pack_lists.proofs.lemmas.trial.Steps.{length-step}
 use Rattle.rectangle_pack_lists.proofs.lemmas.trial.Notes.{IsNoted-plain, IsNoted-gap, gaps-same}
 use Rattle.rectangle_pack_lists.proofs.lemmas.trial.Rooms.{counted-more}
-use Rattle.rectangle_pack_lists.proofs.lemmas.trial.Plain.{sections_of-plain, plain-holds, plain-newest, IsStep-plain, before_note-plain, CanUndoOne-plain}
+use Rattle.rectangle_pack_lists.proofs.lemmas.trial.PlaceSteps.{sections_of-full}
+use Rattle.rectangle_pack_lists.proofs.lemmas.trial.Plain.{plain-holds, plain-newest, IsStep-plain, before_note-plain, CanUndoOne-plain}
 use Rattle.rectangle_pack_lists.proofs.free_list.Sections.place.Goals as goal
 
 pub place_at-location-requires-clause-holds : goal.place_at-location-requires-clause-holds
@@ -19,7 +20,7 @@ place_at-location-requires-clause-newest g c =
 
 pub place_at-location-requires-clause-fits : goal.place_at-location-requires-clause-fits
 place_at-location-requires-clause-fits g c =
-    subst (All FitsU32) (ap (λ l. sections_of (places_in l)) c.in-Plain.is ∙ sections_of-plain c.in-Plain.sections.items) c.requires.fits
+    subst (All FitsU32) (ap (λ l. sections_of (places_in l)) c.in-Plain.is ∙ sections_of-full c.in-Plain.sections.items) c.requires.fits
 
 pub returns-in-Plain-clause-step : goal.returns-in-Plain-clause-step
 returns-in-Plain-clause-step g c tests at =

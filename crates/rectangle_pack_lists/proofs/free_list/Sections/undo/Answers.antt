@@ -1,13 +1,14 @@
 use Rattle.rectangle_pack_sections.proofs.Std.{◌∙◌, ap, sym, map}
 use Rattle.rectangle_pack_lists.specs.private.Notes.{plain_note, before_note}
 use Rattle.rectangle_pack_lists.proofs.lemmas.trial.Notes.{IsNoted-plain, IsNoted-gap, gaps-same, gap-last, plain-last}
-use Rattle.rectangle_pack_lists.proofs.lemmas.trial.Plain.{sections_of-plain, plain-undone, before_note-plain}
+use Rattle.rectangle_pack_lists.proofs.lemmas.trial.PlaceSteps.{sections_of-full}
+use Rattle.rectangle_pack_lists.proofs.lemmas.trial.Plain.{plain-undone, before_note-plain}
 use Rattle.rectangle_pack_lists.proofs.free_list.Sections.undo.Goals as goal
 
 pub undo_one-requires : goal.undo_one-requires
 undo_one-requires g c =
     let one = plain-last _ c.pop.new.self.items _ c.in-Some.note _ c.in-Some.ensures.items (rw c.in-Plain.is at c.requires.can_undo) in
-    let (same, place, room) = plain-undone _ _ c.in-Plain.sections.items c.in-Some.note (sym (sections_of-plain c.in-Plain.sections.items)) one in
+    let (same, place, room) = plain-undone _ _ c.in-Plain.sections.items c.in-Some.note (sym (sections_of-full c.in-Plain.sections.items)) one in
     record { place = place; room = room }
 
 pub returns-in-Some-clause-undone : goal.returns-in-Some-clause-undone
