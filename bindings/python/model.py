@@ -1,4 +1,4 @@
-"""The rule of packing, written anew from docs/COMMANDS.md and docs/API.md, slowly and without names: what the tests expect.
+"""The rule of packing, written anew from docs/COMMANDS.md and docs/CALLS.md, slowly and without names: what the tests expect.
 
 A section is (x, y, z, width, height, depth), a size (width, height, depth). A group is None for a box that is alone, or a
 number."""

@@ -1,43 +1,52 @@
-"""The page docs/API.md: every public item of the library by public module, with its signature, its doc comment, and the names of
-its clauses, each a link into docs/PROVED.md."""
+"""The page docs/CALLS.md: every public item of the library by its public module, with its signature, its doc comment, what is
+proved of it, and the tests that call it; then the program and the calls for C. A plain reader is a line."""
 from __future__ import annotations
 
 import re
-from collections.abc import Iterator
+from collections.abc import Iterable, Iterator
 
 from library import KINDS, Call, Library, Module
-from proved import Proved, slug
+from proved import Proved, is_plain
 from rattle import Item, indent_of
-from sources import ROOT, fenced
+from sources import CRATES, FOR_C, MAIN, ORDER, ROOT, fenced, files_of
+
+# Files of tests: what each is of (a public module, the program, the library for C, or laws), its name, and its text.
+Test = tuple[str, str, str]
+
+
+def tests() -> list[Test]:
+    found = []
+    for path in files_of([it for it in ORDER if it.startswith("tests_of_")], "src", ".rt") + files_of([FOR_C], "src/tests", ".rt"):
+        crate, _, *words = path.relative_to(CRATES).with_suffix("").parts
+        home = {f"tests_of_{MAIN}": MAIN, FOR_C: FOR_C}.get(crate, words[0])
+        found.append((home, "/".join(words), path.read_text()))
+    return found
 
 
 class Page:
     """The page, whose sections are texts; an empty one is left out."""
 
     def __init__(self, library: Library, proved: Proved) -> None:
-        self.library, self.places = library, proved.places
-        self.given: dict[str, int] = {}
-        self.anchors: dict[str, str] = {}
+        self.library, self.proved, self.tests = library, proved, tests()
         self.told = [text for module in library.modules for text in self.module(module) if text]
 
     def sections(self, _: str) -> str:
         return "\n\n".join(self.told)
 
-    def heading(self, level: int, text: str) -> str:
-        self.anchors[text] = slug(text, self.given)
-        return "#" * level + " " + text
-
-    def clauses(self, call: Call, before: str = "") -> Iterator[str]:
-        for kind in ("requires", "ensures"):
-            named = [clause.name for clause in call.clauses() if clause.kind == kind]
-            links = ", ".join(f"[`{it}`](PROVED.md#{self.places.get(call.name, ('', ''))[1]})" for it in named)
-            yield f"{before}{kind if before else kind.capitalize()}: {links}" if links else ""
+    def claims(self, names: str) -> str:
+        """What these functions claim, and their tests."""
+        calls = [self.proved.calls[it] for it in names.split(", ")]
+        return "\n\n".join(filter(None, (text for it in calls for text in (f"### `{it.name}`", *self.proved_of(it)))))
 
     def function(self, level: int, call: Call, kind: str = "") -> Iterator[str]:
-        yield self.heading(level, f"{kind} `{call.name}`".strip())
-        yield fenced([dedented(call.item.head)], "rust")
+        yield "#" * level + f" {kind} `{call.name}`".replace("  ", " ")
+        yield fenced([dedented(call.item.head)], "rust") if kind != "Law" else ""
         yield docs_of(call.item.docs)
-        yield from self.clauses(call)
+        yield from self.proved_of(call)
+
+    def proved_of(self, call: Call) -> Iterator[str]:
+        yield "\n".join(self.proved.claims(call))
+        yield tests_of(call, self.tests)
 
     def type(self, item: Item) -> Iterator[str]:
         parts = item.parts()
@@ -45,7 +54,7 @@ class Page:
         lines = [line for part in visible for line in part.lines if not line.lstrip().startswith("//")]
         lines += ["    /* private fields */"] if len(visible) < len(parts) else []
         start, close = (" {", ["}"]) if item.has_body else (";", [])
-        yield self.heading(3, f"{KINDS[item.kind]} `{item.name}`")
+        yield f"### {KINDS[item.kind]} `{item.name}`"
         yield fenced([*item.attributes, item.head + start, *lines, *close], "rust")
         yield docs_of(item.docs)
         yield "\n".join(line for part in visible for line in listed(part))
@@ -53,23 +62,21 @@ class Page:
         yield from self.methods(item.name)
 
     def impls(self, name: str) -> Iterator[str]:
-        names = ", ".join(f"`{it.name.removeprefix('impl ')}`" for it in self.library.impls[name])
-        yield f"Implements, beside what is derived: {names}" if names else ""
+        """The impls of traits that say what they do, with their claims."""
         for it in self.library.told_impls():
             trait, _, kind = it.name.removeprefix("impl ").partition(" for ")
             if re.match(rf"{name}\b", kind):
-                yield from self.clauses(it, f"`{trait}` ")
+                yield f"`{trait}`:\n\n" + "\n".join(self.proved.claims(it))
 
     def methods(self, name: str) -> Iterator[str]:
-        last = None
-        for impl, method in self.library.methods[name]:
-            if impl.head != last:
-                yield fenced([impl.head.rstrip(",") + " { .. }"], "rust")
-                last = impl.head
+        """The plain ones first, a line each, then the others."""
+        methods = [it for _, it in self.library.methods[name]]
+        yield "\n".join(f"- `{it.item.head.removeprefix('pub ')}`: {' '.join(it.item.docs)}" for it in methods if is_plain(it))
+        for method in (it for it in methods if not is_plain(it)):
             yield from self.function(4, method)
 
     def module(self, module: Module) -> Iterator[str]:
-        yield self.heading(2, f"`{module.words[-1]}`")
+        yield f"## `{module.words[-1]}`"
         yield docs_of(module.docs)
         if module.words == [ROOT]:
             others = {name for name, home in self.library.homes.items() if home != ROOT}
@@ -80,23 +87,19 @@ class Page:
             if it.kind in ("struct", "enum"):
                 yield from self.type(it.item)
             elif it.kind in ("fn", "law"):
-                yield from self.function(3, Call(it.path, it.item, it.item.name), KINDS[it.kind])
+                yield from self.function(3, self.proved.calls[it.item.name], KINDS[it.kind])
             else:
-                yield self.heading(3, f"{KINDS[it.kind]} `{it.item.name}`")
+                yield f"### {KINDS[it.kind]} `{it.item.name}`"
                 yield fenced([it.item.head + ";"], "rust")
                 yield docs_of(it.item.docs)
 
-    def contents(self, _: str) -> str:
-        """The modules, and what stands in each, as links."""
-        lines = ["| Module | Types | Functions | Laws |", "|---|---|---|---|"]
-        for module in self.library.modules:
-            cells: dict[str, list[str]] = {"type": [], "fn": [], "law": []}
-            for it in module.stands:
-                name = f"`{it.item.name}`"
-                cells[it.kind if it.kind in cells else "type"].append(f"[{name}](#{self.anchors[f'{KINDS[it.kind]} {name}']})")
-            name = f"`{module.words[-1]}`"
-            lines.append(f"| {' | '.join([f'[{name}](#{self.anchors[name]})', *map(', '.join, cells.values())])} |")
-        return "\n".join(lines)
+
+def tests_of(call: Call, among: Iterable[Test]) -> str:
+    """The files of tests that name the call, of those that are of its module."""
+    named = re.compile(rf"\b{call.name.rpartition('::')[2]}\b")
+    homes = {call.home, "laws"} if call.kind == "law" else {call.home}
+    found = [f"`{name}`" for home, name, text in among if home in homes and named.search(text)]
+    return f"Tests: {', '.join(found)}" if found else ""
 
 
 def docs_of(docs: list[str]) -> str:
