@@ -4,7 +4,7 @@ python3 tools/pages: makes docs/CALLS.md, docs/HEADLINE.md and docs/MAP.md anew.
 python3 tools/pages --check: prints a line for each fault. A made page is not what that makes; a definition, a clause, a crate or a
     module has no comment that says what it is; a page names what is not there; no claim names a wrong body that the gate tries on
     the program; an example of a doc comment or of the README is no test.
-python3 tools/pages CALL: the contract of a public call, as `pack_rects` or `Session::run`, and the definitions that it rests on,
+python3 tools/pages CALL: the contract of a public call, as `pack_rects`, `Session::run` or `run_buffered`, and the definitions that it rests on,
     in an order in which none is used before it is told."""
 from __future__ import annotations
 
@@ -42,7 +42,7 @@ def main() -> None:
             faults += [f"{shown(it.path)}: no public module exports the law `{it.item.name}`" for it in library.hidden_laws]
             faults += [*proved.faults(), *definitions.faults(), *modules.faults(), *examples.faults()]
             sys.exit("\n".join(f"pages: {it}" for it in faults) if faults else 0)
-        case [name] if name in headline.library.calls:
+        case [name] if name in headline.library.calls or name in headline.program.calls:
             print(Headline().of_call(name))
         case _:
             sys.exit(__doc__)
