@@ -1,10 +1,10 @@
 //! Packings by the best of several heuristics as data. All are into two bins of 4x4x1, 0 and 1.
 
-use rectangle_pack::Heuristic::{self, Height, Volume, Width};
-use rectangle_pack::PackedLocation;
-use tests_support::box_list;
-use tests_support::boxes::SizedBox;
-use tests_support::shapes::place;
+use crate::box_list;
+use crate::boxes::SizedBox;
+use crate::shapes::place;
+use rectangle_pack_sections::box_size_heuristics::Heuristic::{self, Height, Volume, Width};
+use rectangle_pack_sections::packed_location::PackedLocation;
 
 /// A placement: box, bin and place.
 pub type Placed = (u32, u32, [u32; 6]);

@@ -1,15 +1,16 @@
 //! `pack_rects_best`.
 
-use super::cases::{BIN, Case, Placed, cases, is_placed};
-use crate::pack::memory::{Run, takes_memory};
-use crate::pack::{add_bin, are_new};
+use super::add_bin;
+use super::memory::{Run, takes_memory};
 use rectangle_pack::{Heuristic, Placement, RectanglePackError, RectanglePackOk, pack_rects_best};
 use std::alloc::AllocError;
 use std::process::Abort;
 use tests_support::all_match;
+use tests_support::best_cases::{BIN, Case, Placed, cases, is_placed};
 use tests_support::boxes::{Bins, Rects, collect};
 use tests_support::each_request::End;
 use tests_support::refusing::Refusing;
+use tests_support::shapes::are_new;
 
 // What is answered.
 type Answer = Result<(Heuristic, RectanglePackOk<u32, u32, Refusing>), RectanglePackError>;

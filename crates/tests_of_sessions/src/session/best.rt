@@ -1,15 +1,14 @@
 //! `Session::pack_best`.
 
-use super::cases::{BIN, Case, Placed, cases, is_placed};
-use crate::pack::are_new;
-use crate::pack::memory::{Run, takes_memory};
-use rectangle_pack::{Heuristic, Outstanding, Packed, Session, SessionError};
+use super::TestSession;
+use rectangle_pack::{Heuristic, Outstanding, Packed, SessionError};
+use std::alloc::Global;
 use std::process::Abort;
+use tests_support::best_cases::{BIN, Case, Placed, cases, is_placed};
 use tests_support::boxes::{Rects, collect};
 use tests_support::each_request::End;
 use tests_support::refusing::Refusing;
-
-type TestSession = Session<u32, u32, Refusing>;
+use tests_support::shapes::are_new;
 
 // The number of the first placement.
 const FIRST: u64 = 5;
@@ -85,8 +84,8 @@ fn packs_into(rt: &impl Abort, session: &mut TestSession, rects: &Rects, case: &
     }
 }
 
-/// Packs the boxes of the case.
-pub fn packs(rt: &impl Abort, alloc: Refusing, case: &Case) -> End {
+// Packs the boxes of the case.
+fn packs(rt: &impl Abort, alloc: Refusing, case: &Case) -> End {
     let mut session = TestSession::new(alloc, FIRST);
     if add_bins(&mut session).is_err() {
         return End::Before;
@@ -97,31 +96,45 @@ pub fn packs(rt: &impl Abort, alloc: Refusing, case: &Case) -> End {
     }
 }
 
+// The end of a run for which `granted` requests are granted. It gives back all that it takes, and
+// is done where no request was refused, and only there.
+fn end_of(rt: &impl Abort, alloc: Global, granted: u64, case: &Case) -> End {
+    let refusing = Refusing::new(alloc, granted).expect(rt, "no memory for the counts");
+    let end = packs(rt, refusing, case);
+    assert!(rt; refusing.taken() == 0);
+    assert!(rt; (refusing.refused() == 0) == (end == End::Done));
+    end
+}
+
+// Whether some request is refused in the packing itself, where each is refused in turn, until none
+// is.
+fn takes_memory(rt: &impl Abort, alloc: Global, case: &Case) -> bool {
+    let mut refused = false;
+    for granted in 0..200u64 {
+        match end_of(rt, alloc, granted, case) {
+            End::Before => {}
+            End::Refused => refused = true,
+            End::Done => return refused,
+        }
+    }
+    assert!(rt; false, "requests were refused to the end");
+    refused
+}
+
 #[test]
 fn into_sessions(rt: HostRuntime) {
     for case in cases() {
-        let run = Run::BestInSession(case);
-        assert!(rt; takes_memory(&rt, rt.alloc(), run) == case.takes_memory);
+        assert!(rt; takes_memory(&rt, rt.alloc(), case) == case.takes_memory);
     }
 }
 
-// Numbers are looked at before anything is tried, and no memory is taken.
-fn refuses_past_the_end(rt: &impl Abort, alloc: Refusing, rects: &Rects) -> End {
-    let mut session = TestSession::new(alloc, u64::MAX);
-    let answer = session.pack_best(rects, &Heuristic::ALL);
-    assert!(rt; matches!(answer, Err(SessionError::NumbersUsedUp)));
-    End::Done
-}
-
-/// Packs one box where the numbers are used up.
-pub fn refuses_one_box(rt: &impl Abort, alloc: Refusing) -> End {
-    match collect(alloc, &[(1, [1, 1, 1], &[])], &[]) {
-        Ok(rects) => refuses_past_the_end(rt, alloc, &rects),
-        Err(_) => End::Before,
-    }
-}
-
+// Numbers are looked at before anything is tried, and no memory is asked for.
 #[test]
 fn past_the_last_number(rt: HostRuntime) {
-    assert!(rt; !takes_memory(&rt, rt.alloc(), Run::PastTheLastNumber));
+    let plenty = Refusing::new(rt.alloc(), 100).expect(&rt, "no memory for the counts");
+    let rects = collect(plenty, &[(1, [1, 1, 1], &[])], &[]).expect(&rt, "no memory");
+    let mut session = TestSession::new(plenty, u64::MAX);
+    let left = plenty.left();
+    let answer = session.pack_best(&rects, &Heuristic::ALL);
+    assert!(rt; matches!(answer, Err(SessionError::NumbersUsedUp)) && plenty.left() == left);
 }
