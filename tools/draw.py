@@ -402,7 +402,7 @@ def draw_cut():
 def draw_files():
     """Each picture's name, and what it has to be."""
     for name in TABLES:
-        lines = (ROOT / "crates" / name / "stdout").read_text().splitlines()
+        lines = (ROOT / "crates" / f"example_{name}" / "stdout").read_text().splitlines()
         yield PICTURES / f"{name}.svg", picture(read_table(lines))
     yield PICTURES / "cut.svg", draw_cut()
 
