@@ -7,12 +7,14 @@ Both get the same random inputs: bins, single boxes and groups, several packings
 each id (the crate names one place an id, the last). An input ends where both refuse. With `single` each input has one
 bin and single boxes.
 """
+from __future__ import annotations
+
 import random
 import subprocess
 import sys
 
 
-def lines(r, single):
+def lines(r: random.Random, single: bool) -> str:
     """The lines of one input: one bin and single boxes in a third of them, else several bins and groups."""
     single = r.random() < 0.33 or single
     deep = r.random() < 0.4
@@ -34,9 +36,10 @@ def lines(r, single):
     return "\n".join(out) + "\n"
 
 
-def answers(text, numbered):
+def answers(text: str, numbered: bool) -> list[dict[str, list[str]] | None]:
     """What each packing answered: where it put each id, or None where it was refused."""
-    found, places = [], {}
+    found: list[dict[str, list[str]] | None] = []
+    places: dict[str, list[str]] = {}
     for line in text.splitlines():
         words = line.split()
         if words[0] == "packed":
@@ -50,11 +53,11 @@ def answers(text, numbered):
     return found
 
 
-def run(program, text):
+def run(program: str, text: str) -> str:
     return subprocess.run([program], input=text, capture_output=True, text=True, check=True).stdout
 
 
-def main():
+def main() -> None:
     rust, packrun = sys.argv[1:3]
     inputs = int(sys.argv[3]) if len(sys.argv) > 3 else 1000
     seed = sys.argv[4] if len(sys.argv) > 4 else "1"

@@ -1,20 +1,15 @@
-/* Other packers, to measure the library against: cc -O3 -march=x86-64-v2 fill_by_hand.c
-   With -DWITH_STB (and -lm) also stb_rect_pack; the header is that of Debian's libstb-dev.
+/* Other packers, to measure the library against, in two dimensions: cc -O3 -march=x86-64-v2 fill_by_hand.c -lm
 
-Reads lines as fill.rt.in does, in two dimensions: `rect W H D` is a box more; `square S` asks for the first side from S on at
-which a square takes all boxes; `pages W H` for how many pages they go onto. Each question is answered by a line of numbers, one
-for each packer: MaxRects, shelves and, if it is there, stb_rect_pack. The boxes are then forgotten. Sides are tried one by one,
-to four times the given one; the answer is 0 where none of them will do. Nothing is checked: all lines are good, each box goes
-onto an empty page, and want of memory ends the run. */
+Reads these lines of crates/session_lines: `box W H`, `first 0 0 S` and `pages W H`. Answers have a number for each packer: MaxRects,
+shelves and stb_rect_pack, whose header is that of Debian's libstb-dev. Nothing is checked: all lines are good, each box goes onto
+an empty page, and want of memory ends the run. */
 #include <stddef.h>
 #include <stdio.h>
 #include <stdlib.h>
 #include <string.h>
 
-#ifdef WITH_STB
 #define STB_RECT_PACK_IMPLEMENTATION
 #include <stb/stb_rect_pack.h>
-#endif
 
 struct box {
     int width, height;
@@ -217,7 +212,6 @@ static size_t shelves(struct box *boxes, size_t count, struct area page, size_t 
     return first_fit(place_on_shelf, boxes, count, page, most);
 }
 
-#ifdef WITH_STB
 /* ---- stb_rect_pack, as it is by default: page after page, each given what the one before left. ---- */
 
 /* Leaves the boxes that were not packed, and answers how many they are. */
@@ -249,15 +243,8 @@ static size_t stb(struct box *boxes, size_t count, struct area page, size_t most
     free(nodes);
     return rest > 0 ? 0 : used;
 }
-#endif
 
-static packer *const PACKERS[] = {
-    max_rects,
-    shelves,
-#ifdef WITH_STB
-    stb,
-#endif
-};
+static packer *const PACKERS[] = {max_rects, shelves, stb};
 
 /* The first side from the least one to four times that at which a square takes all boxes, or 0. */
 static size_t first_side(packer *pack, struct box *boxes, size_t count, int least)
@@ -268,13 +255,12 @@ static size_t first_side(packer *pack, struct box *boxes, size_t count, int leas
     return 0;
 }
 
-/* Answers a line that begins with a `p` as pages, any other one as squares. */
-static void answer(char asked, struct box *boxes, size_t count, int width, int height)
+/* Answers a line that begins with a `p` as pages, any other one as squares from this side on. */
+static void answer(char asked, struct box *boxes, size_t count, struct area page, int side)
 {
     for (size_t n = 0; n < sizeof PACKERS / sizeof *PACKERS; n++) {
-        struct area page = {0, 0, width, height};
         size_t number =
-            asked == 'p' ? PACKERS[n](boxes, count, page, count) : first_side(PACKERS[n], boxes, count, width);
+            asked == 'p' ? PACKERS[n](boxes, count, page, count) : first_side(PACKERS[n], boxes, count, side);
         printf("%zu ", number);
     }
     putchar('\n');
@@ -286,10 +272,10 @@ int main(void)
     size_t count = 0, room = 0;
     char line[100], word[20];
     while (fgets(line, sizeof line, stdin) != NULL) {
-        int width = 0, height = 0;
-        sscanf(line, "%19s %d %d", word, &width, &height);
-        if (word[0] != 'r') {
-            answer(word[0], boxes, count, width, height);
+        int width = 0, height = 0, side = 0;
+        sscanf(line, "%19s %d %d %d", word, &width, &height, &side);
+        if (word[0] != 'b') {
+            answer(word[0], boxes, count, (struct area){0, 0, width, height}, side);
             count = 0;
             continue;
         }

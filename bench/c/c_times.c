@@ -1,20 +1,17 @@
-/* Times of the call for C, in process, and beside it of stb_rect_pack where the machine has it: another rule, a skyline in
-   two dimensions without groups, so its placements are other ones.
+/* Times of the call for C, in process, and beside it of stb_rect_pack, whose header is that of Debian's libstb-dev: another rule,
+   a skyline in two dimensions without groups, so its placements are other ones.
 
-   cc -O2 -Ibuild tools/c_times.c build/librectangle_pack.a -o c_times && ./c_times
-   With stb_rect_pack, Debian's libstb-dev: the same with -DWITH_STB -lm.
+   cc -O3 -Ibuild c_times.c build/librectangle_pack.a -lm
 
-   For each count the best of seven calls: boxes 4 to 64 a side into one bin 8192 x 8192, and 64,000 into one 16384 x 16384. */
+   For each count of boxes, 4 to 64 a side, a line: the count, and the best of seven calls, in seconds. */
 #include <stdio.h>
 #include <stdlib.h>
 #include <time.h>
 
 #include "rectangle_pack.h"
 
-#ifdef WITH_STB
 #define STB_RECT_PACK_IMPLEMENTATION
 #include <stb/stb_rect_pack.h>
-#endif
 
 enum { RUNS = 7, LEAST = 4, MOST = 64 };
 
@@ -56,7 +53,6 @@ static double call(uint32_t sheet, const rp_box *boxes, size_t count)
     return status == RP_DONE ? took : -1;
 }
 
-#ifdef WITH_STB
 static double stb(uint32_t sheet, const rp_box *boxes, size_t count)
 {
     stbrp_rect *rects = given(count, sizeof *rects);
@@ -74,7 +70,6 @@ static double stb(uint32_t sheet, const rp_box *boxes, size_t count)
     free(rects);
     return all ? took : -1;
 }
-#endif
 
 static double best(double (*run)(uint32_t, const rp_box *, size_t), uint32_t sheet, const rp_box *boxes, size_t count)
 {
@@ -91,21 +86,17 @@ static double best(double (*run)(uint32_t, const rp_box *, size_t), uint32_t she
 
 int main(void)
 {
-    static const size_t counts[] = {1000, 16000, 32000, 64000};
+    static const size_t counts[] = {1000, 4000, 16000, 32000, 64000, 128000, 256000};
     for (size_t k = 0; k < sizeof counts / sizeof *counts; k++) {
         size_t count = counts[k];
-        uint32_t sheet = count > 32000 ? 16384 : 8192;
+        uint32_t sheet = count > 128000 ? 32768 : count > 64000 ? 24576 : count > 32000 ? 16384 : 8192;
         rp_box *boxes = given(count, sizeof *boxes);
         for (size_t i = 0; i < count; i++) {
             boxes[i].width = side();
             boxes[i].height = side();
             boxes[i].depth = 1;
         }
-        printf("%zu boxes: %.4f s", count, best(call, sheet, boxes, count));
-#ifdef WITH_STB
-        printf(", stb_rect_pack %.4f s", best(stb, sheet, boxes, count));
-#endif
-        printf("\n");
+        printf("%zu %.4f %.4f\n", count, best(call, sheet, boxes, count), best(stb, sheet, boxes, count));
         free(boxes);
     }
     return 0;
