@@ -3,6 +3,7 @@ from __future__ import annotations
 
 import json
 import pathlib
+import shlex
 import subprocess
 import tempfile
 from collections.abc import Iterable, Sequence
@@ -38,8 +39,9 @@ def seconds(programs: Sequence[str], lines: Iterable[str], runs: int = RUNS) -> 
     with tempfile.TemporaryDirectory() as room:
         given, said = pathlib.Path(room, "lines"), pathlib.Path(room, "said.json")
         given.write_text("".join(f"{line}\n" for line in lines))
-        words = ["hyperfine", "--shell=sh", "--style=none", "--warmup=1", f"--runs={runs}", f"--export-json={said}"]
-        subprocess.run([*words, *(f"exec '{it}' <'{given}'" for it in programs)], check=True)
+        words = ["hyperfine", "--shell=none", "--style=none", "--warmup=1", f"--runs={runs}", f"--export-json={said}"]
+        on = compiled("on.c", "-static")
+        subprocess.run([*words, *(shlex.join([on, str(given), it]) for it in programs)], check=True)
         return [float(it["min"]) for it in json.loads(said.read_text())["results"]]
 
 
