@@ -1,12 +1,9 @@
 #!/usr/bin/env python3
-"""draw.py: draws what is packed, as one SVG on standard output.
+"""draw.py: draws what is packed, as SVG.
 
-    tools/draw.py COMMANDS            runs ./packrun on the commands in this file, and draws the end
-    tools/draw.py COMMANDS ANSWERS    the same, with the answers that packrun gave
-    tools/draw.py --table FILE        draws the output of an example program; - is standard input
-    tools/draw.py --cut               draws one cut, with origin and axes
-    tools/draw.py --all               draws the pictures of docs/pictures anew
-    tools/draw.py --check             whether each picture in docs/pictures is what this tool draws
+    tools/draw.py --table FILE        draws the output of an example program, on standard output; - is standard input
+    tools/draw.py --all               draws the pictures of docs/pictures anew: of the example programs, and of one cut
+    tools/draw.py --check             whether each of them is what this tool draws
 
 A table has packrun's lines as its rows: `bin NAME W H D`, `N ID NAME X Y Z W H D` with the group of the
 box behind it, and `free NAME X Y Z W H D`. A line `== TITLE` begins a drawing of its own: the bins as the
@@ -15,7 +12,6 @@ rows after it say. All other lines are for people, and are passed over.
 import argparse
 import math
 import pathlib
-import subprocess
 import sys
 from collections import namedtuple
 from html import escape
@@ -52,57 +48,8 @@ class Drawing:
         self.placed[name][number] = placement
         self.free.pop(name, None)
 
-    def release(self, number):
-        for name, placements in self.placed.items():
-            if placements.pop(number, None):
-                self.free.pop(name, None)
-
-
 def numbers(words):
     return [int(word) for word in words]
-
-
-def read_answers(commands, answers):
-    """The drawing that packrun's commands and answers leave."""
-    try:
-        return [obeyed(commands, iter(answers))]
-    except StopIteration:
-        sys.exit(f"draw.py: the run ended before its commands did: {answers[-1] if answers else 'no answer'}")
-
-
-def obeyed(commands, lines):
-    """The drawing that the commands leave, each with the next lines as its answer."""
-    drawing, groups = Drawing(), {}
-    for command in commands:
-        verb, *words = command.split() or [""]
-        if verb == "bin" and next(lines) == "ok":
-            drawing.add_bin(words[0], numbers(words[1:4]))
-        elif verb == "rect":
-            next(lines)
-            groups[words[0]] = words[4] if len(words) > 4 else None
-        elif verb == "pack":
-            for line in lines:
-                row = line.split()
-                if row[0] in ("packed", "refused:"):
-                    break
-                drawing.place(int(row[0]), row[2], Placement(row[1], Box(*numbers(row[3:9])), groups.get(row[1])))
-        elif verb == "release" and next(lines) == "ok":
-            drawing.release(int(words[0]))
-        elif verb == "sections":
-            sections = []
-            for line in lines:
-                row = line.split()
-                if row[0] in ("sections", "refused:"):
-                    break
-                sections.append(Box(*numbers(row)))
-            if row[0] == "sections":
-                drawing.free[words[0]] = sections
-        elif verb in ("coalesce", "sweep"):
-            next(lines)
-            drawing.free.pop(words[0], None)
-        elif verb in ("exclude", "stats"):
-            next(lines)
-    return drawing
 
 
 def is_numbers(words, count):
@@ -417,32 +364,18 @@ def check():
 
 def main():
     parser = argparse.ArgumentParser(description=__doc__, formatter_class=argparse.RawDescriptionHelpFormatter)
-    parser.add_argument("files", nargs="*", type=pathlib.Path, metavar="FILE")
-    parser.add_argument("--table", action="store_true", help="the file is an example program's output")
-    parser.add_argument("--cut", action="store_true", help="draw one cut")
-    parser.add_argument("--all", action="store_true", help="write all pictures of docs/pictures")
-    parser.add_argument("--check", action="store_true", help="whether these are up to date")
+    wanted = parser.add_mutually_exclusive_group(required=True)
+    wanted.add_argument("--table", type=argparse.FileType(), metavar="FILE", help="draw the output of an example program")
+    wanted.add_argument("--all", action="store_true", help="write all pictures of docs/pictures")
+    wanted.add_argument("--check", action="store_true", help="whether these are up to date")
     given = parser.parse_args()
     if given.check:
         return check()
-    if given.all:
-        PICTURES.mkdir(exist_ok=True)
-        for path, wanted in draw_files():
-            path.write_text(wanted)
-    elif given.cut:
-        sys.stdout.write(draw_cut())
-    elif given.table and len(given.files) == 1:
-        table = sys.stdin.read() if str(given.files[0]) == "-" else given.files[0].read_text()
-        sys.stdout.write(picture(read_table(table.splitlines())))
-    elif not given.table and len(given.files) in (1, 2):
-        commands = given.files[0].read_text()
-        if len(given.files) == 2:
-            answers = given.files[1].read_text()
-        else:
-            answers = subprocess.run([ROOT / "packrun"], input=commands, stdout=subprocess.PIPE, text=True).stdout
-        sys.stdout.write(picture(read_answers(commands.splitlines(), answers.splitlines())))
+    if given.table:
+        sys.stdout.write(picture(read_table(given.table.read().splitlines())))
     else:
-        parser.error("give the commands, and the answers if there are some, or --table and a program's output")
+        for path, text in draw_files():
+            path.write_text(text)
     return 0
 
 
