@@ -258,8 +258,8 @@ class Build:
 
     def tell(self, names: collections.abc.Iterable[str]) -> None:
         """Tells how far the proofs of these crates are, of those that have begun."""
-        line = "; ".join(self.told(name) for name in names if name in self.began)
-        self.say(line[: shutil.get_terminal_size().columns - 1] if self.is_terminal else f"{line}\n")
+        if line := "; ".join(self.told(name) for name in names if name in self.began):
+            self.say(line[: shutil.get_terminal_size().columns - 1] if self.is_terminal else f"{line}\n")
 
     def told_by_ci(self, crate: Crate, began: float, said: str) -> str | None:
         """What `rt ci`, which began then, said of a crate that it proved as it stands, where it left what it made."""

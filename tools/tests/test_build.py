@@ -39,6 +39,34 @@ class Shares(unittest.TestCase):
         self.assertEqual(self.shares(4, ["middle"], ["right"]), {"middle": 4})
 
 
+class Steps(unittest.TestCase):
+    """The commands for a library, and for a program over it."""
+
+    def setUp(self) -> None:
+        folder = tempfile.TemporaryDirectory()
+        self.addCleanup(folder.cleanup)
+        top = pathlib.Path(folder.name)
+        (top / "crates/program/src").mkdir(parents=True)
+        (top / "crates/program/src/main.rt").touch()
+        self.its = build.Build(build.crates_of("low:\nprogram: low\n", top), top)
+
+    def steps(self, name: str) -> list[list[str]]:
+        return [*self.its.steps(self.its.crates[name], 4)]
+
+    def test_a_library_is_proved_as_it_is_built(self) -> None:
+        ((program, verb, *words),) = self.steps("low")
+        self.assertEqual((program, verb), ("rattle", "build"))
+        self.assertIn("--statements", words)
+
+    def test_what_a_check_proved_of_a_program_is_built_and_linked(self) -> None:
+        check, compiles, links = self.steps("program")
+        self.assertEqual((check[1], compiles[1]), ("check", "build"))
+        self.assertIn("--progress", check)
+        self.assertEqual(check[check.index("-o") + 1], compiles[compiles.index("--crate-checked") + 1])
+        self.assertIn(compiles[compiles.index("-o") + 1], links)
+        self.assertIn(f"low={self.its.crates['low'].made}", check)
+
+
 class HowFar(unittest.TestCase):
     def test_a_log_has_counts(self) -> None:
         self.assertEqual(build.counts_of(LOG), (5, 8))
