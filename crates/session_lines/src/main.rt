@@ -1,13 +1,13 @@
-//! The library by lines, for what `packrun` has no line for: the library for C is compared with it,
-//! and heuristics and cutting plans are measured by it.
+//! The library by lines. It has what `packrun` has no line for, so that the library for C can be
+//! compared with it, and heuristics and cutting plans can be measured.
 //!
-//! Reads lines from standard input. Three of them tell of the next packing:
+//! It reads lines from standard input. Three of them tell of the next packing:
 //!
 //! - `box W H D GROUP` is a box more, in no group where that is 0;
 //! - `member I GROUP` puts box I into one group more, as a box behind all of those;
 //! - `exclude A B` keeps two groups apart.
 //!
-//! Each of these is answered by a line:
+//! Each of these has a line as its answer:
 //!
 //! - `bin W H D` adds a bin, under the ids 0, 1, 2 and so on: its id;
 //! - `pack N` packs by the heuristic N of `Heuristic::ALL`, or by the best of all where there is no
@@ -15,10 +15,10 @@
 //! - `release N`, `join BIN I LO HI`, `sweep BIN`: 1 where it is done, else 0;
 //! - `placed`: the number, index, bin and corner of each outstanding placement;
 //! - `plan BIN`: axis and place of each cut, 0 for x, and 3 0 for each leaf; or -1 where there is no
-//!   plan.
-//! - `time BIN`: the microseconds that the plan of the bin takes, the best of five;
-//! - `first W H D`, `pages W H`, `times S N`: what `measures.rt` says of the boxes, by each heuristic
-//!   and by the best of all, and forgets them.
+//!   plan;
+//! - `time BIN`: how many microseconds the plan of the bin takes, the best of five;
+//! - `first W H D`, `pages W H` and `times S N` measure the boxes, as `measures.rt` says, and forget
+//!   them: a number for each heuristic, and one for the best of all.
 //!
 //! A number that is not there is 0. Other lines are passed over.
 #![tactic(auto)]
@@ -88,7 +88,7 @@ fn numbers(line: &str) -> [u32; 4] {
     numbers
 }
 
-// Obeys a line that changes the session: its answer, or `None` where it is another line.
+// Obeys a line that changes the session. Gives its answer, or `None` where it is another line.
 fn change(session: &mut Bins, word: &str, numbers: [u32; 4]) -> io::Result<Option<u32>> {
     let [a, b, c, d] = numbers;
     match word {
@@ -125,7 +125,7 @@ fn look(rt: &HostRuntime, session: &Bins, word: &str, bin: u32) -> io::Result<()
     }
 }
 
-// Obeys a line that ends the boxes: whether it is one.
+// Obeys a line that packs or measures the boxes. Tells whether it is one.
 fn end(
     rt: &HostRuntime,
     session: &mut Bins,

@@ -1,4 +1,4 @@
-//! Boxes of the next packing, and the packing by a heuristic.
+//! The boxes of the next packing, and the packing by a heuristic.
 
 ghost use Rattle.std.specs.Prelude.{◌<◌, IfOk, vec_len};
 ghost use Rattle.std.specs.Option.{ForSome};
@@ -42,7 +42,7 @@ fn exclude(boxes: &mut Boxes, one: u32, other: u32) -> io::Result<()> {
     Ok(())
 }
 
-// Obeys a line that tells of the next packing: whether it is one.
+// Obeys a line that tells of the next packing. Tells whether it is one.
 pub fn add(alloc: Global, boxes: &mut Boxes, word: &str, numbers: [u32; 4]) -> io::Result<bool> {
     let [a, b, c, d] = numbers;
     match word {
@@ -57,8 +57,8 @@ pub fn add(alloc: Global, boxes: &mut Boxes, word: &str, numbers: [u32; 4]) -> i
     Ok(true)
 }
 
-// Packs by the heuristic of this number, or by the best of all where there is none: the number of
-// the heuristic, or `None` where there is no space.
+// Packs by the heuristic of this number, or by the best of all where there is none. Gives the number
+// of the heuristic, or `None` where there is no space.
 pub fn pack(session: &mut Bins, boxes: &Boxes, number: u32) -> io::Result<Option<usize>> {
     let answer = match Heuristic::ALL.get(number as usize) {
         Some(one) => session.pack_best(boxes, &[*one]),
