@@ -222,7 +222,8 @@ class Build:
             self.running.append(ran)
             status = ran.wait()
         if status:
-            raise NotProved(f"{crate.log.read_text(errors='replace')}{crate.name} is not built: {words[0]} ended with {status}")
+            said = re.sub(r"(?m)^checked .*\n", "", crate.log.read_text(errors="replace"))
+            raise NotProved(f"{said}{crate.name} is not built: {words[0]} ended with {status}")
 
     def is_proved(self, crate: Crate) -> bool:
         """Whether the crate is proved and built as it stands."""
