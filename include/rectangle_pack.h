@@ -183,7 +183,7 @@ uint32_t rectangle_pack_collection(const rp_bin *bins, size_t bin_count, const r
        rectangle_pack_session_release(&session, place.number);
        rectangle_pack_session_free(&session);
 
-   Each of these calls but the last answers a status, which is to be looked at. bindings/c/session.c does so.
+   Each of these calls but the last answers a status, which is to be looked at. bindings/c/examples/session.c does so.
 
    The caller names each bin by an id, any number. The session gives each box that it packs a number, by which the box is
    released. Until then its placement is outstanding: the box stays where it is. What is free in a bin is kept as a list of

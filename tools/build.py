@@ -6,25 +6,26 @@ build.py CRATE: proves the crates on which CRATE stands, side by side where neit
     before is not proved again, as long as no file has changed of that crate and of those below it.
 build.py --reached PROGRAM: proves of all these only what the program reaches, which tools/reached.py copies to build/reached as one
     crate, and builds that.
-build.py --take BEGAN SAID: takes over the libraries that `rt ci` has proved in this clone, so that they are not proved again. BEGAN is
-    a file written before it began, SAID has what it said.
+build.py --take BEGAN SAID: takes over what `rt ci` has proved in this clone, so that it is not proved again. BEGAN is a file written
+    before it began, SAID has what it said.
 
-`rattle build` does both: it builds nothing that it has not proved. `rt lib` and `rt run` take one crate after another, and
-keep what a proof after an edit can begin from, which a first build does not need and which makes it longer."""
+While it proves, it says on standard error how far it is: on a terminal in one line that goes on, else in a line each half minute.
+
+`rattle build` builds nothing that is not proved. `rt lib` and `rt run` take one crate after another, keep what a proof after an edit
+can begin from, which makes a first build longer, and do not take what `rt ci` proved."""
 import collections.abc
 import concurrent.futures
 import dataclasses
 import fcntl
-import filecmp
 import graphlib
 import hashlib
+import math
 import os
 import pathlib
 import re
 import shutil
 import subprocess
 import sys
-import threading
 import time
 
 TOP = pathlib.Path(__file__).resolve().parent.parent
@@ -37,10 +38,10 @@ TARGET = "x86_64-unknown-linux-gnu"
 LEFT_ALONE, MEMORY_OF_A_JOB = 1e6, 3e6
 # The checker's allocator keeps what is freed for the next request.
 SETTINGS = {"MIMALLOC_PURGE_DELAY": "-1"}
-# With so much of the most lines behind it a proof is hurried.
-HURRIED = 0.7
-# The niceness of a proof with several jobs: those with one, which cannot take more than one processor, get more of the time.
-GIVES_WAY = 2
+# Seconds between two words on how far it is: on a terminal, and elsewhere.
+PAUSES = {True: 1, False: 30}
+# What a check says as it ends with a function.
+CHECKED = re.compile(r"(?m)^checked .*, (\d+) of (\d+)$")
 
 
 class NotProved(Exception):
@@ -52,7 +53,7 @@ class Crate:
     """A crate of crates.txt, and the crates that its line names."""
 
     name: str
-    kind: str
+    is_static: bool
     below: tuple[str, ...]
     top: pathlib.Path = TOP
 
@@ -80,8 +81,9 @@ class Crate:
         return (self.folder / "src" / "main.rt").is_file()
 
     @property
-    def is_static(self) -> bool:
-        return self.kind == "staticlib"
+    def is_library(self) -> bool:
+        """Whether other crates can stand on it."""
+        return not self.is_program and not self.is_static
 
     @property
     def made(self) -> pathlib.Path:
@@ -95,8 +97,8 @@ class Crate:
 
     @property
     def left_by_ci(self) -> pathlib.Path:
-        """Where `rt ci` leaves what those above a library read."""
-        return self.folder / "out" / "rlib" / f"{self.name}.rlib"
+        """Where `rt ci` leaves what those above a library read, or a program."""
+        return self.folder / "out" / "rlib" / f"{self.name}.rlib" if self.is_library else self.made
 
     def sources(self) -> list[pathlib.Path]:
         """The files that a proof reads, in order."""
@@ -112,18 +114,15 @@ def crates_of(text: str, top: pathlib.Path = TOP) -> dict[str, Crate]:
         head, colon, below = line.partition("#")[0].partition(":")
         if colon:
             name, *kind = head.split()
-            crates[name] = Crate(name, " ".join(kind), tuple(below.split()), top)
+            crates[name] = Crate(name, kind == ["staticlib"], tuple(below.split()), top)
     return crates
 
 
 def with_all_below(name: str, crates: dict[str, Crate]) -> dict[str, Crate]:
     """The crate of this name and all that it stands on."""
-    wanted, found = [name], {}
-    while wanted:
-        crate = crates[wanted.pop()]
-        if crate.name not in found:
-            found[crate.name] = crate
-            wanted += crate.below
+    found = {name: crates[name]}
+    for it in crates[name].below:
+        found |= with_all_below(it, crates)
     return found
 
 
@@ -141,32 +140,35 @@ def toolchain() -> pathlib.Path:
     return pathlib.Path(said.stdout.strip()).parent
 
 
-def most_by_memory() -> int:
-    """How many jobs the memory allows that is there to be had."""
-    said = pathlib.Path("/proc/meminfo").read_text()
-    free = next(int(line.split()[1]) for line in said.splitlines() if line.startswith("MemAvailable:"))
-    return max(1, int((free - LEFT_ALONE) / MEMORY_OF_A_JOB))
-
-
 def most_jobs() -> int:
     """How many jobs there are processors and memory for."""
-    return min(len(os.sched_getaffinity(0)), most_by_memory())
+    said = pathlib.Path("/proc/meminfo").read_text()
+    free = next(int(line.split()[1]) for line in said.splitlines() if line.startswith("MemAvailable:"))
+    return max(1, min(len(os.sched_getaffinity(0)), int((free - LEFT_ALONE) / MEMORY_OF_A_JOB)))
 
 
-def lines_behind(crates: dict[str, Crate]) -> dict[str, int]:
-    """How many lines of code are proved one after another from each crate on: its own, and those of the longest chain above it.
-    Lines of lemmas are left out, as most of a proof is about the code."""
-    found: dict[str, int] = {}
-    for name in reversed([*graphlib.TopologicalSorter({it.name: it.below for it in crates.values()}).static_order()]):
-        own = sum(len(path.read_bytes().splitlines()) for path in crates[name].sources() if path.suffix == ".rt")
-        found[name] = own + max((found[it.name] for it in crates.values() if name in it.below), default=0)
-    return found
+def chain(name: str, crates: dict[str, Crate]) -> int:
+    """How many crates are proved one after another from this one on."""
+    return 1 + max((chain(it.name, crates) for it in crates.values() if name in it.below), default=0)
 
 
-def same_files(one: pathlib.Path, other: pathlib.Path) -> bool:
-    """Whether two folders have the same files."""
-    files = [{path.relative_to(top): path for path in top.rglob("*") if path.is_file()} for top in (one, other)]
-    return files[0].keys() == files[1].keys() and all(filecmp.cmp(files[0][it], files[1][it], shallow=False) for it in files[0])
+def counts_of(log: str) -> tuple[int, int]:
+    """How many functions are proved of how many, as a log says; zeros where it says nothing yet."""
+    done, of = (CHECKED.findall(log) or [("0", "0")])[-1]
+    return int(done), int(of)
+
+
+def how_far(name: str, counts: tuple[int, int], took: float, first: tuple[float, int]) -> str:
+    """What is said of a proof that has taken so many seconds. What is left is reckoned by the share that is done since the first look
+    at which a function was proved: after how many seconds that was, and how many were."""
+    done, of = counts
+    if not of:
+        return f"{name} is being proved, for {took:.0f} s"
+    if done == of:
+        return f"{name}: all {of} functions are proved, and it is compiled"
+    seconds, more = took - first[0], done - first[1]
+    left = f", about {math.ceil(seconds * (of - done) / more / 60)} min left" if more else ""
+    return f"{name}: {done} of {of} functions are proved{left}"
 
 
 class Build:
@@ -176,11 +178,11 @@ class Build:
         self.crates = crates
         self.kit = kit
         self.jobs = most_jobs()
-        self.began = time.monotonic()
+        self.began: dict[str, float] = {}
+        self.first: dict[str, tuple[float, int]] = {}
         self.sums: dict[str, str] = {}
-        self.behind = lines_behind(crates)
+        self.is_terminal = sys.stderr.isatty()
         self.running: list[subprocess.Popen[bytes]] = []
-        self.lock = threading.Lock()
 
     def sum_of(self, crate: Crate) -> str:
         """A sum of all that a proof of the crate reads."""
@@ -192,34 +194,36 @@ class Build:
             whole.update(self.sums[name].encode())
         return whole.hexdigest()
 
-    def words(self, crate: Crate, to: pathlib.Path, jobs: int) -> list[str]:
-        """The command that proves the crate and builds it."""
-        kit = self.kit
-        words = ["rattle", "build", "--crate-name", crate.name, f"src/{'main' if crate.is_program else 'lib'}.rt"]
-        words += ["--extern", f"std={kit}/rlibs/std.rlib", "-L", f"dependency={kit}/rlibs"]
-        for name in crate.below:
-            words += ["--extern", f"{name}={self.crates[name].made}"]
-        words += ["-L", f"dependency={crate.proved}", "--antt-project", f"{kit}/rattle/logic/antt-project.json"]
-        words += ["--logic-built", f"{kit}/logic_built", "--links", f"{crate.name}=", "--jobs", str(jobs)]
-        if crate.is_program or crate.is_static:
-            words += ["--toolchain", f"{kit}/toolchain", "--backend", "llvm"]
-        else:
-            words += ["--statements"]
+    def steps(self, crate: Crate, jobs: int) -> collections.abc.Iterator[list[str]]:
+        """The commands that prove the crate and build it. Of a program or a static library a check tells how far it is."""
+        kit, checked = self.kit, str(crate.proved / f"{crate.name}.checked")
+        words = ["--crate-name", crate.name, f"src/{'main' if crate.is_program else 'lib'}.rt", "--links", f"{crate.name}="]
+        words += ["--extern", f"std={kit}/rlibs/std.rlib", "-L", f"dependency={kit}/rlibs", "-L", f"dependency={crate.proved}"]
+        words += [it for name in crate.below for it in ("--extern", f"{name}={self.crates[name].made}")]
+        words += ["--antt-project", f"{kit}/rattle/logic/antt-project.json"]
         words += ["--crate-type", "staticlib"] if crate.is_static else []
-        return [*words, "-o", str(to)]
+        proves = ["--logic-built", f"{kit}/logic_built", "--jobs", str(jobs)]
+        if crate.is_library:
+            yield ["rattle", "build", *words, *proves, "--statements", "-o", str(crate.made)]
+            return
+        yield ["rattle", "check", *words, *proves, "--progress", "-o", checked]
+        part = str(crate.made.with_suffix(".o") if crate.is_program else crate.made)
+        compiles = ["--crate-checked", checked, "--toolchain", f"{kit}/toolchain", "--backend", "llvm"]
+        yield ["rattle", "build", *words, *compiles, "-o", part]
+        if crate.is_program:
+            link = [f"{kit}/bin/rattle-link", "--target", TARGET, "--toolchain", f"{kit}/toolchain", "-o", str(crate.made)]
+            yield [*link, part, f"{kit}/c/libos_c.a", f"{kit}/c/liblibc_c.a"]
 
-    def call(self, crate: Crate, words: list[str], niceness: int = 0) -> None:
-        """Runs a command in the crate's folder, so much nicer than this one, and keeps what it says."""
+    def call(self, crate: Crate, words: list[str]) -> None:
+        """Runs a command in the crate's folder, and keeps what it says."""
         with crate.log.open("ab") as log:
-            with self.lock:
-                ran = subprocess.Popen(
-                    words, cwd=crate.folder, env={**SETTINGS, **os.environ}, stdin=subprocess.DEVNULL, stdout=log, stderr=log
-                )
-                self.running.append(ran)
-                os.setpriority(os.PRIO_PROCESS, ran.pid, os.getpriority(os.PRIO_PROCESS, 0) + niceness)
+            env = {**SETTINGS, **os.environ}
+            ran = subprocess.Popen(words, cwd=crate.folder, env=env, stdin=subprocess.DEVNULL, stdout=log, stderr=log)
+            self.running.append(ran)
             status = ran.wait()
         if status:
-            raise NotProved(f"{crate.log.read_text(errors='replace')}{crate.name} is not built: {words[0]} ended with {status}")
+            said = re.sub(r"(?m)^checked .*\n", "", crate.log.read_text(errors="replace"))
+            raise NotProved(f"{said}{crate.name} is not built: {words[0]} ended with {status}")
 
     def is_proved(self, crate: Crate) -> bool:
         """Whether the crate is proved and built as it stands."""
@@ -233,100 +237,88 @@ class Build:
             return
         crate.stamp.unlink(missing_ok=True)
         crate.proved.mkdir(parents=True, exist_ok=True)
-        crate.log.unlink(missing_ok=True)
+        crate.log.write_text("")
         crate.made.parent.mkdir(exist_ok=True)
-        began = time.monotonic()
-        niceness = GIVES_WAY if jobs > 1 else 0
-        if crate.is_program:
-            part = crate.made.with_suffix(".o")
-            self.call(crate, self.words(crate, part, jobs), niceness)
-            self.call(crate, self.link(crate.made, part))
-        else:
-            self.call(crate, self.words(crate, crate.made, jobs), niceness)
+        self.began[crate.name] = time.monotonic()
+        for words in self.steps(crate, jobs):
+            self.call(crate, words)
         if self.sum_of(crate) == whole:
             crate.stamp.write_text(whole)
-        now = time.monotonic()
-        print(f"{crate.name} is proved: it took {now - began:.0f} s, {now - self.began:.0f} s since the start", flush=True)
+        self.say(f"{crate.name} is proved, in {time.monotonic() - self.began[crate.name]:.0f} s\n")
 
-    def link(self, program: pathlib.Path, part: pathlib.Path) -> list[str]:
-        """The command that links a program."""
-        kit = self.kit
-        words = [f"{kit}/bin/rattle-link", "--target", TARGET, "--toolchain", f"{kit}/toolchain", "-o", str(program)]
-        return [*words, str(part), f"{kit}/c/libos_c.a", f"{kit}/c/liblibc_c.a"]
+    def say(self, text: str) -> None:
+        """Says it, on a terminal in place of the line that stands there."""
+        print(f"\r\x1b[K{text}" if self.is_terminal else text, end="", file=sys.stderr, flush=True)
+
+    def told(self, name: str) -> str:
+        """How far the proof of a crate is."""
+        took, counts = time.monotonic() - self.began[name], counts_of(self.crates[name].log.read_text(errors="replace"))
+        if counts[0]:
+            self.first.setdefault(name, (took, counts[0]))
+        return how_far(name, counts, took, self.first.get(name, (0, 0)))
+
+    def tell(self, names: collections.abc.Iterable[str]) -> None:
+        """Tells how far the proofs of these crates are, of those that have begun."""
+        if line := "; ".join(self.told(name) for name in names if name in self.began):
+            self.say(line[: shutil.get_terminal_size().columns - 1] if self.is_terminal else f"{line}\n")
 
     def told_by_ci(self, crate: Crate, began: float, said: str) -> str | None:
-        """What `rt ci`, which began then, said of a library that it proved as it stands, where what those above read is there."""
+        """What `rt ci`, which began then, said of a crate that it proved as it stands, where it left what it made."""
         told = re.search(rf"(?ms)^== {crate.name}\n(.*?)^rt: {crate.name} proved$", said)
-        is_left = crate.left_by_ci.is_dir() and crate.left_by_ci.stat().st_mtime > began
+        is_left = crate.left_by_ci.exists() and crate.left_by_ci.stat().st_mtime > began
         is_as_it_stands = all(it.stat().st_mtime < began for it in crate.sources())
         return told[1] if told and is_left and is_as_it_stands else None
 
     def take(self, began: float, said: str) -> list[str]:
-        """Takes over the libraries that `rt ci` proved, and answers their names. What it leaves of a library is what this tool has
-        `rattle build` make. It fits only what it was proved over, so what was proved over others is proved again."""
+        """Takes over the crates that `rt ci` proved, and answers their names. What it leaves of them is what this tool makes. It fits
+        only what it was proved over: what stands on a crate that is left is left too."""
         taken: list[str] = []
-        changed: set[str] = set()
         for name in graphlib.TopologicalSorter({it.name: it.below for it in self.crates.values()}).static_order():
             crate = self.crates[name]
             told = self.told_by_ci(crate, began, said)
             if told is not None and {*crate.below} <= {*taken}:
-                self.sums[name] = self.sum_of(crate)
-                if not self.is_proved(crate) or not same_files(crate.made, crate.left_by_ci):
-                    self.take_over(crate, told)
-                    changed.add(name)
+                self.take_over(crate, told)
                 taken.append(name)
-            elif {*crate.below} & changed:
-                crate.stamp.unlink(missing_ok=True)
-                changed.add(name)
         return taken
 
     def take_over(self, crate: Crate, told: str) -> None:
-        """Copies what `rt ci` left of a library, of which it said this."""
+        """Copies what `rt ci` left of a library, and keeps what it said of the crate."""
         crate.proved.mkdir(parents=True, exist_ok=True)
         crate.stamp.unlink(missing_ok=True)
-        shutil.rmtree(crate.made, ignore_errors=True)
-        shutil.copytree(crate.left_by_ci, crate.made)
+        if crate.is_library:
+            shutil.rmtree(crate.made, ignore_errors=True)
+            shutil.copytree(crate.left_by_ci, crate.made)
         crate.log.write_text(told)
+        self.sums[crate.name] = self.sum_of(crate)
         crate.stamp.write_text(self.sums[crate.name])
 
-    def stop(self) -> None:
-        """Ends what still runs."""
-        with self.lock:
-            for ran in self.running:
-                ran.terminate()
-
     def shares(self, ready: collections.abc.Sequence[str], running: collections.abc.Sequence[str]) -> list[tuple[str, int]]:
-        """The crates that are ready, beside what is running, each with its jobs: all processors for that with the most lines behind it,
-        half of them for each other that is hurried, and one for each of the rest. These may be more than there are, so that none is idle
-        when a proof ends or begins."""
-        longest = max([1, *(self.behind[name] for name in [*ready, *running])])
-        found = []
-        for name in sorted(ready, key=self.behind.__getitem__, reverse=True):
-            jobs = 1
-            if self.behind[name] == longest:
-                jobs = self.jobs
-            elif self.behind[name] >= HURRIED * longest:
-                jobs = max(1, self.jobs // 2)
-            found.append((name, jobs))
-        return found
+        """The crates that are ready, beside what is running, each with its jobs: all processors for those for which most others wait,
+        and one for each of the rest."""
+        longest = max([0, *(chain(name, self.crates) for name in [*ready, *running])])
+        return [(name, self.jobs if chain(name, self.crates) == longest else 1) for name in ready]
 
     def run(self) -> None:
         """Makes each crate once those are made on which it stands."""
         order = graphlib.TopologicalSorter({crate.name: crate.below for crate in self.crates.values()})
         order.prepare()
         running: dict[concurrent.futures.Future[None], str] = {}
-        with concurrent.futures.ThreadPoolExecutor(most_by_memory()) as pool:
+        with concurrent.futures.ThreadPoolExecutor(self.jobs) as pool:
             try:
                 while order.is_active():
                     for name, jobs in self.shares(order.get_ready(), [*running.values()]):
                         running[pool.submit(self.make, self.crates[name], jobs)] = name
-                    done, _ = concurrent.futures.wait(running, return_when=concurrent.futures.FIRST_COMPLETED)
+                    pause, until = PAUSES[self.is_terminal], concurrent.futures.FIRST_COMPLETED
+                    while not (done := concurrent.futures.wait(running, pause, until).done):
+                        self.tell(running.values())
                     for it in done:
                         it.result()
                         order.done(running.pop(it))
             except BaseException:
                 pool.shutdown(wait=False, cancel_futures=True)
-                self.stop()
+                for ran in self.running:
+                    ran.terminate()
+                self.say("")
                 raise
 
 

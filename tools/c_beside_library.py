@@ -3,25 +3,18 @@
 
 Draws RUNS sessions (200 if left out): packings by each heuristic and by the best of all, of boxes in several groups, of which some
 are excluded; releases; joins of one section and of all; cutting plans of each bin. Each is obeyed by the calls of the shared
-library, over ctypes, and by session_lines.rt.in, which is proved and built in a temporary folder. Every answer is compared, and
-in the end all placements."""
+library, over ctypes, and by the program crates/session_lines. Every answer is compared, and in the end all placements."""
 from __future__ import annotations
 
 import ctypes
-import dataclasses
-import os
 import random
-import shutil
 import subprocess
 import sys
-import tempfile
 from collections.abc import Callable
 from pathlib import Path
 
-TOOLS = Path(__file__).resolve().parent
-TOP = TOOLS.parent
-sys.path[:0] = [str(TOOLS), str(TOP / "bindings" / "python")]
-import build  # noqa: E402
+TOP = Path(__file__).resolve().parent.parent
+sys.path.insert(0, str(TOP / "bindings" / "python"))
 from rectangle_pack import _library as c  # noqa: E402
 
 BEST = 0xFFFF
@@ -175,54 +168,24 @@ def by_library(program: Path, lines: list[Line]) -> list[str]:
     return [line.rstrip() for line in ran.stdout.splitlines()]
 
 
-@dataclasses.dataclass(frozen=True)
-class Program(build.Crate):
-    """A program that stands outside of the repository, in a folder of its own, over what is proved in build/."""
-
-    at: Path = Path()
-
-    @property
-    def folder(self) -> Path:
-        return self.at
-
-    @property
-    def made(self) -> Path:
-        return self.at / "out" / self.name
-
-    @property
-    def log(self) -> Path:
-        return self.at / f"{self.name}.log"
-
-
-def built(room: Path) -> Path:
-    """The program, proved and built in the folder, over the library that stands proved in build/."""
-    crates = build.crates_of((TOP / "crates.txt").read_text(encoding="utf-8"))
-    below = build.with_all_below("rectangle_pack", crates)
-    over = build.Build(below, build.toolchain())
-    over.run()
-    program = Program("session_lines", "", ("rectangle_pack",), at=room)
-    for name in ("src", "out"):
-        (room / name).mkdir()
-    shutil.copy(TOOLS / "session_lines.rt.in", room / "src" / "main.rt")
-    part = program.made.with_suffix(".o")
-    over.call(program, over.words(program, part, len(os.sched_getaffinity(0))))
-    over.call(program, over.link(program.made, part))
-    return program.made
+def built() -> Path:
+    """The program over the library, proved and built where it is not yet."""
+    subprocess.run([TOP / "tools" / "build.py", "session_lines"], check=True)
+    return TOP / "crates" / "session_lines" / "out" / "session_lines"
 
 
 def main() -> int:
     runs = int(sys.argv[1]) if len(sys.argv) > 1 else 200
     differ = compared = refused = 0
-    with tempfile.TemporaryDirectory(prefix="session-lines-") as room:
-        program = built(Path(room))
-        for seed in range(runs):
-            lines = Drawn(seed).lines
-            ours, theirs = by_c(lines), by_library(program, lines)
-            compared += len(theirs)
-            refused += theirs.count("-1")
-            if ours != theirs:
-                differ += 1
-                print(f"seed {seed}: {next((pair for pair in zip(ours, theirs) if pair[0] != pair[1]), 'more answers')}")
+    program = built()
+    for seed in range(runs):
+        lines = Drawn(seed).lines
+        ours, theirs = by_c(lines), by_library(program, lines)
+        compared += len(theirs)
+        refused += theirs.count("-1")
+        if ours != theirs:
+            differ += 1
+            print(f"seed {seed}: {next((pair for pair in zip(ours, theirs) if pair[0] != pair[1]), 'more answers')}")
     print(f"{runs} sessions, {compared} answers, {refused} of them without space or plan: {differ} sessions differ")
     return differ != 0
 

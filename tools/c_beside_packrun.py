@@ -3,52 +3,63 @@
 compares what they answer. Boxes are in several groups, and groups are excluded. Then runs drawn sessions of packings, releases,
 joins of one section and of all, and looks at what is free, by the calls for sessions and by packrun, and compares each answer.
 There are RUNS of each (300 if left out), or so many sessions that they have this number of CALLS."""
+from __future__ import annotations
+
 import argparse
 import collections
 import random
 import subprocess
 import sys
 import time
+from collections.abc import Iterable, Sequence
 from pathlib import Path
+from random import Random
+from typing import Any
 
 root = Path(__file__).resolve().parent.parent
 sys.path.insert(0, str(root / "bindings" / "python"))
 import rectangle_pack  # noqa: E402
-from rectangle_pack import Bin, Box  # noqa: E402
+from rectangle_pack import Bin, Box, Session  # noqa: E402
 
+Size = tuple[int, int, int]
+# A box: its name, its size, and its groups.
+Drawn = tuple[int, Size, Sequence[int]]
+Pairs = list[tuple[int, int]]
+# A command, and what stands behind it.
+Command = tuple[Any, ...]
 
 # Names of one length keep the order of numbers.
-def bin_line(bin, w, h, d):
+def bin_line(bin: int, w: int, h: int, d: int) -> str:
     return f"bin b{bin:04} {w} {h} {d}"
 
 
-def rect_line(name, size, groups):
+def rect_line(name: int, size: Size, groups: Iterable[int]) -> str:
     return " ".join([f"rect r{name:06}", *map(str, size), *(f"g{group:06}" for group in groups)])
 
 
-def exclude_lines(pairs):
+def exclude_lines(pairs: Pairs) -> list[str]:
     return [f"exclude g{one:06} g{other:06}" for one, other in pairs]
 
 
-def packrun(lines):
+def packrun(lines: Iterable[str]) -> list[str]:
     """The lines that packrun prints to these lines."""
     text = "".join(f"{line}\n" for line in lines)
     return subprocess.run([str(root / "packrun")], input=text, capture_output=True, text=True, check=True).stdout.splitlines()
 
 
-def members_of(boxes, in_one_line):
+def members_of(boxes: Iterable[Drawn], in_one_line: bool) -> dict[int, list[int]]:
     """For each group its boxes in the order in which they are packed: as their lines stand, where each box has one line with
     all of its groups; or first those of which it is the first group, and then those of which it is a further one, as in C."""
     first = [(name, group) for name, _, groups in boxes for group in groups[:1]]
     further = [(name, group) for name, _, groups in boxes for group in groups[1:]]
     order = [(name, group) for name, _, groups in boxes for group in groups] if in_one_line else first + further
-    members = collections.defaultdict(list)
+    members: dict[int, list[int]] = collections.defaultdict(list)
     for name, group in order:
         members[group].append(name)
     return members
 
 
-def rect_lines(boxes):
+def rect_lines(boxes: list[Drawn]) -> list[str]:
     """One line for each box, where that makes no other order than C has, or else another line for each further group."""
     if members_of(boxes, True) == members_of(boxes, False):
         return [rect_line(*box) for box in boxes]
@@ -56,15 +67,15 @@ def rect_lines(boxes):
     return [rect_line(name, size, groups[:1]) for name, size, groups in boxes] + further
 
 
-def groups_of(named):
+def groups_of(named: Iterable[tuple[int, int]]) -> dict[int, list[int]]:
     """A mapping from groups to names, of pairs of group and name, in the order of groups."""
-    groups = {}
+    groups: dict[int, list[int]] = {}
     for group, name in sorted(named, key=lambda it: it[0]):
         groups.setdefault(group, []).append(name)
     return groups
 
 
-def by_packrun(bins, boxes, pairs):
+def by_packrun(bins: Sequence[Size], boxes: list[Drawn], pairs: Pairs) -> list[str] | None:
     """What packrun answers, or None where there is not enough space."""
     lines = [bin_line(i, *size) for i, size in enumerate(bins)] + rect_lines(boxes) + exclude_lines(pairs)
     out = packrun([*lines, "pack"])
@@ -73,7 +84,7 @@ def by_packrun(bins, boxes, pairs):
     return sorted(" ".join(line.split()[1:6]) for line in out if len(line.split()) == 9)
 
 
-def by_call(bins, boxes, pairs):
+def by_call(bins: Sequence[Size], boxes: list[Drawn], pairs: Pairs) -> list[str] | None:
     """What the C call answers, in the words of packrun. A box says its first group, and the mapping the others."""
     named = {name: Box(*size, group=groups[0] if groups else None) for name, size, groups in boxes}
     further = groups_of((group, name) for name, _, groups in boxes for group in groups[1:])
@@ -84,7 +95,7 @@ def by_call(bins, boxes, pairs):
     return sorted(f"r{it.name:06} b{it.bin:04} {it.x} {it.y} {it.z}" for it in packing)
 
 
-def renamed(boxes, pairs):
+def renamed(boxes: list[Drawn], pairs: Pairs) -> tuple[list[Drawn], Pairs]:
     """The groups numbered in the order in which the module meets them: those that are first of a box, then others."""
     first = [group for _, _, groups in boxes for group in groups[:1]]
     further = sorted(group for _, _, groups in boxes for group in groups[1:])
@@ -93,39 +104,41 @@ def renamed(boxes, pairs):
     return boxes, [(new[one], new[other]) for one, other in pairs]
 
 
-def drawn_pairs(r, groups):
+def drawn_pairs(r: Random, groups: Sequence[int]) -> Pairs:
     """Pairs of groups that are excluded."""
     count = r.choice([0, 0, 0, 1, 2, 5]) if len(groups) > 1 else 0
-    return [tuple(r.sample(groups, 2)) for _ in range(count)]
+    return [(one, other) for one, other in (r.sample(groups, 2) for _ in range(count))]
 
 
-def drawn(r, most=60):
+def drawn(r: Random, most: int = 60) -> tuple[list[Size], list[Drawn], Sequence[int]]:
     """Bins and boxes, in two or three dimensions, some of them in one group or in several, some empty."""
     flat = r.random() < 0.5
     side = r.choice([8, 64, 256])
     depth = 1 if flat else side // 2
 
-    def size(low, high):
+    def size(low: int, high: int) -> Size:
         return (r.randint(low, high), r.randint(low, high), 1 if flat else r.randint(low, max(low, depth)))
 
     bins = [size(side // 2, side) for _ in range(r.randint(0 if r.random() < 0.05 else 1, 5))]
     low = 0 if r.random() < 0.1 else 1
     high, groups = max(1, side // r.choice([2, 4, 6])), range(r.choice([0, 2, 5]))
     counts = [0, 1, 1, 1, 2, 3] if groups else [0]
-    boxes = [(name, size(low, high), r.choices(groups, k=r.choice(counts))) for name in range(r.randint(0, most))]
+    boxes: list[Drawn] = [(name, size(low, high), r.choices(groups, k=r.choice(counts))) for name in range(r.randint(0, most))]
     return bins, boxes, groups
 
 
-def drawn_join(r):
+def drawn_join(r: Random) -> tuple[int, int, int]:
     """The index of a section and a range of others, most often all of them. Both may be past the end of the list."""
     whole = r.random() < 0.6
-    return (r.randint(0, 20), 0, 2**64 - 1) if whole else tuple(r.randint(0, 20) for _ in range(3))
+    index = r.randint(0, 20)
+    return (index, 0, 2**64 - 1) if whole else (index, r.randint(0, 20), r.randint(0, 20))
 
 
-def drawn_session(r):
+def drawn_session(r: Random) -> list[Command]:
     """Commands of a session, some of them of what is not there. Each packing has boxes and groups of its own, and excludes some
     groups that are known. The groups of a box rise, so that the least is its first."""
-    commands, bins, boxes, groups = [], 0, 0, 0
+    commands: list[Command] = []
+    bins = boxes = groups = 0
     for _ in range(r.randint(1, 8)):
         sizes, packed, new = drawn(r, 12)
         packed = [(boxes + name, size, sorted(groups + group for group in its)) for name, size, its in packed]
@@ -143,7 +156,7 @@ def drawn_session(r):
     return commands
 
 
-def lines_of(command):
+def lines_of(command: Command) -> list[str]:
     """The lines for a command. Each has one answer, of which those before the last are that it is done."""
     name, *rest = command
     if name == "bin":
@@ -160,15 +173,16 @@ class BySession:
     """Answers commands by a session, in the words of packrun. Boxes that are refused stay for the next packing, as there, and
     so do pairs."""
 
-    def __init__(self, session):
+    def __init__(self, session: Session[int]) -> None:
         self.session = session
-        self.boxes = []
-        self.pairs = []
+        self.boxes: list[Drawn] = []
+        self.pairs: Pairs = []
 
-    def answer(self, command):
+    def answer(self, command: Command) -> list[str]:
         name, *rest = command
         try:
-            return getattr(self, name)(*rest)
+            answer: list[str] = getattr(self, name)(*rest)
+            return answer
         except rectangle_pack.DuplicateBin:
             return [f"refused: bin b{rest[0]:04} exists"]
         except rectangle_pack.UnknownBin:
@@ -178,11 +192,11 @@ class BySession:
         except rectangle_pack.NotEnoughBinSpace as error:
             return [f"refused: {error}"]
 
-    def bin(self, bin, w, h, d):
+    def bin(self, bin: int, w: int, h: int, d: int) -> list[str]:
         self.session.add_bin(bin, w, h, d)
         return ["ok"]
 
-    def pack(self, boxes, pairs):
+    def pack(self, boxes: list[Drawn], pairs: Pairs) -> list[str]:
         self.boxes += boxes
         self.pairs += pairs
         named = {name: Box(*size) for name, size, _ in self.boxes}
@@ -193,29 +207,29 @@ class BySession:
         lines = (f"{number} r{it.name:06} b{it.bin:04} {' '.join(map(str, it.section))}" for number, it in rows)
         return [*lines, f"packed {len(packing)}"]
 
-    def release(self, number):
+    def release(self, number: int) -> list[str]:
         self.session.release(number)
         return ["ok"]
 
-    def coalesce(self, bin, index, start, end):
+    def coalesce(self, bin: int, index: int, start: int, end: int) -> list[str]:
         self.session.coalesce(bin, index, start, end)
         return ["ok"]
 
-    def sections(self, bin):
+    def sections(self, bin: int) -> list[str]:
         free = self.session.free_sections(bin)
         return [*(" ".join(map(str, it)) for it in free), f"sections {len(free)}"]
 
-    def sweep(self, bin):
+    def sweep(self, bin: int) -> list[str]:
         self.session.coalesce_all(bin)
         return ["ok"]
 
-    def stats(self, bin):
+    def stats(self, bin: int) -> list[str]:
         it = self.session.stats(bin)
         free, placed = f"free {it.free_volume} in {it.free_sections}", f"placed {it.placed_volume} in {it.placements}"
         return [f"{free}, {placed}, bin {it.bin_volume}"]
 
 
-def compare_packings(runs, r):
+def compare_packings(runs: int, r: Random) -> None:
     done = refused = 0
     for run in range(runs):
         bins, boxes, groups = drawn(r)
@@ -230,11 +244,11 @@ def compare_packings(runs, r):
     print(f"{runs} runs alike: {done} done, {refused} refused")
 
 
-def compare_session(commands, counts):
+def compare_session(commands: list[Command], counts: collections.Counter[tuple[str, str]]) -> None:
     """Runs the commands by both, and counts them by how they are answered."""
     lines = [line for command in commands for line in lines_of(command)]
     printed = iter(packrun(lines))
-    with rectangle_pack.Session() as session:
+    with Session[int]() as session:
         by_session = BySession(session)
         for command in commands:
             called = ["ok"] * (len(lines_of(command)) - 1) + by_session.answer(command)
@@ -246,9 +260,10 @@ def compare_session(commands, counts):
         sys.exit(f"{lines}\npackrun prints more")
 
 
-def compare_sessions(runs, calls, r):
+def compare_sessions(runs: int, calls: int, r: Random) -> None:
     """So many sessions, or as many as it takes for so many calls."""
-    counts, sessions, start = collections.Counter(), 0, time.monotonic()
+    counts: collections.Counter[tuple[str, str]] = collections.Counter()
+    sessions, start = 0, time.monotonic()
     while sum(counts.values()) < calls if calls else sessions < runs:
         compare_session(drawn_session(r), counts)
         sessions += 1
@@ -256,7 +271,7 @@ def compare_sessions(runs, calls, r):
     print(f"{sessions} sessions of {sum(counts.values())} calls alike, in {time.monotonic() - start:.0f} s: {said}")
 
 
-def main():
+def main() -> None:
     parser = argparse.ArgumentParser(description=__doc__)
     parser.add_argument("runs", type=int, nargs="?", default=300)
     parser.add_argument("--calls", type=int, help="so many calls over sessions, and no packings without one")

@@ -1,31 +1,49 @@
 #!/usr/bin/env python3
-"""draw.py: draws what is packed, as one SVG on standard output.
+"""draw.py: draws what is packed, as SVG.
 
-    tools/draw.py COMMANDS            runs ./packrun on the commands in this file, and draws the end
-    tools/draw.py COMMANDS ANSWERS    the same, with the answers that packrun gave
-    tools/draw.py --table FILE        draws the output of an example program; - is standard input
-    tools/draw.py --cut               draws one cut, with origin and axes
-    tools/draw.py --all               draws the pictures of docs/pictures anew
-    tools/draw.py --check             whether each picture in docs/pictures is what this tool draws
+    tools/draw.py --table FILE        draws the output of an example program, on standard output; - is standard input
+    tools/draw.py --all               draws the pictures of docs/pictures anew: of the example programs, and of one cut
+    tools/draw.py --check             whether each of them is what this tool draws
 
 A table has packrun's lines as its rows: `bin NAME W H D`, `N ID NAME X Y Z W H D` with the group of the
 box behind it, and `free NAME X Y Z W H D`. A line `== TITLE` begins a drawing of its own: the bins as the
 rows after it say. All other lines are for people, and are passed over.
 """
+from __future__ import annotations
+
 import argparse
 import math
 import pathlib
-import subprocess
 import sys
-from collections import namedtuple
+from collections.abc import Collection, Iterable, Iterator, Mapping, Sequence
 from html import escape
+from typing import NamedTuple
 
 ROOT = pathlib.Path(__file__).resolve().parent.parent
 PICTURES = ROOT / "docs" / "pictures"
 TABLES = ("atlas", "panels", "container")
 
-Box = namedtuple("Box", "x y z w h d")
-Placement = namedtuple("Placement", "id box group")
+Size = tuple[int, int, int]
+# A colour for each group.
+Colours = Mapping["str | None", str]
+
+
+class Box(NamedTuple):
+    """A corner and a size."""
+
+    x: int
+    y: int
+    z: int
+    w: int
+    h: int
+    d: int
+
+
+class Placement(NamedTuple):
+    id: str
+    box: Box
+    group: str | None
+
 
 CARD, INK, FAINT, LINE = "#fbfaf7", "#1d2429", "#5d686f", "#2f3a40"
 COLOURS = ["#8ecae6", "#ffb703", "#a7c957", "#f4978e", "#cdb4db", "#6fb8a8", "#f2cc8f", "#9db4ff",
@@ -38,78 +56,29 @@ COS, SIN = math.cos(math.radians(30)), math.sin(math.radians(30))
 class Drawing:
     """The bins of one drawing, with what stands in them."""
 
-    def __init__(self, title=""):
+    def __init__(self, title: str = "") -> None:
         self.title = title
-        self.bins = {}
-        self.placed = {}
-        self.free = {}
+        self.bins: dict[str, Size] = {}
+        self.placed: dict[str, dict[int, Placement]] = {}
+        self.free: dict[str, list[Box]] = {}
 
-    def add_bin(self, name, size):
+    def add_bin(self, name: str, size: Size) -> None:
         self.bins[name] = size
         self.placed[name] = {}
 
-    def place(self, number, name, placement):
+    def place(self, number: int, name: str, placement: Placement) -> None:
         self.placed[name][number] = placement
         self.free.pop(name, None)
 
-    def release(self, number):
-        for name, placements in self.placed.items():
-            if placements.pop(number, None):
-                self.free.pop(name, None)
+def box_of(words: Iterable[str]) -> Box:
+    return Box(*map(int, words))
 
 
-def numbers(words):
-    return [int(word) for word in words]
-
-
-def read_answers(commands, answers):
-    """The drawing that packrun's commands and answers leave."""
-    try:
-        return [obeyed(commands, iter(answers))]
-    except StopIteration:
-        sys.exit(f"draw.py: the run ended before its commands did: {answers[-1] if answers else 'no answer'}")
-
-
-def obeyed(commands, lines):
-    """The drawing that the commands leave, each with the next lines as its answer."""
-    drawing, groups = Drawing(), {}
-    for command in commands:
-        verb, *words = command.split() or [""]
-        if verb == "bin" and next(lines) == "ok":
-            drawing.add_bin(words[0], numbers(words[1:4]))
-        elif verb == "rect":
-            next(lines)
-            groups[words[0]] = words[4] if len(words) > 4 else None
-        elif verb == "pack":
-            for line in lines:
-                row = line.split()
-                if row[0] in ("packed", "refused:"):
-                    break
-                drawing.place(int(row[0]), row[2], Placement(row[1], Box(*numbers(row[3:9])), groups.get(row[1])))
-        elif verb == "release" and next(lines) == "ok":
-            drawing.release(int(words[0]))
-        elif verb == "sections":
-            sections = []
-            for line in lines:
-                row = line.split()
-                if row[0] in ("sections", "refused:"):
-                    break
-                sections.append(Box(*numbers(row)))
-            if row[0] == "sections":
-                drawing.free[words[0]] = sections
-        elif verb in ("coalesce", "sweep"):
-            next(lines)
-            drawing.free.pop(words[0], None)
-        elif verb in ("exclude", "stats"):
-            next(lines)
-    return drawing
-
-
-def is_numbers(words, count):
+def is_numbers(words: Sequence[str], count: int) -> bool:
     return len(words) == count and all(word.isdigit() for word in words)
 
 
-def read_table(lines):
+def read_table(lines: Iterable[str]) -> list[Drawing]:
     """The drawings of a program's table."""
     drawings = [Drawing()]
     for line in lines:
@@ -117,26 +86,26 @@ def read_table(lines):
         if words[:1] == ["=="]:
             drawings.append(Drawing(" ".join(words[1:])))
         elif words[:1] == ["bin"] and is_numbers(words[2:5], 3):
-            drawings[-1].add_bin(words[1], numbers(words[2:5]))
+            drawings[-1].add_bin(words[1], (int(words[2]), int(words[3]), int(words[4])))
         elif words[:1] == ["free"] and is_numbers(words[2:8], 6):
-            drawings[-1].free.setdefault(words[1], []).append(Box(*numbers(words[2:8])))
+            drawings[-1].free.setdefault(words[1], []).append(box_of(words[2:8]))
         elif len(words) in (9, 10) and words[0].isdigit() and is_numbers(words[3:9], 6):
             group = words[9] if len(words) == 10 else None
-            found = Placement(words[1], Box(*numbers(words[3:9])), group)
+            found = Placement(words[1], box_of(words[3:9]), group)
             if words[2] not in drawings[-1].bins:
                 sys.exit(f"draw.py: placement {words[0]} names bin {words[2]}, which has no row")
             drawings[-1].place(int(words[0]), words[2], found)
     return [drawing for drawing in drawings if drawing.bins]
 
 
-def overlap(a, b):
+def overlap(a: Box, b: Box) -> bool:
     return all(a[i] < b[i] + b[i + 3] and b[i] < a[i] + a[i + 3] for i in range(3))
 
 
-def look_over(drawing):
+def look_over(drawing: Drawing) -> None:
     """Ends the program where a placement is not inside its bin or shares a cell with another."""
     for name, placed in drawing.placed.items():
-        seen = []
+        seen: list[tuple[int, Box]] = []
         for number, placement in placed.items():
             box = placement.box
             if any(box[i] + box[i + 3] > drawing.bins[name][i] for i in range(3)):
@@ -150,39 +119,46 @@ def look_over(drawing):
 class Svg:
     """The elements of an SVG."""
 
-    def __init__(self):
-        self.parts = []
+    def __init__(self) -> None:
+        self.parts: list[str] = []
 
-    def add(self, element):
+    def add(self, element: str) -> None:
         self.parts.append(element)
 
-    def rect(self, x, y, w, h, fill, stroke=LINE, width=0.8, extra=""):
+    def rect(
+        self, x: float, y: float, w: float, h: float, fill: str, stroke: str = LINE, width: float = 0.8, extra: str = ""
+    ) -> None:
         self.add(f'<rect x="{x:.2f}" y="{y:.2f}" width="{w:.2f}" height="{h:.2f}" fill="{fill}" '
                  f'stroke="{stroke}" stroke-width="{width}"{extra}/>')
 
-    def polygon(self, points, fill, stroke=LINE, width=0.7):
+    def polygon(self, points: Iterable[tuple[float, float]], fill: str, stroke: str = LINE, width: float = 0.7) -> None:
         path = " ".join(f"{x:.2f},{y:.2f}" for x, y in points)
         self.add(f'<polygon points="{path}" fill="{fill}" stroke="{stroke}" stroke-width="{width}" stroke-linejoin="round"/>')
 
-    def line(self, x1, y1, x2, y2, colour=LINE, width=1.2, extra=""):
+    def line(
+        self, x1: float, y1: float, x2: float, y2: float, colour: str = LINE, width: float = 1.2, extra: str = ""
+    ) -> None:
         self.add(f'<line x1="{x1:.2f}" y1="{y1:.2f}" x2="{x2:.2f}" y2="{y2:.2f}" stroke="{colour}" '
                  f'stroke-width="{width}"{extra}/>')
 
-    def text(self, x, y, words, size=12, anchor="start", colour=INK, weight="normal", turn=0):
+    def text(
+        self, x: float, y: float, words: str, size: float = 12, anchor: str = "start", colour: str = INK, weight: str = "normal",
+        turn: int = 0,
+    ) -> None:
         turned = f' transform="rotate({turn} {x:.2f} {y:.2f})"' if turn else ""
         self.add(f'<text x="{x:.2f}" y="{y:.2f}" font-size="{size:.1f}" text-anchor="{anchor}" fill="{colour}" '
                  f'font-weight="{weight}"{turned}>{escape(words)}</text>')
 
-    def label(self, x, y, w, h, words):
+    def label(self, x: float, y: float, w: float, h: float, words: str) -> None:
         """Text in the middle of a rectangle: along it, or up it, as large as it fits; else none."""
         for along, across, turn in ((w, h, 0), (h, w, -90)):
             size = min(12, (along - 4) / (0.62 * len(words)), (across - 2) / 1.1)
             if size >= 6.5:
-                dx, dy = (0, size * 0.35) if not turn else (size * 0.35, 0)
+                dx, dy = (0.0, size * 0.35) if not turn else (size * 0.35, 0.0)
                 self.text(x + w / 2 + dx, y + h / 2 + dy, words, size, "middle", turn=turn)
                 return
 
-    def whole(self, width, height):
+    def whole(self, width: float, height: float) -> str:
         head = (f'<svg xmlns="http://www.w3.org/2000/svg" viewBox="0 0 {width:.0f} {height:.0f}" width="{width:.0f}" '
                 f'height="{height:.0f}" font-family="DejaVu Sans Mono, Menlo, Consolas, monospace">')
         hatch = (f'<defs><pattern id="free" width="7" height="7" patternUnits="userSpaceOnUse" patternTransform="rotate(45)">'
@@ -192,15 +168,15 @@ class Svg:
         return "\n".join([head, hatch, card, *self.parts, "</svg>"]) + "\n"
 
 
-def shade(colour, by):
+def shade(colour: str, by: float) -> str:
     """The colour, lighter or darker."""
     parts = [int(colour[i:i + 2], 16) for i in (1, 3, 5)]
     return "#" + "".join(f"{max(0, min(255, round(part * by))):02x}" for part in parts)
 
 
-def groups_of(drawings):
+def groups_of(drawings: Iterable[Drawing]) -> dict[str | None, str]:
     """A colour for each group, in the order of their first placements."""
-    found = {}
+    found: dict[str | None, str] = {}
     for drawing in drawings:
         for placements in drawing.placed.values():
             for placement in placements.values():
@@ -209,23 +185,25 @@ def groups_of(drawings):
     return found
 
 
-def volume(box):
+def volume(box: Box) -> int:
     return box.w * box.h * box.d
 
 
-def fill_of(size, placements):
+def fill_of(size: Size, placements: Iterable[Placement]) -> int:
     """How many percent of the bin are filled, whole ones."""
     whole = size[0] * size[1] * size[2]
     return 100 * sum(volume(p.box) for p in placements) // whole if whole else 0
 
 
-def layers_of(placements):
+def layers_of(placements: Collection[Placement]) -> list[tuple[int, int]]:
     """Where layers of a bin with depth begin and end: at each front and back of a box."""
     ends = sorted({z for p in placements for z in (p.box.z, p.box.z + p.box.d)} | {0})
     return [(a, b) for a, b in zip(ends, ends[1:]) if any(p.box.z < b and a < p.box.z + p.box.d for p in placements)]
 
 
-def draw_face(svg, x, y, scale, size, placements, free, colours):
+def draw_face(
+    svg: Svg, x: float, y: float, scale: float, size: Size, placements: Iterable[Placement], free: Iterable[Box], colours: Colours
+) -> None:
     """The bin, or a layer of it, from the front: x to the right, y upward."""
     w, h = size[0] * scale, size[1] * scale
     svg.rect(x, y, w, h, "url(#free)", width=1.4)
@@ -240,14 +218,14 @@ def draw_face(svg, x, y, scale, size, placements, free, colours):
             svg.label(left, top, box.w * scale, box.h * scale, placement.id)
 
 
-def is_behind(a, b):
+def is_behind(a: Box, b: Box) -> bool:
     """Whether the box `a` has to be drawn before `b`, seen from the front, the right and above."""
     return a.x + a.w <= b.x or b.z + b.d <= a.z or a.y + a.h <= b.y
 
 
-def back_to_front(placements):
+def back_to_front(placements: Iterable[Placement]) -> list[Placement]:
     """The placements in an order in which none hides one that is drawn later."""
-    left, order = list(placements), []
+    left, order = [*placements], list[Placement]()
     while left:
         first = next((p for p in left if not any(q is not p and is_behind(q.box, p.box) and not is_behind(p.box, q.box) for q in left)), left[0])
         left.remove(first)
@@ -255,15 +233,17 @@ def back_to_front(placements):
     return order
 
 
-def draw_solid(svg, x, y, scale, size, placements, colours):
+def draw_solid(
+    svg: Svg, x: float, y: float, scale: float, size: Size, placements: Iterable[Placement], colours: Colours
+) -> None:
     """The bin with its boxes, seen from the front, the right and above. Its corner at the left, below, is (x, y)."""
-    def at(i, j, k):
+    def at(i: float, j: float, k: float) -> tuple[float, float]:
         return x + (i + k) * COS * scale, y + (i - k) * SIN * scale - j * scale
 
     w, h, d = size
     frame = "#9aa4aa"
-    for a, b in (((0, 0, d), (0, h, d)), ((0, 0, d), (w, 0, d)), ((0, 0, 0), (0, 0, d))):
-        svg.line(*at(*a), *at(*b), frame, 1)
+    for start, end in (((0, 0, d), (0, h, d)), ((0, 0, d), (w, 0, d)), ((0, 0, 0), (0, 0, d))):
+        svg.line(*at(*start), *at(*end), frame, 1)
     for placement in back_to_front(placements):
         b = placement.box
         colour = colours.get(placement.group, ALONE)
@@ -271,14 +251,16 @@ def draw_solid(svg, x, y, scale, size, placements, colours):
         svg.polygon([at(b.x, b.y, b.z), at(i, b.y, b.z), at(i, j, b.z), at(b.x, j, b.z)], colour)
         svg.polygon([at(i, b.y, b.z), at(i, b.y, k), at(i, j, k), at(i, j, b.z)], shade(colour, 0.82))
         svg.polygon([at(b.x, j, b.z), at(i, j, b.z), at(i, j, k), at(b.x, j, k)], shade(colour, 1.1))
-    for a, b in (((0, 0, 0), (w, 0, 0)), ((0, 0, 0), (0, h, 0)), ((w, 0, 0), (w, h, 0)), ((0, h, 0), (w, h, 0)),
-                 ((w, 0, 0), (w, 0, d)), ((w, h, 0), (w, h, d)), ((w, 0, d), (w, h, d)), ((0, h, 0), (0, h, d)), ((0, h, d), (w, h, d))):
-        svg.line(*at(*a), *at(*b), frame, 1)
+    for start, end in (
+        ((0, 0, 0), (w, 0, 0)), ((0, 0, 0), (0, h, 0)), ((w, 0, 0), (w, h, 0)), ((0, h, 0), (w, h, 0)), ((w, 0, 0), (w, 0, d)),
+        ((w, h, 0), (w, h, d)), ((w, 0, d), (w, h, d)), ((0, h, 0), (0, h, d)), ((0, h, d), (w, h, d)),
+    ):
+        svg.line(*at(*start), *at(*end), frame, 1)
 
 
-def draw_flat_bins(svg, y, drawing, colours, limit):
+def draw_flat_bins(svg: Svg, y: float, drawing: Drawing, colours: Colours, limit: float) -> tuple[float, float]:
     """The bins of depth 1, side by side; the next row begins where one is full."""
-    x, row, right = MARGIN, 0, 0
+    x, row, right = float(MARGIN), 0.0, 0.0
     widest = max(1, *(size[0] for size in drawing.bins.values()))
     tallest = max(1, *(size[1] for size in drawing.bins.values()))
     scale = min(BIN_WIDTH / widest, 1.4 * BIN_WIDTH / tallest)
@@ -294,12 +276,12 @@ def draw_flat_bins(svg, y, drawing, colours, limit):
     return y + 20 + row, right
 
 
-def caption(svg, x, y, name, size, placements):
+def caption(svg: Svg, x: float, y: float, name: str, size: Size, placements: Iterable[Placement]) -> None:
     sides = "x".join(str(side) for side in (size if size[2] != 1 else size[:2]))
     svg.text(x, y, f"{name}  {sides}  {fill_of(size, placements)}% filled", 12)
 
 
-def draw_deep_bin(svg, y, drawing, name, colours):
+def draw_deep_bin(svg: Svg, y: float, drawing: Drawing, name: str, colours: Colours) -> tuple[float, float]:
     """A bin with depth: seen from the front, the right and above, and beside it layer by layer."""
     size, placements = drawing.bins[name], list(drawing.placed[name].values())
     w, h, d = size
@@ -320,11 +302,12 @@ def draw_deep_bin(svg, y, drawing, name, colours):
     return bottom, right
 
 
-def draw_key(svg, y, colours, alone, limit):
+def draw_key(svg: Svg, y: float, colours: Colours, alone: bool, limit: float) -> float:
     """What colours and hatching mean."""
-    entries = list(colours.items()) + ([("no group", ALONE)] if alone else []) + [("free", "url(#free)")]
-    x = MARGIN
-    for name, colour in entries:
+    entries = [*colours.items(), *([("no group", ALONE)] if alone else []), ("free", "url(#free)")]
+    x = float(MARGIN)
+    for group, colour in entries:
+        name = str(group)
         width = 24 + 7.4 * len(name) + 18
         if x > MARGIN and x + width > limit:
             x, y = MARGIN, y + 20
@@ -334,11 +317,11 @@ def draw_key(svg, y, colours, alone, limit):
     return y + 14
 
 
-def picture(drawings):
+def picture(drawings: Sequence[Drawing]) -> str:
     """The SVG of these drawings, one below another, with one key."""
     if not any(drawing.bins for drawing in drawings):
         sys.exit("draw.py: there is no bin to draw")
-    svg, y, right = Svg(), MARGIN, 0
+    svg, y, right = Svg(), float(MARGIN), 0.0
     colours = groups_of(drawings)
     limit = MARGIN + 3 * (BIN_WIDTH + GAP)
     for drawing in drawings:
@@ -362,16 +345,16 @@ def picture(drawings):
     return svg.whole(right + MARGIN, y + MARGIN)
 
 
-def draw_cut():
+def draw_cut() -> str:
     """One cut: a section with a box in its corner and the three pieces that are left."""
     section = (10, 8, 6)
     boxes = {"box": Box(0, 0, 0, 6, 5, 3), "right": Box(6, 0, 0, 4, 5, 3), "above": Box(0, 5, 0, 10, 3, 3), "behind": Box(0, 0, 3, 10, 8, 3)}
-    colours = {"box": COLOURS[0], "right": "#ffd6a5", "above": COLOURS[4], "behind": COLOURS[2]}
+    colours: Colours = {"box": COLOURS[0], "right": "#ffd6a5", "above": COLOURS[4], "behind": COLOURS[2]}
     svg, scale, left, top = Svg(), 22, 90, 92
     svg.text(MARGIN, 34, "One step: a box in the corner of a section, and one of the six cuts", 14, weight="bold")
     base = top + section[2] * SIN * scale + section[1] * scale
 
-    def at(i, j, k):
+    def at(i: float, j: float, k: float) -> tuple[float, float]:
         return left + (i + k) * COS * scale, base + (i - k) * SIN * scale - j * scale
 
     draw_solid(svg, left, base, scale, section, [Placement(name, box, name) for name, box in boxes.items()], colours)
@@ -399,15 +382,15 @@ def draw_cut():
     return svg.whole(x + 500, base + section[0] * SIN * scale + 44)
 
 
-def draw_files():
+def draw_files() -> Iterator[tuple[pathlib.Path, str]]:
     """Each picture's name, and what it has to be."""
     for name in TABLES:
-        lines = (ROOT / "crates" / name / "stdout").read_text().splitlines()
+        lines = (ROOT / "crates" / f"example_{name}" / "stdout").read_text().splitlines()
         yield PICTURES / f"{name}.svg", picture(read_table(lines))
     yield PICTURES / "cut.svg", draw_cut()
 
 
-def check():
+def check() -> int:
     """Ends with an error where a picture is not what this tool draws."""
     stale = [path for path, wanted in draw_files() if not path.exists() or path.read_text() != wanted]
     for path in stale:
@@ -415,34 +398,20 @@ def check():
     return 1 if stale else 0
 
 
-def main():
+def main() -> int:
     parser = argparse.ArgumentParser(description=__doc__, formatter_class=argparse.RawDescriptionHelpFormatter)
-    parser.add_argument("files", nargs="*", type=pathlib.Path, metavar="FILE")
-    parser.add_argument("--table", action="store_true", help="the file is an example program's output")
-    parser.add_argument("--cut", action="store_true", help="draw one cut")
-    parser.add_argument("--all", action="store_true", help="write all pictures of docs/pictures")
-    parser.add_argument("--check", action="store_true", help="whether these are up to date")
+    wanted = parser.add_mutually_exclusive_group(required=True)
+    wanted.add_argument("--table", type=argparse.FileType(), metavar="FILE", help="draw the output of an example program")
+    wanted.add_argument("--all", action="store_true", help="write all pictures of docs/pictures")
+    wanted.add_argument("--check", action="store_true", help="whether these are up to date")
     given = parser.parse_args()
     if given.check:
         return check()
-    if given.all:
-        PICTURES.mkdir(exist_ok=True)
-        for path, wanted in draw_files():
-            path.write_text(wanted)
-    elif given.cut:
-        sys.stdout.write(draw_cut())
-    elif given.table and len(given.files) == 1:
-        table = sys.stdin.read() if str(given.files[0]) == "-" else given.files[0].read_text()
-        sys.stdout.write(picture(read_table(table.splitlines())))
-    elif not given.table and len(given.files) in (1, 2):
-        commands = given.files[0].read_text()
-        if len(given.files) == 2:
-            answers = given.files[1].read_text()
-        else:
-            answers = subprocess.run([ROOT / "packrun"], input=commands, stdout=subprocess.PIPE, text=True).stdout
-        sys.stdout.write(picture(read_answers(commands.splitlines(), answers.splitlines())))
+    if given.table:
+        sys.stdout.write(picture(read_table(given.table.read().splitlines())))
     else:
-        parser.error("give the commands, and the answers if there are some, or --table and a program's output")
+        for path, text in draw_files():
+            path.write_text(text)
     return 0
 
 

@@ -1,7 +1,7 @@
 #!/usr/bin/env bash
 # fuzz_c.sh [MINUTES]: builds the C library, and has libFuzzer draw calls to it for so many minutes (1 if left out; 0 gives the
-# seeds alone), on one processor: bindings/c/fuzz.c, under the sanitizers for addresses and undefined behaviour. It begins with
-# bindings/c/seeds, whose names say what each shows, and with what was kept before in build/fuzz/kept. What reaches something
+# seeds alone), on one processor: bindings/c/tests/fuzz.c, under the sanitizers for addresses and undefined behaviour. It begins with
+# bindings/c/tests/seeds, whose names say what each shows, and with what was kept before in build/fuzz/kept. What reaches something
 # new is kept there, and what is found lies in build/fuzz. The last line says how many runs there were and what was found. Where
 # clang has no libFuzzer nothing is run, which is said.
 set -euo pipefail
@@ -25,13 +25,13 @@ fi
 rm "$work/none"
 
 tools/build_c.sh
-clang "${flags[@]}" -Ibuild bindings/c/fuzz.c build/librectangle_pack.a -Wl,--wrap=malloc,--wrap=realloc,--wrap=free -o "$work/fuzz"
+clang "${flags[@]}" -Ibuild bindings/c/tests/fuzz.c build/librectangle_pack.a -Wl,--wrap=malloc,--wrap=realloc,--wrap=free -o "$work/fuzz"
 
 # Without a time, each seed is run once.
 if ((minutes == 0)); then
-    limits=(-runs=0 bindings/c/seeds)
+    limits=(-runs=0 bindings/c/tests/seeds)
 else
-    limits=(-max_total_time=$((minutes * 60)) "$work/kept" bindings/c/seeds)
+    limits=(-max_total_time=$((minutes * 60)) "$work/kept" bindings/c/tests/seeds)
 fi
 status=0
 "$work/fuzz" -max_len=1024 -timeout=20 -print_final_stats=1 -artifact_prefix="$work/" "${limits[@]}" >"$work/log.txt" 2>&1 || status=$?

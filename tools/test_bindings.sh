@@ -16,7 +16,7 @@ have() {
 
 # run_harness NAME [FLAG..]: a harness takes memory by way of its own functions.
 run_harness() {
-    cc -std=c99 -O2 -g "${@:2}" "${flags[@]}" "bindings/c/$1.c" "$link" -Wl,--wrap=malloc,--wrap=realloc,--wrap=free -o "$work/$1"
+    cc -std=c99 -O2 -g "${@:2}" "${flags[@]}" "bindings/c/tests/$1.c" "$link" -Wl,--wrap=malloc,--wrap=realloc,--wrap=free -o "$work/$1"
     "$work/$1"
 }
 
@@ -37,7 +37,7 @@ if have nm "the exported calls"; then
 fi
 if have cc C; then
     for it in atlas session collection; do
-        cc -std=c99 "${flags[@]}" "bindings/c/$it.c" "$link" -o "$work/${it}_c"
+        cc -std=c99 "${flags[@]}" "bindings/c/examples/$it.c" "$link" -o "$work/${it}_c"
         "$work/${it}_c" >"$work/$it.txt"
     done
     for it in harness session_harness; do
@@ -49,18 +49,18 @@ if have cc C; then
 fi
 if have c++ C++; then
     for it in atlas session collection; do
-        c++ -std=c++11 "${flags[@]}" -x c++ "bindings/c/$it.c" -x none "$link" -o "$work/${it}_cpp"
+        c++ -std=c++11 "${flags[@]}" -x c++ "bindings/c/examples/$it.c" -x none "$link" -o "$work/${it}_cpp"
         "$work/${it}_cpp" | diff - "$work/$it.txt"
     done
     # The header of its own for C++17, which is tested as the standards after it compile it too.
     strict=(-Wpedantic -Wconversion -Wshadow "${flags[@]}")
     for it in atlas session collection; do
-        c++ -std=c++17 "${strict[@]}" "bindings/cpp/$it.cpp" "$link" -o "$work/${it}_hpp"
+        c++ -std=c++17 "${strict[@]}" "bindings/cpp/examples/$it.cpp" "$link" -o "$work/${it}_hpp"
         "$work/${it}_hpp" | diff - "$work/$it.txt"
     done
     for it in -std=c++20 "-std=c++17 -g -fsanitize=address,undefined -fno-sanitize-recover=all"; do
         # shellcheck disable=SC2086 # These are words.
-        c++ $it "${strict[@]}" bindings/cpp/test.cpp "$link" -Wl,--wrap=malloc,--wrap=realloc -o "$work/test_hpp"
+        c++ $it "${strict[@]}" bindings/cpp/tests/test.cpp "$link" -Wl,--wrap=malloc,--wrap=realloc -o "$work/test_hpp"
         "$work/test_hpp"
     done
     echo "C++: the examples print what they print in C, and the header for C++17 passes its test, also under the sanitizers"
@@ -82,13 +82,10 @@ if have cargo Rust; then
 fi
 if have python3 Python; then
     # The tests of the module alone: those of the commands are test_tools.sh's.
-    (cd bindings/python && python3 -m unittest -q test_*.py)
+    (cd bindings/python && python3 -m unittest -q tests/test_*.py)
+    # The tests look at what the others print, which have no twin in C.
     for it in atlas session; do
-        python3 "bindings/python/$it.py" | diff - "$work/$it.txt"
-    done
-    # These have no twin in C: the tests look at what they print.
-    for it in sheet_plan unload customers; do
-        python3 "bindings/python/$it.py" >/dev/null
+        PYTHONPATH=bindings/python python3 "bindings/python/examples/$it.py" | diff - "$work/$it.txt"
     done
     tools/c_beside_packrun.py "$runs"
     tools/c_beside_library.py "$runs"

@@ -36,7 +36,7 @@ run_tests() {
     echo "$1: $(sed -n 's/^Ran \([0-9]* tests\?\) .*/\1/p' "$told")"
 }
 
-tests=bindings/python/tests_of_commands
+tests=bindings/python/tests/commands
 for it in sheet cut load view; do
     # One by one, so that what is skipped is told with the command that it tests.
     if compgen -G "$tests/test_$it*.py" >/dev/null; then

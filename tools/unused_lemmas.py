@@ -1,7 +1,6 @@
 #!/usr/bin/env python3
-"""Lists the lemmas and definitions in proofs/ that nothing names but themselves: a line for each, with its file."""
+"""Fails where nothing names a lemma or a definition in proofs/ but itself: prints a line for each, with its file."""
 
-import argparse
 import collections
 import pathlib
 import re
@@ -46,13 +45,10 @@ def unused(files: dict[pathlib.Path, str]) -> list[tuple[pathlib.Path, str]]:
 
 
 def main() -> int:
-    parser = argparse.ArgumentParser(description=__doc__)
-    parser.add_argument("--check", action="store_true", help="fails where there is one")
-    check = parser.parse_args().check
     found = unused(texts())
     for path, name in found:
-        print(f"{path.relative_to(TOP)}: {name}")
-    return 1 if found and check else 0
+        print(f"{path.relative_to(TOP)}: nothing names {name}")
+    return 1 if found else 0
 
 
 if __name__ == "__main__":

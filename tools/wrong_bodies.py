@@ -1,8 +1,8 @@
 #!/usr/bin/env python3
 """Tries wrong bodies: the prover has to refuse each, for what it does.
 
-wrong_bodies.py [WORD..]: those in wrong-bodies/, which the gate does not try; only those with one of these words in their names or the
-    names of their crates, where some are given. With --gate those in must-fail/ too.
+wrong_bodies.py [WORD..]: those in crates/*/wrong-bodies, which the gate does not try; only those with one of these words in their names or the
+    names of their crates, where some are given. With --gate those in must-fail too.
 
 Each crate is copied with those that it stands on, and checked as it is and then with each edit, over what the checks before kept. What
 `rt check` has kept in this clone is not proved again.
@@ -74,9 +74,8 @@ class Edit:
 
 def edits_of(words: collections.abc.Sequence[str], of_gate: bool) -> list[Edit]:
     """The edits that have one of these words in their names, as CRATE/FUNCTION.what_is_wrong.edit."""
-    paths = [(it, it.parent.name) for it in TOP.glob("wrong-bodies/*/*.edit")]
-    paths += [(it, it.parent.parent.name) for it in TOP.glob("crates/*/must-fail/*.edit")] if of_gate else []
-    edits = [Edit(*it) for it in sorted(paths)]
+    folders = ("wrong-bodies", "must-fail") if of_gate else ("wrong-bodies",)
+    edits = [Edit(it, it.parent.parent.name) for folder in folders for it in sorted(TOP.glob(f"crates/*/{folder}/*.edit"))]
     return [it for it in edits if not words or any(word in it.name for word in words)]
 
 

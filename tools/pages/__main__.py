@@ -1,38 +1,36 @@
-"""Makes the pages of docs/ that are made of the sources and of the texts in docs/text, and checks these pages and written ones.
+"""Makes the pages of docs/ that are made of the sources and of the texts in docs/templates, and checks these pages and the sources.
 
-python3 tools/pages: makes docs/API.md, docs/DEFINITIONS.md, docs/HEADLINE.md, docs/MAP.md and docs/PROVED.md anew.
-python3 tools/pages --check: prints a line for each fault. A made page is not what that makes; a definition has no comment or no
-    place on its page, or a public call, a law, a clause, a crate or a module has none; a page names what is not there; no claim
-    names a wrong body that the gate tries on the program; an example of a doc comment or of the README is no test.
-python3 tools/pages CALL: the contract of a public call, as `pack_rects` or `Session::run`, and the definitions that it rests on,
+python3 tools/pages: makes docs/CALLS.md, docs/HEADLINE.md and docs/MAP.md anew.
+python3 tools/pages --check: prints a line for each fault. A made page is not what that makes; a definition, a clause, a crate or a
+    module has no comment that says what it is; a page names what is not there; no claim names a wrong body that the gate tries on
+    the program; an example of a doc comment or of the README is no test.
+python3 tools/pages CALL: the contract of a public call, as `pack_rects`, `Session::run` or `run_buffered`, and the definitions that it rests on,
     in an order in which none is used before it is told."""
 from __future__ import annotations
 
+import re
 import sys
 
+import calls
 import definitions
 import examples
 import modules
-from api import Page
 from headline import Headline
 from library import Library, calls_in, functions_in
-from proved import Proved, starred
+from proved import Proved
 from sources import DOCS, FOR_C, MAIN, PROGRAM, fill_page, shown
 
 
 def main() -> None:
     library, headline = Library(), Headline()
     for_c = [it for it in calls_in([FOR_C], FOR_C) if 'extern "C"' in it.item.head]
-    proved = Proved([*library.calls(), *for_c], (DOCS / "text/PROVED.md").read_text(), functions_in(PROGRAM, MAIN))
-    api = Page(library, proved)
+    named = ", ".join(re.findall(r"\{\{claims (.*)\}\}", (DOCS / "templates/CALLS.md").read_text())).split(", ")
+    proved = Proved([*library.calls(), *for_c], named, functions_in(PROGRAM, MAIN))
+    page = calls.Page(library, proved)
     pages = {
-        "API.md": fill_page("API.md", api.contents, api.sections),
-        "DEFINITIONS.md": fill_page("DEFINITIONS.md", definitions.crates, definitions.definitions),
-        "HEADLINE.md": fill_page(
-            "HEADLINE.md", headline.place, headline.count, headline.field, headline.contract, headline.views, headline.definitions
-        ),
+        "CALLS.md": fill_page("CALLS.md", page.sections, page.claims),
+        "HEADLINE.md": fill_page("HEADLINE.md", headline.place, headline.count, headline.definitions),
         "MAP.md": fill_page("MAP.md", modules.modules),
-        "PROVED.md": starred(fill_page("PROVED.md", proved.claims)),
     }
     stale = [name for name, text in pages.items() if not (DOCS / name).exists() or (DOCS / name).read_text() != text]
     match sys.argv[1:]:
@@ -42,9 +40,9 @@ def main() -> None:
         case ["--check"]:
             faults = [f"docs/{name}: is not what `python3 tools/pages` makes" for name in stale]
             faults += [f"{shown(it.path)}: no public module exports the law `{it.item.name}`" for it in library.hidden_laws]
-            faults += [*proved.faults(), *definitions.faults(pages["DEFINITIONS.md"]), *modules.faults(), *examples.faults()]
+            faults += [*proved.faults(), *definitions.faults(), *modules.faults(), *examples.faults()]
             sys.exit("\n".join(f"pages: {it}" for it in faults) if faults else 0)
-        case [name] if name in headline.library.calls:
+        case [name] if name in headline.library.calls or name in headline.program.calls:
             print(Headline().of_call(name))
         case _:
             sys.exit(__doc__)

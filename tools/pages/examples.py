@@ -9,13 +9,13 @@ from sources import CRATES, TOP, shown
 README = TOP / "README.md"
 # The tests that have the blocks, by the fence that opens these. Those of the library stand in the crates of its tests, that of
 # the README in a program of its own.
-RATTLE = [*sorted(CRATES.glob("tests_of_*/src/examples.rt")), CRATES / "first/src/main.rt"]
+RATTLE = [*sorted(CRATES.glob("tests_of_*/src/examples.rt")), CRATES / "example_first/src/main.rt"]
 TESTS = {
     "```": RATTLE,
     "```rust": RATTLE,
-    "```c": [TOP / "bindings/c/harness.c"],
+    "```c": [TOP / "bindings/c/tests/harness.c"],
     "```rust,ignore": [TOP / "bindings/rust/src/pack.rs"],
-    "```python": [TOP / "bindings/python/test_rectangle_pack.py"],
+    "```python": [TOP / "bindings/python/tests/test_rectangle_pack.py"],
 }
 
 

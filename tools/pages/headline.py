@@ -1,4 +1,4 @@
-"""What a reader of a public call has to believe: the page docs/HEADLINE.md, and the same of any one call.
+"""What a reader of a public call has to believe: as a list on the page docs/HEADLINE.md, and with all texts for any one call.
 
 A call rests on the definitions in specs/ that its contract names, that name how the types of its signature are seen (`Value`
 and `view` of their models), and that these name. Lines are counted without comments."""
@@ -97,6 +97,10 @@ class Specs:
         return [other for other in self.named(lines, self.brought[it.module], it.module) if other is not it] if field else [it]
 
 
+def path_of(it: Definition) -> str:
+    return f"crates/{it.module.replace('.', '/')}.antt"
+
+
 def definitions_among(order: Iterable[Told]) -> list[Definition]:
     return [it for it in order if isinstance(it, Definition)]
 
@@ -128,10 +132,6 @@ class Headline:
         found = definitions_among(self.specs.tell(self.roots(name), set(self.told)))
         return f"{len(found)} definitions, {sum(it.length() for it in found)} lines in {len({it.module for it in found})} files"
 
-    def field(self, name: str) -> str:
-        record, _, field = name.partition(".")
-        return fenced(self.specs.by_name[record].field(field))
-
     def contract(self, name: str) -> str:
         call = self.call(name)[1]
         return fenced([call.item.head, *call.lines()])
@@ -142,18 +142,24 @@ class Headline:
         return "\n\n".join(f"`{it}`, {code.types[it].place()}\n\n{fenced(lines)}" for it, _, lines in code.views(call))
 
     def definitions(self, name: str) -> str:
-        """What a root rests on beside what was told, which is told now: types of the code and words of std, then definitions."""
+        """What a root rests on beside what was told, which is told now: a line each, with a link to its place."""
+        return "\n".join(
+            f"- [`{it.name}`](../{path_of(it)}#L{it.line}): {re.split('[.;] ', it.meaning)[0]}"
+            for it in definitions_among(self.specs.tell(self.roots(name), self.told))
+        )
+
+    def texts(self, name: str) -> str:
+        """The same with its texts: types of the code and words of std, then definitions."""
         order, of = self.specs.tell(self.roots(name), self.told), {"type": self.library, "line": self.program}
         names = [it for it in order if not isinstance(it, Definition)]
         types = ", ".join(f"`{it}` ({of[kind].types[it].place()})" for kind, it in names if kind in of)
         std = ", ".join(f"`{it}`" for it in sorted({it for kind, it in names if kind == "std"}))
         said = [f"{title}: {them}." for title, them in (("Types of the code", types), ("Words of the standard library", std)) if them]
         for it in definitions_among(order):
-            path = f"crates/{it.module.replace('.', '/')}.antt"
-            said.append(f"`{it.name}`, {path}:{it.line}: {it.meaning}\n\n{fenced(it.heads + it.lines)}")
+            said.append(f"`{it.name}`, {path_of(it)}:{it.line}: {it.meaning}\n\n{fenced(it.heads + it.lines)}")
         return "\n\n".join(said)
 
     def of_call(self, name: str) -> str:
         """A call's contract, and what it rests on."""
         parts = [f"# {name}\n\n{self.place(name)}: {self.count(name)}.", self.contract(name), self.views(name)]
-        return "\n\n".join(filter(None, [*parts, self.definitions(name)]))
+        return "\n\n".join(filter(None, [*parts, self.texts(name)]))

@@ -7,7 +7,7 @@ from collections.abc import Iterator, Mapping, Sequence
 
 from definitions import known_names
 from library import module_of_file
-from sources import CRATES, DOCS, LAYERS, ORDER, ROOT, TOP, coded, fenced, files_of, shown
+from sources import CRATES, DOCS, FOR_C, LAYERS, ORDER, PROGRAM, ROOT, TOP, coded, fenced, files_of, shown
 
 # A module: its crate, and the modules that it is in, down to its own name.
 Words = tuple[str, ...]
@@ -50,19 +50,19 @@ def tree(says: Mapping[Words, str], public: set[str]) -> list[str]:
 
 
 def modules(crates: str) -> str:
-    """The modules of these crates."""
-    paths = [path for crate in crates.split() for path in sorted(files_of([crate], "src", ".rt"), key=words_of)]
+    """The modules of these crates, without those inside others."""
+    paths = [path for crate in crates.split() for path in sorted(files_of([crate], "src", ".rt"), key=words_of) if len(words_of(path)) < 3]
     public = {it.words[-1] for it in module_of_file([ROOT]).all()}
     return fenced(tree({words_of(it): sentence_of(it.read_text()) for it in paths}, public), "text")
 
 
 def faults() -> Iterator[str]:
-    """Crates without a place on the page, files that do not say what they have, and what the page names that is not there."""
-    written, files = (DOCS / "text/MAP.md").read_text(), files_of(ORDER, "src", ".rt")
+    """Crates of the library and of the program without a place on the page, files that do not say what they have, and what the page names that is not there."""
+    written, files = (DOCS / "templates/MAP.md").read_text(), files_of(ORDER, "src", ".rt")
     placed = " ".join(PLACE.findall(written)).split()
-    yield from (f"docs/text/MAP.md: has no place for the modules of `{it}`" for it in ORDER if it not in placed)
+    yield from (f"docs/templates/MAP.md: has no place for the modules of `{it}`" for it in (*LAYERS, *PROGRAM, FOR_C) if it not in placed)
     yield from (f"{shown(it)}: does not begin with a `//!` that says what it has" for it in files if not it.read_text().startswith("//! "))
     known = known_names() | {it.stem for it in TOP.iterdir()}
     names = {name for span in coded(written) if NAME.fullmatch(span) for name in span.split("::")} - known
     names |= {*placed} - {*ORDER} | {it for it in coded(written) if it.endswith(".rt") and not any(shown(path).endswith(f"/{it}") for path in files)}
-    yield from (f"docs/text/MAP.md: there is no `{it}`" for it in sorted(names))
+    yield from (f"docs/templates/MAP.md: there is no `{it}`" for it in sorted(names))

@@ -38,7 +38,7 @@ def fill(text: str, words: Mapping[str, Callable[[str], str]]) -> str:
 
 def fill_page(name: str, *words: Callable[[str], str]) -> str:
     """A made page: its written text, filled by functions that go by their names."""
-    return fill((DOCS / "text" / name).read_text(), {it.__name__: it for it in words})
+    return fill((DOCS / "templates" / name).read_text(), {it.__name__: it for it in words})
 
 
 def coded(text: str) -> list[str]:

@@ -19,7 +19,7 @@ for it in "${hidden[@]}"; do
 done
 mkdir "$top/new/tmp/release"
 cp "$repository"/dist/* "$top/new/tmp/release/"
-cp "$repository/bindings/python/session.py" "$repository/tools/release/inside.sh" "$top/new/tmp/"
+cp "$repository/bindings/python/examples/session.py" "$repository/tools/release/inside.sh" "$top/new/tmp/"
 mount -t proc proc "$top/new/proc"
 for it in null zero urandom; do
     touch "$top/new/dev/$it"

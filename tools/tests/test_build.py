@@ -1,4 +1,7 @@
-"""Tests of tools/build.py: which proofs share the processors, and how; what is taken over of proofs that the gate made."""
+"""Tests of tools/build.py: which proofs share the processors, what is said of how far they are, and what is taken over of proofs
+that the gate made."""
+from __future__ import annotations
+
 import contextlib
 import io
 import os
@@ -9,58 +12,99 @@ from unittest import mock
 
 import build
 
-# Crates with the numbers of their lines of code, and what each stands on.
-LINES = {"low": 10, "left": 40, "right": 36, "aside": 1, "top": 20}
-BELOW = "low:\nleft: low\nright: low\naside:\ntop: left right aside\n"
+# What each crate stands on.
+BELOW = "low:\nleft: low\nright: low\nmiddle: left\ntop: middle right\n"
+# The log of a check of eight functions, as it was after five, and one more line that is not whole yet.
+LOG = """\
+checked tiny::clock::ClockDisplay::fmt, 1 of 8
+checked tiny::clock::Clock::new, 2 of 8
+checked tiny::clock::describe, 3 of 8
+checked tiny::std++io++traits++Lines+Destruct::drop, 4 of 8
+checked tiny::main, 5 of 8
+checked tiny::clock::ClockPartialEq::eq, 6"""
 
 
 class Shares(unittest.TestCase):
+    def shares(self, jobs: int, ready: list[str], running: list[str]) -> dict[str, int]:
+        """How many jobs each crate gets."""
+        with mock.patch.object(build, "most_jobs", return_value=jobs):
+            return dict(build.Build(build.crates_of(BELOW), pathlib.Path()).shares(ready, running))
+
+    def test_a_proof_alone_gets_all_processors(self) -> None:
+        self.assertEqual(self.shares(4, ["top"], []), {"top": 4})
+
+    def test_that_for_which_most_wait_gets_all_processors(self) -> None:
+        self.assertEqual(self.shares(4, ["left", "right"], []), {"left": 4, "right": 1})
+        self.assertEqual(self.shares(4, ["right"], ["left"]), {"right": 1})
+        self.assertEqual(self.shares(4, ["middle"], ["right"]), {"middle": 4})
+
+
+class Steps(unittest.TestCase):
+    """The commands for a library, and for a program over it."""
+
     def setUp(self) -> None:
         folder = tempfile.TemporaryDirectory()
         self.addCleanup(folder.cleanup)
         top = pathlib.Path(folder.name)
-        for name, lines in LINES.items():
-            (top / "crates" / name / "src").mkdir(parents=True)
-            (top / "crates" / name / "src" / "lib.rt").write_text("//\n" * lines)
-        self.crates = build.crates_of(BELOW, top)
+        (top / "crates/program/src").mkdir(parents=True)
+        (top / "crates/program/src/main.rt").touch()
+        self.its = build.Build(build.crates_of("low:\nprogram: low\n", top), top)
 
-    def shares(self, jobs: int, ready: list[str], running: list[str]) -> dict[str, int]:
-        """How many jobs each crate gets."""
-        with mock.patch.object(build, "most_jobs", return_value=jobs):
-            return dict(build.Build(self.crates, pathlib.Path()).shares(ready, running))
+    def steps(self, name: str) -> list[list[str]]:
+        return [*self.its.steps(self.its.crates[name], 4)]
 
-    def test_lines_behind_are_those_of_the_longest_chain(self) -> None:
-        self.assertEqual(build.lines_behind(self.crates), {"top": 20, "aside": 21, "left": 60, "right": 56, "low": 70})
+    def test_a_library_is_proved_as_it_is_built(self) -> None:
+        ((program, verb, *words),) = self.steps("low")
+        self.assertEqual((program, verb), ("rattle", "build"))
+        self.assertIn("--statements", words)
 
-    def test_a_proof_alone_gets_all_processors(self) -> None:
-        self.assertEqual(self.shares(4, ["top"], []), {"top": 4})
-        self.assertEqual(self.shares(2, ["top"], []), {"top": 2})
+    def test_what_a_check_proved_of_a_program_is_built_and_linked(self) -> None:
+        check, compiles, links = self.steps("program")
+        self.assertEqual((check[1], compiles[1]), ("check", "build"))
+        self.assertIn("--progress", check)
+        self.assertEqual(check[check.index("-o") + 1], compiles[compiles.index("--crate-checked") + 1])
+        self.assertIn(compiles[compiles.index("-o") + 1], links)
+        self.assertIn(f"low={self.its.crates['low'].made}", check)
 
-    def test_what_most_waits_for_gets_most(self) -> None:
-        self.assertEqual(self.shares(4, ["aside", "low"], []), {"low": 4, "aside": 1})
-        self.assertEqual(self.shares(4, ["left", "right"], ["aside"]), {"left": 4, "right": 2})
-        self.assertEqual(self.shares(4, ["right"], ["left"]), {"right": 2})
 
-    def test_few_processors_are_shared(self) -> None:
-        self.assertEqual(self.shares(2, ["aside", "low"], []), {"low": 2, "aside": 1})
-        self.assertEqual(self.shares(2, ["left", "right"], ["aside"]), {"left": 2, "right": 1})
-        self.assertEqual(self.shares(1, ["left", "right"], ["aside"]), {"left": 1, "right": 1})
+class HowFar(unittest.TestCase):
+    def test_a_log_has_counts(self) -> None:
+        self.assertEqual(build.counts_of(LOG), (5, 8))
+        self.assertEqual(build.counts_of(""), (0, 0))
 
-    def test_several_jobs_give_way_to_one(self) -> None:
-        top = self.crates["low"].top
-        (top / "KIT-ID").write_text("kit")
-        with mock.patch.object(build, "TOP", top), mock.patch.object(build.Build, "call") as call:
-            with contextlib.redirect_stdout(io.StringIO()):
-                its = build.Build(self.crates, top)
-                its.make(self.crates["aside"], 1)
-                its.make(self.crates["low"], 4)
-        niceness = {of.args[0].name: of.args[2] for of in call.call_args_list}
-        self.assertEqual(niceness["aside"], 0)
-        self.assertGreater(niceness["low"], 0)
+    def test_what_is_left_is_reckoned_by_the_share(self) -> None:
+        self.assertEqual(build.how_far("tiny", (5, 8), 340, (40, 2)), "tiny: 5 of 8 functions are proved, about 5 min left")
+
+    def test_before_there_is_a_share(self) -> None:
+        self.assertEqual(build.how_far("tiny", (0, 0), 12.3, (0, 0)), "tiny is being proved, for 12 s")
+        self.assertEqual(build.how_far("tiny", (5, 8), 40, (40, 5)), "tiny: 5 of 8 functions are proved")
+
+    def test_after_the_last_function(self) -> None:
+        self.assertEqual(build.how_far("tiny", (8, 8), 340, (40, 2)), "tiny: all 8 functions are proved, and it is compiled")
+
+    def told(self, is_terminal: bool) -> str:
+        """What is told, twice, of one crate that is being proved and one that has not begun."""
+        with tempfile.TemporaryDirectory() as top, contextlib.redirect_stderr(io.StringIO()) as said:
+            its = build.Build(build.crates_of("tiny:\nnext: tiny\n", pathlib.Path(top)), pathlib.Path())
+            its.is_terminal, its.began = is_terminal, {"tiny": 0}
+            its.crates["tiny"].proved.mkdir(parents=True)
+            for seconds, log in ((40, LOG[: LOG.index("checked tiny::clock::describe")]), (340, LOG)):
+                its.crates["tiny"].log.write_text(log)
+                with mock.patch("time.monotonic", return_value=seconds), mock.patch.dict(os.environ, COLUMNS="50"):
+                    its.tell(["tiny", "next"])
+        return said.getvalue()
+
+    def test_a_terminal_has_one_line_that_goes_on(self) -> None:
+        lines = ["tiny: 2 of 8 functions are proved", "tiny: 5 of 8 functions are proved, about 5 min le"]
+        self.assertEqual(self.told(True), "".join(f"\r\x1b[K{it}" for it in lines))
+
+    def test_elsewhere_there_are_plain_lines(self) -> None:
+        lines = ["tiny: 2 of 8 functions are proved\n", "tiny: 5 of 8 functions are proved, about 5 min left\n"]
+        self.assertEqual(self.told(False), "".join(lines))
 
 
 class Take(unittest.TestCase):
-    """What `rt ci` left of two libraries, of which the second stands on the first."""
+    """What `rt ci` left of two crates, of which the second stands on the first."""
 
     BEGAN = 1000.0
 
@@ -103,13 +147,12 @@ class Take(unittest.TestCase):
     def test_what_stands_on_a_library_that_is_left_is_left(self) -> None:
         self.assertEqual(self.taken("high"), [])
 
-    def test_what_was_proved_over_another_library_is_proved_again(self) -> None:
-        self.taken("low", "high")
-        self.taken("low")
-        self.assertTrue(self.crates["high"].stamp.exists())
-        self.write("crates/low/out/rlib/low.rlib/format", "another", self.BEGAN + 1)
-        self.taken("low")
-        self.assertFalse(self.crates["high"].stamp.exists())
+    def test_a_program_stays_where_it_is(self) -> None:
+        self.crates = build.crates_of("low:\nprogram: low\n", self.top)
+        self.write("crates/program/src/main.rt", "source", self.BEGAN - 1)
+        self.write("crates/program/out/program", "program", self.BEGAN + 1)
+        self.assertEqual(self.taken("low", "program"), ["low", "program"])
+        self.assertTrue(self.crates["program"].stamp.exists())
 
     def test_a_source_that_is_newer_is_not_proved(self) -> None:
         self.write("crates/high/src/lib.rt", "other", self.BEGAN + 1)

@@ -6,6 +6,7 @@ import unittest
 from unittest import mock
 
 import reached
+import sources
 
 MAIN = """//! A program.
 #![tactic(auto)]
@@ -93,7 +94,7 @@ FILES = {
     "low/proofs/sizes/Size/twice/Answers.antt": "use Rattle.low.proofs.lemmas.Doubles.{double}\n",
 }
 # Crates above a lowest one, of which `high` and `side` stand on `low`.
-LAYERS = {"base": [], "low": ["base"], "high": ["base", "low"], "side": ["low"], "top": ["base", "high", "low", "side"]}
+LAYERS: dict[str, list[str]] = {"base": [], "low": ["base"], "high": ["base", "low"], "side": ["low"], "top": ["base", "high", "low", "side"]}
 FILES_OF_LAYERS = {
     "top/src/main.rt": "//! A program.\n\nuse base::one::one;\nuse high::four::four;\nuse low::two::two;\nuse side::three::three;\n\n"
     "fn main(rt: HostRuntime) {\n    rt.exit(one() + four() + two() + three());\n}\n",
@@ -233,7 +234,7 @@ class CopyOfPackrun(unittest.TestCase):
                     self.assertIn(without_paths(line), lines, path)
 
     def test_paths_start_in_the_crate(self) -> None:
-        start = re.compile(rf"\bRattle\.(\w+)\.|(?<![\w:])({'|'.join(reached.ORDER)})::")
+        start = re.compile(rf"\bRattle\.(\w+)\.|(?<![\w:])({'|'.join(sources.ORDER)})::")
         files = dict(reached.Copy("packrun").files())
         self.assertEqual(files.pop(pathlib.Path("crates.txt")), "packrun:\n")
         for path, text in files.items():
@@ -243,7 +244,7 @@ class CopyOfPackrun(unittest.TestCase):
 
 def without_paths(line: str) -> str:
     """A line without what is written anew in the paths of a copy: the crate, or the module for it."""
-    return re.sub(rf"\b(?:(?:crate|specs|proofs|{'|'.join(reached.ORDER)})::)+", "", line)
+    return re.sub(rf"\b(?:(?:crate|specs|proofs|{'|'.join(sources.ORDER)})::)+", "", line)
 
 
 if __name__ == "__main__":

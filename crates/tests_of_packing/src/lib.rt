@@ -1,9 +1,7 @@
-//! The tests of packings; those by the best of several heuristics, into bins and into sessions, in
-//! `best`. The examples of the documentation stand in `examples`, laws in `laws`.
+//! The tests of packings into bins. The examples of the documentation stand in `examples`, laws in
+//! `laws`.
 #![tactic(auto)]
 
-#[cfg(test)]
-mod best;
 #[cfg(test)]
 mod examples;
 #[cfg(test)]

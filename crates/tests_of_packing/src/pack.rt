@@ -28,6 +28,7 @@ macro_rules! case {
 
 mod answers;
 mod asked;
+mod best;
 mod clones;
 mod closures;
 mod exclusions;
@@ -52,7 +53,7 @@ use tests_support::all_match;
 use tests_support::boxes::{GroupName, SizedBin, SizedBox, collect};
 use tests_support::each_request::End;
 use tests_support::refusing::Refusing;
-use tests_support::shapes::{has_list, is_new, place};
+use tests_support::shapes::{are_new, has_list, place};
 
 /// Boxes to place, by numbers.
 pub type Rects<A> = GroupedRectsToPlace<u32, u32, A>;
@@ -135,16 +136,6 @@ fn have_lists<A: Allocator + Copy>(bins: &Bins<A>, case: &Case) -> bool {
         }
     }
     bins.len() == rows.len()
-}
-
-/// Whether each bin is as it was when it was new.
-pub fn are_new<BinId: Ord, A: Allocator + Copy>(bins: &BTreeMap<BinId, TargetBin<A>, A>) -> bool {
-    for bin in bins.values() {
-        if !is_new(bin) {
-            return false;
-        }
-    }
-    true
 }
 
 // Bin and place of the last of these placements of the box.

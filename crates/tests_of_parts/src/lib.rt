@@ -1,14 +1,11 @@
 //! The tests of the library's calls on what a packing is made of: sizes, sections, bins and
-//! collections; and of cutting plans in random sessions. A test stands in the module that is named as
-//! that of its call.
+//! collections. A test stands in the module that is named as that of its call.
 #![tactic(auto)]
 
 #[cfg(test)]
 mod bin_section;
 #[cfg(test)]
 mod box_size_heuristics;
-#[cfg(test)]
-mod cut_plan;
 #[cfg(test)]
 mod grouped_rects_to_place;
 #[cfg(test)]

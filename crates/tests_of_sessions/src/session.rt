@@ -61,6 +61,7 @@ macro_rules! packed {
     };
 }
 
+mod best;
 mod calls;
 mod clones;
 mod cut_plan;

@@ -3,6 +3,7 @@
 //! that look random.
 #![tactic(auto)]
 
+pub mod best_cases;
 pub mod boxes;
 pub mod combs;
 pub mod counts;

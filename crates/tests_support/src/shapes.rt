@@ -11,6 +11,7 @@ use rectangle_pack_sections::packed_location::PackedLocation;
 use rectangle_pack_sections::rect_to_insert::RectToInsert;
 use rectangle_pack_sections::width_height_depth::WidthHeightDepth;
 use std::alloc::{AllocError, Allocator};
+use std::collections::BTreeMap;
 
 /// A section with this corner and size; any of the numbers may be 0.
 pub fn section(x: u32, y: u32, z: u32, width: u32, height: u32, depth: u32) -> BinSection
@@ -66,6 +67,16 @@ pub fn has_list<A: Allocator + Copy>(bin: &TargetBin<A>, list: &[[u32; 6]]) -> b
 pub fn is_new<A: Allocator + Copy>(bin: &TargetBin<A>) -> bool {
     let size = bin.max_size();
     has_list(bin, &[[0, 0, 0, size.width(), size.height(), size.depth()]])
+}
+
+/// Whether each bin is as it was when it was new.
+pub fn are_new<BinId: Ord, A: Allocator + Copy>(bins: &BTreeMap<BinId, TargetBin<A>, A>) -> bool {
+    for bin in bins.values() {
+        if !is_new(bin) {
+            return false;
+        }
+    }
+    true
 }
 
 /// The groups of a push. A list without groups is `None`: the box is pushed alone.

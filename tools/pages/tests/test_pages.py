@@ -2,7 +2,7 @@
 import unittest
 from unittest import mock
 
-import api
+import calls
 import examples
 import modules
 import proved
@@ -29,16 +29,6 @@ pub record Bin : Type 0 where
   pub first : side_of
   pub next : Bin
 '''
-WRITTEN = """# Proved
-
-## `pack`
-
-### The calls
-
-{{claims set, reset}}
-
-## `other`
-"""
 CALL = """pub fn NAME(n: u32)
     // `n` is small.
     requires small { n < 5 }
@@ -105,9 +95,17 @@ class Rests(unittest.TestCase):
         self.assertEqual([it.name for it in definitions_among(self.specs.roots("Bin.first"))], ["side"])
 
 
-class ProvedPage(unittest.TestCase):
+READER = """/// How many there are.
+pub fn NAME(&self) -> usize
+    ensures { length self.now }
+{
+}
+"""
+
+
+class Claims(unittest.TestCase):
     def setUp(self) -> None:
-        self.proved = proved.Proved([call_of("set", CALL), call_of("reset", SILENT)], WRITTEN)
+        self.proved = proved.Proved([call_of("set", CALL), call_of("reset", SILENT)])
 
     def test_claims_of_a_comment(self) -> None:
         _, done, kept = call_of("set", CALL).clauses()
@@ -117,38 +115,36 @@ class ProvedPage(unittest.TestCase):
         ])
         self.assertEqual((done.lines, kept.notes), (["    ensures done { new ≡ n }"], []))
 
-    def test_rows(self) -> None:
-        self.assertEqual(self.proved.claims("set").split("\n"), [
-            "| Call | Claim | Clause | Wrong body |",
-            "|---|---|---|---|",
-            "| `set` | Premise: `n` is small. | `small` | |",
-            "| | It is `n` then, whatever it was. | `done` | `set.is_left`, `set.two` |",
-            "| | It stays. | `done` | |",
+    def test_a_line_for_each_claim(self) -> None:
+        with mock.patch.object(proved, "TRIED", ["set.two"]):
+            found = [*self.proved.claims(self.proved.calls["set"])]
+        self.assertEqual(found, [
+            "- `small`: Premise: `n` is small.",
+            r"- `done`: It is `n` then, whatever it was. [`set.is_left`\*, `set.two`]",
+            "- `done`: It stays.",
         ])
+
+    def test_a_premise_that_was_told_is_named(self) -> None:
+        found = [*self.proved.claims(self.proved.calls["reset"])]
+        self.assertEqual(found[0], "- Premises as above: `small`")
 
     def test_a_clause_that_reads_the_same_claims_the_same(self) -> None:
         self.assertEqual(self.proved.told["reset", "small"], [proved.Claim("`n` is small.", [])])
         self.assertEqual(self.proved.told["reset", "ensures"], [])
 
-    def test_places(self) -> None:
-        self.assertEqual(self.proved.places, {"set": ("pack", "the-calls"), "reset": ("pack", "the-calls")})
-
-    def test_anchors(self) -> None:
-        given: dict[str, int] = {}
-        found = [proved.slug(it, given) for it in ("`Session::run`", "The call", "The call")]
-        self.assertEqual(found, ["sessionrun", "the-call", "the-call-1"])
-
     def test_functions_of_the_program_are_named_or_have_claims(self) -> None:
         program = [call_of("reset", SILENT), call_of("end", CALL), call_of("pad", SILENT)]
-        found = proved.Proved([call_of("set", CALL)], WRITTEN, program)
-        self.assertEqual(list(found.calls), ["set", "reset", "end"])
-        self.assertEqual([*found.faults_of_place(found.calls["reset"])], [])
-        self.assertEqual([*found.faults_of_place(found.calls["end"])], ["docs/text/PROVED.md: `end` has no place under `pack`"])
+        self.assertEqual([*proved.Proved([call_of("set", CALL)], ["reset"], program).calls], ["set", "reset", "end"])
 
     def test_a_name_stands_for_one_function(self) -> None:
         program = [call_of("reset", SILENT), call_of("reset", SILENT)]
-        self.assertEqual(proved.Proved([], WRITTEN, program).twice, program[:1])
+        self.assertEqual(proved.Proved([], ["reset"], program).twice, program[:1])
         self.assertEqual(self.proved.twice, [])
+
+    def test_a_plain_reader_is_one_sentence(self) -> None:
+        self.assertTrue(proved.is_plain(call_of("len", READER)))
+        self.assertFalse(proved.is_plain(call_of("len", READER.replace("are.", "are. It is counted."))))
+        self.assertFalse(proved.is_plain(call_of("set", CALL)))
 
     def test_each_clause_has_a_claim(self) -> None:
         reset = self.proved.calls["reset"]
@@ -170,10 +166,6 @@ class ProvedPage(unittest.TestCase):
         edits = [CRATES / "low/must-fail" / it for it in ("set.two.edit", "set.three.edit")]
         self.assertEqual([*self.proved.faults_of_edits(edits)], ["crates/low/must-fail/set.three.edit: no claim names this wrong body"])
 
-    def test_a_star_marks_what_the_gate_does_not_try(self) -> None:
-        with mock.patch.multiple(proved, TRIED=["set.two", "set.both"], OTHERS=["set.is_left", "set.both"]):
-            self.assertEqual(proved.starred("`set.is_left`, `set.two`, `set.both`, `set`"), r"`set.is_left`\*, `set.two`, `set.both`, `set`")
-
 
 class Functions(unittest.TestCase):
     def test_functions_of_items(self) -> None:
@@ -185,20 +177,24 @@ class Functions(unittest.TestCase):
         self.assertEqual(proved.claims_of(found[2].clauses()[0].notes), [proved.Claim("Words are ordered.", [])])
 
 
-class Api(unittest.TestCase):
+class Calls(unittest.TestCase):
     def test_code_in_a_doc_comment_is_rust(self) -> None:
         docs = ["Sets it.", "```", "set(1);", "```", "```text", "ok", "```"]
-        self.assertEqual(api.docs_of(docs), "Sets it.\n```rust\nset(1);\n```\n```text\nok\n```")
+        self.assertEqual(calls.docs_of(docs), "Sets it.\n```rust\nset(1);\n```\n```text\nok\n```")
 
     def test_head_is_moved_to_the_left(self) -> None:
         head = "pub fn set(\n        &self,\n    ) -> u32"
-        self.assertEqual(api.dedented(head), "pub fn set(\n    &self,\n) -> u32")
-        self.assertEqual(api.dedented("fn set()\n    where\n        u8: Copy,"), "fn set()\nwhere\n    u8: Copy")
+        self.assertEqual(calls.dedented(head), "pub fn set(\n    &self,\n) -> u32")
+        self.assertEqual(calls.dedented("fn set()\n    where\n        u8: Copy,"), "fn set()\nwhere\n    u8: Copy")
+
+    def test_tests_are_those_of_the_module(self) -> None:
+        among = [("pack", "pack/groups", "set(1)"), ("pack", "pack/large", "reset()"), ("session", "session", "set(2)")]
+        self.assertEqual(calls.tests_of(call_of("set", CALL), among), "Tests: `pack/groups`")
 
     def test_variants_are_listed_with_their_fields(self) -> None:
         lines = ["    /// It moved.", "    Moved {", "        /// How far.", "        by: u32,", "    },"]
         (part,) = items_of(lines, ends=",")
-        self.assertEqual(list(api.listed(part)), ["- `Moved`: It moved.", "  - `by`: How far."])
+        self.assertEqual(list(calls.listed(part)), ["- `Moved`: It moved.", "  - `by`: How far."])
 
 
 class Modules(unittest.TestCase):

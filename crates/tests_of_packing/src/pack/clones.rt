@@ -1,13 +1,13 @@
 //! Packings whose ids refuse to be cloned, each clone in turn until none is refused.
 
-use super::{Placed, TWO_IN_A_GROUP, add_bin, are_new, pack, plenty};
+use super::{Placed, TWO_IN_A_GROUP, add_bin, pack, plenty};
 use rectangle_pack::{Placement, RectanglePackError, RectanglePackOk};
 use std::alloc::{AllocError, Global};
 use std::process::Abort;
 use tests_support::all_match;
 use tests_support::names::{Bins, Clones, Name, Rects, have_lists, push_all};
 use tests_support::refusing::Refusing;
-use tests_support::shapes::place;
+use tests_support::shapes::{are_new, place};
 
 // What a packing placed.
 type Packed = RectanglePackOk<Name, Name, Refusing>;

@@ -1,12 +1,13 @@
 //! Packings into sixteen bins and more, most of which a box passes over.
 
-use super::{Answer, Bins, Rects, add_bin, are_new, pack_counted, plenty};
+use super::{Answer, Bins, Rects, add_bin, pack_counted, plenty};
 use rectangle_pack::{FitTests, Placement, RectToInsert, RectanglePackError};
 use std::alloc::{AllocError, Allocator};
 use std::process::Abort;
 use tests_support::all_match;
 use tests_support::each_request::End;
 use tests_support::refusing::Refusing;
+use tests_support::shapes::are_new;
 
 // A number n of boxes that leave a strip, and the tests of the packing. The box that fills its bin
 // makes one. Each that leaves a strip makes one in its bin, and one for the strip in each bin

@@ -3,18 +3,18 @@
 use super::closures::{EQUAL_KEYS, packs_between};
 use super::exclusions::{ONE_BIN, TWO_BINS, counts};
 use super::{
-    Answer, Bins, Case, FULL_BIN, Rects, TWO_IN_A_GROUP, add_bin, long_lists, many_bins,
+    Answer, Bins, Case, FULL_BIN, Rects, TWO_IN_A_GROUP, add_bin, best, long_lists, many_bins,
     pack_counted, pack_numbered,
 };
-use crate::best;
 use rectangle_pack::FitTests;
 use std::alloc::{Allocator, Global};
 use std::process::Abort;
+use tests_support::best_cases;
 use tests_support::each_request::End;
 use tests_support::refusing::Refusing;
 
-/// What is run with each request for memory refused in turn. Whichever is refused, bins and sessions
-/// stay as they were; at the end the case comes out.
+/// What is run with each request for memory refused in turn. Whichever is refused, bins stay as they
+/// were; at the end the case comes out.
 #[derive(Clone, Copy)]
 pub enum Run {
     /// A packing where a size is rated at its volume, but at least and at most so much.
@@ -27,12 +27,8 @@ pub enum Run {
     SixteenBins,
     /// A packing into a long list, with a box that is too tall or without.
     LongList(bool),
-    /// The best of several packings into bins.
-    Best(&'static best::Case),
-    /// The same into a session.
-    BestInSession(&'static best::Case),
-    /// The best of all into a session whose numbers are used up.
-    PastTheLastNumber,
+    /// The best of several packings.
+    Best(&'static best_cases::Case),
 }
 
 fn end(rt: &impl Abort, alloc: Refusing, run: Run) -> End {
@@ -42,9 +38,7 @@ fn end(rt: &impl Abort, alloc: Refusing, run: Run) -> End {
         Run::Nothing => packs_into_new(rt, alloc),
         Run::SixteenBins => many_bins::packs_few(rt, alloc),
         Run::LongList(too_tall) => long_lists::packs(rt, alloc, too_tall),
-        Run::Best(case) => best::bins::packs(rt, alloc, case),
-        Run::BestInSession(case) => best::sessions::packs(rt, alloc, case),
-        Run::PastTheLastNumber => best::sessions::refuses_one_box(rt, alloc),
+        Run::Best(case) => best::packs(rt, alloc, case),
     }
 }
 

@@ -38,6 +38,8 @@ mod empty;
 mod groups;
 mod joins;
 mod packings;
+mod random;
+mod read_back;
 mod refusals;
 
 use super::calls::{NO_MEMORY, obey, packed};

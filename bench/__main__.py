@@ -1,0 +1,33 @@
+"""Prints the tables of docs/PERFORMANCE.md: python3 bench makes all, python3 bench TABLE.. these. README.md says which there are."""
+from __future__ import annotations
+
+import datetime
+import subprocess
+import sys
+
+import fill
+import plans
+import speed
+from programs import TOP
+
+TABLES = {
+    it.__name__: it
+    for it in (
+        speed.packings, speed.others, speed.from_c, speed.excluded, speed.given_back, speed.sweeps,
+        plans.plans, fill.squares, fill.pages, fill.containers, fill.best,
+    )
+}
+
+
+def main() -> None:
+    names = sys.argv[1:] or [*TABLES]
+    if not {*names} <= {*TABLES}:
+        sys.exit(f"{__doc__}\nTables: {', '.join(TABLES)}")
+    commit = subprocess.run(["git", "rev-parse", "--short", "HEAD"], cwd=TOP, capture_output=True, text=True, check=True)
+    print(f"At {commit.stdout.strip()}, on {datetime.date.today()}\n")
+    for name in names:
+        print(f"**{name}**: {TABLES[name].__doc__}\n", flush=True)
+        TABLES[name]()
+
+
+main()

@@ -1,0 +1,164 @@
+"""How full bins get by each heuristic, by the best of all, and by other packers. All pack the same boxes, of fixed seeds.
+
+The smallest square has the first whole side at which a packer takes all boxes: sides are tried one by one, from the least on that has
+the boxes' area and is no shorter than a box. So are the depths of containers. A packer may take all boxes at one side and not at a
+larger one. A dash stands where it does not take all boxes of a draw up to four times the least."""
+from __future__ import annotations
+
+import math
+import random
+from collections.abc import Callable, Iterable, Iterator
+from statistics import fmean
+from typing import NamedTuple
+
+from programs import compiled, printed, proved, table
+
+# The answers of session_lines to a question, and of fill_by_hand.c, in order.
+OURS = ("volume", "height", "width", "depth", "side-sum", "longest-side", "shortest-side", "side-area", "best of all")
+BY_HAND = ("MaxRects", "shelves", "stb_rect_pack")
+
+Box = tuple[int, int, int]
+Draw = Callable[[random.Random], Box]
+
+
+class Asked(NamedTuple):
+    """The set of the boxes, the boxes, a line that asks of them, and the least that the answer may be."""
+
+    of: str
+    boxes: list[Box]
+    question: str
+    least: int
+
+
+def sides(*ranges: tuple[int, int]) -> Draw:
+    """A box with a side from each range."""
+    return lambda r: (r.randint(*ranges[0]), r.randint(*ranges[1]), r.randint(*ranges[2]) if len(ranges) > 2 else 1)
+
+
+def sprite(r: random.Random) -> Box:
+    """One to two tiles wide, and one to three high."""
+    tile = r.choice([8, 16, 32, 64])
+    return tile * r.randint(1, 2), tile * r.randint(1, 3), 1
+
+
+def small_or_large(r: random.Random) -> Box:
+    """Of ten boxes six are small, three larger, and one is large."""
+    low, high = r.choice([(8, 32)] * 6 + [(32, 96)] * 3 + [(96, 256)])
+    width = r.randint(low, high)
+    return width, width * r.randint(50, 150) // 100, 1
+
+
+SQUARES = {
+    "boxes": sides((4, 64), (4, 64)),
+    "sprites": sprite,
+    "glyphs": sides((4, 18), (14, 20)),
+    "panels": sides((200, 1200), (100, 600)),
+    "few large": small_or_large,
+    "upright": sides((1, 100), (66, 100)),
+}
+# How many sizes the boxes have; 0 where each is drawn.
+CONTAINERS = {"boxes": 0, "8 sizes": 8, "20 sizes": 20}
+BASE = 235, 239
+# The classes of Berkey and Wang: the side of a page, and the longest side of a box.
+UNIFORM = {"I": (10, 10), "II": (30, 10), "III": (40, 35), "IV": (100, 35), "V": (100, 100), "VI": (300, 100)}
+# Those of Martello and Vigo, on pages of side 100: seven of ten boxes are of the kind, one of each other kind.
+KINDS = {"VII": ((67, 100), (1, 50)), "VIII": ((1, 50), (67, 100)), "IX": ((50, 100), (50, 100)), "X": ((1, 50), (1, 50))}
+
+
+def cells(boxes: Iterable[Box]) -> int:
+    return sum(map(math.prod, boxes))
+
+
+def many(r: random.Random, count: int, draw: Draw) -> list[Box]:
+    return [draw(r) for _ in range(count)]
+
+
+def for_squares() -> Iterator[Asked]:
+    for name, draw in SQUARES.items():
+        for number in range(5):
+            boxes = many(random.Random(f"{name} {number}"), 500, draw)
+            least = max(math.isqrt(cells(boxes) - 1) + 1, *(max(box) for box in boxes))
+            yield Asked(name, boxes, f"first 0 0 {least}", least)
+
+
+def for_containers() -> Iterator[Asked]:
+    for name, sizes in CONTAINERS.items():
+        for number in range(5):
+            r = random.Random(f"{name} {number}")
+            some = many(r, sizes, sides(*[(15, 60)] * 3))
+            boxes = [r.choice(some) for _ in range(300)] if some else many(r, 300, sides(*[(10, 60)] * 3))
+            least = max(-(-cells(boxes) // math.prod(BASE)), *(depth for _, _, depth in boxes))
+            yield Asked(name, boxes, f"first {BASE[0]} {BASE[1]} {least}", least)
+
+
+def of_kinds(name: str) -> Draw:
+    """A box of this class of Martello and Vigo."""
+    kinds = [KINDS[name]] * 7 + [kind for other, kind in KINDS.items() if other != name]
+    return lambda r: sides(*r.choice(kinds))(r)
+
+
+def for_pages() -> Iterator[Asked]:
+    classes = {name: (side, sides((1, most), (1, most))) for name, (side, most) in UNIFORM.items()}
+    classes |= {name: (100, of_kinds(name)) for name in KINDS}
+    for name, (side, draw) in classes.items():
+        for count in range(20, 101, 20):
+            for number in range(10):
+                boxes = many(random.Random(f"{name} {count} {number}"), count, draw)
+                yield Asked(name, boxes, f"pages {side} {side}", -(-cells(boxes) // side**2))
+
+
+def for_times() -> Iterator[Asked]:
+    for name, count, side, bins in (("16,000 boxes, one bin", 16_000, 8192, 1), ("500 boxes, 20 bins", 500, 176, 20)):
+        yield Asked(name, many(random.Random(count), count, sides((4, 64), (4, 64))), f"times {side} {bins}", 1)
+
+
+def answers(program: str, names: Iterable[str], asked: list[Asked]) -> dict[str, list[int]]:
+    """What a program answers to each question, by the names of its packers; 0 stands for no answer."""
+    lines = (line for it in asked for line in (*(f"box {w} {h} {d} 0" for w, h, d in it.boxes), it.question))
+    columns = zip(*(map(int, line.split()) for line in printed(program, "".join(f"{line}\n" for line in lines)).splitlines()))
+    return dict(zip(names, map(list, columns), strict=True))
+
+
+# What is shown of one packer's answers for one set.
+Shows = Callable[[list[Asked], list[int]], float]
+
+
+def show(asked: list[Asked], shows: Shows, form: str, others: bool, means: bool = True) -> None:
+    """Asks all packers, and prints a line for each."""
+    found = answers(proved("session_lines"), OURS, asked)
+    if others:
+        found |= answers(compiled("fill_by_hand.c", "-lm"), BY_HAND, asked)
+    names = list(dict.fromkeys(it.of for it in asked))
+
+    def row(packer: str) -> list[str]:
+        parts = [[(it, number) for it, number in zip(asked, found[packer], strict=True) if it.of == name] for name in names]
+        values = [shows([it for it, _ in part], [number for _, number in part]) for part in parts]
+        values += [fmean(values)] if means else []
+        return [packer, *("-" if math.isnan(value) else form.format(value) for value in values)]
+
+    table(["", *names, *["mean"] * means], map(row, found))
+
+
+def part(asked: list[Asked], sizes: Iterable[int]) -> float:
+    """The part of such sizes that the boxes fill."""
+    return fmean(cells(it.boxes) / size if size else math.nan for it, size in zip(asked, sizes, strict=True))
+
+
+def squares() -> None:
+    """The part of the smallest square that 500 boxes fill, the mean of five draws."""
+    show([*for_squares()], lambda asked, numbers: part(asked, (it**2 for it in numbers)), "{:.3f}", True)
+
+
+def containers() -> None:
+    """The part of the shortest container that 300 boxes fill, the mean of five draws."""
+    show([*for_containers()], lambda asked, numbers: part(asked, (it * math.prod(BASE) for it in numbers)), "{:.3f}", False)
+
+
+def pages() -> None:
+    """The pages used over the least that the boxes' area needs, over 50 draws of 20 to 100 boxes."""
+    show([*for_pages()], lambda asked, numbers: sum(numbers) / sum(it.least for it in asked), "{:.3f}", True)
+
+
+def best() -> None:
+    """What the best of all costs: the best time of seven packings."""
+    show([*for_times()], lambda _, numbers: fmean(it / 1000 if it else math.nan for it in numbers), "{:.2f} ms", False, False)

@@ -1,0 +1,320 @@
+/* Calls all that rectangle_pack.hpp has, and meets each refusal that can be met.
+
+   c++ -std=c++17 -Ibuild bindings/cpp/tests/test.cpp build/librectangle_pack.a -Wl,--wrap=malloc,--wrap=realloc -o test && ./test */
+#include <array>
+#include <cstdio>
+#include <cstdlib>
+#include <cstring>
+#include <optional>
+#include <type_traits>
+#include <utility>
+#include <vector>
+
+#include "rectangle_pack.hpp"
+#if __cplusplus >= 202002L
+#include <span>
+#endif
+
+namespace rp = rectangle_pack;
+using rp::BinId;
+using rp::Status;
+
+/* Whether the library's requests for memory are refused. */
+static bool refusing = false;
+
+extern "C" {
+void *__real_malloc(std::size_t size);
+void *__real_realloc(void *block, std::size_t size);
+void *__wrap_malloc(std::size_t size);
+void *__wrap_realloc(void *block, std::size_t size);
+
+void *__wrap_malloc(std::size_t size)
+{
+    return refusing ? nullptr : __real_malloc(size);
+}
+
+void *__wrap_realloc(void *block, std::size_t size)
+{
+    return refusing ? nullptr : __real_realloc(block, size);
+}
+}
+
+static void check(bool holds, const char *what)
+{
+    if (!holds) {
+        std::fprintf(stderr, "test.cpp: %s\n", what);
+        std::exit(1);
+    }
+}
+
+/* The refusal that a call throws, or done. */
+template <class Call> static Status refusal(Call call)
+{
+    try {
+        call();
+    } catch (const rp::Error &error) {
+        check(std::strcmp(error.what(), rp::text(error.status())) == 0, "an error has another text than its status");
+        return error.status();
+    }
+    return Status::done;
+}
+
+template <class Call> static void must_be(Status status, Call call, const char *what)
+{
+    check(refusal(call) == status, what);
+}
+
+static bool equal(const rp::Section &one, const rp::Section &other)
+{
+    return std::memcmp(&one, &other, sizeof one) == 0;
+}
+
+static bool is_at(const rp::Outstanding &it, std::uint64_t number, std::uint32_t bin, std::uint32_t x, std::uint32_t y)
+{
+    return it.number == rp::PlacementNumber{number} && it.bin == BinId{bin} && it.x == x && it.y == y && it.z == 0;
+}
+
+static void test_texts()
+{
+    for (std::uint32_t one = 0; one <= RP_EQUAL_GROUPS; one++) {
+        for (std::uint32_t other = 0; other < one; other++)
+            check(std::strcmp(rp::text(Status{one}), rp::text(Status{other})) != 0, "two statuses have one text");
+        check(std::strcmp(rp::text(Status{one}), rp::text(Status{99})) != 0, "a status has no text");
+    }
+}
+
+static void test_views()
+{
+    const rp::Box boxes[] = {rp::box(1, 2), rp::box(3, 4, 5, 6)};
+    const rp::View<rp::Box> view(boxes);
+    check(view.size() == 2 && view.data() == boxes && view.begin() == boxes && view.end() == boxes + 2, "a view is another");
+    check(boxes[0].depth == 1 && boxes[0].group == 0 && boxes[1].depth == 5 && boxes[1].group == 6, "a box is another");
+    const rp::View<rp::Box> none;
+    check(none.size() == 0 && none.data() != nullptr && none.begin() == none.end(), "a view of nothing has entries");
+    const std::array<rp::Bin, 1> bins = {rp::bin(7, 8)};
+    check(rp::View<rp::Bin>(bins).data() == bins.data() && bins[0].depth == 1, "a view of an array is another");
+}
+
+static void test_lists()
+{
+    const rp::Bin bins[] = {rp::bin(64, 64), rp::bin(128, 128)};
+    const std::vector<rp::Box> boxes = {rp::box(10, 20, 1, 1), rp::box(5, 50, 1, 1), rp::box(60, 60)};
+    const std::vector<rp::Placement> places = rp::pack(bins, boxes);
+    check(places.size() == 3 && places[0].bin == places[1].bin, "a group is in two bins");
+    check(rp::pack(bins, std::vector<rp::Box>()).empty(), "no boxes have placements");
+    check(rp::pack({}, rp::View<rp::Box>()).empty(), "no boxes in no bins have placements");
+    must_be(Status::not_enough_space, [&] { rp::pack({}, boxes); }, "boxes go into no bins");
+    const rp::View<rp::Box> endless(boxes.data(), std::size_t{1} << 32);
+    must_be(Status::bad_lengths, [&] { rp::pack(bins, endless); }, "2^32 boxes are packed");
+#if __cplusplus >= 202002L
+    check(rp::pack(std::span(bins), std::span(boxes)).size() == 3, "spans are no views");
+#endif
+}
+
+static void test_collections()
+{
+    const rp::Bin bins[] = {rp::bin(10, 10), rp::bin(10, 10)};
+    const rp::Box boxes[] = {rp::box(2, 2, 1, 1), rp::box(3, 3, 1, 2)};
+    const rp::Member members[] = {{0, 2}};
+    const rp::Exclusion exclusions[] = {{1, 2}};
+    const rp::Packed<rp::Placement> packed = rp::pack(bins, rp::Collection{boxes, members, exclusions});
+    check(packed.chosen == rp::Heuristic::volume && packed.placements.size() == 3, "a member has no placement");
+    check(packed.placements[0].bin != packed.placements[1].bin, "excluded groups share a bin");
+    check(packed.placements[1].bin == packed.placements[2].bin, "a member is not in the bin of its group");
+
+    const rp::Packed<rp::Placement> best = rp::pack(bins, rp::Collection{boxes}, rp::Heuristic::best);
+    check(best.chosen != rp::Heuristic::best, "the best heuristic is not named");
+    const auto by = [&](const rp::Collection &it, std::uint32_t heuristic) {
+        return refusal([&] { rp::pack(bins, it, rp::Heuristic{heuristic}); });
+    };
+    for (std::uint32_t number = 0; number <= RP_SIDE_AREA; number++)
+        check(by({boxes}, number) == Status::done, "a heuristic packs nothing");
+    check(by({boxes}, 8) == Status::unknown_heuristic, "there is a heuristic 8");
+    const rp::Member bad_members[] = {{2, 1}};
+    check(by({boxes, bad_members}, 0) == Status::unknown_box, "a member names no box");
+    const rp::Exclusion bad_exclusions[] = {{1, 1}};
+    check(by({boxes, {}, bad_exclusions}, 0) == Status::equal_groups, "a group is excluded with itself");
+    const rp::View<rp::Member> endless(members, std::size_t{1} << 32);
+    check(by({boxes, endless}, 0) == Status::bad_lengths, "there are 2^32 members");
+}
+
+static void test_session()
+{
+    rp::Session session;
+    check(session.bins().empty() && session.outstanding().empty(), "a new session is not empty");
+    check(session.next_number() == rp::PlacementNumber{0}, "numbers do not begin with 0");
+    session.add_bin(BinId{7}, rp::bin(10, 10));
+    session.add_bin(BinId{3}, rp::bin(20, 20));
+    check(session.bins() == std::vector<BinId>{BinId{3}, BinId{7}}, "the ids are others");
+    must_be(Status::duplicate_bin, [&] { session.add_bin(BinId{7}, rp::bin(1, 1)); }, "an id is used twice");
+
+    const rp::Box boxes[] = {rp::box(4, 10)};
+    const std::vector<rp::Outstanding> places = session.pack(boxes);
+    check(places.size() == 1 && is_at(places[0], 0, 7, 0, 0), "a box is elsewhere");
+    const std::vector<rp::Standing> standing = session.outstanding();
+    check(standing.size() == 1 && standing[0].number == places[0].number && standing[0].index == 0, "a standing is another");
+    check(standing[0].bin == BinId{7} && equal(standing[0].section, {0, 0, 0, 4, 10, 1}), "a box stands elsewhere");
+
+    const rp::Stats stats = session.stats(BinId{7});
+    check(stats.bin_volume.low == 100 && stats.free_volume.low == 60 && stats.placed_volume.low == 40, "volumes are others");
+    check(stats.free_sections == 1 && stats.placements == 1, "counts are others");
+    const std::optional<std::vector<rp::CutStep>> plan = session.cut_plan(BinId{7});
+    check(plan && plan->size() == 3 && (*plan)[0].axis == rp::Axis::x && (*plan)[0].place == 4, "a plan is another");
+    check((*plan)[1].axis == rp::Axis::leaf && (*plan)[1].place == 0, "a leaf is another");
+
+    session.release(places[0].number);
+    check(session.outstanding().empty() && session.free_sections(BinId{7}).size() == 2, "nothing is released");
+    check(equal(session.free_sections(BinId{7}).back(), {0, 0, 0, 4, 10, 1}), "the newest section is not the last");
+    check(!session.was_coalesced(BinId{7}), "a bin was coalesced");
+    session.coalesce(BinId{7}, 1, 0, 2);
+    check(session.was_coalesced(BinId{7}) && session.free_sections(BinId{7}).size() == 1, "sections are not joined");
+    session.coalesce_all(BinId{3});
+    check(session.was_coalesced(BinId{3}), "a bin was not coalesced");
+    check(session.next_number() == rp::PlacementNumber{1}, "a number is given twice");
+}
+
+static void test_session_collections()
+{
+    rp::Session session;
+    session.add_bin(BinId{0}, rp::bin(10, 10));
+    session.add_bin(BinId{1}, rp::bin(10, 10));
+    const rp::Box boxes[] = {rp::box(2, 2, 1, 1), rp::box(3, 3, 1, 2)};
+    const rp::Member members[] = {{0, 2}};
+    const rp::Exclusion exclusions[] = {{1, 2}};
+    const rp::Packed<rp::Outstanding> packed = session.pack({boxes, members, exclusions}, rp::Heuristic::best);
+    check(packed.placements.size() == 3 && packed.chosen != rp::Heuristic::best, "a member has no placement");
+    check(packed.placements[0].bin != packed.placements[1].bin, "excluded groups share a bin");
+    check(session.outstanding().size() == 3, "a member is not outstanding");
+}
+
+static void test_refusals_of_a_session()
+{
+    rp::Session session;
+    const BinId none{9};
+    session.add_bin(BinId{0}, rp::bin(10, 10));
+    const rp::Box large[] = {rp::box(11, 1)};
+    const rp::Box small[] = {rp::box(1, 1)};
+    must_be(Status::not_enough_space, [&] { session.pack(large); }, "a box is too large");
+    must_be(Status::unknown_placement, [&] { session.release(rp::PlacementNumber{5}); }, "a number is not there");
+    must_be(Status::unknown_bin, [&] { session.stats(none); }, "stats know a bin");
+    must_be(Status::unknown_bin, [&] { session.free_sections(none); }, "sections know a bin");
+    must_be(Status::unknown_bin, [&] { session.cut_plan(none); }, "a plan knows a bin");
+    must_be(Status::unknown_bin, [&] { session.coalesce_all(none); }, "coalesce_all knows a bin");
+    must_be(Status::unknown_bin, [&] { session.coalesce(none, 0, 0, 1); }, "coalesce knows a bin");
+    must_be(Status::unknown_bin, [&] { session.was_coalesced(none); }, "was_coalesced knows a bin");
+    must_be(Status::unknown_heuristic, [&] { session.pack({small}, rp::Heuristic{8}); }, "there is a heuristic 8");
+    const rp::Member members[] = {{1, 1}};
+    must_be(Status::unknown_box, [&] { session.pack({small, members}); }, "a member names no box");
+    const rp::Exclusion exclusions[] = {{2, 2}};
+    must_be(Status::equal_groups, [&] { session.pack({small, {}, exclusions}); }, "a group is excluded with itself");
+    const rp::View<rp::Box> endless(small, std::size_t{1} << 32);
+    must_be(Status::bad_lengths, [&] { session.pack(endless); }, "2^32 boxes are packed");
+    check(session.outstanding().empty() && session.next_number() == rp::PlacementNumber{0}, "a refusal changes a session");
+}
+
+/* Four boxes around a fifth: no straight cut leaves all of them. They are packed one by one into sections that releases and
+   joins leave. */
+static void test_no_plan()
+{
+    rp::Session session;
+    const BinId id{0};
+    session.add_bin(id, rp::bin(3, 3));
+    const std::vector<rp::Box> cells(9, rp::box(1, 1));
+    const std::vector<rp::Outstanding> places = session.pack(cells);
+    const auto release = [&](std::uint32_t x, std::uint32_t y) {
+        for (const rp::Outstanding &it : places)
+            if (it.x == x && it.y == y)
+                session.release(it.number);
+    };
+    const auto put = [&](std::uint32_t x, std::uint32_t y, std::uint32_t width, std::uint32_t height) {
+        release(x, y);
+        release(x + width - 1, y + height - 1);
+        session.coalesce_all(id);
+        const rp::Box box[] = {rp::box(width, height)};
+        check(session.pack(box).front().x == x, "a box is elsewhere");
+    };
+    put(0, 0, 2, 1);
+    put(2, 0, 1, 2);
+    put(1, 2, 2, 1);
+    put(0, 1, 1, 2);
+    check(!session.cut_plan(id), "a pinwheel has a plan");
+}
+
+static void test_long_lists()
+{
+    rp::Session session;
+    for (std::uint32_t i = 0; i < 100; i++)
+        session.add_bin(BinId{i}, rp::bin(10, 10));
+    check(session.bins().size() == 100, "a list is shorter than its bins");
+    const std::vector<rp::Box> boxes(1000, rp::box(2, 2));
+    check(session.pack(boxes).size() == 1000 && session.outstanding().size() == 1000, "a list is shorter than its boxes");
+    const std::optional<std::vector<rp::CutStep>> plan = session.cut_plan(BinId{0});
+    check(plan && plan->size() % 2 == 1, "a plan is no tree");
+}
+
+static void test_refused_memory()
+{
+    const rp::Bin bins[] = {rp::bin(10, 10)};
+    const rp::Box boxes[] = {rp::box(2, 2)};
+    rp::Session session;
+    session.add_bin(BinId{0}, rp::bin(10, 10));
+    const std::vector<rp::Outstanding> places = session.pack(boxes);
+    const auto memory = [](auto call, const char *what) {
+        refusing = true;
+        const Status status = refusal(call);
+        refusing = false;
+        check(status == Status::out_of_memory, what);
+    };
+    memory([] { rp::Session(); }, "a session is made of nothing");
+    memory([&] { rp::pack(bins, boxes); }, "a list is packed without memory");
+    memory([&] { rp::pack(bins, rp::Collection{boxes}); }, "a collection is packed without memory");
+    memory([&] { session.add_bin(BinId{1}, rp::bin(1, 1)); }, "a bin is made of nothing");
+    memory([&] { session.pack(boxes); }, "a session packs without memory");
+    memory([&] { session.pack(rp::Collection{boxes}); }, "a session packs a collection without memory");
+    memory([&] { session.cut_plan(BinId{0}); }, "a plan is made of nothing");
+    check(session.outstanding().size() == 1 && session.bins().size() == 1, "a refusal changes a session");
+    session.release(places[0].number);
+}
+
+static void test_moves()
+{
+    static_assert(!std::is_copy_constructible_v<rp::Session> && !std::is_copy_assignable_v<rp::Session>);
+    static_assert(std::is_nothrow_move_constructible_v<rp::Session> && std::is_nothrow_move_assignable_v<rp::Session>);
+    rp::Session one;
+    one.add_bin(BinId{1}, rp::bin(1, 1));
+    rp::Session other = std::move(one);
+    check(!one && other && other.bins().size() == 1, "a session is not moved");
+    bool refused = false;
+    try {
+        one.bins();
+    } catch (const std::logic_error &) {
+        refused = true;
+    }
+    check(refused, "a session that was moved from is called");
+    one = rp::Session();
+    check(one && one.bins().empty(), "a session is not assigned");
+    one = std::move(other);
+    check(one.bins().size() == 1 && !other, "a session is not moved into another");
+    rp::Session &same = one;
+    one = std::move(same);
+    check(one && one.bins().size() == 1, "a session is lost when it is moved into itself");
+    std::vector<rp::Session> many(10);
+    many.erase(many.begin());
+    check(many.size() == 9 && many.front(), "sessions do not stand in a vector");
+}
+
+int main()
+{
+    test_texts();
+    test_views();
+    test_lists();
+    test_collections();
+    test_session();
+    test_session_collections();
+    test_refusals_of_a_session();
+    test_no_plan();
+    test_long_lists();
+    test_refused_memory();
+    test_moves();
+    return 0;
+}

@@ -1,0 +1,72 @@
+//! The boxes of the next packing, and the packing by a heuristic.
+
+ghost use Rattle.std.specs.Prelude.{◌<◌, IfOk, vec_len};
+ghost use Rattle.std.specs.Option.{ForSome};
+
+use rectangle_pack::{Group, GroupedRectsToPlace, Heuristic, RectToInsert, Session, SessionError};
+use std::alloc::{AllocError, Global};
+use std::io;
+
+pub type Boxes = GroupedRectsToPlace<u32, u32>;
+
+pub type Bins = Session<u32, u32>;
+
+// The groups of a box: none where the number is 0.
+fn groups_of(alloc: Global, group: u32) -> Result<Option<Vec<u32>>, AllocError>
+    ensures { IfOk result (λ groups. ForSome groups (λ named. 0 < vec_len named)) }
+{
+    if group == 0 {
+        return Ok(None);
+    }
+    Ok(Some(vec![in alloc; group]?))
+}
+
+fn push(alloc: Global, boxes: &mut Boxes, rect: RectToInsert, group: u32) -> io::Result<()> {
+    let id = u32::try_from(boxes.rects().len()).unwrap_or(u32::MAX);
+    boxes.push_rect(id, groups_of(alloc, group)?, rect)?;
+    Ok(())
+}
+
+// The size of a box, or no cells where it is not there.
+fn size_of(boxes: &Boxes, index: u32) -> RectToInsert {
+    match boxes.rects().get(&index) {
+        Some(rect) => *rect,
+        None => RectToInsert::new(0, 0, 0),
+    }
+}
+
+fn exclude(boxes: &mut Boxes, one: u32, other: u32) -> io::Result<()> {
+    if one != other {
+        boxes.exclude(Group::Grouped(one), Group::Grouped(other))?;
+    }
+    Ok(())
+}
+
+// Obeys a line that tells of the next packing. Tells whether it is one.
+pub fn add(alloc: Global, boxes: &mut Boxes, word: &str, numbers: [u32; 4]) -> io::Result<bool> {
+    let [a, b, c, d] = numbers;
+    match word {
+        "box" => push(alloc, boxes, RectToInsert::new(a, b, c), d)?,
+        "member" => {
+            let rect = size_of(boxes, a);
+            push(alloc, boxes, rect, b)?;
+        }
+        "exclude" => exclude(boxes, a, b)?,
+        _ => return Ok(false),
+    }
+    Ok(true)
+}
+
+// Packs by the heuristic of this number, or by the best of all where there is none. Gives the number
+// of the heuristic, or `None` where there is no space.
+pub fn pack(session: &mut Bins, boxes: &Boxes, number: u32) -> io::Result<Option<usize>> {
+    let answer = match Heuristic::ALL.get(number as usize) {
+        Some(one) => session.pack_best(boxes, &[*one]),
+        None => session.pack_best(boxes, &Heuristic::ALL),
+    };
+    match answer {
+        Ok((best, _)) => Ok(Heuristic::ALL.iter().position(|one| *one == best)),
+        Err(SessionError::NotEnoughBinSpace) => Ok(None),
+        Err(error) => Err(io::Error::from(error)),
+    }
+}

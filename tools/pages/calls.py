@@ -1,0 +1,122 @@
+"""The page docs/CALLS.md: every public item of the library by its public module, with its signature, its doc comment, what is
+proved of it, and the tests that call it; then the program and the calls for C. A plain reader is a line."""
+from __future__ import annotations
+
+import re
+from collections.abc import Iterable, Iterator
+
+from library import KINDS, Call, Library, Module
+from proved import Proved, is_plain
+from rattle import Item, indent_of
+from sources import CRATES, FOR_C, MAIN, ORDER, ROOT, fenced, files_of
+
+# Files of tests: what each is of (a public module, the program, the library for C, or laws), its name, and its text.
+Test = tuple[str, str, str]
+
+
+def tests() -> list[Test]:
+    found = []
+    for path in files_of([it for it in ORDER if it.startswith("tests_of_")], "src", ".rt") + files_of([FOR_C], "src/tests", ".rt"):
+        crate, _, *words = path.relative_to(CRATES).with_suffix("").parts
+        home = {f"tests_of_{MAIN}": MAIN, FOR_C: FOR_C}.get(crate, words[0])
+        found.append((home, "/".join(words), path.read_text()))
+    return found
+
+
+class Page:
+    """The page, whose sections are texts; an empty one is left out."""
+
+    def __init__(self, library: Library, proved: Proved) -> None:
+        self.library, self.proved, self.tests = library, proved, tests()
+        self.told = [text for module in library.modules for text in self.module(module) if text]
+
+    def sections(self, _: str) -> str:
+        return "\n\n".join(self.told)
+
+    def claims(self, names: str) -> str:
+        """What these functions claim, and their tests."""
+        calls = [self.proved.calls[it] for it in names.split(", ")]
+        return "\n\n".join(filter(None, (text for it in calls for text in (f"### `{it.name}`", *self.proved_of(it)))))
+
+    def function(self, level: int, call: Call, kind: str = "") -> Iterator[str]:
+        yield "#" * level + f" {kind} `{call.name}`".replace("  ", " ")
+        yield fenced([dedented(call.item.head)], "rust") if kind != "Law" else ""
+        yield docs_of(call.item.docs)
+        yield from self.proved_of(call)
+
+    def proved_of(self, call: Call) -> Iterator[str]:
+        yield "\n".join(self.proved.claims(call))
+        yield tests_of(call, self.tests)
+
+    def type(self, item: Item) -> Iterator[str]:
+        parts = item.parts()
+        visible = [part for part in parts if item.kind == "enum" or part.is_public]
+        lines = [line for part in visible for line in part.lines if not line.lstrip().startswith("//")]
+        lines += ["    /* private fields */"] if len(visible) < len(parts) else []
+        start, close = (" {", ["}"]) if item.has_body else (";", [])
+        yield f"### {KINDS[item.kind]} `{item.name}`"
+        yield fenced([*item.attributes, item.head + start, *lines, *close], "rust")
+        yield docs_of(item.docs)
+        yield "\n".join(line for part in visible for line in listed(part))
+        yield from self.impls(item.name)
+        yield from self.methods(item.name)
+
+    def impls(self, name: str) -> Iterator[str]:
+        """The impls of traits that say what they do, with their claims."""
+        for it in self.library.told_impls():
+            trait, _, kind = it.name.removeprefix("impl ").partition(" for ")
+            if re.match(rf"{name}\b", kind):
+                yield f"`{trait}`:\n\n" + "\n".join(self.proved.claims(it))
+
+    def methods(self, name: str) -> Iterator[str]:
+        """The plain ones first, a line each, then the others."""
+        methods = [it for _, it in self.library.methods[name]]
+        yield "\n".join(f"- `{it.item.head.removeprefix('pub ')}`: {' '.join(it.item.docs)}" for it in methods if is_plain(it))
+        for method in (it for it in methods if not is_plain(it)):
+            yield from self.function(4, method)
+
+    def module(self, module: Module) -> Iterator[str]:
+        yield f"## `{module.words[-1]}`"
+        yield docs_of(module.docs)
+        if module.words == [ROOT]:
+            others = {name for name, home in self.library.homes.items() if home != ROOT}
+            named = ", ".join(f"`{it}`" for it in sorted(self.library.again))
+            yield f"Exported here too: {'all that stands under the other modules' if others == self.library.again else named}."
+        # Types first, and laws last.
+        for it in sorted(module.stands, key=lambda it: {"struct": 0, "enum": 0, "law": 2}.get(it.kind, 1)):
+            if it.kind in ("struct", "enum"):
+                yield from self.type(it.item)
+            elif it.kind in ("fn", "law"):
+                yield from self.function(3, self.proved.calls[it.item.name], KINDS[it.kind])
+            else:
+                yield f"### {KINDS[it.kind]} `{it.item.name}`"
+                yield fenced([it.item.head + ";"], "rust")
+                yield docs_of(it.item.docs)
+
+
+def tests_of(call: Call, among: Iterable[Test]) -> str:
+    """The files of tests that name the call, of those that are of its module."""
+    named = re.compile(rf"\b{call.name.rpartition('::')[2]}\b")
+    homes = {call.home, "laws"} if call.kind == "law" else {call.home}
+    found = [f"`{name}`" for home, name, text in among if home in homes and named.search(text)]
+    return f"Tests: {', '.join(found)}" if found else ""
+
+
+def docs_of(docs: list[str]) -> str:
+    """A doc comment, in which a block of code without a language is Rust."""
+    return re.sub(r"(?ms)^```(\S*)$(.*?)^```$", lambda it: f"```{it[1] or 'rust'}{it[2]}```", "\n".join(docs))
+
+
+def dedented(head: str) -> str:
+    """A head whose lines after the first are moved to the left as far as the first stood to the right."""
+    first, *rest = head.rstrip(",").split("\n")
+    closed = rest and rest[-1].lstrip().startswith(")")
+    shift = indent_of(rest[-1]) if closed else min(map(indent_of, rest), default=0)
+    return "\n".join([first, *(line[min(shift, indent_of(line)) :] for line in rest)])
+
+
+def listed(part: Item, indent: str = "") -> Iterator[str]:
+    """A field or a variant with its doc comment, and below it the fields of a variant."""
+    yield f"{indent}- `{part.name}`: {' '.join(part.docs)}"
+    for field in part.parts():
+        yield from listed(field, indent + "  ")
