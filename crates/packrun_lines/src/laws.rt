@@ -6,7 +6,7 @@ ghost use Rattle.rectangle_pack.specs.Promise.{PacksAsPromised};
 ghost use Rattle.rectangle_pack.specs.Session.{IsSession, packed_reply};
 ghost use Rattle.packrun_lines.specs.Requests.{Request};
 ghost use Rattle.packrun_lines.specs.Answers.{Answers};
-ghost use Rattle.packrun_lines.specs.Store.{Name, name_cmp, Store, PacksBoxes, empty_store, group_order, volume_rules};
+ghost use Rattle.packrun_lines.specs.Store.{name_cmp, Store, PacksBoxes, empty_store, group_order, volume_rules};
 ghost use Rattle.packrun_lines.specs.Transcripts.{AreAnswered, IsTranscript, PrintsTranscript};
 ghost use Rattle.packrun_lines.specs.Ends.{Ended};
 ghost use Rattle.packrun_lines.specs.declared.stop.Stop.TheVariants.{NoMemory, IoFailed};

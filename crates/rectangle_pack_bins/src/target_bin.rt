@@ -117,7 +117,6 @@ impl<A: Allocator + Copy> TargetBin<A> {
 
     /// The size of the bin, in cells.
     pub fn max_size(&self) -> WidthHeightDepth
-        // The answer is the size of the bin.
         ensures { result ≡ self.now.bin.size }
     {
         self.max_size

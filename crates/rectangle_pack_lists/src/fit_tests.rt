@@ -27,7 +27,6 @@ impl Model for FitTests {
 impl FitTests {
     /// No test was made.
     pub fn new() -> Self
-        // The count is 0.
         ensures { result ≡ 0 }
     {
         FitTests { count: 0 }
@@ -35,7 +34,6 @@ impl FitTests {
 
     /// The number of tests.
     pub fn count(&self) -> u128
-        // The answer is the count.
         ensures { result ≡ self.now }
     {
         self.count

@@ -1,6 +1,6 @@
 //! Lists of sections with gaps, in which the last section that holds a box is found without a look at
 //! each.
-ghost use Rattle.std.specs.Prelude.{ℕ, ◌≡◌, ◌+◌, ◌-◌, ◌<◌, ◌≤◌, ◌++◌, ◌∷◌, [], true, map, filter, All, length, take, drop, set, slice_index_or, IfOk, OnErr, OnOk, IfSome, IsSome, MatchOption, if◌then◌else◌, None, Some};
+ghost use Rattle.std.specs.Prelude.{ℕ, ◌≡◌, ◌+◌, ◌-◌, ◌<◌, ◌≤◌, ◌++◌, ◌∷◌, [], map, filter, All, length, take, drop, set, slice_index_or, IfOk, OnErr, OnOk, IfSome, IsSome, MatchOption, if◌then◌else◌, None, Some};
 ghost use Rattle.std.specs.List.{SameBelow};
 ghost use Rattle.std.specs.Vec.{vec_capacity};
 ghost use Rattle.rectangle_pack_sections.specs.Boxes.{FitsU32, has_cells};

@@ -24,7 +24,6 @@ pub fn joining_has_one_result()
 
 /// A law: joining leaves each cell in as many sections as it was in, for all lists.
 pub fn joining_keeps_cells()
-    // Joining by that rule leaves each cell in as many sections as it was in, for all lists.
     ensures { (old new : List Cuboid) (idx lo hi : ℕ) →
         IsJoined idx lo hi old new →
         (c : Cell) → times_filled c new ≡ times_filled c old }
@@ -49,7 +48,6 @@ pub fn joining_stays_within_the_list()
 /// A law: a sweep from the last index of a list down to 0 leaves no two sections that share a whole
 /// face, for all lists.
 pub fn sweep_leaves_no_face()
-    // After a sweep by the rule no two sections of the list share a whole face, for all lists.
     ensures { (old new : List Cuboid) → IsSwept old new → ShareNoFace new }
 {}
 

@@ -41,7 +41,6 @@ impl<Id: Ord, BinId, A: Allocator + Copy> RectanglePackOk<Id, BinId, A> {
 
     /// All placements, in the order in which they were made: one for each entry of each group.
     pub fn placements(&self) -> &[Placement<Id, BinId>]
-        // The answer has all placements, in the order of the packing's answer.
         ensures { result.now ≡ placements_of self.now }
     {
         self.placements.as_slice()

@@ -119,7 +119,6 @@ pub enum BinSectionError {
 impl BinSection {
     /// The section with this corner and size; any numbers will do.
     pub fn new(x: u32, y: u32, z: u32, whd: WidthHeightDepth) -> Self
-        // The section has this corner and this size, for all numbers.
         ensures { result ≡ record { x = x; y = y; z = z; whd = whd } }
     {
         BinSection { x, y, z, whd }
@@ -127,7 +126,6 @@ impl BinSection {
 
     /// The corner's place on the x axis.
     pub fn x(&self) -> u32
-        // The answer is the corner's place on the x axis.
         ensures { result ≡ self.now.x }
     {
         self.x
@@ -135,7 +133,6 @@ impl BinSection {
 
     /// The corner's place on the y axis.
     pub fn y(&self) -> u32
-        // The answer is the corner's place on the y axis.
         ensures { result ≡ self.now.y }
     {
         self.y
@@ -143,7 +140,6 @@ impl BinSection {
 
     /// The corner's place on the z axis.
     pub fn z(&self) -> u32
-        // The answer is the corner's place on the z axis.
         ensures { result ≡ self.now.z }
     {
         self.z
@@ -151,7 +147,6 @@ impl BinSection {
 
     /// The size, in cells.
     pub fn whd(&self) -> WidthHeightDepth
-        // The answer is the size of the section.
         ensures { result ≡ self.now.whd }
     {
         self.whd

@@ -84,7 +84,6 @@ impl PackedLocation {
 
     /// The corner's place on the x axis.
     pub fn x(&self) -> u32
-        // The answer is the corner's place on the x axis.
         ensures { result ≡ self.now.x }
     {
         self.x
@@ -92,7 +91,6 @@ impl PackedLocation {
 
     /// The corner's place on the y axis.
     pub fn y(&self) -> u32
-        // The answer is the corner's place on the y axis.
         ensures { result ≡ self.now.y }
     {
         self.y
@@ -100,7 +98,6 @@ impl PackedLocation {
 
     /// The corner's place on the z axis.
     pub fn z(&self) -> u32
-        // The answer is the corner's place on the z axis.
         ensures { result ≡ self.now.z }
     {
         self.z
@@ -108,7 +105,6 @@ impl PackedLocation {
 
     /// The extent on the x axis, in cells.
     pub fn width(&self) -> u32
-        // The answer is the width of the box.
         ensures { result ≡ self.now.whd.width }
     {
         self.whd.width()
@@ -116,7 +112,6 @@ impl PackedLocation {
 
     /// The extent on the y axis, in cells.
     pub fn height(&self) -> u32
-        // The answer is the height of the box.
         ensures { result ≡ self.now.whd.height }
     {
         self.whd.height()
@@ -124,7 +119,6 @@ impl PackedLocation {
 
     /// The extent on the z axis, in cells.
     pub fn depth(&self) -> u32
-        // The answer is the depth of the box.
         ensures { result ≡ self.now.whd.depth }
     {
         self.whd.depth()

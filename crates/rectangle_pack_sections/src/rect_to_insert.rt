@@ -59,7 +59,6 @@ impl Model for RectToInsert {
 impl RectToInsert {
     /// A box of this width, height and depth.
     pub fn new(width: u32, height: u32, depth: u32) -> Self
-        // The box has this width, height and depth, for all numbers.
         ensures { result ≡ record { width = width; height = height; depth = depth } }
     {
         RectToInsert {
@@ -72,7 +71,6 @@ impl RectToInsert {
 
     /// The extent on the x axis, in cells.
     pub fn width(&self) -> u32
-        // The answer is the width of the box.
         ensures { result ≡ self.now.width }
     {
         self.whd.width()
@@ -80,7 +78,6 @@ impl RectToInsert {
 
     /// The extent on the y axis, in cells.
     pub fn height(&self) -> u32
-        // The answer is the height of the box.
         ensures { result ≡ self.now.height }
     {
         self.whd.height()
@@ -88,7 +85,6 @@ impl RectToInsert {
 
     /// The extent on the z axis, in cells.
     pub fn depth(&self) -> u32
-        // The answer is the depth of the box.
         ensures { result ≡ self.now.depth }
     {
         self.whd.depth()

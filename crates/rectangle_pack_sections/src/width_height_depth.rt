@@ -44,7 +44,6 @@ impl WidthHeightDepth {
 
     /// The extent on the x axis, in cells.
     pub fn width(&self) -> u32
-        // The answer is the width.
         ensures { result ≡ self.now.width }
     {
         self.width
@@ -52,7 +51,6 @@ impl WidthHeightDepth {
 
     /// The extent on the y axis, in cells.
     pub fn height(&self) -> u32
-        // The answer is the height.
         ensures { result ≡ self.now.height }
     {
         self.height
@@ -60,7 +58,6 @@ impl WidthHeightDepth {
 
     /// The extent on the z axis, in cells.
     pub fn depth(&self) -> u32
-        // The answer is the depth.
         ensures { result ≡ self.now.depth }
     {
         self.depth
@@ -68,7 +65,6 @@ impl WidthHeightDepth {
 
     /// The number of cells.
     pub fn volume(&self) -> u128
-        // The answer is width times height times depth, and never wraps.
         ensures { result ≡ volume_of self.now }
     {
         self.width as u128 * self.height as u128 * self.depth as u128

@@ -22,8 +22,6 @@ where
     /// Whether a coalescing call that named the bin was accepted, also where it joined nothing;
     /// `None` where there is no such bin.
     pub fn was_coalesced(&self, id: &BinId) -> Option<bool>
-        // The answer is whether the bin counts as coalesced, and `None` exactly where there is no
-        //   such bin.
         ensures { result ≡ option_map (λ (b : Bin). b.coalesced)
             (lookup (is_at (BinId.cmp id.now)) self.now.bins) }
     {

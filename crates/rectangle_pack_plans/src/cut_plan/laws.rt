@@ -31,8 +31,6 @@ pub fn open_planes_split_cuts()
 /// A law: where boxes are from cuts of a box and two of them have cells, some plane is strictly
 /// inside that box and strictly inside none of them, at the end of one that has cells.
 pub fn cuts_have_open_planes()
-    // Where boxes are from cuts of a box, and two or more of them have cells, some plane strictly
-    //   inside that box cuts none of those with cells. It stands at the end of one that has cells.
     ensures { (boxes : List Cuboid) (parted : Cuboid) →
         IsFromCuts boxes parted → 2 ≤ count_by has_cells boxes →
         (a : Axis) × (place : ℕ) × IsOpenPlane a place parted boxes
@@ -42,8 +40,6 @@ pub fn cuts_have_open_planes()
 /// A law: boxes that are from cuts of a bin cover it, those without cells aside: each that has
 /// cells is inside the bin, and each cell of the bin is a cell of exactly one.
 pub fn cuts_cover_bins()
-    // Boxes that are from cuts of a bin cover it, those without cells aside: each that has cells is
-    //   inside the bin, and each cell of the bin is in exactly one of them.
     ensures { (boxes : List Cuboid) (size : Size) →
         IsFromCuts boxes (whole size) → CoverBin (filter has_cells boxes) size }
 {}

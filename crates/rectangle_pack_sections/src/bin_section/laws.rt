@@ -14,16 +14,12 @@ use std::cmp::Ordering;
 
 /// A law: the test by which cells are counted is true exactly at the cells of a box.
 pub fn cell_test_is_membership()
-    // The test with which cells are counted (`is_cell_of`) is true exactly for the cells of the
-    //   box.
     ensures { (c : Cell) (b : Cuboid) → IsTrue (is_cell_of c b) ↔ IsCellOf c b }
 {}
 
 /// A law: the box at the corner of a section that holds it and the three pieces, in each of the six
 /// orders of the axes, are from cuts of the section.
 pub fn pieces_are_from_cuts()
-    // A section holds a size. Then, in each of the six orders of the axes, the box of this size at
-    //   the section's corner and the three pieces are from cuts of the section.
     ensures { (section : Cuboid) (size : Size) → Holds section size →
         All (λ order. IsFromCuts (placed section size ∷ pieces section size order) section)
         orders }
@@ -45,7 +41,6 @@ pub fn sections_are_ordered()
 
 /// A law: a box shares a cell with another where the other shares one with it.
 pub fn sharing_is_symmetric()
-    // Where a box shares a cell with another, the other shares one with it.
     ensures { (a b : Cuboid) → SharesCell a b → SharesCell b a }
 {}
 

@@ -179,12 +179,6 @@ pub lists-some : {K X A : Type 0} (es : List (K × Vec X A)) (b : Bool) → (IsT
 lists-some [] b is not_so h = let so = is.1 refl in absurd cc
 lists-some (e ∷ es) b is not_so h = absurd cc
 
--- as many as it has entries
-pub lists-more : {K X A : Type 0} (es : List (K × Vec X A)) (lists : List (K × List X)) (b : Bool) → (IsTrue b ↔ (length es ≡ 0)) → b ≡ false
-    → lists_of es ≡ lists → 0 < length lists
-lists-more [] lists b is not_so same = let so = is.1 refl in absurd cc
-lists-more (e ∷ es) lists b is not_so same = rw (← same) (omega arith)
-
 -- and one that is has none
 pub lists-empty : {K X A : Type 0} (es : List (K × Vec X A)) (b : Bool) → (IsTrue b ↔ (length es ≡ 0)) → b ≡ true → lists_of es ≡ []
 lists-empty [] b is so = refl

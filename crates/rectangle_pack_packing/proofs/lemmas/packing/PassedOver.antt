@@ -29,13 +29,6 @@ ArePassedOver-held cmp excluded bins members first ids tests none is held =
       tests_are = held.tests_are;
     }
 
--- and where no bin is passed over, there is no test
-pub ArePassedOver-none : {B : Type 0} (cmp : B → B → Ordering) (excluded : List (Bor B)) (bins : List (B × Bin)) (members : List Size) (order : List (ℕ × B))
-    (from : ℕ) → ArePassedOver cmp excluded bins members (map (λ o. o.1) (take (from - from) (drop from order))) 0
-ArePassedOver-none cmp excluded bins members order from =
-    let here : from - from ≡ 0 = omega arith in
-    rw here (record { counts = []; each = tt; tests_are = refl })
-
 module _ {Id B : Type 0} (rules : Rules Id B) (excluded : List (Bor B)) (bins : List (B × Bin)) (group : Members Id) where
   -- a bin that is passed over does not take the group
   DoesNotTake-over : (id : B) (count : ℕ) → IsPassedOver rules.bin_cmp excluded bins group.sizes id count

@@ -11,6 +11,6 @@ invariant_of-self-then-self-ge-MANY g c = (c.self.invariant.0, λ i. rw (c.make_
 pub returns-else-groups-gt1 : goal.returns-else-groups-gt1
 returns-else-groups-gt1 g c =
     elim c.else-groups-gt1.branch [
-      else-groups-gt1-via-then-groups-gt1+else-self-ge-MANY w ↦ w.self-is ∙ c.self.view_is
-    | else-groups-gt1-via-else-groups-gt1 w ↦ w.self-is ∙ c.self.view_is
+      | else-groups-gt1-via-then-groups-gt1+else-self-ge-MANY w ↦ w.self-is ∙ c.self.view_is
+      | else-groups-gt1-via-else-groups-gt1 w ↦ w.self-is ∙ c.self.view_is
     ]
