@@ -45,6 +45,7 @@ COMPARES = ("PartialEq", "Eq", "PartialOrd", "Ord")
 COMPARED = {"Group", "Span", "Stop", "Word"}
 NAMESAKES = {
     "FitTests::count",
+    "Packing::count",
     *(f"PackedLocation::{part}" for part in ("x", "y", "z", "width", "height", "depth")),
     *(f"RectToInsert::{part}" for part in ("width", "height", "depth")),
     "TargetBin::clone",
