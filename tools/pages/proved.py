@@ -63,11 +63,8 @@ class Proved:
 
     def claims(self, call: Call) -> Iterator[str]:
         """A line for each claim: its clause, what it says, and in brackets the wrong bodies. A star marks those that the gate does
-        not try. Premises that another call told stand in one line."""
-        again = [it.name for it in call.clauses() if it.kind == "requires" and not claims_of(it.notes)]
-        if again:
-            yield f"- Premises as above: {', '.join(f'`{it}`' for it in again)}"
-        for clause in (it for it in call.clauses() if it.name not in again):
+        not try. Premises that another call told are left out."""
+        for clause in (it for it in call.clauses() if it.kind == "ensures" or claims_of(it.notes)):
             for it in self.told[call.name, clause.name]:
                 text = f"Premise: {it.text[0].lower()}{it.text[1:]}" if clause.kind == "requires" else it.text
                 name = "" if clause.name == clause.kind else f"`{clause.name}`: "

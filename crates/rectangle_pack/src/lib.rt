@@ -55,11 +55,11 @@ pub mod rect_to_insert {
 /// Bins and their free sections.
 pub mod target_bin {
     pub use rectangle_pack_bins::target_bin::{PushBinSectionError, TargetBin};
-    pub use rectangle_pack_lists::fit_tests::FitTests;
     pub use rectangle_pack_lists::laws::{
         joining_has_one_result, joining_keeps_cells, joining_stays_within_the_list,
         step_adds_at_most_two, sweep_leaves_no_face, trial_keeps_cells, trial_tests_are_bounded,
     };
+    pub use rectangle_pack_lists::trial::FitTests;
 }
 
 /// Sizes.

@@ -1,6 +1,7 @@
 //! Bins and their free sections.
 ghost use Rattle.std.specs.Prelude.{◌≡◌, ◌+◌, ◌≤◌, ◌<◌, ◌++◌, ◌∷◌, [], Err, IfOk, IfNone, IfSome, OnOk, OnErr, IsTrue, true, ◌↔◌, length, remove, filter, All};
-ghost use Rattle.rectangle_pack_sections.specs.Boxes.{AreApart, Cell, Cuboid, has_cells};
+ghost use Rattle.std.specs.Vec.{vec_capacity};
+ghost use Rattle.rectangle_pack_sections.specs.Boxes.{AreApart, Cell, Cuboid, FitsU32, has_cells};
 ghost use Rattle.rectangle_pack_bins.specs.declared.target_bin.PushBinSectionError.TheVariants.{OutOfMemory};
 ghost use Rattle.rectangle_pack_bins.specs.Pushes.{IsFirstSharing, IsPushAnswer};
 ghost use Rattle.rectangle_pack_sections.specs.Bins.{new_bin, IsSound, IsAccepted};
@@ -8,19 +9,18 @@ ghost use Rattle.rectangle_pack_sections.specs.Counting.{AreAllApart, times_fill
 ghost use Rattle.rectangle_pack_lists.specs.Joining.{IsJoined, IsSwept, ShareNoFace};
 ghost use Rattle.rectangle_pack_sections.specs.Keeping.{KeepCells};
 
-pub mod lending;
 mod placing;
 
 use rectangle_pack_lists::coalesce::{join_all, join_all_in, join_at};
 use rectangle_pack_lists::corners::Corners;
-pub use rectangle_pack_lists::fit_tests::FitTests;
 use rectangle_pack_lists::free_list::plain::push_pieces;
+pub use rectangle_pack_lists::trial::FitTests;
 use rectangle_pack_sections::bin_section::{BinSection, is_inside};
 use rectangle_pack_sections::width_height_depth::{WidthHeightDepth, any_size};
 use std::alloc::{AllocError, Allocator, Global};
-use std::fmt;
 use std::marker::Model;
 use std::ops::Range;
+use std::{fmt, mem};
 
 /// Why a section was not given back to a bin. The section that was pushed comes with each.
 #[derive(Debug, Drop)]
@@ -376,4 +376,30 @@ fn first_sharing(sections: &[BinSection], section: &BinSection) -> Option<BinSec
         }
     }
     None
+}
+
+/// A bin that stands in a map for one that is out of it. Takes no memory.
+pub fn stand_in<A: Allocator + Copy>(alloc: A) -> TargetBin<A> {
+    TargetBin::without_sections(alloc, any_size(0, 0, 0))
+}
+
+/// Takes the sections of a bin out. Takes no memory.
+pub fn take_sections<A: Allocator + Copy>(bin: &mut TargetBin<A>) -> Vec<BinSection, A>
+    ensures items { result.items ≡ bin.old.bin.sections }
+    ensures room { vec_capacity result ≡ bin.old.room }
+    ensures bin { bin.new.bin ≡ record bin.old.bin { sections = [] } }
+    ensures sound { IsSound bin.old.bin.size bin.old.bin.sections }
+    ensures fits { All FitsU32 bin.old.bin.sections }
+{
+    let none = Vec::new(*bin.available_bin_sections.allocator());
+    mem::replace(&mut bin.available_bin_sections, none)
+}
+
+/// Gives a bin the sections of this list.
+pub fn put_sections<A: Allocator + Copy>(bin: &mut TargetBin<A>, sections: Vec<BinSection, A>)
+    requires { IsSound bin.old.bin.size sections.items }
+    ensures bin { bin.new.bin ≡ record bin.old.bin { sections = sections.items } }
+    ensures room { bin.new.room ≡ vec_capacity sections }
+{
+    bin.available_bin_sections = sections;
 }

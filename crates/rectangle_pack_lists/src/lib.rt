@@ -4,7 +4,6 @@
 
 pub mod coalesce;
 pub mod corners;
-pub mod fit_tests;
 pub mod free_list;
 pub mod gap_list;
 pub mod laws;

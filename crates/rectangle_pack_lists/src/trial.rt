@@ -1,8 +1,9 @@
-//! One trial, in a list of free sections, which is undone where it is stuck.
-ghost use Rattle.std.specs.Prelude.{ℕ, ◌≡◌, ◌≤◌, ◌∷◌, [], List, length, All, IsOk, IfSome, false, map, filter};
+//! One trial, in a list of free sections, which is undone where it is stuck; and counts of fit tests.
+ghost use Rattle.std.specs.Prelude.{ℕ, ◌≡◌, ◌+◌, ◌≤◌, ◌∷◌, [], List, length, All, IsOk, IfSome, false, map, filter};
 ghost use Rattle.rectangle_pack_sections.specs.Boxes.{Cuboid, Holds, FitsU32, has_cells};
 ghost use Rattle.rectangle_pack_sections.specs.Choice.{IsAllowedCut};
 ghost use Rattle.rectangle_pack_sections.specs.Cuts.{placed};
+ghost use Rattle.rectangle_pack_lists.specs.Numbers.{saturated};
 ghost use Rattle.rectangle_pack_lists.specs.Steps.{AreLeft, AreRanked};
 ghost use Rattle.rectangle_pack_lists.specs.private.FreeLists.{IsTried, IsStuckAtOnce, now_of, start_of};
 
@@ -14,6 +15,7 @@ use rectangle_pack_sections::packed_location::PackedLocation;
 use rectangle_pack_sections::rect_to_insert::RectToInsert;
 use rectangle_pack_sections::width_height_depth::WidthHeightDepth;
 use std::alloc::{AllocError, Allocator};
+use std::marker::Model;
 
 // The three pieces by falling rate; at equal rates the one listed first stands first.
 fn by_falling_rate(
@@ -137,4 +139,47 @@ impl<A: Allocator + Copy> FreeList<A> {
             tests,
         })
     }
+}
+
+/// How many fit tests a look at one section after another makes, from the newest on: a member that
+/// is placed costs one for its section and one for each newer one, and a member that finds no
+/// section costs one for each section of the list. The count is exactly this, whatever the code
+/// does: in a long list the search passes over sections together that are all too small, counts each
+/// of them and tests none. The count stays at the greatest `u128`.
+#[derive(Debug, PartialEq, Drop)]
+pub struct FitTests {
+    count: u128,
+}
+
+impl Model for FitTests {
+    ghost use Rattle.std.specs.Prelude.{ℕ};
+
+    ghost Value = { ℕ };
+
+    ghost view = { λ t. t.count };
+
+    ghost inverse = { λ n. record { count = n } };
+}
+
+impl FitTests {
+    /// No test was made.
+    pub fn new() -> Self
+        ensures { result ≡ 0 }
+    {
+        FitTests { count: 0 }
+    }
+
+    /// The number of tests.
+    pub fn count(&self) -> u128
+        ensures { result ≡ self.now }
+    {
+        self.count
+    }
+}
+
+/// Counts `more` tests more.
+pub fn add(tests: &mut FitTests, more: u128)
+    ensures { tests.new ≡ saturated (tests.old + more) }
+{
+    tests.count = tests.count.saturating_add(more);
 }

@@ -14,8 +14,7 @@ ghost use Rattle.rectangle_pack_packing.specs.private.BinsAtWork.{left_of, left_
 pub mod summary_tree;
 
 use crate::bins_at_work::summary_tree::{Passed, SummaryTree};
-use rectangle_pack_bins::target_bin::TargetBin;
-use rectangle_pack_bins::target_bin::lending::{put_sections, stand_in, take_sections};
+use rectangle_pack_bins::target_bin::{TargetBin, put_sections, stand_in, take_sections};
 use rectangle_pack_lists::free_list::{End, FreeList};
 use rectangle_pack_lists::gap_list::summary::Summary;
 use rectangle_pack_lists::trial::{Trial, stuck_at_once};

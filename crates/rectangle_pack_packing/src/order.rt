@@ -1,17 +1,20 @@
-//! The order in which a packing takes groups.
-ghost use Rattle.std.specs.Prelude.{ℕ, List, ◌≡◌, ◌++◌, ◌<◌, IfOk, OnOk, Some, All, sum, map, length};
+//! The orders in which a packing takes groups and tries bins.
+ghost use Rattle.std.specs.Prelude.{ℕ, List, ◌≡◌, ◌++◌, ◌<◌, IfOk, IsSome, OnOk, Some, All, sum, map, length};
 ghost use Rattle.std.specs.BTreeMap.{get, is_at};
 ghost use Rattle.std.specs.Ordering.{eq_by_cmp};
 ghost use Rattle.std.specs.declared.cmp.Ordering.TheVariants.{Less};
 ghost use Rattle.std.specs.List.{AllPairs, AllZip, sum_by, IsDistinct};
-ghost use Rattle.std.specs.Map.{lookup, values_of};
+ghost use Rattle.std.specs.Map.{lookup, keys_of, values_of};
 ghost use Rattle.std.specs.List.Sorted.{IsPermutation, IsSorted};
-ghost use Rattle.rectangle_pack_packing.specs.Orders.{IsGroupOrder, falling_then};
+ghost use Rattle.rectangle_pack_packing.specs.Orders.{IsBinOrder, IsGroupOrder, falling_then};
 ghost use Rattle.rectangle_pack_packing.specs.private.Orders.{keys_of_order, entries_at, members_of, HasSizes, SizesStandAt};
+ghost use Rattle.rectangle_pack_sections.specs.Bins.{bins_of};
+ghost use Rattle.rectangle_pack_sections.specs.Clones.{ClonesEqual};
 ghost use Rattle.rectangle_pack_sections.specs.Groups.{HaveSizes, MembersHaveSizes, lists_of};
 ghost use Rattle.rectangle_pack_sections.specs.Boxes.{Size};
 ghost use Rattle.rectangle_pack_lists.specs.Numbers.{saturated};
 
+use rectangle_pack_bins::target_bin::TargetBin;
 use rectangle_pack_sections::closures::Policy;
 use rectangle_pack_sections::rect_to_insert::RectToInsert;
 use rectangle_pack_sections::width_height_depth::WidthHeightDepth;
@@ -135,5 +138,32 @@ where
         })?;
     }
     sort_falling(&mut order);
+    Ok(order)
+}
+
+/// All bins, by rising rate of their whole sizes and then by id.
+pub fn bin_order<B, R, A>(
+    alloc: A,
+    bins: &BTreeMap<B, TargetBin<A>, A>,
+    policy: &R,
+) -> Result<Vec<(u128, B), A>, AllocError>
+where
+    B: Ord + Clone + Drop,
+    R: Policy,
+    A: Allocator + Copy,
+    requires bin_ids { ClonesEqual B.is_clone B.eq }
+    requires callable { R.is_callable policy.now }
+    ensures order { IfOk result
+        (λ v. IsBinOrder (R.may policy.now).rate B.cmp (bins_of bins.now.entries) v.items) }
+    ensures found { IfOk result (λ v. All (λ o. IsSome (get B.cmp bins.now o.1)) v.items) }
+    ensures ids { IfOk result (λ v. IsDistinct (eq_by_cmp B.cmp) (map (λ o. o.1) v.items)) }
+    ensures distinct { OnOk result
+        (IsDistinct (eq_by_cmp B.cmp) (keys_of (bins_of bins.now.entries))) }
+{
+    let mut order = Vec::with_capacity(alloc, bins.len())?;
+    for (id, bin) in bins {
+        order.push((policy.rate(bin.max_size()), id.clone()?))?;
+    }
+    order.sort_unstable();
     Ok(order)
 }

@@ -14,19 +14,18 @@ ghost use Rattle.rectangle_pack_packing.specs.private.Ends.{IsUndoneAnswer};
 
 pub mod attempt;
 pub mod best;
-pub mod bin_order;
 pub mod packing;
 
 use crate::answer::{RectanglePackError, RectanglePackOk, answer_of};
+use crate::order::bin_order;
 use crate::pack::attempt::end_packing;
-use crate::pack::bin_order::bin_order;
 use crate::pack::packing::Packing;
 pub use best::pack_rects_best;
 use rectangle_pack_bins::target_bin::TargetBin;
 use rectangle_pack_groups::grouped_rects_to_place::GroupedRectsToPlace;
 use rectangle_pack_groups::grouped_rects_to_place::multimap::number_after;
-use rectangle_pack_lists::fit_tests::{FitTests, add};
 use rectangle_pack_lists::free_list::End;
+use rectangle_pack_lists::trial::{FitTests, add};
 use rectangle_pack_sections::closures::{Closures, Policy};
 use rectangle_pack_sections::group::Group;
 use rectangle_pack_sections::width_height_depth::WidthHeightDepth;

@@ -3,11 +3,9 @@ ghost use Rattle.std.specs.Prelude.{◌≡◌, ◌+◌, ◌≤◌, IsOk, length}
 ghost use Rattle.rectangle_pack_sections.specs.Closures.{AreCallable, answers};
 ghost use Rattle.rectangle_pack_lists.specs.Trials.{IsTrialAnswer, most_tests};
 
-use crate::target_bin::lending::{put_sections, take_sections};
-use crate::target_bin::{FitTests, TargetBin};
-use rectangle_pack_lists::fit_tests::add;
+use crate::target_bin::{FitTests, TargetBin, put_sections, take_sections};
 use rectangle_pack_lists::free_list::{End, FreeList};
-use rectangle_pack_lists::trial::Trial;
+use rectangle_pack_lists::trial::{Trial, add};
 use rectangle_pack_sections::closures::Closures;
 use rectangle_pack_sections::packed_location::PackedLocation;
 use rectangle_pack_sections::rect_to_insert::RectToInsert;

@@ -7,7 +7,7 @@ ghost use Rattle.rectangle_pack_packing.specs.private.Ends.{IsEnd};
 ghost use Rattle.rectangle_pack_sections.specs.Bins.{bins_of, Bin};
 
 use crate::answer::{Placement, RectanglePackError, RectanglePackOk, answer_of, last_placements};
-use crate::pack::bin_order::bin_order;
+use crate::order::bin_order;
 use crate::pack::packing::Packing;
 use rectangle_pack_bins::target_bin::TargetBin;
 use rectangle_pack_groups::grouped_rects_to_place::GroupedRectsToPlace;

@@ -6,7 +6,7 @@ use Rattle.rectangle_pack_packing.specs.Packing.{rules_by}
 use Rattle.rectangle_pack_packing.proofs.lemmas.packing.FitTests.{order-differs}
 use Rattle.rectangle_pack_bins.proofs.lemmas.bins.Maps.{keys-bins}
 use Rattle.rectangle_pack_packing.proofs.lemmas.packing.Orders.{AllZip-more, AllZip-map_left, found-zip}
-use Rattle.rectangle_pack_packing.proofs.pack.bin_order.bin_order.Goals as goal
+use Rattle.rectangle_pack_packing.proofs.order.bin_order.Goals as goal
 
 pub loop-id-preserved : goal.loop-id-preserved
 loop-id-preserved g c =

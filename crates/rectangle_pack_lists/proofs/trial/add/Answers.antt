@@ -1,5 +1,5 @@
 use Rattle.rectangle_pack_sections.proofs.Std.{rules}
-use Rattle.rectangle_pack_lists.proofs.fit_tests.add.Goals as goal
+use Rattle.rectangle_pack_lists.proofs.trial.add.Goals as goal
 
 pub returns : goal.returns
 returns c = search rules

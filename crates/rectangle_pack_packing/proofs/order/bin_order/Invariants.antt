@@ -1,5 +1,5 @@
 use Rattle.rectangle_pack_sections.proofs.Std.{◌≡◌, map, AllZip, deref_pair, Equal}
-use Rattle.rectangle_pack_packing.proofs.pack.bin_order.bin_order.Given as goal
+use Rattle.rectangle_pack_packing.proofs.order.bin_order.Given as goal
 
 abbrev pub invariant-loop-id : goal.invariant-loop-id
 invariant-loop-id g l = AllZip (λ b o. (g.B.Ord.cmp b.0 o.1 ≡ Equal) × (g.R.Policy.may l.policy).rate b.1.bin.size o.0) (map deref_pair l.yielded) l.order.items
