@@ -157,6 +157,13 @@ module _ {C R S : Type 0} (Keeps : C → S → R → S → Type 0) where
   -- a run: one reply for each command, and a state after each. `Keeps` holds of each command, the state before it, its
   -- reply and the state after it; `old` is the state before the first, `new` the one after the last. For a run of
   -- transitions `Keeps` is `IsTransition`; for what `run` answers it is `KeepsPromise`
+  -- Example: a run from a state without bins. The next number is 0 at first, 1 after Pack p, and 2 after Pack q:
+  -- AddBin a 10x10x1: `Done`; a has the list [(0,0,0) 10x10x1].
+  -- Pack p 4x10x1: `Packed`, first 0, count 1; p stands at (0,0,0), and a has [(4,0,0) 6x10x1].
+  -- Pack q 6x10x1: `Packed`, first 1, count 1; q stands at (4,0,0), and a has [].
+  -- Release 0: `Done`; a has [(0,0,0) 4x10x1]. Release 0: `Refused`, `UnknownPlacement`; nothing changes.
+  -- Release 1: `Done`; a has [(0,0,0) 4x10x1, (4,0,0) 6x10x1]. Since Pack p its boxes are leaves of Cut x 4 Leaf Leaf.
+  -- Coalesce a, 1 over 0..2: `Done`; a has [(0,0,0) 10x10x1], and counts as coalesced
   abbrev pub IsRun : List C → S → List R → S → Type 0
   IsRun [] old [] new = new ≡ old
   IsRun [] old (reply ∷ replies) new = ⊥

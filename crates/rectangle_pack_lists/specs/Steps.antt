@@ -46,6 +46,12 @@ module _ (may : Answers) where
   -- a trial that is done: each member in turn has a step (`IsStep`), in the list that the step before left. The
   -- locations are those of the steps, the last list is the one after the last of them, and the tests are the sum of
   -- theirs
+  -- Example: by `volume_heuristic` and `contains_smallest_box`, the members 50x90x1 and 1x1x1 in [(0,0,0) 100x100x1].
+  -- Behind has no cells in any cut, so the smaller of right and above decides. For the first member it is 50x10x1 (500
+  -- cells) in the cuts 0, 2 and 3, and 100x10x1 (1000) in the others. Three cuts tie at 500, and the last of them is
+  -- taken: cut 3. It leaves [(50,0,0) 50x100x1, (0,90,0) 50x10x1], the greater piece first. The second member goes into
+  -- the last section, to (0,90,0) 1x1x1. Cut 3 is taken again, with 1x9x1 (9 cells); the cuts 1, 4 and 5 have 49x1x1
+  -- (49). The last list is [(50,0,0) 50x100x1, (1,90,0) 49x10x1, (0,91,0) 1x9x1]. The tests are 1 + 1 = 2
   abbrev pub IsDone : List Cuboid → List Size → List Cuboid → List Cuboid → ℕ → Type 0
   IsDone sections [] locations last tests = (locations ≡ []) × (last ≡ sections) × (tests ≡ 0)
   IsDone sections (m ∷ ms) [] last tests = ⊥
@@ -56,6 +62,10 @@ module _ (may : Answers) where
   -- by no section of the list as it is then. The tests are those of these steps, and one for each section of that list.
   -- Where the closures are functions and the comparison is a total preorder, the answers leave no choice
   -- (`packing_has_one_result`)
+  -- Example: the members 20x10x1 and 20x20x2 in [(0,0,1) 20x20x1, (0,10,0) 20x10x1, (10,0,0) 10x10x1]. The first is too
+  -- wide for the last section (20 > 10) and fills the one before it: 2 tests. This leaves [(0,0,1) 20x20x1,
+  -- (10,0,0) 10x10x1]. The second is too wide for the last of these (20 > 10) and too deep for the other (2 > 1):
+  -- 2 tests more. So the trial is stuck, with 2 + 2 = 4 tests
   abbrev pub IsStuck : List Cuboid → List Size → ℕ → Type 0
   IsStuck sections [] tests = ⊥
   IsStuck sections (m ∷ ms) tests =

@@ -21,6 +21,7 @@ rising_then cmp a b = ordering_then (nat_cmp a.0 b.0) (cmp a.1 b.1)
 
 module _ (MayRate : Size → ℕ → Type 0) where
   -- the key is the saturated sum of rates: one for each entry of the group's list, of the size that its id has
+  -- Example: by `volume_heuristic`, of the list [One, One], where One is 4x4x1: 16 + 16 = 32
   abbrev pub IsGroupKey : {Id : Type 0} → (Id → Id → Ordering) → List (Id × Size) → List Id → ℕ → Type 0
   IsGroupKey cmp sizes ids key =
       (rates : List ℕ) × AllZip (λ id rate. IsSomeAnd (lookup (is_at (cmp id)) sizes) (λ size. MayRate size rate)) ids rates

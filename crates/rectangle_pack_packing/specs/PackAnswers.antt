@@ -41,6 +41,12 @@ module _ {Id B G : Type 0} (group_cmp : Group G Id → Group G Id → Ordering) 
 
   -- the same, and exactly the packing's fit tests are added to the count (`AreCounted`). On `OutOfMemory` some number
   -- of tests within the bound is added
+  -- Example: by `volume_heuristic` and `contains_smallest_box`, One 4x4x1 and Two 2x2x1, each alone, go into the bins
+  -- a 4x4x1 and b 3x3x1. One has the key 16 and goes before Two with 4; b has the key 9 and is tried before a with 16.
+  -- One is stuck in b (4 > 3) and done in a, which is left with []. Two is done in b, at (0,0,0), and leaves
+  -- [(0,2,0) 3x1x1, (2,0,0) 1x2x1]. This makes 2 placements, and 2 + 1 = 3 tests. Into a alone the packing is refused:
+  -- One is done in a with 1 test, and Two is stuck in the empty list with 0 tests. So a is left with [], and 1 test is
+  -- counted
   abbrev pub IsCountedAnswer : {A : Type 0} → Collection Id G → List (B × Bin) → ℕ
       → Result (RectanglePackOk Id B A) RectanglePackError → List (B × Bin) → ℕ → Type 0
   IsCountedAnswer all old before (Ok ok) new after =

@@ -53,6 +53,9 @@ module _ {Id B : Type 0} (cmp : Id → Id → Ordering) (bin_cmp : B → B → O
     pub location : found.1 ≡ last.location
 
   -- the ids of `found` ascend. Each id that was placed is there, with its last placement, and no other id is there
+  -- Example: One 4x4x1 is pushed in [0, 0], so the list of Grouped(0) is [One, One]. By `volume_heuristic` and
+  -- `contains_smallest_box` a packing into a bin 8x8x1 places One at (0,0,0) and then at (4,0,0). `found` has One once,
+  -- at (4,0,0)
   pub record AreLastPlacements (placements : List (Placement Id B)) (found : List (Id × (B × Cuboid))) : Type 0 where
     pub ascend : IsStrictlySortedBy cmp (keys_of found)
     pub each : (id : Id) → MatchOption (lookup (is_at (cmp id)) found) (All (λ p. is_eq (cmp id p.id) ≡ false) placements) (IsLastOf placements id)

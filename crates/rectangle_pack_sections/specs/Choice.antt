@@ -47,7 +47,10 @@ module _ {A : Type 0} (MayAnswer : A → A → Ordering → Type 0) where
 -- pieces
 -- Example: where the answer is always `Greater`, cut 0 alone: a later one replaces none. Where it is always `Less`, or
 -- always `Equal`, cut 5 alone: an earlier one would have to be `Greater` than it. Where any answer may come at any
--- time, each of the six
+-- time, each of the six. By `volume_heuristic` and `contains_smallest_box`, with the six cuts in the example of `cuts`:
+-- cut 5 alone. The smallest and the second smallest volumes of the cuts 0 to 5 are 112500 and 375000; 112500 and
+-- 125000; 37500 and 450000; 37500 and 50000; 12500 and 225000; 12500 and 75000. On each cut and a later one the answer
+-- is `Less`
 abbrev pub IsAllowedCut : (List Size → List Size → Ordering → Type 0) → Cuboid → Size → List Cuboid → Type 0
 IsAllowedCut MayPrefer section size pieces = MayChoose (λ a b. MayPrefer (sizes_of a) (sizes_of b)) (cuts section size) pieces
 

@@ -24,5 +24,10 @@ abbrev pub total_volume : List Cuboid → ℕ
 total_volume boxes = sum_by (λ b. volume_of b.whd) boxes
 
 -- the volumes of the boxes add up to that of the whole
+-- Example: for the whole (0,0,0) 3x1x1: how often its three cells are filled, the total volume, and what holds:
+-- [(0,0,0) 2x1x1, (2,0,0) 1x1x1]: 1, 1 and 1 times; 2 + 1 = 3; `Tiles`, `AreAllApart`, `MakeUp` and `HaveVolumeOf`.
+-- [(0,0,0) 2x1x1, (1,0,0) 2x1x1]: 1, 2 and 1 times; 2 + 2 = 4; `MakeUp` alone.
+-- [(0,0,0) 1x1x1, (2,0,0) 1x1x1]: 1, 0 and 1 times; 1 + 1 = 2; `AreAllApart` alone.
+-- [(0,0,0) 2x1x1, (1,0,0) 1x1x1]: 1, 2 and 0 times; 2 + 1 = 3; `HaveVolumeOf` alone
 abbrev pub HaveVolumeOf : List Cuboid → Cuboid → Type 0
 HaveVolumeOf boxes whole = total_volume boxes ≡ volume_of whole.whd

@@ -78,7 +78,8 @@ flat x y width height = record { x = x; y = y; z = 0; whd = record { width = wid
 -- five flat boxes that cover a bin: four of two cells round one in the middle. They are from no cuts of it
 -- (`IsFromCuts`): each plane strictly inside the bin goes through one of the four
 -- Example: x 1 goes through the first, x 2 through the third, y 1 through the second, y 2 through the fourth; no place
--- on z is strictly inside the bin
+-- on z is strictly inside the bin. Call the five boxes A to E, in this order: the cells of the bin are then DCC at y 2,
+-- DEB at y 1 and AAB at y 0
 abbrev pub pinwheel : List Cuboid
 pinwheel = flat 0 0 2 1 ∷ flat 2 0 1 2 ∷ flat 1 2 2 1 ∷ flat 0 1 1 2 ∷ flat 1 1 1 1 ∷ []
 

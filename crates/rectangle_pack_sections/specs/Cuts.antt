@@ -52,7 +52,8 @@ piece section size order a = record {
 
 -- right, above and behind: the pieces on the axes x, y and z
 -- Example: of 50x25x10 in (0,0,0) 100x100x100 in the order z, y, x: (50,0,0) 50x25x10, (0,25,0) 100x75x10, (0,0,10)
--- 100x100x90
+-- 100x100x90. A cell (i,j,k) of the section is in behind where k ≥ 10, else in above where j ≥ 25, else in right where
+-- i ≥ 50, else in the box
 unfoldable pub pieces : Cuboid → Size → List Axis → List Cuboid
 pieces section size order = piece section size order X ∷ piece section size order Y ∷ piece section size order Z ∷ []
 
@@ -64,6 +65,14 @@ orders =
     ∷ (Y ∷ Z ∷ X ∷ []) ∷ (Z ∷ Y ∷ X ∷ []) ∷ []
 
 -- the pieces of each of the six cuts
+-- Example: the sizes of right, above and behind, of 50x25x10 in (0,0,0) 100x100x100:
+-- cut 0, in the order x, y, z: 50x100x100, 50x75x100, 50x25x90;
+-- cut 1, in the order y, x, z: 50x25x100, 100x75x100, 50x25x90;
+-- cut 2, in the order x, z, y: 50x100x100, 50x75x10, 50x100x90;
+-- cut 3, in the order z, x, y: 50x100x10, 50x75x10, 100x100x90;
+-- cut 4, in the order y, z, x: 50x25x10, 100x75x100, 100x25x90;
+-- cut 5, in the order z, y, x: 50x25x10, 100x75x10, 100x100x90.
+-- In each cut the three volumes and the 12500 of the box add up to 1000000
 unfoldable pub cuts : Cuboid → Size → List (List Cuboid)
 cuts section size = map (pieces section size) orders
 

@@ -34,6 +34,12 @@ before_note note places =
     else insert (take (length places - note.pushed) places) note.place (Some note.section)
 
 -- the places before all noted steps, the last undone first
+-- Example: two boxes 4x4x1 go into the plain list [(0,0,0) 8x8x1]. The first step takes out the section at place 0 and
+-- pushes two pieces: [(0,4,0) 8x4x1, (4,0,0) 4x4x1]. The second takes out the section at place 1 and pushes none:
+-- [(0,4,0) 8x4x1]. To undo the second, (4,0,0) 4x4x1 is put in at place 1. To undo the first, the two pieces are
+-- dropped, and (0,0,0) 8x8x1 is put in at place 0. In a list with gaps the steps leave [-, (0,4,0) 8x4x1, -],
+-- where - is a gap, and the second note has place 2. To undo the second, (4,0,0) 4x4x1 is set at place 2. To undo the
+-- first, the last two places are dropped, and (0,0,0) 8x8x1 is set at place 0
 abbrev pub before_notes : List Note → List (Option Cuboid) → List (Option Cuboid)
 before_notes [] places = places
 before_notes (note ∷ notes) places = before_note note (before_notes notes places)

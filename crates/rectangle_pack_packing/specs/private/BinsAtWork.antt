@@ -43,6 +43,10 @@ pub record BinsInUse (B : Type 0) : Type 0 where
   pub out : List (Option AtWork)
 
 -- the bins of a packing that has these bins checked out of this map
+-- Example: the bins A, B and C have the ids a, b and c, and the order is c, a, b. C and A are checked out. In the map a
+-- bin without sections, -, stands for each: a: -, b: B, c: -. Boxes were placed in C, which is now C'. `out` has C at
+-- the start and C' now, then A at the start and A now. So the field `now` is a: A, b: B, c: C', and the field `start`
+-- is a: A, b: B, c: C
 abbrev pub in_use : {B : Type 0} → (B → B → Ordering) → List (ℕ × B) → List (Option AtWork) → List (B × Bin) → BinsInUse B
 in_use cmp order out bins =
     record { now = checked_in cmp Keep order out bins; start = checked_in cmp Undo order out bins; order = order; out = out }
