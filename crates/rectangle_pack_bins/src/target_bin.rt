@@ -10,6 +10,7 @@ ghost use Rattle.rectangle_pack_lists.specs.Joining.{IsJoined, IsSwept, ShareNoF
 ghost use Rattle.rectangle_pack_sections.specs.Keeping.{KeepCells};
 
 mod placing;
+mod texts;
 
 use rectangle_pack_lists::coalesce::{join_all, join_all_in, join_at};
 use rectangle_pack_lists::corners::Corners;
@@ -19,8 +20,8 @@ use rectangle_pack_sections::bin_section::{BinSection, is_inside};
 use rectangle_pack_sections::width_height_depth::{WidthHeightDepth, any_size};
 use std::alloc::{AllocError, Allocator, Global};
 use std::marker::Model;
+use std::mem;
 use std::ops::Range;
-use std::{fmt, mem};
 
 /// Why a section was not given back to a bin. The section that was pushed comes with each.
 #[derive(Debug, Drop)]
@@ -36,26 +37,6 @@ pub enum PushBinSectionError {
     },
     /// The bin accepts it, and memory for the list was refused.
     OutOfMemory(BinSection),
-}
-
-impl fmt::Display for PushBinSectionError {
-    fn fmt<W: fmt::Write>(&self, f: &mut fmt::Formatter<W>) -> fmt::Result {
-        match self {
-            PushBinSectionError::OutOfBounds(section) => f
-                .debug_tuple("BinSection")
-                .field(section)
-                .finish(),
-            PushBinSectionError::Overlaps {
-                remaining_section,
-                new_section,
-            } => f
-                .debug_struct("Overlaps")
-                .field("remaining_section", remaining_section)
-                .field("new_section", new_section)
-                .finish(),
-            PushBinSectionError::OutOfMemory(_) => write!(f, "Out of memory."),
-        }
-    }
 }
 
 /// A bin: its size, and the list of its free sections, in cells. Each free section is inside the
@@ -282,10 +263,8 @@ impl<A: Allocator + Copy> TargetBin<A> {
     ///
     /// While some other index of the range has such a section, the one at the least such index is
     /// taken out, the list closes up, and the box that the two make up stands in place of the
-    /// section at `idx`, one lower where what was taken out stood before it; the range ends one
-    /// earlier. Where the index is past the end of the list, or the range is
-    /// empty, the list stays as it is; a range that goes past the end is cut to the list. The free
-    /// cells stay the same. Takes no memory.
+    /// section at `idx`; the range ends one earlier. Where the index is past the end of the list,
+    /// nothing is joined; a range that goes past the end is cut to the list. Takes no memory.
     pub fn coalesce_available_sections(&mut self, idx: usize, range: Range<usize>)
         // While some other section of the range shares a whole face with the one at the index, the
         //   one at the least such index is taken out of the list, and the box that the two make up

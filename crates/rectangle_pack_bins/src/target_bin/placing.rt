@@ -18,12 +18,10 @@ impl<A: Allocator + Copy> TargetBin<A> {
     /// answers their locations; `None` where some member finds no section. `None` and an error
     /// leave the bin as it was.
     ///
-    /// The caller sees to it that the heuristic may be called on every size, and the comparison on
-    /// every two triples of sizes with this heuristic. The counter grows by the fit tests of the
-    /// trial: for m members in a list of s sections by at most m * s + m * (m - 1). It counts what a
-    /// look at one section after another would test, as `FitTests` says, also where the code tests
-    /// fewer. Fails only when memory is refused, and then the counter stays; without members no
-    /// memory is taken.
+    /// The caller sees to it that both closures may be called on every size. The counter grows by
+    /// the fit tests of the trial: for m members in a list of s sections by at most
+    /// m * s + m * (m - 1). Fails only when memory is refused, and then the counter stays; without
+    /// members no memory is taken.
     pub fn place_all<H, C>(
         &mut self,
         members: &[RectToInsert],
