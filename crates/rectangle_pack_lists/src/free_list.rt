@@ -28,9 +28,6 @@ const LONG: usize = 1000;
 // How many sections may get an index for each box that is packed.
 const SECTIONS_A_BOX: usize = 16;
 
-// How many sections are summed anew after each trial that is done, at most.
-const FEW: usize = 64;
-
 /// What is done with the steps in a list at the end.
 #[derive(Clone, Copy, PartialEq)]
 pub enum End {
@@ -187,10 +184,8 @@ impl<A: Allocator + Copy> FreeList<A> {
         ensures { IfSome result (λ s. Bounds s (now_of self.now)) }
     {
         match &self.sections {
-            Sections::Plain(sections) if sections.len() <= FEW => {
-                Some(Summary::of_sections(sections.as_slice()))
-            }
-            _ => None,
+            Sections::Plain(sections) => Summary::of_few(sections.as_slice()),
+            Sections::Gapped(..) => None,
         }
     }
 
@@ -235,8 +230,9 @@ impl<A: Allocator + Copy> Sections<A> {
                 made.reserve(steps)
             }
             Sections::Plain(sections) if !is_worth_it(sections.len(), steps, boxes) => {
-                taken.reserve(steps)?;
-                sections.reserve(steps * 2)
+                // Notes come last: after a stuck trial they are the last that was taken, and given back.
+                sections.reserve(steps * 2)?;
+                taken.reserve(steps)
             }
             Sections::Plain(sections) => {
                 let mut made = Steps::new(*sections.allocator());

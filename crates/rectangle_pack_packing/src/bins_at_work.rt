@@ -1,13 +1,14 @@
 //! The bins of a packing. A bin stays in its map until it holds the first member of a group that is
 //! tried in it. From then on it is out of the map: with many bins and groups, looking each up by its
 //! id for each group would take most of the time.
-ghost use Rattle.std.specs.Prelude.{ℕ, None, ◌≡◌, ◌≢◌, ◌-◌, ◌<◌, ◌≤◌, length, false, IfSome, IsSome, OnOk, OnErr, MatchBool, All, map, take, drop, slice_index_or};
+ghost use Rattle.std.specs.Prelude.{ℕ, None, ◌≡◌, ◌≢◌, ◌-◌, ◌<◌, ◌≤◌, [], length, false, IfSome, IsSome, OnOk, OnErr, MatchBool, All, map, take, drop, slice_index_or};
 ghost use Rattle.std.specs.BTreeMap.{get};
 ghost use Rattle.std.specs.List.{IsDistinct};
 ghost use Rattle.std.specs.Ordering.{eq_by_cmp};
-ghost use Rattle.rectangle_pack_sections.specs.Bins.{Bin, bins_of};
+ghost use Rattle.rectangle_pack_sections.specs.Boxes.{FitsU32};
+ghost use Rattle.rectangle_pack_sections.specs.Bins.{Bin, bins_of, IsSound};
 ghost use Rattle.rectangle_pack_lists.specs.declared.free_list.End.{End};
-ghost use Rattle.rectangle_pack_lists.specs.private.FreeLists.{IsTried, IsStuckAtOnce, now_of};
+ghost use Rattle.rectangle_pack_lists.specs.private.FreeLists.{IsTried, IsStuckAtOnce, now_of, start_of};
 ghost use Rattle.rectangle_pack_lists.specs.private.Summaries.{Bounds};
 ghost use Rattle.rectangle_pack_packing.specs.private.BinsAtWork.{left_of, left_at, IsBinAt, IsTriedIn, BinsHoldNone};
 
@@ -29,9 +30,6 @@ use std::mem;
 
 // From how many bins on summaries of them are kept.
 const MANY: usize = 16;
-
-// Up to how many sections a bin is summed while it is in its map.
-const FEW: usize = 64;
 
 /// The bins of a packing. Some are out of the map; there a bin without sections stands for each
 /// meanwhile.
@@ -135,8 +133,9 @@ impl<'b, B: Ord, A: Allocator + Copy> BinsAtWork<'b, B, A> {
         }
         self.check_out(index)?;
         let bin = self.out[index].as_mut().unwrap();
-        let trial = bin.list.run_trial(sizes, policy, locations)?;
-        sum_anew(&mut self.summaries, index, &bin.list, trial.is_done);
+        let list = &mut bin.lent.list;
+        let trial = list.run_trial(sizes, policy, locations)?;
+        sum_anew(&mut self.summaries, index, list, trial.is_done);
         Ok(trial)
     }
 
@@ -168,26 +167,10 @@ impl<'b, B: Ord, A: Allocator + Copy> BinsAtWork<'b, B, A> {
         let bin = self.bins.get(id).unwrap();
         let sections = bin.available_bin_sections().as_slice();
         let trial = stuck_at_once(sections, sizes)?;
-        if self.summaries.lacks(index) && sections.len() <= FEW {
-            let summary = Summary::of_sections(sections);
-            self.summaries.put(index, Some(summary));
+        if self.summaries.lacks(index) {
+            self.summaries.put(index, Summary::of_few(sections));
         }
         Some(trial)
-    }
-
-    // Makes room for the bin at this index among those that are out. Fails only when memory is
-    // refused.
-    fn make_room(&mut self, index: usize) -> Result<(), AllocError>
-        requires { index < length self.old.order }
-        ensures { self.new ≡ self.old }
-    {
-        let places = self.out.len();
-        if index >= self.out.capacity() {
-            // By an eighth, not by twice: a place is large, and few may be taken.
-            let more = index.saturating_sub(places).max(places / 8);
-            self.out.reserve_exact(more.saturating_add(1))?;
-        }
-        Ok(())
     }
 
     // Checks the bin at this index out, where it is in its map. Fails only when memory is refused.
@@ -197,7 +180,7 @@ impl<'b, B: Ord, A: Allocator + Copy> BinsAtWork<'b, B, A> {
         ensures order { self.new.order ≡ self.old.order }
         ensures out { OnOk result (IsSome (slice_index_or self.new.out index None)) }
     {
-        self.make_room(index)?;
+        let place = BinAtWork::place(self.alloc)?;
         while self.out.len() <= index {
             self.out.push(None)?;
         }
@@ -208,7 +191,7 @@ impl<'b, B: Ord, A: Allocator + Copy> BinsAtWork<'b, B, A> {
         let (_, id) = &order[index];
         let bin = self.bins.get_mut(id).unwrap();
         let bin = mem::replace(bin, stand_in(self.alloc));
-        self.out[index] = Some(BinAtWork::new(bin, self.boxes));
+        self.out[index] = Some(place.with(bin, self.boxes));
         Ok(())
     }
 
@@ -254,9 +237,32 @@ fn sum_anew<A: Allocator + Copy>(
 // A bin that is out of its map, and its free sections, which are out of it while the packing works
 // on them.
 #[derive(Drop)]
-struct BinAtWork<A: Allocator + Copy> {
+struct Lent<A: Allocator + Copy> {
     bin: TargetBin<A>,
     list: FreeList<A>,
+}
+
+// The bin as it is, in a packing of `boxes` boxes, with its sections out of it. Takes no memory.
+fn lend<A: Allocator + Copy>(bin: TargetBin<A>, boxes: usize) -> Lent<A>
+    ensures bin { result.bin.bin ≡ record bin.bin { sections = [] } }
+    ensures now { now_of result.list ≡ bin.bin.sections }
+    ensures start { start_of result.list ≡ bin.bin.sections }
+    ensures sound { IsSound bin.bin.size bin.bin.sections }
+    ensures fits { All FitsU32 bin.bin.sections }
+{
+    let mut bin = bin;
+    let sections = take_sections(&mut bin);
+    Lent {
+        bin,
+        list: FreeList::new(sections, boxes),
+    }
+}
+
+// A bin that is out of its map. It stands on the heap, so that the list of those that are out stays
+// small where few are.
+#[derive(Drop)]
+struct BinAtWork<A: Allocator + Copy> {
+    lent: Box<Lent<A>, A>,
 }
 
 impl<A: Allocator + Copy> Model for BinAtWork<A> {
@@ -270,33 +276,37 @@ impl<A: Allocator + Copy> Model for BinAtWork<A> {
 
     ghost view = { λ b.
         record {
-          start = record b.bin.bin { sections = start_of b.list };
-          now = record b.bin.bin { sections = now_of b.list };
+          start = record b.lent.value.bin.bin { sections = start_of b.lent.value.list };
+          now = record b.lent.value.bin.bin { sections = now_of b.lent.value.list };
         } };
 
     // The sections are sound, now and at the start.
-    ghost invariant = { λ b. IsSound b.bin.bin.size (start_of b.list) ×
-        IsSound b.bin.bin.size (now_of b.list) × All FitsU32 (now_of b.list) };
+    ghost invariant = { λ b. IsSound b.lent.value.bin.bin.size (start_of b.lent.value.list) ×
+        IsSound b.lent.value.bin.bin.size (now_of b.lent.value.list) ×
+        All FitsU32 (now_of b.lent.value.list) };
 }
 
 impl<A: Allocator + Copy> BinAtWork<A> {
-    // The bin as it is, in a packing of `boxes` boxes. Takes no memory.
-    fn new(bin: TargetBin<A>, boxes: usize) -> Self
+    // A place for a bin, with one that stands in. Fails only when memory is refused.
+    fn place(alloc: A) -> Result<Self, AllocError> {
+        let lent = Box::new(alloc, lend(stand_in(alloc), 0))?;
+        Ok(BinAtWork { lent })
+    }
+
+    // The bin as it is, at this place, in a packing of `boxes` boxes. Takes no memory.
+    fn with(self, bin: TargetBin<A>, boxes: usize) -> Self
         ensures { result ≡ record { start = bin.bin; now = bin.bin } }
     {
-        let mut bin = bin;
-        let sections = take_sections(&mut bin);
-        BinAtWork {
-            bin,
-            list: FreeList::new(sections, boxes),
-        }
+        let BinAtWork { mut lent } = self;
+        *lent = lend(bin, boxes);
+        BinAtWork { lent }
     }
 
     // The bin at the end. Takes no memory.
     fn end(self, end: End) -> TargetBin<A>
         ensures { result.bin ≡ left_at end self }
     {
-        let BinAtWork { mut bin, list } = self;
+        let Lent { mut bin, list } = Box::into_inner(self.lent);
         put_sections(&mut bin, list.into_sections(end));
         bin
     }

@@ -26,6 +26,9 @@ pub(crate) const ROW: usize = 64;
 // How many blocks a row has.
 const ROW_BLOCKS: usize = 8;
 
+// How many sections of a bin are summed, at most.
+const FEW: usize = 64;
+
 /// Of some sections: the greatest width, height, depth, middle side and volume, and how many there
 /// are.
 #[derive(Clone, Copy)]
@@ -76,6 +79,17 @@ impl Summary {
             summary = summary.join(&Summary::of_section(&section.whd()));
         }
         summary
+    }
+
+    /// The summary of these sections, where they are few.
+    pub fn of_few(sections: &[BinSection]) -> Option<Self>
+        ensures { IfSome result (λ s. Bounds s sections.now) }
+    {
+        if sections.len() <= FEW {
+            Some(Summary::of_sections(sections))
+        } else {
+            None
+        }
     }
 
     /// How many sections there are.

@@ -1,4 +1,4 @@
-use Rattle.rectangle_pack_sections.proofs.Std.{◌∙◌, ap, sym, subst, List}
+use Rattle.rectangle_pack_sections.proofs.Std.{◌∙◌, ap, sym, subst, List, IfSome}
 use Rattle.rectangle_pack_sections.specs.Boxes.{Cuboid}
 use Rattle.rectangle_pack_lists.specs.private.FreeLists.{now_of, places_in}
 use Rattle.rectangle_pack_lists.specs.private.Places.{sections_of}
@@ -8,7 +8,7 @@ use Rattle.rectangle_pack_lists.proofs.free_list.FreeList.summary.Goals as goal
 
 pub returns-in-Plain : goal.returns-in-Plain
 returns-in-Plain g c =
-    subst (λ (l : List Cuboid). Bounds c.of_sections.result l)
+    subst (λ (l : List Cuboid). IfSome c.of_few.result (λ s. Bounds s l))
     (c.as_slice.ensures.value ∙ sym (sections_of-full c.in-Plain.sections.items)
     ∙ sym (ap (λ l. sections_of (places_in l)) c.in-Plain.is) ∙ ap now_of c.self.view_is)
-    c.of_sections.ensures
+    c.of_few.ensures

@@ -21,8 +21,11 @@ with_left Keep bin work = refl
 with_left Undo bin work = refl
 
 pub put_sections-requires : goal.put_sections-requires
-put_sections-requires g c = rw c.into_sections.ensures.items (sound c.args.end _ c.self.inside.list c.self.invariant.0 c.self.invariant.1)
+put_sections-requires g c =
+    let kept = rw (← c.into_inner-bin.ensures) at c.self.invariant in
+    rw c.into_sections.ensures.items (sound c.args.end _ c.into_inner-bin.result.list kept.0 kept.1)
 
 pub returns : goal.returns
 returns g c =
-    rw (← c.self.view_is, c.put_sections.ensures.bin, c.into_sections.ensures.items) (with_left c.args.end c.self.inside.bin.bin c.self.inside.list)
+    rw (← c.self.view_is, ← c.into_inner-bin.ensures, c.put_sections.ensures.bin, c.into_sections.ensures.items)
+    (with_left c.args.end c.into_inner-bin.result.bin.bin c.into_inner-bin.result.list)

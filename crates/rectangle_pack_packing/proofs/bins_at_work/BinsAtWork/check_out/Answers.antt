@@ -8,16 +8,16 @@ use Rattle.rectangle_pack_bins.proofs.lemmas.bins.Maps.{bins_of-written, found-b
 use Rattle.rectangle_pack_packing.specs.private.BinsAtWork.{checked_in, left_of}
 use Rattle.rectangle_pack_packing.proofs.lemmas.bins.BinsAtWork.{parts, left_of-in_use, checked_in-place, CanCheckIn-written, checked_in-out, is_in_map}
 use Rattle.rectangle_pack_packing.proofs.bins_at_work.BinsAtWork.check_out.Given.{Over}
-use Rattle.rectangle_pack_packing.proofs.bins_at_work.BinsAtWork.check_out.Goals.{After-new}
+use Rattle.rectangle_pack_packing.proofs.bins_at_work.BinsAtWork.check_out.Goals.{After-with}
 use Rattle.rectangle_pack_packing.proofs.bins_at_work.BinsAtWork.check_out.Goals.at as goal_at
 use Rattle.rectangle_pack_packing.proofs.bins_at_work.BinsAtWork.check_out.Goals as goal
 
 pub loop-self-init : goal.loop-self-init
 loop-self-init g c = record {
-  left = λ end. sym (left_of-in_use g.B.Ord.cmp end c.self.inside.order.now c.self.inside.out.items (bins_of c.self.inside.bins.entries)) ∙ ap (left_of end) (c.self.view_is ∙ c.make_room.ensures);
-  order = (parts (c.self.view_is ∙ c.make_room.ensures)).2;
+  left = λ end. sym (left_of-in_use g.B.Ord.cmp end c.self.inside.order.now c.self.inside.out.items (bins_of c.self.inside.bins.entries)) ∙ ap (left_of end) c.self.view_is;
+  order = (parts c.self.view_is).2;
   can = c.self.invariant.0;
-  summed = rw (← (parts (c.self.view_is ∙ c.make_room.ensures)).0) c.self.invariant.1;
+  summed = rw (← (parts c.self.view_is).0) c.self.invariant.1;
 }
 
 pub loop-self-preserved : goal.loop-self-preserved
@@ -40,7 +40,7 @@ unwrap-bin-requires g c =
     (rw c.loop-self.invariant.order c.requires) c.index-order-index.is
 
 -- the bins in the map, with the one that stands in
-standing : (g : Over) (c : After-new g)
+standing : (g : Over) (c : After-with g)
     → bins_of (c.get_mut.follows.lender c.replace-bin.new.dest).entries
     ≡ set_value (is_at (g.B.Ord.cmp c.index-order-index.result.1)) (bins_of c.loop-self.self-inside.bins.entries) c.replace-bin.new.dest.bin
 standing g c =
@@ -48,8 +48,8 @@ standing g c =
     (c.get_mut.follows.holds c.replace-bin.new.dest).0 refl
 
 -- with all bins checked in, the map stays
-same : (g : Over) (c : After-new g) (end : End)
-    → checked_in g.B.Ord.cmp end c.loop-self.self-inside.order.now (set c.loop-self.self-inside.out.items c.args.index (Some c.new.result))
+same : (g : Over) (c : After-with g) (end : End)
+    → checked_in g.B.Ord.cmp end c.loop-self.self-inside.order.now (set c.loop-self.self-inside.out.items c.args.index (Some c.with.result))
     (bins_of (c.get_mut.follows.lender c.replace-bin.new.dest).entries)
     ≡ left_of end c.args.self.now
 same g c end =
@@ -62,21 +62,21 @@ same g c end =
     let none : get_or out.items c.args.index None ≡ None =
     get_or_default out.items c.args.index None c.index.result.now low ∙ sym c.index.ensures ∙ none_of c.index.result.now (sym c.if-is_some.ensures) in
     let found : lookup test es ≡ Some held = sym c.get_mut.ensures.value ∙ ap option_copied_mut c.unwrap-bin.ensures in
-    rw (standing g c, c.new.ensures, c.replace-bin.ensures.value)
+    rw (standing g c, c.with.ensures, c.replace-bin.ensures.value)
     (checked_in-out g.met.B.Ord.total c.loop-self.self-inside.order.now out.items (bins_of es) c.args.index o c.loop-self.invariant.can
     (rw c.loop-self.invariant.order c.requires) c.index-order-index.is end held.bin c.replace-bin.new.dest.bin low none
     (found-bins_of test es (bins_of es) held refl found) ∙ c.loop-self.invariant.left end)
 
 pub invariant_of-self-2 : goal.invariant_of-self-2
 invariant_of-self-2 g c =
-    let at = (goal_at.invariant_of-self-2 g c).After-new in
+    let at = (goal_at.invariant_of-self-2 g c).After-with in
     let out = c.loop-self.self-inside.out.items in (
       CanCheckIn-written _ _ (ap keys_of (standing g at) ∙ keys-set_value (is_at (g.B.Ord.cmp c.index-order-index.result.1)) (bins_of c.loop-self.self-inside.bins.entries) c.replace-bin.new.dest.bin)
-          (rw (length-set out c.args.index (Some c.new.result)) c.loop-self.invariant.can.within) c.loop-self.invariant.can,
+          (rw (length-set out c.args.index (Some c.with.result)) c.loop-self.invariant.can.within) c.loop-self.invariant.can,
       rw (same g at Keep) c.loop-self.invariant.summed,
     )
 
 pub returns-clause-left : goal.returns-clause-left
 returns-clause-left g c = λ end.
-    left_of-in_use g.B.Ord.cmp end c.loop-self.self-inside.order.now (set c.loop-self.self-inside.out.items c.args.index (Some c.new.result))
-    (bins_of (c.get_mut.follows.lender c.replace-bin.new.dest).entries) ∙ same g (goal_at.returns-clause-left g c).After-new end
+    left_of-in_use g.B.Ord.cmp end c.loop-self.self-inside.order.now (set c.loop-self.self-inside.out.items c.args.index (Some c.with.result))
+    (bins_of (c.get_mut.follows.lender c.replace-bin.new.dest).entries) ∙ same g (goal_at.returns-clause-left g c).After-with end

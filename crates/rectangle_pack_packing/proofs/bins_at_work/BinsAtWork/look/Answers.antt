@@ -44,12 +44,12 @@ invariant_of-self g c =
       c.self.invariant.0,
       AreSummed-tried g.met.B.Ord.total c.self.inside.order.now _ _ c.args.index o bin bin c.self.inside.summaries c.put.new.self
           c.self.invariant.0.distinct at.within c.index-order-index.is c.self.invariant.1 (IsTriedIn-stuck g.B.Ord.cmp o.1 _ bin (at.found o c.index-order-index.is))
-          (λ known. rw (c.put.ensures.here, ← same) c.of_sections-summary.ensures) c.put.ensures.elsewhere,
+          (λ known. rw (c.put.ensures.here, ← same) c.of_few.ensures) c.put.ensures.elsewhere,
     )
 
-pub returns-then-sections-le-FEW-clause-stuck : goal.returns-then-sections-le-FEW-clause-stuck
-returns-then-sections-le-FEW-clause-stuck g c =
-    let at = here g (goal_at.returns-then-sections-le-FEW-clause-stuck g c).After-as_slice-sections in
+pub returns-then-lacks-clause-stuck : goal.returns-then-lacks-clause-stuck
+returns-then-lacks-clause-stuck g c =
+    let at = here g (goal_at.returns-then-lacks-clause-stuck g c).After-as_slice-sections in
     let same = c.as_slice-sections.ensures.value ∙ c.available_bin_sections.ensures.items in
     rw (← c.self.view_is) (c.in_ok-trial.ensures.0, c.unwrap-bin.result.now.bin, at, rw (← same) c.in_ok-trial.ensures.1)
 

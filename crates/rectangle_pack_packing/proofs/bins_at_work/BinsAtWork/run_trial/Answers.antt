@@ -6,6 +6,7 @@ use Rattle.rectangle_pack_lists.specs.declared.free_list.End.{End}
 use Rattle.rectangle_pack_lists.specs.declared.free_list.End.TheVariants.{Keep, Undo}
 use Rattle.rectangle_pack_lists.specs.private.FreeLists.{now_of, start_of}
 use Rattle.rectangle_pack_lists.proofs.lemmas.trial.Steps.{IsSound-tried, fits-tried}
+use Rattle.rectangle_pack_packing.specs.declared.bins_at_work.Lent.{Lent}
 use Rattle.rectangle_pack_packing.specs.private.BinsAtWork.{AtWork, checked_in, left_of, left_at, IsTriedIn}
 use Rattle.rectangle_pack_packing.proofs.lemmas.bins.BinsAtWork.{parts, left_of-in_use, is_out-within, entry_at, CanCheckIn-written, IsTriedIn-stuck, IsTried-stuck}
 use Rattle.rectangle_pack_packing.proofs.lemmas.bins.BinsAtWork.{IsTriedIn-out, checked_in-stays, AreSummed-tried}
@@ -45,29 +46,34 @@ unwrap-bin-requires g c =
     c.as_mut.ensures.variant ∙ ap is_some (c.index_mut.ensures.value
     ∙ sym (get_or_default out c.args.index None c.index_mut.result.now (is_out-within out c.args.index some))) ∙ some
 
+-- what is seen of a bin that is lent
+abbrev seen : {A : Type 0} → Lent A → AtWork
+seen lent = record {
+  start = record lent.bin.bin { sections = start_of lent.list };
+  now = record lent.bin.bin { sections = now_of lent.list };
+}
+
 -- the bin before the trial
 abbrev before : (g : Over) → After-run_trial g → AtWork
-before g c = record {
-  start = record c.bin.inside.bin.bin { sections = start_of c.bin.inside.list };
-  now = record c.bin.inside.bin.bin { sections = now_of c.bin.inside.list };
-}
+before g c = seen c.deref_mut.result.now
 
 -- and after it
 abbrev after : (g : Over) → After-run_trial g → AtWork
 after g c = record {
-  start = record c.bin.inside.bin.bin { sections = start_of c.run_trial.new.self };
-  now = record c.bin.inside.bin.bin { sections = now_of c.run_trial.new.self };
+  start = record c.deref_mut.result.now.bin.bin { sections = start_of c.run_trial.new.self };
+  now = record c.deref_mut.result.now.bin.bin { sections = now_of c.run_trial.new.self };
 }
 
 -- its sections stay sound
-sound : (g : Over) (c : After-run_trial g) → IsSound c.bin.inside.bin.bin.size (start_of c.run_trial.new.self)
-    × IsSound c.bin.inside.bin.bin.size (now_of c.run_trial.new.self) × All FitsU32 (now_of c.run_trial.new.self)
+sound : (g : Over) (c : After-run_trial g) → IsSound c.deref_mut.result.now.bin.bin.size (start_of c.run_trial.new.self)
+    × IsSound c.deref_mut.result.now.bin.bin.size (now_of c.run_trial.new.self) × All FitsU32 (now_of c.run_trial.new.self)
 sound g c =
     let may = g.R.Policy.may c.args.policy.now in
-    let tried = c.run_trial.ensures.tried in (
-      rw c.run_trial.ensures.start c.bin.invariant.0,
-      IsSound-tried may {E = AllocError} _ _ _ _ _ _ tried c.bin.invariant.1,
-      fits-tried may {E = AllocError} _ _ _ _ _ tried c.bin.invariant.2,
+    let tried = c.run_trial.ensures.tried in
+    let kept = rw (← c.deref_mut.ensures.value) at c.bin.invariant in (
+      rw c.run_trial.ensures.start kept.0,
+      IsSound-tried may {E = AllocError} _ _ _ _ _ _ tried kept.1,
+      fits-tried may {E = AllocError} _ _ _ _ _ tried kept.2,
     )
 
 in_order : (g : Over) (c : After-run_trial g) → c.args.index < length c.self.inside.order.now
@@ -79,7 +85,7 @@ held g c =
     let out = c.self.inside.out.items in
     let some : IsSome (get_or out c.args.index None) = rw (parts c.self.view_is).3 c.in_ok-check_out.ensures.out in
     get_or_default out c.args.index None c.index_mut.result.now (is_out-within out c.args.index some) ∙ sym c.index_mut.ensures.value
-    ∙ sym c.as_mut.ensures.value ∙ ap option_copied_mut c.unwrap-bin.ensures ∙ ap (λ b. Some b) (sym c.bin.view_is)
+    ∙ sym c.as_mut.ensures.value ∙ ap option_copied_mut c.unwrap-bin.ensures ∙ ap (λ b. Some b) (sym c.bin.view_is ∙ ap seen (sym c.deref_mut.ensures.value))
 
 -- the bins are as they were at first
 left : (g : Over) (c : After-run_trial g) (end : End)
