@@ -2,11 +2,11 @@
 
 use super::TestSession;
 use rectangle_pack::{Heuristic, Outstanding, Packed, SessionError};
-use std::alloc::Global;
 use std::process::Abort;
+use std::test::Fail;
 use tests_support::best_cases::{BIN, Case, Placed, cases, is_placed};
 use tests_support::boxes::{Rects, collect};
-use tests_support::each_request::End;
+use tests_support::each_request::{End, is_refused};
 use tests_support::refusing::Refusing;
 use tests_support::shapes::are_new;
 
@@ -96,36 +96,13 @@ fn packs(rt: &impl Abort, alloc: Refusing, case: &Case) -> End {
     }
 }
 
-// The end of a run for which `granted` requests are granted. It gives back all that it takes, and
-// is done where no request was refused, and only there.
-fn end_of(rt: &impl Abort, alloc: Global, granted: u64, case: &Case) -> End {
-    let refusing = Refusing::new(alloc, granted).expect(rt, "no memory for the counts");
-    let end = packs(rt, refusing, case);
-    assert!(rt; refusing.taken() == 0);
-    assert!(rt; (refusing.refused() == 0) == (end == End::Done));
-    end
-}
-
-// Whether some request is refused in the packing itself, where each is refused in turn, until none
-// is.
-fn takes_memory(rt: &impl Abort, alloc: Global, case: &Case) -> bool {
-    let mut refused = false;
-    for granted in 0..200u64 {
-        match end_of(rt, alloc, granted, case) {
-            End::Before => {}
-            End::Refused => refused = true,
-            End::Done => return refused,
-        }
-    }
-    assert!(rt; false, "requests were refused to the end");
-    refused
-}
-
 #[test]
-fn into_sessions(rt: HostRuntime) {
+fn into_sessions(rt: HostRuntime) -> Result<(), Fail> {
     for case in cases() {
-        assert!(rt; takes_memory(&rt, rt.alloc(), case) == case.takes_memory);
+        let refused = is_refused(rt.alloc(), |refusing| Ok(packs(&rt, refusing, case)))?;
+        assert!(rt; refused == case.takes_memory);
     }
+    Ok(())
 }
 
 // Numbers are looked at before anything is tried, and no memory is asked for.
