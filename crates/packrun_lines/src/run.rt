@@ -29,10 +29,10 @@ pub fn run_lines<R: Read, W: Write, A: Allocator + Copy>(
 ) -> Result<(), Stop>
     // For every reader whose bytes are known and every writer whose bytes are: what is printed is
     //   the transcript of the input, and nothing else. It ends at the end of the input, at the
-    //   first bad line with its number, or for want of memory, before any of its lines: then some
-    //   lines from the first are answered, none of the others is, and the last line says so. Where
-    //   it ends as `IoFailed`, a beginning of a transcript of the input is printed, and nothing
-    //   else. [obey_each.line_is_obeyed_twice, obey_each.empty_line_has_no_number,
+    //   first bad line with its number, or for want of memory: then the lines up to some place are
+    //   answered, those after it are not, and the last line says so. Where it ends as `IoFailed`, a
+    //   beginning of a transcript of the input is printed, and nothing else.
+    //   [obey_each.line_is_obeyed_twice, obey_each.empty_line_has_no_number,
     //   obey_each.unfinished_line_is_obeyed, obey_all.panics_without_memory]
     ensures transcript { IfSome (R.remaining reader.old)
         (PrintsTranscript (W.contents writer.old) (W.contents writer.new) result) }

@@ -39,10 +39,10 @@ outstanding_in bin_cmp outstanding id = map (λ r. r.location) (filter (λ r. is
 abbrev pub boxes_of : {Id B : Type 0} → (B → B → Ordering) → List (Outstanding Id B) → B → Bin → List Cuboid
 boxes_of bin_cmp outstanding id bin = bin.sections ++ outstanding_in bin_cmp outstanding id
 
--- what holds of a session always. The boxes of each bin cover it, so that each cell is in exactly one free section or
--- outstanding placement (`covered`). While a bin does not count as coalesced, they are from cuts of it (`from_cuts`).
--- The bin of each outstanding placement is there (`known`). The numbers of the outstanding placements rise (`rising`),
--- and each is below the next one (`below`)
+-- what holds of a session always: the boxes of each bin cover it, so that each cell is in exactly one free section or
+-- outstanding placement (`covered`), and while a bin does not count as coalesced, they are from cuts of it
+-- (`from_cuts`). The bin of each outstanding placement is there (`known`). The numbers of the outstanding placements
+-- rise (`rising`), and each is below the next one (`below`)
 pub record IsSession {Id B : Type 0} (bin_cmp : B → B → Ordering) (state : State Id B) : Type 0 where
   pub covered : (id : B) (bin : Bin) → lookup (is_at (bin_cmp id)) state.bins ≡ Some bin
       → CoverBin (boxes_of bin_cmp state.outstanding id bin) bin.size
@@ -98,7 +98,7 @@ module _ {Id B : Type 0} (bin_cmp : B → B → Ordering) where
   AddsBin id size old _ new = ⊥
 
   -- a placement is released: it is no longer outstanding, and its box is given back; or the number is not outstanding;
-  -- or the reply is want of memory, and the box has cells
+  -- or the reply is want of memory, which comes only where the box has cells. What is refused changes nothing
   abbrev pub Releases : ℕ → State Id B → Reply → State Id B → Type 0
   Releases number old Done new =
       (at : IsOutstanding old.outstanding number) × GivesBack bin_cmp old.bins at.found.bin at.found.location new.bins
@@ -109,7 +109,7 @@ module _ {Id B : Type 0} (bin_cmp : B → B → Ordering) where
   Releases number old _ new = ⊥
 
   -- the free sections of a bin become a list that `MayLeave` allows, and the bin counts as coalesced, also where
-  -- nothing was joined; or the id is not there
+  -- nothing was joined; or the id is not there, and nothing changes
   abbrev pub Coalesces : (List Cuboid → List Cuboid → Type 0) → B → State Id B → Reply → State Id B → Type 0
   Coalesces MayLeave id old Done new =
       (bin : Bin) × (lookup (is_at (bin_cmp id)) old.bins ≡ Some bin) × (joined : List Cuboid) × MayLeave bin.sections joined
@@ -118,9 +118,9 @@ module _ {Id B : Type 0} (bin_cmp : B → B → Ordering) where
   Coalesces MayLeave id old _ new = ⊥
 
 module _ {Id B G : Type 0} (group_cmp : Group G Id → Group G Id → Ordering) (rules : Rules Id B) where
-  -- a collection is packed. Where the next number and the entries add up to 2^64 or more it is refused, so that the
-  -- greatest number is never given. Else the packing is done and kept; or it is refused for space; or, if there is a
-  -- group, the reply is want of memory. What is refused changes nothing
+  -- a collection is packed: the packing is done and kept, or refused for space, or the reply is want of memory, which
+  -- comes only where there is a group. Where the next number and the entries add up to 2^64 or more it is refused
+  -- first, so that the greatest number is never given. What is refused changes nothing
   -- Example: from the number 18446744073709551614 a packing of one box is done, and the next number is then
   -- 18446744073709551615. One box more is `NumbersUsedUp`, since 18446744073709551615 + 1 is 2^64
   abbrev pub Packs : Collection Id G → State Id B → Reply → State Id B → Type 0

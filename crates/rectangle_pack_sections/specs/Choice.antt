@@ -31,10 +31,10 @@ module _ {A : Type 0} (MayAnswer : A → A → Ordering → Type 0) where
     pub transitive : (x y z : A) → Contains xs x → Contains xs y → Contains xs z
         → compare x y ≢ Greater → compare y z ≢ Greater → compare x z ≢ Greater
 
-  -- the chosen element stands in the list (`listed`). On it and each later one `Greater` may be answered
-  -- (`beats_later`). It is the first, or on some earlier one and it something else than `Greater` may be answered
-  -- (`replaces`). Where the answers are those of a total preorder on the list, no element is `Greater` than it
-  -- (`greatest`)
+  -- the chosen element stands in the list (`listed`), and the answers allow it. Asked about it and any later one, the
+  -- comparison may say `Greater` (`beats_later`). If it is not the first, then asked about some earlier one and it, the
+  -- comparison may say something else (`replaces`). Where the answers are those of a total preorder on the list, no
+  -- element is `Greater` than it (`greatest`)
   pub record MayChoose (xs : List A) (chosen : A) : Type 0 where
     pub before : List A
     pub after : List A
