@@ -16,10 +16,11 @@ Test = tuple[str, str, str]
 
 def tests() -> list[Test]:
     found = []
-    for path in files_of([it for it in ORDER if it.startswith("tests_of_")], "src", ".rt") + files_of([FOR_C], "src/tests", ".rt"):
+    of_c = [it for it in files_of([FOR_C], "src", ".rt") if it.relative_to(CRATES / FOR_C / "src").parts[0].startswith("tests")]
+    for path in files_of([it for it in ORDER if it.startswith("tests_of_")], "src", ".rt") + of_c:
         crate, _, *words = path.relative_to(CRATES).with_suffix("").parts
         home = {f"tests_of_{MAIN}": MAIN, FOR_C: FOR_C}.get(crate, words[0])
-        found.append((home, "/".join(words), path.read_text()))
+        found.append((home, "/".join(words), re.sub(r"//.*", "", path.read_text())))
     return found
 
 

@@ -101,6 +101,12 @@ def path_of(it: Definition) -> str:
     return f"crates/{it.module.replace('.', '/')}.antt"
 
 
+def beginning(meaning: str) -> str:
+    """What stands before its first full stop or semicolon, with a mark where it goes on."""
+    first, *rest = re.split(r"[.;] ", meaning, maxsplit=1)
+    return f"{first}…" if rest else first
+
+
 def definitions_among(order: Iterable[Told]) -> list[Definition]:
     return [it for it in order if isinstance(it, Definition)]
 
@@ -143,10 +149,8 @@ class Headline:
 
     def definitions(self, name: str) -> str:
         """What a root rests on beside what was told, which is told now: a line each, with a link to its place."""
-        return "\n".join(
-            f"- [`{it.name}`](../{path_of(it)}#L{it.line}): {re.split('[.;] ', it.meaning)[0]}"
-            for it in definitions_among(self.specs.tell(self.roots(name), self.told))
-        )
+        found = definitions_among(self.specs.tell(self.roots(name), self.told))
+        return "\n".join(f"- [`{it.name}`](../{path_of(it)}#L{it.line}): {beginning(it.meaning)}" for it in found)
 
     def texts(self, name: str) -> str:
         """The same with its texts: types of the code and words of std, then definitions."""
@@ -156,7 +160,8 @@ class Headline:
         std = ", ".join(f"`{it}`" for it in sorted({it for kind, it in names if kind == "std"}))
         said = [f"{title}: {them}." for title, them in (("Types of the code", types), ("Words of the standard library", std)) if them]
         for it in definitions_among(order):
-            said.append(f"`{it.name}`, {path_of(it)}:{it.line}: {it.meaning}\n\n{fenced(it.heads + it.lines)}")
+            example = f" Example: {it.example}" if it.example else ""
+            said.append(f"`{it.name}`, {path_of(it)}:{it.line}: {it.meaning}{example}\n\n{fenced(it.heads + it.lines)}")
         return "\n\n".join(said)
 
     def of_call(self, name: str) -> str:

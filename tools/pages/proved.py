@@ -63,8 +63,9 @@ class Proved:
 
     def claims(self, call: Call) -> Iterator[str]:
         """A line for each claim: its clause, what it says, and in brackets the wrong bodies. A star marks those that the gate does
-        not try. Premises that another call told are left out."""
-        for clause in (it for it in call.clauses() if it.kind == "ensures" or claims_of(it.notes)):
+        not try. Premises are left out that another law told, or that the doc comment of the call tells."""
+        tells_premises = "The caller sees to it" in " ".join(call.item.docs)
+        for clause in (it for it in call.clauses() if it.kind == "ensures" or (claims_of(it.notes) and not tells_premises)):
             for it in self.told[call.name, clause.name]:
                 text = f"Premise: {it.text[0].lower()}{it.text[1:]}" if clause.kind == "requires" else it.text
                 name = "" if clause.name == clause.kind else f"`{clause.name}`: "

@@ -1,6 +1,7 @@
 //! Packs boxes into bins, in two and three dimensions. Sizes and corners are counted in cells.
 //!
-//! Here are sessions; the layers below, each a crate, have the rest, and it is passed on from here.
+//! Sessions stand here, and the rest in the layers below, which pass it on: all of it is used as
+//! `rectangle_pack::NAME`.
 #![tactic(auto)]
 
 pub mod session;

@@ -199,17 +199,15 @@ where
 
     /// Packs all groups into the bins, as `pack_rects` does. The placements go to the end of
     /// `outstanding` under the next numbers, in the order in which they were made. Groups that are
-    /// excluded are kept apart within this call. Without groups no memory is taken.
+    /// excluded are kept apart within this call.
     ///
-    /// The caller sees to it that clones of ids equal their originals, and that `heuristic` may be
-    /// called on every size, and `comparison` on every two triples of sizes with this heuristic.
+    /// The caller sees to it that clones of ids equal their originals, and that both closures may be
+    /// called on every size.
     ///
     /// `NumbersUsedUp` says that the next number and the entries of the groups add up to more than
     /// the greatest `u64`; this is looked at first. `NotEnoughBinSpace` says that for some group
-    /// each bin is excluded or does not take all of its boxes, and `OutOfMemory` that a growth
-    /// or a clone was refused, which may come before it is known that there is no space. The
-    /// session is then as it was: nothing of the packing stays, and the lists of free sections are
-    /// in their old order.
+    /// each bin is excluded or does not take all of its boxes; `OutOfMemory` may come before it. On
+    /// each error the session is as it was.
     pub fn pack<GroupId, H, C>(
         &mut self,
         groups: &GroupedRectsToPlace<Id, GroupId, A>,

@@ -97,6 +97,10 @@ impl<Id: Ord + Clone + Drop, GroupId: Ord + Clone + Drop, A: Allocator + Copy> G
     /// The caller sees to it that the two groups differ, and that clones of ids equal their
     /// originals. `AllocError` says that a growth or a clone was refused. The collection is then as
     /// it was.
+    ///
+    /// ```
+    /// rects.exclude(Group::Grouped("menu"), Group::Grouped("game"))?;
+    /// ```
     pub fn exclude(
         &mut self,
         a: Group<GroupId, Id>,
@@ -158,12 +162,6 @@ impl<Id: Ord + Clone + Drop, GroupId: Ord + Clone + Drop, A: Allocator + Copy> G
     /// let groups = vec![in alloc; "game"]?;
     /// rects.push_rect(8, Some(groups), RectToInsert::new(5, 50, 1))?;
     /// rects.push_rect(9, None, RectToInsert::new(30, 30, 1))?;
-    /// ```
-    ///
-    /// There are three groups now: box 9 alone, and the two that are named.
-    ///
-    /// ```
-    /// assert_eq!(rt; rects.groups().len(), 3);
     /// ```
     ///
     /// A group has its boxes in the order in which they came:

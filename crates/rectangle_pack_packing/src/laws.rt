@@ -134,9 +134,8 @@ where
 
 /// A law: where the heuristics of two packings have one answer on each size that may be rated, and
 /// their comparisons are one total preorder on the cuts that may be met, the packings have one
-/// result. Of two packings of equal collections into equal bins, neither of which ends for want of
-/// memory, both are done, with equal bins and placements, or both are refused for space, with equal
-/// bins. Here ids are equal where their order says so, and closures need only answer alike.
+/// result: of equal collections into equal bins both are done, with equal bins and placements, or
+/// both are refused for space, with equal bins, unless one ends for want of memory.
 pub fn packing_has_one_result<Id, BinId, GroupId, H, C, I, D>(
     heuristic: &H,
     comparison: &C,

@@ -36,20 +36,17 @@ use std::collections::BTreeMap;
 /// Packs all groups into the bins: each group whole into the first bin that takes all of its boxes.
 /// A bin is excluded for a group where a group that is excluded with it went there in this call.
 ///
-/// Groups go in falling order of the sum of their boxes' rates, which stays at the greatest `u128`,
-/// and at equal sums in the order of groups. Bins are tried in rising order of the rate of their
-/// whole size, and at equal rates by id. Each of these rates is asked once a call. A box goes to
-/// the corner of the newest free section that holds it; of the six ways to cut up the rest of the
-/// section, `more_suitable_containers_fn` chooses one. Sizes and corners are counted in cells, and
-/// boxes are never turned. Without groups no memory is taken.
+/// Groups go in falling order of the sum of their boxes' rates, and at equal sums in the order of
+/// groups. Bins are tried in rising order of the rate of their whole size, and at equal rates by
+/// id. A box goes to the corner of the newest free section that holds it; of the six ways to cut up
+/// the rest of the section, `more_suitable_containers_fn` chooses one. Sizes and corners are
+/// counted in cells, and boxes are never turned.
 ///
-/// The caller sees to it that clones of ids equal their originals, and that `box_size_heuristic`
-/// may be called on every size, and `more_suitable_containers_fn` on every two triples of sizes.
+/// The caller sees to it that clones of ids equal their originals, and that both closures may be
+/// called on every size.
 ///
-/// `NotEnoughBinSpace` says that for some group each bin is excluded or does not take all of its
-/// boxes: the groups before it stay placed in the bins. `OutOfMemory` says that a growth or a clone
-/// was refused, which may come before it is known that there is no space: the bins are as they
-/// were.
+/// After `NotEnoughBinSpace` the groups before the one that found no bin stay placed. After
+/// `OutOfMemory`, which may come first, the bins are as they were.
 ///
 /// ```
 /// let mut rects: GroupedRectsToPlace<u32, u32> = GroupedRectsToPlace::new(alloc);
@@ -154,9 +151,7 @@ where
 
 /// `pack_rects`, with its fit tests added to `tests`: for a group that is placed those of its
 /// trials in the bins up to its own, for a group that is refused those of its trials in all bins.
-/// In a bin that is excluded no trial is made. Counted is what a look at one section after another
-/// would test, as `FitTests` says, also where the code tests fewer. `OutOfMemory` adds some number
-/// of tests.
+/// In a bin that is excluded no trial is made. `OutOfMemory` adds some number of tests.
 ///
 /// With n entries in the groups it is never more than n tests for each free section of before and
 /// n * (n - 1) for each bin, also where memory is refused. The counter stays at the greatest

@@ -155,14 +155,12 @@ impl BinSection {
     /// Places a box at the section's corner and cuts what is left of the section into three pieces,
     /// right of the box, above it and behind it; empty pieces are given too.
     ///
-    /// The comparison is shown the sizes of the pieces of two cuts, in this order, and the
-    /// heuristic; it answers `Greater` where the first cut is better. The first of the six cuts is
-    /// kept; each later one, in their order, replaces the one that is kept, unless that is
-    /// `Greater`.
+    /// Of the six ways to cut, the comparison chooses. It is shown the sizes of the pieces of two
+    /// cuts and the heuristic, and answers `Greater` where the first cut is better.
     ///
     /// The caller sees to it that corner and size of the section add up to at most `u32::MAX` on
-    /// each axis, and that the comparison may be called on every two triples of sizes with this
-    /// heuristic. An error says on which axis the box is too large; no closure was asked then.
+    /// each axis, and that the comparison may be called on all sizes. An error says on which axis
+    /// the box is too large; no closure was asked then.
     ///
     /// ```
     /// let section = BinSection::new(0, 0, 0, WidthHeightDepth::new(100, 100, 1));

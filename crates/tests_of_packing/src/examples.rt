@@ -94,8 +94,11 @@ fn push_boxes_8_and_9(alloc: Global, rects: &mut NamedRects) -> Result<(), Alloc
     Ok(())
 }
 
-fn are_three_groups(rt: &impl Abort, rects: &NamedRects) {
-    assert_eq!(rt; rects.groups().len(), 3);
+fn exclude_two_groups(rt: &impl Abort, rects: &mut NamedRects) -> Result<(), Fail> {
+    rects.exclude(Group::Grouped("menu"), Group::Grouped("game"))?;
+    let (menu, game) = (Group::Grouped("menu"), Group::Grouped("game"));
+    assert!(rt; rects.excluded(&game, &menu));
+    Ok(())
 }
 
 fn are_in_game(rt: &impl Abort, rects: &NamedRects) -> Result<(), Fail> {
@@ -110,7 +113,7 @@ fn are_in_game(rt: &impl Abort, rects: &NamedRects) -> Result<(), Fail> {
 fn push_three_boxes(rt: &impl Abort, alloc: Global, rects: &mut NamedRects) -> Result<(), Fail> {
     push_box_7(alloc, rects)?;
     push_boxes_8_and_9(alloc, rects)?;
-    are_three_groups(rt, rects);
+    exclude_two_groups(rt, rects)?;
     are_in_game(rt, rects)
 }
 

@@ -23,17 +23,14 @@ where
     /// Packs all groups into the bins as `pack` does, with the heuristic of the list that uses the
     /// bins best, by the rule of `pack_rects_best`: what stood in the bins before does not count.
     /// `contains_smallest_box` chooses the cuts. Answers this heuristic, and the numbers of the
-    /// placements. Each packing that is tried is rolled back. A heuristic that is alone in the list
-    /// is packed with once. Without groups the first of the list is the best, and no memory is taken.
+    /// placements.
     ///
     /// The caller sees to it that the list is not empty, and that clones of ids equal their
     /// originals.
     ///
-    /// `NumbersUsedUp` says that the next number and the entries of the groups add up to more than
-    /// the greatest `u64`; this is looked at first. `NotEnoughBinSpace` says that the packing is
-    /// refused for space with each heuristic of the list. `OutOfMemory` says that a growth or a
-    /// clone was refused in some packing, also where one with another heuristic was done before. On
-    /// each error the session is as it was.
+    /// `NumbersUsedUp` comes first. `NotEnoughBinSpace` says that the packing is refused for space
+    /// with each heuristic of the list. `OutOfMemory` may come though one with another heuristic
+    /// was done. On each error the session is as it was.
     ///
     /// ```
     /// let mut session: Session<u32, &'static str> = Session::new(alloc, 0);

@@ -131,23 +131,20 @@ where
     Ok(best)
 }
 
-/// Packs all groups into the bins, with each heuristic of a list in turn, and keeps the packing that
-/// uses the fewest bins: those in which it places cells. Of several that use as few it keeps the one
-/// that places the fewest cells in the last of these bins, in the order of ids, and of several such
-/// the one whose heuristic comes first in the list. Answers this heuristic and what the packing
-/// placed: what `pack_rects` would place with it and `contains_smallest_box`.
+/// Packs all groups into the bins with each heuristic of a list in turn, and keeps the packing that
+/// uses the fewest bins: those in which it places cells. At a tie it keeps the one that places the
+/// fewest cells in the last of these bins, in the order of ids, and then the one whose heuristic
+/// comes first in the list. Answers this heuristic and what the packing placed: what `pack_rects`
+/// would place with it and `contains_smallest_box`.
 ///
-/// Each packing is rolled back before the next begins, and the best is made once more. So this takes
-/// at most the time of one packing more than there are entries in the list, and a count of cells
-/// after each. A heuristic that is alone in the list is packed with once. Without groups the first
-/// of the list is the best, and no memory is taken.
+/// Each packing is rolled back before the next begins, and the best is made once more, but where
+/// the list has one heuristic alone. Cells are counted after each.
 ///
 /// The caller sees to it that the list is not empty, and that clones of ids equal their originals.
 ///
 /// `NotEnoughBinSpace` says that the packing is refused for space with each heuristic of the list.
-/// `OutOfMemory` says that a growth or a clone was refused in some packing, also where one with
-/// another heuristic was done before. On either error the bins are as they were: other than with
-/// `pack_rects`, no group stays placed.
+/// `OutOfMemory` may come though one with another heuristic was done. On either error the bins are
+/// as they were: other than with `pack_rects`, no group stays placed.
 ///
 /// ```
 /// let mut rects: GroupedRectsToPlace<u32, u32> = GroupedRectsToPlace::new(alloc);
