@@ -40,6 +40,7 @@ def main() -> None:
         case ["--check"]:
             faults = [f"docs/{name}: is not what `python3 tools/pages` makes" for name in stale]
             faults += [f"{shown(it.path)}: no public module exports the law `{it.item.name}`" for it in library.hidden_laws]
+            faults += [f"docs/templates/CALLS.md: does not name `{it.name}`" for it in for_c if it.name not in named]
             faults += [*proved.faults(), *definitions.faults(), *modules.faults(), *examples.faults()]
             sys.exit("\n".join(f"pages: {it}" for it in faults) if faults else 0)
         case [name] if name in headline.library.calls or name in headline.program.calls:

@@ -96,8 +96,9 @@ class Page:
 
 
 def tests_of(call: Call, among: Iterable[Test]) -> str:
-    """The files of tests that name the call, of those that are of its module."""
-    named = re.compile(rf"\b{call.name.rpartition('::')[2]}\b")
+    """The files of tests that name the call, of those that are of its module: a method behind a dot or a path."""
+    around, _, name = call.name.rpartition("::")
+    named = re.compile(rf"(?:\.|::){name}\b" if around else rf"\b{name}\b")
     homes = {call.home, "laws"} if call.kind == "law" else {call.home}
     found = [f"`{name}`" for home, name, text in among if home in homes and named.search(text)]
     return f"Tests: {', '.join(found)}" if found else ""
