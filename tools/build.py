@@ -4,8 +4,8 @@
 build.py CRATE: proves the crates on which CRATE stands, side by side where neither stands on the other, then CRATE itself,
     and builds it: a program as crates/CRATE/out/CRATE, a static library as crates/CRATE/out/libCRATE.a. What it proved
     before is not proved again, as long as no file has changed of that crate and of those below it.
-build.py --reached PROGRAM: proves of all these only what the program reaches, which tools/reached.py copies to build/reached as one
-    crate, and builds that.
+build.py --reached PROGRAM: proves and builds a copy of the program and of the crates below it in build/reached, from which
+    tools/reached.py leaves out what tools/left_out.txt names.
 build.py --take BEGAN SAID: takes over what `rt ci` has proved in this clone, so that it is not proved again. BEGAN is a file written
     before it began, SAID has what it said.
 
@@ -31,7 +31,7 @@ import time
 TOP = pathlib.Path(__file__).resolve().parent.parent
 # What is proved of crates as they are.
 PROVED = TOP / "build" / "proved"
-# What a program reaches is copied to here.
+# A program is copied to here, without what it does not reach.
 REACHED = TOP / "build" / "reached"
 TARGET = "x86_64-unknown-linux-gnu"
 # In kB: the memory that is left alone, and what a proof or a further job of it is reckoned to take.
@@ -127,10 +127,13 @@ def with_all_below(name: str, crates: dict[str, Crate]) -> dict[str, Crate]:
 
 
 def what_it_reaches(program: str) -> dict[str, Crate]:
-    """The crate that is a copy of what a program reaches."""
+    """The crates of the copy of a program, without what a list names."""
     import reached  # Not above, as tools/release reads this file from another folder.
 
-    reached.copy(program, REACHED)
+    try:
+        reached.copy(program, REACHED)
+    except reached.Refused as why:
+        raise NotProved(why) from why
     return crates_of((REACHED / "crates.txt").read_text(), REACHED)
 
 
@@ -195,21 +198,18 @@ class Build:
         return whole.hexdigest()
 
     def steps(self, crate: Crate, jobs: int) -> collections.abc.Iterator[list[str]]:
-        """The commands that prove the crate and build it. Of a program or a static library a check tells how far it is."""
+        """The commands that prove the crate and build it. The check tells how far it is."""
         kit, checked = self.kit, str(crate.proved / f"{crate.name}.checked")
         words = ["--crate-name", crate.name, f"src/{'main' if crate.is_program else 'lib'}.rt", "--links", f"{crate.name}="]
         words += ["--extern", f"std={kit}/rlibs/std.rlib", "-L", f"dependency={kit}/rlibs", "-L", f"dependency={crate.proved}"]
         words += [it for name in crate.below for it in ("--extern", f"{name}={self.crates[name].made}")]
         words += ["--antt-project", f"{kit}/rattle/logic/antt-project.json"]
         words += ["--crate-type", "staticlib"] if crate.is_static else []
-        proves = ["--logic-built", f"{kit}/logic_built", "--jobs", str(jobs)]
-        if crate.is_library:
-            yield ["rattle", "build", *words, *proves, "--statements", "-o", str(crate.made)]
-            return
+        proves = ["--logic-built", f"{kit}/logic_built", "--jobs", str(jobs), *(["--statements"] if crate.is_library else [])]
         yield ["rattle", "check", *words, *proves, "--progress", "-o", checked]
+        compiles = [] if crate.is_library else ["--toolchain", f"{kit}/toolchain", "--backend", "llvm"]
         part = str(crate.made.with_suffix(".o") if crate.is_program else crate.made)
-        compiles = ["--crate-checked", checked, "--toolchain", f"{kit}/toolchain", "--backend", "llvm"]
-        yield ["rattle", "build", *words, *compiles, "-o", part]
+        yield ["rattle", "build", *words, "--crate-checked", checked, *compiles, "-o", part]
         if crate.is_program:
             link = [f"{kit}/bin/rattle-link", "--target", TARGET, "--toolchain", f"{kit}/toolchain", "-o", str(crate.made)]
             yield [*link, part, f"{kit}/c/libos_c.a", f"{kit}/c/liblibc_c.a"]
@@ -258,8 +258,10 @@ class Build:
         return how_far(name, counts, took, self.first.get(name, (0, 0)))
 
     def tell(self, names: collections.abc.Iterable[str]) -> None:
-        """Tells how far the proofs of these crates are, of those that have begun."""
+        """Tells how far the proofs of these crates are, of those that have begun, and how many crates come after them."""
         if line := "; ".join(self.told(name) for name in names if name in self.began):
+            left = len(self.crates) - len(self.sums)
+            line += f"; crates to come: {left}" if left else ""
             self.say(line[: shutil.get_terminal_size().columns - 1] if self.is_terminal else f"{line}\n")
 
     def told_by_ci(self, crate: Crate, began: float, said: str) -> str | None:
@@ -294,9 +296,9 @@ class Build:
 
     def shares(self, ready: collections.abc.Sequence[str], running: collections.abc.Sequence[str]) -> list[tuple[str, int]]:
         """The crates that are ready, beside what is running, each with its jobs: all processors for those for which most others wait,
-        and one for each of the rest."""
+        and half of them for each of the rest."""
         longest = max([0, *(chain(name, self.crates) for name in [*ready, *running])])
-        return [(name, self.jobs if chain(name, self.crates) == longest else 1) for name in ready]
+        return [(name, self.jobs if chain(name, self.crates) == longest else max(1, self.jobs // 2)) for name in ready]
 
     def run(self) -> None:
         """Makes each crate once those are made on which it stands."""

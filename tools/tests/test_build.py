@@ -34,8 +34,8 @@ class Shares(unittest.TestCase):
         self.assertEqual(self.shares(4, ["top"], []), {"top": 4})
 
     def test_that_for_which_most_wait_gets_all_processors(self) -> None:
-        self.assertEqual(self.shares(4, ["left", "right"], []), {"left": 4, "right": 1})
-        self.assertEqual(self.shares(4, ["right"], ["left"]), {"right": 1})
+        self.assertEqual(self.shares(4, ["left", "right"], []), {"left": 4, "right": 2})
+        self.assertEqual(self.shares(4, ["right"], ["left"]), {"right": 2})
         self.assertEqual(self.shares(4, ["middle"], ["right"]), {"middle": 4})
 
 
@@ -53,10 +53,11 @@ class Steps(unittest.TestCase):
     def steps(self, name: str) -> list[list[str]]:
         return [*self.its.steps(self.its.crates[name], 4)]
 
-    def test_a_library_is_proved_as_it_is_built(self) -> None:
-        ((program, verb, *words),) = self.steps("low")
-        self.assertEqual((program, verb), ("rattle", "build"))
-        self.assertIn("--statements", words)
+    def test_what_a_check_proved_of_a_library_is_built_with_its_statements_alone(self) -> None:
+        check, builds = self.steps("low")
+        self.assertLessEqual({"--statements", "--progress"}, {*check})
+        self.assertEqual(check[check.index("-o") + 1], builds[builds.index("--crate-checked") + 1])
+        self.assertEqual(builds[builds.index("-o") + 1], str(self.its.crates["low"].made))
 
     def test_what_a_check_proved_of_a_program_is_built_and_linked(self) -> None:
         check, compiles, links = self.steps("program")
@@ -86,7 +87,7 @@ class HowFar(unittest.TestCase):
         """What is told, twice, of one crate that is being proved and one that has not begun."""
         with tempfile.TemporaryDirectory() as top, contextlib.redirect_stderr(io.StringIO()) as said:
             its = build.Build(build.crates_of("tiny:\nnext: tiny\n", pathlib.Path(top)), pathlib.Path())
-            its.is_terminal, its.began = is_terminal, {"tiny": 0}
+            its.is_terminal, its.began, its.sums = is_terminal, {"tiny": 0}, {"tiny": ""}
             its.crates["tiny"].proved.mkdir(parents=True)
             for seconds, log in ((40, LOG[: LOG.index("checked tiny::clock::describe")]), (340, LOG)):
                 its.crates["tiny"].log.write_text(log)
@@ -95,11 +96,12 @@ class HowFar(unittest.TestCase):
         return said.getvalue()
 
     def test_a_terminal_has_one_line_that_goes_on(self) -> None:
-        lines = ["tiny: 2 of 8 functions are proved", "tiny: 5 of 8 functions are proved, about 5 min le"]
+        lines = ["tiny: 2 of 8 functions are proved; crates to come", "tiny: 5 of 8 functions are proved, about 5 min le"]
         self.assertEqual(self.told(True), "".join(f"\r\x1b[K{it}" for it in lines))
 
     def test_elsewhere_there_are_plain_lines(self) -> None:
-        lines = ["tiny: 2 of 8 functions are proved\n", "tiny: 5 of 8 functions are proved, about 5 min left\n"]
+        counts = ("2 of 8 functions are proved", "5 of 8 functions are proved, about 5 min left")
+        lines = [f"tiny: {it}; crates to come: 1\n" for it in counts]
         self.assertEqual(self.told(False), "".join(lines))
 
 
