@@ -100,8 +100,21 @@ def tests_of(call: Call, among: Iterable[Test]) -> str:
     around, _, name = call.name.rpartition("::")
     named = re.compile(rf"(?:\.|::){name}\b" if around else rf"\b{name}\b")
     homes = {call.home, "laws"} if call.kind == "law" else {call.home}
-    found = [f"`{name}`" for home, name, text in among if home in homes and named.search(text)]
-    return f"Tests: {', '.join(found)}" if found else ""
+    found = [name for home, name, text in among if home in homes and named.search(text)]
+    return f"Tests: {', '.join(gathered(found))}" if found else ""
+
+
+def gathered(names: list[str]) -> Iterator[str]:
+    """Names of files, those of one folder in one word, as a shell reads it."""
+    inside: dict[str, list[str]] = {}
+    for name in names:
+        folder, _, rest = name.partition("/")
+        inside.setdefault(folder, []).append(rest)
+    for folder, rests in inside.items():
+        if "" in rests:
+            yield f"`{folder}`"
+        if left := [it for it in rests if it]:
+            yield f"`{folder}/{left[0]}`" if len(left) == 1 else f"`{folder}/{{{','.join(left)}}}`"
 
 
 def docs_of(docs: list[str]) -> str:

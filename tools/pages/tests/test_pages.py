@@ -191,6 +191,10 @@ class Calls(unittest.TestCase):
         among = [("pack", "pack/groups", "set(1)"), ("pack", "pack/large", "reset()"), ("session", "session", "set(2)")]
         self.assertEqual(calls.tests_of(call_of("set", CALL), among), "Tests: `pack/groups`")
 
+    def test_files_of_one_folder_are_one_word(self) -> None:
+        found = [*calls.gathered(["pack", "pack/best", "pack/units/large", "laws", "session/run"])]
+        self.assertEqual(found, ["`pack`", "`pack/{best,units/large}`", "`laws`", "`session/run`"])
+
     def test_variants_are_listed_with_their_fields(self) -> None:
         lines = ["    /// It moved.", "    Moved {", "        /// How far.", "        by: u32,", "    },"]
         (part,) = items_of(lines, ends=",")
