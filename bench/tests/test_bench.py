@@ -8,6 +8,7 @@ import pathlib
 import re
 import shutil
 import subprocess
+import tempfile
 import unittest
 
 import fill
@@ -71,6 +72,21 @@ class Fill(unittest.TestCase):
         program = programs.compiled("fill_by_hand.c", "-lm")
         found = fill.answers(program, fill.BY_HAND, [*self.ASKED, fill.Asked("a", [(2, 2, 1)] * 3, "pages 2 4", 2)])
         self.assertEqual(found, {name: [3, 4, 2] for name in fill.BY_HAND})
+
+
+@unittest.skipUnless(shutil.which("cc"), "no C compiler")
+class Churn(unittest.TestCase):
+    def test_a_page_stays_full_and_is_whole_once_emptied(self) -> None:
+        fullness = {}
+        with tempfile.TemporaryDirectory() as folder:
+            for name in ("model", "shelves"):
+                sources = [README.parent / "churn" / it for it in ("workload.c", f"{name}.c")]
+                subprocess.run(["cc", "-std=c11", "-O2", "-Wall", "-Wextra", "-Werror", *sources, "-o", f"{folder}/{name}"], check=True)
+                said = subprocess.run([f"{folder}/{name}", "40000"], capture_output=True, text=True, check=True).stdout
+                self.assertIn("emptied: 1 parts; a box of the whole page: taken", said)
+                fullness[name] = float(re.findall(r"full (\S+) in the mean", said)[0])
+        self.assertGreater(fullness["model"], 0.88)
+        self.assertGreater(fullness["model"], fullness["shelves"])
 
 
 class Tables(unittest.TestCase):
