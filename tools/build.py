@@ -265,9 +265,11 @@ class Build:
             self.say(line[: shutil.get_terminal_size().columns - 1] if self.is_terminal else f"{line}\n")
 
     def told_by_ci(self, crate: Crate, began: float, said: str) -> str | None:
-        """What `rt ci`, which began then, said of a crate that it proved as it stands, where it left what it made."""
-        told = re.search(rf"(?ms)^== {crate.name}\n(.*?)^rt: {crate.name} proved$", said)
-        is_left = crate.left_by_ci.exists() and crate.left_by_ci.stat().st_mtime > began
+        """What `rt ci`, which began then, said of a crate that it proved as it stands, or that the machine had kept from an earlier run,
+        where it left what was made."""
+        proved = re.search(rf"(?ms)^== {crate.name}\n(.*?)^rt: {crate.name} proved$", said)
+        told = proved or re.search(rf"(?m)^rt: ({crate.name} is kept: .*\n)", said)
+        is_left = crate.left_by_ci.exists() and (not proved or crate.left_by_ci.stat().st_mtime > began)
         is_as_it_stands = all(it.stat().st_mtime < began for it in crate.sources())
         return told[1] if told and is_left and is_as_it_stands else None
 

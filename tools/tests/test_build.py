@@ -127,9 +127,10 @@ class Take(unittest.TestCase):
         path.write_text(text)
         os.utime(path, (changed, changed))
 
-    def taken(self, *proved: str) -> list[str]:
-        """What is taken over where `rt ci` said that it proved these."""
+    def taken(self, *proved: str, kept: str = "") -> list[str]:
+        """What is taken over where `rt ci` said that it proved these, and that it had kept one."""
         said = "".join(f"== {name}\nlogic=proved functions=2\nrt: {name} proved\n" for name in proved)
+        said += f"rt: {kept} is kept: an earlier run proved it\n" if kept else ""
         with mock.patch.object(build, "TOP", self.top):
             return build.Build(self.crates, self.top).take(self.BEGAN, said)
 
@@ -163,6 +164,11 @@ class Take(unittest.TestCase):
     def test_what_an_older_check_left_is_left(self) -> None:
         os.utime(self.crates["high"].left_by_ci, (self.BEGAN - 1, self.BEGAN - 1))
         self.assertEqual(self.taken("low", "high"), ["low"])
+
+    def test_what_the_machine_had_kept_is_taken_over(self) -> None:
+        os.utime(self.crates["low"].left_by_ci, (self.BEGAN - 1, self.BEGAN - 1))
+        self.assertEqual(self.taken("high", kept="low"), ["low", "high"])
+        self.assertEqual(self.crates["low"].log.read_text(), "low is kept: an earlier run proved it\n")
 
 
 if __name__ == "__main__":
