@@ -1,4 +1,5 @@
-"""Prints the tables of docs/PERFORMANCE.md: python3 bench makes all, python3 bench TABLE.. these. README.md says which there are."""
+"""Prints the tables of docs/PERFORMANCE.md: python3 bench makes all, python3 bench TABLE.. these, and more. README.md says which there
+are."""
 from __future__ import annotations
 
 import datetime
@@ -10,17 +11,13 @@ import plans
 import speed
 from programs import TOP
 
-TABLES = {
-    it.__name__: it
-    for it in (
-        speed.packings, speed.others, speed.from_c, speed.excluded, speed.given_back, speed.sweeps,
-        plans.plans, fill.squares, fill.pages, fill.containers, fill.best,
-    )
-}
+ALL = (speed.packings, speed.others, speed.from_c, speed.excluded, speed.given_back, speed.sweeps, plans.plans, fill.fill)
+MORE = (fill.squares, fill.pages, fill.containers, fill.best)
+TABLES = {it.__name__: it for it in (*ALL, *MORE)}
 
 
 def main() -> None:
-    names = sys.argv[1:] or [*TABLES]
+    names = sys.argv[1:] or [it.__name__ for it in ALL]
     if not {*names} <= {*TABLES}:
         sys.exit(f"{__doc__}\nTables: {', '.join(TABLES)}")
     commit = subprocess.run(["git", "rev-parse", "--short", "HEAD"], cwd=TOP, capture_output=True, text=True, check=True)

@@ -123,20 +123,29 @@ def answers(program: str, names: Iterable[str], asked: list[Asked]) -> dict[str,
 Shows = Callable[[list[Asked], list[int]], float]
 
 
-def show(asked: list[Asked], shows: Shows, form: str, others: bool, means: bool = True) -> None:
-    """Asks all packers, and prints a line for each."""
+def measured(asked: list[Asked], shows: Shows, others: bool) -> dict[str, dict[str, float]]:
+    """Asks all packers. What is shown of each, by the sets, and the mean of that."""
     found = answers(proved("session_lines"), OURS, asked)
     if others:
         found |= answers(compiled("fill_by_hand.c", "-lm"), BY_HAND, asked)
     names = list(dict.fromkeys(it.of for it in asked))
 
-    def row(packer: str) -> list[str]:
-        parts = [[(it, number) for it, number in zip(asked, found[packer], strict=True) if it.of == name] for name in names]
-        values = [shows([it for it, _ in part], [number for _, number in part]) for part in parts]
-        values += [fmean(values)] if means else []
-        return [packer, *("-" if math.isnan(value) else form.format(value) for value in values)]
+    def values(packer: str) -> dict[str, float]:
+        parts = {name: [(it, number) for it, number in zip(asked, found[packer], strict=True) if it.of == name] for name in names}
+        shown = {name: shows([it for it, _ in part], [number for _, number in part]) for name, part in parts.items()}
+        return {**shown, "mean": fmean(shown.values())}
 
-    table(["", *names, *["mean"] * means], map(row, found))
+    return {packer: values(packer) for packer in found}
+
+
+def formed(value: float, form: str = "{:.3f}") -> str:
+    return "-" if math.isnan(value) else form.format(value)
+
+
+def show(rows: dict[str, dict[str, float]], form: str = "{:.3f}", means: bool = True) -> None:
+    """Prints a line for each packer."""
+    names = [it for it in next(iter(rows.values())) if means or it != "mean"]
+    table(["", *names], ([packer, *(formed(row[name], form) for name in names)] for packer, row in rows.items()))
 
 
 def part(asked: list[Asked], sizes: Iterable[int]) -> float:
@@ -144,21 +153,45 @@ def part(asked: list[Asked], sizes: Iterable[int]) -> float:
     return fmean(cells(it.boxes) / size if size else math.nan for it, size in zip(asked, sizes, strict=True))
 
 
+def of_squares() -> dict[str, dict[str, float]]:
+    return measured([*for_squares()], lambda asked, numbers: part(asked, (it**2 for it in numbers)), True)
+
+
+def of_containers() -> dict[str, dict[str, float]]:
+    return measured([*for_containers()], lambda asked, numbers: part(asked, (it * math.prod(BASE) for it in numbers)), False)
+
+
+def of_pages() -> dict[str, dict[str, float]]:
+    return measured([*for_pages()], lambda asked, numbers: sum(numbers) / sum(it.least for it in asked), True)
+
+
+def fill() -> None:
+    """How full bins get: the columns of the next three that PERFORMANCE has."""
+    one, many_pages, deep = of_squares(), of_pages(), of_containers()
+
+    def row(packer: str) -> list[str]:
+        in_depth = deep.get(packer, {"mean": math.nan})
+        return [packer, *map(formed, (one[packer]["glyphs"], one[packer]["mean"], many_pages[packer]["mean"], in_depth["mean"]))]
+
+    table(["", "Glyphs", "One bin, mean", "Pages, mean", "3D, mean"], map(row, one))
+
+
 def squares() -> None:
     """The part of the smallest square that 500 boxes fill, the mean of five draws."""
-    show([*for_squares()], lambda asked, numbers: part(asked, (it**2 for it in numbers)), "{:.3f}", True)
+    show(of_squares())
 
 
 def containers() -> None:
     """The part of the shortest container that 300 boxes fill, the mean of five draws."""
-    show([*for_containers()], lambda asked, numbers: part(asked, (it * math.prod(BASE) for it in numbers)), "{:.3f}", False)
+    show(of_containers(), means=False)
 
 
 def pages() -> None:
     """The pages used over the least that the boxes' area needs, over 50 draws of 20 to 100 boxes."""
-    show([*for_pages()], lambda asked, numbers: sum(numbers) / sum(it.least for it in asked), "{:.3f}", True)
+    show(of_pages())
 
 
 def best() -> None:
     """What the best of all costs: the best time of seven packings."""
-    show([*for_times()], lambda _, numbers: fmean(it / 1000 if it else math.nan for it in numbers), "{:.2f} ms", False, False)
+    found = measured([*for_times()], lambda _, numbers: fmean(it / 1000 if it else math.nan for it in numbers), False)
+    show(found, "{:.2f} ms", means=False)

@@ -96,18 +96,12 @@ def nested_from_top(side: int) -> Layout:
 
 LAYOUTS: dict[str, Callable[[], Layout]] = {
     "a row of boxes 1 x 1": lambda: layout(100_000, grid(100_000, 1)),
-    "a column of such": lambda: layout(1, grid(1, 100_000)),
     "a grid of 400 x 250 such": lambda: layout(400, grid(400, 250)),
     "the same, and a strip above that is free": lambda: layout(400, grid(400, 250), 9),
-    "a grid of 10 x 10,000, and a strip above that is free": lambda: layout(10, grid(10, 10_000), 9),
     "a grid of 400 x 250, and a box over the whole width in the middle": lambda: layout(400, halved(400, 250)),
-    "a grid of 100 x 1,000, and a box over the whole width in the middle": lambda: layout(100, halved(100, 1_000)),
-    "bricks 2 x 1, shifted row by row, 16 wide": lambda: layout(16, bricks(16, 11_764)),
-    "such bricks, 64 wide": lambda: layout(64, bricks(64, 3_076)),
-    "such bricks, 632 wide": lambda: layout(632, bricks(632, 316)),
+    "bricks 2 x 1, shifted row by row, 64 wide": lambda: layout(64, bricks(64, 3_076)),
     "such bricks, 10,000 wide": lambda: layout(10_000, bricks(10_000, 20)),
     "shelves of heights 1 to 9 with boxes 1 to 19 wide, 100 wide": lambda: layout(100, shelves(100, 9_500)),
-    "such shelves, 1,000 wide": lambda: layout(1_000, shelves(1_000, 1_000)),
     "such shelves, 10,000 wide": lambda: layout(10_000, shelves(10_000, 100)),
     "a box at the left, one at the bottom of the rest, in turn": lambda: nested(50_000),
     "the same on three axes": lambda: nested_in_depth(33_334),
@@ -122,5 +116,5 @@ def plans() -> None:
     def took(lines: list[str]) -> str:
         return printed(program, "\n".join([*lines, "time 0\n"])).splitlines()[-1]
 
-    rows = ([name, f"{int(took(make().lines)) / 1000:.1f} ms"] for name, make in LAYOUTS.items())
-    table(["Layout", "plan"], rows)
+    rows = ([name, f"{int(took(make().lines)) / 1000:.1f}"] for name, make in LAYOUTS.items())
+    table(["Layout", "Milliseconds"], rows)
