@@ -56,7 +56,7 @@ fn end_of(rt: &impl Abort, alloc: Global, granted: u64, run: Run) -> End {
 /// is.
 pub fn takes_memory(rt: &impl Abort, alloc: Global, run: Run) -> bool {
     let mut refused = false;
-    for granted in 0..200u64 {
+    for granted in 0..1000u64 {
         match end_of(rt, alloc, granted, run) {
             End::Before => {}
             End::Refused => refused = true,
