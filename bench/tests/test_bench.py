@@ -85,7 +85,8 @@ class Churn(unittest.TestCase):
                 said = subprocess.run([f"{folder}/{name}", "40000"], capture_output=True, text=True, check=True).stdout
                 self.assertIn("emptied: 1 parts; a box of the whole page: taken", said)
                 fullness[name] = float(re.findall(r"full (\S+) in the mean", said)[0])
-        self.assertGreater(fullness["model"], 0.88)
+        # An atlas is to be four fifths full, and fuller than by shelves.
+        self.assertGreater(fullness["model"], 0.8)
         self.assertGreater(fullness["model"], fullness["shelves"])
 
 
