@@ -21,6 +21,7 @@ use rectangle_pack_sections::packed_location::PackedLocation;
 use rectangle_pack_sections::rect_to_insert::RectToInsert;
 use std::alloc::{AllocError, Allocator};
 use std::marker::Model;
+use std::mem;
 
 // From how many sections, with the members to come, a list with an index is quicker than a plain one.
 const LONG: usize = 1000;
@@ -41,6 +42,32 @@ enum Sections<A: Allocator + Copy> {
     Plain(Vec<BinSection, A>),
     // With the steps that were made since the index was set.
     Gapped(GapList<A>, Steps<A>),
+}
+
+/// Room for the notes of a trial, which goes from one bin to the next where the trial is stuck.
+#[derive(Drop)]
+pub struct Spare<A: Allocator + Copy> {
+    taken: Vec<Taken, A>,
+}
+
+impl<A: Allocator + Copy> Model for Spare<A> {
+    ghost use Rattle.std.specs.Prelude.{◌≡◌, [], ⊤};
+
+    ghost Value = { ⊤ };
+
+    ghost view = { λ s. tt };
+
+    // There is room alone, and no note.
+    ghost invariant = { λ s. s.taken.items ≡ [] };
+}
+
+impl<A: Allocator + Copy> Spare<A> {
+    /// No room yet. Takes no memory.
+    pub fn new(alloc: A) -> Self {
+        Spare {
+            taken: Vec::new(alloc),
+        }
+    }
 }
 
 /// The free sections of a bin, in which a packing of `boxes` boxes makes trials. Each step is noted,
@@ -84,6 +111,17 @@ impl<A: Allocator + Copy> FreeList<A> {
             sections: Sections::Plain(sections),
             taken,
             boxes,
+        }
+    }
+
+    // Changes its room for notes for another, where it has no note. Takes no memory.
+    pub(crate) fn swap_notes(&mut self, spare: &mut Spare<A>)
+        ensures places { self.new.places ≡ self.old.places }
+        ensures notes { self.new.notes ≡ self.old.notes }
+        ensures room { self.new.room ≡ self.old.room }
+    {
+        if self.taken.is_empty() {
+            mem::swap(&mut self.taken, &mut spare.taken);
         }
     }
 
@@ -163,10 +201,6 @@ impl<A: Allocator + Copy> FreeList<A> {
         while self.steps() > kept {
             self.undo();
         }
-        if self.taken.is_empty() {
-            // A stuck trial leaves no room for notes behind in each bin that it was tried in.
-            self.taken = Vec::new(*self.taken.allocator());
-        }
     }
 
     // Undoes the last noted step. Takes no memory.
@@ -230,9 +264,8 @@ impl<A: Allocator + Copy> Sections<A> {
                 made.reserve(steps)
             }
             Sections::Plain(sections) if !is_worth_it(sections.len(), steps, boxes) => {
-                // Notes come last: after a stuck trial they are the last that was taken, and given back.
-                sections.reserve(steps * 2)?;
-                taken.reserve(steps)
+                taken.reserve(steps)?;
+                sections.reserve(steps * 2)
             }
             Sections::Plain(sections) => {
                 let mut made = Steps::new(*sections.allocator());

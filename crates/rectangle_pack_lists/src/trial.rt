@@ -7,7 +7,7 @@ ghost use Rattle.rectangle_pack_lists.specs.Numbers.{saturated};
 ghost use Rattle.rectangle_pack_lists.specs.Steps.{AreLeft, AreRanked};
 ghost use Rattle.rectangle_pack_lists.specs.private.FreeLists.{IsTried, IsStuckAtOnce, now_of, start_of};
 
-use crate::free_list::FreeList;
+use crate::free_list::{FreeList, Spare};
 use crate::free_list::plain::newest;
 use rectangle_pack_sections::bin_section::BinSection;
 use rectangle_pack_sections::closures::Policy;
@@ -138,6 +138,26 @@ impl<A: Allocator + Copy> FreeList<A> {
             is_done: true,
             tests,
         })
+    }
+
+    /// One trial, with room for notes that is kept for the trial in the next bin.
+    pub fn run_trial_in<R: Policy>(
+        &mut self,
+        spare: &mut Spare<A>,
+        members: &[RectToInsert],
+        policy: &R,
+        locations: &mut Vec<PackedLocation, A>,
+    ) -> Result<Trial, AllocError>
+        requires callable { R.is_callable policy.now }
+        requires fits { All FitsU32 (now_of self.old) }
+        ensures tried { IsTried (R.may policy.now) (now_of self.old) members.now result
+            locations.new.items (now_of self.new) }
+        ensures start { start_of self.new ≡ start_of self.old }
+    {
+        self.swap_notes(spare);
+        let trial = self.run_trial(members, policy, locations)?;
+        self.swap_notes(spare);
+        Ok(trial)
     }
 }
 

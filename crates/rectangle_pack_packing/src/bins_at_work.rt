@@ -16,7 +16,7 @@ pub mod summary_tree;
 
 use crate::bins_at_work::summary_tree::{Passed, SummaryTree};
 use rectangle_pack_bins::target_bin::{TargetBin, put_sections, stand_in, take_sections};
-use rectangle_pack_lists::free_list::{End, FreeList};
+use rectangle_pack_lists::free_list::{End, FreeList, Spare};
 use rectangle_pack_lists::gap_list::summary::Summary;
 use rectangle_pack_lists::trial::{Trial, stuck_at_once};
 use rectangle_pack_sections::closures::Policy;
@@ -40,6 +40,8 @@ pub struct BinsAtWork<'b, B: Ord, A: Allocator + Copy> {
     // For each index of the order, up to the last whose bin is out: that bin, where it is out.
     out: Vec<Option<BinAtWork<A>>, A>,
     summaries: SummaryTree<A>,
+    // Room for notes, for the next trial that begins in a list without notes.
+    spare: Spare<A>,
     // How many boxes the packing has.
     boxes: usize,
     alloc: A,
@@ -73,6 +75,7 @@ impl<'b, B: Ord, A: Allocator + Copy> BinsAtWork<'b, B, A> {
             order,
             out: Vec::new(alloc),
             summaries: SummaryTree::new(alloc),
+            spare: Spare::new(alloc),
             boxes: 0,
             alloc,
         }
@@ -134,7 +137,7 @@ impl<'b, B: Ord, A: Allocator + Copy> BinsAtWork<'b, B, A> {
         self.check_out(index)?;
         let bin = self.out[index].as_mut().unwrap();
         let list = &mut bin.lent.list;
-        let trial = list.run_trial(sizes, policy, locations)?;
+        let trial = list.run_trial_in(&mut self.spare, sizes, policy, locations)?;
         sum_anew(&mut self.summaries, index, list, trial.is_done);
         Ok(trial)
     }
@@ -180,13 +183,13 @@ impl<'b, B: Ord, A: Allocator + Copy> BinsAtWork<'b, B, A> {
         ensures order { self.new.order ≡ self.old.order }
         ensures out { OnOk result (IsSome (slice_index_or self.new.out index None)) }
     {
-        let place = BinAtWork::place(self.alloc)?;
         while self.out.len() <= index {
             self.out.push(None)?;
         }
         if self.out[index].is_some() {
             return Ok(());
         }
+        let place = BinAtWork::place(self.alloc)?;
         let order = self.order;
         let (_, id) = &order[index];
         let bin = self.bins.get_mut(id).unwrap();

@@ -29,8 +29,8 @@ where
     /// originals.
     ///
     /// `NumbersUsedUp` comes first. `NotEnoughBinSpace` says that the packing is refused for space
-    /// with each heuristic of the list. `OutOfMemory` may come though one with another heuristic
-    /// was done. On each error the session is as it was.
+    /// with each heuristic of the list. `OutOfMemory` may come though a packing with another
+    /// heuristic was done. On each error the session is as it was.
     ///
     /// ```
     /// let mut session: Session<u32, &'static str> = Session::new(alloc, 0);

@@ -143,8 +143,8 @@ where
 /// The caller sees to it that the list is not empty, and that clones of ids equal their originals.
 ///
 /// `NotEnoughBinSpace` says that the packing is refused for space with each heuristic of the list.
-/// `OutOfMemory` may come though one with another heuristic was done. On either error the bins are
-/// as they were: other than with `pack_rects`, no group stays placed.
+/// `OutOfMemory` may come though a packing with another heuristic was done. On either error the bins
+/// are as they were: other than with `pack_rects`, no group stays placed.
 ///
 /// ```
 /// let mut rects: GroupedRectsToPlace<u32, u32> = GroupedRectsToPlace::new(alloc);

@@ -11,7 +11,7 @@ use Rattle.rectangle_pack_packing.specs.private.BinsAtWork.{AtWork, checked_in, 
 use Rattle.rectangle_pack_packing.proofs.lemmas.bins.BinsAtWork.{parts, left_of-in_use, is_out-within, entry_at, CanCheckIn-written, IsTriedIn-stuck, IsTried-stuck}
 use Rattle.rectangle_pack_packing.proofs.lemmas.bins.BinsAtWork.{IsTriedIn-out, checked_in-stays, AreSummed-tried}
 use Rattle.rectangle_pack_packing.proofs.bins_at_work.BinsAtWork.run_trial.Given.{Over}
-use Rattle.rectangle_pack_packing.proofs.bins_at_work.BinsAtWork.run_trial.Goals.{After-run_trial}
+use Rattle.rectangle_pack_packing.proofs.bins_at_work.BinsAtWork.run_trial.Goals.{After-run_trial_in}
 use Rattle.rectangle_pack_packing.proofs.bins_at_work.BinsAtWork.run_trial.Goals.at as goal_at
 use Rattle.rectangle_pack_packing.proofs.bins_at_work.BinsAtWork.run_trial.Goals as goal
 
@@ -54,33 +54,33 @@ seen lent = record {
 }
 
 -- the bin before the trial
-abbrev before : (g : Over) → After-run_trial g → AtWork
+abbrev before : (g : Over) → After-run_trial_in g → AtWork
 before g c = seen c.deref_mut.result.now
 
 -- and after it
-abbrev after : (g : Over) → After-run_trial g → AtWork
+abbrev after : (g : Over) → After-run_trial_in g → AtWork
 after g c = record {
-  start = record c.deref_mut.result.now.bin.bin { sections = start_of c.run_trial.new.self };
-  now = record c.deref_mut.result.now.bin.bin { sections = now_of c.run_trial.new.self };
+  start = record c.deref_mut.result.now.bin.bin { sections = start_of c.run_trial_in.new.self };
+  now = record c.deref_mut.result.now.bin.bin { sections = now_of c.run_trial_in.new.self };
 }
 
 -- its sections stay sound
-sound : (g : Over) (c : After-run_trial g) → IsSound c.deref_mut.result.now.bin.bin.size (start_of c.run_trial.new.self)
-    × IsSound c.deref_mut.result.now.bin.bin.size (now_of c.run_trial.new.self) × All FitsU32 (now_of c.run_trial.new.self)
+sound : (g : Over) (c : After-run_trial_in g) → IsSound c.deref_mut.result.now.bin.bin.size (start_of c.run_trial_in.new.self)
+    × IsSound c.deref_mut.result.now.bin.bin.size (now_of c.run_trial_in.new.self) × All FitsU32 (now_of c.run_trial_in.new.self)
 sound g c =
     let may = g.R.Policy.may c.args.policy.now in
-    let tried = c.run_trial.ensures.tried in
+    let tried = c.run_trial_in.ensures.tried in
     let kept = rw (← c.deref_mut.ensures.value) at c.bin.invariant in (
-      rw c.run_trial.ensures.start kept.0,
+      rw c.run_trial_in.ensures.start kept.0,
       IsSound-tried may {E = AllocError} _ _ _ _ _ _ tried kept.1,
       fits-tried may {E = AllocError} _ _ _ _ _ tried kept.2,
     )
 
-in_order : (g : Over) (c : After-run_trial g) → c.args.index < length c.self.inside.order.now
+in_order : (g : Over) (c : After-run_trial_in g) → c.args.index < length c.self.inside.order.now
 in_order g c = rw ((parts c.self.view_is).2, c.in_ok-check_out.ensures.order, c.look.ensures.same) c.requires.in_order
 
 -- it stands in the list
-held : (g : Over) (c : After-run_trial g) → get_or c.self.inside.out.items c.args.index None ≡ Some (before g c)
+held : (g : Over) (c : After-run_trial_in g) → get_or c.self.inside.out.items c.args.index None ≡ Some (before g c)
 held g c =
     let out = c.self.inside.out.items in
     let some : IsSome (get_or out c.args.index None) = rw (parts c.self.view_is).3 c.in_ok-check_out.ensures.out in
@@ -88,14 +88,14 @@ held g c =
     ∙ sym c.as_mut.ensures.value ∙ ap option_copied_mut c.unwrap-bin.ensures ∙ ap (λ b. Some b) (sym c.bin.view_is ∙ ap seen (sym c.deref_mut.ensures.value))
 
 -- the bins are as they were at first
-left : (g : Over) (c : After-run_trial g) (end : End)
+left : (g : Over) (c : After-run_trial_in g) (end : End)
     → checked_in g.B.Ord.cmp end c.self.inside.order.now c.self.inside.out.items (bins_of c.self.inside.bins.entries) ≡ left_of end c.args.self.now
 left g c end =
     sym (left_of-in_use g.B.Ord.cmp end c.self.inside.order.now c.self.inside.out.items (bins_of c.self.inside.bins.entries))
     ∙ ap (left_of end) c.self.view_is ∙ c.in_ok-check_out.ensures.left end ∙ ap (left_of end) c.look.ensures.same
 
 -- and where the trial leaves the bin, they stay
-stays : (g : Over) (c : After-run_trial g) (end : End) → left_at end (after g c) ≡ left_at end (before g c)
+stays : (g : Over) (c : After-run_trial_in g) (end : End) → left_at end (after g c) ≡ left_at end (before g c)
     → checked_in g.B.Ord.cmp end c.self.inside.order.now (set c.self.inside.out.items c.args.index (Some (after g c))) (bins_of c.self.inside.bins.entries)
     ≡ checked_in g.B.Ord.cmp end c.self.inside.order.now c.self.inside.out.items (bins_of c.self.inside.bins.entries)
 stays g c end same =
@@ -104,7 +104,7 @@ stays g c end same =
     c.self.invariant.0 (in_order g c) is (before g c) (after g c) (held g c) end same
 
 -- the bin was tried
-tried : (g : Over) (c : After-run_trial g) (o : ℕ × g.row.B.Denot) → o ≡ get_or c.self.inside.order.now c.args.index o
+tried : (g : Over) (c : After-run_trial_in g) (o : ℕ × g.row.B.Denot) → o ≡ get_or c.self.inside.order.now c.args.index o
     → IsTriedIn g.B.Ord.cmp o.1 (checked_in g.B.Ord.cmp Keep c.self.inside.order.now c.self.inside.out.items (bins_of c.self.inside.bins.entries)) (before g c).now
     (after g c).now (checked_in g.B.Ord.cmp Keep c.self.inside.order.now (set c.self.inside.out.items c.args.index (Some (after g c))) (bins_of c.self.inside.bins.entries))
 tried g c o is =
@@ -112,21 +112,21 @@ tried g c o is =
     (in_order g c) is (before g c) (after g c) (held g c) refl
 
 pub invariant_of-bin : goal.invariant_of-bin
-invariant_of-bin g c = sound g (goal_at.invariant_of-bin g c).After-run_trial
+invariant_of-bin g c = sound g (goal_at.invariant_of-bin g c).After-run_trial_in
 
 pub invariant_of-bin-2 : goal.invariant_of-bin-2
-invariant_of-bin-2 g c = sound g (goal_at.invariant_of-bin-2 g c).After-run_trial
+invariant_of-bin-2 g c = sound g (goal_at.invariant_of-bin-2 g c).After-run_trial_in
 
 pub invariant_of-self : goal.invariant_of-self
 invariant_of-self g c =
-    let at = (goal_at.invariant_of-self g c).After-run_trial in (
+    let at = (goal_at.invariant_of-self g c).After-run_trial_in in (
       CanCheckIn-written _ _ refl (rw (length-set c.self.inside.out.items c.args.index (Some (after g at))) c.self.invariant.0.within) c.self.invariant.0,
       rw (stays g at Keep (rw c.in_err-trial.ensures.tried refl)) c.self.invariant.1,
     )
 
 pub invariant_of-self-2 : goal.invariant_of-self-2
 invariant_of-self-2 g c =
-    let at = (goal_at.invariant_of-self-2 g c).After-run_trial in
+    let at = (goal_at.invariant_of-self-2 g c).After-run_trial_in in
     let order = c.self.inside.order.now in
     let (o, is) = entry_at order c.args.index (in_order g at) in (
       CanCheckIn-written _ _ refl (rw (length-set c.self.inside.out.items c.args.index (Some (after g at))) c.self.invariant.0.within) c.self.invariant.0,
@@ -137,22 +137,22 @@ invariant_of-self-2 g c =
 
 pub returns-in_err-trial-clause-err : goal.returns-in_err-trial-clause-err
 returns-in_err-trial-clause-err g c =
-    let at = (goal_at.returns-in_err-trial-clause-err g c).After-run_trial in
+    let at = (goal_at.returns-in_err-trial-clause-err g c).After-run_trial_in in
     on_err c.from_residual-in_err-trial.result (stays g at Keep (rw c.in_err-trial.ensures.tried refl) ∙ left g at Keep)
 
 pub returns-in_err-trial-clause-start : goal.returns-in_err-trial-clause-start
 returns-in_err-trial-clause-start g c =
-    let at = (goal_at.returns-in_err-trial-clause-start g c).After-run_trial in
-    stays g at Undo (rw c.run_trial.ensures.start refl) ∙ left g at Undo
+    let at = (goal_at.returns-in_err-trial-clause-start g c).After-run_trial_in in
+    stays g at Undo (rw c.run_trial_in.ensures.start refl) ∙ left g at Undo
 
 pub returns-clause-start : goal.returns-clause-start
 returns-clause-start g c =
-    let at = (goal_at.returns-clause-start g c).After-run_trial in
-    stays g at Undo (rw c.run_trial.ensures.start refl) ∙ left g at Undo
+    let at = (goal_at.returns-clause-start g c).After-run_trial_in in
+    stays g at Undo (rw c.run_trial_in.ensures.start refl) ∙ left g at Undo
 
 pub returns-clause-tried : goal.returns-clause-tried
 returns-clause-tried g c = λ o is.
-    let at = (goal_at.returns-clause-tried g c).After-run_trial in
+    let at = (goal_at.returns-clause-tried g c).After-run_trial_in in
     let same = (parts c.self.view_is).2 ∙ c.in_ok-check_out.ensures.order ∙ (parts c.look.ensures.same).2 in
     let there : o ≡ get_or c.self.inside.order.now c.args.index o = rw same is in (
       (before g at).now,
