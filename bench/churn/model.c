@@ -7,7 +7,7 @@
 #include <stdlib.h>
 #include <string.h>
 
-enum { AXES = 2, SIDES = 2 * AXES, BY_AGE = SIDES, ORDERS = SIDES + 1, FEW = 64, MOST = 1 << 15 };
+enum { AXES = 2, SIDES = 2 * AXES, FEW = 64, MOST = 1 << 15 };
 
 typedef struct {
     unsigned from[AXES], to[AXES];
@@ -103,21 +103,12 @@ static void cut_rest(const Rect *of, const Rect *box) {
     add(rests->larger), add(rests->smaller);
 }
 
-/* ---- recut: the parts of the page, each with its boxes in five orders: from both ends of each axis, and the newest first ---- */
+/* ---- recut: the parts of the page, each with its boxes as a stretch of one list ---- */
 
-typedef struct {
-    Rect rect;
-    int before[ORDERS], after[ORDERS]; /* in the lists of its part; -1 at the ends */
-} Box;
-static Box boxes[MOST];
-static unsigned keys[ORDERS][MOST]; /* rising in each order */
-static int pool[2 * MOST], pooled; /* the boxes of the parts that are under way */
+static Rect boxes[MOST];
+static unsigned starts[AXES][MOST]; /* of the boxes */
+static int listed[MOST];
 static unsigned section_age[MOST];
-
-typedef struct {
-    Rect room;
-    int count, first[ORDERS];
-} Part;
 
 /* By the keys, stable: insertion where there are few, else by bytes. */
 static void sort(int *items, int count, const unsigned *key) {
@@ -133,162 +124,88 @@ static void sort(int *items, int count, const unsigned *key) {
     unsigned most = 0;
     for (int i = 0; i < count; i++) most |= key[items[i]];
     for (unsigned shift = 0; shift < 32 && most >> shift; shift += 8) {
-        int starts[257] = {0};
-        for (int i = 0; i < count; i++) starts[(key[items[i]] >> shift & 255) + 1]++;
-        for (int i = 0; i < 256; i++) starts[i + 1] += starts[i];
-        for (int i = 0; i < count; i++) other[starts[key[items[i]] >> shift & 255]++] = items[i];
+        int starts_of[257] = {0};
+        for (int i = 0; i < count; i++) starts_of[(key[items[i]] >> shift & 255) + 1]++;
+        for (int i = 0; i < 256; i++) starts_of[i + 1] += starts_of[i];
+        for (int i = 0; i < count; i++) other[starts_of[key[items[i]] >> shift & 255]++] = items[i];
         memcpy(items, other, sizeof *items * (size_t)count);
     }
 }
 
-static Part new_part(Rect room, int *of, int count) {
-    Part part = {.room = room, .count = count};
-    if (count == 1) {
-        for (int order = 0; order < ORDERS; order++) part.first[order] = of[0];
-        return part;
-    }
-    for (int order = 0; order < ORDERS; order++) {
-        int last = -1;
-        sort(of, count, keys[order]);
-        for (int i = 0; i < count; i++) {
-            boxes[of[i]].before[order] = last;
-            *(last < 0 ? &part.first[order] : &boxes[last].after[order]) = of[i];
-            last = of[i];
+static Rect bounds_of(const int *of, int count) {
+    Rect bounds = boxes[of[0]];
+    for (int i = 1; i < count; i++)
+        for (int axis = 0; axis < AXES; axis++) {
+            if (boxes[of[i]].from[axis] < bounds.from[axis]) bounds.from[axis] = boxes[of[i]].from[axis];
+            if (boxes[of[i]].to[axis] > bounds.to[axis]) bounds.to[axis] = boxes[of[i]].to[axis];
         }
-        boxes[last].after[order] = -1;
-    }
-    return part;
+    return bounds;
 }
 
-static void unlink_box(Part *part, int box) {
-    for (int order = 0; order < ORDERS; order++) {
-        int back = boxes[box].before[order], on = boxes[box].after[order];
-        *(back < 0 ? &part->first[order] : &boxes[back].after[order]) = on;
-        if (on >= 0) boxes[on].before[order] = back;
-    }
-    part->count--;
+static unsigned newest_of(const int *of, int count) {
+    int newest = of[0];
+    for (int i = 1; i < count; i++)
+        if (of[i] > newest) newest = of[i];
+    return (unsigned)newest;
 }
 
-/* A side of a part is 2 * axis for its low end and one more for its high end. */
-static int axis_of(int at_side) { return at_side / 2; }
-static int is_high(int at_side) { return at_side % 2; }
-
-static void add_aged(Rect section, unsigned age) {
-    section_age[section_count] = age;
-    add(section);
+/* What a room has beyond the bounds on one side, over its whole width: 2 * axis is the low side, one more the high one. */
+static Rect strip_at(Rect room, const Rect *bounds, int at_side) {
+    int axis = at_side / 2;
+    if (at_side % 2) room.from[axis] = bounds->to[axis];
+    else room.to[axis] = bounds->from[axis];
+    return room;
 }
 
-static unsigned thickness(const Part *part, int at_side) {
-    int axis = axis_of(at_side);
-    const Rect *room = &part->room, *outer = &boxes[part->first[at_side]].rect;
-    return is_high(at_side) ? room->to[axis] - outer->to[axis] : outer->from[axis] - room->from[axis];
-}
-
-static void cut_strip(Part *part, int at_side) {
-    Rect strip = part->room;
-    int axis = axis_of(at_side);
-    const Rect *outer = &boxes[part->first[at_side]].rect;
-    if (is_high(at_side)) strip.from[axis] = part->room.to[axis] = outer->to[axis];
-    else strip.to[axis] = part->room.from[axis] = outer->from[axis];
-    add_aged(strip, UINT_MAX - keys[BY_AGE][part->first[BY_AGE]]);
-}
-
-/* The strips round the box that bounds all boxes become free sections, the largest first. */
-static void cut_strips(Part *part) {
+/* The strips of a room round the bounds become free sections, the largest first. */
+static void cut_strips(Rect room, const Rect *bounds, unsigned age) {
     for (;;) {
         int largest = 0;
         Volume most = 0;
         for (int at_side = 0; at_side < SIDES; at_side++) {
-            unsigned thick = thickness(part, at_side);
-            if (thick == 0) continue;
-            Volume strip = thick * across(&part->room, axis_of(at_side));
-            if (strip > most) largest = at_side, most = strip;
+            Rect strip = strip_at(room, bounds, at_side);
+            if (volume(&strip) > most) largest = at_side, most = volume(&strip);
         }
         if (most == 0) return;
-        cut_strip(part, largest);
+        section_age[section_count] = age;
+        add(strip_at(room, bounds, largest));
+        if (largest % 2) room.to[largest / 2] = bounds->to[largest / 2];
+        else room.from[largest / 2] = bounds->from[largest / 2];
     }
 }
 
-/* A walk from one side over the boxes of a part: how far the boxes passed reach, and how far it is from there to the next. */
-typedef struct {
-    int last;
-    unsigned reach;
-} Walk;
-
-static Walk begin(const Part *part, int at_side) {
-    int box = part->first[at_side], axis = axis_of(at_side);
-    return (Walk){box, is_high(at_side) ? boxes[box].rect.from[axis] : boxes[box].rect.to[axis]};
-}
-
-enum { NO_PLANE = -1 };
-
-/* Passes the next box: how wide it is free before it, and NO_PLANE where it and those passed overlap along the axis. */
-static long long step(Walk *walk, int at_side) {
-    int box = boxes[walk->last].after[at_side], axis = axis_of(at_side);
-    unsigned from = boxes[box].rect.from[axis], to = boxes[box].rect.to[axis], reach = walk->reach;
-    walk->last = box;
-    if (is_high(at_side)) {
-        if (from < reach) walk->reach = from;
-        return reach >= to ? (long long)(reach - to) : NO_PLANE;
+/* How many boxes stand before the first open plane, in the order of their starts; all where no plane is open. */
+static int before_plane(const int *of, int count, int axis) {
+    unsigned reach = boxes[of[0]].to[axis];
+    for (int i = 1; i < count; i++) {
+        looked_at++;
+        if (boxes[of[i]].from[axis] >= reach) return i;
+        if (boxes[of[i]].to[axis] > reach) reach = boxes[of[i]].to[axis];
     }
-    if (to > reach) walk->reach = to;
-    return from >= reach ? (long long)(from - reach) : NO_PLANE;
+    return count;
 }
 
-/* The side from which an open plane parts the fewest boxes (at ties the most free), and how many; -1 where there is none. The
-   walks from all sides go abreast, so the work is that of the boxes parted. */
-static int nearest_plane(const Part *part, int *parted) {
-    Walk walks[SIDES];
-    for (int at_side = 0; at_side < SIDES; at_side++) walks[at_side] = begin(part, at_side);
-    for (*parted = 1; *parted <= part->count / 2; ++*parted) {
-        int found = -1;
-        Volume most = 0;
-        for (int at_side = 0; at_side < SIDES; at_side++) {
-            long long wide = step(&walks[at_side], at_side);
-            looked_at++;
-            if (wide == NO_PLANE) continue;
-            Volume free = (Volume)wide * across(&part->room, axis_of(at_side));
-            if (found < 0 || free > most) found = at_side, most = free;
+/* Cuts a part of the page: its strips, then at each open plane of the first axis that has one. 0 where none has. */
+static int cut_part(Rect room, int *of, int count) {
+    Rect bounds = bounds_of(of, count);
+    cut_strips(room, &bounds, newest_of(of, count));
+    if (count == 1) return 1;
+    for (int axis = 0; axis < AXES; axis++) {
+        sort(of, count, starts[axis]);
+        int parted = before_plane(of, count, axis);
+        if (parted == count) continue;
+        for (Rect slab = bounds; count > 0; of += parted, count -= parted, slab.from[axis] = slab.to[axis]) {
+            parted = before_plane(of, count, axis);
+            slab.to[axis] = parted == count ? bounds.to[axis] : boxes[of[parted]].from[axis];
+            if (!cut_part(slab, of, parted)) return 0;
         }
-        if (found >= 0) return found;
+        return 1;
     }
-    return -1;
-}
-
-static int cut_part(Part part);
-
-/* Takes that many boxes off the part from a side, with the room on their side of a plane; the plane is where the upper begin. */
-static Part part_off(Part *part, int at_side, int count) {
-    int *taken = pool + pooled, axis = axis_of(at_side);
-    unsigned plane = UINT_MAX;
-    for (int i = 0; i < count; i++) {
-        taken[i] = part->first[at_side];
-        if (boxes[taken[i]].rect.from[axis] < plane) plane = boxes[taken[i]].rect.from[axis];
-        unlink_box(part, taken[i]);
-    }
-    if (!is_high(at_side)) plane = boxes[part->first[at_side]].rect.from[axis];
-    Rect room = part->room;
-    if (is_high(at_side)) room.from[axis] = part->room.to[axis] = plane;
-    else room.to[axis] = part->room.from[axis] = plane;
-    pooled += count;
-    return new_part(room, taken, count);
-}
-
-/* 1 where straight cuts part all boxes. */
-static int cut_part(Part part) {
-    for (;;) {
-        cut_strips(&part);
-        if (part.count == 1) return 1;
-        int parted, from_side = nearest_plane(&part, &parted);
-        if (from_side < 0) return 0;
-        int is_parted = cut_part(part_off(&part, from_side, parted));
-        pooled -= parted;
-        if (!is_parted) return 0;
-    }
+    return 0;
 }
 
 /* The sections in the order of age: by the newest box of the part from which each was cut, the newest last. */
-static void put_in_order_of_age(void) {
+static void put_in_order(void) {
     static int in_order[MOST];
     static Rect copies[MOST];
     for (int i = 0; i < section_count; i++) in_order[i] = i;
@@ -299,29 +216,20 @@ static void put_in_order_of_age(void) {
     for (int i = 0; i < count; i++) add(copies[in_order[i]]);
 }
 
-static void read_boxes(const Place *stand, int count) {
-    for (int i = 0; i < count; i++) {
-        Rect rect = {{stand[i].x, stand[i].y}, {stand[i].x + stand[i].w, stand[i].y + stand[i].h}};
-        boxes[i].rect = rect;
-        for (int axis = 0; axis < AXES; axis++) {
-            keys[2 * axis][i] = rect.from[axis];
-            keys[2 * axis + 1][i] = PAGE - rect.to[axis];
-        }
-        keys[BY_AGE][i] = (unsigned)(count - 1 - i);
-        pool[i] = i;
-    }
-}
-
 static int recut(const Place *stand, int count) {
-    section_count = 0, pooled = count;
+    section_count = 0;
     Rect page = {{0, 0}, {PAGE, PAGE}};
     if (!count) {
         add(page);
         return 1;
     }
-    read_boxes(stand, count);
-    int is_parted = cut_part(new_part(page, pool, count));
-    put_in_order_of_age();
+    for (int i = 0; i < count; i++) {
+        boxes[i] = (Rect){{stand[i].x, stand[i].y}, {stand[i].x + stand[i].w, stand[i].y + stand[i].h}};
+        for (int axis = 0; axis < AXES; axis++) starts[axis][i] = boxes[i].from[axis];
+        listed[i] = i;
+    }
+    int is_parted = cut_part(page, listed, count);
+    put_in_order();
     return is_parted;
 }
 
