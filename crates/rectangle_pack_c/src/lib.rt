@@ -1,4 +1,4 @@
-//! The packer for C: lists of bins and of boxes in, a list of placements out.
+//! The packer for C: one packing of lists of bins and boxes, and sessions with their cutting plans.
 #![tactic(auto)]
 
 ghost use Rattle.std.specs.Prelude.{ℕ, ◌≡◌, ◌<◌, ◌≤◌, ◌==◌, ◌↔◌, ◌≢◌, [], IfOk, IfErr, List, length, All, AllPairs, MatchBool, Err};

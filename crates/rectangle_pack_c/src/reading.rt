@@ -1,5 +1,5 @@
-//! What C reads of a session: the free sections of a bin, the outstanding placements, the bins. Each
-//! list goes to an array of the caller's.
+//! What C reads of a session: the free sections and the cutting plan of a bin, the outstanding
+//! placements, the bins. Each list goes to an array of the caller's.
 ghost use Rattle.std.specs.Prelude.{◌≡◌, ◌<◌, ℕ, IsSome, IfSome, AllPairs, map};
 ghost use Rattle.std.specs.List.Sorted.{IsStrictlySortedBy};
 ghost use Rattle.std.specs.Map.{keys_of};

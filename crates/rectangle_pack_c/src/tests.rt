@@ -1,5 +1,5 @@
-//! Each answer of the call, on a few boxes. What it says of all lists is proved; that it says
-//! `RP_DONE` where boxes fit is seen here.
+//! Each answer of the calls for C, on a few boxes. What they say of all lists is proved; that they
+//! say `RP_DONE` where boxes fit is seen here.
 use super::{
     RP_BAD_LENGTHS, RP_DONE, RP_NOT_ENOUGH_SPACE, RpBin, RpBox, RpPlacement, rectangle_pack_boxes,
 };
