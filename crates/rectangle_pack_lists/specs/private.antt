@@ -2,6 +2,7 @@
 pub mod Corners
 pub mod Notes
 pub mod Settling
+pub mod GapBits
 pub mod Places
 pub mod Summaries
 pub mod FreeLists

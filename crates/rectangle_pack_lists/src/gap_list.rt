@@ -1,16 +1,19 @@
 //! Lists of sections with gaps, in which the last section that holds a box is found without a look at
 //! each.
-ghost use Rattle.std.specs.Prelude.{ℕ, ◌≡◌, ◌+◌, ◌-◌, ◌<◌, ◌≤◌, ◌++◌, ◌∷◌, [], map, filter, All, length, take, drop, set, slice_index_or, IfOk, OnErr, OnOk, IfSome, IsSome, MatchOption, if◌then◌else◌, None, Some};
+ghost use Rattle.std.specs.Prelude.{ℕ, ◌≡◌, ◌+◌, ◌-◌, ◌<◌, ◌≤◌, ◌*◌, ◌++◌, ◌∷◌, [], map, filter, All, length, take, drop, set, slice_index_or, IfOk, OnErr, OnOk, IfSome, IsSome, MatchOption, if◌then◌else◌, None, Some};
 ghost use Rattle.std.specs.List.{SameBelow};
 ghost use Rattle.std.specs.Vec.{vec_capacity};
 ghost use Rattle.rectangle_pack_sections.specs.Boxes.{FitsU32, has_cells};
 ghost use Rattle.rectangle_pack_lists.specs.Joining.{entry};
 ghost use Rattle.rectangle_pack_lists.specs.Steps.{IsStep};
+ghost use Rattle.rectangle_pack_lists.specs.private.GapBits.{bits_of, flags_of};
 ghost use Rattle.rectangle_pack_lists.specs.private.Notes.{before_note, gap_note};
 ghost use Rattle.rectangle_pack_lists.specs.private.Places.{places_of, sections_of, IsLastHolding, NoneHolds};
 
+pub mod gap_bits;
 pub mod summary;
 
+use crate::gap_list::gap_bits::{has_gap, marked, push_place};
 use crate::gap_list::summary::{
     BLOCK, ROW, Summary, count_if_too_small, sum_block_anew, sum_blocks, sum_last_block,
     sum_last_row, sum_row_anew, sum_rows,
@@ -31,16 +34,18 @@ use std::mem;
 pub(crate) struct GapList<A: Allocator + Copy> {
     // The section of each place; in a gap the one that was taken out.
     sections: Vec<BinSection, A>,
-    // Whether each place is a gap.
-    gaps: Vec<bool, A>,
+    // Which places are gaps, a bit for each: a byte for each block, the last of which may stand for
+    // fewer places.
+    gaps: Vec<u8, A>,
     // A summary of each whole block and of each whole row.
     blocks: Vec<Summary, A>,
     rows: Vec<Summary, A>,
 }
 
 impl<A: Allocator + Copy> Model for GapList<A> {
-    ghost use Rattle.std.specs.Prelude.{◌+◌, ◌*◌, ◌≡◌, length, min};
+    ghost use Rattle.std.specs.Prelude.{◌+◌, ◌*◌, ◌/◌, ◌≡◌, length, min};
     ghost use Rattle.std.specs.Vec.{vec_capacity};
+    ghost use Rattle.rectangle_pack_lists.specs.private.GapBits.{flags_of};
     ghost use Rattle.rectangle_pack_lists.specs.private.Places.{Places, places_of};
     ghost use Rattle.rectangle_pack_lists.specs.private.Summaries.{AreSummed};
 
@@ -48,15 +53,16 @@ impl<A: Allocator + Copy> Model for GapList<A> {
 
     ghost view = { λ l.
         record {
-          all = places_of l.sections.items l.gaps.items;
+          all = places_of l.sections.items (flags_of l.gaps.items);
           under = l.sections.items;
-          room = min (min (vec_capacity l.sections) (vec_capacity l.gaps))
+          room = min (min (vec_capacity l.sections) (vec_capacity l.gaps * 8))
               (min (vec_capacity l.blocks * 8 + 7) (vec_capacity l.rows * 64 + 63));
           capacity = vec_capacity l.sections;
         } };
 
-    ghost invariant = { λ l. (length l.gaps.items ≡ length l.sections.items) ×
-        AreSummed 8 64 (places_of l.sections.items l.gaps.items) l.blocks.items l.rows.items };
+    ghost invariant = { λ l. (length l.gaps.items ≡ (length l.sections.items + 7) / 8) ×
+        AreSummed 8 64 (places_of l.sections.items (flags_of l.gaps.items)) l.blocks.items
+        l.rows.items };
 }
 
 /// What a search found, and how many sections a look at each, from the last on, would have tested.
@@ -68,13 +74,15 @@ pub struct Search {
     pub tests: usize,
 }
 
-// Looks for the last section of these places that holds the member, at each from the last on.
+// Looks for the last section of a block that holds the member, at each of its places from the last
+// on.
 #[inline(always)]
-fn last_of(sections: &[BinSection], gaps: &[bool], member: &RectToInsert) -> Search
-    requires { length gaps.now ≡ length sections.now }
+fn last_of(sections: &[BinSection], gaps: u8, member: &RectToInsert) -> Search
+    requires { length sections.now ≤ 8 }
     ensures found { MatchOption result.place
-        (NoneHolds (places_of sections.now gaps.now) member.now result.tests)
-        (λ place. IsLastHolding (places_of sections.now gaps.now) member.now place result.tests) }
+        (NoneHolds (places_of sections.now (bits_of gaps)) member.now result.tests)
+        (λ place. IsLastHolding (places_of sections.now (bits_of gaps)) member.now place
+        result.tests) }
     ensures place { IfSome result.place (λ place. place < length sections.now) }
     ensures most { result.tests ≤ length sections.now }
 {
@@ -82,7 +90,7 @@ fn last_of(sections: &[BinSection], gaps: &[bool], member: &RectToInsert) -> Sea
     let mut tests = 0;
     while end > 0 {
         end -= 1;
-        if !gaps[end] {
+        if !has_gap(gaps, end) {
             tests += 1;
             if holds(&sections[end], member) {
                 return Search {
@@ -108,8 +116,8 @@ impl<A: Allocator + Copy> GapList<A> {
         let alloc = *sections.allocator();
         sections.reserve(extra)?;
         let most = sections.len() + extra;
-        let mut gaps = Vec::with_capacity(alloc, most)?;
-        gaps.resize(sections.len(), false)?;
+        let mut gaps = Vec::with_capacity(alloc, most.div_ceil(BLOCK))?;
+        gaps.resize(sections.len().div_ceil(BLOCK), 0)?;
         let blocks = sum_blocks(alloc, sections.as_slice(), gaps.as_slice(), most / BLOCK)?;
         let rows = sum_rows(alloc, blocks.as_slice(), most / ROW)?;
         let taken = mem::replace(sections, Vec::new(alloc));
@@ -129,8 +137,8 @@ impl<A: Allocator + Copy> GapList<A> {
         ensures capacity { self.old.capacity ≤ self.new.capacity }
     {
         self.sections.reserve(extra)?;
-        self.gaps.reserve(extra)?;
         let most = self.sections.len() + extra;
+        self.gaps.reserve(most.div_ceil(BLOCK) - self.gaps.len())?;
         self.blocks.reserve(most / BLOCK - self.blocks.len())?;
         self.rows.reserve(most / ROW - self.rows.len())?;
         Ok(())
@@ -153,8 +161,8 @@ impl<A: Allocator + Copy> GapList<A> {
         ensures room { self.new.room ≡ self.old.room }
         ensures capacity { self.new.capacity ≡ self.old.capacity }
     {
+        push_place(&mut self.gaps, self.sections.len());
         self.sections.push_reserved(section);
-        self.gaps.push_reserved(false);
         sum_last_block(
             &mut self.blocks,
             self.sections.as_slice(),
@@ -177,8 +185,9 @@ impl<A: Allocator + Copy> GapList<A> {
                 end = begin;
                 tests += count;
             } else {
-                let begin = (end - 1) / BLOCK * BLOCK;
-                let found = last_of(&self.sections[begin..end], &self.gaps[begin..end], member);
+                let block = (end - 1) / BLOCK;
+                let begin = block * BLOCK;
+                let found = last_of(&self.sections[begin..end], self.gaps[block], member);
                 tests += found.tests;
                 if let Some(at) = found.place {
                     return Search {
@@ -240,7 +249,8 @@ impl<A: Allocator + Copy> GapList<A> {
         ensures room { self.new.room ≡ self.old.room }
         ensures capacity { self.new.capacity ≡ self.old.capacity }
     {
-        self.gaps[place] = is_gap;
+        let block = place / BLOCK;
+        self.gaps[block] = marked(self.gaps[block], place % BLOCK, is_gap);
         sum_block_anew(
             &mut self.blocks,
             self.sections.as_slice(),
@@ -259,7 +269,7 @@ impl<A: Allocator + Copy> GapList<A> {
         ensures capacity { self.new.capacity ≡ self.old.capacity }
     {
         self.sections.truncate(places);
-        self.gaps.truncate(places);
+        self.gaps.truncate(places.div_ceil(BLOCK));
         self.blocks.truncate(places / BLOCK);
         self.rows.truncate(places / ROW);
     }
@@ -353,14 +363,15 @@ impl<A: Allocator + Copy> GapList<A> {
 
 // Moves each section that is in no gap to the next free place, and cuts the list off behind the last.
 // Takes no memory.
-fn close_up<A: Allocator>(sections: &mut Vec<BinSection, A>, gaps: &[bool])
-    requires { length gaps.now ≡ length sections.old.items }
-    ensures items { sections.new.items ≡ sections_of (places_of sections.old.items gaps.now) }
+fn close_up<A: Allocator>(sections: &mut Vec<BinSection, A>, gaps: &[u8])
+    requires { length sections.old.items ≤ length gaps.now * 8 }
+    ensures items { sections.new.items ≡
+        sections_of (places_of sections.old.items (flags_of gaps.now)) }
     ensures capacity { vec_capacity sections.new ≡ vec_capacity sections.old }
 {
     let mut kept = 0;
     for place in 0..sections.len() {
-        if !gaps[place] {
+        if !has_gap(gaps[place / BLOCK], place % BLOCK) {
             sections[kept] = sections[place];
             kept += 1;
         }

@@ -3,9 +3,11 @@ ghost use Rattle.std.specs.Prelude.{◌≡◌, ◌+◌, ◌*◌, ◌-◌, ◌/�
 ghost use Rattle.std.specs.Vec.{vec_capacity};
 ghost use Rattle.std.specs.Bool.{OnFalse};
 ghost use Rattle.rectangle_pack_sections.specs.Boxes.{Cuboid};
+ghost use Rattle.rectangle_pack_lists.specs.private.GapBits.{bits_of, flags_of};
 ghost use Rattle.rectangle_pack_lists.specs.private.Places.{places_of, NoneHolds};
 ghost use Rattle.rectangle_pack_lists.specs.private.Summaries.{RulesOut, Bounds, Sums, SumAll, HavePlaces, of_section, joined, bounded_volume_of};
 
+use crate::gap_list::gap_bits::has_gap;
 use rectangle_pack_sections::bin_section::BinSection;
 use rectangle_pack_sections::box_size_heuristics::middle_side;
 use rectangle_pack_sections::width_height_depth::WidthHeightDepth;
@@ -99,14 +101,14 @@ impl Summary {
         self.count
     }
 
-    // The summary of the sections at these places.
-    fn of(sections: &[BinSection], gaps: &[bool]) -> Self
-        requires { length gaps.now ≡ length sections.now }
-        ensures { Sums result (places_of sections.now gaps.now) }
+    // The summary of the sections at the places of a block.
+    fn of(sections: &[BinSection], gaps: u8) -> Self
+        requires { length sections.now ≤ 8 }
+        ensures { Sums result (places_of sections.now (bits_of gaps)) }
     {
         let mut summary = Summary::empty();
         for place in 0..sections.len() {
-            if !gaps[place] {
+            if !has_gap(gaps, place) {
                 summary = summary.join(&Summary::of_section(&sections[place].whd()));
             }
         }
@@ -193,20 +195,20 @@ pub(crate) fn count_if_too_small(
 pub(crate) fn sum_blocks<A: Allocator>(
     alloc: A,
     sections: &[BinSection],
-    gaps: &[bool],
+    gaps: &[u8],
     most: usize,
 ) -> Result<Vec<Summary, A>, AllocError>
-    requires long { length gaps.now ≡ length sections.now }
+    requires long { length sections.now ≤ length gaps.now * 8 }
     requires room { length sections.now / 8 ≤ most }
     ensures sums { IfOk result
-        (λ blocks. SumAll 8 (places_of sections.now gaps.now) blocks.items) }
+        (λ blocks. SumAll 8 (places_of sections.now (flags_of gaps.now)) blocks.items) }
     ensures room { IfOk result (λ blocks. most ≤ vec_capacity blocks) }
 {
     let mut blocks = Vec::with_capacity(alloc, most)?;
     for block in 0..sections.len() / BLOCK {
         let first = block * BLOCK;
         let end = first + BLOCK;
-        blocks.push_reserved(Summary::of(&sections[first..end], &gaps[first..end]));
+        blocks.push_reserved(Summary::of(&sections[first..end], gaps[block]));
     }
     Ok(blocks)
 }
@@ -236,21 +238,22 @@ pub(crate) fn sum_rows<A: Allocator>(
 pub(crate) fn sum_last_block<A: Allocator>(
     blocks: &mut Vec<Summary, A>,
     sections: &[BinSection],
-    gaps: &[bool],
+    gaps: &[u8],
 )
-    requires long { length gaps.now ≡ length sections.now }
+    requires long { length sections.now ≤ length gaps.now * 8 }
     requires whole { length blocks.old.items * 8 < length sections.now }
     requires rest { length sections.now ≤ length blocks.old.items * 8 + 8 }
     requires room { length sections.now < vec_capacity blocks.old * 8 + 8 }
     ensures sums { (before : List (Option Cuboid)) (place : Option Cuboid) →
-        places_of sections.now gaps.now ≡ before ++ place ∷ [] →
+        places_of sections.now (flags_of gaps.now) ≡ before ++ place ∷ [] →
         SumAll 8 before blocks.old.items →
-        SumAll 8 (places_of sections.now gaps.now) blocks.new.items }
+        SumAll 8 (places_of sections.now (flags_of gaps.now)) blocks.new.items }
     ensures capacity { vec_capacity blocks.new ≡ vec_capacity blocks.old }
 {
-    let summed = blocks.len() * BLOCK;
+    let block = blocks.len();
+    let summed = block * BLOCK;
     if sections.len() - summed == BLOCK {
-        blocks.push_reserved(Summary::of(&sections[summed..], &gaps[summed..]));
+        blocks.push_reserved(Summary::of(&sections[summed..], gaps[block]));
     }
 }
 
@@ -276,22 +279,22 @@ pub(crate) fn sum_last_row<A: Allocator>(rows: &mut Vec<Summary, A>, blocks: &[S
 pub(crate) fn sum_block_anew<A: Allocator>(
     blocks: &mut Vec<Summary, A>,
     sections: &[BinSection],
-    gaps: &[bool],
+    gaps: &[u8],
     place: usize,
 )
-    requires long { length gaps.now ≡ length sections.now }
+    requires long { length sections.now ≤ length gaps.now * 8 }
     requires whole { length blocks.old.items * 8 ≤ length sections.now }
     ensures sums { (before : List (Option Cuboid)) (content : Option Cuboid) →
-        places_of sections.now gaps.now ≡ set before place content →
+        places_of sections.now (flags_of gaps.now) ≡ set before place content →
         SumAll 8 before blocks.old.items →
-        SumAll 8 (places_of sections.now gaps.now) blocks.new.items }
+        SumAll 8 (places_of sections.now (flags_of gaps.now)) blocks.new.items }
     ensures capacity { vec_capacity blocks.new ≡ vec_capacity blocks.old }
 {
     let block = place / BLOCK;
     if block < blocks.len() {
         let first = block * BLOCK;
         let end = first + BLOCK;
-        blocks[block] = Summary::of(&sections[first..end], &gaps[first..end]);
+        blocks[block] = Summary::of(&sections[first..end], gaps[block]);
     }
 }
 

@@ -1,12 +1,14 @@
 -- The places of lists of sections with gaps, and the sections of places.
-use Rattle.std.proofs.Common.{replicate}
+use Rattle.std.proofs.Common.{replicate, le_refl}
 use Rattle.std.proofs.Math.Seq.{take-nil, drop-nil}
 use Rattle.rectangle_pack_sections.proofs.Std.{◌≡◌, ◌≤◌, ◌<◌, ◌+◌, ◌-◌, ◌*◌, ◌/◌, ℕ, suc, List, [], ◌∷◌, ◌++◌, length, take, drop, get_or, refl, sym, ap, arith}
 use Rattle.rectangle_pack_sections.proofs.Std.{length-append, length-drop, ◌∙◌, Option, Some, None, drop-cons, take-append-drop, drop-drop, length-take-le}
-use Rattle.rectangle_pack_sections.proofs.Std.{IsSome, Bool, true, false, zero, set, map, if◌then◌else◌, take_more, nil_from_length, All-nil, All-append, All-cons, append_assoc, length-take}
+use Rattle.rectangle_pack_sections.proofs.Std.{IsSome, Bool, true, false, zero, set, map, if◌then◌else◌, take_more, nil_from_length, All-nil, All-append, All-cons, append_assoc, length-take, take-append_seam}
 use Rattle.rectangle_pack_sections.specs.Boxes.{Cuboid, Size, Holds}
 use Rattle.rectangle_pack_lists.specs.Joining.{entry}
+use Rattle.rectangle_pack_lists.specs.private.GapBits.{bits_of, flags_of}
 use Rattle.rectangle_pack_lists.specs.private.Places.{places_of, sections_of, IsLastHolding, NoneHolds}
+use Rattle.rectangle_pack_lists.proofs.lemmas.trial.GapBits.{length-bits_of, take-flags_of, block-flags_of}
 
 -- there are as many places as sections, gaps too
 pub length-places_of : (s : List Cuboid) (g : List Bool) → length (places_of s g) ≡ length s
@@ -43,16 +45,53 @@ drop-places_of (suc n) (x ∷ s) (false ∷ g) = drop-places_of n s g
 pub stretch-places_of : (w n : ℕ) (s : List Cuboid) (g : List Bool) → take w (drop n (places_of s g)) ≡ places_of (take w (drop n s)) (take w (drop n g))
 stretch-places_of w n s g = ap (take w) (drop-places_of n s g) ∙ take-places_of w (drop n s) (drop n g)
 
+-- flags beyond the sections say nothing
+pub places_of-take : (n : ℕ) (s : List Cuboid) (g : List Bool) → length s ≤ n → places_of s (take n g) ≡ places_of s g
+places_of-take n [] g short = refl
+places_of-take zero (x ∷ s) g short = absurd (omega arith)
+places_of-take (suc n) (x ∷ s) [] short = refl
+places_of-take (suc n) (x ∷ s) (true ∷ g) short = ap (λ l. None ∷ l) (places_of-take n s g (omega arith))
+places_of-take (suc n) (x ∷ s) (false ∷ g) short = ap (λ l. Some x ∷ l) (places_of-take n s g (omega arith))
+
+places_of-append : (s : List Cuboid) (g h : List Bool) → length s ≤ length g → places_of s (g ++ h) ≡ places_of s g
+places_of-append s g h short = sym (places_of-take (length g) s (g ++ h) short) ∙ ap (places_of s) (take-append_seam g h)
+
+-- the places of a block
+pub block-places_of : (w k : ℕ) (s : List Cuboid) (bytes : List ℕ) (d : ℕ) → w ≤ 8 → k < length bytes
+    → take w (drop (k * 8) (places_of s (flags_of bytes))) ≡ places_of (take w (drop (k * 8) s)) (bits_of (get_or bytes k d))
+block-places_of w k s bytes d short within =
+    let block = bits_of (get_or bytes k d) in
+    let t = take w (drop (k * 8) s) in
+    let fits : length t ≤ length block = omega (arith, length-take w (drop (k * 8) s), length-bits_of (get_or bytes k d)) in
+    stretch-places_of w (k * 8) s (flags_of bytes) ∙ places_of-take w t (drop (k * 8) (flags_of bytes)) (omega (arith, length-take w (drop (k * 8) s)))
+    ∙ ap (places_of t) (block-flags_of k bytes d within) ∙ places_of-append t block (flags_of (drop (suc k) bytes)) fits
+
+-- the first places, of which a byte stands for up to eight
+pub cut-places_of : (n : ℕ) (s : List Cuboid) (bytes : List ℕ)
+    → take n (places_of s (flags_of bytes)) ≡ places_of (take n s) (flags_of (take ((n + 7) / 8) bytes))
+cut-places_of n s bytes =
+    let m = (n + 7) / 8 * 8 in
+    let short : length (take n s) ≤ n = omega (arith, length-take n s) in
+    take-places_of n s (flags_of bytes) ∙ places_of-take n (take n s) (flags_of bytes) short
+    ∙ sym (places_of-take m (take n s) (flags_of bytes) (omega arith)) ∙ ap (places_of (take n s)) (take-flags_of ((n + 7) / 8) bytes)
+
 -- a section more
-pub places_of-push : (s : List Cuboid) (g : List Bool) (x : Cuboid) → length g ≡ length s → places_of (s ++ x ∷ []) (g ++ false ∷ []) ≡ places_of s g ++ Some x ∷ []
-places_of-push [] [] x long = refl
-places_of-push [] (b ∷ g) x long = absurd (omega arith)
-places_of-push (y ∷ s) [] x long = absurd (omega arith)
-places_of-push (y ∷ s) (true ∷ g) x long = ap (λ l. None ∷ l) (places_of-push s g x (omega arith))
-places_of-push (y ∷ s) (false ∷ g) x long = ap (λ l. Some y ∷ l) (places_of-push s g x (omega arith))
+places_of-push : (s : List Cuboid) (g rest : List Bool) (x : Cuboid) → length g ≡ length s
+    → places_of (s ++ x ∷ []) (g ++ false ∷ rest) ≡ places_of s g ++ Some x ∷ []
+places_of-push [] [] rest x long = refl
+places_of-push [] (b ∷ g) rest x long = absurd (omega arith)
+places_of-push (y ∷ s) [] rest x long = absurd (omega arith)
+places_of-push (y ∷ s) (true ∷ g) rest x long = ap (λ l. None ∷ l) (places_of-push s g rest x (omega arith))
+places_of-push (y ∷ s) (false ∷ g) rest x long = ap (λ l. Some y ∷ l) (places_of-push s g rest x (omega arith))
+
+pub more-places_of : (s : List Cuboid) (g now rest : List Bool) (x : Cuboid) → length s ≤ length g → now ≡ take (length s) g ++ false ∷ rest
+    → places_of (s ++ x ∷ []) now ≡ places_of s g ++ Some x ∷ []
+more-places_of s g now rest x long is =
+    ap (places_of (s ++ x ∷ [])) is ∙ places_of-push s (take (length s) g) rest x (length-take-le (length s) g long)
+    ∙ ap (λ l. l ++ Some x ∷ []) (places_of-take (length s) s g (le_refl (length s)))
 
 -- a place that is marked, as a gap or not
-pub mark-places_of : (s : List Cuboid) (g : List Bool) (i : ℕ) (b : Bool) → length g ≡ length s
+pub mark-places_of : (s : List Cuboid) (g : List Bool) (i : ℕ) (b : Bool) → length s ≤ length g
     → places_of s (set g i b) ≡ set (places_of s g) i (if b then None else Some (entry s i))
 mark-places_of [] g i b long = refl
 mark-places_of (y ∷ s) [] i b long = absurd (omega arith)
@@ -64,7 +103,7 @@ mark-places_of (y ∷ s) (true ∷ g) (suc i) b long = ap (λ l. None ∷ l) (ma
 mark-places_of (y ∷ s) (false ∷ g) (suc i) b long = ap (λ l. Some y ∷ l) (mark-places_of s g i b (omega arith))
 
 -- what a place is: a gap, or its section
-pub place-gap : (s : List Cuboid) (g : List Bool) (i : ℕ) (b : Bool) (d : Option Cuboid) → length g ≡ length s → i < length s
+pub place-gap : (s : List Cuboid) (g : List Bool) (i : ℕ) (b : Bool) (d : Option Cuboid) → length s ≤ length g → i < length s
     → get_or g i b ≡ true → get_or (places_of s g) i d ≡ None
 place-gap [] g i b d long within read = absurd (omega arith)
 place-gap (y ∷ s) [] i b d long within read = absurd (omega arith)
@@ -73,7 +112,7 @@ place-gap (y ∷ s) (false ∷ g) zero b d long within read = cc
 place-gap (y ∷ s) (true ∷ g) (suc i) b d long within read = place-gap s g i b d (omega arith) (omega arith) read
 place-gap (y ∷ s) (false ∷ g) (suc i) b d long within read = place-gap s g i b d (omega arith) (omega arith) read
 
-pub place-section : (s : List Cuboid) (g : List Bool) (i : ℕ) (x : Cuboid) (b : Bool) (d : Option Cuboid) → length g ≡ length s → i < length s
+pub place-section : (s : List Cuboid) (g : List Bool) (i : ℕ) (x : Cuboid) (b : Bool) (d : Option Cuboid) → length s ≤ length g → i < length s
     → get_or g i b ≡ false → x ≡ get_or s i x → get_or (places_of s g) i d ≡ Some x
 place-section [] g i x b d long within read is = absurd (omega arith)
 place-section (y ∷ s) [] i x b d long within read is = absurd (omega arith)
@@ -83,7 +122,7 @@ place-section (y ∷ s) (true ∷ g) (suc i) x b d long within read is = place-s
 place-section (y ∷ s) (false ∷ g) (suc i) x b d long within read is = place-section s g i x b d (omega arith) (omega arith) read is
 
 -- what is read there where it is no gap
-pub place-full : (s : List Cuboid) (g : List Bool) (i : ℕ) (x : Cuboid) (d : Option Cuboid) → length g ≡ length s → i < length s
+pub place-full : (s : List Cuboid) (g : List Bool) (i : ℕ) (x : Cuboid) (d : Option Cuboid) → length s ≤ length g → i < length s
     → IsSome (get_or (places_of s g) i d) → x ≡ get_or s i x → get_or (places_of s g) i d ≡ Some x
 place-full [] g i x d long within full is = absurd (omega arith)
 place-full (y ∷ s) [] i x d long within full is = absurd (omega arith)
