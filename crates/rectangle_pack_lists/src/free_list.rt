@@ -1,5 +1,5 @@
 //! A list of free sections while a packing lasts: what is done to it is noted, and can be undone.
-ghost use Rattle.std.specs.Prelude.{ℕ, ◌≡◌, ◌≤◌, ◌<◌, ◌+◌, ◌*◌, ◌^◌, [], Some, length, map, take, drop, All, IfSome, MatchOption, OnOk};
+ghost use Rattle.std.specs.Prelude.{ℕ, ◌≡◌, ◌≤◌, ◌<◌, ◌+◌, ◌*◌, ◌^◌, [], Some, length, map, take, drop, All, IfSome, MatchOption, OnOk, OnErr};
 ghost use Rattle.std.specs.Vec.{vec_capacity};
 ghost use Rattle.rectangle_pack_sections.specs.Boxes.{FitsU32};
 ghost use Rattle.rectangle_pack_lists.specs.Steps.{IsStep};
@@ -166,6 +166,26 @@ impl<A: Allocator + Copy> FreeList<A> {
         ensures room { self.old.room ≤ self.new.room }
     {
         self.sections.reserve(&mut self.taken, steps, self.boxes)
+    }
+
+    // Makes room for `steps` steps more. Where memory is refused, the noted steps are undone but for
+    // the first `kept`.
+    pub(crate) fn reserve_or_undo(&mut self, steps: usize, kept: usize) -> Result<(), AllocError>
+        requires small { steps * 3 < 2 ^ 64 }
+        requires noted { kept ≤ length self.old.notes }
+        ensures steps { OnOk result (steps ≤ self.new.steps) }
+        ensures same_places { OnOk result (self.new.places ≡ self.old.places) }
+        ensures same_notes { OnOk result (self.new.notes ≡ self.old.notes) }
+        ensures undone_places { OnErr result
+            (self.new.places ≡ before_notes (drop kept self.old.notes) self.old.places) }
+        ensures undone_notes { OnErr result (self.new.notes ≡ take kept self.old.notes) }
+        ensures room { self.old.room ≤ self.new.room }
+    {
+        let made = self.reserve(steps);
+        if made.is_err() {
+            self.undo_to(kept);
+        }
+        made
     }
 
     // Places a member into the section at this place, and notes the step. Takes no memory.

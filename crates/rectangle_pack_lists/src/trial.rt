@@ -7,8 +7,8 @@ ghost use Rattle.rectangle_pack_lists.specs.Numbers.{saturated};
 ghost use Rattle.rectangle_pack_lists.specs.Steps.{AreLeft, AreRanked};
 ghost use Rattle.rectangle_pack_lists.specs.private.FreeLists.{IsTried, IsStuckAtOnce, now_of, start_of};
 
-use crate::free_list::{FreeList, Spare};
 use crate::free_list::plain::newest;
+use crate::free_list::{FreeList, Spare};
 use rectangle_pack_sections::bin_section::BinSection;
 use rectangle_pack_sections::closures::Policy;
 use rectangle_pack_sections::packed_location::PackedLocation;
@@ -16,6 +16,10 @@ use rectangle_pack_sections::rect_to_insert::RectToInsert;
 use rectangle_pack_sections::width_height_depth::WidthHeightDepth;
 use std::alloc::{AllocError, Allocator};
 use std::marker::Model;
+
+// For how many steps of a trial room is made at once. A trial that is stuck after a few steps leaves
+// little room in its bin.
+const AT_ONCE: usize = 16;
 
 // The three pieces by falling rate; at equal rates the one listed first stands first.
 fn by_falling_rate(
@@ -128,8 +132,10 @@ impl<A: Allocator + Copy> FreeList<A> {
                 });
             };
             if i == 0 {
-                self.reserve(members.len())?;
                 locations.reserve(members.len())?;
+            }
+            if i % AT_ONCE == 0 {
+                self.reserve_or_undo(AT_ONCE.min(members.len() - i), kept)?;
             }
             let location = self.place(place, member, policy);
             locations.push_reserved(location);

@@ -99,3 +99,9 @@ IsTried-refused may sections ms i ls last n (Ok trial) locations now error first
 IsTried-refused may sections ms i ls last n (Err e) locations now error first steps same =
     let none : IsDone may sections [] ls last n = rw first at steps in
     same ∙ none.1
+
+-- a trial for which memory is refused leaves the sections
+pub IsTried-undone : {E : Type 0} (may : Answers) (sections : List Cuboid) (ms : List Size) (r : Result Trial E) (locations now : List Cuboid)
+    → IsErr r → now ≡ sections → IsTried may sections ms r locations now
+IsTried-undone may sections ms (Ok trial) locations now error same = absurd cc
+IsTried-undone may sections ms (Err e) locations now error same = same

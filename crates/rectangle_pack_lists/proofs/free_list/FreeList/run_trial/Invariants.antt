@@ -1,4 +1,5 @@
-use Rattle.rectangle_pack_sections.proofs.Std.{◌≡◌, ◌≤◌, ◌<◌, ◌+◌, ◌*◌, take, length, vec_len, vec_capacity, All}
+use Rattle.rectangle_pack_sections.proofs.Std.{◌≡◌, ◌≤◌, ◌<◌, ◌*◌, take, length, vec_len, vec_capacity, All}
+use Rattle.std.proofs.Common.{◌%◌, ◌-◌, min}
 use Rattle.rectangle_pack_sections.specs.Boxes.{FitsU32}
 use Rattle.rectangle_pack_lists.specs.Steps.{IsDone}
 use Rattle.rectangle_pack_lists.specs.private.FreeLists.{now_of}
@@ -12,7 +13,7 @@ invariant-loop-i g l = record {
   fits : All FitsU32 (now_of l.self);
   since : IsSince l.fn.self l.self;
   kept : l.kept ≡ length l.fn.self.notes;
-  steps : 0 < l.i → length l.members ≤ l.self.steps + l.i;
+  steps : 0 < l.i % 16 → min (16 - l.i % 16) (length l.members - l.i) ≤ l.self.steps;
   room : l.fn.self.room ≤ l.self.room;
   location_count : vec_len l.locations ≡ l.i;
   location_room : 0 < l.i → length l.members ≤ vec_capacity l.locations;
