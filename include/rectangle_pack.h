@@ -63,7 +63,11 @@ enum {
     /* A member names a box that is not there. */
     RP_UNKNOWN_BOX = 11,
     /* An exclusion names one group twice. */
-    RP_EQUAL_GROUPS = 12
+    RP_EQUAL_GROUPS = 12,
+    /* Boxes are outstanding in the bin of the session. */
+    RP_BIN_IN_USE = 13,
+    /* A side of the bin would exceed 2^32 - 1. */
+    RP_TOO_LARGE = 14
 };
 
 /* Packs all boxes into the bins; placements[i] is where boxes[i] stands.

@@ -43,6 +43,8 @@ enum class Status : std::uint32_t {
     unknown_heuristic = RP_UNKNOWN_HEURISTIC,
     unknown_box = RP_UNKNOWN_BOX,
     equal_groups = RP_EQUAL_GROUPS,
+    bin_in_use = RP_BIN_IN_USE,
+    too_large = RP_TOO_LARGE,
 };
 
 /// What a status means.
@@ -75,6 +77,10 @@ inline const char *text(Status status) noexcept
         return "a member names a box that is not there";
     case Status::equal_groups:
         return "a group is excluded with itself";
+    case Status::bin_in_use:
+        return "placements are outstanding in the bin";
+    case Status::too_large:
+        return "a side of the bin would exceed 2^32 - 1";
     }
     return "a status that this header does not know";
 }

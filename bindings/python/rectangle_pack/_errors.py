@@ -70,3 +70,15 @@ class NumbersUsedUp(PackError):
     """The numbers of the session's placements would reach 2**64 - 1, which is never given."""
 
     text = "The numbers of placements are used up"
+
+
+class BinInUse(PackError):
+    """Placements are outstanding in the bin of the session."""
+
+    text = "Placements are outstanding in the bin"
+
+
+class TooLarge(PackError):
+    """A side of the bin would exceed 2**32 - 1."""
+
+    text = "A side of the bin would exceed the greatest number of 32 bits"

@@ -8,8 +8,8 @@ from unittest import mock
 
 import rectangle_pack
 from rectangle_pack import (
-    Bin, Box, DuplicateBin, EqualGroups, NotEnoughBinSpace, NumbersUsedUp, OutOfMemory, PackError, Placement, Section,
-    TooMany, UnknownBin, UnknownBox, UnknownHeuristic, UnknownPlacement, pack,
+    Bin, BinInUse, Box, DuplicateBin, EqualGroups, NotEnoughBinSpace, NumbersUsedUp, OutOfMemory, PackError, Placement,
+    Section, TooLarge, TooMany, UnknownBin, UnknownBox, UnknownHeuristic, UnknownPlacement, pack,
 )
 
 
@@ -240,7 +240,7 @@ class Packings(unittest.TestCase):
 class Errors(unittest.TestCase):
     STATUSES = {
         1: NotEnoughBinSpace, 2: OutOfMemory, 3: TooMany, 4: DuplicateBin, 5: UnknownBin, 6: UnknownPlacement,
-        7: NumbersUsedUp, 10: UnknownHeuristic, 11: UnknownBox, 12: EqualGroups,
+        7: NumbersUsedUp, 10: UnknownHeuristic, 11: UnknownBox, 12: EqualGroups, 13: BinInUse, 14: TooLarge,
     }
 
     def test_each_has_its_text(self):
@@ -255,6 +255,8 @@ class Errors(unittest.TestCase):
             UnknownBin: "There is no such bin.",
             UnknownPlacement: "No placement of this number is outstanding.",
             NumbersUsedUp: "The numbers of placements are used up.",
+            BinInUse: "Placements are outstanding in the bin.",
+            TooLarge: "A side of the bin would exceed the greatest number of 32 bits.",
         }
         self.assertEqual(set(texts), set(self.STATUSES.values()))
         for error, text in texts.items():

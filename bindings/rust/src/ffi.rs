@@ -253,6 +253,8 @@ fn refusal(status: u32) -> SessionError {
         UNKNOWN_PLACEMENT => SessionError::UnknownPlacement,
         NUMBERS_USED_UP => SessionError::NumbersUsedUp,
         EQUAL_GROUPS => SessionError::EqualGroups,
+        BIN_IN_USE => SessionError::BinInUse,
+        TOO_LARGE => SessionError::TooLarge,
         _ => SessionError::TooMany,
     }
 }

@@ -213,6 +213,8 @@ fn errors_say_what_was_wrong() {
         (SessionError::UnknownPlacement, "No placement of this number is outstanding."),
         (SessionError::NumbersUsedUp, "The numbers of placements are used up."),
         (SessionError::NotEnoughBinSpace, "Not enough space to place all of the rectangles."),
+        (SessionError::BinInUse, "Placements are outstanding in the bin."),
+        (SessionError::TooLarge, "A side of the bin would exceed the greatest number of 32 bits."),
         (SessionError::OutOfMemory, "Out of memory."),
         (SessionError::TooMany, "Too many bins or boxes."),
         (SessionError::EqualGroups, "A group is excluded with itself."),

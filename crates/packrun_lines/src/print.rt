@@ -149,6 +149,8 @@ pub fn refuse<W: Write>(error: SessionError, named: &[u8], out: &mut W) -> Resul
             let text = b"refused: Not enough space to place all of the rectangles.\n";
             print_bytes(text, out)
         }
+        SessionError::BinInUse => print_bytes(b"refused: the bin is in use\n", out),
+        SessionError::TooLarge => print_bytes(b"refused: the bin would be too large\n", out),
         SessionError::OutOfMemory => Err(Stop::NoMemory),
     }
 }

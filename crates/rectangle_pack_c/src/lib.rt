@@ -94,6 +94,10 @@ pub const RP_UNKNOWN_HEURISTIC: u32 = 10;
 pub const RP_UNKNOWN_BOX: u32 = 11;
 /// A group is excluded with itself.
 pub const RP_EQUAL_GROUPS: u32 = 12;
+/// Placements are outstanding in the bin.
+pub const RP_BIN_IN_USE: u32 = 13;
+/// A side of the bin would exceed 2^32 - 1.
+pub const RP_TOO_LARGE: u32 = 14;
 
 // There are fewer bins and boxes than this, so that each index and their count is of 32 bits.
 const LIMIT: usize = 0x1_0000_0000;

@@ -14,8 +14,9 @@ ghost use Rattle.rectangle_pack_c.specs.Sessions.{ChangesAs, AreAsMany, PacksCol
 use super::collection::{RP_BEST, RP_VOLUME, RpCollection, fault};
 use super::handle::RpSession;
 use super::{
-    RP_BAD_LENGTHS, RP_DONE, RP_DUPLICATE_BIN, RP_NOT_ENOUGH_SPACE, RP_NUMBERS_USED_UP,
-    RP_OUT_OF_MEMORY, RP_UNKNOWN_BIN, RP_UNKNOWN_PLACEMENT, RpBox, RpPlacement, Written, pack_into,
+    RP_BAD_LENGTHS, RP_BIN_IN_USE, RP_DONE, RP_DUPLICATE_BIN, RP_NOT_ENOUGH_SPACE,
+    RP_NUMBERS_USED_UP, RP_OUT_OF_MEMORY, RP_TOO_LARGE, RP_UNKNOWN_BIN, RP_UNKNOWN_PLACEMENT,
+    RpBox, RpPlacement, Written, pack_into,
 };
 use rectangle_pack::{Outstanding, Session, SessionError};
 use std::alloc::Global;
@@ -382,5 +383,7 @@ pub(crate) fn refusal(error: SessionError) -> u32
         SessionError::UnknownBin => RP_UNKNOWN_BIN,
         SessionError::UnknownPlacement => RP_UNKNOWN_PLACEMENT,
         SessionError::NumbersUsedUp => RP_NUMBERS_USED_UP,
+        SessionError::BinInUse => RP_BIN_IN_USE,
+        SessionError::TooLarge => RP_TOO_LARGE,
     }
 }

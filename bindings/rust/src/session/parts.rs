@@ -92,6 +92,10 @@ pub enum SessionError {
     /// For some group each bin is excluded or does not take all of its boxes, as the groups before it left the bins; of
     /// `pack_best`, with each heuristic.
     NotEnoughBinSpace,
+    /// Placements are outstanding in the bin.
+    BinInUse,
+    /// A side of the bin would exceed the greatest `u32`.
+    TooLarge,
     /// Memory was refused.
     OutOfMemory,
     /// There are 2^32 boxes or bins, or more.
@@ -108,6 +112,8 @@ impl fmt::Display for SessionError {
             SessionError::UnknownPlacement => "No placement of this number is outstanding.",
             SessionError::NumbersUsedUp => "The numbers of placements are used up.",
             SessionError::NotEnoughBinSpace => "Not enough space to place all of the rectangles.",
+            SessionError::BinInUse => "Placements are outstanding in the bin.",
+            SessionError::TooLarge => "A side of the bin would exceed the greatest number of 32 bits.",
             SessionError::OutOfMemory => "Out of memory.",
             SessionError::TooMany => "Too many bins or boxes.",
             SessionError::EqualGroups => "A group is excluded with itself.",

@@ -45,6 +45,10 @@ pub enum SessionError {
     /// For some group each bin is excluded or does not take all of its boxes; of `pack_best`, with
     /// each heuristic of the list.
     NotEnoughBinSpace,
+    /// Placements are outstanding in the bin.
+    BinInUse,
+    /// A side of the bin would exceed the greatest `u32`.
+    TooLarge,
     /// A growth or a clone was refused.
     OutOfMemory,
 }
@@ -60,6 +64,10 @@ impl SessionError {
             SessionError::UnknownPlacement => "No placement of this number is outstanding.",
             SessionError::NumbersUsedUp => "The numbers of placements are used up.",
             SessionError::NotEnoughBinSpace => "Not enough space to place all of the rectangles.",
+            SessionError::BinInUse => "Placements are outstanding in the bin.",
+            SessionError::TooLarge => {
+                "A side of the bin would exceed the greatest number of 32 bits."
+            }
             SessionError::OutOfMemory => "Out of memory.",
         }
     }

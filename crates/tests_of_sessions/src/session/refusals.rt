@@ -96,6 +96,14 @@ fn refusals(rt: HostRuntime) -> Result<(), Fail> {
 
 const ERRORS: &[(SessionError, &str)] = &[
     (SessionError::DuplicateBin, "The bin is there already."),
+    (
+        SessionError::BinInUse,
+        "Placements are outstanding in the bin.",
+    ),
+    (
+        SessionError::TooLarge,
+        "A side of the bin would exceed the greatest number of 32 bits.",
+    ),
     (SessionError::OutOfMemory, "Out of memory."),
 ];
 
