@@ -37,3 +37,4 @@ pub mod Promise
 pub mod SessionBest
 pub mod PlanAnswers
 pub mod SessionTexts
+pub mod Upkeep

@@ -20,6 +20,7 @@ mod outstanding;
 mod records;
 mod run;
 mod stats;
+mod upkeep;
 
 use crate::session::bins::put_bin;
 use crate::session::outstanding::{give_back, number_all, position_of};

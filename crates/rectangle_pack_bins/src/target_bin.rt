@@ -9,6 +9,7 @@ ghost use Rattle.rectangle_pack_sections.specs.Counting.{AreAllApart, times_fill
 ghost use Rattle.rectangle_pack_lists.specs.Joining.{IsJoined, IsSwept, ShareNoFace};
 ghost use Rattle.rectangle_pack_sections.specs.Keeping.{KeepCells};
 
+mod clearing;
 mod placing;
 mod texts;
 

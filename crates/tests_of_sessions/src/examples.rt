@@ -71,6 +71,22 @@ fn session_plans_cuts_and_gives_a_box_back(rt: HostRuntime) -> Result<(), Fail> 
     pack_and_give_back(&rt, &mut session, &rects)
 }
 
+fn clear(rt: &impl Abort, session: &mut Sheets) -> Result<(), Fail> {
+    session.clear_bin(&"sheet")?;
+    assert!(rt; session.outstanding().is_empty());
+    is_whole(rt, session)
+}
+
+#[test]
+fn session_clears_a_sheet(rt: HostRuntime) -> Result<(), Fail> {
+    let alloc = rt.alloc();
+    let rects = one_box(alloc)?;
+    let mut session: Session<u32, &'static str> = Session::new(alloc, 0);
+    session.add_bin("sheet", 10, 10, 1)?;
+    pack(&rt, &mut session, &rects)?;
+    clear(&rt, &mut session)
+}
+
 fn three_boxes(alloc: Global) -> Result<Rects, AllocError> {
     let mut rects: GroupedRectsToPlace<u32, u32> = GroupedRectsToPlace::new(alloc);
     for (id, width, height) in [(1, 1, 3), (2, 3, 2), (3, 3, 1)] {

@@ -77,6 +77,7 @@ mod stats;
 mod strip;
 mod sweeps;
 mod units;
+mod upkeep;
 
 use rectangle_pack::{BinSection, BinStats, Command, Outstanding, Reply, Session, SessionError};
 use std::alloc::{AllocError, Global};

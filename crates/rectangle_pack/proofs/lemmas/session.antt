@@ -1,6 +1,6 @@
 -- Sessions. Read Keeps first: what is always true of a session, call by call. The main lemma is in Transitions: each transition keeps it. Promise adds what the
 -- headline says of packings. Packing has what a packing is answered, by what was done on the bins.
--- Records has the list of the outstanding placements.
+-- Records has the list of the outstanding placements. Upkeep has what the calls that stand beside the commands keep.
 pub mod Keeps
 pub mod Numbering
 pub mod Records
@@ -9,3 +9,4 @@ pub mod Packing
 pub mod Stats
 pub mod Promise
 pub mod Best
+pub mod Upkeep

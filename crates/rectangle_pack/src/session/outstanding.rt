@@ -5,6 +5,7 @@ ghost use Rattle.rectangle_pack.specs.declared.session.command.Outstanding.{Outs
 ghost use Rattle.rectangle_pack_sections.specs.Bins.{IsAccepted, bins_of};
 ghost use Rattle.rectangle_pack_sections.specs.Boxes.{has_cells};
 ghost use Rattle.rectangle_pack.specs.Session.{GivesBack, numbered};
+ghost use Rattle.rectangle_pack.specs.Upkeep.{outstanding_beside};
 
 use crate::session::command::Outstanding;
 use crate::session::records::Records;
@@ -28,6 +29,16 @@ pub(crate) fn position_of<Id, B>(outstanding: &[Outstanding<Id, B>], number: u64
     outstanding
         .binary_search_by_key(&number, |placement| placement.number)
         .ok()
+}
+
+// Takes the placements that stand in the bin of this id out of the list.
+pub(crate) fn forget<Id: Drop, B: Ord + Drop, A: Allocator>(
+    outstanding: &mut Records<Outstanding<Id, B>, A>,
+    id: &B,
+)
+    ensures { outstanding.new.items ≡ outstanding_beside B.cmp id.now outstanding.old.items }
+{
+    outstanding.retain(|placement| placement.bin != *id);
 }
 
 // Gives a box back to its bin, at the end of the list, and makes room for a sweep of that. A box

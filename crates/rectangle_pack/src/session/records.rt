@@ -1,6 +1,8 @@
 //! A list whose items go at little cost from either end.
 ghost use Rattle.std.specs.Prelude.{◌≡◌, ◌+◌, ◌<◌, ◌≤◌, ◌++◌, ◌∷◌, [], length, drop, OnOk};
+ghost use Rattle.std.specs.Fn.{CalledAt};
 ghost use Rattle.std.specs.List.{remove};
+ghost use Rattle.std.specs.List.Retain.{IsFiltered};
 
 use std::alloc::{AllocError, Allocator};
 use std::marker::Model;
@@ -89,6 +91,16 @@ impl<T: Drop, A: Allocator> Records<T, A> {
             self.all.drain(..self.gone);
             self.gone = 0;
         }
+    }
+
+    // Keeps the items of which `keep` answers true, in their order. The others are dropped.
+    pub(crate) fn retain<F: FnMut(&T) -> bool>(&mut self, keep: F)
+        requires callable { F.IsAlwaysCallable keep }
+        ensures filtered { IsFiltered (CalledAt F.FnMut) keep self.old.items self.new.items }
+    {
+        self.all.drain(..self.gone);
+        self.gone = 0;
+        self.all.retain(keep);
     }
 }
 

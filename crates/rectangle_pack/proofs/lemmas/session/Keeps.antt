@@ -348,7 +348,7 @@ IsSession-found {Id} {B} {bin_cmp} o bins outstanding next number at h =
     (there.0, there.1, IsSession-accepts o (bins_of bins) at.before at.found at.after next there.0.bin session (Some-bins_of test bins there.0 there.1))
 
 -- a new bin is covered by its one section
-whole-covers : (size : Size) → CoverBin (whole size ∷ []) size
+pub whole-covers : (size : Size) → CoverBin (whole size ∷ []) size
 whole-covers size = record {
   inside = All-cons (IsInside size) (whole size) [] (record { within_x = omega arith; within_y = omega arith; within_z = omega arith })
       (All-nil (IsInside size));

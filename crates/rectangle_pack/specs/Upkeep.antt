@@ -1,0 +1,32 @@
+-- Upkeep of a session: a bin is made whole again. A reply for which `Clears` has no case never comes.
+use Rattle.std.specs.Prelude.{◌≡◌, not, List, filter, Some, None, IsSome}
+use Rattle.std.specs.declared.cmp.Ordering.{Ordering}
+use Rattle.std.specs.Map.{lookup, set_value}
+use Rattle.std.specs.BTreeMap.{is_at}
+use Rattle.rectangle_pack.specs.declared.session.command.Outstanding.{Outstanding}
+use Rattle.rectangle_pack.specs.declared.session.command.SessionError.TheVariants.{UnknownBin, OutOfMemory}
+use Rattle.rectangle_pack.specs.declared.session.command.Reply.{Reply}
+use Rattle.rectangle_pack.specs.declared.session.command.Reply.TheVariants.{Done, Refused}
+use Rattle.rectangle_pack_sections.specs.Bins.{Bin, new_bin}
+use Rattle.rectangle_pack.specs.Session.{State}
+
+module _ {Id B : Type 0} (bin_cmp : B → B → Ordering) where
+  -- the placements that stand in other bins than that of this id, in their order
+  abbrev pub outstanding_beside : B → List (Outstanding Id B) → List (Outstanding Id B)
+  outstanding_beside id outstanding = filter (λ r. not (is_at (bin_cmp r.bin) id)) outstanding
+
+  -- a bin is cleared: it is as a new bin of its size, its placements are no longer outstanding, and all else stays; or
+  -- the id is not there; or the reply is want of memory, and the id is there. What is refused changes nothing
+  -- Example: `a` 10x10x1 has the free section (4,0,0) 6x10x1, and counts as coalesced. Placement 0 stands in it, 1 in
+  -- `b`, and the next number is 2. Then `a` has the one section (0,0,0) 10x10x1, and does not count as coalesced.
+  -- Placement 1 alone is outstanding, and the next number is 2
+  abbrev pub Clears : B → State Id B → Reply → State Id B → Type 0
+  Clears id old Done new =
+      (bin : Bin) × (lookup (is_at (bin_cmp id)) old.bins ≡ Some bin)
+      × (new ≡ record old {
+        bins = set_value (is_at (bin_cmp id)) old.bins (new_bin bin.size);
+        outstanding = outstanding_beside id old.outstanding;
+      })
+  Clears id old (Refused UnknownBin) new = (lookup (is_at (bin_cmp id)) old.bins ≡ None) × (new ≡ old)
+  Clears id old (Refused OutOfMemory) new = IsSome (lookup (is_at (bin_cmp id)) old.bins) × (new ≡ old)
+  Clears id old _ new = ⊥

@@ -1,0 +1,49 @@
+//! Bins that are made whole again.
+ghost use Rattle.rectangle_pack.specs.Session.{IsSession, reply_of};
+ghost use Rattle.rectangle_pack.specs.Upkeep.{Clears};
+
+use crate::session::Session;
+use crate::session::command::SessionError;
+use crate::session::outstanding::forget;
+use std::alloc::Allocator;
+
+impl<Id, BinId, A> Session<Id, BinId, A>
+where
+    Id: Ord + Clone + Drop,
+    BinId: Ord + Clone + Drop,
+    A: Allocator + Copy,
+{
+    /// Makes a bin whole again: it has one free section, which is all of it, and does not count as
+    /// coalesced. Its placements are no longer outstanding, and the others stay in their order. No
+    /// number is given again.
+    ///
+    /// `UnknownBin` says that there is no such bin, `OutOfMemory` that a growth was refused, which
+    /// may be only where the bin has no free section. The session is then as it was.
+    ///
+    /// Once the box of the first example of `Session` is packed, the sheet is made whole again.
+    ///
+    /// ```
+    /// session.clear_bin(&"sheet")?;
+    /// assert!(rt; session.outstanding().is_empty());
+    /// ```
+    pub fn clear_bin(&mut self, id: &BinId) -> Result<(), SessionError>
+        // Done: the bin is there. It is as a new bin of its size: it has one free section, which is
+        //   all of it, and does not count as coalesced.
+        // Done: the placements of the bin are no longer outstanding, and the others stay in their
+        //   order. The next number stays, and so do the other bins.
+        //   [forget.placement_is_kept]
+        // `UnknownBin`: there is no such bin. The session is as it was.
+        // `OutOfMemory`: the bin is there. The session is as it was.
+        // No other error is answered.
+        ensures cleared { Clears BinId.cmp id.now self.old (reply_of result) self.new }
+        // What always holds of a session holds afterwards. [forget.placement_is_kept]
+        ensures always { IsSession BinId.cmp self.new }
+    {
+        let Some(bin) = self.bins.get_mut(id) else {
+            return Err(SessionError::UnknownBin);
+        };
+        bin.clear()?;
+        forget(&mut self.outstanding, id);
+        Ok(())
+    }
+}
