@@ -1,16 +1,22 @@
--- Upkeep of a session: a bin is made whole again. A reply for which `Clears` has no case never comes.
-use Rattle.std.specs.Prelude.{◌≡◌, not, List, filter, Some, None, IsSome}
+-- Upkeep of a session: a bin is made whole again, or is taken out. A reply for which `Clears` or `RemovesBin` has no case
+-- never comes.
+use Rattle.std.specs.Prelude.{◌≡◌, Bool, true, false, not, List, filter, Some, None, IsSome}
+use Rattle.std.specs.List.{list_any}
 use Rattle.std.specs.declared.cmp.Ordering.{Ordering}
-use Rattle.std.specs.Map.{lookup, set_value}
+use Rattle.std.specs.Map.{lookup, set_value, remove_entry}
 use Rattle.std.specs.BTreeMap.{is_at}
 use Rattle.rectangle_pack.specs.declared.session.command.Outstanding.{Outstanding}
-use Rattle.rectangle_pack.specs.declared.session.command.SessionError.TheVariants.{UnknownBin, OutOfMemory}
+use Rattle.rectangle_pack.specs.declared.session.command.SessionError.TheVariants.{UnknownBin, BinInUse, OutOfMemory}
 use Rattle.rectangle_pack.specs.declared.session.command.Reply.{Reply}
 use Rattle.rectangle_pack.specs.declared.session.command.Reply.TheVariants.{Done, Refused}
 use Rattle.rectangle_pack_sections.specs.Bins.{Bin, new_bin}
 use Rattle.rectangle_pack.specs.Session.{State}
 
 module _ {Id B : Type 0} (bin_cmp : B → B → Ordering) where
+  -- some placement stands in the bin of this id
+  abbrev pub is_in_use : B → List (Outstanding Id B) → Bool
+  is_in_use id outstanding = list_any (λ r. is_at (bin_cmp r.bin) id) outstanding
+
   -- the placements that stand in other bins than that of this id, in their order
   abbrev pub outstanding_beside : B → List (Outstanding Id B) → List (Outstanding Id B)
   outstanding_beside id outstanding = filter (λ r. not (is_at (bin_cmp r.bin) id)) outstanding
@@ -30,3 +36,14 @@ module _ {Id B : Type 0} (bin_cmp : B → B → Ordering) where
   Clears id old (Refused UnknownBin) new = (lookup (is_at (bin_cmp id)) old.bins ≡ None) × (new ≡ old)
   Clears id old (Refused OutOfMemory) new = IsSome (lookup (is_at (bin_cmp id)) old.bins) × (new ≡ old)
   Clears id old _ new = ⊥
+
+  -- a bin is taken out: it is there, no placement stands in it, its entry is gone, and all else stays; or the id is not
+  -- there; or it is, and some placement stands in the bin. What is refused changes nothing
+  abbrev pub RemovesBin : B → State Id B → Reply → State Id B → Type 0
+  RemovesBin id old Done new =
+      IsSome (lookup (is_at (bin_cmp id)) old.bins) × (is_in_use id old.outstanding ≡ false)
+      × (new ≡ record old { bins = remove_entry (is_at (bin_cmp id)) old.bins })
+  RemovesBin id old (Refused UnknownBin) new = (lookup (is_at (bin_cmp id)) old.bins ≡ None) × (new ≡ old)
+  RemovesBin id old (Refused BinInUse) new =
+      IsSome (lookup (is_at (bin_cmp id)) old.bins) × (is_in_use id old.outstanding ≡ true) × (new ≡ old)
+  RemovesBin id old _ new = ⊥

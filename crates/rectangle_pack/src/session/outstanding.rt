@@ -5,7 +5,7 @@ ghost use Rattle.rectangle_pack.specs.declared.session.command.Outstanding.{Outs
 ghost use Rattle.rectangle_pack_sections.specs.Bins.{IsAccepted, bins_of};
 ghost use Rattle.rectangle_pack_sections.specs.Boxes.{has_cells};
 ghost use Rattle.rectangle_pack.specs.Session.{GivesBack, numbered};
-ghost use Rattle.rectangle_pack.specs.Upkeep.{outstanding_beside};
+ghost use Rattle.rectangle_pack.specs.Upkeep.{is_in_use, outstanding_beside};
 
 use crate::session::command::Outstanding;
 use crate::session::records::Records;
@@ -29,6 +29,13 @@ pub(crate) fn position_of<Id, B>(outstanding: &[Outstanding<Id, B>], number: u64
     outstanding
         .binary_search_by_key(&number, |placement| placement.number)
         .ok()
+}
+
+// Whether some placement stands in the bin of this id.
+pub(crate) fn is_in_use<Id, B: Ord>(outstanding: &[Outstanding<Id, B>], id: &B) -> bool
+    ensures { result ≡ is_in_use B.cmp id.now outstanding.now }
+{
+    outstanding.iter().any(|placement| placement.bin == *id)
 }
 
 // Takes the placements that stand in the bin of this id out of the list.

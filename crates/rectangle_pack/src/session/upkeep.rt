@@ -1,10 +1,10 @@
-//! Bins that are made whole again.
+//! Bins that are made whole again, and bins that are taken out.
 ghost use Rattle.rectangle_pack.specs.Session.{IsSession, reply_of};
-ghost use Rattle.rectangle_pack.specs.Upkeep.{Clears};
+ghost use Rattle.rectangle_pack.specs.Upkeep.{Clears, RemovesBin};
 
 use crate::session::Session;
 use crate::session::command::SessionError;
-use crate::session::outstanding::forget;
+use crate::session::outstanding::{forget, is_in_use};
 use std::alloc::Allocator;
 
 impl<Id, BinId, A> Session<Id, BinId, A>
@@ -17,8 +17,8 @@ where
     /// coalesced. Its placements are no longer outstanding, and the others stay in their order. No
     /// number is given again.
     ///
-    /// `UnknownBin` says that there is no such bin, `OutOfMemory` that a growth was refused, which
-    /// may be only where the bin has no free section. The session is then as it was.
+    /// `UnknownBin` says that there is no such bin, `OutOfMemory` that a growth was refused. The
+    /// session is then as it was.
     ///
     /// Once the box of the first example of `Session` is packed, the sheet is made whole again.
     ///
@@ -44,6 +44,31 @@ where
         };
         bin.clear()?;
         forget(&mut self.outstanding, id);
+        Ok(())
+    }
+
+    /// Takes a bin out of the session, in which no placement is outstanding. Takes no memory.
+    ///
+    /// `UnknownBin` says that there is no such bin; this is looked at first. `BinInUse` says that
+    /// placements are outstanding in the bin. The session is then as it was.
+    pub fn remove_bin(&mut self, id: &BinId) -> Result<(), SessionError>
+        // Done: the bin was there, and no outstanding placement stands in it. It is there no more,
+        //   and all else stays. [is_in_use.placement_0_is_passed_over]
+        // `UnknownBin`: there is no such bin. The session is as it was.
+        // `BinInUse`: the bin is there, and some outstanding placement stands in it. The session is
+        //   as it was. [is_in_use.placement_0_is_passed_over]
+        // No other error is answered.
+        ensures removed { RemovesBin BinId.cmp id.now self.old (reply_of result) self.new }
+        // What always holds of a session holds afterwards. [is_in_use.placement_0_is_passed_over]
+        ensures always { IsSession BinId.cmp self.new }
+    {
+        if !self.bins.contains_key(id) {
+            return Err(SessionError::UnknownBin);
+        }
+        if is_in_use(self.outstanding.as_slice(), id) {
+            return Err(SessionError::BinInUse);
+        }
+        self.bins.remove(id);
         Ok(())
     }
 }

@@ -1,4 +1,4 @@
-//! Bins that are made whole again.
+//! Bins that are made whole again, and bins that are taken out.
 
 use super::calls::{pack, reply};
 use super::releases::{P, Q};
@@ -43,6 +43,8 @@ const BOTH_CLEARED: State = state!([NEW, OTHER_NEW], [], next 3);
 
 const NO_BIN: Reply = Reply::Refused(SessionError::UnknownBin);
 
+const IN_USE: Reply = Reply::Refused(SessionError::BinInUse);
+
 // Packs a box alone. Whether it gets this number.
 fn packs(session: &mut TestSession, alloc: Refusing, one: SizedBox, number: u64) -> bool {
     match collect(alloc, &[one], &[]) {
@@ -66,6 +68,11 @@ fn filled(alloc: Refusing) -> Option<TestSession> {
 // Clears a bin. Whether it is done, and the session is then in this state.
 fn clears(session: &mut TestSession, id: u32, after: &State) -> bool {
     session.clear_bin(&id).is_ok() && is_in(session, after)
+}
+
+// Takes a bin out. Whether this is the reply, and the session is then in this state.
+fn removes(session: &mut TestSession, id: u32, wanted: Reply, after: &State) -> bool {
+    reply(session.remove_bin(&id)) == wanted && is_in(session, after)
 }
 
 fn is_cleared(alloc: Refusing) -> bool {
@@ -142,4 +149,27 @@ fn bins_cleared_without_memory(rt: HostRuntime) -> Result<(), Fail> {
     }
     assert!(rt; filled > 0);
     Ok(())
+}
+
+const ONE_LEFT: State = state!([OTHER_FULL], [PLACED_R], next 3);
+
+fn is_removed(alloc: Refusing) -> bool {
+    let Some(mut session) = filled(alloc) else {
+        return false;
+    };
+    removes(&mut session, NOWHERE, NO_BIN, &FILLED)
+        && removes(&mut session, BIN, IN_USE, &FILLED)
+        && clears(&mut session, BIN, &CLEARED)
+        && removes(&mut session, BIN, Reply::Done, &ONE_LEFT)
+        && removes(&mut session, BIN, NO_BIN, &ONE_LEFT)
+        && reply(session.clear_bin(&BIN)) == NO_BIN
+        && session.add_bin(BIN, 10, 10, 1).is_ok()
+        && is_in(&session, &CLEARED)
+}
+
+#[test]
+fn removed_bins(rt: HostRuntime) {
+    let plenty = plenty(&rt, rt.alloc());
+    assert!(rt; is_removed(plenty));
+    assert!(rt; plenty.taken() == 0);
 }
