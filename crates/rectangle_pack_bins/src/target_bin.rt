@@ -10,6 +10,7 @@ ghost use Rattle.rectangle_pack_lists.specs.Joining.{IsJoined, IsSwept, ShareNoF
 ghost use Rattle.rectangle_pack_sections.specs.Keeping.{KeepCells};
 
 mod clearing;
+mod growing;
 mod placing;
 mod texts;
 

@@ -1,4 +1,5 @@
--- Bins: SoundBins is for pushes, Trials for trials in one bin, Maps for bins in their map.
+-- Bins: SoundBins is for pushes, Growing for bins that grow, Trials for trials in one bin, Maps for bins in their map.
 pub mod SoundBins
+pub mod Growing
 pub mod Trials
 pub mod Maps
