@@ -21,6 +21,7 @@ pub use Rattle.rectangle_pack_lists.specs.Steps
 pub use Rattle.rectangle_pack_lists.specs.Trials
 pub use Rattle.rectangle_pack_lists.specs.Joining
 pub use Rattle.rectangle_pack_bins.specs.Pushes
+pub use Rattle.rectangle_pack_bins.specs.GrownBins
 pub use Rattle.rectangle_pack_packing.specs.Orders
 pub use Rattle.rectangle_pack_packing.specs.Placed
 pub use Rattle.rectangle_pack_packing.specs.KeptBins
@@ -32,6 +33,7 @@ pub use Rattle.rectangle_pack_packing.specs.PackingTexts
 pub use Rattle.rectangle_pack_plans.specs.CutPlans
 pub mod private
 pub mod Session
+pub mod Growing
 pub mod Stats
 pub mod Promise
 pub mod SessionBest

@@ -14,6 +14,7 @@ mod best;
 mod bins;
 mod command;
 mod cut_plan;
+mod growing;
 mod joining;
 mod laws;
 mod outstanding;
@@ -93,7 +94,7 @@ pub struct Session<Id, BinId: Ord, A: Allocator + Copy = Global> {
     bins: BTreeMap<BinId, TargetBin<A>, A>,
     outstanding: Records<Outstanding<Id, BinId>, A>,
     next: u64,
-    // Room for sweeps, which take no memory. Releases make it.
+    // Room for sweeps, which take no memory. Releases and growths of bins make it.
     corners: Corners<A>,
 }
 

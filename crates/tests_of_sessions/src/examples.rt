@@ -109,3 +109,19 @@ fn pack_a_session_with_the_best(rt: HostRuntime) -> Result<(), Fail> {
     session.add_bin("sheet", 4, 4, 1)?;
     pack_by_the_best(&rt, &mut session, &rects)
 }
+
+#[test]
+fn bin_grows(rt: HostRuntime) -> Result<(), Fail> {
+    let alloc = rt.alloc();
+    let mut session: Session<u32, u32> = Session::new(alloc, 0);
+    session.add_bin(1, 4, 10, 1)?;
+    session.grow_bin(&1, Axis::X, 6)?;
+    let sheet = session.bins().get(&1).ok_or("no such bin")?;
+    let old = BinSection::new(0, 0, 0, WidthHeightDepth::new(4, 10, 1));
+    let new = BinSection::new(4, 0, 0, WidthHeightDepth::new(6, 10, 1));
+    assert_eq!(rt;
+        sheet.available_bin_sections().as_slice(),
+        [old, new].as_slice()
+    );
+    Ok(())
+}

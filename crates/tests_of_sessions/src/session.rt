@@ -65,6 +65,7 @@ mod best;
 mod calls;
 mod clones;
 mod cut_plan;
+mod growing;
 mod hostile;
 mod large;
 mod no_memory;

@@ -1,10 +1,12 @@
 -- Sessions. Read Keeps first: what is always true of a session, call by call. The main lemma is in Transitions: each transition keeps it. Promise adds what the
 -- headline says of packings. Packing has what a packing is answered, by what was done on the bins.
--- Records has the list of the outstanding placements. Upkeep has what the calls that stand beside the commands keep.
+-- Records has the list of the outstanding placements. Upkeep has what the calls that stand beside the commands keep, Growing
+-- bins that grow.
 pub mod Keeps
 pub mod Numbering
 pub mod Records
 pub mod Transitions
+pub mod Growing
 pub mod Packing
 pub mod Stats
 pub mod Promise
