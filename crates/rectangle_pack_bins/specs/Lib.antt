@@ -1,2 +1,4 @@
 pub mod Pushes
 pub mod GrownBins
+pub mod PlacedAt
+pub mod private

@@ -12,8 +12,10 @@ ghost use Rattle.rectangle_pack_sections.specs.Keeping.{KeepCells};
 mod clearing;
 mod growing;
 mod placing;
+mod placing_at;
 mod texts;
 
+pub use crate::target_bin::placing_at::{cut_round, first_around};
 use rectangle_pack_lists::coalesce::{join_all, join_all_in, join_at};
 use rectangle_pack_lists::corners::Corners;
 use rectangle_pack_lists::free_list::plain::push_pieces;

@@ -68,7 +68,8 @@ impl Model for PackedLocation {
 }
 
 impl PackedLocation {
-    pub(crate) fn new(x: u32, y: u32, z: u32, whd: WidthHeightDepth) -> Self
+    /// The location with this corner and size; any numbers will do.
+    pub fn new(x: u32, y: u32, z: u32, whd: WidthHeightDepth) -> Self
         ensures { result ≡ record { x = x; y = y; z = z; whd = whd } }
     {
         PackedLocation {

@@ -1,5 +1,7 @@
--- Bins: SoundBins is for pushes, Growing for bins that grow, Trials for trials in one bin, Maps for bins in their map.
+-- Bins: SoundBins is for pushes, Growing for bins that grow, Trials for trials in one bin, Maps for bins in their map, RoundABox
+-- for a box at a corner of the caller's choice.
 pub mod SoundBins
 pub mod Growing
 pub mod Trials
 pub mod Maps
+pub mod RoundABox

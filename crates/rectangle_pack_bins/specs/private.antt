@@ -1,0 +1,2 @@
+-- Definitions that only the clauses of functions below `rectangle_pack` use, or of its private ones.
+pub mod Indices
