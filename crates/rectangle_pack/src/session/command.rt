@@ -49,6 +49,8 @@ pub enum SessionError {
     BinInUse,
     /// A side of the bin would exceed the greatest `u32`.
     TooLarge,
+    /// No free section of the bin holds the box there.
+    NotFree,
     /// A growth or a clone was refused.
     OutOfMemory,
 }
@@ -68,6 +70,7 @@ impl SessionError {
             SessionError::TooLarge => {
                 "A side of the bin would exceed the greatest number of 32 bits."
             }
+            SessionError::NotFree => "No free section holds the box there.",
             SessionError::OutOfMemory => "Out of memory.",
         }
     }
