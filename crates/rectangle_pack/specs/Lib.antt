@@ -22,6 +22,7 @@ pub use Rattle.rectangle_pack_lists.specs.Trials
 pub use Rattle.rectangle_pack_lists.specs.Joining
 pub use Rattle.rectangle_pack_bins.specs.Pushes
 pub use Rattle.rectangle_pack_bins.specs.GrownBins
+pub use Rattle.rectangle_pack_bins.specs.PlacedAt
 pub use Rattle.rectangle_pack_packing.specs.Orders
 pub use Rattle.rectangle_pack_packing.specs.Placed
 pub use Rattle.rectangle_pack_packing.specs.KeptBins
@@ -40,3 +41,4 @@ pub mod SessionBest
 pub mod PlanAnswers
 pub mod SessionTexts
 pub mod Upkeep
+pub mod PlacingAt

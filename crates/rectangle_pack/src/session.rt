@@ -18,6 +18,7 @@ mod growing;
 mod joining;
 mod laws;
 mod outstanding;
+mod placing_at;
 mod records;
 mod run;
 mod stats;

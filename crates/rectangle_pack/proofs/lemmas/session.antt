@@ -1,7 +1,7 @@
 -- Sessions. Read Keeps first: what is always true of a session, call by call. The main lemma is in Transitions: each transition keeps it. Promise adds what the
 -- headline says of packings. Packing has what a packing is answered, by what was done on the bins.
 -- Records has the list of the outstanding placements. Upkeep has what the calls that stand beside the commands keep, Growing
--- bins that grow.
+-- bins that grow, PlacingAt boxes at a corner of the caller's choice.
 pub mod Keeps
 pub mod Numbering
 pub mod Records
@@ -12,3 +12,4 @@ pub mod Stats
 pub mod Promise
 pub mod Best
 pub mod Upkeep
+pub mod PlacingAt
