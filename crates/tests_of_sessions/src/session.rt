@@ -70,6 +70,7 @@ mod hostile;
 mod large;
 mod no_memory;
 mod numbers;
+mod placing_at;
 mod refusals;
 mod release_order;
 mod releases;
