@@ -85,8 +85,8 @@ where
 }
 
 /// Takes the free section at the index, the first that the box is a part of, out of the list, and
-/// puts its pieces round the box that have cells at the end. Fails only when memory is refused, where
-/// the list has no room for five more, and leaves the bin as it was.
+/// puts its pieces round the box that have cells at the end. Fails only when memory is refused,
+/// where the list has no room for five more, and leaves the bin as it was.
 pub fn cut_round<A>(
     bin: &mut TargetBin<A>,
     index: usize,
