@@ -67,7 +67,9 @@ enum {
     /* Boxes are outstanding in the bin of the session. */
     RP_BIN_IN_USE = 13,
     /* A side of the bin would exceed 2^32 - 1. */
-    RP_TOO_LARGE = 14
+    RP_TOO_LARGE = 14,
+    /* No free section of the bin of the session holds the box there. */
+    RP_NOT_FREE = 15
 };
 
 /* Packs all boxes into the bins; placements[i] is where boxes[i] stands.

@@ -45,6 +45,7 @@ enum class Status : std::uint32_t {
     equal_groups = RP_EQUAL_GROUPS,
     bin_in_use = RP_BIN_IN_USE,
     too_large = RP_TOO_LARGE,
+    not_free = RP_NOT_FREE,
 };
 
 /// What a status means.
@@ -81,6 +82,8 @@ inline const char *text(Status status) noexcept
         return "placements are outstanding in the bin";
     case Status::too_large:
         return "a side of the bin would exceed 2^32 - 1";
+    case Status::not_free:
+        return "no free section of the bin holds the box there";
     }
     return "a status that this header does not know";
 }

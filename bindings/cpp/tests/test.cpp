@@ -76,7 +76,7 @@ static bool is_at(const rp::Outstanding &it, std::uint64_t number, std::uint32_t
 
 static void test_texts()
 {
-    for (std::uint32_t one = 0; one <= RP_TOO_LARGE; one++) {
+    for (std::uint32_t one = 0; one <= RP_NOT_FREE; one++) {
         for (std::uint32_t other = 0; other < one; other++)
             check(std::strcmp(rp::text(Status{one}), rp::text(Status{other})) != 0, "two statuses have one text");
         check(std::strcmp(rp::text(Status{one}), rp::text(Status{99})) != 0, "a status has no text");

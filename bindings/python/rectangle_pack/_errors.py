@@ -82,3 +82,9 @@ class TooLarge(PackError):
     """A side of the bin would exceed 2**32 - 1."""
 
     text = "A side of the bin would exceed the greatest number of 32 bits"
+
+
+class NotFree(PackError):
+    """No free section of the bin holds the box there."""
+
+    text = "No free section holds the box there"

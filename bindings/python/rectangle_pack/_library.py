@@ -9,8 +9,8 @@ from pathlib import Path
 from typing import TypeVar
 
 from ._errors import (
-    BinInUse, DuplicateBin, EqualGroups, NotEnoughBinSpace, NumbersUsedUp, OutOfMemory, PackError, TooLarge, TooMany, UnknownBin,
-    UnknownBox, UnknownHeuristic, UnknownPlacement,
+    BinInUse, DuplicateBin, EqualGroups, NotEnoughBinSpace, NotFree, NumbersUsedUp, OutOfMemory, PackError, TooLarge, TooMany,
+    UnknownBin, UnknownBox, UnknownHeuristic, UnknownPlacement,
 )
 
 
@@ -92,7 +92,7 @@ SHORT_ARRAY, NO_PLAN = 8, 9
 ERRORS: dict[int, type[PackError]] = {
     1: NotEnoughBinSpace, 2: OutOfMemory, 3: TooMany,
     4: DuplicateBin, 5: UnknownBin, 6: UnknownPlacement, 7: NumbersUsedUp,
-    10: UnknownHeuristic, 11: UnknownBox, 12: EqualGroups, 13: BinInUse, 14: TooLarge,
+    10: UnknownHeuristic, 11: UnknownBox, 12: EqualGroups, 13: BinInUse, 14: TooLarge, 15: NotFree,
 }
 
 

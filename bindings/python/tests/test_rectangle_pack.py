@@ -8,7 +8,7 @@ from unittest import mock
 
 import rectangle_pack
 from rectangle_pack import (
-    Bin, BinInUse, Box, DuplicateBin, EqualGroups, NotEnoughBinSpace, NumbersUsedUp, OutOfMemory, PackError, Placement,
+    Bin, BinInUse, Box, DuplicateBin, EqualGroups, NotEnoughBinSpace, NotFree, NumbersUsedUp, OutOfMemory, PackError, Placement,
     Section, TooLarge, TooMany, UnknownBin, UnknownBox, UnknownHeuristic, UnknownPlacement, pack,
 )
 
@@ -240,7 +240,7 @@ class Packings(unittest.TestCase):
 class Errors(unittest.TestCase):
     STATUSES = {
         1: NotEnoughBinSpace, 2: OutOfMemory, 3: TooMany, 4: DuplicateBin, 5: UnknownBin, 6: UnknownPlacement,
-        7: NumbersUsedUp, 10: UnknownHeuristic, 11: UnknownBox, 12: EqualGroups, 13: BinInUse, 14: TooLarge,
+        7: NumbersUsedUp, 10: UnknownHeuristic, 11: UnknownBox, 12: EqualGroups, 13: BinInUse, 14: TooLarge, 15: NotFree,
     }
 
     def test_each_has_its_text(self):
@@ -257,6 +257,7 @@ class Errors(unittest.TestCase):
             NumbersUsedUp: "The numbers of placements are used up.",
             BinInUse: "Placements are outstanding in the bin.",
             TooLarge: "A side of the bin would exceed the greatest number of 32 bits.",
+            NotFree: "No free section holds the box there.",
         }
         self.assertEqual(set(texts), set(self.STATUSES.values()))
         for error, text in texts.items():

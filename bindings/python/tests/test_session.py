@@ -8,8 +8,8 @@ from unittest import mock
 import rectangle_pack
 from .model import cells_of
 from rectangle_pack import (
-    Bin, BinInUse, Box, DuplicateBin, EqualGroups, Leaf, NotEnoughBinSpace, NumbersUsedUp, OutOfMemory, Outstanding, Section,
-    Session, Stats, TooLarge, TooMany, UnknownBin, UnknownBox, UnknownHeuristic, UnknownPlacement,
+    Bin, BinInUse, Box, DuplicateBin, EqualGroups, Leaf, NotEnoughBinSpace, NotFree, NumbersUsedUp, OutOfMemory, Outstanding,
+    Section, Session, Stats, TooLarge, TooMany, UnknownBin, UnknownBox, UnknownHeuristic, UnknownPlacement,
 )
 from .test_rectangle_pack import NAMES
 
@@ -375,7 +375,7 @@ class Refusals(unittest.TestCase):
     def test_each_status_has_its_error(self):
         statuses = {
             1: NotEnoughBinSpace, 2: OutOfMemory, 3: TooMany, 4: DuplicateBin, 5: UnknownBin, 6: UnknownPlacement,
-            7: NumbersUsedUp, 10: UnknownHeuristic, 11: UnknownBox, 12: EqualGroups, 13: BinInUse, 14: TooLarge,
+            7: NumbersUsedUp, 10: UnknownHeuristic, 11: UnknownBox, 12: EqualGroups, 13: BinInUse, 14: TooLarge, 15: NotFree,
         }
         with Session([Bin(1, 1)]) as session:
             for status, error in statuses.items():

@@ -255,6 +255,7 @@ fn refusal(status: u32) -> SessionError {
         EQUAL_GROUPS => SessionError::EqualGroups,
         BIN_IN_USE => SessionError::BinInUse,
         TOO_LARGE => SessionError::TooLarge,
+        NOT_FREE => SessionError::NotFree,
         _ => SessionError::TooMany,
     }
 }

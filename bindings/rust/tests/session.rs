@@ -215,6 +215,7 @@ fn errors_say_what_was_wrong() {
         (SessionError::NotEnoughBinSpace, "Not enough space to place all of the rectangles."),
         (SessionError::BinInUse, "Placements are outstanding in the bin."),
         (SessionError::TooLarge, "A side of the bin would exceed the greatest number of 32 bits."),
+        (SessionError::NotFree, "No free section holds the box there."),
         (SessionError::OutOfMemory, "Out of memory."),
         (SessionError::TooMany, "Too many bins or boxes."),
         (SessionError::EqualGroups, "A group is excluded with itself."),

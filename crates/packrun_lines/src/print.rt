@@ -151,6 +151,10 @@ pub fn refuse<W: Write>(error: SessionError, named: &[u8], out: &mut W) -> Resul
         }
         SessionError::BinInUse => print_bytes(b"refused: the bin is in use\n", out),
         SessionError::TooLarge => print_bytes(b"refused: the bin would be too large\n", out),
+        SessionError::NotFree => print_bytes(
+            b"refused: no free section holds the box there\n",
+            out,
+        ),
         SessionError::OutOfMemory => Err(Stop::NoMemory),
     }
 }

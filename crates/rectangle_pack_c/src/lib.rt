@@ -98,6 +98,8 @@ pub const RP_EQUAL_GROUPS: u32 = 12;
 pub const RP_BIN_IN_USE: u32 = 13;
 /// A side of the bin would exceed 2^32 - 1.
 pub const RP_TOO_LARGE: u32 = 14;
+/// No free section of the bin holds the box there.
+pub const RP_NOT_FREE: u32 = 15;
 
 // There are fewer bins and boxes than this, so that each index and their count is of 32 bits.
 const LIMIT: usize = 0x1_0000_0000;

@@ -14,7 +14,7 @@ ghost use Rattle.rectangle_pack_c.specs.Sessions.{ChangesAs, AreAsMany, PacksCol
 use super::collection::{RP_BEST, RP_VOLUME, RpCollection, fault};
 use super::handle::RpSession;
 use super::{
-    RP_BAD_LENGTHS, RP_BIN_IN_USE, RP_DONE, RP_DUPLICATE_BIN, RP_NOT_ENOUGH_SPACE,
+    RP_BAD_LENGTHS, RP_BIN_IN_USE, RP_DONE, RP_DUPLICATE_BIN, RP_NOT_ENOUGH_SPACE, RP_NOT_FREE,
     RP_NUMBERS_USED_UP, RP_OUT_OF_MEMORY, RP_TOO_LARGE, RP_UNKNOWN_BIN, RP_UNKNOWN_PLACEMENT,
     RpBox, RpPlacement, Written, pack_into,
 };
@@ -385,5 +385,6 @@ pub(crate) fn refusal(error: SessionError) -> u32
         SessionError::NumbersUsedUp => RP_NUMBERS_USED_UP,
         SessionError::BinInUse => RP_BIN_IN_USE,
         SessionError::TooLarge => RP_TOO_LARGE,
+        SessionError::NotFree => RP_NOT_FREE,
     }
 }

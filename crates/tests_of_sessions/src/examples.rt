@@ -2,8 +2,8 @@
 //! several functions.
 
 use rectangle_pack::{
-    Axis, BinSection, CutStep, GroupedRectsToPlace, Heuristic, RectToInsert, Session, SessionError,
-    WidthHeightDepth, contains_smallest_box, volume_heuristic,
+    Axis, BinSection, CutStep, GroupedRectsToPlace, Heuristic, PackedLocation, RectToInsert,
+    Session, SessionError, TargetBin, WidthHeightDepth, contains_smallest_box, volume_heuristic,
 };
 use std::alloc::{AllocError, Global};
 use std::process::Abort;
@@ -122,6 +122,37 @@ fn bin_grows(rt: HostRuntime) -> Result<(), Fail> {
     assert_eq!(rt;
         sheet.available_bin_sections().as_slice(),
         [old, new].as_slice()
+    );
+    Ok(())
+}
+
+#[test]
+fn knot_goes_into_a_bin(rt: HostRuntime) -> Result<(), Fail> {
+    let alloc = rt.alloc();
+    let mut bin = TargetBin::new(alloc, 10, 10, 1)?;
+    let knot = PackedLocation::new(4, 3, 0, WidthHeightDepth::new(2, 2, 1));
+    assert!(rt; bin.place_at(knot)?);
+    let left = BinSection::new(0, 0, 0, WidthHeightDepth::new(4, 10, 1));
+    let right = BinSection::new(6, 0, 0, WidthHeightDepth::new(4, 10, 1));
+    let below = BinSection::new(4, 0, 0, WidthHeightDepth::new(2, 3, 1));
+    let above = BinSection::new(4, 5, 0, WidthHeightDepth::new(2, 5, 1));
+    assert_eq!(rt;
+        bin.available_bin_sections().as_slice(),
+        [left, right, below, above].as_slice()
+    );
+    Ok(())
+}
+
+#[test]
+fn knot_goes_into_a_board(rt: HostRuntime) -> Result<(), Fail> {
+    let alloc = rt.alloc();
+    let mut session: Session<&'static str, &'static str> = Session::new(alloc, 0);
+    session.add_bin("board", 10, 10, 1)?;
+    let knot = PackedLocation::new(4, 3, 0, WidthHeightDepth::new(2, 2, 1));
+    assert_eq!(rt; session.place_at("board", "knot", knot)?, 0);
+    assert_eq!(rt;
+        session.place_at("board", "again", knot),
+        Err(SessionError::NotFree)
     );
     Ok(())
 }

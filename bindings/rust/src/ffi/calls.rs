@@ -129,6 +129,7 @@ pub(super) const NO_PLAN: u32 = 9;
 pub(super) const EQUAL_GROUPS: u32 = 12;
 pub(super) const BIN_IN_USE: u32 = 13;
 pub(super) const TOO_LARGE: u32 = 14;
+pub(super) const NOT_FREE: u32 = 15;
 
 /// Asks for the best heuristic of all.
 pub(crate) const BEST: u32 = 0xffff;

@@ -96,6 +96,8 @@ pub enum SessionError {
     BinInUse,
     /// A side of the bin would exceed the greatest `u32`.
     TooLarge,
+    /// No free section of the bin holds the box there.
+    NotFree,
     /// Memory was refused.
     OutOfMemory,
     /// There are 2^32 boxes or bins, or more.
@@ -114,6 +116,7 @@ impl fmt::Display for SessionError {
             SessionError::NotEnoughBinSpace => "Not enough space to place all of the rectangles.",
             SessionError::BinInUse => "Placements are outstanding in the bin.",
             SessionError::TooLarge => "A side of the bin would exceed the greatest number of 32 bits.",
+            SessionError::NotFree => "No free section holds the box there.",
             SessionError::OutOfMemory => "Out of memory.",
             SessionError::TooMany => "Too many bins or boxes.",
             SessionError::EqualGroups => "A group is excluded with itself.",

@@ -55,9 +55,8 @@ where
     }
 
     /// Joins the free sections of the bin until no two share a whole face, as
-    /// `TargetBin::coalesce_all` does. A bin without placements need not become one section, so
-    /// where all is released, a new session packs better. `UnknownBin` says that there is no such
-    /// bin. Takes no memory.
+    /// `TargetBin::coalesce_all` does. A bin without placements need not become one section;
+    /// `clear_bin` makes it one. `UnknownBin` says that there is no such bin. Takes no memory.
     pub fn coalesce_all(&mut self, id: &BinId) -> Result<(), SessionError>
         // Done: the bin is there, its list is one that the rule of the sweep allows, as `swept` of
         //   `TargetBin::coalesce_all` says it, and it counts as coalesced. All else stays.

@@ -34,12 +34,6 @@ impl<A: Allocator + Copy> TargetBin<A> {
     ///     [left, right, below, above].as_slice()
     /// );
     /// ```
-    ///
-    /// Its cells are no longer free.
-    ///
-    /// ```
-    /// assert!(rt; !bin.place_at(knot)?);
-    /// ```
     pub fn place_at(&mut self, location: PackedLocation) -> Result<bool, AllocError>
         // `true`: the first free section that the box is a part of is taken out of the list. Its
         //   pieces left of the box, right of it, below, above, in front and behind stand at the end

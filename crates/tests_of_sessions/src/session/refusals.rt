@@ -104,6 +104,10 @@ const ERRORS: &[(SessionError, &str)] = &[
         SessionError::TooLarge,
         "A side of the bin would exceed the greatest number of 32 bits.",
     ),
+    (
+        SessionError::NotFree,
+        "No free section holds the box there.",
+    ),
     (SessionError::OutOfMemory, "Out of memory."),
 ];
 

@@ -167,5 +167,5 @@ removed-entry {Id} {B} {bin_cmp} o id old new outstanding next there free remove
     ap (λ (bs : List (B × Bin)). record { bins = bs; outstanding = outstanding; next = next })
         (ap bins_of removed ∙ remove_entry-bins_of (is_at (bin_cmp id)) old),
   ),
-  IsSession-removed o id (bins_of old) (bins_of new) outstanding next (λ q. lookup-removed bin_cmp id old new q (seen q)) free h,
+  (IsSession-removed o id (bins_of old) (bins_of new) outstanding next (λ q. lookup-removed bin_cmp id old new q (seen q)) free h),
 )

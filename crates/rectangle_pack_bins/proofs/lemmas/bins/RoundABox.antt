@@ -142,9 +142,6 @@ pub read_first : (sections : List Cuboid) (box : Cuboid) (i : ℕ) (at : IsFirst
 read_first sections box i (first, at, is) d =
     ap (λ l. get_or l i d) at.splits ∙ rw (← is) (get_or-append_seam at.before first at.after d)
 
-pub within_first : (sections : List Cuboid) (box : Cuboid) (i : ℕ) → IsFirstAroundAt sections box i → i < length sections
-within_first sections box i (first, at, is) = omega (arith, is, ap length at.splits, length-append at.before (first ∷ at.after))
-
 pub removed_first : (sections : List Cuboid) (box : Cuboid) (i : ℕ) (at : IsFirstAroundAt sections box i) → remove sections i ≡ at.1.before ++ at.1.after
 removed_first sections box i (first, at, is) =
     let none : length at.before - length at.before ≡ 0 = omega arith in
