@@ -23,7 +23,7 @@ use std::alloc::{AllocError, Allocator};
 use std::marker::Model;
 use std::mem;
 
-// From how many sections, with the members to come, a list with an index is quicker than a plain one.
+// From how many sections, with the steps to come, a list with an index is quicker than a plain one.
 const LONG: usize = 1000;
 
 // How many sections may get an index for each box that is packed.
@@ -257,8 +257,8 @@ impl<A: Allocator + Copy> FreeList<A> {
     }
 }
 
-// Whether an index is worth it beside a list of `sections` sections, for a trial of `steps` members
-// in a packing of `boxes` boxes.
+// Whether an index is worth it beside a list of `sections` sections, for `steps` steps more in a
+// packing of `boxes` boxes.
 fn is_worth_it(sections: usize, steps: usize, boxes: usize) -> bool {
     sections.saturating_add(steps) >= LONG && sections / SECTIONS_A_BOX <= boxes
 }

@@ -101,9 +101,9 @@ pub fn stuck_at_once(sections: &[BinSection], members: &[RectToInsert]) -> Optio
 
 impl<A: Allocator + Copy> FreeList<A> {
     /// One trial. Its locations are left in `locations`, whose room is used for one trial after
-    /// another. A stuck trial is undone, and the room that was made stays. Room for all steps is
-    /// made once the first member has found a section, so a trial that is stuck at once takes no
-    /// memory. Fails only when memory is refused.
+    /// another. A stuck trial is undone, and the room that was made stays. Room is made only once a
+    /// member has found a section, so a trial that is stuck at once takes no memory. Fails only when
+    /// memory is refused.
     pub fn run_trial<R: Policy>(
         &mut self,
         members: &[RectToInsert],
