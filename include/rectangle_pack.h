@@ -2,7 +2,7 @@
    of boxes and keeps nothing; rectangle_pack_collection packs boxes that are in several groups, groups that may not share a
    bin, and by a heuristic of the caller's choice. A session keeps its bins from call to call: boxes are packed into them and
    released again. All calls are proved; what is proved of them stands beside them, and as their contracts in
-   crates/rectangle_pack_c/src (lib.rt, session.rt and reading.rt). C99 and C++.
+   crates/rectangle_pack_c/src (lib.rt, session.rt, upkeep.rt and reading.rt). C99 and C++.
 
    Sizes and corners are counted in cells. In two dimensions each depth is 1 and each z is 0. */
 #ifndef RECTANGLE_PACK_H
@@ -69,7 +69,9 @@ enum {
     /* A side of the bin would exceed 2^32 - 1. */
     RP_TOO_LARGE = 14,
     /* No free section of the bin of the session holds the box there. */
-    RP_NOT_FREE = 15
+    RP_NOT_FREE = 15,
+    /* There is no axis of this number. */
+    RP_UNKNOWN_AXIS = 16
 };
 
 /* Packs all boxes into the bins; placements[i] is where boxes[i] stands.
@@ -191,19 +193,21 @@ uint32_t rectangle_pack_collection(const rp_bin *bins, size_t bin_count, const r
 
    Each of these calls but the last answers a status, which is to be looked at. bindings/c/examples/session.c does so.
 
-   The caller names each bin by an id, any number. The session gives each box that it packs a number, by which the box is
-   released. Until then its placement is outstanding: the box stays where it is. What is free in a bin is kept as a list of
-   free sections, each of them a box of free cells. A box goes to the corner of the newest free section that holds it, and
-   what is left of that section is cut into new ones.
+   The caller names each bin by an id, any number. The session gives each box that it packs or places a number, by which the
+   box is released. Until then, or until its bin is cleared, its placement is outstanding: the box stays where it is. What is
+   free in a bin is kept as a list of free sections, each of them a box of free cells. A box goes to the corner of the newest
+   free section that holds it, or to the place that rectangle_pack_session_place_at is given, and what is left of that section
+   is cut into new ones.
 
    Proved of every session, after each call, whatever was called before and wherever memory is refused:
    - Each cell of each bin is in exactly one free section or outstanding placement, and each of these is inside the bin. So
      no two outstanding boxes share a cell, and no cell is lost.
    - A call that answers anything but RP_DONE leaves the session as it was and writes nothing, but for RP_SHORT_ARRAY the
      length of the list. RP_BAD_LENGTHS, RP_DUPLICATE_BIN, RP_UNKNOWN_BIN, RP_UNKNOWN_PLACEMENT, RP_UNKNOWN_HEURISTIC,
-     RP_UNKNOWN_BOX and RP_EQUAL_GROUPS come exactly under their conditions, where none that is looked at before comes; and
-     RP_NUMBERS_USED_UP, RP_SHORT_ARRAY and RP_NO_PLAN too, unless RP_OUT_OF_MEMORY is answered in their place.
-   - No number is given twice in a session: placements are numbered 0, 1, 2 and so on, in the order of packing.
+     RP_UNKNOWN_BOX, RP_EQUAL_GROUPS, RP_BIN_IN_USE, RP_TOO_LARGE, RP_NOT_FREE and RP_UNKNOWN_AXIS come exactly under their
+     conditions, where none that is looked at before comes; and RP_NUMBERS_USED_UP, RP_SHORT_ARRAY and RP_NO_PLAN too, unless
+     RP_OUT_OF_MEMORY is answered in their place.
+   - No number is given twice in a session: placements are numbered 0, 1, 2 and so on, in the order of packing and placing.
    - A session owns nothing that belongs to one thread, so it may go to another.
    Only tested: that RP_OUT_OF_MEMORY comes only where malloc or realloc answered NULL, and that free gives all memory
    back.
@@ -234,6 +238,12 @@ typedef struct rp_outstanding {
     rp_placement placement;
 } rp_outstanding;
 
+/* A free section of a bin, or where a box stands: the corner with the least coordinates, and the sides. */
+typedef struct rp_section {
+    uint32_t x, y, z;
+    uint32_t width, height, depth;
+} rp_section;
+
 /* A volume in cells: low + high * 2^64. In two dimensions high is 0. */
 typedef struct rp_volume {
     uint64_t low, high;
@@ -254,8 +264,8 @@ uint32_t rectangle_pack_session_new(rp_session *session);
    not freed: unlike free(NULL), that is a mistake. */
 void rectangle_pack_session_free(rp_session *session);
 
-/* Adds a bin of this size, also 0, under an id of the caller's choice. All of it is free. It stays until the session is
-   freed. RP_DONE, RP_DUPLICATE_BIN or RP_OUT_OF_MEMORY. */
+/* Adds a bin of this size, also 0, under an id of the caller's choice. All of it is free. It stays until it is taken out by
+   rectangle_pack_session_remove_bin, or the session is freed. RP_DONE, RP_DUPLICATE_BIN or RP_OUT_OF_MEMORY. */
 uint32_t rectangle_pack_session_add_bin(rp_session *session, uint32_t bin, uint32_t width, uint32_t height, uint32_t depth);
 
 /* Packs all boxes into what is free in the bins; placements[i] is where boxes[i] stands, with its number. RP_DONE,
@@ -299,7 +309,7 @@ uint32_t rectangle_pack_session_release(rp_session *session, uint64_t number);
 
 /* Joins free sections of a bin, two at a time, until no two share a whole face. A box goes into one free section, and not
    across two. A bin without boxes need not become one section: that depends on the order of releases and on where joins stand
-   between them. A new session has whole bins. RP_DONE or RP_UNKNOWN_BIN.
+   between them; rectangle_pack_session_clear_bin makes it one. RP_DONE or RP_UNKNOWN_BIN.
 
    Proved: the free cells are the same as before, and no two free sections of the bin share a whole face. */
 uint32_t rectangle_pack_session_coalesce_all(rp_session *session, uint32_t bin);
@@ -313,6 +323,35 @@ uint32_t rectangle_pack_session_coalesce_all(rp_session *session, uint32_t bin);
 
    Proved: which sections are joined, and that the free cells are the same as before. */
 uint32_t rectangle_pack_session_coalesce(rp_session *session, uint32_t bin, size_t index, size_t start, size_t end);
+
+/* Makes a bin whole again: it has one free section, which is all of it, and does not count as coalesced. Its placements are no
+   longer outstanding, and their numbers are not given again. RP_DONE, RP_UNKNOWN_BIN or RP_OUT_OF_MEMORY.
+
+   Proved: the bin is as a new bin of its size, and the other bins and their placements stay as they are. */
+uint32_t rectangle_pack_session_clear_bin(rp_session *session, uint32_t bin);
+
+/* Takes a bin out of the session, in which no box is outstanding. Its id may be used anew. RP_DONE; or, looked at in this order,
+   RP_UNKNOWN_BIN or RP_BIN_IN_USE. A bin in use is cleared first, or its boxes are released.
+
+   Proved: the bin is there no more, and all else stays as it is. */
+uint32_t rectangle_pack_session_remove_bin(rp_session *session, uint32_t bin);
+
+/* Makes a bin larger by so many cells, also 0, on axis 0, 1 or 2: x, y or z. What is new is one more free section, the newest of
+   the bin, the last of the list; where it has no cells there is none. RP_DONE; or, looked at first and in this order,
+   RP_UNKNOWN_AXIS, RP_UNKNOWN_BIN or RP_TOO_LARGE; or RP_OUT_OF_MEMORY.
+
+   Proved: all other free sections and all placements stay where they are. */
+uint32_t rectangle_pack_session_grow_bin(rp_session *session, uint32_t bin, uint32_t axis, uint32_t by);
+
+/* Places a box at a place of the caller's choice: location is its corner and its sides, also 0. number gets the number of the
+   placement, by which it is released. In rp_standing the index of the box is 0, as of a call with one box. One free section has
+   to hold the whole box: where it lies across several, rectangle_pack_session_coalesce_all before it might help. RP_DONE; or,
+   looked at first and in this order, RP_UNKNOWN_BIN, RP_NUMBERS_USED_UP or RP_NOT_FREE; or RP_OUT_OF_MEMORY. Nothing is written
+   to number where the answer is not RP_DONE.
+
+   Proved: the box is outstanding there, under a number that was not given before, and what was outstanding before stays where
+   it is. */
+uint32_t rectangle_pack_session_place_at(rp_session *session, uint32_t bin, const rp_section *location, uint64_t *number);
 
 /* Writes what is free and what is placed in a bin, and leaves the session as it is. RP_DONE or RP_UNKNOWN_BIN.
 
@@ -328,14 +367,8 @@ uint32_t rectangle_pack_session_stats(rp_session *session, uint32_t bin, rp_stat
    with an array of length 0. Only rectangle_pack_session_cut_plan takes memory, and makes a whole plan each time, also where the
    array is too short. */
 
-/* A free section of a bin, or where a box stands: the corner with the least coordinates, and the sides. */
-typedef struct rp_section {
-    uint32_t x, y, z;
-    uint32_t width, height, depth;
-} rp_section;
-
 /* An outstanding placement: its number; the index of its box among those of the call that packed it, for a member box_count plus
-   its own index; its bin; and where it stands there. */
+   its own index, and 0 for a box of rectangle_pack_session_place_at; its bin; and where it stands there. */
 typedef struct rp_standing {
     uint64_t number;
     uint32_t index, bin;
@@ -365,12 +398,12 @@ uint32_t rectangle_pack_session_outstanding(rp_session *session, rp_standing *pl
    RP_SHORT_ARRAY, RP_NO_PLAN, RP_UNKNOWN_BIN or RP_OUT_OF_MEMORY.
 
    Proved: each part in which there are two free sections or boxes with cells, or more, is cut at its first open plane, by axis
-   x, y, z and then by the least place; and RP_NO_PLAN comes only where no straight cuts leave these sections and boxes. Until
-   sections of the bin are joined it does not come. */
+   x, y, z and then by the least place; and RP_NO_PLAN comes only where no straight cuts leave these sections and boxes. While
+   rectangle_pack_session_was_coalesced writes 0 of the bin it does not come. */
 uint32_t rectangle_pack_session_cut_plan(rp_session *session, uint32_t bin, rp_cut_step *steps, size_t length, size_t *count);
 
-/* Writes 1 where a call that joins sections was done for the bin, also if it joined nothing, else 0. RP_DONE or
-   RP_UNKNOWN_BIN. */
+/* Writes 1 where a call that joins sections was done for the bin since it was added or last cleared, also if it joined nothing,
+   else 0. RP_DONE or RP_UNKNOWN_BIN. */
 uint32_t rectangle_pack_session_was_coalesced(rp_session *session, uint32_t bin, uint32_t *coalesced);
 
 /* The number that the next placement gets, or 2^64 - 1 where numbers are used up. */

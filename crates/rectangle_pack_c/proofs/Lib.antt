@@ -8,3 +8,4 @@ pub mod FaultLemmas
 pub mod PlacedLemmas
 pub mod AnswerLemmas
 pub mod SessionLemmas
+pub mod UpkeepLemmas

@@ -5,4 +5,5 @@ pub mod Answers
 pub mod Handle
 pub mod Reading
 pub mod Sessions
+pub mod Upkeep
 pub mod private

@@ -40,8 +40,8 @@ TellsSections state bin status old new old_count new_count =
     MatchOption (lookup (is_at (nat_cmp bin)) state.bins) ((status ≡ 5) × (new ≡ old) × (new_count ≡ old_count))
     (λ (b : Bin). Tells (map section_of b.sections) status old new new_count)
 
--- 1 is written where a call that joins sections was done for the bin, else 0; or the bin is not there
--- (`RP_UNKNOWN_BIN`), and nothing is written
+-- 1 is written where the bin counts as coalesced, else 0; or the bin is not there (`RP_UNKNOWN_BIN`), and nothing is
+-- written
 abbrev pub TellsCoalesced : State ℕ ℕ → (bin status old new : ℕ) → Type 0
 TellsCoalesced state bin status old new =
     MatchOption (lookup (is_at (nat_cmp bin)) state.bins) ((status ≡ 5) × (new ≡ old))

@@ -21,6 +21,7 @@ mod reading;
 mod session;
 #[cfg(test)]
 mod tests;
+mod upkeep;
 
 use collection::{RP_BEST, RP_VOLUME, RpCollection, collection_of, fault, number_of, pack_asked};
 use rectangle_pack::{Outstanding, Session, SessionError};
@@ -100,6 +101,8 @@ pub const RP_BIN_IN_USE: u32 = 13;
 pub const RP_TOO_LARGE: u32 = 14;
 /// No free section of the bin holds the box there.
 pub const RP_NOT_FREE: u32 = 15;
+/// There is no axis of this number.
+pub const RP_UNKNOWN_AXIS: u32 = 16;
 
 // There are fewer bins and boxes than this, so that each index and their count is of 32 bits.
 const LIMIT: usize = 0x1_0000_0000;

@@ -39,7 +39,7 @@ pub struct RpStanding {
     /// Its number, by which it is released.
     pub number: u64,
     /// The index of its box among those of the call that packed it; of a member, the number of boxes
-    /// and its own index.
+    /// and its own index; of a box that was placed at a location, 0.
     pub index: u32,
     /// The id of its bin.
     pub bin: u32,
@@ -219,9 +219,9 @@ pub extern "C" fn rectangle_pack_session_outstanding(
     answer
 }
 
-/// Writes 1 where a bin's sections were joined, by either call, also where nothing was there to
-/// join, else 0. `RP_DONE`, or `RP_UNKNOWN_BIN` where there is no such bin, and then nothing is
-/// written. Takes no memory, and leaves the session as it was.
+/// Writes 1 where a bin's sections were joined, by either call, since it was added or last cleared,
+/// also where nothing was there to join, else 0. `RP_DONE`, or `RP_UNKNOWN_BIN` where there is no
+/// such bin, and then nothing is written. Takes no memory, and leaves the session as it was.
 #[unsafe(no_mangle)]
 pub extern "C" fn rectangle_pack_session_was_coalesced(
     alloc: Global,
@@ -230,9 +230,9 @@ pub extern "C" fn rectangle_pack_session_was_coalesced(
     coalesced: &mut u32,
 ) -> u32
     requires made { IsSome session.old.state }
-    // `RP_DONE`: the bin is there, and 1 is written where a call that joins sections was done for
-    //   it, else 0. `RP_UNKNOWN_BIN`: it is not there, and nothing is written. No other status is
-    //   answered. [rectangle_pack_session_was_coalesced.answer_is_turned]
+    // `RP_DONE`: the bin is there, and 1 is written where it counts as coalesced, else 0.
+    //   `RP_UNKNOWN_BIN`: it is not there, and nothing is written. No other status is answered.
+    //   [rectangle_pack_session_was_coalesced.answer_is_turned]
     ensures told { IfSome session.old.state (λ (state : State ℕ ℕ).
         TellsCoalesced state bin result coalesced.old coalesced.new) }
     ensures unchanged { session.new.state ≡ session.old.state }

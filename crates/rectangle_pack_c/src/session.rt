@@ -363,7 +363,7 @@ fn parted(cells: u128) -> RpVolume
 }
 
 // The status of an answer.
-fn status(answer: &Result<(), SessionError>) -> u32
+pub(crate) fn status(answer: &Result<(), SessionError>) -> u32
     ensures { result ≡ reply_status (reply_of answer.now) }
 {
     match answer {

@@ -11,6 +11,7 @@ mod large;
 mod memory;
 mod reading;
 mod session;
+mod upkeep;
 
 const NOWHERE: RpPlacement = RpPlacement {
     bin: 9,

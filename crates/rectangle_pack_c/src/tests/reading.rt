@@ -49,7 +49,7 @@ fn numbers(section: &RpSection) -> [u32; 6] {
 
 // What is answered where the free sections of a bin go to an array of `room` entries, at most
 // three: the status, the count, and the first two.
-fn sections(
+pub(super) fn sections(
     alloc: Global,
     session: &mut RpSession,
     bin: u32,
@@ -67,7 +67,7 @@ fn sections(
 
 // What is answered where the outstanding placements go to an array of `room` entries, at most two:
 // the status, the count, and the first: its number, box and bin, and where it stands.
-fn outstanding(
+pub(super) fn outstanding(
     alloc: Global,
     session: &mut RpSession,
     room: usize,
@@ -131,11 +131,11 @@ fn was_coalesced(alloc: Global, session: &mut RpSession, bin: u32) -> (u32, u32)
     (status, was)
 }
 
-const REST: [u32; 6] = [4, 0, 0, 6, 10, 1];
+pub(super) const REST: [u32; 6] = [4, 0, 0, 6, 10, 1];
 
-const STRIP: [u32; 6] = [0, 0, 0, 4, 10, 1];
+pub(super) const STRIP: [u32; 6] = [0, 0, 0, 4, 10, 1];
 
-const WHOLE: [u32; 6] = [0, 0, 0, 10, 10, 1];
+pub(super) const WHOLE: [u32; 6] = [0, 0, 0, 10, 10, 1];
 
 const NINES: [u32; 6] = [9; 6];
 
