@@ -46,6 +46,7 @@ enum class Status : std::uint32_t {
     bin_in_use = RP_BIN_IN_USE,
     too_large = RP_TOO_LARGE,
     not_free = RP_NOT_FREE,
+    unknown_axis = RP_UNKNOWN_AXIS,
 };
 
 /// What a status means.
@@ -84,6 +85,8 @@ inline const char *text(Status status) noexcept
         return "a side of the bin would exceed 2^32 - 1";
     case Status::not_free:
         return "no free section of the bin holds the box there";
+    case Status::unknown_axis:
+        return "there is no axis of this number";
     }
     return "a status that this header does not know";
 }
@@ -197,8 +200,8 @@ struct Outstanding {
     std::uint32_t x, y, z;
 };
 
-/// An outstanding placement: its number; the index of its box in the call that packed it, where members stand behind the boxes;
-/// its bin; and where it stands there.
+/// An outstanding placement: its number; the index of its box in the call that packed it, where members stand behind the boxes,
+/// and 0 for a box of place_at; its bin; and where it stands there.
 struct Standing {
     PlacementNumber number;
     std::uint32_t index;
@@ -206,7 +209,7 @@ struct Standing {
     Section section;
 };
 
-/// The axis that a straight cut is at right angles to, or leaf for a part that is not cut.
+/// The axis that a straight cut is at right angles to, or leaf for a part that is not cut; the axis on which a bin grows.
 enum class Axis : std::uint32_t { x = 0, y = 1, z = 2, leaf = RP_LEAF };
 
 /// A step of a cutting plan: a straight cut across the whole part, so many cells from the corner of the bin. The plan of the
@@ -374,6 +377,28 @@ public:
         detail::check(::rectangle_pack_session_coalesce(at(), number(id), index, start, end));
     }
 
+    /// Makes a bin whole again: all of it is one free section, its boxes are no longer outstanding, and it does not count as
+    /// coalesced.
+    void clear_bin(BinId id) { detail::check(::rectangle_pack_session_clear_bin(at(), number(id))); }
+
+    /// Takes a bin out of the session. No box may be outstanding in it.
+    void remove_bin(BinId id) { detail::check(::rectangle_pack_session_remove_bin(at(), number(id))); }
+
+    /// Makes a bin larger by so many cells on an axis: what is new is its newest free section. On Axis::leaf none grows.
+    void grow_bin(BinId id, Axis axis, std::uint32_t by)
+    {
+        detail::check(::rectangle_pack_session_grow_bin(at(), number(id), static_cast<std::uint32_t>(axis), by));
+    }
+
+    /// Places a box at a place of the caller's choice, its corner and its sides, which one free section has to hold: the number
+    /// of the placement. Where this throws, the session is as it was.
+    PlacementNumber place_at(BinId id, const Section &location)
+    {
+        std::uint64_t placement = 0;
+        detail::check(::rectangle_pack_session_place_at(at(), number(id), &location, &placement));
+        return PlacementNumber{placement};
+    }
+
     /// What is free and what is placed in a bin.
     Stats stats(BinId id) const
     {
@@ -422,7 +447,7 @@ public:
         }
     }
 
-    /// Whether a call that joins sections was done for the bin, also if it joined nothing.
+    /// Whether a call that joins sections was done for the bin since it was added or last cleared, also if it joined nothing.
     bool was_coalesced(BinId id) const
     {
         std::uint32_t coalesced = 0;

@@ -76,7 +76,7 @@ static bool is_at(const rp::Outstanding &it, std::uint64_t number, std::uint32_t
 
 static void test_texts()
 {
-    for (std::uint32_t one = 0; one <= RP_NOT_FREE; one++) {
+    for (std::uint32_t one = 0; one <= RP_UNKNOWN_AXIS; one++) {
         for (std::uint32_t other = 0; other < one; other++)
             check(std::strcmp(rp::text(Status{one}), rp::text(Status{other})) != 0, "two statuses have one text");
         check(std::strcmp(rp::text(Status{one}), rp::text(Status{99})) != 0, "a status has no text");
@@ -171,6 +171,35 @@ static void test_session()
     session.coalesce_all(BinId{3});
     check(session.was_coalesced(BinId{3}), "a bin was not coalesced");
     check(session.next_number() == rp::PlacementNumber{1}, "a number is given twice");
+}
+
+static void test_upkeep_of_a_session()
+{
+    rp::Session session;
+    const BinId id{7}, none{9};
+    session.add_bin(id, rp::bin(4, 10));
+    session.grow_bin(id, rp::Axis::x, 6);
+    check(equal(session.free_sections(id).back(), {4, 0, 0, 6, 10, 1}), "what is new is another section");
+    must_be(Status::unknown_axis, [&] { session.grow_bin(none, rp::Axis::leaf, 0); }, "a bin grows on no axis");
+    must_be(Status::unknown_bin, [&] { session.grow_bin(none, rp::Axis::y, UINT32_MAX); }, "grow_bin knows a bin");
+    must_be(Status::too_large, [&] { session.grow_bin(id, rp::Axis::y, UINT32_MAX - 9); }, "a side has 2^32 cells");
+
+    const rp::Section knot{5, 3, 0, 2, 2, 1};
+    check(session.place_at(id, knot) == rp::PlacementNumber{0}, "a number is another");
+    const std::vector<rp::Standing> standing = session.outstanding();
+    check(standing.size() == 1 && standing[0].index == 0 && equal(standing[0].section, knot), "a knot stands elsewhere");
+    must_be(Status::unknown_bin, [&] { session.place_at(none, knot); }, "place_at knows a bin");
+    must_be(Status::not_free, [&] { session.place_at(id, knot); }, "a box stands on another");
+
+    must_be(Status::bin_in_use, [&] { session.remove_bin(id); }, "a bin is taken out under its box");
+    session.coalesce_all(id);
+    session.clear_bin(id);
+    check(session.outstanding().empty() && session.free_sections(id).size() == 1, "a bin is not cleared");
+    check(!session.was_coalesced(id) && session.next_number() == rp::PlacementNumber{1}, "a bin is not cleared as it should");
+    session.remove_bin(id);
+    check(session.bins().empty(), "a bin is not taken out");
+    must_be(Status::unknown_bin, [&] { session.clear_bin(id); }, "clear_bin knows a bin");
+    must_be(Status::unknown_bin, [&] { session.remove_bin(id); }, "remove_bin knows a bin");
 }
 
 static void test_session_collections()
@@ -272,6 +301,7 @@ static void test_refused_memory()
     memory([&] { session.pack(boxes); }, "a session packs without memory");
     memory([&] { session.pack(rp::Collection{boxes}); }, "a session packs a collection without memory");
     memory([&] { session.cut_plan(BinId{0}); }, "a plan is made of nothing");
+    memory([&] { session.place_at(BinId{0}, {4, 0, 0, 1, 1, 1}); }, "a box is placed without memory");
     check(session.outstanding().size() == 1 && session.bins().size() == 1, "a refusal changes a session");
     session.release(places[0].number);
 }
@@ -310,6 +340,7 @@ int main()
     test_lists();
     test_collections();
     test_session();
+    test_upkeep_of_a_session();
     test_session_collections();
     test_refusals_of_a_session();
     test_no_plan();
