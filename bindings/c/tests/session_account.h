@@ -8,8 +8,9 @@
 /* So many commands are given to a session, and each packs so many boxes and members at most. */
 enum { COMMANDS = 30, PACKED = 10, STANDING = COMMANDS * PACKED };
 
-/* A box that is placed leaves at most three free sections in place of one, and its release one more. Behind the list there is
-   room to see that nothing is written past it. */
+/* A box that is packed leaves at most three free sections in place of one, and its release one more; a bin that grows has one
+   more. A box that is placed leaves at most six, and no other box comes with its command. Behind the list there is room to see
+   that nothing is written past it. */
 typedef char there_is_room_for_sections[1 + 3 * STANDING + 2 <= SECTIONS ? 1 : -1];
 
 /* The ids of the bins, in no order. */
@@ -60,6 +61,15 @@ static size_t position_of(const account *now, uint64_t number)
 static rp_section section_of(const standing *it)
 {
     return section_at(&it->at.placement, &it->box);
+}
+
+/* Whether a box stands in the bin of this index. */
+static int is_in_use(const account *now, size_t bin)
+{
+    for (size_t i = 0; i < now->count; i++)
+        if (now->placed[i].at.placement.bin == ids[bin])
+            return 1;
+    return 0;
 }
 
 static int are_same(const rp_section *one, const rp_section *other)

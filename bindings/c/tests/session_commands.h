@@ -5,11 +5,13 @@
 
 #include "session_account.h"
 #include "session_reading.h"
+#include "session_upkeep.h"
 
-enum kind { ADD_BIN, PACK, PACK_COLLECTION, RELEASE, COALESCE, COALESCE_ALL, KINDS };
+enum kind { ADD_BIN, PACK, PACK_COLLECTION, RELEASE, COALESCE, COALESCE_ALL, CLEAR_BIN, REMOVE_BIN, GROW_BIN, PLACE_AT, KINDS };
 
 /* A command. The bin is an index in ids. Which number is released, pick chooses from those that were given by then, unless it
-   is NEVER_GIVEN. A section is joined with those of a range. */
+   is NEVER_GIVEN; and by how much a bin grows, from what keeps it small enough, unless it is TOO_MUCH. A section is joined with
+   those of a range. A box is placed at a place. */
 typedef struct command {
     enum kind kind;
     size_t bin;
@@ -17,6 +19,8 @@ typedef struct command {
     request asked;
     uint64_t pick;
     size_t section, start, stop;
+    uint32_t axis;
+    rp_section place;
 } command;
 
 /* What a command answered, and after it the statistics of all bins, and a number made from all free sections. */
@@ -50,6 +54,12 @@ static int packs(const command *it)
 static uint64_t number_to_release(const command *it, const account *now)
 {
     return it->pick == NEVER_GIVEN ? NEVER_GIVEN : it->pick % (now->next + 2);
+}
+
+/* By how many cells a bin grows. */
+static uint32_t growth_of(const command *it, const account *now)
+{
+    return growth(&now->bins[it->bin], it->axis, it->pick);
 }
 
 static uint32_t pack(rp_session *session, const command *it, answer *said)
@@ -87,6 +97,14 @@ static uint32_t perform(rp_session *session, const command *it, const account *n
         return rectangle_pack_session_coalesce(session, ids[it->bin], it->section, it->start, it->stop);
     case COALESCE_ALL:
         return rectangle_pack_session_coalesce_all(session, ids[it->bin]);
+    case CLEAR_BIN:
+        return rectangle_pack_session_clear_bin(session, ids[it->bin]);
+    case REMOVE_BIN:
+        return rectangle_pack_session_remove_bin(session, ids[it->bin]);
+    case GROW_BIN:
+        return rectangle_pack_session_grow_bin(session, ids[it->bin], it->axis, growth_of(it, now));
+    case PLACE_AT:
+        return rectangle_pack_session_place_at(session, ids[it->bin], &it->place, &said->places[0].number);
     default:
         return pack(session, it, said);
     }
@@ -102,18 +120,31 @@ static uint32_t expected(const command *it, const account *now, outlook *next)
         return position_of(now, number_to_release(it, now)) < now->count ? RP_DONE : RP_UNKNOWN_PLACEMENT;
     case COALESCE:
     case COALESCE_ALL:
+    case CLEAR_BIN:
         return now->has_bin[it->bin] ? RP_DONE : RP_UNKNOWN_BIN;
+    case REMOVE_BIN:
+        return status_of_removing(now, it->bin);
+    case GROW_BIN:
+        return status_of_growing(now, it->bin, it->axis, growth_of(it, now));
+    case PLACE_AT:
+        return status_of_placing(now, it->bin, &it->place);
     default:
         shelve(&next->left, now);
         return answer_of(&it->asked, &next->left, &next->packed);
     }
 }
 
-/* Whether a command may want memory: to join sections takes none, nor to pack nothing where nothing is excluded. */
+static int takes_no_memory(const command *it)
+{
+    return it->kind == COALESCE || it->kind == COALESCE_ALL || it->kind == REMOVE_BIN;
+}
+
+/* Whether a command may want memory: to join sections or to take out a bin takes none, nor to pack nothing where nothing is
+   excluded. */
 static int may_want(const command *it)
 {
     const request *asked = &it->asked;
-    if (it->kind == COALESCE || it->kind == COALESCE_ALL)
+    if (takes_no_memory(it))
         return 0;
     return !packs(it) || asked->box_count + asked->exclusion_count > 0 || asked->heuristic == RP_BEST;
 }
@@ -123,10 +154,16 @@ static void look_ahead(const command *it, const account *now, outlook *next)
 {
     for (size_t i = 0; i < BINS; i++)
         copy_sections(&next->free[i], packs(it) && now->has_bin[i] ? free_on(&next->left, ids[i]) : &now->free[i]);
-    if (it->kind == ADD_BIN) {
-        rp_section whole = whole_of(&it->size);
-        add_section(&next->free[it->bin], &whole);
-    }
+    if (it->kind == ADD_BIN)
+        make_whole(&next->free[it->bin], &it->size);
+    if (it->kind == CLEAR_BIN)
+        make_whole(&next->free[it->bin], &now->bins[it->bin]);
+    if (it->kind == REMOVE_BIN)
+        next->free[it->bin].count = 0;
+    if (it->kind == GROW_BIN)
+        add_what_is_new(&next->free[it->bin], &now->bins[it->bin], it->axis, growth_of(it, now));
+    if (it->kind == PLACE_AT)
+        cut_round(&next->free[it->bin], &it->place);
     if (it->kind == RELEASE) {
         const standing *released = &now->placed[position_of(now, number_to_release(it, now))];
         rp_section section = section_of(released);
@@ -189,12 +226,6 @@ static void take_up_packing(account *now, const outlook *next, const answer *sai
     now->next += packed->count;
 }
 
-/* Strikes a placement from the account. */
-static void strike(account *now, size_t position)
-{
-    now->count--;
-    memmove(&now->placed[position], &now->placed[position + 1], (now->count - position) * sizeof *now->placed);
-}
 
 /* Takes up in the account what was done. */
 static void take_up(account *now, const command *it, const outlook *next, const answer *said)
@@ -210,6 +241,19 @@ static void take_up(account *now, const command *it, const outlook *next, const 
     case COALESCE:
     case COALESCE_ALL:
         now->was_coalesced[it->bin] = 1;
+        break;
+    case CLEAR_BIN:
+        empty_bin(now, it->bin);
+        break;
+    case REMOVE_BIN:
+        now->has_bin[it->bin] = now->was_coalesced[it->bin] = 0;
+        now->bins[it->bin] = (rp_bin){0, 0, 0};
+        break;
+    case GROW_BIN:
+        *side_of(&now->bins[it->bin], it->axis) += growth_of(it, now);
+        break;
+    case PLACE_AT:
+        take_up_placing(now, it->bin, &it->place, said->places[0].number);
         break;
     default:
         check_packed(it, now, &next->packed, said);
@@ -265,7 +309,7 @@ static int obey(rp_session *session, const command *it, account *now, answer *sa
     uint32_t right = expected(it, now, &next);
     said->status = perform(session, it, now, said);
     int wanted = said->status == RP_OUT_OF_MEMORY;
-    check((it->kind != COALESCE && it->kind != COALESCE_ALL) || requests == before, "coalescing takes memory");
+    check(!takes_no_memory(it) || requests == before, "a command that needs no memory takes some");
     if (wanted) {
         check(refused && may_want(it), "want of memory is answered where all was there");
         check_nothing_done(session, now, said);

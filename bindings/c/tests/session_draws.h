@@ -27,6 +27,24 @@ static void draw_join(command *it)
     it->stop = draw_index();
 }
 
+/* An axis, or now and then what is none. */
+static void draw_growth(command *it)
+{
+    it->axis = within(0, 15) == 15 ? AXES : within(0, AXES - 1);
+    it->pick = within(0, 3) == 3 ? TOO_MUCH : within(0, UINT16_MAX);
+}
+
+/* A box of few cells, or of none, at a place in the largest bin. */
+static void draw_place(command *it, uint32_t depth)
+{
+    it->place.x = within(0, SIDE - 1);
+    it->place.y = within(0, SIDE - 1);
+    it->place.z = within(0, depth - 1);
+    it->place.width = within(0, 3);
+    it->place.height = within(0, 3);
+    it->place.depth = depth > 1 ? within(0, 3) : 1;
+}
+
 /* A command of this kind, for bins that are no deeper than this. */
 static void draw_command(command *it, enum kind kind, uint32_t depth)
 {
@@ -51,6 +69,10 @@ static void draw_command(command *it, enum kind kind, uint32_t depth)
             draw_bin(it, depth);
         if (kind == COALESCE)
             draw_join(it);
+        if (kind == GROW_BIN)
+            draw_growth(it);
+        if (kind == PLACE_AT)
+            draw_place(it, depth);
     }
 }
 

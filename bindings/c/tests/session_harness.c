@@ -14,7 +14,7 @@
 #include "session_commands.h"
 #include "session_draws.h"
 
-enum { SCRIPTS = 40, STATUSES = 13 };
+enum { SCRIPTS = 50, STATUSES = RP_UNKNOWN_AXIS + 1 };
 
 /* Reads all plans, with refusals of their own. Their requests are not counted among those of the script. */
 static void read_plans(rp_session *session, const account *now)
@@ -79,8 +79,9 @@ static long run_each(const command *script, answer *answers)
 /* The first command adds a bin, so that there is one to pack into. */
 static void draw_script(command *script)
 {
-    static const enum kind kinds[] = {ADD_BIN, ADD_BIN, PACK, PACK, PACK_COLLECTION, PACK_COLLECTION, PACK_COLLECTION,
-                                      RELEASE, RELEASE, RELEASE, COALESCE, COALESCE, COALESCE_ALL};
+    static const enum kind kinds[] = {ADD_BIN, ADD_BIN, ADD_BIN, PACK, PACK, PACK_COLLECTION, PACK_COLLECTION, PACK_COLLECTION,
+                                      PACK_COLLECTION, RELEASE, RELEASE, RELEASE, COALESCE, COALESCE, COALESCE_ALL, CLEAR_BIN,
+                                      REMOVE_BIN, GROW_BIN, GROW_BIN, PLACE_AT, PLACE_AT};
     uint32_t depth = within(0, 1) ? SIDE : 1;
     for (size_t i = 0; i < COMMANDS; i++)
         draw_command(&script[i], i == 0 ? ADD_BIN : kinds[within(0, sizeof kinds / sizeof *kinds - 1)], depth);
@@ -164,13 +165,16 @@ static void check_seen(const long *seen, long wanted, const long *done_by, const
     check(seen[RP_BAD_LENGTHS] > 5 && seen[RP_DUPLICATE_BIN] > 5, "the drawn commands are refused too seldom");
     check(seen[RP_UNKNOWN_BIN] > 5 && seen[RP_UNKNOWN_PLACEMENT] > 5, "the drawn commands name too little that is unknown");
     check(seen[RP_UNKNOWN_HEURISTIC] > 5 && seen[RP_UNKNOWN_BOX] > 5 && seen[RP_EQUAL_GROUPS] > 5, "too little is wrong");
+    check(seen[RP_BIN_IN_USE] > 5 && seen[RP_TOO_LARGE] > 5, "bins are in use or too large too seldom");
+    check(seen[RP_NOT_FREE] > 5 && seen[RP_UNKNOWN_AXIS] > 5, "too few places are not free, or too few axes unknown");
     check(winners > 2, "too few heuristics are the best");
     check(taken_up > 10 && short_arrays > 100 && plans_wanting > 100, "what is read of the drawn sessions shows too little");
 }
 
 int main(void)
 {
-    static const uint32_t refusals[] = {RP_BAD_LENGTHS, RP_DUPLICATE_BIN, RP_UNKNOWN_BIN, RP_UNKNOWN_PLACEMENT};
+    static const uint32_t refusals[] = {RP_BAD_LENGTHS, RP_DUPLICATE_BIN, RP_UNKNOWN_BIN, RP_UNKNOWN_PLACEMENT,
+                                        RP_BIN_IN_USE, RP_TOO_LARGE, RP_NOT_FREE, RP_UNKNOWN_AXIS};
     static const uint32_t mistakes[] = {RP_UNKNOWN_HEURISTIC, RP_UNKNOWN_BOX, RP_EQUAL_GROUPS};
     static command script[COMMANDS];
     static answer answers[COMMANDS];
@@ -194,7 +198,7 @@ int main(void)
     }
     check_seen(seen, wanted, done_by, best_by);
     printf("sessions: %ld commands done, %ld without space, %ld refused by name, %ld wrong; memory was wanted %ld times\n",
-           seen[RP_DONE], seen[RP_NOT_ENOUGH_SPACE], total(seen, refusals, 4), total(seen, mistakes, 3), wanted);
+           seen[RP_DONE], seen[RP_NOT_ENOUGH_SPACE], total(seen, refusals, 8), total(seen, mistakes, 3), wanted);
     printf("reading: %ld arrays too short, %ld times no plan, %ld times no memory for a plan; joins took up %ld sections\n",
            short_arrays, no_plans, plans_wanting, taken_up);
     return 0;
