@@ -5,8 +5,8 @@
     >>> packing["cap"]
     Placement(name='cap', group='hats', bin='page', x=0, y=20, z=0, width=5, height=5, depth=1)
 
-A Session keeps its bins from packing to packing, and releases boxes again. It lists and joins what is free, and plans the
-cuts that part a bin.
+A Session keeps its bins from packing to packing, and releases boxes again. It lists and joins what is free, plans the cuts that
+part a bin, takes boxes at places of your choice, and has bins cleared, made larger and removed.
 
 Bins, boxes and groups have names: any values that a dict takes as keys. A list in place of a mapping means that the names are
 the indices.
@@ -16,7 +16,7 @@ tools/build_c.sh writes."""
 from ._cuts import Axis, Cut, CutNode, CutStep, CutTree, Leaf
 from ._errors import (
     BinInUse, DuplicateBin, EqualGroups, NotEnoughBinSpace, NotFree, NumbersUsedUp, OutOfMemory, PackError, TooLarge, TooMany,
-    UnknownBin, UnknownBox, UnknownHeuristic, UnknownPlacement,
+    UnknownAxis, UnknownBin, UnknownBox, UnknownHeuristic, UnknownPlacement,
 )
 from ._pack import pack
 from ._session import Session
@@ -25,6 +25,6 @@ from ._types import AnyHeuristic, Bin, Box, Heuristic, Outstanding, Packing, Pla
 __all__ = [
     "Bin", "Box", "pack", "Packing", "Placement", "Heuristic", "AnyHeuristic",
     "Session", "Outstanding", "Stats", "Section", "Axis", "Cut", "Leaf", "CutStep", "CutNode", "CutTree",
-    "PackError", "NotEnoughBinSpace", "OutOfMemory", "TooMany", "UnknownHeuristic", "UnknownBox", "EqualGroups",
+    "PackError", "NotEnoughBinSpace", "OutOfMemory", "TooMany", "UnknownHeuristic", "UnknownBox", "EqualGroups", "UnknownAxis",
     "DuplicateBin", "UnknownBin", "UnknownPlacement", "NumbersUsedUp", "BinInUse", "TooLarge", "NotFree",
 ]

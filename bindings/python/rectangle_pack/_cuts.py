@@ -3,11 +3,22 @@ from __future__ import annotations
 
 from collections.abc import Sequence
 from dataclasses import dataclass
-from typing import Literal, NamedTuple, Union
+from typing import Literal, NamedTuple, Union, get_args
 
+from ._errors import UnknownAxis
 from ._types import Section
 
 Axis = Literal["x", "y", "z"]
+
+# By their numbers. A leaf has none of these.
+AXES: tuple[Axis, ...] = get_args(Axis)
+
+
+def axis_number(axis: str) -> int:
+    """The number of an axis. Raises UnknownAxis."""
+    if axis not in AXES:
+        raise UnknownAxis(axis)
+    return AXES.index(axis)
 
 
 class Cut(NamedTuple):

@@ -1,4 +1,8 @@
 """Why a call was refused."""
+from __future__ import annotations
+
+from collections.abc import Hashable, Iterator
+from contextlib import contextmanager
 
 
 class PackError(Exception):
@@ -48,6 +52,12 @@ class EqualGroups(PackError, ValueError):
     text = "A group is excluded with itself"
 
 
+class UnknownAxis(PackError, ValueError):
+    """There is no axis of this name."""
+
+    text = "There is no such axis"
+
+
 class DuplicateBin(PackError):
     """The session has a bin of this name already."""
 
@@ -88,3 +98,16 @@ class NotFree(PackError):
     """No free section of the bin holds the box there."""
 
     text = "No free section holds the box there"
+
+
+@contextmanager
+def naming(
+    name: Hashable,
+    kinds: tuple[type[PackError], ...] = (DuplicateBin, UnknownBin, UnknownPlacement, BinInUse, TooLarge),
+) -> Iterator[None]:
+    """Says in an error of these kinds which bin or which placement it is about, or which place."""
+    try:
+        yield
+    except kinds as error:
+        error.args = (name,)
+        raise

@@ -10,7 +10,7 @@ from typing import TypeVar
 
 from ._errors import (
     BinInUse, DuplicateBin, EqualGroups, NotEnoughBinSpace, NotFree, NumbersUsedUp, OutOfMemory, PackError, TooLarge, TooMany,
-    UnknownBin, UnknownBox, UnknownHeuristic, UnknownPlacement,
+    UnknownAxis, UnknownBin, UnknownBox, UnknownHeuristic, UnknownPlacement,
 )
 
 
@@ -93,6 +93,7 @@ ERRORS: dict[int, type[PackError]] = {
     1: NotEnoughBinSpace, 2: OutOfMemory, 3: TooMany,
     4: DuplicateBin, 5: UnknownBin, 6: UnknownPlacement, 7: NumbersUsedUp,
     10: UnknownHeuristic, 11: UnknownBox, 12: EqualGroups, 13: BinInUse, 14: TooLarge, 15: NotFree,
+    16: UnknownAxis,
 }
 
 
@@ -118,6 +119,10 @@ _ARGUMENTS = {
     "session_release": [_SESSION, ctypes.c_uint64],
     "session_coalesce_all": [_SESSION, ctypes.c_uint32],
     "session_coalesce": [_SESSION, ctypes.c_uint32] + [ctypes.c_size_t] * 3,
+    "session_clear_bin": [_SESSION, ctypes.c_uint32],
+    "session_remove_bin": [_SESSION, ctypes.c_uint32],
+    "session_grow_bin": [_SESSION] + [ctypes.c_uint32] * 3,
+    "session_place_at": [_SESSION, ctypes.c_uint32, ctypes.POINTER(RpSection), ctypes.POINTER(ctypes.c_uint64)],
     "session_stats": [_SESSION, ctypes.c_uint32, ctypes.POINTER(RpStats)],
     "session_bins": [_SESSION, *_array_of(BinId)],
     "session_free_sections": [_SESSION, ctypes.c_uint32, *_array_of(RpSection)],

@@ -5,19 +5,18 @@ import ctypes
 import functools
 import threading
 import weakref
-from collections.abc import Callable, Hashable, Iterator, Mapping, Sequence
-from contextlib import contextmanager
+from collections.abc import Callable, Hashable, Mapping, Sequence
 from types import TracebackType
 from typing import Any, Generic, TypeVar, cast, overload
 
 from . import _library
 from ._collection import HEURISTICS, Collection, heuristic_number, items_of
-from ._cuts import Axis, Cut, CutStep, CutTree, Leaf, tree_of
-from ._errors import DuplicateBin, UnknownBin, UnknownPlacement
+from ._cuts import AXES, Axis, Cut, CutStep, CutTree, Leaf, axis_number, tree_of
+from ._errors import NotFree, TooMany, naming
 from ._types import AnyHeuristic, Bin, BinName, Box, BoxName, Groups, Outstanding, Packing, Pairs, Section, Stats
 
-# A leaf has none of these.
-_AXES: dict[int, Axis] = {0: "x", 1: "y", 2: "z"}
+# No bin gets this id: by it bins are asked for that are not there.
+_NO_BIN = 2**32 - 1
 
 
 def _volume(parts: _library.RpVolume) -> int:
@@ -28,16 +27,6 @@ def _volume(parts: _library.RpVolume) -> int:
 
 def _section(it: _library.RpSection) -> Section:
     return Section(it.x, it.y, it.z, it.width, it.height, it.depth)
-
-
-@contextmanager
-def _naming(name: Hashable) -> Iterator[None]:
-    """Says in an error which bin or which placement it is about."""
-    try:
-        yield
-    except (DuplicateBin, UnknownBin, UnknownPlacement) as error:
-        error.args = (name,)
-        raise
 
 
 _Method = TypeVar("_Method", bound=Callable[..., Any])
@@ -70,9 +59,9 @@ class Session(Generic[BinName]):
     Each cell of a bin is in exactly one free section or outstanding placement. A call that raises leaves the session as it
     was. Memory is given back at the end of the with block, by close(), or when nothing refers to the session any more.
 
-    Each method raises ValueError where the session is closed, and ValueError or TypeError where a size is not a number of 32
-    bits, or where that of a placement or an index in a list is not one of 64. Several threads may use a session: a call waits
-    until that of another thread has ended."""
+    Each method raises ValueError where the session is closed, and ValueError or TypeError where a size or a corner is not of
+    numbers of 32 bits, or where that of a placement or an index in a list is not one of 64. Several threads may use a session:
+    a call waits until that of another thread has ended."""
 
     @overload
     def __init__(self, bins: Mapping[BinName, Bin] = ...) -> None: ...
@@ -89,12 +78,14 @@ class Session(Generic[BinName]):
         self._handle = _library.RpSession()
         # Only one thread at a time may call the library with the handle.
         self._lock = threading.RLock()
-        # The names and the sizes of bins, by their ids, and the ids by name.
-        self._names: list[BinName] = []
-        self._sizes: list[_library.Size] = []
+        # The names and the sides of bins, by their ids, and the ids by name. The next bin gets the next id, also where others
+        # were removed: so ids go by the order in which bins were added.
+        self._names: dict[int, BinName] = {}
+        self._sides: dict[int, list[int]] = {}
         self._ids: dict[BinName, int] = {}
-        # The name of the box and its group, for each number that is outstanding.
-        self._boxes: dict[int, tuple[Any, Hashable]] = {}
+        self._next_id = 0
+        # The name of the box, its group and the id of its bin, for each number that is outstanding.
+        self._boxes: dict[int, tuple[Any, Hashable, int]] = {}
         # How long the list was that each call wrote last.
         self._lengths: dict[str, int] = {}
         _library.check(_library.call("session_new", self._handle))
@@ -146,20 +137,64 @@ class Session(Generic[BinName]):
         return entries
 
     def _id(self, bin: BinName) -> int:
-        """The id of a bin. A name that is not known gets the one that the next bin will have."""
-        return self._ids.get(bin, len(self._ids))
+        """The id of a bin. A name that is not known has that of no bin."""
+        return self._ids.get(bin, _NO_BIN)
+
+    def _new_id(self, bin: BinName) -> int:
+        """The id under which a bin is added. That of a name that is known is refused."""
+        return self._ids.get(bin, self._next_id)
 
     @_alone
     def add_bin(self, bin: BinName, width: int, height: int, depth: int = 1) -> None:
-        """Adds a bin of this size under a name of the caller's choice. It stays until the session is closed.
+        """Adds a bin of this size under a name of the caller's choice. It stays until it is removed or the session is closed.
 
-        Raises DuplicateBin or OutOfMemory."""
-        size, id = _library.size(width, height, depth), _library.number(self._id(bin))
-        with _naming(bin):
+        Raises DuplicateBin or OutOfMemory; or TooMany, once 2**32 - 1 bins were added, also where they were removed."""
+        size, id = _library.size(width, height, depth), self._new_id(bin)
+        if id == _NO_BIN:
+            raise TooMany()
+        with naming(bin):
             self._call("add_bin", id, *size)
-        self._ids[bin] = id
-        self._names.append(bin)
-        self._sizes.append(size)
+        self._ids[bin], self._names[id], self._sides[id] = id, bin, list(size)
+        self._next_id += 1
+
+    @_alone
+    def grow_bin(self, bin: BinName, axis: Axis, by: int) -> None:
+        """Makes a bin larger by so many cells on an axis. What is new is its newest free section, where it has cells. All else
+        in the bin stays where it is.
+
+        >>> with Session({"sheet": Bin(4, 10)}) as session:
+        ...     session.grow_bin("sheet", "x", 6)
+        ...     session.free_sections("sheet")
+        [Section(x=0, y=0, z=0, width=4, height=10, depth=1), Section(x=4, y=0, z=0, width=6, height=10, depth=1)]
+
+        Raises UnknownBin, TooLarge or OutOfMemory; and before these UnknownAxis, which is a ValueError."""
+        number, id, cells = axis_number(axis), self._id(bin), _library.number(by)
+        with naming(bin):
+            self._call("grow_bin", id, number, cells)
+        self._sides[id][number] += cells
+
+    @_alone
+    def clear_bin(self, bin: BinName) -> None:
+        """Makes a bin whole again: it has one free section, which is all of it, and does not count as coalesced. Its placements
+        are no longer outstanding. No number is given again.
+
+        Raises UnknownBin or OutOfMemory."""
+        id = self._id(bin)
+        here = [number for number, (_, _, home) in self._boxes.items() if home == id]
+        with naming(bin):
+            self._call("clear_bin", id)
+        for number in here:
+            del self._boxes[number]
+
+    @_alone
+    def remove_bin(self, bin: BinName) -> None:
+        """Takes out a bin in which no placement is outstanding. Another may be added under its name.
+
+        Raises UnknownBin or BinInUse."""
+        id = self._id(bin)
+        with naming(bin):
+            self._call("remove_bin", id)
+        del self._ids[bin], self._names[id], self._sides[id]
 
     @overload
     def pack(
@@ -196,9 +231,27 @@ class Session(Generic[BinName]):
         placed = []
         for (name, group, size), it in zip(entries, places):
             at = it.placement
-            self._boxes[it.number] = (name, group)
+            self._boxes[it.number] = (name, group, at.bin)
             placed.append(Outstanding(name, group, self._names[at.bin], at.x, at.y, at.z, *size, it.number))
         return Packing(HEURISTICS[chosen.value], tuple(placed))
+
+    @_alone
+    def place_at(self, bin: BinName, name: BoxName, section: Section) -> Outstanding[BoxName, BinName]:
+        """Places one box at a place of the caller's choice, by its corner and its size. So go in knots, pillars, and a layout
+        that was made elsewhere.
+
+        >>> with Session({"board": Bin(10, 10)}) as session:
+        ...     session.place_at("board", "knot", Section(4, 3, 0, 2, 2, 1)).number
+        0
+
+        Raises UnknownBin, NumbersUsedUp or OutOfMemory; or NotFree where no free section of the bin holds the box there, also
+        where its cells are free in several."""
+        id, place = self._id(bin), Section(*map(_library.number, section))
+        number = ctypes.c_uint64()
+        with naming(bin), naming(place, (NotFree,)):
+            self._call("place_at", id, _library.RpSection(*place), number)
+        self._boxes[number.value] = (name, None, id)
+        return Outstanding(name, None, self._names[id], *place, number.value)
 
     @_alone
     def release(self, number: int) -> None:
@@ -206,17 +259,17 @@ class Session(Generic[BinName]):
         list. A box without cells leaves none.
 
         Raises UnknownPlacement or OutOfMemory."""
-        with _naming(number):
+        with naming(number):
             self._call("release", _library.number(number, 64))
         del self._boxes[number]
 
     @_alone
     def coalesce_all(self, bin: BinName) -> None:
         """Joins free sections of a bin until no two share a whole face. A bin that is empty again need not become one
-        section: that depends on the order of releases and on where joins stand between them. A new session has whole bins.
+        section: that depends on the order of releases and on where joins stand between them. clear_bin makes it whole.
 
         Raises UnknownBin."""
-        with _naming(bin):
+        with naming(bin):
             self._call("coalesce_all", self._id(bin))
 
     @_alone
@@ -234,16 +287,16 @@ class Session(Generic[BinName]):
         [Section(x=0, y=0, z=0, width=10, height=10, depth=1)]
 
         Raises UnknownBin."""
-        with _naming(bin):
+        with naming(bin):
             self._call("coalesce", self._id(bin), *(_library.number(it, 64) for it in (index, start, end)))
 
     @_alone
     def was_coalesced(self, bin: BinName) -> bool:
-        """Whether sections of a bin were joined, one or all, also where nothing was there to join.
+        """Whether sections of a bin were joined since it was added or last cleared, also where nothing was there to join.
 
         Raises UnknownBin."""
         it = ctypes.c_uint32()
-        with _naming(bin):
+        with naming(bin):
             self._call("was_coalesced", self._id(bin), it)
         return it.value != 0
 
@@ -263,7 +316,7 @@ class Session(Generic[BinName]):
         """The free sections of a bin, the newest last.
 
         Raises UnknownBin."""
-        with _naming(bin):
+        with naming(bin):
             return [_section(it) for it in self._read("free_sections", _library.RpSection, self._id(bin))]
 
     @_alone
@@ -272,7 +325,7 @@ class Session(Generic[BinName]):
         return [self._standing(it) for it in self._read("outstanding", _library.RpStanding)]
 
     def _standing(self, it: _library.RpStanding) -> Outstanding[Any, BinName]:
-        name, group = self._boxes[it.number]
+        name, group, _ = self._boxes[it.number]
         return Outstanding(name, group, self._names[it.bin], *_section(it.section), it.number)
 
     @_alone
@@ -288,12 +341,12 @@ class Session(Generic[BinName]):
         where no straight cuts leave them, which is so only where sections of the bin were joined.
 
         Raises UnknownBin or OutOfMemory."""
-        with _naming(bin):
+        with naming(bin):
             status, steps = self._ask("cut_plan", _library.RpCutStep, self._id(bin))
             if status == _library.NO_PLAN:
                 return None
             _library.check(status)
-        return [Cut(_AXES[it.axis], it.place) if it.axis in _AXES else Leaf() for it in steps]
+        return [Cut(AXES[it.axis], it.place) if it.axis < len(AXES) else Leaf() for it in steps]
 
     @_alone
     def cut_tree(self, bin: BinName) -> CutTree | None:
@@ -313,7 +366,7 @@ class Session(Generic[BinName]):
 
         Raises UnknownBin or OutOfMemory."""
         steps = self.cut_plan(bin)
-        return None if steps is None else tree_of(steps, Section(0, 0, 0, *self._sizes[self._ids[bin]]))
+        return None if steps is None else tree_of(steps, Section(0, 0, 0, *self._sides[self._ids[bin]]))
 
     @_alone
     def stats(self, bin: BinName) -> Stats:
@@ -321,7 +374,7 @@ class Session(Generic[BinName]):
 
         Raises UnknownBin."""
         it = _library.RpStats()
-        with _naming(bin):
+        with naming(bin):
             self._call("stats", self._id(bin), it)
         volumes = (_volume(it.bin_volume), _volume(it.free_volume), _volume(it.placed_volume))
         return Stats(*volumes, it.free_sections, it.placements)

@@ -9,7 +9,7 @@ from unittest import mock
 import rectangle_pack
 from rectangle_pack import (
     Bin, BinInUse, Box, DuplicateBin, EqualGroups, NotEnoughBinSpace, NotFree, NumbersUsedUp, OutOfMemory, PackError, Placement,
-    Section, TooLarge, TooMany, UnknownBin, UnknownBox, UnknownHeuristic, UnknownPlacement, pack,
+    Section, TooLarge, TooMany, UnknownAxis, UnknownBin, UnknownBox, UnknownHeuristic, UnknownPlacement, pack,
 )
 
 
@@ -241,6 +241,7 @@ class Errors(unittest.TestCase):
     STATUSES = {
         1: NotEnoughBinSpace, 2: OutOfMemory, 3: TooMany, 4: DuplicateBin, 5: UnknownBin, 6: UnknownPlacement,
         7: NumbersUsedUp, 10: UnknownHeuristic, 11: UnknownBox, 12: EqualGroups, 13: BinInUse, 14: TooLarge, 15: NotFree,
+        16: UnknownAxis,
     }
 
     def test_each_has_its_text(self):
@@ -251,6 +252,7 @@ class Errors(unittest.TestCase):
             UnknownHeuristic: "There is no such heuristic.",
             UnknownBox: "There is no such box.",
             EqualGroups: "A group is excluded with itself.",
+            UnknownAxis: "There is no such axis.",
             DuplicateBin: "The bin is there already.",
             UnknownBin: "There is no such bin.",
             UnknownPlacement: "No placement of this number is outstanding.",

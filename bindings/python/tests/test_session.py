@@ -9,7 +9,7 @@ import rectangle_pack
 from .model import cells_of
 from rectangle_pack import (
     Bin, BinInUse, Box, DuplicateBin, EqualGroups, Leaf, NotEnoughBinSpace, NotFree, NumbersUsedUp, OutOfMemory, Outstanding,
-    Section, Session, Stats, TooLarge, TooMany, UnknownBin, UnknownBox, UnknownHeuristic, UnknownPlacement,
+    Section, Session, Stats, TooLarge, TooMany, UnknownAxis, UnknownBin, UnknownBox, UnknownHeuristic, UnknownPlacement,
 )
 from .test_rectangle_pack import NAMES
 
@@ -218,12 +218,12 @@ class Names(unittest.TestCase):
     def test_they_are_forgotten_when_a_box_goes(self):
         with Session([Bin(10, 10)]) as session:
             packing = session.pack({"hat": Box(1, 1), "cap": Box(2, 2)}, groups={"hats": ["hat", "cap"]})
-            self.assertEqual(session._boxes, {0: ("hat", "hats"), 1: ("cap", "hats")})
+            self.assertEqual(session._boxes, {0: ("hat", "hats", 0), 1: ("cap", "hats", 0)})
             session.release(packing["hat"].number)
-            self.assertEqual(session._boxes, {1: ("cap", "hats")})
+            self.assertEqual(session._boxes, {1: ("cap", "hats", 0)})
             with self.assertRaises(NotEnoughBinSpace):
                 session.pack({"house": Box(20, 20)})
-            self.assertEqual(session._boxes, {1: ("cap", "hats")})
+            self.assertEqual(session._boxes, {1: ("cap", "hats", 0)})
 
 
 class Reading(unittest.TestCase):
@@ -338,7 +338,8 @@ class Refusals(unittest.TestCase):
         return [
             lambda: session.coalesce_all(bin), lambda: session.coalesce(bin, 0, 0, 1), lambda: session.was_coalesced(bin),
             lambda: session.free_sections(bin), lambda: session.cut_plan(bin), lambda: session.cut_tree(bin),
-            lambda: session.stats(bin),
+            lambda: session.stats(bin), lambda: session.clear_bin(bin), lambda: session.remove_bin(bin),
+            lambda: session.grow_bin(bin, "x", 1), lambda: session.place_at(bin, "cap", Section(0, 0, 0, 1, 1, 1)),
         ]
 
     def test_a_bin_that_was_refused_may_come_later(self):
@@ -376,6 +377,7 @@ class Refusals(unittest.TestCase):
         statuses = {
             1: NotEnoughBinSpace, 2: OutOfMemory, 3: TooMany, 4: DuplicateBin, 5: UnknownBin, 6: UnknownPlacement,
             7: NumbersUsedUp, 10: UnknownHeuristic, 11: UnknownBox, 12: EqualGroups, 13: BinInUse, 14: TooLarge, 15: NotFree,
+            16: UnknownAxis,
         }
         with Session([Bin(1, 1)]) as session:
             for status, error in statuses.items():

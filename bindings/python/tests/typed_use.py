@@ -39,11 +39,20 @@ with Session(sheets) as session:
     if isinstance(tree, CutNode):
         axis, lower = tree.axis, tree.lower
         height: int = 0 if isinstance(lower, CutNode) else lower.height
+        session.grow_bin("small", axis, 3)
+    knot: Outstanding[tuple[str, int], str] = session.place_at("small", ("knot", 1), Section(4, 3, 0, 2, 2, 1))
+    session.clear_bin("small")
+    session.remove_bin("small")
 
     session.stats(7)  # type: ignore
     session.add_bin(7, 1, 1)  # type: ignore
     session.pack(sprites, heuristic="weight")  # type: ignore
     session.release("hat")  # type: ignore
+    session.grow_bin("small", "width", 3)  # type: ignore
+    session.grow_bin("small", "x", "3")  # type: ignore
+    session.place_at("small", "knot", Box(2, 2))  # type: ignore
+    session.clear_bin(7)  # type: ignore
+    session.remove_bin(7)  # type: ignore
     tree.axis  # type: ignore
 
 by_index: Session[int] = Session([Bin(1, 1)])

@@ -24,11 +24,10 @@ class _ByName(Session[str]):
 
     def __init__(self, names: Iterable[str]) -> None:
         super().__init__()
-        self._names = sorted(set(names))
-        self._order = {name: id for id, name in enumerate(self._names)}
+        self._order = {name: id for id, name in enumerate(sorted(set(names)))}
 
-    def _id(self, bin: str) -> int:
-        return self._order.get(bin, len(self._order))
+    def _new_id(self, bin: str) -> int:
+        return self._order[bin]
 
 
 class _Replay:
