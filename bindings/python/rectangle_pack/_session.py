@@ -321,7 +321,7 @@ class Session(Generic[BinName]):
 
     @_alone
     def outstanding(self) -> list[Outstanding[Any, BinName]]:
-        """The placements of all bins that were not released, in the order of their numbers."""
+        """The outstanding placements of all bins, in the order of their numbers."""
         return [self._standing(it) for it in self._read("outstanding", _library.RpStanding)]
 
     def _standing(self, it: _library.RpStanding) -> Outstanding[Any, BinName]:

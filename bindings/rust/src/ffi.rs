@@ -10,7 +10,9 @@ use std::ops::Range;
 use std::ptr;
 
 use calls::*;
-pub(crate) use calls::{Collection, RpBin, RpBox, RpExclusion, RpOutstanding, RpPlacement, BEST};
+pub(crate) use calls::{
+    Collection, RpBin, RpBox, RpExclusion, RpOutstanding, RpPlacement, RpSection, BEST,
+};
 
 use crate::{Axis, BinStats, CutStep, Heuristic, RectanglePackError, Section, SessionError};
 
@@ -117,6 +119,34 @@ impl Handle {
         })
     }
 
+    pub(crate) fn clear_bin(&mut self, bin: u32) -> Result<(), SessionError> {
+        // SAFETY: the handle has a session, and nobody else reads or writes it during the call.
+        answer(unsafe { rectangle_pack_session_clear_bin(self.0.get(), bin) })
+    }
+
+    pub(crate) fn remove_bin(&mut self, bin: u32) -> Result<(), SessionError> {
+        // SAFETY: the handle has a session, and nobody else reads or writes it during the call.
+        answer(unsafe { rectangle_pack_session_remove_bin(self.0.get(), bin) })
+    }
+
+    pub(crate) fn grow_bin(&mut self, bin: u32, axis: Axis, by: u32) -> Result<(), SessionError> {
+        // SAFETY: the handle has a session, and nobody else reads or writes it during the call.
+        answer(unsafe {
+            rectangle_pack_session_grow_bin(self.0.get(), bin, axis_number(axis), by)
+        })
+    }
+
+    /// The number of the placement.
+    pub(crate) fn place_at(&mut self, bin: u32, location: &RpSection) -> Result<u64, SessionError> {
+        let mut number = 0;
+        // SAFETY: the handle has a session, and nobody else reads or writes it during the call. The location is borrowed, and
+        // the number that is written is that of this function.
+        answer(unsafe {
+            rectangle_pack_session_place_at(self.0.get(), bin, location, &mut number)
+        })?;
+        Ok(number)
+    }
+
     pub(crate) fn stats(&self, bin: u32) -> Result<BinStats, SessionError> {
         let mut stats = RpStats::default();
         // SAFETY: the handle has a session. It is not `Sync`, so nobody else reads or writes it
@@ -201,6 +231,14 @@ fn section(it: &RpSection) -> Section {
         width: it.width,
         height: it.height,
         depth: it.depth,
+    }
+}
+
+fn axis_number(axis: Axis) -> u32 {
+    match axis {
+        Axis::X => 0,
+        Axis::Y => 1,
+        Axis::Z => 2,
     }
 }
 

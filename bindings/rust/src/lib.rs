@@ -29,7 +29,8 @@
 //! best. Groups that are [excluded](GroupedRectsToPlace::exclude) go into different bins.
 //!
 //! These pack once. A [`Session`] keeps its bins: boxes are packed into them and released again, free sections are
-//! listed and joined, and a bin has a plan of the cuts that part it.
+//! listed and joined, and a bin has a plan of the cuts that part it. Boxes are also placed where you say, and bins are cleared,
+//! made larger and removed.
 
 #![warn(missing_docs)]
 
@@ -90,6 +91,15 @@ pub struct PackedLocation {
 }
 
 impl PackedLocation {
+    /// A box of this size at this corner: so far from the bin's left side, its bottom and its front. It is what
+    /// [`Session::place_at`] takes.
+    pub fn new(x: u32, y: u32, z: u32, size: RectToInsert) -> Self {
+        PackedLocation {
+            corner: (x, y, z),
+            size,
+        }
+    }
+
     /// The distance from the bin's left side.
     pub fn x(&self) -> u32 {
         self.corner.0

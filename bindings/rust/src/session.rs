@@ -3,6 +3,7 @@
 mod parts;
 #[cfg(test)]
 mod tests;
+mod upkeep;
 
 use std::collections::BTreeMap;
 use std::ops::Range;
@@ -53,9 +54,10 @@ pub use parts::{Axis, BinStats, CutStep, Outstanding, Section, SessionError};
 #[derive(Debug)]
 pub struct Session<RectId, BinId> {
     handle: ffi::Handle,
-    // The bins, by the numbers that C knows them by: 0, 1, 2 and so on, as they were added.
-    ids: Vec<BinId>,
+    // The bins, by the numbers that C knows them by: 0, 1, 2 and so on, as they were added. No number is given again.
+    ids: BTreeMap<u32, BinId>,
     numbers: BTreeMap<BinId, u32>,
+    next_bin: u32,
     outstanding: BTreeMap<u64, Outstanding<RectId, BinId>>,
 }
 
@@ -68,22 +70,24 @@ impl<RectId: Ord + Clone, BinId: Ord + Clone> Session<RectId, BinId> {
     pub fn new() -> Result<Self, SessionError> {
         Ok(Session {
             handle: ffi::Handle::new()?,
-            ids: Vec::new(),
+            ids: BTreeMap::new(),
             numbers: BTreeMap::new(),
+            next_bin: 0,
             outstanding: BTreeMap::new(),
         })
     }
 
-    /// Adds a bin of this size, all of it free. It stays as long as the session.
+    /// Adds a bin of this size, all of it free. It stays until it is removed, or as long as the session.
     ///
     /// # Errors
     ///
-    /// `DuplicateBin`, `OutOfMemory` or `TooMany`.
+    /// `DuplicateBin` or `OutOfMemory`; or `TooMany`, once 2^32 - 1 bins were added, also where they were removed.
     pub fn add_bin(&mut self, id: BinId, bin: TargetBin) -> Result<(), SessionError> {
         if self.numbers.contains_key(&id) {
             return Err(SessionError::DuplicateBin);
         }
-        let number = u32::try_from(self.ids.len()).map_err(|_| SessionError::TooMany)?;
+        let number = self.next_bin;
+        let next = number.checked_add(1).ok_or(SessionError::TooMany)?;
         let named = id.clone();
         let size = ffi::RpBin {
             width: bin.width,
@@ -91,7 +95,8 @@ impl<RectId: Ord + Clone, BinId: Ord + Clone> Session<RectId, BinId> {
             depth: bin.depth,
         };
         self.handle.add_bin(number, &size)?;
-        self.ids.push(named);
+        self.next_bin = next;
+        self.ids.insert(number, named);
         self.numbers.insert(id, number);
         Ok(())
     }
@@ -203,7 +208,7 @@ impl<RectId: Ord + Clone, BinId: Ord + Clone> Session<RectId, BinId> {
         Outstanding {
             number: at.number,
             id: id.clone(),
-            bin: self.ids[placement.bin as usize].clone(),
+            bin: self.ids[&placement.bin].clone(),
             location: PackedLocation {
                 corner: (placement.x, placement.y, placement.z),
                 size,
@@ -224,7 +229,8 @@ impl<RectId: Ord + Clone, BinId: Ord + Clone> Session<RectId, BinId> {
     }
 
     /// Joins free sections of a bin until no two share a whole face. It is worth while after releases: a box goes into one free
-    /// section, and not across two.
+    /// section, and not across two. A bin that is empty again need not become one section;
+    /// [`clear_bin`](Self::clear_bin) makes it whole.
     ///
     /// # Errors
     ///
@@ -267,7 +273,7 @@ impl<RectId: Ord + Clone, BinId: Ord + Clone> Session<RectId, BinId> {
         self.handle.coalesce(number, index, &range)
     }
 
-    /// Whether free sections of a bin were joined, one or all, also where nothing was there to join.
+    /// Whether free sections of a bin were joined since it was added or last cleared, also where nothing was there to join.
     ///
     /// # Errors
     ///
@@ -324,7 +330,7 @@ impl<RectId: Ord + Clone, BinId: Ord + Clone> Session<RectId, BinId> {
         self.handle.stats(self.number_of(bin)?)
     }
 
-    /// The placements that were not released, in the order of their numbers.
+    /// The outstanding placements, in the order of their numbers.
     pub fn outstanding(&self) -> impl Iterator<Item = &Outstanding<RectId, BinId>> {
         self.outstanding.values()
     }

@@ -1,6 +1,7 @@
 //! What a session answers, by hand.
 use rectangle_pack::{
-    Axis, CutStep, GroupedRectsToPlace, RectToInsert, Section, Session, SessionError, TargetBin,
+    Axis, CutStep, GroupedRectsToPlace, PackedLocation, RectToInsert, Section, Session, SessionError,
+    TargetBin,
 };
 
 type Rects = GroupedRectsToPlace<&'static str, &'static str>;
@@ -53,6 +54,11 @@ fn what_is_refused_changes_nothing() -> Result<(), SessionError> {
     assert_eq!(session.was_coalesced(&"wall"), Err(SessionError::UnknownBin));
     assert_eq!(session.free_sections(&"wall"), Err(SessionError::UnknownBin));
     assert_eq!(session.cut_plan(&"wall"), Err(SessionError::UnknownBin));
+    assert_eq!(session.clear_bin(&"wall"), Err(SessionError::UnknownBin));
+    assert_eq!(session.remove_bin(&"wall"), Err(SessionError::UnknownBin));
+    assert_eq!(session.grow_bin(&"wall", Axis::X, u32::MAX), Err(SessionError::UnknownBin));
+    let corner = PackedLocation::new(0, 0, 0, RectToInsert::new(20, 1, 1));
+    assert_eq!(session.place_at(&"wall", "shoe", corner), Err(SessionError::UnknownBin));
     assert_eq!(session.release(1), Err(SessionError::UnknownPlacement));
     let wide = session.pack(&rects(&[("shoe", 7, 1), ("tie", 1, 1)]));
     assert_eq!(wide, Err(SessionError::NotEnoughBinSpace));

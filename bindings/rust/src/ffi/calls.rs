@@ -101,13 +101,13 @@ pub(super) struct RpStats {
 
 #[repr(C)]
 #[derive(Clone, Copy, Default)]
-pub(super) struct RpSection {
-    pub(super) x: u32,
-    pub(super) y: u32,
-    pub(super) z: u32,
-    pub(super) width: u32,
-    pub(super) height: u32,
-    pub(super) depth: u32,
+pub(crate) struct RpSection {
+    pub(crate) x: u32,
+    pub(crate) y: u32,
+    pub(crate) z: u32,
+    pub(crate) width: u32,
+    pub(crate) height: u32,
+    pub(crate) depth: u32,
 }
 
 #[repr(C)]
@@ -169,6 +169,20 @@ extern "C" {
         index: usize,
         start: usize,
         end: usize,
+    ) -> u32;
+    pub(super) fn rectangle_pack_session_clear_bin(session: *mut RpSession, bin: u32) -> u32;
+    pub(super) fn rectangle_pack_session_remove_bin(session: *mut RpSession, bin: u32) -> u32;
+    pub(super) fn rectangle_pack_session_grow_bin(
+        session: *mut RpSession,
+        bin: u32,
+        axis: u32,
+        by: u32,
+    ) -> u32;
+    pub(super) fn rectangle_pack_session_place_at(
+        session: *mut RpSession,
+        bin: u32,
+        location: *const RpSection,
+        number: *mut u64,
     ) -> u32;
     pub(super) fn rectangle_pack_session_stats(session: *mut RpSession, bin: u32, stats: *mut RpStats) -> u32;
     pub(super) fn rectangle_pack_session_free_sections(

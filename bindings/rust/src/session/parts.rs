@@ -5,7 +5,7 @@ use std::fmt;
 
 use crate::PackedLocation;
 
-/// A placement that was not released.
+/// A placement that is outstanding: it was not released, nor was its bin cleared.
 #[derive(Debug, Clone, PartialEq, Eq)]
 pub struct Outstanding<RectId, BinId> {
     /// Its number, by which it is released.

@@ -55,3 +55,47 @@ fn lists_that_are_kept_are_those_of_c() -> Result<(), SessionError> {
     assert_eq!(session.outstanding().count(), 2);
     Ok(())
 }
+
+#[test]
+fn lists_that_are_kept_follow_bins_that_come_and_go() -> Result<(), SessionError> {
+    let mut session = Session::new()?;
+    let mut packed = Vec::new();
+    for (id, side) in [("wall", 9), ("sheet", 9), ("shelf", 4)] {
+        session.add_bin(id, TargetBin::new(side, side, 1))?;
+    }
+    for (bin, id, x) in [("sheet", 5, 0), ("wall", 2, 3), ("sheet", 5, 7), ("shelf", 1, 2)] {
+        let place = PackedLocation::new(x, 1, 0, RectToInsert::new(1, 2, 1));
+        packed.push(vec![session.place_at(&bin, id, place)?]);
+        check_lists(&session, &packed)?;
+    }
+    assert_eq!(session.remove_bin(&"sheet"), Err(SessionError::BinInUse));
+    check_lists(&session, &packed)?;
+    session.clear_bin(&"sheet")?;
+    check_lists(&session, &packed)?;
+    session.remove_bin(&"sheet")?;
+    check_lists(&session, &packed)?;
+    let kept: Vec<_> = session.outstanding().map(|it| (it.number, it.id, it.bin)).collect();
+    assert_eq!(kept, [(1, 2, "wall"), (3, 1, "shelf")]);
+    // The bin that is added now has a number of its own.
+    session.add_bin("sheet", TargetBin::new(3, 3, 1))?;
+    assert_eq!(session.numbers["sheet"], 3);
+    let placed = session.pack(&rects(&[(7, 3, 3), (8, 1, 1)]))?;
+    packed.push(placed.iter().map(|it| it.number).collect());
+    check_lists(&session, &packed)?;
+    session.grow_bin(&"sheet", Axis::Y, 2)?;
+    check_lists(&session, &packed)?;
+    assert_eq!((session.ids.len(), session.numbers.len()), (3, 3));
+    Ok(())
+}
+
+#[test]
+fn the_numbers_of_bins_may_be_used_up() -> Result<(), SessionError> {
+    let mut session: Session<u32, &str> = Session::new()?;
+    session.next_bin = u32::MAX - 1;
+    session.add_bin("last", TargetBin::new(4, 4, 1))?;
+    let more = session.add_bin("more", TargetBin::new(4, 4, 1));
+    assert_eq!(more, Err(SessionError::TooMany));
+    let again = session.add_bin("last", TargetBin::new(4, 4, 1));
+    assert_eq!(again, Err(SessionError::DuplicateBin));
+    check_lists(&session, &[])
+}
