@@ -2,11 +2,13 @@
 """c_beside_library.py [RUNS]: what packrun has no line for, by the library for C and by a program over the library.
 
 Draws RUNS sessions (200 if left out): packings by each heuristic and by the best of all, of boxes in several groups, of which some
-are excluded; releases; joins of one section and of all; cutting plans of each bin. Each is obeyed by the calls of the shared
-library, over ctypes, and by the program crates/session_lines. Every answer is compared, and in the end all placements."""
+are excluded; boxes at places that are drawn; releases; joins of one section and of all; bins that are cleared, removed, made
+larger and added again; cutting plans of each bin. Each is obeyed by the calls of the shared library, over ctypes, and by the
+program crates/session_lines. Every answer is compared, and in the end all placements."""
 from __future__ import annotations
 
 import ctypes
+import itertools
 import random
 import subprocess
 import sys
@@ -18,8 +20,9 @@ sys.path.insert(0, str(TOP / "bindings" / "python"))
 from rectangle_pack import _library as c  # noqa: E402
 
 BEST = 0xFFFF
-NOT_ENOUGH_SPACE = 1
+NOT_ENOUGH_SPACE, UNKNOWN_BIN = 1, 5
 COMMANDS = 40
+GREATEST = 2**32 - 1
 
 # A line: its word, and its numbers.
 Line = tuple[str, tuple[int, ...]]
@@ -34,10 +37,14 @@ class Drawn:
         self.depth = self.r.choice([1, 1, 8])
         self.bins = self.r.randint(1, 4)
         for _ in range(self.bins):
-            self.add("bin", *self.sides(12, 30))
+            self.bin()
         self.packed = 0
-        for _ in range(COMMANDS):
-            self.r.choices([self.packing, self.release, self.join, self.sweep, self.plan], [4, 6, 3, 1, 4])[0]()
+        draws = {
+            self.packing: 8, self.place: 6, self.release: 12, self.join: 6, self.sweep: 2, self.plan: 8,
+            self.grow: 3, self.clear: 1, self.remove: 2,
+        }
+        for draw in self.r.choices(list(draws), list(draws.values()), k=COMMANDS):
+            draw()
         for bin in range(self.bins):
             self.add("plan", bin)
         self.add("placed")
@@ -48,6 +55,13 @@ class Drawn:
     def sides(self, low: int, high: int) -> tuple[int, int, int]:
         depth = 1 if self.depth == 1 else self.r.randint(low * self.depth // 30, self.depth)
         return self.r.randint(low, high), self.r.randint(low, high), depth
+
+    def bin(self) -> None:
+        self.add("bin", *self.sides(12, 30))
+
+    def known(self) -> int:
+        """The id of a bin that is there, or was."""
+        return self.r.randrange(self.bins)
 
     def packing(self) -> None:
         count = self.r.randint(0, 6)
@@ -61,6 +75,12 @@ class Drawn:
         self.add("pack", self.r.choice([*range(8), BEST]))
         self.packed += count + members
 
+    def place(self) -> None:
+        """A small box, which may have no cells, at a corner near that of the bin."""
+        self.add("box", *self.sides(0, 6), 0)
+        self.add("place", self.known(), self.r.randint(0, 14), self.r.randint(0, 14), self.r.choice([0, 0, 0, 1, 2]))
+        self.packed += 1
+
     def release(self) -> None:
         self.add("release", self.r.randint(0, self.packed))
 
@@ -72,7 +92,24 @@ class Drawn:
         self.add("sweep", self.r.randint(0, self.bins))
 
     def plan(self) -> None:
-        self.add("plan", self.r.randrange(self.bins))
+        self.add("plan", self.known())
+
+    def grow(self) -> None:
+        """By some cells or far too much, on one of the axes or on what is none."""
+        axis = self.r.choices(range(4), [4, 4, 2, 1])[0]
+        self.add("grow", self.known(), axis, self.r.choice([*range(8), GREATEST]))
+
+    def clear(self) -> None:
+        self.add("clear", self.r.randint(0, self.bins))
+
+    def remove(self) -> None:
+        """A bin, which most often is cleared before and has another in its place."""
+        bin = self.known()
+        if self.r.random() < 0.7:
+            self.add("clear", bin)
+        self.add("remove", bin)
+        if self.r.random() < 0.7:
+            self.bin()
 
 
 class InC:
@@ -81,7 +118,7 @@ class InC:
     def __init__(self) -> None:
         self.session = c.RpSession()
         c.check(c.call("session_new", self.session))
-        self.bins = 0
+        self.ids: set[int] = set()
         self.forget()
 
     def close(self) -> None:
@@ -99,15 +136,17 @@ class InC:
             later[word].append(numbers)
             return None
         obeys: dict[str, Callable[..., str]] = {
-            "bin": self.bin, "pack": self.pack, "release": self.release, "join": self.join, "sweep": self.sweep,
-            "plan": self.plan, "placed": self.placed,
+            "bin": self.bin, "pack": self.pack, "place": self.place, "release": self.release, "join": self.join,
+            "sweep": self.sweep, "clear": self.clear, "remove": self.remove, "grow": self.grow, "plan": self.plan,
+            "placed": self.placed,
         }
         return obeys[word](*numbers)
 
     def bin(self, *size: int) -> str:
-        c.check(c.call("session_add_bin", self.session, self.bins, *size))
-        self.bins += 1
-        return str(self.bins - 1)
+        id = next(id for id in itertools.count() if id not in self.ids)
+        c.check(c.call("session_add_bin", self.session, id, *size))
+        self.ids.add(id)
+        return str(id)
 
     def pack(self, heuristic: int) -> str:
         lists = (c.RpBox, self.boxes), (c.RpMember, self.members), (c.RpExclusion, self.exclusions)
@@ -121,6 +160,13 @@ class InC:
         c.check(status)
         return str(chosen.value)
 
+    def place(self, bin: int, x: int, y: int, z: int) -> str:
+        size = self.boxes[0][:3] if self.boxes else (0, 0, 0)
+        number = ctypes.c_uint64()
+        status = c.call("session_place_at", self.session, bin, c.RpSection(x, y, z, *size), number)
+        self.forget()
+        return "-1" if status else str(number.value)
+
     def release(self, number: int) -> str:
         return str(int(c.call("session_release", self.session, number) == 0))
 
@@ -129,6 +175,18 @@ class InC:
 
     def sweep(self, bin: int) -> str:
         return str(int(c.call("session_coalesce_all", self.session, bin) == 0))
+
+    def clear(self, bin: int) -> str:
+        return str(int(c.call("session_clear_bin", self.session, bin) == 0))
+
+    def remove(self, bin: int) -> str:
+        done = c.call("session_remove_bin", self.session, bin) == 0
+        if done:
+            self.ids.remove(bin)
+        return str(int(done))
+
+    def grow(self, bin: int, axis: int, by: int) -> str:
+        return str(int(c.call("session_grow_bin", self.session, bin, axis, by) == 0))
 
     def read(self, name: str, kind: type[c.Entry], *arguments: object) -> tuple[int, list[c.Entry]]:
         """The status of a call that writes a list, and the list."""
@@ -141,7 +199,7 @@ class InC:
 
     def plan(self, bin: int) -> str:
         status, steps = self.read("session_cut_plan", c.RpCutStep, bin)
-        if status == c.NO_PLAN:
+        if status in (c.NO_PLAN, UNKNOWN_BIN):
             return "-1"
         c.check(status)
         return " ".join(f"{step.axis} {step.place}" for step in steps)

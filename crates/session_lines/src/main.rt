@@ -9,13 +9,16 @@
 //!
 //! Each of these has a line as its answer:
 //!
-//! - `bin W H D` adds a bin, under the ids 0, 1, 2 and so on: its id;
+//! - `bin W H D` adds a bin, under the least id that no bin has: its id;
 //! - `pack N` packs by the heuristic N of `Heuristic::ALL`, or by the best of all where there is no
 //!   such number, and forgets the boxes: the number of the heuristic, or -1 where there is no space;
-//! - `release N`, `join BIN I LO HI`, `sweep BIN`: 1 where it is done, else 0;
+//! - `place BIN X Y Z` places box 0 at this corner of the bin, and forgets the boxes: the number of
+//!   its placement, or -1 where it is refused;
+//! - `release N`, `join BIN I LO HI`, `sweep BIN`, `clear BIN`, `remove BIN`, and `grow BIN AXIS N`,
+//!   on axis 0 for x: 1 where it is done, else 0;
 //! - `placed`: the number, index, bin and corner of each outstanding placement;
 //! - `plan BIN`: axis and place of each cut, 0 for x, and 3 0 for each leaf; or -1 where there is no
-//!   plan;
+//!   plan or no such bin;
 //! - `time BIN`: how many microseconds the plan of the bin takes, the best of five;
 //! - `first W H D`, `pages W H` and `times S N` measure the boxes, as `measures.rt` says, and forget
 //!   them: a number for each heuristic, and one for the best of all.
@@ -27,7 +30,7 @@ mod measures;
 mod packing;
 
 use crate::measures::{measure, print_time};
-use crate::packing::{Bins, Boxes, add, pack};
+use crate::packing::{Bins, Boxes, add, pack, place};
 use rectangle_pack::{Axis, CutStep, GroupedRectsToPlace, Session, SessionError};
 use std::alloc::Global;
 use std::io::{self, BufRead, BufReader};
@@ -65,7 +68,11 @@ fn axis_number(axis: Axis) -> u32 {
 }
 
 fn print_plan(rt: &HostRuntime, session: &Bins, bin: u32) -> io::Result<()> {
-    let Some(plan) = session.cut_plan(&bin)? else {
+    let plan = match session.cut_plan(&bin) {
+        Err(SessionError::UnknownBin) => None,
+        answer => answer?,
+    };
+    let Some(plan) = plan else {
         println!(rt; "-1")?;
         return Ok(());
     };
@@ -88,12 +95,32 @@ fn numbers(line: &str) -> [u32; 4] {
     numbers
 }
 
+// The least id that no bin has.
+fn free_id(session: &Bins) -> u32 {
+    for id in 0..u32::MAX {
+        if !session.bins().contains_key(&id) {
+            return id;
+        }
+    }
+    u32::MAX
+}
+
+// Makes a bin larger on the axis of this number. Tells whether it is done.
+fn grow(session: &mut Bins, bin: u32, axis: u32, by: u32) -> u32 {
+    match axis {
+        0 => is_done(session.grow_bin(&bin, Axis::X, by)),
+        1 => is_done(session.grow_bin(&bin, Axis::Y, by)),
+        2 => is_done(session.grow_bin(&bin, Axis::Z, by)),
+        _ => 0,
+    }
+}
+
 // Obeys a line that changes the session. Gives its answer, or `None` where it is another line.
 fn change(session: &mut Bins, word: &str, numbers: [u32; 4]) -> io::Result<Option<u32>> {
     let [a, b, c, d] = numbers;
     match word {
         "bin" => {
-            let id = u32::try_from(session.bins().len()).unwrap_or(u32::MAX);
+            let id = free_id(session);
             session.add_bin(id, a, b, c)?;
             Ok(Some(id))
         }
@@ -103,6 +130,9 @@ fn change(session: &mut Bins, word: &str, numbers: [u32; 4]) -> io::Result<Optio
             Ok(Some(is_done(answer)))
         }
         "sweep" => Ok(Some(is_done(session.coalesce_all(&a)))),
+        "clear" => Ok(Some(is_done(session.clear_bin(&a)))),
+        "remove" => Ok(Some(is_done(session.remove_bin(&a)))),
+        "grow" => Ok(Some(grow(session, a, b, c))),
         _ => Ok(None),
     }
 }
@@ -110,6 +140,20 @@ fn change(session: &mut Bins, word: &str, numbers: [u32; 4]) -> io::Result<Optio
 fn print_pack(rt: &HostRuntime, session: &mut Bins, boxes: &Boxes, number: u32) -> io::Result<()> {
     match pack(session, boxes, number)? {
         Some(best) => println!(rt; "{best}")?,
+        None => println!(rt; "-1")?,
+    }
+    Ok(())
+}
+
+fn print_place(
+    rt: &HostRuntime,
+    session: &mut Bins,
+    boxes: &Boxes,
+    numbers: [u32; 4],
+) -> io::Result<()> {
+    let [bin, x, y, z] = numbers;
+    match place(session, boxes, bin, [x, y, z]) {
+        Some(number) => println!(rt; "{number}")?,
         None => println!(rt; "-1")?,
     }
     Ok(())
@@ -125,7 +169,7 @@ fn look(rt: &HostRuntime, session: &Bins, word: &str, bin: u32) -> io::Result<()
     }
 }
 
-// Obeys a line that packs or measures the boxes. Tells whether it is one.
+// Obeys a line that packs, places or measures the boxes. Tells whether it is one.
 fn end(
     rt: &HostRuntime,
     session: &mut Bins,
@@ -136,6 +180,7 @@ fn end(
     let [a, b, c, _] = numbers;
     match word {
         "pack" => print_pack(rt, session, boxes, a)?,
+        "place" => print_place(rt, session, boxes, numbers)?,
         "first" | "pages" | "times" => measure(rt, boxes, word, [a, b, c])?,
         _ => return Ok(false),
     }

@@ -3,7 +3,9 @@
 ghost use Rattle.std.specs.Prelude.{◌<◌, IfOk, vec_len};
 ghost use Rattle.std.specs.Option.{ForSome};
 
-use rectangle_pack::{Group, GroupedRectsToPlace, Heuristic, RectToInsert, Session, SessionError};
+use rectangle_pack::{
+    Group, GroupedRectsToPlace, Heuristic, PackedLocation, RectToInsert, Session, SessionError,
+};
 use std::alloc::{AllocError, Global};
 use std::io;
 
@@ -68,5 +70,16 @@ pub fn pack(session: &mut Bins, boxes: &Boxes, number: u32) -> io::Result<Option
         Ok((best, _)) => Ok(Heuristic::ALL.iter().position(|one| *one == best)),
         Err(SessionError::NotEnoughBinSpace) => Ok(None),
         Err(error) => Err(io::Error::from(error)),
+    }
+}
+
+// Places box 0 at this corner of a bin. Gives the number of its placement, or `None` where it is
+// refused.
+pub fn place(session: &mut Bins, boxes: &Boxes, bin: u32, corner: [u32; 3]) -> Option<u64> {
+    let [x, y, z] = corner;
+    let size = size_of(boxes, 0);
+    match session.place_at(bin, 0, PackedLocation::new(x, y, z, size.into())) {
+        Ok(number) => Some(number),
+        Err(_) => None,
     }
 }
