@@ -6,6 +6,7 @@ pub mod SmallestBox
 pub mod Fitting
 pub mod Counting
 pub mod Keeping
+pub mod LeastSides
 pub mod Bins
 pub mod Covering
 pub mod CutTrees

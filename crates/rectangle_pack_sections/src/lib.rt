@@ -7,6 +7,7 @@ pub mod bin_section;
 pub mod box_size_heuristics;
 pub mod closures;
 pub mod group;
+pub mod least_side;
 pub mod packed_location;
 pub mod rect_to_insert;
 pub mod span;
