@@ -245,8 +245,7 @@ impl<A: Allocator + Copy> FreeList<A> {
 
     /// The sections at the end, closed up. Takes no memory.
     pub fn into_sections(self, end: End) -> Vec<BinSection, A>
-        ensures items { result.items ≡ left_of end self }
-        ensures room { self.room ≤ vec_capacity result }
+        ensures { result.items ≡ left_of end self }
     {
         let mut list = self;
         if end == End::Undo {
@@ -364,14 +363,16 @@ impl<A: Allocator + Copy> Sections<A> {
 
     // The sections alone, closed up. Takes no memory.
     fn into_sections(self) -> Vec<BinSection, A>
-        ensures items { result.items ≡ sections_of (places_in self) }
-        ensures room { vec_capacity result ≡ room_in self }
+        ensures { result.items ≡ sections_of (places_in self) }
     {
         match self {
             Sections::Plain(sections) => sections,
             Sections::Gapped(list, _) => {
                 let mut list = list;
-                list.take_sections()
+                let mut sections = list.take_sections();
+                // The room of gaps is given back.
+                sections.shrink_to_fit();
+                sections
             }
         }
     }

@@ -19,7 +19,7 @@ use std::marker::Model;
 
 // For how many steps of a trial room is made at once. A trial that is stuck after a few steps leaves
 // little room in its bin.
-const AT_ONCE: usize = 16;
+const AT_ONCE: usize = 8;
 
 // The three pieces by falling rate; at equal rates the one listed first stands first.
 fn by_falling_rate(

@@ -15,7 +15,7 @@ use std::alloc::Allocator;
 /// What a step did to a plain list: which section it took out, at which place, and how many pieces
 /// it pushed.
 #[derive(Clone, Copy)]
-pub(crate) struct Taken {
+pub struct Taken {
     pub place: usize,
     pub section: BinSection,
     pub pushed: usize,
@@ -65,8 +65,8 @@ pub fn push_pieces<A: Allocator>(sections: &mut Vec<BinSection, A>, pieces: [Bin
     push_piece(sections, third);
 }
 
-// Takes a section out of the list and pushes what is left of it round a member.
-pub(crate) fn place_at<A, R>(
+/// Takes a section out of the list and pushes what is left of it round a member.
+pub fn place_at<A, R>(
     sections: &mut Vec<BinSection, A>,
     place: usize,
     member: &RectToInsert,

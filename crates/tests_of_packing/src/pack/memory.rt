@@ -42,13 +42,24 @@ fn end(rt: &impl Abort, alloc: Refusing, run: Run) -> End {
     }
 }
 
-// The end of a run for which `granted` requests are granted. It gives back all that it takes, and
-// is done where no request was refused, and only there.
+// How many refused requests may leave a packing done: a long list asks once whether the room of its
+// gaps is taken back, and stays where it is not.
+fn harmless(run: Run) -> u64 {
+    match run {
+        Run::LongList(_) => 1,
+        _ => 0,
+    }
+}
+
+// The end of a run for which `granted` requests are granted. It gives back all that it takes. It is
+// done where no request was refused that it needs, and only there.
 fn end_of(rt: &impl Abort, alloc: Global, granted: u64, run: Run) -> End {
     let refusing = Refusing::new(alloc, granted).expect(rt, "no memory for the counts");
     let end = end(rt, refusing, run);
+    let refused = refusing.refused();
     assert!(rt; refusing.taken() == 0);
-    assert!(rt; (refusing.refused() == 0) == (end == End::Done));
+    assert!(rt; end == End::Done || refused > 0);
+    assert!(rt; end != End::Done || refused <= harmless(run));
     end
 }
 

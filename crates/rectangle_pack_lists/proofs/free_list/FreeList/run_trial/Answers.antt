@@ -17,14 +17,14 @@ use Rattle.rectangle_pack_lists.proofs.free_list.FreeList.run_trial.Goals.{then-
 more_tests : (i tests one : ℕ) → tests ≤ i * 18446744073709551615 → one < 18446744073709551616 → tests + one ≤ (i + 1) * 18446744073709551615
 more_tests i tests one most few = omega arith
 
--- there is room for the steps up to the next multiple of 16, or for all members that are left
+-- there is room for the steps up to the next multiple of 8, or for all members that are left
 abbrev HaveRoom : ℕ → ℕ → ℕ → Type 0
-HaveRoom i count steps = min (16 - i % 16) (count - i) ≤ steps
+HaveRoom i count steps = min (8 - i % 8) (count - i) ≤ steps
 
-rooms_made : (i count steps took : ℕ) → i % 16 ≡ 0 → took ≡ min 16 (count - i) → took ≤ steps → HaveRoom i count steps
+rooms_made : (i count steps took : ℕ) → i % 8 ≡ 0 → took ≡ min 8 (count - i) → took ≤ steps → HaveRoom i count steps
 rooms_made i count steps took turn is made = omega arith
 
-room_behind : (i count before after : ℕ) → HaveRoom i count before → before ≤ after + 1 → 0 < (i + 1) % 16 → HaveRoom (i + 1) count after
+room_behind : (i count before after : ℕ) → HaveRoom i count before → before ≤ after + 1 → 0 < (i + 1) % 8 → HaveRoom (i + 1) count after
 room_behind i count before after made one more = omega arith
 
 room_for_one : (i count steps : ℕ) → HaveRoom i count steps → i < count → 0 < steps

@@ -13,7 +13,7 @@ invariant-loop-i g l = record {
   fits : All FitsU32 (now_of l.self);
   since : IsSince l.fn.self l.self;
   kept : l.kept ≡ length l.fn.self.notes;
-  steps : 0 < l.i % 16 → min (16 - l.i % 16) (length l.members - l.i) ≤ l.self.steps;
+  steps : 0 < l.i % 8 → min (8 - l.i % 8) (length l.members - l.i) ≤ l.self.steps;
   room : l.fn.self.room ≤ l.self.room;
   location_count : vec_len l.locations ≡ l.i;
   location_room : 0 < l.i → length l.members ≤ vec_capacity l.locations;

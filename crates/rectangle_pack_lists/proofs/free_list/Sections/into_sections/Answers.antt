@@ -4,6 +4,6 @@ use Rattle.rectangle_pack_lists.specs.private.Places.{sections_of}
 use Rattle.rectangle_pack_lists.proofs.lemmas.trial.PlaceSteps.{sections_of-full}
 use Rattle.rectangle_pack_lists.proofs.free_list.Sections.into_sections.Goals as goal
 
-pub returns-in-Plain-clause-items : goal.returns-in-Plain-clause-items
-returns-in-Plain-clause-items g c =
+pub returns-in-Plain : goal.returns-in-Plain
+returns-in-Plain g c =
     sym (ap (λ l. sections_of (places_in l)) c.in-Plain.is ∙ sections_of-full c.in-Plain.sections.items)

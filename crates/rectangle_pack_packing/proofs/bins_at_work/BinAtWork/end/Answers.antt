@@ -23,9 +23,9 @@ with_left Undo bin work = refl
 pub put_sections-requires : goal.put_sections-requires
 put_sections-requires g c =
     let kept = rw (← c.into_inner-bin.ensures) at c.self.invariant in
-    rw c.into_sections.ensures.items (sound c.args.end _ c.into_inner-bin.result.list kept.0 kept.1)
+    rw c.into_sections.ensures (sound c.args.end _ c.into_inner-bin.result.list kept.0 kept.1)
 
 pub returns : goal.returns
 returns g c =
-    rw (← c.self.view_is, ← c.into_inner-bin.ensures, c.put_sections.ensures.bin, c.into_sections.ensures.items)
+    rw (← c.self.view_is, ← c.into_inner-bin.ensures, c.put_sections.ensures.bin, c.into_sections.ensures)
     (with_left c.args.end c.into_inner-bin.result.bin.bin c.into_inner-bin.result.list)
