@@ -45,7 +45,8 @@ module _ (may more : Answers) (includes : Includes may more) where
     are = h.are;
   }
 
-  step_more : (sections : List Cuboid) (m : Size) (l : Cuboid) (next : List Cuboid) (n : ℕ) → IsStep may sections m l next n → IsStep more sections m l next n
+  -- a step by some answers is one by more
+  pub step_more : (sections : List Cuboid) (m : Size) (l : Cuboid) (next : List Cuboid) (n : ℕ) → IsStep may sections m l next n → IsStep more sections m l next n
   step_more sections m l next n h = record {
     before = h.before;
     section = h.section;
