@@ -1,5 +1,5 @@
 //! Bins that are made whole again.
-ghost use Rattle.std.specs.Prelude.{◌≡◌, OnOk, OnErr};
+ghost use Rattle.std.specs.Prelude.{◌≡◌, [], OnOk, OnErr};
 ghost use Rattle.rectangle_pack_sections.specs.Bins.{new_bin};
 
 use crate::target_bin::TargetBin;
@@ -12,10 +12,12 @@ impl<A: Allocator + Copy> TargetBin<A> {
     /// leaves the bin as it was.
     pub fn clear(&mut self) -> Result<(), AllocError>
         // Where it succeeds, the bin is a new bin of its size: it has one free section, which is all
-        //   of it, and does not count as coalesced.
+        //   of it, and does not count as coalesced. [clear.cleared_bin_counts_as_coalesced]
         ensures ok { OnOk result (self.new.bin ≡ new_bin self.old.bin.size) }
         // An error leaves the bin as it was.
         ensures err { OnErr result (self.new.bin ≡ self.old.bin) }
+        // An error is answered only where there is no free section.
+        ensures empty { OnErr result (self.old.bin.sections ≡ []) }
         // An error is answered only where the list has no room for one section.
         ensures full { OnErr result (self.old.room ≡ 0) }
     {

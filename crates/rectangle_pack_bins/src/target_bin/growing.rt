@@ -14,6 +14,7 @@ impl<A: Allocator + Copy> TargetBin<A> {
     /// most the greatest `u32`.
     pub fn can_grow(&self, axis: Axis, by: u32) -> bool
         // The answer is true exactly where the side and `by` add up to less than 2^32.
+        //   [can_grow.growth_by_nothing_is_refused]
         ensures { IsTrue result ↔ (extent axis self.now.bin.size + by < 2 ^ 32) }
     {
         extent(&self.max_size, axis).checked_add(by).is_some()

@@ -40,6 +40,7 @@ impl<A: Allocator + Copy> TargetBin<A> {
         //   of the list, in this order; those without cells are left out. All else in the bin
         //   stays. [place_at.piece_behind_is_left_out]
         // `false`: the box is a part of no free section. The bin is as it was.
+        //   [first_around.corner_alone_is_tested]
         ensures placed { IfOk result (λ is_placed.
             IsPlacedAt self.old.bin location is_placed self.new.bin) }
         // `true`: the box and the new free sections fill each cell as often as the old ones did. So
