@@ -13,9 +13,11 @@ mod clearing;
 mod growing;
 mod placing;
 mod placing_at;
+mod placing_best;
 mod texts;
 
 pub use crate::target_bin::placing_at::{cut_round, first_around};
+pub use crate::target_bin::placing_best::{best_section, cut_best};
 use rectangle_pack_lists::coalesce::{join_all, join_all_in, join_at};
 use rectangle_pack_lists::corners::Corners;
 use rectangle_pack_lists::free_list::plain::push_pieces;

@@ -30,6 +30,7 @@ mod joining;
 mod large;
 mod long_lists;
 mod no_memory;
+mod placing_best;
 mod pushes;
 mod trials;
 
@@ -62,6 +63,8 @@ pub enum Call {
     CoalesceAll,
     /// A trial of at most three boxes.
     Place(&'static [[u32; 3]], Tried),
+    /// A box where it fits best, and its place.
+    PlaceBest([u32; 3], Option<[u32; 6]>),
     /// A clone, which has the same list and size.
     Clone,
 }
@@ -218,6 +221,18 @@ fn trial(bin: &mut Bin, members: &[RectToInsert], wanted: Tried) -> Answers {
     }
 }
 
+// Whether a box where it fits best is placed here.
+fn place_best(bin: &mut Bin, size: [u32; 3], wanted: Option<[u32; 6]>) -> Answers {
+    let [width, height, depth] = size;
+    let size = RectToInsert::new(width, height, depth);
+    let placed = bin.place_best(size, &volume_heuristic, &contains_smallest_box)?;
+    match (placed, wanted) {
+        (Some(location), Some(numbers)) => Ok(place(&location) == numbers),
+        (None, None) => Ok(true),
+        _ => Ok(false),
+    }
+}
+
 fn clone_is_alike(bin: &Bin) -> Answers {
     let other = bin.clone()?;
     Ok(
@@ -247,6 +262,7 @@ fn obey(bin: &mut Bin, call: Call) -> Answers {
                 None => Ok(false),
             }
         }
+        Call::PlaceBest(size, wanted) => place_best(bin, size, wanted),
         Call::Clone => clone_is_alike(bin),
     }
 }

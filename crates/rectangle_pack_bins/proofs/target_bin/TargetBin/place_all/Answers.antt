@@ -21,13 +21,13 @@ run_trial-trial-requires-clause-fits g c = rw (now_is g (goal_at.run_trial-trial
 pub put_sections-requires : goal.put_sections-requires
 put_sections-requires g c =
     let at = (goal_at.put_sections-requires g c).After-new-list in
-    rw (c.into_sections.ensures.items, c.take_sections.ensures.bin)
+    rw (c.into_sections.ensures, c.take_sections.ensures.bin)
     (IsSound-tried _ {E = AllocError} _ _ _ _ _ _ (rw (now_is g at) at c.run_trial-trial.ensures.tried) c.take_sections.ensures.sound)
 
 -- the bin has the list that the trial leaves
 bin_is : (g : Over) (c : After-put_sections g)
     → c.put_sections.new.bin.bin ≡ record c.args.self.now.bin { sections = now_of c.run_trial-trial.new.self }
-bin_is g c = rw (c.put_sections.ensures.bin, c.take_sections.ensures.bin, c.into_sections.ensures.items) refl
+bin_is g c = rw (c.put_sections.ensures.bin, c.take_sections.ensures.bin, c.into_sections.ensures) refl
 
 pub returns-in_err-is_done-clause-answer : goal.returns-in_err-is_done-clause-answer
 returns-in_err-is_done-clause-answer g c =
@@ -48,7 +48,7 @@ answered : (g : Over) (c : Joined-is_done g)
 answered g c =
     let same : now_of c.new-list.result ≡ c.args.self.now.bin.sections = rw c.new-list.ensures.places (sections_of-full _ ∙ c.take_sections.ensures.items) in
     let bin : c.put_sections.new.bin.bin ≡ record c.args.self.now.bin { sections = now_of c.run_trial-trial.new.self } =
-    rw (c.put_sections.ensures.bin, c.take_sections.ensures.bin, c.into_sections.ensures.items) refl in (
+    rw (c.put_sections.ensures.bin, c.take_sections.ensures.bin, c.into_sections.ensures) refl in (
       c.in_ok-is_done.field-0.tests,
       rw bin (IsTrial-answered _ c.args.self.now.bin.sections c.args.members.now c.in_ok-is_done.field-0.is_done c.run_trial-trial.new.locations c.if-is_done.result
           _ _ (answer_is g c) (rw same at c.in_ok-is_done.ensures.tried)),
