@@ -1,2 +1,3 @@
 pub mod CutPlans
+pub mod CuttingAnew
 pub mod private

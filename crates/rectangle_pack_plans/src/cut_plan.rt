@@ -11,8 +11,8 @@ ghost use Rattle.rectangle_pack_plans.specs.private.CutPlans.{IsFilled, AreOrder
 ghost use Rattle.rectangle_pack_plans.specs.private.Pending.{IsCutUp};
 
 pub mod laws;
-mod order;
-mod parts;
+pub(crate) mod order;
+pub(crate) mod parts;
 mod peel;
 mod split;
 mod strip;

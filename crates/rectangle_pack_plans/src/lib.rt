@@ -2,4 +2,5 @@
 //! for its users.
 #![tactic(auto)]
 
+pub mod cut_anew;
 pub mod cut_plan;

@@ -27,7 +27,7 @@ use Rattle.rectangle_pack_plans.proofs.lemmas.cut_plan.OpenPlanes.{cuts_have_ope
 use Rattle.rectangle_pack_plans.proofs.lemmas.cut_plan.Split.{IsPlaceOf-open, IsSide, lower_side, upper_side}
 use Rattle.rectangle_pack_sections.proofs.lemmas.cuts.SameBoxes.{HaveSameBoxes-sym, HaveSameBoxes-permutation, IsFromCuts-same}
 
-rank_below : (a : Axis) → axis_rank a < 3
+pub rank_below : (a : Axis) → axis_rank a < 3
 unfolding axis_rank
 rank_below X = omega arith
 rank_below _ = omega arith
