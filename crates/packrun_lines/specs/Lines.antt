@@ -7,7 +7,7 @@ use Rattle.rectangle_pack.specs.Boxes.{Cuboid}
 use Rattle.rectangle_pack.specs.declared.session.command.Outstanding.{Outstanding}
 use Rattle.rectangle_pack.specs.declared.session.command.SessionError.{SessionError}
 use Rattle.rectangle_pack.specs.declared.session.command.SessionError.TheVariants.{DuplicateBin, UnknownBin, UnknownPlacement, NumbersUsedUp, NotEnoughBinSpace}
-use Rattle.rectangle_pack.specs.declared.session.command.SessionError.TheVariants.{BinInUse, TooLarge, NotFree, OutOfMemory}
+use Rattle.rectangle_pack.specs.declared.session.command.SessionError.TheVariants.{BinInUse, TooLarge, NotFree, NotFromCuts, OutOfMemory}
 use Rattle.rectangle_pack.specs.declared.session.stats.BinStats.{BinStats}
 
 -- the line of a free section, and the end of the line of a placement: the least corner and the sides
@@ -49,6 +49,7 @@ refusal_text NotEnoughBinSpace named = Some (codes "refused: Not enough space to
 refusal_text BinInUse named = Some (codes "refused: the bin is in use\n")
 refusal_text TooLarge named = Some (codes "refused: the bin would be too large\n")
 refusal_text NotFree named = Some (codes "refused: no free section holds the box there\n")
+refusal_text NotFromCuts named = Some (codes "refused: no straight cuts part the boxes in the bin\n")
 refusal_text OutOfMemory named = None
 
 -- the answer to a line that is only done: `ok`, or why it was refused

@@ -155,6 +155,10 @@ pub fn refuse<W: Write>(error: SessionError, named: &[u8], out: &mut W) -> Resul
             b"refused: no free section holds the box there\n",
             out,
         ),
+        SessionError::NotFromCuts => print_bytes(
+            b"refused: no straight cuts part the boxes in the bin\n",
+            out,
+        ),
         SessionError::OutOfMemory => Err(Stop::NoMemory),
     }
 }

@@ -16,6 +16,7 @@ pub use Rattle.rectangle_pack_sections.specs.Clones
 pub use Rattle.rectangle_pack_sections.specs.Exclusions
 pub use Rattle.rectangle_pack_sections.specs.Groups
 pub use Rattle.rectangle_pack_sections.specs.Alike
+pub use Rattle.rectangle_pack_sections.specs.LeastSides
 pub use Rattle.rectangle_pack_lists.specs.Numbers
 pub use Rattle.rectangle_pack_lists.specs.Steps
 pub use Rattle.rectangle_pack_lists.specs.Trials
@@ -23,6 +24,7 @@ pub use Rattle.rectangle_pack_lists.specs.Joining
 pub use Rattle.rectangle_pack_bins.specs.Pushes
 pub use Rattle.rectangle_pack_bins.specs.GrownBins
 pub use Rattle.rectangle_pack_bins.specs.PlacedAt
+pub use Rattle.rectangle_pack_bins.specs.BestFit
 pub use Rattle.rectangle_pack_packing.specs.Orders
 pub use Rattle.rectangle_pack_packing.specs.Placed
 pub use Rattle.rectangle_pack_packing.specs.KeptBins
@@ -32,6 +34,7 @@ pub use Rattle.rectangle_pack_packing.specs.Best
 pub use Rattle.rectangle_pack_packing.specs.Results
 pub use Rattle.rectangle_pack_packing.specs.PackingTexts
 pub use Rattle.rectangle_pack_plans.specs.CutPlans
+pub use Rattle.rectangle_pack_plans.specs.CuttingAnew
 pub mod private
 pub mod Session
 pub mod Growing
@@ -42,3 +45,6 @@ pub mod PlanAnswers
 pub mod SessionTexts
 pub mod Upkeep
 pub mod PlacingAt
+pub mod PlacingBest
+pub mod Recutting
+pub mod Releasing

@@ -2,7 +2,7 @@
 use Rattle.std.specs.Prelude.{ℕ, List, codes}
 use Rattle.rectangle_pack.specs.declared.session.command.SessionError.{SessionError}
 use Rattle.rectangle_pack.specs.declared.session.command.SessionError.TheVariants.{DuplicateBin, UnknownBin, UnknownPlacement, NumbersUsedUp, NotEnoughBinSpace}
-use Rattle.rectangle_pack.specs.declared.session.command.SessionError.TheVariants.{BinInUse, TooLarge, NotFree, OutOfMemory}
+use Rattle.rectangle_pack.specs.declared.session.command.SessionError.TheVariants.{BinInUse, TooLarge, NotFree, NotFromCuts, OutOfMemory}
 
 -- the text that a `SessionError` prints: why a session refused a call
 abbrev pub session_text : SessionError → List ℕ
@@ -14,4 +14,5 @@ session_text NotEnoughBinSpace = codes "Not enough space to place all of the rec
 session_text BinInUse = codes "Placements are outstanding in the bin."
 session_text TooLarge = codes "A side of the bin would exceed the greatest number of 32 bits."
 session_text NotFree = codes "No free section holds the box there."
+session_text NotFromCuts = codes "No straight cuts part the boxes that stand in the bin."
 session_text OutOfMemory = codes "Out of memory."

@@ -1,6 +1,6 @@
 -- Upkeep of a session: a bin is made whole again, or is taken out. A reply for which `Clears` or `RemovesBin` has no case
 -- never comes.
-use Rattle.std.specs.Prelude.{◌≡◌, Bool, true, false, not, List, filter, Some, None, IsSome}
+use Rattle.std.specs.Prelude.{◌≡◌, Bool, true, false, not, List, [], filter, Some, None, IsSome}
 use Rattle.std.specs.List.{list_any}
 use Rattle.std.specs.declared.cmp.Ordering.{Ordering}
 use Rattle.std.specs.Map.{lookup, set_value, remove_entry}
@@ -22,7 +22,7 @@ module _ {Id B : Type 0} (bin_cmp : B → B → Ordering) where
   outstanding_beside id outstanding = filter (λ r. not (is_at (bin_cmp r.bin) id)) outstanding
 
   -- a bin is cleared: it is as a new bin of its size, its placements are no longer outstanding, and all else stays; or
-  -- the id is not there; or the reply is want of memory, and the id is there. What is refused changes nothing
+  -- the id is not there; or the reply is want of memory, and the bin has no free section. What is refused changes nothing
   -- Example: `a` 10x10x1 has the free section (4,0,0) 6x10x1, and counts as coalesced. Placement 0 stands in it, 1 in
   -- `b`, and the next number is 2. Then `a` has the one section (0,0,0) 10x10x1, and does not count as coalesced.
   -- Placement 1 alone is outstanding, and the next number is 2
@@ -34,7 +34,8 @@ module _ {Id B : Type 0} (bin_cmp : B → B → Ordering) where
         outstanding = outstanding_beside id old.outstanding;
       })
   Clears id old (Refused UnknownBin) new = (lookup (is_at (bin_cmp id)) old.bins ≡ None) × (new ≡ old)
-  Clears id old (Refused OutOfMemory) new = IsSome (lookup (is_at (bin_cmp id)) old.bins) × (new ≡ old)
+  Clears id old (Refused OutOfMemory) new =
+      (bin : Bin) × (lookup (is_at (bin_cmp id)) old.bins ≡ Some bin) × (bin.sections ≡ []) × (new ≡ old)
   Clears id old _ new = ⊥
 
   -- a bin is taken out: it is there, no placement stands in it, its entry is gone, and all else stays; or the id is not

@@ -1,2 +1,4 @@
 -- Definitions that only the clauses of private functions use.
 pub mod Records
+pub mod Releasing
+pub mod BestPlaces

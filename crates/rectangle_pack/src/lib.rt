@@ -91,8 +91,8 @@ pub use packed_location::{PackedLocation, RotatedBy};
 pub use rect_to_insert::RectToInsert;
 pub use session::{
     Axis, BinStats, Command, CutStep, Outstanding, Packed, Reply, Session, SessionError,
-    cuts_cover_bins, cuts_have_open_planes, open_planes_split_cuts, pinwheel_is_not_from_cuts,
-    plans_are_unique, transitions_keep_sessions,
+    cuts_cover_bins, cuts_have_open_planes, cuts_stay_until_coalesced, open_planes_split_cuts,
+    pinwheel_is_not_from_cuts, plans_are_unique, transitions_keep_sessions,
 };
 pub use target_bin::{
     FitTests, PushBinSectionError, TargetBin, joining_has_one_result, joining_keeps_cells,

@@ -19,7 +19,10 @@ mod joining;
 mod laws;
 mod outstanding;
 mod placing_at;
+mod placing_best;
 mod records;
+mod recutting;
+mod releasing;
 mod run;
 mod stats;
 mod upkeep;
@@ -28,7 +31,7 @@ use crate::session::bins::put_bin;
 use crate::session::outstanding::{give_back, number_all, position_of};
 use crate::session::records::Records;
 pub use command::{Command, Outstanding, Packed, Reply, SessionError};
-pub use laws::transitions_keep_sessions;
+pub use laws::{cuts_stay_until_coalesced, transitions_keep_sessions};
 use rectangle_pack_bins::target_bin::TargetBin;
 use rectangle_pack_groups::grouped_rects_to_place::GroupedRectsToPlace;
 use rectangle_pack_groups::grouped_rects_to_place::multimap::{ascending, number_after};
@@ -49,10 +52,10 @@ use std::cmp::Ordering;
 use std::collections::BTreeMap;
 use std::marker::Model;
 
-/// Bins, and the boxes that were placed in them and not released. Each placement has a number, by
-/// which it is released. Each cell of a bin is in exactly one free section or outstanding
-/// placement, and each of these is inside the bin, always. Until the bin is coalesced, they are
-/// what straight cuts leave of it, one after another, boxes without cells aside.
+/// Bins, and the boxes that stand in them. Each placement has a number, by which it is released.
+/// Each cell of a bin is in exactly one free section or outstanding placement, and each of these is
+/// inside the bin, always. Until the bin is coalesced, they are what straight cuts leave of it, one
+/// after another, boxes without cells aside.
 ///
 /// ```
 /// let mut session: Session<u32, &'static str> = Session::new(alloc, 0);
@@ -151,7 +154,7 @@ where
         ascending(&self.bins)
     }
 
-    /// The placements that were not released, in the order of their numbers.
+    /// The placements that were not released, nor their bins cleared, in the order of their numbers.
     pub fn outstanding(&self) -> &[Outstanding<Id, BinId>]
         // The answer has the outstanding placements of the session, in their order.
         ensures outstanding { result.now ≡ self.now.outstanding }

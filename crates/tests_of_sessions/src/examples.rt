@@ -156,3 +156,73 @@ fn knot_goes_into_a_board(rt: HostRuntime) -> Result<(), Fail> {
     );
     Ok(())
 }
+
+#[test]
+fn box_goes_where_it_fits_best(rt: HostRuntime) -> Result<(), Fail> {
+    let alloc = rt.alloc();
+    let mut bin = TargetBin::new(alloc, 20, 10, 1)?;
+    bin.remove_filled_section(0);
+    let narrow = BinSection::new(0, 0, 0, WidthHeightDepth::new(6, 10, 1));
+    let wide = BinSection::new(6, 0, 0, WidthHeightDepth::new(14, 10, 1));
+    bin.push_available_bin_section(narrow)?;
+    bin.push_available_bin_section(wide)?;
+    let size = RectToInsert::new(6, 4, 1);
+    let placed = bin.place_best(size, &volume_heuristic, &contains_smallest_box)?;
+    let location = placed.ok_or("no room")?;
+    assert_eq!(rt; (location.x(), location.y(), location.z()), (0, 0, 0));
+    let above = BinSection::new(0, 4, 0, WidthHeightDepth::new(6, 6, 1));
+    assert_eq!(rt;
+        bin.available_bin_sections().as_slice(),
+        [wide, above].as_slice()
+    );
+    Ok(())
+}
+
+#[test]
+fn box_goes_into_the_bin_that_it_fits_best(rt: HostRuntime) -> Result<(), Fail> {
+    let alloc = rt.alloc();
+    let mut session: Session<&'static str, &'static str> = Session::new(alloc, 0);
+    session.add_bin("large", 20, 20, 1)?;
+    session.add_bin("small", 10, 8, 1)?;
+    let size = RectToInsert::new(9, 5, 1);
+    session.place_best(
+        None,
+        "shelf",
+        size,
+        &volume_heuristic,
+        &contains_smallest_box,
+    )?;
+    assert_eq!(rt; session.outstanding()[0].bin, "small");
+    Ok(())
+}
+
+#[test]
+fn two_placements_are_released(rt: HostRuntime) -> Result<(), Fail> {
+    let alloc = rt.alloc();
+    let mut session: Session<&'static str, u32> = Session::new(alloc, 0);
+    session.add_bin(1, 10, 10, 1)?;
+    let size = WidthHeightDepth::new(2, 2, 1);
+    let knot = session.place_at(1, "knot", PackedLocation::new(4, 3, 0, size))?;
+    let hole = session.place_at(1, "hole", PackedLocation::new(0, 0, 0, size))?;
+    session.release_all(&[hole, knot])?;
+    assert!(rt; session.outstanding().is_empty());
+    Ok(())
+}
+
+#[test]
+fn board_is_cut_anew(rt: HostRuntime) -> Result<(), Fail> {
+    let alloc = rt.alloc();
+    let mut session: Session<&'static str, &'static str> = Session::new(alloc, 0);
+    session.add_bin("board", 10, 10, 1)?;
+    let knot = PackedLocation::new(0, 0, 0, WidthHeightDepth::new(4, 2, 1));
+    session.place_at("board", "knot", knot)?;
+    session.recut(&"board")?;
+    let board = session.bins().get(&"board").ok_or("no such bin")?;
+    let above = BinSection::new(0, 2, 0, WidthHeightDepth::new(10, 8, 1));
+    let right = BinSection::new(4, 0, 0, WidthHeightDepth::new(6, 2, 1));
+    assert_eq!(rt;
+        board.available_bin_sections().as_slice(),
+        [above, right].as_slice()
+    );
+    Ok(())
+}

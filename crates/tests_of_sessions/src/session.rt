@@ -71,9 +71,12 @@ mod large;
 mod no_memory;
 mod numbers;
 mod placing_at;
+mod placing_best;
+mod recutting;
 mod refusals;
 mod release_order;
 mod releases;
+mod releasing;
 mod run;
 mod stats;
 mod strip;
@@ -190,8 +193,8 @@ pub const BIN: u32 = 0;
 /// A bin that is in few of them.
 pub const OTHER: u32 = 1;
 
-// A bin that is in none.
-const NOWHERE: u32 = 2;
+/// A bin that is in none.
+pub const NOWHERE: u32 = 2;
 
 /// A new bin of ten by ten cells.
 pub const NEW: Held = held!(BIN, [[0, 0, 0, 10, 10, 1]]; 100 = 100 + 0; 1 free, 0 placed);

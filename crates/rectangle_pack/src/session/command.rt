@@ -8,7 +8,7 @@ use std::alloc::{AllocError, AllocFailed, Allocator, Global};
 use std::error::Error;
 use std::{fmt, io};
 
-/// A placement that was not released.
+/// A placement that was not released, nor was its bin cleared.
 #[derive(Debug, PartialEq, Drop)]
 pub struct Outstanding<Id, BinId> {
     /// Its number, by which it is released.
@@ -51,6 +51,8 @@ pub enum SessionError {
     TooLarge,
     /// No free section of the bin holds the box there.
     NotFree,
+    /// No straight cuts part the boxes that stand in the bin.
+    NotFromCuts,
     /// A growth or a clone was refused.
     OutOfMemory,
 }
@@ -71,6 +73,7 @@ impl SessionError {
                 "A side of the bin would exceed the greatest number of 32 bits."
             }
             SessionError::NotFree => "No free section holds the box there.",
+            SessionError::NotFromCuts => "No straight cuts part the boxes that stand in the bin.",
             SessionError::OutOfMemory => "Out of memory.",
         }
     }

@@ -42,7 +42,7 @@ fn gather_free<A: Allocator>(
 }
 
 // Puts the outstanding boxes with cells of the bin at the end of the list.
-fn gather_outstanding<Id, B: Ord, A: Allocator>(
+pub(crate) fn gather_outstanding<Id, B: Ord, A: Allocator>(
     boxes: &mut Vec<BinSection, A>,
     outstanding: &[Outstanding<Id, B>],
     id: &B,
@@ -60,7 +60,7 @@ fn gather_outstanding<Id, B: Ord, A: Allocator>(
 }
 
 // All of a bin.
-fn whole<A: Allocator + Copy>(bin: &TargetBin<A>) -> BinSection
+pub(crate) fn whole<A: Allocator + Copy>(bin: &TargetBin<A>) -> BinSection
     ensures whole { result ≡ whole bin.now.bin.size }
     ensures fits { FitsU32 result }
 {

@@ -19,8 +19,8 @@ where
     BinId: Ord + Clone + Drop,
     A: Allocator + Copy,
 {
-    /// Whether a coalescing call that named the bin was accepted, also where it joined nothing;
-    /// `None` where there is no such bin.
+    /// Whether a coalescing call that named the bin was accepted since it was added or last
+    /// cleared, also where it joined nothing; `None` where there is no such bin.
     pub fn was_coalesced(&self, id: &BinId) -> Option<bool>
         ensures { result ≡ option_map (λ (b : Bin). b.coalesced)
             (lookup (is_at (BinId.cmp id.now)) self.now.bins) }

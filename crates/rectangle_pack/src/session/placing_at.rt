@@ -48,6 +48,7 @@ where
         //   leaves, as `placed` of `TargetBin::place_at` says it for `true`.
         // Placed: the answer is the next number. The placement follows the outstanding ones under
         //   it, with these ids and this location, and the next number grows by 1. All else stays.
+        //   [place_at.number_is_one_too_great]
         // `UnknownBin`: there is no such bin. The session is as it was.
         // `NumbersUsedUp`: the bin is there, and the next number and 1 add up to more than the
         //   greatest `u64`. The session is as it was.

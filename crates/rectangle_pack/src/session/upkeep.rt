@@ -33,7 +33,7 @@ where
         //   order. The next number stays, and so do the other bins.
         //   [forget.placement_is_kept]
         // `UnknownBin`: there is no such bin. The session is as it was.
-        // `OutOfMemory`: the bin is there. The session is as it was.
+        // `OutOfMemory`: the bin is there and has no free section. The session is as it was.
         // No other error is answered.
         ensures cleared { Clears BinId.cmp id.now self.old (reply_of result) self.new }
         // What always holds of a session holds afterwards. [forget.placement_is_kept]

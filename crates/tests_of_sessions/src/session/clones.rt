@@ -1,7 +1,9 @@
-//! Packings of a session whose ids refuse to be cloned, each clone in turn until none is refused.
+//! Packings of a session, and a box where it fits best, where ids refuse to be cloned: each clone in
+//! turn until none is refused.
 
 use rectangle_pack::{
-    Outstanding, Packed, Session, SessionError, contains_smallest_box, volume_heuristic,
+    Outstanding, Packed, RectToInsert, Session, SessionError, contains_smallest_box,
+    volume_heuristic,
 };
 use std::alloc::Global;
 use std::process::Abort;
@@ -42,6 +44,15 @@ const AFTER: State = State {
         (0, 1, 7, [0, 0, 0, 4, 10, 1]),
         (1, 3, 7, [4, 0, 0, 4, 10, 1]),
         (2, 2, 7, [8, 0, 0, 2, 10, 1]),
+    ],
+};
+
+// Once box 2 was placed where it fits best.
+const BESIDE: State = State {
+    bins: &[(7, [10, 10, 1], &[[6, 0, 0, 4, 10, 1]])],
+    placed: &[
+        (0, 1, 7, [0, 0, 0, 4, 10, 1]),
+        (1, 2, 7, [4, 0, 0, 2, 10, 1]),
     ],
 };
 
@@ -128,5 +139,40 @@ fn enough(rt: &impl Abort, alloc: Global) -> Result<u64, Fail> {
 #[test]
 fn packings(rt: HostRuntime) -> Result<(), Fail> {
     assert!(rt; enough(&rt, rt.alloc())? >= 4);
+    Ok(())
+}
+
+// Places box 2 where it fits best, beside the first box in a bin 10x10x1, where `count` clones are
+// left. Whether none was refused.
+fn is_placed_best(rt: &impl Abort, alloc: Refusing, clones: Clones, count: u64) -> bool {
+    let mut session = NameSession::new(alloc, 0);
+    clones.set(u64::MAX);
+    let bin = Name { number: 7, clones };
+    let id = Name { number: 2, clones };
+    let size = RectToInsert::new(2, 10, 1);
+    assert!(rt; session.add_bin(bin, 10, 10, 1).is_ok());
+    assert!(rt; pack(&mut session, alloc, clones, FIRST, u64::MAX).is_ok());
+    clones.set(count);
+    match session.place_best(None, id, size, &volume_heuristic, &contains_smallest_box) {
+        Ok(number) => {
+            assert!(rt; number == 1 && is_in(&session, &BESIDE));
+            true
+        }
+        Err(error) => {
+            assert!(rt; error == SessionError::OutOfMemory && is_in(&session, &BEFORE));
+            false
+        }
+    }
+}
+
+// The placement owns a clone of the bin's id.
+#[test]
+fn boxes_that_fit_best(rt: HostRuntime) -> Result<(), Fail> {
+    let clones = Clones::new(rt.alloc(), 0)?;
+    for (count, is_done) in [(0, false), (1, true)] {
+        let refusing = Refusing::new(rt.alloc(), u64::MAX)?;
+        assert!(rt; is_placed_best(&rt, refusing, clones, count) == is_done);
+        assert!(rt; refusing.taken() == 0);
+    }
     Ok(())
 }

@@ -108,6 +108,10 @@ const ERRORS: &[(SessionError, &str)] = &[
         SessionError::NotFree,
         "No free section holds the box there.",
     ),
+    (
+        SessionError::NotFromCuts,
+        "No straight cuts part the boxes that stand in the bin.",
+    ),
     (SessionError::OutOfMemory, "Out of memory."),
 ];
 

@@ -27,24 +27,29 @@ use Rattle.rectangle_pack_sections.proofs.lemmas.util.Searches.{some_of}
 use Rattle.rectangle_pack_packing.proofs.lemmas.packing.Placed.{keys-placed, known-placed}
 
 -- the bin of this id in the new state was there in the old one, in its size, and not coalesced where it is not now; its boxes
--- keep what they keep in a session
-pub record IsCarried {Id B : Type 0} (bin_cmp : B → B → Ordering) (old new : State Id B) (id : B) (after : Bin) : Type 0 where
+-- keep what they keep in a session, where bins that are let off need not keep cuts
+pub record IsCarried {Id B : Type 0} (bin_cmp : B → B → Ordering) (let_off : Bin → Bool) (old new : State Id B) (id : B) (after : Bin) : Type 0 where
   pub before : Bin
   pub found : lookup (is_at (bin_cmp id)) old.bins ≡ Some before
   pub size : after.size ≡ before.size
   pub uncoalesced : after.coalesced ≡ false → before.coalesced ≡ false
-  pub framed : KeepsBoxes after.coalesced (boxes_of bin_cmp old.outstanding id before) (boxes_of bin_cmp new.outstanding id after)
+  pub framed : KeepsBoxes (let_off after) (boxes_of bin_cmp old.outstanding id before) (boxes_of bin_cmp new.outstanding id after)
 
 -- each bin of the new state is carried
-abbrev pub AreCarried : {Id B : Type 0} → (B → B → Ordering) → State Id B → State Id B → Type 0
-AreCarried {Id} {B} bin_cmp old new = (id : B) (after : Bin) → lookup (is_at (bin_cmp id)) new.bins ≡ Some after → IsCarried bin_cmp old new id after
+abbrev pub AreCarried : {Id B : Type 0} → (B → B → Ordering) → (Bin → Bool) → State Id B → State Id B → Type 0
+AreCarried {Id} {B} bin_cmp let_off old new =
+    (id : B) (after : Bin) → lookup (is_at (bin_cmp id)) new.bins ≡ Some after → IsCarried bin_cmp let_off old new id after
+
+-- in a session bins that count as coalesced are let off
+abbrev pub in_session : Bin → Bool
+in_session bin = bin.coalesced
 
 -- boxes that cover a bin are cut anew, and cover it
 CoverBin-recut : (size : Size) (old new : List Cuboid) → IsRecut old new → CoverBin old size → CoverBin new size
 CoverBin-recut size old new recut h = record { inside = recut.inside size h.inside; once = λ c in_bin. recut.cells c ∙ h.once c in_bin }
 
 -- and those that were from cuts are from cuts
-IsFromCuts-kept : (size : Size) (old new : List Cuboid) → KeepsCuts old new → IsFromCuts old (whole size) → IsFromCuts new (whole size)
+pub IsFromCuts-kept : (size : Size) (old new : List Cuboid) → KeepsCuts old new → IsFromCuts old (whole size) → IsFromCuts new (whole size)
 IsFromCuts-kept size old new keeps h =
     subst (λ bs. IsFromCuts bs (whole size)) (append-nil new) (keeps.kept [] (whole size) (subst (λ bs. IsFromCuts bs (whole size)) (sym (append-nil old)) h))
 
@@ -112,7 +117,7 @@ known-kept {Id} {B} bin_cmp old new same outstanding =
     (λ r some. is_some-keys (is_at (bin_cmp r.bin)) new old same ∙ some) outstanding
 
 -- so a session whose bins are carried stays one
-pub IsSession-carried : {Id B : Type 0} (bin_cmp : B → B → Ordering) (old new : State Id B) → AreCarried bin_cmp old new
+pub IsSession-carried : {Id B : Type 0} (bin_cmp : B → B → Ordering) (old new : State Id B) → AreCarried bin_cmp in_session old new
     → All (λ r. IsSome (lookup (is_at (bin_cmp r.bin)) new.bins)) new.outstanding → AreNumbered new.outstanding new.next
     → IsSession bin_cmp old → IsSession bin_cmp new
 IsSession-carried bin_cmp old new carried known numbers h = record {
@@ -131,15 +136,15 @@ IsSession-carried bin_cmp old new carried known numbers h = record {
 
 -- a packing that is kept
 module _ {Id B : Type 0} (rules : Rules Id B) (o : IsTotalOrder rules.bin_cmp) {K : Type 0} (excludes : List (K × B) → K → B → Bool) where
-  AreCarried-packed : (order : List B) (gs : List (K × Members Id)) (old new : Stage K B) (placements : List (Placement Id B)) (tests : ℕ)
+  AreCarried-packed : (let_off : Bin → Bool) (order : List B) (gs : List (K × Members Id)) (old new : Stage K B) (placements : List (Placement Id B)) (tests : ℕ)
       (outstanding : List (Outstanding Id B)) (next : ℕ)
       → AreAllPlaced rules excludes order gs old placements new tests
-      → AreCarried rules.bin_cmp (record { bins = old.bins; outstanding = outstanding; next = next })
+      → AreCarried rules.bin_cmp let_off (record { bins = old.bins; outstanding = outstanding; next = next })
       (record { bins = new.bins; outstanding = outstanding ++ numbered next placements; next = next + length placements })
-  AreCarried-packed order gs old new placements tests outstanding next done id bin found =
+  AreCarried-packed let_off order gs old new placements tests outstanding next done id bin found =
       let before = some_of _ (is_some-keys (is_at (rules.bin_cmp id)) old.bins new.bins
       (sym (keys-placed rules excludes order gs old placements new tests done)) ∙ rw found refl) in
-      let changed = changed-all (IsFrame-boxes bin.coalesced) rules o (KeptBySteps-boxes rules.may bin.coalesced) excludes order gs old placements new
+      let changed = changed-all (IsFrame-boxes (let_off bin)) rules o (KeptBySteps-boxes rules.may (let_off bin)) excludes order gs old placements new
       tests done id before.0 before.1 in
       let same : Some changed.after ≡ Some bin = sym changed.found ∙ found in
       let is : changed.after ≡ bin = cc in
@@ -152,8 +157,10 @@ module _ {Id B : Type 0} (rules : Rules Id B) (o : IsTotalOrder rules.bin_cmp) {
         found = before.1;
         size = rw (← is) (ap (λ (b : Bin). b.size) changed.kept);
         uncoalesced = λ not_so. sym (ap (λ (b : Bin). b.coalesced) changed.kept) ∙ ap (λ (b : Bin). b.coalesced) is ∙ not_so;
-        framed = rw (boxes, ap (λ (b : Bin). b.sections) (sym is)) ((IsFrame-boxes bin.coalesced).beside before.0.sections changed.after.sections
-            (locations_in rules.bin_cmp placements id) (outstanding_in rules.bin_cmp outstanding id) changed.framed);
+        framed = subst (λ sections. KeepsBoxes (let_off bin) (boxes_of rules.bin_cmp outstanding id before.0)
+            (sections ++ outstanding_in rules.bin_cmp (outstanding ++ numbered next placements) id)) (ap (λ (b : Bin). b.sections) is)
+            (rw boxes ((IsFrame-boxes (let_off bin)).beside before.0.sections changed.after.sections
+            (locations_in rules.bin_cmp placements id) (outstanding_in rules.bin_cmp outstanding id) changed.framed));
       }
 
   IsSession-packed : (order : List B) (gs : List (K × Members Id)) (old new : Stage K B) (placements : List (Placement Id B)) (tests : ℕ)
@@ -165,13 +172,22 @@ module _ {Id B : Type 0} (rules : Rules Id B) (o : IsTotalOrder rules.bin_cmp) {
       let There : B → Type 0 = λ id. IsSome (lookup (is_at (rules.bin_cmp id)) new.bins) in
       IsSession-carried rules.bin_cmp (record { bins = old.bins; outstanding = outstanding; next = next })
       (record { bins = new.bins; outstanding = outstanding ++ numbered next placements; next = next + length placements })
-      (AreCarried-packed order gs old new placements tests outstanding next done)
+      (AreCarried-packed in_session order gs old new placements tests outstanding next done)
       (All-append (λ (r : Outstanding Id B). There r.bin) outstanding (numbered next placements)
       (known-kept rules.bin_cmp old.bins new.bins (keys-placed rules excludes order gs old placements new tests done) outstanding h.known)
       (All-numbered There next placements (known-placed rules excludes o order gs old placements new tests done)))
       (AreNumbered-more placements outstanding next (record { rising = h.rising; below = h.below })) h
 
 -- the same, of a packing that is done
+pub AreCarried-done : {Id B G : Type 0} (group_cmp : Group G Id → Group G Id → Ordering) (rules : Rules Id B) → IsTotalOrder rules.bin_cmp
+    → (let_off : Bin → Bool) (all : Collection Id G) (old new : List (B × Bin)) (placements : List (Placement Id B)) (outstanding : List (Outstanding Id B))
+    (next : ℕ) → PackingDone group_cmp rules all old placements new
+    → AreCarried rules.bin_cmp let_off (record { bins = old; outstanding = outstanding; next = next })
+    (record { bins = new; outstanding = outstanding ++ numbered next placements; next = next + length placements })
+AreCarried-done group_cmp rules o let_off all old new placements outstanding next done =
+    AreCarried-packed rules o (excludes_by group_cmp rules.bin_cmp all.partners) let_off (map (λ o. o.1) done.bin_order) done.groups (at_start old)
+    (record { bins = new; homes = done.homes }) placements done.tests outstanding next done.placed
+
 pub IsSession-done : {Id B G : Type 0} (group_cmp : Group G Id → Group G Id → Ordering) (rules : Rules Id B) → IsTotalOrder rules.bin_cmp
     → (all : Collection Id G) (old new : List (B × Bin)) (placements : List (Placement Id B)) (outstanding later : List (Outstanding Id B)) (next after : ℕ)
     → PackingDone group_cmp rules all old placements new → later ≡ outstanding ++ numbered next placements → after ≡ next + length placements
@@ -193,17 +209,17 @@ keys-released {B} bin_cmp old new id box = by (has_cells box)
 
 module _ {Id B : Type 0} {bin_cmp : B → B → Ordering} (o : IsTotalOrder bin_cmp) where
   -- one bin is written, and what stands in the others stays
-  pub AreCarried-written : (old : State Id B) (id : B) (v w : Bin) (outstanding : List (Outstanding Id B)) → lookup (is_at (bin_cmp id)) old.bins ≡ Some v
+  pub AreCarried-written : (let_off : Bin → Bool) (old : State Id B) (id : B) (v w : Bin) (outstanding : List (Outstanding Id B)) → lookup (is_at (bin_cmp id)) old.bins ≡ Some v
       → w.size ≡ v.size → (w.coalesced ≡ false → v.coalesced ≡ false)
-      → ((q : B) → is_eq (bin_cmp id q) ≡ true → KeepsBoxes w.coalesced (boxes_of bin_cmp old.outstanding q v) (boxes_of bin_cmp outstanding q w))
+      → ((q : B) → is_eq (bin_cmp id q) ≡ true → KeepsBoxes (let_off w) (boxes_of bin_cmp old.outstanding q v) (boxes_of bin_cmp outstanding q w))
       → ((q : B) → is_eq (bin_cmp id q) ≡ false → outstanding_in bin_cmp outstanding q ≡ outstanding_in bin_cmp old.outstanding q)
-      → AreCarried bin_cmp old (record { bins = set_value (is_at (bin_cmp id)) old.bins w; outstanding = outstanding; next = old.next })
-  AreCarried-written old id v w outstanding there size uncoalesced here beside q after found = by (is_eq (bin_cmp id q)) refl
+      → AreCarried bin_cmp let_off old (record { bins = set_value (is_at (bin_cmp id)) old.bins w; outstanding = outstanding; next = old.next })
+  AreCarried-written let_off old id v w outstanding there size uncoalesced here beside q after found = by (is_eq (bin_cmp id q)) refl
     where
       new : State Id B
       new = record { bins = set_value (is_at (bin_cmp id)) old.bins w; outstanding = outstanding; next = old.next }
 
-      by : (b : Bool) → is_eq (bin_cmp id q) ≡ b → IsCarried bin_cmp old new q after
+      by : (b : Bool) → is_eq (bin_cmp id q) ≡ b → IsCarried bin_cmp let_off old new q after
       by true e =
           let now : Some after ≡ Some w = sym found ∙ lookup-written o id old.bins v w q there ∙ rw e refl in
           let is : after ≡ w = cc in
@@ -219,16 +235,16 @@ module _ {Id B : Type 0} {bin_cmp : B → B → Ordering} (o : IsTotalOrder bin_
         found = sym (lookup-written o id old.bins v w q there ∙ rw e refl) ∙ found;
         size = refl;
         uncoalesced = λ not_so. not_so;
-        framed = rw (beside q e) ((IsFrame-boxes after.coalesced).same (boxes_of bin_cmp old.outstanding q after));
+        framed = rw (beside q e) ((IsFrame-boxes (let_off after)).same (boxes_of bin_cmp old.outstanding q after));
       }
 
   -- a placement that is released, of a bin that is there
-  AreCarried-released : (old new : List (B × Bin)) (before : List (Outstanding Id B)) (r : Outstanding Id B)
+  AreCarried-released : (let_off : Bin → Bool) (old new : List (B × Bin)) (before : List (Outstanding Id B)) (r : Outstanding Id B)
       (after : List (Outstanding Id B)) (next : ℕ) (v : Bin)
       → lookup (is_at (bin_cmp r.bin)) old ≡ Some v → GivesBack bin_cmp old r.bin r.location new
-      → AreCarried bin_cmp (record { bins = old; outstanding = before ++ r ∷ after; next = next })
+      → AreCarried bin_cmp let_off (record { bins = old; outstanding = before ++ r ∷ after; next = next })
       (record { bins = new; outstanding = before ++ after; next = next })
-  AreCarried-released old new before r after next v there gives = by (has_cells r.location) refl gives
+  AreCarried-released let_off old new before r after next v there gives = by (has_cells r.location) refl gives
     where
       was : State Id B
       was = record { bins = old; outstanding = before ++ r ∷ after; next = next }
@@ -248,15 +264,27 @@ module _ {Id B : Type 0} {bin_cmp : B → B → Ordering} (o : IsTotalOrder bin_
       by : (cells : Bool) → has_cells r.location ≡ cells
           → MatchBool cells ((b : Bin) × (lookup (is_at (bin_cmp r.bin)) old ≡ Some b)
           × (new ≡ set_value (is_at (bin_cmp r.bin)) old (record b { sections = b.sections ++ r.location ∷ [] }))) (new ≡ old)
-          → AreCarried bin_cmp was (record { bins = new; outstanding = before ++ after; next = next })
+          → AreCarried bin_cmp let_off was (record { bins = new; outstanding = before ++ after; next = next })
       by true cells (b, found, written) =
-          rw written (AreCarried-written was r.bin b (record b { sections = b.sections ++ r.location ∷ [] }) (before ++ after) found refl (λ not_so. not_so)
+          rw written (AreCarried-written let_off was r.bin b (record b { sections = b.sections ++ r.location ∷ [] }) (before ++ after) found refl (λ not_so. not_so)
           (λ q e. rw (outstanding_in-record bin_cmp before r after q true e, both q)
-          ((IsFrame-boxes b.coalesced).moved b.sections (left q) (right q) r.location)) beside)
+          ((IsFrame-boxes (let_off (record b { sections = b.sections ++ r.location ∷ [] }))).moved b.sections (left q) (right q) r.location)) beside)
       by false cells same =
-          rw (same ∙ sym (set_value_same (is_at (bin_cmp r.bin)) old v there)) (AreCarried-written was r.bin v v (before ++ after) there refl (λ not_so. not_so)
+          rw (same ∙ sym (set_value_same (is_at (bin_cmp r.bin)) old v there)) (AreCarried-written let_off was r.bin v v (before ++ after) there refl (λ not_so. not_so)
           (λ q e. rw (outstanding_in-record bin_cmp before r after q true e, both q)
-          ((IsFrame-boxes v.coalesced).dropped v.sections (left q) (right q) r.location cells)) beside)
+          ((IsFrame-boxes (let_off v)).dropped v.sections (left q) (right q) r.location cells)) beside)
+
+  -- the same, of a session, in which the bin is there
+  pub AreCarried-given : (let_off : Bin → Bool) (old new : List (B × Bin)) (before : List (Outstanding Id B)) (r : Outstanding Id B)
+      (after : List (Outstanding Id B)) (next : ℕ)
+      → GivesBack bin_cmp old r.bin r.location new
+      → IsSession bin_cmp (record { bins = old; outstanding = before ++ r ∷ after; next = next })
+      → AreCarried bin_cmp let_off (record { bins = old; outstanding = before ++ r ∷ after; next = next })
+      (record { bins = new; outstanding = before ++ after; next = next })
+  AreCarried-given let_off old new before r after next gives h =
+      let There : Outstanding Id B → Type 0 = λ x. IsSome (lookup (is_at (bin_cmp x.bin)) old) in
+      let there = some_of _ (All-middle There (before ++ r ∷ after) before after r refl h.known) in
+      AreCarried-released let_off old new before r after next there.0 there.1 gives
 
   pub IsSession-released : (old new : List (B × Bin)) (before : List (Outstanding Id B)) (r : Outstanding Id B) (after : List (Outstanding Id B)) (next : ℕ)
       → GivesBack bin_cmp old r.bin r.location new
@@ -268,10 +296,9 @@ module _ {Id B : Type 0} {bin_cmp : B → B → Ordering} (o : IsTotalOrder bin_
       let without : remove (before ++ r ∷ after) (length before) ≡ before ++ after =
       remove-append_right before (r ∷ after) (length before) (length before) refl (omega arith)
       ∙ (let none : length before - length before ≡ 0 = omega arith in ap (λ n. before ++ remove (r ∷ after) n) none) in
-      let there = some_of _ (All-middle There (before ++ r ∷ after) before after r refl h.known) in
       IsSession-carried bin_cmp (record { bins = old; outstanding = before ++ r ∷ after; next = next })
       (record { bins = new; outstanding = before ++ after; next = next })
-      (AreCarried-released old new before r after next there.0 there.1 gives)
+      (AreCarried-given in_session old new before r after next gives h)
       (known-kept bin_cmp old new (keys-released bin_cmp old new r.bin r.location gives) (before ++ after) (All-without There before r after h.known))
       (record {
         rising = subst (λ rs. AllPairs (λ (a b : Outstanding Id B). a.number < b.number) rs) without

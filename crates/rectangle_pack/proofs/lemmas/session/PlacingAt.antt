@@ -1,5 +1,5 @@
 -- A box that is placed at a corner of the caller's choice: the session stays one.
-use Rattle.rectangle_pack_sections.proofs.Std.{◌≡◌, ℕ, ◌+◌, ◌<◌, ◌^◌, List, [], ◌∷◌, ◌++◌, refl, ap, sym, ◌∙◌, arith, true, false, Ok, Result, IsErrAnd, Some, Ordering, IsTotalOrder}
+use Rattle.rectangle_pack_sections.proofs.Std.{◌≡◌, ℕ, ◌+◌, ◌<◌, ◌^◌, List, [], ◌∷◌, ◌++◌, refl, ap, sym, ◌∙◌, arith, true, false, Ok, Result, IsErrAnd, Some, Ordering, IsTotalOrder, set_value}
 use Rattle.rectangle_pack_sections.proofs.Std.{All-push, All-weaker, IsSome, append-nil, all_pairs_push, is_eq, is_at, lookup, keys_of, keys-set_value}
 use Rattle.rectangle_pack_sections.specs.Boxes.{Cuboid, IsInside, IsPartOf, has_cells}
 use Rattle.rectangle_pack_sections.specs.Bins.{Bin}
@@ -21,7 +21,7 @@ use Rattle.rectangle_pack.specs.Session.{State, IsSession, outstanding_in, boxes
 use Rattle.rectangle_pack.specs.PlacingAt.{PlacesIn, PlacesAt}
 use Rattle.rectangle_pack.proofs.lemmas.session.Packing.{state}
 use Rattle.rectangle_pack.proofs.lemmas.session.Transitions.{memory_refused}
-use Rattle.rectangle_pack.proofs.lemmas.session.Keeps.{IsSession-carried, AreCarried, AreCarried-written, known-kept, outstanding_in-record}
+use Rattle.rectangle_pack.proofs.lemmas.session.Keeps.{IsSession-carried, AreCarried, in_session, AreCarried-written, known-kept, outstanding_in-record}
 
 module _ (s b : Cuboid) (part : IsPartOf b s) (before after : List Cuboid) where
   abbrev rest : List Cuboid
@@ -67,19 +67,20 @@ KeepsBoxes-placed bin box after (first, at, is) =
     rw (at.splits, ap (λ (b : Bin). b.sections) is)
     (IsRecut-round first box at.around at.before at.after, λ not_so. KeepsCuts-round first box at.around at.before at.after)
 
-module _ {Id B : Type 0} {bin_cmp : B → B → Ordering} (o : IsTotalOrder bin_cmp) where
-  -- the bins of a session in which a box is placed
-  AreCarried-placed : (old new : State Id B) (r : Outstanding Id B) → PlacesIn bin_cmp r.bin r.location old.bins new.bins
-      → new.outstanding ≡ old.outstanding ++ r ∷ [] → AreCarried bin_cmp old new
-  AreCarried-placed old new r (bin, there, after, placed, are) added q found_bin found =
+module _ {Id B : Type 0} {bin_cmp : B → B → Ordering} (o : IsTotalOrder bin_cmp) (old new : State Id B) (r : Outstanding Id B) (bin after : Bin)
+    (there : lookup (is_at (bin_cmp r.bin)) old.bins ≡ Some bin) (is : after ≡ record bin { sections = after.sections })
+    (keeps : KeepsBoxes after.coalesced bin.sections (after.sections ++ r.location ∷ [])) (are : new.bins ≡ set_value (is_at (bin_cmp r.bin)) old.bins after)
+    (added : new.outstanding ≡ old.outstanding ++ r ∷ []) where
+  -- the bins of a session in one of which a box is put
+  AreCarried-put : AreCarried bin_cmp in_session old new
+  AreCarried-put q found_bin found =
       let later = old.outstanding ++ r ∷ [] in
       let here : (p : B) → is_eq (bin_cmp r.bin p) ≡ true
       → KeepsBoxes after.coalesced (boxes_of bin_cmp old.outstanding p bin) (boxes_of bin_cmp later p after) = λ p e.
       rw (outstanding_in-record bin_cmp old.outstanding r [] p true e)
-      ((IsFrame-boxes after.coalesced).beside bin.sections after.sections (r.location ∷ []) (outstanding_in bin_cmp old.outstanding p)
-      (KeepsBoxes-placed bin r.location after placed)) in
-      let c = AreCarried-written o old r.bin bin after later there (ap (λ (b : Bin). b.size) placed.2)
-      (λ not_so. sym (ap (λ (b : Bin). b.coalesced) placed.2) ∙ not_so)
+      ((IsFrame-boxes after.coalesced).beside bin.sections after.sections (r.location ∷ []) (outstanding_in bin_cmp old.outstanding p) keeps) in
+      let c = AreCarried-written o in_session old r.bin bin after later there (ap (λ (b : Bin). b.size) is)
+      (λ not_so. sym (ap (λ (b : Bin). b.coalesced) is) ∙ not_so)
       here (λ p e. outstanding_in-record bin_cmp old.outstanding r [] p false e ∙ append-nil _) q found_bin (rw are at found) in
       record {
         before = c.before;
@@ -90,13 +91,11 @@ module _ {Id B : Type 0} {bin_cmp : B → B → Ordering} (o : IsTotalOrder bin_
       }
 
   -- so it stays a session
-  pub IsSession-placed : (old new : State Id B) (r : Outstanding Id B) → PlacesIn bin_cmp r.bin r.location old.bins new.bins
-      → new.outstanding ≡ old.outstanding ++ r ∷ [] → r.number ≡ old.next → new.next ≡ old.next + 1 → IsSession bin_cmp old → IsSession bin_cmp new
-  IsSession-placed old new r places added number next h =
+  pub IsSession-put : r.number ≡ old.next → new.next ≡ old.next + 1 → IsSession bin_cmp old → IsSession bin_cmp new
+  IsSession-put number next h =
       let There : Outstanding Id B → Type 0 = λ x. IsSome (lookup (is_at (bin_cmp x.bin)) new.bins) in
-      let (bin, there, after, placed, are) = places in
       let keys = ap (λ (bs : List (B × Bin)). keys_of bs) are ∙ keys-set_value (is_at (bin_cmp r.bin)) old.bins after in
-      IsSession-carried bin_cmp old new (AreCarried-placed old new r places added)
+      IsSession-carried bin_cmp old new AreCarried-put
       (rw added (All-push There old.outstanding r (known-kept bin_cmp old.bins new.bins keys old.outstanding h.known)
       (is_some-keys (is_at (bin_cmp r.bin)) new.bins old.bins keys ∙ rw there refl)))
       (rw (added, next) (record {
@@ -107,6 +106,7 @@ module _ {Id B : Type 0} {bin_cmp : B → B → Ordering} (o : IsTotalOrder bin_
             (λ x lt. omega arith) old.outstanding h.below) (omega (arith, number));
       })) h
 
+module _ {Id B : Type 0} {bin_cmp : B → B → Ordering} (o : IsTotalOrder bin_cmp) where
   -- a box is placed in the bin of this id, and its placement is pushed: what is answered, and what always holds
   pub placed-pushed : (r : Outstanding Id B) (old new : List (B × Bin)) (outstanding later : List (Outstanding Id B)) (next after : ℕ) → next + 1 < 2 ^ 64
       → after ≡ next + 1 → PlacesIn bin_cmp r.bin r.location old new → later ≡ outstanding ++ r ∷ [] → r.number ≡ next
@@ -115,7 +115,11 @@ module _ {Id B : Type 0} {bin_cmp : B → B → Ordering} (o : IsTotalOrder bin_
       × IsSession bin_cmp (state new later after)
   placed-pushed r old new outstanding later next after fits follows places added number h = (
     (fits, number, places, added, follows),
-    IsSession-placed (state old outstanding next) (state new later after) r places added number follows h,
+    (
+        let (bin, there, placed, at, are) = places in
+        IsSession-put o (state old outstanding next) (state new later after) r bin placed there (rw at.2 refl)
+        (KeepsBoxes-placed bin r.location placed at) are added number follows h
+        ),
   )
 
 -- what is answered where memory is refused

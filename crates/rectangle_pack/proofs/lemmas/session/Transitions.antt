@@ -21,7 +21,7 @@ use Rattle.rectangle_pack_packing.proofs.lemmas.packing.Frame.{IsRecut, IsFrame-
 use Rattle.rectangle_pack_lists.proofs.lemmas.joining.Joins.{IsJoined-cells, IsSwept-cells, IsJoined-keeps, IsSwept-keeps, join-inside}
 use Rattle.rectangle_pack_bins.proofs.lemmas.bins.Maps.{bins_of-written}
 use Rattle.rectangle_pack_sections.proofs.lemmas.util.Maps.{lookup-equal, lookup-inserted}
-use Rattle.rectangle_pack.proofs.lemmas.session.Keeps.{Some-bins_of, None-bins_of, bins_of-insert_entry, IsSession-carried, AreCarried-written, known-kept}
+use Rattle.rectangle_pack.proofs.lemmas.session.Keeps.{Some-bins_of, None-bins_of, bins_of-insert_entry, IsSession-carried, in_session, AreCarried-written, known-kept}
 use Rattle.rectangle_pack.proofs.lemmas.session.Keeps.{IsSession-added, IsSession-released, IsSession-done}
 
 -- a bin is added under an id alike under each that equals it
@@ -42,7 +42,7 @@ unchanged : {Id B : Type 0} (bin_cmp : B → B → Ordering) (old new : State Id
 unchanged bin_cmp old new same h = rw same (h, omega arith)
 
 module _ {Id B : Type 0} {bin_cmp : B → B → Ordering} (o : IsTotalOrder bin_cmp) where
-  kept-added : (id : B) (size : Size) (old : State Id B) (reply : Reply) (new : State Id B) → AddsBin bin_cmp id size old reply new
+  pub kept-added : (id : B) (size : Size) (old : State Id B) (reply : Reply) (new : State Id B) → AddsBin bin_cmp id size old reply new
       → IsKeptSession bin_cmp old new
   kept-added id size old Done new (absent, key, equal, are) = λ h.
       let none : lookup (is_at (bin_cmp key)) old.bins ≡ None = sym (lookup-equal o id key equal old.bins) ∙ absent in
@@ -72,7 +72,7 @@ module _ {Id B : Type 0} {bin_cmp : B → B → Ordering} (o : IsTotalOrder bin_
       ) in
       (step, (kept-added id size was Done is step h).0)
 
-  kept-released : (number : ℕ) (old : State Id B) (reply : Reply) (new : State Id B) → Releases bin_cmp number old reply new → IsKeptSession bin_cmp old new
+  pub kept-released : (number : ℕ) (old : State Id B) (reply : Reply) (new : State Id B) → Releases bin_cmp number old reply new → IsKeptSession bin_cmp old new
   kept-released number old Done new (at, gives, outstanding, next) = λ h.
       let was : IsSession bin_cmp (record { bins = old.bins; outstanding = at.before ++ at.found ∷ at.after; next = old.next }) = subst
       (λ rs. IsSession bin_cmp (record { bins = old.bins; outstanding = rs; next = old.next })) at.splits h in
@@ -120,7 +120,7 @@ module _ {Id B : Type 0} {bin_cmp : B → B → Ordering} (o : IsTotalOrder bin_
       let joint : Bin = record bin { sections = joined; coalesced = true } in
       let new : State Id B = record old { bins = set_value (is_at (bin_cmp id)) old.bins joint } in
       IsSession-carried bin_cmp old new
-      (AreCarried-written o old id bin joint old.outstanding there refl (λ not_so. absurd cc)
+      (AreCarried-written o in_session old id bin joint old.outstanding there refl (λ not_so. absurd cc)
       (λ q e. (IsRecut-beside bin.sections joined (outstanding_in bin_cmp old.outstanding q) recut, λ not_so. absurd cc)) (λ q e. refl))
       (known-kept bin_cmp old.bins new.bins (keys-set_value (is_at (bin_cmp id)) old.bins joint) old.outstanding h.known)
       (record { rising = h.rising; below = h.below }) h

@@ -14,7 +14,9 @@ returns-in_err-clear-clause-cleared g c =
     let test = is_at (g.BinId.Ord.cmp c.args.id.now) in
     let found = sym c.in-Some.ensures.value in
     rw (memory_refused c.from_residual.result c.from_residual.ensures.1, ← c.self.view_is) (
-      rw (Some-bins_of test c.self.inside.bins.entries c.in-Some.bin.now found) refl,
+      c.in-Some.bin.now.bin,
+      Some-bins_of test c.self.inside.bins.entries c.in-Some.bin.now found,
+      c.in_err-clear.ensures.empty,
       ap (λ bs. state bs c.self.inside.outstanding.items c.self.inside.next) (bins_of-same test c.self.inside.bins.entries _ c.in-Some.bin.now _ found
           (c.get_mut.follows.holds _).0 c.in_err-clear.ensures.err),
     )
