@@ -2,7 +2,7 @@
    of boxes and keeps nothing; rectangle_pack_collection packs boxes that are in several groups, groups that may not share a
    bin, and by a heuristic of the caller's choice. A session keeps its bins from call to call: boxes are packed into them and
    released again. All calls are proved; what is proved of them stands beside them, and as their contracts in
-   crates/rectangle_pack_c/src (lib.rt, session.rt, upkeep.rt and reading.rt). C99 and C++.
+   crates/rectangle_pack_c/src (lib.rt, session.rt, placing.rt, upkeep.rt and reading.rt). C99 and C++.
 
    Sizes and corners are counted in cells. In two dimensions each depth is 1 and each z is 0. */
 #ifndef RECTANGLE_PACK_H
@@ -71,7 +71,9 @@ enum {
     /* No free section of the bin of the session holds the box there. */
     RP_NOT_FREE = 15,
     /* There is no axis of this number. */
-    RP_UNKNOWN_AXIS = 16
+    RP_UNKNOWN_AXIS = 16,
+    /* No straight cuts part the boxes that stand in the bin of the session. */
+    RP_NOT_FROM_CUTS = 17
 };
 
 /* Packs all boxes into the bins; placements[i] is where boxes[i] stands.
@@ -196,8 +198,8 @@ uint32_t rectangle_pack_collection(const rp_bin *bins, size_t bin_count, const r
    The caller names each bin by an id, any number. The session gives each box that it packs or places a number, by which the
    box is released. Until then, or until its bin is cleared, its placement is outstanding: the box stays where it is. What is
    free in a bin is kept as a list of free sections, each of them a box of free cells. A box goes to the corner of the newest
-   free section that holds it, or to the place that rectangle_pack_session_place_at is given, and what is left of that section
-   is cut into new ones.
+   free section that holds it; by rectangle_pack_session_place_best, of the one that it fits best; or to the place that
+   rectangle_pack_session_place_at is given. What is left of that section is cut into new ones.
 
    Proved of every session, after each call, whatever was called before and wherever memory is refused:
    - Each cell of each bin is in exactly one free section or outstanding placement, and each of these is inside the bin. So
@@ -205,8 +207,8 @@ uint32_t rectangle_pack_collection(const rp_bin *bins, size_t bin_count, const r
    - A call that answers anything but RP_DONE leaves the session as it was and writes nothing, but for RP_SHORT_ARRAY the
      length of the list. RP_BAD_LENGTHS, RP_DUPLICATE_BIN, RP_UNKNOWN_BIN, RP_UNKNOWN_PLACEMENT, RP_UNKNOWN_HEURISTIC,
      RP_UNKNOWN_BOX, RP_EQUAL_GROUPS, RP_BIN_IN_USE, RP_TOO_LARGE, RP_NOT_FREE and RP_UNKNOWN_AXIS come exactly under their
-     conditions, where none that is looked at before comes; and RP_NUMBERS_USED_UP, RP_SHORT_ARRAY and RP_NO_PLAN too, unless
-     RP_OUT_OF_MEMORY is answered in their place.
+     conditions, where none that is looked at before comes; and RP_NUMBERS_USED_UP, RP_SHORT_ARRAY, RP_NO_PLAN and
+     RP_NOT_FROM_CUTS too, unless RP_OUT_OF_MEMORY is answered in their place.
    - No number is given twice in a session: placements are numbered 0, 1, 2 and so on, in the order of packing and placing.
    - A session owns nothing that belongs to one thread, so it may go to another.
    Only tested: that RP_OUT_OF_MEMORY comes only where malloc or realloc answered NULL, and that free gives all memory
@@ -307,6 +309,14 @@ uint32_t rectangle_pack_session_pack_collection(rp_session *session, const rp_co
    of its bin, the last of the list; a box without cells leaves none. RP_DONE, RP_UNKNOWN_PLACEMENT or RP_OUT_OF_MEMORY. */
 uint32_t rectangle_pack_session_release(rp_session *session, uint64_t number);
 
+/* Releases placements by their numbers, all or none, as rectangle_pack_session_release does it of each, in the order of the
+   list, but in one pass. RP_DONE; RP_UNKNOWN_PLACEMENT where some number is not outstanding, or stands twice; or
+   RP_OUT_OF_MEMORY.
+
+   Proved: the session is as after a release of each, or as it was. RP_OUT_OF_MEMORY does not come where there are no
+   numbers. */
+uint32_t rectangle_pack_session_release_all(rp_session *session, const uint64_t *numbers, size_t count);
+
 /* Joins free sections of a bin, two at a time, until no two share a whole face. A box goes into one free section, and not
    across two. A bin without boxes need not become one section: that depends on the order of releases and on where joins stand
    between them; rectangle_pack_session_clear_bin makes it one. RP_DONE or RP_UNKNOWN_BIN.
@@ -343,6 +353,16 @@ uint32_t rectangle_pack_session_remove_bin(rp_session *session, uint32_t bin);
    Proved: all other free sections and all placements stay where they are. */
 uint32_t rectangle_pack_session_grow_bin(rp_session *session, uint32_t bin, uint32_t axis, uint32_t by);
 
+/* Cuts the free part of a bin anew, where boxes that came and went left it in many small sections: the first cuts part off the
+   largest strips that are free beside all boxes. The section whose least side is the greatest stands first, and of those that
+   tie the smallest; an axis on which the bin has one cell does not count. So a box goes to the corner of the narrowest section
+   that holds it. A bin without boxes becomes one section. Whether the bin counts as coalesced stays. RP_DONE, RP_UNKNOWN_BIN,
+   RP_NOT_FROM_CUTS or RP_OUT_OF_MEMORY.
+
+   Proved: the free cells are the same as before; placements stay where they are; and straight cuts, each across a whole part,
+   leave the new free sections and the boxes, so that rectangle_pack_session_cut_plan has a plan for them. */
+uint32_t rectangle_pack_session_recut(rp_session *session, uint32_t bin);
+
 /* Places a box at a place of the caller's choice: location is its corner and its sides, also 0. number gets the number of the
    placement, by which it is released. In rp_standing the index of the box is 0, as of a call with one box. One free section has
    to hold the whole box: where it lies across several, rectangle_pack_session_coalesce_all before it might help. RP_DONE; or,
@@ -352,6 +372,24 @@ uint32_t rectangle_pack_session_grow_bin(rp_session *session, uint32_t bin, uint
    Proved: the box is outstanding there, under a number that was not given before, and what was outstanding before stays where
    it is. */
 uint32_t rectangle_pack_session_place_at(rp_session *session, uint32_t bin, const rp_section *location, uint64_t *number);
+
+/* Places one box into the free section of a bin that it fits best: of those that hold it, the one of which it leaves the least
+   on its tightest side, and of several such the newest. An axis on which the bin has one cell does not count. The box stands at
+   the corner of the section, and the rest is cut by the heuristic of this number, which is not RP_BEST. The group of the box
+   does not count. place gets its number, bin and corner; in rp_standing its index is 0. RP_DONE; or, looked at first and in this
+   order, RP_UNKNOWN_HEURISTIC, RP_UNKNOWN_BIN, RP_NUMBERS_USED_UP or RP_NOT_ENOUGH_SPACE; or RP_OUT_OF_MEMORY. Nothing is
+   written to place where the answer is not RP_DONE.
+
+   Proved: the box is outstanding there, under a number that was not given before, and it fits no section of the bin better; and
+   what was outstanding before stays where it is. RP_NOT_ENOUGH_SPACE comes only where no free section of the bin holds the
+   box. */
+uint32_t rectangle_pack_session_place_best(rp_session *session, uint32_t bin, const rp_box *one_box, uint32_t heuristic,
+                                           rp_outstanding *place);
+
+/* The same in any bin: in that one in which the box leaves the least, and of several such in the one with the least id.
+   RP_UNKNOWN_BIN does not come. */
+uint32_t rectangle_pack_session_place_best_anywhere(rp_session *session, const rp_box *one_box, uint32_t heuristic,
+                                                    rp_outstanding *place);
 
 /* Writes what is free and what is placed in a bin, and leaves the session as it is. RP_DONE or RP_UNKNOWN_BIN.
 

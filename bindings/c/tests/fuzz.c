@@ -102,7 +102,7 @@ static void pack_once(long first, long last, uint32_t depth)
 static void take_step(uint32_t depth)
 {
     static const int steps[] = {ADD_BIN, PACK, PACK_COLLECTION, RELEASE, COALESCE, COALESCE_ALL, PLAN, PACK_ONCE, FREE,
-                                CLEAR_BIN, REMOVE_BIN, GROW_BIN, PLACE_AT};
+                                CLEAR_BIN, REMOVE_BIN, GROW_BIN, PLACE_AT, PLACE_BEST, PLACE_ANYWHERE, RELEASE_ALL, RECUT};
     int what = steps[within(0, sizeof steps / sizeof *steps - 1)];
     known_session *it = &known[within(0, SESSIONS - 1)];
     long first, last;

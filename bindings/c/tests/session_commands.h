@@ -1,118 +1,32 @@
-/* The commands that change a session, each held against the account: the status, what is written, and what is then in the
+/* The commands of session_calls.h, each held against the account: the status, what is written, and what is then in the
    session. To be included once in a program. */
 #ifndef SESSION_COMMANDS_H
 #define SESSION_COMMANDS_H
 
-#include "session_account.h"
+#include "session_calls.h"
 #include "session_reading.h"
-#include "session_upkeep.h"
-
-enum kind { ADD_BIN, PACK, PACK_COLLECTION, RELEASE, COALESCE, COALESCE_ALL, CLEAR_BIN, REMOVE_BIN, GROW_BIN, PLACE_AT, KINDS };
-
-/* A command. The bin is an index in ids. Which number is released, pick chooses from those that were given by then, unless it
-   is NEVER_GIVEN; and by how much a bin grows, from what keeps it small enough, unless it is TOO_MUCH. A section is joined with
-   those of a range. A box is placed at a place. */
-typedef struct command {
-    enum kind kind;
-    size_t bin;
-    rp_bin size;
-    request asked;
-    uint64_t pick;
-    size_t section, start, stop;
-    uint32_t axis;
-    rp_section place;
-} command;
-
-/* What a command answered, and after it the statistics of all bins, and a number made from all free sections. */
-typedef struct answer {
-    uint32_t status, chosen;
-    rp_outstanding places[ENTRIES + 1];
-    rp_stats stats[BINS];
-    uint64_t free;
-} answer;
 
 /* What has to become of a session by a command that is done: of a packing, its placements; and the free sections of all bins,
-   but for those of a bin in which all are joined, whose order is not known. */
+   but for those of a bin in which all are joined or which is cut anew: which ones these are is not known. */
 typedef struct outlook {
     packing packed;
     shelf left;
     sections free[BINS];
 } outlook;
 
-/* The number that no placement gets. */
-static const uint64_t NEVER_GIVEN = UINT64_MAX;
-
 /* How many sections the joins of one section took up. */
 static long taken_up;
 
-static int packs(const command *it)
+/* The bin into which a box goes where it fits best, or BINS for any. */
+static size_t named_bin(const command *it)
 {
-    return it->kind == PACK || it->kind == PACK_COLLECTION;
-}
-
-/* One of the numbers that were given, or of the next two; or one that never is. */
-static uint64_t number_to_release(const command *it, const account *now)
-{
-    return it->pick == NEVER_GIVEN ? NEVER_GIVEN : it->pick % (now->next + 2);
-}
-
-/* By how many cells a bin grows. */
-static uint32_t growth_of(const command *it, const account *now)
-{
-    return growth(&now->bins[it->bin], it->axis, it->pick);
-}
-
-static uint32_t pack(rp_session *session, const command *it, answer *said)
-{
-    const request *asked = &it->asked;
-    const rp_collection *all = guarded_collection(asked);
-    size_t size = asked->places * sizeof *said->places;
-    rp_outstanding *places = guarded_untouched(PLACEMENTS_LIST, size);
-    uint32_t *chosen = guarded_untouched(CHOSEN, sizeof *chosen), status;
-    if (it->kind == PACK) {
-        status = rectangle_pack_session_pack(session, all->boxes, all->box_count, places, asked->places);
-        if (status == RP_DONE)
-            *chosen = RP_VOLUME;
-    } else {
-        status = rectangle_pack_session_pack_collection(session, all, asked->heuristic, places, asked->places, chosen);
-    }
-    check_kept(asked, all);
-    check_written(status, places, size, chosen);
-    memcpy(said->places, places, size);
-    said->chosen = *chosen;
-    return status;
-}
-
-static uint32_t perform(rp_session *session, const command *it, const account *now, answer *said)
-{
-    memset(said->places, UNTOUCHED, sizeof said->places);
-    memset(&said->chosen, UNTOUCHED, sizeof said->chosen);
-    refused = 0;
-    switch (it->kind) {
-    case ADD_BIN:
-        return rectangle_pack_session_add_bin(session, ids[it->bin], it->size.width, it->size.height, it->size.depth);
-    case RELEASE:
-        return rectangle_pack_session_release(session, number_to_release(it, now));
-    case COALESCE:
-        return rectangle_pack_session_coalesce(session, ids[it->bin], it->section, it->start, it->stop);
-    case COALESCE_ALL:
-        return rectangle_pack_session_coalesce_all(session, ids[it->bin]);
-    case CLEAR_BIN:
-        return rectangle_pack_session_clear_bin(session, ids[it->bin]);
-    case REMOVE_BIN:
-        return rectangle_pack_session_remove_bin(session, ids[it->bin]);
-    case GROW_BIN:
-        return rectangle_pack_session_grow_bin(session, ids[it->bin], it->axis, growth_of(it, now));
-    case PLACE_AT:
-        return rectangle_pack_session_place_at(session, ids[it->bin], &it->place, &said->places[0].number);
-    default:
-        return pack(session, it, said);
-    }
+    return it->kind == PLACE_BEST ? it->bin : BINS;
 }
 
 /* The status that the account calls for, and of a packing also what it places and leaves. */
 static uint32_t expected(const command *it, const account *now, outlook *next)
 {
+    numbers all = numbers_to_release(it, now);
     switch (it->kind) {
     case ADD_BIN:
         return now->has_bin[it->bin] ? RP_DUPLICATE_BIN : RP_DONE;
@@ -128,6 +42,13 @@ static uint32_t expected(const command *it, const account *now, outlook *next)
         return status_of_growing(now, it->bin, it->axis, growth_of(it, now));
     case PLACE_AT:
         return status_of_placing(now, it->bin, &it->place);
+    case PLACE_BEST:
+    case PLACE_ANYWHERE:
+        return status_of_fitting(now, named_bin(it), &it->asked);
+    case RELEASE_ALL:
+        return status_of_releasing(now, &all);
+    case RECUT:
+        return status_of_recutting(now, it->bin);
     default:
         shelve(&next->left, now);
         return answer_of(&it->asked, &next->left, &next->packed);
@@ -139,17 +60,17 @@ static int takes_no_memory(const command *it)
     return it->kind == COALESCE || it->kind == COALESCE_ALL || it->kind == REMOVE_BIN;
 }
 
-/* Whether a command may want memory: to join sections or to take out a bin takes none, nor to pack nothing where nothing is
-   excluded. */
+/* Whether a command may want memory: to join sections or to take out a bin takes none, nor to release nothing, or to pack nothing
+   where nothing is excluded. */
 static int may_want(const command *it)
 {
     const request *asked = &it->asked;
-    if (takes_no_memory(it))
+    if (takes_no_memory(it) || (it->kind == RELEASE_ALL && it->picks.count == 0))
         return 0;
     return !packs(it) || asked->box_count + asked->exclusion_count > 0 || asked->heuristic == RP_BEST;
 }
 
-/* The free sections of all bins after a command that is done. */
+/* The free sections of all bins after a command that is done, but for those of a bin that is cut anew. */
 static void look_ahead(const command *it, const account *now, outlook *next)
 {
     for (size_t i = 0; i < BINS; i++)
@@ -164,6 +85,14 @@ static void look_ahead(const command *it, const account *now, outlook *next)
         add_what_is_new(&next->free[it->bin], &now->bins[it->bin], it->axis, growth_of(it, now));
     if (it->kind == PLACE_AT)
         cut_round(&next->free[it->bin], &it->place);
+    if (it->kind == PLACE_BEST || it->kind == PLACE_ANYWHERE) {
+        best_place best = place_that_fits(now, named_bin(it), &it->asked.boxes[0]);
+        fit_in(&next->free[best.bin], &best, &it->asked);
+    }
+    if (it->kind == RELEASE_ALL) {
+        numbers all = numbers_to_release(it, now);
+        free_all(next->free, now, &all);
+    }
     if (it->kind == RELEASE) {
         const standing *released = &now->placed[position_of(now, number_to_release(it, now))];
         rp_section section = section_of(released);
@@ -192,6 +121,8 @@ static void check_sections(const command *it, const outlook *next, const section
             check(!share_a_face(&after[i]), "after coalescing two sections share a face");
             continue;
         }
+        if (it->kind == RECUT && i == it->bin)
+            continue;
         check_same_sections(&next->free[i], &after[i]);
     }
 }
@@ -226,10 +157,11 @@ static void take_up_packing(account *now, const outlook *next, const answer *sai
     now->next += packed->count;
 }
 
-
 /* Takes up in the account what was done. */
 static void take_up(account *now, const command *it, const outlook *next, const answer *said)
 {
+    numbers all = numbers_to_release(it, now);
+    best_place best;
     switch (it->kind) {
     case ADD_BIN:
         now->has_bin[it->bin] = 1;
@@ -254,6 +186,17 @@ static void take_up(account *now, const command *it, const outlook *next, const 
         break;
     case PLACE_AT:
         take_up_placing(now, it->bin, &it->place, said->places[0].number);
+        break;
+    case PLACE_BEST:
+    case PLACE_ANYWHERE:
+        best = place_that_fits(now, named_bin(it), &it->asked.boxes[0]);
+        take_up_fitting(now, &best, &it->asked.boxes[0], &said->places[0]);
+        break;
+    case RELEASE_ALL:
+        for (size_t i = 0; i < all.count; i++)
+            strike(now, position_of(now, all.list[i]));
+        break;
+    case RECUT:
         break;
     default:
         check_packed(it, now, &next->packed, said);
@@ -282,6 +225,8 @@ static void settle_done(rp_session *session, const command *it, account *now, ou
     take_up(now, it, next, said);
     read_session(session, now, said->stats, after);
     check_sections(it, next, after);
+    if (it->kind == RECUT)
+        check_cut_anew(now, it->bin, &after[it->bin]);
     said->free = number_of(after);
     memcpy(now->stats, said->stats, sizeof now->stats);
     for (size_t i = 0; i < BINS; i++)

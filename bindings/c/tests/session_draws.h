@@ -45,6 +45,26 @@ static void draw_place(command *it, uint32_t depth)
     it->place.depth = depth > 1 ? within(0, 3) : 1;
 }
 
+/* One box, now and then without cells, and a heuristic or what is none here. */
+static void draw_fitting(request *asked, uint32_t depth)
+{
+    static const uint32_t unknown[] = {HEURISTICS, RP_BEST};
+    memset(asked, 0, sizeof *asked);
+    asked->boxes[0].width = within(0, LONGEST);
+    asked->boxes[0].height = within(0, LONGEST);
+    asked->boxes[0].depth = depth > 1 ? within(0, depth) : 1;
+    asked->boxes[0].group = within(0, 1);
+    asked->heuristic = within(0, 11) == 11 ? unknown[within(0, 1)] : within(0, HEURISTICS - 1);
+}
+
+/* Some placements, which may be one twice, and now and then one that never is. */
+static void draw_numbers(numbers *picks)
+{
+    picks->count = within(0, RELEASED);
+    for (size_t i = 0; i < picks->count; i++)
+        picks->list[i] = within(0, 15) == 15 ? NEVER_GIVEN : within(0, UINT16_MAX);
+}
+
 /* A command of this kind, for bins that are no deeper than this. */
 static void draw_command(command *it, enum kind kind, uint32_t depth)
 {
@@ -63,6 +83,12 @@ static void draw_command(command *it, enum kind kind, uint32_t depth)
     case RELEASE:
         it->pick = within(0, 15) == 15 ? NEVER_GIVEN : within(0, UINT16_MAX);
         break;
+    case RELEASE_ALL:
+        draw_numbers(&it->picks);
+        break;
+    case PLACE_ANYWHERE:
+        draw_fitting(&it->asked, box_depth);
+        break;
     default:
         it->bin = within(0, BINS - 1);
         if (kind == ADD_BIN)
@@ -73,6 +99,8 @@ static void draw_command(command *it, enum kind kind, uint32_t depth)
             draw_growth(it);
         if (kind == PLACE_AT)
             draw_place(it, depth);
+        if (kind == PLACE_BEST)
+            draw_fitting(&it->asked, box_depth);
     }
 }
 

@@ -14,7 +14,7 @@
 #include "session_commands.h"
 #include "session_draws.h"
 
-enum { SCRIPTS = 50, STATUSES = RP_UNKNOWN_AXIS + 1 };
+enum { SCRIPTS = 50, STATUSES = RP_NOT_FROM_CUTS + 1 };
 
 /* Reads all plans, with refusals of their own. Their requests are not counted among those of the script. */
 static void read_plans(rp_session *session, const account *now)
@@ -81,18 +81,21 @@ static void draw_script(command *script)
 {
     static const enum kind kinds[] = {ADD_BIN, ADD_BIN, ADD_BIN, PACK, PACK, PACK_COLLECTION, PACK_COLLECTION, PACK_COLLECTION,
                                       PACK_COLLECTION, RELEASE, RELEASE, RELEASE, COALESCE, COALESCE, COALESCE_ALL, CLEAR_BIN,
-                                      REMOVE_BIN, GROW_BIN, GROW_BIN, PLACE_AT, PLACE_AT};
+                                      REMOVE_BIN, GROW_BIN, GROW_BIN, PLACE_AT, PLACE_AT, PLACE_BEST, PLACE_BEST,
+                                      PLACE_ANYWHERE, PLACE_ANYWHERE, RELEASE_ALL, RELEASE_ALL, RECUT, RECUT};
     uint32_t depth = within(0, 1) ? SIDE : 1;
     for (size_t i = 0; i < COMMANDS; i++)
         draw_command(&script[i], i == 0 ? ADD_BIN : kinds[within(0, sizeof kinds / sizeof *kinds - 1)], depth);
 }
 
 /* Nine boxes of one cell fill a square, eight of them are released, and joins make four strips of these, round the box that
-   stays: no straight cut leaves all five whole. The commands behind these stay as they were drawn. */
+   stays: no straight cut leaves all five whole. Boxes fill the strips, and the bin is not cut anew. The commands behind these
+   stay as they were drawn. */
 static void begin_with_pinwheel(command *script)
 {
     static const uint64_t released[] = {0, 1, 2, 6, 7, 8, 3, 4};
     static const size_t joins[][3] = {{0, 0, 2}, {1, 1, 3}, {2, 2, 4}, {3, 3, 5}};
+    static const rp_box strips[] = {{2, 1, 1, 0}, {1, 2, 1, 0}, {2, 1, 1, 0}, {1, 2, 1, 0}};
     size_t at = 0;
     script[at++] = (command){.kind = ADD_BIN, .size = {3, 3, 1}};
     for (size_t count = 6; count > 0; count -= 3) {
@@ -105,6 +108,10 @@ static void begin_with_pinwheel(command *script)
         script[at++] = (command){.kind = RELEASE, .pick = released[i]};
     for (size_t i = 0; i < sizeof joins / sizeof *joins; i++)
         script[at++] = (command){COALESCE, .section = joins[i][0], .start = joins[i][1], .stop = joins[i][2]};
+    /* Each strip is filled, so that no free sections and these boxes are from cuts. */
+    for (size_t i = 0; i < 4; i++)
+        script[at++] = (command){PLACE_BEST, .asked = {.boxes = {strips[i]}, .heuristic = RP_VOLUME}};
+    script[at++] = (command){.kind = RECUT};
 }
 
 /* Three boxes that find space by their heights and not by their volumes. Then one box in two groups, which are excluded,
@@ -153,10 +160,12 @@ static long total(const long *seen, const uint32_t *statuses, size_t count)
     return sum;
 }
 
-/* Each status came, and what is read showed something. */
-static void check_seen(const long *seen, long wanted, const long *done_by, const long *best_by)
+/* Each status came, each kind of command was done, and what is read showed something. */
+static void check_seen(const long *seen, const long *done, long wanted, const long *done_by, const long *best_by)
 {
     int winners = 0;
+    for (int i = 0; i < KINDS; i++)
+        check(done[i] > 2, "a kind of command is done too seldom");
     for (int i = 0; i < HEURISTICS; i++) {
         check(done_by[i] > 2, "a heuristic is asked for too seldom");
         winners += best_by[i] > 0;
@@ -167,6 +176,7 @@ static void check_seen(const long *seen, long wanted, const long *done_by, const
     check(seen[RP_UNKNOWN_HEURISTIC] > 5 && seen[RP_UNKNOWN_BOX] > 5 && seen[RP_EQUAL_GROUPS] > 5, "too little is wrong");
     check(seen[RP_BIN_IN_USE] > 5 && seen[RP_TOO_LARGE] > 5, "bins are in use or too large too seldom");
     check(seen[RP_NOT_FREE] > 5 && seen[RP_UNKNOWN_AXIS] > 5, "too few places are not free, or too few axes unknown");
+    check(seen[RP_NOT_FROM_CUTS] > 0, "each bin is cut anew");
     check(winners > 2, "too few heuristics are the best");
     check(taken_up > 10 && short_arrays > 100 && plans_wanting > 100, "what is read of the drawn sessions shows too little");
 }
@@ -174,11 +184,11 @@ static void check_seen(const long *seen, long wanted, const long *done_by, const
 int main(void)
 {
     static const uint32_t refusals[] = {RP_BAD_LENGTHS, RP_DUPLICATE_BIN, RP_UNKNOWN_BIN, RP_UNKNOWN_PLACEMENT,
-                                        RP_BIN_IN_USE, RP_TOO_LARGE, RP_NOT_FREE, RP_UNKNOWN_AXIS};
+                                        RP_BIN_IN_USE, RP_TOO_LARGE, RP_NOT_FREE, RP_UNKNOWN_AXIS, RP_NOT_FROM_CUTS};
     static const uint32_t mistakes[] = {RP_UNKNOWN_HEURISTIC, RP_UNKNOWN_BOX, RP_EQUAL_GROUPS};
     static command script[COMMANDS];
     static answer answers[COMMANDS];
-    long seen[STATUSES] = {0}, done_by[HEURISTICS] = {0}, best_by[HEURISTICS] = {0}, wanted = 0;
+    long seen[STATUSES] = {0}, done[KINDS] = {0}, done_by[HEURISTICS] = {0}, best_by[HEURISTICS] = {0}, wanted = 0;
     for (int i = 0; i <= SCRIPTS + 1; i++) {
         long before = no_plans;
         draw_script(script);
@@ -192,13 +202,14 @@ int main(void)
             check_mistakes(answers);
         for (size_t j = 0; j < COMMANDS; j++) {
             seen[answers[j].status]++;
+            done[script[j].kind] += answers[j].status == RP_DONE;
             if (answers[j].status == RP_DONE && packs(&script[j]))
                 (script[j].asked.heuristic == RP_BEST ? best_by : done_by)[answers[j].chosen]++;
         }
     }
-    check_seen(seen, wanted, done_by, best_by);
+    check_seen(seen, done, wanted, done_by, best_by);
     printf("sessions: %ld commands done, %ld without space, %ld refused by name, %ld wrong; memory was wanted %ld times\n",
-           seen[RP_DONE], seen[RP_NOT_ENOUGH_SPACE], total(seen, refusals, 8), total(seen, mistakes, 3), wanted);
+           seen[RP_DONE], seen[RP_NOT_ENOUGH_SPACE], total(seen, refusals, 9), total(seen, mistakes, 3), wanted);
     printf("reading: %ld arrays too short, %ld times no plan, %ld times no memory for a plan; joins took up %ld sections\n",
            short_arrays, no_plans, plans_wanting, taken_up);
     return 0;

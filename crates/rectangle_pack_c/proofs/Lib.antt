@@ -9,3 +9,4 @@ pub mod PlacedLemmas
 pub mod AnswerLemmas
 pub mod SessionLemmas
 pub mod UpkeepLemmas
+pub mod PlacingLemmas

@@ -6,4 +6,5 @@ pub mod Handle
 pub mod Reading
 pub mod Sessions
 pub mod Upkeep
+pub mod Placing
 pub mod private

@@ -7,7 +7,8 @@ use Rattle.rectangle_pack.specs.declared.session.command.Outstanding.{Outstandin
 use Rattle.rectangle_pack.specs.declared.session.command.Reply.{Reply}
 use Rattle.rectangle_pack.specs.declared.session.command.Reply.TheVariants.{Done, Packed, Refused}
 use Rattle.rectangle_pack.specs.declared.session.command.SessionError.TheVariants.{DuplicateBin, UnknownBin, UnknownPlacement}
-use Rattle.rectangle_pack.specs.declared.session.command.SessionError.TheVariants.{NumbersUsedUp, NotEnoughBinSpace, BinInUse, TooLarge, NotFree, OutOfMemory}
+use Rattle.rectangle_pack.specs.declared.session.command.SessionError.TheVariants.{NumbersUsedUp, NotEnoughBinSpace, BinInUse, TooLarge, NotFree, NotFromCuts}
+use Rattle.rectangle_pack.specs.declared.session.command.SessionError.TheVariants.{OutOfMemory}
 use Rattle.rectangle_pack.specs.declared.session.stats.BinStats.{BinStats}
 use Rattle.rectangle_pack.specs.Groups.{Collection}
 use Rattle.rectangle_pack.specs.Session.{State, IsSession}
@@ -36,6 +37,7 @@ reply_status (Refused NumbersUsedUp) = 7
 reply_status (Refused BinInUse) = 13
 reply_status (Refused TooLarge) = 14
 reply_status (Refused NotFree) = 15
+reply_status (Refused NotFromCuts) = 17
 
 -- the handle has a session before the call and after it. There is a reply with which the session may have been changed
 -- so (`MayChange`, which is `AddsBin`, `Releases` or another of these), and the status is that of this reply

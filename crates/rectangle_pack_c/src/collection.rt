@@ -86,7 +86,7 @@ pub const RP_SIDE_AREA: u32 = 7;
 pub const RP_BEST: u32 = 0xffff;
 
 // The heuristic of this number.
-fn heuristic_of(number: u32) -> Option<Heuristic>
+pub(crate) fn heuristic_of(number: u32) -> Option<Heuristic>
     ensures { MatchOption result ((asked number ≡ []) ⊎ (number ≡ RP_BEST))
         (λ one. (asked number ≡ one ∷ []) × (heuristic_number one ≡ number)) }
 {

@@ -17,6 +17,7 @@ ghost use Rattle.rectangle_pack_c.specs.private.Written.{AreWritten, NewAreWritt
 
 mod collection;
 mod handle;
+mod placing;
 mod reading;
 mod session;
 #[cfg(test)]
@@ -103,6 +104,8 @@ pub const RP_TOO_LARGE: u32 = 14;
 pub const RP_NOT_FREE: u32 = 15;
 /// There is no axis of this number.
 pub const RP_UNKNOWN_AXIS: u32 = 16;
+/// No straight cuts part the boxes that stand in the bin.
+pub const RP_NOT_FROM_CUTS: u32 = 17;
 
 // There are fewer bins and boxes than this, so that each index and their count is of 32 bits.
 const LIMIT: usize = 0x1_0000_0000;

@@ -15,8 +15,8 @@ use super::collection::{RP_BEST, RP_VOLUME, RpCollection, fault};
 use super::handle::RpSession;
 use super::{
     RP_BAD_LENGTHS, RP_BIN_IN_USE, RP_DONE, RP_DUPLICATE_BIN, RP_NOT_ENOUGH_SPACE, RP_NOT_FREE,
-    RP_NUMBERS_USED_UP, RP_OUT_OF_MEMORY, RP_TOO_LARGE, RP_UNKNOWN_BIN, RP_UNKNOWN_PLACEMENT,
-    RpBox, RpPlacement, Written, pack_into,
+    RP_NOT_FROM_CUTS, RP_NUMBERS_USED_UP, RP_OUT_OF_MEMORY, RP_TOO_LARGE, RP_UNKNOWN_BIN,
+    RP_UNKNOWN_PLACEMENT, RpBox, RpPlacement, Written, pack_into,
 };
 use rectangle_pack::{Outstanding, Session, SessionError};
 use std::alloc::Global;
@@ -386,5 +386,6 @@ pub(crate) fn refusal(error: SessionError) -> u32
         SessionError::BinInUse => RP_BIN_IN_USE,
         SessionError::TooLarge => RP_TOO_LARGE,
         SessionError::NotFree => RP_NOT_FREE,
+        SessionError::NotFromCuts => RP_NOT_FROM_CUTS,
     }
 }

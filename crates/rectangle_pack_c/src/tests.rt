@@ -9,6 +9,7 @@ use std::test::Fail;
 mod collection;
 mod large;
 mod memory;
+mod placing;
 mod reading;
 mod session;
 mod upkeep;

@@ -1,8 +1,9 @@
-//! Upkeep of a session for C: bins that are made whole again, taken out or made larger, and boxes
-//! at corners of the caller's choice.
-ghost use Rattle.std.specs.Prelude.{◌≡◌, ◌<◌, ◌≤◌, ℕ, IsSome, MatchOption};
+//! Upkeep of a session for C: bins that are made whole again, taken out, made larger or cut anew, and
+//! boxes at corners of the caller's choice.
+ghost use Rattle.std.specs.Prelude.{◌≡◌, ◌<◌, ◌≤◌, IsSome, MatchOption};
 ghost use Rattle.std.specs.Ordering.{nat_cmp};
 ghost use Rattle.rectangle_pack.specs.CutPlans.{axis_rank};
+ghost use Rattle.rectangle_pack.specs.Recutting.{Recuts};
 ghost use Rattle.rectangle_pack.specs.Upkeep.{Clears, RemovesBin};
 ghost use Rattle.rectangle_pack_c.specs.Sessions.{ChangesAs};
 ghost use Rattle.rectangle_pack_c.specs.Upkeep.{GrowsOnAxis, PlacesSection, box_of};
@@ -101,6 +102,30 @@ fn axis_of(number: u32) -> Option<Axis>
         2 => Some(Axis::Z),
         _ => None,
     }
+}
+
+/// Cuts the free part of a bin anew: straight cuts, each across the whole of its part, part the bin
+/// into its placements and the new free sections. The section with the greatest least side stands
+/// first. `RP_DONE`, `RP_UNKNOWN_BIN` where there is no such bin, `RP_NOT_FROM_CUTS` where no
+/// straight cuts part its boxes, or `RP_OUT_OF_MEMORY`. What is not done leaves the session as it
+/// was.
+#[unsafe(no_mangle)]
+pub extern "C" fn rectangle_pack_session_recut(
+    alloc: Global,
+    session: &mut RpSession,
+    bin: u32,
+) -> u32
+    requires made { IsSome session.old.state }
+    // The free part of the bin is cut anew, or not, as `recut` of `Session::recut` says it, and the
+    //   status is that of the answer: `RP_DONE`, `RP_UNKNOWN_BIN`, `RP_NOT_FROM_CUTS` or
+    //   `RP_OUT_OF_MEMORY`. What always holds of a session holds afterwards.
+    //   [rectangle_pack_session_recut.another_bin_is_cut]
+    ensures recut { ChangesAs (Recuts nat_cmp bin) session.old.state result session.new.state }
+{
+    let mut held = session.take(alloc);
+    let answer = held.recut(&bin);
+    *session = RpSession::of(held);
+    status(&answer)
 }
 
 /// Places a box at this location of a bin: its corner and its sides. The number of the placement,
