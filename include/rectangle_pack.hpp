@@ -47,6 +47,7 @@ enum class Status : std::uint32_t {
     too_large = RP_TOO_LARGE,
     not_free = RP_NOT_FREE,
     unknown_axis = RP_UNKNOWN_AXIS,
+    not_from_cuts = RP_NOT_FROM_CUTS,
 };
 
 /// What a status means.
@@ -87,6 +88,8 @@ inline const char *text(Status status) noexcept
         return "no free section of the bin holds the box there";
     case Status::unknown_axis:
         return "there is no axis of this number";
+    case Status::not_from_cuts:
+        return "no straight cuts part the boxes that stand in the bin";
     }
     return "a status that this header does not know";
 }
@@ -201,7 +204,7 @@ struct Outstanding {
 };
 
 /// An outstanding placement: its number; the index of its box in the call that packed it, where members stand behind the boxes,
-/// and 0 for a box of place_at; its bin; and where it stands there.
+/// and 0 for a box of place_at or place_best; its bin; and where it stands there.
 struct Standing {
     PlacementNumber number;
     std::uint32_t index;
@@ -368,6 +371,16 @@ public:
         detail::check(::rectangle_pack_session_release(at(), static_cast<std::uint64_t>(placement)));
     }
 
+    /// Takes back placements by their numbers, each once, all or none.
+    void release_all(View<PlacementNumber> placements)
+    {
+        detail::Room<std::uint64_t> numbers(placements.size());
+        std::size_t i = 0;
+        for (PlacementNumber it : placements)
+            numbers.data()[i++] = static_cast<std::uint64_t>(it);
+        detail::check(::rectangle_pack_session_release_all(at(), numbers.data(), numbers.size()));
+    }
+
     /// Joins free sections of a bin until no two share a whole face.
     void coalesce_all(BinId id) { detail::check(::rectangle_pack_session_coalesce_all(at(), number(id))); }
 
@@ -390,6 +403,10 @@ public:
         detail::check(::rectangle_pack_session_grow_bin(at(), number(id), static_cast<std::uint32_t>(axis), by));
     }
 
+    /// Cuts the free part of a bin anew: straight cuts part the bin into its boxes and the new free sections, the one with the
+    /// greatest least side first. A bin without boxes becomes one section.
+    void recut(BinId id) { detail::check(::rectangle_pack_session_recut(at(), number(id))); }
+
     /// Places a box at a place of the caller's choice, its corner and its sides, which one free section has to hold: the number
     /// of the placement. Where this throws, the session is as it was.
     PlacementNumber place_at(BinId id, const Section &location)
@@ -397,6 +414,23 @@ public:
         std::uint64_t placement = 0;
         detail::check(::rectangle_pack_session_place_at(at(), number(id), &location, &placement));
         return PlacementNumber{placement};
+    }
+
+    /// Places one box, whose group does not count, into the free section of a bin that it fits best, and cuts the rest by a
+    /// heuristic, which is not the best of all: where the box stands. Where this throws, the session is as it was.
+    Outstanding place_best(BinId id, const Box &size, Heuristic heuristic = Heuristic::volume)
+    {
+        rp_outstanding place{};
+        detail::check(::rectangle_pack_session_place_best(at(), number(id), &size, static_cast<std::uint32_t>(heuristic), &place));
+        return detail::outstanding(place);
+    }
+
+    /// The same in any bin: in that one which it fits best, and of several such in the one with the least id.
+    Outstanding place_best(const Box &size, Heuristic heuristic = Heuristic::volume)
+    {
+        rp_outstanding place{};
+        detail::check(::rectangle_pack_session_place_best_anywhere(at(), &size, static_cast<std::uint32_t>(heuristic), &place));
+        return detail::outstanding(place);
     }
 
     /// What is free and what is placed in a bin.

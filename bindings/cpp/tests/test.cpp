@@ -202,6 +202,51 @@ static void test_upkeep_of_a_session()
     must_be(Status::unknown_bin, [&] { session.remove_bin(id); }, "remove_bin knows a bin");
 }
 
+static void test_boxes_that_fit_best()
+{
+    rp::Session session;
+    const BinId large{3}, small{7}, none{9};
+    session.add_bin(large, rp::bin(20, 20));
+    session.add_bin(small, rp::bin(10, 8));
+    const rp::Outstanding shelf = session.place_best(rp::box(9, 5, 1, 4));
+    check(shelf.bin == small && shelf.number == rp::PlacementNumber{0}, "a box goes where it fits worse");
+    check(shelf.x == 0 && shelf.y == 0 && shelf.z == 0, "a box is elsewhere");
+    const rp::Outstanding wall = session.place_best(large, rp::box(9, 5), rp::Heuristic::height);
+    check(wall.bin == large && wall.number == rp::PlacementNumber{1}, "a box is not in its bin");
+    const std::vector<rp::Standing> standing = session.outstanding();
+    check(standing.size() == 2 && standing[1].index == 0 && equal(standing[1].section, {0, 0, 0, 9, 5, 1}), "a box stands elsewhere");
+    must_be(Status::unknown_heuristic, [&] { session.place_best(none, rp::box(1, 1), rp::Heuristic::best); }, "one box has a best");
+    must_be(Status::unknown_heuristic, [&] { session.place_best(rp::box(1, 1), rp::Heuristic{8}); }, "there is a heuristic 8");
+    must_be(Status::unknown_bin, [&] { session.place_best(none, rp::box(1, 1)); }, "place_best knows a bin");
+    must_be(Status::not_enough_space, [&] { session.place_best(small, rp::box(9, 5)); }, "two boxes are in one place");
+    must_be(Status::not_enough_space, [&] { session.place_best(rp::box(21, 1)); }, "a box is too large");
+
+    const std::vector<rp::PlacementNumber> twice{shelf.number, wall.number, shelf.number};
+    must_be(Status::unknown_placement, [&] { session.release_all(twice); }, "a number is released twice");
+    check(session.outstanding().size() == 2, "a refusal releases a box");
+    session.release_all({});
+    const rp::PlacementNumber both[] = {wall.number, shelf.number};
+    session.release_all(both);
+    check(session.outstanding().empty(), "boxes are not released");
+    must_be(Status::unknown_placement, [&] { session.release_all(both); }, "boxes are released twice");
+}
+
+static void test_bins_that_are_cut_anew()
+{
+    rp::Session session;
+    const BinId id{7};
+    session.add_bin(id, rp::bin(10, 10));
+    session.place_at(id, {0, 0, 0, 4, 3, 1});
+    session.release(session.place_at(id, {4, 0, 0, 3, 10, 1}));
+    check(session.free_sections(id).size() > 2, "nothing is left to be cut anew");
+    session.recut(id);
+    const std::vector<rp::Section> free = session.free_sections(id);
+    check(free.size() == 2 && equal(free[0], {0, 3, 0, 10, 7, 1}), "the largest strip is not the first");
+    check(equal(free[1], {4, 0, 0, 6, 3, 1}) && !session.was_coalesced(id), "what is left is not one section");
+    session.clear_bin(id);
+    must_be(Status::unknown_bin, [&] { session.recut(BinId{9}); }, "recut knows a bin");
+}
+
 static void test_session_collections()
 {
     rp::Session session;
@@ -267,6 +312,7 @@ static void test_no_plan()
     put(1, 2, 2, 1);
     put(0, 1, 1, 2);
     check(!session.cut_plan(id), "a pinwheel has a plan");
+    must_be(Status::not_from_cuts, [&] { session.recut(id); }, "a pinwheel is cut anew");
 }
 
 static void test_long_lists()
@@ -288,6 +334,9 @@ static void test_refused_memory()
     rp::Session session;
     session.add_bin(BinId{0}, rp::bin(10, 10));
     const std::vector<rp::Outstanding> places = session.pack(boxes);
+    // In the other session there is no room for a placement yet.
+    rp::Session empty;
+    empty.add_bin(BinId{0}, rp::bin(10, 10));
     const auto memory = [](auto call, const char *what) {
         refusing = true;
         const Status status = refusal(call);
@@ -302,6 +351,9 @@ static void test_refused_memory()
     memory([&] { session.pack(rp::Collection{boxes}); }, "a session packs a collection without memory");
     memory([&] { session.cut_plan(BinId{0}); }, "a plan is made of nothing");
     memory([&] { session.place_at(BinId{0}, {4, 0, 0, 1, 1, 1}); }, "a box is placed without memory");
+    memory([&] { empty.place_best(BinId{0}, boxes[0]); }, "a box is placed best without memory");
+    memory([&] { empty.place_best(boxes[0]); }, "a box is placed anywhere without memory");
+    memory([&] { session.recut(BinId{0}); }, "a bin is cut anew without memory");
     check(session.outstanding().size() == 1 && session.bins().size() == 1, "a refusal changes a session");
     session.release(places[0].number);
 }
@@ -341,6 +393,8 @@ int main()
     test_collections();
     test_session();
     test_upkeep_of_a_session();
+    test_boxes_that_fit_best();
+    test_bins_that_are_cut_anew();
     test_session_collections();
     test_refusals_of_a_session();
     test_no_plan();
