@@ -102,6 +102,14 @@ impl Handle {
         answer(unsafe { rectangle_pack_session_release(self.0.get(), number) })
     }
 
+    pub(crate) fn release_all(&mut self, numbers: &[u64]) -> Result<(), SessionError> {
+        // SAFETY: the handle has a session, and nobody else reads or writes it during the call. The numbers are a slice with
+        // its length, so they are aligned and not null.
+        answer(unsafe {
+            rectangle_pack_session_release_all(self.0.get(), numbers.as_ptr(), numbers.len())
+        })
+    }
+
     pub(crate) fn coalesce_all(&mut self, bin: u32) -> Result<(), SessionError> {
         // SAFETY: the handle has a session, and nobody else reads or writes it during the call.
         answer(unsafe { rectangle_pack_session_coalesce_all(self.0.get(), bin) })
@@ -145,6 +153,30 @@ impl Handle {
             rectangle_pack_session_place_at(self.0.get(), bin, location, &mut number)
         })?;
         Ok(number)
+    }
+
+    /// The placement with its number. Without a bin any will do. The heuristic is asked for by its number.
+    pub(crate) fn place_best(
+        &mut self,
+        bin: Option<u32>,
+        one_box: &RpBox,
+        heuristic: u32,
+    ) -> Result<RpOutstanding, SessionError> {
+        let (session, mut place) = (self.0.get(), RpOutstanding::default());
+        // SAFETY: the handle has a session, and nobody else reads or writes it during the call. The box is borrowed, and the
+        // placement that is written is that of this function.
+        answer(unsafe {
+            match bin {
+                Some(bin) => rectangle_pack_session_place_best(session, bin, one_box, heuristic, &mut place),
+                None => rectangle_pack_session_place_best_anywhere(session, one_box, heuristic, &mut place),
+            }
+        })?;
+        Ok(place)
+    }
+
+    pub(crate) fn recut(&mut self, bin: u32) -> Result<(), SessionError> {
+        // SAFETY: the handle has a session, and nobody else reads or writes it during the call.
+        answer(unsafe { rectangle_pack_session_recut(self.0.get(), bin) })
     }
 
     pub(crate) fn stats(&self, bin: u32) -> Result<BinStats, SessionError> {
@@ -294,6 +326,7 @@ fn refusal(status: u32) -> SessionError {
         BIN_IN_USE => SessionError::BinInUse,
         TOO_LARGE => SessionError::TooLarge,
         NOT_FREE => SessionError::NotFree,
+        NOT_FROM_CUTS => SessionError::NotFromCuts,
         _ => SessionError::TooMany,
     }
 }

@@ -29,8 +29,8 @@
 //! best. Groups that are [excluded](GroupedRectsToPlace::exclude) go into different bins.
 //!
 //! These pack once. A [`Session`] keeps its bins: boxes are packed into them and released again, free sections are
-//! listed and joined, and a bin has a plan of the cuts that part it. Boxes are also placed where you say, and bins are cleared,
-//! made larger and removed.
+//! listed and joined, and a bin has a plan of the cuts that part it. Boxes are also placed where you say, or where they fit best,
+//! and bins are cleared, made larger, cut anew and removed.
 
 #![warn(missing_docs)]
 

@@ -11,7 +11,7 @@ use std::ops::Range;
 use crate::{ffi, GroupedRectsToPlace, Heuristic, PackedLocation, RectToInsert, TargetBin};
 pub use parts::{Axis, BinStats, CutStep, Outstanding, Section, SessionError};
 
-/// Bins, and the boxes that were placed in them and not released.
+/// Bins, and the boxes that stand in them.
 ///
 /// Each cell of a bin is in exactly one free section or outstanding placement, and each of these is inside the bin. A call that
 /// is refused leaves the session as it was.

@@ -1,7 +1,7 @@
 //! What a session answers, by hand.
 use rectangle_pack::{
-    Axis, CutStep, GroupedRectsToPlace, PackedLocation, RectToInsert, Section, Session, SessionError,
-    TargetBin,
+    Axis, CutStep, GroupedRectsToPlace, Heuristic, PackedLocation, RectToInsert, Section, Session,
+    SessionError, TargetBin,
 };
 
 type Rects = GroupedRectsToPlace<&'static str, &'static str>;
@@ -59,7 +59,17 @@ fn what_is_refused_changes_nothing() -> Result<(), SessionError> {
     assert_eq!(session.grow_bin(&"wall", Axis::X, u32::MAX), Err(SessionError::UnknownBin));
     let corner = PackedLocation::new(0, 0, 0, RectToInsert::new(20, 1, 1));
     assert_eq!(session.place_at(&"wall", "shoe", corner), Err(SessionError::UnknownBin));
+    assert_eq!(session.recut(&"wall"), Err(SessionError::UnknownBin));
+    let (small, wide) = (RectToInsert::new(1, 1, 1), RectToInsert::new(7, 1, 1));
+    let by = Heuristic::Height;
+    assert_eq!(session.place_best(Some(&"wall"), "shoe", small, by), Err(SessionError::UnknownBin));
+    for bin in [None, Some(&"sheet")] {
+        assert_eq!(session.place_best(bin, "shoe", wide, by), Err(SessionError::NotEnoughBinSpace));
+    }
     assert_eq!(session.release(1), Err(SessionError::UnknownPlacement));
+    for numbers in [&[1][..], &[0, 1], &[0, 0]] {
+        assert_eq!(session.release_all(numbers), Err(SessionError::UnknownPlacement));
+    }
     let wide = session.pack(&rects(&[("shoe", 7, 1), ("tie", 1, 1)]));
     assert_eq!(wide, Err(SessionError::NotEnoughBinSpace));
     assert_eq!(session.stats(&"sheet")?, before);
@@ -222,6 +232,7 @@ fn errors_say_what_was_wrong() {
         (SessionError::BinInUse, "Placements are outstanding in the bin."),
         (SessionError::TooLarge, "A side of the bin would exceed the greatest number of 32 bits."),
         (SessionError::NotFree, "No free section holds the box there."),
+        (SessionError::NotFromCuts, "No straight cuts part the boxes that stand in the bin."),
         (SessionError::OutOfMemory, "Out of memory."),
         (SessionError::TooMany, "Too many bins or boxes."),
         (SessionError::EqualGroups, "A group is excluded with itself."),

@@ -1,7 +1,7 @@
-//! Bins that are cleared, removed and made larger, and boxes at places of the caller's choice, by hand.
+//! Bins that are cleared, removed, made larger and cut anew, and boxes that are placed one by one, by hand.
 use rectangle_pack::{
-    Axis, CutStep, GroupedRectsToPlace, PackedLocation, RectToInsert, Section, Session, SessionError,
-    TargetBin,
+    Axis, CutStep, GroupedRectsToPlace, Heuristic, PackedLocation, RectToInsert, Section, Session,
+    SessionError, TargetBin,
 };
 
 type Names = Session<&'static str, &'static str>;
@@ -192,4 +192,87 @@ fn a_place_has_a_corner_and_a_size() {
     let place = PackedLocation::new(1, 2, 3, RectToInsert::new(4, 5, 6));
     assert_eq!((place.x(), place.y(), place.z()), (1, 2, 3));
     assert_eq!((place.width(), place.height(), place.depth()), (4, 5, 6));
+}
+
+#[test]
+fn a_box_goes_where_it_fits_best() -> Result<(), SessionError> {
+    let mut session = with_bins(&[("wall", 20, 20), ("sheet", 9, 9), ("shelf", 8, 5)]);
+    let size = RectToInsert::new(8, 3, 1);
+    let by = Heuristic::Volume;
+    // It leaves 12 and 17 of the wall, 1 and 6 of the sheet, 0 and 2 of the shelf; then the sheet is the best; and then 8x2 of
+    // the shelf and 9x6 of the sheet are left.
+    for (number, bin) in [(0, "shelf"), (1, "sheet"), (2, "sheet"), (3, "sheet"), (4, "wall")] {
+        assert_eq!(session.place_best(None, "board", size, by), Ok(number));
+        assert_eq!(standing(&session).last(), Some(&(number, "board", bin)));
+    }
+    let at: Vec<_> = session.outstanding().map(|it| it.location).collect();
+    assert_eq!((at[0], at[1], at[4]), (flat(0, 0, 8, 3), flat(0, 0, 8, 3), flat(0, 0, 8, 3)));
+    assert_eq!(session.place_best(Some(&"shelf"), "pin", RectToInsert::new(1, 2, 1), by), Ok(5));
+    assert_eq!(session.outstanding().last().map(|it| it.location), Some(flat(0, 3, 1, 2)));
+    assert_eq!(session.next_number(), 6);
+    Ok(())
+}
+
+#[test]
+fn bins_of_an_equal_rest_go_as_they_were_added() -> Result<(), SessionError> {
+    let mut session = with_bins(&[("b", 4, 4), ("a", 4, 4)]);
+    let size = RectToInsert::new(4, 4, 1);
+    for bin in ["b", "a"] {
+        session.place_best(None, "board", size, Heuristic::Height)?;
+        assert_eq!(standing(&session).last().map(|it| it.2), Some(bin));
+    }
+    Ok(())
+}
+
+#[test]
+fn placements_are_released_all_or_none() -> Result<(), SessionError> {
+    let mut session = with_bins(&[("sheet", 10, 10), ("shelf", 4, 4)]);
+    pack(&mut session, &[("hat", 4, 10), ("cap", 6, 10), ("pin", 4, 4)])?;
+    let all = [(0, "cap", "sheet"), (1, "hat", "sheet"), (2, "pin", "shelf")];
+    for numbers in [&[2, 0, 2][..], &[0, 3], &[u64::MAX]] {
+        assert_eq!(session.release_all(numbers), Err(SessionError::UnknownPlacement));
+        assert_eq!(standing(&session), all);
+        assert_eq!(session.free_sections(&"sheet")?, []);
+    }
+    session.release_all(&[])?;
+    assert_eq!(standing(&session), all);
+    session.release_all(&[1, 2, 0])?;
+    assert_eq!(standing(&session), []);
+    // In the order of the list.
+    assert_eq!(session.free_sections(&"sheet")?, [section(6, 0, 4, 10), section(0, 0, 6, 10)]);
+    assert_eq!(session.free_sections(&"shelf")?, [section(0, 0, 4, 4)]);
+    assert_eq!(session.next_number(), 3);
+    Ok(())
+}
+
+#[test]
+fn a_bin_is_cut_anew() -> Result<(), SessionError> {
+    let mut session = with_bins(&[("board", 10, 10)]);
+    session.place_at(&"board", "knot", flat(0, 0, 4, 3))?;
+    let gone = session.place_at(&"board", "gone", flat(4, 0, 3, 10))?;
+    session.release(gone)?;
+    session.recut(&"board")?;
+    // Above the box a strip 10x7 is free, and right of it one of 6x10, of which 6x3 is left.
+    assert_eq!(session.free_sections(&"board")?, [section(0, 3, 10, 7), section(4, 0, 6, 3)]);
+    assert_eq!(session.was_coalesced(&"board"), Ok(false));
+    session.coalesce_all(&"board")?;
+    session.release(0)?;
+    session.recut(&"board")?;
+    assert_eq!(session.free_sections(&"board")?, [section(0, 0, 10, 10)]);
+    assert_eq!(session.was_coalesced(&"board"), Ok(true));
+    Ok(())
+}
+
+// Four boxes stand round a fifth. The last goes into a section that was joined.
+#[test]
+fn a_pinwheel_is_not_cut_anew() -> Result<(), SessionError> {
+    let mut session = with_bins(&[("board", 3, 3)]);
+    for (x, y, width, height) in [(0, 0, 2, 1), (2, 0, 1, 2), (0, 1, 1, 2), (1, 1, 1, 1)] {
+        session.place_at(&"board", "vane", flat(x, y, width, height))?;
+    }
+    session.coalesce_all(&"board")?;
+    session.place_at(&"board", "vane", flat(1, 2, 2, 1))?;
+    assert_eq!(session.recut(&"board"), Err(SessionError::NotFromCuts));
+    assert_eq!(session.free_sections(&"board")?, []);
+    Ok(())
 }

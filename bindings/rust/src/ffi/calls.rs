@@ -130,6 +130,7 @@ pub(super) const EQUAL_GROUPS: u32 = 12;
 pub(super) const BIN_IN_USE: u32 = 13;
 pub(super) const TOO_LARGE: u32 = 14;
 pub(super) const NOT_FREE: u32 = 15;
+pub(super) const NOT_FROM_CUTS: u32 = 17;
 
 /// Asks for the best heuristic of all.
 pub(crate) const BEST: u32 = 0xffff;
@@ -162,6 +163,11 @@ extern "C" {
         chosen: *mut u32,
     ) -> u32;
     pub(super) fn rectangle_pack_session_release(session: *mut RpSession, number: u64) -> u32;
+    pub(super) fn rectangle_pack_session_release_all(
+        session: *mut RpSession,
+        numbers: *const u64,
+        count: usize,
+    ) -> u32;
     pub(super) fn rectangle_pack_session_coalesce_all(session: *mut RpSession, bin: u32) -> u32;
     pub(super) fn rectangle_pack_session_coalesce(
         session: *mut RpSession,
@@ -184,6 +190,20 @@ extern "C" {
         location: *const RpSection,
         number: *mut u64,
     ) -> u32;
+    pub(super) fn rectangle_pack_session_place_best(
+        session: *mut RpSession,
+        bin: u32,
+        one_box: *const RpBox,
+        heuristic: u32,
+        place: *mut RpOutstanding,
+    ) -> u32;
+    pub(super) fn rectangle_pack_session_place_best_anywhere(
+        session: *mut RpSession,
+        one_box: *const RpBox,
+        heuristic: u32,
+        place: *mut RpOutstanding,
+    ) -> u32;
+    pub(super) fn rectangle_pack_session_recut(session: *mut RpSession, bin: u32) -> u32;
     pub(super) fn rectangle_pack_session_stats(session: *mut RpSession, bin: u32, stats: *mut RpStats) -> u32;
     pub(super) fn rectangle_pack_session_free_sections(
         session: *mut RpSession,

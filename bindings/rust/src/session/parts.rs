@@ -90,7 +90,7 @@ pub enum SessionError {
     /// The numbers of the placements would reach 2^64 - 1, which is never given.
     NumbersUsedUp,
     /// For some group each bin is excluded or does not take all of its boxes, as the groups before it left the bins; of
-    /// `pack_best`, with each heuristic.
+    /// `pack_best`, with each heuristic. Or no free section holds a box of `place_best`.
     NotEnoughBinSpace,
     /// Placements are outstanding in the bin.
     BinInUse,
@@ -98,6 +98,8 @@ pub enum SessionError {
     TooLarge,
     /// No free section of the bin holds the box there.
     NotFree,
+    /// No straight cuts part the boxes that stand in the bin.
+    NotFromCuts,
     /// Memory was refused.
     OutOfMemory,
     /// There are 2^32 boxes or bins, or more.
@@ -117,6 +119,7 @@ impl fmt::Display for SessionError {
             SessionError::BinInUse => "Placements are outstanding in the bin.",
             SessionError::TooLarge => "A side of the bin would exceed the greatest number of 32 bits.",
             SessionError::NotFree => "No free section holds the box there.",
+            SessionError::NotFromCuts => "No straight cuts part the boxes that stand in the bin.",
             SessionError::OutOfMemory => "Out of memory.",
             SessionError::TooMany => "Too many bins or boxes.",
             SessionError::EqualGroups => "A group is excluded with itself.",

@@ -84,6 +84,15 @@ fn lists_that_are_kept_follow_bins_that_come_and_go() -> Result<(), SessionError
     check_lists(&session, &packed)?;
     session.grow_bin(&"sheet", Axis::Y, 2)?;
     check_lists(&session, &packed)?;
+    for bin in [None, Some(&"wall")] {
+        let size = RectToInsert::new(2, 1, 1);
+        packed.push(vec![session.place_best(bin, 9, size, Heuristic::Volume)?]);
+        check_lists(&session, &packed)?;
+    }
+    session.recut(&"sheet")?;
+    check_lists(&session, &packed)?;
+    session.release_all(&[7, 1, 5])?;
+    check_lists(&session, &packed)?;
     assert_eq!((session.ids.len(), session.numbers.len()), (3, 3));
     Ok(())
 }
