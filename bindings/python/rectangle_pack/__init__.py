@@ -15,8 +15,8 @@ The library is the file that RECTANGLE_PACK names, librectangle_pack.so beside t
 tools/build_c.sh writes."""
 from ._cuts import Axis, Cut, CutNode, CutStep, CutTree, Leaf
 from ._errors import (
-    BinInUse, DuplicateBin, EqualGroups, NotEnoughBinSpace, NotFree, NumbersUsedUp, OutOfMemory, PackError, TooLarge, TooMany,
-    UnknownAxis, UnknownBin, UnknownBox, UnknownHeuristic, UnknownPlacement,
+    BinInUse, DuplicateBin, EqualGroups, NotEnoughBinSpace, NotFree, NotFromCuts, NumbersUsedUp, OutOfMemory, PackError, TooLarge,
+    TooMany, UnknownAxis, UnknownBin, UnknownBox, UnknownHeuristic, UnknownPlacement,
 )
 from ._pack import pack
 from ._session import Session
@@ -27,4 +27,5 @@ __all__ = [
     "Session", "Outstanding", "Stats", "Section", "Axis", "Cut", "Leaf", "CutStep", "CutNode", "CutTree",
     "PackError", "NotEnoughBinSpace", "OutOfMemory", "TooMany", "UnknownHeuristic", "UnknownBox", "EqualGroups", "UnknownAxis",
     "DuplicateBin", "UnknownBin", "UnknownPlacement", "NumbersUsedUp", "BinInUse", "TooLarge", "NotFree",
+    "NotFromCuts",
 ]

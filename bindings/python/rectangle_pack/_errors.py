@@ -17,7 +17,7 @@ class PackError(Exception):
 
 class NotEnoughBinSpace(PackError):
     """For some group each bin is excluded or does not take all of its boxes, as the groups before it left the bins. With the
-    heuristic "best" this is so with each heuristic."""
+    heuristic "best" this is so with each heuristic. Or no free section holds a box of place_best."""
 
     text = "Not enough space to place all of the rectangles"
 
@@ -100,10 +100,16 @@ class NotFree(PackError):
     text = "No free section holds the box there"
 
 
+class NotFromCuts(PackError):
+    """No straight cuts part the boxes that stand in the bin."""
+
+    text = "No straight cuts part the boxes that stand in the bin"
+
+
 @contextmanager
 def naming(
     name: Hashable,
-    kinds: tuple[type[PackError], ...] = (DuplicateBin, UnknownBin, UnknownPlacement, BinInUse, TooLarge),
+    kinds: tuple[type[PackError], ...] = (DuplicateBin, UnknownBin, UnknownPlacement, BinInUse, TooLarge, NotFromCuts),
 ) -> Iterator[None]:
     """Says in an error of these kinds which bin or which placement it is about, or which place."""
     try:

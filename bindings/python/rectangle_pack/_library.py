@@ -9,8 +9,8 @@ from pathlib import Path
 from typing import TypeVar
 
 from ._errors import (
-    BinInUse, DuplicateBin, EqualGroups, NotEnoughBinSpace, NotFree, NumbersUsedUp, OutOfMemory, PackError, TooLarge, TooMany,
-    UnknownAxis, UnknownBin, UnknownBox, UnknownHeuristic, UnknownPlacement,
+    BinInUse, DuplicateBin, EqualGroups, NotEnoughBinSpace, NotFree, NotFromCuts, NumbersUsedUp, OutOfMemory, PackError, TooLarge,
+    TooMany, UnknownAxis, UnknownBin, UnknownBox, UnknownHeuristic, UnknownPlacement,
 )
 
 
@@ -93,7 +93,7 @@ ERRORS: dict[int, type[PackError]] = {
     1: NotEnoughBinSpace, 2: OutOfMemory, 3: TooMany,
     4: DuplicateBin, 5: UnknownBin, 6: UnknownPlacement, 7: NumbersUsedUp,
     10: UnknownHeuristic, 11: UnknownBox, 12: EqualGroups, 13: BinInUse, 14: TooLarge, 15: NotFree,
-    16: UnknownAxis,
+    16: UnknownAxis, 17: NotFromCuts,
 }
 
 
@@ -110,6 +110,9 @@ def _places_of(kind: type[ctypes.Structure]) -> list[type[object]]:
 
 _SESSION = ctypes.POINTER(RpSession)
 
+# A box, a heuristic, and where the placement goes.
+_BEST_PLACE = [ctypes.POINTER(RpBox), ctypes.c_uint32, ctypes.POINTER(RpOutstanding)]
+
 _ARGUMENTS = {
     "collection": [ctypes.POINTER(RpBin), ctypes.c_size_t, *_places_of(RpPlacement)],
     "session_new": [_SESSION],
@@ -117,12 +120,16 @@ _ARGUMENTS = {
     "session_add_bin": [_SESSION] + [ctypes.c_uint32] * 4,
     "session_pack_collection": [_SESSION, *_places_of(RpOutstanding)],
     "session_release": [_SESSION, ctypes.c_uint64],
+    "session_release_all": [_SESSION, ctypes.POINTER(ctypes.c_uint64), ctypes.c_size_t],
     "session_coalesce_all": [_SESSION, ctypes.c_uint32],
     "session_coalesce": [_SESSION, ctypes.c_uint32] + [ctypes.c_size_t] * 3,
     "session_clear_bin": [_SESSION, ctypes.c_uint32],
     "session_remove_bin": [_SESSION, ctypes.c_uint32],
     "session_grow_bin": [_SESSION] + [ctypes.c_uint32] * 3,
     "session_place_at": [_SESSION, ctypes.c_uint32, ctypes.POINTER(RpSection), ctypes.POINTER(ctypes.c_uint64)],
+    "session_place_best": [_SESSION, ctypes.c_uint32, *_BEST_PLACE],
+    "session_place_best_anywhere": [_SESSION, *_BEST_PLACE],
+    "session_recut": [_SESSION, ctypes.c_uint32],
     "session_stats": [_SESSION, ctypes.c_uint32, ctypes.POINTER(RpStats)],
     "session_bins": [_SESSION, *_array_of(BinId)],
     "session_free_sections": [_SESSION, ctypes.c_uint32, *_array_of(RpSection)],

@@ -2,21 +2,22 @@
 from __future__ import annotations
 
 import ctypes
-import functools
-import threading
-import weakref
-from collections.abc import Callable, Hashable, Mapping, Sequence
+from collections.abc import Hashable, Iterable, Mapping, Sequence
 from types import TracebackType
-from typing import Any, Generic, TypeVar, cast, overload
+from typing import Any, Generic, overload
 
 from . import _library
 from ._collection import HEURISTICS, Collection, heuristic_number, items_of
 from ._cuts import AXES, Axis, Cut, CutStep, CutTree, Leaf, axis_number, tree_of
-from ._errors import NotFree, TooMany, naming
-from ._types import AnyHeuristic, Bin, BinName, Box, BoxName, Groups, Outstanding, Packing, Pairs, Section, Stats
+from ._errors import NotFree, TooMany, UnknownHeuristic, naming
+from ._handle import Handle, alone
+from ._types import AnyHeuristic, Bin, BinName, Box, BoxName, Groups, Heuristic, Outstanding, Packing, Pairs, Section, Stats
 
 # No bin gets this id: by it bins are asked for that are not there.
 _NO_BIN = 2**32 - 1
+
+# In place of the name of a bin, which may be None: any bin will do.
+_ANY_BIN: Any = object()
 
 
 def _volume(parts: _library.RpVolume) -> int:
@@ -29,20 +30,7 @@ def _section(it: _library.RpSection) -> Section:
     return Section(it.x, it.y, it.z, it.width, it.height, it.depth)
 
 
-_Method = TypeVar("_Method", bound=Callable[..., Any])
-
-
-def _alone(method: _Method) -> _Method:
-    """Has a call of a session's method wait until no other thread calls one of the same session."""
-    @functools.wraps(method)
-    def waiting(self: Session[Any], *arguments: Any, **named: Any) -> Any:
-        with self._lock:
-            return method(self, *arguments, **named)
-
-    return cast(_Method, waiting)
-
-
-class Session(Generic[BinName]):
+class Session(Handle, Generic[BinName]):
     """Bins that stay, and boxes that are packed into them and released by number.
 
     >>> from rectangle_pack import Bin, Box, Session
@@ -75,9 +63,7 @@ class Session(Generic[BinName]):
         Where there are no bins yet, a type checker is told the type of their names: Session[str]().
 
         Raises OutOfMemory."""
-        self._handle = _library.RpSession()
-        # Only one thread at a time may call the library with the handle.
-        self._lock = threading.RLock()
+        super().__init__()
         # The names and the sides of bins, by their ids, and the ids by name. The next bin gets the next id, also where others
         # were removed: so ids go by the order in which bins were added.
         self._names: dict[int, BinName] = {}
@@ -86,12 +72,6 @@ class Session(Generic[BinName]):
         self._next_id = 0
         # The name of the box, its group and the id of its bin, for each number that is outstanding.
         self._boxes: dict[int, tuple[Any, Hashable, int]] = {}
-        # How long the list was that each call wrote last.
-        self._lengths: dict[str, int] = {}
-        _library.check(_library.call("session_new", self._handle))
-        self._free = weakref.finalize(self, _library.call, "session_free", self._handle)
-        # At the end of the process all memory goes anyway.
-        self._free.atexit = False
         for name, size in items_of(bins):
             self.add_bin(name, *size)
 
@@ -104,38 +84,6 @@ class Session(Generic[BinName]):
     ) -> None:
         self.close()
 
-    @_alone
-    def close(self) -> None:
-        """Gives the memory back. To close a session again does nothing."""
-        self._free()
-
-    def _check_open(self) -> None:
-        if not self._free.alive:
-            raise ValueError("the session is closed")
-
-    def _call(self, name: str, *arguments: object) -> None:
-        self._check_open()
-        _library.check(_library.call(f"session_{name}", self._handle, *arguments))
-
-    def _ask(self, name: str, kind: type[_library.Entry], *arguments: object) -> tuple[int, list[_library.Entry]]:
-        """The status of a call that writes a list, and the list. A list is most often as long as it was, so that one call is
-        enough; where it is longer, the call has said how long, and is made again."""
-        self._check_open()
-        count, status = ctypes.c_size_t(self._lengths.get(name, 0)), _library.SHORT_ARRAY
-        while status == _library.SHORT_ARRAY:
-            length = count.value
-            array = _library.empty(kind, length)
-            status = _library.call(f"session_{name}", self._handle, *arguments, array, length, count)
-        if status:
-            return status, []
-        self._lengths[name] = count.value
-        return status, array[:count.value]
-
-    def _read(self, name: str, kind: type[_library.Entry], *arguments: object) -> list[_library.Entry]:
-        status, entries = self._ask(name, kind, *arguments)
-        _library.check(status)
-        return entries
-
     def _id(self, bin: BinName) -> int:
         """The id of a bin. A name that is not known has that of no bin."""
         return self._ids.get(bin, _NO_BIN)
@@ -144,7 +92,7 @@ class Session(Generic[BinName]):
         """The id under which a bin is added. That of a name that is known is refused."""
         return self._ids.get(bin, self._next_id)
 
-    @_alone
+    @alone
     def add_bin(self, bin: BinName, width: int, height: int, depth: int = 1) -> None:
         """Adds a bin of this size under a name of the caller's choice. It stays until it is removed or the session is closed.
 
@@ -157,7 +105,7 @@ class Session(Generic[BinName]):
         self._ids[bin], self._names[id], self._sides[id] = id, bin, list(size)
         self._next_id += 1
 
-    @_alone
+    @alone
     def grow_bin(self, bin: BinName, axis: Axis, by: int) -> None:
         """Makes a bin larger by so many cells on an axis. What is new is its newest free section, where it has cells. All else
         in the bin stays where it is.
@@ -173,7 +121,7 @@ class Session(Generic[BinName]):
             self._call("grow_bin", id, number, cells)
         self._sides[id][number] += cells
 
-    @_alone
+    @alone
     def clear_bin(self, bin: BinName) -> None:
         """Makes a bin whole again: it has one free section, which is all of it, and does not count as coalesced. Its placements
         are no longer outstanding. No number is given again.
@@ -186,7 +134,28 @@ class Session(Generic[BinName]):
         for number in here:
             del self._boxes[number]
 
-    @_alone
+    @alone
+    def recut(self, bin: BinName) -> None:
+        """Cuts the free part of a bin anew, where boxes that came and went left it in many small sections. Placements stay where
+        they are, and straight cuts part the bin into them and the new free sections.
+
+        >>> with Session({"board": Bin(10, 10)}) as session:
+        ...     knot = session.place_at("board", "knot", Section(4, 3, 0, 2, 2, 1))
+        ...     session.release(knot.number)
+        ...     session.recut("board")
+        ...     session.free_sections("board")
+        [Section(x=0, y=0, z=0, width=10, height=10, depth=1)]
+
+        The section whose least side is the greatest stands first, and of those that tie the smallest; an axis on which the bin
+        has one cell does not count. Whether the bin counts as coalesced stays.
+
+        Raises UnknownBin or OutOfMemory; or NotFromCuts where no straight cuts part the boxes, which is so only where sections
+        of the bin were joined."""
+        id = self._id(bin)
+        with naming(bin):
+            self._call("recut", id)
+
+    @alone
     def remove_bin(self, bin: BinName) -> None:
         """Takes out a bin in which no placement is outstanding. Another may be added under its name.
 
@@ -208,7 +177,7 @@ class Session(Generic[BinName]):
         groups: Groups[int] | None = ..., exclude: Pairs = ..., heuristic: AnyHeuristic = ...,
     ) -> Packing[int, Outstanding[int, BinName]]: ...
 
-    @_alone
+    @alone
     def pack(
         self, boxes: Mapping[Any, Box] | Sequence[Box], *,
         groups: Groups[Any] | None = None, exclude: Pairs = (), heuristic: AnyHeuristic = "volume",
@@ -235,7 +204,7 @@ class Session(Generic[BinName]):
             placed.append(Outstanding(name, group, self._names[at.bin], at.x, at.y, at.z, *size, it.number))
         return Packing(HEURISTICS[chosen.value], tuple(placed))
 
-    @_alone
+    @alone
     def place_at(self, bin: BinName, name: BoxName, section: Section) -> Outstanding[BoxName, BinName]:
         """Places one box at a place of the caller's choice, by its corner and its size. So go in knots, pillars, and a layout
         that was made elsewhere.
@@ -253,7 +222,35 @@ class Session(Generic[BinName]):
         self._boxes[number.value] = (name, None, id)
         return Outstanding(name, None, self._names[id], *place, number.value)
 
-    @_alone
+    @alone
+    def place_best(
+        self, name: BoxName, width: int, height: int, depth: int = 1, *,
+        bin: BinName = _ANY_BIN, heuristic: Heuristic = "volume",
+    ) -> Outstanding[BoxName, BinName]:
+        """Places one box into the free section that it fits best, of this bin or, where none is given, of any.
+
+        >>> with Session({"large": Bin(20, 20), "small": Bin(10, 8)}) as session:
+        ...     session.place_best("shelf", 9, 5).bin
+        'small'
+
+        It fits that section best of which it leaves the least on its tightest side: of several such in one bin the newest, of
+        several such bins the one that was added first. An axis on which the bin has one cell does not count. The rest of the
+        section is cut by the heuristic.
+
+        Raises UnknownHeuristic, which is a ValueError, also for "best"; UnknownBin, NumbersUsedUp or OutOfMemory; or
+        NotEnoughBinSpace where no free section holds the box."""
+        size = _library.size(width, height, depth)
+        asked, place = heuristic_number(heuristic), _library.RpOutstanding()
+        with naming(heuristic, (UnknownHeuristic,)), naming(bin):
+            if bin is _ANY_BIN:
+                self._call("place_best_anywhere", _library.RpBox(*size), asked, place)
+            else:
+                self._call("place_best", self._id(bin), _library.RpBox(*size), asked, place)
+        at = place.placement
+        self._boxes[place.number] = (name, None, at.bin)
+        return Outstanding(name, None, self._names[at.bin], at.x, at.y, at.z, *size, place.number)
+
+    @alone
     def release(self, number: int) -> None:
         """Releases a placement by its number: its cells are free again, as the newest free section of its bin, the last of the
         list. A box without cells leaves none.
@@ -263,7 +260,24 @@ class Session(Generic[BinName]):
             self._call("release", _library.number(number, 64))
         del self._boxes[number]
 
-    @_alone
+    @alone
+    def release_all(self, numbers: Iterable[int]) -> None:
+        """Releases placements by their numbers, all or none, each as release does it, in their order. So a list of boxes goes by
+        one call:
+
+        >>> with Session({"sheet": Bin(10, 10)}) as session:
+        ...     packing = session.pack({"hat": Box(4, 10), "cap": Box(2, 2)})
+        ...     session.release_all(it.number for it in packing)
+        ...     session.outstanding()
+        []
+
+        Raises UnknownPlacement, also where a number stands twice, or OutOfMemory."""
+        listed = [_library.number(it, 64) for it in numbers]
+        self._call("release_all", (ctypes.c_uint64 * max(len(listed), 1))(*listed), len(listed))
+        for number in listed:
+            del self._boxes[number]
+
+    @alone
     def coalesce_all(self, bin: BinName) -> None:
         """Joins free sections of a bin until no two share a whole face. A bin that is empty again need not become one
         section: that depends on the order of releases and on where joins stand between them. clear_bin makes it whole.
@@ -272,7 +286,7 @@ class Session(Generic[BinName]):
         with naming(bin):
             self._call("coalesce_all", self._id(bin))
 
-    @_alone
+    @alone
     def coalesce(self, bin: BinName, index: int, start: int, end: int) -> None:
         """Joins one free section of a bin, by its index in free_sections, with those from start to below end that share a whole
         face with it. The joined section stands in its place. What is past the end of the list joins nothing. After a release it
@@ -290,7 +304,7 @@ class Session(Generic[BinName]):
         with naming(bin):
             self._call("coalesce", self._id(bin), *(_library.number(it, 64) for it in (index, start, end)))
 
-    @_alone
+    @alone
     def was_coalesced(self, bin: BinName) -> bool:
         """Whether sections of a bin were joined since it was added or last cleared, also where nothing was there to join.
 
@@ -300,18 +314,18 @@ class Session(Generic[BinName]):
             self._call("was_coalesced", self._id(bin), it)
         return it.value != 0
 
-    @_alone
+    @alone
     def next_number(self) -> int:
         """The number that the next placement gets, or 2**64 - 1 where numbers are used up."""
         self._check_open()
         return _library.call("session_next_number", self._handle)
 
-    @_alone
+    @alone
     def bins(self) -> list[BinName]:
         """The names of all bins, in the order in which they were added."""
         return [self._names[it.bin] for it in self._read("bins", _library.BinId)]
 
-    @_alone
+    @alone
     def free_sections(self, bin: BinName) -> list[Section]:
         """The free sections of a bin, the newest last.
 
@@ -319,7 +333,7 @@ class Session(Generic[BinName]):
         with naming(bin):
             return [_section(it) for it in self._read("free_sections", _library.RpSection, self._id(bin))]
 
-    @_alone
+    @alone
     def outstanding(self) -> list[Outstanding[Any, BinName]]:
         """The outstanding placements of all bins, in the order of their numbers."""
         return [self._standing(it) for it in self._read("outstanding", _library.RpStanding)]
@@ -328,7 +342,7 @@ class Session(Generic[BinName]):
         name, group, _ = self._boxes[it.number]
         return Outstanding(name, group, self._names[it.bin], *_section(it.section), it.number)
 
-    @_alone
+    @alone
     def cut_plan(self, bin: BinName) -> list[CutStep] | None:
         """The cutting plan of a bin: straight cuts, each across a whole part, that leave its free sections and its boxes.
 
@@ -348,7 +362,7 @@ class Session(Generic[BinName]):
             _library.check(status)
         return [Cut(AXES[it.axis], it.place) if it.axis < len(AXES) else Leaf() for it in steps]
 
-    @_alone
+    @alone
     def cut_tree(self, bin: BinName) -> CutTree | None:
         """The cutting plan of a bin as a tree: each cut with what it leaves, down to the sections that are not cut.
 
@@ -368,7 +382,7 @@ class Session(Generic[BinName]):
         steps = self.cut_plan(bin)
         return None if steps is None else tree_of(steps, Section(0, 0, 0, *self._sides[self._ids[bin]]))
 
-    @_alone
+    @alone
     def stats(self, bin: BinName) -> Stats:
         """What is free and what is placed in a bin. The free and the placed volume add up to that of the bin.
 

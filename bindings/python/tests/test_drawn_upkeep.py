@@ -3,8 +3,12 @@
 import random
 import unittest
 
+from . import model
 from .model import cells_of
-from rectangle_pack import BinInUse, Box, NotEnoughBinSpace, NotFree, Outstanding, Section, Session, Stats
+from .placing_model import are_cut_anew, are_from_cuts, best_place, volume
+from rectangle_pack import (
+    BinInUse, Box, NotEnoughBinSpace, NotFree, NotFromCuts, Outstanding, Section, Session, Stats, UnknownPlacement,
+)
 
 
 class Drawn(unittest.TestCase):
@@ -12,12 +16,15 @@ class Drawn(unittest.TestCase):
 
     def setUp(self):
         self.r, self.sizes, self.placed, self.coalesced, self.next = random.Random(11), {}, {}, set(), 0
-        self.seen = dict.fromkeys(("packed", "placed", "not free", "grown", "cleared", "removed", "in use", "added"), 0)
+        self.seen = dict.fromkeys((
+            "packed", "placed", "not free", "fitted", "does not fit", "released", "unknown", "cut anew", "grown", "cleared",
+            "removed", "in use", "added",
+        ), 0)
 
     def act(self, session):
         bin = self.r.choice(list(self.sizes)) if self.sizes else None
-        acts = [self.add] if bin is None else [self.pack] * 3 + [self.place] * 3 + [self.release, self.join] * 2 + [
-            self.add, self.grow, self.clear, self.remove]
+        acts = [self.add] if bin is None else [self.pack, self.place, self.fit] * 3 + [self.release, self.join] * 2 + [
+            self.release_all, self.recut, self.add, self.grow, self.clear, self.remove]
         self.r.choice(acts)(session, bin)
 
     def add(self, session, _):
@@ -51,6 +58,53 @@ class Drawn(unittest.TestCase):
         else:
             self.assertRaises(NotFree, session.place_at, bin, "own", place)
             self.seen["not free"] += 1
+
+    def fit(self, session, bin):
+        """In one bin or in any, into the section that leaves the least, by a look at each."""
+        size, heuristic = tuple(self.r.randint(0, 3) for _ in range(3)), self.r.choice(list(model.RATES))
+        named = {"bin": bin} if self.r.random() < 0.5 else {}
+        free = {name: session.free_sections(name) for name in ([bin] if named else self.sizes)}
+        best = best_place(self.sizes, free, size)
+        if best is None:
+            self.assertRaises(NotEnoughBinSpace, session.place_best, "own", *size, **named, heuristic=heuristic)
+            self.seen["does not fit"] += 1
+            return
+        home, index = best
+        section = free[home].pop(index)
+        placed = session.place_best("own", *size, **named, heuristic=heuristic)
+        self.assertEqual(placed, Outstanding("own", None, home, *section[:3], *size, self.next))
+        self.keep([placed])
+        left = model.place([section], size, model.RATES[heuristic])[1]
+        self.assertEqual(session.free_sections(home), [*free[home], *left])
+        self.seen["fitted"] += 1
+
+    def release_all(self, session, _):
+        """Some of all, in any order; now and then one twice, or one that is not there."""
+        numbers = self.r.sample(sorted(self.placed), self.r.randint(0, len(self.placed)))
+        bad = [self.next, *numbers][self.r.randint(0, len(numbers))]
+        free = {bin: session.free_sections(bin) for bin in self.sizes}
+        if self.r.random() < 0.3:
+            numbers.insert(self.r.randint(0, len(numbers)), bad)
+            self.assertRaises(UnknownPlacement, session.release_all, numbers)
+            self.seen["unknown"] += 1
+        else:
+            session.release_all(iter(numbers))
+            for it in map(self.placed.pop, numbers):
+                free[it.bin] += [it.section] if volume(it.section) else []
+            self.seen["released"] += 1
+        self.assertEqual(free, {bin: session.free_sections(bin) for bin in self.sizes})
+
+    def recut(self, session, bin):
+        boxes = [it.section for it in self.placed.values() if it.bin == bin and volume(it.section)]
+        before = session.free_sections(bin)
+        if are_from_cuts(boxes):
+            session.recut(bin)
+            self.assertTrue(are_cut_anew(self.sizes[bin], boxes, session.free_sections(bin)))
+            self.assertIsNotNone(session.cut_plan(bin))
+            self.seen["cut anew"] += 1
+        else:
+            self.assertRaises(NotFromCuts, session.recut, bin)
+            self.assertEqual(session.free_sections(bin), before)
 
     def release(self, session, _):
         if self.placed:
@@ -101,7 +155,7 @@ class Drawn(unittest.TestCase):
 
     def test_bins_and_boxes_come_and_go_cell_by_cell(self):
         with Session() as session:
-            for _ in range(800):
+            for _ in range(1200):
                 self.act(session)
                 self.check_lists(session)
         self.assertGreater(min(self.seen.values()), 4, self.seen)

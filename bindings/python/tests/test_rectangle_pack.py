@@ -8,8 +8,8 @@ from unittest import mock
 
 import rectangle_pack
 from rectangle_pack import (
-    Bin, BinInUse, Box, DuplicateBin, EqualGroups, NotEnoughBinSpace, NotFree, NumbersUsedUp, OutOfMemory, PackError, Placement,
-    Section, TooLarge, TooMany, UnknownAxis, UnknownBin, UnknownBox, UnknownHeuristic, UnknownPlacement, pack,
+    Bin, BinInUse, Box, DuplicateBin, EqualGroups, NotEnoughBinSpace, NotFree, NotFromCuts, NumbersUsedUp, OutOfMemory, PackError,
+    Placement, Section, TooLarge, TooMany, UnknownAxis, UnknownBin, UnknownBox, UnknownHeuristic, UnknownPlacement, pack,
 )
 
 
@@ -241,7 +241,7 @@ class Errors(unittest.TestCase):
     STATUSES = {
         1: NotEnoughBinSpace, 2: OutOfMemory, 3: TooMany, 4: DuplicateBin, 5: UnknownBin, 6: UnknownPlacement,
         7: NumbersUsedUp, 10: UnknownHeuristic, 11: UnknownBox, 12: EqualGroups, 13: BinInUse, 14: TooLarge, 15: NotFree,
-        16: UnknownAxis,
+        16: UnknownAxis, 17: NotFromCuts,
     }
 
     def test_each_has_its_text(self):
@@ -260,6 +260,7 @@ class Errors(unittest.TestCase):
             BinInUse: "Placements are outstanding in the bin.",
             TooLarge: "A side of the bin would exceed the greatest number of 32 bits.",
             NotFree: "No free section holds the box there.",
+            NotFromCuts: "No straight cuts part the boxes that stand in the bin.",
         }
         self.assertEqual(set(texts), set(self.STATUSES.values()))
         for error, text in texts.items():

@@ -8,8 +8,9 @@ from unittest import mock
 import rectangle_pack
 from .model import cells_of
 from rectangle_pack import (
-    Bin, BinInUse, Box, DuplicateBin, EqualGroups, Leaf, NotEnoughBinSpace, NotFree, NumbersUsedUp, OutOfMemory, Outstanding,
-    Section, Session, Stats, TooLarge, TooMany, UnknownAxis, UnknownBin, UnknownBox, UnknownHeuristic, UnknownPlacement,
+    Bin, BinInUse, Box, DuplicateBin, EqualGroups, Leaf, NotEnoughBinSpace, NotFree, NotFromCuts, NumbersUsedUp, OutOfMemory,
+    Outstanding, Section, Session, Stats, TooLarge, TooMany, UnknownAxis, UnknownBin, UnknownBox, UnknownHeuristic,
+    UnknownPlacement,
 )
 from .test_rectangle_pack import NAMES
 
@@ -340,6 +341,7 @@ class Refusals(unittest.TestCase):
             lambda: session.free_sections(bin), lambda: session.cut_plan(bin), lambda: session.cut_tree(bin),
             lambda: session.stats(bin), lambda: session.clear_bin(bin), lambda: session.remove_bin(bin),
             lambda: session.grow_bin(bin, "x", 1), lambda: session.place_at(bin, "cap", Section(0, 0, 0, 1, 1, 1)),
+            lambda: session.place_best("cap", 1, 1, bin=bin), lambda: session.recut(bin),
         ]
 
     def test_a_bin_that_was_refused_may_come_later(self):
@@ -377,7 +379,7 @@ class Refusals(unittest.TestCase):
         statuses = {
             1: NotEnoughBinSpace, 2: OutOfMemory, 3: TooMany, 4: DuplicateBin, 5: UnknownBin, 6: UnknownPlacement,
             7: NumbersUsedUp, 10: UnknownHeuristic, 11: UnknownBox, 12: EqualGroups, 13: BinInUse, 14: TooLarge, 15: NotFree,
-            16: UnknownAxis,
+            16: UnknownAxis, 17: NotFromCuts,
         }
         with Session([Bin(1, 1)]) as session:
             for status, error in statuses.items():
@@ -392,8 +394,8 @@ class Closing(unittest.TestCase):
     def check_closed(self, session):
         calls = [
             lambda: session.add_bin(1, 1, 1), lambda: session.pack([]), lambda: session.release(0), session.__enter__,
-            session.bins, session.outstanding, session.next_number,
-            *Refusals.calls_of(self, session, 7),
+            session.bins, session.outstanding, session.next_number, lambda: session.release_all([]),
+            lambda: session.place_best("cap", 1, 1), *Refusals.calls_of(self, session, 7),
         ]
         for call in calls:
             with self.assertRaises(ValueError) as refused:

@@ -41,6 +41,10 @@ with Session(sheets) as session:
         height: int = 0 if isinstance(lower, CutNode) else lower.height
         session.grow_bin("small", axis, 3)
     knot: Outstanding[tuple[str, int], str] = session.place_at("small", ("knot", 1), Section(4, 3, 0, 2, 2, 1))
+    shelf: Outstanding[str, str] = session.place_best("shelf", 9, 5, bin="small", heuristic="height")
+    wall: Outstanding[int, str] = session.place_best(7, 9, 5, 1)
+    session.release_all([shelf.number, wall.number])
+    session.recut("small")
     session.clear_bin("small")
     session.remove_bin("small")
 
@@ -51,6 +55,11 @@ with Session(sheets) as session:
     session.grow_bin("small", "width", 3)  # type: ignore
     session.grow_bin("small", "x", "3")  # type: ignore
     session.place_at("small", "knot", Box(2, 2))  # type: ignore
+    session.place_best("shelf", "9", 5)  # type: ignore
+    session.place_best("shelf", 9, 5, bin=7)  # type: ignore
+    session.place_best("shelf", 9, 5, heuristic="best")  # type: ignore
+    session.release_all(["hat"])  # type: ignore
+    session.recut(7)  # type: ignore
     session.clear_bin(7)  # type: ignore
     session.remove_bin(7)  # type: ignore
     tree.axis  # type: ignore
