@@ -2,9 +2,10 @@
 """c_beside_library.py [RUNS]: what packrun has no line for, by the library for C and by a program over the library.
 
 Draws RUNS sessions (200 if left out): packings by each heuristic and by the best of all, of boxes in several groups, of which some
-are excluded; boxes at places that are drawn; releases; joins of one section and of all; bins that are cleared, removed, made
-larger and added again; cutting plans of each bin. Each is obeyed by the calls of the shared library, over ctypes, and by the
-program crates/session_lines. Every answer is compared, and in the end all placements."""
+are excluded; boxes at places that are drawn, and where they fit best; releases, of several at once too; joins of one section and of
+all; bins that are cleared, removed, made larger, cut anew and added again; free sections and cutting plans of each bin. Each is obeyed
+by the calls of the shared library, over ctypes, and by the program crates/session_lines. Every answer is compared, and in the end all
+placements."""
 from __future__ import annotations
 
 import ctypes
@@ -40,13 +41,14 @@ class Drawn:
             self.bin()
         self.packed = 0
         draws = {
-            self.packing: 8, self.place: 6, self.release: 12, self.join: 6, self.sweep: 2, self.plan: 8,
-            self.grow: 3, self.clear: 1, self.remove: 2,
+            self.packing: 8, self.place: 6, self.fit: 8, self.release: 12, self.releases: 3, self.join: 6, self.sweep: 2,
+            self.plan: 8, self.free: 8, self.recut: 4, self.grow: 3, self.clear: 1, self.remove: 2,
         }
         for draw in self.r.choices(list(draws), list(draws.values()), k=COMMANDS):
             draw()
         for bin in range(self.bins):
             self.add("plan", bin)
+            self.add("free", bin)
         self.add("placed")
 
     def add(self, word: str, *numbers: int) -> None:
@@ -81,8 +83,24 @@ class Drawn:
         self.add("place", self.known(), self.r.randint(0, 14), self.r.randint(0, 14), self.r.choice([0, 0, 0, 1, 2]))
         self.packed += 1
 
+    def fit(self) -> None:
+        """A small box, in one bin or in any, by a heuristic or by what is none."""
+        self.add("box", *self.sides(0, 12), self.r.choice([0, 1]))
+        heuristic = self.r.choice([*range(8), 8, BEST])
+        if self.r.random() < 0.5:
+            self.add("fit", self.r.randint(0, self.bins), heuristic)
+        else:
+            self.add("find", heuristic)
+        self.packed += 1
+
     def release(self) -> None:
         self.add("release", self.r.randint(0, self.packed))
+
+    def releases(self) -> None:
+        """Mostly of numbers of which one is not outstanding, if there are several."""
+        for number in self.r.choices(range(self.packed + 1), k=self.r.choice([0, 1, 1, 2, 2, 3])):
+            self.add("number", number)
+        self.add("releases")
 
     def join(self) -> None:
         low = self.r.randint(0, 6)
@@ -93,6 +111,12 @@ class Drawn:
 
     def plan(self) -> None:
         self.add("plan", self.known())
+
+    def free(self) -> None:
+        self.add("free", self.r.randint(0, self.bins))
+
+    def recut(self) -> None:
+        self.add("recut", self.r.randint(0, self.bins))
 
     def grow(self) -> None:
         """By some cells or far too much, on one of the axes or on what is none."""
@@ -119,6 +143,7 @@ class InC:
         self.session = c.RpSession()
         c.check(c.call("session_new", self.session))
         self.ids: set[int] = set()
+        self.numbers: list[int] = []
         self.forget()
 
     def close(self) -> None:
@@ -135,9 +160,13 @@ class InC:
         if word in later:
             later[word].append(numbers)
             return None
+        if word == "number":
+            self.numbers += numbers
+            return None
         obeys: dict[str, Callable[..., str]] = {
-            "bin": self.bin, "pack": self.pack, "place": self.place, "release": self.release, "join": self.join,
-            "sweep": self.sweep, "clear": self.clear, "remove": self.remove, "grow": self.grow, "plan": self.plan,
+            "bin": self.bin, "pack": self.pack, "place": self.place, "fit": self.fit, "find": self.find,
+            "release": self.release, "releases": self.releases, "join": self.join, "sweep": self.sweep, "clear": self.clear,
+            "remove": self.remove, "grow": self.grow, "recut": self.recut, "plan": self.plan, "free": self.free,
             "placed": self.placed,
         }
         return obeys[word](*numbers)
@@ -167,6 +196,25 @@ class InC:
         self.forget()
         return "-1" if status else str(number.value)
 
+    def fit(self, bin: int, heuristic: int) -> str:
+        return self.fitted("session_place_best", bin, heuristic=heuristic)
+
+    def find(self, heuristic: int) -> str:
+        return self.fitted("session_place_best_anywhere", heuristic=heuristic)
+
+    def fitted(self, name: str, *bin: int, heuristic: int) -> str:
+        size = self.boxes[0] if self.boxes else (0, 0, 0, 0)
+        place = c.RpOutstanding()
+        status = c.call(name, self.session, *bin, c.RpBox(*size), heuristic, place)
+        self.forget()
+        at = place.placement
+        return "-1" if status else f"{place.number} {at.bin} {at.x} {at.y} {at.z}"
+
+    def releases(self) -> str:
+        numbers, self.numbers = self.numbers, []
+        array = (ctypes.c_uint64 * max(len(numbers), 1))(*numbers)
+        return str(int(c.call("session_release_all", self.session, array, len(numbers)) == 0))
+
     def release(self, number: int) -> str:
         return str(int(c.call("session_release", self.session, number) == 0))
 
@@ -188,6 +236,9 @@ class InC:
     def grow(self, bin: int, axis: int, by: int) -> str:
         return str(int(c.call("session_grow_bin", self.session, bin, axis, by) == 0))
 
+    def recut(self, bin: int) -> str:
+        return str(int(c.call("session_recut", self.session, bin) == 0))
+
     def read(self, name: str, kind: type[c.Entry], *arguments: object) -> tuple[int, list[c.Entry]]:
         """The status of a call that writes a list, and the list."""
         count, array = ctypes.c_size_t(), c.empty(kind, 0)
@@ -203,6 +254,12 @@ class InC:
             return "-1"
         c.check(status)
         return " ".join(f"{step.axis} {step.place}" for step in steps)
+
+    def free(self, bin: int) -> str:
+        status, sections = self.read("session_free_sections", c.RpSection, bin)
+        if status != UNKNOWN_BIN:
+            c.check(status)
+        return " ".join(f"{it.x} {it.y} {it.z} {it.width} {it.height} {it.depth}" for it in sections)
 
     def placed(self) -> str:
         status, all_placed = self.read("session_outstanding", c.RpStanding)

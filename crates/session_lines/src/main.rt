@@ -1,11 +1,12 @@
 //! The library by lines. It has what `packrun` has no line for, so that the library for C can be
 //! compared with it, and heuristics and cutting plans can be measured.
 //!
-//! It reads lines from standard input. Three of them tell of the next packing:
+//! It reads lines from standard input. Four of them tell of the next packing or release:
 //!
 //! - `box W H D GROUP` is a box more, in no group where that is 0;
 //! - `member I GROUP` puts box I into one group more, as a box behind all of those;
-//! - `exclude A B` keeps two groups apart.
+//! - `exclude A B` keeps two groups apart;
+//! - `number N` is a number more.
 //!
 //! Each of these has a line as its answer:
 //!
@@ -14,9 +15,14 @@
 //!   such number, and forgets the boxes: the number of the heuristic, or -1 where there is no space;
 //! - `place BIN X Y Z` places box 0 at this corner of the bin, and forgets the boxes: the number of
 //!   its placement, or -1 where it is refused;
-//! - `release N`, `join BIN I LO HI`, `sweep BIN`, `clear BIN`, `remove BIN`, and `grow BIN AXIS N`,
-//!   on axis 0 for x: 1 where it is done, else 0;
+//! - `fit BIN N` places box 0 where it fits best in the bin, and `find N` in any, with the rest cut by
+//!   the heuristic N of `Heuristic::ALL`, and forgets the boxes: the number of its placement, the bin
+//!   and the corner, or -1 where it is refused;
+//! - `releases`: releases the placements of the numbers, and forgets these: 1 where it is done, else 0;
+//! - `release N`, `join BIN I LO HI`, `sweep BIN`, `clear BIN`, `remove BIN`, `recut BIN`, and
+//!   `grow BIN AXIS N`, on axis 0 for x: 1 where it is done, else 0;
 //! - `placed`: the number, index, bin and corner of each outstanding placement;
+//! - `free BIN`: corner and sides of each free section, or nothing where there is no such bin;
 //! - `plan BIN`: axis and place of each cut, 0 for x, and 3 0 for each leaf; or -1 where there is no
 //!   plan or no such bin;
 //! - `time BIN`: how many microseconds the plan of the bin takes, the best of five;
@@ -30,7 +36,7 @@ mod measures;
 mod packing;
 
 use crate::measures::{measure, print_time};
-use crate::packing::{Bins, Boxes, add, pack, place};
+use crate::packing::{Bins, Boxes, add, fit, pack, place};
 use rectangle_pack::{Axis, CutStep, GroupedRectsToPlace, Session, SessionError};
 use std::alloc::Global;
 use std::io::{self, BufRead, BufReader};
@@ -132,6 +138,7 @@ fn change(session: &mut Bins, word: &str, numbers: [u32; 4]) -> io::Result<Optio
         "sweep" => Ok(Some(is_done(session.coalesce_all(&a)))),
         "clear" => Ok(Some(is_done(session.clear_bin(&a)))),
         "remove" => Ok(Some(is_done(session.remove_bin(&a)))),
+        "recut" => Ok(Some(is_done(session.recut(&a)))),
         "grow" => Ok(Some(grow(session, a, b, c))),
         _ => Ok(None),
     }
@@ -159,10 +166,51 @@ fn print_place(
     Ok(())
 }
 
+// Says where the box stands that was placed last.
+fn print_last(rt: &HostRuntime, session: &Bins) -> io::Result<()> {
+    if let Some(placed) = session.outstanding().last() {
+        let (x, y, z) = (
+            placed.location.x(),
+            placed.location.y(),
+            placed.location.z(),
+        );
+        println!(rt; "{} {} {x} {y} {z}", placed.number, placed.bin)?;
+    }
+    Ok(())
+}
+
+fn print_fit(
+    rt: &HostRuntime,
+    session: &mut Bins,
+    boxes: &Boxes,
+    bin: Option<&u32>,
+    number: u32,
+) -> io::Result<()> {
+    if fit(session, boxes, bin, number) {
+        return print_last(rt, session);
+    }
+    println!(rt; "-1")?;
+    Ok(())
+}
+
+fn print_free(rt: &HostRuntime, session: &Bins, bin: u32) -> io::Result<()> {
+    if let Some(bin) = session.bins().get(&bin) {
+        for section in bin.available_bin_sections() {
+            let (x, y, z) = (section.x(), section.y(), section.z());
+            let whd = section.whd();
+            let (w, h, d) = (whd.width(), whd.height(), whd.depth());
+            print!(rt; "{x} {y} {z} {w} {h} {d} ")?;
+        }
+    }
+    println!(rt; "")?;
+    Ok(())
+}
+
 // Obeys a line that asks of the session.
 fn look(rt: &HostRuntime, session: &Bins, word: &str, bin: u32) -> io::Result<()> {
     match word {
         "placed" => print_placed(rt, session),
+        "free" => print_free(rt, session, bin),
         "plan" => print_plan(rt, session, bin),
         "time" => print_time(rt, session, bin),
         _ => Ok(()),
@@ -181,7 +229,29 @@ fn end(
     match word {
         "pack" => print_pack(rt, session, boxes, a)?,
         "place" => print_place(rt, session, boxes, numbers)?,
+        "fit" => print_fit(rt, session, boxes, Some(&a), b)?,
+        "find" => print_fit(rt, session, boxes, None, a)?,
         "first" | "pages" | "times" => measure(rt, boxes, word, [a, b, c])?,
+        _ => return Ok(false),
+    }
+    Ok(true)
+}
+
+// Obeys a line of numbers that are to be released together. Tells whether it is one.
+fn release_all(
+    rt: &HostRuntime,
+    session: &mut Bins,
+    told: &mut Vec<u64>,
+    word: &str,
+    number: u32,
+) -> io::Result<bool> {
+    match word {
+        "number" => told.push(number as u64)?,
+        "releases" => {
+            let answer = is_done(session.release_all(told.as_slice()));
+            told.clear();
+            println!(rt; "{answer}")?
+        }
         _ => return Ok(false),
     }
     Ok(true)
@@ -204,12 +274,23 @@ fn obey(rt: &HostRuntime, session: &mut Bins, boxes: &mut Boxes, line: &str) -> 
     Ok(())
 }
 
+// The word of a line, and its first number.
+fn begins(line: &str) -> (&str, u32) {
+    let word = line.split_whitespace().next().unwrap_or("");
+    (word, numbers(line)[0])
+}
+
 fn main(rt: HostRuntime) -> io::Result<()> {
     let alloc: Global = rt.alloc();
     let mut session = Session::new(alloc, 0);
     let mut boxes = GroupedRectsToPlace::new(alloc);
+    let mut told = Vec::new(alloc);
     for line in BufReader::new(alloc, rt.reader())?.lines(alloc) {
-        obey(&rt, &mut session, &mut boxes, &line?)?;
+        let line = line?;
+        let (word, number) = begins(&line);
+        if !release_all(&rt, &mut session, &mut told, word, number)? {
+            obey(&rt, &mut session, &mut boxes, &line)?;
+        }
     }
     Ok(())
 }

@@ -5,6 +5,7 @@ ghost use Rattle.std.specs.Option.{ForSome};
 
 use rectangle_pack::{
     Group, GroupedRectsToPlace, Heuristic, PackedLocation, RectToInsert, Session, SessionError,
+    WidthHeightDepth, contains_smallest_box,
 };
 use std::alloc::{AllocError, Global};
 use std::io;
@@ -82,4 +83,17 @@ pub fn place(session: &mut Bins, boxes: &Boxes, bin: u32, corner: [u32; 3]) -> O
         Ok(number) => Some(number),
         Err(_) => None,
     }
+}
+
+// Places box 0 where it fits best, in this bin or in any, and cuts the rest by the heuristic of this
+// number. Tells whether it is done.
+pub fn fit(session: &mut Bins, boxes: &Boxes, bin: Option<&u32>, number: u32) -> bool {
+    let Some(heuristic) = Heuristic::ALL.get(number as usize) else {
+        return false;
+    };
+    let rate = |size: WidthHeightDepth| -> u128 { heuristic.rate(size) };
+    let size = size_of(boxes, 0);
+    session
+        .place_best(bin, 0, size, &rate, &contains_smallest_box)
+        .is_ok()
 }
