@@ -2,13 +2,15 @@
 proved of it, and the tests that call it; then the program and the calls for C. A plain reader is a line."""
 from __future__ import annotations
 
+import pathlib
 import re
 from collections.abc import Iterable, Iterator
 
-from library import KINDS, Call, Library, Module
+from examples import doc_lines, place_of
+from library import KINDS, Call, Library, Module, Placed
 from proved import Proved, is_plain
 from rattle import Item, indent_of
-from sources import CRATES, FOR_C, MAIN, ORDER, ROOT, fenced, files_of
+from sources import CRATES, FOR_C, MAIN, ORDER, ROOT, fenced, files_of, shown
 
 # Files of tests: what each is of (a public module, the program, the library for C, or laws), its name, and its text.
 Test = tuple[str, str, str]
@@ -42,14 +44,15 @@ class Page:
     def function(self, level: int, call: Call, kind: str = "") -> Iterator[str]:
         yield "#" * level + f" {kind} `{call.name}`".replace("  ", " ")
         yield fenced([dedented(call.item.head)], "rust") if kind != "Law" else ""
-        yield docs_of(call.item.docs)
+        yield docs_of(call.item.docs, call.path)
         yield from self.proved_of(call)
 
     def proved_of(self, call: Call) -> Iterator[str]:
         yield "\n".join(self.proved.claims(call))
         yield tests_of(call, self.tests)
 
-    def type(self, item: Item) -> Iterator[str]:
+    def type(self, placed: Placed) -> Iterator[str]:
+        item = placed.item
         parts = item.parts()
         visible = [part for part in parts if item.kind == "enum" or part.is_public]
         lines = [line for part in visible for line in part.lines if not line.lstrip().startswith("//")]
@@ -57,7 +60,7 @@ class Page:
         start, close = (" {", ["}"]) if item.has_body else (";", [])
         yield f"### {KINDS[item.kind]} `{item.name}`"
         yield fenced([*item.attributes, item.head + start, *lines, *close], "rust")
-        yield docs_of(item.docs)
+        yield docs_of(item.docs, placed.path)
         yield "\n".join(line for part in visible for line in listed(part))
         yield from self.impls(item.name)
         yield from self.methods(item.name)
@@ -78,7 +81,7 @@ class Page:
 
     def module(self, module: Module) -> Iterator[str]:
         yield f"## `{module.words[-1]}`"
-        yield docs_of(module.docs)
+        yield docs_of(module.docs, module.path)
         if module.words == [ROOT]:
             others = {name for name, home in self.library.homes.items() if home != ROOT}
             named = ", ".join(f"`{it}`" for it in sorted(self.library.again))
@@ -86,13 +89,13 @@ class Page:
         # Types first, and laws last.
         for it in sorted(module.stands, key=lambda it: {"struct": 0, "enum": 0, "law": 2}.get(it.kind, 1)):
             if it.kind in ("struct", "enum"):
-                yield from self.type(it.item)
+                yield from self.type(it)
             elif it.kind in ("fn", "law"):
                 yield from self.function(3, self.proved.calls[it.item.name], KINDS[it.kind])
             else:
                 yield f"### {KINDS[it.kind]} `{it.item.name}`"
                 yield fenced([it.item.head + ";"], "rust")
-                yield docs_of(it.item.docs)
+                yield docs_of(it.item.docs, it.path)
 
 
 def tests_of(call: Call, among: Iterable[Test]) -> str:
@@ -117,9 +120,14 @@ def gathered(names: list[str]) -> Iterator[str]:
             yield f"`{folder}/{left[0]}`" if len(left) == 1 else f"`{folder}/{{{','.join(left)}}}`"
 
 
-def docs_of(docs: list[str]) -> str:
-    """A doc comment, in which a block of code without a language is Rust."""
-    return re.sub(r"(?ms)^```(\S*)$(.*?)^```$", lambda it: f"```{it[1] or 'rust'}{it[2]}```", "\n".join(docs))
+def docs_of(docs: list[str], path: pathlib.Path) -> str:
+    """A doc comment up to its example, and a link to that, in this file."""
+    if "```" not in docs:
+        return "\n".join(docs)
+    told = docs[: docs.index("```")]
+    lines = [it.strip() for it in path.read_text().splitlines()]
+    line = place_of([it.strip() for it in docs], doc_lines(lines)) + len(told) + 1
+    return "\n".join([*told, f"[Example](../{shown(path)}#L{line})"])
 
 
 def dedented(head: str) -> str:

@@ -35,9 +35,9 @@ def doc_lines(lines: list[str]) -> list[str]:
     return [it[3:].strip() if it.startswith(("///", "//!")) else "" for it in lines]
 
 
-def stands_in(block: list[str], lines: list[str]) -> bool:
-    """Whether the block's lines stand in these lines, one after the other."""
-    return any(lines[i : i + len(block)] == block for i in range(len(lines) - len(block) + 1))
+def place_of(block: list[str], lines: list[str]) -> int:
+    """From which of these lines on the block's lines stand, one after the other; -1 where they do not."""
+    return next((i for i in range(len(lines) - len(block) + 1) if lines[i : i + len(block)] == block), -1)
 
 
 def faults() -> Iterator[str]:
@@ -48,5 +48,5 @@ def faults() -> Iterator[str]:
         for number, fence, block in blocks(texts[path] if path is README else doc_lines(texts[path])):
             # A block of the README without a language is text.
             where = TESTS.get(fence, []) if (path, fence) != (README, "```") else []
-            if where and not any(stands_in(block, tests[it]) for it in where):
+            if where and not any(place_of(block, tests[it]) >= 0 for it in where):
                 yield f"{shown(path)}:{number}: this example is not in {' or '.join(map(shown, where))}"

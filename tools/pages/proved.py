@@ -17,6 +17,9 @@ from sources import CRATES, FOR_C, LAYERS, MAIN, PROGRAM, coded, files_of, shown
 TRIED = [it.stem for it in CRATES.glob("*/must-fail/*.edit")]
 OTHERS = [it.stem for it in CRATES.glob("*/wrong-bodies/*.edit")]
 
+# Claims that the page makes of all calls at its head, so not of each.
+SAID_ONCE = {"No other error is answered.", "What always holds of a session holds afterwards."}
+
 
 @dataclass(frozen=True)
 class Claim:
@@ -63,10 +66,10 @@ class Proved:
 
     def claims(self, call: Call) -> Iterator[str]:
         """A line for each claim: its clause, what it says, and in brackets the wrong bodies. A star marks those that the gate does
-        not try. Premises are left out that another law told, or that the doc comment of the call tells."""
+        not try. Premises are left out that another law told, or that the doc comment of the call tells; and what is said once of all."""
         tells_premises = "The caller sees to it" in " ".join(call.item.docs)
         for clause in (it for it in call.clauses() if it.kind == "ensures" or (claims_of(it.notes) and not tells_premises)):
-            for it in self.told[call.name, clause.name]:
+            for it in (it for it in self.told[call.name, clause.name] if it.text not in SAID_ONCE):
                 text = f"Premise: {it.text[0].lower()}{it.text[1:]}" if clause.kind == "requires" else it.text
                 name = "" if clause.name == clause.kind else f"`{clause.name}`: "
                 edits = ", ".join(f"`{edit}`" if edit in TRIED else f"`{edit}`\\*" for edit in it.edits)

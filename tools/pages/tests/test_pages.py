@@ -1,4 +1,6 @@
 """What is made and what is found wrong, on small texts."""
+import pathlib
+import tempfile
 import unittest
 from unittest import mock
 
@@ -35,6 +37,7 @@ CALL = """pub fn NAME(n: u32)
     // It is `n` then,
     //   whatever it was. [set.is_left, set.two]
     // It stays.
+    // No other error is answered.
     ensures done { new ≡ n }
     ensures { kept }
 {
@@ -112,6 +115,7 @@ class Claims(unittest.TestCase):
         self.assertEqual(proved.claims_of(done.notes), [
             proved.Claim("It is `n` then, whatever it was.", ["set.is_left", "set.two"]),
             proved.Claim("It stays.", []),
+            proved.Claim("No other error is answered.", []),
         ])
         self.assertEqual((done.lines, kept.notes), (["    ensures done { new ≡ n }"], []))
 
@@ -178,9 +182,14 @@ class Functions(unittest.TestCase):
 
 
 class Calls(unittest.TestCase):
-    def test_code_in_a_doc_comment_is_rust(self) -> None:
-        docs = ["Sets it.", "```", "set(1);", "```", "```text", "ok", "```"]
-        self.assertEqual(calls.docs_of(docs), "Sets it.\n```rust\nset(1);\n```\n```text\nok\n```")
+    def test_an_example_is_a_link(self) -> None:
+        docs = ["Sets it.", "", "```", "set(1);", "```", "", "It is 1 then."]
+        with tempfile.TemporaryDirectory(dir=CRATES) as folder:
+            path = pathlib.Path(folder, "set.rt")
+            path.write_text("use it;\n" + "".join(f"    /// {it}".rstrip() + "\n" for it in docs) + "    pub fn set(n: u32) {}\n")
+            link = f"[Example](../{path.relative_to(CRATES.parent)}#L4)"
+            self.assertEqual(calls.docs_of(docs, path), f"Sets it.\n\n{link}")
+            self.assertEqual(calls.docs_of(["Sets it."], path), "Sets it.")
 
     def test_head_is_moved_to_the_left(self) -> None:
         head = "pub fn set(\n        &self,\n    ) -> u32"
@@ -240,8 +249,8 @@ class Examples(unittest.TestCase):
         self.assertEqual(list(examples.blocks(["```c", "a", "", "b"])), [(2, "```c", ["a", "", "b"])])
 
     def test_a_block_stands_in_one_piece(self) -> None:
-        self.assertTrue(examples.stands_in(["b", "c"], ["a", "b", "c"]))
-        self.assertFalse(examples.stands_in(["a", "c"], ["a", "b", "c"]))
+        self.assertEqual(examples.place_of(["b", "c"], ["a", "b", "c"]), 1)
+        self.assertEqual(examples.place_of(["a", "c"], ["a", "b", "c"]), -1)
 
 
 if __name__ == "__main__":
