@@ -6,12 +6,13 @@ import datetime
 import subprocess
 import sys
 
+import atlas
 import fill
 import plans
 import speed
 from programs import TOP
 
-ALL = (speed.packings, speed.others, speed.from_c, speed.excluded, speed.given_back, speed.sweeps, plans.plans, fill.fill)
+ALL = (speed.packings, speed.others, speed.from_c, speed.excluded, speed.given_back, speed.sweeps, plans.plans, atlas.atlas, fill.fill)
 MORE = (fill.squares, fill.pages, fill.containers, fill.best)
 TABLES = {it.__name__: it for it in (*ALL, *MORE)}
 

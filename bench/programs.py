@@ -29,9 +29,9 @@ def compiled(source: str, *flags: str) -> str:
     return program
 
 
-def printed(program: str, text: str) -> str:
-    """What a program prints on this input."""
-    return subprocess.run([program], input=text, stdout=subprocess.PIPE, text=True, check=True).stdout
+def printed(program: str | Sequence[str], text: str) -> str:
+    """What a program, or one with its arguments, prints on this input."""
+    return subprocess.run([program] if isinstance(program, str) else program, input=text, stdout=subprocess.PIPE, text=True, check=True).stdout
 
 
 def seconds(programs: Sequence[str], lines: Iterable[str], runs: int = RUNS) -> list[float]:

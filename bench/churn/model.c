@@ -1,5 +1,5 @@
 /* A model of the session that keeps a page full: best fit by the tightest side, the newest section at ties, and a recut from the
-   boxes alone each time that boxes have gone, which puts the free sections in the order of age. README.md says what it found.
+   boxes alone each time that boxes have gone, which puts the thickest free section first. README.md says what it found.
 
    The code is written over axes; with AXES 3 and three sizes a box it is the same policy for bins. */
 #include "workload.h"
@@ -13,7 +13,7 @@ typedef struct {
     unsigned from[AXES], to[AXES];
 } Rect;
 
-const char *const allocator_name = "best fit, newest first, recut by age";
+const char *const allocator_name = "model: best fit, cut anew";
 static unsigned long long looked_at;
 
 /* ---- free sections: a list, the newest last ---- */
@@ -108,7 +108,6 @@ static void cut_rest(const Rect *of, const Rect *box) {
 static Rect boxes[MOST];
 static unsigned starts[AXES][MOST]; /* of the boxes */
 static int listed[MOST];
-static unsigned section_age[MOST];
 
 /* By the keys, stable: insertion where there are few, else by bytes. */
 static void sort(int *items, int count, const unsigned *key) {
@@ -142,13 +141,6 @@ static Rect bounds_of(const int *of, int count) {
     return bounds;
 }
 
-static unsigned newest_of(const int *of, int count) {
-    int newest = of[0];
-    for (int i = 1; i < count; i++)
-        if (of[i] > newest) newest = of[i];
-    return (unsigned)newest;
-}
-
 /* What a room has beyond the bounds on one side, over its whole width: 2 * axis is the low side, one more the high one. */
 static Rect strip_at(Rect room, const Rect *bounds, int at_side) {
     int axis = at_side / 2;
@@ -158,7 +150,7 @@ static Rect strip_at(Rect room, const Rect *bounds, int at_side) {
 }
 
 /* The strips of a room round the bounds become free sections, the largest first. */
-static void cut_strips(Rect room, const Rect *bounds, unsigned age) {
+static void cut_strips(Rect room, const Rect *bounds) {
     for (;;) {
         int largest = 0;
         Volume most = 0;
@@ -167,7 +159,6 @@ static void cut_strips(Rect room, const Rect *bounds, unsigned age) {
             if (volume(&strip) > most) largest = at_side, most = volume(&strip);
         }
         if (most == 0) return;
-        section_age[section_count] = age;
         add(strip_at(room, bounds, largest));
         if (largest % 2) room.to[largest / 2] = bounds->to[largest / 2];
         else room.from[largest / 2] = bounds->from[largest / 2];
@@ -188,7 +179,7 @@ static int before_plane(const int *of, int count, int axis) {
 /* Cuts a part of the page: its strips, then at each open plane of the first axis that has one. 0 where none has. */
 static int cut_part(Rect room, int *of, int count) {
     Rect bounds = bounds_of(of, count);
-    cut_strips(room, &bounds, newest_of(of, count));
+    cut_strips(room, &bounds);
     if (count == 1) return 1;
     for (int axis = 0; axis < AXES; axis++) {
         sort(of, count, starts[axis]);
@@ -204,16 +195,21 @@ static int cut_part(Rect room, int *of, int count) {
     return 0;
 }
 
-/* The sections in the order of age: by the newest box of the part from which each was cut, the newest last. */
+/* By the thinnest side, the thickest first; of those that tie the smallest first. */
+static int comes_before(const void *one, const void *other) {
+    const Rect *a = one, *b = other;
+    unsigned thin_a = least_of((unsigned[]){side(a, 0), side(a, 1)}), thin_b = least_of((unsigned[]){side(b, 0), side(b, 1)});
+    if (thin_a != thin_b) return thin_a > thin_b ? -1 : 1;
+    return volume(a) < volume(b) ? -1 : volume(a) > volume(b);
+}
+
 static void put_in_order(void) {
-    static int in_order[MOST];
     static Rect copies[MOST];
-    for (int i = 0; i < section_count; i++) in_order[i] = i;
-    sort(in_order, section_count, section_age);
-    memcpy(copies, sections, sizeof *sections * (size_t)section_count);
     int count = section_count;
+    memcpy(copies, sections, sizeof *sections * (size_t)count);
+    qsort(copies, (size_t)count, sizeof *copies, comes_before);
     section_count = 0;
-    for (int i = 0; i < count; i++) add(copies[in_order[i]]);
+    for (int i = 0; i < count; i++) add(copies[i]);
 }
 
 static int recut(const Place *stand, int count) {

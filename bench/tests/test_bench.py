@@ -11,6 +11,7 @@ import subprocess
 import tempfile
 import unittest
 
+import atlas
 import fill
 import inputs
 import plans
@@ -84,10 +85,18 @@ class Churn(unittest.TestCase):
                 subprocess.run(["cc", "-std=c11", "-O2", "-Wall", "-Wextra", "-Werror", *sources, "-o", f"{folder}/{name}"], check=True)
                 said = subprocess.run([f"{folder}/{name}", "40000"], capture_output=True, text=True, check=True).stdout
                 self.assertIn("emptied: 1 parts; a box of the whole page: taken", said)
-                fullness[name] = float(re.findall(r"full (\S+) in the mean", said)[0])
+                fullness[name] = float(atlas.told(said)[0])
         # An atlas is to be four fifths full, and fuller than by shelves.
         self.assertGreater(fullness["model"], 0.8)
         self.assertGreater(fullness["model"], fullness["shelves"])
+
+
+class Reports(unittest.TestCase):
+    def test_a_report_is_a_row(self) -> None:
+        tenths = " ".join(f"0.8{i}/0.7{i}" for i in range(10))
+        said = f"x: 9 boxes, 2 refusals, full 0.9 in the mean, 0.8 at the worst\n  by tenths: {tenths}\n"
+        said += "  3 parts; 1.5 looked at a box; 0.123 M boxes/s; worst call: place 0.25 ms, mend 3.96 ms\n"
+        self.assertEqual(atlas.told(said), ["0.9", "0.8", "0.80, 0.84, 0.89", "123,000", "4.0"])
 
 
 class Tables(unittest.TestCase):
