@@ -12,7 +12,7 @@ pub mod plain;
 pub mod steps;
 
 use crate::free_list::plain::{Taken, newest, place_at, undo_one};
-use crate::free_list::steps::Steps;
+use crate::free_list::steps::Indexed;
 use crate::gap_list::summary::Summary;
 use crate::gap_list::{GapList, Search};
 use rectangle_pack_sections::bin_section::BinSection;
@@ -36,12 +36,12 @@ pub enum End {
     Undo,
 }
 
-// The sections: a plain list, or one with gaps, where it is long.
+// The sections: a plain list, or one with gaps, where it is long. That stands on the heap, so that
+// plain lists, of which there may be many, stay small.
 #[derive(Drop)]
 enum Sections<A: Allocator + Copy> {
     Plain(Vec<BinSection, A>),
-    // With the steps that were made since the index was set.
-    Gapped(GapList<A>, Steps<A>),
+    Gapped(Box<Indexed<A>, A>),
 }
 
 /// Room for the notes of a trial, which goes from one bin to the next where the trial is stuck.
@@ -131,7 +131,7 @@ impl<A: Allocator + Copy> FreeList<A> {
     {
         match &self.sections {
             Sections::Plain(_) => self.taken.len(),
-            Sections::Gapped(_, steps) => self.taken.len() + steps.len(),
+            Sections::Gapped(indexed) => self.taken.len() + indexed.steps.len(),
         }
     }
 
@@ -152,7 +152,7 @@ impl<A: Allocator + Copy> FreeList<A> {
                     tests: sections.len(),
                 },
             },
-            Sections::Gapped(list, _) => list.last_holding(member),
+            Sections::Gapped(indexed) => indexed.list.last_holding(member),
         }
     }
 
@@ -243,7 +243,8 @@ impl<A: Allocator + Copy> FreeList<A> {
         }
     }
 
-    /// The sections at the end, closed up. Takes no memory.
+    /// The sections at the end, closed up. A list that had an index asks to be made smaller, and stays
+    /// as it is where that is refused. Asks for no other memory.
     pub fn into_sections(self, end: End) -> Vec<BinSection, A>
         ensures { result.items ≡ left_of end self }
     {
@@ -278,18 +279,23 @@ impl<A: Allocator + Copy> Sections<A> {
         ensures room { room_in self.old ≤ room_in self.new }
     {
         match self {
-            Sections::Gapped(list, made) => {
-                list.reserve(steps * 3)?;
-                made.reserve(steps)
+            Sections::Gapped(indexed) => {
+                let indexed = &mut **indexed;
+                indexed.list.reserve(steps * 3)?;
+                let places = indexed.list.places() + steps * 3;
+                indexed.steps.reserve(steps, places)
             }
             Sections::Plain(sections) if !is_worth_it(sections.len(), steps, boxes) => {
                 taken.reserve(steps)?;
                 sections.reserve(steps * 2)
             }
             Sections::Plain(sections) => {
-                let mut made = Steps::new(*sections.allocator());
-                made.reserve(steps)?;
-                *self = Sections::Gapped(GapList::over(sections, steps * 3)?, made);
+                let alloc = *sections.allocator();
+                let mut indexed = Box::new(alloc, Indexed::new(alloc))?;
+                let places = sections.len().saturating_add(steps * 3);
+                indexed.steps.reserve(steps, places)?;
+                indexed.list = GapList::over(sections, steps * 3)?;
+                *self = Sections::Gapped(indexed);
                 Ok(())
             }
         }
@@ -325,9 +331,10 @@ impl<A: Allocator + Copy> Sections<A> {
                 taken.push_reserved(note);
                 location
             }
-            Sections::Gapped(list, steps) => {
-                let (location, pushed) = list.place_at(place, member, policy);
-                steps.push_reserved(place, pushed);
+            Sections::Gapped(indexed) => {
+                let indexed = &mut **indexed;
+                let (location, pushed) = indexed.list.place_at(place, member, policy);
+                indexed.steps.push_reserved(place, pushed);
                 location
             }
         }
@@ -348,12 +355,13 @@ impl<A: Allocator + Copy> Sections<A> {
                     undo_one(sections, note);
                 }
             }
-            Sections::Gapped(list, steps) => {
-                if let Some((place, pushed)) = steps.pop() {
-                    list.undo_one(place, pushed);
+            Sections::Gapped(indexed) => {
+                let indexed = &mut **indexed;
+                if let Some((place, pushed)) = indexed.steps.pop() {
+                    indexed.list.undo_one(place, pushed);
                 } else if let Some(note) = taken.pop() {
                     // The index was set after this step, so no gap stands in the list any more.
-                    let mut sections = list.take_sections();
+                    let mut sections = indexed.list.take_sections();
                     undo_one(&mut sections, note);
                     *self = Sections::Plain(sections);
                 }
@@ -361,14 +369,15 @@ impl<A: Allocator + Copy> Sections<A> {
         }
     }
 
-    // The sections alone, closed up. Takes no memory.
+    // The sections alone, closed up. Where a list had gaps, it asks to be made smaller, and stays as
+    // it is where that is refused.
     fn into_sections(self) -> Vec<BinSection, A>
         ensures { result.items ≡ sections_of (places_in self) }
     {
         match self {
             Sections::Plain(sections) => sections,
-            Sections::Gapped(list, _) => {
-                let mut list = list;
+            Sections::Gapped(indexed) => {
+                let Indexed { mut list, .. } = Box::into_inner(indexed);
                 let mut sections = list.take_sections();
                 // The room of gaps is given back.
                 sections.shrink_to_fit();

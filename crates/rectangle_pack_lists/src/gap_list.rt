@@ -1,6 +1,6 @@
 //! Lists of sections with gaps, in which the last section that holds a box is found without a look at
 //! each.
-ghost use Rattle.std.specs.Prelude.{ℕ, ◌≡◌, ◌+◌, ◌-◌, ◌<◌, ◌≤◌, ◌*◌, ◌++◌, ◌∷◌, [], map, filter, All, length, take, drop, set, slice_index_or, IfOk, OnErr, OnOk, IfSome, IsSome, MatchOption, if◌then◌else◌, None, Some};
+ghost use Rattle.std.specs.Prelude.{ℕ, ◌≡◌, ◌+◌, ◌-◌, ◌<◌, ◌≤◌, ◌*◌, ◌^◌, ◌++◌, ◌∷◌, [], map, filter, All, length, take, drop, set, slice_index_or, IfOk, OnErr, OnOk, IfSome, IsSome, MatchOption, if◌then◌else◌, None, Some};
 ghost use Rattle.std.specs.List.{SameBelow};
 ghost use Rattle.std.specs.Vec.{vec_capacity};
 ghost use Rattle.rectangle_pack_sections.specs.Boxes.{FitsU32, has_cells};
@@ -104,11 +104,24 @@ fn last_of(sections: &[BinSection], gaps: u8, member: &RectToInsert) -> Search
 }
 
 impl<A: Allocator + Copy> GapList<A> {
+    // A list without sections. Takes no memory.
+    pub(crate) fn new(alloc: A) -> Self
+        ensures { result.all ≡ [] }
+    {
+        GapList {
+            sections: Vec::new(alloc),
+            gaps: Vec::new(alloc),
+            blocks: Vec::new(alloc),
+            rows: Vec::new(alloc),
+        }
+    }
+
     // Sets an index beside a list, which is taken, with room for `extra` places more. Fails only
     // when memory is refused, and leaves the list then.
     pub(crate) fn over(sections: &mut Vec<BinSection, A>, extra: usize) -> Result<Self, AllocError>
         ensures all { IfOk result (λ l. l.all ≡ map (λ s. Some s) sections.old.items) }
         ensures room { IfOk result (λ l. length l.all + extra ≤ l.room) }
+        ensures small { IfOk result (λ l. length l.all + extra < 2 ^ 64) }
         ensures capacity { IfOk result (λ l. vec_capacity sections.old ≤ l.capacity) }
         ensures err { OnErr result (sections.new.items ≡ sections.old.items) }
         ensures err_room { OnErr result (vec_capacity sections.old ≤ vec_capacity sections.new) }
@@ -132,6 +145,7 @@ impl<A: Allocator + Copy> GapList<A> {
     // Makes room for `extra` places more. Fails only when memory is refused, and leaves the list.
     pub(crate) fn reserve(&mut self, extra: usize) -> Result<(), AllocError>
         ensures ok { OnOk result (length self.old.all + extra ≤ self.new.room) }
+        ensures small { OnOk result (length self.old.all + extra < 2 ^ 64) }
         ensures all { self.new.all ≡ self.old.all }
         ensures under { self.new.under ≡ self.old.under }
         ensures capacity { self.old.capacity ≤ self.new.capacity }

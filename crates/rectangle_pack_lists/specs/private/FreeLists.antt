@@ -16,12 +16,12 @@ use Rattle.rectangle_pack_lists.specs.private.Places.{sections_of}
 -- the places of the sections: all sections of a plain list, or those of a list with gaps
 abbrev pub places_in : {A : Type 0} → Sections A → List (Option Cuboid)
 places_in (Plain sections) = map (λ s. Some s) sections.items
-places_in (Gapped list steps) = list.all
+places_in (Gapped indexed) = indexed.value.list.all
 
 -- the notes of the steps since an index was set
 abbrev pub gaps_in : {A : Type 0} → Sections A → List Note
 gaps_in (Plain sections) = []
-gaps_in (Gapped list steps) = map (gap_note list.under) steps.all
+gaps_in (Gapped indexed) = map (gap_note indexed.value.list.under) indexed.value.steps.all
 
 -- the notes of all steps: first those without an index, of which is known what each took
 abbrev pub notes_in : {A : Type 0} → List Taken → Sections A → List Note
@@ -30,14 +30,15 @@ notes_in taken sections = map plain_note taken ++ gaps_in sections
 -- for how many sections the list has room
 abbrev pub room_in : {A : Type 0} → Sections A → ℕ
 room_in (Plain sections) = vec_capacity sections
-room_in (Gapped list steps) = list.capacity
+room_in (Gapped indexed) = indexed.value.list.capacity
 
 -- for how many steps there is room. In a plain list a step takes one section out and pushes three at most; in a list
--- with gaps the place of the one that it takes out stays
+-- with gaps the place of the one that it takes out stays, and it has to be one that can be noted
 abbrev pub steps_in : {A : Type 0} → Vec Taken A → Sections A → ℕ
 steps_in taken (Plain sections) =
     min ((vec_capacity sections - length sections.items) / 2) (vec_capacity taken - length taken.items)
-steps_in taken (Gapped list steps) = min ((list.room - length list.all) / 3) steps.room
+steps_in taken (Gapped indexed) =
+    min ((min indexed.value.list.room indexed.value.steps.reach - length indexed.value.list.all) / 3) indexed.value.steps.room
 
 -- a list at work: its places, the notes of the steps that can be undone, for how many sections it has room, and for how
 -- many steps more

@@ -12,10 +12,18 @@ pub record Note : Type 0 where
   pub pushed : ℕ
   pub leaves_gap : Bool
 
--- the steps in a list with an index, each by its place and how many pieces it pushed, and for how many more there is room
+-- the places of gaps, in the order in which steps left them, and for how many more there is room, each below `reach`
+pub record NotedPlaces : Type 0 where
+  pub all : List ℕ
+  pub room : ℕ
+  pub reach : ℕ
+
+-- the steps in a list with an index, each by its place and how many pieces it pushed, and for how many more there is room,
+-- each at a place below `reach`
 pub record GapSteps : Type 0 where
   pub all : List (ℕ × ℕ)
   pub room : ℕ
+  pub reach : ℕ
 
 -- the note of a step in a plain list
 abbrev pub plain_note : Taken → Note

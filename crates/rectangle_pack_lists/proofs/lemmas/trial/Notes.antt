@@ -2,7 +2,7 @@
 use Rattle.std.specs.List.{SameBelow}
 use Rattle.std.specs.Option.{option_to_list, option_zip}
 use Rattle.std.proofs.Common.{le_refl}
-use Rattle.rectangle_pack_sections.proofs.Std.{◌≡◌, ◌↔◌, ℕ, ◌+◌, ◌-◌, ◌<◌, ◌≤◌, List, [], ◌∷◌, ◌++◌, refl, ap, arith, sym, ◌∙◌, zip, map, map-append, nil_from_length}
+use Rattle.rectangle_pack_sections.proofs.Std.{◌≡◌, ◌↔◌, ℕ, ◌+◌, ◌-◌, ◌<◌, ◌≤◌, List, [], ◌∷◌, ◌++◌, refl, ap, arith, sym, ◌∙◌, zip, map, map-append}
 use Rattle.rectangle_pack_sections.proofs.Std.{Option, Some, None, Bool, true, false, MatchBool, MatchOption, length, take, drop}
 use Rattle.rectangle_pack_sections.proofs.Std.{append-nil, append_assoc, length-append, length-set, length-take, take-append_seam, drop-append_seam}
 use Rattle.rectangle_pack_sections.specs.Boxes.{Cuboid}
@@ -125,17 +125,15 @@ zip-more (x ∷ ps) [] p q long = absurd (omega arith)
 zip-more (x ∷ ps) (y ∷ qs) p q long = ap (λ l. (x, y) ∷ l) (zip-more ps qs p q (omega arith))
 
 -- and shrink together
-pub zip-popped : (ps qs ps' qs' : List ℕ) (p q : Option ℕ) (n n' m m' : ℕ) → length qs ≡ length ps → n ≡ length ps → m ≡ length qs
-    → ps ≡ ps' ++ option_to_list p → qs ≡ qs' ++ option_to_list q
-    → MatchOption p ((n ≡ 0) × (n' ≡ 0)) (λ _. n' + 1 ≡ n) → MatchOption q ((m ≡ 0) × (m' ≡ 0)) (λ _. m' + 1 ≡ m)
+pub zip-popped : (ps qs ps' qs' : List ℕ) (p q : Option ℕ) (m m' : ℕ) → length qs ≡ length ps → m ≡ length qs
+    → MatchOption p ((ps ≡ []) × (ps' ≡ [])) (λ x. ps ≡ ps' ++ x ∷ [])
+    → qs ≡ qs' ++ option_to_list q → MatchOption q ((m ≡ 0) × (m' ≡ 0)) (λ _. m' + 1 ≡ m)
     → MatchOption (option_zip p q) ((zip ps qs ≡ []) × (zip ps' qs' ≡ [])) (λ s. zip ps qs ≡ zip ps' qs' ++ s ∷ [])
-zip-popped ps qs ps' qs' None q n n' m m' long counted also a b none others =
-    let first : ps ≡ [] = nil_from_length ps (sym counted ∙ none.0) in
-    let rest : ps' ≡ [] = sym (append-nil ps') ∙ sym a ∙ first in
-    (rw first refl, rw rest refl)
-zip-popped ps qs ps' qs' (Some p) None n n' m m' long counted also a b one none = absurd (omega (arith, none.0))
-zip-popped ps qs ps' qs' (Some p) (Some q) n n' m m' long counted also a b one other =
-    rw (a, b) (zip-more ps' qs' p q (omega (arith, ap length a, ap length b, length-append ps' (p ∷ []), length-append qs' (q ∷ []))))
+zip-popped ps qs ps' qs' None q m m' long counted none b others = rw (none.0, none.1) (refl, refl)
+zip-popped ps qs ps' qs' (Some p) None m m' long counted one b none =
+    absurd (omega (arith, none.0, ap length one, length-append ps' (p ∷ [])))
+zip-popped ps qs ps' qs' (Some p) (Some q) m m' long counted one b other =
+    rw (one, b) (zip-more ps' qs' p q (omega (arith, ap length one, ap length b, length-append ps' (p ∷ []), length-append qs' (q ∷ []))))
 
 -- each step since then is noted, and these steps undone leave the places of then
 pub record IsSince (then now : AtWork) : Type 0 where

@@ -36,10 +36,10 @@ returns-in-Plain-clause-noted g c =
 pub returns-in-Gapped-clause-noted : goal.returns-in-Gapped-clause-noted
 returns-in-Gapped-clause-noted g c =
     let made = c.place_at-location-in-Gapped.ensures in
-    let list = c.in-Gapped.list in
-    rw c.in-Gapped.is (IsNoted-gap _ _ _ _ _ _ (c.args.place, c.place_at-location-in-Gapped.result.1) _ _ c.push_reserved-in-Gapped.ensures.all
-    (gaps-same list.capacity (map plain_note c.args.taken.now.items) list.under _ c.in-Gapped.steps.all list.all made.under
-    (rw c.in-Gapped.is at c.requires.can_undo)) made.before made.place)
+    let list = c.deref_mut-indexed.result.now.list in
+    rw (c.in-Gapped.is, ← c.deref_mut-indexed.ensures.value) (IsNoted-gap _ _ _ _ _ _ (c.args.place, c.place_at-location-in-Gapped.result.1) _ _ c.push_reserved-in-Gapped.ensures.all
+    (gaps-same list.capacity (map plain_note c.args.taken.now.items) list.under _ c.deref_mut-indexed.result.now.steps.all list.all made.under
+    (rw (c.in-Gapped.is, ← c.deref_mut-indexed.ensures.value) at c.requires.can_undo)) made.before made.place)
 
 one_fewer : (room long more next cap notes left : ℕ) → room ≤ more → next ≤ long + 2 → left ≡ notes + 1
     → min ((room - long) / 2) (cap - notes) ≤ min ((more - next) / 2) (cap - left) + 1
