@@ -31,7 +31,7 @@ use Rattle.tests_support.specs.contracts.refusing.Refusing.refuses as RF
 use Rattle.tests_support.specs.contracts.refusing.Refusing.give_back as GB
 
 module _ {M : Type 1} {𝓤 : Ura M} (𝓛 : Logic 𝓤) (at_mem : Memory → SProp 𝓤) (run : Routine → Fun 𝓤) where
-  -- of `refuses_block` too
+  -- of `refuses_block` and `refuses_to_shrink` too
   abbrev pub Refuses : Contract 𝓤
   Refuses = triple_of 𝓛 RF.signature (RF.spec 𝓛 at_mem run)
 

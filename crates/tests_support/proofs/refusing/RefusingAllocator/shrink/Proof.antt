@@ -38,7 +38,7 @@ use Rattle.std.proofs.alloc.Shapes.{after}
 use Rattle.tests_support.specs.contracts.refusing.Refusing as R
 use Rattle.tests_support.specs.contracts.refusing.RefusingAllocator.shrink as f
 use Rattle.tests_support.proofs.refusing.Refusing.TheLaws.{the_row_laws}
-use Rattle.tests_support.proofs.refusing.Refusing.refuses.Met as r_met
+use Rattle.tests_support.proofs.refusing.Refusing.refuses_to_shrink.Met as r_met
 use Rattle.tests_support.proofs.refusing.SelfLemmas.{Refuses, at_self, hands_self, heap_at, heap_ref, has_heap, answer_typed, has_result}
 use Rattle.tests_support.proofs.refusing.RefusingAllocator.shrink.Statement.{statement}
 use Rattle.tests_support.proofs.refusing.RefusingAllocator.shrink.Code as code
@@ -59,7 +59,7 @@ shrink_spec 𝓤 𝓛 𝓜 𝓡 wired T L =
     let W = walk_of 𝓛 (f.ended T) (stayed T) c in
     let 𝓣 = tables 𝓤 𝓛.H 𝓜 𝓡 𝓡.env in
     let Counts = Refuses 𝓛 𝓜.mem 𝓡.returns in
-    let counts = r_met.met 𝓤 𝓛 𝓜 𝓡 (code.calls-tests_support::refusing::Refusing::refuses 𝓡.env wired) in
+    let counts = r_met.met 𝓤 𝓛 𝓜 𝓡 (code.calls-tests_support::refusing::Refusing::refuses_to_shrink 𝓡.env wired) in
     let Resizes = triple_of 𝓛 (g.signature T) (g.spec T 𝓛 𝓜.mem 𝓡.returns) in
     let resizes = g_met.met 𝓤 𝓛 𝓜 𝓡 (code.calls-std::impls::GlobalAllocator::shrink 𝓡.env wired) T L in
     let of_number = Goes-dropped 𝓛 2 (plain (λ _. usize)) yes (λ κs x f. refl) in
