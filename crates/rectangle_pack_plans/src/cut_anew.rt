@@ -4,7 +4,7 @@ ghost use Rattle.std.specs.Prelude.{◌≡◌, ◌++◌, ◌∷◌, true, [], Li
 ghost use Rattle.std.specs.List.Sorted.{IsPermutation};
 ghost use Rattle.rectangle_pack_sections.specs.Boxes.{Cuboid, FitsU32, IsPartOf, has_cells};
 ghost use Rattle.rectangle_pack_sections.specs.CutTrees.{IsFromCuts};
-ghost use Rattle.rectangle_pack_plans.specs.CuttingAnew.{AreThickestFirst, IsCutAnew};
+ghost use Rattle.rectangle_pack_plans.specs.CuttingAnew.{AreFreeInSomeOrder, AreThickestFirst, IsCutAnew};
 ghost use Rattle.rectangle_pack_plans.specs.private.CuttingAnew.{AreInRoom, CanBeCut, thickness_rank};
 
 mod bounds;
@@ -19,23 +19,27 @@ use rectangle_pack_sections::least_side::least_side;
 use rectangle_pack_sections::width_height_depth::WidthHeightDepth;
 use std::alloc::{AllocError, Allocator};
 
-// By thickness in a bin of this size, the thickest first, and then by volume: a multiple of 2^96 and
-// the volume, which is less.
+// More than any volume: that of three sides of 32 bits is less.
+const VOLUMES: u128 = 1 << 96;
+
+// By thickness in a bin of this size, the thickest first, and then by volume.
 fn rank(bin: &WidthHeightDepth, section: &BinSection) -> u128
     ensures { result ≡ thickness_rank bin.now section.now }
 {
     let whd = section.whd();
-    u128::from(u32::MAX - least_side(bin, &whd)) * 79228162514264337593543950336 + whd.volume()
+    u128::from(u32::MAX - least_side(bin, &whd)) * VOLUMES + whd.volume()
 }
 
-// Puts sections in order: the thickest first, of equally thick ones the smallest first. Takes no
-// memory.
-fn put_in_order(bin: &WidthHeightDepth, free: &mut [BinSection])
-    requires fit { All FitsU32 free.old }
-    ensures permutation { IsPermutation free.old free.new }
-    ensures ordered { AreThickestFirst bin.now free.new }
+// Puts sections in order: the thickest first, of equally thick ones the smallest first.
+fn put_in_order<A: Allocator>(
+    bin: &WidthHeightDepth,
+    free: &mut Vec<BinSection, A>,
+) -> Result<(), AllocError>
+    requires fit { All FitsU32 free.old.items }
+    ensures permutation { IsPermutation free.old.items free.new.items }
+    ensures ordered { OnOk result (AreThickestFirst bin.now free.new.items) }
 {
-    free.sort_unstable_by_key(|section| rank(bin, section));
+    free.sort_by_cached_key(|section| rank(bin, section))
 }
 
 // Puts a section at the end of the free ones, if it has cells.
@@ -65,13 +69,15 @@ fn cut_rooms<A: Allocator + Copy>(
     requires none { free.old.items ≡ [] }
     ensures { IfOk result (λ found. MatchBool found
         (IsFromCuts (free.new.items ++ boxes.old) whole.now
-        × All (λ s. has_cells s ≡ true) free.new.items)
+        × All (λ s. has_cells s ≡ true) free.new.items
+        × AreFreeInSomeOrder whole.now boxes.old free.new.items)
         (¬ CanBeCut boxes.old whole.now)) }
 {
     let mut rooms = Vec::new(alloc);
     rooms.push(Room {
         section: *whole,
         count: boxes.len(),
+        closed: None,
     })?;
     let mut left = boxes.len();
     while let Some(room) = rooms.pop() {
@@ -83,7 +89,7 @@ fn cut_rooms<A: Allocator + Copy>(
             left = start;
             continue;
         }
-        if !cut_slabs(&bounds, inside, &mut rooms)? {
+        if !cut_slabs(&bounds, room.closed, inside, &mut rooms)? {
             return Ok(false);
         }
     }
@@ -113,6 +119,6 @@ pub fn cut_anew<A: Allocator + Copy>(
     if !cut_rooms(alloc, &whole, boxes, &mut free)? {
         return Ok(None);
     }
-    put_in_order(&whole.whd(), &mut free);
+    put_in_order(&whole.whd(), &mut free)?;
     Ok(Some(free))
 }

@@ -3,6 +3,8 @@
 pub mod Halves
 pub mod Bounds
 pub mod Order
+pub mod FreeIn
 pub mod Strips
 pub mod Slabs
 pub mod Rooms
+pub mod Found

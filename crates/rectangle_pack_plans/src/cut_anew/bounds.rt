@@ -1,11 +1,22 @@
 //! The bounds of boxes.
 ghost use Rattle.std.specs.Prelude.{◌<◌, length, All};
 ghost use Rattle.rectangle_pack_sections.specs.Boxes.{FitsU32};
-ghost use Rattle.rectangle_pack_plans.specs.private.CuttingAnew.{IsHull, AreBounds};
+ghost use Rattle.rectangle_pack_plans.specs.CuttingAnew.{AreBounds};
+ghost use Rattle.rectangle_pack_plans.specs.private.CuttingAnew.{IsHullOn, IsHull};
 
+use rectangle_pack_sections::axis::Axis;
 use rectangle_pack_sections::bin_section::BinSection;
-use rectangle_pack_sections::span::spans;
+use rectangle_pack_sections::span::Span;
 use rectangle_pack_sections::width_height_depth::any_size;
+
+// From the lower start to the higher end of two boxes on an axis.
+fn hull_on(first: &BinSection, second: &BinSection, axis: Axis) -> Span
+    requires first { FitsU32 first.now }
+    requires second { FitsU32 second.now }
+    ensures { IsHullOn axis first.now second.now result }
+{
+    Span::of(first, axis).hull(Span::of(second, axis))
+}
 
 // The least box of which both are parts.
 fn hull_of(first: &BinSection, second: &BinSection) -> BinSection
@@ -13,9 +24,9 @@ fn hull_of(first: &BinSection, second: &BinSection) -> BinSection
     requires second { FitsU32 second.now }
     ensures { IsHull first.now second.now result }
 {
-    let (x, y, z) = spans(first);
-    let (to_x, to_y, to_z) = spans(second);
-    let (x, y, z) = (x.hull(to_x), y.hull(to_y), z.hull(to_z));
+    let x = hull_on(first, second, Axis::X);
+    let y = hull_on(first, second, Axis::Y);
+    let z = hull_on(first, second, Axis::Z);
     let whd = any_size(x.length, y.length, z.length);
     BinSection::new(x.start, y.start, z.start, whd)
 }

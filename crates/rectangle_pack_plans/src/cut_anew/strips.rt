@@ -1,8 +1,9 @@
 //! The strips of a room beyond the bounds of its boxes.
-ghost use Rattle.std.specs.Prelude.{◌≡◌, ◌≢◌, ◌≤◌, ◌⊎◌, ◌++◌, true, List, OnOk};
-ghost use Rattle.rectangle_pack_sections.specs.Boxes.{Cuboid, FitsU32, IsPartOf, has_cells, start, end, volume_of};
-ghost use Rattle.rectangle_pack_sections.specs.CutTrees.{lower, upper};
-ghost use Rattle.rectangle_pack_plans.specs.private.CuttingAnew.{IsStripBeyond, HasMost, AreStrips};
+ghost use Rattle.std.specs.Prelude.{◌≡◌, ◌≢◌, ◌+◌, ◌*◌, ◌++◌, true, List, OnOk};
+ghost use Rattle.rectangle_pack_sections.specs.Boxes.{Cuboid, FitsU32, IsPartOf, has_cells};
+ghost use Rattle.rectangle_pack_plans.specs.CutPlans.{axis_rank};
+ghost use Rattle.rectangle_pack_plans.specs.CuttingAnew.{strip_beyond, rest_beyond, thickness, IsThickest, AreStripsRound};
+ghost use Rattle.rectangle_pack_plans.specs.private.CuttingAnew.{IsThicker, IsThickestOf, AreStrips};
 
 use crate::cut_plan::parts::{lower, upper};
 use rectangle_pack_sections::axis::Axis;
@@ -10,83 +11,90 @@ use rectangle_pack_sections::bin_section::BinSection;
 use rectangle_pack_sections::span::Span;
 use std::alloc::{AllocError, Allocator};
 
-// A strip of a room on one side, over all of its width, and the rest of the room.
+// A side of bounds: where they start on an axis, or where they end.
 #[derive(Clone, Copy)]
-struct Strip {
-    section: BinSection,
-    rest: BinSection,
+pub(crate) enum Side {
+    Start(Axis),
+    End(Axis),
 }
 
-// The strip before the bounds on an axis.
-fn strip_before(room: &BinSection, bounds: &BinSection, axis: Axis) -> Strip
+// The strip of a room beyond bounds on a side, over all of the room's width: how thick it is.
+#[derive(Clone, Copy)]
+pub(crate) struct Strip {
+    pub side: Side,
+    pub thickness: u32,
+}
+
+// The strip of a room beyond the bounds on a side.
+fn strip_on(room: &BinSection, bounds: &BinSection, side: Side) -> Strip
     requires fits { FitsU32 room.now }
     requires inside { IsPartOf bounds.now room.now }
-    ensures is { result.section ≡ lower axis (start axis bounds.now) room.now }
-    ensures strip { IsStripBeyond room.now bounds.now result.section result.rest }
+    ensures { result ≡ record { side = side; thickness = thickness side bounds.now room.now } }
 {
-    let place = Span::of(bounds, axis).start;
-    Strip {
-        section: lower(room, axis, place),
-        rest: upper(room, axis, place),
-    }
+    let thickness = match side {
+        Side::Start(axis) => Span::of(bounds, axis).start - Span::of(room, axis).start,
+        Side::End(axis) => Span::of(room, axis).end() - Span::of(bounds, axis).end(),
+    };
+    Strip { side, thickness }
 }
 
-// The strip behind them.
-fn strip_behind(room: &BinSection, bounds: &BinSection, axis: Axis) -> Strip
-    requires fits { FitsU32 room.now }
-    requires inside { IsPartOf bounds.now room.now }
-    ensures is { result.section ≡ upper axis (end axis bounds.now) room.now }
-    ensures strip { IsStripBeyond room.now bounds.now result.section result.rest }
+// The thicker strip; the first of two that are equally thick.
+fn thicker(first: Strip, second: Strip) -> Strip
+    ensures { IsThicker first second result }
 {
-    let place = Span::of(bounds, axis).end();
-    Strip {
-        section: upper(room, axis, place),
-        rest: lower(room, axis, place),
-    }
-}
-
-// The strip with more cells; the first of two with equally many.
-fn larger(first: Strip, second: Strip) -> Strip
-    ensures one { (result ≡ first) ⊎ (result ≡ second) }
-    ensures first { volume_of first.section.whd ≤ volume_of result.section.whd }
-    ensures second { volume_of second.section.whd ≤ volume_of result.section.whd }
-{
-    if first.section.whd().volume() < second.section.whd().volume() {
+    if first.thickness < second.thickness {
         second
     } else {
         first
     }
 }
 
-// The larger strip on an axis.
-fn larger_on(room: &BinSection, bounds: &BinSection, axis: Axis) -> Strip
+// The thicker strip on an axis.
+fn thicker_on(room: &BinSection, bounds: &BinSection, axis: Axis) -> Strip
     requires fits { FitsU32 room.now }
     requires inside { IsPartOf bounds.now room.now }
-    ensures strip { IsStripBeyond room.now bounds.now result.section result.rest }
-    ensures most { HasMost room.now bounds.now result.section axis }
+    ensures { let rank = axis_rank axis * 2 in
+        IsThickestOf rank (rank + 2) bounds.now room.now result }
 {
-    larger(
-        strip_before(room, bounds, axis),
-        strip_behind(room, bounds, axis),
+    thicker(
+        strip_on(room, bounds, Side::Start(axis)),
+        strip_on(room, bounds, Side::End(axis)),
     )
 }
 
-// The largest strip of a room that goes beyond the bounds.
-fn largest_strip(room: &BinSection, bounds: &BinSection) -> Strip
+// The side on which a room goes farthest beyond the bounds.
+fn thickest_side(room: &BinSection, bounds: &BinSection) -> Side
     requires fits { FitsU32 room.now }
     requires inside { IsPartOf bounds.now room.now }
-    requires cells { has_cells bounds.now ≡ true }
     requires beyond { room.now ≢ bounds.now }
-    ensures strip { IsStripBeyond room.now bounds.now result.section result.rest }
-    ensures cells { has_cells result.section ≡ true }
+    ensures { IsThickest result bounds.now room.now }
 {
-    let x = larger_on(room, bounds, Axis::X);
-    let y = larger_on(room, bounds, Axis::Y);
-    let z = larger_on(room, bounds, Axis::Z);
-    larger(larger(x, y), z)
+    let x = thicker_on(room, bounds, Axis::X);
+    let y = thicker_on(room, bounds, Axis::Y);
+    let z = thicker_on(room, bounds, Axis::Z);
+    thicker(thicker(x, y), z).side
 }
 
-// Puts the strips of a room round the bounds at the end of the free sections, the largest first,
+// The strip of a room beyond the bounds on a side, and the rest of the room.
+fn cut_off(room: &BinSection, bounds: &BinSection, side: Side) -> (BinSection, BinSection)
+    requires fits { FitsU32 room.now }
+    requires inside { IsPartOf bounds.now room.now }
+    ensures strip { result.0 ≡ strip_beyond side bounds.now room.now }
+    ensures rest { result.1 ≡ rest_beyond side bounds.now room.now }
+{
+    match side {
+        Side::Start(axis) => {
+            let place = Span::of(bounds, axis).start;
+            (lower(room, axis, place), upper(room, axis, place))
+        }
+        Side::End(axis) => {
+            let place = Span::of(bounds, axis).end();
+            (upper(room, axis, place), lower(room, axis, place))
+        }
+    }
+}
+
+// Puts the strips of a room round the bounds at the end of the free sections, the thickest first,
 // each cut off what those before it left.
 pub(crate) fn cut_strips<A: Allocator>(
     room: &BinSection,
@@ -98,13 +106,15 @@ pub(crate) fn cut_strips<A: Allocator>(
     requires cells { has_cells bounds.now ≡ true }
     ensures { OnOk result ((strips : List Cuboid)
         × (free.new.items ≡ free.old.items ++ strips)
+        × AreStripsRound bounds.now room.now strips
         × AreStrips room.now bounds.now strips) }
 {
     let mut rest = *room;
     while rest != *bounds {
-        let strip = largest_strip(&rest, bounds);
-        free.push(strip.section)?;
-        rest = strip.rest;
+        let side = thickest_side(&rest, bounds);
+        let (strip, left) = cut_off(&rest, bounds, side);
+        free.push(strip)?;
+        rest = left;
     }
     Ok(())
 }

@@ -9,12 +9,17 @@ use rectangle_pack_sections::axis::Axis;
 use rectangle_pack_sections::bin_section::BinSection;
 use rectangle_pack_sections::span::Span;
 
-// Puts boxes in order of their starts on an axis. Takes no memory.
+// Puts boxes in order of their starts on an axis. Takes no memory. There is a sort for each axis, so
+// that no comparison asks for the axis.
 pub(crate) fn order_on(axis: Axis, boxes: &mut [BinSection])
     ensures permutation { IsPermutation boxes.old boxes.new }
     ensures ordered { IsNonDecreasingBy (start axis) boxes.new }
 {
-    boxes.sort_unstable_by_key(|b| Span::of(b, axis).start);
+    match axis {
+        Axis::X => boxes.sort_unstable_by_key(|b| b.x()),
+        Axis::Y => boxes.sort_unstable_by_key(|b| b.y()),
+        Axis::Z => boxes.sort_unstable_by_key(|b| b.z()),
+    }
 }
 
 // Puts boxes back in order on an axis, if one is named. Takes no memory.

@@ -1,6 +1,6 @@
-use Rattle.rectangle_pack_sections.proofs.Std.{◌-◌, ◌++◌, ◌∷◌, [], length, refl, sym, ap, ◌∙◌, subst, arith, nil_from_length, IsPermutation, IsPermutation-refl}
+use Rattle.rectangle_pack_sections.proofs.Std.{◌-◌, ◌≤◌, ◌++◌, ◌∷◌, [], length, refl, sym, ap, ◌∙◌, subst, arith, nil_from_length, IsPermutation, IsPermutation-refl}
 use Rattle.rectangle_pack_sections.proofs.Std.{IsPermutation-trans}
-use Rattle.rectangle_pack_sections.proofs.Std.{length_permutation}
+use Rattle.rectangle_pack_sections.proofs.Std.{length_permutation, None}
 use Rattle.std.proofs.lemmas.List.Sorted.{IsPermutation-put_mid}
 use Rattle.rectangle_pack_sections.proofs.lemmas.cuts.Axes.{IsPartOf-trans}
 use Rattle.rectangle_pack_plans.proofs.lemmas.cut_plan.Filling.{FitsU32-part}
@@ -23,7 +23,7 @@ taken g c = IsTaken-popped c.args.whole.now c.args.boxes.now c.loop-room.free.it
 pub loop-room-init : goal.loop-room-init
 loop-room-init g c = record {
   cut = IsPartlyCut-start c.args.whole.now c.args.boxes.now c.args.free.now.items c.push.new.self.items c.requires.none
-      ((c.in_ok-push.ensures {u = tt}).items ∙ ap (λ l. l ++ record { section = c.args.whole.now; count = length c.args.boxes.now } ∷ []) c.new-rooms.ensures.items)
+      ((c.in_ok-push.ensures {u = tt}).items ∙ ap (λ l. l ++ record { section = c.args.whole.now; count = length c.args.boxes.now; closed = None } ∷ []) c.new-rooms.ensures.items)
       c.requires.filling;
   permutation = IsPermutation-refl c.args.boxes.now;
 }
@@ -65,7 +65,7 @@ loop-room-preserved-then-room-eq1 g c =
     record {
       cut = IsPartlyCut-same c.args.whole.now c.args.boxes.now _ _ _ _ _ _ strips.1 same
           (IsPartlyCut-one c.args.whole.now c.args.boxes.now c.loop-room.free.items c.pop.new.self.items c.in-Some.room now left t
-          c.bounds_of-bounds.result strips.0 c.bounds_of-bounds.ensures strips.2 c.if-room-eq1.true);
+          c.bounds_of-bounds.result strips.0 c.bounds_of-bounds.ensures strips.2 strips.3 c.if-room-eq1.true);
       permutation = subst (IsPermutation c.args.boxes.now) (sym same) c.loop-room.invariant.permutation;
     }
 
@@ -85,13 +85,16 @@ cut_slabs-requires-clause-many g c =
     let t = taken g (goal_at.cut_slabs-requires-clause-many g c).In-Some in
     omega (arith, t.here.in_room.some, last_boxes-long c.loop-room.left c.in-Some.room.count c.loop-room.boxes t.enough t.within, c.if-room-eq1.false)
 
+pub cut_slabs-requires-clause-closed : goal.cut_slabs-requires-clause-closed
+cut_slabs-requires-clause-closed g c = (taken g (goal_at.cut_slabs-requires-clause-closed g c).In-Some).here.closed
+
 pub returns-then-not-branch : goal.returns-then-not-branch
 returns-then-not-branch g c =
     let t = taken g (goal_at.returns-then-not-branch g c).In-Some in
     let strips = c.in_ok-cut_strips.ensures {u = tt} in
     let none = rw c.if-not-branch.true at ((c.in_ok-cut_slabs.ensures {u = tt}).slabs) in
     cannot_be_cut c.args.whole.now c.args.boxes.now c.loop-room.free.items c.pop.new.self.items c.in-Some.room c.loop-room.boxes c.loop-room.left t
-    c.bounds_of-bounds.result strips.0 c.bounds_of-bounds.ensures strips.2 none
+    c.bounds_of-bounds.result strips.0 c.bounds_of-bounds.ensures strips.2 strips.3 none
 
 pub loop-room-smaller : goal.loop-room-smaller
 loop-room-smaller g c =
@@ -110,11 +113,19 @@ loop-room-preserved g c =
     let now = c.loop-room.boxes in
     let strips = c.in_ok-cut_strips.ensures {u = tt} in
     let slabs = rw c.if-not-branch.false at ((c.in_ok-cut_slabs.ensures {u = tt}).slabs) in
+    let bs = last_boxes left n now in
+    let many : 2 ≤ length c.cut_slabs.new.boxes = omega (
+      arith,
+      t.here.in_room.some,
+      last_boxes-long left n now t.enough t.within,
+      c.if-room-eq1.false,
+      length_permutation bs c.cut_slabs.new.boxes c.cut_slabs.ensures.permutation,
+    ) in
     record {
       cut = IsPartlyCut-same c.args.whole.now c.args.boxes.now _ _ _ _ _ _ strips.1 refl
           (IsPartlyCut-more c.args.whole.now c.args.boxes.now c.loop-room.free.items c.pop.new.self.items c.in-Some.room now left t
-          c.bounds_of-bounds.result strips.0 c.bounds_of-bounds.ensures strips.2 c.cut_slabs.new.boxes slabs.0 c.cut_slabs.new.rooms.items
-          c.cut_slabs.ensures.permutation slabs.3 slabs.1);
+          c.bounds_of-bounds.result strips.0 c.bounds_of-bounds.ensures strips.2 strips.3 c.cut_slabs.new.boxes slabs.0 c.cut_slabs.new.rooms.items
+          c.cut_slabs.ensures.permutation slabs.3 slabs.4 many slabs.1);
       permutation = IsPermutation-trans _ _ _ c.loop-room.invariant.permutation
           (IsPermutation-put_mid (left - n) (left - (left - n)) now c.cut_slabs.new.boxes c.cut_slabs.ensures.permutation);
     }

@@ -1,12 +1,12 @@
 -- The bounds of boxes.
-use Rattle.rectangle_pack_sections.proofs.Std.{ℕ, ◌+◌, ◌<◌, ◌≤◌, ◌≡◌, min, max, List, length, take, get_or, refl, ap, sym, ◌∙◌, subst, arith, inl, inr}
+use Rattle.rectangle_pack_sections.proofs.Std.{ℕ, ◌+◌, ◌<◌, ◌≤◌, ◌≡◌, min, max, List, length, take, get_or, refl, sym, subst, arith, inl, inr}
 use Rattle.rectangle_pack_sections.proofs.Std.{All, Any, All-more, All-weaker, cases_lt, take_all}
 use Rattle.rectangle_pack_sections.specs.declared.axis.Axis.{Axis}
 use Rattle.rectangle_pack_sections.specs.declared.axis.Axis.TheVariants.{X, Y, Z}
 use Rattle.rectangle_pack_sections.specs.declared.span.Span.{Span}
 use Rattle.rectangle_pack_sections.specs.Boxes.{Size, Cuboid, IsPartOf, FitsU32, extent, start, end}
-use Rattle.rectangle_pack_sections.specs.private.Spans.{span_of, hull}
-use Rattle.rectangle_pack_plans.specs.private.CuttingAnew.{IsHull, AreBounds}
+use Rattle.rectangle_pack_plans.specs.CuttingAnew.{AreBounds}
+use Rattle.rectangle_pack_plans.specs.private.CuttingAnew.{IsHullOn, IsHull}
 use Rattle.rectangle_pack_sections.proofs.lemmas.cuts.Axes.{end-is, is_part, IsPartOf-trans}
 
 -- on each axis a box ends within 32 bits
@@ -20,46 +20,24 @@ fits_from : (b : Cuboid) → ((a : Axis) → end a b < 4294967296) → FitsU32 b
 unfolding start extent end
 fits_from b h = record { fits_x = h X; fits_y = h Y; fits_z = h Z }
 
--- the spans of a box that runs on each axis over those of two boxes
-module _ (first second b : Cuboid) (x y z : Span) (whd : Size) (on_x : x ≡ hull (span_of X first) (span_of X second))
-    (on_y : y ≡ hull (span_of Y first) (span_of Y second)) (on_z : z ≡ hull (span_of Z first) (span_of Z second))
-    (sides : whd ≡ record { width = x.length; height = y.length; depth = z.length })
-    (is : b ≡ record { x = x.start; y = y.start; z = z.start; whd = whd }) where
-  hull_starts : (a : Axis) → start a b ≡ min (start a first) (start a second)
-  unfolding start extent end
-  hull_starts X = ap (λ (b : Cuboid). b.x) is ∙ ap (λ (s : Span). s.start) on_x
-  hull_starts Y = ap (λ (b : Cuboid). b.y) is ∙ ap (λ (s : Span). s.start) on_y
-  hull_starts Z = ap (λ (b : Cuboid). b.z) is ∙ ap (λ (s : Span). s.start) on_z
+-- the box of three spans
+box_of : Span → Span → Span → Cuboid
+box_of x y z = record { x = x.start; y = y.start; z = z.start; whd = record { width = x.length; height = y.length; depth = z.length } }
 
-  hull_ends : (a : Axis) → end a b ≡ max (end a first) (end a second)
-  unfolding start extent end
-  hull_ends X = omega (
-    arith,
-    ap (λ (b : Cuboid). b.x) is,
-    ap (λ (b : Cuboid). b.whd.width) is,
-    ap (λ (s : Size). s.width) sides,
-    ap (λ (s : Span). s.start) on_x,
-    ap (λ (s : Span). s.length) on_x,
-  )
-  hull_ends Y = omega (
-    arith,
-    ap (λ (b : Cuboid). b.y) is,
-    ap (λ (b : Cuboid). b.whd.height) is,
-    ap (λ (s : Size). s.height) sides,
-    ap (λ (s : Span). s.start) on_y,
-    ap (λ (s : Span). s.length) on_y,
-  )
-  hull_ends Z = omega (
-    arith,
-    ap (λ (b : Cuboid). b.z) is,
-    ap (λ (b : Cuboid). b.whd.depth) is,
-    ap (λ (s : Size). s.depth) sides,
-    ap (λ (s : Span). s.start) on_z,
-    ap (λ (s : Span). s.length) on_z,
-  )
+IsHull-box_of : (first second : Cuboid) (x y z : Span) → IsHullOn X first second x → IsHullOn Y first second y → IsHullOn Z first second z
+    → IsHull first second (box_of x y z)
+unfolding box_of start extent end
+IsHull-box_of first second x y z on_x on_y on_z = record {
+  starts = λ a. elim a as (λ a. start a (box_of x y z) ≡ min (start a first) (start a second)) [ X ↦ on_x.0 | Y ↦ on_y.0 | Z ↦ on_z.0 ];
+  ends = λ a. elim a as (λ a. end a (box_of x y z) ≡ max (end a first) (end a second)) [ X ↦ on_x.1 | Y ↦ on_y.1 | Z ↦ on_z.1 ];
+}
 
-  pub IsHull-spans : IsHull first second b
-  IsHull-spans = record { starts = hull_starts; ends = hull_ends }
+-- a box that runs on each axis over those of two boxes
+pub IsHull-spans : (first second b : Cuboid) (x y z : Span) (whd : Size) → IsHullOn X first second x → IsHullOn Y first second y → IsHullOn Z first second z
+    → whd ≡ record { width = x.length; height = y.length; depth = z.length } → b ≡ record { x = x.start; y = y.start; z = z.start; whd = whd }
+    → IsHull first second b
+unfolding box_of
+IsHull-spans first second b x y z whd on_x on_y on_z sides is = rw (is, sides) (IsHull-box_of first second x y z on_x on_y on_z)
 
 -- the bounds of the first i boxes; what they start and end with is one of all boxes
 pub record AreBoundsSoFar (boxes : List Cuboid) (i : ℕ) (bounds : Cuboid) : Type 0 where

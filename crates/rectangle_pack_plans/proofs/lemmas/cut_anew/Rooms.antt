@@ -5,27 +5,29 @@ use Rattle.rectangle_pack_sections.proofs.Std.{All, All-head, All-tail, All-nil,
 use Rattle.rectangle_pack_sections.proofs.Std.{append_assoc, map-append, length-append}
 use Rattle.rectangle_pack_sections.proofs.Std.{length-drop, length-take-le, take_all, take-append-drop, take_at, drop_at, drop-drop, drop-take, take-take}
 use Rattle.rectangle_pack_sections.proofs.Std.{sum_by, sum_by-cons, sum_by_push, sum_by-append, nil_from_length, length-map, count_by, Any}
-use Rattle.rectangle_pack_sections.proofs.Std.{filter, length-filter, length_permutation, filter_passes, count_by-le-length}
+use Rattle.rectangle_pack_sections.proofs.Std.{length-filter, length_permutation, None, IsPermutation-refl}
 use Rattle.std.proofs.lemmas.Grind.{flat_map-append}
 use borrow.Rule.Slice.PartMut.{put_mid}
 use Rattle.rectangle_pack_sections.specs.Boxes.{Cuboid, FitsU32, IsPartOf, start, end, has_cells}
 use Rattle.rectangle_pack_sections.specs.CutTrees.{IsFromCuts}
 use Rattle.rectangle_pack_plans.specs.declared.cut_anew.slabs.Room.{Room}
 use Rattle.rectangle_pack_plans.specs.CutPlans.{IsUncut}
-use Rattle.rectangle_pack_plans.specs.CuttingAnew.{AreThickestFirst, IsCutAnew}
 use Rattle.rectangle_pack_plans.specs.private.CutPlans.{AreClosed}
-use Rattle.rectangle_pack_plans.specs.private.CuttingAnew.{CanBeCut, AreInRoom, AreBounds, AreStrips, Filled, counted, IsRoomOf, AreRoomsOf}
+use Rattle.rectangle_pack_plans.specs.CuttingAnew.{AreBounds, AreStripsRound, AreFreeIn, OneBox, ManyBoxes, AreFreeInSomeOrder}
+use Rattle.rectangle_pack_plans.specs.private.CuttingAnew.{CanBeCut, AreInRoom, AreStrips, Filled, counted, IsRoomOf, AreRoomsOf, AreFreeInAll, AreFirstSlabs}
 use Rattle.rectangle_pack_sections.proofs.lemmas.util.Lists.{All-front, All-back}
 use Rattle.rectangle_pack_sections.proofs.lemmas.cuts.Axes.{stays_in, is_part, cells-part, IsPartOf-refl, IsPartOf-trans}
 use Rattle.rectangle_pack_sections.proofs.lemmas.cuts.Counting.{filter_all, count-append}
 use Rattle.rectangle_pack_sections.proofs.lemmas.cuts.Parts.{box_alike}
-use Rattle.rectangle_pack_sections.proofs.lemmas.cuts.SameBoxes.{HaveSameBoxes-permutation, HaveSameBoxes-filter, IsFromCuts-same}
-use Rattle.rectangle_pack_sections.proofs.lemmas.cuts.Times.{times_in-append, times_in-cons, All-times_in, All-from_times_in}
-use Rattle.rectangle_pack_sections.proofs.lemmas.cuts.Trees.{IsFromCuts-leaf, IsFromCuts-part}
+use Rattle.rectangle_pack_sections.proofs.lemmas.cuts.SameBoxes.{HaveSameBoxes-permutation, IsFromCuts-same}
+use Rattle.rectangle_pack_sections.proofs.lemmas.cuts.Times.{times_in-append, times_in-cons}
+use Rattle.rectangle_pack_sections.proofs.lemmas.cuts.Trees.{IsFromCuts-leaf}
 use Rattle.rectangle_pack_plans.proofs.lemmas.cut_plan.OpenPlanes.{cuts_have_open_planes}
 use Rattle.rectangle_pack_plans.proofs.lemmas.cut_plan.Filling.{FitsU32-part}
 use Rattle.rectangle_pack_plans.proofs.lemmas.cut_plan.Pending.{rank_below}
 use Rattle.rectangle_pack_plans.proofs.lemmas.cut_anew.Halves.{IsFromCuts-for, CanBeCut-same}
+use Rattle.rectangle_pack_plans.proofs.lemmas.cut_anew.FreeIn.{AreSame-moved, AreSame-sym, AreBounds-same, AreFreeIn-same, AreFreeInAll-one, one-AreFreeInAll, AreFreeInAll-parts, AreFreeInAll-both}
+use Rattle.rectangle_pack_plans.proofs.lemmas.cut_anew.FreeIn.{AreFreeInSomeOrder-moved, last_two_swapped, moved_between}
 use Rattle.rectangle_pack_plans.proofs.lemmas.cut_anew.Slabs.{sections_of, boxes_in, sections_of-push, boxes_in-push}
 
 -- where no plane is open no straight cuts part a room round two boxes that bound it
@@ -83,6 +85,7 @@ pub record IsPartlyCut (whole : Cuboid) (boxes free : List Cuboid) (rooms : List
   pub each : All (IsRoomOf whole boxes) fs
   pub from_cuts : IsFromCuts (free ++ (sections_of fs ++ drop left now)) whole
   pub cells : All (λ s. has_cells s ≡ true) free
+  pub leads : (more : List Cuboid) → AreFreeInAll fs more → AreFreeInSomeOrder whole boxes (free ++ more)
 
 -- a list whose image ends with one entry
 one_image : (hs : List Filled) (r : Room) → map counted hs ≡ r ∷ [] → (g : Filled) × (hs ≡ g ∷ []) × (counted g ≡ r)
@@ -151,9 +154,11 @@ module _ (whole : Cuboid) (boxes : List Cuboid) where
     pub within : left ≤ length now
     pub front : boxes_in gs ≡ take (left - r.count) now
     pub each : All (IsRoomOf whole boxes) gs
-    pub here : IsRoomOf whole boxes (record { section = r.section; boxes = last_boxes left r.count now })
+    pub here : IsRoomOf whole boxes (record { section = r.section; boxes = last_boxes left r.count now; closed = r.closed })
     pub from_cuts : IsFromCuts (free ++ (sections_of gs ++ r.section ∷ drop left now)) whole
     pub cells : All (λ s. has_cells s ≡ true) free
+    pub leads : (more here : List Cuboid) → AreFreeInAll gs more → AreFreeIn None r.section (last_boxes left r.count now) here
+        → AreFreeInSomeOrder whole boxes (free ++ (more ++ here))
 
   pub IsTaken-popped : (free : List Cuboid) (rooms popped : List Room) (r : Room) (now : List Cuboid) (left : ℕ) → rooms ≡ popped ++ r ∷ []
       → IsPartlyCut whole boxes free rooms now left → IsTaken free popped r now left
@@ -177,8 +182,8 @@ module _ (whole : Cuboid) (boxes : List Cuboid) where
         within = h.within;
         front = sym (take_at (boxes_in gs) f.boxes (left - r.count) first) ∙ ap (take (left - r.count)) joined ∙ take-take (left - r.count) left now (omega arith);
         each = All-front (IsRoomOf whole boxes) gs (f ∷ []) each;
-        here = subst (λ l. IsRoomOf whole boxes (record { section = r.section; boxes = l })) here
-            (subst (λ (s : Cuboid). IsRoomOf whole boxes (record { section = s; boxes = f.boxes })) (ap (λ (r : Room). r.section) k.4)
+        here = subst (λ l. IsRoomOf whole boxes (record { section = r.section; boxes = l; closed = r.closed })) here
+            (subst (λ (r : Room). IsRoomOf whole boxes (record { section = r.section; boxes = f.boxes; closed = r.closed })) k.4
             (All-head (IsRoomOf whole boxes) f [] (All-back (IsRoomOf whole boxes) gs (f ∷ []) each)));
         from_cuts = subst (λ l. IsFromCuts (free ++ l) whole) (
             ap (λ l. l ++ drop left now) (ap sections_of k.2 ∙ sections_of-push gs f)
@@ -186,27 +191,33 @@ module _ (whole : Cuboid) (boxes : List Cuboid) where
             ∙ ap (λ s. sections_of gs ++ s ∷ drop left now) (ap (λ (r : Room). r.section) k.4)
             ) h.from_cuts;
         cells = h.cells;
+        leads = λ more one others is_free. h.leads (more ++ one) (subst (λ fs. AreFreeInAll fs (more ++ one)) (sym k.2)
+            (AreFreeInAll-both gs (f ∷ []) more one others (one-AreFreeInAll f one
+            (subst (λ b. AreFreeIn None b f.boxes one) (sym (ap (λ (r : Room). r.section) k.4))
+            (subst (λ l. AreFreeIn None r.section l one) (sym here) is_free)))));
       }
 
   -- the whole, with all boxes
-  pub IsPartlyCut-start : (free : List Cuboid) (rooms : List Room) → free ≡ [] → rooms ≡ record { section = whole; count = length boxes } ∷ [] → AreInRoom whole boxes
+  pub IsPartlyCut-start : (free : List Cuboid) (rooms : List Room) → free ≡ [] → rooms ≡ record { section = whole; count = length boxes; closed = None } ∷ [] → AreInRoom whole boxes
       → IsPartlyCut whole boxes free rooms boxes (length boxes)
   IsPartlyCut-start free rooms none one filled =
-      let all : Filled = record { section = whole; boxes = boxes } in
+      let all : Filled = record { section = whole; boxes = boxes; closed = None } in
       let rest : drop (length boxes) boxes ≡ [] = nil_from_length (drop (length boxes) boxes) (omega (arith, length-drop (length boxes) boxes)) in
       record {
         fs = all ∷ [];
         rooms_are = one;
         within = omega arith;
         filling = append-nil boxes ∙ sym (take_all (length boxes) boxes (omega arith));
-        each = All-cons (IsRoomOf whole boxes) all [] (record { in_room = filled; within = IsPartOf-refl whole; kept = λ h. h }) (All-nil (IsRoomOf whole boxes));
+        each = All-cons (IsRoomOf whole boxes) all [] (record { in_room = filled; within = IsPartOf-refl whole; kept = λ h. h; closed = tt }) (All-nil (IsRoomOf whole boxes));
         from_cuts = rw (none, rest) (IsFromCuts-leaf whole);
         cells = rw none (All-nil (λ s. has_cells s ≡ true));
+        leads = λ more h. subst (λ l. AreFreeInSomeOrder whole boxes (l ++ more)) (sym none) (more, AreFreeInAll-one all more h, IsPermutation-refl more);
       }
 
   -- no room is left
   pub IsPartlyCut-end : (free : List Cuboid) (rooms : List Room) (now : List Cuboid) (left : ℕ) → rooms ≡ [] → IsPermutation boxes now
-      → IsPartlyCut whole boxes free rooms now left → IsFromCuts (free ++ boxes) whole × All (λ s. has_cells s ≡ true) free
+      → IsPartlyCut whole boxes free rooms now left
+      → IsFromCuts (free ++ boxes) whole × All (λ s. has_cells s ≡ true) free × AreFreeInSomeOrder whole boxes free
   IsPartlyCut-end free rooms now left none moved h =
       let empty : h.fs ≡ [] = nil_from_length h.fs (omega (arith, length-map h.fs counted, ap length (sym h.rooms_are ∙ none))) in
       let zero : left ≡ 0 = omega (arith, length-take-le left now h.within, ap length (sym h.filling ∙ ap boxes_in empty)) in
@@ -215,10 +226,12 @@ module _ (whole : Cuboid) (boxes : List Cuboid) where
         IsFromCuts-same (free ++ now) (free ++ boxes)
             (λ e cells. omega (arith, times_in-append e free now, times_in-append e free boxes, HaveSameBoxes-permutation boxes now moved e cells)) from,
         h.cells,
+        subst (AreFreeInSomeOrder whole boxes) (append-nil free) (h.leads [] (subst (λ fs. AreFreeInAll fs []) (sym empty) refl)),
       )
 
   module _ (free : List Cuboid) (popped : List Room) (r : Room) (now : List Cuboid) (left : ℕ) (h : IsTaken free popped r now left)
-      (bounds : Cuboid) (strips : List Cuboid) (bound : AreBounds (last_boxes left r.count now) bounds) (cut : AreStrips r.section bounds strips) where
+      (bounds : Cuboid) (strips : List Cuboid) (bound : AreBounds (last_boxes left r.count now) bounds) (round : AreStripsRound bounds r.section strips)
+      (cut : AreStrips r.section bounds strips) where
     abbrev bs : List Cuboid
     bs = last_boxes left r.count now
 
@@ -260,6 +273,8 @@ module _ (whole : Cuboid) (boxes : List Cuboid) where
           (ap (λ l. l ++ drop left now) (sym (one_is_bounds bs bounds (last_boxes-long left r.count now h.enough h.within ∙ one) bound))
           ∙ sym (last_boxes-rest left r.count now h.enough h.within)) cut_off;
       cells = cells;
+      leads = λ more others. AreFreeInSomeOrder-moved whole boxes (free ++ (more ++ strips)) ((free ++ strips) ++ more) (last_two_swapped free more strips)
+          (h.leads more strips others (OneBox bounds (last_boxes-long left r.count now h.enough h.within ∙ one) bound round));
     }
 
     -- no straight cuts part the bounds
@@ -267,9 +282,10 @@ module _ (whole : Cuboid) (boxes : List Cuboid) where
     cannot_be_cut none all = none (kept all)
 
     -- other rooms in the place of the bounds
-    pub IsPartlyCut-more : (es : List Cuboid) (hs : List Filled) (rooms : List Room) → IsPermutation bs es → AreRoomsOf bounds es hs → rooms ≡ popped ++ map counted hs
+    pub IsPartlyCut-more : (es : List Cuboid) (hs : List Filled) (rooms : List Room) → IsPermutation bs es → AreRoomsOf bounds es hs → AreFirstSlabs bounds es hs
+        → 2 ≤ length es → rooms ≡ popped ++ map counted hs
         → IsPartlyCut whole boxes (free ++ strips) rooms (put_mid (left - r.count) (left - (left - r.count)) now es) left
-    IsPartlyCut-more es hs rooms moved are pushed =
+    IsPartlyCut-more es hs rooms moved are slabs many pushed =
         let long : length es ≡ r.count = length_permutation bs es moved ∙ last_boxes-long left r.count now h.enough h.within in
         let back = put-back left r.count now h.enough h.within es long in
         let D = drop left now in
@@ -285,6 +301,7 @@ module _ (whole : Cuboid) (boxes : List Cuboid) where
             in_room = k.in_room;
             within = IsPartOf-trans f.section bounds whole k.within (IsPartOf-trans bounds r.section whole cut.within h.here.within);
             kept = λ all. k.kept (CanBeCut-same bs es bounds (HaveSameBoxes-permutation bs es moved) (kept all));
+            closed = k.closed;
           }) hs are.each);
           from_cuts = subst (λ l. IsFromCuts ((free ++ strips) ++ l) whole)
               (sym (append_assoc G H D) ∙ ap (λ l. (G ++ H) ++ l) (sym back)
@@ -292,6 +309,14 @@ module _ (whole : Cuboid) (boxes : List Cuboid) where
               (subst (λ l. IsFromCuts l whole) (append_assoc (free ++ strips) G (H ++ D))
               (IsFromCuts-for ((free ++ strips) ++ G) D H (subst (λ l. IsFromCuts l whole) (sym (append_assoc (free ++ strips) G (bounds ∷ D))) cut_off) are.from_cuts));
           cells = cells;
+          leads = λ more all.
+              let k = AreFreeInAll-parts h.gs hs more all in
+              let same = AreSame-moved bs es moved h.here.in_room.cells in
+              let here : AreFreeIn None r.section es (strips ++ k.1) =
+              ManyBoxes bounds strips k.1 slabs.axis many (AreBounds-same bs es same bounds bound) round slabs.first (slabs.slabs k.1 k.4) in
+              AreFreeInSomeOrder-moved whole boxes (free ++ (k.0 ++ (strips ++ k.1))) ((free ++ strips) ++ more)
+              (subst (λ l. IsPermutation (free ++ (k.0 ++ (strips ++ k.1))) ((free ++ strips) ++ l)) (sym k.2) (moved_between free k.0 strips k.1))
+              (h.leads k.0 (strips ++ k.1) k.3 (AreFreeIn-same bs (AreSame-sym bs es same) here));
         }
 
 -- boxes that are put back where they stood
@@ -333,37 +358,3 @@ rooms_lighter items popped more hs r is pushed lighter = omega (
   sum_by-append room_weight popped (map counted hs),
   lighter,
 )
-
--- the free section of a whole that has no box
-pub IsCutAnew-whole : (whole : Cuboid) (boxes free : List Cuboid) → boxes ≡ [] → free ≡ filter has_cells (whole ∷ []) → IsCutAnew whole boxes free
-IsCutAnew-whole whole boxes free none is =
-    let found = filter has_cells (whole ∷ []) in
-    let short : length found ≤ 1 = omega (arith, length-filter has_cells (whole ∷ []), count_by-le-length has_cells (whole ∷ [])) in
-    record {
-      from_cuts = rw (is, none, append-nil found) (IsFromCuts-same (whole ∷ []) found (λ e k. sym (HaveSameBoxes-filter (whole ∷ []) e k)) (IsFromCuts-leaf whole));
-      cells = rw is (filter_passes has_cells (whole ∷ []));
-      in_order = rw is (λ i j d lt within. absurd (omega (arith, lt, within, short)));
-      empty = λ full e. is ∙ filter_all has_cells (whole ∷ []) (All-cons (λ s. has_cells s ≡ true) whole [] full (All-nil (λ s. has_cells s ≡ true)));
-    }
-
--- and of one that has boxes, once they are in order
-pub IsCutAnew-sorted : (whole : Cuboid) (boxes found free : List Cuboid) → 0 < length boxes → IsFromCuts (found ++ boxes) whole
-    → All (λ s. has_cells s ≡ true) found → IsPermutation found free → AreThickestFirst whole.whd free → IsCutAnew whole boxes free
-IsCutAnew-sorted whole boxes found free some from cells moved ordered = record {
-  from_cuts = IsFromCuts-same (found ++ boxes) (free ++ boxes)
-      (λ e k. omega (arith, times_in-append e found boxes, times_in-append e free boxes, HaveSameBoxes-permutation found free moved e k)) from;
-  cells = All-permutation (λ s. has_cells s ≡ true) found free moved cells;
-  in_order = ordered;
-  empty = λ full e. absurd (omega (arith, some, ap length e));
-}
-
--- free sections fit where the whole does
-pub found_fit : (whole : Cuboid) (boxes found : List Cuboid) → FitsU32 whole → IsFromCuts (found ++ boxes) whole → All (λ s. has_cells s ≡ true) found
-    → All FitsU32 found
-found_fit whole boxes found fits from cells = All-from_times_in FitsU32 found (λ e some.
-    let full = All-times_in (λ s. has_cells s ≡ true) e found cells some in
-    FitsU32-part e whole (IsFromCuts-part from e full (omega (arith, some, times_in-append e found boxes))) fits)
-
--- sections that were put in order in the place of as many
-pub put_in_place : (n : ℕ) (xs ys : List Cuboid) → length ys ≡ n → take n (ys ++ drop (length ys) xs) ≡ ys
-put_in_place n xs ys long = take_at ys (drop (length ys) xs) n long

@@ -20,7 +20,7 @@ pub rank_at : (i : ℕ) → i < 3 → axis_rank (get_or (X ∷ Y ∷ Z ∷ []) i
 unfolding axis_rank
 rank_at = below_3 (λ i. axis_rank (get_or (X ∷ Y ∷ Z ∷ []) i X) ≡ i) refl refl refl
 
-axis_by_rank : (a e : Axis) → axis_rank a ≡ axis_rank e → a ≡ e
+pub axis_by_rank : (a e : Axis) → axis_rank a ≡ axis_rank e → a ≡ e
 unfolding axis_rank
 axis_by_rank X X same = refl
 axis_by_rank Y Y same = refl

@@ -1,10 +1,10 @@
 use Rattle.rectangle_pack_sections.proofs.Std.{◌≡◌, ◌<◌, ◌≤◌, ◌+◌, ◌-◌, max, [], ◌∷◌, ◌++◌, length, drop, take, map, sym, ap, ◌∙◌, subst, refl, arith}
-use Rattle.rectangle_pack_sections.proofs.Std.{append-nil, length-drop}
+use Rattle.rectangle_pack_sections.proofs.Std.{append-nil, length-drop, Some}
 use Rattle.rectangle_pack_sections.specs.declared.span.Span.{Span}
 use Rattle.rectangle_pack_sections.specs.Boxes.{start, end}
 use Rattle.rectangle_pack_sections.specs.CutTrees.{lower, upper, IsPlaceOf}
 use Rattle.rectangle_pack_plans.specs.private.CuttingAnew.{Filled, counted}
-use Rattle.rectangle_pack_plans.proofs.lemmas.cut_anew.Slabs.{IsSwept, IsSwept-none, IsSwept-more, IsSwept-slab, IsSwept-closed, IsSwept-all, IsSwept-same}
+use Rattle.rectangle_pack_plans.proofs.lemmas.cut_anew.Slabs.{IsSwept, IsSwept-none, IsSwept-more, IsSwept-slab, IsSwept-closed, IsSwept-all, IsSwept-slabs, IsSwept-same}
 use Rattle.rectangle_pack_plans.proofs.lemmas.cut_anew.Slabs.{slab_place, slab_has, rooms_pushed}
 use Rattle.rectangle_pack_plans.specs.declared.cut_anew.slabs.Room.{Room}
 use Rattle.rectangle_pack_plans.proofs.cut_anew.slabs.slabs_on.Goals as goal
@@ -46,7 +46,7 @@ loop-i-preserved g c =
     let reach : c.max-reach.result ≡ max c.loop-i.reach (end a next) = c.max-reach.ensures ∙ ap (max c.loop-i.reach) (c.end.ensures ∙ c.of-span.ensures.ends) in
     elim c.if-i-gt0.branch [
       | then-i-gt0+then-reach-span+in_ok-push w ↦
-          let f : Filled = record { section = lower a (start a next) c.loop-i.rest; boxes = drop c.loop-i.begun (take c.loop-i.i boxes) } in
+          let f : Filled = record { section = lower a (start a next) c.loop-i.rest; boxes = drop c.loop-i.begun (take c.loop-i.i boxes); closed = Some a } in
           let beyond : c.loop-i.reach ≤ start a next = omega (arith, at, w.if-reach-span.true) in
           record {
             fs = fs ++ f ∷ [];
@@ -86,13 +86,17 @@ returns-then-begun-eq0 g c =
 
 pub returns : goal.returns
 returns g c =
-    let f : Filled = record { section = c.loop-i.rest; boxes = drop c.loop-i.begun c.args.boxes.now } in
+    let f : Filled = record { section = c.loop-i.rest; boxes = drop c.loop-i.begun c.args.boxes.now; closed = Some c.args.axis } in
     let fs = c.loop-i.invariant.fs in
+    let some : 0 < c.loop-i.begun = omega (arith, c.if-begun-eq0.false) in
     let r = IsSwept-all c.args.axis c.args.room.now c.args.boxes.now c.requires.filling c.requires.bounds c.requires.ordered c.loop-i.i c.loop-i.begun c.loop-i.reach
-    c.loop-i.rest fs c.loop-i-test.false c.loop-i.invariant.swept (omega (arith, c.if-begun-eq0.false)) in (
+    c.loop-i.rest fs c.loop-i-test.false c.loop-i.invariant.swept some in (
       fs ++ f ∷ [],
       rooms_pushed c.args.rooms.now.items c.loop-i.rooms.items c.push-2.new.self.items fs f c.loop-i.rest (length c.args.boxes.now - c.loop-i.begun)
           c.loop-i.invariant.rooms (c.in_ok-push-2.ensures {u = tt}).items refl (sym (length-drop c.loop-i.begun c.args.boxes.now)),
       r.0,
       r.1,
+      c.loop-i.invariant.swept.has_plane some,
+      IsSwept-slabs c.args.axis c.args.room.now c.args.boxes.now c.requires.filling c.requires.bounds c.requires.ordered c.loop-i.i c.loop-i.begun c.loop-i.reach
+          c.loop-i.rest fs c.loop-i-test.false c.loop-i.invariant.swept,
     )
