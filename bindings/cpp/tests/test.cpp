@@ -241,7 +241,7 @@ static void test_bins_that_are_cut_anew()
     check(session.free_sections(id).size() > 2, "nothing is left to be cut anew");
     session.recut(id);
     const std::vector<rp::Section> free = session.free_sections(id);
-    check(free.size() == 2 && equal(free[0], {0, 3, 0, 10, 7, 1}), "the largest strip is not the first");
+    check(free.size() == 2 && equal(free[0], {0, 3, 0, 10, 7, 1}), "the thickest strip is not the first");
     check(equal(free[1], {4, 0, 0, 6, 3, 1}) && !session.was_coalesced(id), "what is left is not one section");
     session.clear_bin(id);
     must_be(Status::unknown_bin, [&] { session.recut(BinId{9}); }, "recut knows a bin");

@@ -25,7 +25,7 @@ module _ {Id B : Type 0} (bin_cmp : B → B → Ordering) where
   -- stays, also whether it counts as coalesced. Or it is refused, and nothing changes: `UnknownBin`, the bin is not there;
   -- `NotFromCuts`, it is there, and no free sections are from cuts of it together with these boxes; `OutOfMemory`, it is
   -- there. A reply of which there is no case never comes
-  -- Example: in a bin 10x10x1 stands (0,0,0) 4x2x1. Its list [(4,0,0) 6x10x1, (0,2,0) 4x8x1] may become [(0,2,0) 10x8x1,
+  -- Example: in a bin 10x10x1 stands (0,0,0) 4x2x1. Its list [(4,0,0) 6x10x1, (0,2,0) 4x8x1] becomes [(0,2,0) 10x8x1,
   -- (4,0,0) 6x2x1]
   abbrev pub Recuts : B → State Id B → Reply → State Id B → Type 0
   Recuts id old Done new =

@@ -27,7 +27,7 @@ module _ {Id B : Type 0} (bin_cmp : B → B → Ordering) where
   -- behind it, that of 0; that of 1 is the newest of `b`. The list 2, 1, 2 is `UnknownPlacement`
   abbrev pub ReleasesAll : List ℕ → State Id B → Reply → State Id B → Type 0
   ReleasesAll numbers old Done new = ReleasesInTurn numbers old new
-  ReleasesAll numbers old (Refused UnknownPlacement) new = (AreReleasable old.outstanding numbers → ⊥) × (new ≡ old)
+  ReleasesAll numbers old (Refused UnknownPlacement) new = (¬ AreReleasable old.outstanding numbers) × (new ≡ old)
   ReleasesAll numbers old (Refused OutOfMemory) new =
       (0 < length numbers) × All (IsOutstanding old.outstanding) numbers × (new ≡ old)
   ReleasesAll numbers old _ new = ⊥

@@ -22,9 +22,13 @@ where
 {
     /// Cuts the free part of the bin anew: straight cuts, each across the whole of its part, part
     /// the bin into its placements, which stay where they are, and the new free sections, boxes
-    /// without cells aside. The thickest section stands first, by its least side, an axis on which
-    /// the bin has one cell left out; of equally thick ones the smallest. A bin without placements
-    /// becomes one section, if it has cells. The bin counts as coalesced where it did before.
+    /// without cells aside. First it cuts off what is free beyond all placements, the thickest strip
+    /// first. What bounds these it then cuts into slabs, on the first axis on which a plane goes
+    /// through none of them, and each slab in the same way.
+    ///
+    /// The thickest section stands first, by its least side, an axis on which the bin has one cell
+    /// left out; of equally thick ones the smallest. A bin without placements becomes one section,
+    /// if it has cells. The bin counts as coalesced where it did before.
     ///
     /// `UnknownBin` says that there is no such bin; this is looked at first. `NotFromCuts` says that
     /// no straight cuts part the boxes that stand in the bin, `OutOfMemory` that a growth was
@@ -49,6 +53,10 @@ where
         //   from straight cuts of it. Each section has cells; the thickest stands first, of equally
         //   thick ones the smallest. All else stays, also whether the bin counts as coalesced.
         //   [recut.bin_counts_as_new]
+        // Done: where boxes with cells stand in the bin, the free sections are those that the rule
+        //   names: the strips round the bounds of the boxes, the thickest first, and those of each
+        //   slab of the bounds, on the first axis with an open plane.
+        //   [cut_strips.each_strip_is_halved, thicker.thinner_strip_goes_first]
         // `UnknownBin`: there is no such bin. The session is as it was.
         // `NotFromCuts`: the bin is there, and there are no free sections with which the boxes that
         //   stand in it are from straight cuts of it. The session is as it was.

@@ -25,13 +25,15 @@ const RECUT: State = state!(
     [held!(BIN, [[0, 2, 0, 10, 8, 1], [4, 0, 0, 6, 2, 1]]; 100 = 92 + 8; 2 free, 1 placed)],
     [(0, BOX, BIN, CORNER)], next 1);
 
-// A box with free cells on four sides. The two thickest sections stand first; of the two that are
-// equally thin, the one of 6 cells stands before the one of 8.
-const MIDDLE: [u32; 6] = [3, 4, 0, 2, 3, 1];
+// A box with free cells on four sides: 4 cells beyond it right and below, 3 left and above. So the
+// strip at the right is cut off first, over all of the sheet's height, then the one below, the one at
+// the left and the one above. Two sections are 4 thick, of 24 and of 40 cells, and two are 3 thick, of
+// 9 and of 18.
+const MIDDLE: [u32; 6] = [3, 4, 0, 3, 3, 1];
 
 const IN_ORDER: State = state!(
-    [held!(BIN, [[5, 0, 0, 5, 10, 1], [0, 0, 0, 3, 10, 1], [3, 7, 0, 2, 3, 1], [3, 0, 0, 2, 4, 1]];
-           100 = 94 + 6; 4 free, 1 placed)],
+    [held!(BIN, [[0, 0, 0, 6, 4, 1], [6, 0, 0, 4, 10, 1], [3, 7, 0, 3, 3, 1], [0, 4, 0, 3, 6, 1]];
+           100 = 91 + 9; 4 free, 1 placed)],
     [(0, BOX, BIN, MIDDLE)], next 1);
 
 // The sheet is whole, and one number was given.
