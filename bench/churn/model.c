@@ -149,19 +149,22 @@ static Rect strip_at(Rect room, const Rect *bounds, int at_side) {
     return room;
 }
 
-/* The strips of a room round the bounds become free sections, the largest first. */
+/* How far a room goes beyond the bounds on one side. */
+static unsigned thickness(const Rect *room, const Rect *bounds, int at_side) {
+    int axis = at_side / 2;
+    return at_side % 2 ? room->to[axis] - bounds->to[axis] : bounds->from[axis] - room->from[axis];
+}
+
+/* The strips of a room round the bounds become free sections, the thickest first. */
 static void cut_strips(Rect room, const Rect *bounds) {
     for (;;) {
-        int largest = 0;
-        Volume most = 0;
-        for (int at_side = 0; at_side < SIDES; at_side++) {
-            Rect strip = strip_at(room, bounds, at_side);
-            if (volume(&strip) > most) largest = at_side, most = volume(&strip);
-        }
-        if (most == 0) return;
-        add(strip_at(room, bounds, largest));
-        if (largest % 2) room.to[largest / 2] = bounds->to[largest / 2];
-        else room.from[largest / 2] = bounds->from[largest / 2];
+        int thickest = 0;
+        for (int at_side = 1; at_side < SIDES; at_side++)
+            if (thickness(&room, bounds, at_side) > thickness(&room, bounds, thickest)) thickest = at_side;
+        if (thickness(&room, bounds, thickest) == 0) return;
+        add(strip_at(room, bounds, thickest));
+        if (thickest % 2) room.to[thickest / 2] = bounds->to[thickest / 2];
+        else room.from[thickest / 2] = bounds->from[thickest / 2];
     }
 }
 
