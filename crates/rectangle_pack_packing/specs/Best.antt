@@ -46,6 +46,17 @@ module _ {Id B : Type 0} (bin_cmp : B → B → Ordering) where
 abbrev pub named_rules : {Id B : Type 0} → (Id → Id → Ordering) → (B → B → Ordering) → Heuristic → Rules Id B
 named_rules cmp bin_cmp heuristic = rules_by cmp bin_cmp (named_answers heuristic)
 
+-- with the heuristic `best` of the list this is made (`Makes`). What is made with a heuristic before it in the list is
+-- worse; with one after it nothing better is made. So the first of those that are as good is the best
+pub record IsBestBy {M : Type 0} (Makes : Heuristic → M → Type 0) (IsBetter : M → M → Type 0) (heuristics : List Heuristic)
+    (best : Heuristic) (made : M) : Type 0 where
+  pub done : Makes best made
+  pub before : List Heuristic
+  pub after : List Heuristic
+  pub listed : heuristics ≡ before ++ best ∷ after
+  pub worse : All (λ h. (other : M) → Makes h other → IsBetter made other) before
+  pub no_better : All (λ h. (other : M) → Makes h other → ¬ IsBetter other made) after
+
 module _ {Id B G : Type 0} (group_cmp : Group G Id → Group G Id → Ordering) (cmp : Id → Id → Ordering) (bin_cmp : B → B → Ordering)
     (all : Collection Id G) (old : List (B × Bin)) where
   -- a packing with this heuristic is done (`PackingDone`), and its placements make this use of the bins
@@ -60,18 +71,12 @@ module _ {Id B G : Type 0} (group_cmp : Group G Id → Group G Id → Ordering) 
     pub left : List (B × Bin)
     pub refused : PackingRefused group_cmp (named_rules cmp bin_cmp heuristic) all old left
 
-  -- a packing with the heuristic `best` of the list is done and makes this use. Of each heuristic before it in the
-  -- list, a packing that is done makes a worse use; of each after it, no packing makes a better one. So the first of
-  -- those that are as good is the best
+  -- a packing with the heuristic `best` of the list is done and makes this use, and it is the best of the list
+  -- (`IsBestBy`)
   -- Example: A 1x3x1, B 3x2x1 and C 3x1x1 into the bins 0 and 1, 4x4x1. `Volume` places B and C in bin 0 and A in bin
   -- 1: 2 bins, 3 cells. `Height` places all in bin 0: 1 bin, 12 cells. So `Height` is the best of the two
-  pub record IsBestOf (heuristics : List Heuristic) (best : Heuristic) (made : Use) : Type 0 where
-    pub done : PacksWith best made
-    pub before : List Heuristic
-    pub after : List Heuristic
-    pub listed : heuristics ≡ before ++ best ∷ after
-    pub worse : All (λ h. (other : Use) → PacksWith h other → IsBetterUse made other) before
-    pub no_better : All (λ h. (other : Use) → PacksWith h other → ¬ IsBetterUse other made) after
+  abbrev pub IsBestOf : List Heuristic → Heuristic → Use → Type 0
+  IsBestOf heuristics best made = IsBestBy PacksWith IsBetterUse heuristics best made
 
   -- what is answered where the best of several is asked for, by cases. A heuristic and a packing: the packing is one
   -- with this heuristic (`IsPacked`), and this is the best of the list, with the use that the packing makes.

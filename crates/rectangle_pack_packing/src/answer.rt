@@ -39,12 +39,35 @@ impl<Id: Ord, BinId, A: Allocator + Copy> RectanglePackOk<Id, BinId, A> {
         &self.packed_locations
     }
 
+    // The placements alone.
+    pub(crate) fn into_placements(self) -> Vec<Placement<Id, BinId>, A>
+    where
+        Id: Drop,
+        BinId: Drop,
+        ensures { result.items ≡ placements_of self }
+    {
+        let RectanglePackOk {
+            packed_locations: _,
+            placements,
+        } = self;
+        placements
+    }
+
     /// All placements, in the order in which they were made: one for each entry of each group.
     pub fn placements(&self) -> &[Placement<Id, BinId>]
         ensures { result.now ≡ placements_of self.now }
     {
         self.placements.as_slice()
     }
+}
+
+/// What a packing answers that leaves out what does not fit.
+#[derive(Drop)]
+pub struct Fitted<'a, P, K, A: Allocator + Copy = Global> {
+    /// What was placed.
+    pub packed: P,
+    /// The groups that no bin took, in the order in which they were tried: those of the collection.
+    pub left: Vec<&'a K, A>,
 }
 
 /// Why a packing failed.

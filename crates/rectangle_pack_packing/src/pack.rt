@@ -14,13 +14,18 @@ ghost use Rattle.rectangle_pack_packing.specs.private.Ends.{IsUndoneAnswer};
 
 pub mod attempt;
 pub mod best;
+pub mod fitting;
+pub mod fitting_best;
 pub mod packing;
+pub mod told;
 
 use crate::answer::{RectanglePackError, RectanglePackOk, answer_of};
 use crate::order::bin_order;
 use crate::pack::attempt::end_packing;
-use crate::pack::packing::Packing;
+use crate::pack::packing::{OnRefusal, Packing};
 pub use best::pack_rects_best;
+pub use fitting::pack_rects_fitting;
+pub use fitting_best::pack_rects_fitting_best;
 use rectangle_pack_bins::target_bin::TargetBin;
 use rectangle_pack_groups::grouped_rects_to_place::GroupedRectsToPlace;
 use rectangle_pack_groups::grouped_rects_to_place::multimap::number_after;
@@ -284,7 +289,8 @@ where
     let entries = number_after(0, rects_to_place.groups()).unwrap_or(u64::MAX) as usize;
     let bins = std::mem::replace(target_bins, BTreeMap::new(alloc));
     let mut packing = Packing::new(bins, order, policy, alloc);
-    let packed = packing.place_all(rects_to_place, entries);
+    let mut left = Vec::new(alloc);
+    let packed = packing.place_all(rects_to_place, entries, OnRefusal::Stop, &mut left);
     let counted = packing.count();
     let (bins, answer) = end_packing(alloc, packing, packed, refused);
     *target_bins = bins;

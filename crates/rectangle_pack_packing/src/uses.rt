@@ -1,6 +1,7 @@
 //! What use packings make of the bins, by which the best of several is found.
 ghost use Rattle.std.specs.Prelude.{◌≡◌, ◌⊎◌, ◌↔◌, IfOk, IfSome, Some, true};
 ghost use Rattle.rectangle_pack_packing.specs.Best.{IsBetterUse, cells_placed_in, use_by};
+ghost use Rattle.rectangle_pack_packing.specs.Fitting.{IsBetterFit};
 ghost use Rattle.rectangle_pack_packing.specs.private.Cells.{cells_in};
 
 use crate::answer::Placement;
@@ -34,6 +35,24 @@ impl Use {
         ensures { (result ≡ true) ↔ IsBetterUse self.now other.now }
     {
         self.bins < other.bins || self.bins == other.bins && self.last < other.last
+    }
+}
+
+/// What packings that may leave groups are compared by.
+#[derive(Clone, Copy)]
+pub struct FitUse {
+    /// The cells of the boxes of the groups that are left, one for each entry.
+    pub left: u128,
+    /// The use that the placements make of the bins.
+    pub made: Use,
+}
+
+impl FitUse {
+    /// Whether it leaves fewer cells than the other, or as many with a better use of the bins.
+    pub fn is_better(&self, other: &FitUse) -> bool
+        ensures { (result ≡ true) ↔ IsBetterFit self.now other.now }
+    {
+        self.left < other.left || self.left == other.left && self.made.is_better(&other.made)
     }
 }
 

@@ -1,5 +1,5 @@
 -- A packing on its way: what is seen of it, and what the methods say that try its groups.
-use Rattle.std.specs.Prelude.{◌≡◌, ℕ, ◌+◌, Bool, true, false, List, [], ◌++◌, length, map, Option, Some, None, Result, Ok, Err}
+use Rattle.std.specs.Prelude.{◌≡◌, ℕ, ◌+◌, ◌≤◌, Bool, true, false, List, [], ◌++◌, length, map, Option, Some, None, Result, Ok, Err}
 use Rattle.std.specs.declared.cmp.Ordering.{Ordering}
 use Rattle.std.specs.Borrow.{Bor}
 use Rattle.rectangle_pack_sections.specs.declared.group.Group.{Group}
@@ -7,8 +7,11 @@ use Rattle.rectangle_pack_sections.specs.Bins.{Bin}
 use Rattle.rectangle_pack_sections.specs.Groups.{Collection, entries_of}
 use Rattle.rectangle_pack_lists.specs.Numbers.{saturated}
 use Rattle.rectangle_pack_packing.specs.declared.answer.Placement.{Placement}
-use Rattle.rectangle_pack_packing.specs.Packing.{Rules, Members, at_start, IsPlaced, IsRefused, AreAllPlaced, StopsAfter, PackingDone, PackingRefused}
+use Rattle.rectangle_pack_packing.specs.Packing.{Rules, Members, at_start, IsPlaced, IsRefused, StopsAfter, PackingDone, PackingRefused}
 use Rattle.rectangle_pack_packing.specs.PackAnswers.{AreCounted}
+use Rattle.rectangle_pack_packing.specs.Fitting.{AreTaken, PackingFits}
+use Rattle.rectangle_pack_packing.specs.declared.pack.packing.OnRefusal.{OnRefusal}
+use Rattle.rectangle_pack_packing.specs.declared.pack.packing.OnRefusal.TheVariants.{Stop, Leave}
 use Rattle.rectangle_pack_packing.specs.private.BinsAtWork.{BinsInUse}
 
 -- what is seen of a packing on its way: its bins, the policy it goes by, what it placed so far, and how many fit tests
@@ -57,19 +60,21 @@ module _ {Id B R : Type 0} where
         (tests : ℕ) × IsRefused rules excluded (names_of old) group old.bins.now tests × (new.bins.now ≡ old.bins.now) × GoesOn old new [] tests
     IsGroupTried excluded group old (Err error) new = Unit {0}
 
-    -- groups are tried one after another, in a packing that had none before. True: each is placed. False: it stops after
-    -- some of them (`StopsAfter`)
-    abbrev pub AreGroupsTried : {E K : Type 0} → (List (K × B) → K → B → Bool) → List (K × Members Id) → OnItsWay Id B R → Result Bool E → OnItsWay Id B R → Type 0
-    AreGroupsTried {K = K} excludes groups old (Ok true) new =
+    -- groups are tried one after another, in a packing that had none before. True: each is placed or left (`AreTaken`),
+    -- and `left` names those that are left. False: it stops after some of them (`StopsAfter`)
+    abbrev pub AreGroupsTried : {E K : Type 0} → (List (K × B) → K → B → Bool) → List (K × Members Id) → OnItsWay Id B R → List K → Result Bool E
+        → OnItsWay Id B R → Type 0
+    AreGroupsTried {K = K} excludes groups old left (Ok true) new =
         (homes : List (K × B)) × (tests : ℕ)
-        × AreAllPlaced rules excludes (names_of old) groups (at_start old.bins.now) new.placements (record { bins = new.bins.now; homes = homes }) tests
+        × AreTaken rules excludes (names_of old) groups (at_start old.bins.now) new.placements left (record { bins = new.bins.now; homes = homes }) tests
         × (new.tests ≡ saturated tests)
-    AreGroupsTried excludes groups old (Ok false) new =
+    AreGroupsTried excludes groups old left (Ok false) new =
         (tests : ℕ) × StopsAfter rules excludes (names_of old) groups old.bins.now new.bins.now tests × (new.tests ≡ saturated tests)
-    AreGroupsTried excludes groups old (Err error) new = Unit {0}
+    AreGroupsTried excludes groups old left (Err error) new = Unit {0}
 
-    -- all groups of a collection are tried in a packing that began with these bins, with its fit tests (`AreCounted`).
-    -- True: it is done, with a placement for each entry. False: it is refused
+    -- all groups of a collection are tried in a packing that began with these bins, where a group that no bin takes ends
+    -- it. True: it is done, with a placement for each entry, and with its fit tests (`AreCounted`). False: it is refused,
+    -- with its fit tests
     abbrev pub IsPackingTried : {E G : Type 0} → (Group G Id → Group G Id → Ordering) → Collection Id G → List (B × Bin) → Result Bool E → OnItsWay Id B R → Type 0
     IsPackingTried group_cmp all old (Ok true) new =
         (done : PackingDone group_cmp rules all old new.placements new.bins.now) × AreCounted all old done.tests 0 new.tests
@@ -77,3 +82,17 @@ module _ {Id B R : Type 0} where
     IsPackingTried group_cmp all old (Ok false) new =
         (refused : PackingRefused group_cmp rules all old new.bins.now) × AreCounted all old refused.tests 0 new.tests
     IsPackingTried group_cmp all old (Err error) new = Unit {0}
+
+    -- all groups of a collection are tried in a packing that began with these bins, where a group that no bin takes is
+    -- left: what fits is placed (`PackingFits`), and no more than one placement is made for each entry
+    abbrev pub IsFittingTried : {E G : Type 0} → (Group G Id → Group G Id → Ordering) → Collection Id G → List (B × Bin) → List (Group G Id) → Result Bool E
+        → OnItsWay Id B R → Type 0
+    IsFittingTried group_cmp all old left (Ok done) new =
+        (done ≡ true) × PackingFits group_cmp rules all old new.placements left new.bins.now × (length new.placements ≤ entries_of all)
+    IsFittingTried group_cmp all old left (Err error) new = Unit {0}
+
+    -- what `IsPackingTried` says where a group that no bin takes ends the packing, and `IsFittingTried` where it is left
+    abbrev pub AreAllTried : {E G : Type 0} → (Group G Id → Group G Id → Ordering) → Collection Id G → List (B × Bin) → OnRefusal → List (Group G Id)
+        → Result Bool E → OnItsWay Id B R → Type 0
+    AreAllTried group_cmp all old Stop left result new = IsPackingTried group_cmp all old result new
+    AreAllTried group_cmp all old Leave left result new = IsFittingTried group_cmp all old left result new

@@ -8,7 +8,7 @@ ghost use Rattle.rectangle_pack_sections.specs.Bins.{bins_of, Bin};
 
 use crate::answer::{Placement, RectanglePackError, RectanglePackOk, answer_of, last_placements};
 use crate::order::bin_order;
-use crate::pack::packing::Packing;
+use crate::pack::packing::{OnRefusal, Packing};
 use rectangle_pack_bins::target_bin::TargetBin;
 use rectangle_pack_groups::grouped_rects_to_place::GroupedRectsToPlace;
 use rectangle_pack_lists::free_list::End;
@@ -58,7 +58,8 @@ where
     let order = bin_order(alloc, bins, policy)?;
     let before = mem::replace(bins, BTreeMap::new(alloc));
     let mut packing = Packing::new(before, order.as_slice(), policy, alloc);
-    let packed = packing.place_all(groups, entries);
+    let mut left = Vec::new(alloc);
+    let packed = packing.place_all(groups, entries, OnRefusal::Stop, &mut left);
     let is_kept = keeps && packed == Ok(true);
     let (after, placements) = packing.end(if is_kept { End::Keep } else { End::Undo });
     *bins = after;

@@ -42,8 +42,8 @@ fn counts_by_id<'a, B: Ord, A: Allocator + Copy>(
     Ok(counts)
 }
 
-// What use these placements make of the bins. Fails only when memory is refused.
-fn use_made<'a, Id, B: Ord, A: Allocator + Copy>(
+/// What use these placements make of the bins. Fails only when memory is refused.
+pub fn use_made<'a, Id, B: Ord, A: Allocator + Copy>(
     alloc: A,
     bins: &'a BTreeMap<B, TargetBin<A>, A>,
     placements: &'a [Placement<Id, B>],

@@ -1,16 +1,18 @@
 //! One packing: group after group into the first bin that takes it. It is kept or undone at its end.
-ghost use Rattle.std.specs.Prelude.{◌≡◌, ◌≤◌, ◌-◌, length, IsSome, All, map, take, drop};
+ghost use Rattle.std.specs.Prelude.{◌≡◌, ◌≤◌, ◌-◌, [], true, length, IfOk, IsSome, All, map, take, drop};
 ghost use Rattle.std.specs.BTreeMap.{get};
 ghost use Rattle.std.specs.List.{IsDistinct};
 ghost use Rattle.std.specs.Map.{keys_of};
 ghost use Rattle.std.specs.Ordering.{eq_by_cmp};
 ghost use Rattle.rectangle_pack_sections.specs.Bins.{bins_of};
 ghost use Rattle.rectangle_pack_sections.specs.Clones.{ClonesEqual};
+ghost use Rattle.rectangle_pack_packing.specs.Fitting.{names_left};
 ghost use Rattle.rectangle_pack_packing.specs.Orders.{IsBinOrder};
 ghost use Rattle.rectangle_pack_packing.specs.Packing.{rules_by, excludes_by};
+ghost use Rattle.rectangle_pack_packing.specs.declared.pack.packing.OnRefusal.TheVariants.{Stop, Leave};
 ghost use Rattle.rectangle_pack_packing.specs.private.BinsAtWork.{left_of};
 ghost use Rattle.rectangle_pack_packing.specs.private.Excluded.{are_in};
-ghost use Rattle.rectangle_pack_packing.specs.private.OnItsWay.{IsBegun, IsSamePacking, IsGroupTried, AreGroupsTried, IsPackingTried};
+ghost use Rattle.rectangle_pack_packing.specs.private.OnItsWay.{IsBegun, IsSamePacking, IsGroupTried, AreGroupsTried, AreAllTried};
 ghost use Rattle.rectangle_pack_packing.specs.private.Orders.{members_of, HasSizes};
 ghost use Rattle.rectangle_pack_packing.specs.private.PassedOver.{ArePassedOver};
 
@@ -31,6 +33,13 @@ use rectangle_pack_sections::rect_to_insert::RectToInsert;
 use std::alloc::{AllocError, Allocator};
 use std::collections::BTreeMap;
 use std::marker::Model;
+
+/// What becomes of a packing where no bin takes a group: it stops, or the group is left.
+#[derive(Clone, Copy)]
+pub enum OnRefusal {
+    Stop,
+    Leave,
+}
 
 /// A packing on its way: its bins, the policy it goes by, what it placed so far, and how many fit
 /// tests it made.
@@ -111,7 +120,8 @@ where
         self.placements.as_slice()
     }
 
-    /// The bins at the end, and what the packing placed. Takes no memory.
+    /// The bins at the end, and what the packing placed. Asks for no memory, only that long lists
+    /// be made smaller.
     pub fn end(self, end: End) -> (BTreeMap<B, TargetBin<A>, A>, Vec<Placement<Id, B>, A>)
         ensures bins { bins_of result.0.entries ≡ left_of end self.entry.bins }
         ensures placements { result.1.items ≡ self.entry.placements }
@@ -124,19 +134,24 @@ where
         (bins.end(end), placements)
     }
 
-    /// Packs all groups, in which there are `entries` entries; whether each was placed. An error
-    /// says that memory was refused. However it ends, what it did can be kept or undone.
-    pub fn place_all<GroupId: Ord + Clone + Drop>(
+    /// Packs all groups, in which there are `entries` entries. A group that no bin takes ends the
+    /// packing, or it is put among those that are `left`; whether the packing came to its end. An
+    /// error says that memory was refused. However it ends, what it did can be kept or undone.
+    pub fn place_all<'a, GroupId: Ord + Clone + Drop>(
         &mut self,
-        rects_to_place: &GroupedRectsToPlace<Id, GroupId, A>,
+        rects_to_place: &'a GroupedRectsToPlace<Id, GroupId, A>,
         entries: usize,
+        on_refusal: OnRefusal,
+        left: &mut Vec<&'a Group<GroupId, Id>, A>,
     ) -> Result<bool, AllocError>
         requires order { IsBinOrder (R.may self.old.policy).rate B.cmp self.old.bins.now
             self.old.bins.order }
         requires distinct { IsDistinct (eq_by_cmp B.cmp) (keys_of self.old.bins.now) }
         requires begun { IsBegun self.old }
-        ensures packed { IsPackingTried (rules_by Id.cmp B.cmp (R.may self.old.policy))
-            ⟦<Group<GroupId, Id> as Ord>⟧.cmp rects_to_place.now self.old.bins.now result self.new }
+        requires none_left { left.old.items ≡ [] }
+        ensures packed { AreAllTried (rules_by Id.cmp B.cmp (R.may self.old.policy))
+            ⟦<Group<GroupId, Id> as Ord>⟧.cmp rects_to_place.now self.old.bins.now on_refusal
+            (names_left left.new) result self.new }
         ensures start { self.new.bins.start ≡ self.old.bins.start }
     {
         let rects = rects_to_place.rects();
@@ -146,23 +161,35 @@ where
         let groups = group_order(alloc, rects, lists, self.policy, &mut sizes)?;
         self.placements.reserve(entries)?;
         let exclusions = exclusions_of(rects_to_place);
-        self.place_groups(groups.as_slice(), sizes.as_slice(), exclusions)
+        self.place_groups(
+            groups.as_slice(),
+            sizes.as_slice(),
+            exclusions,
+            on_refusal,
+            left,
+        )
     }
 
-    // Places each group of an order, up to the first that is refused; whether none is. An error
-    // says that memory was refused.
+    // Places each group of an order in turn, up to the first that no bin takes, or but for those
+    // that no bin takes, which are put among those that are `left`; whether it came to the end of the
+    // order. An error says that memory was refused.
     fn place_groups<'a, K: Ord>(
         &mut self,
         groups: &[OrderedGroup<'a, K, Id, A>],
         sizes: &[RectToInsert],
         exclusions: &'a Exclusions<K, A>,
+        on_refusal: OnRefusal,
+        left: &mut Vec<&'a K, A>,
     ) -> Result<bool, AllocError>
         requires in_range { All (HasSizes sizes.now) groups.now }
         requires distinct { IsDistinct (eq_by_cmp K.cmp) (map (λ o. o.name.now) groups.now) }
         requires begun { IsBegun self.old }
+        requires none_left { left.old.items ≡ [] }
         ensures packed { AreGroupsTried (rules_by Id.cmp B.cmp (R.may self.old.policy))
             (excludes_by K.cmp B.cmp exclusions.now) (map (members_of sizes.now) groups.now)
-            self.old result self.new }
+            self.old (names_left left.new) result self.new }
+        ensures stops { on_refusal ≡ Stop → left.new.items ≡ [] }
+        ensures leaves { on_refusal ≡ Leave → IfOk result (λ ended. ended ≡ true) }
         ensures same { IsSamePacking self.old self.new }
     {
         self.bins.make_ready(groups.len(), sizes.len())?;
@@ -170,10 +197,13 @@ where
         for group in groups {
             let excluded = homes.excluded_bins(group.name)?;
             let members = group.sizes_in(sizes);
-            let Some(here) = self.place_group(group.ids.as_slice(), members, &excluded)? else {
-                return Ok(false);
-            };
-            homes.keep(group.name, here)?;
+            match self.place_group(group.ids.as_slice(), members, &excluded)? {
+                Some(here) => homes.keep(group.name, here)?,
+                None => match on_refusal {
+                    OnRefusal::Stop => return Ok(false),
+                    OnRefusal::Leave => left.push(group.name)?,
+                },
+            }
         }
         Ok(true)
     }

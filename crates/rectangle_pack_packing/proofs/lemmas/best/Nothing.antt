@@ -1,7 +1,7 @@
--- Without groups no bin is used, so the first heuristic of a list is the best.
+-- Without groups no bin is used and nothing is left, so the first heuristic of a list is the best.
 use Rattle.std.specs.Result.{IsOk}
-use Rattle.rectangle_pack_sections.proofs.Std.{◌≡◌, ◌<◌, ◌⊎◌, List, [], ◌∷◌, length, get_or, refl, sym, ap, subst, ◌∙◌, arith, filter, map, nat_lt, sum, values_of}
-use Rattle.rectangle_pack_sections.proofs.Std.{inl, inr, keys_of, All, All-nil, All-cons, Ordering, Result, Ok, Err}
+use Rattle.rectangle_pack_sections.proofs.Std.{◌≡◌, ℕ, ◌<◌, ◌⊎◌, List, [], ◌∷◌, length, get_or, refl, sym, ap, subst, ◌∙◌, arith, filter, map, nat_lt, sum, values_of}
+use Rattle.rectangle_pack_sections.proofs.Std.{inl, inr, sum_by, sum_by-cons, keys_of, All, All-nil, All-cons, Ordering, Result, Ok, Err}
 use Rattle.rectangle_pack_sections.specs.declared.box_size_heuristics.named.Heuristic.{Heuristic}
 use Rattle.rectangle_pack_sections.specs.Bins.{Bin}
 use Rattle.rectangle_pack_sections.specs.declared.group.Group.{Group}
@@ -10,7 +10,14 @@ use Rattle.rectangle_pack_packing.specs.declared.answer.Placement.{Placement}
 use Rattle.rectangle_pack_packing.specs.declared.answer.RectanglePackOk.{RectanglePackOk}
 use Rattle.rectangle_pack_packing.specs.declared.answer.RectanglePackError.{RectanglePackError}
 use Rattle.rectangle_pack_packing.specs.declared.uses.Use.{Use}
-use Rattle.rectangle_pack_packing.specs.Best.{use_by, use_of, cells_placed_in, IsBetterUse, PacksWith, IsBestOf, IsBestAnswer}
+use Rattle.rectangle_pack_lists.specs.Numbers.{saturated}
+use Rattle.rectangle_pack_packing.specs.declared.uses.FitUse.{FitUse}
+use Rattle.rectangle_pack_packing.specs.Best.{use_by, use_of, named_rules, cells_placed_in, IsBestBy, IsBetterUse, PacksWith, IsBestOf, IsBestAnswer}
+use Rattle.rectangle_pack_packing.specs.Fitting.{IsBetterFit, FitsWith, cells_in_group, fit_use_of}
+use Rattle.rectangle_pack_packing.specs.Packing.{excludes_by}
+use Rattle.rectangle_pack_packing.specs.private.Choices.{IsBestChoice}
+use Rattle.rectangle_pack_packing.specs.private.Orders.{entries_at}
+use Rattle.rectangle_pack_packing.proofs.lemmas.packing.Groups.{AreGroups-length, AreTaken-length}
 use Rattle.rectangle_pack_packing.specs.Placed.{placements_of}
 use Rattle.rectangle_pack_packing.proofs.lemmas.best.Alone.{alone-listed, best-alone}
 
@@ -34,27 +41,32 @@ module _ (Id : Type 0) {B : Type 0} (bin_cmp : B → B → Ordering) where
   unused [] bins none = ap use_by (uncounted (keys_of bins))
   unused (p ∷ ps) bins none = absurd (omega (arith, none))
 
+-- what is made with the first heuristic of a list is the best, where nothing is better
+first-best : {M : Type 0} (Makes : Heuristic → M → Type 0) (IsBetter : M → M → Type 0) (h : Heuristic) (rest : List Heuristic) (best : Heuristic) (made : M)
+    → ((other : M) → ¬ IsBetter other made) → best ≡ h → Makes best made → IsBestBy Makes IsBetter (h ∷ rest) best made
+first-best {M} Makes IsBetter h rest best made none is done = record {
+  done = done;
+  before = [];
+  after = rest;
+  listed = ap (λ x. x ∷ rest) (sym is);
+  worse = All-nil _;
+  no_better = each rest;
+}
+  where
+    NoBetter : Heuristic → Type 0
+    NoBetter g = (other : M) → Makes g other → ¬ IsBetter other made
+
+    each : (hs : List Heuristic) → All NoBetter hs
+    each [] = All-nil NoBetter
+    each (g ∷ gs) = All-cons NoBetter g gs (λ other makes. none other) (each gs)
+
+-- what counts nothing in each element adds up to nothing
+adds-none : {X : Type 0} (f : X → ℕ) → ((x : X) → f x ≡ 0) → (xs : List X) → sum_by f xs ≡ 0
+adds-none f none [] = refl
+adds-none f none (x ∷ xs) = omega (arith, none x, adds-none f none xs, sum_by-cons f x xs)
+
 module _ {Id B G : Type 0} (group_cmp : Group G Id → Group G Id → Ordering) (cmp : Id → Id → Ordering) (bin_cmp : B → B → Ordering)
     (all : Collection Id G) (old : List (B × Bin)) where
-  -- so what is the best alone is the best before others
-  first-best : (h : Heuristic) (rest : List Heuristic) (best : Heuristic) (made : Use) → made ≡ nothing
-      → IsBestOf group_cmp cmp bin_cmp all old (h ∷ []) best made → IsBestOf group_cmp cmp bin_cmp all old (h ∷ rest) best made
-  first-best h rest best made none alone = record {
-    done = alone.done;
-    before = [];
-    after = rest;
-    listed = ap (λ x. x ∷ rest) (sym (best-alone group_cmp cmp bin_cmp all old h best made alone));
-    worse = All-nil _;
-    no_better = each rest;
-  }
-    where
-      NoBetter : Heuristic → Type 0
-      NoBetter g = (other : Use) → PacksWith group_cmp cmp bin_cmp all old g other → ¬ IsBetterUse other made
-
-      each : (hs : List Heuristic) → All NoBetter hs
-      each [] = All-nil NoBetter
-      each (g ∷ gs) = All-cons NoBetter g gs (λ other packs. subst (λ by. ¬ IsBetterUse other by) (sym none) (none-better other)) (each gs)
-
   -- where a packing places one box for each entry, of which there are none
   pub first-listed : all.groups ≡ [] → (d : Heuristic) (heuristics : List Heuristic) → 0 < length heuristics → (best : Heuristic)
       (placements : List (Placement Id B)) → length placements ≡ entries_of all
@@ -63,7 +75,9 @@ module _ {Id B G : Type 0} (group_cmp : Group G Id → Group G Id → Ordering) 
   first-listed none d [] some best placements counted alone = absurd (omega (arith, some))
   first-listed none d (h ∷ rest) some best placements counted alone =
       let empty = counted ∙ ap (λ groups. sum (map length (values_of groups))) none in
-      first-best h rest best (use_of bin_cmp placements old) (unused Id bin_cmp placements old empty) alone
+      first-best (PacksWith group_cmp cmp bin_cmp all old) IsBetterUse h rest best (use_of bin_cmp placements old)
+      (subst (λ by. (other : Use) → ¬ IsBetterUse other by) (sym (unused Id bin_cmp placements old empty)) none-better)
+      (best-alone group_cmp cmp bin_cmp all old h best _ alone) alone.done
 
   -- so where a list has one heuristic, or there are no groups, what is answered to the first is answered to the list
   pub first-answered : {A : Type 0} (heuristics : List Heuristic) (d : Heuristic) → 0 < length heuristics → (length heuristics ≡ 1) ⊎ (all.groups ≡ [])
@@ -73,3 +87,24 @@ module _ {Id B G : Type 0} (group_cmp : Group G Id → Group G Id → Ordering) 
   first-answered heuristics d some (inr none) (Ok (best, ok)) new done (packed, alone) =
       (packed, first-listed none d heuristics some best (placements_of ok) packed.counted alone)
   first-answered heuristics d some (inr none) (Err error) new done h = absurd (let is = done none in cc)
+
+  -- where nothing is left, and no bin is used, nothing is better
+  none-fits-better : (made other : FitUse) → made.left ≡ 0 → made.made ≡ nothing → ¬ IsBetterFit other made
+  none-fits-better made other none unused (inl less) = absurd (omega (arith, less, none))
+  none-fits-better made other none unused (inr (same, better)) = none-better other.made (rw unused at better)
+
+  -- so it is with what fits without groups
+  pub choice-nothing : all.groups ≡ [] → (heuristics : List Heuristic) (d : Heuristic) → 0 < length heuristics
+      → IsBestChoice group_cmp cmp bin_cmp all old heuristics (get_or heuristics 0 d)
+  choice-nothing none [] d some placements left new fits = absurd (omega (arith, some))
+  choice-nothing none (h ∷ rest) d some placements left new fits =
+      let rules = named_rules cmp bin_cmp h in
+      let entries = adds-none (entries_at group_cmp all.groups) (λ o. rw none refl) fits.group_order in
+      let most = AreTaken-length rules (excludes_by group_cmp bin_cmp all.partners) _ fits.groups _ _ placements left fits.tests fits.taken in
+      let empty : length placements ≡ 0 =
+      omega (arith, entries, most, AreGroups-length cmp group_cmp all.sizes all.groups fits.group_order fits.groups fits.listed) in
+      let made = fit_use_of group_cmp cmp bin_cmp all old placements left in
+      first-best (FitsWith group_cmp cmp bin_cmp all old) IsBetterFit h rest h made
+      (λ other. none-fits-better made other (ap saturated (adds-none (cells_in_group cmp group_cmp all) (λ name. rw none refl) left))
+      (unused Id bin_cmp placements old empty)) refl
+      (record { placements = placements; left = left; new = new; fits = fits; use_is = refl })

@@ -10,9 +10,11 @@ use Rattle.rectangle_pack_packing.specs.declared.answer.RectanglePackOk.{Rectang
 use Rattle.rectangle_pack_packing.specs.declared.answer.RectanglePackError.{RectanglePackError}
 use Rattle.rectangle_pack_packing.specs.declared.answer.RectanglePackError.TheVariants.{NotEnoughBinSpace, OutOfMemory}
 use Rattle.rectangle_pack_packing.specs.Packing.{Rules}
+use Rattle.rectangle_pack_packing.specs.Fitting.{PackingFits}
 use Rattle.rectangle_pack_packing.specs.PackAnswers.{IsCountedAnswer}
+use Rattle.rectangle_pack_packing.specs.Placed.{AreLastPlacements, placements_of, locations_of}
 use Rattle.rectangle_pack_packing.specs.private.BinsAtWork.{BinsInUse, left_of}
-use Rattle.rectangle_pack_packing.specs.private.OnItsWay.{OnItsWay, IsPackingTried}
+use Rattle.rectangle_pack_packing.specs.private.OnItsWay.{OnItsWay, IsPackingTried, IsFittingTried}
 use Rattle.rectangle_pack_packing.specs.private.Ends.{IsEnd, IsUndoneAnswer, end_with}
 use Rattle.rectangle_pack_packing.proofs.lemmas.packing.FitTests.{AreCounted-added}
 
@@ -51,3 +53,20 @@ pub kept-answer : {Id B G A : Type 0} (group_cmp : Group G Id → Group G Id →
 kept-answer group_cmp rules all old new before after (Ok ok) h = h
 kept-answer group_cmp rules all old new before after (Err NotEnoughBinSpace) (left, refused, counted, is) = rw is (refused, counted)
 kept-answer group_cmp rules all old new before after (Err OutOfMemory) h = h
+
+-- what fits is answered, where it is kept
+pub fitted-done : {Id B G R A E : Type 0} (group_cmp : Group G Id → Group G Id → Ordering) (rules : Rules Id B) (all : Collection Id G) (old : List (B × Bin))
+    (packing : OnItsWay Id B R) (left : List (Group G Id)) (tried : Result Bool E) (bins : List (B × Bin)) (ok : RectanglePackOk Id B A)
+    → IsFittingTried rules group_cmp all old left tried packing → IsEnd rules.id_cmp rules.bin_cmp packing tried Undo bins (Ok ok)
+    → PackingFits group_cmp rules all old (placements_of ok) left bins
+    × AreLastPlacements rules.id_cmp rules.bin_cmp (placements_of ok) (locations_of ok)
+fitted-done group_cmp rules all old packing left tried bins ok h (is, kept, placed, last) =
+    let fits = rw is at h in (rw (placed, kept) fits.1, last)
+
+-- and where it is not, the bins are as they were
+pub fitted-failed : {Id B R A E : Type 0} (cmp : Id → Id → Ordering) (bin_cmp : B → B → Ordering) (old : List (B × Bin)) (packing : OnItsWay Id B R)
+    (tried : Result Bool E) (bins : List (B × Bin)) (answer : Result (RectanglePackOk Id B A) RectanglePackError) (error : RectanglePackError)
+    → packing.bins.start ≡ old → answer ≡ Err error → IsEnd cmp bin_cmp packing tried Undo bins answer → bins ≡ old
+fitted-failed cmp bin_cmp old packing tried bins (Ok ok) error start failed end = absurd (let no = failed in cc)
+fitted-failed cmp bin_cmp old packing tried bins (Err NotEnoughBinSpace) error start failed end = end.1 ∙ left-with Undo packing.bins old start
+fitted-failed cmp bin_cmp old packing tried bins (Err OutOfMemory) error start failed end = end ∙ start

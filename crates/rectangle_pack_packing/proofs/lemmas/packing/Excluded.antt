@@ -140,6 +140,15 @@ module _ {K B : Type 0} (cmp : K → K → Ordering) (bin_cmp : B → B → Orde
       kept.others q (All-middle P (map f (take i order) ++ f x ∷ []) (map f (take i order)) [] (f x) refl all) id
       ∙ named q (All-front P (map f (take i order)) (f x ∷ []) all) id
 
+  -- also where that gets none
+  pub Named-left : {X Y : Type 0} (order : List (OrderedGroup K X Y)) (i : ℕ) (x : OrderedGroup K X Y) (homes : KeptHomes K B)
+      → i < length order → x ≡ get_or order i x → Named (take i order) homes → Named (take (i + 1) order) homes
+  Named-left {X} {Y} order i x homes within is named q h id =
+      let f : OrderedGroup K X Y → K = λ y. y.name.now in
+      let P : K → Type 0 = λ n. is_at (cmp n) q ≡ false in
+      let all : All P (map f (take i order) ++ f x ∷ []) = subst (All P) (map-take_more f order i x within is) h in
+      named q (All-front P (map f (take i order)) (f x ∷ []) all) id
+
   -- and a group that the order names once has none yet
   pub Named-fresh : {X Y : Type 0} (order : List (OrderedGroup K X Y)) (i : ℕ) (x : OrderedGroup K X Y) (homes : KeptHomes K B)
       → IsDistinct (eq_by_cmp cmp) (map (λ y. y.name.now) order) → i < length order → x ≡ get_or order i x → Named (take i order) homes

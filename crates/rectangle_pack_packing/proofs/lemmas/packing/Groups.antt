@@ -1,6 +1,6 @@
--- Groups that are placed, one after another.
+-- Groups that are placed or left, one after another.
 use Rattle.rectangle_pack_sections.proofs.Std.{◌≡◌, ℕ, suc, ◌+◌, ◌<◌, ◌≤◌, List, [], ◌∷◌, ◌++◌, length, take, drop, refl, ap, sym, ◌∙◌, subst, cond, true}
-use Rattle.rectangle_pack_sections.proofs.Std.{false, Bool, arith, get_or, append_assoc, append-nil, Option, Some, None, map, sum, All, IsTrue, ◌↔◌}
+use Rattle.rectangle_pack_sections.proofs.Std.{false, Bool, arith, inl, inr, get_or, append_assoc, append-nil, Option, Some, None, map, sum, All, IsTrue, ◌↔◌}
 use Rattle.rectangle_pack_sections.proofs.Std.{MatchOption, Ordering, Equal, is_eq, IsTotalOrder, Equal-is}
 use Rattle.rectangle_pack_sections.proofs.Std.{AllZip, sum_by, sum_by-cons, length-append, lookup, keys_of, IsStrictlySortedBy, is_at}
 use Rattle.rectangle_pack_sections.proofs.Std.{split_at, take_more, map-append, length-map, Vec, All-push, All-nil, All-head}
@@ -14,6 +14,7 @@ use Rattle.rectangle_pack_packing.specs.declared.answer.Placement.{Placement}
 use Rattle.rectangle_pack_sections.specs.Bins.{Bin}
 use Rattle.rectangle_pack_packing.specs.Packing.{Rules, Members, Stage, at_start, IsPlaced, DoesNotTake, IsRefused, AreAllPlaced, AreGroups, StopsAfter}
 use Rattle.rectangle_pack_packing.specs.Packing.{PackingDone}
+use Rattle.rectangle_pack_packing.specs.Fitting.{AreTaken}
 use Rattle.rectangle_pack_sections.specs.Boxes.{Size, Cuboid}
 use Rattle.rectangle_pack_lists.specs.Steps.{IsDone}
 use Rattle.rectangle_pack_packing.specs.private.BinsAtWork.{IsTriedIn}
@@ -103,28 +104,74 @@ module _ {Id B : Type 0} (rules : Rules Id B) where
 
   module _ {K : Type 0} (excludes : List (K × B) → K → B → Bool) where
     -- one more group is placed
-    pub AreAllPlaced-push : (order : List B) (gs : List (K × Members Id)) (g : K × Members Id) (old : Stage K B) (mid : List (B × Bin)) (homes : List (K × B))
-        (next : List (B × Bin)) (placements added : List (Placement Id B)) (tests one : ℕ)
-        → AreAllPlaced rules excludes order gs old placements (record { bins = mid; homes = homes }) tests
+    pub AreTaken-placed : (order : List B) (gs : List (K × Members Id)) (g : K × Members Id) (old : Stage K B) (mid : List (B × Bin)) (homes : List (K × B))
+        (next : List (B × Bin)) (placements added : List (Placement Id B)) (left : List K) (tests one : ℕ)
+        → AreTaken rules excludes order gs old placements left (record { bins = mid; homes = homes }) tests
         → (p : IsPlaced rules (excludes homes g.0) order g.1 mid added next one)
-        → AreAllPlaced rules excludes order (gs ++ g ∷ []) old (placements ++ added) (record { bins = next; homes = (g.0, p.here) ∷ homes }) (tests + one)
-    AreAllPlaced-push order [] g old mid homes next placements added tests one done placed =
+        → AreTaken rules excludes order (gs ++ g ∷ []) old (placements ++ added) left (record { bins = next; homes = (g.0, p.here) ∷ homes }) (tests + one)
+    AreTaken-placed order [] g old mid homes next placements added left tests one done placed =
         let S : Stage K B = record { bins = mid; homes = homes } in
-        subst (λ (s : Stage K B). AreAllPlaced rules excludes order (g ∷ []) s (placements ++ added)
-        (record { bins = next; homes = (g.0, placed.here) ∷ homes }) (tests + one)) done.1
-        (added, next, one, [], 0, placed, (refl, refl, refl), ap (λ ps. ps ++ added) done.0 ∙ sym (append-nil added), (let z = done.2 in omega arith))
-    AreAllPlaced-push order (g' ∷ gs) g old mid homes next placements added tests one (first, mid', n, rest, m, here, later, joined, counted) placed = (
-      first,
-      mid',
-      n,
-      rest ++ added,
-      m + one,
-      here,
-      AreAllPlaced-push order gs g (record { bins = mid'; homes = (g'.0, here.here) ∷ old.homes }) mid homes
-          next rest added m one later placed,
-      rw joined (append_assoc first rest added),
-      omega arith,
-    )
+        subst (λ (s : Stage K B). AreTaken rules excludes order (g ∷ []) s (placements ++ added) left
+        (record { bins = next; homes = (g.0, placed.here) ∷ homes }) (tests + one)) done.2
+        (inl (
+          added,
+          next,
+          one,
+          [],
+          0,
+          placed,
+          (refl, done.1, refl, refl),
+          ap (λ ps. ps ++ added) done.0 ∙ sym (append-nil added),
+          (let z = done.3 in omega arith),
+        ))
+    AreTaken-placed order (g' ∷ gs) g old mid homes next placements added left tests one (inl (first, mid', n, rest, m, here, later, joined, counted)) placed =
+        inl (
+          first,
+          mid',
+          n,
+          rest ++ added,
+          m + one,
+          here,
+          AreTaken-placed order gs g (record { bins = mid'; homes = (g'.0, here.here) ∷ old.homes }) mid homes
+              next rest added left m one later placed,
+          rw joined (append_assoc first rest added),
+          omega arith,
+        )
+    AreTaken-placed order (g' ∷ gs) g old mid homes next placements added left tests one (inr (n, rest, m, refused, later, named, counted)) placed =
+        inr (n, rest, m + one, refused, AreTaken-placed order gs g old mid homes next placements added rest m one later placed, named, omega arith)
+
+    -- or it is left
+    pub AreTaken-left : (order : List B) (gs : List (K × Members Id)) (g : K × Members Id) (old : Stage K B) (mid : List (B × Bin)) (homes : List (K × B))
+        (placements : List (Placement Id B)) (left : List K) (tests one : ℕ)
+        → AreTaken rules excludes order gs old placements left (record { bins = mid; homes = homes }) tests
+        → IsRefused rules (excludes homes g.0) order g.1 mid one
+        → AreTaken rules excludes order (gs ++ g ∷ []) old placements (left ++ g.0 ∷ []) (record { bins = mid; homes = homes }) (tests + one)
+    AreTaken-left order [] g old mid homes placements left tests one done refused =
+        let S : Stage K B = record { bins = mid; homes = homes } in
+        subst (λ (s : Stage K B). AreTaken rules excludes order (g ∷ []) s placements (left ++ g.0 ∷ []) S (tests + one)) done.2
+        (inr (one, [], 0, refused, (done.0, refl, refl, refl), ap (λ ks. ks ++ g.0 ∷ []) done.1, (let z = done.3 in omega arith)))
+    AreTaken-left order (g' ∷ gs) g old mid homes placements left tests one (inl (first, mid', n, rest, m, here, later, joined, counted)) refused =
+        inl (
+          first,
+          mid',
+          n,
+          rest,
+          m + one,
+          here,
+          AreTaken-left order gs g (record { bins = mid'; homes = (g'.0, here.here) ∷ old.homes }) mid homes rest left m one later refused,
+          joined,
+          omega arith,
+        )
+    AreTaken-left order (g' ∷ gs) g old mid homes placements left tests one (inr (n, rest, m, first, later, named, counted)) refused =
+        inr (
+          n,
+          rest ++ g.0 ∷ [],
+          m + one,
+          first,
+          AreTaken-left order gs g old mid homes placements rest m one later refused,
+          ap (λ ks. ks ++ g.0 ∷ []) named,
+          omega arith,
+        )
 
   -- a packing stops at a group that is refused
   pub StopsAfter-at : {K : Type 0} (excludes : List (K × B) → K → B → Bool) (order : List B) (groups gs : List (K × Members Id)) (next : K × Members Id)
@@ -243,16 +290,37 @@ AreLastPlacements-more {Id} {B} {cmp} bin_cmp o placements p key bin old new asc
       location = l.location;
     }
 
--- one placement for each member
+-- one placement for each member of a group that is placed
+IsPlaced-length : {Id B : Type 0} (rules : Rules Id B) (excluded : B → Bool) (order : List B) (group : Members Id) (old : List (B × Bin))
+    (placements : List (Placement Id B)) (new : List (B × Bin)) (tests : ℕ) → IsPlaced rules excluded order group old placements new tests
+    → length placements ≡ length group.sizes
+IsPlaced-length {Id} {B} rules excluded order group old placements new tests placed =
+    sym (length-map placements (λ (p : Placement Id B). p.location)) ∙ ap length placed.named.at
+    ∙ sym (IsDone-length rules.may placed.bin.sections group.sizes placed.locations placed.last placed.count placed.done)
+
+-- so one for each member, where all are placed
 pub AreAllPlaced-length : {Id B K : Type 0} (rules : Rules Id B) (excludes : List (K × B) → K → B → Bool) (order : List B) (gs : List (K × Members Id))
     (old new : Stage K B) (placements : List (Placement Id B)) (tests : ℕ)
     → AreAllPlaced rules excludes order gs old placements new tests → length placements ≡ members_in gs
 AreAllPlaced-length rules excludes order [] old new placements tests h = rw h.0 refl
 AreAllPlaced-length {Id} {B} {K} rules excludes order (g ∷ gs) old new placements tests (first, next, one, rest, others, placed, later, joined, counted) =
-    let here : length first ≡ length g.1.sizes = sym (length-map first (λ (p : Placement Id B). p.location)) ∙ ap length placed.named.at
-    ∙ sym (IsDone-length rules.may placed.bin.sections g.1.sizes placed.locations placed.last placed.count placed.done) in
+    let here = IsPlaced-length rules (excludes old.homes g.0) order g.1 old.bins first next one placed in
     let tail = AreAllPlaced-length rules excludes order gs (record { bins = next; homes = (g.0, placed.here) ∷ old.homes }) new rest others later in
     omega (arith, ap length joined, length-append first rest, here, tail, sum_by-cons (λ (m : K × Members Id). length m.1.sizes) g gs)
+
+-- and where groups may be left, no more
+pub AreTaken-length : {Id B K : Type 0} (rules : Rules Id B) (excludes : List (K × B) → K → B → Bool) (order : List B) (gs : List (K × Members Id))
+    (old new : Stage K B) (placements : List (Placement Id B)) (left : List K) (tests : ℕ)
+    → AreTaken rules excludes order gs old placements left new tests → length placements ≤ members_in gs
+AreTaken-length rules excludes order [] old new placements left tests h = omega (arith, ap length h.0)
+AreTaken-length {Id} {B} {K} rules excludes order (g ∷ gs) old new placements left tests
+    (inl (first, next, one, rest, others, placed, later, joined, counted)) =
+    let here = IsPlaced-length rules (excludes old.homes g.0) order g.1 old.bins first next one placed in
+    let tail = AreTaken-length rules excludes order gs (record { bins = next; homes = (g.0, placed.here) ∷ old.homes }) new rest left others later in
+    omega (arith, ap length joined, length-append first rest, here, tail, sum_by-cons (λ (m : K × Members Id). length m.1.sizes) g gs)
+AreTaken-length {Id} {B} {K} rules excludes order (g ∷ gs) old new placements left tests (inr (one, rest, others, refused, later, named, counted)) =
+    let tail = AreTaken-length rules excludes order gs old new placements rest others later in
+    omega (arith, tail, sum_by-cons (λ (m : K × Members Id). length m.1.sizes) g gs)
 
 -- the entries that an order names are those of its groups
 pub AreGroups-length : {Id K : Type 0} (cmp : Id → Id → Ordering) (group_cmp : K → K → Ordering) (sizes : List (Id × Size)) (lists : List (K × List Id))

@@ -34,7 +34,7 @@ module _ {Id B : Type 0} (rules : Rules Id B) (o : IsTotalOrder rules.bin_cmp) w
 
   module _ {K : Type 0} (excludes : List (K × B) → K → B → Bool) where
     -- a group that is refused is taken by no bin
-    none_takes : (bin_order : List (ℕ × B)) (old : Stage K B) (new : Stage K B) (beginning : List (K × Members Id)) (placements : List (Placement Id B))
+    pub none_takes : (bin_order : List (ℕ × B)) (old : Stage K B) (new : Stage K B) (beginning : List (K × Members Id)) (placements : List (Placement Id B))
         (tests : ℕ) (excluded : B → Bool) (group : Members Id) (count : ℕ)
         → ((x y : B) → rules.bin_cmp x y ≡ Equal → excluded x ≡ excluded y)
         → IsBinOrder rules.may.rate rules.bin_cmp old.bins bin_order
@@ -67,6 +67,13 @@ one_stuck may sections sizes size n one h = by (subst (λ ms. IsStuck may sectio
     by (inl none) = none.0
     by (inr some) = absurd some.5
 
+-- a bin that is not excluded and does not take a group of one box: none of its sections holds the box
+pub none_held : {Id B : Type 0} (rules : Rules Id B) (excluded : B → Bool) (bins : List (B × Bin)) (group : Members Id) (size : Size) (id : B) (bin : Bin)
+    → group.sizes ≡ size ∷ [] → excluded id ≡ false → lookup (is_at (rules.bin_cmp id)) bins ≡ Some bin
+    → (n : ℕ) × DoesNotTake rules excluded bins group id n → All (λ s. ¬ Holds s size) bin.sections
+none_held rules excluded bins group size id bin one allowed found (n, passed) =
+    one_stuck rules.may bin.sections group.sizes size n one (rw (allowed, found) at passed)
+
 module _ {Id B G : Type 0} (group_cmp : Group G Id → Group G Id → Ordering) (rules : Rules Id B) (o : IsTotalOrder rules.bin_cmp) (all : Collection Id G) where
   -- the refused group of a packing is taken by no bin, as the groups before it left them
   pub taken_nowhere : (old new : List (B × Bin)) (refused : PackingRefused group_cmp rules all old new) (id : B)
@@ -90,8 +97,5 @@ module _ {Id B G : Type 0} (group_cmp : Group G Id → Group G Id → Ordering) 
       let order = map (λ (entry : ℕ × B). entry.1) refused.bin_order in
       let keys = sym (keys-placed rules excludes order stops.beginning (at_start old) stops.placements
       (record { bins = new; homes = stops.homes }) stops.first stops.placed) in
-      by (taken_nowhere old new refused id (is_some-keys (is_at (rules.bin_cmp id)) old new keys ∙ rw found refl))
-    where
-      by : (n : ℕ) × DoesNotTake rules (excludes_by group_cmp rules.bin_cmp all.partners refused.stops.homes refused.stops.next.0) new refused.stops.next.1 id n
-          → All (λ s. ¬ Holds s size) bin.sections
-      by passed = one_stuck rules.may bin.sections refused.stops.next.1.sizes size passed.0 one (rw (allowed, found) at passed.1)
+      none_held rules (excludes stops.homes stops.next.0) new stops.next.1 size id bin one allowed found
+      (taken_nowhere old new refused id (is_some-keys (is_at (rules.bin_cmp id)) old new keys ∙ rw found refl))

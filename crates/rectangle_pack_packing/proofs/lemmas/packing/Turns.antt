@@ -1,13 +1,14 @@
 -- One turn of the loops over bins and over groups.
 use Rattle.rectangle_pack_sections.proofs.Std.{◌≡◌, ℕ, ◌+◌, ◌<◌, Bool, true, false, List, [], ◌∷◌, ◌++◌, length, take, get_or, map, sum, refl, sym, ◌∙◌, ap, arith}
-use Rattle.rectangle_pack_sections.proofs.Std.{AllZip, Bor, Option, Result, subst, sum_by_push}
+use Rattle.rectangle_pack_sections.proofs.Std.{AllZip, Bor, Option, Result, subst, sum_by_push, append-nil}
 use Rattle.rectangle_pack_sections.specs.Bins.{Bin}
 use Rattle.rectangle_pack_lists.specs.Numbers.{saturated}
 use Rattle.rectangle_pack_packing.specs.declared.answer.Placement.{Placement}
-use Rattle.rectangle_pack_packing.specs.Packing.{Rules, Members, Stage, IsStuckIn, DoesNotTake, IsPlaced, AreAllPlaced}
+use Rattle.rectangle_pack_packing.specs.Fitting.{AreTaken}
+use Rattle.rectangle_pack_packing.specs.Packing.{Rules, Members, Stage, IsStuckIn, DoesNotTake, IsPlaced, IsRefused}
 use Rattle.rectangle_pack_packing.specs.private.OnItsWay.{OnItsWay, IsGroupTried}
 use Rattle.rectangle_pack_packing.proofs.lemmas.packing.Orders.{AllZip-next, map-take_more}
-use Rattle.rectangle_pack_packing.proofs.lemmas.packing.Groups.{AreAllPlaced-push}
+use Rattle.rectangle_pack_packing.proofs.lemmas.packing.Groups.{AreTaken-placed, AreTaken-left}
 
 -- none added to a count that tests were added to before
 pub saturated-none : (before mid : ℕ) → mid ≡ saturated before → mid ≡ saturated (mid + 0)
@@ -60,20 +61,36 @@ module _ {Id B : Type 0} (rules : Rules Id B) where
         saturated-later before after (sum (passed.0 ++ count ∷ [])) all,
       )
 
-  -- the next group of an order is placed too
-  pub AreAllPlaced-turn : {K G : Type 0} (excludes : List (K × B) → K → B → Bool) (f : G → K × Members Id) (groups : List G) (i : ℕ) (g : G)
-      (order names : List B) (old : Stage K B) (mid : List (B × Bin)) (homes : List (K × B)) (next : List (B × Bin))
-      (before added after : List (Placement Id B)) (tests one : ℕ) → i < length groups → g ≡ get_or groups i g → order ≡ names
-      → AreAllPlaced rules excludes names (map f (take i groups)) old before (record { bins = mid; homes = homes }) tests
-      → (p : IsPlaced rules (excludes homes (f g).0) order (f g).1 mid added next one) → after ≡ before ++ added
-      → AreAllPlaced rules excludes names (map f (take (i + 1) groups)) old after (record { bins = next; homes = ((f g).0, p.here) ∷ homes }) (tests + one)
-  AreAllPlaced-turn {K} excludes f groups i g order names old mid homes next before added after tests one within is same done p joined =
-      let begun = subst (λ (ns : List B). AreAllPlaced rules excludes ns (map f (take i groups)) old before (record { bins = mid; homes = homes }) tests)
-      (sym same) done in
-      rw (map-take_more f groups i g within is)
-      (subst (λ (ns : List B). AreAllPlaced rules excludes ns (map f (take i groups) ++ f g ∷ []) old after
-      (record { bins = next; homes = ((f g).0, p.here) ∷ homes }) (tests + one)) same
-      (rw joined (AreAllPlaced-push rules excludes order (map f (take i groups)) (f g) old mid homes next before added tests one begun p)))
+  module _ {K G : Type 0} (excludes : List (K × B) → K → B → Bool) (f : G → K × Members Id) (groups : List G) (i : ℕ) (g : G)
+      (order names : List B) (old : Stage K B) (mid : List (B × Bin)) (homes : List (K × B)) (next : List (B × Bin)) where
+    -- the next group of an order is placed too
+    pub AreTaken-turn : (before added after : List (Placement Id B)) (left : List K) (tests one : ℕ)
+        → i < length groups → g ≡ get_or groups i g → order ≡ names
+        → AreTaken rules excludes names (map f (take i groups)) old before left (record { bins = mid; homes = homes }) tests
+        → (p : IsPlaced rules (excludes homes (f g).0) order (f g).1 mid added next one) → after ≡ before ++ added
+        → AreTaken rules excludes names (map f (take (i + 1) groups)) old after left (record { bins = next; homes = ((f g).0, p.here) ∷ homes }) (tests + one)
+    AreTaken-turn before added after left tests one within is same done p joined =
+        let begun = subst (λ (ns : List B). AreTaken rules excludes ns (map f (take i groups)) old before left (record { bins = mid; homes = homes }) tests)
+        (sym same) done in
+        rw (map-take_more f groups i g within is)
+        (subst (λ (ns : List B). AreTaken rules excludes ns (map f (take i groups) ++ f g ∷ []) old after left
+        (record { bins = next; homes = ((f g).0, p.here) ∷ homes }) (tests + one)) same
+        (rw joined (AreTaken-placed rules excludes order (map f (take i groups)) (f g) old mid homes next before added left tests one begun p)))
+
+    -- or it is left
+    pub AreTaken-turn_left : (before after : List (Placement Id B)) (left more : List K) (tests one : ℕ)
+        → i < length groups → g ≡ get_or groups i g → order ≡ names
+        → AreTaken rules excludes names (map f (take i groups)) old before left (record { bins = mid; homes = homes }) tests
+        → IsRefused rules (excludes homes (f g).0) order (f g).1 mid one → next ≡ mid → after ≡ before ++ [] → more ≡ left ++ (f g).0 ∷ []
+        → AreTaken rules excludes names (map f (take (i + 1) groups)) old after more (record { bins = next; homes = homes }) (tests + one)
+    AreTaken-turn_left before after left more tests one within is same done refused stays none added =
+        let begun = subst (λ (ns : List B). AreTaken rules excludes ns (map f (take i groups)) old before left (record { bins = mid; homes = homes }) tests)
+        (sym same) done in
+        rw (map-take_more f groups i g within is)
+        (subst (λ (ns : List B). AreTaken rules excludes ns (map f (take i groups) ++ f g ∷ []) old after more
+        (record { bins = next; homes = homes }) (tests + one)) same
+        (rw (stays, none, append-nil before, added)
+        (AreTaken-left rules excludes order (map f (take i groups)) (f g) old mid homes before left tests one begun refused)))
 
 -- a group is tried alike by an equal policy, with equal excluded bins and members
 pub tried-alike : {Id B R E : Type 0} (rules : R → Rules Id B) (p q : R) (read excluded : B → Bool) (given own : Members Id) (old new : OnItsWay Id B R)

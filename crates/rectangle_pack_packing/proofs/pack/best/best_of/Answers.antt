@@ -3,7 +3,7 @@ use borrow.Author.Count.{falls}
 use Rattle.rectangle_pack_sections.specs.declared.box_size_heuristics.named.Heuristic.TheVariants.{Volume}
 use Rattle.rectangle_pack_sections.proofs.lemmas.groups.GroupOrder.{groups_total}
 use Rattle.rectangle_pack_sections.specs.Bins.{bins_of}
-use Rattle.rectangle_pack_packing.proofs.lemmas.best.Steps.{best-after_refused, best-after_done}
+use Rattle.rectangle_pack_packing.proofs.lemmas.best.Steps.{packings-compared, best-after_failed, best-after_done}
 use Rattle.rectangle_pack_packing.proofs.pack.best.best_of.Goals.{in-Some, in_default}
 use Rattle.rectangle_pack_packing.proofs.pack.best.best_of.Goals as goal
 
@@ -16,18 +16,17 @@ loop-heuristic-preserved g c =
     let found = c.loop-heuristic.best in
     let same = c.try_with.ensures.same ∙ inv.0 in
     let groups = groups_total _ g.Id.Ord.cmp g.GroupId.Ord.cmp g.met.Id.Ord.total g.met.GroupId.Ord.total (λ a b. refl) (λ a b. refl) (λ a b. refl) (λ a b. refl) in
+    let compared = packings-compared groups g.met.Id.Ord.total g.met.BinId.Ord.total c.args.rects_to_place.now (bins_of c.args.target_bins.now.entries) in
     elim c.match-made.branch [
       | in-Some w ↦ (
         same,
         rw (w.best-is, take_more hs i Volume c.loop-heuristic-test.true)
-            (best-after_done groups g.met.Id.Ord.total g.met.BinId.Ord.total c.args.rects_to_place.now (bins_of c.args.target_bins.now.entries) (take i hs)
-            (next, w.in-Some.made) found w.better_of.result inv.1 (rw (w.in-Some.is, inv.0) at c.in_ok-made.ensures.tried) w.better_of.ensures),
+            (best-after_done compared (take i hs) (next, w.in-Some.made) found w.better_of.result inv.1 (rw (w.in-Some.is, inv.0) at c.in_ok-made.ensures.tried) w.better_of.ensures),
       )
       | in_default w ↦ (
         same,
         rw (w.best-is, take_more hs i Volume c.loop-heuristic-test.true)
-            (best-after_refused groups g.met.Id.Ord.total g.met.BinId.Ord.total c.args.rects_to_place.now (bins_of c.args.target_bins.now.entries) (take i hs)
-            next found inv.1 (rw (w.in_default.is, inv.0) at c.in_ok-made.ensures.tried)),
+            (best-after_failed compared (take i hs) next found inv.1 (rw (w.in_default.is, inv.0) at c.in_ok-made.ensures.tried)),
       )
     ]
 

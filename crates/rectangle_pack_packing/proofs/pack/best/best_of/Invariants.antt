@@ -1,6 +1,7 @@
 use Rattle.rectangle_pack_sections.proofs.Std.{◌≡◌, take}
 use Rattle.rectangle_pack_sections.specs.contracts.group.GroupOrd.TheImpl.{ghosts}
 use Rattle.rectangle_pack_sections.specs.Bins.{bins_of}
+use Rattle.rectangle_pack_packing.specs.Best.{IsBetterUse, PacksWith, IsRefusedWith}
 use Rattle.rectangle_pack_packing.proofs.lemmas.best.Steps.{IsBestSoFar}
 use Rattle.rectangle_pack_packing.proofs.pack.best.best_of.Given as goal
 
@@ -10,4 +11,6 @@ invariant-loop-heuristic g l =
     g.GroupId.PartialOrd g.GroupId.PartialOrd-dict g.Id.Ord g.Id.Ord-dict g.Id.Eq g.Id.Eq-dict g.Id.PartialEq g.Id.PartialEq-dict g.Id.PartialOrd
     g.Id.PartialOrd-dict).cmp in
     (bins_of l.target_bins.entries ≡ bins_of l.fn.target_bins.entries)
-    × IsBestSoFar groups g.Id.Ord.cmp g.BinId.Ord.cmp l.rects_to_place (bins_of l.fn.target_bins.entries) (take l.heuristic-index l.heuristics) l.best
+    × IsBestSoFar (IsRefusedWith groups g.Id.Ord.cmp g.BinId.Ord.cmp l.rects_to_place (bins_of l.fn.target_bins.entries))
+    (PacksWith groups g.Id.Ord.cmp g.BinId.Ord.cmp l.rects_to_place (bins_of l.fn.target_bins.entries)) IsBetterUse
+    (take l.heuristic-index l.heuristics) l.best

@@ -1,9 +1,10 @@
-use Rattle.rectangle_pack_sections.proofs.Std.{◌∙◌, Ordering}
+use Rattle.rectangle_pack_sections.proofs.Std.{◌∙◌, ap, map, Bor, Ordering}
 use Rattle.rectangle_pack_sections.specs.declared.group.Group.{Group}
 use Rattle.rectangle_pack_sections.specs.contracts.group.GroupOrd.TheImpl.{ghosts}
+use Rattle.rectangle_pack_packing.specs.Fitting.{names_left}
 use Rattle.rectangle_pack_packing.specs.Packing.{Rules, rules_by}
 use Rattle.rectangle_pack_packing.proofs.lemmas.packing.Groups.{HasSizes-order}
-use Rattle.rectangle_pack_packing.proofs.lemmas.packing.InOrder.{AreInOrder, AreInOrder-from, packing-tried}
+use Rattle.rectangle_pack_packing.proofs.lemmas.packing.InOrder.{AreInOrder, AreInOrder-from, all-tried}
 use Rattle.rectangle_pack_packing.proofs.pack.packing.Packing.place_all.Given.{Over}
 use Rattle.rectangle_pack_packing.proofs.pack.packing.Packing.place_all.Goals.{After-place_groups}
 use Rattle.rectangle_pack_packing.proofs.pack.packing.Packing.place_all.Goals.at as goal_at
@@ -41,16 +42,19 @@ place_groups-requires g c = record {
     placements = c.in_ok-reserve.ensures.items ∙ rw (← c.self.view_is) at c.requires.begun.placements;
     tests = rw (← c.self.view_is) at c.requires.begun.tests;
   };
+  none_left = c.requires.none_left;
 }
 
 pub returns-clause-packed : goal.returns-clause-packed
 returns-clause-packed g c =
     let at = (goal_at.returns-clause-packed g c).After-place_groups in
     rw (← c.self.view_is)
-    (packing-tried (group_cmp g) (by g c.self.inside.policy.now) c.args.rects_to_place.now c.as_slice.result.now c.as_slice-2.result.now
+    (all-tried (group_cmp g) (by g c.self.inside.policy.now) c.args.rects_to_place.now c.as_slice.result.now c.as_slice-2.result.now
     g.met.B.Ord.total
     (record { bins = c.self.inside.bins; policy = c.self.inside.policy.now; placements = c.reserve.new.self.items; tests = c.self.inside.tests })
-    c.place_groups.new.self c.place_groups.result (in_order g at) (rw c.exclusions_of-exclusions.ensures at c.place_groups.ensures.packed))
+    c.place_groups.new.self c.args.on_refusal (names_left c.place_groups.new.left) c.place_groups.result (in_order g at)
+    (λ stop. ap (map (λ (k : Bor (Group g.row.GroupId.Denot g.row.Id.Denot)). k.now)) (c.place_groups.ensures.stops stop)) c.place_groups.ensures.leaves
+    (rw c.exclusions_of-exclusions.ensures at c.place_groups.ensures.packed))
 
 pub returns-clause-start : goal.returns-clause-start
 returns-clause-start g c = rw (← c.self.view_is) c.place_groups.ensures.same.start
