@@ -100,6 +100,13 @@ impl<'b, B: Ord, A: Allocator + Copy> BinsAtWork<'b, B, A> {
         Ok(())
     }
 
+    /// Makes ready for a packing of `boxes` boxes that passes over no bins. Takes no memory.
+    pub fn set_boxes(&mut self, boxes: usize)
+        ensures { self.new ≡ self.old }
+    {
+        self.boxes = boxes;
+    }
+
     /// Passes over bins from this index on, as long as it is known that none of their free sections
     /// holds the box. Nothing changes.
     pub fn pass_over(&self, from: usize, first: &RectToInsert) -> Passed
@@ -198,7 +205,8 @@ impl<'b, B: Ord, A: Allocator + Copy> BinsAtWork<'b, B, A> {
         Ok(())
     }
 
-    /// The bins at the end, all in their map. Takes no memory.
+    /// The bins at the end, all in their map. Asks for no memory, only that long lists be made
+    /// smaller.
     pub fn end(self, end: End) -> BTreeMap<B, TargetBin<A>, A>
         ensures { bins_of result.entries ≡ left_of end self.entry }
     {
@@ -305,7 +313,7 @@ impl<A: Allocator + Copy> BinAtWork<A> {
         BinAtWork { lent }
     }
 
-    // The bin at the end. Takes no memory.
+    // The bin at the end. Asks for no memory, only that a long list be made smaller.
     fn end(self, end: End) -> TargetBin<A>
         ensures { result.bin ≡ left_at end self }
     {

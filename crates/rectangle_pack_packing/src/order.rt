@@ -36,8 +36,8 @@ fn group_key<R: Policy>(sizes: &[RectToInsert], policy: &R) -> u128
     key
 }
 
-// Appends the sizes of the ids.
-fn add_sizes<Id, A>(
+/// Appends the sizes of the ids. Fails only when memory is refused.
+pub fn add_sizes<Id, A>(
     sizes: &mut Vec<RectToInsert, A>,
     ids: &[Id],
     rects: &BTreeMap<Id, RectToInsert, A>,
