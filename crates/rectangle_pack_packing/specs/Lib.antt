@@ -5,6 +5,11 @@ pub mod Packing
 pub mod PackingLaws
 pub mod PackAnswers
 pub mod Best
+pub mod Fitting
+pub mod FittingLaws
+pub mod Told
+pub mod ToldLaws
 pub mod Results
 pub mod PackingTexts
+pub mod ToldTexts
 pub mod private

@@ -8,3 +8,5 @@ pub mod BinsAtWork
 pub mod PassedOver
 pub mod OnItsWay
 pub mod Ends
+pub mod Choices
+pub mod ToldOnItsWay

@@ -16,6 +16,9 @@ ghost use Rattle.rectangle_pack_sections.specs.SmallestBox.{IsSmallestOrder};
 ghost use Rattle.rectangle_pack_packing.specs.Results.{ClosuresDecide, either_of, AreBinsAlike, ArePlacementsAlike, AreLocationsAlike, HaveOneResult};
 ghost use Rattle.rectangle_pack_sections.specs.Alike.{AreCollectionsAlike};
 
+pub mod fitting;
+pub mod told;
+
 use rectangle_pack_sections::box_size_heuristics::Heuristic;
 use rectangle_pack_sections::group::Group;
 use rectangle_pack_sections::width_height_depth::WidthHeightDepth;

@@ -26,7 +26,7 @@ use Rattle.rectangle_pack_sections.proofs.lemmas.util.Zips.{All-from_zip, All-al
 use Rattle.rectangle_pack_packing.proofs.lemmas.determinism.OneOrder.{one_group_order, one_bin_order}
 
 -- equal ids with the same sizes, under names that are equal
-record AreGroupsAlike {Id K : Type 0} (group_cmp : K → K → Ordering) (cmp : Id → Id → Ordering) (g h : K × Members Id) : Type 0 where
+pub record AreGroupsAlike {Id K : Type 0} (group_cmp : K → K → Ordering) (cmp : Id → Id → Ordering) (g h : K × Members Id) : Type 0 where
   pub name : group_cmp g.0 h.0 ≡ Equal
   pub ids : AllZip (λ x y. cmp x y ≡ Equal) g.1.ids h.1.ids
   pub sizes : g.1.sizes ≡ h.1.sizes
@@ -49,7 +49,7 @@ module _ {Id K : Type 0} (group_cmp : K → K → Ordering) (cmp : Id → Id →
       × AllZip (λ id size. lookup (is_at (cmp id)) sizes ≡ Some size) group.1.ids group.1.sizes
 
   -- orders that are alike name groups that are alike
-  one_groups : (order1 order2 : List (ℕ × K)) (g1 g2 : List (K × Members Id)) → AllZip (λ a b. group_cmp a.1 b.1 ≡ Equal) order1 order2
+  pub one_groups : (order1 order2 : List (ℕ × K)) (g1 g2 : List (K × Members Id)) → AllZip (λ a b. group_cmp a.1 b.1 ≡ Equal) order1 order2
       → AreGroups cmp group_cmp sizes1 lists1 order1 g1 → AreGroups cmp group_cmp sizes2 lists2 order2 g2 → AllZip (AreGroupsAlike group_cmp cmp) g1 g2
   one_groups order1 order2 g1 g2 h p q =
       let Alike : List Id → List Id → Type 0 = λ u v. AllZip (λ i j. cmp i j ≡ Equal) u v in
@@ -90,26 +90,26 @@ abbrev pub MayBeCutIn : List Bin → Bin → Type 0
 MayBeCutIn bins bin = All (MayBeCut bins) bin.sections
 
 -- the sections of a bin that a look-up finds may be cut up
-found_met : {B : Type 0} (bin_cmp : B → B → Ordering) (bins : List Bin) (old : List (B × Bin)) (id : B) (bin : Bin) → lookup (is_at (bin_cmp id)) old ≡ Some bin
+pub found_met : {B : Type 0} (bin_cmp : B → B → Ordering) (bins : List Bin) (old : List (B × Bin)) (id : B) (bin : Bin) → lookup (is_at (bin_cmp id)) old ≡ Some bin
     → All (MayBeCutIn bins) (values_of old) → MayBeCutIn bins bin
 found_met bin_cmp bins old id bin found all = subst (λ (x : Option Bin). IfSome x (MayBeCutIn bins)) found
     (IfSome-lookup_from_All (MayBeCutIn bins) (is_at (bin_cmp id)) old all)
 
 -- the members' sizes are among those of the boxes
-abbrev AreAmong : {Id K : Type 0} → List Size → K × Members Id → Type 0
+abbrev pub AreAmong : {Id K : Type 0} → List Size → K × Members Id → Type 0
 AreAmong boxes g = All (Contains boxes) g.1.sizes
 
 -- equal groups in equal bins
-abbrev AreHomesAlike : {K B : Type 0} → (K → K → Ordering) → (B → B → Ordering) → List (K × B) → List (K × B) → Type 0
+abbrev pub AreHomesAlike : {K B : Type 0} → (K → K → Ordering) → (B → B → Ordering) → List (K × B) → List (K × B) → Type 0
 AreHomesAlike group_cmp bin_cmp xs ys = AreMapsAlike group_cmp (λ a b. bin_cmp a b ≡ Equal) xs ys
 
 -- how far two packings are is alike
-record AreStagesAlike {K B : Type 0} (group_cmp : K → K → Ordering) (bin_cmp : B → B → Ordering) (one two : Stage K B) : Type 0 where
+pub record AreStagesAlike {K B : Type 0} (group_cmp : K → K → Ordering) (bin_cmp : B → B → Ordering) (one two : Stage K B) : Type 0 where
   pub bins : AreBinsAlike bin_cmp one.bins two.bins
   pub homes : AreHomesAlike group_cmp bin_cmp one.homes two.homes
 
 -- equal bins are excluded alike
-abbrev BarAlike : {B : Type 0} → (B → B → Ordering) → (B → Bool) → (B → Bool) → Type 0
+abbrev pub BarAlike : {B : Type 0} → (B → B → Ordering) → (B → Bool) → (B → Bool) → Type 0
 BarAlike {B} bin_cmp excluded1 excluded2 = (a b : B) → bin_cmp a b ≡ Equal → excluded1 a ≡ excluded2 b
 
 -- a packing stops behind the last group, or at a group that is refused
@@ -123,7 +123,7 @@ module _ {Id B : Type 0} (rules : Rules Id B) (boxes : List Size) (bins : List B
   Equals a b = rules.bin_cmp a b ≡ Equal
 
   -- placements of equal ids at the same locations, all in equal bins, are alike
-  named_once : (here other : B) (ps qs : List (Placement Id B)) → Equals here other → AllZip (λ p q. rules.id_cmp p.id q.id ≡ Equal) ps qs
+  pub named_once : (here other : B) (ps qs : List (Placement Id B)) → Equals here other → AllZip (λ p q. rules.id_cmp p.id q.id ≡ Equal) ps qs
       → All (λ p. Equals here p.bin) ps → All (λ q. Equals other q.bin) qs → map (λ p. p.location) ps ≡ map (λ q. q.location) qs
       → ArePlacementsAlike rules.id_cmp rules.bin_cmp ps qs
   named_once here other [] [] e ids h k at = tt
@@ -138,7 +138,7 @@ module _ {Id B : Type 0} (rules : Rules Id B) (boxes : List Size) (bins : List B
   named_once here other ps qs e ids h k at = absurd ids
 
   -- what is left of sections that may be cut may be cut
-  placed_met : (excluded : B → Bool) (order : List B) (g : Members Id) (old m : List (B × Bin)) (ps : List (Placement Id B)) (n : ℕ)
+  pub placed_met : (excluded : B → Bool) (order : List B) (g : Members Id) (old m : List (B × Bin)) (ps : List (Placement Id B)) (n : ℕ)
       → IsPlaced rules excluded order g old ps m n → All (MayBeCutIn bins) (values_of old) → All (MayBeCutIn bins) (values_of m)
   placed_met excluded order g old m ps n p u =
       subst (λ (es : List (B × Bin)). All (MayBeCutIn bins) (values_of es)) (sym p.new_is)
@@ -220,7 +220,7 @@ module _ {Id B : Type 0} (rules : Rules Id B) (boxes : List Size) (bins : List B
       order_from before here after is = split_alike Equals before here after order2 (subst (λ (xs : List B). AllZip Equals xs order2) is order)
 
       -- it is placed alike
-      one_placed : (ps qs : List (Placement Id B)) (m n : List (B × Bin)) (i j : ℕ) → (p : IsPlaced rules bar1 order1 g.1 s.bins ps m i)
+      pub one_placed : (ps qs : List (Placement Id B)) (m n : List (B × Bin)) (i j : ℕ) → (p : IsPlaced rules bar1 order1 g.1 s.bins ps m i)
           → (q : IsPlaced rules bar2 order2 h.1 t.bins qs n j)
           → AreStagesAlike group_cmp rules.bin_cmp (record { bins = m; homes = (g.0, p.here) ∷ s.homes })
           (record { bins = n; homes = (h.0, q.here) ∷ t.homes }) × ArePlacementsAlike rules.id_cmp rules.bin_cmp ps qs
@@ -245,14 +245,14 @@ module _ {Id B : Type 0} (rules : Rules Id B) (boxes : List Size) (bins : List B
           )
 
       -- it is not placed in one packing and refused in the other
-      not_placed_and_refused : (ps : List (Placement Id B)) (m : List (B × Bin)) (i j : ℕ) → IsPlaced rules bar1 order1 g.1 s.bins ps m i
+      pub not_placed_and_refused : (ps : List (Placement Id B)) (m : List (B × Bin)) (i j : ℕ) → IsPlaced rules bar1 order1 g.1 s.bins ps m i
           → IsRefused rules bar2 order2 h.1 t.bins j → ⊥
       not_placed_and_refused ps m i j p r =
           let there = order_from p.before p.here p.after p.order_is in
           placed_there p there.at there.alike (All-middle (Passes bar2 h.1 t.bins) order2 there.front there.back there.at there.splits
           (all_pass bar2 h.1 t.bins order2 r.counts r.passed))
 
-      not_refused_and_placed : (qs : List (Placement Id B)) (n : List (B × Bin)) (i j : ℕ) → IsRefused rules bar1 order1 g.1 s.bins i
+      pub not_refused_and_placed : (qs : List (Placement Id B)) (n : List (B × Bin)) (i j : ℕ) → IsRefused rules bar1 order1 g.1 s.bins i
           → IsPlaced rules bar2 order2 h.1 t.bins qs n j → ⊥
       not_refused_and_placed qs n i j r q = placed_here q (All-middle (Passes bar2 h.1 t.bins) order2 q.before q.after q.here q.order_is
           (all_passed order1 order2 r.counts order r.passed))
@@ -284,7 +284,7 @@ module _ {Id B : Type 0} (rules : Rules Id B) (boxes : List Size) (bins : List B
         (others.0, rw (e1, e2) (AllZip-append _ first1 first2 others1 others2 one.1 others.1), others.2)
 
 -- the sizes that look-ups find are among those of the boxes
-named_among : {Id K : Type 0} (group_cmp : K → K → Ordering) (cmp : Id → Id → Ordering) (sizes : List (Id × Size)) (lists : List (K × List Id))
+pub named_among : {Id K : Type 0} (group_cmp : K → K → Ordering) (cmp : Id → Id → Ordering) (sizes : List (Id × Size)) (lists : List (K × List Id))
     (order : List (ℕ × K)) (gs : List (K × Members Id)) → AreGroups cmp group_cmp sizes lists order gs → All (AreAmong (values_of sizes)) gs
 named_among {Id} group_cmp cmp sizes lists order gs h =
     All-alike _ (λ _. Unit {0}) (AreAmong (values_of sizes)) (λ entry group named _. each group.1.ids group.1.sizes named.2) order gs h.each (λ k d lt. tt)
@@ -295,14 +295,14 @@ named_among {Id} group_cmp cmp sizes lists order gs h =
         (IfSome-lookup_from_All (Contains (values_of sizes)) (is_at (cmp id)) sizes (All-contains_itself (values_of sizes)))) ids xs k (λ k d lt. tt)
 
 -- the sizes of the boxes and of the bins may be rated, and the free sections may be cut
-boxes_rated : (boxes : List Size) (bins : List Bin) → All (MayBeRated boxes bins) boxes
+pub boxes_rated : (boxes : List Size) (bins : List Bin) → All (MayBeRated boxes bins) boxes
 boxes_rated boxes bins = All-weaker (Contains boxes) (MayBeRated boxes bins) (λ size i. inl i) boxes (All-contains_itself boxes)
 
-bins_rated : {B : Type 0} (boxes : List Size) (bins : List (B × Bin)) → All (λ (x : B × Bin). MayBeRated boxes (values_of bins) x.1.size) bins
+pub bins_rated : {B : Type 0} (boxes : List Size) (bins : List (B × Bin)) → All (λ (x : B × Bin). MayBeRated boxes (values_of bins) x.1.size) bins
 bins_rated {B} boxes bins k d lt =
     inr (k, (get_or bins k d).1, simp length-map lt, get_or-map (λ (x : B × Bin). x.1) bins k d (get_or bins k d).1 lt, inl refl)
 
-bins_met : (bins : List Bin) → All (MayBeCutIn bins) bins
+pub bins_met : (bins : List Bin) → All (MayBeCutIn bins) bins
 bins_met bins =
     All-weaker (Contains bins) (MayBeCutIn bins)
     (λ bin i. All-weaker (Contains bin.sections) (MayBeCut bins)
@@ -359,7 +359,7 @@ module _ {Id B G : Type 0} (group_cmp : Group G Id → Group G Id → Ordering) 
     (all1 all2 : Collection Id G) (old1 old2 : List (B × Bin)) (all : AreCollectionsAlike group_cmp rules.id_cmp all1 all2)
     (old : AreBinsAlike rules.bin_cmp old1 old2) (decide : ClosuresDecide (values_of all1.sizes) (values_of old1) rules.may) where
   -- collections that are alike exclude equal bins
-  bar_alike : (homes1 homes2 : List (Group G Id × B)) (g h : Group G Id) → AreHomesAlike group_cmp rules.bin_cmp homes1 homes2 → group_cmp g h ≡ Equal
+  pub bar_alike : (homes1 homes2 : List (Group G Id × B)) (g h : Group G Id) → AreHomesAlike group_cmp rules.bin_cmp homes1 homes2 → group_cmp g h ≡ Equal
       → BarAlike rules.bin_cmp (excludes_by group_cmp rules.bin_cmp all1.partners homes1 g) (excludes_by group_cmp rules.bin_cmp all2.partners homes2 h)
   bar_alike [] [] g h homes names a b e = refl
   bar_alike (x ∷ xs) (y ∷ ys) g h homes names a b e =

@@ -8,6 +8,7 @@ use Rattle.rectangle_pack_sections.specs.Boxes.{Size, Cuboid, Cell, IsInside, Is
 use Rattle.rectangle_pack_sections.specs.Bins.{Bin}
 use Rattle.rectangle_pack_sections.specs.Closures.{Answers}
 use Rattle.rectangle_pack_sections.specs.Counting.{times_filled}
+use Rattle.rectangle_pack_sections.specs.Cuts.{placed}
 use Rattle.rectangle_pack_packing.specs.KeptBins.{locations_in}
 use Rattle.rectangle_pack_packing.specs.Packing.{Rules, Members, Stage, IsPlaced, AreAllPlaced}
 use Rattle.rectangle_pack_lists.specs.Steps.{IsStep, IsDone}
@@ -29,11 +30,6 @@ pub record IsFrame (R : List Cuboid → List Cuboid → Type 0) : Type 0 where
 -- and a step keeps it, with the box that it places
 pub record KeptBySteps (may : Answers) (R : List Cuboid → List Cuboid → Type 0) : Type 0 where
   pub step : (sections : List Cuboid) (m : Size) (l : Cuboid) (next : List Cuboid) (n : ℕ) → IsStep may sections m l next n → R sections (next ++ l ∷ [])
-
--- each cell is filled as often as before, and what was inside a bin stays inside
-pub record IsRecut (old new : List Cuboid) : Type 0 where
-  pub cells : (c : Cell) → times_filled c new ≡ times_filled c old
-  pub inside : (size : Size) → All (IsInside size) old → All (IsInside size) new
 
 -- what is enough for a frame: the order of a list does not matter, it goes on from one change to the next, boxes may stand
 -- behind, and a first box without cells may go
@@ -65,19 +61,55 @@ IsFrame-loose loose = record {
     in_front : (free before after : List Cuboid) (box : Cuboid) → IsPermutation (free ++ (before ++ box ∷ after)) (free ++ box ∷ (before ++ after))
     in_front free before after box = IsPermutation-append_right free (before ++ box ∷ after) (box ∷ (before ++ after)) (IsPermutation-middle before box after)
 
+-- what holds of all boxes before, holds of all after
+abbrev pub Passes : (Cuboid → Type 0) → List Cuboid → List Cuboid → Type 0
+Passes P old new = All P old → All P new
+
+IsLoose-passes : (P : Cuboid → Type 0) → IsLoose (Passes P)
+IsLoose-passes P = record {
+  moves = λ xs ys moved. All-permutation P xs ys moved;
+  next = λ a b d first next h. next (first h);
+  behind = λ a b z h az. All-append P b z (h (All-front P a z az)) (All-back P a z az);
+  drops = λ box xs empty. All-tail P box xs;
+}
+
+pub IsFrame-passes : (P : Cuboid → Type 0) → IsFrame (Passes P)
+IsFrame-passes P = IsFrame-loose {R = Passes P} (IsLoose-passes P)
+
+-- a step keeps what passes from a box to each part of it
+pub KeptBySteps-passes : (may : Answers) (P : Cuboid → Type 0) → ((b s : Cuboid) → IsPartOf b s → P s → P b) → KeptBySteps may (Passes P)
+KeptBySteps-passes may P parts = record {
+  step = λ sections m l next n step h.
+      let here : P step.section = All-middle P sections step.before step.after step.section step.splits h in
+      let fits = step.held in
+      let part : IsPartOf (placed step.section m) step.section = record {
+        from_x = omega arith;
+        to_x = omega arith;
+        from_y = omega arith;
+        to_y = omega arith;
+        from_z = omega arith;
+        to_z = omega arith;
+      } in
+      let at : P l = rw step.location_is (parts (placed step.section m) step.section part here) in
+      All-push P next l (IsStep-keeps may P sections m l next n parts step h) at;
+}
+
+-- each cell is filled as often as before, and what was inside a bin stays inside
+pub record IsRecut (old new : List Cuboid) : Type 0 where
+  pub cells : (c : Cell) → times_filled c new ≡ times_filled c old
+  pub inside : (size : Size) → All (IsInside size) old → All (IsInside size) new
+
 pub IsLoose-recut : IsLoose IsRecut
 IsLoose-recut = record {
-  moves = λ xs ys moved. record { cells = λ c. filled-permutation c xs ys moved; inside = λ size. All-permutation (IsInside size) xs ys moved };
+  moves = λ xs ys moved. record { cells = λ c. filled-permutation c xs ys moved; inside = λ size. (IsLoose-passes (IsInside size)).moves xs ys moved };
   next = λ a b d first next. record { cells = λ c. next.cells c ∙ first.cells c; inside = λ size h. next.inside size (first.inside size h) };
   behind = λ a b z h. record {
     cells = λ c. omega (arith, h.cells c, filled-append c a z, filled-append c b z);
-    inside = λ size az.
-        let P : Cuboid → Type 0 = IsInside size in
-        All-append P b z (h.inside size (All-front P a z az)) (All-back P a z az);
+    inside = λ size. (IsLoose-passes (IsInside size)).behind a b z (h.inside size);
   };
   drops = λ box xs empty. record {
     cells = λ c. omega (arith, filled-cons c box xs, filled_none c box empty);
-    inside = λ size. All-tail (IsInside size) box xs;
+    inside = λ size. (IsLoose-passes (IsInside size)).drops box xs empty;
   };
 }
 
@@ -88,14 +120,8 @@ pub KeptBySteps-recut : (may : Answers) → KeptBySteps may IsRecut
 KeptBySteps-recut may = record {
   step = λ sections m l next n step. record {
     cells = λ c. omega (arith, filled-append c next (l ∷ []), filled-step may c sections m l next n step);
-    inside = λ size h.
-        let P : Cuboid → Type 0 = IsInside size in
-        let here : P step.section = All-middle P sections step.before step.after step.section step.splits h in
-        let fits = step.held in
-        let at : P l = rw step.location_is (record { within_x = omega arith; within_y = omega arith; within_z = omega arith }) in
-        let parts : (b s : Cuboid) → IsPartOf b s → P s → P b = λ b s part inside.
-        record { within_x = omega arith; within_y = omega arith; within_z = omega arith } in
-        All-push P next l (IsStep-keeps may P sections m l next n parts step h) at;
+    inside = λ size. (KeptBySteps-passes may (IsInside size)
+        (λ b s part inside. record { within_x = omega arith; within_y = omega arith; within_z = omega arith })).step sections m l next n step;
   };
 }
 
@@ -115,6 +141,20 @@ pub record IsChanged {Id B : Type 0} (R : List Cuboid → List Cuboid → Type 0
   pub found : lookup (is_at (bin_cmp id)) new ≡ Some after
   pub kept : after ≡ record before { sections = after.sections }
   pub framed : R before.sections (after.sections ++ locations_in bin_cmp placements id)
+
+-- one change after another
+pub IsChanged-next : {R : List Cuboid → List Cuboid → Type 0} → IsFrame R → {Id B : Type 0} (bin_cmp : B → B → Ordering)
+    (first later placements : List (Placement Id B)) (next new : List (B × Bin)) (id : B) (before : Bin)
+    → (head : IsChanged R bin_cmp first next id before) → IsChanged R bin_cmp later new id head.after → placements ≡ first ++ later
+    → IsChanged R bin_cmp placements new id before
+IsChanged-next frame bin_cmp first later placements next new id before head tail joined = record {
+  after = tail.after;
+  found = tail.found;
+  kept = tail.kept ∙ ap (λ (b : Bin). record b { sections = tail.after.sections }) head.kept;
+  framed = rw (joined, locations_in-append bin_cmp first later id)
+      (frame.next before.sections head.after.sections (locations_in bin_cmp first id) tail.after.sections (locations_in bin_cmp later id)
+      head.framed tail.framed);
+}
 
 module _ {R : List Cuboid → List Cuboid → Type 0} (frame : IsFrame R) {Id B : Type 0} (rules : Rules Id B) (o : IsTotalOrder rules.bin_cmp)
     (kept : KeptBySteps rules.may R) where
@@ -161,11 +201,4 @@ module _ {R : List Cuboid → List Cuboid → Type 0} (frame : IsFrame R) {Id B 
     changed-all order (g ∷ gs) old placements new n (first, next, one, rest, others, placed, later, joined, counted) q before was =
         let head = changed-placed (excludes old.homes g.0) order g.1 old.bins first next one placed q before was in
         let tail = changed-all order gs (record { bins = next; homes = (g.0, placed.here) ∷ old.homes }) rest new others later q head.after head.found in
-        record {
-          after = tail.after;
-          found = tail.found;
-          kept = tail.kept ∙ ap (λ (b : Bin). record b { sections = tail.after.sections }) head.kept;
-          framed = rw (joined, locations_in-append rules.bin_cmp first rest q)
-              (frame.next before.sections head.after.sections (locations_in rules.bin_cmp first q) tail.after.sections (locations_in rules.bin_cmp rest q)
-              head.framed tail.framed);
-        }
+        IsChanged-next frame rules.bin_cmp first rest placements next new.bins q before head tail joined

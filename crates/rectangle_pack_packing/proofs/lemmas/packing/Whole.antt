@@ -3,8 +3,9 @@ use Rattle.rectangle_pack_sections.proofs.Std.{◌≡◌, ℕ, List, [], ◌∷�
 use Rattle.rectangle_pack_sections.proofs.Std.{lookup, is_at, reverse-append, append-nil}
 use Rattle.rectangle_pack_packing.specs.declared.answer.Placement.{Placement}
 use Rattle.rectangle_pack_sections.specs.Boxes.{Size}
-use Rattle.rectangle_pack_packing.specs.Placed.{ArePlacedWhole}
-use Rattle.rectangle_pack_packing.specs.Packing.{Rules, Members, Stage, AreGroups, AreAllPlaced}
+use Rattle.rectangle_pack_sections.specs.Bins.{Bin}
+use Rattle.rectangle_pack_packing.specs.Placed.{ArePlacedIn, ArePlacedWhole}
+use Rattle.rectangle_pack_packing.specs.Packing.{Rules, Members, Stage, AreGroups, IsPlaced, AreAllPlaced}
 use Rattle.rectangle_pack_packing.proofs.lemmas.packing.Groups.{IsDone-sizes}
 use Rattle.rectangle_pack_sections.proofs.lemmas.util.Zips.{AllZip-equal}
 
@@ -20,16 +21,32 @@ entries cmp sizes (id ∷ ids) (p ∷ ps) (s ∷ ss) named sized e =
     let here : p.location.whd ≡ s = cc in
     ((named.0, sized.0 ∙ ap (λ (size : Size). Some size) (sym here)), entries cmp sizes ids ps ss named.1 sized.1 (cc))
 
+-- the groups that an order names have its names
+pub names_listed : {Id K : Type 0} (cmp : Id → Id → Ordering) (group_cmp : K → K → Ordering) (sizes : List (Id × Size)) (lists : List (K × List Id))
+    (order : List (ℕ × K)) (gs : List (K × Members Id)) → AreGroups cmp group_cmp sizes lists order gs → map (λ g. g.0) gs ≡ map (λ o. o.1) order
+names_listed cmp group_cmp sizes lists order gs listed = AllZip-equal _ (λ o. o.1) (λ g. g.0) (λ o g r. r.0) order gs listed.each
+
+-- a group that is placed is so in one bin, each member in its size
+pub placed_in : {Id B : Type 0} (rules : Rules Id B) (sizes : List (Id × Size)) (excluded : B → Bool) (order : List B) (group : Members Id)
+    (old : List (B × Bin)) (placements : List (Placement Id B)) (new : List (B × Bin)) (tests : ℕ)
+    (placed : IsPlaced rules excluded order group old placements new tests)
+    → AllZip (λ id size. lookup (is_at (rules.id_cmp id)) sizes ≡ Some size) group.ids group.sizes
+    → ArePlacedIn rules.id_cmp rules.bin_cmp sizes group.ids placed.here placements
+placed_in rules sizes excluded order group old placements new tests placed known =
+    let sized : map (λ l. l.whd) (map (λ p. p.location) placements) ≡ group.sizes =
+    ap (map (λ l. l.whd)) placed.named.at ∙ IsDone-sizes rules.may placed.bin.sections group.sizes placed.locations placed.last placed.count placed.done in
+    record { each = entries rules.id_cmp sizes group.ids placements group.sizes placed.named.named known sized; together = placed.named.together }
+
 module _ {Id B K : Type 0} (rules : Rules Id B) (group_cmp : K → K → Ordering) (sizes : List (Id × Size)) (lists : List (K × List Id)) where
   abbrev HaveSizes : List Id → List Size → Type 0
   HaveSizes ids ss = AllZip (λ id size. lookup (is_at (rules.id_cmp id)) sizes ≡ Some size) ids ss
 
   -- the groups are those of the lists, with their sizes
-  abbrev AreKnown : List (K × Members Id) → Type 0
+  abbrev pub AreKnown : List (K × Members Id) → Type 0
   AreKnown [] = Unit {0}
   AreKnown (g ∷ gs) = (lookup (is_at (group_cmp g.0)) lists ≡ Some g.1.ids) × HaveSizes g.1.ids g.1.sizes × AreKnown gs
 
-  known : (order : List (ℕ × K)) (gs : List (K × Members Id))
+  pub known : (order : List (ℕ × K)) (gs : List (K × Members Id))
       → AllZip (λ o g. (g.0 ≡ o.1) × (lookup (is_at (group_cmp o.1)) lists ≡ Some g.1.ids) × HaveSizes g.1.ids g.1.sizes) order gs
       → AreKnown gs
   known [] [] h = tt
@@ -44,7 +61,7 @@ module _ {Id B K : Type 0} (rules : Rules Id B) (group_cmp : K → K → Orderin
     pub names : map (λ h. h.0) added ≡ map (λ g. g.0) groups
     pub whole : ArePlacedWhole rules.id_cmp rules.bin_cmp group_cmp sizes lists added placements
 
-  placed_whole : (excludes : List (K × B) → K → B → Bool) (order : List B) (gs : List (K × Members Id)) (old : Stage K B) (placements : List (Placement Id B))
+  pub placed_whole : (excludes : List (K × B) → K → B → Bool) (order : List B) (gs : List (K × Members Id)) (old : Stage K B) (placements : List (Placement Id B))
       (new : Stage K B) (n : ℕ)
       → AreKnown gs → AreAllPlaced rules excludes order gs old placements new n → AddsHomes gs placements old.homes new.homes
   placed_whole excludes order [] old placements new n k h =
@@ -53,8 +70,6 @@ module _ {Id B K : Type 0} (rules : Rules Id B) (group_cmp : K → K → Orderin
   placed_whole excludes order (g ∷ gs) old placements new n k (first, next, one, later, others, placed, rest, joined, count) =
       let home : K × B = (g.0, placed.here) in
       let ih = placed_whole excludes order gs (record { bins = next; homes = home ∷ old.homes }) later new others k.2 rest in
-      let sized : map (λ l. l.whd) (map (λ p. p.location) first) ≡ g.1.sizes =
-      ap (map (λ l. l.whd)) placed.named.at ∙ IsDone-sizes rules.may placed.bin.sections g.1.sizes placed.locations placed.last placed.count placed.done in
       record {
         added = home ∷ ih.added;
         homes =
@@ -67,7 +82,7 @@ module _ {Id B K : Type 0} (rules : Rules Id B) (group_cmp : K → K → Orderin
           first,
           later,
           k.0,
-          record { each = entries rules.id_cmp sizes g.1.ids first g.1.sizes placed.named.named k.1 sized; together = placed.named.together },
+          placed_in rules sizes (excludes old.homes g.0) order g.1 old.bins first next one placed k.1,
           ih.whole,
           joined,
         );
@@ -79,5 +94,5 @@ module _ {Id B K : Type 0} (rules : Rules Id B) (group_cmp : K → K → Orderin
       → AddsHomes gs placements old.homes new.homes × (map (λ g. g.0) gs ≡ map (λ o. o.1) names)
   all_whole excludes names order gs old placements new n listed placed = (
     placed_whole excludes order gs old placements new n (known names gs listed.each) placed,
-    AllZip-equal _ (λ o. o.1) (λ g. g.0) (λ o g r. r.0) names gs listed.each,
+    names_listed rules.id_cmp group_cmp sizes lists names gs listed,
   )
