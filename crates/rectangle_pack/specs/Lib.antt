@@ -31,8 +31,11 @@ pub use Rattle.rectangle_pack_packing.specs.KeptBins
 pub use Rattle.rectangle_pack_packing.specs.Packing
 pub use Rattle.rectangle_pack_packing.specs.PackAnswers
 pub use Rattle.rectangle_pack_packing.specs.Best
+pub use Rattle.rectangle_pack_packing.specs.Fitting as WhatFits
+pub use Rattle.rectangle_pack_packing.specs.Told
 pub use Rattle.rectangle_pack_packing.specs.Results
 pub use Rattle.rectangle_pack_packing.specs.PackingTexts
+pub use Rattle.rectangle_pack_packing.specs.ToldTexts
 pub use Rattle.rectangle_pack_plans.specs.CutPlans
 pub use Rattle.rectangle_pack_plans.specs.CuttingAnew
 pub mod private
@@ -48,3 +51,6 @@ pub mod PlacingAt
 pub mod PlacingBest
 pub mod Recutting
 pub mod Releasing
+pub mod SessionFitting
+pub mod SessionTold
+pub mod Reading

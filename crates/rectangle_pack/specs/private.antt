@@ -2,3 +2,4 @@
 pub mod Records
 pub mod Releasing
 pub mod BestPlaces
+pub mod Fitting

@@ -33,14 +33,28 @@ pub mod grouped_rects_to_place {
 
 /// Packing groups of boxes into bins.
 pub mod pack {
-    pub use rectangle_pack_packing::answer::{Placement, RectanglePackError, RectanglePackOk};
+    pub use rectangle_pack_packing::answer::{
+        Fitted, Placement, RectanglePackError, RectanglePackOk,
+    };
+    pub use rectangle_pack_packing::laws::fitting::{
+        first_left_is_refused, fitted_groups_are_apart, fitted_groups_are_placed_whole,
+        fitting_has_one_result, fitting_keeps_cells, left_box_is_held_nowhere, packing_leaves_none,
+    };
+    pub use rectangle_pack_packing::laws::told::{
+        fitting_can_be_told, packing_can_be_told, told_groups_are_apart,
+        told_groups_are_placed_whole, told_packing_has_one_result, told_packing_keeps_cells,
+    };
     pub use rectangle_pack_packing::laws::{
         excluded_groups_are_apart, groups_are_placed_whole, locations_follow_placements,
         named_packing_has_one_result, packing_has_one_result, packing_keeps_cells,
         packing_without_exclusions, preorders_decide, refused_box_is_held_nowhere,
         volume_packing_has_one_result,
     };
-    pub use rectangle_pack_packing::pack::{pack_rects, pack_rects_best, pack_rects_counted};
+    pub use rectangle_pack_packing::pack::told::{Step, StepFault, ToldError, pack_rects_told};
+    pub use rectangle_pack_packing::pack::{
+        pack_rects, pack_rects_best, pack_rects_counted, pack_rects_fitting,
+        pack_rects_fitting_best,
+    };
 }
 
 /// Where a box was placed.
@@ -81,11 +95,16 @@ pub use grouped_rects_to_place::{
     Group, GroupedRectsToPlace, equal_pushes_leave_equal_collections, groups_are_ordered,
 };
 pub use pack::{
-    Placement, RectanglePackError, RectanglePackOk, excluded_groups_are_apart,
-    groups_are_placed_whole, locations_follow_placements, named_packing_has_one_result, pack_rects,
-    pack_rects_best, pack_rects_counted, packing_has_one_result, packing_keeps_cells,
+    Fitted, Placement, RectanglePackError, RectanglePackOk, Step, StepFault, ToldError,
+    excluded_groups_are_apart, first_left_is_refused, fitted_groups_are_apart,
+    fitted_groups_are_placed_whole, fitting_can_be_told, fitting_has_one_result,
+    fitting_keeps_cells, groups_are_placed_whole, left_box_is_held_nowhere,
+    locations_follow_placements, named_packing_has_one_result, pack_rects, pack_rects_best,
+    pack_rects_counted, pack_rects_fitting, pack_rects_fitting_best, pack_rects_told,
+    packing_can_be_told, packing_has_one_result, packing_keeps_cells, packing_leaves_none,
     packing_without_exclusions, preorders_decide, refused_box_is_held_nowhere,
-    volume_packing_has_one_result,
+    told_groups_are_apart, told_groups_are_placed_whole, told_packing_has_one_result,
+    told_packing_keeps_cells, volume_packing_has_one_result,
 };
 pub use packed_location::{PackedLocation, RotatedBy};
 pub use rect_to_insert::RectToInsert;

@@ -3,7 +3,7 @@
 -- Records has the list of the outstanding placements. Upkeep has what the calls that stand beside the commands keep, Growing
 -- bins that grow, PlacingAt boxes at a corner of the caller's choice, PlacingBest boxes where they fit best, Recutting bins
 -- that are cut anew, CutsStay that they stay so until they are coalesced, Releasing placements that are released at once,
--- and ReleasedNumbers their numbers.
+-- and ReleasedNumbers their numbers. Fitting and FittingBest have packings of what fits, Told packings as they are told.
 pub mod Keeps
 pub mod Numbering
 pub mod Records
@@ -20,3 +20,6 @@ pub mod Releasing
 pub mod Recutting
 pub mod PlacingBest
 pub mod CutsStay
+pub mod Fitting
+pub mod FittingBest
+pub mod Told

@@ -163,7 +163,7 @@ module _ {Id B : Type 0} (rules : Rules Id B) (o : IsTotalOrder rules.bin_cmp) {
             (locations_in rules.bin_cmp placements id) (outstanding_in rules.bin_cmp outstanding id) changed.framed));
       }
 
-  IsSession-packed : (order : List B) (gs : List (K × Members Id)) (old new : Stage K B) (placements : List (Placement Id B)) (tests : ℕ)
+  pub IsSession-packed : (order : List B) (gs : List (K × Members Id)) (old new : Stage K B) (placements : List (Placement Id B)) (tests : ℕ)
       (outstanding : List (Outstanding Id B)) (next : ℕ)
       → AreAllPlaced rules excludes order gs old placements new tests
       → IsSession rules.bin_cmp (record { bins = old.bins; outstanding = outstanding; next = next })

@@ -13,6 +13,14 @@ numbered-push {Id} {B} n [] p m h = let same : m ≡ n = omega (arith, h) in rw 
 numbered-push {Id} {B} n (q ∷ ps) p m h = ap (λ (l : List (Outstanding Id B)). record { number = n; id = q.id; bin = q.bin; location = q.location } ∷ l)
     (numbered-push (n + 1) ps p m (omega (arith, h)))
 
+-- those of two lists, one after the other
+pub numbered-append : {Id B : Type 0} (n : ℕ) (ps qs : List (Placement Id B)) → numbered n (ps ++ qs) ≡ numbered n ps ++ numbered (n + length ps) qs
+numbered-append {Id} {B} n [] qs = let same : n ≡ n + length {0} {A = Placement Id B} [] = omega arith in ap (λ m. numbered m qs) same
+numbered-append {Id} {B} n (p ∷ ps) qs =
+    let count : n + 1 + length ps ≡ n + length (p ∷ ps) = omega arith in
+    let r : Outstanding Id B = record { number = n; id = p.id; bin = p.bin; location = p.location } in
+    ap (λ (l : List (Outstanding Id B)). r ∷ l) (numbered-append (n + 1) ps qs ∙ ap (λ m. numbered (n + 1) ps ++ numbered m qs) count)
+
 -- one more placement
 pub numbered-more : {Id B : Type 0} (before outstanding new : List (Outstanding Id B)) (n : ℕ) (ps : List (Placement Id B)) (p : Placement Id B) (m : ℕ)
     → m ≡ n + length ps
