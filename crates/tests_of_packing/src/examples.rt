@@ -4,7 +4,7 @@
 use rectangle_pack::{
     BinSection, FitTests, Group, GroupedRectsToPlace, Heuristic, RectToInsert, RectanglePackOk,
     TargetBin, WidthHeightDepth, contains_smallest_box, pack_rects, pack_rects_best,
-    volume_heuristic, volume_packing_has_one_result,
+    pack_rects_fitting, volume_heuristic, volume_packing_has_one_result,
 };
 use std::alloc::{AllocError, Global};
 use std::collections::BTreeMap;
@@ -71,6 +71,33 @@ fn pack_four_boxes(alloc: Global, rects: &Rects) -> Result<(Heuristic, Packed), 
     bins.insert(0u32, TargetBin::new(alloc, 6, 7, 1)?)?;
     let (best, packed) = pack_rects_best(alloc, &rects, &mut bins, &Heuristic::ALL)?;
     Ok((best, packed))
+}
+
+fn three_squares(alloc: Global) -> Result<Rects, AllocError> {
+    let mut rects: GroupedRectsToPlace<u32, u32> = GroupedRectsToPlace::new(alloc);
+    for (id, side) in [(1, 6), (2, 5), (3, 4)] {
+        rects.push_rect(id, None, RectToInsert::new(side, side, 1))?;
+    }
+    Ok(rects)
+}
+
+#[test]
+fn pack_what_fits(rt: HostRuntime) -> Result<(), Fail> {
+    let alloc = rt.alloc();
+    let rects = three_squares(alloc)?;
+    let mut bins = BTreeMap::new(alloc);
+    bins.insert(0u32, TargetBin::new(alloc, 10, 10, 1)?)?;
+    let fitted = pack_rects_fitting(
+        alloc,
+        &rects,
+        &mut bins,
+        &volume_heuristic,
+        &contains_smallest_box,
+    )?;
+    let ids = fitted.packed.placements().iter().map(|placed| placed.id);
+    assert!(rt; ids.eq([1, 3]));
+    assert_eq!(rt; fitted.left.len(), 1);
+    Ok(())
 }
 
 #[test]

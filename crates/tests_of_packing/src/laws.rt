@@ -2,9 +2,13 @@
 
 use rectangle_pack::{
     contains_smallest_box, equal_pushes_leave_equal_collections, excluded_groups_are_apart,
-    groups_are_ordered, groups_are_placed_whole, locations_follow_placements,
-    packing_has_one_result, packing_keeps_cells, packing_without_exclusions, preorders_decide,
-    refused_box_is_held_nowhere, smallest_box_is_preorder, step_adds_at_most_two,
+    first_left_is_refused, fitted_groups_are_apart, fitted_groups_are_placed_whole,
+    fitting_can_be_told, fitting_has_one_result, fitting_keeps_cells, groups_are_ordered,
+    groups_are_placed_whole, left_box_is_held_nowhere, locations_follow_placements,
+    packing_can_be_told, packing_has_one_result, packing_keeps_cells, packing_leaves_none,
+    packing_without_exclusions, preorders_decide, refused_box_is_held_nowhere,
+    smallest_box_is_preorder, step_adds_at_most_two, told_groups_are_apart,
+    told_groups_are_placed_whole, told_packing_has_one_result, told_packing_keeps_cells,
     trial_keeps_cells, trial_tests_are_bounded, volume_heuristic,
 };
 
@@ -29,6 +33,30 @@ fn of_packings() {
     packing_without_exclusions::<u32, u32, u32, _, _>(&volume_heuristic, &contains_smallest_box);
     groups_are_placed_whole::<u32, u32, u32, _, _>(&volume_heuristic, &contains_smallest_box);
     excluded_groups_are_apart::<u32, u32, u32, _, _>(&volume_heuristic, &contains_smallest_box);
+}
+
+#[test]
+fn of_what_fits() {
+    packing_leaves_none::<u32, u32, u32, _, _>(&volume_heuristic, &contains_smallest_box);
+    first_left_is_refused::<u32, u32, u32, _, _>(&volume_heuristic, &contains_smallest_box);
+    left_box_is_held_nowhere::<u32, u32, u32, _, _>(&volume_heuristic, &contains_smallest_box);
+    fitting_keeps_cells::<u32, u32, u32, _, _>(&volume_heuristic, &contains_smallest_box);
+    fitted_groups_are_placed_whole::<u32, u32, u32, _, _>(
+        &volume_heuristic,
+        &contains_smallest_box,
+    );
+    fitted_groups_are_apart::<u32, u32, u32, _, _>(&volume_heuristic, &contains_smallest_box);
+    fitting_has_one_result::<u32, u32, u32, _, _>(&volume_heuristic, &contains_smallest_box);
+}
+
+#[test]
+fn of_packings_as_told() {
+    fitting_can_be_told::<u32, u32, u32>();
+    packing_can_be_told::<u32, u32, u32>();
+    told_packing_keeps_cells::<u32, u32, u32>();
+    told_groups_are_placed_whole::<u32, u32, u32>();
+    told_groups_are_apart::<u32, u32, u32>();
+    told_packing_has_one_result::<u32, u32, u32>();
 }
 
 // These closures meet the conditions: volumes are one answer on each size, and so the comparison by

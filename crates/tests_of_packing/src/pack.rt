@@ -1,4 +1,5 @@
-//! `pack_rects` and `pack_rects_counted`: packings as data, and what comes of them.
+//! `pack_rects` and `pack_rects_counted`: packings as data, and what comes of them. Other calls that
+//! pack are in modules of their own.
 ghost use Rattle.rectangle_pack.specs.Closures.{AreCallable};
 ghost use Rattle.rectangle_pack.specs.Clones.{ClonesEqual};
 
@@ -32,6 +33,10 @@ mod best;
 mod clones;
 mod closures;
 mod exclusions;
+mod fitting;
+mod fitting_best;
+mod fitting_clones;
+mod fitting_closures;
 mod groups;
 mod large;
 mod long_lists;
@@ -39,6 +44,7 @@ mod many_bins;
 pub mod memory;
 mod placements;
 mod texts;
+mod told;
 mod units;
 
 use rectangle_pack::{
@@ -106,17 +112,25 @@ pub fn add_bin<BinId: Ord + Drop, A: Allocator + Copy>(
     Ok(())
 }
 
+/// Puts in these bins, each new.
+pub fn add_sized<A: Allocator + Copy>(
+    alloc: A,
+    rows: &[SizedBin],
+    bins: &mut Bins<A>,
+) -> Result<(), AllocError> {
+    for (id, size, _) in rows {
+        add_bin(alloc, bins, *id, *size)?;
+    }
+    Ok(())
+}
+
 /// Puts in the bins of the case, each new.
 pub fn add_bins<A: Allocator + Copy>(
     alloc: A,
     case: &Case,
     bins: &mut Bins<A>,
 ) -> Result<(), AllocError> {
-    let rows = case.bins;
-    for (id, size, _) in rows {
-        add_bin(alloc, bins, *id, *size)?;
-    }
-    Ok(())
+    add_sized(alloc, case.bins, bins)
 }
 
 // Whether the bin of this id is there and has this list.
@@ -127,9 +141,8 @@ fn has_bin<A: Allocator + Copy>(bins: &Bins<A>, id: u32, list: &[[u32; 6]]) -> b
     }
 }
 
-// Whether the bins have the lists of the case.
-fn have_lists<A: Allocator + Copy>(bins: &Bins<A>, case: &Case) -> bool {
-    let rows = case.bins;
+/// Whether these are the bins, with these lists.
+pub fn have_lists<A: Allocator + Copy>(bins: &Bins<A>, rows: &[SizedBin]) -> bool {
     for (id, _, list) in rows {
         if !has_bin(bins, *id, list) {
             return false;
@@ -159,13 +172,13 @@ fn is_placed<A: Allocator + Copy>(
         && (placed.id, placed.bin, place(&placed.location)) == *wanted
 }
 
-// Whether the placements are these, in order, and the box of each is found.
-fn has_placements<A: Allocator + Copy>(packed: &Packed<A>, wanted: &[Placed]) -> bool {
+/// Whether the placements are these, in order, and the box of each is found.
+pub fn has_placements<A: Allocator + Copy>(packed: &Packed<A>, wanted: &[Placed]) -> bool {
     all_match!(packed.placements().iter(), wanted, placed, row => is_placed(packed, placed, row))
 }
 
-// Whether each box that is found is found at the last of these placements of it.
-fn finds_last<A: Allocator + Copy>(packed: &Packed<A>, wanted: &[Placed]) -> bool {
+/// Whether each box that is found is found at the last of these placements of it.
+pub fn finds_last<A: Allocator + Copy>(packed: &Packed<A>, wanted: &[Placed]) -> bool {
     for (id, (bin, location)) in packed.packed_locations() {
         if last_of(wanted, *id) != Some((*bin, place(location))) {
             return false;
@@ -196,7 +209,7 @@ pub fn ends<A: Allocator + Copy>(
         assert!(rt; are_new(bins));
         return End::Refused;
     }
-    assert!(rt; is_answer(answer, case) && have_lists(bins, case));
+    assert!(rt; is_answer(answer, case) && have_lists(bins, case.bins));
     End::Done
 }
 

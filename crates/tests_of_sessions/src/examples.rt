@@ -2,8 +2,9 @@
 //! several functions.
 
 use rectangle_pack::{
-    Axis, BinSection, CutStep, GroupedRectsToPlace, Heuristic, PackedLocation, RectToInsert,
-    Session, SessionError, TargetBin, WidthHeightDepth, contains_smallest_box, volume_heuristic,
+    Axis, BinSection, CutStep, Group, GroupedRectsToPlace, Heuristic, PackedLocation, RectToInsert,
+    Session, SessionError, Step, TargetBin, WidthHeightDepth, contains_smallest_box,
+    volume_heuristic,
 };
 use std::alloc::{AllocError, Global};
 use std::process::Abort;
@@ -108,6 +109,52 @@ fn pack_a_session_with_the_best(rt: HostRuntime) -> Result<(), Fail> {
     let mut session: Session<u32, &'static str> = Session::new(alloc, 0);
     session.add_bin("sheet", 4, 4, 1)?;
     pack_by_the_best(&rt, &mut session, &rects)
+}
+
+fn three_squares(alloc: Global) -> Result<Rects, AllocError> {
+    let mut rects: GroupedRectsToPlace<u32, u32> = GroupedRectsToPlace::new(alloc);
+    for (id, side) in [(1, 6), (2, 5), (3, 4)] {
+        rects.push_rect(id, None, RectToInsert::new(side, side, 1))?;
+    }
+    Ok(rects)
+}
+
+fn pack_what_fits(rt: &impl Abort, session: &mut Sheets, rects: &Rects) -> Result<(), Fail> {
+    let fitted = session.pack_fitting(&rects, &volume_heuristic, &contains_smallest_box)?;
+    assert_eq!(rt; fitted.packed.count, 2);
+    assert_eq!(rt; fitted.left.len(), 1);
+    Ok(())
+}
+
+#[test]
+fn pack_what_fits_into_a_session(rt: HostRuntime) -> Result<(), Fail> {
+    let alloc = rt.alloc();
+    let rects = three_squares(alloc)?;
+    let mut session: Session<u32, &'static str> = Session::new(alloc, 0);
+    session.add_bin("sheet", 10, 10, 1)?;
+    pack_what_fits(&rt, &mut session, &rects)
+}
+
+fn pack_as_told(rt: &impl Abort, session: &mut Sheets, rects: &Rects) -> Result<(), Fail> {
+    let step = Step {
+        group: Group::Ungrouped(7),
+        bin: "right",
+        heuristic: Heuristic::Volume,
+    };
+    let packed = session.pack_told(&rects, &[step])?;
+    assert_eq!(rt; packed.count, 1);
+    assert_eq!(rt; session.outstanding_in(&"right")?.len(), 1);
+    Ok(())
+}
+
+#[test]
+fn pack_a_session_as_told(rt: HostRuntime) -> Result<(), Fail> {
+    let alloc = rt.alloc();
+    let rects = one_box(alloc)?;
+    let mut session: Session<u32, &'static str> = Session::new(alloc, 0);
+    session.add_bin("left", 10, 10, 1)?;
+    session.add_bin("right", 10, 10, 1)?;
+    pack_as_told(&rt, &mut session, &rects)
 }
 
 #[test]

@@ -3,15 +3,17 @@
 use super::closures::{EQUAL_KEYS, packs_between};
 use super::exclusions::{ONE_BIN, TWO_BINS, counts};
 use super::{
-    Answer, Bins, Case, FULL_BIN, Rects, TWO_IN_A_GROUP, add_bin, best, long_lists, many_bins,
-    pack_counted, pack_numbered,
+    Answer, Bins, Case, FULL_BIN, Rects, TWO_IN_A_GROUP, add_bin, best, fitting, fitting_best,
+    long_lists, many_bins, pack_counted, pack_numbered, told,
 };
 use rectangle_pack::FitTests;
 use std::alloc::{Allocator, Global};
 use std::process::Abort;
 use tests_support::best_cases;
 use tests_support::each_request::End;
+use tests_support::fit_cases::{BestFit, FitCase};
 use tests_support::refusing::Refusing;
+use tests_support::told_cases::ToldCase;
 
 /// What is run with each request for memory refused in turn. Whichever is refused, bins stay as they
 /// were; at the end the case comes out.
@@ -29,6 +31,12 @@ pub enum Run {
     LongList(bool),
     /// The best of several packings.
     Best(&'static best_cases::Case),
+    /// What fits.
+    Fitting(&'static FitCase),
+    /// What fits by the best of several heuristics.
+    FittingBest(&'static BestFit),
+    /// A packing as it is told.
+    Told(&'static ToldCase),
 }
 
 fn end(rt: &impl Abort, alloc: Refusing, run: Run) -> End {
@@ -39,27 +47,19 @@ fn end(rt: &impl Abort, alloc: Refusing, run: Run) -> End {
         Run::SixteenBins => many_bins::packs_few(rt, alloc),
         Run::LongList(too_tall) => long_lists::packs(rt, alloc, too_tall),
         Run::Best(case) => best::packs(rt, alloc, case),
+        Run::Fitting(case) => fitting::packs(rt, alloc, case),
+        Run::FittingBest(case) => fitting_best::packs(rt, alloc, case),
+        Run::Told(case) => told::packs(rt, alloc, case),
     }
 }
 
-// How many refused requests may leave a packing done: a long list asks once whether the room of its
-// gaps is taken back, and stays where it is not.
-fn harmless(run: Run) -> u64 {
-    match run {
-        Run::LongList(_) => 1,
-        _ => 0,
-    }
-}
-
-// The end of a run for which `granted` requests are granted. It gives back all that it takes. It is
-// done where no request was refused that it needs, and only there.
+// The end of a run for which `granted` requests are granted. It gives back all that it takes, and
+// is done where no request was refused but to make a block smaller, and only there.
 fn end_of(rt: &impl Abort, alloc: Global, granted: u64, run: Run) -> End {
     let refusing = Refusing::new(alloc, granted).expect(rt, "no memory for the counts");
     let end = end(rt, refusing, run);
-    let refused = refusing.refused();
     assert!(rt; refusing.taken() == 0);
-    assert!(rt; end == End::Done || refused > 0);
-    assert!(rt; end != End::Done || refused <= harmless(run));
+    assert!(rt; (refusing.refused() == refusing.not_shrunk()) == (end == End::Done));
     end
 }
 
@@ -143,6 +143,12 @@ fn counts_nothing<A: Allocator + Copy>(alloc: A, bins: &mut Bins<A>) -> bool {
     is_empty(&pack_counted(alloc, &rects, bins, &mut tests)) && tests.count() == 0
 }
 
+// Nothing is asked for without groups and without steps.
+fn fits_nothing<A: Allocator + Copy>(alloc: A, bins: &mut Bins<A>) -> bool {
+    let rects = Rects::new(alloc);
+    fitting::fits_nothing(alloc, &rects, bins) && told::places_nothing(alloc, &rects, bins)
+}
+
 // Adds a bin and packs into it. The bin is made before, and all that was granted is used up.
 fn packs_into_a_bin(rt: &impl Abort, alloc: Refusing, bins: &mut Bins<Refusing>) -> End {
     if add_bin(alloc, bins, 7, [4, 4, 1]).is_err() {
@@ -150,6 +156,7 @@ fn packs_into_a_bin(rt: &impl Abort, alloc: Refusing, bins: &mut Bins<Refusing>)
     }
     assert!(rt; alloc.left() == 0);
     assert!(rt; packs_nothing(alloc, bins) && counts_nothing(alloc, bins));
+    assert!(rt; fits_nothing(alloc, bins));
     End::Done
 }
 
@@ -162,7 +169,9 @@ fn packs_into_new(rt: &impl Abort, alloc: Refusing) -> End {
 fn packs_into_none(rt: &impl Abort, alloc: Global) -> bool {
     let refusing = Refusing::new(alloc, 0).expect(rt, "no memory for the counts");
     let mut bins = Bins::new(refusing);
-    packs_nothing(refusing, &mut bins) && counts_nothing(refusing, &mut bins)
+    packs_nothing(refusing, &mut bins)
+        && counts_nothing(refusing, &mut bins)
+        && fits_nothing(refusing, &mut bins)
 }
 
 #[test]

@@ -10,8 +10,8 @@ use tests_support::each_request::{End, is_refused};
 use tests_support::refusing::Refusing;
 use tests_support::shapes::are_new;
 
-// The number of the first placement.
-const FIRST: u64 = 5;
+/// The number of the first placement.
+pub const FIRST: u64 = 5;
 
 fn add_bins(session: &mut TestSession) -> Result<(), SessionError> {
     let [width, height, depth] = BIN;
@@ -21,7 +21,8 @@ fn add_bins(session: &mut TestSession) -> Result<(), SessionError> {
     Ok(())
 }
 
-fn is_unused(session: &TestSession) -> bool {
+/// Whether nothing was placed in the session yet.
+pub fn is_unused(session: &TestSession) -> bool {
     session.next_number() == FIRST && session.outstanding().is_empty() && are_new(session.bins())
 }
 
@@ -29,8 +30,8 @@ fn is_best_placed(placed: &Outstanding<u32, u32>, wanted: &Placed) -> bool {
     is_placed(placed.id, placed.bin, &placed.location, wanted)
 }
 
-// Whether these are the placements, under the next numbers.
-fn are_placed(outstanding: &[Outstanding<u32, u32>], wanted: &[Placed]) -> bool {
+/// Whether these are the placements, under the next numbers.
+pub fn are_placed(outstanding: &[Outstanding<u32, u32>], wanted: &[Placed]) -> bool {
     let mut found = outstanding.iter();
     let mut number = FIRST;
     for row in wanted {

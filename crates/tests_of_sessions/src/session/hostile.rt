@@ -47,7 +47,7 @@ fn orders() -> &'static [(Order, Reply)] {
     ORDERS
 }
 
-type Three = [WidthHeightDepth; 3];
+pub type Three = [WidthHeightDepth; 3];
 
 fn volume([_, _, _, width, height, depth]: [u32; 6]) -> u64 {
     u64::from(width)
@@ -81,7 +81,8 @@ fn is_whole(bin: &TargetBin<Refusing>, id: u32, outstanding: &[Outstanding<u32, 
     free.wrapping_add(placed_volume(outstanding, id)) == volume(whole)
 }
 
-fn are_whole(session: &TestSession) -> bool {
+/// Whether that is so of each bin.
+pub fn are_whole(session: &TestSession) -> bool {
     for (id, bin) in session.bins() {
         if !is_whole(bin, *id, session.outstanding()) {
             return false;
@@ -90,9 +91,9 @@ fn are_whole(session: &TestSession) -> bool {
     true
 }
 
-// How the closures answer.
+/// How the closures answer.
 #[derive(Clone, Copy)]
-enum Mood {
+pub enum Mood {
     // By how often they were asked.
     Counting,
     // By hashes of the sizes.
@@ -104,21 +105,33 @@ enum Mood {
     LeastAndGreatest,
 }
 
-const MOODS: [Mood; 4] = [
+pub const MOODS: [Mood; 4] = [
     Mood::Counting,
     Mood::Hashing,
     Mood::InACircle,
     Mood::LeastAndGreatest,
 ];
 
-// The closures of a session: their mood, and how often each was asked.
+/// The closures of a session: their mood, and how often each was asked.
 #[derive(Drop)]
-struct Answers {
+pub struct Answers {
     mood: Mood,
     // Whether sections are compared by smallest boxes instead.
     by_smallest: bool,
     rated: Cell<u64>,
     compared: Cell<u64>,
+}
+
+impl Answers {
+    /// Closures of this mood, which were not asked yet.
+    pub fn new(mood: Mood, by_smallest: bool) -> Answers {
+        Answers {
+            mood,
+            by_smallest,
+            rated: Cell::new(0),
+            compared: Cell::new(0),
+        }
+    }
 }
 
 fn count(counter: &Cell<u64>) -> u64 {
@@ -151,7 +164,8 @@ fn hash_of_three([right, above, behind]: Three) -> u64 {
         .wrapping_add(hash(behind))
 }
 
-fn rate(answers: &Answers, size: WidthHeightDepth) -> u128 {
+/// What the heuristic answers.
+pub fn rate(answers: &Answers, size: WidthHeightDepth) -> u128 {
     match answers.mood {
         Mood::Counting => u128::from(count(&answers.rated) % 7),
         Mood::Hashing | Mood::InACircle => u128::from(hash(size)),
@@ -160,7 +174,8 @@ fn rate(answers: &Answers, size: WidthHeightDepth) -> u128 {
     }
 }
 
-fn compare(answers: &Answers, one: Three, other: Three) -> Ordering {
+/// What the comparison answers.
+pub fn compare(answers: &Answers, one: Three, other: Three) -> Ordering {
     let (one, other) = (hash_of_three(one), hash_of_three(other));
     match answers.mood {
         Mood::Counting | Mood::LeastAndGreatest => any_of_three(count(&answers.compared)),
@@ -242,12 +257,7 @@ fn count_obeyed(alloc: Refusing, session: &mut TestSession, answers: &Answers) -
 // In a new session all commands are obeyed.
 fn obey_all(rt: &impl Abort, alloc: Refusing, mood: Mood, by_smallest: bool) {
     let mut session = TestSession::new(alloc, 0);
-    let answers = Answers {
-        mood,
-        by_smallest,
-        rated: Cell::new(0),
-        compared: Cell::new(0),
-    };
+    let answers = Answers::new(mood, by_smallest);
     assert_eq!(rt; count_obeyed(alloc, &mut session, &answers), orders().len());
 }
 

@@ -5,7 +5,7 @@ use super::numbers::USED_UP;
 use super::refusals::DUPLICATE;
 use super::{Held, Line, Memory, NEW, OTHER, Order, Script, State, TestSession, UNKNOWN, come_out};
 use rectangle_pack::Heuristic::{self, Volume, Width};
-use rectangle_pack::{Packed, Reply};
+use rectangle_pack::{Packed, Reply, contains_smallest_box, volume_heuristic};
 use std::alloc::Global;
 use std::test::Fail;
 use tests_support::boxes::Rects;
@@ -58,6 +58,9 @@ fn with_a_bin(alloc: Global) -> Option<(Refusing, TestSession)> {
     None
 }
 
+// What a packing of nothing answers there.
+const NOTHING: Packed = Packed { first: 7, count: 0 };
+
 // Whether the best of several packings of nothing is done, and with which heuristic.
 fn packs_nothing(alloc: Global, heuristics: &[Heuristic], best: Heuristic) -> bool
     requires { 0 < length heuristics.now }
@@ -67,7 +70,24 @@ fn packs_nothing(alloc: Global, heuristics: &[Heuristic], best: Heuristic) -> bo
     };
     let nothing = Rects::new(refusing);
     match session.pack_best(&nothing, heuristics) {
-        Ok(answer) => refusing.left() == 0 && answer == (best, Packed { first: 7, count: 0 }),
+        Ok(answer) => refusing.left() == 0 && answer == (best, NOTHING),
+        Err(_) => false,
+    }
+}
+
+// Whether the same is so of what fits of nothing.
+fn fits_nothing(alloc: Global, heuristics: &[Heuristic], best: Heuristic) -> bool
+    requires { 0 < length heuristics.now }
+{
+    let Some((refusing, mut session)) = with_a_bin(alloc) else {
+        return false;
+    };
+    let nothing = Rects::new(refusing);
+    match session.pack_fitting_best(&nothing, heuristics) {
+        Ok((with, fitted)) => {
+            let is_empty = fitted.left.is_empty() && fitted.packed == NOTHING;
+            refusing.left() == 0 && with == best && is_empty
+        }
         Err(_) => false,
     }
 }
@@ -77,4 +97,24 @@ fn best_packings_of_nothing(rt: HostRuntime) {
     assert!(rt; packs_nothing(rt.alloc(), &[Width], Width));
     assert!(rt; packs_nothing(rt.alloc(), &[Width, Volume], Width));
     assert!(rt; packs_nothing(rt.alloc(), &Heuristic::ALL, Volume));
+}
+
+#[test]
+fn what_fits_of_nothing(rt: HostRuntime) {
+    assert!(rt; fits_nothing(rt.alloc(), &[Width], Width));
+    assert!(rt; fits_nothing(rt.alloc(), &[Width, Volume], Width));
+    assert!(rt; fits_nothing(rt.alloc(), &Heuristic::ALL, Volume));
+}
+
+// Without groups and without steps, whatever is refused.
+#[test]
+fn fitting_and_told_of_nothing(rt: HostRuntime) {
+    let (refusing, mut session) = with_a_bin(rt.alloc()).expect(&rt, "no memory");
+    let nothing = Rects::new(refusing);
+    match session.pack_fitting(&nothing, &volume_heuristic, &contains_smallest_box) {
+        Ok(fitted) => assert!(rt; fitted.left.is_empty() && fitted.packed == NOTHING),
+        Err(_) => assert!(rt; false),
+    }
+    assert!(rt; session.pack_told(&nothing, &[]) == Ok(NOTHING));
+    assert!(rt; refusing.left() == 0 && refusing.refused() == 0);
 }
