@@ -1,18 +1,30 @@
 //! The library by lines. It has what `packrun` has no line for, so that the library for C can be
 //! compared with it, and heuristics and cutting plans can be measured.
 //!
-//! It reads lines from standard input. Four of them tell of the next packing or release:
+//! It reads lines from standard input. Six of them tell of the next packing or release:
 //!
 //! - `box W H D GROUP` is a box more, in no group where that is 0;
 //! - `member I GROUP` puts box I into one group more, as a box behind all of those;
-//! - `exclude A B` keeps two groups apart;
+//! - `also I GROUP` puts box I itself into one group more;
+//! - `exclude A B I J` keeps the groups A and B apart; where A is 0 it is box I alone, and where B
+//!   is 0 box J alone;
+//! - `step GROUP I BIN N` is a step more: the group, or box I alone where that is 0, goes into the
+//!   bin, by the heuristic N of `Heuristic::ALL`, or by the first where there is no such number;
 //! - `number N` is a number more.
+//!
+//! `again` begins with a new session. No answer comes to these.
 //!
 //! Each of these has a line as its answer:
 //!
 //! - `bin W H D` adds a bin, under the least id that no bin has: its id;
 //! - `pack N` packs by the heuristic N of `Heuristic::ALL`, or by the best of all where there is no
 //!   such number, and forgets the boxes: the number of the heuristic, or -1 where there is no space;
+//! - `fitting N` packs what fits, by the same heuristic, and forgets the boxes: the number of the
+//!   heuristic, the number of the first placement, how many there are, and two numbers for each group
+//!   that is left: the group and 0, or 0 and the box that is alone;
+//! - `told` packs as the steps say, and forgets these and the boxes: the number of the first placement
+//!   and how many there are; or -1, the index of the step that is refused, and why, by the index in
+//!   `StepFault`; or -1 alone;
 //! - `place BIN X Y Z` places box 0 at this corner of the bin, and forgets the boxes: the number of
 //!   its placement, or -1 where it is refused;
 //! - `fit BIN N` places box 0 where it fits best in the bin, and `find N` in any, with the rest cut by
@@ -22,22 +34,26 @@
 //! - `release N`, `join BIN I LO HI`, `sweep BIN`, `clear BIN`, `remove BIN`, `recut BIN`, and
 //!   `grow BIN AXIS N`, on axis 0 for x: 1 where it is done, else 0;
 //! - `placed`: the number, index, bin and corner of each outstanding placement;
+//! - `placed_in BIN`: the same of those in one bin, or -1 where there is no such bin;
 //! - `free BIN`: corner and sides of each free section, or nothing where there is no such bin;
 //! - `plan BIN`: axis and place of each cut, 0 for x, and 3 0 for each leaf; or -1 where there is no
 //!   plan or no such bin;
 //! - `time BIN`: how many microseconds the plan of the bin takes, the best of five;
 //! - `first W H D`, `pages W H` and `times S N` measure the boxes, as `measures.rt` says, and forget
-//!   them: a number for each heuristic, and one for the best of all.
+//!   them: a number for each heuristic, and one for the best of all;
+//! - `beside S N`, as `measures.rt` says: two numbers. It forgets the boxes.
 //!
 //! A number that is not there is 0. Other lines are passed over.
 #![tactic(auto)]
 
+mod fitting;
 mod measures;
 mod packing;
 
-use crate::measures::{measure, print_time};
+use crate::fitting::{Steps, add_step, print_fitting, print_told};
+use crate::measures::{measure, print_beside, print_time};
 use crate::packing::{Bins, Boxes, add, fit, pack, place};
-use rectangle_pack::{Axis, CutStep, GroupedRectsToPlace, Session, SessionError};
+use rectangle_pack::{Axis, CutStep, GroupedRectsToPlace, Outstanding, Session, SessionError};
 use std::alloc::Global;
 use std::io::{self, BufRead, BufReader};
 
@@ -49,17 +65,44 @@ fn is_done(answer: Result<(), SessionError>) -> u32 {
     }
 }
 
+// What lines tell of the next packing or release.
+#[derive(Drop)]
+struct Told {
+    boxes: Boxes,
+    steps: Steps,
+    numbers: Vec<u64>,
+}
+
+fn print_one(rt: &HostRuntime, placed: &Outstanding<u32, u32>) -> io::Result<()> {
+    let (x, y, z) = (
+        placed.location.x(),
+        placed.location.y(),
+        placed.location.z(),
+    );
+    print!(rt;
+        "{} {} {} {x} {y} {z} ",
+        placed.number, placed.id, placed.bin
+    )?;
+    Ok(())
+}
+
 fn print_placed(rt: &HostRuntime, session: &Bins) -> io::Result<()> {
     for placed in session.outstanding() {
-        let (x, y, z) = (
-            placed.location.x(),
-            placed.location.y(),
-            placed.location.z(),
-        );
-        print!(rt;
-            "{} {} {} {x} {y} {z} ",
-            placed.number, placed.id, placed.bin
-        )?;
+        print_one(rt, placed)?;
+    }
+    println!(rt; "")?;
+    Ok(())
+}
+
+fn print_placed_in(rt: &HostRuntime, session: &Bins, bin: u32) -> io::Result<()> {
+    match session.outstanding_in(&bin) {
+        Ok(all) => {
+            for placed in &all {
+                print_one(rt, placed)?;
+            }
+        }
+        Err(SessionError::UnknownBin) => print!(rt; "-1")?,
+        Err(error) => return Err(io::Error::from(error)),
     }
     println!(rt; "")?;
     Ok(())
@@ -210,6 +253,7 @@ fn print_free(rt: &HostRuntime, session: &Bins, bin: u32) -> io::Result<()> {
 fn look(rt: &HostRuntime, session: &Bins, word: &str, bin: u32) -> io::Result<()> {
     match word {
         "placed" => print_placed(rt, session),
+        "placed_in" => print_placed_in(rt, session, bin),
         "free" => print_free(rt, session, bin),
         "plan" => print_plan(rt, session, bin),
         "time" => print_time(rt, session, bin),
@@ -221,75 +265,77 @@ fn look(rt: &HostRuntime, session: &Bins, word: &str, bin: u32) -> io::Result<()
 fn end(
     rt: &HostRuntime,
     session: &mut Bins,
-    boxes: &Boxes,
+    told: &Told,
     word: &str,
     numbers: [u32; 4],
 ) -> io::Result<bool> {
     let [a, b, c, _] = numbers;
+    let boxes = &told.boxes;
     match word {
         "pack" => print_pack(rt, session, boxes, a)?,
+        "fitting" => print_fitting(rt, session, boxes, a)?,
+        "told" => print_told(rt, session, boxes, &told.steps)?,
         "place" => print_place(rt, session, boxes, numbers)?,
         "fit" => print_fit(rt, session, boxes, Some(&a), b)?,
         "find" => print_fit(rt, session, boxes, None, a)?,
         "first" | "pages" | "times" => measure(rt, boxes, word, [a, b, c])?,
+        "beside" => print_beside(rt, boxes, a, b)?,
         _ => return Ok(false),
     }
     Ok(true)
 }
 
-// Obeys a line of numbers that are to be released together. Tells whether it is one.
-fn release_all(
-    rt: &HostRuntime,
-    session: &mut Bins,
-    told: &mut Vec<u64>,
-    word: &str,
-    number: u32,
-) -> io::Result<bool> {
+// Obeys a line that tells of the next packing or release. Tells whether it is one.
+fn tell(rt: &HostRuntime, told: &mut Told, word: &str, numbers: [u32; 4]) -> io::Result<bool> {
     match word {
-        "number" => told.push(number as u64)?,
-        "releases" => {
-            let answer = is_done(session.release_all(told.as_slice()));
-            told.clear();
-            println!(rt; "{answer}")?
-        }
-        _ => return Ok(false),
+        "number" => told.numbers.push(numbers[0] as u64)?,
+        "step" => add_step(&mut told.steps, numbers)?,
+        _ => return add(rt.alloc(), &mut told.boxes, word, numbers),
     }
     Ok(true)
 }
 
-fn obey(rt: &HostRuntime, session: &mut Bins, boxes: &mut Boxes, line: &str) -> io::Result<()> {
+// Releases the placements of these numbers.
+fn release_all(rt: &HostRuntime, session: &mut Bins, numbers: &mut Vec<u64>) -> io::Result<()> {
+    let answer = is_done(session.release_all(numbers.as_slice()));
+    numbers.clear();
+    println!(rt; "{answer}")?;
+    Ok(())
+}
+
+fn obey(rt: &HostRuntime, session: &mut Bins, told: &mut Told, line: &str) -> io::Result<()> {
     let numbers = numbers(line);
     let word = line.split_whitespace().next().unwrap_or("");
-    if add(rt.alloc(), boxes, word, numbers)? {
+    if tell(rt, told, word, numbers)? {
         return Ok(());
     }
-    if end(rt, session, boxes, word, numbers)? {
-        *boxes = GroupedRectsToPlace::new(rt.alloc());
+    if end(rt, session, told, word, numbers)? {
+        told.boxes = GroupedRectsToPlace::new(rt.alloc());
+        told.steps.clear();
         return Ok(());
     }
     match change(session, word, numbers)? {
         Some(answer) => println!(rt; "{answer}")?,
+        None if word == "releases" => release_all(rt, session, &mut told.numbers)?,
         None => look(rt, session, word, numbers[0])?,
     }
     Ok(())
 }
 
-// The word of a line, and its first number.
-fn begins(line: &str) -> (&str, u32) {
-    let word = line.split_whitespace().next().unwrap_or("");
-    (word, numbers(line)[0])
-}
-
 fn main(rt: HostRuntime) -> io::Result<()> {
     let alloc: Global = rt.alloc();
     let mut session = Session::new(alloc, 0);
-    let mut boxes = GroupedRectsToPlace::new(alloc);
-    let mut told = Vec::new(alloc);
+    let mut told = Told {
+        boxes: GroupedRectsToPlace::new(alloc),
+        steps: Vec::new(alloc),
+        numbers: Vec::new(alloc),
+    };
     for line in BufReader::new(alloc, rt.reader())?.lines(alloc) {
         let line = line?;
-        let (word, number) = begins(&line);
-        if !release_all(&rt, &mut session, &mut told, word, number)? {
-            obey(&rt, &mut session, &mut boxes, &line)?;
+        if line.trim() == "again" {
+            session = Session::new(alloc, 0);
+        } else {
+            obey(&rt, &mut session, &mut told, &line)?;
         }
     }
     Ok(())

@@ -2,7 +2,7 @@
 //! there is no space or no plan, each number is 0.
 
 use crate::packing::{Bins, Boxes, pack};
-use rectangle_pack::Session;
+use rectangle_pack::{Heuristic, Session};
 use std::alloc::Global;
 use std::collections::BTreeSet;
 use std::io;
@@ -81,6 +81,30 @@ fn times(rt: &HostRuntime, boxes: &Boxes, size: [u32; 3], number: u32) -> io::Re
         best = best.min(time_pack(rt, &mut session, boxes, number)?);
     }
     Ok(best.as_micros())
+}
+
+// How long a packing of what fits takes, by volumes, where all fits.
+fn time_fitting(rt: &HostRuntime, session: &mut Bins, boxes: &Boxes) -> io::Result<Duration> {
+    let start = Instant::now(rt)?;
+    let (_, fitted) = session.pack_fitting_best(boxes, &[Heuristic::Volume])?;
+    let taken = start.elapsed(rt)?;
+    let all_fit = fitted.left.is_empty();
+    Ok(if all_fit { taken } else { Duration::ZERO })
+}
+
+// `beside S N`: the microseconds of a packing by volumes into N squares of side S, and of what fits of
+// the same boxes, in turn, the best of seven each.
+pub fn print_beside(rt: &HostRuntime, boxes: &Boxes, side: u32, count: u32) -> io::Result<()> {
+    let mut all = Duration::MAX;
+    let mut fitting = Duration::MAX;
+    for _run in 0..7 {
+        let mut session = equal_bins(rt.alloc(), count, [side, side, 1])?;
+        all = all.min(time_pack(rt, &mut session, boxes, 0)?);
+        let mut session = equal_bins(rt.alloc(), count, [side, side, 1])?;
+        fitting = fitting.min(time_fitting(rt, &mut session, boxes)?);
+    }
+    println!(rt; "{} {}", all.as_micros(), fitting.as_micros())?;
+    Ok(())
 }
 
 fn measured(

@@ -38,9 +38,18 @@ fn size_of(boxes: &Boxes, index: u32) -> RectToInsert {
     }
 }
 
-fn exclude(boxes: &mut Boxes, one: u32, other: u32) -> io::Result<()> {
+// The group of this number, or the box of this index alone where that is 0.
+pub fn group_of(group: u32, index: u32) -> Group<u32, u32> {
+    if group == 0 {
+        Group::Ungrouped(index)
+    } else {
+        Group::Grouped(group)
+    }
+}
+
+fn exclude(boxes: &mut Boxes, one: Group<u32, u32>, other: Group<u32, u32>) -> io::Result<()> {
     if one != other {
-        boxes.exclude(Group::Grouped(one), Group::Grouped(other))?;
+        boxes.exclude(one, other)?;
     }
     Ok(())
 }
@@ -54,7 +63,8 @@ pub fn add(alloc: Global, boxes: &mut Boxes, word: &str, numbers: [u32; 4]) -> i
             let rect = size_of(boxes, a);
             push(alloc, boxes, rect, b)?;
         }
-        "exclude" => exclude(boxes, a, b)?,
+        "also" => boxes.push_rect(a, groups_of(alloc, b)?, size_of(boxes, a))?,
+        "exclude" => exclude(boxes, group_of(a, c), group_of(b, d))?,
         _ => return Ok(false),
     }
     Ok(true)
