@@ -12,7 +12,10 @@ import plans
 import speed
 from programs import TOP
 
-ALL = (speed.packings, speed.others, speed.from_c, speed.excluded, speed.given_back, speed.sweeps, plans.plans, atlas.atlas, fill.fill)
+ALL = (
+    speed.packings, speed.others, speed.what_fits, speed.from_c, speed.excluded, speed.given_back, speed.sweeps, plans.plans, atlas.atlas,
+    fill.fill,
+)
 MORE = (fill.squares, fill.pages, fill.containers, fill.best)
 TABLES = {it.__name__: it for it in (*ALL, *MORE)}
 

@@ -45,6 +45,13 @@ def many_bins(count: int, bins: int) -> Lines:
     yield "pack"
 
 
+def beside(count: int, most: int, side: int, bins: int) -> Lines:
+    """For session_lines: boxes, 4 to so many a side, that are packed into squares, all or what fits."""
+    draw = random.Random(count)
+    yield from (f"box {draw.randint(4, most)} {draw.randint(4, most)} 1 0" for _ in range(count))
+    yield f"beside {side} {bins}"
+
+
 def many_packings(count: int, bins: int) -> Lines:
     """A packing of each of these boxes."""
     yield from small_bins(bins)

@@ -59,6 +59,24 @@ def others() -> None:
     table(["Other inputs", "packrun", "MB"], rows)
 
 
+def what_fits() -> None:
+    """What fits of boxes that all fit, beside a packing of all of them: by session_lines in one run, in turn, the best of seven each."""
+    program = proved("session_lines")
+    given = [
+        ("4,000 boxes into one bin", (4_000, 64, 8192, 1)), ("32,000 boxes into one bin", (32_000, 64, 8192, 1)),
+        ("5,000 boxes into 2,000 bins 64 x 64", (5_000, 40, 64, 2_000)),
+    ]
+
+    def rows() -> Iterator[list[str]]:
+        for name, numbers in given:
+            text = "".join(f"{line}\n" for line in inputs.beside(*numbers))
+            all_of_them, fitting = map(int, printed(program, text).split())
+            assert all_of_them and fitting, f"{name}: something is left"
+            yield [name, f"{all_of_them / 1e6:.4f}", f"{fitting / 1e6:.4f}", f"{fitting / all_of_them:.2f}"]
+
+    table(["Boxes that all fit", "all or nothing", "what fits", "the second to the first"], rows())
+
+
 def from_c() -> None:
     """Packings in one process, by the call for C and by stb_rect_pack: each reads and prints nothing."""
     subprocess.run([TOP / "tools" / "build_c.sh"], check=True, stdout=subprocess.DEVNULL)
