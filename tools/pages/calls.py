@@ -1,5 +1,9 @@
 """The page docs/CALLS.md: every public item of the library by its public module, with its signature, its doc comment, what is
-proved of it, and the tests that call it; then the program and the calls for C. A plain reader is a line."""
+proved of it, and the tests that call it; then the program and the calls for C. A plain reader is a line.
+
+Of the doc comment of a call with claims stand there the first sentence and those that say what the caller sees to. The others say
+in other words what the claims say, as when an error comes and what it leaves: the heading leads to the whole. Of a law that has
+claims stand these alone."""
 from __future__ import annotations
 
 import pathlib
@@ -8,12 +12,20 @@ from collections.abc import Iterable, Iterator
 
 from examples import doc_lines, place_of
 from library import KINDS, Call, Library, Module, Placed
-from proved import Proved, is_plain
+from proved import Proved, is_plain, sentences, tells_premises
 from rattle import Item, indent_of
 from sources import CRATES, FOR_C, MAIN, ORDER, ROOT, fenced, files_of, shown
 
 # Files of tests: what each is of (a public module, the program, the library for C, or laws), its name, and its text.
 Test = tuple[str, str, str]
+
+# Bounds of functions that the page says once.
+BOUNDS_SAID_ONCE = {
+    "H: Fn(WidthHeightDepth) -> u128",
+    "C: Fn([WidthHeightDepth; 3], [WidthHeightDepth; 3], &H) -> Ordering",
+    *(f"{it}: Ord + Clone + Drop" for it in ("Id", "BinId", "GroupId")),
+    "A: Allocator + Copy",
+}
 
 
 def tests() -> list[Test]:
@@ -41,25 +53,23 @@ class Page:
         calls = [self.proved.calls[it] for it in names.split(", ")]
         return "\n\n".join(filter(None, (text for it in calls for text in (f"### `{it.name}`", *self.proved_of(it)))))
 
-    def function(self, level: int, call: Call, kind: str = "") -> Iterator[str]:
-        yield "#" * level + f" {kind} `{call.name}`".replace("  ", " ")
-        yield fenced([dedented(call.item.head)], "rust") if kind != "Law" else ""
-        yield docs_of(call.item.docs, call.path)
-        yield from self.proved_of(call)
-
     def proved_of(self, call: Call) -> Iterator[str]:
         yield "\n".join(self.proved.claims(call))
         yield tests_of(call, self.tests)
 
+    def function(self, level: int, call: Call, kind: str = "") -> Iterator[str]:
+        claims = [*self.proved.claims(call)]
+        yield "#" * level + f" {kind} {linked(call.name, call)}".replace("  ", " ")
+        yield signature(call.item.head) if kind != "Law" else ""
+        yield docs_of(call.item.docs, call.path, bool(claims)) if kind != "Law" else "" if claims else stated(call.item.docs)
+        yield from self.proved_of(call)
+
     def type(self, placed: Placed) -> Iterator[str]:
         item = placed.item
-        parts = item.parts()
-        visible = [part for part in parts if item.kind == "enum" or part.is_public]
-        lines = [line for part in visible for line in part.lines if not line.lstrip().startswith("//")]
-        lines += ["    /* private fields */"] if len(visible) < len(parts) else []
-        start, close = (" {", ["}"]) if item.has_body else (";", [])
-        yield f"### {KINDS[item.kind]} `{item.name}`"
-        yield fenced([*item.attributes, item.head + start, *lines, *close], "rust")
+        visible = [part for part in item.parts() if item.kind == "enum" or part.is_public]
+        yield f"### {KINDS[item.kind]} {linked(item.name, placed)}"
+        # The heading says the rest.
+        yield f"`{item.head.removeprefix('pub ')}`" if "<" in item.head else ""
         yield docs_of(item.docs, placed.path)
         yield "\n".join(line for part in visible for line in listed(part))
         yield from self.impls(item.name)
@@ -98,13 +108,19 @@ class Page:
                 yield docs_of(it.item.docs, it.path)
 
 
+def linked(name: str, placed: Placed) -> str:
+    """The name, with a link to where the doc comment begins."""
+    line = placed.item.line - len(placed.item.docs) - len(placed.item.attributes)
+    return f"[`{name}`](../{shown(placed.path)}#L{line})"
+
+
 def tests_of(call: Call, among: Iterable[Test]) -> str:
     """The files of tests that name the call, of those that are of its module: a method behind a dot or a path."""
     around, _, name = call.name.rpartition("::")
     named = re.compile(rf"(?:\.|::){name}\b" if around else rf"\b{name}\b")
     homes = {call.home, "laws"} if call.kind == "law" else {call.home}
     found = [name for home, name, text in among if home in homes and named.search(text)]
-    return f"Tests: {', '.join(gathered(found))}" if found else ""
+    return f"*{', '.join(gathered(found))}*" if found else ""
 
 
 def gathered(names: list[str]) -> Iterator[str]:
@@ -120,14 +136,33 @@ def gathered(names: list[str]) -> Iterator[str]:
             yield f"`{folder}/{left[0]}`" if len(left) == 1 else f"`{folder}/{{{','.join(left)}}}`"
 
 
-def docs_of(docs: list[str], path: pathlib.Path) -> str:
+def docs_of(docs: list[str], path: pathlib.Path, has_claims: bool = False) -> str:
     """A doc comment up to its example, and a link to that, in this file."""
-    if "```" not in docs:
-        return "\n".join(docs)
-    told = docs[: docs.index("```")]
+    until = docs.index("```") if "```" in docs else len(docs)
+    told = "\n".join(docs[:until]).strip()
+    if has_claims:
+        first, *others = sentences(told)
+        told = " ".join([first, *filter(tells_premises, others)])
+    if until == len(docs):
+        return told
     lines = [it.strip() for it in path.read_text().splitlines()]
-    line = place_of([it.strip() for it in docs], doc_lines(lines)) + len(told) + 1
-    return "\n".join([*told, f"[Example](../{shown(path)}#L{line})"])
+    line = place_of([it.strip() for it in docs], doc_lines(lines)) + until + 1
+    return f"{told}\n\n[Example](../{shown(path)}#L{line})"
+
+
+def stated(docs: list[str]) -> str:
+    """What a law says, by its doc comment."""
+    said = " ".join(docs).removeprefix("A law: ")
+    return said[0].upper() + said[1:]
+
+
+def signature(head: str) -> str:
+    """The head of a public function, without bounds that the page says once; in a line where no others are left."""
+    lines = [it for it in dedented(head.removeprefix("pub ")).split("\n") if it.strip().rstrip(",") not in BOUNDS_SAID_ONCE]
+    if "where" in lines[:-1]:
+        return fenced([*lines[:-1], lines[-1].rstrip(",")], "rust")
+    line = " ".join(it.strip() for it in lines if it != "where")
+    return f"`{line.replace('( ', '(').replace(', )', ')')}`"
 
 
 def dedented(head: str) -> str:
@@ -139,7 +174,7 @@ def dedented(head: str) -> str:
 
 
 def listed(part: Item, indent: str = "") -> Iterator[str]:
-    """A field or a variant with its doc comment, and below it the fields of a variant."""
-    yield f"{indent}- `{part.name}`: {' '.join(part.docs)}"
+    """A field or a variant with its types and its doc comment, and below it the fields of a variant."""
+    yield f"{indent}- `{part.head.removeprefix('pub ').rstrip(',')}`: {' '.join(part.docs)}"
     for field in part.parts():
         yield from listed(field, indent + "  ")

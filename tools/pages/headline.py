@@ -4,6 +4,7 @@ A call rests on the definitions in specs/ that its contract names, that name how
 and `view` of their models), and that these name. Lines are counted without comments."""
 from __future__ import annotations
 
+import itertools
 import pathlib
 import re
 from collections.abc import Iterable, Iterator, Mapping
@@ -107,6 +108,12 @@ def beginning(meaning: str) -> str:
     return f"{first}…" if rest else first
 
 
+def listed(found: Iterable[Definition]) -> Iterator[str]:
+    for is_function, them in itertools.groupby(found, lambda it: it.name[0].islower()):
+        links = [(it, f"[`{it.name}`](../{path_of(it)}#L{it.line})") for it in them]
+        yield from [", ".join(link for _, link in links)] if is_function else (f"{link}: {beginning(it.meaning)}" for it, link in links)
+
+
 def definitions_among(order: Iterable[Told]) -> list[Definition]:
     return [it for it in order if isinstance(it, Definition)]
 
@@ -148,9 +155,10 @@ class Headline:
         return "\n\n".join(f"`{it}`, {code.types[it].place()}\n\n{fenced(lines)}" for it, _, lines in code.views(call))
 
     def definitions(self, name: str) -> str:
-        """What a root rests on beside what was told, which is told now: a line each, with a link to its place."""
+        """What a root rests on beside what was told, which is told now, with links: a line each, and one for functions that follow
+        one another, which stand there by name alone."""
         found = definitions_among(self.specs.tell(self.roots(name), self.told))
-        return "\n".join(f"- [`{it.name}`](../{path_of(it)}#L{it.line}): {beginning(it.meaning)}" for it in found)
+        return "\n".join(f"- {it}" for it in listed(found))
 
     def texts(self, name: str) -> str:
         """The same with its texts: types of the code and words of std, then definitions."""

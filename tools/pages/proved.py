@@ -17,8 +17,34 @@ from sources import CRATES, FOR_C, LAYERS, MAIN, PROGRAM, coded, files_of, shown
 TRIED = [it.stem for it in CRATES.glob("*/must-fail/*.edit")]
 OTHERS = [it.stem for it in CRATES.glob("*/wrong-bodies/*.edit")]
 
-# Claims that the page makes of all calls at its head, so not of each.
-SAID_ONCE = {"No other error is answered.", "What always holds of a session holds afterwards."}
+# Sentences that the page says once, of all calls or of all those for C, so not of each, and what stands in place of one. Further
+# ones say what an error leaves, which cases say too that are no error.
+SAID_ONCE = {
+    "No other error is answered.": "",
+    "No other status is answered.": "",
+    "What always holds of a session holds.": "",
+    "What always holds of a session holds afterwards.": "",
+    "The handle has a session.": "",
+    "Without groups it succeeds.": "",
+    "Where the status is not `RP_DONE`, nothing is written.": "",
+    "Where the status is not `RP_DONE`, no placement is written.": "",
+    "Else nothing is written.": "",
+    "Else no number is written.": "",
+    "The same is so of packings with a heuristic that has a name, as `pack_rects_best` makes them.": "The same.",
+    "The same is so of a packing with a heuristic that has a name, as `pack_rects_best` makes it.": "The same.",
+    "The same is so of a heuristic that has a name, as `pack_rects_fitting_best` takes it.": "The same.",
+}
+LEFT_BY_ERRORS = {
+    "The bins are as they were, the order of their lists included.",
+    "The session is as it was.",
+    "The session is as it was, the order of its lists included.",
+    "An error leaves the session as it was.",
+    "An error leaves the bin as it was.",
+    "An error leaves the collection as it was.",
+}
+NO_ERROR = re.compile(r"`(None|true|false)`|[A-Z]\w*:")
+# What says in a doc comment what the caller sees to.
+PREMISES = ("The caller sees to it", "onditions ")
 
 
 @dataclass(frozen=True)
@@ -33,6 +59,21 @@ def claims_of(notes: list[str]) -> list[Claim]:
     texts = [" ".join(it.replace("\n//", "").split()) for it in found]
     parts = [it[:-1].rpartition(" [") if it.endswith("]") else (it, "", "") for it in texts]
     return [Claim(text, edits.split(", ") if edits else []) for text, _, edits in parts]
+
+
+def shortened(claim: Claim) -> str:
+    """What a claim says, without what the page says once."""
+    once = SAID_ONCE if NO_ERROR.match(claim.text) else {**SAID_ONCE, **dict.fromkeys(LEFT_BY_ERRORS, "")}
+    return " ".join(filter(None, (once.get(it, it) for it in sentences(claim.text))))
+
+
+def sentences(text: str) -> list[str]:
+    return re.split(r"(?<=\.) ", " ".join(text.split()))
+
+
+def tells_premises(docs: str) -> bool:
+    """Whether a doc comment says what the caller sees to."""
+    return any(it in docs for it in PREMISES)
 
 
 def is_told(call: Call) -> bool:
@@ -65,18 +106,21 @@ class Proved:
                 first.setdefault(text, said)
 
     def claims(self, call: Call) -> Iterator[str]:
-        """A line for each claim: its clause, what it says, and in brackets the wrong bodies. A star marks those that the gate does
-        not try. Premises are left out that another law told, or that the doc comment of the call tells; and what is said once of all."""
-        tells_premises = "The caller sees to it" in " ".join(call.item.docs)
-        for clause in (it for it in call.clauses() if it.kind == "ensures" or (claims_of(it.notes) and not tells_premises)):
-            for it in (it for it in self.told[call.name, clause.name] if it.text not in SAID_ONCE):
-                text = f"Premise: {it.text[0].lower()}{it.text[1:]}" if clause.kind == "requires" else it.text
-                name = "" if clause.name == clause.kind else f"`{clause.name}`: "
+        """A line for each claim: at the first of a clause its name, then what it says, and in brackets the wrong bodies. A star marks
+        those that the gate does not try. What is said once of all is left out, and premises that the doc comment of the call tells."""
+        has_premises = call.kind == "law" or not tells_premises(" ".join(call.item.docs))
+        are_named = any(it.name != it.kind for it in call.clauses())
+        for clause in (it for it in call.clauses() if it.kind == "ensures" or has_premises):
+            name = f"**{clause.name}**: " if are_named else ""
+            for it in (it for it in self.told[call.name, clause.name] if shortened(it)):
+                said = shortened(it)
+                text = f"Premise: {said[0].lower()}{said[1:]}" if clause.kind == "requires" else said
                 edits = ", ".join(f"`{edit}`" if edit in TRIED else f"`{edit}`\\*" for edit in it.edits)
                 yield f"- {name}{text} [{edits}]" if edits else f"- {name}{text}"
+                name = ""
 
     def faults(self) -> Iterator[str]:
-        """Clauses without a claim, claims that name what is not there, and wrong bodies that none names."""
+        """Clauses without a claim, claims that name what is not there, wrong bodies that none names, and what no claim says once more."""
         yield from (f"{it.place()}: another function is named `{it.name}`" for it in self.twice)
         words = words_of_sources()
         for call in self.calls.values():
@@ -84,6 +128,8 @@ class Proved:
             yield from (f"{call.place()}: two clauses of `{call.name}` are named `{it}`" for it in {*names} if names.count(it) > 1)
             for clause in call.clauses() if not is_plain(call) else []:
                 yield from self.faults_of_clause(call, clause, words)
+        said = {it for claims in self.told.values() for claim in claims for it in sentences(claim.text)}
+        yield from (f"tools/pages/proved.py: no claim says `{it}`" for it in sorted({*SAID_ONCE, *LEFT_BY_ERRORS} - said))
         yield from self.faults_of_edits(files_of([*LAYERS, FOR_C, *PROGRAM], "must-fail", ".edit"))
 
     def faults_of_clause(self, call: Call, clause: Clause, words: set[str]) -> Iterator[str]:

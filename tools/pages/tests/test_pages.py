@@ -1,4 +1,5 @@
 """What is made and what is found wrong, on small texts."""
+import functools
 import pathlib
 import tempfile
 import unittest
@@ -6,8 +7,10 @@ from unittest import mock
 
 import calls
 import examples
+import headline
 import modules
 import proved
+from antt import definitions_in
 from headline import Specs, Told, definitions_among
 from library import Call, Placed, functions_of
 from rattle import items_of
@@ -98,6 +101,13 @@ class Rests(unittest.TestCase):
         self.assertEqual([it.name for it in definitions_among(self.specs.roots("Bin.first"))], ["side"])
 
 
+class Listed(unittest.TestCase):
+    def test_functions_in_a_row_stand_by_name(self) -> None:
+        found = definitions_in("-- a\npub a : T\n\n-- b\npub b : T\n\n-- c; d\npub C : T\n\n-- e\npub e : T\n", "low.specs.It")
+        links = [f"[`{name}`](../crates/low/specs/It.antt#L{line})" for name, line in (("a", 2), ("b", 5), ("C", 8), ("e", 11))]
+        self.assertEqual(list(headline.listed(found)), [", ".join(links[:2]), f"{links[2]}: c…", links[3]])
+
+
 READER = """/// How many there are.
 pub fn NAME(&self) -> usize
     ensures { length self.now }
@@ -123,14 +133,29 @@ class Claims(unittest.TestCase):
         with mock.patch.object(proved, "TRIED", ["set.two"]):
             found = [*self.proved.claims(self.proved.calls["set"])]
         self.assertEqual(found, [
-            "- `small`: Premise: `n` is small.",
-            r"- `done`: It is `n` then, whatever it was. [`set.is_left`\*, `set.two`]",
-            "- `done`: It stays.",
+            "- **small**: Premise: `n` is small.",
+            r"- **done**: It is `n` then, whatever it was. [`set.is_left`\*, `set.two`]",
+            "- It stays.",
         ])
 
-    def test_a_premise_that_was_told_is_left_out(self) -> None:
+    def test_a_premise_of_the_same_words_is_told_again(self) -> None:
         found = [*self.proved.claims(self.proved.calls["reset"])]
-        self.assertEqual([it.partition(":")[0] for it in found], ["- `done`", "- `done`"])
+        self.assertEqual([it.partition(":")[0] for it in found], ["- **small**", "- **done**", "- It stays."])
+
+    def test_a_premise_that_the_docs_tell_is_left_out(self) -> None:
+        call = call_of("set", "/// Sets it. The caller sees to it\n/// that `n` is small.\n" + CALL)
+        self.assertEqual([it.partition(":")[0] for it in proved.Proved([call]).claims(call)], ["- **done**", "- It stays."])
+
+    def test_what_is_said_once_is_left_out(self) -> None:
+        left = {
+            "`TooLarge`: it is 5 or more. The session is as it was. No other error is answered.": "`TooLarge`: it is 5 or more.",
+            "An error leaves the bin as it was.": "",
+            "`None`: it is not there. The session is as it was.": "`None`: it is not there. The session is as it was.",
+            "Done: it is 2^32. The session is as it was.": "Done: it is 2^32. The session is as it was.",
+            "An error leaves the bin as it was, and the list.": "An error leaves the bin as it was, and the list.",
+            "The same is so of a packing with a heuristic that has a name, as `pack_rects_best` makes it.": "The same.",
+        }
+        self.assertEqual({it: proved.shortened(proved.Claim(it, [])) for it in left}, left)
 
     def test_a_clause_that_reads_the_same_claims_the_same(self) -> None:
         self.assertEqual(self.proved.told["reset", "small"], [proved.Claim("`n` is small.", [])])
@@ -196,18 +221,41 @@ class Calls(unittest.TestCase):
         self.assertEqual(calls.dedented(head), "pub fn set(\n    &self,\n) -> u32")
         self.assertEqual(calls.dedented("fn set()\n    where\n        u8: Copy,"), "fn set()\nwhere\n    u8: Copy")
 
+    def test_docs_without_what_claims_say(self) -> None:
+        docs = ["Sets", "it. An error leaves it.", "", "In detail.", "The caller sees to", "it that it is small. `No` says why."]
+        self.assertEqual(calls.docs_of(docs, FILE, has_claims=True), "Sets it. The caller sees to it that it is small.")
+        self.assertEqual(calls.docs_of(docs, FILE), "\n".join(docs))
+
     def test_tests_are_those_of_the_module(self) -> None:
         among = [("pack", "pack/groups", "set(1)"), ("pack", "pack/large", "reset()"), ("session", "session", "set(2)")]
-        self.assertEqual(calls.tests_of(call_of("set", CALL), among), "Tests: `pack/groups`")
+        self.assertEqual(calls.tests_of(call_of("set", CALL), among), "*`pack/groups`*")
 
     def test_files_of_one_folder_are_one_word(self) -> None:
         found = [*calls.gathered(["pack", "pack/best", "pack/units/large", "laws", "session/run"])]
         self.assertEqual(found, ["`pack`", "`pack/{best,units/large}`", "`laws`", "`session/run`"])
 
+    def test_a_heading_leads_to_the_doc_comment(self) -> None:
+        text = "use it;\n\n/// Sets it.\n///\n/// Well.\n#[inline]\n" + CALL.replace("NAME", "set")
+        call = Call(FILE, items_of(text.splitlines())[1], "set", "pack")
+        page = mock.Mock(proved=proved.Proved([call]), tests=[])
+        page.proved_of = functools.partial(calls.Page.proved_of, page)
+        heading, head, docs, claims, _ = calls.Page.function(page, 3, call, "Function")
+        self.assertEqual(heading, "### Function [`set`](../crates/low/src/pack.rt#L3)")
+        self.assertEqual((head, docs, claims.count("\n")), ("`fn set(n: u32)`", "Sets it.", 2))
+
+    def test_a_law_is_stated(self) -> None:
+        self.assertEqual(calls.stated(["A law: it is", "so."]), "It is so.")
+
+    def test_heads_stand_in_a_line_without_bounds_that_are_said_once(self) -> None:
+        head = "pub fn set<H>(\n        n: u32,\n        by: &H,\n    ) -> u32\n    where\n        H: Fn(WidthHeightDepth) -> u128,"
+        self.assertEqual(calls.signature(head), "`fn set<H>(n: u32, by: &H) -> u32`")
+        fenced = "```rust\nfn set<H>(\n    n: u32,\n    by: &H,\n) -> u32\nwhere\n    N: Copy\n```"
+        self.assertEqual(calls.signature(head.replace("    H:", "    N: Copy,\n        H:")), fenced)
+
     def test_variants_are_listed_with_their_fields(self) -> None:
         lines = ["    /// It moved.", "    Moved {", "        /// How far.", "        by: u32,", "    },"]
         (part,) = items_of(lines, ends=",")
-        self.assertEqual(list(calls.listed(part)), ["- `Moved`: It moved.", "  - `by`: How far."])
+        self.assertEqual(list(calls.listed(part)), ["- `Moved`: It moved.", "  - `by: u32`: How far."])
 
 
 class Modules(unittest.TestCase):
