@@ -18,9 +18,9 @@ AreAnswered old (line ∷ lines) text new =
     (request : Request) × Asks line request × (first : List ℕ) × (next : Store) × Answers request old first next
     × (later : List ℕ) × AreAnswered next lines later new × (text ≡ first ++ later)
 
--- how a run may end where these lines are left, of which the first has the number n: at the end of the input, where none
--- is left; at the first of them, where it is bad; or for want of memory, at the first of them whatever it says, so at a
--- bad one too, or before line 1, also where there is no line. Ends by a failed read or write are not told here
+-- how a run may end where these lines are left, of which the first has the number n. At the end of the input: none is
+-- left. At a bad line: it is the first of them. For want of memory: at the first of them, whatever it says; or before line
+-- 1, also where there is no line. Ends by a failed read or write are not told here
 abbrev pub MayEnd : ℕ → List (List ℕ) → Ended → Type 0
 MayEnd n lines (Ok done) = lines ≡ []
 MayEnd n lines (Err (BadLine number)) = (number ≡ n) × (line : List ℕ) × (later : List (List ℕ)) × (lines ≡ line ∷ later) × IsBad line

@@ -27,13 +27,13 @@ pub fn answers_keep_sessions()
         AreAnswered old lines text new →
         IsSession name_cmp old.session →
         IsSession name_cmp new.session }
-    // It holds of each store on which lines are answered from the empty one on.
+    // It holds of each store that answered lines leave, from the empty store on.
     ensures begun { (lines : List (List ℕ)) (new : Store) (text : List ℕ) →
         AreAnswered (empty_store 0) lines text new →
         IsSession name_cmp new.session }
-    // The answered lines of a transcript can be parted anywhere: those before are answered from the
-    //   empty store on, and leave a store of which this holds; the others are answered from there
-    //   on; its text is that of the two parts, one after the other.
+    // The answered lines of a transcript can be parted anywhere. The first part is answered from
+    //   the empty store on, and this holds of the store that it leaves. The second part is answered
+    //   from that store on. The text is that of the first part, and then that of the second.
     ensures transcript { (input printed : List ℕ) (ended : Ended) →
         (whole : IsTranscript input printed ended) (before behind : List (List ℕ)) →
         whole.answered ≡ before ++ behind →

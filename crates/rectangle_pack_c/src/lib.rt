@@ -206,8 +206,8 @@ pub extern "C" fn rectangle_pack_collection(
     ensures one_packing { result ≡ RP_DONE → (other : ℕ) → (others : List RpPlacement) →
         IsBestPacking bins.now (all_boxes collection.now) collection.now.exclusions.now
         (asked heuristic) other others → (others ≡ placements.new) × (other ≡ chosen.new) }
-    // `RP_DONE`: not with each heuristic that is asked for a packing of equal bins and collections
-    //   is refused for space.
+    // `RP_DONE`: with some heuristic that is asked for, no packing of equal bins and collections is
+    //   refused for space.
     ensures never_refused { result ≡ RP_DONE →
         ¬ All (IsRefusedPacking bins.now (all_boxes collection.now)
         collection.now.exclusions.now) (asked heuristic) }

@@ -344,8 +344,8 @@ pub extern "C" fn rectangle_pack_session_cut_plan(
     //   [tell.count_is_the_length_of_the_array]
     // `RP_NO_PLAN`: the bin is there, no tree of cuts has these boxes as its leaves, and nothing is
     //   written. [tell_plan.no_plan_is_done]
-    // `RP_UNKNOWN_BIN` and `RP_OUT_OF_MEMORY`: there is no such bin, or there is; nothing is
-    //   written. No other status is answered.
+    // `RP_UNKNOWN_BIN`: there is no such bin. `RP_OUT_OF_MEMORY`: the bin is there. With either,
+    //   nothing is written. No other status is answered.
     ensures told { IfSome session.old.state (λ (state : State ℕ ℕ).
         TellsPlan state bin result steps.old steps.new count.old count.new) }
     ensures unchanged { session.new.state ≡ session.old.state }

@@ -267,7 +267,7 @@ pub extern "C" fn rectangle_pack_session_pack_collection(
     //   number, or all. The status is that of the answer: `RP_DONE`, `RP_NOT_ENOUGH_SPACE`,
     //   `RP_NUMBERS_USED_UP` or `RP_OUT_OF_MEMORY`. What always holds of a session holds
     //   afterwards. [groups_of.groups_are_one, pack_asked.volume_is_the_best]
-    // `RP_DONE`: the number that is written is that of the heuristic with which was packed.
+    // `RP_DONE`: the number of the heuristic that packed is written.
     //   [rectangle_pack_session_pack_collection.asked_is_chosen]
     ensures packed { fault_of collection.now heuristic (length placements.old) ≡ 0 →
         ChangesAs (PacksCollection heuristic (all_boxes collection.now)

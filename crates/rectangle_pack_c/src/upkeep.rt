@@ -38,9 +38,9 @@ pub extern "C" fn rectangle_pack_session_clear_bin(
     status(&answer)
 }
 
-/// Takes a bin out of the session, in which no placement is outstanding. `RP_DONE`,
-/// `RP_UNKNOWN_BIN` where there is no such bin, or `RP_BIN_IN_USE` where placements are outstanding
-/// in it. What is not done leaves the session as it was. Takes no memory.
+/// Takes out a bin in which no placement is outstanding. `RP_DONE`, `RP_UNKNOWN_BIN` where there is
+/// no such bin, or `RP_BIN_IN_USE` where placements are outstanding in it. What is not done leaves
+/// the session as it was. Takes no memory.
 #[unsafe(no_mangle)]
 pub extern "C" fn rectangle_pack_session_remove_bin(
     alloc: Global,

@@ -167,11 +167,9 @@ impl<A: Allocator + Copy> FreeList<A> {
     }
 }
 
-/// How many fit tests a look at one section after another makes, from the newest on: a member that
-/// is placed costs one for its section and one for each newer one, and a member that finds no
-/// section costs one for each section of the list. The count is exactly this, whatever the code
-/// does: in a long list the search passes over sections together that are all too small, counts each
-/// of them and tests none. The count stays at the greatest `u128`.
+/// A count of fit tests. A member that is placed counts one for its section and one for each newer
+/// section; a member that finds no section counts one for each section of the list. Sections that a
+/// search passes over without a test are counted too. The count stops at the greatest `u128`.
 #[derive(Debug, PartialEq, Drop)]
 pub struct FitTests {
     count: u128,

@@ -41,9 +41,9 @@ where
     H: Fn(WidthHeightDepth) -> u128,
     // The heuristic may be called on every size, those with sides of 0 among them.
     requires { CanRate H.Fn heuristic.now }
-    // There is an answer of the heuristic on each of the six sizes with this property: the result
-    //   compares the second triple's smallest answer to the first's, and at a tie its second
-    //   smallest to the first's. So `Greater` means that the first triple has the smaller one. The
+    // With some answer of the heuristic on each of the six sizes: the result compares the smallest
+    //   answer for the second triple with the smallest for the first; where they are equal, the
+    //   second smallest ones. So `Greater` means that the first triple has the smaller one. The
     //   largest answer never decides. [contains_smallest_box.first_size_alone_decides]
     ensures { IsSmallestOrder (H.post heuristic.now) container1 container2 result }
 {
@@ -211,10 +211,10 @@ impl BinSection {
         // Where it succeeds, a cell is in the section exactly where it is in the box or in one of
         //   the three pieces. [pieces_round.piece_behind_is_dropped]
         ensures make_up { IfOk result (λ p. MakeUp (p.0 ∷ p.1) self.now) }
-        // Where it succeeds, the pieces are those of one of the six cuts round the box. The
-        //   comparison may answer `Greater` on that cut and each later one. If that cut is not the
-        //   first, the comparison may answer something else than `Greater` on some earlier cut and
-        //   it. [place_held.last_cut_is_always_taken]
+        // Where it succeeds, the pieces are those of one of the six cuts round the box. Asked about
+        //   this cut and any later one, the comparison may answer `Greater`. Where this cut is not
+        //   the first, there is an earlier cut: asked about that and this one, it may answer `Less`
+        //   or `Equal`. [place_held.last_cut_is_always_taken]
         // Where moreover all that the comparison may answer on these six cuts agrees with one total
         //   preorder, none of the six is greater than the cut of the pieces.
         //   [place_held.last_cut_is_always_taken]

@@ -14,8 +14,8 @@ module _ {B : Type 0} (bin_cmp : B → B → Ordering) where
   IsBestPlace named box bins id index =
       (bin : Bin) × (best : Cuboid) × (at : IsBestBin bin_cmp named box bins id bin best) × (length at.fits.before ≡ index)
 
-  -- of the bins that were looked at, among all, the bin of this id is the first of those in which the box leaves the least; the
-  -- section that it fits best there stands at this index, and it leaves so much of that
+  -- the bin of this id is the first one, of those that were looked at, in which the box leaves the least. The section that it
+  -- fits best there stands at this index, and `rest` is what the box leaves of it
   abbrev pub IsBestSeen : Size → List (B × Bin) → List (B × Bin) → B → ℕ → ℕ → Type 0
   IsBestSeen box all seen id index rest =
       (bin : Bin) × (lookup (is_at (bin_cmp id)) all ≡ Some bin) × IsFirstBest bin_cmp box rest seen id bin

@@ -15,8 +15,8 @@ where
 {
     /// Makes the bin larger by so many cells on one axis. What is new is one more free section, the
     /// newest of the bin, where it has cells; all other sections and all placements stay where they
-    /// are. While the bin does not count as coalesced, its boxes stay what straight cuts leave of
-    /// it, the first of them at the old end.
+    /// are. While the bin does not count as coalesced, straight cuts still part it into its boxes;
+    /// the first cut is where the bin ended before.
     ///
     /// `UnknownBin` says that there is no such bin; this is looked at first. `TooLarge` says that
     /// its side on the axis and `by` add up to more than the greatest `u32`, `OutOfMemory` that a

@@ -72,9 +72,9 @@ where
         C: Fn([WidthHeightDepth; 3], [WidthHeightDepth; 3], &H) -> Ordering,
         requires bin_ids { ClonesEqual BinId.is_clone BinId.eq }
         requires callable { AreCallable H.Fn C.Fn heuristic.now comparison.now }
-        // Placed: the bin is the named one. Where none is named, of each section that holds the box
-        //   in a bin of a lesser id it would leave more on the tightest side, in a bin of a greater
-        //   id at least as much. [best_of_all.last_bin_is_searched_alone]
+        // Placed: the bin is the named one. Where none is named, the box leaves the least there on
+        //   the tightest side: any section that holds it in a bin of a lesser id would leave more,
+        //   and in a bin of a greater id at least as much. [best_of_all.last_bin_is_searched_alone]
         // Placed: in this bin the box is placed where it fits best, as `placed` of
         //   `TargetBin::place_best` says it. [best_section.first_section_that_holds_is_taken]
         // Placed: the answer is the next number. The placement follows the outstanding ones under

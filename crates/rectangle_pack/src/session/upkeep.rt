@@ -47,7 +47,7 @@ where
         Ok(())
     }
 
-    /// Takes a bin out of the session, in which no placement is outstanding. Takes no memory.
+    /// Takes out a bin in which no placement is outstanding. Takes no memory.
     ///
     /// `UnknownBin` says that there is no such bin; this is looked at first. `BinInUse` says that
     /// placements are outstanding in the bin. The session is then as it was.

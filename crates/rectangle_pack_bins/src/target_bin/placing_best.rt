@@ -55,8 +55,8 @@ impl<A: Allocator + Copy> TargetBin<A> {
         H: Fn(WidthHeightDepth) -> u128,
         C: Fn([WidthHeightDepth; 3], [WidthHeightDepth; 3], &H) -> Ordering,
         requires callable { AreCallable H.Fn C.Fn heuristic.now comparison.now }
-        // A location: the box stands at the corner of a free section that holds it. Of each newer
-        //   section that holds it, it would leave more on the tightest side, of each older one at
+        // A location: the box stands at the corner of a free section that holds it. Each newer
+        //   section that holds it would leave more on the tightest side, and each older one at
         //   least as much. [best_section.first_section_that_holds_is_taken,
         //   best_section.ties_go_to_the_oldest]
         // A location: an axis on which the bin has at most one cell does not count there.

@@ -35,7 +35,7 @@ MayBe p filling parts fillings =
 abbrev pub weight : Part → ℕ
 weight p = suc (p.count + p.count - 2)
 
--- the parts may stand for the part (`MayBe`), the first of them is the next one, and they weigh less
+-- the parts may take the place of the part (`MayBe`); the first of them is planned next, and together they weigh less
 pub record IsPeeled (p : Part) (filling fillings : List Cuboid) (parts : List Part) : Type 0 where
   pub may_be : MayBe p filling parts fillings
   pub lighter : sum_by weight parts < weight p
