@@ -1,0 +1,24 @@
+-- Rates: Raises, Intervals, Boxes; and Families, which stands alone. Arrangements: from DifferentIds on, to ShownBins. Code: from
+-- Items on.
+pub mod Lists
+pub mod Sums
+pub mod Raises
+pub mod Intervals
+pub mod Boxes
+pub mod Families
+pub mod DifferentIds
+pub mod LargestNumbers
+pub mod BoxesByBin
+pub mod Extremes
+pub mod TriedRatings
+pub mod Standing
+pub mod ShownBins
+pub mod Items
+pub mod Halves
+pub mod Usable
+pub mod Least
+pub mod Greatest
+pub mod Zero
+pub mod Totals
+pub mod Volumes
+pub mod SameSizes

@@ -1,0 +1,9 @@
+use Rattle.std.proofs.Common.{◌≡◌, All, map, take}
+use Rattle.rectangle_pack_bounds.specs.private.Rates.{IsRow}
+use Rattle.rectangle_pack_bounds.proofs.rows.rows.Given as goal
+
+abbrev pub invariant-loop-rating : goal.invariant-loop-rating
+invariant-loop-rating g l = record {
+  of_ratings : map (λ row. row.rating) l.rows.items ≡ take l.rating-index l.ratings;
+  rated : All (IsRow l.fn.along l.fn.boxes) l.rows.items;
+}

@@ -1,0 +1,4 @@
+-- Definitions that only the clauses of private functions use.
+pub mod Ways
+pub mod Tried
+pub mod Rates
