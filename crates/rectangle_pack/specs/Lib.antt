@@ -54,3 +54,5 @@ pub mod Releasing
 pub mod SessionFitting
 pub mod SessionTold
 pub mod Reading
+pub mod Needed
+pub mod NeededLaws

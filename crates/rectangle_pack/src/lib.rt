@@ -4,6 +4,7 @@
 //! `rectangle_pack::NAME`.
 #![tactic(auto)]
 
+pub mod bound;
 pub mod session;
 
 /// Free sections of a bin, and how a box is placed into one.
@@ -85,6 +86,11 @@ pub mod width_height_depth {
 pub use bin_section::{
     BinSection, BinSectionError, cell_test_is_membership, contains_smallest_box,
     pieces_are_from_cuts, sections_are_ordered, sharing_is_symmetric, smallest_box_is_preorder,
+};
+pub use bound::{
+    Turns, bins_are_bounded, bins_used, fewest_bins_are_used, kept_packing_is_an_arrangement,
+    least_bins, packing_is_an_arrangement, rates_are_dual_feasible, shown_bins_are_needed,
+    uses_fewest_bins,
 };
 pub use box_size_heuristics::{
     Heuristic, UnknownHeuristic, all_lists_each_heuristic_once, depth_heuristic, height_heuristic,

@@ -3,8 +3,8 @@
 
 use rectangle_pack::{
     BinSection, FitTests, Group, GroupedRectsToPlace, Heuristic, RectToInsert, RectanglePackOk,
-    TargetBin, WidthHeightDepth, contains_smallest_box, pack_rects, pack_rects_best,
-    pack_rects_fitting, volume_heuristic, volume_packing_has_one_result,
+    TargetBin, Turns, WidthHeightDepth, contains_smallest_box, least_bins, pack_rects,
+    pack_rects_best, pack_rects_fitting, volume_heuristic, volume_packing_has_one_result,
 };
 use std::alloc::{AllocError, Global};
 use std::collections::BTreeMap;
@@ -219,4 +219,20 @@ fn the_law_takes_the_two_functions() {
         &volume_heuristic,
         &contains_smallest_box,
     );
+}
+
+#[test]
+fn least_bins_counts(rt: HostRuntime) -> Result<(), Fail> {
+    let alloc = rt.alloc();
+    let mut rects: GroupedRectsToPlace<u32, u32> = GroupedRectsToPlace::new(alloc);
+    for id in 0..3 {
+        rects.push_rect(id, None, RectToInsert::new(6, 6, 1))?;
+    }
+    let mut bins: BTreeMap<u32, TargetBin> = BTreeMap::new(alloc);
+    for id in 0..4 {
+        bins.insert(id, TargetBin::new(alloc, 10, 10, 1)?)?;
+    }
+    let turns: BTreeMap<u32, Turns> = BTreeMap::new(alloc);
+    assert_eq!(rt; least_bins(alloc, &rects, &bins, &turns)?, Some(3));
+    Ok(())
 }
