@@ -7,6 +7,7 @@ import subprocess
 import sys
 
 import atlas
+import bounds
 import fill
 import plans
 import speed
@@ -14,7 +15,7 @@ from programs import TOP
 
 ALL = (
     speed.packings, speed.others, speed.what_fits, speed.from_c, speed.excluded, speed.given_back, speed.sweeps, plans.plans, atlas.atlas,
-    fill.fill,
+    fill.fill, bounds.bounds, bounds.bound_times,
 )
 MORE = (fill.squares, fill.pages, fill.containers, fill.best)
 TABLES = {it.__name__: it for it in (*ALL, *MORE)}

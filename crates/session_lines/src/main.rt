@@ -1,7 +1,7 @@
 //! The library by lines. It has what `packrun` has no line for, so that the library for C can be
 //! compared with it, and heuristics and cutting plans can be measured.
 //!
-//! It reads lines from standard input. Six of them tell of the next packing or release:
+//! It reads lines from standard input. Seven of them tell of the next packing or release:
 //!
 //! - `box W H D GROUP` is a box more, in no group where that is 0;
 //! - `member I GROUP` puts box I into one group more, as a box behind all of those;
@@ -10,6 +10,7 @@
 //!   is 0 box J alone;
 //! - `step GROUP I BIN N` is a step more: the group, or box I alone where that is 0, goes into the
 //!   bin, by the heuristic N of `Heuristic::ALL`, or by the first where there is no such number;
+//! - `turn I X Y Z` says that box I may be turned about the axes that have not 0, for `least`;
 //! - `number N` is a number more.
 //!
 //! `again` begins with a new session. No answer comes to these.
@@ -41,20 +42,26 @@
 //! - `time BIN`: how many microseconds the plan of the bin takes, the best of five;
 //! - `first W H D`, `pages W H` and `times S N` measure the boxes, as `measures.rt` says, and forget
 //!   them: a number for each heuristic, and one for the best of all;
-//! - `beside S N`, as `measures.rt` says: two numbers. It forgets the boxes.
+//! - `beside S N`, as `measures.rt` says: two numbers. It forgets the boxes;
+//! - `least`: how many of the bins the boxes need at least, whatever packer places them, or -1 where
+//!   no packer can place them all; `least_time`: how many microseconds that takes, the best of five.
+//!   Both forget the boxes.
 //!
 //! A number that is not there is 0. Other lines are passed over.
 #![tactic(auto)]
 
+mod bound;
 mod fitting;
 mod measures;
 mod packing;
 
+use crate::bound::{AllTurns, add_turns, print_least, print_least_time};
 use crate::fitting::{Steps, add_step, print_fitting, print_told};
 use crate::measures::{measure, print_beside, print_time};
 use crate::packing::{Bins, Boxes, add, fit, pack, place};
 use rectangle_pack::{Axis, CutStep, GroupedRectsToPlace, Outstanding, Session, SessionError};
 use std::alloc::Global;
+use std::collections::BTreeMap;
 use std::io::{self, BufRead, BufReader};
 
 // 1 where it is done, 0 where it is refused.
@@ -70,6 +77,7 @@ fn is_done(answer: Result<(), SessionError>) -> u32 {
 struct Told {
     boxes: Boxes,
     steps: Steps,
+    turns: AllTurns,
     numbers: Vec<u64>,
 }
 
@@ -280,6 +288,8 @@ fn end(
         "find" => print_fit(rt, session, boxes, None, a)?,
         "first" | "pages" | "times" => measure(rt, boxes, word, [a, b, c])?,
         "beside" => print_beside(rt, boxes, a, b)?,
+        "least" => print_least(rt, session, boxes, &told.turns)?,
+        "least_time" => print_least_time(rt, session, boxes, &told.turns)?,
         _ => return Ok(false),
     }
     Ok(true)
@@ -290,6 +300,7 @@ fn tell(rt: &HostRuntime, told: &mut Told, word: &str, numbers: [u32; 4]) -> io:
     match word {
         "number" => told.numbers.push(numbers[0] as u64)?,
         "step" => add_step(&mut told.steps, numbers)?,
+        "turn" => add_turns(&mut told.turns, numbers)?,
         _ => return add(rt.alloc(), &mut told.boxes, word, numbers),
     }
     Ok(true)
@@ -312,6 +323,7 @@ fn obey(rt: &HostRuntime, session: &mut Bins, told: &mut Told, line: &str) -> io
     if end(rt, session, told, word, numbers)? {
         told.boxes = GroupedRectsToPlace::new(rt.alloc());
         told.steps.clear();
+        told.turns = BTreeMap::new(rt.alloc());
         return Ok(());
     }
     match change(session, word, numbers)? {
@@ -328,6 +340,7 @@ fn main(rt: HostRuntime) -> io::Result<()> {
     let mut told = Told {
         boxes: GroupedRectsToPlace::new(alloc),
         steps: Vec::new(alloc),
+        turns: BTreeMap::new(alloc),
         numbers: Vec::new(alloc),
     };
     for line in BufReader::new(alloc, rt.reader())?.lines(alloc) {
