@@ -1,5 +1,5 @@
 -- How many bins a list of boxes needs, as far as it is shown.
-use Rattle.std.specs.Prelude.{◌≡◌, ℕ, ◌<◌, ◌≤◌, cond, max, Bool, ◌&&◌, nat_le, List, [], ◌+◌, length, map, sum, sum_by, IsPermutation, IsSorted, Option, Some, None}
+use Rattle.std.specs.Prelude.{◌≡◌, ℕ, ◌<◌, ◌≤◌, cond, max, Bool, ◌&&◌, nat_le, List, ◌+◌, length, map, sum, sum_by, IsPermutation, IsSorted, Option, Some, None}
 use Rattle.std.specs.List.{list_all, list_any}
 use Rattle.std.specs.Ordering.{nat_cmp}
 use Rattle.rectangle_pack_sections.specs.Boxes.{Size, volume_of}

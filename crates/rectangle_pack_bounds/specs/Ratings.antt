@@ -1,5 +1,5 @@
 -- Ratings that have a name, which of them are tried along an axis, and what they show.
-use Rattle.std.specs.Prelude.{◌≡◌, ◌↔◌, ℕ, ◌+◌, ◌-◌, ◌*◌, ◌/◌, ◌^◌, ◌<◌, ◌≤◌, cond, min, max, Bool, ◌||◌, nat_le, List, [], ◌∷◌, ◌++◌, Contains, drop, flat_map, length, map, sum_by}
+use Rattle.std.specs.Prelude.{◌≡◌, ◌↔◌, ℕ, ◌-◌, ◌*◌, ◌/◌, ◌^◌, ◌<◌, ◌≤◌, cond, min, max, Bool, ◌||◌, nat_le, List, [], ◌∷◌, ◌++◌, Contains, drop, flat_map, length, map, sum_by}
 use Rattle.std.specs.Int.{div_ceil}
 use Rattle.std.specs.List.{list_all}
 use Rattle.std.specs.List.Sorted.{IsStrictlyIncreasing}

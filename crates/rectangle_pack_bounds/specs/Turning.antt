@@ -1,7 +1,6 @@
 -- How a box may stand: as it is, or turned.
 use Rattle.std.specs.Prelude.{Bool, true, false, List, [], ◌∷◌, filter, ◌&&◌, nat_le}
 use Rattle.rectangle_pack_sections.specs.Boxes.{Size}
-use Rattle.rectangle_pack_bounds.specs.declared.turning.Turns.{Turns}
 use Rattle.rectangle_pack_bounds.specs.declared.turning.TurningBox.{TurningBox}
 
 -- a size, turned about x: height and depth change places

@@ -1,8 +1,8 @@
 -- Lists: what a filter keeps, and three lists appended.
-use Rattle.std.proofs.Common.{◌≡◌, ℕ, Bool, true, false, List, [], ◌∷◌, ◌++◌, map, filter, flat_map, All, Contains, refl, append_assoc, ap, sym, ◌∙◌, subst, ◌+◌, ◌<◌, length, get_or, take}
+use Rattle.std.proofs.Common.{◌≡◌, ℕ, Bool, true, false, List, [], ◌∷◌, ◌++◌, map, filter, flat_map, All, Contains, refl, append_assoc, ap, sym, ◌∙◌, ◌+◌, ◌<◌, length, get_or, take}
 use Rattle.std.proofs.lemmas.Bool.{both_ways}
 use Rattle.std.proofs.lemmas.List.{map-append, take_more}
-use Rattle.std.proofs.lemmas.List.Elements.{All-nil, All-cons, All-weaker, All-contains, All-filter, All-contains_itself, All-get_or, Contains-append_left, Contains-append_right, Contains-push, filter_passes}
+use Rattle.std.proofs.lemmas.List.Elements.{All-nil, All-cons, All-weaker, All-contains, All-filter, All-contains_itself, Contains-append_left, Contains-append_right, Contains-push, filter_passes}
 
 -- a filter keeps what passes
 kept_of : {X : Type 0} (p : X → Bool) (x : X) (xs : List X) (b : Bool) → p x ≡ b → All (λ y. p y ≡ true → Contains (filter p xs) y) xs
