@@ -101,6 +101,8 @@ class BrowserCase(ViewCase):
         except WebDriverException as why:
             raise unittest.SkipTest(f"chromium does not start: {why.msg}") from None
         cls.addClassCleanup(cls.driver.quit)
+        # A page is drawn without a graphics card, which takes long where the machine is busy.
+        cls.driver.set_script_timeout(300)
 
     def open(self, *scenes: Scene, size: tuple[int, int] = DESK, colours: str = "light", motion: str = "no-preference") -> None:
         """Opens the page of scenes in a window of this size, for a reader who prefers these colours and this motion."""
