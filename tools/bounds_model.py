@@ -1,4 +1,5 @@
-"""How many bins boxes need: the bound as docs/BOUND.md says it, written a second time, and the true number, found by trying all.
+"""How many bins boxes need: the bound as the definitions of rectangle_pack_bounds say it, written a second time, and the true number, found
+by trying all.
 
 A size has a width, a height and a depth. What may be turned is a set of axes, 0 for x."""
 from __future__ import annotations

@@ -9,7 +9,7 @@ ghost use Rattle.rectangle_pack_bounds.specs.Turning.{ways};
 ghost use Rattle.rectangle_pack_bounds.specs.Arrangements.{AreNeeded, IsArrangement, IsMetBy, Put, bins_used};
 ghost use Rattle.rectangle_pack_bounds.specs.Bounds.{IsShown};
 
-/// A law: what no two of which share a place or a cell is rated at most as high as the scales are.
+/// A law: intervals on an axis, and boxes in a bin, are rated no higher than scales allow.
 pub fn bins_are_bounded()
     // Intervals within a length, whose weights add up to at most `most` at each place: their rates,
     //   times their weights, add up to at most `most` times the scale.
