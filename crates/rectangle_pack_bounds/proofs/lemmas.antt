@@ -16,9 +16,9 @@ pub mod ShownBins
 pub mod Items
 pub mod Halves
 pub mod Usable
-pub mod Least
 pub mod Greatest
 pub mod Zero
+pub mod LeastRates
 pub mod Totals
 pub mod Volumes
 pub mod SameSizes

@@ -4,7 +4,7 @@
 
 pub mod laws;
 pub mod least_bins;
-pub mod least_rate;
+pub mod least_rates;
 pub mod rating;
 pub mod ratings_along;
 pub mod ratings_tried;

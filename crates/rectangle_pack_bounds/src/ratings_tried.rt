@@ -5,12 +5,13 @@ ghost use Rattle.rectangle_pack_sections.specs.Boxes.{extent};
 ghost use Rattle.rectangle_pack_sections.specs.declared.axis.Axis.TheVariants.{X, Y, Z};
 ghost use Rattle.rectangle_pack_bounds.specs.Ratings.{AreShownByRatings, AreTried, are_full, effort_by, bound_by, greatest_by, least_rate, capped};
 ghost use Rattle.rectangle_pack_bounds.specs.private.Rates.{IsRow, ratings_of};
+ghost use Rattle.rectangle_pack_bounds.specs.private.Ways.{IsFitting};
 
-use crate::least_rate::RatedSize;
+use crate::least_rates::least_rates;
 use crate::ratings_along::{are_full, extent, ratings_along};
 use crate::rows::{Row, rows};
 use crate::turning::TurningBox;
-use crate::ways::ways_of;
+use crate::ways::{FittingWays, fitting_ways, ways_of};
 use rectangle_pack_sections::axis::Axis;
 use rectangle_pack_sections::width_height_depth::WidthHeightDepth;
 use std::alloc::{AllocError, Allocator};
@@ -27,11 +28,12 @@ pub fn shown_by_ratings<A: Allocator + Copy>(
     ensures { IfOk result (AreShownByRatings bin boxes.now) }
 {
     let sizes = ways_of(alloc, boxes)?;
+    let fitting = fitting_ways(alloc, bin, boxes)?;
     let is_flat = is_flat(bin, &sizes);
-    let widths = rows_along(alloc, bin, Axis::X, boxes, &sizes, is_flat)?;
-    let heights = rows_along(alloc, bin, Axis::Y, boxes, &sizes, is_flat)?;
-    let depths = rows_along(alloc, bin, Axis::Z, boxes, &sizes, is_flat)?;
-    Ok(greatest(bin, boxes, &widths, &heights, &depths))
+    let widths = rows_along(alloc, Axis::X, &fitting, &sizes, is_flat)?;
+    let heights = rows_along(alloc, Axis::Y, &fitting, &sizes, is_flat)?;
+    let depths = rows_along(alloc, Axis::Z, &fitting, &sizes, is_flat)?;
+    Ok(greatest(&fitting, &widths, &heights, &depths))
 }
 
 // Whether along some axis all sizes are as long as the bin.
@@ -46,132 +48,127 @@ fn is_flat(bin: WidthHeightDepth, sizes: &[WidthHeightDepth]) -> bool
 // The rows of the ratings that are tried along an axis.
 fn rows_along<A: Allocator + Copy>(
     alloc: A,
-    bin: WidthHeightDepth,
     axis: Axis,
-    boxes: &[TurningBox],
+    fitting: &FittingWays<A>,
     sizes: &[WidthHeightDepth],
     is_flat: bool,
 ) -> Result<Vec<Row<A>, A>, AllocError>
-    ensures tried { IfOk result (λ rows. AreTried (effort_by is_flat) (extent axis bin)
+    ensures tried { IfOk result (λ rows. AreTried (effort_by is_flat) (extent axis fitting.now.bin)
         (map (extent axis) sizes.now) (map (λ row. row.rating) rows.items)) }
-    ensures rated { IfOk result (λ rows. All (IsRow (extent axis bin) boxes.now) rows.items) }
+    ensures rated { IfOk result
+        (λ rows. All (IsRow axis fitting.now.bin fitting.now.sizes.items) rows.items) }
 {
-    let ratings = ratings_along(alloc, bin, axis, sizes, is_flat)?;
-    rows(alloc, extent(axis, &bin), &ratings, boxes)
+    let ratings = ratings_along(alloc, fitting.bin, axis, sizes, is_flat)?;
+    rows(alloc, axis, &ratings, fitting)
 }
 
 // The greatest number that a rating of widths, one of heights and one of depths show.
 fn greatest<A: Allocator + Copy>(
-    bin: WidthHeightDepth,
-    boxes: &[TurningBox],
+    fitting: &FittingWays<A>,
     widths: &[Row<A>],
     heights: &[Row<A>],
     depths: &[Row<A>],
 ) -> usize
-    requires of_widths { All (IsRow bin.width boxes.now) widths.now }
-    requires of_heights { All (IsRow bin.height boxes.now) heights.now }
-    requires of_depths { All (IsRow bin.depth boxes.now) depths.now }
+    requires fitting { IsFitting fitting.now }
+    requires of_widths { All (IsRow X fitting.now.bin fitting.now.sizes.items) widths.now }
+    requires of_heights { All (IsRow Y fitting.now.bin fitting.now.sizes.items) heights.now }
+    requires of_depths { All (IsRow Z fitting.now.bin fitting.now.sizes.items) depths.now }
     ensures { result ≡ greatest_by (λ w. greatest_by (λ h. greatest_by (λ d.
-        bound_by bin boxes.now (ratings_of w h d)) depths.now) heights.now) widths.now }
+        bound_by fitting.now.bin fitting.now.boxes.now (ratings_of w h d)) depths.now)
+        heights.now) widths.now }
 {
     let mut greatest: usize = 0;
     for width in widths {
-        greatest = greatest.max(greatest_at(bin, boxes, width, heights, depths));
+        greatest = greatest.max(greatest_at(fitting, width, heights, depths));
     }
     greatest
 }
 
 // `greatest` at one rating of widths.
 fn greatest_at<A: Allocator + Copy>(
-    bin: WidthHeightDepth,
-    boxes: &[TurningBox],
+    fitting: &FittingWays<A>,
     width: &Row<A>,
     heights: &[Row<A>],
     depths: &[Row<A>],
 ) -> usize
-    requires of_width { IsRow bin.width boxes.now width.now }
-    requires of_heights { All (IsRow bin.height boxes.now) heights.now }
-    requires of_depths { All (IsRow bin.depth boxes.now) depths.now }
+    requires fitting { IsFitting fitting.now }
+    requires of_width { IsRow X fitting.now.bin fitting.now.sizes.items width.now }
+    requires of_heights { All (IsRow Y fitting.now.bin fitting.now.sizes.items) heights.now }
+    requires of_depths { All (IsRow Z fitting.now.bin fitting.now.sizes.items) depths.now }
     ensures { result ≡ greatest_by (λ h. greatest_by (λ d.
-        bound_by bin boxes.now (ratings_of width.now h d)) depths.now) heights.now }
+        bound_by fitting.now.bin fitting.now.boxes.now (ratings_of width.now h d)) depths.now)
+        heights.now }
 {
     let mut greatest: usize = 0;
     for height in heights {
-        greatest = greatest.max(greatest_along(bin, boxes, width, height, depths));
+        greatest = greatest.max(greatest_along(fitting, width, height, depths));
     }
     greatest
 }
 
 // `greatest` at one rating of widths and one of heights.
 fn greatest_along<A: Allocator + Copy>(
-    bin: WidthHeightDepth,
-    boxes: &[TurningBox],
+    fitting: &FittingWays<A>,
     width: &Row<A>,
     height: &Row<A>,
     depths: &[Row<A>],
 ) -> usize
-    requires of_width { IsRow bin.width boxes.now width.now }
-    requires of_height { IsRow bin.height boxes.now height.now }
-    requires of_depths { All (IsRow bin.depth boxes.now) depths.now }
+    requires fitting { IsFitting fitting.now }
+    requires of_width { IsRow X fitting.now.bin fitting.now.sizes.items width.now }
+    requires of_height { IsRow Y fitting.now.bin fitting.now.sizes.items height.now }
+    requires of_depths { All (IsRow Z fitting.now.bin fitting.now.sizes.items) depths.now }
     ensures { result ≡ greatest_by (λ d.
-        bound_by bin boxes.now (ratings_of width.now height.now d)) depths.now }
+        bound_by fitting.now.bin fitting.now.boxes.now (ratings_of width.now height.now d))
+        depths.now }
 {
     let mut greatest: usize = 0;
     for depth in depths {
-        greatest = greatest.max(bound_by(bin, boxes, width, height, depth));
+        greatest = greatest.max(bound_by(fitting, width, height, depth));
     }
     greatest
 }
 
 // How many bins the boxes need by one rating for each axis.
 fn bound_by<A: Allocator + Copy>(
-    bin: WidthHeightDepth,
-    boxes: &[TurningBox],
+    fitting: &FittingWays<A>,
     width: &Row<A>,
     height: &Row<A>,
     depth: &Row<A>,
 ) -> usize
-    requires of_width { IsRow bin.width boxes.now width.now }
-    requires of_height { IsRow bin.height boxes.now height.now }
-    requires of_depth { IsRow bin.depth boxes.now depth.now }
-    ensures { result ≡ bound_by bin boxes.now (ratings_of width.now height.now depth.now) }
+    requires fitting { IsFitting fitting.now }
+    requires of_width { IsRow X fitting.now.bin fitting.now.sizes.items width.now }
+    requires of_height { IsRow Y fitting.now.bin fitting.now.sizes.items height.now }
+    requires of_depth { IsRow Z fitting.now.bin fitting.now.sizes.items depth.now }
+    ensures { result ≡ bound_by fitting.now.bin fitting.now.boxes.now
+        (ratings_of width.now height.now depth.now) }
 {
-    let total = total_rate(bin, boxes, width, height, depth);
+    let total = total_rate(fitting, width, height, depth);
     // A scale of 2^128 or more may count as 2^128 - 1, since no total is greater.
     let scale = (width.scale as u128 * height.scale as u128).saturating_mul(depth.scale as u128);
-    quotient(total, scale, boxes.len())
+    quotient(total, scale, fitting.boxes.len())
 }
 
 // The least rates of the boxes, added up, or the greatest `u128` where it is more.
 fn total_rate<A: Allocator + Copy>(
-    bin: WidthHeightDepth,
-    boxes: &[TurningBox],
+    fitting: &FittingWays<A>,
     width: &Row<A>,
     height: &Row<A>,
     depth: &Row<A>,
 ) -> u128
-    requires of_width { IsRow bin.width boxes.now width.now }
-    requires of_height { IsRow bin.height boxes.now height.now }
-    requires of_depth { IsRow bin.depth boxes.now depth.now }
+    requires fitting { IsFitting fitting.now }
+    requires of_width { IsRow X fitting.now.bin fitting.now.sizes.items width.now }
+    requires of_height { IsRow Y fitting.now.bin fitting.now.sizes.items height.now }
+    requires of_depth { IsRow Z fitting.now.bin fitting.now.sizes.items depth.now }
     ensures { result ≡ capped (sum_by
-        (least_rate (ratings_of width.now height.now depth.now) bin) boxes.now) }
+        (least_rate (ratings_of width.now height.now depth.now) fitting.now.bin)
+        fitting.now.boxes.now) }
 {
-    let mut total: u128 = 0;
-    let rates = width
-        .rates
-        .iter()
-        .zip(height.rates.iter())
-        .zip(depth.rates.iter());
-    for (one, ((along_x, along_y), along_z)) in boxes.iter().zip(rates) {
-        let rated = RatedSize {
-            size: one.whd,
-            along_x: *along_x,
-            along_y: *along_y,
-            along_z: *along_z,
-        };
-        total = total.saturating_add(rated.least_rate(bin, one.turns));
-    }
-    total
+    least_rates(
+        fitting.are_first.as_slice(),
+        width.rates.as_slice(),
+        height.rates.as_slice(),
+        depth.rates.as_slice(),
+    )
 }
 
 // The quotient, rounded up, or `most` where it is more. Where the scale is 0, so is the total.

@@ -1,44 +1,39 @@
 //! The rates of boxes along an axis, by one rating.
 ghost use Rattle.std.specs.Prelude.{◌≡◌, IfOk, map, All};
+ghost use Rattle.rectangle_pack_sections.specs.Boxes.{extent};
 ghost use Rattle.rectangle_pack_bounds.specs.Ratings.{IsUsable};
-ghost use Rattle.rectangle_pack_bounds.specs.private.Rates.{rates_along, IsRow};
+ghost use Rattle.rectangle_pack_bounds.specs.private.Rates.{IsRow};
 
 use crate::rating::Rating;
-use crate::turning::TurningBox;
-use rectangle_pack_sections::width_height_depth::WidthHeightDepth;
+use crate::ratings_along::extent;
+use crate::ways::FittingWays;
+use rectangle_pack_sections::axis::Axis;
 use std::alloc::{AllocError, Allocator};
 
-/// The rates of the width, the height and the depth of a size, all along one axis.
-#[derive(Debug, Clone, Copy, PartialEq)]
-pub(crate) struct LengthRates {
-    pub of_width: u64,
-    pub of_height: u64,
-    pub of_depth: u64,
-}
-
-/// A rating along an axis, its scale, and for each box the rates of its lengths. They are computed
-/// once, as divisions are dear.
+/// A rating along an axis, its scale, and the rates along that axis of the ways in which boxes fit.
+/// They are computed once, as divisions are dear.
 #[derive(Debug, Drop)]
 pub(crate) struct Row<A: Allocator> {
     pub rating: Rating,
     pub scale: u64,
-    pub rates: Vec<LengthRates, A>,
+    pub rates: Vec<u64, A>,
 }
 
-/// A row for each rating along an axis so long.
+/// A row for each rating along an axis.
 pub(crate) fn rows<A: Allocator + Copy>(
     alloc: A,
-    along: u32,
+    axis: Axis,
     ratings: &[Rating],
-    boxes: &[TurningBox],
+    fitting: &FittingWays<A>,
 ) -> Result<Vec<Row<A>, A>, AllocError>
-    requires { All (λ rating. IsUsable rating along) ratings.now }
+    requires { All (λ rating. IsUsable rating (extent axis fitting.now.bin)) ratings.now }
     ensures of_ratings { IfOk result (λ rows. map (λ row. row.rating) rows.items ≡ ratings.now) }
-    ensures rated { IfOk result (λ rows. All (IsRow along boxes.now) rows.items) }
+    ensures rated { IfOk result
+        (λ rows. All (IsRow axis fitting.now.bin fitting.now.sizes.items) rows.items) }
 {
     let mut rows = Vec::with_capacity(alloc, ratings.len())?;
     for rating in ratings {
-        rows.push(rated_row(alloc, along, *rating, boxes)?)?;
+        rows.push(rated_row(alloc, axis, *rating, fitting)?)?;
     }
     Ok(rows)
 }
@@ -46,33 +41,23 @@ pub(crate) fn rows<A: Allocator + Copy>(
 // The row of one rating.
 fn rated_row<A: Allocator + Copy>(
     alloc: A,
-    along: u32,
+    axis: Axis,
     rating: Rating,
-    boxes: &[TurningBox],
+    fitting: &FittingWays<A>,
 ) -> Result<Row<A>, AllocError>
-    requires { IsUsable rating along }
+    requires { IsUsable rating (extent axis fitting.now.bin) }
     ensures of_rating { IfOk result (λ row. row.rating ≡ rating) }
-    ensures rated { IfOk result (IsRow along boxes.now) }
+    ensures rated { IfOk result (IsRow axis fitting.now.bin fitting.now.sizes.items) }
 {
-    let rates = boxes
+    let along = extent(axis, &fitting.bin);
+    let rates = fitting
+        .sizes
         .iter()
-        .map(|one| rates_along(rating, along, one.whd))
+        .map(|size| rating.rate(along, extent(axis, size)))
         .collect(alloc)?;
     Ok(Row {
         rating,
         scale: rating.scale(along),
         rates,
     })
-}
-
-// The rates of the lengths of a size, along an axis so long.
-fn rates_along(rating: Rating, along: u32, size: WidthHeightDepth) -> LengthRates
-    requires { IsUsable rating along }
-    ensures { result ≡ rates_along rating along size }
-{
-    LengthRates {
-        of_width: rating.rate(along, size.width()),
-        of_height: rating.rate(along, size.height()),
-        of_depth: rating.rate(along, size.depth()),
-    }
 }

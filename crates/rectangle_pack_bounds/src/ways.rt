@@ -1,39 +1,20 @@
 //! The sizes in which boxes may stand, and which of them fit into a bin.
-ghost use Rattle.std.specs.Prelude.{◌≡◌, ◌++◌, OnOk, IfOk, flat_map};
-ghost use Rattle.rectangle_pack_bounds.specs.Turning.{about_x, about_y, about_z, fits_in, ways, ways_by};
-ghost use Rattle.rectangle_pack_bounds.specs.private.Ways.{ways_about};
-ghost use Rattle.rectangle_pack_sections.specs.Boxes.{Size};
+ghost use Rattle.std.specs.Prelude.{◌≡◌, ◌++◌, OnOk, IfOk, filter, flat_map};
+ghost use Rattle.rectangle_pack_bounds.specs.Turning.{about_x, about_y, about_z, fits_in, ways};
+ghost use Rattle.rectangle_pack_bounds.specs.private.Ways.{IsFitting, firsts};
 
 use crate::turning::{TurningBox, Turns};
 use rectangle_pack_sections::width_height_depth::{WidthHeightDepth, any_size};
 use std::alloc::{AllocError, Allocator};
 
-/// About what a box is turned: about no axis, one of them, or all, since turns about two of them
-/// reach the third.
-#[derive(Debug, Clone, Copy)]
-pub(crate) enum TurnedAbout {
-    NoAxis,
-    X,
-    Y,
-    Z,
-    AllAxes,
-}
-
-/// About what a box is turned that has these turns.
-#[tactic(auto, unfolding(crate::specs::Turning::ways_by))]
-pub(crate) fn turned_about(turns: Turns) -> TurnedAbout
-    ensures { (size : Size) →
-        ways_by turns.about_x turns.about_y turns.about_z size ≡ ways_about result size }
-{
-    match (turns.about_x, turns.about_y, turns.about_z) {
-        (false, false, false) => TurnedAbout::NoAxis,
-        (true, false, false) => TurnedAbout::X,
-        (false, true, false) => TurnedAbout::Y,
-        (false, false, true) => TurnedAbout::Z,
-        (true, true, _) => TurnedAbout::AllAxes,
-        (true, false, true) => TurnedAbout::AllAxes,
-        (false, true, true) => TurnedAbout::AllAxes,
-    }
+/// Boxes, a size of bins, and the ways in which the boxes fit there: the sizes, box by box, and
+/// whether each is the first one of its box.
+#[derive(Debug, Drop)]
+pub(crate) struct FittingWays<'a, A: Allocator> {
+    pub bin: WidthHeightDepth,
+    pub boxes: &'a [TurningBox],
+    pub sizes: Vec<WidthHeightDepth, A>,
+    pub are_first: Vec<bool, A>,
 }
 
 /// The size, turned about x: height and depth change places.
@@ -78,7 +59,57 @@ pub(crate) fn ways_of<A: Allocator + Copy>(
     Ok(sizes)
 }
 
+/// The ways in which the boxes fit into a bin of this size.
+pub(crate) fn fitting_ways<'a, A: Allocator + Copy>(
+    alloc: A,
+    bin: WidthHeightDepth,
+    boxes: &'a [TurningBox],
+) -> Result<FittingWays<'a, A>, AllocError>
+    ensures given { IfOk result
+        (λ fitting. (fitting.bin ≡ bin) × (fitting.boxes.now ≡ boxes.now)) }
+    ensures ways { IfOk result IsFitting }
+{
+    let mut sizes = Vec::new(alloc);
+    let mut are_first = Vec::new(alloc);
+    let mut ways = Vec::new(alloc);
+    for one in boxes {
+        ways.clear();
+        push_ways(&mut ways, *one)?;
+        push_fitting(&mut sizes, &mut are_first, bin, ways.as_slice())?;
+    }
+    Ok(FittingWays {
+        bin,
+        boxes,
+        sizes,
+        are_first,
+    })
+}
+
+// Appends those ways of one box that fit into the bin.
+fn push_fitting<A: Allocator + Copy>(
+    sizes: &mut Vec<WidthHeightDepth, A>,
+    are_first: &mut Vec<bool, A>,
+    bin: WidthHeightDepth,
+    ways: &[WidthHeightDepth],
+) -> Result<(), AllocError>
+    ensures sizes { OnOk result
+        (sizes.new.items ≡ sizes.old.items ++ filter (fits_in bin) ways.now) }
+    ensures first { OnOk result
+        (are_first.new.items ≡ are_first.old.items ++ firsts (filter (fits_in bin) ways.now)) }
+{
+    let mut is_first = true;
+    for way in ways {
+        if fits_in(bin, *way) {
+            sizes.push(*way)?;
+            are_first.push(is_first)?;
+            is_first = false;
+        }
+    }
+    Ok(())
+}
+
 // Appends the sizes in which the box may stand.
+#[tactic(auto, unfolding(crate::specs::Turning::ways_by))]
 fn push_ways<A: Allocator + Copy>(
     sizes: &mut Vec<WidthHeightDepth, A>,
     one: TurningBox,
@@ -86,12 +117,17 @@ fn push_ways<A: Allocator + Copy>(
     ensures { OnOk result (sizes.new.items ≡ sizes.old.items ++ ways one) }
 {
     let size = one.whd;
-    match turned_about(one.turns) {
-        TurnedAbout::NoAxis => Ok(sizes.push(size)?),
-        TurnedAbout::X => sizes.extend_from_slice(&[size, about_x(size)]),
-        TurnedAbout::Y => sizes.extend_from_slice(&[size, about_y(size)]),
-        TurnedAbout::Z => sizes.extend_from_slice(&[size, about_z(size)]),
-        TurnedAbout::AllAxes => sizes.extend_from_slice(&[
+    let Turns {
+        about_x: x,
+        about_y: y,
+        about_z: z,
+    } = one.turns;
+    match (x, y, z) {
+        (false, false, false) => Ok(sizes.push(size)?),
+        (true, false, false) => sizes.extend_from_slice(&[size, about_x(size)]),
+        (false, true, false) => sizes.extend_from_slice(&[size, about_y(size)]),
+        (false, false, true) => sizes.extend_from_slice(&[size, about_z(size)]),
+        _ => sizes.extend_from_slice(&[
             size,
             about_x(size),
             about_y(size),

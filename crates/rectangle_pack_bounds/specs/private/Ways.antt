@@ -1,18 +1,17 @@
--- The sizes in which a box may stand, by the axes about which it is turned.
-use Rattle.std.specs.Prelude.{List, [], ◌∷◌}
-use Rattle.rectangle_pack_sections.specs.Boxes.{Size}
-use Rattle.rectangle_pack_bounds.specs.declared.ways.TurnedAbout.{TurnedAbout}
-use Rattle.rectangle_pack_bounds.specs.declared.ways.TurnedAbout.TheVariants.{NoAxis, X, Y, Z, AllAxes}
-use Rattle.rectangle_pack_bounds.specs.Turning.{about_x, about_y, about_z}
+-- The ways in which boxes fit into a bin, box by box.
+use Rattle.std.specs.Prelude.{◌≡◌, Bool, true, false, List, [], ◌∷◌, flat_map, map}
+use Rattle.rectangle_pack_bounds.specs.declared.ways.FittingWays.{FittingWays}
+use Rattle.rectangle_pack_bounds.specs.Turning.{ways_in}
 
--- the ways beside that as it is, about all axes
-abbrev pub five_turned : Size → List Size
-five_turned s = about_x s ∷ about_y s ∷ about_z s ∷ about_x (about_z s) ∷ about_z (about_x s) ∷ []
+-- which element of a list is its first
+-- Example: of a list of three: true, false, false
+abbrev pub firsts : {X : Type 0} → List X → List Bool
+firsts [] = []
+firsts (x ∷ xs) = true ∷ map (λ _. false) xs
 
--- the sizes in which a box of this size may stand
-abbrev pub ways_about : TurnedAbout → Size → List Size
-ways_about NoAxis s = s ∷ []
-ways_about X s = s ∷ about_x s ∷ []
-ways_about Y s = s ∷ about_y s ∷ []
-ways_about Z s = s ∷ about_z s ∷ []
-ways_about AllAxes s = s ∷ five_turned s
+-- the sizes are the ways in which the boxes fit into the bin, box by box, and the first one of each box is known
+-- Example: 4x9x1 and 2x3x1, which may be turned about z, in 10x5x1: 9x4x1, 2x3x1 and 3x2x1, of which the first two are the first of
+-- their box
+pub record IsFitting {A : Type 0} (fitting : FittingWays A) : Type 0 where
+  pub sizes_are : fitting.sizes.items ≡ flat_map (ways_in fitting.bin) fitting.boxes.now
+  pub first_are : fitting.are_first.items ≡ flat_map (λ b. firsts (ways_in fitting.bin b)) fitting.boxes.now

@@ -5,4 +5,4 @@ use Rattle.rectangle_pack_bounds.proofs.ratings_tried.greatest_at.Given as goal
 
 abbrev pub invariant-loop-height : goal.invariant-loop-height
 invariant-loop-height g l =
-    l.greatest ≡ greatest_by (λ h. greatest_by (λ d. bound_by l.fn.bin l.fn.boxes (ratings_of l.fn.width h d)) l.fn.depths) (take l.height-index l.heights)
+    l.greatest ≡ greatest_by (λ h. greatest_by (λ d. bound_by l.fn.fitting.bin l.fn.fitting.boxes.now (ratings_of l.fn.width h d)) l.fn.depths) (take l.height-index l.heights)

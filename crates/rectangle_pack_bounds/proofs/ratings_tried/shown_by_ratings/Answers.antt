@@ -29,7 +29,8 @@ returns g c =
     let sizes = c.in_ok-sizes.ensures in
     let of_boxes = λ (axis : Axis) (all : List Size) (e : all ≡ c.in_ok-sizes.sizes.items).
     ap (map (extent axis)) (e ∙ sizes) ∙ map-flat_map (extent axis) ways boxes in
-    let greatest = c.greatest.ensures in
+    let given = c.in_ok-fitting.ensures.given in
+    let greatest = rw (given.0, given.1) at c.greatest.ensures in
     record {
       widths = map (λ row. row.rating) c.in_ok-widths.widths.items;
       heights = map (λ row. row.rating) c.in_ok-heights.heights.items;
@@ -38,9 +39,9 @@ returns g c =
       effort_is = ap effort_by (c.is_flat-is_flat.ensures
           ∙ three_equal (λ x y z. are_full bin.width x || are_full bin.height y || are_full bin.depth z)
           (of_boxes X _ c.deref.ensures.value) (of_boxes Y _ c.deref.ensures.value) (of_boxes Z _ c.deref.ensures.value));
-      of_width = rw (← of_boxes X _ c.deref-2.ensures.value) c.in_ok-widths.ensures.tried;
-      of_height = rw (← of_boxes Y _ c.deref-3.ensures.value) c.in_ok-heights.ensures.tried;
-      of_depth = rw (← of_boxes Z _ c.deref-4.ensures.value) c.in_ok-depths.ensures.tried;
+      of_width = rw (← of_boxes X _ c.deref-2.ensures.value) (rw given.0 at c.in_ok-widths.ensures.tried);
+      of_height = rw (← of_boxes Y _ c.deref-3.ensures.value) (rw given.0 at c.in_ok-heights.ensures.tried);
+      of_depth = rw (← of_boxes Z _ c.deref-4.ensures.value) (rw given.0 at c.in_ok-depths.ensures.tried);
       greatest = rw (c.deref-5.ensures.value, c.deref-6.ensures.value, c.deref-7.ensures.value) at greatest
           ∙ sym (greatest_by-maps (λ w h d. bound_by bin boxes (record { of_width = w; of_height = h; of_depth = d })) (λ row. row.rating)
           c.in_ok-widths.widths.items c.in_ok-heights.heights.items c.in_ok-depths.depths.items);

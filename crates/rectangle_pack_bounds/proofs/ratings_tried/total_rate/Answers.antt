@@ -1,40 +1,31 @@
-use Rattle.std.proofs.Common.{◌≡◌, refl, length, take, take_all, arith}
-use Rattle.std.proofs.lemmas.Iterator.Consumers.{YieldsList-turn, YieldsList-end}
-use Rattle.std.proofs.lemmas.List.{length_push, length-map}
-use Rattle.rectangle_pack_bounds.specs.declared.turning.TurningBox.{TurningBox}
-use Rattle.rectangle_pack_bounds.specs.Ratings.{least_rate, capped}
-use Rattle.rectangle_pack_bounds.specs.private.Rates.{rates_along, ratings_of}
-use Rattle.rectangle_pack_bounds.proofs.lemmas.Totals.{beside, rows_road, turn_of, total_more, three_equal}
+use Rattle.std.proofs.Common.{ap, ◌∙◌}
+use Rattle.rectangle_pack_sections.specs.Boxes.{Size, extent}
+use Rattle.rectangle_pack_bounds.specs.Turning.{ways_in}
+use Rattle.rectangle_pack_bounds.specs.Ratings.{rate_by, capped}
+use Rattle.rectangle_pack_bounds.proofs.lemmas.LeastRates.{rows_added, length-row}
 use Rattle.rectangle_pack_bounds.proofs.ratings_tried.total_rate.Goals as goal
 
-pub loop-one-preserved : goal.loop-one-preserved
-loop-one-preserved g c =
-    let bin = c.args.bin in
-    let boxes = c.args.boxes.now in
-    let of_width = λ (b : TurningBox). rates_along c.args.width.now.rating bin.width b.whd in
-    let of_height = λ (b : TurningBox). rates_along c.args.height.now.rating bin.height b.whd in
-    let of_depth = λ (b : TurningBox). rates_along c.args.depth.now.rating bin.depth b.whd in
-    let road = rows_road of_width of_height of_depth boxes c.into_iter-one-iterator.result (cc) (cc) (cc) (cc) in
-    let n = length c.loop-one.yielded in
-    let one = c.in-Some.one.now in
-    let turn = YieldsList-turn road c.loop-one.yielded c.loop-one.one-iterator c.loop-one.yielded_by _ c.next.new.self _ c.in-Some.is c.next.ensures.steps in
-    let at = turn_of of_width of_height of_depth boxes n one c.in-Some.along_x.now c.in-Some.along_y.now c.in-Some.along_z.now turn.0 _ refl turn.1 in
-    let r = ratings_of c.args.width.now c.args.height.now c.args.depth.now in
-    let least : c.least_rate.result ≡ capped (least_rate r bin one) =
-    c.least_rate.ensures r one.whd (three_equal (λ x y z. record { size = one.whd; along_x = x; along_y = y; along_z = z }) at.first at.second at.third) in
-    rw length_push
-    (total_more (least_rate r bin) boxes n one c.loop-one.total c.least_rate.result c.saturating_add-total.result
-    c.loop-one.invariant at.below at.item least c.saturating_add-total.ensures)
+pub least_rates-requires-clause-widths : goal.least_rates-requires-clause-widths
+least_rates-requires-clause-widths g c =
+    rw (c.as_slice.ensures.value, c.as_slice-2.ensures.value)
+    (length-row _ (ways_in c.args.fitting.now.bin) c.args.fitting.now.boxes.now _ _ _ c.requires.fitting.sizes_are c.requires.fitting.first_are c.requires.of_width.rates_are)
+
+pub least_rates-requires-clause-heights : goal.least_rates-requires-clause-heights
+least_rates-requires-clause-heights g c =
+    rw (c.as_slice.ensures.value, c.as_slice-3.ensures.value)
+    (length-row _ (ways_in c.args.fitting.now.bin) c.args.fitting.now.boxes.now _ _ _ c.requires.fitting.sizes_are c.requires.fitting.first_are c.requires.of_height.rates_are)
+
+pub least_rates-requires-clause-depths : goal.least_rates-requires-clause-depths
+least_rates-requires-clause-depths g c =
+    rw (c.as_slice.ensures.value, c.as_slice-4.ensures.value)
+    (length-row _ (ways_in c.args.fitting.now.bin) c.args.fitting.now.boxes.now _ _ _ c.requires.fitting.sizes_are c.requires.fitting.first_are c.requires.of_depth.rates_are)
 
 pub returns : goal.returns
+unfolding extent
 returns g c =
-    let bin = c.args.bin in
-    let boxes = c.args.boxes.now in
-    let of_width = λ (b : TurningBox). rates_along c.args.width.now.rating bin.width b.whd in
-    let of_height = λ (b : TurningBox). rates_along c.args.height.now.rating bin.height b.whd in
-    let of_depth = λ (b : TurningBox). rates_along c.args.depth.now.rating bin.depth b.whd in
-    let road = rows_road of_width of_height of_depth boxes c.into_iter-one-iterator.result (cc) (cc) (cc) (cc) in
-    let end = YieldsList-end road c.loop-one.yielded c.loop-one.one-iterator c.loop-one.yielded_by _ c.next.new.self c.in-None.is c.next.ensures.steps in
-    let all : take (length c.loop-one.yielded) boxes ≡ boxes =
-    take_all (length c.loop-one.yielded) boxes (omega (arith, end.1, length-map boxes (beside of_width of_height of_depth))) in
-    rw all at c.loop-one.invariant
+    let bin = c.args.fitting.now.bin in
+    c.least_rates.ensures ∙ ap capped
+    (rows_added (λ (s : Size). rate_by c.args.width.now.rating bin.width s.width) (λ (s : Size). rate_by c.args.height.now.rating bin.height s.height) (λ (s : Size). rate_by c.args.depth.now.rating bin.depth s.depth)
+    (ways_in bin) c.args.fitting.now.boxes.now c.args.fitting.now.sizes.items _ _ _ _
+    c.requires.fitting.sizes_are (c.as_slice.ensures.value ∙ c.requires.fitting.first_are)
+    (c.as_slice-2.ensures.value ∙ c.requires.of_width.rates_are) (c.as_slice-3.ensures.value ∙ c.requires.of_height.rates_are) (c.as_slice-4.ensures.value ∙ c.requires.of_depth.rates_are))

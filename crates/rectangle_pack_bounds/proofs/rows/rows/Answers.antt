@@ -11,5 +11,5 @@ loop-rating-preserved g c =
     record {
       of_ratings = rw c.in_ok-push.ensures.items (map_more (λ row. row.rating) before row c.args.ratings.now
           c.loop-rating.rating-index c.loop-rating.invariant.of_ratings c.loop-rating-test.true (let h = c.in_ok-rated_row.ensures.of_rating in search rules));
-      rated = rw c.in_ok-push.ensures.items (All-push (IsRow c.args.along c.args.boxes.now) before row c.loop-rating.invariant.rated c.in_ok-rated_row.ensures.rated);
+      rated = rw c.in_ok-push.ensures.items (All-push (IsRow c.args.axis c.args.fitting.now.bin c.args.fitting.now.sizes.items) before row c.loop-rating.invariant.rated c.in_ok-rated_row.ensures.rated);
     }
