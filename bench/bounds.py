@@ -55,15 +55,18 @@ def bounds() -> None:
     table(heads, ([name, str(r.by_area), str(r.needed), str(turned[name].needed), str(r.used), f"{r.optimal} of {sets[name]}"] for name, r in found.items()))
 
 
+def time_of(program: str, seed: str, boxes: tuple[int, int], turns: str) -> str:
+    """How long it takes to show how many of as many bins as there are boxes are needed. The boxes are those of the seed, so many and so deep."""
+    r, (count, depth) = random.Random(seed), boxes
+    lines = ["again", *(f"bin 400 400 {depth}" for _ in range(count))]
+    lines += (f"box {r.randint(1, 300)} {r.randint(1, 300)} {r.randint(1, depth)} 0" for _ in range(count))
+    lines += (f"turn {number} {turns}" for number in range(count))
+    said = printed(program, "".join(f"{it}\n" for it in [*lines, "least_time"]))
+    return f"{int(said.split()[-1]) / 1000:.1f} ms"
+
+
 def bound_times() -> None:
-    """How long it takes to show how many bins are needed."""
+    """How long it takes to show how many bins are needed, and how long where the boxes may be turned about each axis."""
     counts = {"1,000 boxes, 2D": (1_000, 1), "10,000 boxes, 2D": (10_000, 1), "1,000 boxes, 3D": (1_000, 100)}
-    lines: list[str] = []
-    for name, (count, depth) in counts.items():
-        r = random.Random(name)
-        lines += ["again", *(f"bin 400 400 {depth}" for _ in range(count))]
-        lines += (f"box {r.randint(1, 300)} {r.randint(1, 300)} {r.randint(1, depth)} 0" for _ in range(count))
-        lines.append("least_time")
-    said = printed(proved("session_lines"), "".join(f"{it}\n" for it in lines)).splitlines()
-    ends = [sum(count for count, _ in [*counts.values()][: at + 1]) + at for at in range(len(counts))]
-    table(["", "Time"], ([name, f"{int(said[end]) / 1000:.1f} ms"] for name, end in zip(counts, ends)))
+    program = proved("session_lines")
+    table(["", "Time", "May be turned"], ([name, *(time_of(program, name, boxes, turns) for turns in ("0 0 0", "1 1 1"))] for name, boxes in counts.items()))
