@@ -21,7 +21,7 @@ class Placed:
 
     @property
     def kind(self) -> str:
-        return "law" if self.item.kind == "fn" and "laws" in self.path.with_suffix("").parts else self.item.kind
+        return "law" if self.item.kind == "fn" and "laws" in pathlib.Path(shown(self.path)).with_suffix("").parts else self.item.kind
 
     def place(self) -> str:
         return f"{shown(self.path)}:{self.item.line}"

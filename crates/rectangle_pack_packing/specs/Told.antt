@@ -6,6 +6,7 @@ use Rattle.std.specs.Map.{lookup}
 use Rattle.std.specs.BTreeMap.{is_at}
 use Rattle.rectangle_pack_sections.specs.declared.group.Group.{Group}
 use Rattle.rectangle_pack_sections.specs.Bins.{Bin}
+use Rattle.rectangle_pack_sections.specs.Boxes.{Size}
 use Rattle.rectangle_pack_sections.specs.Groups.{Collection}
 use Rattle.rectangle_pack_packing.specs.declared.answer.Placement.{Placement}
 use Rattle.rectangle_pack_packing.specs.declared.answer.RectanglePackOk.{RectanglePackOk}
@@ -17,6 +18,11 @@ use Rattle.rectangle_pack_packing.specs.declared.pack.told.Step.{Step}
 use Rattle.rectangle_pack_packing.specs.Best.{named_rules}
 use Rattle.rectangle_pack_packing.specs.Packing.{Members, Stage, at_start, excludes_by, IsPlaced, IsStuckIn}
 use Rattle.rectangle_pack_packing.specs.Placed.{AreLastPlacements, placements_of, locations_of}
+
+-- the collection with these sizes in place of its own
+-- Example: of one box a 4x9x1 alone, in the sizes a 9x4x1: the same group, of a 9x4x1
+abbrev pub in_sizes : {Id G : Type 0} → Collection Id G → List (Id × Size) → Collection Id G
+in_sizes all sizes = record all { sizes = sizes }
 
 -- how many entries the groups have that the steps name, one after another
 -- Example: of steps that name a group of 2 boxes, a group of 3 and the first again: 7

@@ -6,9 +6,11 @@ ghost use Rattle.rectangle_pack_packing.specs.ToldTexts.{told_text};
 ghost use Rattle.rectangle_pack_packing.specs.Told.{IsToldAnswer, entries_in_steps};
 ghost use Rattle.rectangle_pack_packing.specs.private.ToldOnItsWay.{IsTold, IsTriedAsTold};
 
+pub mod in_sizes;
 mod telling;
 
 use crate::answer::{Placement, RectanglePackOk, answer_of};
+use crate::pack::told::in_sizes::InSizes;
 use crate::pack::told::telling::{begin, ids_of, make_all};
 use rectangle_pack_bins::target_bin::TargetBin;
 use rectangle_pack_groups::grouped_rects_to_place::GroupedRectsToPlace;
@@ -132,8 +134,38 @@ where
     entries
 }
 
-// Packs as it is told; the placements, and where it `finds` them the last of each id. Where it is
-// not done the bins are as they were. Room is made for `entries` entries.
+/// Packs as it is told, each box in the size that it has in `collection`; the placements, and where
+/// it `finds` them the last of each id. Where it is not done the bins are as they were. Room is made
+/// for `entries` entries.
+pub fn try_told_in_sizes<'t, Id, BinId, GroupId, A>(
+    alloc: A,
+    collection: &InSizes<'t, Id, GroupId, A>,
+    bins: &mut BTreeMap<BinId, TargetBin<A>, A>,
+    entries: usize,
+    steps: &'t [Step<Id, GroupId, BinId>],
+    finds: bool,
+) -> Result<RectanglePackOk<Id, BinId, A>, ToldError>
+where
+    Id: Ord + Clone + Drop,
+    BinId: Ord + Clone + Drop,
+    GroupId: Ord + Clone + Drop,
+    A: Allocator + Copy,
+    requires ids { ClonesEqual Id.is_clone Id.eq }
+    requires bin_ids { ClonesEqual BinId.is_clone BinId.eq }
+    ensures { IsTold ⟦<Group<GroupId, Id> as Ord>⟧.cmp Id.cmp BinId.cmp collection.now steps.now
+        (bins_of bins.old.entries) finds result (bins_of bins.new.entries) }
+{
+    let ids = ids_of(alloc, bins)?;
+    let before = mem::replace(bins, BTreeMap::new(alloc));
+    let mut telling = begin(alloc, collection, before, ids.as_slice(), entries);
+    let told = make_all(&mut telling, steps);
+    let last = telling.last(alloc, told, finds);
+    let (after, placements) = telling.end(if last.is_ok() { End::Keep } else { End::Undo });
+    *bins = after;
+    Ok(answer_of(last?, placements))
+}
+
+// The same, each box in its own size.
 fn tell<Id, BinId, GroupId, A>(
     alloc: A,
     groups: &GroupedRectsToPlace<Id, GroupId, A>,
@@ -152,14 +184,8 @@ where
     ensures { IsTold ⟦<Group<GroupId, Id> as Ord>⟧.cmp Id.cmp BinId.cmp groups.now steps.now
         (bins_of bins.old.entries) finds result (bins_of bins.new.entries) }
 {
-    let ids = ids_of(alloc, bins)?;
-    let before = mem::replace(bins, BTreeMap::new(alloc));
-    let mut telling = begin(alloc, groups, before, ids.as_slice(), entries);
-    let told = make_all(&mut telling, steps);
-    let last = telling.last(alloc, told, finds);
-    let (after, placements) = telling.end(if last.is_ok() { End::Keep } else { End::Undo });
-    *bins = after;
-    Ok(answer_of(last?, placements))
+    let collection = InSizes::own(groups);
+    try_told_in_sizes(alloc, &collection, bins, entries, steps, finds)
 }
 
 /// Packs as it is told; the placements. Where it is not done the bins are as they were. Room is made
@@ -216,7 +242,7 @@ where
     //   these that is so of it: its group is not in the collection; its bin is not there; an earlier
     //   step names its group; a group that is excluded with its group went into its bin by an earlier
     //   step; the trial of its group is stuck in its bin. The bins are as they were.
-    //   [tell.refused_steps_stay]
+    //   [try_told_in_sizes.refused_steps_stay]
     // `OutOfMemory`: the bins are as they were, the order of their lists included. No other error is
     //   answered.
     ensures answer { IsToldAnswer ⟦<Group<GroupId, Id> as Ord>⟧.cmp Id.cmp BinId.cmp

@@ -16,9 +16,9 @@ use crate::answer::{Placement, last_placements, name_all};
 use crate::bins_at_work::BinsAtWork;
 use crate::homes::Homes;
 use crate::order::add_sizes;
+use crate::pack::told::in_sizes::InSizes;
 use crate::pack::told::{Step, StepFault, ToldError};
 use rectangle_pack_bins::target_bin::TargetBin;
-use rectangle_pack_groups::grouped_rects_to_place::{GroupedRectsToPlace, exclusions_of};
 use rectangle_pack_lists::free_list::End;
 use rectangle_pack_sections::box_size_heuristics::Heuristic;
 use rectangle_pack_sections::closures::Named;
@@ -223,11 +223,11 @@ where
     }
 }
 
-// A packing of these groups, in which there will be `entries` entries, into bins of these ids,
+// A packing of this collection, in which there will be `entries` entries, into bins of these ids,
 // before its first step. Takes no memory.
 pub(crate) fn begin<'t, 'b, Id, GroupId, B, A>(
     alloc: A,
-    groups: &'t GroupedRectsToPlace<Id, GroupId, A>,
+    collection: &InSizes<'t, Id, GroupId, A>,
     bins: BTreeMap<B, TargetBin<A>, A>,
     ids: &'b [(u128, B)],
     entries: usize,
@@ -242,7 +242,7 @@ where
     requires found { All (λ o. IsSome (get B.cmp bins o.1)) ids.now }
     requires rising { IsStrictlySortedBy B.cmp (map (λ o. o.1) ids.now) }
     requires all { NamesAllBins B.cmp ids.now (bins_of bins.entries) }
-    ensures collection { collection_of result ≡ groups.now }
+    ensures collection { collection_of result ≡ collection.now }
     ensures begun { IsToldBegun B.cmp result }
     ensures now { result.bins.now ≡ bins_of bins.entries }
     ensures start { result.bins.start ≡ bins_of bins.entries }
@@ -250,10 +250,10 @@ where
     let mut bins = BinsAtWork::new(bins, ids, alloc);
     bins.set_boxes(entries);
     Telling {
-        rects: groups.rects(),
-        lists: groups.groups(),
+        rects: collection.sizes,
+        lists: collection.lists,
         bins,
-        homes: Homes::new(exclusions_of(groups), alloc),
+        homes: Homes::new(collection.exclusions, alloc),
         named: BTreeSet::new(alloc),
         placements: Vec::new(alloc),
         sizes: Vec::new(alloc),

@@ -8,7 +8,7 @@ pub invariant_of-result : goal.invariant_of-result
 invariant_of-result g c = record {
   ids = c.requires.ids;
   bin_ids = c.requires.bin_ids;
-  sized = rw (c.rects.ensures.entries, c.groups.ensures.entries) c.groups.ensures.members;
+  sized = c.collection.invariant;
   rising = rw (c.set_boxes.ensures, c.new-bins.ensures.order) c.requires.rising;
 }
 
