@@ -354,10 +354,10 @@ uint32_t rectangle_pack_session_remove_bin(rp_session *session, uint32_t bin);
 uint32_t rectangle_pack_session_grow_bin(rp_session *session, uint32_t bin, uint32_t axis, uint32_t by);
 
 /* Cuts the free part of a bin anew, where boxes that came and went left it in many small sections: the first cuts part off the
-   strips that are free beside all boxes, the thickest first. The section whose least side is the greatest stands first, and of
-   those that tie the smallest; an axis on which the bin has one cell does not count. So a box goes to the corner of the narrowest
-   section that holds it. A bin without boxes becomes one section. Whether the bin counts as coalesced stays. RP_DONE,
-   RP_UNKNOWN_BIN, RP_NOT_FROM_CUTS or RP_OUT_OF_MEMORY.
+   strips that are free beside all boxes, the thickest first. The section whose least side is the greatest stands first; an axis
+   on which the bin has one cell does not count. Of those that tie that one does which was cut off the smallest part of the bin,
+   and then the smallest. So a box goes to the corner of the narrowest section that holds it. A bin without boxes becomes one
+   section. Whether the bin counts as coalesced stays. RP_DONE, RP_UNKNOWN_BIN, RP_NOT_FROM_CUTS or RP_OUT_OF_MEMORY.
 
    Proved: the free cells are the same as before; placements stay where they are; and straight cuts, each across a whole part,
    leave the new free sections and the boxes, so that rectangle_pack_session_cut_plan has a plan for them. */

@@ -1,5 +1,6 @@
 /* A model of the session that keeps a page full: best fit by the tightest side, the newest section at ties, and a recut from the
-   boxes alone each time that boxes have gone, which puts the thickest free section first. README.md says what it found.
+   boxes alone each time that boxes have gone, which puts the thickest free section first, of equally thick ones that of the
+   smallest room. README.md says what it found.
 
    The code is written over axes; with AXES 3 and three sizes a box it is the same policy for bins. */
 #include "workload.h"
@@ -103,11 +104,12 @@ static void cut_rest(const Rect *of, const Rect *box) {
     add(rests->larger), add(rests->smaller);
 }
 
-/* ---- recut: the parts of the page, each with its boxes as a stretch of one list ---- */
+/* ---- recut: the rooms, parts of the page, each with its boxes as a stretch of one list ---- */
 
 static Rect boxes[MOST];
 static unsigned starts[AXES][MOST]; /* of the boxes */
 static int listed[MOST];
+static Volume rooms[MOST]; /* for each free section the volume of the room that it was cut from */
 
 /* By the keys, stable: insertion where there are few, else by bytes. */
 static void sort(int *items, int count, const unsigned *key) {
@@ -157,11 +159,12 @@ static unsigned thickness(const Rect *room, const Rect *bounds, int at_side) {
 
 /* The strips of a room round the bounds become free sections, the thickest first. */
 static void cut_strips(Rect room, const Rect *bounds) {
-    for (;;) {
+    for (Volume all = volume(&room);;) {
         int thickest = 0;
         for (int at_side = 1; at_side < SIDES; at_side++)
             if (thickness(&room, bounds, at_side) > thickness(&room, bounds, thickest)) thickest = at_side;
         if (thickness(&room, bounds, thickest) == 0) return;
+        rooms[section_count] = all;
         add(strip_at(room, bounds, thickest));
         if (thickest % 2) room.to[thickest / 2] = bounds->to[thickest / 2];
         else room.from[thickest / 2] = bounds->from[thickest / 2];
@@ -179,7 +182,7 @@ static int before_plane(const int *of, int count, int axis) {
     return count;
 }
 
-/* Cuts a part of the page: its strips, then at each open plane of the first axis that has one. 0 where none has. */
+/* Cuts a room: its strips, then at each open plane of the first axis that has one. 0 where none has. */
 static int cut_part(Rect room, int *of, int count) {
     Rect bounds = bounds_of(of, count);
     cut_strips(room, &bounds);
@@ -198,21 +201,29 @@ static int cut_part(Rect room, int *of, int count) {
     return 0;
 }
 
-/* By the thinnest side, the thickest first; of those that tie the smallest first. */
+typedef struct {
+    Rect section;
+    unsigned thin;
+    Volume room;
+} Ranked;
+
+static int compare(Volume a, Volume b) { return a < b ? -1 : a > b; }
+
+/* By the thinnest side, the thickest first; of those that tie that of the smallest room, and then the smallest. */
 static int comes_before(const void *one, const void *other) {
-    const Rect *a = one, *b = other;
-    unsigned thin_a = least_of((unsigned[]){side(a, 0), side(a, 1)}), thin_b = least_of((unsigned[]){side(b, 0), side(b, 1)});
-    if (thin_a != thin_b) return thin_a > thin_b ? -1 : 1;
-    return volume(a) < volume(b) ? -1 : volume(a) > volume(b);
+    const Ranked *a = one, *b = other;
+    if (a->thin != b->thin) return compare(b->thin, a->thin);
+    if (a->room != b->room) return compare(a->room, b->room);
+    return compare(volume(&a->section), volume(&b->section));
 }
 
 static void put_in_order(void) {
-    static Rect copies[MOST];
+    static Ranked ranked[MOST];
     int count = section_count;
-    memcpy(copies, sections, sizeof *sections * (size_t)count);
-    qsort(copies, (size_t)count, sizeof *copies, comes_before);
+    for (int i = 0; i < count; i++) ranked[i] = (Ranked){sections[i], thin_sides[i], rooms[i]};
+    qsort(ranked, (size_t)count, sizeof *ranked, comes_before);
     section_count = 0;
-    for (int i = 0; i < count; i++) add(copies[i]);
+    for (int i = 0; i < count; i++) add(ranked[i].section);
 }
 
 static int recut(const Place *stand, int count) {

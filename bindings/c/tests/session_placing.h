@@ -138,7 +138,7 @@ static uint32_t status_of_recutting(const account *now, size_t bin)
 }
 
 /* The free sections of a bin that was cut anew: straight cuts leave them and the boxes, each has cells, and they stand by
-   falling least side, at ties by rising volume. Without boxes there is one. */
+   falling least side. Without boxes there is one. */
 static void check_cut_anew(const account *now, size_t bin, const sections *free)
 {
     static plan own;
@@ -148,8 +148,7 @@ static void check_cut_anew(const account *now, size_t bin, const sections *free)
         const rp_section *it = &free->list[i], *before = &free->list[i > 0 ? i - 1 : 0];
         uint32_t least = least_side(now->bins[bin], *it), least_before = least_side(now->bins[bin], *before);
         check(has_cells(it), "a section without cells was cut");
-        int is_after = least < least_before || (least == least_before && cells_of(before) <= cells_of(it));
-        check(is_after, "sections are in another order");
+        check(least <= least_before, "sections are in another order");
         cells += cells_of(it);
     }
     rp_section whole = whole_of(&now->bins[bin]);

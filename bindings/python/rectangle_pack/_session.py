@@ -146,8 +146,9 @@ class Session(Handle, Generic[BinName]):
         ...     session.free_sections("board")
         [Section(x=0, y=0, z=0, width=10, height=10, depth=1)]
 
-        The section whose least side is the greatest stands first, and of those that tie the smallest; an axis on which the bin
-        has one cell does not count. Whether the bin counts as coalesced stays.
+        The section whose least side is the greatest stands first; an axis on which the bin has one cell does not count. Of those
+        that tie that one does which was cut off the smallest part of the bin, and then the smallest. Whether the bin counts as
+        coalesced stays.
 
         Raises UnknownBin or OutOfMemory; or NotFromCuts where no straight cuts part the boxes, which is so only where sections
         of the bin were joined."""

@@ -42,10 +42,55 @@ def are_from_cuts(boxes):
     return False
 
 
+def cut_at(room, axis, place):
+    """The parts of a room below a place on an axis and from there on."""
+    below, above = list(room), list(room)
+    below[3 + axis] = place - room[axis]
+    above[axis], above[3 + axis] = place, room[axis] + room[3 + axis] - place
+    return tuple(below), tuple(above)
+
+
+def strips_round(bounds, room):
+    """The strips of a room beyond bounds: the thickest, of equally thick ones the first on x, y and z, then those of the rest."""
+    while room != bounds:
+        sides = []
+        for axis in range(3):
+            start, end = bounds[axis], bounds[axis] + bounds[3 + axis]
+            sides += [(start - room[axis], axis, start, 0), (room[axis] + room[3 + axis] - end, axis, end, 1)]
+        _, axis, place, upper = max(sides, key=lambda it: it[0])
+        parts = cut_at(room, axis, place)
+        yield parts[upper]
+        room = parts[1 - upper]
+
+
+def free_anew(room, boxes):
+    """The free sections of a room that is cut anew round boxes with cells, each with the volume of the room that it was cut from.
+    None where no straight cuts part it."""
+    low = [min(it[axis] for it in boxes) for axis in range(3)]
+    high = [max(it[axis] + it[3 + axis] for it in boxes) for axis in range(3)]
+    bounds = (*low, *(end - start for start, end in zip(low, high)))
+    free = [(strip, volume(room)) for strip in strips_round(bounds, room)]
+    if len(boxes) == 1:
+        return free
+    for axis in range(3):
+        starts = {it[axis] for it in boxes if it[axis] > low[axis]}
+        places = sorted(it for it in starts if not any(b[axis] < it < b[axis] + b[3 + axis] for b in boxes))
+        if places:
+            rest = bounds
+            for place, end in zip([low[axis], *places], [*places, high[axis]]):
+                slab, rest = cut_at(rest, axis, end)
+                free += free_anew(slab, [it for it in boxes if place <= it[axis] < end])
+            return free
+    raise ValueError("no straight cuts part the boxes")
+
+
 def are_cut_anew(bin, boxes, sections):
-    """Whether these may be the free sections of a bin that was cut anew round these boxes: they have cells, are parted by straight
-    cuts from each other and from the boxes, and stand by falling least side, at ties by rising volume. That each cell is in one of
-    them or in a box is not looked at, but for a bin without boxes, which has one section."""
-    order = [(-least(bin, it[3:]), volume(it)) for it in sections]
-    alone = boxes or not prod(bin) or list(map(tuple, sections)) == [(0, 0, 0, *bin)]
-    return order == sorted(order) and all(map(volume, sections)) and are_from_cuts([*boxes, *sections]) and bool(alone)
+    """Whether these are the free sections of a bin that is cut anew round these boxes with cells: by falling least side, at ties by
+    rising volume of the room that they were cut from, and then by rising volume. Boxes that straight cuts part."""
+    sections = list(map(tuple, sections))
+    whole = (0, 0, 0, *bin)
+    if not boxes:
+        return sections == [whole] * (volume(whole) > 0)
+    ranks = {it: (-least(bin, it[3:]), room, volume(it)) for it, room in free_anew(whole, list(map(tuple, boxes)))}
+    order = [ranks.get(it) for it in sections]
+    return len(sections) == len(ranks) and None not in order and order == sorted(order)

@@ -268,11 +268,8 @@ impl Drawn {
             return;
         }
         assert_eq!(found, Ok(()));
-        let ranks: Vec<(u32, u32)> = after
-            .iter()
-            .map(|it| (u32::MAX - least(&sides, &it.sides), it.volume()))
-            .collect();
-        assert!(ranks.windows(2).all(|pair| pair[0] <= pair[1]));
+        let thickness: Vec<u32> = after.iter().map(|it| least(&sides, &it.sides)).collect();
+        assert!(thickness.windows(2).all(|pair| pair[0] >= pair[1]));
         assert!(!boxes.is_empty() || after.len() == 1);
         boxes.extend(after);
         assert!(are_from_cuts(&boxes));

@@ -27,8 +27,10 @@ where
     /// through none of them, and each slab in the same way.
     ///
     /// The thickest section stands first, by its least side, an axis on which the bin has one cell
-    /// left out; of equally thick ones the smallest. A bin without placements becomes one section,
-    /// if it has cells. The bin counts as coalesced where it did before.
+    /// left out. Of equally thick ones that stands first whose room has the fewest cells: the bin, or
+    /// the slab, from which it was cut off. Where these tie, the smallest does. A bin without
+    /// placements becomes one section, if it has cells. The bin counts as coalesced where it did
+    /// before.
     ///
     /// `UnknownBin` says that there is no such bin; this is looked at first. `NotFromCuts` says that
     /// no straight cuts part the boxes that stand in the bin, `OutOfMemory` that a growth was
@@ -50,13 +52,17 @@ where
     /// ```
     pub fn recut(&mut self, id: &BinId) -> Result<(), SessionError>
         // Done: the bin is there. Its free sections and the boxes with cells that stand in it are
-        //   from straight cuts of it. Each section has cells; the thickest stands first, of equally
-        //   thick ones the smallest. All else stays, also whether the bin counts as coalesced.
-        //   [recut.bin_counts_as_new]
+        //   from straight cuts of it. Each section has cells. All else stays, also whether the bin
+        //   counts as coalesced. [recut.bin_counts_as_new]
         // Done: where boxes with cells stand in the bin, the free sections are those that the rule
         //   names: the strips round the bounds of the boxes, the thickest first, and those of each
         //   slab of the bounds, on the first axis with an open plane.
         //   [cut_strips.each_strip_is_halved, thicker.thinner_strip_goes_first]
+        // Done: where boxes with cells stand in the bin, the thickest free section stands first, of
+        //   equally thick ones that of the smallest room, the bin or the slab from which it was cut
+        //   off, and of those that tie then the smallest.
+        //   [in_order.sorting_is_left_out, rank.section_counts_for_its_room,
+        //   cut_strips.room_is_what_earlier_strips_left]
         // `UnknownBin`: there is no such bin. The session is as it was.
         // `NotFromCuts`: the bin is there, and there are no free sections with which the boxes that
         //   stand in it are from straight cuts of it. The session is as it was.

@@ -5,10 +5,12 @@ use Rattle.std.specs.Prelude.{length, All, Option, Some, None, IfSome}
 use Rattle.std.specs.List.{flat_map}
 use Rattle.rectangle_pack_sections.specs.declared.axis.Axis.{Axis}
 use Rattle.rectangle_pack_sections.specs.declared.span.Span.{Span}
+use Rattle.rectangle_pack_plans.specs.declared.cut_anew.order.Ranked.{Ranked}
 use Rattle.rectangle_pack_plans.specs.declared.cut_anew.slabs.Room.{Room}
+use Rattle.rectangle_pack_plans.specs.declared.cut_anew.strips.FreeSection.{FreeSection}
 use Rattle.rectangle_pack_plans.specs.declared.cut_anew.strips.Side.{Side}
 use Rattle.rectangle_pack_plans.specs.declared.cut_anew.strips.Strip.{Strip}
-use Rattle.rectangle_pack_sections.specs.Boxes.{Size, Cuboid, IsPartOf, start, end, has_cells, volume_of}
+use Rattle.rectangle_pack_sections.specs.Boxes.{Size, Cuboid, FitsU32, IsPartOf, start, end, has_cells, volume_of}
 use Rattle.rectangle_pack_sections.specs.CutTrees.{IsFromCuts}
 use Rattle.rectangle_pack_sections.specs.LeastSides.{least_side}
 use Rattle.rectangle_pack_sections.specs.private.Spans.{span_end}
@@ -20,9 +22,18 @@ use Rattle.rectangle_pack_plans.specs.private.CutPlans.{IsClosedOn}
 abbrev pub CanBeCut : List Cuboid → Cuboid → Type 0
 CanBeCut boxes room = (free : List Cuboid) × IsFromCuts (free ++ boxes) room
 
--- by thickness in a bin of this size, the thickest first, and then by volume
-abbrev pub thickness_rank : Size → Cuboid → ℕ
-thickness_rank bin b = (4294967295 - least_side bin b.whd) * 2 ^ 96 + volume_of b.whd
+-- the section and its room have ends that fit in 32 bits
+pub record HaveBothFit (f : FreeSection) : Type 0 where
+  pub section : FitsU32 f.section
+  pub room : FitsU32 f.room
+
+-- by thickness in a bin of this size, the thickest first, and then by the volume of the room
+abbrev pub thickness_rank : Size → FreeSection → ℕ
+thickness_rank bin f = (4294967295 - least_side bin f.section.whd) * 2 ^ 96 + volume_of f.room.whd
+
+-- the section with this rank and its volume
+abbrev pub ranked : Size → FreeSection → Ranked
+ranked bin f = record { rank = thickness_rank bin f; volume = volume_of f.section.whd; section = f.section }
 
 -- boxes with cells stand in the room, one or more
 pub record AreInRoom (room : Cuboid) (boxes : List Cuboid) : Type 0 where
@@ -87,10 +98,10 @@ pub record AreRoomsOf (room : Cuboid) (boxes : List Cuboid) (fs : List Filled) :
   pub each : All (IsRoomOf room boxes) fs
 
 -- the free sections of rooms, one room after another (`AreFreeIn`)
-abbrev pub AreFreeInAll : List Filled → List Cuboid → Type 0
+abbrev pub AreFreeInAll : List Filled → List FreeSection → Type 0
 AreFreeInAll [] free = free ≡ []
 AreFreeInAll (f ∷ fs) free =
-    (one others : List Cuboid) × (free ≡ one ++ others) × AreFreeIn None f.section f.boxes one × AreFreeInAll fs others
+    (one others : List FreeSection) × (free ≡ one ++ others) × AreFreeIn None f.section f.boxes one × AreFreeInAll fs others
 
 -- a plane of the room is open on the axis
 abbrev pub HasPlaneOn : Axis → Cuboid → List Cuboid → Type 0
@@ -98,7 +109,7 @@ HasPlaneOn a room boxes = (place : ℕ) × IsOpenPlane a place room boxes
 
 -- the rooms are the slabs of the room on the axis: their free sections are its own
 abbrev pub AreSlabsOn : Axis → Cuboid → List Cuboid → List Filled → Type 0
-AreSlabsOn a room boxes fs = (free : List Cuboid) → AreFreeInAll fs free → AreFreeIn (Some a) room boxes free
+AreSlabsOn a room boxes fs = (free : List FreeSection) → AreFreeInAll fs free → AreFreeIn (Some a) room boxes free
 
 -- the rooms are the slabs of the room on the first axis with an open plane
 pub record AreFirstSlabs (room : Cuboid) (boxes : List Cuboid) (fs : List Filled) : Type 0 where

@@ -2,7 +2,7 @@
 ghost use Rattle.std.specs.Prelude.{◌≡◌, ◌≢◌, ◌+◌, ◌*◌, ◌++◌, true, List, OnOk};
 ghost use Rattle.rectangle_pack_sections.specs.Boxes.{Cuboid, FitsU32, IsPartOf, has_cells};
 ghost use Rattle.rectangle_pack_plans.specs.CutPlans.{axis_rank};
-ghost use Rattle.rectangle_pack_plans.specs.CuttingAnew.{strip_beyond, rest_beyond, thickness, IsThickest, AreStripsRound};
+ghost use Rattle.rectangle_pack_plans.specs.CuttingAnew.{strip_beyond, rest_beyond, thickness, IsThickest, AreStripsRound, cut_from};
 ghost use Rattle.rectangle_pack_plans.specs.private.CuttingAnew.{IsThicker, IsThickestOf, AreStrips};
 
 use crate::cut_plan::parts::{lower, upper};
@@ -23,6 +23,13 @@ pub(crate) enum Side {
 pub(crate) struct Strip {
     pub side: Side,
     pub thickness: u32,
+}
+
+// A free section, and the room that it was cut from.
+#[derive(Clone, Copy)]
+pub(crate) struct FreeSection {
+    pub section: BinSection,
+    pub room: BinSection,
 }
 
 // The strip of a room beyond the bounds on a side.
@@ -99,13 +106,13 @@ fn cut_off(room: &BinSection, bounds: &BinSection, side: Side) -> (BinSection, B
 pub(crate) fn cut_strips<A: Allocator>(
     room: &BinSection,
     bounds: &BinSection,
-    free: &mut Vec<BinSection, A>,
+    free: &mut Vec<FreeSection, A>,
 ) -> Result<(), AllocError>
     requires fits { FitsU32 room.now }
     requires inside { IsPartOf bounds.now room.now }
     requires cells { has_cells bounds.now ≡ true }
     ensures { OnOk result ((strips : List Cuboid)
-        × (free.new.items ≡ free.old.items ++ strips)
+        × (free.new.items ≡ free.old.items ++ cut_from room.now strips)
         × AreStripsRound bounds.now room.now strips
         × AreStrips room.now bounds.now strips) }
 {
@@ -113,7 +120,10 @@ pub(crate) fn cut_strips<A: Allocator>(
     while rest != *bounds {
         let side = thickest_side(&rest, bounds);
         let (strip, left) = cut_off(&rest, bounds, side);
-        free.push(strip)?;
+        free.push(FreeSection {
+            section: strip,
+            room: *room,
+        })?;
         rest = left;
     }
     Ok(())

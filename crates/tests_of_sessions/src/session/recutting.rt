@@ -36,6 +36,19 @@ const IN_ORDER: State = state!(
            100 = 91 + 9; 4 free, 1 placed)],
     [(0, BOX, BIN, MIDDLE)], next 1);
 
+// A sheet 20x8x1 with a long box below two others, which leave no cell of their stretches free but
+// one section 2 thick each: right of the long box 2x2, of the room 20x2, and between the others 2x6,
+// of the room 4x6. That room is smaller, so the larger section stands first.
+const LONG: [u32; 6] = [0, 0, 0, 18, 2, 1];
+
+const POST: [u32; 6] = [0, 2, 0, 2, 6, 1];
+
+const WIDE: [u32; 6] = [4, 2, 0, 16, 6, 1];
+
+const BY_ROOM: State = state!(
+    [held!(BIN, [[2, 2, 0, 2, 6, 1], [18, 0, 0, 2, 2, 1]]; 160 = 16 + 144; 2 free, 3 placed)],
+    [(0, BOX, BIN, LONG), (1, BOX, BIN, POST), (2, BOX, BIN, WIDE)], next 3);
+
 // The sheet is whole, and one number was given.
 const EMPTIED: State = state!([NEW], [], next 1);
 
@@ -96,6 +109,20 @@ fn the_thickest_first(rt: HostRuntime) -> Result<(), Fail> {
     let mut session = with_box(plenty(&rt, rt.alloc()), MIDDLE)?;
     session.recut(&BIN)?;
     assert!(rt; is_in(&session, &IN_ORDER));
+    Ok(())
+}
+
+#[test]
+fn of_equally_thick_ones_that_of_the_smallest_room_first(rt: HostRuntime) -> Result<(), Fail> {
+    let mut session = TestSession::new(plenty(&rt, rt.alloc()), 0);
+    session.add_bin(BIN, 20, 8, 1)?;
+    place(&mut session, LONG)?;
+    session.recut(&BIN)?;
+    for location in [POST, WIDE] {
+        place(&mut session, location)?;
+    }
+    session.recut(&BIN)?;
+    assert!(rt; is_in(&session, &BY_ROOM));
     Ok(())
 }
 

@@ -8,6 +8,7 @@ use Rattle.rectangle_pack_plans.proofs.lemmas.cut_anew.Rooms.{last_boxes, last_b
 use Rattle.rectangle_pack_plans.proofs.lemmas.cut_anew.Rooms.{IsPartlyCut-one, IsPartlyCut-more}
 use Rattle.rectangle_pack_plans.proofs.lemmas.cut_anew.Rooms.{IsPartlyCut-same, cannot_be_cut, put_same, bounds_inside, bounds_have_cells, AreInRoom-bounds}
 use Rattle.rectangle_pack_plans.proofs.lemmas.cut_anew.Rooms.{boxes_fit}
+use Rattle.rectangle_pack_plans.proofs.lemmas.cut_anew.Found.{both_fit}
 use Rattle.rectangle_pack_plans.proofs.lemmas.cut_anew.Rooms.{rooms_weigh_less, rooms_lighter}
 use Rattle.rectangle_pack_plans.proofs.cut_anew.cut_rooms.Given.{Over}
 use Rattle.rectangle_pack_plans.proofs.cut_anew.cut_rooms.Goals.at as goal_at
@@ -133,5 +134,6 @@ loop-room-preserved g c =
 pub returns : goal.returns
 returns g c =
     let none = nil_from_length c.loop-room.rooms.items (omega (arith, (c.in_default.ensures {u = tt}).cases, c.loop-room.rooms.ok)) in
-    IsPartlyCut-end c.args.whole.now c.args.boxes.now c.loop-room.free.items c.loop-room.rooms.items c.loop-room.boxes c.loop-room.left none
-    c.loop-room.invariant.permutation c.loop-room.invariant.cut
+    let all = IsPartlyCut-end c.args.whole.now c.args.boxes.now c.loop-room.free.items c.loop-room.rooms.items c.loop-room.boxes c.loop-room.left none
+    c.loop-room.invariant.permutation c.loop-room.invariant.cut in
+    (all.0, all.1, both_fit c.args.whole.now c.args.boxes.now c.loop-room.free.items c.requires.fits all.0 all.1 all.2, all.3)

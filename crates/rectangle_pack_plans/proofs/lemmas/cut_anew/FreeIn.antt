@@ -3,6 +3,7 @@ use Rattle.rectangle_pack_sections.proofs.Std.{ℕ, ◌<◌, ◌≡◌, true, Li
 use Rattle.rectangle_pack_sections.proofs.Std.{Contains, All-filter, Option, Some, None, append-nil, append_assoc, length-filter}
 use Rattle.rectangle_pack_sections.proofs.Std.{nat_le, All-permutation, IsPermutation, IsPermutation-trans, IsPermutation-append_left, IsPermutation-append_right, IsPermutation-append_comm}
 use Rattle.rectangle_pack_sections.specs.declared.axis.Axis.{Axis}
+use Rattle.rectangle_pack_plans.specs.declared.cut_anew.strips.FreeSection.{FreeSection}
 use Rattle.rectangle_pack_sections.specs.Boxes.{Cuboid, IsPartOf, start, end, has_cells}
 use Rattle.rectangle_pack_sections.specs.CutTrees.{times_in, HaveSameBoxes}
 use Rattle.rectangle_pack_plans.specs.CutPlans.{lower_boxes, upper_boxes}
@@ -105,9 +106,9 @@ EndsFirstSlab-same a place room bs es h ends = record {
 }
 
 -- the free sections hang on which boxes stand in the room, not on their order
-pub AreFreeIn-same : {slabs : Option Axis} {room : Cuboid} {bs free : List Cuboid} (es : List Cuboid) → AreSame bs es
+pub AreFreeIn-same : {slabs : Option Axis} {room : Cuboid} {bs : List Cuboid} {free : List FreeSection} (es : List Cuboid) → AreSame bs es
     → AreFreeIn slabs room bs free → AreFreeIn slabs room es free
-AreFreeIn-same {bs = bs} es h (OneBox bounds one bound round) = OneBox bounds (length-same bs es h ∙ one) (AreBounds-same bs es h bounds bound) round
+AreFreeIn-same {bs = bs} es h (OneBox bounds strips one bound round) = OneBox bounds strips (length-same bs es h ∙ one) (AreBounds-same bs es h bounds bound) round
 AreFreeIn-same {bs = bs} es h (ManyBoxes bounds strips free a many bound round axis slabs) =
     ManyBoxes bounds strips free a (omega (arith, many, length-same bs es h)) (AreBounds-same bs es h bounds bound) round
     (IsFirstAxis-same a bounds bs es h axis) (AreFreeIn-same es h slabs)
@@ -119,38 +120,38 @@ AreFreeIn-same {room = room} {bs = bs} es h (LastSlab {a = a} none rest) =
     LastSlab (λ q ends. none q (EndsSlab-same es bs (AreSame-sym bs es h) a q room ends)) (AreFreeIn-same es h rest)
 
 -- of one room
-pub AreFreeInAll-one : (f : Filled) (free : List Cuboid) → AreFreeInAll (f ∷ []) free → AreFreeIn None f.section f.boxes free
+pub AreFreeInAll-one : (f : Filled) (free : List FreeSection) → AreFreeInAll (f ∷ []) free → AreFreeIn None f.section f.boxes free
 AreFreeInAll-one f free (one, others, is, here, none) =
     subst (AreFreeIn None f.section f.boxes) (sym (is ∙ ap (λ l. one ++ l) none ∙ append-nil one)) here
 
-pub one-AreFreeInAll : (f : Filled) (free : List Cuboid) → AreFreeIn None f.section f.boxes free → AreFreeInAll (f ∷ []) free
+pub one-AreFreeInAll : (f : Filled) (free : List FreeSection) → AreFreeIn None f.section f.boxes free → AreFreeInAll (f ∷ []) free
 one-AreFreeInAll f free here = (free, [], sym (append-nil free), here, refl)
 
 -- of rooms and more
-pub AreFreeInAll-parts : (fs gs : List Filled) (free : List Cuboid) → AreFreeInAll (fs ++ gs) free
-    → (first last : List Cuboid) × (free ≡ first ++ last) × AreFreeInAll fs first × AreFreeInAll gs last
+pub AreFreeInAll-parts : (fs gs : List Filled) (free : List FreeSection) → AreFreeInAll (fs ++ gs) free
+    → (first last : List FreeSection) × (free ≡ first ++ last) × AreFreeInAll fs first × AreFreeInAll gs last
 AreFreeInAll-parts [] gs free h = ([], free, refl, refl, h)
 AreFreeInAll-parts (f ∷ fs) gs free (one, others, is, here, rest) =
     let r = AreFreeInAll-parts fs gs others rest in
     (one ++ r.0, r.1, is ∙ ap (λ l. one ++ l) r.2 ∙ sym (append_assoc one r.0 r.1), (one, r.0, refl, here, r.3), r.4)
 
-pub AreFreeInAll-both : (fs gs : List Filled) (first last : List Cuboid) → AreFreeInAll fs first → AreFreeInAll gs last → AreFreeInAll (fs ++ gs) (first ++ last)
+pub AreFreeInAll-both : (fs gs : List Filled) (first last : List FreeSection) → AreFreeInAll fs first → AreFreeInAll gs last → AreFreeInAll (fs ++ gs) (first ++ last)
 AreFreeInAll-both [] gs first last none h = subst (λ l. AreFreeInAll gs (l ++ last)) (sym none) h
 AreFreeInAll-both (f ∷ fs) gs first last (one, others, is, here, rest) h =
     (one, others ++ last, ap (λ l. l ++ last) is ∙ append_assoc one others last, here, AreFreeInAll-both fs gs others last rest h)
 
 -- in another order
-pub AreFreeInSomeOrder-moved : (whole : Cuboid) (boxes free other : List Cuboid) → IsPermutation free other → AreFreeInSomeOrder whole boxes free
+pub AreFreeInSomeOrder-moved : (whole : Cuboid) (boxes : List Cuboid) (free other : List FreeSection) → IsPermutation free other → AreFreeInSomeOrder whole boxes free
     → AreFreeInSomeOrder whole boxes other
 AreFreeInSomeOrder-moved whole boxes free other moved (sections, are, perm) = (sections, are, IsPermutation-trans sections free other perm moved)
 
 -- three lists, the last two in the other order
-pub last_two_swapped : (xs ys zs : List Cuboid) → IsPermutation (xs ++ (ys ++ zs)) ((xs ++ zs) ++ ys)
+pub last_two_swapped : (xs ys zs : List FreeSection) → IsPermutation (xs ++ (ys ++ zs)) ((xs ++ zs) ++ ys)
 last_two_swapped xs ys zs = subst (IsPermutation (xs ++ (ys ++ zs))) (sym (append_assoc xs zs ys))
     (IsPermutation-append_right xs (ys ++ zs) (zs ++ ys) (IsPermutation-append_comm ys zs))
 
 -- a third of four lists moved before the second
-pub moved_between : (ws xs ys zs : List Cuboid) → IsPermutation (ws ++ (xs ++ (ys ++ zs))) ((ws ++ ys) ++ (xs ++ zs))
+pub moved_between : (ws xs ys zs : List FreeSection) → IsPermutation (ws ++ (xs ++ (ys ++ zs))) ((ws ++ ys) ++ (xs ++ zs))
 moved_between ws xs ys zs = subst (λ l. IsPermutation l ((ws ++ ys) ++ (xs ++ zs)))
     (append_assoc (ws ++ xs) ys zs ∙ append_assoc ws xs (ys ++ zs))
     (subst (IsPermutation (((ws ++ xs) ++ ys) ++ zs)) (append_assoc (ws ++ ys) xs zs)

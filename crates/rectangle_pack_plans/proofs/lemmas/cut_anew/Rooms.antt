@@ -1,7 +1,7 @@
 -- The rooms that are still to be cut up, in the order in which their boxes stand.
 use Rattle.rectangle_pack_sections.proofs.Std.{ℕ, ◌+◌, ◌-◌, ◌<◌, ◌≤◌, ◌≡◌, true, List, [], ◌∷◌, ◌++◌, zero, suc, length, map, take, drop}
 use Rattle.rectangle_pack_sections.proofs.Std.{get_or, refl, ap, sym, ◌∙◌, subst, arith}
-use Rattle.rectangle_pack_sections.proofs.Std.{All, All-head, All-tail, All-nil, All-cons, All-append, All-weaker, IsPermutation, All-permutation, append-nil}
+use Rattle.rectangle_pack_sections.proofs.Std.{All, All-head, All-tail, All-nil, All-cons, All-append, All-map, All-weaker, IsPermutation, All-permutation, append-nil}
 use Rattle.rectangle_pack_sections.proofs.Std.{append_assoc, map-append, length-append}
 use Rattle.rectangle_pack_sections.proofs.Std.{length-drop, length-take-le, take_all, take-append-drop, take_at, drop_at, drop-drop, drop-take, take-take}
 use Rattle.rectangle_pack_sections.proofs.Std.{sum_by, sum_by-cons, sum_by_push, sum_by-append, nil_from_length, length-map, count_by, Any}
@@ -11,9 +11,10 @@ use borrow.Rule.Slice.PartMut.{put_mid}
 use Rattle.rectangle_pack_sections.specs.Boxes.{Cuboid, FitsU32, IsPartOf, start, end, has_cells}
 use Rattle.rectangle_pack_sections.specs.CutTrees.{IsFromCuts}
 use Rattle.rectangle_pack_plans.specs.declared.cut_anew.slabs.Room.{Room}
+use Rattle.rectangle_pack_plans.specs.declared.cut_anew.strips.FreeSection.{FreeSection}
 use Rattle.rectangle_pack_plans.specs.CutPlans.{IsUncut}
 use Rattle.rectangle_pack_plans.specs.private.CutPlans.{AreClosed}
-use Rattle.rectangle_pack_plans.specs.CuttingAnew.{AreBounds, AreStripsRound, AreFreeIn, OneBox, ManyBoxes, AreFreeInSomeOrder}
+use Rattle.rectangle_pack_plans.specs.CuttingAnew.{AreBounds, AreStripsRound, AreFreeIn, OneBox, ManyBoxes, AreFreeInSomeOrder, cut_from, sections_alone}
 use Rattle.rectangle_pack_plans.specs.private.CuttingAnew.{CanBeCut, AreInRoom, AreStrips, Filled, counted, IsRoomOf, AreRoomsOf, AreFreeInAll, AreFirstSlabs}
 use Rattle.rectangle_pack_sections.proofs.lemmas.util.Lists.{All-front, All-back}
 use Rattle.rectangle_pack_sections.proofs.lemmas.cuts.Axes.{stays_in, is_part, cells-part, IsPartOf-refl, IsPartOf-trans}
@@ -77,15 +78,16 @@ rooms_weigh_less room boxes fs r count many are =
 
 -- the free sections found so far, the rooms still to be cut up, and the boxes behind those in them, which are done, are from
 -- cuts of the whole
-pub record IsPartlyCut (whole : Cuboid) (boxes free : List Cuboid) (rooms : List Room) (now : List Cuboid) (left : ℕ) : Type 0 where
+pub record IsPartlyCut (whole : Cuboid) (boxes : List Cuboid) (free : List FreeSection) (rooms : List Room) (now : List Cuboid) (left : ℕ) : Type 0 where
   pub fs : List Filled
   pub rooms_are : rooms ≡ map counted fs
   pub within : left ≤ length now
   pub filling : boxes_in fs ≡ take left now
   pub each : All (IsRoomOf whole boxes) fs
-  pub from_cuts : IsFromCuts (free ++ (sections_of fs ++ drop left now)) whole
-  pub cells : All (λ s. has_cells s ≡ true) free
-  pub leads : (more : List Cuboid) → AreFreeInAll fs more → AreFreeInSomeOrder whole boxes (free ++ more)
+  pub from_cuts : IsFromCuts (sections_alone free ++ (sections_of fs ++ drop left now)) whole
+  pub cells : All (λ s. has_cells s ≡ true) (sections_alone free)
+  pub inside : All (λ (f : FreeSection). IsPartOf f.room whole) free
+  pub leads : (more : List FreeSection) → AreFreeInAll fs more → AreFreeInSomeOrder whole boxes (free ++ more)
 
 -- a list whose image ends with one entry
 one_image : (hs : List Filled) (r : Room) → map counted hs ≡ r ∷ [] → (g : Filled) × (hs ≡ g ∷ []) × (counted g ≡ r)
@@ -145,9 +147,18 @@ one_is_bounds (b ∷ []) bounds one h = ap (λ d. d ∷ []) (box_alike b bounds 
     (any_one (λ d. start a d ≡ start a bounds) b (h.starts a), any_one (λ d. end a d ≡ end a bounds) b (h.ends a))))
 one_is_bounds (b ∷ d ∷ bs) bounds one h = absurd (omega (arith, one))
 
+-- sections without their rooms, with strips behind them
+sections-cut : (free : List FreeSection) (room : Cuboid) (strips : List Cuboid)
+    → sections_alone (free ++ cut_from room strips) ≡ sections_alone free ++ strips
+sections-cut free room strips = map-append (λ (f : FreeSection). f.section) free (cut_from room strips) ∙ ap (λ l. sections_alone free ++ l) (back strips)
+  where
+    back : (ss : List Cuboid) → sections_alone (cut_from room ss) ≡ ss
+    back [] = refl
+    back (s ∷ ss) = ap (λ l. s ∷ l) (back ss)
+
 module _ (whole : Cuboid) (boxes : List Cuboid) where
   -- what is known once the last room is taken out
-  pub record IsTaken (free : List Cuboid) (popped : List Room) (r : Room) (now : List Cuboid) (left : ℕ) : Type 0 where
+  pub record IsTaken (free : List FreeSection) (popped : List Room) (r : Room) (now : List Cuboid) (left : ℕ) : Type 0 where
     pub gs : List Filled
     pub popped_are : popped ≡ map counted gs
     pub enough : r.count ≤ left
@@ -155,12 +166,13 @@ module _ (whole : Cuboid) (boxes : List Cuboid) where
     pub front : boxes_in gs ≡ take (left - r.count) now
     pub each : All (IsRoomOf whole boxes) gs
     pub here : IsRoomOf whole boxes (record { section = r.section; boxes = last_boxes left r.count now; closed = r.closed })
-    pub from_cuts : IsFromCuts (free ++ (sections_of gs ++ r.section ∷ drop left now)) whole
-    pub cells : All (λ s. has_cells s ≡ true) free
-    pub leads : (more here : List Cuboid) → AreFreeInAll gs more → AreFreeIn None r.section (last_boxes left r.count now) here
+    pub from_cuts : IsFromCuts (sections_alone free ++ (sections_of gs ++ r.section ∷ drop left now)) whole
+    pub cells : All (λ s. has_cells s ≡ true) (sections_alone free)
+    pub inside : All (λ (f : FreeSection). IsPartOf f.room whole) free
+    pub leads : (more here : List FreeSection) → AreFreeInAll gs more → AreFreeIn None r.section (last_boxes left r.count now) here
         → AreFreeInSomeOrder whole boxes (free ++ (more ++ here))
 
-  pub IsTaken-popped : (free : List Cuboid) (rooms popped : List Room) (r : Room) (now : List Cuboid) (left : ℕ) → rooms ≡ popped ++ r ∷ []
+  pub IsTaken-popped : (free : List FreeSection) (rooms popped : List Room) (r : Room) (now : List Cuboid) (left : ℕ) → rooms ≡ popped ++ r ∷ []
       → IsPartlyCut whole boxes free rooms now left → IsTaken free popped r now left
   IsTaken-popped free rooms popped r now left is h =
       let k = last_image h.fs popped r (sym h.rooms_are ∙ is) in
@@ -185,12 +197,13 @@ module _ (whole : Cuboid) (boxes : List Cuboid) where
         here = subst (λ l. IsRoomOf whole boxes (record { section = r.section; boxes = l; closed = r.closed })) here
             (subst (λ (r : Room). IsRoomOf whole boxes (record { section = r.section; boxes = f.boxes; closed = r.closed })) k.4
             (All-head (IsRoomOf whole boxes) f [] (All-back (IsRoomOf whole boxes) gs (f ∷ []) each)));
-        from_cuts = subst (λ l. IsFromCuts (free ++ l) whole) (
+        from_cuts = subst (λ l. IsFromCuts (sections_alone free ++ l) whole) (
             ap (λ l. l ++ drop left now) (ap sections_of k.2 ∙ sections_of-push gs f)
             ∙ append_assoc (sections_of gs) (f.section ∷ []) (drop left now)
             ∙ ap (λ s. sections_of gs ++ s ∷ drop left now) (ap (λ (r : Room). r.section) k.4)
             ) h.from_cuts;
         cells = h.cells;
+        inside = h.inside;
         leads = λ more one others is_free. h.leads (more ++ one) (subst (λ fs. AreFreeInAll fs (more ++ one)) (sym k.2)
             (AreFreeInAll-both gs (f ∷ []) more one others (one-AreFreeInAll f one
             (subst (λ b. AreFreeIn None b f.boxes one) (sym (ap (λ (r : Room). r.section) k.4))
@@ -198,7 +211,7 @@ module _ (whole : Cuboid) (boxes : List Cuboid) where
       }
 
   -- the whole, with all boxes
-  pub IsPartlyCut-start : (free : List Cuboid) (rooms : List Room) → free ≡ [] → rooms ≡ record { section = whole; count = length boxes; closed = None } ∷ [] → AreInRoom whole boxes
+  pub IsPartlyCut-start : (free : List FreeSection) (rooms : List Room) → free ≡ [] → rooms ≡ record { section = whole; count = length boxes; closed = None } ∷ [] → AreInRoom whole boxes
       → IsPartlyCut whole boxes free rooms boxes (length boxes)
   IsPartlyCut-start free rooms none one filled =
       let all : Filled = record { section = whole; boxes = boxes; closed = None } in
@@ -211,70 +224,89 @@ module _ (whole : Cuboid) (boxes : List Cuboid) where
         each = All-cons (IsRoomOf whole boxes) all [] (record { in_room = filled; within = IsPartOf-refl whole; kept = λ h. h; closed = tt }) (All-nil (IsRoomOf whole boxes));
         from_cuts = rw (none, rest) (IsFromCuts-leaf whole);
         cells = rw none (All-nil (λ s. has_cells s ≡ true));
+        inside = rw none (All-nil (λ (f : FreeSection). IsPartOf f.room whole));
         leads = λ more h. subst (λ l. AreFreeInSomeOrder whole boxes (l ++ more)) (sym none) (more, AreFreeInAll-one all more h, IsPermutation-refl more);
       }
 
   -- no room is left
-  pub IsPartlyCut-end : (free : List Cuboid) (rooms : List Room) (now : List Cuboid) (left : ℕ) → rooms ≡ [] → IsPermutation boxes now
+  pub IsPartlyCut-end : (free : List FreeSection) (rooms : List Room) (now : List Cuboid) (left : ℕ) → rooms ≡ [] → IsPermutation boxes now
       → IsPartlyCut whole boxes free rooms now left
-      → IsFromCuts (free ++ boxes) whole × All (λ s. has_cells s ≡ true) free × AreFreeInSomeOrder whole boxes free
+      → IsFromCuts (sections_alone free ++ boxes) whole × All (λ s. has_cells s ≡ true) (sections_alone free)
+      × All (λ (f : FreeSection). IsPartOf f.room whole) free × AreFreeInSomeOrder whole boxes free
   IsPartlyCut-end free rooms now left none moved h =
       let empty : h.fs ≡ [] = nil_from_length h.fs (omega (arith, length-map h.fs counted, ap length (sym h.rooms_are ∙ none))) in
       let zero : left ≡ 0 = omega (arith, length-take-le left now h.within, ap length (sym h.filling ∙ ap boxes_in empty)) in
-      let from : IsFromCuts (free ++ now) whole =
-      subst (λ l. IsFromCuts (free ++ l) whole) (ap (λ fs. sections_of fs ++ drop left now) empty ∙ ap (λ k. drop k now) zero) h.from_cuts in (
-        IsFromCuts-same (free ++ now) (free ++ boxes)
-            (λ e cells. omega (arith, times_in-append e free now, times_in-append e free boxes, HaveSameBoxes-permutation boxes now moved e cells)) from,
+      let F = sections_alone free in
+      let from : IsFromCuts (F ++ now) whole =
+      subst (λ l. IsFromCuts (F ++ l) whole) (ap (λ fs. sections_of fs ++ drop left now) empty ∙ ap (λ k. drop k now) zero) h.from_cuts in (
+        IsFromCuts-same (F ++ now) (F ++ boxes)
+            (λ e cells. omega (arith, times_in-append e F now, times_in-append e F boxes, HaveSameBoxes-permutation boxes now moved e cells)) from,
         h.cells,
+        h.inside,
         subst (AreFreeInSomeOrder whole boxes) (append-nil free) (h.leads [] (subst (λ fs. AreFreeInAll fs []) (sym empty) refl)),
       )
 
-  module _ (free : List Cuboid) (popped : List Room) (r : Room) (now : List Cuboid) (left : ℕ) (h : IsTaken free popped r now left)
+  module _ (free : List FreeSection) (popped : List Room) (r : Room) (now : List Cuboid) (left : ℕ) (h : IsTaken free popped r now left)
       (bounds : Cuboid) (strips : List Cuboid) (bound : AreBounds (last_boxes left r.count now) bounds) (round : AreStripsRound bounds r.section strips)
       (cut : AreStrips r.section bounds strips) where
     abbrev bs : List Cuboid
     bs = last_boxes left r.count now
 
-    cells : All (λ s. has_cells s ≡ true) (free ++ strips)
-    cells = All-append (λ s. has_cells s ≡ true) free strips h.cells cut.cells
+    abbrev F : List Cuboid
+    F = sections_alone free
+
+    abbrev more_free : List FreeSection
+    more_free = free ++ cut_from r.section strips
+
+    -- the sections with those that are cut off now
+    alone : F ++ strips ≡ sections_alone more_free
+    alone = sym (sections-cut free r.section strips)
+
+    cells : All (λ s. has_cells s ≡ true) (sections_alone more_free)
+    cells = subst (All (λ s. has_cells s ≡ true)) alone (All-append (λ s. has_cells s ≡ true) F strips h.cells cut.cells)
+
+    inside : All (λ (f : FreeSection). IsPartOf f.room whole) more_free
+    inside = All-append (λ (f : FreeSection). IsPartOf f.room whole) free (cut_from r.section strips) h.inside
+        (All-map (λ (f : FreeSection). IsPartOf f.room whole) (λ s. record { section = s; room = r.section }) strips (λ k d lt. h.here.within))
 
     kept : CanBeCut boxes whole → CanBeCut bs bounds
     kept all = cut.kept bs bound.inside h.here.in_room.cells (h.here.kept all)
 
     -- the strips and the bounds in the place of the room
-    cut_off : IsFromCuts ((free ++ strips) ++ (sections_of h.gs ++ bounds ∷ drop left now)) whole
+    cut_off : IsFromCuts (sections_alone more_free ++ (sections_of h.gs ++ bounds ∷ drop left now)) whole
     cut_off =
         let G = sections_of h.gs in
         let D = drop left now in
         let P = strips ++ bounds ∷ [] in
-        IsFromCuts-same ((free ++ G) ++ (P ++ D)) ((free ++ strips) ++ (G ++ bounds ∷ D))
+        subst (λ l. IsFromCuts (l ++ (G ++ bounds ∷ D)) whole) alone (IsFromCuts-same ((F ++ G) ++ (P ++ D)) ((F ++ strips) ++ (G ++ bounds ∷ D))
         (λ e k. omega (
           arith,
-          times_in-append e (free ++ G) (P ++ D),
-          times_in-append e free G,
+          times_in-append e (F ++ G) (P ++ D),
+          times_in-append e F G,
           times_in-append e P D,
           times_in-append e strips (bounds ∷ []),
-          times_in-append e (free ++ strips) (G ++ bounds ∷ D),
-          times_in-append e free strips,
+          times_in-append e (F ++ strips) (G ++ bounds ∷ D),
+          times_in-append e F strips,
           times_in-append e G (bounds ∷ D),
           times_in-cons e bounds D,
         ))
-        (IsFromCuts-for (free ++ G) D P (subst (λ l. IsFromCuts l whole) (sym (append_assoc free G (r.section ∷ D))) h.from_cuts) cut.from_cuts)
+        (IsFromCuts-for (F ++ G) D P (subst (λ l. IsFromCuts l whole) (sym (append_assoc F G (r.section ∷ D))) h.from_cuts) cut.from_cuts))
 
     -- one box is its bounds
-    pub IsPartlyCut-one : r.count ≡ 1 → IsPartlyCut whole boxes (free ++ strips) popped now (left - r.count)
+    pub IsPartlyCut-one : r.count ≡ 1 → IsPartlyCut whole boxes more_free popped now (left - r.count)
     IsPartlyCut-one one = record {
       fs = h.gs;
       rooms_are = h.popped_are;
       within = omega (arith, h.within);
       filling = h.front;
       each = h.each;
-      from_cuts = subst (λ l. IsFromCuts ((free ++ strips) ++ (sections_of h.gs ++ l)) whole)
+      from_cuts = subst (λ l. IsFromCuts (sections_alone more_free ++ (sections_of h.gs ++ l)) whole)
           (ap (λ l. l ++ drop left now) (sym (one_is_bounds bs bounds (last_boxes-long left r.count now h.enough h.within ∙ one) bound))
           ∙ sym (last_boxes-rest left r.count now h.enough h.within)) cut_off;
       cells = cells;
-      leads = λ more others. AreFreeInSomeOrder-moved whole boxes (free ++ (more ++ strips)) ((free ++ strips) ++ more) (last_two_swapped free more strips)
-          (h.leads more strips others (OneBox bounds (last_boxes-long left r.count now h.enough h.within ∙ one) bound round));
+      inside = inside;
+      leads = λ more others. AreFreeInSomeOrder-moved whole boxes (free ++ (more ++ cut_from r.section strips)) (more_free ++ more) (last_two_swapped free more (cut_from r.section strips))
+          (h.leads more (cut_from r.section strips) others (OneBox bounds strips (last_boxes-long left r.count now h.enough h.within ∙ one) bound round));
     }
 
     -- no straight cuts part the bounds
@@ -284,7 +316,7 @@ module _ (whole : Cuboid) (boxes : List Cuboid) where
     -- other rooms in the place of the bounds
     pub IsPartlyCut-more : (es : List Cuboid) (hs : List Filled) (rooms : List Room) → IsPermutation bs es → AreRoomsOf bounds es hs → AreFirstSlabs bounds es hs
         → 2 ≤ length es → rooms ≡ popped ++ map counted hs
-        → IsPartlyCut whole boxes (free ++ strips) rooms (put_mid (left - r.count) (left - (left - r.count)) now es) left
+        → IsPartlyCut whole boxes more_free rooms (put_mid (left - r.count) (left - (left - r.count)) now es) left
     IsPartlyCut-more es hs rooms moved are slabs many pushed =
         let long : length es ≡ r.count = length_permutation bs es moved ∙ last_boxes-long left r.count now h.enough h.within in
         let back = put-back left r.count now h.enough h.within es long in
@@ -303,27 +335,29 @@ module _ (whole : Cuboid) (boxes : List Cuboid) where
             kept = λ all. k.kept (CanBeCut-same bs es bounds (HaveSameBoxes-permutation bs es moved) (kept all));
             closed = k.closed;
           }) hs are.each);
-          from_cuts = subst (λ l. IsFromCuts ((free ++ strips) ++ l) whole)
+          from_cuts = subst (λ l. IsFromCuts (sections_alone more_free ++ l) whole)
               (sym (append_assoc G H D) ∙ ap (λ l. (G ++ H) ++ l) (sym back)
               ∙ ap (λ l. l ++ drop left (put_mid (left - r.count) (left - (left - r.count)) now es)) (sym (map-append (λ (f : Filled). f.section) h.gs hs)))
-              (subst (λ l. IsFromCuts l whole) (append_assoc (free ++ strips) G (H ++ D))
-              (IsFromCuts-for ((free ++ strips) ++ G) D H (subst (λ l. IsFromCuts l whole) (sym (append_assoc (free ++ strips) G (bounds ∷ D))) cut_off) are.from_cuts));
+              (subst (λ l. IsFromCuts l whole) (append_assoc (sections_alone more_free) G (H ++ D))
+              (IsFromCuts-for (sections_alone more_free ++ G) D H (subst (λ l. IsFromCuts l whole) (sym (append_assoc (sections_alone more_free) G (bounds ∷ D))) cut_off) are.from_cuts));
           cells = cells;
+          inside = inside;
           leads = λ more all.
               let k = AreFreeInAll-parts h.gs hs more all in
+              let C = cut_from r.section strips in
               let same = AreSame-moved bs es moved h.here.in_room.cells in
-              let here : AreFreeIn None r.section es (strips ++ k.1) =
+              let here : AreFreeIn None r.section es (C ++ k.1) =
               ManyBoxes bounds strips k.1 slabs.axis many (AreBounds-same bs es same bounds bound) round slabs.first (slabs.slabs k.1 k.4) in
-              AreFreeInSomeOrder-moved whole boxes (free ++ (k.0 ++ (strips ++ k.1))) ((free ++ strips) ++ more)
-              (subst (λ l. IsPermutation (free ++ (k.0 ++ (strips ++ k.1))) ((free ++ strips) ++ l)) (sym k.2) (moved_between free k.0 strips k.1))
-              (h.leads k.0 (strips ++ k.1) k.3 (AreFreeIn-same bs (AreSame-sym bs es same) here));
+              AreFreeInSomeOrder-moved whole boxes (free ++ (k.0 ++ (C ++ k.1))) (more_free ++ more)
+              (subst (λ l. IsPermutation (free ++ (k.0 ++ (C ++ k.1))) (more_free ++ l)) (sym k.2) (moved_between free k.0 C k.1))
+              (h.leads k.0 (C ++ k.1) k.3 (AreFreeIn-same bs (AreSame-sym bs es same) here));
         }
 
 -- boxes that are put back where they stood
 pub put_same : (a k : ℕ) (xs : List Cuboid) → put_mid a k xs (take k (drop a xs)) ≡ xs
 put_same a k xs = ap (λ l. take a xs ++ l) (take-append-drop k (drop a xs)) ∙ take-append-drop a xs
 
-pub IsPartlyCut-same : (whole : Cuboid) (boxes free more : List Cuboid) (rooms : List Room) (now put : List Cuboid) (left : ℕ) → more ≡ free → put ≡ now
+pub IsPartlyCut-same : (whole : Cuboid) (boxes : List Cuboid) (free more : List FreeSection) (rooms : List Room) (now put : List Cuboid) (left : ℕ) → more ≡ free → put ≡ now
     → IsPartlyCut whole boxes free rooms now left → IsPartlyCut whole boxes more rooms put left
 IsPartlyCut-same whole boxes free more rooms now put left found stands h = rw (found, stands) h
 

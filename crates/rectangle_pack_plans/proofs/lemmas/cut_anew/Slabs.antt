@@ -12,6 +12,7 @@ use Rattle.rectangle_pack_sections.specs.declared.axis.Axis.{Axis}
 use Rattle.rectangle_pack_sections.specs.Boxes.{Cuboid, IsPartOf, extent, start, end, has_cells}
 use Rattle.rectangle_pack_sections.specs.CutTrees.{lower, upper, IsPlaceOf, IsFromCuts}
 use Rattle.rectangle_pack_plans.specs.declared.cut_anew.slabs.Room.{Room}
+use Rattle.rectangle_pack_plans.specs.declared.cut_anew.strips.FreeSection.{FreeSection}
 use Rattle.rectangle_pack_plans.specs.CutPlans.{IsUncut, IsOpenPlane, lower_boxes, upper_boxes}
 use Rattle.rectangle_pack_plans.specs.private.CutPlans.{IsClosedBelow, IsClosedOn}
 use Rattle.rectangle_pack_plans.specs.CuttingAnew.{AreBounds, EndsSlab, EndsFirstSlab, AreFreeIn, FirstSlab, LastSlab}
@@ -86,7 +87,7 @@ pub record IsSwept (a : Axis) (room : Cuboid) (boxes : List Cuboid) (i begun rea
   pub first : begun ≡ 0 → rest ≡ room
   pub closed : IsClosedBelow a reach rest (drop begun boxes)
   pub has_plane : 0 < begun → HasPlaneOn a room boxes
-  pub slabs : (free left : List Cuboid) → AreFreeInAll fs free → AreFreeIn (Some a) rest (drop begun boxes) left → AreFreeIn (Some a) room boxes (free ++ left)
+  pub slabs : (free left : List FreeSection) → AreFreeInAll fs free → AreFreeIn (Some a) rest (drop begun boxes) left → AreFreeIn (Some a) room boxes (free ++ left)
 
 module _ (a : Axis) (room : Cuboid) (boxes : List Cuboid) (filled : AreInRoom room boxes) (bounds : AreBounds boxes room)
     (ordered : IsNonDecreasingBy (start a) boxes) where
@@ -261,7 +262,7 @@ module _ (a : Axis) (room : Cuboid) (boxes : List Cuboid) (filled : AreInRoom ro
           (λ k d lt. le-leb _ _ (above k d lt))
 
       -- free sections of the slab and of what is above it
-      slab_and_rest : (low up : List Cuboid) → AreFreeIn None (lower a place rest) xs low → AreFreeIn (Some a) (upper a place rest) ys up
+      slab_and_rest : (low up : List FreeSection) → AreFreeIn None (lower a place rest) xs low → AreFreeIn (Some a) (upper a place rest) ys up
           → AreFreeIn (Some a) rest (drop begun boxes) (low ++ up)
       slab_and_rest low up here left = subst (λ l. AreFreeIn (Some a) rest l (low ++ up)) parted
           (FirstSlab place low up ends_slab (subst (λ l. AreFreeIn None (lower a place rest) l low) (sym boxes_below) here)

@@ -1,7 +1,7 @@
-use Rattle.rectangle_pack_sections.proofs.Std.{◌<◌, ◌≡◌, [], ◌∷◌, ◌++◌, sym, ap, ◌∙◌, subst, rules, append-nil, append_assoc}
+use Rattle.rectangle_pack_sections.proofs.Std.{◌<◌, ◌≡◌, [], ◌∷◌, ◌++◌, sym, ap, ◌∙◌, subst, rules, append-nil, append_assoc, map-append}
 use Rattle.rectangle_pack_sections.specs.Boxes.{IsPartOf}
 use Rattle.rectangle_pack_sections.proofs.lemmas.cuts.Axes.{IsPartOf-refl, IsPartOf-trans}
-use Rattle.rectangle_pack_plans.specs.CuttingAnew.{AreStripsRound}
+use Rattle.rectangle_pack_plans.specs.CuttingAnew.{AreStripsRound, cut_from}
 use Rattle.rectangle_pack_plans.proofs.lemmas.cut_plan.Filling.{FitsU32-part}
 use Rattle.rectangle_pack_plans.proofs.lemmas.cut_anew.Strips.{rest-within, rest-holds, rest-less, AreStripsRound-strips, girth}
 use Rattle.rectangle_pack_plans.proofs.cut_anew.strips.cut_strips.Goals as goal
@@ -28,6 +28,7 @@ loop-rest-smaller g c = subst (λ b. girth b < girth c.loop-rest.rest) (sym c.cu
 pub loop-rest-preserved : goal.loop-rest-preserved
 loop-rest-preserved g c =
     let bounds = c.args.bounds.now in
+    let room = c.args.room.now in
     let was = c.loop-rest.rest in
     let side = c.thickest_side-side.result in
     let strip = c.cut_off-strip.result.0 in
@@ -35,7 +36,9 @@ loop-rest-preserved g c =
     let rest = sym c.cut_off-strip.ensures.rest in
     record {
       strips = strips ++ strip ∷ [];
-      free = (c.in_ok-push.ensures {u = tt}).items ∙ ap (λ l. l ++ strip ∷ []) c.loop-rest.invariant.free ∙ append_assoc c.args.free.now.items strips (strip ∷ []);
+      free = (c.in_ok-push.ensures {u = tt}).items ∙ ap (λ l. l ++ cut_from room (strip ∷ [])) c.loop-rest.invariant.free
+          ∙ append_assoc c.args.free.now.items (cut_from room strips) (cut_from room (strip ∷ []))
+          ∙ ap (λ l. c.args.free.now.items ++ l) (sym (map-append (λ s. record { section = s; room = room }) strips (strip ∷ [])));
       within = subst (λ b. IsPartOf b c.args.room.now) rest
           (IsPartOf-trans _ was c.args.room.now (rest-within was bounds c.loop-rest.invariant.holds side) c.loop-rest.invariant.within);
       holds = subst (IsPartOf bounds) rest (rest-holds was bounds c.loop-rest.invariant.holds side);
