@@ -1,0 +1,231 @@
+//! Searches whose best end is known by hand.
+
+use crate::job::{Found, Job, Limits, OpenBin};
+use crate::search::few_bins;
+use rectangle_pack_bounds::turning::{TurningBox, Turns};
+use rectangle_pack_sections::width_height_depth::{WidthHeightDepth, any_size};
+use std::alloc::{AllocError, Global};
+use std::test::Fail;
+
+const UPRIGHT: Turns = Turns {
+    about_x: false,
+    about_y: false,
+    about_z: false,
+};
+
+const FLAT_TURN: Turns = Turns {
+    about_x: false,
+    about_y: false,
+    about_z: true,
+};
+
+const LIMITS: Limits = Limits {
+    tries: 2000,
+    seed: 1,
+    enough: 0,
+};
+
+fn empty_job(alloc: Global) -> Job<Global> {
+    Job {
+        boxes: Vec::new(alloc),
+        ends: Vec::new(alloc),
+        apart: Vec::new(alloc),
+        bins: Vec::new(alloc),
+    }
+}
+
+// Adds a group of boxes of this size.
+fn add_group(
+    job: &mut Job<Global>,
+    count: usize,
+    whd: WidthHeightDepth,
+    turns: Turns,
+) -> Result<(), AllocError> {
+    for _ in 0..count {
+        job.boxes.push(TurningBox { whd, turns })?;
+    }
+    job.ends.push(job.boxes.len())?;
+    Ok(())
+}
+
+// Adds a bin of this size.
+fn add_bin(
+    alloc: Global,
+    job: &mut Job<Global>,
+    whd: WidthHeightDepth,
+    cost: u64,
+) -> Result<(), AllocError> {
+    let mut sections = Vec::new(alloc);
+    sections.push(whd)?;
+    job.bins.push(OpenBin {
+        sections,
+        cells: whd.volume(),
+        cost,
+    })?;
+    Ok(())
+}
+
+// Groups of one box each, and bins of one size.
+fn alone(
+    alloc: Global,
+    boxes: &[WidthHeightDepth],
+    turns: Turns,
+    bins: &[WidthHeightDepth],
+) -> Result<Job<Global>, AllocError> {
+    let mut job = empty_job(alloc);
+    for whd in boxes {
+        add_group(&mut job, 1, *whd, turns)?;
+    }
+    for whd in bins {
+        add_bin(alloc, &mut job, *whd, 1)?;
+    }
+    Ok(job)
+}
+
+// In how many bins the groups are put, if all are.
+fn bins_used(found: &Found<Global>, groups: usize) -> Option<usize> {
+    if found.puts.len() != groups {
+        return None;
+    }
+    let mut used = 0usize;
+    let mut last = None;
+    for put in &found.puts {
+        if last != Some(put.bin) {
+            used = used.saturating_add(1);
+        }
+        last = Some(put.bin);
+    }
+    Some(used)
+}
+
+// The bin of a group.
+fn bin_of(found: &Found<Global>, group: usize) -> Option<usize> {
+    let put = found.puts.iter().find(|put| put.group == group)?;
+    Some(put.bin)
+}
+
+// A square of 10 a side holds four of 5.
+#[test]
+fn four_squares_in_one(rt: HostRuntime) -> Result<(), Fail> {
+    let boxes = [any_size(5, 5, 1); 4];
+    let bins = [any_size(10, 10, 1); 4];
+    let job = alone(rt.alloc(), &boxes, UPRIGHT, &bins)?;
+    let found = few_bins(rt.alloc(), &job, LIMITS, |_| true)?;
+    assert!(rt; bins_used(&found, 4) == Some(1));
+    Ok(())
+}
+
+// Shelves of 800 x 600 with 3.2 for the saw, in tenths. Ten of them fit on a sheet: in two rows of
+// three, and a row of four that are turned.
+#[test]
+fn twenty_shelves_on_two_sheets(rt: HostRuntime) -> Result<(), Fail> {
+    let boxes = [any_size(8032, 6032, 1); 20];
+    let bins = [any_size(27832, 20532, 1); 3];
+    let job = alone(rt.alloc(), &boxes, FLAT_TURN, &bins)?;
+    let limits = Limits {
+        tries: 20000,
+        seed: 1,
+        enough: 2,
+    };
+    let found = few_bins(rt.alloc(), &job, limits, |_| true)?;
+    assert!(rt; bins_used(&found, 20) == Some(2));
+    Ok(())
+}
+
+// Two groups that are excluded are in two bins, though they fit into one.
+#[test]
+fn excluded_groups_are_apart(rt: HostRuntime) -> Result<(), Fail> {
+    let mut job = alone(
+        rt.alloc(),
+        &[any_size(2, 2, 1); 3],
+        UPRIGHT,
+        &[any_size(9, 9, 1); 2],
+    )?;
+    job.apart.push((0, 2))?;
+    job.apart.push((2, 0))?;
+    let found = few_bins(rt.alloc(), &job, LIMITS, |_| true)?;
+    assert!(rt; bins_used(&found, 3) == Some(2));
+    assert!(rt; bin_of(&found, 0) != bin_of(&found, 2));
+    Ok(())
+}
+
+// Of three groups of two boxes 5 x 5 one has to be alone, as four such boxes fill a bin.
+#[test]
+fn groups_go_whole(rt: HostRuntime) -> Result<(), Fail> {
+    let mut job = empty_job(rt.alloc());
+    for _ in 0..3 {
+        add_group(&mut job, 2, any_size(5, 5, 1), UPRIGHT)?;
+    }
+    for _ in 0..3 {
+        add_bin(rt.alloc(), &mut job, any_size(10, 10, 1), 1)?;
+    }
+    let found = few_bins(rt.alloc(), &job, LIMITS, |_| true)?;
+    assert!(rt; bins_used(&found, 3) == Some(2));
+    Ok(())
+}
+
+// Two bins for 3 each are cheaper than the large one for 10.
+#[test]
+fn cheap_bins_are_used(rt: HostRuntime) -> Result<(), Fail> {
+    let mut job = alone(rt.alloc(), &[any_size(5, 5, 1); 2], UPRIGHT, &[])?;
+    add_bin(rt.alloc(), &mut job, any_size(10, 5, 1), 10)?;
+    add_bin(rt.alloc(), &mut job, any_size(5, 5, 1), 3)?;
+    add_bin(rt.alloc(), &mut job, any_size(5, 5, 1), 3)?;
+    let found = few_bins(rt.alloc(), &job, LIMITS, |_| true)?;
+    assert!(rt;
+        (bin_of(&found, 0), bin_of(&found, 1)) == (Some(1), Some(2))
+            || (bin_of(&found, 0), bin_of(&found, 1)) == (Some(2), Some(1))
+    );
+    Ok(())
+}
+
+// A box stands up where it does not fit lying.
+#[test]
+fn a_box_is_turned(rt: HostRuntime) -> Result<(), Fail> {
+    let job = alone(
+        rt.alloc(),
+        &[any_size(9, 2, 1)],
+        FLAT_TURN,
+        &[any_size(3, 9, 1)],
+    )?;
+    let found = few_bins(rt.alloc(), &job, LIMITS, |_| true)?;
+    assert!(rt; bin_of(&found, 0) == Some(0));
+    assert!(rt; found.sizes.as_slice() == [any_size(2, 9, 1)].as_slice());
+    Ok(())
+}
+
+// It ends where it is told to.
+#[test]
+fn a_search_is_stopped(rt: HostRuntime) -> Result<(), Fail> {
+    let job = alone(
+        rt.alloc(),
+        &[any_size(6, 6, 1); 5],
+        UPRIGHT,
+        &[any_size(10, 10, 1); 5],
+    )?;
+    let mut asked = 0u64;
+    let found = few_bins(rt.alloc(), &job, LIMITS, |_| {
+        asked = asked.saturating_add(1);
+        asked < 3
+    })?;
+    assert!(rt; asked == 3);
+    assert!(rt; bins_used(&found, 5) == Some(5));
+    Ok(())
+}
+
+// Equal seeds search alike.
+#[test]
+fn equal_seeds_find_the_same(rt: HostRuntime) -> Result<(), Fail> {
+    let boxes = [
+        any_size(7, 4, 1),
+        any_size(4, 4, 1),
+        any_size(3, 9, 1),
+        any_size(6, 5, 1),
+    ];
+    let job = alone(rt.alloc(), &boxes, FLAT_TURN, &[any_size(10, 10, 1); 4])?;
+    let one = few_bins(rt.alloc(), &job, LIMITS, |_| true)?;
+    let other = few_bins(rt.alloc(), &job, LIMITS, |_| true)?;
+    assert!(rt; one.puts.as_slice() == other.puts.as_slice());
+    assert!(rt; one.sizes.as_slice() == other.sizes.as_slice());
+    Ok(())
+}
