@@ -63,21 +63,21 @@ module _ {K : Type 0} (cmp : K → K → Ordering) (partners : List (K × List K
 
   -- of the candidates in turn, each is taken that joins those that were taken before it. `before` are taken already
   -- Example: A is taken, and is excluded with B, C and D; B and C are excluded, too: B and C are taken, and D is not
-  abbrev pub AreTaken : List K → List K → List K → List K → Type 0
-  AreTaken names before [] taken = taken ≡ []
-  AreTaken names before (name ∷ candidates) taken =
+  abbrev pub AreTakenApart : List K → List K → List K → List K → Type 0
+  AreTakenApart names before [] taken = taken ≡ []
+  AreTakenApart names before (name ∷ candidates) taken =
       MatchBool (joins names before name)
-      ((later : List K) × (taken ≡ name ∷ later) × AreTaken names (before ++ name ∷ []) candidates later)
-      (AreTaken names before candidates taken)
+      ((later : List K) × (taken ≡ name ∷ later) × AreTakenApart names (before ++ name ∷ []) candidates later)
+      (AreTakenApart names before candidates taken)
 
   -- groups of these names that exclude each other in pairs, so that each needs a bin of its own: the one at which the most
   -- are listed, and then of those that are listed there, in their order, each that joins the ones before it
-  -- Example: in the example of `AreTaken`: A, B and C. Where no groups are excluded, the first one alone
+  -- Example: in the example of `AreTakenApart`: A, B and C. Where no groups are excluded, the first one alone
   abbrev pub AreGroupsApart : List K → List K → Type 0
   AreGroupsApart [] apart = apart ≡ []
   AreGroupsApart (name ∷ names) apart =
       (first : K) × (others : List K) × HasMostListed (name ∷ names) first
-      × AreTaken (name ∷ names) (first ∷ []) (listed_at cmp partners first) others × (apart ≡ first ∷ others)
+      × AreTakenApart (name ∷ names) (first ∷ []) (listed_at cmp partners first) others × (apart ≡ first ∷ others)
 
 module _ {Id B G : Type 0} (group_cmp : Group G Id → Group G Id → Ordering) (cmp : Id → Id → Ordering) (bin_cmp : B → B → Ordering)
     (all : Collection Id G) (turns : List (Id × Turns)) (bins : List (B × Bin)) where

@@ -5,7 +5,7 @@ ghost use Rattle.std.specs.List.{list_all};
 ghost use Rattle.std.specs.Map.{keys_of};
 ghost use Rattle.rectangle_pack_sections.specs.Exclusions.{are_excluded, listed_at};
 ghost use Rattle.rectangle_pack_packing.specs.private.Excluded.{are_in};
-ghost use Rattle.rectangle_pack.specs.Needed.{AreGroupsApart, AreTaken, HasMostListed, joins as joins_taken, number_listed};
+ghost use Rattle.rectangle_pack.specs.Needed.{AreGroupsApart, AreTakenApart, HasMostListed, joins as joins_taken, number_listed};
 
 use rectangle_pack_groups::grouped_rects_to_place::exclusions::Exclusions;
 use std::alloc::{AllocError, Allocator};
@@ -76,7 +76,7 @@ fn take_joining<'a, K: Ord, V, A: Allocator + Copy>(
     requires none { taken.old.items ≡ [] }
     ensures { OnOk result
         ((others : List K) ×
-        AreTaken K.cmp exclusions.now (keys_of groups.now.entries) (first.now ∷ [])
+        AreTakenApart K.cmp exclusions.now (keys_of groups.now.entries) (first.now ∷ [])
         (listed_at K.cmp exclusions.now first.now) others ×
         (map (λ name. name.now) taken.new.items ≡ first.now ∷ others)) }
 {

@@ -10,7 +10,7 @@ use Rattle.std.proofs.lemmas.Map.Keys.{IsDistinct-from_apart}
 use Rattle.std.proofs.lemmas.Map.Made.{length-le_from_is_member}
 use Rattle.rectangle_pack_sections.specs.Exclusions.{listed_at, is_listed, are_excluded}
 use Rattle.rectangle_pack_bounds.specs.Arrangements.{Put, bins_used, different}
-use Rattle.rectangle_pack.specs.Needed.{entries, are_two_excluded, joins, AreTaken, AreGroupsApart}
+use Rattle.rectangle_pack.specs.Needed.{entries, are_two_excluded, joins, AreTakenApart, AreGroupsApart}
 use Rattle.rectangle_pack_sections.proofs.lemmas.groups.Excluded.{list_any-alike}
 use Rattle.rectangle_pack_sections.proofs.lemmas.util.Maps.{lookup-equal, congr_right, is_at-back}
 use Rattle.rectangle_pack_sections.proofs.lemmas.util.Lists.{AllPairs-head, AllPairs-tail}
@@ -116,7 +116,7 @@ module _ {K : Type 0} {cmp : K → K → Ordering} (o : IsTotalOrder cmp) (partn
       }
 
   -- those that are taken stay good
-  taken_good : (names before candidates taken : List K) → AreTaken cmp partners names before candidates taken → AreGood names before
+  taken_good : (names before candidates taken : List K) → AreTakenApart cmp partners names before candidates taken → AreGood names before
       → AreGood names (before ++ taken)
   taken_good names before [] taken h good = rw (h, append-nil before) good
   taken_good names before (name ∷ candidates) taken h good =
@@ -124,11 +124,11 @@ module _ {K : Type 0} {cmp : K → K → Ordering} (o : IsTotalOrder cmp) (partn
       (λ rest. taken_good names before candidates taken rest good)
     where
       by : (b : Bool) → joins cmp partners names before name ≡ b
-          → MatchBool b ((later : List K) × (taken ≡ name ∷ later) × AreTaken cmp partners names (before ++ name ∷ []) candidates later)
-          (AreTaken cmp partners names before candidates taken)
-          → ((later : List K) → AreTaken cmp partners names (before ++ name ∷ []) candidates later → AreGood names (before ++ name ∷ [])
+          → MatchBool b ((later : List K) × (taken ≡ name ∷ later) × AreTakenApart cmp partners names (before ++ name ∷ []) candidates later)
+          (AreTakenApart cmp partners names before candidates taken)
+          → ((later : List K) → AreTakenApart cmp partners names (before ++ name ∷ []) candidates later → AreGood names (before ++ name ∷ [])
           → AreGood names ((before ++ name ∷ []) ++ later))
-          → (AreTaken cmp partners names before candidates taken → AreGood names (before ++ taken)) → AreGood names (before ++ taken)
+          → (AreTakenApart cmp partners names before candidates taken → AreGood names (before ++ taken)) → AreGood names (before ++ taken)
       by true e (later, is, rest) joined left =
           rw is (subst (λ (l : List K). AreGood names l) (append_assoc before (name ∷ []) later) (joined later rest (good-more names before name good e)))
       by false e rest joined left = left rest

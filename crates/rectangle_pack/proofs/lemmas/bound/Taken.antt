@@ -5,7 +5,7 @@ use Rattle.std.proofs.lemmas.Bool.{ltb-true, ltb-false}
 use Rattle.rectangle_pack_bounds.specs.Arrangements.{different}
 use Rattle.std.specs.Set.{unique_keys}
 use Rattle.rectangle_pack_sections.proofs.Std.{eq_by_cmp, is_at, Bor, deref_pair, keys_of, map_push}
-use Rattle.rectangle_pack.specs.Needed.{joins, AreTaken, HasMostListed, AreGroupsApart, number_listed}
+use Rattle.rectangle_pack.specs.Needed.{joins, AreTakenApart, HasMostListed, AreGroupsApart, number_listed}
 use Rattle.rectangle_pack_sections.specs.Exclusions.{listed_at}
 
 module _ {K : Type 0} (cmp : K → K → Ordering) (partners : List (K × List K)) where
@@ -47,16 +47,16 @@ module _ {K : Type 0} (cmp : K → K → Ordering) (partners : List (K × List K
           })
 
   -- those that are taken, with one more candidate
-  pub taken-more : (names before candidates taken : List K) (name : K) (b : Bool) → AreTaken cmp partners names before candidates taken
+  pub taken-more : (names before candidates taken : List K) (name : K) (b : Bool) → AreTakenApart cmp partners names before candidates taken
       → joins cmp partners names (before ++ taken) name ≡ b
-      → AreTaken cmp partners names before (candidates ++ name ∷ []) (cond b (taken ++ name ∷ []) taken)
+      → AreTakenApart cmp partners names before (candidates ++ name ∷ []) (cond b (taken ++ name ∷ []) taken)
   taken-more names before [] taken name b none e =
       let here : joins cmp partners names before name ≡ b = ap (λ (l : List K). joins cmp partners names l name)
       (sym (ap (λ (l : List K). before ++ l) none ∙ append-nil before)) ∙ e in
       by b here
     where
       by : (c : Bool) → joins cmp partners names before name ≡ c
-          → AreTaken cmp partners names before (name ∷ []) (cond c (taken ++ name ∷ []) taken)
+          → AreTakenApart cmp partners names before (name ∷ []) (cond c (taken ++ name ∷ []) taken)
       by true is = rw is ([], ap (λ (l : List K). l ++ name ∷ []) none, refl)
       by false is = rw is none
   taken-more names before (candidate ∷ candidates) taken name b h e =
@@ -69,14 +69,14 @@ module _ {K : Type 0} (cmp : K → K → Ordering) (partners : List (K × List K
       joined false later is = is
 
       by : (c : Bool) → joins cmp partners names before candidate ≡ c
-          → MatchBool c ((later : List K) × (taken ≡ candidate ∷ later) × AreTaken cmp partners names (before ++ candidate ∷ []) candidates later)
-          (AreTaken cmp partners names before candidates taken)
-          → ((later : List K) → AreTaken cmp partners names (before ++ candidate ∷ []) candidates later
+          → MatchBool c ((later : List K) × (taken ≡ candidate ∷ later) × AreTakenApart cmp partners names (before ++ candidate ∷ []) candidates later)
+          (AreTakenApart cmp partners names before candidates taken)
+          → ((later : List K) → AreTakenApart cmp partners names (before ++ candidate ∷ []) candidates later
           → joins cmp partners names ((before ++ candidate ∷ []) ++ later) name ≡ b
-          → AreTaken cmp partners names (before ++ candidate ∷ []) (candidates ++ name ∷ []) (cond b (later ++ name ∷ []) later))
-          → (AreTaken cmp partners names before candidates taken
-          → AreTaken cmp partners names before (candidates ++ name ∷ []) (cond b (taken ++ name ∷ []) taken))
-          → AreTaken cmp partners names before (candidate ∷ (candidates ++ name ∷ [])) (cond b (taken ++ name ∷ []) taken)
+          → AreTakenApart cmp partners names (before ++ candidate ∷ []) (candidates ++ name ∷ []) (cond b (later ++ name ∷ []) later))
+          → (AreTakenApart cmp partners names before candidates taken
+          → AreTakenApart cmp partners names before (candidates ++ name ∷ []) (cond b (taken ++ name ∷ []) taken))
+          → AreTakenApart cmp partners names before (candidate ∷ (candidates ++ name ∷ [])) (cond b (taken ++ name ∷ []) taken)
       by true is (later, same, rest) with_it without =
           let along : joins cmp partners names ((before ++ candidate ∷ []) ++ later) name ≡ b =
           ap (λ (l : List K). joins cmp partners names l name) (append_assoc before (candidate ∷ []) later ∙ ap (λ (l : List K). before ++ l) (sym same)) ∙ e in
@@ -97,7 +97,7 @@ names-push {K} {V} seen x =
 
 -- the one with the most and those that are taken are groups that are apart
 pub are_apart : {K : Type 0} (cmp : K → K → Ordering) (partners : List (K × List K)) (names : List K) (first : K) (others : List K)
-    → HasMostListed cmp partners names first → AreTaken cmp partners names (first ∷ []) (listed_at cmp partners first) others
+    → HasMostListed cmp partners names first → AreTakenApart cmp partners names (first ∷ []) (listed_at cmp partners first) others
     → AreGroupsApart cmp partners names (first ∷ others)
 are_apart {K} cmp partners [] first others most taken = absurd (none most.before most.after most.names_are)
   where

@@ -1,5 +1,5 @@
 use Rattle.rectangle_pack_sections.proofs.Std.{◌≡◌, ◌+◌, ◌∷◌, ◌++◌, [], List, ap, subst, sym, ◌∙◌, true, false, cond, map, map_push, keys_of, take, take_more, Bor, Bool}
-use Rattle.rectangle_pack.specs.Needed.{joins, AreTaken}
+use Rattle.rectangle_pack.specs.Needed.{joins, AreTakenApart}
 use Rattle.rectangle_pack.proofs.lemmas.bound.Taken.{taken-more}
 use Rattle.rectangle_pack.proofs.bound.apart.take_joining.Goals.{then-branch+in_ok-push-2, else-branch}
 use Rattle.rectangle_pack.proofs.bound.apart.take_joining.Goals as goal
@@ -20,8 +20,8 @@ loop-name-preserved g c =
     sym (c.in_ok-joins.ensures ∙ ap (λ (l : List K). joins cmp partners names l name) (ap (map now) c.as_slice.ensures.value ∙ is)) in
     let one_more : take i items ++ name ∷ [] ≡ take (i + 1) items =
     ap (λ (x : K). take i items ++ x ∷ []) c.name-item.is ∙ sym (take_more items i name c.loop-name-test.true) in
-    let more : (b : Bool) → c.in_ok-joins.field-0 ≡ b → AreTaken cmp partners names (first ∷ []) (take (i + 1) items) (cond b (others ++ name ∷ []) others) =
-    λ b e. subst (λ (l : List K). AreTaken cmp partners names (first ∷ []) l (cond b (others ++ name ∷ []) others)) one_more
+    let more : (b : Bool) → c.in_ok-joins.field-0 ≡ b → AreTakenApart cmp partners names (first ∷ []) (take (i + 1) items) (cond b (others ++ name ∷ []) others) =
+    λ b e. subst (λ (l : List K). AreTakenApart cmp partners names (first ∷ []) l (cond b (others ++ name ∷ []) others)) one_more
     (taken-more cmp partners names (first ∷ []) (take i items) others name b taken (test ∙ e)) in
     elim c.if-branch.branch [
       | then-branch+in_ok-push-2 w ↦ (
