@@ -1,4 +1,4 @@
-"""Where a box fits best, and what a bin that is cut anew has to be, each by a look at all: what the tests expect.
+"""Where a box fits best, by a look at all, and how a bin is cut anew: what the tests expect.
 
 Sizes are (width, height, depth), sections (x, y, z, width, height, depth)."""
 from math import prod
@@ -64,8 +64,7 @@ def strips_round(bounds, room):
 
 
 def free_anew(room, boxes):
-    """The free sections of a room that is cut anew round boxes with cells, each with the volume of the room that it was cut from.
-    None where no straight cuts part it."""
+    """The free sections of a room that is cut anew round boxes with cells, each with the volume of the room that it was cut from."""
     low = [min(it[axis] for it in boxes) for axis in range(3)]
     high = [max(it[axis] + it[3 + axis] for it in boxes) for axis in range(3)]
     bounds = (*low, *(end - start for start, end in zip(low, high)))
@@ -85,8 +84,8 @@ def free_anew(room, boxes):
 
 
 def are_cut_anew(bin, boxes, sections):
-    """Whether these are the free sections of a bin that is cut anew round these boxes with cells: by falling least side, at ties by
-    rising volume of the room that they were cut from, and then by rising volume. Boxes that straight cuts part."""
+    """Whether these are the free sections of a bin that is cut anew round boxes with cells, which straight cuts part: by falling
+    least side, at ties by rising volume of the room that they were cut from, and then by rising volume."""
     sections = list(map(tuple, sections))
     whole = (0, 0, 0, *bin)
     if not boxes:

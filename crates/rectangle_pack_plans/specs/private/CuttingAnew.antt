@@ -31,9 +31,9 @@ pub record HaveBothFit (f : FreeSection) : Type 0 where
 abbrev pub thickness_rank : Size → FreeSection → ℕ
 thickness_rank bin f = (4294967295 - least_side bin f.section.whd) * 2 ^ 96 + volume_of f.room.whd
 
--- the section with this rank and its volume
+-- the section with this rank
 abbrev pub ranked : Size → FreeSection → Ranked
-ranked bin f = record { rank = thickness_rank bin f; volume = volume_of f.section.whd; section = f.section }
+ranked bin f = record { rank = thickness_rank bin f; section = f.section }
 
 -- boxes with cells stand in the room, one or more
 pub record AreInRoom (room : Cuboid) (boxes : List Cuboid) : Type 0 where

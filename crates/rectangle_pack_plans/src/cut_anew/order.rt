@@ -14,11 +14,10 @@ use std::alloc::{AllocError, Allocator};
 const VOLUMES: u128 = 1 << 96;
 
 // A free section, and where it stands in the order: the lesser rank first, and at equal ranks the
-// lesser volume.
+// smaller section.
 #[derive(Clone, Copy)]
 struct Ranked {
     rank: u128,
-    volume: u128,
     section: BinSection,
 }
 
@@ -30,7 +29,6 @@ fn rank(bin: &WidthHeightDepth, free: &FreeSection) -> Ranked
     let thinness = u32::MAX - least_side(bin, &whd);
     Ranked {
         rank: u128::from(thinness) * VOLUMES + free.room.whd().volume(),
-        volume: whd.volume(),
         section: free.section,
     }
 }
@@ -71,7 +69,7 @@ pub(crate) fn in_order<A: Allocator + Copy>(
         × AreThickestFirst bin.now sorted × (v.items ≡ sections_alone sorted)) }
 {
     let mut all = rank_all(alloc, bin, free)?;
-    all.sort_unstable_by_key(|one| (one.rank, one.volume));
+    all.sort_unstable_by_key(|one| (one.rank, one.section.whd().volume()));
     let sections = without_ranks(alloc, all.as_slice())?;
     Ok(sections)
 }

@@ -105,7 +105,7 @@ images_moved {P} f xs ys moved = IsPermutation-keeps (map f xs) (λ l. (zs : Lis
 
 -- one ranked free section is before another
 abbrev goes_before : Ranked → Ranked → Bool
-goes_before a b = is_lt (ordering_then (nat_cmp a.rank b.rank) (nat_cmp a.volume b.volume))
+goes_before a b = is_lt (ordering_then (nat_cmp a.rank b.rank) (nat_cmp (volume_of a.section.whd) (volume_of b.section.whd)))
 
 -- free sections that were ranked, put in the order of their ranks and taken out again
 pub sorted_stand : (bin : Size) (free : List FreeSection) (all sorted : List Ranked) (sections : List Cuboid) → All HaveBothFit free
