@@ -10,7 +10,10 @@ mod reading;
 
 use crate::bound::apart::number_apart;
 use crate::bound::entries::{boxes_of, sizes_of};
-pub use laws::{fewest_bins_are_used, kept_packing_is_an_arrangement, packing_is_an_arrangement};
+pub use laws::{
+    fewest_bins_are_used, fitting_is_an_arrangement, kept_packing_is_an_arrangement,
+    packing_is_an_arrangement, told_fewest_bins_are_used, told_packing_is_an_arrangement,
+};
 pub use reading::{bins_used, uses_fewest_bins};
 use rectangle_pack_bins::target_bin::TargetBin;
 pub use rectangle_pack_bounds::laws::{

@@ -83,45 +83,106 @@ pub mod width_height_depth {
     pub use rectangle_pack_sections::width_height_depth::{WidthHeightDepth, sizes_are_ordered};
 }
 
-pub use bin_section::{
-    BinSection, BinSectionError, cell_test_is_membership, contains_smallest_box,
-    pieces_are_from_cuts, sections_are_ordered, sharing_is_symmetric, smallest_box_is_preorder,
-};
-pub use bound::{
-    Turns, bins_are_bounded, bins_used, fewest_bins_are_used, kept_packing_is_an_arrangement,
-    least_bins, packing_is_an_arrangement, rates_are_dual_feasible, shown_bins_are_needed,
-    uses_fewest_bins,
-};
-pub use box_size_heuristics::{
-    Heuristic, UnknownHeuristic, all_lists_each_heuristic_once, depth_heuristic, height_heuristic,
-    longest_side_heuristic, shortest_side_heuristic, side_area_heuristic, side_sum_heuristic,
-    volume_heuristic, width_heuristic,
-};
-pub use grouped_rects_to_place::{
-    Group, GroupedRectsToPlace, equal_pushes_leave_equal_collections, groups_are_ordered,
-};
-pub use pack::{
-    Fitted, Placement, RectanglePackError, RectanglePackOk, Step, StepFault, ToldError,
-    excluded_groups_are_apart, first_left_is_refused, fitted_groups_are_apart,
-    fitted_groups_are_placed_whole, fitting_can_be_told, fitting_has_one_result,
-    fitting_keeps_cells, groups_are_placed_whole, left_box_is_held_nowhere,
-    locations_follow_placements, named_packing_has_one_result, pack_rects, pack_rects_best,
-    pack_rects_counted, pack_rects_fitting, pack_rects_fitting_best, pack_rects_told,
-    packing_can_be_told, packing_has_one_result, packing_keeps_cells, packing_leaves_none,
-    packing_without_exclusions, preorders_decide, refused_box_is_held_nowhere,
-    told_groups_are_apart, told_groups_are_placed_whole, told_packing_has_one_result,
-    told_packing_keeps_cells, volume_packing_has_one_result,
-};
-pub use packed_location::{PackedLocation, RotatedBy};
+pub use bin_section::BinSection;
+pub use bin_section::BinSectionError;
+pub use bin_section::cell_test_is_membership;
+pub use bin_section::contains_smallest_box;
+pub use bin_section::pieces_are_from_cuts;
+pub use bin_section::sections_are_ordered;
+pub use bin_section::sharing_is_symmetric;
+pub use bin_section::smallest_box_is_preorder;
+pub use bound::Turns;
+pub use bound::bins_are_bounded;
+pub use bound::bins_used;
+pub use bound::fewest_bins_are_used;
+pub use bound::fitting_is_an_arrangement;
+pub use bound::kept_packing_is_an_arrangement;
+pub use bound::least_bins;
+pub use bound::packing_is_an_arrangement;
+pub use bound::rates_are_dual_feasible;
+pub use bound::shown_bins_are_needed;
+pub use bound::told_fewest_bins_are_used;
+pub use bound::told_packing_is_an_arrangement;
+pub use bound::uses_fewest_bins;
+pub use box_size_heuristics::Heuristic;
+pub use box_size_heuristics::UnknownHeuristic;
+pub use box_size_heuristics::all_lists_each_heuristic_once;
+pub use box_size_heuristics::depth_heuristic;
+pub use box_size_heuristics::height_heuristic;
+pub use box_size_heuristics::longest_side_heuristic;
+pub use box_size_heuristics::shortest_side_heuristic;
+pub use box_size_heuristics::side_area_heuristic;
+pub use box_size_heuristics::side_sum_heuristic;
+pub use box_size_heuristics::volume_heuristic;
+pub use box_size_heuristics::width_heuristic;
+pub use grouped_rects_to_place::Group;
+pub use grouped_rects_to_place::GroupedRectsToPlace;
+pub use grouped_rects_to_place::equal_pushes_leave_equal_collections;
+pub use grouped_rects_to_place::groups_are_ordered;
+pub use pack::Fitted;
+pub use pack::Placement;
+pub use pack::RectanglePackError;
+pub use pack::RectanglePackOk;
+pub use pack::Step;
+pub use pack::StepFault;
+pub use pack::ToldError;
+pub use pack::excluded_groups_are_apart;
+pub use pack::first_left_is_refused;
+pub use pack::fitted_groups_are_apart;
+pub use pack::fitted_groups_are_placed_whole;
+pub use pack::fitting_can_be_told;
+pub use pack::fitting_has_one_result;
+pub use pack::fitting_keeps_cells;
+pub use pack::groups_are_placed_whole;
+pub use pack::left_box_is_held_nowhere;
+pub use pack::locations_follow_placements;
+pub use pack::named_packing_has_one_result;
+pub use pack::pack_rects;
+pub use pack::pack_rects_best;
+pub use pack::pack_rects_counted;
+pub use pack::pack_rects_fitting;
+pub use pack::pack_rects_fitting_best;
+pub use pack::pack_rects_told;
+pub use pack::packing_can_be_told;
+pub use pack::packing_has_one_result;
+pub use pack::packing_keeps_cells;
+pub use pack::packing_leaves_none;
+pub use pack::packing_without_exclusions;
+pub use pack::preorders_decide;
+pub use pack::refused_box_is_held_nowhere;
+pub use pack::told_groups_are_apart;
+pub use pack::told_groups_are_placed_whole;
+pub use pack::told_packing_has_one_result;
+pub use pack::told_packing_keeps_cells;
+pub use pack::volume_packing_has_one_result;
+pub use packed_location::PackedLocation;
+pub use packed_location::RotatedBy;
 pub use rect_to_insert::RectToInsert;
-pub use session::{
-    Axis, BinStats, Command, CutStep, Outstanding, Packed, Reply, Session, SessionError,
-    cuts_cover_bins, cuts_have_open_planes, cuts_stay_until_coalesced, open_planes_split_cuts,
-    pinwheel_is_not_from_cuts, plans_are_unique, transitions_keep_sessions,
-};
-pub use target_bin::{
-    FitTests, PushBinSectionError, TargetBin, joining_has_one_result, joining_keeps_cells,
-    joining_stays_within_the_list, step_adds_at_most_two, sweep_leaves_no_face, trial_keeps_cells,
-    trial_tests_are_bounded,
-};
-pub use width_height_depth::{WidthHeightDepth, sizes_are_ordered};
+pub use session::Axis;
+pub use session::BinStats;
+pub use session::Command;
+pub use session::CutStep;
+pub use session::Outstanding;
+pub use session::Packed;
+pub use session::Reply;
+pub use session::Session;
+pub use session::SessionError;
+pub use session::cuts_cover_bins;
+pub use session::cuts_have_open_planes;
+pub use session::cuts_stay_until_coalesced;
+pub use session::open_planes_split_cuts;
+pub use session::pinwheel_is_not_from_cuts;
+pub use session::plans_are_unique;
+pub use session::transitions_keep_sessions;
+pub use target_bin::FitTests;
+pub use target_bin::PushBinSectionError;
+pub use target_bin::TargetBin;
+pub use target_bin::joining_has_one_result;
+pub use target_bin::joining_keeps_cells;
+pub use target_bin::joining_stays_within_the_list;
+pub use target_bin::step_adds_at_most_two;
+pub use target_bin::sweep_leaves_no_face;
+pub use target_bin::trial_keeps_cells;
+pub use target_bin::trial_tests_are_bounded;
+pub use width_height_depth::WidthHeightDepth;
+pub use width_height_depth::sizes_are_ordered;

@@ -4,13 +4,14 @@ use rectangle_pack::{
     contains_smallest_box, equal_pushes_leave_equal_collections, excluded_groups_are_apart,
     fewest_bins_are_used, first_left_is_refused, fitted_groups_are_apart,
     fitted_groups_are_placed_whole, fitting_can_be_told, fitting_has_one_result,
-    fitting_keeps_cells, groups_are_ordered, groups_are_placed_whole,
+    fitting_is_an_arrangement, fitting_keeps_cells, groups_are_ordered, groups_are_placed_whole,
     kept_packing_is_an_arrangement, left_box_is_held_nowhere, locations_follow_placements,
     packing_can_be_told, packing_has_one_result, packing_is_an_arrangement, packing_keeps_cells,
     packing_leaves_none, packing_without_exclusions, preorders_decide, refused_box_is_held_nowhere,
-    smallest_box_is_preorder, step_adds_at_most_two, told_groups_are_apart,
-    told_groups_are_placed_whole, told_packing_has_one_result, told_packing_keeps_cells,
-    trial_keeps_cells, trial_tests_are_bounded, volume_heuristic,
+    smallest_box_is_preorder, step_adds_at_most_two, told_fewest_bins_are_used,
+    told_groups_are_apart, told_groups_are_placed_whole, told_packing_has_one_result,
+    told_packing_is_an_arrangement, told_packing_keeps_cells, trial_keeps_cells,
+    trial_tests_are_bounded, volume_heuristic,
 };
 
 #[test]
@@ -68,6 +69,9 @@ fn of_arrangements() {
         &contains_smallest_box,
     );
     fewest_bins_are_used::<u32, u32, u32, _, _>(&volume_heuristic, &contains_smallest_box);
+    fitting_is_an_arrangement::<u32, u32, u32, _, _>(&volume_heuristic, &contains_smallest_box);
+    told_packing_is_an_arrangement::<u32, u32, u32>();
+    told_fewest_bins_are_used::<u32, u32, u32>();
 }
 
 // These closures meet the conditions: volumes are one answer on each size, and so the comparison by

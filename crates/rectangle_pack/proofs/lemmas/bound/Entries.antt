@@ -43,15 +43,19 @@ module _ {Id K : Type 0} {cmp : K → K → Ordering} (o : IsTotalOrder cmp) whe
       ap (λ (l : List (K × Id)). l ++ flat_map (entries_named cmp (g ∷ groups)) (keys_of groups)) here
       ∙ ap (λ (l : List (K × Id)). map (λ id. (name, id)) g.1 ++ l) rest
 
-  -- and in the order of a packing they name all entries, each once
-  pub entries-ordered : (MayRate : Size → ℕ → Type 0) (id_cmp : Id → Id → Ordering) (sizes : List (Id × Size)) (groups : List (K × List Id))
-      (order : List (ℕ × K)) → IsGroupOrder MayRate cmp id_cmp sizes groups order → IsDistinct (eq_by_cmp cmp) (keys_of groups)
-      → IsPermutation (entries groups) (flat_map (entries_named cmp groups) (map (λ entry. entry.1) order))
-  entries-ordered MayRate id_cmp sizes groups order by_groups distinct =
-      let name : ℕ × K → K = λ entry. entry.1 in
-      let names : map name by_groups.unsorted ≡ keys_of groups =
-      AllZip-equal _ (λ g. g.0) name (λ g entry is. is.0) groups by_groups.unsorted by_groups.each in
-      let moved : IsPermutation (keys_of groups) (map name order) =
-      subst (λ (ks : List K). IsPermutation ks (map name order)) names (IsPermutation-map name by_groups.unsorted order by_groups.permutation) in
-      subst (λ (es : List (K × Id)). IsPermutation es (flat_map (entries_named cmp groups) (map name order))) (entries-by_names groups distinct)
-      (IsPermutation-flat_map (entries_named cmp groups) (keys_of groups) (map name order) moved)
+  -- in another order they name all entries, each once
+  pub entries-moved : (groups : List (K × List Id)) (names : List K) → IsDistinct (eq_by_cmp cmp) (keys_of groups) → IsPermutation (keys_of groups) names
+      → IsPermutation (entries groups) (flat_map (entries_named cmp groups) names)
+  entries-moved groups names distinct moved =
+      subst (λ (es : List (K × Id)). IsPermutation es (flat_map (entries_named cmp groups) names)) (entries-by_names groups distinct)
+      (IsPermutation-flat_map (entries_named cmp groups) (keys_of groups) names moved)
+
+-- the order of a packing has the names of all groups
+pub names-ordered : {Id K : Type 0} (cmp : K → K → Ordering) (MayRate : Size → ℕ → Type 0) (id_cmp : Id → Id → Ordering) (sizes : List (Id × Size))
+    (groups : List (K × List Id)) (order : List (ℕ × K)) → IsGroupOrder MayRate cmp id_cmp sizes groups order
+    → IsPermutation (keys_of groups) (map (λ entry. entry.1) order)
+names-ordered {K = K} cmp MayRate id_cmp sizes groups order by_groups =
+    let name : ℕ × K → K = λ entry. entry.1 in
+    let names : map name by_groups.unsorted ≡ keys_of groups =
+    AllZip-equal _ (λ g. g.0) name (λ g entry is. is.0) groups by_groups.unsorted by_groups.each in
+    subst (λ (ks : List K). IsPermutation ks (map name order)) names (IsPermutation-map name by_groups.unsorted order by_groups.permutation)

@@ -1,23 +1,28 @@
 -- The boxes of a packing inside its bins, where no two share a cell.
 use Rattle.rectangle_pack_sections.proofs.Std.{◌≡◌, ℕ, List, [], ◌∷◌, ◌++◌, get_or, refl, sym, ◌∙◌, ap, arith, Bool, true, false, cond, map, filter}
 use Rattle.rectangle_pack_sections.proofs.Std.{All, All-nil, All-cons, All-head, All-tail, All-weaker, AllPairs, AllPairs-cons, AllZip, Ordering, Equal, IsTotalOrder, is_eq}
-use Rattle.rectangle_pack_sections.proofs.Std.{lookup, is_at, tied_itself, IsSome, IsSomeAnd, Some, option_map, lookup-map_values}
+use Rattle.rectangle_pack_sections.proofs.Std.{lookup, is_at, keys_of, tied_itself, IsSome, IsSomeAnd, Some, option_map, lookup-map_values}
+use Rattle.rectangle_pack_sections.specs.declared.group.Group.{Group}
 use Rattle.rectangle_pack_sections.specs.Boxes.{IsInside, AreApart}
 use Rattle.rectangle_pack_sections.specs.Bins.{Bin}
 use Rattle.rectangle_pack_sections.specs.Counting.{AreAllApart}
+use Rattle.rectangle_pack_sections.specs.Groups.{Collection}
 use Rattle.rectangle_pack_bounds.specs.Arrangements.{Put}
 use Rattle.rectangle_pack_packing.specs.declared.answer.Placement.{Placement}
-use Rattle.rectangle_pack_packing.specs.KeptBins.{locations_in}
+use Rattle.rectangle_pack_packing.specs.declared.pack.told.Step.{Step}
+use Rattle.rectangle_pack_packing.specs.KeptBins.{KeepsEachBin, locations_in}
 use Rattle.rectangle_pack_packing.specs.Packing.{Rules, Members, Stage, AreAllPlaced}
+use Rattle.rectangle_pack_packing.specs.Told.{AreStepsDone}
 use Rattle.rectangle_pack.specs.Needed.{sizes_of}
 use Rattle.rectangle_pack.specs.NeededLaws.{AreSound}
 use Rattle.rectangle_pack_sections.proofs.lemmas.util.Lists.{All-back, AllPairs-head, AllPairs-tail}
 use Rattle.rectangle_pack_sections.proofs.lemmas.util.Maps.{is_at-back, is_some-keys}
 use Rattle.rectangle_pack_sections.proofs.lemmas.util.Searches.{some_of}
 use Rattle.rectangle_pack_sections.proofs.lemmas.util.Zips.{All-alike}
-use Rattle.rectangle_pack_packing.proofs.lemmas.packing.Frame.{IsFrame-recut, KeptBySteps-recut, changed-all}
+use Rattle.rectangle_pack_packing.proofs.lemmas.packing.Frame.{IsRecut, IsChanged, IsFrame-recut, KeptBySteps-recut, changed-all}
 use Rattle.rectangle_pack_packing.proofs.lemmas.packing.KeepsCells.{KeepsEachBin-placed}
 use Rattle.rectangle_pack_packing.proofs.lemmas.packing.Placed.{keys-placed, known-placed}
+use Rattle.rectangle_pack_packing.proofs.lemmas.packing.Told.{keys-told, known-told, changed-told, KeepsEachBin-told}
 use Rattle.rectangle_pack.proofs.lemmas.bound.Puts.{IsReadAs}
 
 -- the end of a list, of which each two elements are related
@@ -78,48 +83,75 @@ IsInBin bin_cmp bins p = IsSomeAnd (lookup (is_at (bin_cmp p.bin)) (sizes_of bin
 abbrev pub AreApartInBin : {Id B : Type 0} → (B → B → Ordering) → Placement Id B → Placement Id B → Type 0
 AreApartInBin bin_cmp a b = bin_cmp a.bin b.bin ≡ Equal → AreApart a.location b.location
 
-module _ {Id B K : Type 0} (rules : Rules Id B) (o : IsTotalOrder rules.bin_cmp) (excludes : List (K × B) → K → B → Bool) (order : List B)
+-- what a packing keeps, so that its boxes are inside bins and apart: no bin comes or goes, each bin of a placement is
+-- there, and the cells of each bin are filled as often as before
+pub record AreBinsKept {Id B : Type 0} (bin_cmp : B → B → Ordering) (old : List (B × Bin)) (placements : List (Placement Id B)) (new : List (B × Bin)) : Type 0 where
+  pub keys : keys_of new ≡ keys_of old
+  pub there : All (λ p. IsSome (lookup (is_at (bin_cmp p.bin)) new)) placements
+  pub changed : (q : B) (before : Bin) → lookup (is_at (bin_cmp q)) old ≡ Some before → IsChanged IsRecut bin_cmp placements new q before
+  pub cells : KeepsEachBin bin_cmp old placements new
+
+-- a packing of groups keeps it
+pub placed_kept : {Id B K : Type 0} (rules : Rules Id B) → IsTotalOrder rules.bin_cmp → (excludes : List (K × B) → K → B → Bool) (order : List B)
     (gs : List (K × Members Id)) (old : Stage K B) (placements : List (Placement Id B)) (new : Stage K B) (tests : ℕ)
-    (placed : AreAllPlaced rules excludes order gs old placements new tests) (sound : AreSound rules.bin_cmp old.bins) where
-  itself : (p : Placement Id B) → is_at (rules.bin_cmp p.bin) p.bin ≡ true
+    → AreAllPlaced rules excludes order gs old placements new tests → AreBinsKept rules.bin_cmp old.bins placements new.bins
+placed_kept rules o excludes order gs old placements new tests placed = record {
+  keys = keys-placed rules excludes order gs old placements new tests placed;
+  there = known-placed rules excludes o order gs old placements new tests placed;
+  changed = changed-all IsFrame-recut rules o (KeptBySteps-recut rules.may) excludes order gs old placements new tests placed;
+  cells = KeepsEachBin-placed rules o excludes order gs old placements new tests placed;
+}
+
+-- and so do steps as they are told
+pub told_kept : {Id B G : Type 0} (group_cmp : Group G Id → Group G Id → Ordering) (cmp : Id → Id → Ordering) (bin_cmp : B → B → Ordering)
+    (all : Collection Id G) → IsTotalOrder bin_cmp → (steps : List (Step Id G B)) (old : Stage (Group G Id) B) (placements : List (Placement Id B))
+    (new : Stage (Group G Id) B) → AreStepsDone group_cmp cmp bin_cmp all steps old placements new → AreBinsKept bin_cmp old.bins placements new.bins
+told_kept group_cmp cmp bin_cmp all o steps old placements new done = record {
+  keys = keys-told group_cmp cmp bin_cmp all steps old placements new done;
+  there = known-told group_cmp cmp bin_cmp all o steps old placements new done;
+  changed = changed-told group_cmp cmp bin_cmp all IsFrame-recut o (λ heuristic. KeptBySteps-recut _) steps old placements new done;
+  cells = KeepsEachBin-told group_cmp cmp bin_cmp all o steps old placements new done;
+}
+
+module _ {Id B : Type 0} {bin_cmp : B → B → Ordering} (o : IsTotalOrder bin_cmp) (old : List (B × Bin)) (placements : List (Placement Id B))
+    (new : List (B × Bin)) (kept : AreBinsKept bin_cmp old placements new) (sound : AreSound bin_cmp old) where
+  itself : (p : Placement Id B) → is_at (bin_cmp p.bin) p.bin ≡ true
   itself p = ap is_eq (tied_itself o p.bin)
 
   -- the bin of a placement was there before
-  was_there : (p : Placement Id B) → IsSome (lookup (is_at (rules.bin_cmp p.bin)) new.bins) → (bin : Bin) × (lookup (is_at (rules.bin_cmp p.bin)) old.bins ≡ Some bin)
-  was_there p some =
-      some_of _ (sym (is_some-keys (is_at (rules.bin_cmp p.bin)) new.bins old.bins (keys-placed rules excludes order gs old placements new tests placed)) ∙ some)
+  was_there : (p : Placement Id B) → IsSome (lookup (is_at (bin_cmp p.bin)) new) → (bin : Bin) × (lookup (is_at (bin_cmp p.bin)) old ≡ Some bin)
+  was_there p some = some_of _ (sym (is_some-keys (is_at (bin_cmp p.bin)) new old kept.keys) ∙ some)
 
-  known : All (λ p. (bin : Bin) × (lookup (is_at (rules.bin_cmp p.bin)) old.bins ≡ Some bin)) placements
-  known = All-weaker (λ (p : Placement Id B). IsSome (lookup (is_at (rules.bin_cmp p.bin)) new.bins))
-      (λ p. (bin : Bin) × (lookup (is_at (rules.bin_cmp p.bin)) old.bins ≡ Some bin)) was_there placements
-      (known-placed rules excludes o order gs old placements new tests placed)
+  known : All (λ p. (bin : Bin) × (lookup (is_at (bin_cmp p.bin)) old ≡ Some bin)) placements
+  known = All-weaker (λ (p : Placement Id B). IsSome (lookup (is_at (bin_cmp p.bin)) new))
+      (λ p. (bin : Bin) × (lookup (is_at (bin_cmp p.bin)) old ≡ Some bin)) was_there placements kept.there
 
-  inside_there : (q : B) (bin : Bin) → lookup (is_at (rules.bin_cmp q)) old.bins ≡ Some bin → All (IsInside bin.size) (locations_in rules.bin_cmp placements q)
+  inside_there : (q : B) (bin : Bin) → lookup (is_at (bin_cmp q)) old ≡ Some bin → All (IsInside bin.size) (locations_in bin_cmp placements q)
   inside_there q bin was =
-      let changed = changed-all IsFrame-recut rules o (KeptBySteps-recut rules.may) excludes order gs old placements new tests placed q bin was in
-      All-back (IsInside bin.size) changed.after.sections (locations_in rules.bin_cmp placements q)
+      let changed = kept.changed q bin was in
+      All-back (IsInside bin.size) changed.after.sections (locations_in bin_cmp placements q)
       (changed.framed.inside bin.size (sound q bin was).inside)
 
-  apart_there : (q : B) (bin : Bin) → lookup (is_at (rules.bin_cmp q)) old.bins ≡ Some bin → AreAllApart (locations_in rules.bin_cmp placements q)
+  apart_there : (q : B) (bin : Bin) → lookup (is_at (bin_cmp q)) old ≡ Some bin → AreAllApart (locations_in bin_cmp placements q)
   apart_there q bin was =
-      let (after, found, size, keeps) = (KeepsEachBin-placed rules o excludes order gs old placements new tests placed).each q bin was (sound q bin was).apart in
-      AllPairs-back AreApart after.sections (locations_in rules.bin_cmp placements q) keeps.apart
+      let (after, found, size, keeps) = kept.cells.each q bin was (sound q bin was).apart in
+      AllPairs-back AreApart after.sections (locations_in bin_cmp placements q) keeps.apart
 
-  pub placed_inside : All (IsInBin rules.bin_cmp old.bins) placements
+  pub placed_inside : All (IsInBin bin_cmp old) placements
   placed_inside = λ k d within.
       let p = get_or placements k d in
       let (bin, was) = known k d within in
-      let size : lookup (is_at (rules.bin_cmp p.bin)) (sizes_of old.bins) ≡ Some bin.size =
-      lookup-map_values (λ (b : Bin). b.size) (is_at (rules.bin_cmp p.bin)) old.bins ∙ ap (option_map (λ (b : Bin). b.size)) was in
-      rw size (All-where (λ (r : Placement Id B). r.location) (λ r. is_at (rules.bin_cmp r.bin) p.bin) (IsInside bin.size) placements
+      let size : lookup (is_at (bin_cmp p.bin)) (sizes_of old) ≡ Some bin.size =
+      lookup-map_values (λ (b : Bin). b.size) (is_at (bin_cmp p.bin)) old ∙ ap (option_map (λ (b : Bin). b.size)) was in
+      rw size (All-where (λ (r : Placement Id B). r.location) (λ r. is_at (bin_cmp r.bin) p.bin) (IsInside bin.size) placements
       (inside_there p.bin bin was) k d within (itself p))
 
-  pub placed_apart : AllPairs (AreApartInBin rules.bin_cmp) placements
+  pub placed_apart : AllPairs (AreApartInBin bin_cmp) placements
   placed_apart = λ i j d before within same.
       let a = get_or placements i d in
       let b = get_or placements j d in
       let (bin, was) = known i d (omega arith) in
-      AllPairs-where (λ (r : Placement Id B). r.location) (λ r. is_at (rules.bin_cmp r.bin) a.bin) AreApart placements (apart_there a.bin bin was)
+      AllPairs-where (λ (r : Placement Id B). r.location) (λ r. is_at (bin_cmp r.bin) a.bin) AreApart placements (apart_there a.bin bin was)
       i j d before within (itself a) (is_at-back o b.bin a.bin ∙ ap is_eq same)
 
 -- and so it is of the puts that are read of the placements
