@@ -79,15 +79,15 @@ module _ {K : Type 0} {cmp : K → K → Ordering} (o : IsTotalOrder cmp) where
       let beside : All (λ y. e name y ≡ false) others = IsDistinct-apart e name others still in
       let Among : List K → K → Type 0 = λ ns x. list_any (is_at (cmp x)) ns ≡ true in
       let later : All (Contains others) names = λ k d lt.
-          let m = get_or names k d in
-          Contains-tail name others m
-          (λ same. let no : true ≡ false = sym (ap is_eq (tied_itself o name)) ∙ ap (λ y. e name y) same ∙ apart k d lt in cc)
-          (Contains-permutation ks (name ∷ others) m moved (All-tail (Contains ks) name names there k d lt)) in
+      let m = get_or names k d in
+      Contains-tail name others m
+      (λ same. let no : true ≡ false = sym (ap is_eq (tied_itself o name)) ∙ ap (λ y. e name y) same ∙ apart k d lt in cc)
+      (Contains-permutation ks (name ∷ others) m moved (All-tail (Contains ks) name names there k d lt)) in
       let all : All (Among (name ∷ names)) others = All-tail (Among (name ∷ names)) name others (All-permutation (Among (name ∷ names)) ks (name ∷ others) moved among) in
       let covered : All (Among names) others = λ k d lt.
-          let m = get_or others k d in
-          let differs : is_at (cmp m) name ≡ false = is_at-back o m name ∙ beside k d lt in
-          rw differs at (all k d lt) in
+      let m = get_or others k d in
+      let differs : is_at (cmp m) name ≡ false = is_at-back o m name ∙ beside k d lt in
+      rw differs at (all k d lt) in
       IsPermutation-trans ks (name ∷ others) (name ∷ names) moved
       (IsPermutation-cons name others names (same_names others names (IsDistinct-tail e name others still) (IsDistinct-tail e name names differ) later covered))
 
