@@ -72,7 +72,7 @@ where
         turns.now.entries (bins_of target_bins.now.entries) least) }
     // The answer is the greatest number that is shown by ratings of the boxes, by volumes, or by
     //   groups that exclude each other in pairs. [quotient.bound_is_rounded_up_twice,
-    //   in_pieces.one_piece_too_many, push_fitting.turned_box_counts_twice,
+    //   in_pieces.one_piece_too_many, small_sum.turned_box_counts_its_greater_value,
     //   fewest_with.smallest_bins_come_first, least_bins.groups_apart_count_once,
     //   with_more.last_of_equals_is_taken, box_of.all_may_be_turned]
     // The answer is `None` exactly where a box is too large for each bin, or where more bins are

@@ -1,5 +1,5 @@
 //! The ratings that are tried along an axis.
-ghost use Rattle.std.specs.Prelude.{◌≡◌, ◌↔◌, ℕ, ◌*◌, ◌<◌, ◌≤◌, ◌++◌, Bool, OnOk, IfOk, Contains, map};
+ghost use Rattle.std.specs.Prelude.{◌≡◌, ◌↔◌, ℕ, ◌*◌, ◌<◌, ◌≤◌, ◌++◌, OnOk, IfOk, Contains, map};
 ghost use Rattle.std.specs.List.Sorted.{IsStrictlyIncreasing};
 ghost use Rattle.rectangle_pack_sections.specs.Boxes.{extent};
 ghost use Rattle.rectangle_pack_bounds.specs.Ratings.{AreTried, are_full, effort_by, last_of};

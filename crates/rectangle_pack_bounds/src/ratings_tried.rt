@@ -1,5 +1,5 @@
 //! How many bins boxes need, as the ratings show that are tried.
-ghost use Rattle.std.specs.Prelude.{◌≡◌, ◌||◌, IfOk, min, sum_by, map, flat_map, All, length};
+ghost use Rattle.std.specs.Prelude.{◌≡◌, ◌||◌, IfOk, min, sum_by, map, All};
 ghost use Rattle.std.specs.Int.{div_ceil};
 ghost use Rattle.rectangle_pack_sections.specs.Boxes.{extent};
 ghost use Rattle.rectangle_pack_sections.specs.declared.axis.Axis.TheVariants.{X, Y, Z};
