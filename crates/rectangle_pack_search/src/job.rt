@@ -70,7 +70,8 @@ impl<A: Allocator + Copy> Job<A> {
 /// How long a search goes on.
 #[derive(Debug, Clone, Copy)]
 pub struct Limits {
-    /// The most tries. A try packs some groups anew into some of the bins.
+    /// After so many tries no further batch begins; the last one may go beyond by up to 31. A try
+    /// packs some groups anew into some of the bins.
     pub tries: u64,
     /// Equal seeds search alike.
     pub seed: u64,
@@ -94,7 +95,9 @@ pub struct Progress {
 /// A group that goes into a bin.
 #[derive(Debug, Clone, Copy, PartialEq)]
 pub struct Put {
+    /// The index of the group.
     pub group: usize,
+    /// The index of the bin.
     pub bin: usize,
     /// The heuristic by which sections are cut up.
     pub heuristic: Heuristic,
