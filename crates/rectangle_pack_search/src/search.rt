@@ -36,10 +36,10 @@ pub(crate) struct Search<'j, A: Allocator + Copy> {
     may_turn: bool,
 }
 
-/// Searches for a packing that leaves few cells, at a low cost, in few bins. It begins with up to 192
-/// tries with all groups. Before each batch after that, of at most 32 tries, `go_on` is asked whether
-/// to go on. What is found says nothing of itself: it is to be
-/// packed as it is told. Fails only when memory is refused.
+/// Searches for a packing that leaves few cells, at a low cost, in few bins. It begins with up to
+/// 192 tries with all groups. Before each batch after that, of at most 32 tries, `go_on` is asked
+/// whether to go on. What is found says nothing of itself: it is to be packed as it is told. Fails
+/// only when memory is refused.
 pub fn few_bins<A: Allocator + Copy, F: FnMut(&Progress) -> bool>(
     alloc: A,
     job: &Job<A>,
