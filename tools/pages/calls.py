@@ -2,8 +2,8 @@
 proved of it, and the tests that call it; then the program and the calls for C. A plain reader is a line.
 
 Of the doc comment of a call with claims stand there the first sentence and those that say what the caller sees to. The others say
-in other words what the claims say, as when an error comes and what it leaves: the heading leads to the whole. Of a law that has
-claims stand these alone."""
+in other words what the claims say, as when an error comes and what it leaves: the heading leads to the whole. Of a law its doc
+comment stands there alone; its claims stand in its source, to which the heading leads."""
 from __future__ import annotations
 
 import pathlib
@@ -58,11 +58,14 @@ class Page:
         yield tests_of(call, self.tests)
 
     def function(self, level: int, call: Call, kind: str = "") -> Iterator[str]:
-        claims = [*self.proved.claims(call)]
         yield "#" * level + f" {kind} {linked(call.name, call)}".replace("  ", " ")
-        yield signature(call.item.head) if kind != "Law" else ""
-        yield docs_of(call.item.docs, call.path, bool(claims)) if kind != "Law" else "" if claims else stated(call.item.docs)
-        yield from self.proved_of(call)
+        if kind == "Law":
+            yield stated(call.item.docs)
+            yield tests_of(call, self.tests)
+        else:
+            yield signature(call.item.head)
+            yield docs_of(call.item.docs, call.path, any(self.proved.claims(call)))
+            yield from self.proved_of(call)
 
     def type(self, placed: Placed) -> Iterator[str]:
         item = placed.item
