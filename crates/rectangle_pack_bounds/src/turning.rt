@@ -48,6 +48,26 @@ impl TurningBox {
         }
     }
 
+    /// Whether the box may stand in this size.
+    #[tactic(auto, unfolding(crate::specs::Turning::ways_by))]
+    pub fn may_stand_in(&self, size: WidthHeightDepth) -> bool
+        ensures { result ≡ list_any (⟦<WidthHeightDepth as PartialEq>⟧.eq size) (ways self.now) }
+    {
+        let whd = self.whd;
+        let Turns {
+            about_x: x,
+            about_y: y,
+            about_z: z,
+        } = self.turns;
+        match (x, y, z) {
+            (false, false, false) => size == whd,
+            (true, false, false) => size == whd || size == about_x(whd),
+            (false, true, false) => size == whd || size == about_y(whd),
+            (false, false, true) => size == whd || size == about_z(whd),
+            _ => is_in_any_order(size, whd),
+        }
+    }
+
     /// Whether one of the bins is large enough for the box, in one of its ways.
     pub fn has_bin(&self, bins: &[WidthHeightDepth]) -> bool
         ensures { result ≡ has_bin bins.now self.now }
@@ -69,4 +89,18 @@ fn fits_in_any_order(bin: WidthHeightDepth, size: WidthHeightDepth) -> bool
     ensures { result ≡ list_any (fits_in bin) (ways_by true true true size) }
 {
     fits_about_x(bin, size) || fits_about_x(bin, about_y(size)) || fits_about_x(bin, about_z(size))
+}
+
+// Whether a size has the numbers of another one, in one of their six orders.
+#[tactic(auto, unfolding(crate::specs::Turning::ways_by))]
+fn is_in_any_order(size: WidthHeightDepth, whd: WidthHeightDepth) -> bool
+    ensures { result ≡
+        list_any (⟦<WidthHeightDepth as PartialEq>⟧.eq size) (ways_by true true true whd) }
+{
+    size == whd
+        || size == about_x(whd)
+        || size == about_y(whd)
+        || size == about_z(whd)
+        || size == about_x(about_z(whd))
+        || size == about_z(about_x(whd))
 }
