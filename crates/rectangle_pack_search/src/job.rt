@@ -70,8 +70,7 @@ impl<A: Allocator + Copy> Job<A> {
 /// How long a search goes on.
 #[derive(Debug, Clone, Copy)]
 pub struct Limits {
-    /// After so many tries no further batch begins; the last one may go beyond by up to 31. A try
-    /// packs some groups anew into some of the bins.
+    /// After so many tries it ends. A try packs some groups anew into some of the bins.
     pub tries: u64,
     /// Equal seeds search alike.
     pub seed: u64,

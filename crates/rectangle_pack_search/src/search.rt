@@ -16,30 +16,37 @@ use rectangle_pack_sections::width_height_depth::WidthHeightDepth;
 use std::alloc::{AllocError, Allocator};
 use std::mem;
 
-/// A search on its way.
+/// A search on its way. Tries are made in batches: with the same bins and groups, until one is much
+/// better, or the batch is at its end; then the best of them is kept.
 #[derive(Drop)]
 pub(crate) struct Search<'j, A: Allocator + Copy> {
     job: &'j Job<A>,
     limits: Limits,
     chance: Chance,
     layout: Layout<A>,
-    // The bins and the groups of the tries that are made next.
+    // The bins and the groups of the batch.
     bins: Vec<usize, A>,
     pool: Vec<usize, A>,
     // How many of these groups are left as it is, and their cells.
     from_left: usize,
     left: u128,
-    // The try that is made, and the best one of those that are made with these bins and groups.
+    // How many tries the first batch has, and how many are still to be made of this one.
+    first: u64,
+    rest: u64,
+    // What the bins are compared by as they are, and what a try has to beat.
+    now: Score,
+    best_score: Score,
+    // The try that is made, and the best one of the batch, if one is found.
     tried: Try<A>,
     best: Try<A>,
-    tries: u64,
+    found: bool,
+    progress: Progress,
     may_turn: bool,
 }
 
-/// Searches for a packing that leaves few cells, at a low cost, in few bins. It begins with up to
-/// 192 tries with all groups. Before each batch after that, of at most 32 tries, `go_on` is asked
-/// whether to go on. What is found says nothing of itself: it is to be packed as it is told. Fails
-/// only when memory is refused.
+/// Searches for a packing that leaves few cells, at a low cost, in few bins. Before each try
+/// `go_on` is asked whether to go on. What is found says nothing of itself: it is to be packed as it
+/// is told. Fails only when memory is refused.
 pub fn few_bins<A: Allocator + Copy, F: FnMut(&Progress) -> bool>(
     alloc: A,
     job: &Job<A>,
@@ -50,18 +57,17 @@ pub fn few_bins<A: Allocator + Copy, F: FnMut(&Progress) -> bool>(
 {
     let mut search = Search::new(alloc, job, limits)?;
     search.begin()?;
-    let mut progress = search.layout.progress(job, search.tries);
     for _ in 0..limits.tries {
-        let goes_on = go_on(&progress);
-        if !goes_on || search.is_over() || !search.batch()? {
+        let goes_on = go_on(&search.progress);
+        if !goes_on || !search.step()? {
             break;
         }
-        progress = search.layout.progress(job, search.tries);
     }
+    search.end_batch()?;
     Ok(Found {
         puts: search.layout.puts(alloc)?,
         sizes: Vec::from_slice(alloc, search.layout.sizes.as_slice())?,
-        tries: search.tries,
+        tries: search.progress.tries,
     })
 }
 
@@ -72,6 +78,7 @@ impl<'j, A: Allocator + Copy> Search<'j, A> {
         tried.sizes.extend_from_slice(layout.sizes.as_slice())?;
         let mut best = Try::new(alloc);
         best.sizes.extend_from_slice(layout.sizes.as_slice())?;
+        let progress = layout.progress(job, 0);
         Ok(Search {
             job,
             limits,
@@ -81,46 +88,81 @@ impl<'j, A: Allocator + Copy> Search<'j, A> {
             pool: Vec::new(alloc),
             from_left: 0,
             left: 0,
+            first: 0,
+            rest: 0,
+            now: Score::NONE,
+            best_score: Score::NONE,
             tried,
             best,
-            tries: 0,
+            found: false,
+            progress,
             may_turn: job.boxes.iter().any(|one| may_turn(one.turns)),
         })
     }
 
-    // Whether no more tries are to be made.
-    fn is_over(&self) -> bool {
-        self.tries >= self.limits.tries
-            || self.layout.left.is_empty() && self.layout.used.len() <= self.limits.enough
+    // Makes the next try, in the next batch where this one is at its end. Answers false where there
+    // is nothing to be bettered.
+    fn step(&mut self) -> Result<bool, AllocError> {
+        if self.rest == 0 {
+            self.end_batch()?;
+            if self.is_over() || !self.begin_batch()? {
+                return Ok(false);
+            }
+        }
+        self.rest = self.rest.saturating_sub(1);
+        let is_first = self.progress.tries < self.first;
+        let is_made = if is_first {
+            self.make_first(self.progress.tries)?
+        } else {
+            self.make_try()?
+        };
+        self.progress.tries = self.progress.tries.saturating_add(1);
+        if is_made && self.tried.score.is_better(&self.best_score) {
+            self.note_best(is_first);
+        }
+        Ok(true)
     }
 
-    // Makes some tries with some of the bins, and keeps the best of them, if it is better than what
-    // stands there, or a little worse. Answers false where there is nothing to be bettered.
-    fn batch(&mut self) -> Result<bool, AllocError> {
+    // Notes the try that was made as the best one. Where a bin is saved, the batch ends, but for the
+    // first.
+    fn note_best(&mut self, is_first: bool) {
+        self.best_score = self.tried.score;
+        self.found = true;
+        mem::swap(&mut self.tried, &mut self.best);
+        let saves = self.best_score.cost < self.now.cost || self.best_score.left < self.now.left;
+        if saves && !is_first {
+            self.rest = 0;
+        }
+    }
+
+    // Whether no more tries are to be made.
+    fn is_over(&self) -> bool {
+        self.layout.left.is_empty() && self.layout.used.len() <= self.limits.enough
+    }
+
+    // Begins a batch with some of the bins: what it finds has to be better than what stands there,
+    // or a little worse. Answers false where there is nothing to be bettered.
+    fn begin_batch(&mut self) -> Result<bool, AllocError> {
         self.choose()?;
         if self.bins.len() < 2 && self.from_left == 0 {
             return Ok(false);
         }
-        let now = self.layout.score(self.job, self.bins.as_slice(), self.left);
-        let mut best = self.a_little_worse(now);
-        let mut found = false;
-        for _ in 0..8 + self.chance.below(25) {
-            self.tries = self.tries.saturating_add(1);
-            if !self.make_try()? || !self.tried.score.is_better(&best) {
-                continue;
-            }
-            best = self.tried.score;
-            found = true;
-            mem::swap(&mut self.tried, &mut self.best);
-            if best.cost < now.cost || best.left < now.left {
-                break;
-            }
-        }
-        if found {
-            self.layout
-                .keep(self.job, self.bins.as_slice(), &self.best, self.from_left)?;
-        }
+        self.now = self.layout.score(self.job, self.bins.as_slice(), self.left);
+        self.best_score = self.a_little_worse(self.now);
+        self.rest = 8 + self.chance.below(25) as u64;
         Ok(true)
+    }
+
+    // Ends the batch: the best of its tries is kept, if one is found.
+    fn end_batch(&mut self) -> Result<(), AllocError> {
+        if !self.found {
+            return Ok(());
+        }
+        self.found = false;
+        self.layout
+            .keep(self.job, self.bins.as_slice(), &self.best, self.from_left)?;
+        self.progress = self.layout.progress(self.job, self.progress.tries);
+        Ok(())
     }
 
     // A little worse than this, so that the search can leave where it stands.

@@ -194,7 +194,7 @@ fn a_box_is_turned(rt: HostRuntime) -> Result<(), Fail> {
     Ok(())
 }
 
-// It ends where it is told to.
+// It ends where it is told to: each question is followed by one try, but for the last.
 #[test]
 fn a_search_is_stopped(rt: HostRuntime) -> Result<(), Fail> {
     let job = alone(
@@ -209,6 +209,7 @@ fn a_search_is_stopped(rt: HostRuntime) -> Result<(), Fail> {
         asked < 3
     })?;
     assert!(rt; asked == 3);
+    assert!(rt; found.tries == 2);
     assert!(rt; bins_used(&found, 5) == Some(5));
     Ok(())
 }
@@ -227,5 +228,22 @@ fn equal_seeds_find_the_same(rt: HostRuntime) -> Result<(), Fail> {
     let other = few_bins(rt.alloc(), &job, LIMITS, |_| true)?;
     assert!(rt; one.puts.as_slice() == other.puts.as_slice());
     assert!(rt; one.sizes.as_slice() == other.sizes.as_slice());
+    Ok(())
+}
+
+// As many tries are made as it may make, also within a batch.
+#[test]
+fn tries_are_counted(rt: HostRuntime) -> Result<(), Fail> {
+    let boxes = [any_size(6, 6, 1); 5];
+    let job = alone(rt.alloc(), &boxes, UPRIGHT, &[any_size(10, 10, 1); 5])?;
+    for tries in [0, 1, 63, 64, 65, 100] {
+        let limits = Limits {
+            tries,
+            seed: 1,
+            enough: 0,
+        };
+        let found = few_bins(rt.alloc(), &job, limits, |_| true)?;
+        assert!(rt; found.tries == tries);
+    }
     Ok(())
 }
