@@ -39,11 +39,12 @@ impl<Id: Ord, BinId, A: Allocator + Copy> RectanglePackOk<Id, BinId, A> {
         &self.packed_locations
     }
 
-    // The placements alone.
-    pub(crate) fn into_placements(self) -> Vec<Placement<Id, BinId>, A>
+    /// The placements alone, as `placements` lists them.
+    pub fn into_placements(self) -> Vec<Placement<Id, BinId>, A>
     where
         Id: Drop,
         BinId: Drop,
+        // The answer has all placements, in the order in which they were made.
         ensures { result.items ≡ placements_of self }
     {
         let RectanglePackOk {

@@ -74,8 +74,8 @@ where
     }
 }
 
-// The cells of the boxes of these groups, one for each entry.
-fn cells_left<Id, GroupId, A>(
+/// The cells of the boxes of these groups, one for each entry; at most the greatest `u128`.
+pub fn cells_left<Id, GroupId, A>(
     rects_to_place: &GroupedRectsToPlace<Id, GroupId, A>,
     left: &[&Group<GroupId, Id>],
 ) -> u128

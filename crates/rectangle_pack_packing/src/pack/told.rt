@@ -1,9 +1,9 @@
 //! Packing as it is told: step by step, each a group, a bin and a heuristic.
-ghost use Rattle.std.specs.Prelude.{◌≡◌, [], min, IsOk};
-ghost use Rattle.rectangle_pack_sections.specs.Bins.{bins_of};
+ghost use Rattle.std.specs.Prelude.{◌≡◌, List, [], min, IfOk, IsOk};
+ghost use Rattle.rectangle_pack_sections.specs.Bins.{Bin, bins_of};
 ghost use Rattle.rectangle_pack_sections.specs.Clones.{ClonesEqual};
 ghost use Rattle.rectangle_pack_packing.specs.ToldTexts.{told_text};
-ghost use Rattle.rectangle_pack_packing.specs.Told.{IsToldAnswer, entries_in_steps};
+ghost use Rattle.rectangle_pack_packing.specs.Told.{IsToldAnswer, ToldDone, entries_in_steps};
 ghost use Rattle.rectangle_pack_packing.specs.private.ToldOnItsWay.{IsTold, IsTriedAsTold};
 
 pub mod in_sizes;
@@ -165,7 +165,40 @@ where
     Ok(answer_of(last?, placements))
 }
 
-// The same, each box in its own size.
+/// What would be packed as it is told, each box in the size that it has in `collection`: the
+/// placements. The bins stay as they are. Room is made for `entries` entries.
+pub fn rehearse<'t, Id, BinId, GroupId, A>(
+    alloc: A,
+    collection: &InSizes<'t, Id, GroupId, A>,
+    bins: &mut BTreeMap<BinId, TargetBin<A>, A>,
+    entries: usize,
+    steps: &'t [Step<Id, GroupId, BinId>],
+) -> Result<Vec<Placement<Id, BinId>, A>, ToldError>
+where
+    Id: Ord + Clone + Drop,
+    BinId: Ord + Clone + Drop,
+    GroupId: Ord + Clone + Drop,
+    A: Allocator + Copy,
+    requires ids { ClonesEqual Id.is_clone Id.eq }
+    requires bin_ids { ClonesEqual BinId.is_clone BinId.eq }
+    ensures told { IfOk result
+        (λ placements.
+        (left : List (BinId × Bin)) ×
+        ToldDone ⟦<Group<GroupId, Id> as Ord>⟧.cmp Id.cmp BinId.cmp collection.now steps.now
+        (bins_of bins.old.entries) placements.items left) }
+    ensures same { bins_of bins.new.entries ≡ bins_of bins.old.entries }
+{
+    let ids = ids_of(alloc, bins)?;
+    let before = mem::replace(bins, BTreeMap::new(alloc));
+    let mut telling = begin(alloc, collection, before, ids.as_slice(), entries);
+    let told = make_all(&mut telling, steps);
+    let (after, placements) = telling.end(End::Undo);
+    *bins = after;
+    told?;
+    Ok(placements)
+}
+
+// The same as `try_told_in_sizes`, each box in its own size.
 fn tell<Id, BinId, GroupId, A>(
     alloc: A,
     groups: &GroupedRectsToPlace<Id, GroupId, A>,

@@ -34,7 +34,7 @@ use Rattle.rectangle_pack_packing.proofs.lemmas.determinism.Preorders.{total_dec
 
 -- placements that are alike make the same use of the bins
 module _ {Id B : Type 0} (cmp : Id → Id → Ordering) {bin_cmp : B → B → Ordering} (o : IsTotalOrder bin_cmp) where
-  locations_in-alike : (ps qs : List (Placement Id B)) → ArePlacementsAlike cmp bin_cmp ps qs → (id : B) → locations_in bin_cmp ps id ≡ locations_in bin_cmp qs id
+  pub locations_in-alike : (ps qs : List (Placement Id B)) → ArePlacementsAlike cmp bin_cmp ps qs → (id : B) → locations_in bin_cmp ps id ≡ locations_in bin_cmp qs id
   locations_in-alike [] [] h id = refl
   locations_in-alike [] (q ∷ qs) h id = absurd h
   locations_in-alike (p ∷ ps) [] h id = absurd h
