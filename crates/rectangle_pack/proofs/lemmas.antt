@@ -1,3 +1,4 @@
 -- Lemmas by subject, each subject after those that it stands on.
-pub mod session
 pub mod bound
+pub mod searching
+pub mod session

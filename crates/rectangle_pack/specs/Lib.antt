@@ -56,3 +56,5 @@ pub mod SessionTold
 pub mod Reading
 pub mod Needed
 pub mod NeededLaws
+pub mod Searched
+pub mod SessionSearched

@@ -3,3 +3,4 @@ pub mod Records
 pub mod Releasing
 pub mod BestPlaces
 pub mod Fitting
+pub mod Searched

@@ -4,7 +4,7 @@ ghost use Rattle.rectangle_pack_sections.specs.Bins.{bins_of};
 ghost use Rattle.rectangle_pack.specs.Needed.{AreNeededFor, IsShownFor};
 
 mod apart;
-mod entries;
+pub(crate) mod entries;
 mod laws;
 mod reading;
 

@@ -5,6 +5,7 @@
 #![tactic(auto)]
 
 pub mod bound;
+pub mod searching;
 pub mod session;
 
 /// Free sections of a bin, and how a box is placed into one.
@@ -158,6 +159,10 @@ pub use pack::volume_packing_has_one_result;
 pub use packed_location::PackedLocation;
 pub use packed_location::RotatedBy;
 pub use rect_to_insert::RectToInsert;
+pub use searching::Progress;
+pub use searching::SearchOptions;
+pub use searching::Searched;
+pub use searching::pack_rects_searched;
 pub use session::Axis;
 pub use session::BinStats;
 pub use session::Command;

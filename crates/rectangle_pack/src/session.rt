@@ -26,6 +26,7 @@ mod records;
 mod recutting;
 mod releasing;
 mod run;
+mod searching;
 mod stats;
 mod told;
 mod upkeep;

@@ -3,7 +3,8 @@
 -- Records has the list of the outstanding placements. Upkeep has what the calls that stand beside the commands keep, Growing
 -- bins that grow, PlacingAt boxes at a corner of the caller's choice, PlacingBest boxes where they fit best, Recutting bins
 -- that are cut anew, CutsStay that they stay so until they are coalesced, Releasing placements that are released at once,
--- and ReleasedNumbers their numbers. Fitting and FittingBest have packings of what fits, Told packings as they are told.
+-- and ReleasedNumbers their numbers. Fitting and FittingBest have packings of what fits, Told packings as they are told, and
+-- Searched those that are searched for.
 pub mod Keeps
 pub mod Numbering
 pub mod Records
@@ -23,3 +24,4 @@ pub mod CutsStay
 pub mod Fitting
 pub mod FittingBest
 pub mod Told
+pub mod Searched

@@ -12,8 +12,8 @@ use rectangle_pack_sections::width_height_depth::{WidthHeightDepth, any_size};
 use std::alloc::{AllocError, Allocator};
 use std::collections::BTreeMap;
 
-// The box of an id, with its turns.
-fn box_of<Id: Ord, A: Allocator>(
+/// The box of an id, with its turns.
+pub(crate) fn box_of<Id: Ord, A: Allocator>(
     id: &Id,
     rects: &BTreeMap<Id, RectToInsert, A>,
     turns: &BTreeMap<Id, Turns, A>,

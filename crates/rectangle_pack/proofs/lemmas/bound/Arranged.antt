@@ -30,7 +30,7 @@ use Rattle.rectangle_pack.proofs.lemmas.bound.Puts.{puts_of}
 use Rattle.rectangle_pack.proofs.lemmas.bound.ToldHomes.{homes_listed, homes_name_all, homes_apart}
 
 -- a box may stand as it is, however it may be turned
-as_it_is : (x y z : Bool) (s : Size) → Contains (ways_by x y z s) s
+pub as_it_is : (x y z : Bool) (s : Size) → Contains (ways_by x y z s) s
 unfolding ways_by
 as_it_is false false false s = (0, omega arith, refl)
 as_it_is true false false s = (0, omega arith, refl)

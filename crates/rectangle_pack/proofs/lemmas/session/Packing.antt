@@ -1,5 +1,5 @@
 -- What a session answers to a packing, by what the packing on its bins did.
-use Rattle.rectangle_pack_sections.proofs.Std.{◌≡◌, ℕ, ◌+◌, ◌-◌, ◌<◌, ◌≤◌, ◌^◌, List, [], ◌++◌, refl, ap, sym, ◌∙◌, subst, arith, true, length, append-nil}
+use Rattle.rectangle_pack_sections.proofs.Std.{◌≡◌, ℕ, ◌+◌, ◌-◌, ◌<◌, ◌^◌, List, [], ◌++◌, refl, ap, sym, ◌∙◌, subst, arith, true, length, append-nil}
 use Rattle.rectangle_pack_sections.proofs.Std.{map, sum, values_of, Option, Some, MatchOption, Vec}
 use Rattle.rectangle_pack_sections.proofs.Std.{Ordering, IsTotalOrder}
 use Rattle.rectangle_pack_sections.specs.declared.group.Group.{Group}
