@@ -10,3 +10,5 @@ mod examples;
 mod laws;
 #[cfg(test)]
 mod pack;
+#[cfg(test)]
+mod searching;

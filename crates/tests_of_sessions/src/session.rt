@@ -82,6 +82,7 @@ mod release_order;
 mod releases;
 mod releasing;
 mod run;
+mod searching;
 mod stats;
 mod strip;
 mod sweeps;
