@@ -10,12 +10,13 @@ import atlas
 import bounds
 import fill
 import plans
+import searches
 import speed
 from programs import TOP
 
 ALL = (
     speed.packings, speed.others, speed.what_fits, speed.from_c, speed.excluded, speed.given_back, speed.sweeps, plans.plans, atlas.atlas,
-    fill.fill, bounds.bounds, bounds.bound_times,
+    searches.searches, searches.in_containers, fill.fill, bounds.bounds, bounds.bound_times,
 )
 MORE = (fill.squares, fill.pages, fill.containers, fill.best)
 TABLES = {it.__name__: it for it in (*ALL, *MORE)}

@@ -10,7 +10,8 @@
 //!   is 0 box J alone;
 //! - `step GROUP I BIN N` is a step more: the group, or box I alone where that is 0, goes into the
 //!   bin, by the heuristic N of `Heuristic::ALL`, or by the first where there is no such number;
-//! - `turn I X Y Z` says that box I may be turned about the axes that have not 0, for `least`;
+//! - `turn I X Y Z` says that box I may be turned about the axes that have not 0, for `least` and
+//!   `search`;
 //! - `number N` is a number more.
 //!
 //! `again` begins with a new session. No answer comes to these.
@@ -45,7 +46,11 @@
 //! - `beside S N`, as `measures.rt` says: two numbers. It forgets the boxes;
 //! - `least`: how many of the bins the boxes need at least, whatever packer places them, or -1 where
 //!   no packer can place them all; `least_time`: how many microseconds that takes, the best of five.
-//!   Both forget the boxes.
+//!   Both forget the boxes;
+//! - `search N S L` packs what is found in N tries with the seed S, where something may be left if L is
+//!   not 0, and forgets the boxes: the number of the first placement, how many there are, the bins that
+//!   are used, how many are needed, or -1, whether that is optimal, the tries, how many groups are left,
+//!   and how many microseconds it took; or -1 alone where there is no space.
 //!
 //! A number that is not there is 0. Other lines are passed over.
 #![tactic(auto)]
@@ -54,11 +59,13 @@ mod bound;
 mod fitting;
 mod measures;
 mod packing;
+mod searching;
 
 use crate::bound::{AllTurns, add_turns, print_least, print_least_time};
 use crate::fitting::{Steps, add_step, print_fitting, print_told};
 use crate::measures::{measure, print_beside, print_time};
 use crate::packing::{Bins, Boxes, add, fit, pack, place};
+use crate::searching::print_search;
 use rectangle_pack::{Axis, CutStep, GroupedRectsToPlace, Outstanding, Session, SessionError};
 use std::alloc::Global;
 use std::collections::BTreeMap;
@@ -290,6 +297,7 @@ fn end(
         "beside" => print_beside(rt, boxes, a, b)?,
         "least" => print_least(rt, session, boxes, &told.turns)?,
         "least_time" => print_least_time(rt, session, boxes, &told.turns)?,
+        "search" => print_search(rt, session, boxes, &told.turns, numbers)?,
         _ => return Ok(false),
     }
     Ok(true)

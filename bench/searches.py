@@ -1,0 +1,93 @@
+"""How many pages and containers a search finds for sets of boxes of fixed seeds, beside the best of all heuristics and what is needed.
+Pages: the sets of the table of pages. Containers: those of the table of containers, into containers of one size."""
+from __future__ import annotations
+
+import math
+from collections.abc import Iterable, Iterator
+from statistics import fmean
+from typing import NamedTuple
+
+import fill
+from programs import printed, proved, table
+
+# The size of a container.
+CONTAINER = (*fill.BASE, 200)
+SEED = 1
+
+
+class Found(NamedTuple):
+    """What a search answered for a set: bins used, bins needed, whether that is optimal, tries and seconds."""
+
+    used: int
+    needed: int
+    is_optimal: bool
+    tries: int
+    seconds: float
+
+
+def questions(boxes: list[fill.Box], size: tuple[int, int, int], tries: int, turned: bool) -> Iterator[str]:
+    """Lines that ask for a search in as many bins of this size as there are boxes."""
+    yield from ("again", *(f"bin {size[0]} {size[1]} {size[2]}" for _ in boxes), *(f"box {w} {h} {d} 0" for w, h, d in boxes))
+    if turned:
+        yield from (f"turn {number} 0 0 1" for number in range(len(boxes)))
+    yield f"search {tries} {SEED} 0"
+
+
+def searched(asked: Iterable[tuple[list[fill.Box], tuple[int, int, int]]], tries: int, turned: bool = False) -> Iterator[Found]:
+    """What is found for each set."""
+    sets = [*asked]
+    lines = (line for boxes, size in sets for line in questions(boxes, size, tries, turned))
+    said = iter(printed(proved("session_lines"), "".join(f"{it}\n" for it in lines)).splitlines())
+    for boxes, _ in sets:
+        for _ in boxes:
+            next(said)
+        _, _, used, needed, is_optimal, made, _, microseconds = map(int, next(said).split())
+        yield Found(used, needed, bool(is_optimal), made, microseconds / 1e6)
+
+
+def side_of(asked: fill.Asked) -> int:
+    return int(asked.question.split()[1])
+
+
+def row(name: str, asked: list[fill.Asked], found: list[Found]) -> list[str]:
+    """What a search finds of all sets: pages over the area's, a mean of the classes; pages; sets proved to be optimal, and within a page of
+    what is needed; and how long a set and a try take."""
+    classes = dict.fromkeys(it.of for it in asked)
+    pairs = [*zip(asked, found, strict=True)]
+    over = fmean(sum(f.used for a, f in pairs if a.of == it) / sum(a.least for a, _ in pairs if a.of == it) for it in classes)
+    near = sum(it.used <= it.needed + 1 for it in found)
+    took, tries = sum(it.seconds for it in found), max(1, sum(it.tries for it in found))
+    optimal = sum(it.is_optimal for it in found)
+    return [
+        name, f"{over:.4f}", str(sum(it.used for it in found)), str(optimal), str(near),
+        f"{took / len(found) * 1000:.1f} ms", f"{took / tries * 1e6:.1f} µs",
+    ]
+
+
+def searches() -> None:
+    """Pages for 500 sets of ten classes, a search with seed 1: pages over the least by area, a mean of the classes; all pages; sets proved to
+    be optimal, and within one page of what is needed; time a set, and a try."""
+    asked = [*fill.for_pages()]
+    pages = [(it.boxes, (side_of(it), side_of(it), 1)) for it in asked]
+
+    def rows() -> Iterator[list[str]]:
+        for tries, turned in ((0, False), (2_000, False), (20_000, False), (200_000, False), (20_000, True)):
+            name = f"{tries:,} tries" + (", boxes may be turned" if turned else "")
+            yield row(name, asked, [*searched(pages, tries, turned)])
+
+    table(["", "Pages over area", "Pages", "Optimal", "Within one", "A set", "A try"], rows())
+
+
+def in_containers() -> None:
+    """Containers 235 x 239 x 200 for 300 boxes, of five sets of each kind: by volume alone, needed, used by the best of all, and found in
+    20,000 tries."""
+    asked = [*fill.for_containers()]
+
+    def rows() -> Iterator[list[str]]:
+        for name in fill.CONTAINERS:
+            sets = [(it.boxes, CONTAINER) for it in asked if it.of == name]
+            volume = sum(-(-fill.cells(boxes) // math.prod(CONTAINER)) for boxes, _ in sets)
+            guessed, found = [*searched(sets, 0)], [*searched(sets, 20_000)]
+            yield [name, str(volume), str(sum(it.needed for it in found)), str(sum(it.used for it in guessed)), str(sum(it.used for it in found))]
+
+    table(["", "By volume", "Needed", "Best of all", "Found"], rows())
