@@ -271,13 +271,12 @@ fn searches_of_cases(rt: HostRuntime) -> Result<(), Fail> {
 // Each request for memory is refused in turn.
 #[test]
 fn searches_take_memory(rt: HostRuntime) -> Result<(), Fail> {
-    for case in [&TURNED, &NOT_TURNED, &CHEAP] {
-        let refused = is_refused(
-            rt.alloc(),
-            |refusing| Ok(searches(&rt, refusing, case, 200)),
-        )?;
-        assert!(rt; refused);
-    }
+    let case = &TURNED;
+    let refused = is_refused(
+        rt.alloc(),
+        |refusing| Ok(searches(&rt, refusing, case, 200)),
+    )?;
+    assert!(rt; refused);
     Ok(())
 }
 
