@@ -1,7 +1,7 @@
 /* The page as a bin of a session of the library for C. WAY says how it is kept:
    0 boxes are packed, and free sections are joined where one finds no room;
-   1 boxes are packed, and the page is cut anew when boxes have gone;
-   2 each box goes where it fits best, and the page is cut anew when boxes have gone. */
+   1 boxes are packed, and the page is cut anew when it is to be tidied;
+   2 each box goes where it fits best, and the page is cut anew when it is to be tidied. */
 #include "rectangle_pack.h"
 #include "workload.h"
 #include <stdint.h>

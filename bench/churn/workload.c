@@ -5,7 +5,8 @@
 
    LOAD: 0 sides of 8 to 40, uniform; 1 glyphs of a font (widths 4 to 24, seven heights of 10 to 24); 2 sprites (sides 8, 16, 32,
    64). Where a box finds no room the allocator may mend the page and try once more; where that does not help the oldest tenth
-   of the boxes goes. How full the page is is taken then, before they go. */
+   of the boxes goes. How full the page is is taken then, before they go. The page is tidied after that; and, while it fills for
+   the first time, from FIRST_TIDY boxes on, each time there are twice as many. */
 #define _POSIX_C_SOURCE 199309L
 #include "workload.h"
 #include <stdio.h>
@@ -13,7 +14,7 @@
 #include <string.h>
 #include <time.h>
 
-enum { WINDOWS = 10, MOST_STANDING = 1 << 18 };
+enum { WINDOWS = 10, MOST_STANDING = 1 << 18, FIRST_TIDY = 100 };
 
 static unsigned long long state = 12345;
 
@@ -105,7 +106,15 @@ static void tidy(void) {
 
 static Fullness whole, windows[WINDOWS];
 
+/* While the page fills for the first time. */
+static int tidied_as_it_fills(int tidy_at) {
+    if (end - first < tidy_at) return tidy_at;
+    tidy();
+    return (end - first) * 2;
+}
+
 static void run(int boxes, int load) {
+    int tidy_at = FIRST_TIDY;
     for (int made = 0; made < boxes; made++) {
         unsigned w, h;
         draw_box(load, &w, &h);
@@ -115,6 +124,7 @@ static void run(int boxes, int load) {
             go((end - first) / 10 + 1);
             tidy();
         }
+        if (!whole.refusals) tidy_at = tidied_as_it_fills(tidy_at);
     }
 }
 

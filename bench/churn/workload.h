@@ -17,7 +17,7 @@ int allocator_place(unsigned w, unsigned h, Place *at);
 void allocator_release(const Place *place);
 /* To be called where a box found no room: 1 where it is worth to try again. `stand` are the boxes that stand, oldest first. */
 int allocator_mend(const Place *stand, int count);
-/* To be called when the oldest boxes have gone. */
+/* To be called when the oldest boxes have gone, and now and then while the page fills for the first time. */
 void allocator_tidy(const Place *stand, int count);
 /* How many free parts there are, and how much was looked at up to now. */
 int allocator_parts(void);

@@ -268,7 +268,7 @@ where
     //   goes whole into the bin of the step, which is there and is not excluded for it: its trial
     //   there is done, as `pack_rects` says it, with the heuristic of the step and
     //   `contains_smallest_box`, in the bins as the steps before it left them.
-    //   [place.step_goes_into_the_first_bin]
+    //   [place.step_goes_into_the_first_bin, look_up.group_is_named_twice]
     // Done: the placements are those of the steps one after another. Each id that was placed is found
     //   with its last placement.
     // `StepRefused`: the steps before the one at this index are done, and the fault is the first of
