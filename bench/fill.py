@@ -7,9 +7,9 @@ from __future__ import annotations
 
 import math
 import random
-from collections.abc import Callable, Iterable, Iterator
+from collections.abc import Callable, Iterable, Iterator, Sequence
 from statistics import fmean
-from typing import NamedTuple
+from typing import NamedTuple, Protocol, TypeVar
 
 from programs import compiled, printed, proved, table
 
@@ -18,7 +18,37 @@ OURS = ("volume", "height", "width", "depth", "side-sum", "longest-side", "short
 BY_HAND = ("MaxRects", "shelves", "stb_rect_pack")
 
 Box = tuple[int, int, int]
-Draw = Callable[[random.Random], Box]
+T = TypeVar("T")
+
+
+class Chance(Protocol):
+    """What draws numbers, and items of lists."""
+
+    def randint(self, a: int, b: int) -> int: ...
+
+    def choice(self, seq: Sequence[T]) -> T: ...
+
+
+Draw = Callable[[Chance], Box]
+
+
+class Congruential:
+    """Draws by a linear congruential generator, so that a program in C can draw the same boxes."""
+
+    def __init__(self, seed: int) -> None:
+        self.state = seed
+        for _ in range(20):
+            self.step()
+
+    def step(self) -> int:
+        self.state = (self.state * 6364136223846793005 + 1442695040888963407) % 2**64
+        return self.state
+
+    def randint(self, a: int, b: int) -> int:
+        return a + (self.step() >> 33) % (b - a + 1)
+
+    def choice(self, seq: Sequence[T]) -> T:
+        return seq[self.randint(0, len(seq) - 1)]
 
 
 class Asked(NamedTuple):
@@ -35,13 +65,13 @@ def sides(*ranges: tuple[int, int]) -> Draw:
     return lambda r: (r.randint(*ranges[0]), r.randint(*ranges[1]), r.randint(*ranges[2]) if len(ranges) > 2 else 1)
 
 
-def sprite(r: random.Random) -> Box:
+def sprite(r: Chance) -> Box:
     """One to two tiles wide, and one to three high."""
     tile = r.choice([8, 16, 32, 64])
     return tile * r.randint(1, 2), tile * r.randint(1, 3), 1
 
 
-def small_or_large(r: random.Random) -> Box:
+def small_or_large(r: Chance) -> Box:
     """Of ten boxes six are small, three larger, and one is large."""
     low, high = r.choice([(8, 32)] * 6 + [(32, 96)] * 3 + [(96, 256)])
     width = r.randint(low, high)
@@ -69,7 +99,7 @@ def cells(boxes: Iterable[Box]) -> int:
     return sum(map(math.prod, boxes))
 
 
-def many(r: random.Random, count: int, draw: Draw) -> list[Box]:
+def many(r: Chance, count: int, draw: Draw) -> list[Box]:
     return [draw(r) for _ in range(count)]
 
 
@@ -100,10 +130,10 @@ def of_kinds(name: str) -> Draw:
 def for_pages() -> Iterator[Asked]:
     classes = {name: (side, sides((1, most), (1, most))) for name, (side, most) in UNIFORM.items()}
     classes |= {name: (100, of_kinds(name)) for name in KINDS}
-    for name, (side, draw) in classes.items():
+    for place, (name, (side, draw)) in enumerate(classes.items()):
         for count in range(20, 101, 20):
             for number in range(10):
-                boxes = many(random.Random(f"{name} {count} {number}"), count, draw)
+                boxes = many(Congruential(1000 * place + 10 * count + number + 7), count, draw)
                 yield Asked(name, boxes, f"pages {side} {side}", -(-cells(boxes) // side**2))
 
 
