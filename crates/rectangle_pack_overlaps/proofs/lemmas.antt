@@ -1,0 +1,3 @@
+-- Lemmas of overlaps.
+pub mod Parting
+pub mod Piles

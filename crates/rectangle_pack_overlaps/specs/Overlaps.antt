@@ -1,0 +1,39 @@
+-- Which boxes of a list share a cell in one bin.
+use Rattle.std.specs.Prelude.{◌≡◌, List, ◌∷◌, ◌++◌, length, All, AllPairs, Option, Some, None}
+use Rattle.rectangle_pack_sections.specs.Boxes.{SharesCell, AreApart}
+use Rattle.rectangle_pack_overlaps.specs.declared.overlaps.Standing.{Standing}
+use Rattle.rectangle_pack_overlaps.specs.declared.overlaps.Overlap.{Overlap}
+
+-- two boxes are in one bin and share a cell
+-- Example: (0,0,0) 2x1x1 and (1,0,0) 1x1x1, both in bin 4
+pub record Clash (a b : Standing) : Type 0 where
+  pub one_bin : a.bin ≡ b.bin
+  pub shares : SharesCell a.section b.section
+
+-- two boxes that are in one bin share no cell
+-- Example: (0,0,0) 2x1x1 and (1,0,0) 1x1x1 in bins 4 and 5
+abbrev pub AreClear : Standing → Standing → Type 0
+AreClear a b = a.bin ≡ b.bin → AreApart a.section b.section
+
+-- the first box that clashes with an earlier one, and the first of those: no two of the boxes before it clash, and no box
+-- before that one clashes with it
+-- Example: of (0,0,0) 1x1x1, (0,0,0) 2x1x1 and (1,0,0) 1x1x1, all in one bin: the boxes 0 and 1
+pub record IsFirstOverlap (boxes : List Standing) (o : Overlap) : Type 0 where
+  pub earlier : List Standing
+  pub other : Standing
+  pub after : List Standing
+  pub splits : boxes ≡ earlier ++ other ∷ after
+  pub second : o.second ≡ length earlier
+  pub clear : AllPairs AreClear earlier
+  pub before : List Standing
+  pub one : Standing
+  pub between : List Standing
+  pub splits_earlier : earlier ≡ before ++ one ∷ between
+  pub first : o.first ≡ length before
+  pub clash : Clash one other
+  pub none_before : All (λ b. AreClear b other) before
+
+-- what is answered where boxes are asked which two of them clash: the first overlap, or that there is none
+abbrev pub IsOverlapAnswer : List Standing → Option Overlap → Type 0
+IsOverlapAnswer boxes None = AllPairs AreClear boxes
+IsOverlapAnswer boxes (Some o) = IsFirstOverlap boxes o

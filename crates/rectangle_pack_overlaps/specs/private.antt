@@ -1,0 +1,3 @@
+-- Definitions that only the clauses of private functions use.
+pub mod Parting
+pub mod Piles
