@@ -1,0 +1,4 @@
+-- Lemmas of the judge.
+pub mod Firsts
+pub mod Apart
+pub mod Verdicts

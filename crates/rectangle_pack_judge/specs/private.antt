@@ -1,0 +1,2 @@
+-- Definitions that only the clauses of private functions use.
+pub mod Firsts
