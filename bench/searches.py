@@ -8,7 +8,7 @@ from statistics import fmean
 from typing import NamedTuple
 
 import fill
-from programs import printed, proved, table
+from programs import compiled, printed, proved, table
 
 # The size of a container.
 CONTAINER = (*fill.BASE, 200)
@@ -16,7 +16,7 @@ SEED = 1
 
 
 class Found(NamedTuple):
-    """What a search answered for a set: bins used, bins needed, whether that is optimal, tries and seconds."""
+    """What a search answered for a set: bins used, bins needed, whether that is optimal, tries and seconds; 0 of both for another packer."""
 
     used: int
     needed: int
@@ -49,29 +49,38 @@ def side_of(asked: fill.Asked) -> int:
     return int(asked.question.split()[1])
 
 
+def by_others(asked: list[fill.Asked], needed: list[int]) -> Iterator[tuple[str, list[Found]]]:
+    """What other packers make of these sets."""
+    for name, answers in fill.answers(compiled("fill_by_hand.c", "-lm"), fill.BY_HAND, asked).items():
+        yield name, [Found(used, least, used <= least, 0, 0) for used, least in zip(answers, needed, strict=True)]
+
+
 def row(name: str, asked: list[fill.Asked], found: list[Found]) -> list[str]:
-    """What a search finds of all sets: pages over the area's, a mean of the classes; pages; sets proved to be optimal, and within a page of
-    what is needed; and how long a set and a try take."""
+    """What is found for all sets: pages over the area's, a mean of the classes; pages; sets proved to be optimal, and within a page of what
+    is needed; and how long a set and a try take."""
     classes = dict.fromkeys(it.of for it in asked)
     pairs = [*zip(asked, found, strict=True)]
     over = fmean(sum(f.used for a, f in pairs if a.of == it) / sum(a.least for a, _ in pairs if a.of == it) for it in classes)
     near = sum(it.used <= it.needed + 1 for it in found)
-    took, tries = sum(it.seconds for it in found), max(1, sum(it.tries for it in found))
+    took, tries = sum(it.seconds for it in found), sum(it.tries for it in found)
     optimal = sum(it.is_optimal for it in found)
     return [
-        name, f"{over:.4f}", str(sum(it.used for it in found)), str(optimal), str(near),
-        f"{took / len(found) * 1000:.1f} ms", f"{took / tries * 1e6:.1f} µs",
+        name, f"{over:.3f}", str(sum(it.used for it in found)), str(optimal), str(near),
+        f"{took / len(found) * 1000:.1f} ms" if took else "-", f"{took / tries * 1e6:.1f} µs" if tries else "-",
     ]
 
 
 def searches() -> None:
-    """Pages for 500 sets of ten classes, a search with seed 1: pages over the least by area, a mean of the classes; all pages; sets proved to
-    be optimal, and within one page of what is needed; time a set, and a try."""
+    """Pages for 500 sets of ten classes, a search with seed 1 beside other packers: pages over the least by area, a mean of the classes; all
+    pages; sets proved to be optimal, and within one page of what is needed; time a set, and a try."""
     asked = [*fill.for_pages()]
     pages = [(it.boxes, (side_of(it), side_of(it), 1)) for it in asked]
 
     def rows() -> Iterator[list[str]]:
-        for tries, turned in ((0, False), (2_000, False), (20_000, False), (200_000, False), (20_000, True)):
+        guessed = [*searched(pages, 0)]
+        yield from (row(name, asked, found) for name, found in by_others(asked, [it.needed for it in guessed]))
+        yield row("best of all eight", asked, guessed)
+        for tries, turned in ((2_000, False), (20_000, False), (200_000, False), (20_000, True)):
             name = f"{tries:,} tries" + (", boxes may be turned" if turned else "")
             yield row(name, asked, [*searched(pages, tries, turned)])
 
