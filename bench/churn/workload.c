@@ -6,7 +6,7 @@
    LOAD: 0 sides of 8 to 40, uniform; 1 glyphs of a font (widths 4 to 24, seven heights of 10 to 24); 2 sprites (sides 8, 16, 32,
    64). Where a box finds no room the allocator may mend the page and try once more; where that does not help the oldest tenth
    of the boxes goes. How full the page is is taken then, before they go. The page is tidied after that; and, while it fills for
-   the first time, from FIRST_TIDY boxes on, each time there are twice as many. */
+   the first time, from FIRST_TIDY boxes on, each time there are half as many again. */
 #define _POSIX_C_SOURCE 199309L
 #include "workload.h"
 #include <stdio.h>
@@ -110,7 +110,7 @@ static Fullness whole, windows[WINDOWS];
 static int tidied_as_it_fills(int tidy_at) {
     if (end - first < tidy_at) return tidy_at;
     tidy();
-    return (end - first) * 2;
+    return (end - first) * 3 / 2;
 }
 
 static void run(int boxes, int load) {
