@@ -114,8 +114,8 @@ module _ (case : Case) where
     pub none_before : All (λ a. IsFree kind a c) before
     pub no_other : (other : Conflict) → rank other < rank kind → All (λ a. IsFree other a c) earlier
 
-  -- the first claim that may not stand with those before it, which are a part of a packing
-  pub record IsFirstBad (claims : List Claim) (place : ℕ) : Type 0 where
+  -- the claim at this place; those before it are a part of a packing
+  pub record ComesAfterPart (claims : List Claim) (place : ℕ) : Type 0 where
     pub earlier : List Claim
     pub claim : Claim
     pub after : List Claim
@@ -128,9 +128,9 @@ module _ (case : Case) where
   -- not placed
   abbrev pub IsVerdict : List Claim → Option Fault → Type 0
   IsVerdict claims None = IsPacking claims
-  IsVerdict claims (Some (Alone place fault)) = (bad : IsFirstBad claims place) × IsAloneAnswer bad.claim (Some fault)
+  IsVerdict claims (Some (Alone place fault)) = (at : ComesAfterPart claims place) × IsAloneAnswer at.claim (Some fault)
   IsVerdict claims (Some (Together first second kind)) =
-      (bad : IsFirstBad claims second) × StandsAlone bad.claim × IsTogetherFault bad.earlier bad.claim first kind
+      (at : ComesAfterPart claims second) × StandsAlone at.claim × IsTogetherFault at.earlier at.claim first kind
   IsVerdict claims (Some (NotPlaced entry)) =
       IsPartOfPacking claims × (entry < length case.entries.now) × All (λ c. c.entry ≢ entry) claims
       × ((e : ℕ) → e < entry → IsPlaced claims e)

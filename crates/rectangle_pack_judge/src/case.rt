@@ -106,7 +106,7 @@ fn are_apart(case: &Case<'_>, one: usize, other: usize) -> bool
 }
 
 /// The first fault that a claim has alone.
-pub fn alone_fault(case: &Case<'_>, claim: &Claim) -> Option<AloneFault>
+pub(crate) fn alone_fault(case: &Case<'_>, claim: &Claim) -> Option<AloneFault>
     ensures { IsAloneAnswer case.now claim.now result }
 {
     let Some(bin) = case.bins.get(claim.bin) else {

@@ -88,7 +88,8 @@ fn firsts_of<A: Allocator>(
 ) -> Result<Vec<Option<usize>, A>, AllocError>
     requires groups { HaveGroups case.now groups }
     requires alone { All (StandsAlone case.now) claims.now }
-    ensures { IfOk result (λ firsts. AreFirsts case.now groups claims.now (length claims.now) firsts.items) }
+    ensures { IfOk result
+        (λ firsts. AreFirsts case.now groups claims.now (length claims.now) firsts.items) }
 {
     let mut firsts = marks(alloc, None, groups)?;
     for (i, claim) in claims.iter().enumerate() {
@@ -121,7 +122,8 @@ fn later_first(
     requires groups { HaveGroups case.now (length firsts.now) }
     requires alone { All (StandsAlone case.now) claims.now }
     requires whole { AllPairs (IsFree case.now GroupInTwoBins) claims.now }
-    requires firsts { AreFirsts case.now (length firsts.now) claims.now (length claims.now) firsts.now }
+    requires firsts { AreFirsts case.now (length firsts.now) claims.now (length claims.now)
+        firsts.now }
     ensures { IsLater case.now claims.now pair result }
 {
     let none = claims.len();
@@ -140,8 +142,8 @@ fn later_first(
     one.max(other)
 }
 
-/// The first claim in one bin with an earlier one of a group that is excluded with its own, where no
-/// group is in two bins.
+/// The first claim in one bin with an earlier one of a group that is excluded with its own, where
+/// no group is in two bins.
 pub(crate) fn first_together<A: Allocator>(
     alloc: A,
     case: &Case<'_>,

@@ -37,15 +37,16 @@ pub enum Fault {
     },
 }
 
-/// The first fault of a packing that somebody made; `None` where it is a packing: each claim may stand
-/// alone and with each other one, and each entry is placed. It is that of the first claim that may not
-/// stand with those before it; of this claim the first of what it has alone, in the order of
-/// `AloneFault`, and then of what it has with earlier ones, in the order of `Conflict`, with the first of
-/// these. Where all claims may stand it is the first entry that is not placed. Fails only when memory is
-/// refused.
+/// The first fault of a packing that somebody made; `None` where it is a packing: each claim may
+/// stand alone and with each other one, and each entry is placed.
 ///
-/// The number of each group is below `groups`. The time is about that of a sort of the claims, but for
-/// boxes that were laid to defy it.
+/// It is that of the first claim that may not stand with those before it; of this claim the first
+/// of what it has alone, in the order of `AloneFault`, and then of what it has with earlier ones,
+/// in the order of `Conflict`, with the first of these. Where all claims may stand it is the first
+/// entry that is not placed. Fails only when memory is refused.
+///
+/// The number of each group is below `groups`. The time is about that of a sort of the claims, but
+/// for boxes that were laid to defy it.
 pub fn first_fault<A: Allocator + Copy>(
     alloc: A,
     case: &Case<'_>,
@@ -56,8 +57,9 @@ pub fn first_fault<A: Allocator + Copy>(
     requires groups { HaveGroups case.now groups }
     // `None`: the claims are a packing. [first_parted.group_stands_in_two_bins,
     //   first_twice.entry_may_be_placed_twice, alone_fault.wrong_size_is_told_as_outside]
-    // Else the fault is that of the first claim that may not stand with those before it, or the first
-    //   entry that no claim places. [later_first.first_group_alone_counts, first_left.first_claim_is_passed_over]
+    // Else the fault is that of the first claim that may not stand with those before it, or the
+    //   first entry that no claim places. [later_first.first_group_alone_counts,
+    //   first_left.first_claim_is_passed_over]
     ensures verdict { IfOk result (IsVerdict case.now claims.now) }
 {
     let alone = first_alone(case, claims);
@@ -119,7 +121,8 @@ fn first_in_conflict(
     claim: &Claim,
 ) -> Option<usize>
     ensures { MatchOption result (All (λ a. IsFree case.now conflict a claim.now) earlier.now)
-        (λ i. (i < length earlier.now) × HoldsAt (λ a. IsConflict case.now conflict a claim.now) earlier.now i
+        (λ i. (i < length earlier.now)
+        × HoldsAt (λ a. IsConflict case.now conflict a claim.now) earlier.now i
         × All (λ a. IsFree case.now conflict a claim.now) (take i earlier.now)) }
 {
     earlier

@@ -1,5 +1,5 @@
-//! Which boxes share cells, found without a look at each pair. A layer of `rectangle_pack`, which
-//! passes on what is for its users.
+//! Which boxes share cells, found without a look at each pair. A layer of
+//! `rectangle_pack_judge`.
 #![tactic(auto)]
 
 pub mod overlaps;

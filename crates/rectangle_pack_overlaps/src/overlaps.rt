@@ -41,9 +41,9 @@ pub fn first_overlap<A: Allocator + Copy>(
 ) -> Result<Option<Overlap>, AllocError>
     // The number of each bin is below `bins`.
     requires { All (λ b. b.bin < bins) boxes.now }
-    // Two boxes: they are in one bin and share a cell. No two boxes before the second are in one bin
-    //   and share a cell, and no box before the first is in the bin of the second and shares a cell
-    //   with it. [overlap_at.boxes_change_places]
+    // Two boxes: they are in one bin and share a cell. No two boxes before the second are in one
+    //   bin and share a cell, and no box before the first is in the bin of the second and shares a
+    //   cell with it. [overlap_at.boxes_change_places]
     // `None`: no two boxes that are in one bin share a cell.
     //   [first_bad.neighbours_alone_are_compared, is_on.box_that_starts_at_the_plane_is_lost,
     //   first_bad_of.boxes_above_are_not_looked_at, clashes.bins_do_not_count]
@@ -59,7 +59,8 @@ fn empty_piles<A: Allocator + Copy>(
     alloc: A,
     bins: usize,
 ) -> Result<Vec<Vec<Numbered, A>, A>, AllocError>
-    ensures { IfOk result (λ piles. (length piles.items ≡ bins) × All (λ p. p.items ≡ []) piles.items) }
+    ensures { IfOk result
+        (λ piles. (length piles.items ≡ bins) × All (λ p. p.items ≡ []) piles.items) }
 {
     let mut piles = Vec::new(alloc);
     for _ in 0..bins {
@@ -104,8 +105,8 @@ fn first_bad_in<A: Allocator + Copy>(
     Ok(second)
 }
 
-// The box at `second` with the first that shares a cell with it in its bin; `None` where there is no
-// such box.
+// The box at `second` with the first that shares a cell with it in its bin; `None` where there is
+// no such box.
 fn overlap_at(boxes: &[Standing], second: usize) -> Option<Overlap>
     requires { IsFirstBad boxes.now second }
     ensures { IsOverlapAnswer boxes.now result }

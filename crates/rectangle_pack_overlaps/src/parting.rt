@@ -61,7 +61,8 @@ fn kept_on<A: Allocator>(
 // Whether a box shares a cell with one of these.
 fn shares_with(parts: &[Numbered], section: &BinSection) -> bool
     ensures { MatchBool result
-        ((k : ℕ) × (k < length parts.now) × HoldsAt (λ p. SharesCell p.section section.now) parts.now k)
+        ((k : ℕ) × (k < length parts.now)
+        × HoldsAt (λ p. SharesCell p.section section.now) parts.now k)
         (All (λ p. AreApart p.section section.now) parts.now) }
 {
     parts.iter().any(|part| part.section.overlaps(section))
@@ -83,8 +84,8 @@ fn first_bad(parts: &[Numbered], limit: usize) -> usize
     limit
 }
 
-/// The same: the boxes are parted by planes in the room first. What a plane cuts is looked at on both
-/// sides.
+/// The same: the boxes are parted by planes in the room first. What a plane cuts is looked at on
+/// both sides.
 pub(crate) fn first_bad_of<A: Allocator + Copy>(
     alloc: A,
     parts: &[Numbered],

@@ -1,5 +1,5 @@
-//! Planes by which boxes are told apart. Nothing is promised of them: any plane will do, and a good one
-//! leaves few boxes on both sides.
+//! Planes by which boxes are told apart. Nothing is promised of them: any plane will do, and a good
+//! one leaves few boxes on both sides.
 ghost use Rattle.std.specs.Prelude.{◌≡◌};
 ghost use Rattle.rectangle_pack_sections.specs.Boxes.{start, end};
 
@@ -81,6 +81,36 @@ impl Room {
     }
 }
 
+// Faces of boxes on an axis.
+#[derive(Clone, Copy)]
+struct Faces {
+    places: [u64; FACES],
+    count: usize,
+}
+
+impl Faces {
+    const NONE: Faces = Faces {
+        places: [0u64; FACES],
+        count: 0,
+    };
+
+    fn note(&mut self, place: u64) {
+        let count = self.count;
+        if let Some(next) = self.places.get_mut(count) {
+            *next = place;
+            self.count = count.saturating_add(1);
+        }
+    }
+
+    // The one in the middle, when they are put in order.
+    fn middle(&mut self) -> Option<u64> {
+        let count = self.count.min(FACES);
+        let noted = &mut self.places[..count];
+        noted.sort_unstable();
+        noted.get(count / 2).copied()
+    }
+}
+
 // Some of the boxes, evenly spread over the list.
 #[derive(Clone, Copy)]
 struct Sample<'p> {
@@ -104,26 +134,23 @@ impl<'p> Sample<'p> {
 
     // The face in the middle of those that are in the room, on an axis.
     fn middle_face(&self, room: &Room, axis: Axis) -> Option<u64> {
-        let mut faces = [0u64; FACES];
-        let mut count = 0;
+        let mut faces = Faces::NONE;
         for i in 0..LOOKED_AT {
             if let Some(section) = self.get(i) {
                 let (start, end) = ends_on(section, axis);
-                for face in [start, end] {
-                    if room.has(axis, face) && count < FACES {
-                        faces[count] = face;
-                        count += 1;
-                    }
+                if room.has(axis, start) {
+                    faces.note(start);
+                }
+                if room.has(axis, end) {
+                    faces.note(end);
                 }
             }
         }
-        let count = count.min(FACES);
-        faces[..count].sort_unstable();
-        faces[..count].get(count / 2).copied()
+        faces.middle()
     }
 
-    // How many of them are below a plane, or how many above, whatever is more. Those that it cuts are
-    // on both sides.
+    // How many of them are below a plane, or how many above, whatever is more. Those that it cuts
+    // are on both sides.
     fn greater_side(&self, plane: Plane) -> usize {
         let (mut below, mut above) = (0usize, 0usize);
         for i in 0..LOOKED_AT {
@@ -137,23 +164,31 @@ impl<'p> Sample<'p> {
     }
 }
 
-// The first face of a box that is in the room.
-fn first_face(parts: &[Numbered], room: &Room) -> Option<Plane> {
-    for part in parts {
-        for axis in [Axis::X, Axis::Y, Axis::Z] {
-            let (start, end) = ends_on(&part.section, axis);
-            for place in [start, end] {
-                if room.has(axis, place) {
-                    return Some(Plane { axis, place });
-                }
-            }
+// A plane in the room at a face of this box.
+fn face_of(section: &BinSection, room: &Room) -> Option<Plane> {
+    for axis in [Axis::X, Axis::Y, Axis::Z] {
+        let (start, end) = ends_on(section, axis);
+        let place = if room.has(axis, start) { start } else { end };
+        if room.has(axis, place) {
+            return Some(Plane { axis, place });
         }
     }
     None
 }
 
-/// A plane in the room at a face of a box, with few boxes on either side; `None` where there is no such
-/// face.
+// The same, at the first of these boxes that has one.
+fn first_face(parts: &[Numbered], room: &Room) -> Option<Plane> {
+    for part in parts {
+        let plane = face_of(&part.section, room);
+        if plane.is_some() {
+            return plane;
+        }
+    }
+    None
+}
+
+/// A plane in the room at a face of a box, with few boxes on either side; `None` where there is no
+/// such face.
 pub(crate) fn plane_in(parts: &[Numbered], room: &Room) -> Option<Plane> {
     let sample = Sample::of(parts);
     let mut best: Option<(usize, Plane)> = None;

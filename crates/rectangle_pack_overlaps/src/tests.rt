@@ -150,7 +150,7 @@ fn long_rows(rt: HostRuntime) -> Result<(), AllocError> {
     Ok(())
 }
 
-// Boxes that are drawn: few of them share cells where they are small, and most where they are large.
+// Boxes that are drawn: few of them share cells where they are small, most where they are large.
 #[test]
 fn drawn_boxes_as_by_pairs(rt: HostRuntime) -> Result<(), AllocError> {
     for (seed, most) in [

@@ -1,8 +1,9 @@
 -- What a judge answers.
 use Rattle.rectangle_pack_sections.proofs.Std.{ℕ, zero, suc, ◌+◌, ◌<◌, ◌≤◌, ◌≡◌, ◌≢◌, Bool, true, false, List, [], ◌∷◌, ◌++◌, length, take, drop, get_or}
 use Rattle.rectangle_pack_sections.proofs.Std.{All, AllPairs, AllWithin, HoldsAt, MatchOption, Option, Some, None, is_some, option_map, refl, ap, sym, ◌∙◌, subst, arith, inl, inr, cases_lt, both_ways}
-use Rattle.rectangle_pack_sections.proofs.Std.{get_or-take, length-take-le, take_all, get_or_default, take_more, take-take, split_at, All-append, All-cons, All-nil}
+use Rattle.rectangle_pack_sections.proofs.Std.{get_or-take, length-take-le, take_all, get_or_default, take_more, take-take, All-append, All-cons, All-nil}
 use Rattle.rectangle_pack_sections.specs.Boxes.{Size}
+use Rattle.rectangle_pack_overlaps.proofs.lemmas.Piles.{split_here}
 use Rattle.rectangle_pack_judge.specs.declared.case.Case.{Case}
 use Rattle.rectangle_pack_judge.specs.declared.case.Claim.{Claim}
 use Rattle.rectangle_pack_judge.specs.declared.case.AloneFault.{AloneFault}
@@ -11,16 +12,11 @@ use Rattle.rectangle_pack_judge.specs.declared.case.Conflict.{Conflict}
 use Rattle.rectangle_pack_judge.specs.declared.case.Conflict.TheVariants.{PlacedTwice, SharesCell, GroupInTwoBins, ExcludedTogether}
 use Rattle.rectangle_pack_judge.specs.declared.judging.Fault.{Fault}
 use Rattle.rectangle_pack_judge.specs.declared.judging.Fault.TheVariants.{Alone, Together, NotPlaced}
-use Rattle.rectangle_pack_judge.specs.Judging.{StandsAlone, IsAloneAnswer, IsConflict, IsFree, GoTogether, IsPartOfPacking, IsPlaced, IsTogetherFault, IsFirstBad, IsVerdict, no_entry, rank}
+use Rattle.rectangle_pack_judge.specs.Judging.{StandsAlone, IsAloneAnswer, IsConflict, IsFree, GoTogether, IsPartOfPacking, IsPlaced, IsTogetherFault, ComesAfterPart, IsVerdict, no_entry, rank}
 use Rattle.rectangle_pack_judge.specs.private.Firsts.{IsFirst, AreMarked, IsFirstAlone, IsTogetherAnswer}
 
 no_claim : Claim
 no_claim = record { entry = 0; bin = 0; section = record { x = 0; y = 0; z = 0; whd = record { width = 0; height = 0; depth = 0 } } }
-
-split_here : (xs : List Claim) (i : ℕ) (x : Claim) → i < length xs → x ≡ get_or xs i x → xs ≡ take i xs ++ x ∷ drop (i + 1) xs
-split_here xs i x within at =
-    let on : suc i ≡ i + 1 = omega arith in
-    split_at xs i x within ∙ ap (λ y. take i xs ++ y ∷ drop (suc i) xs) (sym at) ∙ ap (λ n. take i xs ++ x ∷ drop n xs) on
 
 module _ (case : Case) where
   -- a claim with a fault of its own may not stand alone
@@ -98,8 +94,8 @@ module _ (case : Case) where
             together = subst (AllPairs (GoTogether case)) (take-take found alone claims below) h.free;
           }
 
-      first_bad : (claim : Claim) → found < length claims → claim ≡ get_or claims found claim → IsFirstBad case claims found
-      first_bad claim within at = record {
+      after_part : (claim : Claim) → found < length claims → claim ≡ get_or claims found claim → ComesAfterPart case claims found
+      after_part claim within at = record {
         earlier = take found claims;
         claim = claim;
         after = drop (found + 1) claims;
@@ -110,7 +106,7 @@ module _ (case : Case) where
 
       pub verdict-together : (claim : Claim) (r : Option Fault) → found < alone → claim ≡ get_or claims found claim
           → IsTogetherAnswer case (take found claims) claim r → IsVerdict case claims r
-      unfolding first_bad
+      unfolding after_part
       verdict-together claim None less at all =
           let there : get_or (take alone claims) found claim ≡ claim = get_or-take alone claims found claim less ∙ sym at in
           absurd (h.bad claim (omega (arith, less, length-take-le alone claims first.at_most))
@@ -122,18 +118,18 @@ module _ (case : Case) where
           let is : second ≡ found = answer.0 ∙ short in
           let stands : StandsAlone case claim =
           subst (StandsAlone case) (get_or-take alone claims found claim less ∙ sym at) (first.alone found claim (omega (arith, less, length-take-le alone claims first.at_most))) in
-          subst (λ n. IsVerdict case claims (Some (Together one n kind))) (sym is) (first_bad claim within at, stands, answer.1)
+          subst (λ n. IsVerdict case claims (Some (Together one n kind))) (sym is) (after_part claim within at, stands, answer.1)
       verdict-together claim (Some (Alone place fault)) less at answer = absurd answer
       verdict-together claim (Some (NotPlaced entry)) less at answer = absurd answer
 
       pub verdict-alone : (claim : Claim) (r : Option AloneFault) → alone ≤ found → alone < length claims → claim ≡ get_or claims alone claim
           → IsAloneAnswer case claim r → IsVerdict case claims (option_map (λ fault. Alone alone fault) r)
-      unfolding first_bad
+      unfolding after_part
       verdict-alone claim None ends within at stands = absurd (first.bad claim within (subst (StandsAlone case) at stands))
       verdict-alone claim (Some fault) ends within at answer =
           let is : found ≡ alone = omega (arith, below) in
           subst (λ n. IsVerdict case claims (Some (Alone n fault))) is
-          (first_bad claim (omega (arith, is, within)) (subst (λ n. claim ≡ get_or claims n claim) (sym is) at), answer)
+          (after_part claim (omega (arith, is, within)) (subst (λ n. claim ≡ get_or claims n claim) (sym is) at), answer)
 
   IsTogetherFault-at : (earlier : List Claim) (c : Claim) (kind : Conflict) (i : ℕ) → i < length earlier → HoldsAt (λ a. IsConflict case kind a c) earlier i
       → All (λ a. IsFree case kind a c) (take i earlier) → ((other : Conflict) → rank other < rank kind → All (λ a. IsFree case other a c) earlier)

@@ -15,6 +15,12 @@ use Rattle.rectangle_pack_overlaps.specs.private.Piles.{IsOf, IsPile, ArePiles, 
 Any-front : {X : Type 0} (P : X → Type 0) (xs ys : List X) → Any P xs → Any P (xs ++ ys)
 Any-front P xs ys h = (h.0, h.1, omega (arith, h.2, length-append xs ys), get_or_append_left xs ys h.1 h.0 h.2 ∙ h.3, h.4)
 
+-- a list, split at a place
+pub split_here : {X : Type 0} (xs : List X) (i : ℕ) (x : X) → i < length xs → x ≡ get_or xs i x → xs ≡ take i xs ++ x ∷ drop (i + 1) xs
+split_here xs i x within at =
+    let on : suc i ≡ i + 1 = omega arith in
+    split_at xs i x within ∙ ap (λ y. take i xs ++ y ∷ drop (suc i) xs) (sym at) ∙ ap (λ n. take i xs ++ x ∷ drop n xs) on
+
 AreApart-same : {p q r s : Cuboid} → p ≡ r → q ≡ s → AreApart r s → AreApart p q
 AreApart-same {p} {q} {r} {s} e f h = subst (λ b. AreApart b q) (sym e) (subst (λ b. AreApart r b) (sym f) h)
 
@@ -160,11 +166,6 @@ module _ (boxes : List Standing) where
             (h.clear i j d below (omega (arith, long)) (known j d (omega (arith, long, h.at_most))));
         bad = h.bad;
       }
-
-  split_here : (xs : List Standing) (i : ℕ) (x : Standing) → i < length xs → x ≡ get_or xs i x → xs ≡ take i xs ++ x ∷ drop (i + 1) xs
-  split_here xs i x within at =
-      let on : suc i ≡ i + 1 = omega arith in
-      split_at xs i x within ∙ ap (λ y. take i xs ++ y ∷ drop (suc i) xs) (sym at) ∙ ap (λ n. take i xs ++ x ∷ drop n xs) on
 
   -- the overlap that is answered
   pub IsFirstOverlap-at : (found first : ℕ) (other : Standing) → IsFirstBad boxes found → found < length boxes
