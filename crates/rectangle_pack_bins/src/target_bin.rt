@@ -380,6 +380,27 @@ pub fn take_sections<A: Allocator + Copy>(bin: &mut TargetBin<A>) -> Vec<BinSect
     mem::replace(&mut bin.available_bin_sections, none)
 }
 
+/// A bin of this size with these free sections, which counts as coalesced where that is said. Takes
+/// no memory.
+pub fn bin_of_sections<A: Allocator + Copy>(
+    max_size: WidthHeightDepth,
+    available_bin_sections: Vec<BinSection, A>,
+    was_coalesced: bool,
+) -> TargetBin<A>
+    requires { IsSound max_size available_bin_sections.items }
+    ensures { result.bin ≡ record {
+      size = max_size;
+      sections = available_bin_sections.items;
+      coalesced = was_coalesced;
+    } }
+{
+    TargetBin {
+        max_size,
+        available_bin_sections,
+        was_coalesced,
+    }
+}
+
 /// Gives a bin the sections of this list.
 pub fn put_sections<A: Allocator + Copy>(bin: &mut TargetBin<A>, sections: Vec<BinSection, A>)
     requires { IsSound bin.old.bin.size sections.items }

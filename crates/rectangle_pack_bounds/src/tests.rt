@@ -5,18 +5,6 @@ use crate::turning::{TurningBox, Turns};
 use rectangle_pack_sections::width_height_depth::any_size;
 use std::alloc::{AllocError, Global};
 
-const UPRIGHT: Turns = Turns {
-    about_x: false,
-    about_y: false,
-    about_z: false,
-};
-
-const FLAT_TURN: Turns = Turns {
-    about_x: false,
-    about_y: false,
-    about_z: true,
-};
-
 const ALL_TURNS: Turns = Turns {
     about_x: true,
     about_y: true,
@@ -38,7 +26,7 @@ fn bins(alloc: Global, bin: [u32; 3], boxes: &[TurningBox]) -> Result<usize, All
 // Five of 6x6x6 have 1080 cells, so two bins by the cells. No two share a bin.
 #[test]
 fn five_that_are_more_than_half(rt: HostRuntime) {
-    let boxes = [one(UPRIGHT, 6, 6, 6); 5];
+    let boxes = [one(Turns::NONE, 6, 6, 6); 5];
     assert!(rt; bins(rt.alloc(), [10, 10, 10], &boxes) == Ok(5));
     let turning = [one(ALL_TURNS, 6, 6, 6); 5];
     assert!(rt; bins(rt.alloc(), [10, 10, 10], &turning) == Ok(5));
@@ -47,7 +35,7 @@ fn five_that_are_more_than_half(rt: HostRuntime) {
 // Of 4x10x10 two go into a bin, so seven need four; by the cells they need three.
 #[test]
 fn seven_of_which_two_fit(rt: HostRuntime) {
-    let boxes = [one(UPRIGHT, 4, 10, 10); 7];
+    let boxes = [one(Turns::NONE, 4, 10, 10); 7];
     assert!(rt; bins(rt.alloc(), [10, 10, 10], &boxes) == Ok(4));
 }
 
@@ -55,10 +43,10 @@ fn seven_of_which_two_fit(rt: HostRuntime) {
 #[test]
 fn no_room_beside(rt: HostRuntime) {
     let boxes = [
-        one(UPRIGHT, 8, 10, 10),
-        one(UPRIGHT, 8, 10, 10),
-        one(UPRIGHT, 8, 10, 10),
-        one(UPRIGHT, 3, 10, 10),
+        one(Turns::NONE, 8, 10, 10),
+        one(Turns::NONE, 8, 10, 10),
+        one(Turns::NONE, 8, 10, 10),
+        one(Turns::NONE, 3, 10, 10),
     ];
     assert!(rt; bins(rt.alloc(), [10, 10, 10], &boxes) == Ok(4));
 }
@@ -66,7 +54,7 @@ fn no_room_beside(rt: HostRuntime) {
 // Of 2x1x1 four go into 9x1x1, so nine need three; by the cells they need two.
 #[test]
 fn nine_of_which_four_fit(rt: HostRuntime) {
-    let boxes = [one(UPRIGHT, 2, 1, 1); 9];
+    let boxes = [one(Turns::NONE, 2, 1, 1); 9];
     assert!(rt; bins(rt.alloc(), [9, 1, 1], &boxes) == Ok(3));
 }
 
@@ -74,16 +62,16 @@ fn nine_of_which_four_fit(rt: HostRuntime) {
 // turned, the sixth stands beside the five.
 #[test]
 fn turns_save_a_bin(rt: HostRuntime) {
-    let upright = [one(UPRIGHT, 6, 2, 1); 6];
+    let upright = [one(Turns::NONE, 6, 2, 1); 6];
     assert!(rt; bins(rt.alloc(), [10, 10, 1], &upright) == Ok(2));
-    let turning = [one(FLAT_TURN, 6, 2, 1); 6];
+    let turning = [one(Turns::FLAT, 6, 2, 1); 6];
     assert!(rt; bins(rt.alloc(), [10, 10, 1], &turning) == Ok(1));
 }
 
 // A box of 4x9x1 fits into 10x5x1 only when it is turned. Two of them: 72 cells of 50.
 #[test]
 fn boxes_that_have_to_be_turned(rt: HostRuntime) {
-    let boxes = [one(FLAT_TURN, 4, 9, 1); 2];
+    let boxes = [one(Turns::FLAT, 4, 9, 1); 2];
     assert!(rt; bins(rt.alloc(), [10, 5, 1], &boxes) == Ok(2));
 }
 
@@ -91,6 +79,6 @@ fn boxes_that_have_to_be_turned(rt: HostRuntime) {
 #[test]
 fn nothing(rt: HostRuntime) {
     assert!(rt; bins(rt.alloc(), [10, 10, 10], &[]) == Ok(0));
-    assert!(rt; bins(rt.alloc(), [10, 10, 10], &[one(UPRIGHT, 11, 1, 1)]) == Ok(0));
-    assert!(rt; bins(rt.alloc(), [0, 10, 10], &[one(UPRIGHT, 0, 5, 5)]) == Ok(0));
+    assert!(rt; bins(rt.alloc(), [10, 10, 10], &[one(Turns::NONE, 11, 1, 1)]) == Ok(0));
+    assert!(rt; bins(rt.alloc(), [0, 10, 10], &[one(Turns::NONE, 0, 5, 5)]) == Ok(0));
 }

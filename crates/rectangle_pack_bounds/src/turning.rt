@@ -18,6 +18,22 @@ pub struct Turns {
     pub about_z: bool,
 }
 
+impl Turns {
+    /// About no axis: the box stands as it is.
+    pub const NONE: Turns = Turns {
+        about_x: false,
+        about_y: false,
+        about_z: false,
+    };
+
+    /// About z alone, as a sprite on its page or a panel on its sheet.
+    pub const FLAT: Turns = Turns {
+        about_x: false,
+        about_y: false,
+        about_z: true,
+    };
+}
+
 /// A box that may be turned: its size, and how.
 #[derive(Debug, Clone, Copy, PartialEq)]
 pub struct TurningBox {

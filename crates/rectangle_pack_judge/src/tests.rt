@@ -8,18 +8,6 @@ use rectangle_pack_sections::bin_section::BinSection;
 use rectangle_pack_sections::width_height_depth::{WidthHeightDepth, any_size};
 use std::alloc::{AllocError, Global};
 
-const UPRIGHT: Turns = Turns {
-    about_x: false,
-    about_y: false,
-    about_z: false,
-};
-
-const FLAT_TURN: Turns = Turns {
-    about_x: false,
-    about_y: false,
-    about_z: true,
-};
-
 fn entry(group: usize, width: u32, height: u32, turns: Turns) -> Entry
     ensures { result.group ≡ group }
 {
@@ -49,10 +37,10 @@ fn entries() -> [Entry; 4]
     ensures { All (λ e. e.group < 3) result }
 {
     [
-        entry(0, 4, 10, UPRIGHT),
-        entry(0, 6, 10, UPRIGHT),
-        entry(1, 10, 5, FLAT_TURN),
-        entry(2, 10, 5, UPRIGHT),
+        entry(0, 4, 10, Turns::NONE),
+        entry(0, 6, 10, Turns::NONE),
+        entry(1, 10, 5, Turns::FLAT),
+        entry(2, 10, 5, Turns::NONE),
     ]
 }
 
@@ -272,7 +260,7 @@ fn squares(alloc: Global) -> Result<Vec<Entry>, AllocError>
 {
     let mut all = Vec::new(alloc);
     for i in 0usize..60 {
-        all.push(entry(i % 5, 2, 2, UPRIGHT))?;
+        all.push(entry(i % 5, 2, 2, Turns::NONE))?;
     }
     Ok(all)
 }

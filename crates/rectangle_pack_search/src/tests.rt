@@ -7,18 +7,6 @@ use rectangle_pack_sections::width_height_depth::{WidthHeightDepth, any_size};
 use std::alloc::{AllocError, Global};
 use std::test::Fail;
 
-const UPRIGHT: Turns = Turns {
-    about_x: false,
-    about_y: false,
-    about_z: false,
-};
-
-const FLAT_TURN: Turns = Turns {
-    about_x: false,
-    about_y: false,
-    about_z: true,
-};
-
 const LIMITS: Limits = Limits {
     tries: 2000,
     seed: 1,
@@ -109,7 +97,7 @@ fn bin_of(found: &Found<Global>, group: usize) -> Option<usize> {
 fn four_squares_in_one(rt: HostRuntime) -> Result<(), Fail> {
     let boxes = [any_size(5, 5, 1); 4];
     let bins = [any_size(10, 10, 1); 4];
-    let job = alone(rt.alloc(), &boxes, UPRIGHT, &bins)?;
+    let job = alone(rt.alloc(), &boxes, Turns::NONE, &bins)?;
     let found = few_bins(rt.alloc(), &job, LIMITS, |_| true)?;
     assert!(rt; bins_used(&found, 4) == Some(1));
     Ok(())
@@ -121,7 +109,7 @@ fn four_squares_in_one(rt: HostRuntime) -> Result<(), Fail> {
 fn twenty_shelves_on_two_sheets(rt: HostRuntime) -> Result<(), Fail> {
     let boxes = [any_size(8032, 6032, 1); 20];
     let bins = [any_size(27832, 20532, 1); 3];
-    let job = alone(rt.alloc(), &boxes, FLAT_TURN, &bins)?;
+    let job = alone(rt.alloc(), &boxes, Turns::FLAT, &bins)?;
     let limits = Limits {
         tries: 20000,
         seed: 1,
@@ -138,7 +126,7 @@ fn excluded_groups_are_apart(rt: HostRuntime) -> Result<(), Fail> {
     let mut job = alone(
         rt.alloc(),
         &[any_size(2, 2, 1); 3],
-        UPRIGHT,
+        Turns::NONE,
         &[any_size(9, 9, 1); 2],
     )?;
     job.apart.push((0, 2))?;
@@ -154,7 +142,7 @@ fn excluded_groups_are_apart(rt: HostRuntime) -> Result<(), Fail> {
 fn groups_go_whole(rt: HostRuntime) -> Result<(), Fail> {
     let mut job = empty_job(rt.alloc());
     for _ in 0..3 {
-        add_group(&mut job, 2, any_size(5, 5, 1), UPRIGHT)?;
+        add_group(&mut job, 2, any_size(5, 5, 1), Turns::NONE)?;
     }
     for _ in 0..3 {
         add_bin(rt.alloc(), &mut job, any_size(10, 10, 1), 1)?;
@@ -167,7 +155,7 @@ fn groups_go_whole(rt: HostRuntime) -> Result<(), Fail> {
 // Two bins for 3 each are cheaper than the large one for 10.
 #[test]
 fn cheap_bins_are_used(rt: HostRuntime) -> Result<(), Fail> {
-    let mut job = alone(rt.alloc(), &[any_size(5, 5, 1); 2], UPRIGHT, &[])?;
+    let mut job = alone(rt.alloc(), &[any_size(5, 5, 1); 2], Turns::NONE, &[])?;
     add_bin(rt.alloc(), &mut job, any_size(10, 5, 1), 10)?;
     add_bin(rt.alloc(), &mut job, any_size(5, 5, 1), 3)?;
     add_bin(rt.alloc(), &mut job, any_size(5, 5, 1), 3)?;
@@ -185,7 +173,7 @@ fn a_box_is_turned(rt: HostRuntime) -> Result<(), Fail> {
     let job = alone(
         rt.alloc(),
         &[any_size(9, 2, 1)],
-        FLAT_TURN,
+        Turns::FLAT,
         &[any_size(3, 9, 1)],
     )?;
     let found = few_bins(rt.alloc(), &job, LIMITS, |_| true)?;
@@ -200,7 +188,7 @@ fn a_search_is_stopped(rt: HostRuntime) -> Result<(), Fail> {
     let job = alone(
         rt.alloc(),
         &[any_size(6, 6, 1); 5],
-        UPRIGHT,
+        Turns::NONE,
         &[any_size(10, 10, 1); 5],
     )?;
     let mut asked = 0u64;
@@ -223,7 +211,7 @@ fn equal_seeds_find_the_same(rt: HostRuntime) -> Result<(), Fail> {
         any_size(3, 9, 1),
         any_size(6, 5, 1),
     ];
-    let job = alone(rt.alloc(), &boxes, FLAT_TURN, &[any_size(10, 10, 1); 4])?;
+    let job = alone(rt.alloc(), &boxes, Turns::FLAT, &[any_size(10, 10, 1); 4])?;
     let one = few_bins(rt.alloc(), &job, LIMITS, |_| true)?;
     let other = few_bins(rt.alloc(), &job, LIMITS, |_| true)?;
     assert!(rt; one.puts.as_slice() == other.puts.as_slice());
@@ -235,7 +223,7 @@ fn equal_seeds_find_the_same(rt: HostRuntime) -> Result<(), Fail> {
 #[test]
 fn tries_are_counted(rt: HostRuntime) -> Result<(), Fail> {
     let boxes = [any_size(6, 6, 1); 5];
-    let job = alone(rt.alloc(), &boxes, UPRIGHT, &[any_size(10, 10, 1); 5])?;
+    let job = alone(rt.alloc(), &boxes, Turns::NONE, &[any_size(10, 10, 1); 5])?;
     for tries in [0, 1, 63, 64, 65, 100] {
         let limits = Limits {
             tries,

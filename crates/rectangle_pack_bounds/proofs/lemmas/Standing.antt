@@ -10,7 +10,8 @@ use Rattle.rectangle_pack_bounds.specs.DualFeasible.{rate_of}
 use Rattle.rectangle_pack_bounds.specs.Ratings.{Ratings, rates_by, least_rate}
 use Rattle.rectangle_pack_bounds.specs.Bounds.{enclosing, has_bin}
 use Rattle.rectangle_pack_bounds.proofs.lemmas.Extremes.{le-greatest_by, least_of-le}
-use Rattle.rectangle_pack_bounds.proofs.lemmas.Lists.{All-unmap, All-unfilter, any-from_Contains}
+use Rattle.rectangle_pack_bounds.proofs.lemmas.Lists.{All-unmap, any-from_Contains}
+use Rattle.rectangle_pack_sections.proofs.lemmas.util.Lists.{All-unfilter}
 use Rattle.rectangle_pack_bounds.proofs.lemmas.BoxesByBin.{IsInsideFound}
 
 -- a size has the same cells in each of its ways

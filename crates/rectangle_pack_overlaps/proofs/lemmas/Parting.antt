@@ -8,7 +8,7 @@ use Rattle.rectangle_pack_sections.specs.declared.axis.Axis.{Axis}
 use Rattle.rectangle_pack_sections.specs.Boxes.{Cuboid, AreApart, SharesCell, start, end}
 use Rattle.rectangle_pack_sections.proofs.lemmas.cuts.Boxes.{is_cell_of-from, not_from_AreApart}
 use Rattle.rectangle_pack_sections.proofs.lemmas.cuts.Axes.{lies_in}
-use Rattle.rectangle_pack_sections.proofs.lemmas.util.Lists.{AllPairs-head, AllPairs-tail, AllPairs-append}
+use Rattle.rectangle_pack_sections.proofs.lemmas.util.Lists.{All-unfilter, AllPairs-head, AllPairs-tail, AllPairs-append}
 use Rattle.rectangle_pack_overlaps.specs.declared.parting.Numbered.{Numbered}
 use Rattle.rectangle_pack_overlaps.specs.declared.parting.Side.{Side}
 use Rattle.rectangle_pack_overlaps.specs.declared.parting.Side.TheVariants.{Below, Above}
@@ -16,18 +16,6 @@ use Rattle.rectangle_pack_overlaps.specs.declared.planes.Plane.{Plane}
 use Rattle.rectangle_pack_overlaps.specs.private.Parting.{AreRising, is_on, is_kept, AreApartBefore, IsFound}
 
 module _ {X : Type 0} where
-  -- what holds of each that is kept holds of each that passes
-  All-unfilter : (test : X → Bool) (P : X → Type 0) (xs : List X) → All P (filter test xs) → All (λ x. test x ≡ true → P x) xs
-  All-unfilter test P [] h = All-nil (λ x. test x ≡ true → P x)
-  All-unfilter test P (x ∷ xs) h = elim (cases_Bool (test x)) [
-    | inl on ↦
-        let kept = rw on at h in
-        All-cons (λ x. test x ≡ true → P x) x xs (λ e. All-head P x (filter test xs) kept)
-        (All-unfilter test P xs (All-tail P x (filter test xs) kept))
-    | inr off ↦
-        All-cons (λ x. test x ≡ true → P x) x xs (λ e. absurd (both_ways _ off e)) (All-unfilter test P xs (rw off at h))
-  ]
-
   -- what holds of each two that are kept holds of each two that pass
   AllPairs-unfilter : (test : X → Bool) (R : X → X → Type 0) (xs : List X) → AllPairs R (filter test xs)
       → AllPairs (λ a b. test a ≡ true → test b ≡ true → R a b) xs

@@ -1,11 +1,11 @@
 -- Boxes that cover a bin, or fill a box, have its volume: the cells are counted box by box.
 use Rattle.rectangle_pack_sections.proofs.Std.{rules, arith, ◌≡◌, ℕ, zero, suc, ◌+◌, ◌*◌, ◌-◌, ◌<◌, ◌≤◌, Bool, true, false, ◌&&◌, List, [], ◌∷◌, cond, refl}
-use Rattle.rectangle_pack_sections.proofs.Std.{sym, ◌∙◌, min, All, All-head, All-tail, All-weaker, sum_by-cons, nat_tests}
+use Rattle.rectangle_pack_sections.proofs.Std.{sym, ◌∙◌, min, inl, inr, cases_lt, All, All-head, All-tail, All-weaker, sum_by-cons, nat_tests}
 use Rattle.rectangle_pack_sections.specs.Boxes.{Size, Cuboid, Cell, IsCellOf, IsInside, IsPartOf, is_within, is_cell_of, volume_of}
 use Rattle.rectangle_pack_sections.specs.Bins.{whole}
-use Rattle.rectangle_pack_sections.specs.Counting.{times_filled, total_volume, Tiles, HaveVolumeOf}
+use Rattle.rectangle_pack_sections.specs.Counting.{times_filled, total_volume, Tiles, HaveVolumeOf, AreAllApart}
 use Rattle.rectangle_pack_sections.specs.Covering.{CoverBin}
-use Rattle.rectangle_pack_sections.proofs.lemmas.cuts.Counting.{filled-cons, filled-nil, filled_yes}
+use Rattle.rectangle_pack_sections.proofs.lemmas.cuts.Counting.{filled-cons, filled-nil, filled_yes, counts_from_apart}
 
 -- f 0 + f 1 + .. + f (n - 1)
 abbrev sum_to : ℕ → (ℕ → ℕ) → ℕ
@@ -40,6 +40,22 @@ marks-below (suc n) first long = let before = marks-below n first long in grind 
 marks : (n first long : ℕ) → first + long ≤ n → sum_to n (mark first long) ≡ long
 marks n first long inside = omega (arith, marks-below n first long)
 
+sum_to-below : (n : ℕ) (f g : ℕ → ℕ) → ((i : ℕ) → i < n → f i ≤ g i) → sum_to n f ≤ sum_to n g
+sum_to-below zero f g below = omega arith
+sum_to-below (suc n) f g below = omega (arith, sum_to-below n f g (λ i lt. below i (omega arith)), below n (omega arith))
+
+-- sums are equal, of which none of the terms is more, only where each of them is
+sum_to-tight : (n : ℕ) (f g : ℕ → ℕ) → ((i : ℕ) → i < n → f i ≤ g i) → sum_to n f ≡ sum_to n g → (i : ℕ) → i < n → f i ≡ g i
+sum_to-tight zero f g below same i lt = absurd (omega arith)
+sum_to-tight (suc n) f g below same i lt =
+    let earlier : (j : ℕ) → j < n → f j ≤ g j = λ j less. below j (omega arith) in
+    let most = sum_to-below n f g earlier in
+    let last = below n (omega arith) in
+    elim (cases_lt i n) [
+      | inl less ↦ sum_to-tight n f g earlier (omega (arith, same, most, last)) i less
+      | inr more ↦ let e : i ≡ n = omega arith in rw e (omega (arith, same, most, last))
+    ]
+
 -- the sum over all cells of a size
 abbrev over_cells : Size → (Cell → ℕ) → ℕ
 over_cells s f = sum_to s.width (λ i. sum_to s.height (λ j. sum_to s.depth (λ k. f (record { i = i; j = j; k = k }))))
@@ -51,6 +67,18 @@ over-same s f g same =
     sum_to-same s.depth _ _ (λ k in_z.
     same (record { i = i; j = j; k = k })
     (search rules))))
+
+over-tight : (s : Size) (f g : Cell → ℕ) → ((c : Cell) → f c ≤ g c) → over_cells s f ≡ over_cells s g
+    → (c : Cell) → IsCellOf c (whole s) → f c ≡ g c
+over-tight s f g below same c in_bin =
+    let line : (Cell → ℕ) → ℕ → ℕ → ℕ = λ h i j. sum_to s.depth (λ k. h (record { i = i; j = j; k = k })) in
+    let plane : (Cell → ℕ) → ℕ → ℕ = λ h i. sum_to s.height (line h i) in
+    let lines : (i j : ℕ) → line f i j ≤ line g i j = λ i j. sum_to-below s.depth _ _ (λ k lt. below (record { i = i; j = j; k = k })) in
+    let planes : (i : ℕ) → plane f i ≤ plane g i = λ i. sum_to-below s.height _ _ (λ j lt. lines i j) in
+    let on_plane = sum_to-tight s.width (plane f) (plane g) (λ i lt. planes i) same c.i (search rules) in
+    let on_line = sum_to-tight s.height (line f c.i) (line g c.i) (λ j lt. lines c.i j) on_plane c.j (search rules) in
+    sum_to-tight s.depth (λ k. f (record { i = c.i; j = c.j; k = k })) (λ k. g (record { i = c.i; j = c.j; k = k }))
+    (λ k lt. below (record { i = c.i; j = c.j; k = k })) on_line c.k (search rules)
 
 over-add : (s : Size) (f g : Cell → ℕ) → over_cells s (λ c. f c + g c) ≡ over_cells s f + over_cells s g
 over-add s f g = simp sum_to-add
@@ -94,6 +122,19 @@ CoverBin-volume boxes s cover =
     omega (arith, cover.once c h, filled_yes c (whole s) [] h, filled-nil c) in
     sym (filled-boxes s boxes cover.inside) ∙ over-same s (λ c. times_filled c boxes) (λ c. times_filled c (whole s ∷ [])) same
     ∙ filled-box s (whole s) (search rules)
+
+-- boxes inside a bin that share no cell cover it where they have its volume
+pub CoverBin-from_volume : (boxes : List Cuboid) (s : Size) → All (IsInside s) boxes → AreAllApart boxes → total_volume boxes ≡ volume_of s
+    → CoverBin boxes s
+CoverBin-from_volume boxes s inside apart volume =
+    let most : (c : Cell) → times_filled c boxes ≤ 1 = λ c. counts_from_apart c boxes apart in
+    let ones : over_cells s (λ c. 1) ≡ volume_of s =
+        over-same s (λ c. 1) (λ c. times_filled c (whole s ∷ [])) (λ c h. omega (arith, filled_yes c (whole s) [] h, filled-nil c))
+        ∙ filled-box s (whole s) (search rules) in
+    record {
+      inside = inside;
+      once = λ c h. over-tight s (λ c. times_filled c boxes) (λ c. 1) most (filled-boxes s boxes inside ∙ volume ∙ sym ones) c h;
+    }
 
 pub Tiles-volume : (boxes : List Cuboid) (b : Cuboid) → All (λ e. IsPartOf e b) boxes → Tiles boxes b → HaveVolumeOf boxes b
 Tiles-volume boxes b parts tiles =

@@ -1,6 +1,6 @@
 -- Parts of lists, and pairs of their elements.
 use Rattle.rectangle_pack_sections.proofs.Std.{◌≡◌, List, [], ◌∷◌, ◌++◌, get_or, arith, subst, All, All-append, All-cons, All-head, All-nil, All-tail, suc}
-use Rattle.rectangle_pack_sections.proofs.Std.{AllPairs, AllPairs-cons, zero}
+use Rattle.rectangle_pack_sections.proofs.Std.{AllPairs, AllPairs-cons, zero, Bool, true, filter, inl, inr, cases_Bool, both_ways}
 
 -- the parts of two joined lists
 pub All-front : {X : Type 0} (P : X → Type 0) (xs ys : List X) → All P (xs ++ ys) → All P xs
@@ -32,3 +32,15 @@ AllPairs-append R (x ∷ xs) ys p q across =
     AllPairs-cons R x (xs ++ ys)
     (All-append (R x) xs ys (AllPairs-head R x xs p) (λ k d lt. All-head (λ x. R x (get_or ys k d)) x xs (across k d lt)))
     (AllPairs-append R xs ys (AllPairs-tail R x xs p) q (λ k d lt. All-tail (λ x. R x (get_or ys k d)) x xs (across k d lt)))
+
+-- what holds of each that is kept holds of each that passes
+pub All-unfilter : {X : Type 0} (test : X → Bool) (P : X → Type 0) (xs : List X) → All P (filter test xs) → All (λ x. test x ≡ true → P x) xs
+All-unfilter test P [] h = All-nil (λ x. test x ≡ true → P x)
+All-unfilter test P (x ∷ xs) h = elim (cases_Bool (test x)) [
+  | inl on ↦
+      let kept = rw on at h in
+      All-cons (λ x. test x ≡ true → P x) x xs (λ e. All-head P x (filter test xs) kept)
+      (All-unfilter test P xs (All-tail P x (filter test xs) kept))
+  | inr off ↦
+      All-cons (λ x. test x ≡ true → P x) x xs (λ e. absurd (both_ways _ off e)) (All-unfilter test P xs (rw off at h))
+]
