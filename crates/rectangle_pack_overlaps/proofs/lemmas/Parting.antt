@@ -2,7 +2,7 @@
 use Rattle.rectangle_pack_sections.proofs.Std.{ℕ, ◌+◌, ◌<◌, ◌≤◌, ◌≡◌, Bool, true, false, List, [], ◌∷◌, ◌++◌, length, take, filter, get_or, slice_index_or}
 use Rattle.rectangle_pack_sections.proofs.Std.{All, AllPairs, refl, ap, sym, ◌∙◌, subst, arith, nat_tests, inl, inr, cases_lt, cases_Bool, both_ways}
 use Rattle.rectangle_pack_sections.proofs.Std.{MatchBool, AllWithin, HoldsAt, take_all, take_more, filter-append, append-nil, get_or_default}
-use Rattle.rectangle_pack_sections.proofs.Std.{All-nil, All-cons, All-head, All-tail, All-weaker, AllPairs-cons, get_or-take, length-take-le}
+use Rattle.rectangle_pack_sections.proofs.Std.{All-nil, All-cons, All-weaker, AllPairs-cons, get_or-take, length-take-le}
 use Rattle.std.proofs.lemmas.List.Kept.{AllPairs-filter}
 use Rattle.rectangle_pack_sections.specs.declared.axis.Axis.{Axis}
 use Rattle.rectangle_pack_sections.specs.Boxes.{Cuboid, AreApart, SharesCell, start, end}

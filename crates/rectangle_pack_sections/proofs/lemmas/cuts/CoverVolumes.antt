@@ -129,8 +129,8 @@ pub CoverBin-from_volume : (boxes : List Cuboid) (s : Size) → All (IsInside s)
 CoverBin-from_volume boxes s inside apart volume =
     let most : (c : Cell) → times_filled c boxes ≤ 1 = λ c. counts_from_apart c boxes apart in
     let ones : over_cells s (λ c. 1) ≡ volume_of s =
-        over-same s (λ c. 1) (λ c. times_filled c (whole s ∷ [])) (λ c h. omega (arith, filled_yes c (whole s) [] h, filled-nil c))
-        ∙ filled-box s (whole s) (search rules) in
+    over-same s (λ c. 1) (λ c. times_filled c (whole s ∷ [])) (λ c h. omega (arith, filled_yes c (whole s) [] h, filled-nil c))
+    ∙ filled-box s (whole s) (search rules) in
     record {
       inside = inside;
       once = λ c h. over-tight s (λ c. times_filled c boxes) (λ c. 1) most (filled-boxes s boxes inside ∙ volume ∙ sym ones) c h;
