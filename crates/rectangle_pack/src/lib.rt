@@ -33,6 +33,13 @@ pub mod grouped_rects_to_place {
     pub use rectangle_pack_sections::group::Group;
 }
 
+/// Whether boxes that stand somewhere are a packing, whoever put them there.
+pub mod judge {
+    pub use rectangle_pack_bounds::turning::TurningBox;
+    pub use rectangle_pack_judge::case::{AloneFault, Case, Claim, Conflict, Entry};
+    pub use rectangle_pack_judge::judging::{Fault, first_fault};
+}
+
 /// Packing groups of boxes into bins.
 pub mod pack {
     pub use rectangle_pack_packing::answer::{
@@ -120,6 +127,14 @@ pub use grouped_rects_to_place::Group;
 pub use grouped_rects_to_place::GroupedRectsToPlace;
 pub use grouped_rects_to_place::equal_pushes_leave_equal_collections;
 pub use grouped_rects_to_place::groups_are_ordered;
+pub use judge::AloneFault;
+pub use judge::Case;
+pub use judge::Claim;
+pub use judge::Conflict;
+pub use judge::Entry;
+pub use judge::Fault;
+pub use judge::TurningBox;
+pub use judge::first_fault;
 pub use pack::Fitted;
 pub use pack::Placement;
 pub use pack::RectanglePackError;

@@ -2,3 +2,4 @@
 pub mod Firsts
 pub mod Apart
 pub mod Verdicts
+pub mod Alike

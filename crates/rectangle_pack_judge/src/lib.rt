@@ -1,5 +1,5 @@
 //! Whether boxes that stand somewhere are a packing, whoever put them there: a judge, by numbers. A
-//! layer for `rectangle_pack`, which does not pass it on yet.
+//! layer of `rectangle_pack`, which passes on what is for its users.
 #![tactic(auto)]
 
 pub mod case;

@@ -1,0 +1,2 @@
+-- Lemmas of boxes that cover bins.
+pub mod Covers

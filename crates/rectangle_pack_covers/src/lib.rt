@@ -1,0 +1,7 @@
+//! What is wrong with boxes that are to be all of a bin, whoever says where they stand. A layer of
+//! `rectangle_pack`.
+#![tactic(auto)]
+
+pub mod covers;
+#[cfg(test)]
+mod tests;
