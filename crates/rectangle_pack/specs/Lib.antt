@@ -36,6 +36,11 @@ pub use Rattle.rectangle_pack_packing.specs.Told
 pub use Rattle.rectangle_pack_packing.specs.Results
 pub use Rattle.rectangle_pack_packing.specs.PackingTexts
 pub use Rattle.rectangle_pack_packing.specs.ToldTexts
+pub use Rattle.rectangle_pack_overlaps.specs.Overlaps
+pub use Rattle.rectangle_pack_judge.specs.Judging
+pub use Rattle.rectangle_pack_covers.specs.Covers
+pub use Rattle.rectangle_pack_covers.specs.CoverTexts
+pub use Rattle.rectangle_pack_covers.specs.StraightCuts
 pub use Rattle.rectangle_pack_plans.specs.CutPlans
 pub use Rattle.rectangle_pack_plans.specs.CuttingAnew
 pub mod private
@@ -58,3 +63,5 @@ pub mod Needed
 pub mod NeededLaws
 pub mod Searched
 pub mod SessionSearched
+pub mod Restoring
+pub mod RestoringTexts

@@ -4,3 +4,4 @@ pub mod Releasing
 pub mod BestPlaces
 pub mod Fitting
 pub mod Searched
+pub mod Restoring

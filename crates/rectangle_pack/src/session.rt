@@ -25,6 +25,7 @@ mod reading;
 mod records;
 mod recutting;
 mod releasing;
+mod restoring;
 mod run;
 mod searching;
 mod stats;
@@ -50,6 +51,10 @@ pub use rectangle_pack_sections::axis::Axis;
 use rectangle_pack_sections::closures::{Closures, Policy};
 use rectangle_pack_sections::group::Group;
 use rectangle_pack_sections::width_height_depth::WidthHeightDepth;
+pub use restoring::{
+    BinFault, RestoreError, SectionsError, SessionParts, StraightCuts, bin_of_free_sections,
+    straight_cuts,
+};
 pub use stats::BinStats;
 use std::alloc::{AllocError, Allocator, Global};
 use std::cmp::Ordering;

@@ -1,2 +1,3 @@
 -- Lemmas of boxes that cover bins.
 pub mod Covers
+pub mod StraightCuts

@@ -1,12 +1,13 @@
 //! Boxes that are to cover a bin: whether each is inside, no two share a cell, no cell is in none,
 //! and straight cuts leave them.
-ghost use Rattle.std.specs.Prelude.{◌≡◌, ◌<◌, ◌↔◌, true, filter, length, All, HoldsAt, IfOk, IsTrue, MatchOption, map, take};
+ghost use Rattle.std.specs.Prelude.{◌≡◌, ◌<◌, ◌↔◌, ◌++◌, OnOk, true, filter, length, All, HoldsAt, IfOk, IsTrue, MatchOption, map, take};
 ghost use Rattle.std.specs.Bool.{OnTrue, OnFalse};
 ghost use Rattle.rectangle_pack_sections.specs.Bins.{whole};
 ghost use Rattle.rectangle_pack_sections.specs.Boxes.{FitsU32, IsInside, has_cells, volume_of};
 ghost use Rattle.rectangle_pack_sections.specs.Counting.{total_volume};
 ghost use Rattle.rectangle_pack_sections.specs.Covering.{CoverBin};
 ghost use Rattle.rectangle_pack_sections.specs.CutTrees.{IsFromCuts};
+ghost use Rattle.rectangle_pack_covers.specs.CoverTexts.{sections_text};
 ghost use Rattle.rectangle_pack_covers.specs.Covers.{IsSoundAnswer, IsCoverAnswer, IsBinAnswer, in_one_bin};
 
 use rectangle_pack_overlaps::overlaps::{Standing, first_overlap};
@@ -14,6 +15,8 @@ use rectangle_pack_plans::cut_plan::plan_of;
 use rectangle_pack_sections::bin_section::{BinSection, has_cells, is_inside};
 use rectangle_pack_sections::width_height_depth::WidthHeightDepth;
 use std::alloc::{AllocError, Allocator};
+use std::error::Error;
+use std::fmt;
 
 /// What may be wrong with the boxes of a bin, in the order in which it is looked for. Boxes are
 /// named by their places in the list.
@@ -35,6 +38,53 @@ pub enum BinFault {
     CellInNone,
     /// No straight cuts of the bin leave all boxes whole.
     NotFromCuts,
+}
+
+/// Why boxes are not inside a bin and apart.
+#[derive(Debug, Clone, Copy, PartialEq, Eq)]
+pub enum SectionsError {
+    /// One is outside the bin, or two share a cell.
+    Wrong(BinFault),
+    /// A growth was refused.
+    OutOfMemory,
+}
+
+impl SectionsError {
+    // The text that it prints.
+    fn text(&self) -> &'static str
+        ensures { result.now ≡ sections_text self.now }
+    {
+        match self {
+            SectionsError::Wrong(_) => "A box is outside the bin, or two share a cell.",
+            SectionsError::OutOfMemory => "Out of memory.",
+        }
+    }
+}
+
+impl fmt::Display for SectionsError {
+    ghost use Rattle.std.specs.Prelude.{Some};
+    ghost use Rattle.rectangle_pack_covers.specs.CoverTexts.{sections_text};
+
+    // What is printed is the text that `sections_text` lists for the error.
+    ghost output = { λ e. Some (sections_text e) };
+
+    fn fmt<W: fmt::Write>(&self, f: &mut fmt::Formatter<W>) -> fmt::Result {
+        write!(f, "{}", self.text())
+    }
+}
+
+impl Error for SectionsError {}
+
+impl From<AllocError> for SectionsError {
+    ghost use Rattle.std.specs.Prelude.{◌≡◌};
+    ghost use Rattle.rectangle_pack_covers.specs.declared.covers.SectionsError.TheVariants.{OutOfMemory};
+
+    // The error is `OutOfMemory`.
+    ghost from_gives = { λ e error. error ≡ OutOfMemory };
+
+    fn from(_: AllocError) -> Self {
+        SectionsError::OutOfMemory
+    }
 }
 
 /// What is wrong first with boxes that are to be free sections of a bin of this size: the first one
@@ -149,24 +199,35 @@ fn fill(size: WidthHeightDepth, boxes: &[BinSection]) -> bool
     left == 0
 }
 
-// The boxes that have cells.
-fn with_cells<A: Allocator>(
-    alloc: A,
+// Puts the boxes that have cells at the end of the list.
+pub(crate) fn add_with_cells<A: Allocator>(
+    all: &mut Vec<BinSection, A>,
     boxes: &[BinSection],
-) -> Result<Vec<BinSection, A>, AllocError>
-    ensures { IfOk result (λ all. all.items ≡ filter has_cells boxes.now) }
+) -> Result<(), AllocError>
+    ensures { OnOk result (all.new.items ≡ all.old.items ++ filter has_cells boxes.now) }
 {
-    let mut all = Vec::with_capacity(alloc, boxes.len())?;
     for section in boxes {
         if has_cells(section) {
             all.push(*section)?;
         }
     }
+    Ok(())
+}
+
+// The boxes that have cells.
+pub(crate) fn with_cells<A: Allocator>(
+    alloc: A,
+    boxes: &[BinSection],
+) -> Result<Vec<BinSection, A>, AllocError>
+    ensures { IfOk result (λ all. all.items ≡ filter has_cells boxes.now) }
+{
+    let mut all = Vec::new(alloc);
+    add_with_cells(&mut all, boxes)?;
     Ok(all)
 }
 
 // All of a bin of this size.
-fn all_of(size: WidthHeightDepth) -> BinSection
+pub(crate) fn all_of(size: WidthHeightDepth) -> BinSection
     ensures whole { result ≡ whole size }
     ensures fits { FitsU32 result }
 {

@@ -3,5 +3,6 @@
 #![tactic(auto)]
 
 pub mod covers;
+pub mod straight_cuts;
 #[cfg(test)]
 mod tests;

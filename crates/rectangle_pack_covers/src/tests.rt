@@ -1,8 +1,12 @@
 //! Faults that are known by hand.
 
-use crate::covers::{BinFault, first_fault_in_bin, first_uncovered, first_unsound};
+use crate::covers::{BinFault, SectionsError, first_fault_in_bin, first_uncovered, first_unsound};
+use crate::straight_cuts::straight_cuts;
+use rectangle_pack_plans::cut_plan::CutStep;
+use rectangle_pack_sections::axis::Axis;
 use rectangle_pack_sections::bin_section::BinSection;
 use rectangle_pack_sections::width_height_depth::{WidthHeightDepth, any_size};
+use std::test::Fail;
 
 fn flat(x: u32, y: u32, width: u32, height: u32) -> BinSection {
     BinSection::new(x, y, 0, any_size(width, height, 1))
@@ -80,4 +84,49 @@ fn pinwheel(rt: HostRuntime) {
     assert!(rt; first_fault_in_bin(alloc, size, &boxes, false) == Ok(None));
     let cells = Ok(Some(BinFault::CellInNone));
     assert!(rt; first_fault_in_bin(alloc, size, &boxes[..4], true) == cells);
+}
+
+// Two boxes in a corner: what is right of both is thicker than what is above them.
+#[test]
+fn cuts_round_boxes(rt: HostRuntime) -> Result<(), Fail> {
+    let alloc = rt.alloc();
+    let two = [flat(0, 0, 3, 8), flat(3, 0, 1, 8), flat(5, 5, 0, 2)];
+    let cuts = straight_cuts(alloc, board(), &two)?.ok_or("no cuts")?;
+    assert_eq!(rt;
+        cuts.free.as_slice(),
+        [flat(4, 0, 6, 10), flat(0, 8, 4, 2)].as_slice()
+    );
+    let right = CutStep::Cut {
+        axis: Axis::X,
+        place: 4,
+    };
+    let above = CutStep::Cut {
+        axis: Axis::Y,
+        place: 8,
+    };
+    let between = CutStep::Cut {
+        axis: Axis::X,
+        place: 3,
+    };
+    let leaf = CutStep::Leaf;
+    assert_eq!(rt;
+        cuts.steps.as_slice(),
+        [right, above, between, leaf, leaf, leaf, leaf].as_slice()
+    );
+    Ok(())
+}
+
+#[test]
+fn no_cuts_round_boxes(rt: HostRuntime) -> Result<(), Fail> {
+    let alloc = rt.alloc();
+    let round = [
+        flat(0, 0, 6, 4),
+        flat(6, 0, 4, 6),
+        flat(4, 6, 6, 4),
+        flat(0, 4, 4, 6),
+    ];
+    assert!(rt; straight_cuts(alloc, board(), &round)?.is_none());
+    let outside = straight_cuts(alloc, board(), &[flat(0, 0, 4, 4), flat(9, 0, 2, 2)]).err();
+    assert!(rt; outside == Some(SectionsError::Wrong(BinFault::Outside { index: 1 })));
+    Ok(())
 }

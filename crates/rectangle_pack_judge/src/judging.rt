@@ -47,6 +47,43 @@ pub enum Fault {
 ///
 /// The number of each group is below `groups`. The time is about that of a sort of the claims, but
 /// for boxes that were laid to defy it.
+///
+/// ```
+/// let bins = [WidthHeightDepth::new(10, 10, 1)];
+/// let whd = WidthHeightDepth::new(6, 10, 1);
+/// let turning = TurningBox {
+///     whd,
+///     turns: Turns::FLAT,
+/// };
+/// let entries = [Entry { group: 0, turning }, Entry { group: 1, turning }];
+/// let case = Case {
+///     bins: &bins,
+///     entries: &entries,
+///     excluded: &[],
+/// };
+/// ```
+///
+/// The two boxes do not go into the bin beside each other.
+///
+/// ```
+/// let first = Claim {
+///     entry: 0,
+///     bin: 0,
+///     section: BinSection::new(0, 0, 0, whd),
+/// };
+/// let second = Claim {
+///     entry: 1,
+///     bin: 0,
+///     section: BinSection::new(4, 0, 0, whd),
+/// };
+/// let shares = Fault::Together {
+///     first: 0,
+///     second: 1,
+///     conflict: Conflict::SharesCell,
+/// };
+/// let fault = first_fault(alloc, &case, 2, &[first, second])?;
+/// assert!(rt; fault == Some(shares));
+/// ```
 pub fn first_fault<A: Allocator + Copy>(
     alloc: A,
     case: &Case<'_>,

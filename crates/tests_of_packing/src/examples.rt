@@ -2,9 +2,10 @@
 //! so it stands in several functions.
 
 use rectangle_pack::{
-    BinSection, FitTests, Group, GroupedRectsToPlace, Heuristic, RectToInsert, RectanglePackOk,
-    TargetBin, Turns, WidthHeightDepth, contains_smallest_box, least_bins, pack_rects,
-    pack_rects_best, pack_rects_fitting, volume_heuristic, volume_packing_has_one_result,
+    BinSection, Case, Claim, Conflict, Entry, Fault, FitTests, Group, GroupedRectsToPlace,
+    Heuristic, RectToInsert, RectanglePackOk, TargetBin, TurningBox, Turns, WidthHeightDepth,
+    contains_smallest_box, first_fault, least_bins, pack_rects, pack_rects_best,
+    pack_rects_fitting, volume_heuristic, volume_packing_has_one_result,
 };
 use std::alloc::{AllocError, Global};
 use std::collections::BTreeMap;
@@ -234,5 +235,40 @@ fn least_bins_counts(rt: HostRuntime) -> Result<(), Fail> {
     }
     let turns: BTreeMap<u32, Turns> = BTreeMap::new(alloc);
     assert_eq!(rt; least_bins(alloc, &rects, &bins, &turns)?, Some(3));
+    Ok(())
+}
+
+#[test]
+fn fault_of_a_packing(rt: HostRuntime) -> Result<(), Fail> {
+    let alloc = rt.alloc();
+    let bins = [WidthHeightDepth::new(10, 10, 1)];
+    let whd = WidthHeightDepth::new(6, 10, 1);
+    let turning = TurningBox {
+        whd,
+        turns: Turns::FLAT,
+    };
+    let entries = [Entry { group: 0, turning }, Entry { group: 1, turning }];
+    let case = Case {
+        bins: &bins,
+        entries: &entries,
+        excluded: &[],
+    };
+    let first = Claim {
+        entry: 0,
+        bin: 0,
+        section: BinSection::new(0, 0, 0, whd),
+    };
+    let second = Claim {
+        entry: 1,
+        bin: 0,
+        section: BinSection::new(4, 0, 0, whd),
+    };
+    let shares = Fault::Together {
+        first: 0,
+        second: 1,
+        conflict: Conflict::SharesCell,
+    };
+    let fault = first_fault(alloc, &case, 2, &[first, second])?;
+    assert!(rt; fault == Some(shares));
     Ok(())
 }

@@ -3,7 +3,7 @@
 
 use rectangle_pack::{
     Axis, BinSection, CutStep, Group, GroupedRectsToPlace, Heuristic, PackedLocation, RectToInsert,
-    Session, SessionError, Step, TargetBin, WidthHeightDepth, contains_smallest_box,
+    RestoreError, Session, SessionError, Step, TargetBin, WidthHeightDepth, contains_smallest_box,
     volume_heuristic,
 };
 use std::alloc::{AllocError, Global};
@@ -271,5 +271,21 @@ fn board_is_cut_anew(rt: HostRuntime) -> Result<(), Fail> {
         board.available_bin_sections().as_slice(),
         [above, right].as_slice()
     );
+    Ok(())
+}
+
+#[test]
+fn session_is_restored(rt: HostRuntime) -> Result<(), Fail> {
+    let alloc = rt.alloc();
+    let mut session: Session<u32, u32> = Session::new(alloc, 0);
+    session.add_bin(1, 10, 10, 1)?;
+    let hat = PackedLocation::new(0, 0, 0, WidthHeightDepth::new(4, 10, 1));
+    session.place_at(1, 7, hat)?;
+    let again = Session::restore(alloc, session.into_parts())?;
+    assert_eq!(rt; again.outstanding().len(), 1);
+    let mut parts = again.into_parts();
+    parts.next = 0;
+    let wrong = Session::restore(alloc, parts).err();
+    assert!(rt; wrong == Some(RestoreError::NotBelowNext { placement: 0 }));
     Ok(())
 }

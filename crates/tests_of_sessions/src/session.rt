@@ -81,6 +81,7 @@ mod refusals;
 mod release_order;
 mod releases;
 mod releasing;
+mod restoring;
 mod run;
 mod searching;
 mod stats;

@@ -25,3 +25,4 @@ pub mod Fitting
 pub mod FittingBest
 pub mod Told
 pub mod Searched
+pub mod Restoring

@@ -43,6 +43,22 @@ impl<T: Drop, A: Allocator> Records<T, A> {
         }
     }
 
+    // The items of this list.
+    pub(crate) fn of(all: Vec<T, A>) -> Self
+        ensures items { result.items ≡ all.items }
+    {
+        Records { all, gone: 0 }
+    }
+
+    // The items, as a list of their own.
+    pub(crate) fn into_items(self) -> Vec<T, A>
+        ensures items { result.items ≡ self.items }
+    {
+        let Records { mut all, gone } = self;
+        all.drain(..gone);
+        all
+    }
+
     pub(crate) fn allocator(&self) -> &A {
         self.all.allocator()
     }

@@ -1,15 +1,20 @@
 -- Faults of boxes that are to cover a bin.
 use Rattle.rectangle_pack_sections.proofs.Std.{◌≡◌, ℕ, ◌+◌, ◌<◌, arith, ap, refl, sym, get_or-take, ◌∙◌, List, ◌∷◌, take, drop, length, length-take-le, get_or_default}
-use Rattle.rectangle_pack_sections.proofs.Std.{All, All-map, HoldsAt, AllPairs, get_or, get_or-map, length-map, rules}
+use Rattle.rectangle_pack_sections.proofs.Std.{All, Bool, true, Some, All-map, HoldsAt, AllPairs, get_or, get_or-map, length-map, rules, ◌++◌, subst, length-append, get_or_append_left, get_or-append_seam}
 use Rattle.rectangle_pack_sections.specs.Bins.{whole}
 use Rattle.rectangle_pack_sections.specs.Boxes.{Size, Cuboid, IsCellOf, IsInside}
 use Rattle.rectangle_pack_sections.specs.Counting.{times_filled, AreAllApart}
 use Rattle.rectangle_pack_sections.specs.Covering.{CoverBin}
+use Rattle.rectangle_pack_sections.specs.CutTrees.{IsFromCuts}
+use Rattle.rectangle_pack_sections.proofs.lemmas.cuts.CoverVolumes.{CoverBin-volume}
+use Rattle.rectangle_pack_sections.proofs.lemmas.util.Lists.{All-middle}
+use Rattle.rectangle_pack_covers.specs.declared.covers.BinFault.{BinFault}
+use Rattle.rectangle_pack_covers.specs.declared.covers.BinFault.TheVariants.{Outside, SharesCell, CellInNone, NotFromCuts}
 use Rattle.rectangle_pack_sections.proofs.lemmas.cuts.Counting.{filled-append, filled_yes, filled_from_some}
 use Rattle.rectangle_pack_overlaps.specs.declared.overlaps.Standing.{Standing}
 use Rattle.rectangle_pack_overlaps.specs.Overlaps.{AreClear}
 use Rattle.rectangle_pack_overlaps.proofs.lemmas.Piles.{split_here}
-use Rattle.rectangle_pack_covers.specs.Covers.{IsFirstOutside, in_one_bin}
+use Rattle.rectangle_pack_covers.specs.Covers.{IsFirstOutside, IsBinAnswer, in_one_bin}
 
 pub IsFirstOutside-at : (size : Size) (boxes : List Cuboid) (i : ℕ) → i < length boxes → HoldsAt (λ b. ¬ IsInside size b) boxes i
     → All (IsInside size) (take i boxes) → IsFirstOutside size boxes i
@@ -59,3 +64,30 @@ CoverBin-apart boxes size cover = λ i j d below within. record {
         before,
       );
 }
+
+in_one_bin-clear : (boxes : List Cuboid) → AreAllApart boxes → AllPairs AreClear (in_one_bin boxes)
+in_one_bin-clear boxes h = λ i j d below within one_bin.
+    let many : length (in_one_bin boxes) ≡ length boxes = length-map boxes alone in
+    let apart = h i j d.section below (omega (arith, within, many)) in
+    let at_i : get_or (in_one_bin boxes) i d ≡ alone (get_or boxes i d.section) = get_or-map alone boxes i d.section d (omega (arith, within, many)) in
+    let at_j : get_or (in_one_bin boxes) j d ≡ alone (get_or boxes j d.section) = get_or-map alone boxes j d.section d (omega (arith, within, many)) in
+    rw (at_i, at_j) apart
+
+-- of pairs in a list, those of an element in the middle
+pub before_one : {X : Type 0} (R : X → X → Type 0) (xs before : List X) (x : X) (after : List X) → xs ≡ before ++ x ∷ after → AllPairs R xs → All (λ y. R y x) before
+before_one R xs before x after is h = λ k d within.
+    let pairs : AllPairs R (before ++ x ∷ after) = subst (AllPairs R) is h in
+    let pair = pairs k (length before) d within (omega (arith, length-append before (x ∷ after))) in
+    rw (get_or_append_left before (x ∷ after) d k within, get_or-append_seam before x after d) at pair
+
+-- what is answered as a fault is one: the boxes do not cover the bin, or they are not from cuts of it, where that is asked
+pub IsBinAnswer-fault : (size : Size) (asked : Bool) (boxes : List Cuboid) (fault : BinFault) → IsBinAnswer size asked boxes (Some fault)
+    → CoverBin boxes size → (asked ≡ true → IsFromCuts boxes (whole size)) → ⊥
+IsBinAnswer-fault size asked boxes (Outside index) h cover cuts = h.outside (All-middle (IsInside size) boxes h.before h.after h.one h.splits cover.inside)
+IsBinAnswer-fault size asked boxes (SharesCell first second) h cover cuts =
+    let o = h.1 in
+    let clear = before_one AreClear (in_one_bin boxes) o.earlier o.other o.after o.splits (in_one_bin-clear boxes (CoverBin-apart boxes size cover)) in
+    let apart = All-middle (λ b. AreClear b o.other) o.earlier o.before o.between o.one o.splits_earlier clear o.clash.one_bin in
+    apart.none o.clash.shares.cell o.clash.shares.in_first o.clash.shares.in_second
+IsBinAnswer-fault size asked boxes CellInNone h cover cuts = h.1 (CoverBin-volume boxes size cover)
+IsBinAnswer-fault size asked boxes NotFromCuts h cover cuts = h.2 (cuts h.1)

@@ -1,0 +1,87 @@
+//! Whether straight cuts part a bin into boxes that stand in it, and how.
+ghost use Rattle.std.specs.Prelude.{◌≡◌, ◌++◌, true, filter, All, IfOk};
+ghost use Rattle.rectangle_pack_sections.specs.Bins.{whole};
+ghost use Rattle.rectangle_pack_sections.specs.Boxes.{has_cells};
+ghost use Rattle.rectangle_pack_sections.specs.CutTrees.{IsFromCuts};
+ghost use Rattle.rectangle_pack_plans.specs.CutPlans.{IsCutPlan};
+ghost use Rattle.rectangle_pack_covers.specs.StraightCuts.{IsCutsAnswer};
+
+use crate::covers::{SectionsError, add_with_cells, all_of, first_unsound, with_cells};
+use rectangle_pack_plans::cut_anew::cut_anew;
+use rectangle_pack_plans::cut_plan::{CutStep, plan_of};
+use rectangle_pack_sections::bin_section::BinSection;
+use rectangle_pack_sections::width_height_depth::WidthHeightDepth;
+use std::alloc::{AllocError, Allocator, Global};
+
+/// Straight cuts that part a bin into boxes and what is free beside them.
+#[derive(Drop)]
+pub struct StraightCuts<A: Allocator + Copy = Global> {
+    /// What is free, in sections, the thickest first.
+    pub free: Vec<BinSection, A>,
+    /// The cutting plan of the boxes and of what is free, boxes without cells aside.
+    pub steps: Vec<CutStep, A>,
+}
+
+/// How straight cuts, each across the whole of its part, part a bin of this size into these boxes,
+/// which stand in it, and what is free beside them; `None` where none do, whatever is left over.
+/// Boxes without cells do not count.
+///
+/// `Wrong` names the first box that is outside the bin, or, where none is, the first that shares a
+/// cell with an earlier one, by their places in the list. Fails with `OutOfMemory` when memory is
+/// refused.
+pub fn straight_cuts<A: Allocator + Copy>(
+    alloc: A,
+    size: WidthHeightDepth,
+    boxes: &[BinSection],
+) -> Result<Option<StraightCuts<A>>, SectionsError>
+    // Cuts: the boxes are inside the bin and share no cell. The free sections are those to which
+    //   `Session::recut` parts what is free round them, and the plan is that of `Session::cut_plan`.
+    //   [all_parts.free_sections_are_left_out]
+    // `None`: the boxes are inside the bin and share no cell, and there are no free sections with
+    //   which they are from straight cuts of it.
+    // `Wrong`: the first box that is outside, or, where none is, the first two that share a cell.
+    ensures { IsCutsAnswer size boxes.now result }
+{
+    if let Some(fault) = first_unsound(alloc, size, boxes)? {
+        return Err(SectionsError::Wrong(fault));
+    }
+    let mut standing = with_cells(alloc, boxes)?;
+    let Some(free) = cut_anew(alloc, all_of(size), standing.as_mut_slice())? else {
+        return Ok(None);
+    };
+    let steps = planned(alloc, size, free.as_slice(), boxes)?;
+    Ok(Some(StraightCuts { free, steps }))
+}
+
+// These free sections, and behind them the boxes that have cells.
+fn all_parts<A: Allocator>(
+    alloc: A,
+    free: &[BinSection],
+    boxes: &[BinSection],
+) -> Result<Vec<BinSection, A>, AllocError>
+    ensures { IfOk result (λ all. all.items ≡ free.now ++ filter has_cells boxes.now) }
+{
+    let mut all = Vec::new(alloc);
+    all.extend_from_slice(free)?;
+    add_with_cells(&mut all, boxes)?;
+    Ok(all)
+}
+
+// The plan of free sections and boxes that are from cuts of the bin.
+fn planned<A: Allocator + Copy>(
+    alloc: A,
+    size: WidthHeightDepth,
+    free: &[BinSection],
+    boxes: &[BinSection],
+) -> Result<Vec<CutStep, A>, AllocError>
+    requires cells { All (λ s. has_cells s ≡ true) free.now }
+    requires from_cuts { IsFromCuts (free.now ++ filter has_cells boxes.now) (whole size) }
+    ensures { IfOk result
+        (λ steps. IsCutPlan (free.now ++ filter has_cells boxes.now) (whole size) steps.items) }
+{
+    let mut parts = all_parts(alloc, free, boxes)?;
+    match plan_of(alloc, all_of(size), parts.as_mut_slice())? {
+        Some(steps) => Ok(steps),
+        None => unreachable!(),
+    }
+}
