@@ -38,6 +38,8 @@ use crate::session::records::Records;
 pub use command::{Command, Outstanding, Packed, Reply, SessionError};
 pub use laws::{cuts_stay_until_coalesced, transitions_keep_sessions};
 use rectangle_pack_bins::target_bin::TargetBin;
+pub use rectangle_pack_covers::covers::{BinFault, SectionsError};
+pub use rectangle_pack_covers::straight_cuts::{StraightCuts, straight_cuts};
 use rectangle_pack_groups::grouped_rects_to_place::GroupedRectsToPlace;
 use rectangle_pack_groups::grouped_rects_to_place::multimap::{ascending, number_after};
 use rectangle_pack_lists::corners::Corners;
@@ -51,10 +53,7 @@ pub use rectangle_pack_sections::axis::Axis;
 use rectangle_pack_sections::closures::{Closures, Policy};
 use rectangle_pack_sections::group::Group;
 use rectangle_pack_sections::width_height_depth::WidthHeightDepth;
-pub use restoring::{
-    BinFault, RestoreError, SectionsError, SessionParts, StraightCuts, bin_of_free_sections,
-    straight_cuts,
-};
+pub use restoring::{RestoreError, SessionParts, bin_of_free_sections};
 pub use stats::BinStats;
 use std::alloc::{AllocError, Allocator, Global};
 use std::cmp::Ordering;
