@@ -129,6 +129,7 @@ pub fn bin_of_free_sections<A: Allocator + Copy>(
     //   [bin_of_free_sections.bin_counts_as_new]
     // `Wrong`: the first section that is not inside a bin of this size; or, where each is, the
     //   first two that share a cell. So no bin has these free sections.
+    //   [first_unsound.later_half_is_not_looked_at, first_outside.first_box_is_not_looked_at]
     ensures { IsBinOfSections max_size sections.items was_coalesced result }
 {
     match first_unsound(alloc, max_size, sections.as_slice())? {
@@ -324,7 +325,9 @@ where
         // Or, where that is so of none, what is wrong with the first bin, in the order of ids: a
         //   free section or placement is outside; two share a cell; some cell is in none; or, where
         //   the bin does not count as coalesced, no straight cuts leave them.
-        //   [fault_in.coalesced_bins_need_cuts]
+        //   [fill.cell_may_be_left, fault_in.coalesced_bins_need_cuts,
+        //   are_from_cuts.no_plan_is_a_plan,
+        //   first_fault_in_bin.cuts_are_asked_where_they_are_not]
         ensures restored { IsRestored BinId.cmp (state_of_parts parts) result }
         // An error other than `OutOfMemory`: these parts are those of no session.
         //   [first_wrong_bin.placements_do_not_count]
