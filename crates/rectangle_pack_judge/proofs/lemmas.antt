@@ -3,3 +3,4 @@ pub mod Firsts
 pub mod Apart
 pub mod Verdicts
 pub mod Alike
+pub mod Numbers

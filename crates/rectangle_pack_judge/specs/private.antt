@@ -1,2 +1,3 @@
 -- Definitions that only the clauses of private functions use.
 pub mod Firsts
+pub mod Numbers

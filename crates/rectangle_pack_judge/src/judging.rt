@@ -9,6 +9,7 @@ ghost use Rattle.rectangle_pack_judge.specs.private.Firsts.{IsFirstAlone, IsToge
 use crate::case::{AloneFault, Case, Claim, Conflict, alone_fault, are_in_conflict};
 use crate::conflicts::first_conflict;
 use crate::marks::marks;
+use crate::numbers::{numbers_of, renumbered, renumbered_pairs};
 use std::alloc::{AllocError, Allocator};
 
 /// What is wrong with a packing. Claims are named by their places in the list.
@@ -45,8 +46,8 @@ pub enum Fault {
 /// in the order of `Conflict`, with the first of these. Where all claims may stand it is the first
 /// entry that is not placed. Fails only when memory is refused.
 ///
-/// The number of each group is below `groups`. The time is about that of a sort of the claims, but
-/// for boxes that were laid to defy it.
+/// The time is about that of a sort of the claims and the entries, but for boxes that were laid to
+/// defy it.
 ///
 /// ```
 /// let bins = [WidthHeightDepth::new(10, 10, 1)];
@@ -81,22 +82,41 @@ pub enum Fault {
 ///     second: 1,
 ///     conflict: Conflict::SharesCell,
 /// };
-/// let fault = first_fault(alloc, &case, 2, &[first, second])?;
+/// let fault = first_fault(alloc, &case, &[first, second])?;
 /// assert!(rt; fault == Some(shares));
 /// ```
 pub fn first_fault<A: Allocator + Copy>(
     alloc: A,
     case: &Case<'_>,
-    groups: usize,
     claims: &[Claim],
 ) -> Result<Option<Fault>, AllocError>
-    // The number of each group is below `groups`.
-    requires groups { HaveGroups case.now groups }
     // `None`: the claims are a packing. [first_parted.group_stands_in_two_bins,
     //   first_twice.entry_may_be_placed_twice, alone_fault.wrong_size_is_told_as_outside]
     // Else the fault is that of the first claim that may not stand with those before it, or the
     //   first entry that no claim places. [later_first.first_group_alone_counts,
-    //   first_left.first_claim_is_passed_over]
+    //   first_left.first_claim_is_passed_over, numbers_of.groups_get_one_number]
+    ensures verdict { IfOk result (IsVerdict case.now claims.now) }
+{
+    let numbers = numbers_of(alloc, case.entries)?;
+    let entries = renumbered(alloc, case.entries, &numbers)?;
+    let excluded = renumbered_pairs(alloc, case.excluded, &numbers)?;
+    let by_numbers = Case {
+        bins: case.bins,
+        entries: entries.as_slice(),
+        excluded: excluded.as_slice(),
+    };
+    let fault = first_fault_among(alloc, &by_numbers, numbers.len(), claims)?;
+    Ok(fault)
+}
+
+// The first fault, where the number of each group is below `groups`.
+fn first_fault_among<A: Allocator + Copy>(
+    alloc: A,
+    case: &Case<'_>,
+    groups: usize,
+    claims: &[Claim],
+) -> Result<Option<Fault>, AllocError>
+    requires groups { HaveGroups case.now groups }
     ensures verdict { IfOk result (IsVerdict case.now claims.now) }
 {
     let alone = first_alone(case, claims);

@@ -6,5 +6,6 @@ pub mod case;
 mod conflicts;
 pub mod judging;
 mod marks;
+mod numbers;
 #[cfg(test)]
 mod tests;

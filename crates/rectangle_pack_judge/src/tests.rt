@@ -1,5 +1,4 @@
 //! Faults that are known by hand, and such as are found by a look at each pair.
-ghost use Rattle.std.specs.Prelude.{◌≡◌, ◌<◌, All, IfOk};
 
 use crate::case::{AloneFault, Case, Claim, Conflict, Entry};
 use crate::judging::{Fault, first_fault};
@@ -8,9 +7,7 @@ use rectangle_pack_sections::bin_section::BinSection;
 use rectangle_pack_sections::width_height_depth::{WidthHeightDepth, any_size};
 use std::alloc::{AllocError, Global};
 
-fn entry(group: usize, width: u32, height: u32, turns: Turns) -> Entry
-    ensures { result.group ≡ group }
-{
+fn entry(group: usize, width: u32, height: u32, turns: Turns) -> Entry {
     let whd = any_size(width, height, 1);
     Entry {
         group,
@@ -33,9 +30,7 @@ fn bins() -> [WidthHeightDepth; 2] {
     [any_size(10, 10, 1); 2]
 }
 
-fn entries() -> [Entry; 4]
-    ensures { All (λ e. e.group < 3) result }
-{
+fn entries() -> [Entry; 4] {
     [
         entry(0, 4, 10, Turns::NONE),
         entry(0, 6, 10, Turns::NONE),
@@ -65,7 +60,7 @@ fn judged(
         entries: &entries,
         excluded,
     };
-    first_fault(alloc, &case, 3, claims)
+    first_fault(alloc, &case, claims)
 }
 
 // What is answered where one of these claims is another one.
@@ -147,6 +142,40 @@ fn first_fault_is_told(rt: HostRuntime) {
     claims[2] = claim(2, 0, 0, 0, 10, 5);
     let shares = together(0, 2, Conflict::SharesCell);
     assert!(rt; judged(rt.alloc(), &[(1, 0)], &claims) == shares);
+}
+
+// Judges claims of the same boxes, in groups of other numbers.
+fn by_great_numbers(
+    alloc: Global,
+    excluded: &[(usize, usize)],
+    claims: &[Claim],
+) -> Result<Option<Fault>, AllocError> {
+    let bins = bins();
+    let entries = [
+        entry(usize::MAX, 4, 10, Turns::NONE),
+        entry(usize::MAX, 6, 10, Turns::NONE),
+        entry(7, 10, 5, Turns::FLAT),
+        entry(0, 10, 5, Turns::NONE),
+    ];
+    let case = Case {
+        bins: &bins,
+        entries: &entries,
+        excluded,
+    };
+    first_fault(alloc, &case, claims)
+}
+
+#[test]
+fn groups_of_great_numbers(rt: HostRuntime) {
+    let alloc = rt.alloc();
+    let most = usize::MAX;
+    let mut claims = packing();
+    assert!(rt; by_great_numbers(alloc, &[(most, 7), (0, most)], &claims) == Ok(None));
+    let excluded = together(2, 3, Conflict::ExcludedTogether);
+    assert!(rt; by_great_numbers(alloc, &[(5, 7), (7, 0)], &claims) == excluded);
+    claims[1] = claim(1, 1, 4, 0, 6, 10);
+    let parted = together(0, 1, Conflict::GroupInTwoBins);
+    assert!(rt; by_great_numbers(alloc, &[], &claims) == parted);
 }
 
 #[test]
@@ -255,9 +284,7 @@ fn drawn(alloc: Global, seed: u64, moved: u32) -> Result<Vec<Claim>, AllocError>
 }
 
 // Sixty squares in five groups.
-fn squares(alloc: Global) -> Result<Vec<Entry>, AllocError>
-    ensures { IfOk result (λ all. All (λ e. e.group < 5) all.items) }
-{
+fn squares(alloc: Global) -> Result<Vec<Entry>, AllocError> {
     let mut all = Vec::new(alloc);
     for i in 0usize..60 {
         all.push(entry(i % 5, 2, 2, Turns::NONE))?;
@@ -278,7 +305,7 @@ fn agrees(alloc: Global, seed: u64) -> Result<bool, AllocError> {
     };
     let claims = drawn(alloc, seed, (seed % 7) as u32)?;
     let claims = claims.as_slice();
-    let answer = first_fault(alloc, &case, 5, claims)?;
+    let answer = first_fault(alloc, &case, claims)?;
     Ok(is_right(pair, claims, answer))
 }
 

@@ -268,7 +268,7 @@ fn fault_of_a_packing(rt: HostRuntime) -> Result<(), Fail> {
         second: 1,
         conflict: Conflict::SharesCell,
     };
-    let fault = first_fault(alloc, &case, 2, &[first, second])?;
+    let fault = first_fault(alloc, &case, &[first, second])?;
     assert!(rt; fault == Some(shares));
     Ok(())
 }

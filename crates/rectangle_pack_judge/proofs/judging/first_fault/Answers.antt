@@ -1,20 +1,18 @@
-use Rattle.rectangle_pack_sections.proofs.Std.{subst, sym}
-use Rattle.rectangle_pack_judge.specs.Judging.{IsVerdict}
-use Rattle.rectangle_pack_judge.proofs.lemmas.Verdicts.{verdict-together, verdict-alone}
+use Rattle.rectangle_pack_sections.proofs.Std.{refl}
+use Rattle.rectangle_pack_judge.proofs.lemmas.Numbers.{HaveGroups-renumbered, AreAlike-numbered}
+use Rattle.rectangle_pack_judge.proofs.lemmas.Alike.{verdict-to}
 use Rattle.rectangle_pack_judge.proofs.judging.first_fault.Goals as goal
 
-pub returns-then-found-alone : goal.returns-then-found-alone
-returns-then-found-alone g c = record {
-  verdict = verdict-together c.args.case.now c.args.claims.now c.first_alone-alone.result c.first_alone-alone.ensures c.in_ok-found.found c.in_ok-found.ensures
-      c.index-claims-found.result c.together_fault.result c.if-found-alone.true c.index-claims-found.is c.together_fault.ensures;
+pub first_fault_among-requires : goal.first_fault_among-requires
+first_fault_among-requires g c = record {
+  groups = rw (c.as_slice.ensures.value, c.in_ok-entries.ensures, c.len.ensures.len)
+      (HaveGroups-renumbered c.args.case.now.entries.now c.in_ok-numbers.numbers.entries c.in_ok-numbers.ensures);
 }
 
-pub returns-in-Some : goal.returns-in-Some
-returns-in-Some g c =
-    let at = c.in-Some.ensures.lookup in
-    let (fault, answer, is) = c.fault_alone.ensures in
-    record {
-      verdict = subst (IsVerdict c.args.case.now c.args.claims.now) (sym is)
-          (verdict-alone c.args.case.now c.args.claims.now c.first_alone-alone.result c.first_alone-alone.ensures c.in_ok-found.found c.in_ok-found.ensures
-          c.in-Some.claim.now fault c.if-found-alone.false at.3.0 at.1 answer);
-    }
+pub returns : goal.returns
+returns g c = record {
+  verdict = verdict-to _ c.args.case.now
+      (AreAlike-numbered _ c.args.case.now c.in_ok-numbers.numbers.entries c.in_ok-numbers.ensures refl
+      (rw c.as_slice.ensures.value c.in_ok-entries.ensures) (rw c.as_slice-2.ensures.value c.in_ok-excluded.ensures))
+      c.args.claims.now c.in_ok-fault.fault c.in_ok-fault.ensures.verdict;
+}
