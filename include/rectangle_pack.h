@@ -2,7 +2,7 @@
    of boxes and keeps nothing; rectangle_pack_collection packs boxes that are in several groups, groups that may not share a
    bin, and by a heuristic of the caller's choice. A session keeps its bins from call to call: boxes are packed into them and
    released again. All calls are proved; what is proved of them stands beside them, and as their contracts in
-   crates/rectangle_pack_c/src (lib.rt, session.rt, placing.rt, upkeep.rt and reading.rt). C99 and C++.
+   crates/rectangle_pack_c/src (lib.rt, session.rt, placing.rt, upkeep.rt, reading.rt and judging.rt). C99 and C++.
 
    Sizes and corners are counted in cells. In two dimensions each depth is 1 and each z is 0. */
 #ifndef RECTANGLE_PACK_H
@@ -446,6 +446,68 @@ uint32_t rectangle_pack_session_was_coalesced(rp_session *session, uint32_t bin,
 
 /* The number that the next placement gets, or 2^64 - 1 where numbers are used up. */
 uint64_t rectangle_pack_session_next_number(rp_session *session);
+
+/* The judge: whether boxes that stand somewhere are a packing, whoever put them there. */
+
+/* A box that is to stand in a bin, once: its size and its group, as rp_box has them, and how it may be turned. turns is the sum of
+   1 where height and depth may change places, 2 where width and depth may, and 4 where width and height may. A sprite or a panel
+   that may be turned has 4. */
+typedef struct rp_entry {
+    rp_box rect;
+    uint32_t turns;
+} rp_entry;
+
+/* Where somebody put a box: the index of the box in the list of entries, that of the bin in the list of bins, and where the box
+   stands there, in its size there. */
+typedef struct rp_claim {
+    uint32_t entry, bin;
+    rp_section section;
+} rp_claim;
+
+/* What may be wrong with a packing, in the order in which it is looked for. */
+enum {
+    /* Nothing: it is a packing. */
+    RP_NO_FAULT = 0,
+    /* There is no bin of this index. */
+    RP_FAULT_UNKNOWN_BIN = 1,
+    /* There is no box of this index. */
+    RP_FAULT_UNKNOWN_BOX = 2,
+    /* The size is not that of the box, nor one in which it may be turned. */
+    RP_FAULT_WRONG_SIZE = 3,
+    /* The box is not inside the bin. */
+    RP_FAULT_OUTSIDE = 4,
+    /* Two claims place one box. */
+    RP_FAULT_PLACED_TWICE = 5,
+    /* Two claims share a cell of a bin. */
+    RP_FAULT_SHARES_CELL = 6,
+    /* Two claims are of one group, in two bins. */
+    RP_FAULT_GROUP_IN_TWO_BINS = 7,
+    /* Two claims are of groups that are excluded, in one bin. */
+    RP_FAULT_EXCLUDED_TOGETHER = 8,
+    /* No claim places the box. */
+    RP_FAULT_NOT_PLACED = 9
+};
+
+/* What is wrong. first is the index of the claim, or of the earlier of two claims, or, of RP_FAULT_NOT_PLACED, of the box; second
+   is that of the later of two claims. What does not apply is 0. */
+typedef struct rp_fault {
+    uint32_t kind, first, second;
+} rp_fault;
+
+/* Says what is wrong first with a packing that somebody made, or that nothing is. fault is that of the first claim that may not
+   stand with those before it; of this claim the first thing that is wrong with it alone, by the order above, and then with earlier
+   claims, with the first of these. Where all may stand, it is the first box that no claim places. RP_DONE, RP_OUT_OF_MEMORY, or
+   RP_BAD_LENGTHS where there are 2^32 bins, boxes or claims, or more.
+
+   Proved, for all lists, wherever memory is refused:
+   - RP_DONE: kind is RP_NO_FAULT exactly where each box is placed once, in one of the sizes in which it may stand, inside its bin;
+     no two boxes share a cell of one bin; the boxes of one group above 0 are in one bin; and those of groups that are excluded are
+     in different bins. Else it is the fault that is said above. An exclusion of a group with itself, or with 0, excludes nothing.
+   - Where the answer is not RP_DONE nothing is written to fault.
+   What the caller sees to is as of rectangle_pack_boxes. */
+uint32_t rectangle_pack_check(const rp_bin *bins, size_t bin_count, const rp_entry *entries, size_t entry_count,
+                              const rp_exclusion *exclusions, size_t exclusion_count, const rp_claim *claims, size_t claim_count,
+                              rp_fault *fault);
 
 #ifdef __cplusplus
 }

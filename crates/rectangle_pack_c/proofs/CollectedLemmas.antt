@@ -34,7 +34,7 @@ insert_last n (y ∷ ys) x m e =
     let later = insert_last (n + 1) ys x m (omega arith) in
     rw (nat_greater m n (omega arith)) (ap (λ es. (n, y) ∷ es) later)
 
-enumerate_last : {X : Type 0} (n : ℕ) (xs : List X) (x : X) (m : ℕ) → m ≡ n + length xs → enumerate_from n (xs ++ x ∷ []) ≡ enumerate_from n xs ++ (m, x) ∷ []
+pub enumerate_last : {X : Type 0} (n : ℕ) (xs : List X) (x : X) (m : ℕ) → m ≡ n + length xs → enumerate_from n (xs ++ x ∷ []) ≡ enumerate_from n xs ++ (m, x) ∷ []
 enumerate_last n [] x m e = let same : n ≡ m = omega arith in ap (λ k. (k, x) ∷ []) same
 enumerate_last n (y ∷ ys) x m e = ap (λ es. (n, y) ∷ es) (enumerate_last (n + 1) ys x m (omega arith))
 

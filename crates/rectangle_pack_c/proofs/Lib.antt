@@ -10,3 +10,4 @@ pub mod AnswerLemmas
 pub mod SessionLemmas
 pub mod UpkeepLemmas
 pub mod PlacingLemmas
+pub mod JudgingLemmas

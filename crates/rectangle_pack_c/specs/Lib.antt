@@ -7,4 +7,5 @@ pub mod Reading
 pub mod Sessions
 pub mod Upkeep
 pub mod Placing
+pub mod Judging
 pub mod private
