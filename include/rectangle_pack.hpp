@@ -222,6 +222,42 @@ struct CutStep {
     std::uint32_t place;
 };
 
+/// A box that is to stand in a bin, once: rect is its size and its group, and turns the sum of 1 where height and depth may change
+/// places, 2 where width and depth may, and 4 where width and height may.
+using Entry = rp_entry;
+
+/// Where somebody put a box: the index of the box in the list of entries, that of the bin, and where it stands there.
+using Claim = rp_claim;
+
+/// What may be wrong with a packing, in the order in which it is looked for.
+enum class FaultKind : std::uint32_t {
+    /// There is no bin of this index.
+    unknown_bin = RP_FAULT_UNKNOWN_BIN,
+    /// There is no box of this index.
+    unknown_box = RP_FAULT_UNKNOWN_BOX,
+    /// The size is not that of the box, nor one in which it may be turned.
+    wrong_size = RP_FAULT_WRONG_SIZE,
+    /// The box is not inside the bin.
+    outside = RP_FAULT_OUTSIDE,
+    /// Two claims place one box.
+    placed_twice = RP_FAULT_PLACED_TWICE,
+    /// Two claims share a cell of a bin.
+    shares_cell = RP_FAULT_SHARES_CELL,
+    /// Two claims are of one group, in two bins.
+    group_in_two_bins = RP_FAULT_GROUP_IN_TWO_BINS,
+    /// Two claims are of groups that are excluded, in one bin.
+    excluded_together = RP_FAULT_EXCLUDED_TOGETHER,
+    /// No claim places the box.
+    not_placed = RP_FAULT_NOT_PLACED,
+};
+
+/// What is wrong with a packing. first is the claim, or the earlier of two, or, of not_placed, the box; second is the later of two
+/// claims, else 0.
+struct Fault {
+    FaultKind kind;
+    std::size_t first, second;
+};
+
 namespace detail {
 
 inline void check(std::uint32_t status)
@@ -307,6 +343,18 @@ inline Packed<Placement> pack(View<Bin> bins, const Collection &collection, Heur
     detail::check(::rectangle_pack_collection(bins.data(), bins.size(), &list, static_cast<std::uint32_t>(heuristic),
                                               places.data(), places.size(), &chosen));
     return {std::move(places).taken(), Heuristic{chosen}};
+}
+
+/// What is wrong first with a packing, whoever made it; nothing where it is one: each box is placed once, in a size in which it may
+/// stand, inside its bin, and shares no cell with another; each group is in one bin, and excluded groups are in different ones.
+inline std::optional<Fault> check(View<Bin> bins, View<Entry> entries, View<Claim> claims, View<Exclusion> exclusions = {})
+{
+    rp_fault fault = {};
+    detail::check(::rectangle_pack_check(bins.data(), bins.size(), entries.data(), entries.size(), exclusions.data(),
+                                         exclusions.size(), claims.data(), claims.size(), &fault));
+    if (fault.kind == RP_NO_FAULT)
+        return std::nullopt;
+    return Fault{FaultKind{fault.kind}, fault.first, fault.second};
 }
 
 /// Bins that stay, and boxes that come and go. It moves and does not copy. It may go from thread to thread, but takes one call

@@ -346,6 +346,8 @@ static void test_refused_memory()
     memory([] { rp::Session(); }, "a session is made of nothing");
     memory([&] { rp::pack(bins, boxes); }, "a list is packed without memory");
     memory([&] { rp::pack(bins, rp::Collection{boxes}); }, "a collection is packed without memory");
+    const rp::Claim claims[] = {{0, 0, {0, 0, 0, 1, 1, 1}}};
+    memory([&] { rp::check(bins, {}, claims); }, "a packing is judged without memory");
     memory([&] { session.add_bin(BinId{1}, rp::bin(1, 1)); }, "a bin is made of nothing");
     memory([&] { session.pack(boxes); }, "a session packs without memory");
     memory([&] { session.pack(rp::Collection{boxes}); }, "a session packs a collection without memory");
@@ -356,6 +358,41 @@ static void test_refused_memory()
     memory([&] { session.recut(BinId{0}); }, "a bin is cut anew without memory");
     check(session.outstanding().size() == 1 && session.bins().size() == 1, "a refusal changes a session");
     session.release(places[0].number);
+}
+
+/* What is wrong with claims of two strips of one group on two sheets: the kind, and the two places. */
+static bool is_fault(rp::View<rp::Claim> claims, rp::FaultKind kind, std::size_t first, std::size_t second)
+{
+    const rp::Bin bins[] = {rp::bin(10, 10), rp::bin(10, 10)};
+    const rp::Entry entries[] = {{rp::box(4, 10, 1, 7), 0}, {rp::box(10, 6, 1, 7), 4}};
+    const std::optional<rp::Fault> fault = rp::check(bins, entries, claims);
+    return fault && fault->kind == kind && fault->first == first && fault->second == second;
+}
+
+static void test_judge()
+{
+    using rp::FaultKind;
+    const rp::Bin bins[] = {rp::bin(10, 10)};
+    const rp::Entry entries[] = {{rp::box(4, 10, 1, 7), 0}, {rp::box(10, 6, 1, 9), 4}};
+    const rp::Claim beside[] = {{0, 0, {0, 0, 0, 4, 10, 1}}, {1, 0, {4, 0, 0, 6, 10, 1}}};
+    check(!rp::check(bins, entries, beside), "a packing has a fault");
+    const rp::Exclusion apart[] = {{9, 7}};
+    const std::optional<rp::Fault> together = rp::check(bins, entries, beside, apart);
+    check(together && together->kind == FaultKind::excluded_together && together->second == 1, "excluded groups share a bin");
+    check(!rp::check({}, {}, {}), "nothing has a fault");
+    const rp::Claim first = beside[0];
+    const auto with = [&](const rp::Claim &second, FaultKind kind, std::size_t one, std::size_t other) {
+        const rp::Claim both[] = {first, second};
+        return is_fault(both, kind, one, other);
+    };
+    check(with({1, 2, {4, 0, 0, 6, 10, 1}}, FaultKind::unknown_bin, 1, 0), "a bin is there");
+    check(with({2, 0, {4, 0, 0, 6, 10, 1}}, FaultKind::unknown_box, 1, 0), "a box is there");
+    check(with({1, 0, {4, 0, 0, 6, 9, 1}}, FaultKind::wrong_size, 1, 0), "a box has another size");
+    check(with({1, 0, {5, 0, 0, 6, 10, 1}}, FaultKind::outside, 1, 0), "a box is inside");
+    check(with({0, 0, {4, 0, 0, 4, 10, 1}}, FaultKind::placed_twice, 0, 1), "a box is placed once");
+    check(with({1, 0, {3, 0, 0, 6, 10, 1}}, FaultKind::shares_cell, 0, 1), "boxes share no cell");
+    check(with({1, 1, {4, 0, 0, 6, 10, 1}}, FaultKind::group_in_two_bins, 0, 1), "a group is in one bin");
+    check(is_fault({&first, 1}, FaultKind::not_placed, 1, 0), "a box is placed");
 }
 
 static void test_moves()
@@ -400,6 +437,7 @@ int main()
     test_no_plan();
     test_long_lists();
     test_refused_memory();
+    test_judge();
     test_moves();
     return 0;
 }
