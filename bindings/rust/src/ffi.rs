@@ -11,10 +11,38 @@ use std::ptr;
 
 use calls::*;
 pub(crate) use calls::{
-    Collection, RpBin, RpBox, RpExclusion, RpOutstanding, RpPlacement, RpSection, BEST,
+    Collection, RpBin, RpBox, RpClaim, RpEntry, RpExclusion, RpFault, RpOutstanding, RpPlacement,
+    RpSection, BEST, FAULT_EXCLUDED_TOGETHER, FAULT_GROUP_IN_TWO_BINS, FAULT_OUTSIDE,
+    FAULT_PLACED_TWICE, FAULT_SHARES_CELL, FAULT_UNKNOWN_BIN, FAULT_UNKNOWN_BOX, FAULT_WRONG_SIZE,
 };
 
-use crate::{Axis, BinStats, CutStep, Heuristic, RectanglePackError, Section, SessionError};
+use crate::{
+    Axis, BinStats, CutStep, Heuristic, PackedLocation, RectanglePackError, Section, SessionError,
+    TargetBin,
+};
+
+impl From<&TargetBin> for RpBin {
+    fn from(bin: &TargetBin) -> Self {
+        RpBin {
+            width: bin.width,
+            height: bin.height,
+            depth: bin.depth,
+        }
+    }
+}
+
+impl From<&PackedLocation> for RpSection {
+    fn from(location: &PackedLocation) -> Self {
+        RpSection {
+            x: location.x(),
+            y: location.y(),
+            z: location.z(),
+            width: location.width(),
+            height: location.height(),
+            depth: location.depth(),
+        }
+    }
+}
 
 /// The heuristic that was packed with, and one placement for each box, in the same place of the list. The heuristic is asked for
 /// by its number, or `BEST`.
@@ -43,6 +71,36 @@ pub(crate) fn pack(
         NOT_ENOUGH_SPACE => Err(RectanglePackError::NotEnoughBinSpace),
         OUT_OF_MEMORY => Err(RectanglePackError::OutOfMemory),
         EQUAL_GROUPS => Err(RectanglePackError::EqualGroups),
+        _ => Err(RectanglePackError::TooMany),
+    }
+}
+
+/// What is wrong first with claims of these boxes, if something is.
+pub(crate) fn check(
+    bins: &[RpBin],
+    entries: &[RpEntry],
+    exclusions: &[RpExclusion],
+    claims: &[RpClaim],
+) -> Result<Option<RpFault>, RectanglePackError> {
+    let mut fault = RpFault::default();
+    // SAFETY: each pointer is that of a slice, with its length, or of a variable of this function, so it is aligned and not null;
+    // the fault is this function's own, which nobody else reads or writes during the call.
+    let status = unsafe {
+        rectangle_pack_check(
+            bins.as_ptr(),
+            bins.len(),
+            entries.as_ptr(),
+            entries.len(),
+            exclusions.as_ptr(),
+            exclusions.len(),
+            claims.as_ptr(),
+            claims.len(),
+            &mut fault,
+        )
+    };
+    match status {
+        DONE => Ok(Some(fault).filter(|it| it.kind != NO_FAULT)),
+        OUT_OF_MEMORY => Err(RectanglePackError::OutOfMemory),
         _ => Err(RectanglePackError::TooMany),
     }
 }

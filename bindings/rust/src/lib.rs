@@ -28,6 +28,8 @@
 //! [`pack_rects_by`] packs by another heuristic than the volume, and [`pack_rects_best`] by the one with which the bins are used
 //! best. Groups that are [excluded](GroupedRectsToPlace::exclude) go into different bins.
 //!
+//! [`first_fault`] says what is wrong first with a packing, whoever made it.
+//!
 //! These pack once. A [`Session`] keeps its bins: boxes are packed into them and released again, free sections are
 //! listed and joined, and a bin has a plan of the cuts that part it. Boxes are also placed where you say, or where they fit best,
 //! and bins are cleared, made larger, cut anew and removed.
@@ -36,11 +38,13 @@
 
 mod ffi;
 mod heuristic;
+mod judge;
 mod pack;
 mod rects;
 mod session;
 
 pub use heuristic::{Heuristic, UnknownHeuristic};
+pub use judge::{first_fault, AloneFault, Claim, Conflict, Fault, Turns};
 pub use pack::{pack_rects, pack_rects_best, pack_rects_by, RectanglePackError, RectanglePackOk};
 pub use rects::GroupedRectsToPlace;
 pub use session::{Axis, BinStats, CutStep, Outstanding, Section, Session, SessionError};

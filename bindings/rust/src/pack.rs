@@ -166,14 +166,7 @@ where
         return Err(RectanglePackError::TooMany);
     }
     let bin_ids: Vec<&BinId> = bins.keys().collect();
-    let bin_list: Vec<ffi::RpBin> = bins
-        .values()
-        .map(|bin| ffi::RpBin {
-            width: bin.width,
-            height: bin.height,
-            depth: bin.depth,
-        })
-        .collect();
+    let bin_list: Vec<ffi::RpBin> = bins.values().map(ffi::RpBin::from).collect();
     let (chosen, placed) = ffi::pack(&bin_list, &rects.collection(&entries), heuristic)?;
     let mut packed = RectanglePackOk {
         packed_locations: BTreeMap::new(),

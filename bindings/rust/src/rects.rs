@@ -76,6 +76,17 @@ impl<RectId: Ord + Clone, GroupId: Ord> GroupedRectsToPlace<RectId, GroupId> {
         partners.map_or(false, |greater| greater.contains(one.max(other)))
     }
 
+    /// The groups that have boxes, by the numbers that entries have.
+    pub(crate) fn group_numbers(&self) -> BTreeMap<&GroupId, u32> {
+        self.groups.keys().zip(1..).collect()
+    }
+
+    /// The group of this number; `None` for 0, where a box is alone.
+    pub(crate) fn group_of(&self, number: u32) -> Option<&GroupId> {
+        let index = number.checked_sub(1)? as usize;
+        self.groups.keys().nth(index)
+    }
+
     /// One entry for each box and group that it is in, in the order that the library's ties go by: boxes that are alone by
     /// their ids, then groups by theirs, each with its boxes as they were pushed.
     pub(crate) fn entries(&self) -> Vec<(&RectId, u32)> {
@@ -105,7 +116,7 @@ impl<RectId: Ord + Clone, GroupId: Ord> GroupedRectsToPlace<RectId, GroupId> {
     /// The excluded pairs, by the numbers of their groups. A pair is left out where one of its groups has no boxes. A group that
     /// is excluded with itself stays, with any number, for C to refuse it.
     fn numbered_exclusions(&self) -> Vec<ffi::RpExclusion> {
-        let numbers: BTreeMap<&GroupId, u32> = self.groups.keys().zip(1..).collect();
+        let numbers = self.group_numbers();
         let all = self.exclusions.iter();
         let pairs = all.flat_map(|(one, others)| others.iter().map(move |other| (one, other)));
         pairs

@@ -117,6 +117,40 @@ pub(super) struct RpCutStep {
     pub(super) place: u32,
 }
 
+/// A box that is to be placed once, and how it may be turned.
+#[repr(C)]
+pub(crate) struct RpEntry {
+    pub(crate) rect: RpBox,
+    pub(crate) turns: u32,
+}
+
+/// Where somebody put a box.
+#[repr(C)]
+pub(crate) struct RpClaim {
+    pub(crate) entry: u32,
+    pub(crate) bin: u32,
+    pub(crate) section: RpSection,
+}
+
+/// What is wrong with a packing.
+#[repr(C)]
+#[derive(Clone, Copy, Default)]
+pub(crate) struct RpFault {
+    pub(crate) kind: u32,
+    pub(crate) first: u32,
+    pub(crate) second: u32,
+}
+
+pub(super) const NO_FAULT: u32 = 0;
+pub(crate) const FAULT_UNKNOWN_BIN: u32 = 1;
+pub(crate) const FAULT_UNKNOWN_BOX: u32 = 2;
+pub(crate) const FAULT_WRONG_SIZE: u32 = 3;
+pub(crate) const FAULT_OUTSIDE: u32 = 4;
+pub(crate) const FAULT_PLACED_TWICE: u32 = 5;
+pub(crate) const FAULT_SHARES_CELL: u32 = 6;
+pub(crate) const FAULT_GROUP_IN_TWO_BINS: u32 = 7;
+pub(crate) const FAULT_EXCLUDED_TOGETHER: u32 = 8;
+
 pub(super) const DONE: u32 = 0;
 pub(super) const NOT_ENOUGH_SPACE: u32 = 1;
 pub(super) const OUT_OF_MEMORY: u32 = 2;
@@ -225,4 +259,15 @@ extern "C" {
         coalesced: *mut u32,
     ) -> u32;
     pub(super) fn rectangle_pack_session_next_number(session: *mut RpSession) -> u64;
+    pub(super) fn rectangle_pack_check(
+        bins: *const RpBin,
+        bin_count: usize,
+        entries: *const RpEntry,
+        entry_count: usize,
+        exclusions: *const RpExclusion,
+        exclusion_count: usize,
+        claims: *const RpClaim,
+        claim_count: usize,
+        fault: *mut RpFault,
+    ) -> u32;
 }
