@@ -6,7 +6,7 @@ from typing import Any, Generic, TypeVar, get_args
 
 from . import _library
 from ._errors import EqualGroups, UnknownBox, UnknownHeuristic
-from ._types import Box, BoxName, Groups, Heuristic, Pairs
+from ._types import Bin, Box, BoxName, Groups, Heuristic, Pairs
 
 _Value = TypeVar("_Value")
 
@@ -30,6 +30,12 @@ def items_of(values: Mapping[Any, _Value] | Iterable[_Value]) -> Iterable[tuple[
     return values.items() if isinstance(values, Mapping) else enumerate(values)
 
 
+def names_and_sizes(bins: Mapping[Any, Bin] | Iterable[Bin]) -> tuple[list[Any], list[_library.Size]]:
+    """The names of bins, and their sizes."""
+    named = list(items_of(bins))
+    return [name for name, _ in named], [_library.size(*Bin(*size)) for _, size in named]
+
+
 class Collection(Generic[BoxName]):
     """Boxes with their groups, and pairs of groups that are excluded.
 
@@ -48,7 +54,8 @@ class Collection(Generic[BoxName]):
             if group is not None:
                 self._number(group)
         self._add_groups(groups)
-        self._excluded = [self._pair(one, other) for one, other in exclude]
+        # The pairs, by the numbers of the groups.
+        self.excluded = [self._pair(one, other) for one, other in exclude]
 
     def _number(self, group: Hashable) -> int:
         """The number of a group, which is the next one where it was not named before."""
@@ -82,12 +89,15 @@ class Collection(Generic[BoxName]):
         own = zip(self._names, self._groups, self._sizes)
         return [*own, *((self._names[index], group, self._sizes[index]) for index, group in self._members)]
 
+    def number_of(self, group: Hashable) -> int:
+        """The number of a group that was named; 0 for None, as where a box is alone."""
+        return 0 if group is None else self._numbers[group]
+
     def as_c(self) -> _library.RpCollection:
         """The collection as C takes it."""
-        own = [0 if group is None else self._numbers[group] for group in self._groups]
-        boxes = [(*size, group) for size, group in zip(self._sizes, own)]
-        members = [(index, self._numbers[group]) for index, group in self._members]
+        boxes = [(*size, self.number_of(group)) for size, group in zip(self._sizes, self._groups)]
+        members = [(index, self.number_of(group)) for index, group in self._members]
         return _library.RpCollection(
             _library.listed(_library.RpBox, boxes), len(boxes),
             _library.listed(_library.RpMember, members), len(members),
-            _library.listed(_library.RpExclusion, self._excluded), len(self._excluded))
+            _library.listed(_library.RpExclusion, self.excluded), len(self.excluded))

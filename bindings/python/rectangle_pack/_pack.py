@@ -6,13 +6,8 @@ from collections.abc import Mapping, Sequence
 from typing import Any, overload
 
 from . import _library
-from ._collection import HEURISTICS, Collection, heuristic_number, items_of
+from ._collection import HEURISTICS, Collection, heuristic_number, names_and_sizes
 from ._types import AnyHeuristic, Bin, BinName, Box, BoxName, Groups, Packing, Pairs, Placement
-
-
-def _names_and_sizes(bins: Mapping[Any, Bin] | Sequence[Bin]) -> tuple[list[Any], list[_library.Size]]:
-    named = list(items_of(bins))
-    return [name for name, _ in named], [_library.size(*Bin(*size)) for _, size in named]
 
 
 @overload
@@ -72,7 +67,7 @@ def pack(
     Raises NotEnoughBinSpace, OutOfMemory or TooMany; before anything is packed UnknownHeuristic, UnknownBox or EqualGroups,
     which are ValueErrors; and ValueError or TypeError where a size is not a number of 32 bits."""
     asked = heuristic_number(heuristic)
-    names, sizes = _names_and_sizes(bins)
+    names, sizes = names_and_sizes(bins)
     collection: Collection[Any] = Collection(boxes, groups or {}, exclude)
     entries = collection.entries()
     places, chosen = _library.empty(_library.RpPlacement, len(entries)), ctypes.c_uint32()
