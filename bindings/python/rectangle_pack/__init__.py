@@ -8,24 +8,29 @@
 A Session keeps its bins from packing to packing, and releases boxes again. It lists and joins what is free, plans the cuts that
 part a bin, takes boxes at places of your choice, and has bins cleared, made larger and removed.
 
+check judges a packing, whoever made it: it answers the first fault, or None.
+
 Bins, boxes and groups have names: any values that a dict takes as keys. A list in place of a mapping means that the names are
 the indices.
 
 The library is the file that RECTANGLE_PACK names, librectangle_pack.so beside this module, or that in build/, which
 tools/build_c.sh writes."""
+from ._check import check
 from ._cuts import Axis, Cut, CutNode, CutStep, CutTree, Leaf
 from ._errors import (
     BinInUse, DuplicateBin, EqualGroups, NotEnoughBinSpace, NotFree, NotFromCuts, NumbersUsedUp, OutOfMemory, PackError, TooLarge,
-    TooMany, UnknownAxis, UnknownBin, UnknownBox, UnknownHeuristic, UnknownPlacement,
+    TooMany, UnknownAxis, UnknownBin, UnknownBox, UnknownHeuristic, UnknownPlacement, UnknownTurn,
 )
+from ._faults import Fault, FaultKind
 from ._pack import pack
 from ._session import Session
-from ._types import AnyHeuristic, Bin, Box, Heuristic, Outstanding, Packing, Placement, Section, Stats
+from ._types import AnyHeuristic, Bin, Box, Heuristic, Outstanding, Packing, Placement, Section, Stats, Turn
 
 __all__ = [
     "Bin", "Box", "pack", "Packing", "Placement", "Heuristic", "AnyHeuristic",
+    "check", "Fault", "FaultKind", "Turn",
     "Session", "Outstanding", "Stats", "Section", "Axis", "Cut", "Leaf", "CutStep", "CutNode", "CutTree",
-    "PackError", "NotEnoughBinSpace", "OutOfMemory", "TooMany", "UnknownHeuristic", "UnknownBox", "EqualGroups", "UnknownAxis",
+    "PackError", "NotEnoughBinSpace", "OutOfMemory", "TooMany", "UnknownHeuristic", "UnknownBox", "EqualGroups", "UnknownAxis", "UnknownTurn",
     "DuplicateBin", "UnknownBin", "UnknownPlacement", "NumbersUsedUp", "BinInUse", "TooLarge", "NotFree",
     "NotFromCuts",
 ]

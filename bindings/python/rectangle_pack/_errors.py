@@ -29,7 +29,7 @@ class OutOfMemory(PackError, MemoryError):
 
 
 class TooMany(PackError, ValueError):
-    """There are 2**32 bins or boxes, or more."""
+    """There are 2**32 bins or boxes, or more; or, where a packing is judged, of placements or of pairs."""
 
     text = "Too many bins or boxes"
 
@@ -56,6 +56,12 @@ class UnknownAxis(PackError, ValueError):
     """There is no axis of this name."""
 
     text = "There is no such axis"
+
+
+class UnknownTurn(PackError, ValueError):
+    """Boxes cannot be turned in the way of this name."""
+
+    text = "There is no such turn"
 
 
 class DuplicateBin(PackError):

@@ -77,6 +77,18 @@ class RpCutStep(ctypes.Structure):
     _fields_ = _uint32("axis", "place")
 
 
+class RpEntry(ctypes.Structure):
+    _fields_ = [("box", RpBox), *_uint32("turns")]
+
+
+class RpClaim(ctypes.Structure):
+    _fields_ = [*_uint32("box", "bin"), ("section", RpSection)]
+
+
+class RpFault(ctypes.Structure):
+    _fields_ = _uint32("kind", "first", "second")
+
+
 class BinId(ctypes.Structure):
     """An entry of the list of bins."""
     _fields_ = _uint32("bin")
@@ -108,13 +120,19 @@ def _places_of(kind: type[ctypes.Structure]) -> list[type[object]]:
     return [ctypes.POINTER(RpCollection), ctypes.c_uint32, ctypes.POINTER(kind), ctypes.c_size_t, chosen]
 
 
+def _list_of(kind: type[ctypes.Structure]) -> list[type[object]]:
+    """What a call that reads a list is given: an array, and how many entries count."""
+    return [ctypes.POINTER(kind), ctypes.c_size_t]
+
+
 _SESSION = ctypes.POINTER(RpSession)
 
 # A box, a heuristic, and where the placement goes.
 _BEST_PLACE = [ctypes.POINTER(RpBox), ctypes.c_uint32, ctypes.POINTER(RpOutstanding)]
 
 _ARGUMENTS = {
-    "collection": [ctypes.POINTER(RpBin), ctypes.c_size_t, *_places_of(RpPlacement)],
+    "collection": [*_list_of(RpBin), *_places_of(RpPlacement)],
+    "check": [*_list_of(RpBin), *_list_of(RpEntry), *_list_of(RpExclusion), *_list_of(RpClaim), ctypes.POINTER(RpFault)],
     "session_new": [_SESSION],
     "session_free": [_SESSION],
     "session_add_bin": [_SESSION] + [ctypes.c_uint32] * 4,
@@ -189,7 +207,7 @@ def size(width: int, height: int, depth: int) -> Size:
     return number(width), number(height), number(depth)
 
 
-def listed(kind: type[Entry], rows: Sequence[tuple[int, ...]]) -> ctypes.Array[Entry]:
+def listed(kind: type[Entry], rows: Sequence[tuple[object, ...]]) -> ctypes.Array[Entry]:
     """The rows as C takes them. An empty list has an entry that is not counted, so that no pointer is NULL."""
     return (kind * max(len(rows), 1))(*(kind(*row) for row in rows))
 

@@ -21,6 +21,10 @@ Heuristic = Literal["volume", "height", "width", "depth", "side-sum", "longest-s
 # Or the one of these with which the bins are used best.
 AnyHeuristic = Union[Heuristic, Literal["best"]]
 
+# Which sides of a box may change places: none, as sprites and panels lie flat width and height, as crates stand upright width
+# and depth, or any.
+Turn = Literal["none", "flat", "upright", "any"]
+
 
 class Bin(NamedTuple):
     """A bin, by its size in cells. In two dimensions the depth is 1."""

@@ -1,7 +1,10 @@
 """Uses of the module for a type checker, which test_types.py runs. Each line that is marked is wrong, and has to be found."""
 from __future__ import annotations
 
-from rectangle_pack import AnyHeuristic, Bin, Box, CutNode, Heuristic, Outstanding, Packing, Placement, Section, Session, pack
+from rectangle_pack import (
+    AnyHeuristic, Bin, Box, CutNode, Fault, FaultKind, Heuristic, Outstanding, Packing, Placement, Section, Session, Turn,
+    check, pack,
+)
 
 sheets = {"small": Bin(64, 64), "large": Bin(128, 128)}
 sprites = {("hat", 1): Box(10, 20, group="hats"), ("tree", 1): Box(60, 60)}
@@ -29,12 +32,26 @@ large: int = packing["hat", 1].bin  # type: ignore
 Box("10", 20)  # type: ignore
 Box(10, 20, group=["hats"])  # type: ignore
 
+fault: Fault[tuple[str, int], str] | None = check(sheets, sprites, packing, groups=groups, exclude=[("hats", 3)])
+turn: Turn = "flat"
+if fault is not None and fault.first is not None:
+    kind: FaultKind = fault.kind
+    where: str = fault.first.bin
+check(sheets, sprites, iter(packing), turn=turn)
+check([Bin(1, 1)], [Box(1, 1)], [], turn=["flat"])
+check(sheets, sprites, packing.placements, turn={("hat", 1): "any"})
+
+check(sheets, sprites, packing, turn="about")  # type: ignore
+check(sheets, sprites, sprites)  # type: ignore
+check(sheets, sprites)  # type: ignore
+check(sheets, sprites, packing, turn={("hat", 1): 4})  # type: ignore
+
 with Session(sheets) as session:
     standing: Outstanding[tuple[str, int], str] = session.pack(sprites, heuristic="best")["hat", 1]
     number: int = session.pack([Box(1, 1)])[0].number
     session.release(standing.number)
     names: list[str] = session.bins()
-    where: list[tuple[str, Section]] = [(it.bin, it.section) for it in session.outstanding()]
+    standing_in: list[tuple[str, Section]] = [(it.bin, it.section) for it in session.outstanding()]
     tree = session.cut_tree("small")
     if isinstance(tree, CutNode):
         axis, lower = tree.axis, tree.lower
