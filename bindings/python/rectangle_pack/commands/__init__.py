@@ -1,6 +1,7 @@
-"""Commands over the module: a sprite sheet, a cutting list, a loaded container, and a page to look at each of them.
+"""Commands over the module: a sprite sheet, a cutting list, a loaded container, a page to look at each of them, and a judge of
+packings.
 
-    python3 -m rectangle_pack sheet|cut|load|view --help"""
+    python3 -m rectangle_pack sheet|cut|load|view|check --help"""
 from __future__ import annotations
 
 import argparse
@@ -9,12 +10,13 @@ import sys
 from collections.abc import Sequence
 
 from .. import OutOfMemory
-from . import cut, load, sheet, view
+from . import check, cut, load, sheet, view
 from ._common import DONE, STOPPED, WRONG_INPUT, NoRoom, Wrong
 
 __all__ = ["main"]
 
-EPILOG = "exit status: 0 done, 1 it does not fit, 2 the words or a file are wrong, 3 out of memory, 130 interrupted"
+EPILOG = """\
+exit status: 0 done, 1 it does not fit or check names a fault, 2 the words or a file are wrong, 3 out of memory, 130 interrupted"""
 
 
 def parser() -> argparse.ArgumentParser:
@@ -23,7 +25,7 @@ def parser() -> argparse.ArgumentParser:
         description="Packs sprites onto pages, panels onto sheets and crates into containers, by the proved library.",
     )
     commands = whole.add_subparsers(title="commands", metavar="COMMAND", required=True)
-    for module in (sheet, cut, load, view):
+    for module in (sheet, cut, load, view, check):
         module.add_to(commands)
     return whole
 
