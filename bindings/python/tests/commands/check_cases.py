@@ -60,15 +60,18 @@ class CheckCase(unittest.TestCase):
         path.write_bytes(content)
         return path
 
-    def check(self, *words: object) -> Run:
-        """Runs the command in this process."""
+    def command(self, *words: object) -> Run:
+        """Runs a command in this process."""
         out, err = io.StringIO(), io.StringIO()
         with contextlib.redirect_stdout(out), contextlib.redirect_stderr(err):
             try:
-                status = main(["check", *map(str, words)])
+                status = main([*map(str, words)])
             except SystemExit as end:
                 status = int(end.code or 0)
         return Run(status, out.getvalue(), err.getvalue())
+
+    def check(self, *words: object) -> Run:
+        return self.command("check", *words)
 
     def check_alone(self, *words: object, **environment: str) -> Run:
         """Runs the command as a user does, in the folder."""

@@ -3,6 +3,7 @@ from __future__ import annotations
 
 import os
 from collections.abc import Iterator
+from pathlib import Path
 
 from .._scale import MOST
 from .layout import NONE, ONE, Bins, Claim, Layout, Told, Triple, without_aliases
@@ -53,7 +54,15 @@ def _files(root: Value) -> Iterator[Value]:
             path = value.path.parent / it.text()
             if os.path.abspath(path) not in known:
                 known.add(os.path.abspath(path))
-                waiting.append(value_of(path, read_text(path)))
+                waiting.append(_read(path, it))
+
+
+def _read(path: Path, name: Value) -> Value:
+    """A file that another one names."""
+    try:
+        return value_of(path, read_text(path))
+    except ValueError:
+        raise name.wrong("is no name of a file") from None
 
 
 def texture_packer(root: Value, fallback: Triple | None) -> Told:

@@ -97,7 +97,7 @@ class Value:
         """The items of a list of this length."""
         items = self.items()
         if len(items) != count:
-            raise self.wrong(f"has {len(items)} items, and must have {count}")
+            raise self.wrong(f"must have {count} items, and has {len(items)}")
         return items
 
 
