@@ -13,9 +13,9 @@ FRAMES = {
     "hats/cap": frame(10, 0, 8, 10, rotated=True),
     "wig": frame(10, 8, 10, 22, trimmed=True, spriteSourceSize={"x": 3, "y": 3, "w": 10, "h": 22}),
 }
-META = {"app": "https://www.codeandweb.com/texturepacker", "image": "atlas.png", "size": {"w": 20, "h": 30}, "scale": "1"}
-HASH = {"frames": FRAMES, "meta": META}
-ARRAY = {"frames": [{"filename": name, **it} for name, it in FRAMES.items()], "meta": META}
+META: dict[str, Any] = {"app": "texturepacker", "image": "atlas.png", "size": {"w": 20, "h": 30}, "scale": "1"}
+HASH: dict[str, Any] = {"frames": FRAMES, "meta": META}
+ARRAY: dict[str, Any] = {"frames": [{"filename": name, **it} for name, it in FRAMES.items()], "meta": META}
 
 
 class OnePage(CheckCase):
@@ -65,6 +65,10 @@ class OnePage(CheckCase):
         self.assert_fault(
             array(hat1=(0, 0, 5, 5), cap=(5, 0, 5, 5), hat2=(10, 0, 5, 6)),
             '"hat" has two sizes: (0, 0) 5x5 on page "atlas.png" and (10, 0) 5x6 on page "atlas.png"')
+        # The second one is that of another name.
+        self.assert_fault(
+            array(hat1=(0, 0, 5, 5), cap=(5, 0, 5, 5), hat2=(5, 0, 5, 5)),
+            '"hat" is placed twice: (0, 0) 5x5 on page "atlas.png" and (5, 0) 5x5 on page "atlas.png"')
         # A second name of a place that has a place of its own too.
         self.assert_fault(
             array(hat=(0, 0, 5, 5), cap1=(0, 0, 5, 5), cap2=(5, 0, 5, 5)),

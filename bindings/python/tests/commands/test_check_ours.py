@@ -39,9 +39,10 @@ def step(line: int, piece: int, customer: str, *places: float) -> dict[str, Any]
     return {"crate": {2: "milk", 3: "paint"}[line], "line": line, "piece": piece, "customer": customer, **sides, "on": []}
 
 
-LOAD = {"unit": "cm", "together": False, "apart": [["Dairy", "Paintworks"]], "containers": [
+LOAD: dict[str, Any] = {"unit": "cm", "together": False, "apart": [["Dairy", "Paintworks"]], "containers": [
     {"name": name, "kind": name, "wide": 235.2, "high": 239.3, "long": 589.8, "steps": steps} for name, steps in (
-        ("van 1", [step(2, 1, "Dairy", 0, 0, 0, 120, 105, 80), step(2, 2, "Dairy", 0, 105, 0, 120, 105, 80)]),
+        ("van 1", [step(2, 1, "Dairy", 0, 0, 0, 120, 105, 80), step(2, 2, "Dairy", 0, 105, 0, 120, 105, 80),
+                   step(3, 3, "", 0, 0, 80, 100, 95, 120)]),
         ("van 2", [step(3, 1, "Paintworks", 0, 0, 0, 120, 95, 100), step(3, 2, "", 135.2, 0, 0, 100, 95, 120)]))]}
 
 
@@ -103,7 +104,7 @@ class OurJson(CheckCase):
 
     def test_load(self) -> None:
         together = {**LOAD, "together": True}
-        self.judge(LOAD, "4 boxes in 2 containers", {
+        self.judge(LOAD, "5 boxes in 2 containers", {
             ("containers 0 steps 1 y", 104.9):
                 '"milk #1" and "milk #2" share a cell of container "van 1": (0, 0, 0) 120x105x80 and (0, 104.9, 0) 120x105x80',
             ("containers 1 steps 1 x", 135.3):
@@ -114,7 +115,7 @@ class OurJson(CheckCase):
             ("containers 1 steps 1 customer", "Dairy"):
                 '"paint #1" and "paint #2" may not share a container, and are in container "van 2"',
         })
-        self.judge(together, "4 boxes in 2 containers", {
+        self.judge(together, "5 boxes in 2 containers", {
             ("containers 0 steps 1 customer", "Paintworks"):
                 '"milk #1" and "milk #2" may not share a container, and are in container "van 1"',
             ("containers 1 steps 1 customer", "Dairy"):
@@ -124,7 +125,7 @@ class OurJson(CheckCase):
     def test_a_customer_in_two_containers(self) -> None:
         """It may be, where customers are not kept together. They may not share one with those that are apart."""
         both = changed({**LOAD, "apart": []}, "containers 1 steps 1 customer", "Dairy")
-        self.assert_sound(self.file("a.json", both), "4 boxes in 2 containers")
+        self.assert_sound(self.file("a.json", both), "5 boxes in 2 containers")
 
     def test_view(self) -> None:
         self.judge(VIEW, "5 boxes in 2 bins", {

@@ -3,12 +3,13 @@ from __future__ import annotations
 
 import os
 import unittest
+from typing import Any
 
 from .check_cases import CheckCase, changed, frame
 from .test_check_ours import CUT, LOAD, SHEET, VIEW
 
 META = {"image": "atlas.png", "size": {"w": 20, "h": 30}}
-HASH = {"frames": {"hero/walk-1": frame(0, 0, 10, 20), "cap": frame(10, 0, 8, 10)}, "meta": META}
+HASH: dict[str, Any] = {"frames": {"hero/walk-1": frame(0, 0, 10, 20), "cap": frame(10, 0, 8, 10)}, "meta": META}
 ARRAY = {"frames": [{"filename": name, **it} for name, it in HASH["frames"].items()], "meta": META}
 
 
@@ -61,7 +62,7 @@ class Json(CheckCase):
                 self.assert_refused(self.file("a.json", changed(HASH, place, new)), why)
 
     def test_values_of_lists_that_are_wrong(self) -> None:
-        cases = [
+        cases: list[tuple[Any, str, object, str]] = [
             (ARRAY, "frames 1 frame x", "1", ': frames[1].frame.x is "1", and must be a number'),
             (ARRAY, "frames 1 filename", None, ": frames[1].filename is missing"),
             (ARRAY, "meta", {"related_multi_packs": [3], "size": {"w": 9, "h": 9}},
