@@ -41,7 +41,7 @@ class UnknownHeuristic(PackError, ValueError):
 
 
 class UnknownBox(PackError, ValueError):
-    """A group names a box that is not packed."""
+    """A group names a box that is not packed; or the turns of a packing that is judged name one that is not there."""
 
     text = "There is no such box"
 

@@ -114,10 +114,14 @@ class ByHand(unittest.TestCase):
         self.assertEqual(self.judged([at("wig", 0, 0, 1, 1)])[0], "unknown_box")
 
     def test_the_first_placement_that_is_wrong_counts(self):
-        # Boot is on cap, hat is outside, and tree is not there.
+        # Boot stands on cap, hat is outside, and tree is not placed.
         placements = [self.CAP, at("boot", 4, 4, 6, 5, group="shoes"), at("hat", 9, 0, 4, 10, group="hats")]
         self.assertEqual(self.judged(placements)[0], "shares_cell")
         self.assertEqual(self.judged(reversed(placements))[0], "outside")
+
+    def test_the_example_of_other_languages(self):
+        fault = check({"page": Bin(64, 64)}, {"hat": Box(10, 20)}, [Placement("hat", None, "page", 60, 0, 0, 10, 20, 1)])
+        self.assertEqual(str(fault), "'hat' is not inside bin 'page': (60, 0, 0) 10x20x1")
 
 
 class Turns(unittest.TestCase):

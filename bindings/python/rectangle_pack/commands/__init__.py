@@ -15,14 +15,16 @@ from ._common import DONE, STOPPED, WRONG_INPUT, NoRoom, Wrong
 
 __all__ = ["main"]
 
-EPILOG = """\
-exit status: 0 done, 1 it does not fit or check names a fault, 2 the words or a file are wrong, 3 out of memory, 130 interrupted"""
+EPILOG = (
+    "exit status: 0 done, 1 it does not fit, or check names a fault, 2 the words or a file are wrong, 3 out of memory, "
+    "130 interrupted")
 
 
 def parser() -> argparse.ArgumentParser:
     whole = argparse.ArgumentParser(
         prog="python3 -m rectangle_pack", epilog=EPILOG,
-        description="Packs sprites onto pages, panels onto sheets and crates into containers, by the proved library.",
+        description="Packs sprites onto pages, panels onto sheets and crates into containers, and judges packings of anyone, "
+        "by the proved library.",
     )
     commands = whole.add_subparsers(title="commands", metavar="COMMAND", required=True)
     for module in (sheet, cut, load, view, check):

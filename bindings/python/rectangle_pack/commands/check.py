@@ -43,7 +43,7 @@ example:
   python3 -m rectangle_pack check build/*.json --padding 2
 
 prints
-  build/atlas.json: nothing is wrong: 29 boxes on 1 page
+  build/atlas.json: nothing is wrong: 25 boxes on 1 page
   build/old.json: "hat" and "cap" share a cell of page "old.png": (0, 0) 10x20 and (5, 5) 4x4
 
 exit status: 0 nothing is wrong, 1 there is a fault, 2 the words or a file are wrong, 3 out of memory, 130 interrupted
@@ -78,7 +78,8 @@ def add_to(commands: Any) -> None:
         "check", help="judge a packing, whoever made it", description=DESCRIPTION, epilog=EPILOG,
         formatter_class=argparse.RawDescriptionHelpFormatter)
     parser.add_argument("files", nargs="+", type=Path, metavar="FILE", help="an atlas, a plan, a load or a table")
-    parser.add_argument("--size", type=_size, metavar="WxH", help="the size of pages of which the file says none; WxHxD with a depth")
+    parser.add_argument("--size", type=_size, metavar="WxH",
+                        help="the size of pages of which a file says none; WxHxD where they have a depth")
     parser.add_argument("--padding", type=_number, default=Decimal(0), metavar="N",
                         help="boxes are at least so far apart, to the right or below (0)")
     parser.set_defaults(run=_run)

@@ -113,10 +113,16 @@ class Refusals(TableCase):
             (FLAT[4], 'boot,two,0,0,5,5,5,"5', ": is no table: unexpected end of data"),
             (FLAT[4], "boot,two,0,0.000000001,5,5,4294967295,5",
              ": has the side 20; 4.294967295 is the greatest, where all is measured in steps of 0.000000001"),
+            (FLAT[4], "boot,two,0,0.1,0,4294967295,5,5",
+             ": has the side 4294967295; 429496729.5 is the greatest, where all is measured in steps of 0.1"),
         ]
         for old, new, why in cases:
             with self.subTest(new):
                 self.assert_refused(self.table(FLAT, old, new), why)
+
+    def test_a_padding_that_is_too_large(self) -> None:
+        why = ": has the side 20; 5 is the greatest, where all is measured in steps of 1"
+        self.assert_refused(self.table(FLAT), why, "--padding", 2**32 - 6)
 
     def test_a_bin_and_a_page(self) -> None:
         path = self.table(["name,page,bin,x,y,width,height", "a,one,,0,0,1,1", "b,one,two,0,0,1,1"])

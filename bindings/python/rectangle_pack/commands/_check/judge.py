@@ -32,19 +32,18 @@ class _Cells:
         self._distance = self._scale.cells(layout.distance)
 
     def bin(self, size: Triple) -> Bin:
-        return Bin(*(self._side(side) for side in size))
+        return Bin(*(self._side(side, self._distance) for side in size))
 
     def box(self, size: Triple) -> tuple[int, int, int]:
         """What has no cells stays as it is."""
-        width, height, depth = (self._side(side) if all(size) else self._scale.cells(side) for side in size)
+        width, height, depth = (self._side(side, self._distance if all(size) else 0) for side in size)
         return width, height, depth
 
-    def _side(self, side: Decimal) -> int:
-        cells = self._scale.cells(side) + self._distance
+    def _side(self, side: Decimal, more: int) -> int:
+        cells = self._scale.cells(side) + more
         if cells > MOST:
-            most = self._scale.text(MOST - self._distance)
-            raise Wrong(f"has the side {side:f}; {most} is the greatest, where all is measured in steps of "
-                        f"{self._scale.text(1)}", self._path)
+            most, step = self._scale.text(max(MOST - more, 0)), self._scale.text(1)
+            raise Wrong(f"has the side {side:f}; {most} is the greatest, where all is measured in steps of {step}", self._path)
         return cells
 
     def corner(self, corner: Triple) -> tuple[int, int, int]:

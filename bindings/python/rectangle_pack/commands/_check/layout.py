@@ -47,8 +47,8 @@ class Claim:
 
 @dataclasses.dataclass(frozen=True)
 class Layout:
-    """What has to be a packing. Boxes of one group are in one bin, and those of two that are excluded in none together. Boxes with
-    cells are so far apart along some axis."""
+    """What has to be a packing. Boxes of one group are in one bin, and those of two groups that are excluded share none. Boxes
+    with cells are so far apart along some axis."""
 
     bins: Mapping[Hashable, Bin]
     claims: Sequence[Claim]
@@ -66,8 +66,8 @@ class Layout:
 
 @dataclasses.dataclass(frozen=True)
 class Told:
-    """What a file tells: layouts, each of which has to be a packing; what a bin is called in it; and how many boxes and bins there
-    are."""
+    """What a file tells: what a bin is called in it; layouts, each of which has to be a packing; and how many boxes and bins
+    there are."""
 
     kind: str
     layouts: Sequence[Layout]
@@ -106,7 +106,7 @@ def why_not(number: Decimal, least: int = 0) -> str:
 
 
 def without_aliases(claims: Iterable[Claim]) -> list[Claim]:
-    """The claims of an atlas, where names that have one place are names of one box. A name with two places is kept with both."""
+    """The claims of an atlas, where names that have one place are those of one box. Of a name with two places both stay."""
     boxes: dict[Hashable, Hashable] = {}
     places: dict[Hashable, Hashable] = {}
     kept = []
