@@ -29,7 +29,7 @@ class OutOfMemory(PackError, MemoryError):
 
 
 class TooMany(PackError, ValueError):
-    """There are 2**32 bins or boxes, or more; or, where a packing is judged, of placements or of pairs."""
+    """There are 2**32 bins or boxes, or more; or, where a packing is judged, of placements."""
 
     text = "Too many bins or boxes"
 

@@ -78,11 +78,11 @@ class RpCutStep(ctypes.Structure):
 
 
 class RpEntry(ctypes.Structure):
-    _fields_ = [("box", RpBox), *_uint32("turns")]
+    _fields_ = [("rect", RpBox), *_uint32("turns")]
 
 
 class RpClaim(ctypes.Structure):
-    _fields_ = [*_uint32("box", "bin"), ("section", RpSection)]
+    _fields_ = [*_uint32("entry", "bin"), ("section", RpSection)]
 
 
 class RpFault(ctypes.Structure):
