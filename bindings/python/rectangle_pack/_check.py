@@ -11,8 +11,7 @@ from ._errors import UnknownBox, UnknownTurn
 from ._faults import Fault, FaultKind
 from ._types import Bin, BinName, Box, BoxName, Groups, Pairs, Placement, Turn
 
-# For each way in which boxes may be turned which sides change places: 1 is height and depth, 2 width and depth, 4 width and
-# height.
+# The library's numbers add up: by 1 height and depth may change places, by 2 width and depth, by 4 width and height.
 _TURNS: Mapping[str, int] = {"none": 0, "flat": 4, "upright": 2, "any": 1 + 2 + 4}
 
 _Placements = Sequence[Placement[BoxName, BinName]]
