@@ -270,8 +270,10 @@ pub extern "C" fn rectangle_pack_check(
     ensures unchanged { result ≢ RP_DONE → fault.new ≡ fault.old }
     // `RP_DONE`: what is written is what the judge says of these claims: `RP_NO_FAULT` exactly
     //   where they are a packing; else the fault of the first claim that may not stand with those
-    //   before it, or the first box that no claim places. [group_at.boxes_alone_are_one_group,
-    //   fault_of.claims_change_places, turns_of.axes_change_places]
+    //   before it, or the first box that no claim places.
+    //   [first_bad.neighbours_alone_are_compared, is_on.box_that_starts_at_the_plane_is_lost,
+    //   group_at.boxes_alone_are_one_group, fault_of.claims_change_places,
+    //   turns_of.axes_change_places]
     ensures verdict { result ≡ RP_DONE →
         IsChecked bins.now entries.now exclusions.now claims.now fault.new }
 {
