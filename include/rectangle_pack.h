@@ -451,7 +451,7 @@ uint64_t rectangle_pack_session_next_number(rp_session *session);
 
 /* A box that is to stand in a bin, once: its size and its group, as rp_box has them, and how it may be turned. turns is the sum of
    1 where height and depth may change places, 2 where width and depth may, and 4 where width and height may. A sprite or a panel
-   that may be turned has 4. */
+   that may be turned has 4. Other bits do not count. */
 typedef struct rp_entry {
     rp_box rect;
     uint32_t turns;
@@ -497,12 +497,12 @@ typedef struct rp_fault {
 /* Says what is wrong first with a packing that somebody made, or that nothing is. fault is that of the first claim that may not
    stand with those before it; of this claim the first thing that is wrong with it alone, by the order above, and then with earlier
    claims, with the first of these. Where all may stand, it is the first box that no claim places. RP_DONE, RP_OUT_OF_MEMORY, or
-   RP_BAD_LENGTHS where there are 2^32 bins, boxes or claims, or more.
+   RP_BAD_LENGTHS where there are 2^32 bins, boxes or claims, or more; there may be any number of exclusions.
 
    Proved, for all lists, wherever memory is refused:
    - RP_DONE: kind is RP_NO_FAULT exactly where each box is placed once, in one of the sizes in which it may stand, inside its bin;
      no two boxes share a cell of one bin; the boxes of one group above 0 are in one bin; and those of groups that are excluded are
-     in different bins. Else it is the fault that is said above. An exclusion of a group with itself, or with 0, excludes nothing.
+     in different bins. Else it is the fault that is said above. An exclusion of a group with itself, which a packing refuses, or with 0, excludes nothing here.
    - Where the answer is not RP_DONE nothing is written to fault.
    What the caller sees to is as of rectangle_pack_boxes. */
 uint32_t rectangle_pack_check(const rp_bin *bins, size_t bin_count, const rp_entry *entries, size_t entry_count,
