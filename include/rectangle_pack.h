@@ -502,7 +502,8 @@ typedef struct rp_fault {
    Proved, for all lists, wherever memory is refused:
    - RP_DONE: kind is RP_NO_FAULT exactly where each box is placed once, in one of the sizes in which it may stand, inside its bin;
      no two boxes share a cell of one bin; the boxes of one group above 0 are in one bin; and those of groups that are excluded are
-     in different bins. Else it is the fault that is said above. An exclusion of a group with itself, which a packing refuses, or with 0, excludes nothing here.
+     in different bins. Else it is the fault that is said above. An exclusion with 0, or of a group with itself, which a packing
+     refuses, excludes nothing here.
    - Where the answer is not RP_DONE nothing is written to fault.
    What the caller sees to is as of rectangle_pack_boxes. */
 uint32_t rectangle_pack_check(const rp_bin *bins, size_t bin_count, const rp_entry *entries, size_t entry_count,
