@@ -1,7 +1,7 @@
 /* rectangle_pack: packs boxes into bins, in two and three dimensions, without overlaps. rectangle_pack_boxes packs a list
    of boxes and keeps nothing; rectangle_pack_collection packs boxes that are in several groups, groups that may not share a
    bin, and by a heuristic of the caller's choice. A session keeps its bins from call to call: boxes are packed into them and
-   released again. All calls are proved; what is proved of them stands beside them, and as their contracts in
+   released again. rectangle_pack_check judges a packing, whoever made it. All calls are proved; what is proved of them stands beside them, and as their contracts in
    crates/rectangle_pack_c/src (lib.rt, session.rt, placing.rt, upkeep.rt, reading.rt and judging.rt). C99 and C++.
 
    Sizes and corners are counted in cells. In two dimensions each depth is 1 and each z is 0. */
@@ -105,7 +105,7 @@ typedef struct rp_member {
 
 /* Two groups that are excluded: within the call neither goes into a bin that the other went into. Boxes of earlier calls do not
    count. A pair with 0, or with a group that has no boxes, excludes nothing; but a pair of twice one number, also of 0, is
-   RP_EQUAL_GROUPS. */
+   RP_EQUAL_GROUPS where boxes are packed. */
 typedef struct rp_exclusion {
     uint32_t one, other;
 } rp_exclusion;
@@ -464,7 +464,8 @@ typedef struct rp_claim {
     rp_section section;
 } rp_claim;
 
-/* What may be wrong with a packing, in the order in which it is looked for. */
+/* What may be wrong: the first four with one claim, in the order in which it is looked for; the next four with two claims, in
+   their order; and the last where all claims may stand. */
 enum {
     /* Nothing: it is a packing. */
     RP_NO_FAULT = 0,
@@ -494,9 +495,9 @@ typedef struct rp_fault {
     uint32_t kind, first, second;
 } rp_fault;
 
-/* Says what is wrong first with a packing that somebody made, or that nothing is. fault is that of the first claim that may not
-   stand with those before it; of this claim the first thing that is wrong with it alone, by the order above, and then with earlier
-   claims, with the first of these. Where all may stand, it is the first box that no claim places. RP_DONE, RP_OUT_OF_MEMORY, or
+/* Judges a packing, whoever made it. Claims are looked at in turn: what is wrong with the first one that may not stand with those
+   before it is written to fault. What is wrong with this claim alone comes first, then what is wrong with it and an earlier one, the
+   first of these. Where all may stand, it is the first box that no claim places. RP_DONE, RP_OUT_OF_MEMORY, or
    RP_BAD_LENGTHS where there are 2^32 bins, boxes or claims, or more; there may be any number of exclusions.
 
    Proved, for all lists, wherever memory is refused:
@@ -505,7 +506,8 @@ typedef struct rp_fault {
      in different bins. Else it is the fault that is said above. An exclusion with 0, or of a group with itself, which a packing
      refuses, excludes nothing here.
    - Where the answer is not RP_DONE nothing is written to fault.
-   What the caller sees to is as of rectangle_pack_boxes. */
+   Only tested, and what the caller sees to, is as of rectangle_pack_boxes. The caller sees to it too that fault is there and
+   aligned, that nobody else reads or writes it, and that it overlaps nothing else. */
 uint32_t rectangle_pack_check(const rp_bin *bins, size_t bin_count, const rp_entry *entries, size_t entry_count,
                               const rp_exclusion *exclusions, size_t exclusion_count, const rp_claim *claims, size_t claim_count,
                               rp_fault *fault);

@@ -229,7 +229,7 @@ using Entry = rp_entry;
 /// Where somebody put a box: the index of the box in the list of entries, that of the bin, and where it stands there.
 using Claim = rp_claim;
 
-/// What may be wrong with a packing, in the order in which it is looked for.
+/// What may be wrong: the first four with one claim, the next four with two, and the last where all claims may stand.
 enum class FaultKind : std::uint32_t {
     /// There is no bin of this index.
     unknown_bin = RP_FAULT_UNKNOWN_BIN,
@@ -345,8 +345,9 @@ inline Packed<Placement> pack(View<Bin> bins, const Collection &collection, Heur
     return {std::move(places).taken(), Heuristic{chosen}};
 }
 
-/// What is wrong first with a packing, whoever made it; nothing where it is one: each box is placed once, in a size in which it may
-/// stand, inside its bin, and shares no cell with another; each group is in one bin, and excluded groups are in different ones.
+/// What is wrong first with a packing, whoever made it, as rectangle_pack_check says it; nothing where it is one: each box is placed
+/// once, in a size in which it may stand, inside its bin, and shares no cell with another; the boxes of one group above 0 are in one
+/// bin, and those of groups that are excluded in different ones.
 inline std::optional<Fault> check(View<Bin> bins, View<Entry> entries, View<Claim> claims, View<Exclusion> exclusions = {})
 {
     rp_fault fault = {};

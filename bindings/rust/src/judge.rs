@@ -65,7 +65,7 @@ pub enum AloneFault {
 /// What may be wrong with two claims, each of which may stand alone, in the order in which it is looked for.
 #[derive(Debug, Clone, Copy, PartialEq, Eq, Hash)]
 pub enum Conflict {
-    /// They place one box for one group.
+    /// More claims place the box for this group than the group names it.
     PlacedTwice,
     /// They share a cell of a bin.
     SharesCell,
@@ -94,7 +94,7 @@ pub enum Fault<'a, RectId, GroupId> {
         /// What is wrong with them.
         conflict: Conflict,
     },
-    /// No claim places this box for this group.
+    /// Fewer claims place this box for this group than the group names it.
     NotPlaced {
         /// The id of the box.
         id: &'a RectId,
@@ -109,7 +109,8 @@ pub enum Fault<'a, RectId, GroupId> {
 ///
 /// The fault is that of the first claim that may not stand with those before it: what is wrong with it alone, or else with earlier
 /// ones, with the first of these. Where all may stand it is the first box that is not placed, in the order of
-/// [`placements`](crate::RectanglePackOk::placements). The calls of the library that says so are proved.
+/// [`placements`](crate::RectanglePackOk::placements). Where a group names a box several times, its claims take these in turn. What the
+/// library answers by numbers is proved; the change from ids to numbers is tested.
 ///
 /// ```
 /// # use std::collections::BTreeMap;
@@ -132,7 +133,7 @@ pub enum Fault<'a, RectId, GroupId> {
 ///
 /// # Errors
 ///
-/// `TooMany` or `OutOfMemory`.
+/// `EqualGroups`, `TooMany` or `OutOfMemory`.
 pub fn first_fault<'a, RectId, BinId, GroupId>(
     rects: &'a GroupedRectsToPlace<RectId, GroupId>,
     turns: &BTreeMap<RectId, Turns>,
@@ -149,6 +150,9 @@ where
         return Err(RectanglePackError::TooMany);
     }
     let collection = rects.collection(&entries);
+    if collection.exclusions.iter().any(|it| it.one == it.other) {
+        return Err(RectanglePackError::EqualGroups);
+    }
     let boxes = entries.iter().zip(collection.boxes);
     let listed: Vec<ffi::RpEntry> = boxes
         .map(|(&(id, _), rect)| ffi::RpEntry {

@@ -50,7 +50,7 @@ impl<RectId: Ord + Clone, GroupId: Ord> GroupedRectsToPlace<RectId, GroupId> {
     /// Says that two groups are excluded: within one packing neither goes into a bin that the other went into. They need not have
     /// boxes yet; a group without boxes excludes nothing. To say it again, in either order, changes nothing.
     ///
-    /// To exclude a group with itself is a mistake, to which each packing answers `EqualGroups`.
+    /// To exclude a group with itself is a mistake, to which each packing, and the judge, answers `EqualGroups`.
     ///
     /// ```
     /// # use std::collections::BTreeMap;

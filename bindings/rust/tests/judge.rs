@@ -3,7 +3,8 @@
 use std::collections::BTreeMap;
 
 use rectangle_pack::{
-    first_fault, AloneFault, Claim, Conflict, Fault, GroupedRectsToPlace, PackedLocation, RectToInsert, TargetBin, Turns,
+    first_fault, AloneFault, Claim, Conflict, Fault, GroupedRectsToPlace, PackedLocation, RectToInsert, RectanglePackError,
+    TargetBin, Turns,
 };
 
 type Rects = GroupedRectsToPlace<u32, &'static str>;
@@ -99,4 +100,13 @@ fn boxes_that_are_not_placed() {
     assert_eq!(fault_of(&rects, &claims), Some(Fault::NotPlaced { id: &4, group: Some(&"caps") }));
     claims.pop();
     assert_eq!(fault_of(&rects, &claims), Some(Fault::NotPlaced { id: &3, group: None }));
+}
+
+#[test]
+fn a_group_is_not_excluded_with_itself() {
+    let mut rects = rects();
+    rects.exclude("caps", "caps");
+    let bins = BTreeMap::from([(7, TargetBin::new(10, 10, 1))]);
+    let answer = first_fault(&rects, &BTreeMap::new(), &bins, &packing());
+    assert_eq!(answer, Err(RectanglePackError::EqualGroups));
 }
