@@ -6,7 +6,8 @@
     Placement(name='cap', group='hats', bin='page', x=0, y=20, z=0, width=5, height=5, depth=1)
 
 A Session keeps its bins from packing to packing, and releases boxes again. It lists and joins what is free, plans the cuts that
-part a bin, takes boxes at places of your choice, and has bins cleared, made larger and removed.
+part a bin, takes boxes at places of your choice, and has bins cleared, made larger and removed. It is saved to a file by save, and
+Session.load makes it again.
 
 check judges a packing, whoever made it: it answers the first fault, or None.
 
@@ -18,8 +19,8 @@ tools/build_c.sh writes."""
 from ._check import check
 from ._cuts import Axis, Cut, CutNode, CutStep, CutTree, Leaf
 from ._errors import (
-    BinInUse, DuplicateBin, EqualGroups, NotEnoughBinSpace, NotFree, NotFromCuts, NumbersUsedUp, OutOfMemory, PackError, TooLarge,
-    TooMany, UnknownAxis, UnknownBin, UnknownBox, UnknownHeuristic, UnknownPlacement, UnknownTurn,
+    BinInUse, DuplicateBin, EqualGroups, NotASession, NotEnoughBinSpace, NotFree, NotFromCuts, NumbersUsedUp, OutOfMemory,
+    PackError, TooLarge, TooMany, UnknownAxis, UnknownBin, UnknownBox, UnknownHeuristic, UnknownPlacement, UnknownTurn,
 )
 from ._faults import Fault, FaultKind
 from ._pack import pack
@@ -32,5 +33,5 @@ __all__ = [
     "Session", "Outstanding", "Stats", "Section", "Axis", "Cut", "Leaf", "CutStep", "CutNode", "CutTree",
     "PackError", "NotEnoughBinSpace", "OutOfMemory", "TooMany", "UnknownHeuristic", "UnknownBox", "EqualGroups", "UnknownAxis",
     "UnknownTurn", "DuplicateBin", "UnknownBin", "UnknownPlacement", "NumbersUsedUp", "BinInUse", "TooLarge", "NotFree",
-    "NotFromCuts",
+    "NotFromCuts", "NotASession",
 ]

@@ -112,6 +112,15 @@ class NotFromCuts(PackError):
     text = "No straight cuts part the boxes that stand in the bin"
 
 
+class NotASession(PackError, ValueError):
+    """A file is no saved session: it cannot be read as one, or no session has what it says."""
+
+    text = "This is no saved session"
+
+    def __str__(self) -> str:
+        return f"{self.text}: {self.args[0]}" if self.args else f"{self.text}."
+
+
 @contextmanager
 def naming(
     name: Hashable,

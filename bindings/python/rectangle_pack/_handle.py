@@ -33,9 +33,21 @@ class Handle:
         # How long the list was that each call wrote last.
         self._lengths: dict[str, int] = {}
         _library.check(_library.call("session_new", self._handle))
+        self._keep()
+
+    def _keep(self) -> None:
+        """From now on the handle has a session, which is to be freed."""
         self._free = weakref.finalize(self, _library.call, "session_free", self._handle)
         # At the end of the process all memory goes anyway.
         self._free.atexit = False
+
+    def _restore(self, saved: _library.RpSaved, wrong: _library.RpWrong) -> int:
+        """Makes a session of saved parts in place of the one that is there, and answers the status."""
+        self._free()
+        status = _library.call("session_restore", self._handle, saved, wrong)
+        if not status:
+            self._keep()
+        return status
 
     @alone
     def close(self) -> None:

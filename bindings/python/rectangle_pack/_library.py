@@ -9,7 +9,7 @@ from pathlib import Path
 from typing import TypeVar
 
 from ._errors import (
-    BinInUse, DuplicateBin, EqualGroups, NotEnoughBinSpace, NotFree, NotFromCuts, NumbersUsedUp, OutOfMemory, PackError, TooLarge,
+    BinInUse, DuplicateBin, EqualGroups, NotASession, NotEnoughBinSpace, NotFree, NotFromCuts, NumbersUsedUp, OutOfMemory, PackError, TooLarge,
     TooMany, UnknownAxis, UnknownBin, UnknownBox, UnknownHeuristic, UnknownPlacement,
 )
 
@@ -89,6 +89,22 @@ class RpFault(ctypes.Structure):
     _fields_ = _uint32("kind", "first", "second")
 
 
+class RpSavedBin(ctypes.Structure):
+    _fields_ = [*_uint32("id"), ("size", RpBin), *_uint32("coalesced", "section_count")]
+
+
+class RpSaved(ctypes.Structure):
+    _fields_ = [
+        ("bins", ctypes.POINTER(RpSavedBin)), ("bin_count", ctypes.c_size_t),
+        ("sections", ctypes.POINTER(RpSection)), ("section_count", ctypes.c_size_t),
+        ("placements", ctypes.POINTER(RpStanding)), ("placement_count", ctypes.c_size_t), ("next_number", ctypes.c_uint64),
+    ]
+
+
+class RpWrong(ctypes.Structure):
+    _fields_ = [*_uint32("kind"), ("bin", ctypes.c_size_t), ("first", ctypes.c_size_t), ("second", ctypes.c_size_t)]
+
+
 class BinId(ctypes.Structure):
     """An entry of the list of bins."""
     _fields_ = _uint32("bin")
@@ -99,13 +115,13 @@ Entry = TypeVar("Entry", bound=ctypes.Structure)
 # A width, a height and a depth, of 32 bits each.
 Size = tuple[int, int, int]
 
-SHORT_ARRAY, NO_PLAN = 8, 9
+SHORT_ARRAY, NO_PLAN, WRONG_PARTS = 8, 9, 18
 
 ERRORS: dict[int, type[PackError]] = {
     1: NotEnoughBinSpace, 2: OutOfMemory, 3: TooMany,
     4: DuplicateBin, 5: UnknownBin, 6: UnknownPlacement, 7: NumbersUsedUp,
     10: UnknownHeuristic, 11: UnknownBox, 12: EqualGroups, 13: BinInUse, 14: TooLarge, 15: NotFree,
-    16: UnknownAxis, 17: NotFromCuts,
+    16: UnknownAxis, 17: NotFromCuts, 18: NotASession,
 }
 
 
@@ -134,6 +150,7 @@ _ARGUMENTS = {
     "collection": [*_list_of(RpBin), *_places_of(RpPlacement)],
     "check": [*_list_of(RpBin), *_list_of(RpEntry), *_list_of(RpExclusion), *_list_of(RpClaim), ctypes.POINTER(RpFault)],
     "session_new": [_SESSION],
+    "session_restore": [_SESSION, ctypes.POINTER(RpSaved), ctypes.POINTER(RpWrong)],
     "session_free": [_SESSION],
     "session_add_bin": [_SESSION] + [ctypes.c_uint32] * 4,
     "session_pack_collection": [_SESSION, *_places_of(RpOutstanding)],

@@ -2,15 +2,19 @@
 from __future__ import annotations
 
 import ctypes
+import os
 from collections.abc import Hashable, Iterable, Mapping, Sequence
+from pathlib import Path
 from types import TracebackType
 from typing import Any, Generic, overload
 
 from . import _library
 from ._collection import HEURISTICS, Collection, heuristic_number, items_of
 from ._cuts import AXES, Axis, Cut, CutStep, CutTree, Leaf, axis_number, tree_of
-from ._errors import NotFree, TooMany, UnknownHeuristic, naming
+from ._errors import NotASession, NotFree, TooMany, UnknownHeuristic, naming
+from ._files import write_whole
 from ._handle import Handle, alone
+from ._saving import Saved, SavedBin, SavedPlacement, as_c, saved_of, what_is_wrong
 from ._types import AnyHeuristic, Bin, BinName, Box, BoxName, Groups, Heuristic, Outstanding, Packing, Pairs, Section, Stats
 
 # No bin gets this id: by it bins are asked for that are not there.
@@ -104,6 +108,53 @@ class Session(Handle, Generic[BinName]):
             self._call("add_bin", id, *size)
         self._ids[bin], self._names[id], self._sides[id] = id, bin, list(size)
         self._next_id += 1
+
+    @alone
+    def save(self, path: str | os.PathLike[str]) -> None:
+        """Saves the session to a file of JSON: bins, free sections, placements and the next number. The file is written whole or
+        not at all.
+
+        Names of bins, boxes and groups may be texts, whole numbers, None, and tuples of these. Raises TypeError where one is not,
+        and OSError."""
+        homes = {it.bin: index for index, it in enumerate(self._read("bins", _library.BinId))}
+        bins = []
+        for id in homes:
+            name = self._names[id]
+            bins.append(SavedBin(name, Bin(*self._sides[id]), self.was_coalesced(name), self.free_sections(name)))
+        placements = []
+        for it in self._read("outstanding", _library.RpStanding):
+            box, group, _ = self._boxes[it.number]
+            placements.append(SavedPlacement(it.number, box, group, homes[it.bin], _section(it.section)))
+        write_whole(Path(path), Saved(bins, placements, self.next_number()).text().encode())
+
+    @classmethod
+    def load(cls, path: str | os.PathLike[str]) -> Session[Any]:
+        """The session that was saved to this file. It goes on as the other one would: placements keep their numbers.
+
+        >>> with Session({"sheet": Bin(10, 10)}) as session:
+        ...     packing = session.pack({"hat": Box(4, 10)})
+        ...     session.save("atlas.json")
+        >>> with Session.load("atlas.json") as session:
+        ...     session.outstanding()[0].name
+        'hat'
+
+        The library looks at all that the file says: so no file makes a session that gives a cell twice, or loses one. Raises
+        NotASession, which says what is wrong and where; OutOfMemory; or OSError."""
+        try:
+            saved = saved_of(Path(path).read_text("utf-8"))
+        except UnicodeDecodeError:
+            raise NotASession("no UTF-8") from None
+        session: Session[Any] = cls()
+        wrong = _library.RpWrong()
+        status = session._restore(as_c(saved), wrong)
+        if status == _library.WRONG_PARTS:
+            raise what_is_wrong(saved, wrong)
+        _library.check(status)
+        for id, bin in enumerate(saved.bins):
+            session._ids[bin.name], session._names[id], session._sides[id] = id, bin.name, list(bin.size)
+        session._next_id = len(saved.bins)
+        session._boxes = {it.number: (it.name, it.group, it.bin) for it in saved.placements}
+        return session
 
     @alone
     def grow_bin(self, bin: BinName, axis: Axis, by: int) -> None:

@@ -5,10 +5,11 @@ import importlib
 import json
 import os
 import sys
-import tempfile
 from collections.abc import Iterable, Iterator
 from pathlib import Path
 from typing import Any, TypeVar
+
+from .._files import write_whole
 
 __all__ = [
     "DONE", "NO_ROOM", "WRONG_INPUT", "STOPPED", "Wrong", "NoRoom", "needs", "print_json", "progress",
@@ -54,17 +55,7 @@ def write(path: Path, content: bytes | str) -> None:
     data = content.encode() if isinstance(content, str) else content
     try:
         path.parent.mkdir(parents=True, exist_ok=True)
-        number, name = tempfile.mkstemp(dir=path.parent, prefix=f".{path.name}.")
-        try:
-            with os.fdopen(number, "wb") as file:
-                file.write(data)
-            umask = os.umask(0)
-            os.umask(umask)
-            os.chmod(name, 0o666 & ~umask)
-            os.replace(name, path)
-        except BaseException:
-            os.unlink(name)
-            raise
+        write_whole(path, data)
     except OSError as why:
         raise Wrong(f"cannot be written: {why.strerror}", path) from None
 
