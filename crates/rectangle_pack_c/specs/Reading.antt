@@ -11,9 +11,11 @@ use Rattle.rectangle_pack.specs.Boxes.{Cuboid}
 use Rattle.rectangle_pack.specs.CutPlans.{IsCutPlan, axis_rank}
 use Rattle.rectangle_pack.specs.CutTrees.{IsFromCuts}
 use Rattle.rectangle_pack.specs.Session.{State, boxes_of}
+use Rattle.rectangle_pack_c.specs.declared.RpBin.{RpBin}
 use Rattle.rectangle_pack_c.specs.declared.reading.RpCutStep.{RpCutStep}
 use Rattle.rectangle_pack_c.specs.declared.reading.RpSection.{RpSection}
 use Rattle.rectangle_pack_c.specs.declared.reading.RpStanding.{RpStanding}
+use Rattle.rectangle_pack_c.specs.Arguments.{bin_size}
 
 -- what is written of a box of cells: its corner and its sides
 abbrev pub section_of : Cuboid → RpSection
@@ -46,6 +48,13 @@ abbrev pub TellsCoalesced : State ℕ ℕ → (bin status old new : ℕ) → Typ
 TellsCoalesced state bin status old new =
     MatchOption (lookup (is_at (nat_cmp bin)) state.bins) ((status ≡ 5) × (new ≡ old))
     (λ (b : Bin). (status ≡ 0) × (new ≡ if b.coalesced then 1 else 0))
+
+-- the size of a bin is written; or the bin is not there (`RP_UNKNOWN_BIN`), and nothing is written
+-- Example: of a new bin 10x20x1: 10, 20 and 1
+abbrev pub TellsSize : State ℕ ℕ → (bin status : ℕ) (old new : RpBin) → Type 0
+TellsSize state bin status old new =
+    MatchOption (lookup (is_at (nat_cmp bin)) state.bins) ((status ≡ 5) × (new ≡ old))
+    (λ (b : Bin). (status ≡ 0) × (bin_size new ≡ b.size))
 
 -- what is written of a step of a plan: the axis of the cut, 0 for x, 1 for y and 2 for z, and its place; or 3 where the
 -- part is not cut

@@ -5,12 +5,12 @@ ghost use Rattle.std.specs.List.Sorted.{IsStrictlySortedBy};
 ghost use Rattle.std.specs.Map.{keys_of};
 ghost use Rattle.std.specs.Ordering.{nat_cmp};
 ghost use Rattle.rectangle_pack.specs.Session.{State};
-ghost use Rattle.rectangle_pack_c.specs.Reading.{Tells, TellsSections, TellsCoalesced, TellsPlan, standing_of};
+ghost use Rattle.rectangle_pack_c.specs.Reading.{Tells, TellsSections, TellsCoalesced, TellsPlan, TellsSize, standing_of};
 ghost use Rattle.rectangle_pack.specs.CutPlans.{axis_rank};
 
 use super::handle::RpSession;
 use super::session::refusal;
-use super::{RP_DONE, RP_NO_PLAN, RP_SHORT_ARRAY, RP_UNKNOWN_BIN, Written};
+use super::{RP_DONE, RP_NO_PLAN, RP_SHORT_ARRAY, RP_UNKNOWN_BIN, RpBin, Written};
 use rectangle_pack::{Axis, BinSection, CutStep, Outstanding, Session};
 use std::alloc::Global;
 
@@ -244,6 +244,45 @@ pub extern "C" fn rectangle_pack_session_was_coalesced(
         return RP_UNKNOWN_BIN;
     };
     *coalesced = if was { 1 } else { 0 };
+    RP_DONE
+}
+
+/// Writes the size of a bin. `RP_DONE`, or `RP_UNKNOWN_BIN` where there is no such bin, and then
+/// nothing is written. Takes no memory, and leaves the session as it was.
+#[unsafe(no_mangle)]
+pub extern "C" fn rectangle_pack_session_bin_size(
+    alloc: Global,
+    session: &mut RpSession,
+    bin: u32,
+    size: &mut RpBin,
+) -> u32
+    requires made { IsSome session.old.state }
+    // `RP_DONE`: the bin is there, and its size is written. `RP_UNKNOWN_BIN`: it is not there, and
+    //   nothing is written. No other status is answered. [rectangle_pack_session_bin_size.width_for_height]
+    ensures told { IfSome session.old.state (λ (state : State ℕ ℕ).
+        TellsSize state bin result size.old size.new) }
+    ensures unchanged { session.new.state ≡ session.old.state }
+{
+    let held = session.take(alloc);
+    let answer = tell_size(&held, bin, size);
+    *session = RpSession::of(held);
+    answer
+}
+
+// Writes the size of a bin of a session.
+fn tell_size(session: &Session<u32, u32>, bin: u32, size: &mut RpBin) -> u32
+    ensures { TellsSize session.now bin result size.old size.new }
+{
+    let bins = session.bins();
+    let Some(found) = bins.get(&bin) else {
+        return RP_UNKNOWN_BIN;
+    };
+    let whole = found.max_size();
+    *size = RpBin {
+        width: whole.width(),
+        height: whole.height(),
+        depth: whole.depth(),
+    };
     RP_DONE
 }
 
