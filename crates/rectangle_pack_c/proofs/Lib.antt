@@ -11,3 +11,4 @@ pub mod SessionLemmas
 pub mod UpkeepLemmas
 pub mod PlacingLemmas
 pub mod JudgingLemmas
+pub mod SavedLemmas

@@ -8,4 +8,5 @@ pub mod Sessions
 pub mod Upkeep
 pub mod Placing
 pub mod Judging
+pub mod Restoring
 pub mod private

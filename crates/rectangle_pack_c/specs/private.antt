@@ -1,3 +1,4 @@
 -- Definitions that only the clauses of private functions use.
 pub mod Pushed
+pub mod Saved
 pub mod Written

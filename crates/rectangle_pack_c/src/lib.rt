@@ -20,6 +20,7 @@ mod handle;
 mod judging;
 mod placing;
 mod reading;
+mod restoring;
 mod session;
 #[cfg(test)]
 mod tests;
@@ -107,6 +108,8 @@ pub const RP_NOT_FREE: u32 = 15;
 pub const RP_UNKNOWN_AXIS: u32 = 16;
 /// No straight cuts part the boxes that stand in the bin.
 pub const RP_NOT_FROM_CUTS: u32 = 17;
+/// No session has these parts.
+pub const RP_WRONG_PARTS: u32 = 18;
 
 // There are fewer bins and boxes than this, so that each index and their count is of 32 bits.
 const LIMIT: usize = 0x1_0000_0000;

@@ -12,6 +12,7 @@ mod large;
 mod memory;
 mod placing;
 mod reading;
+mod restoring;
 mod session;
 mod upkeep;
 

@@ -164,7 +164,7 @@ pub extern "C" fn rectangle_pack_session_place_at(
 }
 
 // The location of a section.
-fn location_of(section: &RpSection) -> PackedLocation
+pub(crate) fn location_of(section: &RpSection) -> PackedLocation
     ensures { result ≡ box_of section.now }
 {
     let size = RectToInsert::new(section.width, section.height, section.depth);

@@ -1,0 +1,432 @@
+-- Saved parts: the state that has them, and why no session has wrong ones.
+use Rattle.rectangle_pack_c.proofs.Std.{◌≡◌, ◌≢◌, ℕ, zero, suc, ◌+◌, ◌<◌, ◌≤◌, List, [], ◌∷◌, ◌++◌, length, get_or, take, drop, refl, ap, sym, ◌∙◌, subst, arith, nat_cmp, Less, false}
+use Rattle.rectangle_pack_c.proofs.Std.{Some, All, AllZip, map, keys_of, lookup, is_at, insert_entry, IsStrictlySortedBy, length-map, length-take-le, length-append, append_assoc, map-append}
+use Rattle.rectangle_pack_c.proofs.Std.{get_or_default, take_more, nat_cmp_is, All-nil, All-head, All-tail, ◌-◌, append-nil, below_more}
+use Rattle.std.proofs.Common.{Err, add-one, length-drop, drop-cons}
+use Rattle.std.specs.List.{flat_map, sum_by}
+use Rattle.std.proofs.lemmas.Cmp.{nat_cmp_total}
+use Rattle.std.proofs.lemmas.List.{get_or-map}
+use Rattle.std.proofs.lemmas.List.Sums.{sum_by-cons}
+use Rattle.std.proofs.lemmas.Map.Keys.{sorted_from_all_adjacent, sorted_tail, below_from_sorted}
+use Rattle.std.proofs.lemmas.Map.Views.{All-after_first}
+use Rattle.rectangle_pack_sections.proofs.Std.{All-map, All-push, all_pairs_push, get_or-take}
+use Rattle.rectangle_pack_sections.proofs.lemmas.util.Lists.{All-middle}
+use Rattle.rectangle_pack.specs.declared.BinFault.{BinFault}
+use Rattle.rectangle_pack.specs.declared.BinFault.TheVariants.{Outside, SharesCell, CellInNone, NotFromCuts}
+use Rattle.rectangle_pack.specs.Covers.{IsSoundAnswer, in_one_bin}
+use Rattle.rectangle_pack_covers.proofs.lemmas.Covers.{IsBinAnswer-fault}
+use Rattle.rectangle_pack.specs.declared.session.command.Outstanding.{Outstanding}
+use Rattle.rectangle_pack.specs.declared.session.restoring.RestoreError.{RestoreError}
+use Rattle.rectangle_pack.specs.declared.session.restoring.RestoreError.TheVariants.{NotRising, NotBelowNext, UnknownBin, WrongBin, OutOfMemory}
+use Rattle.rectangle_pack.specs.Bins.{Bin}
+use Rattle.rectangle_pack.specs.Boxes.{Size, Cuboid}
+use Rattle.rectangle_pack.specs.Covering.{CoverBin}
+use Rattle.rectangle_pack.specs.Restoring.{IsRestored}
+use Rattle.rectangle_pack.specs.Session.{State, IsSession, outstanding_in}
+use Rattle.rectangle_pack.proofs.lemmas.session.Restoring.{no_session-record, no_session-bin}
+use Rattle.rectangle_pack_c.specs.declared.reading.RpSection.{RpSection}
+use Rattle.rectangle_pack_c.specs.declared.reading.RpStanding.{RpStanding}
+use Rattle.rectangle_pack_c.specs.declared.restoring.RpSaved.{RpSaved}
+use Rattle.rectangle_pack_c.specs.declared.restoring.RpSavedBin.{RpSavedBin}
+use Rattle.rectangle_pack_c.specs.declared.restoring.RpWrong.{RpWrong}
+use Rattle.rectangle_pack_c.specs.declared.restoring.SavedError.{SavedError}
+use Rattle.rectangle_pack_c.specs.declared.restoring.SavedError.TheVariants.{Counts, Ids, Sections, Parts}
+use Rattle.rectangle_pack_c.specs.Reading.{section_of, standing_of}
+use Rattle.rectangle_pack_c.specs.Restoring.{IsSavedBin, HasParts, IsSavedSession, AreCounted, IdsRise, IsFirstFallen, HasSound, IsSavedFault, wrong_written}
+use Rattle.rectangle_pack_c.specs.Upkeep.{box_of}
+use Rattle.rectangle_pack_c.specs.private.Saved.{AreBinsSaved, IsBinPut, IsFaultOfBin, bin_saved, bins_saved, outstanding_of, state_saved}
+use Rattle.rectangle_pack_c.proofs.OrderLemmas.{nat_greater, nat_same, nat_other}
+
+-- what is read of what was written is as before, and the other way round
+boxes_again : (boxes : List Cuboid) → map box_of (map section_of boxes) ≡ boxes
+boxes_again [] = refl
+boxes_again (b ∷ boxes) = ap (λ l. b ∷ l) (boxes_again boxes)
+
+sections_again : (sections : List RpSection) → map section_of (map box_of sections) ≡ sections
+sections_again [] = refl
+sections_again (s ∷ sections) = ap (λ l. s ∷ l) (sections_again sections)
+
+outstanding_again : (outstanding : List (Outstanding ℕ ℕ)) → map outstanding_of (map standing_of outstanding) ≡ outstanding
+outstanding_again [] = refl
+outstanding_again (o ∷ outstanding) = ap (λ l. o ∷ l) (outstanding_again outstanding)
+
+standing_again : (placements : List RpStanding) → map standing_of (map outstanding_of placements) ≡ placements
+standing_again [] = refl
+standing_again (p ∷ placements) = ap (λ l. p ∷ l) (standing_again placements)
+
+-- how many sections a saved bin has, and its id
+abbrev count_of : RpSavedBin → ℕ
+count_of b = b.section_count
+
+abbrev id_of : RpSavedBin → ℕ
+id_of b = b.id
+
+-- what is written of the free sections of a bin
+abbrev told : ℕ × Bin → List RpSection
+told e = map section_of e.1.sections
+
+front : {X : Type 0} (n : ℕ) (xs ys : List X) → length xs ≡ n → take n (xs ++ ys) ≡ xs
+front n [] ys e = rw (← e) refl
+front n (x ∷ xs) ys e = rw (← e) (ap (λ l. x ∷ l) (front (length xs) xs ys refl))
+
+back : {X : Type 0} (n : ℕ) (xs ys : List X) → length xs ≡ n → drop n (xs ++ ys) ≡ ys
+back n [] ys e = rw (← e) refl
+back n (x ∷ xs) ys e = rw (← e) (back (length xs) xs ys refl)
+
+whole_again : {X : Type 0} (n : ℕ) (xs : List X) → take n xs ++ drop n xs ≡ xs
+whole_again zero xs = refl
+whole_again (suc n) [] = refl
+whole_again (suc n) (x ∷ xs) = ap (λ l. x ∷ l) (whole_again n xs)
+
+nothing_left : {X : Type 0} (xs : List X) → length xs ≡ 0 → [] ≡ xs
+nothing_left [] e = refl
+nothing_left (x ∷ xs) e = absurd (omega (arith, e))
+
+-- the bins of saved parts are saved so
+bins_are_saved : (bins : List RpSavedBin) (sections : List RpSection) → sum_by count_of bins ≡ length sections → AllZip IsSavedBin (bins_saved bins sections) bins
+bins_are_saved [] sections e = tt
+bins_are_saved (b ∷ bins) sections e =
+    let n = b.section_count in
+    let parts = sum_by-cons count_of b bins in
+    let fits : n ≤ length sections = omega (arith, e, parts) in (
+      record { id = refl; size = refl; coalesced = refl; count = length-map (take n sections) box_of ∙ length-take-le n sections fits },
+      bins_are_saved bins (drop n sections) (omega (arith, e, parts, length-drop n sections)),
+    )
+
+-- and have the sections
+sections_are_saved : (bins : List RpSavedBin) (sections : List RpSection) → sum_by count_of bins ≡ length sections → flat_map told (bins_saved bins sections) ≡ sections
+sections_are_saved [] sections e = nothing_left sections (sym e)
+sections_are_saved (b ∷ bins) sections e =
+    let n = b.section_count in
+    let parts = sum_by-cons count_of b bins in
+    let later = sections_are_saved bins (drop n sections) (omega (arith, e, parts, length-drop n sections)) in
+    rw (sections_again (take n sections), later) (whole_again n sections)
+
+ids_are_saved : (bins : List RpSavedBin) (sections : List RpSection) → keys_of (bins_saved bins sections) ≡ map id_of bins
+ids_are_saved [] sections = refl
+ids_are_saved (b ∷ bins) sections = ap (λ l. b.id ∷ l) (ids_are_saved bins (drop b.section_count sections))
+
+rising_ids : (bins : List RpSavedBin) → IdsRise bins → IsStrictlySortedBy nat_cmp (map id_of bins)
+rising_ids bins rise = sorted_from_all_adjacent nat_cmp_total (map id_of bins) 0 (λ k within.
+    let d : RpSavedBin = record { id = 0; size = record { width = 0; height = 0; depth = 0 }; coalesced = 0; section_count = 0 } in
+    let next : k + 1 < length bins = omega (arith, within, length-map bins id_of) in
+    let less = rise k (k + 1) d (omega arith) next in
+    rw (get_or-map id_of bins k d 0 (omega (arith, next)), get_or-map id_of bins (k + 1) d 0 next) (sym (nat_cmp_is _ _ Less less)))
+
+-- the state of saved parts has them
+pub has_parts : (saved : RpSaved) → AreCounted saved → IdsRise saved.bins.now → HasParts saved (state_saved saved)
+has_parts saved counted rise = record {
+  bins = bins_are_saved saved.bins.now saved.sections.now counted;
+  rising = rw (ids_are_saved saved.bins.now saved.sections.now) (rising_ids saved.bins.now rise);
+  sections = sections_are_saved saved.bins.now saved.sections.now counted;
+  outstanding = standing_again saved.placements.now;
+  next = refl;
+}
+
+-- bins that are saved so are those of the parts
+saved_bins : (es : List (ℕ × Bin)) (bins : List RpSavedBin) (sections : List RpSection) → AllZip IsSavedBin es bins → flat_map told es ≡ sections
+    → es ≡ bins_saved bins sections
+saved_bins [] [] sections h is = refl
+saved_bins [] (b ∷ bins) sections h is = absurd h
+saved_bins (e ∷ es) [] sections h is = absurd h
+saved_bins (e ∷ es) (b ∷ bins) sections h is =
+    let n = b.section_count in
+    let many : length (told e) ≡ n = length-map e.1.sections section_of ∙ h.0.count in
+    let own : take n sections ≡ told e = rw (← is) (front n (told e) (flat_map told es) many) in
+    let rest : flat_map told es ≡ drop n sections = rw (← is) (sym (back n (told e) (flat_map told es) many)) in
+    let boxes : e.1.sections ≡ map box_of (take n sections) = rw own (sym (boxes_again e.1.sections)) in
+    let bin : e.1 ≡ bin_saved b (take n sections) = same_bin e.1 (bin_saved b (take n sections)) h.0.size boxes h.0.coalesced in
+    let entry : e ≡ (b.id, bin_saved b (take n sections)) = same_entry e b.id (bin_saved b (take n sections)) h.0.id bin in
+    ap (λ (l : List (ℕ × Bin)). e ∷ l) (saved_bins es bins (drop n sections) h.1 rest)
+    ∙ ap (λ (x : ℕ × Bin). x ∷ bins_saved bins (drop n sections)) entry
+  where
+    same_bin : (a c : Bin) → a.size ≡ c.size → a.sections ≡ c.sections → a.coalesced ≡ c.coalesced → a ≡ c
+    same_bin a c size sections coalesced =
+        ap (λ s. record a { size = s }) size ∙ ap (λ l. record a { size = c.size; sections = l }) sections
+        ∙ ap (λ t. record { size = c.size; sections = c.sections; coalesced = t }) coalesced
+
+    same_entry : (e : ℕ × Bin) (id : ℕ) (bin : Bin) → e.0 ≡ id → e.1 ≡ bin → e ≡ (id, bin)
+    same_entry e id bin same are = ap (λ i. (i, e.1)) same ∙ ap (λ b. (id, b)) are
+
+-- there is only one state that has parts
+pub only_state : (saved : RpSaved) (state : State ℕ ℕ) → HasParts saved state → state ≡ state_saved saved
+only_state saved state h =
+    let bins = saved_bins state.bins saved.bins.now saved.sections.now h.bins h.sections in
+    let outstanding : state.outstanding ≡ map outstanding_of saved.placements.now = rw (← h.outstanding) (sym (outstanding_again state.outstanding)) in
+    ap (λ (bs : List (ℕ × Bin)). record state { bins = bs }) bins
+    ∙ ap (λ (os : List (Outstanding ℕ ℕ)). record { bins = bins_saved saved.bins.now saved.sections.now; outstanding = os; next = state.next }) outstanding
+    ∙ ap (λ n. record {
+      bins = bins_saved saved.bins.now saved.sections.now;
+      outstanding = map outstanding_of saved.placements.now;
+      next = n;
+    }) h.next
+
+-- parts that a state has are counted
+counted_parts : (es : List (ℕ × Bin)) (bins : List RpSavedBin) (sections : List RpSection) → AllZip IsSavedBin es bins → flat_map told es ≡ sections
+    → sum_by count_of bins ≡ length sections
+counted_parts [] [] sections h is = rw (← is) refl
+counted_parts [] (b ∷ bins) sections h is = absurd h
+counted_parts (e ∷ es) [] sections h is = absurd h
+counted_parts (e ∷ es) (b ∷ bins) sections h is =
+    let later = counted_parts es bins (flat_map told es) h.1 refl in
+    omega (
+      arith,
+      sum_by-cons count_of b bins,
+      later,
+      h.0.count,
+      length-map e.1.sections section_of,
+      length-append (told e) (flat_map told es),
+      ap length is,
+    )
+
+ids_of_parts : (es : List (ℕ × Bin)) (bins : List RpSavedBin) → AllZip IsSavedBin es bins → keys_of es ≡ map id_of bins
+ids_of_parts [] [] h = refl
+ids_of_parts [] (b ∷ bins) h = absurd h
+ids_of_parts (e ∷ es) [] h = absurd h
+ids_of_parts (e ∷ es) (b ∷ bins) h = ap (λ i. i ∷ keys_of es) h.0.id ∙ ap (λ l. b.id ∷ l) (ids_of_parts es bins h.1)
+
+-- of ids that rise the next one is above
+rises : (before : List ℕ) (a b : ℕ) (after : List ℕ) → IsStrictlySortedBy nat_cmp (before ++ a ∷ b ∷ after) → a < b
+rises [] a b after h = below_from_sorted (a ∷ b ∷ after) 0 1 0 h (omega arith) (omega arith)
+rises (k ∷ before) a b after h = rises before a b after (sorted_tail nat_cmp k (before ++ a ∷ b ∷ after) h)
+
+-- a bin of a list whose ids rise is found under its id
+found_bin : (before : List (ℕ × Bin)) (one : ℕ × Bin) (after : List (ℕ × Bin)) → IsStrictlySortedBy nat_cmp (keys_of (before ++ one ∷ after))
+    → lookup (is_at (nat_cmp one.0)) (before ++ one ∷ after) ≡ Some one.1
+found_bin [] one after h = rw (nat_same one.0) refl
+found_bin (e ∷ before) one after h =
+    let keys : List ℕ = keys_of (before ++ one ∷ after) in
+    let below = All-middle (λ q. nat_cmp e.0 q ≡ Less) keys (keys_of before) (keys_of after) one.0 (map-append (λ (x : ℕ × Bin). x.0) before (one ∷ after))
+    (All-after_first nat_cmp e.0 keys h) in
+    let differ : one.0 ≢ e.0 = λ same. other e.0 one.0 (sym same) below in
+    rw (nat_other one.0 e.0 differ) (found_bin before one after (sorted_tail nat_cmp e.0 keys h))
+  where
+    other : (a b : ℕ) → a ≡ b → nat_cmp a b ≡ Less → ⊥
+    other a b same less = let equal = nat_same b in let here = rw same at less in absurd (let no = rw here at equal in cc)
+
+-- free sections of a bin that is covered are such
+sound_part : (size : Size) (sections standing : List Cuboid) (fault : BinFault) → IsSoundAnswer size sections (Some fault)
+    → CoverBin (sections ++ standing) size → ⊥
+sound_part size sections standing (Outside index) h cover =
+    IsBinAnswer-fault size false (sections ++ standing) (Outside index) (record {
+      before = h.before;
+      one = h.one;
+      after = h.after ++ standing;
+      splits = ap (λ l. l ++ standing) h.splits ∙ append_assoc h.before (h.one ∷ h.after) standing;
+      index_is = h.index_is;
+      inside = h.inside;
+      outside = h.outside;
+    }) cover (λ asked. absurd cc)
+sound_part size sections standing (SharesCell first second) h cover =
+    let o = h.1 in
+    IsBinAnswer-fault size false (sections ++ standing) (SharesCell first second) (
+      cover.inside,
+      record {
+        earlier = o.earlier;
+        other = o.other;
+        after = o.after ++ in_one_bin standing;
+        splits = map-append _ sections standing ∙ ap (λ l. l ++ in_one_bin standing) o.splits ∙ append_assoc o.earlier (o.other ∷ o.after) (in_one_bin standing);
+        second = o.second;
+        clear = o.clear;
+        before = o.before;
+        one = o.one;
+        between = o.between;
+        splits_earlier = o.splits_earlier;
+        first = o.first;
+        clash = o.clash;
+        none_before = o.none_before;
+      },
+    ) cover (λ asked. absurd cc)
+sound_part size sections standing CellInNone h cover = absurd h
+sound_part size sections standing NotFromCuts h cover = absurd h
+
+-- of a session that has the same parts holds what always holds
+carried : (saved : RpSaved) (other : State ℕ ℕ) → HasParts saved other → (state : State ℕ ℕ) → IsSavedSession saved state → IsSession nat_cmp other
+carried saved other h state s = subst (IsSession nat_cmp) (only_state saved state s.parts ∙ sym (only_state saved other h)) s.always
+
+-- no session has parts in which something is wrong
+pub no_saved : (saved : RpSaved) (error : SavedError) (wrong : RpWrong) → wrong_written error ≡ Some wrong → IsSavedFault saved error
+    → (state : State ℕ ℕ) → ¬ IsSavedSession saved state
+no_saved saved Counts wrong written h state = λ s. h (counted_parts state.bins saved.bins.now saved.sections.now s.parts.bins s.parts.sections)
+no_saved saved (Ids bin) wrong written h state = λ s.
+    let at = h.1 in
+    let keys = ids_of_parts state.bins saved.bins.now s.parts.bins ∙ ap (map id_of) at.splits ∙ map-append id_of at.before (at.last ∷ at.one ∷ at.after) in
+    omega (arith, at.fallen, rises (map id_of at.before) at.last.id at.one.id (map id_of at.after) (subst (IsStrictlySortedBy nat_cmp) keys s.parts.rising))
+no_saved saved (Sections bin fault) wrong written h state = λ s.
+    let other = h.0 in
+    let at = h.2 in
+    let always = carried saved other h.1 state s in
+    let found : lookup (is_at (nat_cmp at.one.0)) other.bins ≡ Some at.one.1 =
+    rw at.splits (found_bin at.before at.one at.after (rw at.splits at h.1.rising)) in
+    sound_part at.one.1.size at.one.1.sections (outstanding_in nat_cmp other.outstanding at.one.0) fault h.3 (always.covered at.one.0 at.one.1 found)
+no_saved saved (Parts (NotRising p)) wrong written h state = λ s. no_session-record nat_cmp h.0 (NotRising p) h.3 (carried saved h.0 h.1 state s)
+no_saved saved (Parts (NotBelowNext p)) wrong written h state = λ s. no_session-record nat_cmp h.0 (NotBelowNext p) h.3 (carried saved h.0 h.1 state s)
+no_saved saved (Parts (UnknownBin p)) wrong written h state = λ s. no_session-record nat_cmp h.0 (UnknownBin p) h.3 (carried saved h.0 h.1 state s)
+no_saved saved (Parts (WrongBin b f)) wrong written h state = λ s. no_session-bin nat_cmp h.0 (WrongBin b f) h.3.1 (carried saved h.0 h.1 state s)
+no_saved saved (Parts OutOfMemory) wrong written h state = absurd cc
+
+-- a key above all others stands last
+insert_end : (es : List (ℕ × Bin)) (k : ℕ) (v : Bin) → All (λ q. q < k) (keys_of es) → insert_entry nat_cmp es k v ≡ es ++ (k, v) ∷ []
+insert_end [] k v h = refl
+insert_end (e ∷ es) k v h =
+    rw (nat_greater k e.0 (All-head (λ q. q < k) e.0 (keys_of es) h)) (ap (λ l. e ∷ l) (insert_end es k v (All-tail (λ q. q < k) e.0 (keys_of es) h)))
+
+drop_end : {X : Type 0} (xs : List X) (i : ℕ) → length xs ≤ i → drop i xs ≡ []
+drop_end [] zero h = refl
+drop_end [] (suc i) h = refl
+drop_end (x ∷ xs) zero h = absurd (omega (arith, h))
+drop_end (x ∷ xs) (suc i) h = drop_end xs i (omega (arith, h))
+
+-- what is left of a list from a place on
+rest_from : {X : Type 0} (xs : List X) (i : ℕ) (x : X) → i < length xs → get_or xs i x ≡ x → drop i xs ≡ x ∷ drop (i + 1) xs
+rest_from {X} xs i x within is = rw (add-one, drop-cons xs i x) (ap (λ (y : X). y ∷ drop (suc i) xs) is)
+
+-- what is known where the saved bins before this place are put into a map, and these sections are left
+pub record ArePutBefore (saved : RpSaved) (i : ℕ) (es : List (ℕ × Bin)) (rest : List RpSection) : Type 0 where
+  pub are : es ++ bins_saved (drop i saved.bins.now) rest ≡ bins_saved saved.bins.now saved.sections.now
+  pub left : sum_by count_of (drop i saved.bins.now) ≡ length rest
+  pub ids : keys_of es ≡ map id_of (take i saved.bins.now)
+  pub sound : All HasSound es
+
+module _ (saved : RpSaved) (i : ℕ) (b : RpSavedBin) (within : i < length saved.bins.now) (is : get_or saved.bins.now i b ≡ b) (es : List (ℕ × Bin))
+    (rest : List RpSection) (h : ArePutBefore saved i es rest) (rise : IdsRise saved.bins.now) where
+  abbrev bins : List RpSavedBin
+  bins = saved.bins.now
+
+  abbrev n : ℕ
+  n = b.section_count
+
+  abbrev entry : ℕ × Bin
+  entry = (b.id, bin_saved b (take n rest))
+
+  abbrev later : List (ℕ × Bin)
+  later = bins_saved (drop (i + 1) bins) (drop n rest)
+
+  from_here : drop i bins ≡ b ∷ drop (i + 1) bins
+  from_here = rest_from bins i b within is
+
+  -- the bin has as many sections as it says
+  pub enough : n ≤ length rest
+  enough = omega (arith, h.left, ap (sum_by count_of) from_here, sum_by-cons count_of b (drop (i + 1) bins))
+
+  splits : es ++ entry ∷ later ≡ bins_saved bins saved.sections.now
+  splits = sym (ap (λ (l : List RpSavedBin). es ++ bins_saved l rest) from_here) ∙ h.are
+
+  below : All (λ q. q < b.id) (keys_of es)
+  below = rw h.ids (All-map (λ q. q < b.id) id_of (take i bins) (λ k d less.
+      let short : k < i = omega (arith, less, length-take-le i bins (omega (arith, within))) in
+      let here : get_or bins i d ≡ b = sym (get_or_default bins i b d within) ∙ is in
+      let lower = rise k i d short within in
+      rw (get_or-take i bins k d short, ← here) lower))
+
+  pub put_more : (new : List (ℕ × Bin)) → IsBinPut b (take n rest) es new → ArePutBefore saved (i + 1) new (drop n rest)
+  put_more new p =
+      let last : new ≡ es ++ entry ∷ [] = p.put ∙ insert_end es b.id (bin_saved b (take n rest)) below in
+      let taken : take (i + 1) bins ≡ take i bins ++ b ∷ [] = take_more bins i b within ∙ ap (λ (x : RpSavedBin). take i bins ++ x ∷ []) is in
+      rw last (record {
+        are = append_assoc es (entry ∷ []) later ∙ splits;
+        left = omega (
+          arith,
+          h.left,
+          ap (sum_by count_of) from_here,
+          sum_by-cons count_of b (drop (i + 1) bins),
+          length-drop n rest,
+        );
+        ids = map-append (λ (e : ℕ × Bin). e.0) es (entry ∷ []) ∙ ap (λ ks. ks ++ b.id ∷ []) h.ids ∙ sym (ap (map id_of) taken ∙ map-append id_of (take i bins) (b ∷ []));
+        sound = All-push HasSound es entry h.sound p.sound;
+      })
+
+  -- a bin that is not put into the map is wrong in the parts
+  pub bin_fault : AreCounted saved → (error : SavedError) → IsFaultOfBin i b (take n rest) error → IsSavedFault saved error
+  bin_fault counted Counts f = absurd f
+  bin_fault counted (Ids bin) f = absurd f
+  bin_fault counted (Sections bin fault) f = (
+    state_saved saved,
+    has_parts saved counted rise,
+    record {
+      before = es;
+      one = entry;
+      after = later;
+      splits = sym splits;
+      place_is = omega (
+        arith,
+        f.0,
+        length-map es (λ (e : ℕ × Bin). e.0),
+        ap length h.ids,
+        length-map (take i bins) id_of,
+        length-take-le i bins (omega (arith, within)),
+      );
+      sound = h.sound;
+    },
+    f.1,
+  )
+  bin_fault counted (Parts (NotRising p)) f = absurd f
+  bin_fault counted (Parts (NotBelowNext p)) f = absurd f
+  bin_fault counted (Parts (UnknownBin p)) f = absurd f
+  bin_fault counted (Parts (WrongBin p q)) f = absurd f
+  bin_fault counted (Parts OutOfMemory) f = tt
+
+-- at first all bins are to be put into a map, and at last all are
+pub none_put : (saved : RpSaved) → AreCounted saved → ArePutBefore saved 0 [] saved.sections.now
+none_put saved counted = record { are = refl; left = counted; ids = refl; sound = All-nil HasSound }
+
+pub all_put : (saved : RpSaved) (i : ℕ) (es : List (ℕ × Bin)) (rest : List RpSection) → length saved.bins.now ≤ i → ArePutBefore saved i es rest → AreCounted saved
+    → IdsRise saved.bins.now → AreBinsSaved saved es
+all_put saved i es rest end h counted rise =
+    let none : drop i saved.bins.now ≡ [] = drop_end saved.bins.now i end in
+    record {
+      counted = counted;
+      rising = rise;
+      sound = h.sound;
+      are = sym (append-nil es) ∙ (rw none at h.are);
+    }
+
+-- of parts that are those of a state the library says what is wrong
+pub fault_of_parts : (saved : RpSaved) (bins : List (ℕ × Bin)) → AreBinsSaved saved bins → (error : RestoreError)
+    → IsRestored nat_cmp (state_saved saved) (Err error) → IsSavedFault saved (Parts error)
+fault_of_parts saved bins h (NotRising p) r = (state_saved saved, has_parts saved h.counted h.rising, rw h.are at h.sound, r)
+fault_of_parts saved bins h (NotBelowNext p) r = (state_saved saved, has_parts saved h.counted h.rising, rw h.are at h.sound, r)
+fault_of_parts saved bins h (UnknownBin p) r = (state_saved saved, has_parts saved h.counted h.rising, rw h.are at h.sound, r)
+fault_of_parts saved bins h (WrongBin p f) r = (state_saved saved, has_parts saved h.counted h.rising, rw h.are at h.sound, r)
+fault_of_parts saved bins h OutOfMemory r = tt
+
+-- the first id that does not rise
+pub first_fall : (bins : List RpSavedBin) (i : ℕ) (last one : RpSavedBin) → 0 < i → i < length bins → last ≡ get_or bins (i - 1) last → one ≡ get_or bins i one
+    → IdsRise (take i bins) → one.id ≤ last.id → IsFirstFallen bins i
+first_fall bins zero last one above within there here rise fallen = absurd (omega (arith, above))
+first_fall bins (suc k) last one above within there here rise fallen =
+    let back : suc k - 1 ≡ k = omega arith in
+    let was : last ≡ get_or bins k last = rw back at there in
+    let first : bins ≡ take k bins ++ last ∷ drop (k + 1) bins =
+    sym (whole_again k bins) ∙ ap (λ (l : List RpSavedBin). take k bins ++ l) (rest_from bins k last (omega (arith, within)) (sym was)) in
+    let next : drop (k + 1) bins ≡ one ∷ drop (suc k + 1) bins = rw add-one (rest_from bins (suc k) one within (sym here)) in
+    let taken : take (suc k) bins ≡ take k bins ++ last ∷ [] =
+    rw (sym (add-one k)) (take_more bins k last (omega (arith, within)) ∙ ap (λ (x : RpSavedBin). take k bins ++ x ∷ []) (sym was)) in
+    record {
+      before = take k bins;
+      last = last;
+      one = one;
+      after = drop (suc k + 1) bins;
+      splits = first ∙ ap (λ (l : List RpSavedBin). take k bins ++ last ∷ l) next;
+      place_is = omega (arith, length-take-le k bins (omega (arith, within)));
+      rising = rw taken at rise;
+      fallen = fallen;
+    }
+
+-- one id more that rises
+pub rise_more : (bins : List RpSavedBin) (i : ℕ) (last one : RpSavedBin) → 0 < i → i < length bins → last ≡ get_or bins (i - 1) last → one ≡ get_or bins i one
+    → IdsRise (take i bins) → last.id < one.id → IdsRise (take (i + 1) bins)
+rise_more bins zero last one above within there here rise less = absurd (omega (arith, above))
+rise_more bins (suc k) last one above within there here rise less =
+    let back : suc k - 1 ≡ k = omega arith in
+    let was : last ≡ get_or bins k last = rw back at there in
+    let taken : take (suc k + 1) bins ≡ take (suc k) bins ++ one ∷ [] =
+    take_more bins (suc k) one within ∙ ap (λ (x : RpSavedBin). take (suc k) bins ++ x ∷ []) (sym here) in
+    let long : length (take (suc k) bins) ≡ suc k = length-take-le (suc k) bins (omega (arith, within)) in
+    let at_last : (d : RpSavedBin) → get_or (take (suc k) bins) k d ≡ last = λ d.
+    get_or-take (suc k) bins k d (omega arith) ∙ get_or_default bins k d last (omega (arith, within)) ∙ sym was in
+    rw taken (all_pairs_push (λ a b. a.id < b.id) (take (suc k) bins) one rise (λ j d short.
+    below_more (λ (m : ℕ). (e : RpSavedBin) → (get_or (take (suc k) bins) m e).id < one.id) k (λ m lower e.
+    let before = rise m k e lower (omega (arith, long)) in
+    omega (arith, rw (at_last e) at before, less))
+    (λ e. rw (at_last e) less) j (omega (arith, short, long)) d))
