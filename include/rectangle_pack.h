@@ -2,7 +2,7 @@
    of boxes and keeps nothing; rectangle_pack_collection packs boxes that are in several groups, groups that may not share a
    bin, and by a heuristic of the caller's choice. A session keeps its bins from call to call: boxes are packed into them and
    released again. rectangle_pack_check judges a packing, whoever made it. All calls are proved; what is proved of them stands beside them, and as their contracts in
-   crates/rectangle_pack_c/src (lib.rt, session.rt, placing.rt, upkeep.rt, reading.rt and judging.rt). C99 and C++.
+   crates/rectangle_pack_c/src (lib.rt, session.rt, placing.rt, upkeep.rt, reading.rt, restoring.rt and judging.rt). C99 and C++.
 
    Sizes and corners are counted in cells. In two dimensions each depth is 1 and each z is 0. */
 #ifndef RECTANGLE_PACK_H
@@ -73,7 +73,9 @@ enum {
     /* There is no axis of this number. */
     RP_UNKNOWN_AXIS = 16,
     /* No straight cuts part the boxes that stand in the bin of the session. */
-    RP_NOT_FROM_CUTS = 17
+    RP_NOT_FROM_CUTS = 17,
+    /* No session has these parts. */
+    RP_WRONG_PARTS = 18
 };
 
 /* Packs all boxes into the bins; placements[i] is where boxes[i] stands.
@@ -207,16 +209,17 @@ uint32_t rectangle_pack_collection(const rp_bin *bins, size_t bin_count, const r
    - A call that answers anything but RP_DONE leaves the session as it was and writes nothing, but for RP_SHORT_ARRAY the
      length of the list. RP_BAD_LENGTHS, RP_DUPLICATE_BIN, RP_UNKNOWN_BIN, RP_UNKNOWN_PLACEMENT, RP_UNKNOWN_HEURISTIC,
      RP_UNKNOWN_BOX, RP_EQUAL_GROUPS, RP_BIN_IN_USE, RP_TOO_LARGE, RP_NOT_FREE and RP_UNKNOWN_AXIS come exactly under their
-     conditions, where none that is looked at before comes; and RP_NUMBERS_USED_UP, RP_SHORT_ARRAY, RP_NO_PLAN and
-     RP_NOT_FROM_CUTS too, unless RP_OUT_OF_MEMORY is answered in their place.
-   - No number is given twice in a session: placements are numbered 0, 1, 2 and so on, in the order of packing and placing.
+     conditions, where none that is looked at before comes; and RP_NUMBERS_USED_UP, RP_SHORT_ARRAY, RP_NO_PLAN,
+     RP_NOT_FROM_CUTS and RP_WRONG_PARTS too, unless RP_OUT_OF_MEMORY is answered in their place.
+   - No number is given twice in a session: placements are numbered 0, 1, 2 and so on, in the order of packing and placing; in a
+     session of saved parts, from their next number on.
    - A session owns nothing that belongs to one thread, so it may go to another.
    Only tested: that RP_OUT_OF_MEMORY comes only where malloc or realloc answered NULL, and that free gives all memory
    back.
 
    The caller sees to it that:
-   - rectangle_pack_session_new gets a handle that is as RP_NO_SESSION makes it, and every other call one that
-     rectangle_pack_session_new made with RP_DONE and that was not freed since. Nobody else writes to it.
+   - rectangle_pack_session_new and rectangle_pack_session_restore get a handle that is as RP_NO_SESSION makes it, and every
+     other call one that one of these two made with RP_DONE and that was not freed since. Nobody else writes to it.
    - A session is given to one call at a time, also where calls only read. It may go from thread to thread: the calls of one
      come before those of the next by a lock, the start or the join of a thread, or a sequentially consistent atomic.
      Different sessions have nothing in common, and may be called from several threads at once.
@@ -444,8 +447,77 @@ uint32_t rectangle_pack_session_cut_plan(rp_session *session, uint32_t bin, rp_c
    else 0. RP_DONE or RP_UNKNOWN_BIN. */
 uint32_t rectangle_pack_session_was_coalesced(rp_session *session, uint32_t bin, uint32_t *coalesced);
 
+/* Writes the size of a bin. RP_DONE or RP_UNKNOWN_BIN. */
+uint32_t rectangle_pack_session_bin_size(rp_session *session, uint32_t bin, rp_bin *size);
+
 /* The number that the next placement gets, or 2^64 - 1 where numbers are used up. */
 uint64_t rectangle_pack_session_next_number(rp_session *session);
+
+/* The calls above tell all parts of a session. Saved, they make the same session again, in another process too. */
+
+/* A bin of a saved session: its id, its size, whether it counts as coalesced (1, or 0), and how many free sections it has. */
+typedef struct rp_saved_bin {
+    uint32_t id;
+    rp_bin size;
+    uint32_t coalesced, section_count;
+} rp_saved_bin;
+
+/* The parts of a session: its bins, as rectangle_pack_session_bins, rectangle_pack_session_bin_size and
+   rectangle_pack_session_was_coalesced tell them, their ids rising; the free sections of all bins, as
+   rectangle_pack_session_free_sections tells them, one bin after another in the order of the bins; the outstanding placements, as
+   rectangle_pack_session_outstanding tells them, in the order of their numbers; and the number of the next placement. */
+typedef struct rp_saved {
+    const rp_saved_bin *bins;
+    size_t bin_count;
+    const rp_section *sections;
+    size_t section_count;
+    const rp_standing *placements;
+    size_t placement_count;
+    uint64_t next_number;
+} rp_saved;
+
+/* What may be wrong with parts. It is looked for in this order: the counts of the bins; their ids; bin by bin, whether a free
+   section is outside, and then whether two share a cell; placement by placement, its number and its bin; and bin by bin, whether
+   a box is outside, two share a cell, some cell is in none, or no straight cuts leave them. The boxes of a bin are its free
+   sections, and behind them its placements, each in the order of their list. */
+enum {
+    /* The counts of the bins do not add up to section_count. */
+    RP_WRONG_SECTIONS = 1,
+    /* The id of the bin is not above that of the bin before it. */
+    RP_WRONG_IDS = 2,
+    /* The number of the placement first is not above that of an earlier one. */
+    RP_WRONG_NUMBER = 3,
+    /* The number of the placement first is not below next_number. */
+    RP_WRONG_NEXT = 4,
+    /* The bin of the placement first is not there. */
+    RP_WRONG_UNKNOWN_BIN = 5,
+    /* The box first of the bin is not inside it. */
+    RP_WRONG_OUTSIDE = 6,
+    /* The boxes first and second of the bin share a cell. */
+    RP_WRONG_SHARED_CELL = 7,
+    /* Some cell of the bin is in none of its boxes. */
+    RP_WRONG_CELL_IN_NONE = 8,
+    /* The bin does not count as coalesced, and no straight cuts leave its boxes. */
+    RP_WRONG_CUTS = 9
+};
+
+/* What is wrong: kind is one of these; bin is an index in the list of bins; first and second are indices in the list of
+   placements, or among the boxes of the bin; and what the kind does not name is 0. */
+typedef struct rp_wrong {
+    uint32_t kind;
+    size_t bin, first, second;
+} rp_wrong;
+
+/* Makes a session of saved parts, of any origin: what is read of it is what was saved. RP_DONE; RP_WRONG_PARTS, and then wrong says
+   what is wrong; or RP_OUT_OF_MEMORY. session is a handle as RP_NO_SESSION makes it, and stays one where the answer is not RP_DONE.
+   Nothing is written to wrong where the answer is not RP_WRONG_PARTS. A bin counts as coalesced where its number is not 0.
+
+   Proved:
+   - RP_DONE: the session has these parts, and all that is proved of every session holds of it. So no file, whoever wrote it,
+     makes a session that gives a cell twice.
+   - RP_WRONG_PARTS: what wrong says is so, and it is the first that is looked for; and no session has these parts.
+   Its time is about that of a sort of all placements and free sections. */
+uint32_t rectangle_pack_session_restore(rp_session *session, const rp_saved *saved, rp_wrong *wrong);
 
 /* The judge: whether boxes that stand somewhere are a packing, whoever put them there. */
 
