@@ -1,5 +1,5 @@
-/* A target for libFuzzer: from bytes it draws calls, of all kinds that the header has, to several sessions and to none, and now
-   and then has a request for memory refused. Each call is held against the account of its session and against the packing rule,
+/* A target for libFuzzer: from bytes it draws calls, of all kinds that the header has, to several sessions and to none, and parts
+   of which sessions are to be made, and now and then has a request for memory refused. Each call is held against the account of its session and against the packing rule,
    as the harnesses do it. tools/fuzz_c.sh builds and runs it. */
 #include <limits.h>
 
@@ -9,11 +9,12 @@
 #include "refusing.h"
 #include "session_commands.h"
 #include "session_draws.h"
+#include "session_restoring.h"
 
 enum { SESSIONS = 3, STEPS_OF_INPUT = 60 };
 
 /* What is done in a step: a command of a session, or one of these. */
-enum step { PLAN = KINDS, PACK_ONCE, FREE };
+enum step { PLAN = KINDS, PACK_ONCE, FREE, AGAIN, RESTORE };
 
 /* A session, and what is known of it. Where it is not open, its handle is as RP_NO_SESSION makes it. */
 typedef struct known_session {
@@ -102,7 +103,8 @@ static void pack_once(long first, long last, uint32_t depth)
 static void take_step(uint32_t depth)
 {
     static const int steps[] = {ADD_BIN, PACK, PACK_COLLECTION, RELEASE, COALESCE, COALESCE_ALL, PLAN, PACK_ONCE, FREE,
-                                CLEAR_BIN, REMOVE_BIN, GROW_BIN, PLACE_AT, PLACE_BEST, PLACE_ANYWHERE, RELEASE_ALL, RECUT};
+                                CLEAR_BIN, REMOVE_BIN, GROW_BIN, PLACE_AT, PLACE_BEST, PLACE_ANYWHERE, RELEASE_ALL, RECUT,
+                                AGAIN, RESTORE};
     int what = steps[within(0, sizeof steps / sizeof *steps - 1)];
     known_session *it = &known[within(0, SESSIONS - 1)];
     long first, last;
@@ -112,6 +114,11 @@ static void take_step(uint32_t depth)
         return;
     }
     refuse_requests(first, last);
+    if (what == RESTORE) {
+        restore_drawn();
+        refuse_nothing();
+        return;
+    }
     if (what == FREE || it->commands == COMMANDS)
         free_session(it);
     if (what == FREE)
@@ -120,6 +127,8 @@ static void take_step(uint32_t depth)
         open_session(it);
     if (what == PLAN)
         ask_plan(it);
+    else if (what == AGAIN)
+        begin_again(&it->handle);
     else
         give_command(it, (enum kind)what, depth);
     refuse_nothing();

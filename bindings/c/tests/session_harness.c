@@ -2,9 +2,10 @@
    at what the header promises: the status, the numbers, the placements of the packing rule, groups together, excluded groups
    apart, and nothing changed or written unless the call was done. It asks each of the calls that read a session, for each bin:
    each cell is in exactly one free section or outstanding box of its bin, and lists, sums and cutting plans are those of the
-   account. Then it runs the same commands with each request for memory refused in turn, alone and with all after it: a call
-   that wants memory leaves the session as it was and is made again, so that in the end all answers are the same. Link it with
-   -Wl,--wrap=malloc,--wrap=realloc,--wrap=free. */
+   account. In the middle of its commands a session is saved, and made again of its parts. Then it runs the same commands with each
+   request for memory refused in turn, alone and with all after it: a call that wants memory leaves the session as it was and is
+   made again, so that in the end all answers are the same. At last it makes sessions of parts that are drawn, of which a judge of
+   its own says what is wrong. Link it with -Wl,--wrap=malloc,--wrap=realloc,--wrap=free. */
 #include <limits.h>
 #include <stdio.h>
 #include <string.h>
@@ -13,8 +14,9 @@
 #include "refusing.h"
 #include "session_commands.h"
 #include "session_draws.h"
+#include "session_restoring.h"
 
-enum { SCRIPTS = 50, STATUSES = RP_NOT_FROM_CUTS + 1 };
+enum { SCRIPTS = 50, STATUSES = RP_NOT_FROM_CUTS + 1, DRAWN_PARTS = 20000, REFUSED_PARTS = 100 };
 
 /* Reads all plans, with refusals of their own. Their requests are not counted among those of the script. */
 static void read_plans(rp_session *session, const account *now)
@@ -23,6 +25,21 @@ static void read_plans(rp_session *session, const account *now)
     for (size_t i = 0; i < BINS; i++)
         read_plan(session, now, i, &now->free[i]);
     requests = counted;
+}
+
+/* The size of each bin, also of those that are not there. */
+static void read_sizes(rp_session *session, const account *now)
+{
+    for (size_t i = 0; i < BINS; i++) {
+        rp_bin size;
+        memset(&size, UNTOUCHED, sizeof size);
+        uint32_t status = rectangle_pack_session_bin_size(session, ids[i], &size);
+        check(status == (now->has_bin[i] ? RP_DONE : RP_UNKNOWN_BIN), "the status of bin_size");
+        if (now->has_bin[i])
+            check(!memcmp(&size, &now->bins[i], sizeof size), "the size of a bin");
+        else
+            check(is_untouched(&size, sizeof size), "the size of no bin is written");
+    }
 }
 
 /* Runs a script in a session of its own, in which the requests from first to last are refused. Between commands the session is
@@ -37,8 +54,12 @@ static long run(const command *script, long first, long last, answer *answers)
     long wanted = begin(&handles[0]);
     for (size_t i = 0; i < COMMANDS; i++) {
         wanted += obey(&handles[i % 2], &script[i], &now, &answers[i]);
-        if (first == NONE)
+        if (i == COMMANDS / 2)
+            wanted += begin_again(&handles[i % 2]);
+        if (first == NONE) {
             read_plans(&handles[i % 2], &now);
+            read_sizes(&handles[i % 2], &now);
+        }
         handles[(i + 1) % 2] = handles[i % 2];
         memset(&handles[i % 2], UNTOUCHED, sizeof handles[i % 2]);
     }
@@ -152,6 +173,104 @@ static void check_mistakes(const answer *said)
     check(pair[0].placement.bin != pair[1].placement.bin, "excluded groups are in one bin");
 }
 
+/* A bin 7 of three cells, of which the first is free, and a box stands on the other two. */
+static void make_parts(parts *it)
+{
+    static const rp_section first = {0, 0, 0, 1, 1, 1}, others = {1, 0, 0, 2, 1, 1};
+    memset(it, 0, sizeof *it);
+    it->bins[0] = (rp_saved_bin){7, {3, 1, 1}, 0, 1};
+    it->bins[1] = (rp_saved_bin){9, {0, 1, 1}, 1, 0};
+    it->sections[0] = first;
+    it->placements[0] = (rp_standing){2, 5, 7, others};
+    it->placements[1] = (rp_standing){4, 0, 9, {0, 0, 0, 0, 1, 1}};
+    it->bin_count = it->placement_count = 2;
+    it->section_count = 1;
+    it->next_number = 5;
+}
+
+/* A pinwheel of free sections in a bin 3x3x1. */
+static void make_pinwheel(parts *it)
+{
+    static const rp_section strips[] = {{0, 0, 0, 2, 1, 1}, {2, 0, 0, 1, 2, 1}, {1, 2, 0, 2, 1, 1}, {0, 1, 0, 1, 2, 1}, {1, 1, 0, 1, 1, 1}};
+    make_parts(it);
+    it->bins[1] = (rp_saved_bin){9, {3, 3, 1}, 0, 5};
+    memcpy(&it->sections[1], strips, sizeof strips);
+    it->section_count = 6;
+    it->placement_count = 1;
+}
+
+/* By hand: the parts of a session, and then each thing that may be wrong with them. */
+static void check_wrongs(void)
+{
+    static const rp_wrong right[] = {{0, 0, 0, 0}, {RP_WRONG_SECTIONS, 0, 0, 0}, {RP_WRONG_IDS, 1, 0, 0}, {RP_WRONG_NUMBER, 0, 1, 0},
+                                     {RP_WRONG_NEXT, 0, 1, 0}, {RP_WRONG_UNKNOWN_BIN, 0, 1, 0}, {RP_WRONG_OUTSIDE, 0, 1, 0},
+                                     {RP_WRONG_SHARED_CELL, 0, 0, 1}, {RP_WRONG_CELL_IN_NONE, 0, 0, 0}, {RP_WRONG_CUTS, 1, 0, 0}};
+    static parts it;
+    for (uint32_t kind = 0; kind < KINDS_OF_WRONG; kind++) {
+        rp_session session = RP_NO_SESSION;
+        rp_wrong said = {0, 0, 0, 0};
+        make_parts(&it);
+        it.bins[0].section_count += kind == RP_WRONG_SECTIONS;
+        it.bins[1].id -= kind == RP_WRONG_IDS ? 2 : 0;
+        it.placements[1].number -= kind == RP_WRONG_NUMBER ? 2 : 0;
+        it.next_number -= kind == RP_WRONG_NEXT;
+        it.placements[1].bin -= kind == RP_WRONG_UNKNOWN_BIN;
+        it.placements[0].section.width += kind == RP_WRONG_OUTSIDE;
+        it.placements[0].section.x -= kind == RP_WRONG_SHARED_CELL;
+        it.placements[0].section.width -= kind == RP_WRONG_CELL_IN_NONE;
+        if (kind == RP_WRONG_CUTS)
+            make_pinwheel(&it);
+        uint32_t status = rectangle_pack_session_restore(&session, saved_as(&it), &said);
+        check(status == (kind ? RP_WRONG_PARTS : RP_DONE), "the status of parts by hand");
+        check(said.kind == right[kind].kind && said.bin == right[kind].bin, "what is wrong with parts by hand");
+        check(said.first == right[kind].first && said.second == right[kind].second, "which box is wrong of parts by hand");
+        if (!kind) {
+            check_saved(&session, &it);
+            rectangle_pack_session_free(&session);
+        }
+    }
+}
+
+/* Makes the session of drawn parts with each request for memory refused in turn, alone and with all after it. How often memory was
+   wanted. */
+static int restore_each(void)
+{
+    static parts drawn;
+    int wanted = 0;
+    long all = 1;
+    draw_parts(&drawn);
+    for (long request = NONE; request < all; request++) {
+        for (int alone = 0; alone < 2; alone++) {
+            rp_session made = RP_NO_SESSION;
+            refuse_requests(request, request == NONE || alone ? request : LONG_MAX);
+            wanted += restore(&drawn, &made);
+            if (request == NONE)
+                all = requests;
+            refuse_nothing();
+            if (made.at)
+                rectangle_pack_session_free(&made);
+        }
+    }
+    return wanted;
+}
+
+/* Sessions of parts that are drawn. How often memory was wanted. */
+static long restore_many(void)
+{
+    long wanted = 0;
+    refuse_nothing();
+    check_wrongs();
+    for (int i = 0; i < DRAWN_PARTS; i++)
+        check(!restore_drawn(), "want of memory is answered where all was there");
+    for (int i = 0; i < REFUSED_PARTS; i++)
+        wanted += restore_each();
+    check(blocks == 0, "memory is not given back");
+    for (int i = 1; i < KINDS_OF_WRONG; i++)
+        check(wrongs[i] > 10, "a kind of wrong parts is drawn too seldom");
+    check(restored > 1000 && wanted > 100, "the drawn parts show too little");
+    return wanted;
+}
+
 static long total(const long *seen, const uint32_t *statuses, size_t count)
 {
     long sum = 0;
@@ -208,9 +327,14 @@ int main(void)
         }
     }
     check_seen(seen, done, wanted, done_by, best_by);
+    long wanted_again = restore_many(), refusals_of_parts = 0;
+    for (int i = 1; i < KINDS_OF_WRONG; i++)
+        refusals_of_parts += wrongs[i];
     printf("sessions: %ld commands done, %ld without space, %ld refused by name, %ld wrong; memory was wanted %ld times\n",
            seen[RP_DONE], seen[RP_NOT_ENOUGH_SPACE], total(seen, refusals, 9), total(seen, mistakes, 3), wanted);
     printf("reading: %ld arrays too short, %ld times no plan, %ld times no memory for a plan; joins took up %ld sections\n",
            short_arrays, no_plans, plans_wanting, taken_up);
+    printf("restoring: %ld sessions made of parts, %ld parts wrong; memory was wanted %ld times\n", restored, refusals_of_parts,
+           wanted_again);
     return 0;
 }
