@@ -258,7 +258,7 @@ pub extern "C" fn rectangle_pack_session_bin_size(
 ) -> u32
     requires made { IsSome session.old.state }
     // `RP_DONE`: the bin is there, and its size is written. `RP_UNKNOWN_BIN`: it is not there, and
-    //   nothing is written. No other status is answered. [rectangle_pack_session_bin_size.width_for_height]
+    //   nothing is written. No other status is answered. [tell_size.no_depth_is_one]
     ensures told { IfSome session.old.state (λ (state : State ℕ ℕ).
         TellsSize state bin result size.old size.new) }
     ensures unchanged { session.new.state ≡ session.old.state }
