@@ -1,7 +1,7 @@
 -- Saved parts: the state that has them, and why no session has wrong ones.
 use Rattle.rectangle_pack_c.proofs.Std.{◌≡◌, ◌≢◌, ℕ, zero, suc, ◌+◌, ◌<◌, ◌≤◌, List, [], ◌∷◌, ◌++◌, length, get_or, take, drop, refl, ap, sym, ◌∙◌, subst, arith, nat_cmp, Less, false}
 use Rattle.rectangle_pack_c.proofs.Std.{Some, All, AllZip, map, keys_of, lookup, is_at, insert_entry, IsStrictlySortedBy, length-map, length-take-le, length-append, append_assoc, map-append}
-use Rattle.rectangle_pack_c.proofs.Std.{get_or_default, take_more, nat_cmp_is, All-nil, All-head, All-tail, ◌-◌, append-nil, below_more}
+use Rattle.rectangle_pack_c.proofs.Std.{get_or_default, take_more, nat_cmp_is, All-head, All-tail, ◌-◌, below_more}
 use Rattle.std.proofs.Common.{Err, add-one, length-drop, drop-cons}
 use Rattle.std.specs.List.{flat_map, sum_by}
 use Rattle.std.proofs.lemmas.Cmp.{nat_cmp_total}
@@ -271,12 +271,6 @@ insert_end [] k v h = refl
 insert_end (e ∷ es) k v h =
     rw (nat_greater k e.0 (All-head (λ q. q < k) e.0 (keys_of es) h)) (ap (λ l. e ∷ l) (insert_end es k v (All-tail (λ q. q < k) e.0 (keys_of es) h)))
 
-drop_end : {X : Type 0} (xs : List X) (i : ℕ) → length xs ≤ i → drop i xs ≡ []
-drop_end [] zero h = refl
-drop_end [] (suc i) h = refl
-drop_end (x ∷ xs) zero h = absurd (omega (arith, h))
-drop_end (x ∷ xs) (suc i) h = drop_end xs i (omega (arith, h))
-
 -- what is left of a list from a place on
 rest_from : {X : Type 0} (xs : List X) (i : ℕ) (x : X) → i < length xs → get_or xs i x ≡ x → drop i xs ≡ x ∷ drop (i + 1) xs
 rest_from {X} xs i x within is = rw (add-one, drop-cons xs i x) (ap (λ (y : X). y ∷ drop (suc i) xs) is)
@@ -365,21 +359,6 @@ module _ (saved : RpSaved) (i : ℕ) (b : RpSavedBin) (within : i < length saved
   bin_fault counted (Parts (UnknownBin p)) f = absurd f
   bin_fault counted (Parts (WrongBin p q)) f = absurd f
   bin_fault counted (Parts OutOfMemory) f = tt
-
--- at first all bins are to be put into a map, and at last all are
-pub none_put : (saved : RpSaved) → AreCounted saved → ArePutBefore saved 0 [] saved.sections.now
-none_put saved counted = record { are = refl; left = counted; ids = refl; sound = All-nil HasSound }
-
-pub all_put : (saved : RpSaved) (i : ℕ) (es : List (ℕ × Bin)) (rest : List RpSection) → length saved.bins.now ≤ i → ArePutBefore saved i es rest → AreCounted saved
-    → IdsRise saved.bins.now → AreBinsSaved saved es
-all_put saved i es rest end h counted rise =
-    let none : drop i saved.bins.now ≡ [] = drop_end saved.bins.now i end in
-    record {
-      counted = counted;
-      rising = rise;
-      sound = h.sound;
-      are = sym (append-nil es) ∙ (rw none at h.are);
-    }
 
 -- of parts that are those of a state the library says what is wrong
 pub fault_of_parts : (saved : RpSaved) (bins : List (ℕ × Bin)) → AreBinsSaved saved bins → (error : RestoreError)
