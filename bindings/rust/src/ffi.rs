@@ -3,6 +3,7 @@
 mod calls;
 #[cfg(test)]
 mod kept;
+mod saved;
 
 use std::cell::UnsafeCell;
 use std::fmt;
@@ -10,6 +11,7 @@ use std::ops::Range;
 use std::ptr;
 
 use calls::*;
+pub(crate) use saved::Saved;
 pub(crate) use calls::{
     Collection, RpBin, RpBox, RpClaim, RpEntry, RpExclusion, RpFault, RpOutstanding, RpPlacement,
     RpSection, BEST, FAULT_EXCLUDED_TOGETHER, FAULT_GROUP_IN_TWO_BINS, FAULT_OUTSIDE,
@@ -287,6 +289,18 @@ impl Handle {
             rectangle_pack_session_was_coalesced(self.0.get(), bin, &mut coalesced)
         })?;
         Ok(coalesced != 0)
+    }
+
+    pub(crate) fn bin_size(&self, bin: u32) -> Result<RpBin, SessionError> {
+        let mut size = RpBin {
+            width: 0,
+            height: 0,
+            depth: 0,
+        };
+        // SAFETY: the handle has a session. It is not `Sync`, so nobody else reads or writes it
+        // during the call. The size that is written is that of this function.
+        answer(unsafe { rectangle_pack_session_bin_size(self.0.get(), bin, &mut size) })?;
+        Ok(size)
     }
 
     pub(crate) fn next_number(&self) -> u64 {

@@ -32,7 +32,8 @@
 //!
 //! These pack once. A [`Session`] keeps its bins: boxes are packed into them and released again, free sections are
 //! listed and joined, and a bin has a plan of the cuts that part it. Boxes are also placed where you say, or where they fit best,
-//! and bins are cleared, made larger, cut anew and removed.
+//! and bins are cleared, made larger, cut anew and removed. [`Session::parts`] has all of it as values, and [`Session::restore`] makes
+//! a session of such.
 
 #![warn(missing_docs)]
 
@@ -47,7 +48,10 @@ pub use heuristic::{Heuristic, UnknownHeuristic};
 pub use judge::{first_fault, AloneFault, Claim, Conflict, Fault, Turns};
 pub use pack::{pack_rects, pack_rects_best, pack_rects_by, RectanglePackError, RectanglePackOk};
 pub use rects::GroupedRectsToPlace;
-pub use session::{Axis, BinStats, CutStep, Outstanding, Section, Session, SessionError};
+pub use session::{
+    Axis, BinStats, CutStep, Outstanding, RestoreError, SavedBin, Section, Session, SessionError,
+    SessionParts,
+};
 
 /// The size of a box that is to be placed, in cells.
 #[derive(Debug, Clone, Copy, PartialEq, Eq, Hash)]
@@ -84,6 +88,21 @@ impl TargetBin {
             height,
             depth,
         }
+    }
+
+    /// The bin's width.
+    pub fn width(&self) -> u32 {
+        self.width
+    }
+
+    /// The bin's height.
+    pub fn height(&self) -> u32 {
+        self.height
+    }
+
+    /// The bin's depth.
+    pub fn depth(&self) -> u32 {
+        self.depth
     }
 }
 

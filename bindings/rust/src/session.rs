@@ -1,6 +1,7 @@
 //! A session: bins that stay, and boxes that are packed into them and released by number.
 
 mod parts;
+mod saving;
 #[cfg(test)]
 mod tests;
 mod upkeep;
@@ -10,6 +11,7 @@ use std::ops::Range;
 
 use crate::{ffi, GroupedRectsToPlace, Heuristic, PackedLocation, RectToInsert, TargetBin};
 pub use parts::{Axis, BinStats, CutStep, Outstanding, Section, SessionError};
+pub use saving::{RestoreError, SavedBin, SessionParts};
 
 /// Bins, and the boxes that stand in them.
 ///

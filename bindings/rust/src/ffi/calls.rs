@@ -117,6 +117,54 @@ pub(super) struct RpCutStep {
     pub(super) place: u32,
 }
 
+/// An outstanding placement.
+#[repr(C)]
+#[derive(Clone, Copy, Default)]
+pub(super) struct RpStanding {
+    pub(super) number: u64,
+    pub(super) index: u32,
+    pub(super) bin: u32,
+    pub(super) section: RpSection,
+}
+
+/// A bin of a saved session.
+#[repr(C)]
+pub(super) struct RpSavedBin {
+    pub(super) id: u32,
+    pub(super) size: RpBin,
+    pub(super) coalesced: u32,
+    pub(super) section_count: u32,
+}
+
+/// The parts of a session.
+#[repr(C)]
+pub(super) struct RpSaved {
+    pub(super) bins: *const RpSavedBin,
+    pub(super) bin_count: usize,
+    pub(super) sections: *const RpSection,
+    pub(super) section_count: usize,
+    pub(super) placements: *const RpStanding,
+    pub(super) placement_count: usize,
+    pub(super) next_number: u64,
+}
+
+/// What is wrong with parts.
+#[repr(C)]
+#[derive(Default)]
+pub(super) struct RpWrong {
+    pub(super) kind: u32,
+    pub(super) bin: usize,
+    pub(super) first: usize,
+    pub(super) second: usize,
+}
+
+pub(super) const WRONG_NUMBER: u32 = 3;
+pub(super) const WRONG_NEXT: u32 = 4;
+pub(super) const WRONG_UNKNOWN_BIN: u32 = 5;
+pub(super) const WRONG_OUTSIDE: u32 = 6;
+pub(super) const WRONG_SHARED_CELL: u32 = 7;
+pub(super) const WRONG_CELL_IN_NONE: u32 = 8;
+
 /// A box that is to be placed once, and how it may be turned.
 #[repr(C)]
 pub(crate) struct RpEntry {
@@ -165,6 +213,7 @@ pub(super) const BIN_IN_USE: u32 = 13;
 pub(super) const TOO_LARGE: u32 = 14;
 pub(super) const NOT_FREE: u32 = 15;
 pub(super) const NOT_FROM_CUTS: u32 = 17;
+pub(super) const WRONG_PARTS: u32 = 18;
 
 /// Asks for the best heuristic of all.
 pub(crate) const BEST: u32 = 0xffff;
@@ -180,6 +229,12 @@ extern "C" {
         chosen: *mut u32,
     ) -> u32;
     pub(super) fn rectangle_pack_session_new(session: *mut RpSession) -> u32;
+    pub(super) fn rectangle_pack_session_restore(
+        session: *mut RpSession,
+        saved: *const RpSaved,
+        wrong: *mut RpWrong,
+    ) -> u32;
+    pub(super) fn rectangle_pack_session_bin_size(session: *mut RpSession, bin: u32, size: *mut RpBin) -> u32;
     pub(super) fn rectangle_pack_session_free(session: *mut RpSession);
     pub(super) fn rectangle_pack_session_add_bin(
         session: *mut RpSession,

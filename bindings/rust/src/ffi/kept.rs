@@ -1,16 +1,8 @@
 //! Lists of C that this crate keeps on its own side, to be compared with these.
 
-use super::{read, refusal, section, Handle, RpSection, RpSession};
+use super::calls::RpStanding;
+use super::{read, refusal, section, Handle, RpSession};
 use crate::{Section, SessionError};
-
-#[repr(C)]
-#[derive(Clone, Copy, Default)]
-struct RpStanding {
-    number: u64,
-    index: u32,
-    bin: u32,
-    section: RpSection,
-}
 
 extern "C" {
     fn rectangle_pack_session_bins(
