@@ -1,8 +1,9 @@
 /* rectangle_pack: packs boxes into bins, in two and three dimensions, without overlaps. rectangle_pack_boxes packs a list
    of boxes and keeps nothing; rectangle_pack_collection packs boxes that are in several groups, groups that may not share a
    bin, and by a heuristic of the caller's choice. A session keeps its bins from call to call: boxes are packed into them and
-   released again. rectangle_pack_check judges a packing, whoever made it. All calls are proved; what is proved of them stands beside them, and as their contracts in
-   crates/rectangle_pack_c/src (lib.rt, session.rt, placing.rt, upkeep.rt, reading.rt, restoring.rt and judging.rt). C99 and C++.
+   released again, and it can be saved. rectangle_pack_check judges a packing, whoever made it. All calls are proved; what is
+   proved of them stands beside them, and as their contracts in crates/rectangle_pack_c/src (lib.rt, session.rt, placing.rt,
+   upkeep.rt, reading.rt, restoring.rt and judging.rt). C99 and C++.
 
    Sizes and corners are counted in cells. In two dimensions each depth is 1 and each z is 0. */
 #ifndef RECTANGLE_PACK_H

@@ -48,6 +48,7 @@ enum class Status : std::uint32_t {
     not_free = RP_NOT_FREE,
     unknown_axis = RP_UNKNOWN_AXIS,
     not_from_cuts = RP_NOT_FROM_CUTS,
+    wrong_parts = RP_WRONG_PARTS,
 };
 
 /// What a status means.
@@ -90,6 +91,8 @@ inline const char *text(Status status) noexcept
         return "there is no axis of this number";
     case Status::not_from_cuts:
         return "no straight cuts part the boxes that stand in the bin";
+    case Status::wrong_parts:
+        return "no session has these parts";
     }
     return "a status that this header does not know";
 }
@@ -212,6 +215,34 @@ struct Standing {
     Section section;
 };
 
+/// A bin of a saved session: its id, its size, whether it counts as coalesced, and its free sections, the newest last.
+struct SavedBin {
+    BinId id;
+    Bin size;
+    bool coalesced;
+    std::vector<Section> free;
+};
+
+/// The parts of a session, as values that can be saved: its bins, their ids rising; its outstanding placements, their numbers
+/// rising; and the number of the next placement, 2^64 - 1 where numbers are used up.
+struct Parts {
+    std::vector<SavedBin> bins;
+    std::vector<Standing> placements;
+    PlacementNumber next;
+};
+
+/// No session has these parts: wrong() says why, by the numbers RP_WRONG_SECTIONS to RP_WRONG_CUTS.
+class WrongParts : public Error {
+public:
+    explicit WrongParts(const rp_wrong &wrong) noexcept : Error(Status::wrong_parts), wrong_(wrong) {}
+
+    /// What is wrong, and where.
+    const rp_wrong &wrong() const noexcept { return wrong_; }
+
+private:
+    rp_wrong wrong_;
+};
+
 /// The axis that a straight cut is at right angles to, or leaf for a part that is not cut; the axis on which a bin grows.
 enum class Axis : std::uint32_t { x = 0, y = 1, z = 2, leaf = RP_LEAF };
 
@@ -280,6 +311,35 @@ inline rp_collection as_c(const Collection &it) noexcept
     return {it.boxes.data(),   it.boxes.size(),      it.members.data(),
             it.members.size(), it.exclusions.data(), it.exclusions.size()};
 }
+
+/// The parts of a session as C takes them: lists that are there as long as this is.
+struct PartsForC {
+    explicit PartsForC(const Parts &parts)
+    {
+        for (const SavedBin &it : parts.bins) {
+            if (it.free.size() > std::numeric_limits<std::uint32_t>::max())
+                throw Error(Status::bad_lengths);
+            const auto count = static_cast<std::uint32_t>(it.free.size());
+            bins.push_back({static_cast<std::uint32_t>(it.id), it.size, it.coalesced ? 1u : 0u, count});
+            sections.insert(sections.end(), it.free.begin(), it.free.end());
+        }
+        for (const Standing &it : parts.placements)
+            placements.push_back({static_cast<std::uint64_t>(it.number), it.index, static_cast<std::uint32_t>(it.bin), it.section});
+    }
+
+    rp_saved lists(PlacementNumber next) const noexcept
+    {
+        const View<rp_saved_bin> all_bins(bins);
+        const View<rp_section> all_sections(sections);
+        const View<rp_standing> all_placements(placements);
+        return {all_bins.data(),       all_bins.size(),       all_sections.data(), all_sections.size(),
+                all_placements.data(), all_placements.size(), static_cast<std::uint64_t>(next)};
+    }
+
+    std::vector<rp_saved_bin> bins;
+    std::vector<rp_section> sections;
+    std::vector<rp_standing> placements;
+};
 
 /// An array that a call writes to. It has an entry that is not counted, so that it is never null.
 template <class T> class Room {
@@ -373,6 +433,21 @@ public:
         Session taken(std::move(other));
         std::swap(session_, taken.session_);
         return *this;
+    }
+
+    /// The session that has these parts, of any origin: no parts make a session that gives a cell twice. Throws WrongParts where no
+    /// session has them.
+    static Session restore(const Parts &parts)
+    {
+        const detail::PartsForC list(parts);
+        const rp_saved saved = list.lists(parts.next);
+        Session session(none());
+        rp_wrong wrong = {};
+        const std::uint32_t status = ::rectangle_pack_session_restore(&session.session_, &saved, &wrong);
+        if (status == RP_WRONG_PARTS)
+            throw WrongParts(wrong);
+        detail::check(status);
+        return session;
     }
 
     Session(const Session &) = delete;
@@ -538,6 +613,23 @@ public:
         return coalesced != 0;
     }
 
+    /// The size of a bin.
+    Bin bin_size(BinId id) const
+    {
+        Bin size = {};
+        detail::check(::rectangle_pack_session_bin_size(at(), number(id), &size));
+        return size;
+    }
+
+    /// The parts of the session, as values.
+    Parts parts() const
+    {
+        Parts parts = {{}, outstanding(), PlacementNumber{::rectangle_pack_session_next_number(at())}};
+        for (const BinId id : bins())
+            parts.bins.push_back({id, bin_size(id), was_coalesced(id), free_sections(id)});
+        return parts;
+    }
+
     /// The number that the next placement gets, or nothing where numbers are used up.
     std::optional<PlacementNumber> next_number() const
     {
@@ -548,6 +640,8 @@ public:
     }
 
 private:
+    explicit Session(rp_session session) noexcept : session_(session) {}
+
     /// The placements of a packing. They have all their memory before boxes are packed, so that none is lost.
     struct Places {
         explicit Places(std::size_t count) : array(count) { list.reserve(count); }

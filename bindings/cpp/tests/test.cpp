@@ -348,6 +348,8 @@ static void test_refused_memory()
     memory([&] { rp::pack(bins, rp::Collection{boxes}); }, "a collection is packed without memory");
     const rp::Claim claims[] = {{0, 0, {0, 0, 0, 1, 1, 1}}};
     memory([&] { rp::check(bins, {}, claims); }, "a packing is judged without memory");
+    const rp::Parts parts = session.parts();
+    memory([&] { rp::Session::restore(parts); }, "a session is restored of nothing");
     memory([&] { session.add_bin(BinId{1}, rp::bin(1, 1)); }, "a bin is made of nothing");
     memory([&] { session.pack(boxes); }, "a session packs without memory");
     memory([&] { session.pack(rp::Collection{boxes}); }, "a session packs a collection without memory");
@@ -395,6 +397,61 @@ static void test_judge()
     check(is_fault({&first, 1}, FaultKind::not_placed, 1, 0), "a box is placed");
 }
 
+/* Why no session has these parts: the number, the bin and two places. */
+static bool is_wrong(const rp::Parts &parts, std::uint32_t kind, std::size_t bin, std::size_t first, std::size_t second)
+{
+    try {
+        rp::Session::restore(parts);
+    } catch (const rp::WrongParts &error) {
+        const rp_wrong &it = error.wrong();
+        return error.status() == Status::wrong_parts && it.kind == kind && it.bin == bin && it.first == first
+            && it.second == second;
+    }
+    return false;
+}
+
+static void test_saved_sessions()
+{
+    rp::Session session;
+    session.add_bin(BinId{3}, rp::bin(10, 10));
+    session.add_bin(BinId{8}, rp::bin(2, 2, 2));
+    session.coalesce_all(BinId{8});
+    session.place_at(BinId{3}, {0, 0, 0, 4, 10, 1});
+    const rp::Parts parts = session.parts();
+    check(parts.bins.size() == 2 && parts.bins[1].size.depth == 2 && parts.bins[1].coalesced, "a bin is saved otherwise");
+    check(parts.placements.size() == 1 && parts.next == rp::PlacementNumber{1}, "a placement is saved otherwise");
+    rp::Session again = rp::Session::restore(parts);
+    check(again.bins() == session.bins() && again.was_coalesced(BinId{8}) && !again.was_coalesced(BinId{3}), "bins are lost");
+    check(equal(again.outstanding().at(0).section, {0, 0, 0, 4, 10, 1}), "a placement is lost");
+    check(equal(again.free_sections(BinId{3}).at(0), {4, 0, 0, 6, 10, 1}), "a free section is lost");
+    again.release(parts.placements[0].number);
+    check(again.next_number() == rp::PlacementNumber{1}, "a number is given twice");
+    check(rp::Session::restore({{}, {}, rp::PlacementNumber{5}}).next_number() == rp::PlacementNumber{5},
+          "a session without bins is none");
+    const auto changed = [&](auto change) {
+        rp::Parts other = parts;
+        change(other);
+        return other;
+    };
+    check(is_wrong(changed([](rp::Parts &it) { std::swap(it.bins[0], it.bins[1]); }), RP_WRONG_IDS, 1, 0, 0), "ids fall");
+    check(is_wrong(changed([](rp::Parts &it) { it.placements.push_back(it.placements[0]); }), RP_WRONG_NUMBER, 0, 1, 0),
+          "a number is there twice");
+    check(is_wrong(changed([](rp::Parts &it) { it.next = rp::PlacementNumber{0}; }), RP_WRONG_NEXT, 0, 0, 0),
+          "a number is not given yet");
+    check(is_wrong(changed([](rp::Parts &it) { it.placements[0].bin = BinId{4}; }), RP_WRONG_UNKNOWN_BIN, 0, 0, 0),
+          "a bin is there");
+    check(is_wrong(changed([](rp::Parts &it) { it.placements[0].section.height = 11; }), RP_WRONG_OUTSIDE, 0, 1, 0),
+          "a box is inside");
+    check(is_wrong(changed([](rp::Parts &it) { it.placements[0].section.x = 1; }), RP_WRONG_SHARED_CELL, 0, 0, 1),
+          "boxes share no cell");
+    check(is_wrong(changed([](rp::Parts &it) { it.bins[1].free.clear(); }), RP_WRONG_CELL_IN_NONE, 1, 0, 0), "no cell is lost");
+    check(is_wrong(changed([](rp::Parts &it) {
+        it.bins[1].size = rp::bin(3, 3);
+        it.bins[1].free = {{0, 0, 0, 2, 1, 1}, {2, 0, 0, 1, 2, 1}, {1, 2, 0, 2, 1, 1}, {0, 1, 0, 1, 2, 1}, {1, 1, 0, 1, 1, 1}};
+        it.bins[1].coalesced = false;
+    }), RP_WRONG_CUTS, 1, 0, 0), "straight cuts part a pinwheel");
+}
+
 static void test_moves()
 {
     static_assert(!std::is_copy_constructible_v<rp::Session> && !std::is_copy_assignable_v<rp::Session>);
@@ -438,6 +495,7 @@ int main()
     test_long_lists();
     test_refused_memory();
     test_judge();
+    test_saved_sessions();
     test_moves();
     return 0;
 }
