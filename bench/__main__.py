@@ -8,6 +8,7 @@ import sys
 
 import atlas
 import bounds
+import checks
 import fill
 import plans
 import searches
@@ -15,8 +16,8 @@ import speed
 from programs import TOP
 
 ALL = (
-    speed.packings, speed.others, speed.what_fits, speed.from_c, speed.excluded, speed.given_back, speed.sweeps, plans.plans, atlas.atlas,
-    searches.searches, searches.in_containers, fill.fill, bounds.bounds, bounds.bound_times,
+    speed.packings, speed.others, speed.what_fits, speed.from_c, speed.excluded, speed.given_back, speed.sweeps, plans.plans, checks.checks,
+    atlas.atlas, searches.searches, searches.in_containers, fill.fill, bounds.bounds, bounds.bound_times,
 )
 MORE = (fill.squares, fill.pages, fill.containers, fill.best)
 TABLES = {it.__name__: it for it in (*ALL, *MORE)}
