@@ -208,10 +208,10 @@ uint32_t rectangle_pack_collection(const rp_bin *bins, size_t bin_count, const r
    - Each cell of each bin is in exactly one free section or outstanding placement, and each of these is inside the bin. So
      no two outstanding boxes share a cell, and no cell is lost.
    - A call that answers anything but RP_DONE leaves the session as it was and writes nothing, but for RP_SHORT_ARRAY the
-     length of the list. RP_BAD_LENGTHS, RP_DUPLICATE_BIN, RP_UNKNOWN_BIN, RP_UNKNOWN_PLACEMENT, RP_UNKNOWN_HEURISTIC,
-     RP_UNKNOWN_BOX, RP_EQUAL_GROUPS, RP_BIN_IN_USE, RP_TOO_LARGE, RP_NOT_FREE and RP_UNKNOWN_AXIS come exactly under their
-     conditions, where none that is looked at before comes; and RP_NUMBERS_USED_UP, RP_SHORT_ARRAY, RP_NO_PLAN,
-     RP_NOT_FROM_CUTS and RP_WRONG_PARTS too, unless RP_OUT_OF_MEMORY is answered in their place.
+     length of the list, and for RP_WRONG_PARTS what is wrong. RP_BAD_LENGTHS, RP_DUPLICATE_BIN, RP_UNKNOWN_BIN,
+     RP_UNKNOWN_PLACEMENT, RP_UNKNOWN_HEURISTIC, RP_UNKNOWN_BOX, RP_EQUAL_GROUPS, RP_BIN_IN_USE, RP_TOO_LARGE, RP_NOT_FREE and
+     RP_UNKNOWN_AXIS come exactly under their conditions, where none that is looked at before comes; and RP_NUMBERS_USED_UP,
+     RP_SHORT_ARRAY, RP_NO_PLAN, RP_NOT_FROM_CUTS and RP_WRONG_PARTS too, unless RP_OUT_OF_MEMORY is answered in their place.
    - No number is given twice in a session: placements are numbered 0, 1, 2 and so on, in the order of packing and placing; in a
      session of saved parts, from their next number on.
    - A session owns nothing that belongs to one thread, so it may go to another.
