@@ -3,6 +3,8 @@
 import dataclasses
 import doctest
 import itertools
+import os
+import tempfile
 import unittest
 from unittest import mock
 
@@ -289,9 +291,20 @@ class Errors(unittest.TestCase):
             self.assertEqual((type(refused.exception), str(refused.exception)), (error, text))
 
 
+def enter_room(test):
+    """An example writes its files to a folder of its own."""
+    test.before, test.room = os.getcwd(), tempfile.TemporaryDirectory()
+    os.chdir(test.room.name)
+
+
+def leave_room(test):
+    os.chdir(test.before)
+    test.room.cleanup()
+
+
 def load_tests(loader, tests, pattern):
     for module in (rectangle_pack, rectangle_pack._pack, rectangle_pack._session):
-        tests.addTests(doctest.DocTestSuite(module))
+        tests.addTests(doctest.DocTestSuite(module, setUp=enter_room, tearDown=leave_room))
     return tests
 
 
