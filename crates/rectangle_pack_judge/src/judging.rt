@@ -50,23 +50,25 @@ pub enum Fault {
 /// defy it.
 ///
 /// ```
+/// fn entry(group: usize) -> Entry {
+///     let whd = WidthHeightDepth::new(6, 10, 1);
+///     let turns = Turns::FLAT;
+///     let turning = TurningBox { whd, turns };
+///     Entry { group, turning }
+/// }
+/// ```
+///
+/// Two such boxes do not go into the bin beside each other.
+///
+/// ```
 /// let bins = [WidthHeightDepth::new(10, 10, 1)];
-/// let whd = WidthHeightDepth::new(6, 10, 1);
-/// let turning = TurningBox {
-///     whd,
-///     turns: Turns::FLAT,
-/// };
-/// let entries = [Entry { group: 0, turning }, Entry { group: 1, turning }];
+/// let entries = [entry(0), entry(1)];
 /// let case = Case {
 ///     bins: &bins,
 ///     entries: &entries,
 ///     excluded: &[],
 /// };
-/// ```
-///
-/// The two boxes do not go into the bin beside each other.
-///
-/// ```
+/// let whd = WidthHeightDepth::new(6, 10, 1);
 /// let first = Claim {
 ///     entry: 0,
 ///     bin: 0,

@@ -238,21 +238,24 @@ fn least_bins_counts(rt: HostRuntime) -> Result<(), Fail> {
     Ok(())
 }
 
+fn entry(group: usize) -> Entry {
+    let whd = WidthHeightDepth::new(6, 10, 1);
+    let turns = Turns::FLAT;
+    let turning = TurningBox { whd, turns };
+    Entry { group, turning }
+}
+
 #[test]
 fn fault_of_a_packing(rt: HostRuntime) -> Result<(), Fail> {
     let alloc = rt.alloc();
     let bins = [WidthHeightDepth::new(10, 10, 1)];
-    let whd = WidthHeightDepth::new(6, 10, 1);
-    let turning = TurningBox {
-        whd,
-        turns: Turns::FLAT,
-    };
-    let entries = [Entry { group: 0, turning }, Entry { group: 1, turning }];
+    let entries = [entry(0), entry(1)];
     let case = Case {
         bins: &bins,
         entries: &entries,
         excluded: &[],
     };
+    let whd = WidthHeightDepth::new(6, 10, 1);
     let first = Claim {
         entry: 0,
         bin: 0,

@@ -45,7 +45,9 @@ fn free_bin(
 ) -> Result<TargetBin<Refusing>, SectionsError> {
     let mut sections = Vec::new(alloc);
     for one in free {
-        sections.push(section_of(*one))?;
+        if sections.push(section_of(*one)).is_err() {
+            return Err(SectionsError::OutOfMemory);
+        }
     }
     bin_of_free_sections(alloc, size(), sections, coalesced)
 }
@@ -74,8 +76,10 @@ fn parts_of(
 // The bin with one box, which stands there.
 fn with_box(alloc: Refusing, number: u64, at: [u32; 6], next: u64) -> Result<Parts, SectionsError> {
     let mut parts = parts_of(alloc, &[FREE], false, next)?;
-    parts.outstanding.push(placed(number, BIN, at))?;
-    Ok(parts)
+    match parts.outstanding.push(placed(number, BIN, at)) {
+        Ok(()) => Ok(parts),
+        Err(_) => Err(SectionsError::OutOfMemory),
+    }
 }
 
 // What is answered of these parts, if no session is.
