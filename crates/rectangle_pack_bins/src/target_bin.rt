@@ -1,7 +1,6 @@
 //! Bins and their free sections.
 ghost use Rattle.std.specs.Prelude.{◌≡◌, ◌+◌, ◌≤◌, ◌<◌, ◌++◌, ◌∷◌, [], Err, IfOk, IfNone, IfSome, OnOk, OnErr, IsTrue, true, ◌↔◌, length, remove, filter, All};
-ghost use Rattle.std.specs.Vec.{vec_capacity};
-ghost use Rattle.rectangle_pack_sections.specs.Boxes.{AreApart, Cell, Cuboid, FitsU32, has_cells};
+ghost use Rattle.rectangle_pack_sections.specs.Boxes.{AreApart, Cell, Cuboid, has_cells};
 ghost use Rattle.rectangle_pack_bins.specs.declared.target_bin.PushBinSectionError.TheVariants.{OutOfMemory};
 ghost use Rattle.rectangle_pack_bins.specs.Pushes.{IsFirstSharing, IsPushAnswer};
 ghost use Rattle.rectangle_pack_sections.specs.Bins.{new_bin, IsSound, IsAccepted};
@@ -15,9 +14,11 @@ mod placing;
 mod placing_at;
 mod placing_best;
 mod texts;
+mod whole_lists;
 
 pub use crate::target_bin::placing_at::{cut_round, first_around};
 pub use crate::target_bin::placing_best::{best_section, cut_best};
+pub use crate::target_bin::whole_lists::{bin_of_sections, put_sections, stand_in, take_sections};
 use rectangle_pack_lists::coalesce::{join_all, join_all_in, join_at};
 use rectangle_pack_lists::corners::Corners;
 use rectangle_pack_lists::free_list::plain::push_pieces;
@@ -26,7 +27,6 @@ use rectangle_pack_sections::bin_section::{BinSection, is_inside};
 use rectangle_pack_sections::width_height_depth::{WidthHeightDepth, any_size};
 use std::alloc::{AllocError, Allocator, Global};
 use std::marker::Model;
-use std::mem;
 use std::ops::Range;
 
 /// Why a section was not given back to a bin. The section that was pushed comes with each.
@@ -52,7 +52,7 @@ pub enum PushBinSectionError {
 pub struct TargetBin<A: Allocator + Copy = Global> {
     max_size: WidthHeightDepth,
     available_bin_sections: Vec<BinSection, A>,
-    // Whether a coalescing call was made on the bin.
+    // Whether a coalescing call was made on the bin since it was new or cleared.
     was_coalesced: bool,
 }
 
@@ -343,7 +343,7 @@ pub fn coalesce_all_in<A: Allocator + Copy>(bin: &mut TargetBin<A>, corners: &mu
     bin.was_coalesced = true;
 }
 
-/// Whether a coalescing call was made on the bin.
+/// Whether a coalescing call was made on the bin since it was new or cleared.
 pub fn was_coalesced<A: Allocator + Copy>(bin: &TargetBin<A>) -> bool
     ensures { result ≡ bin.now.bin.coalesced }
 {
@@ -361,51 +361,4 @@ fn first_sharing(sections: &[BinSection], section: &BinSection) -> Option<BinSec
         }
     }
     None
-}
-
-/// A bin that stands in a map for one that is out of it. Takes no memory.
-pub fn stand_in<A: Allocator + Copy>(alloc: A) -> TargetBin<A> {
-    TargetBin::without_sections(alloc, any_size(0, 0, 0))
-}
-
-/// Takes the sections of a bin out. Takes no memory.
-pub fn take_sections<A: Allocator + Copy>(bin: &mut TargetBin<A>) -> Vec<BinSection, A>
-    ensures items { result.items ≡ bin.old.bin.sections }
-    ensures room { vec_capacity result ≡ bin.old.room }
-    ensures bin { bin.new.bin ≡ record bin.old.bin { sections = [] } }
-    ensures sound { IsSound bin.old.bin.size bin.old.bin.sections }
-    ensures fits { All FitsU32 bin.old.bin.sections }
-{
-    let none = Vec::new(*bin.available_bin_sections.allocator());
-    mem::replace(&mut bin.available_bin_sections, none)
-}
-
-/// A bin of this size with these free sections, which counts as coalesced where that is said. Takes
-/// no memory.
-pub fn bin_of_sections<A: Allocator + Copy>(
-    max_size: WidthHeightDepth,
-    available_bin_sections: Vec<BinSection, A>,
-    was_coalesced: bool,
-) -> TargetBin<A>
-    requires { IsSound max_size available_bin_sections.items }
-    ensures { result.bin ≡ record {
-      size = max_size;
-      sections = available_bin_sections.items;
-      coalesced = was_coalesced;
-    } }
-{
-    TargetBin {
-        max_size,
-        available_bin_sections,
-        was_coalesced,
-    }
-}
-
-/// Gives a bin the sections of this list.
-pub fn put_sections<A: Allocator + Copy>(bin: &mut TargetBin<A>, sections: Vec<BinSection, A>)
-    requires { IsSound bin.old.bin.size sections.items }
-    ensures bin { bin.new.bin ≡ record bin.old.bin { sections = sections.items } }
-    ensures room { bin.new.room ≡ vec_capacity sections }
-{
-    bin.available_bin_sections = sections;
 }
